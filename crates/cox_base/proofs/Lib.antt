@@ -1,0 +1,14 @@
+-- how many labels stand before a row, and the places of labels
+pub mod Places
+-- the labels and the entries of a Coxeter matrix, case by case
+pub mod Entries
+-- the integer matrix of a Coxeter matrix is admissible
+pub mod Admissible
+-- the labels of the named types, row by row
+pub mod Rows
+-- the first element that passes a test
+pub mod Positions
+-- words as they are written
+pub mod WordLemmas
+-- labels that are not admitted
+pub mod LabelLemmas

@@ -1,0 +1,55 @@
+-- The integer matrix a(s,t) of a Coxeter matrix: a generalized Cartan matrix, by which the group acts on integer vectors (compare Humphreys 5.3).
+use Rattle.std.specs.Prelude.{◌≡◌, ℕ, ◌<◌, ◌==◌, ◌&&◌, Bool, if◌then◌else◌, nat_lt, nat_le, ℤ, pos, negsuc}
+use Rattle.cox_base.specs.Matrix.{CoxeterMatrix, IsLetter, label}
+
+-- a(s,t) is the entry at s and t, which are letters of the rank
+pub record IntegerMatrix : Type 0 where
+  pub rank : ℕ
+  pub entry : ℕ → ℕ → ℤ
+
+-- For s < t, a(s,t) and a(t,s) are 0 and 0 for the label 2, -1 and -1 for 3, -1 and -2 for 4, -1 and -3 for 6, -2 and -2 for infinity.
+-- (`negsuc k` is -(k + 1).)
+abbrev pub entry_above : ℕ → ℤ
+entry_above m = if m == 2 then pos 0 else if m == 0 then negsuc 1 else negsuc 0
+
+abbrev pub entry_below : ℕ → ℤ
+entry_below m = if m == 2 then pos 0 else if m == 3 then negsuc 0 else if m == 6 then negsuc 2 else negsuc 1
+
+-- whether s is a letter
+abbrev pub is_letter : ℕ → ℕ → Bool
+is_letter rank s = nat_le 1 s && nat_le s rank
+
+-- a(s,t) of a Coxeter matrix: 2 on the diagonal; 0 where s or t is no letter
+unfoldable pub entry_of : CoxeterMatrix → ℕ → ℕ → ℤ
+entry_of g s t = if is_letter g.rank s && is_letter g.rank t
+    then (if s == t then pos 2 else if nat_lt s t then entry_above (label g s t) else entry_below (label g t s)) else pos 0
+
+abbrev pub integer_matrix : CoxeterMatrix → IntegerMatrix
+integer_matrix g = record { rank = g.rank; entry = entry_of g }
+
+-- The pairs a(s,t), a(t,s) that are admitted, in either order. The last word of each name is the label.
+pub data IsAdmissiblePair : ℤ → ℤ → Type 0 where
+  two : IsAdmissiblePair (pos 0) (pos 0)
+  three : IsAdmissiblePair (negsuc 0) (negsuc 0)
+  four : IsAdmissiblePair (negsuc 0) (negsuc 1)
+  back_four : IsAdmissiblePair (negsuc 1) (negsuc 0)
+  six : IsAdmissiblePair (negsuc 0) (negsuc 2)
+  back_six : IsAdmissiblePair (negsuc 2) (negsuc 0)
+  infinity : IsAdmissiblePair (negsuc 1) (negsuc 1)
+
+-- The order m of the product of the reflections s and t, by that pair, where it is finite.
+pub data HasOrder : ℤ → ℤ → ℕ → Type 0 where
+  order_two : HasOrder (pos 0) (pos 0) 2
+  order_three : HasOrder (negsuc 0) (negsuc 0) 3
+  order_four : HasOrder (negsuc 0) (negsuc 1) 4
+  order_back_four : HasOrder (negsuc 1) (negsuc 0) 4
+  order_six : HasOrder (negsuc 0) (negsuc 2) 6
+  order_back_six : HasOrder (negsuc 2) (negsuc 0) 6
+
+-- Admissible integer matrices: 2 on the diagonal, an admitted pair for each two letters, and 0 outside the rank.
+-- The integer matrix of each Coxeter matrix with admitted labels is one, and so is its transpose.
+pub record IsAdmissible (A : IntegerMatrix) : Type 0 where
+  pub diagonal : (s : ℕ) → IsLetter A.rank s → A.entry s s ≡ pos 2
+  pub pairs : (s t : ℕ) → IsLetter A.rank s → IsLetter A.rank t → s < t → IsAdmissiblePair (A.entry s t) (A.entry t s)
+  pub row_outside : (s t : ℕ) → (IsLetter A.rank s → ⊥) → A.entry s t ≡ pos 0
+  pub column_outside : (s t : ℕ) → (IsLetter A.rank t → ⊥) → A.entry s t ≡ pos 0
