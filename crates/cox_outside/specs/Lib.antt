@@ -1,0 +1,11 @@
+pub mod Fault
+pub mod Reading
+pub mod Writing
+pub mod Calls
+pub mod Memory
+pub mod Line
+pub mod Feed
+pub mod Ahead
+pub mod Scan
+pub mod Reader
+pub mod Std

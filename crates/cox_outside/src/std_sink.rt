@@ -1,0 +1,55 @@
+//! A sink over one of std's writers.
+
+ghost use Rattle.std.specs.Prelude.{◌≡◌, ◌<◌, length, take, IfSome};
+ghost use Rattle.cox_outside.specs.Fault.{count_after};
+ghost use Rattle.cox_outside.specs.Writing.{TookFits, Puts, SinkCause, took_count, took_failed};
+
+use crate::sink::{Sink, Took};
+use std::io::Write;
+
+/// A sink over a writer, as standard output. It tells no bytes and no room; its count rises at each
+/// error of the writer, and where the writer takes nothing.
+#[derive(Drop)]
+pub struct StdSink<W> {
+    inner: W,
+    faults: u64,
+}
+
+impl<W: Write> StdSink<W> {
+    ghost use Rattle.cox_outside.specs.Std.{writer_of, std_outlet};
+
+    /// A sink over this writer.
+    pub fn new(inner: W) -> StdSink<W>
+        ensures writer { writer_of result ≡ inner }
+        ensures faults { (std_outlet result).faults ≡ 0 }
+    {
+        StdSink { inner, faults: 0 }
+    }
+}
+
+impl<W: Write> Sink for StdSink<W> {
+    ghost use Rattle.cox_outside.specs.Std.{writer_of, std_outlet, HandsOn};
+
+    ghost seen = { std_outlet };
+
+    /// Asks the writer once, and hands on what it answers, save that it takes nothing as a fault.
+    fn write(&mut self, bytes: &[u8]) -> Took
+        requires { 0 < length bytes.now }
+        ensures writer { HandsOn result bytes.now (W.contents (writer_of self.old)) (W.contents (writer_of self.new)) }
+        ensures faults { (std_outlet self.new).faults ≡ count_after (took_failed result) (std_outlet self.old).faults }
+
+        // As every sink.
+        ensures count { TookFits result (length bytes.now) }
+        ensures puts { Puts (take (took_count result) bytes.now) (std_outlet self.old) (std_outlet self.new) }
+        ensures full { result ≡ Took.Failed → IfSome (std_outlet self.old).room (λ left. left ≡ 0) }
+        ensures cause { SinkCause (std_outlet self.old) (std_outlet self.new) (result ≡ Took.Failed) }
+    {
+        match self.inner.write(bytes) {
+            Ok(count) if count > 0 => Took::Bytes(count),
+            Ok(_) | Err(_) => {
+                self.faults = self.faults.saturating_add(1);
+                Took::Failed
+            }
+        }
+    }
+}

@@ -1,0 +1,57 @@
+//! A source over one of std's readers.
+
+ghost use Rattle.std.specs.Prelude.{◌≡◌, ◌<◌, length};
+ghost use Rattle.std.specs.Io.KnownBytes.{prepend_known, IsAtEnd};
+ghost use Rattle.cox_outside.specs.Fault.{count_after};
+ghost use Rattle.cox_outside.specs.Reading.{GotFits, SourceCause, got_bytes, got_failed};
+
+use crate::source::{Got, Source};
+use std::io::Read;
+
+/// A source over a reader, as standard input. It tells no bytes and is not sure; its count rises at
+/// each error of the reader, also at a read that was interrupted.
+#[derive(Drop)]
+pub struct StdSource<R> {
+    inner: R,
+    faults: u64,
+}
+
+impl<R: Read> StdSource<R> {
+    ghost use Rattle.cox_outside.specs.Std.{reader_of, std_supply};
+
+    /// A source over this reader.
+    pub fn new(inner: R) -> StdSource<R>
+        ensures reader { reader_of result ≡ inner }
+        ensures faults { (std_supply result).faults ≡ 0 }
+    {
+        StdSource { inner, faults: 0 }
+    }
+}
+
+impl<R: Read> Source for StdSource<R> {
+    ghost use Rattle.cox_outside.specs.Std.{reader_of, std_supply, TakesFrom};
+
+    ghost seen = { std_supply };
+
+    /// Asks the reader once, and hands on what it answers.
+    fn read(&mut self, into: &mut [u8]) -> Got
+        requires { 0 < length into.old }
+        ensures reader { TakesFrom result into.new (R.remaining (reader_of self.old)) (R.remaining (reader_of self.new)) }
+        ensures faults { (std_supply self.new).faults ≡ count_after (got_failed result) (std_supply self.old).faults }
+
+        // As every source.
+        ensures count { GotFits result (length into.old) }
+        ensures bytes { (std_supply self.old).left ≡ prepend_known (got_bytes result into.new) (std_supply self.new).left }
+        ensures end { result ≡ Got.End → IsAtEnd (std_supply self.old).left }
+        ensures cause { SourceCause (std_supply self.old) (std_supply self.new) (result ≡ Got.Failed) }
+    {
+        match self.inner.read(into) {
+            Ok(0) => Got::End,
+            Ok(count) => Got::Bytes(count),
+            Err(_) => {
+                self.faults = self.faults.saturating_add(1);
+                Got::Failed
+            }
+        }
+    }
+}
