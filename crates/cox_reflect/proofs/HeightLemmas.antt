@@ -1,0 +1,237 @@
+-- Heights of the roots u^-1 e(t): how they change with a letter before u, how large they are, and that t is a left descent of u exactly
+-- where the height is negative.
+use Rattle.std.proofs.Common.{◌≡◌, ℕ, zero, suc, ◌+◌, ◌*◌, ◌^◌, ◌≤◌, ◌<◌, List, [], ◌∷◌, length, reverse, ℤ, pos, ◌-ℤ◌, ◌*ℤ◌, ◌≤ℤ◌, ◌<ℤ◌, nat_abs, refl, ap, sym, ◌∙◌, ⊎_elim, arith, lit<}
+use Rattle.std.proofs.Math.Nat.{pow-le-pow_right, mul-le-mul_left}
+use Rattle.std.proofs.lemmas.Bool.{cases_eq, cases_lt}
+use Rattle.std.proofs.lemmas.Int.{ints, by_lt_z, unsigned_abs-mul}
+use mathlib.Core.List.{reverse-cons}
+use Rattle.cox_base.specs.Matrix.{IsLetter}
+use Rattle.cox_base.specs.IntegerMatrix.{IntegerMatrix, IsAdmissible}
+use Rattle.cox_base.specs.Element.{sum_to, matrix, SameElement}
+use Rattle.cox_base.specs.ShortLex.{normal_form}
+use Rattle.cox_base.specs.Length.{word_length, IsLeftDescent}
+use Rattle.cox_reflect.specs.Action.{Vector, simple_root, pairing, minus, reflect, act, IsNonpositive}
+use Rattle.cox_reflect.specs.Height.{at_letter, height, AreHeights, HasRoom}
+use Rattle.cox_reflect.proofs.Ring.{linears, multiply_out, one_times}
+use Rattle.cox_reflect.proofs.Sums.{letter_above, last_letter, letter_cases, sum_to-same, sum_to-simple_root, sum_to-other_root, simple_root-other}
+use Rattle.cox_reflect.proofs.Action.{act-nil, act-push, act-minus, act-outside, pairing-simple_root}
+use Rattle.cox_reflect.proofs.Elements.{matrix-column, same-act, same-reverse, same-sym}
+use Rattle.cox_reflect.proofs.Search.{normal_form-same, word_length-length}
+use Rattle.cox_reflect.proofs.Lengths.{word_length-is, word_length-cons}
+use Rattle.cox_reflect.proofs.Deletion.{left_length}
+use Rattle.cox_reflect.proofs.Sizes.{entry-small}
+use Rattle.cox_reflect.proofs.Roots.{sign_of, SignOf, longer, shorter, root-not_zero, descent-nonpositive, left_descent_reverse, reverse_left_descent, left_descent-letter}
+
+-- ---- sums
+
+sum_to-minus_alone : (n : ℕ) (v : Vector) (c : ℤ) (w : Vector) → sum_to n (minus v c w) ≡ sum_to n v -ℤ (c *ℤ sum_to n w)
+unfolding sum_to minus
+sum_to-minus_alone zero v c w = simp multiply_out (omega (arith, linears))
+sum_to-minus_alone (suc n) v c w = rw (sum_to-minus_alone n v c w) (simp multiply_out (omega (arith, linears)))
+
+sum_to-nonnegative : (n : ℕ) (v : Vector) → ((i : ℕ) → IsLetter n i → pos 0 ≤ℤ v i) → pos 0 ≤ℤ sum_to n v
+unfolding sum_to
+sum_to-nonnegative zero v h = omega (arith, linears)
+sum_to-nonnegative (suc n) v h = omega (arith, linears, sum_to-nonnegative n v (λ i l. h i (letter_above n i l)), h (suc n) (last_letter n))
+
+sum_to-nonpositive : (n : ℕ) (v : Vector) → ((i : ℕ) → IsLetter n i → v i ≤ℤ pos 0) → sum_to n v ≤ℤ pos 0
+unfolding sum_to
+sum_to-nonpositive zero v h = omega (arith, linears)
+sum_to-nonpositive (suc n) v h = omega (arith, linears, sum_to-nonpositive n v (λ i l. h i (letter_above n i l)), h (suc n) (last_letter n))
+
+-- numbers at most 0 with a sum at least 0 are 0
+sum_to-vanishes : (n : ℕ) (v : Vector) → ((i : ℕ) → IsLetter n i → v i ≤ℤ pos 0) → pos 0 ≤ℤ sum_to n v → (i : ℕ) → IsLetter n i
+    → v i ≡ pos 0
+unfolding sum_to
+sum_to-vanishes zero v h k i l = absurd (omega (arith, l.from_one, l.to_rank))
+sum_to-vanishes (suc n) v h k i l = ⊎_elim at_last (before (sum_to-vanishes n v front)) (cases_eq i (suc n))
+  where
+    front : (j : ℕ) → IsLetter n j → v j ≤ℤ pos 0
+    front j m = h j (letter_above n j m)
+
+    last : v (suc n) ≤ℤ pos 0
+    last = h (suc n) (last_letter n)
+
+    at_last : i ≡ suc n → v i ≡ pos 0
+    at_last e = let there : v (suc n) ≡ pos 0 = omega (arith, linears, k, last, sum_to-nonpositive n v front) in rw e there
+
+    before : (pos 0 ≤ℤ sum_to n v → (j : ℕ) → IsLetter n j → v j ≡ pos 0) → (i ≡ suc n → ⊥) → v i ≡ pos 0
+    before rest ne = rest (omega (arith, linears, k, last)) i (record { from_one = l.from_one; to_rank = omega (arith, l.to_rank) })
+
+-- ---- heights
+
+height-column : (A : IntegerMatrix) (u : List ℕ) (t : ℕ) → height A u t ≡ sum_to A.rank (act A (reverse u) (simple_root t))
+unfolding height
+height-column A u t = sum_to-same A.rank (λ i. matrix A (reverse u) i t) (act A (reverse u) (simple_root t))
+    (λ i l. matrix-column A (reverse u) i t l)
+
+-- a simple root has the height 1
+pub height-nil : (A : IntegerMatrix) (t : ℕ) → IsLetter A.rank t → height A [] t ≡ pos 1
+height-nil A t l =
+    height-column A [] t ∙ ap (sum_to A.rank) (act-nil A (simple_root t))
+    ∙ sum_to-same A.rank (simple_root t) (λ i. pos 1 *ℤ simple_root t i) (λ i m. sym (one_times (simple_root t i)))
+    ∙ sum_to-simple_root A.rank (λ i. pos 1) t l
+
+height-outside : (A : IntegerMatrix) (t : ℕ) → (IsLetter A.rank t → ⊥) → height A [] t ≡ pos 0
+height-outside A t foreign =
+    height-column A [] t ∙ ap (sum_to A.rank) (act-nil A (simple_root t))
+    ∙ sum_to-same A.rank (simple_root t) (λ i. pos 1 *ℤ simple_root t i) (λ i m. sym (one_times (simple_root t i)))
+    ∙ sum_to-other_root A.rank (λ i. pos 1) t foreign
+
+module _ (A : IntegerMatrix) (g : IsAdmissible A) where
+  -- (su)^-1 e(t) = u^-1 e(t) - a(s,t) u^-1 e(s)
+  pub height-cons : (s : ℕ) (u : List ℕ) (t : ℕ) → height A (s ∷ u) t ≡ height A u t -ℤ (A.entry s t *ℤ height A u s)
+  unfolding reflect
+  height-cons s u t =
+      height-column A (s ∷ u) t
+      ∙ ap (λ (w : List ℕ). sum_to A.rank (act A w (simple_root t))) (reverse-cons s u)
+      ∙ ap (sum_to A.rank) (act-push A (reverse u) s (simple_root t)
+      ∙ act-minus A (reverse u) (simple_root t) (pairing A s (simple_root t)) (simple_root s))
+      ∙ sum_to-minus_alone A.rank (act A (reverse u) (simple_root t)) (pairing A s (simple_root t)) (act A (reverse u) (simple_root s))
+      ∙ rw (pairing-simple_root A g s t, height-column A u t, height-column A u s) refl
+
+  -- heights depend on the element alone
+  pub height-equal : {u v : List ℕ} → SameElement A u v → (t : ℕ) → height A u t ≡ height A v t
+  height-equal {u} {v} e t =
+      height-column A u t ∙ ap (sum_to A.rank) (same-act A g (same-reverse A g e) (simple_root t)) ∙ sym (height-column A v t)
+
+-- ---- their size
+
+nat_abs-step : (a e b : ℤ) → nat_abs e ≤ 3 → nat_abs (a -ℤ (e *ℤ b)) ≤ nat_abs a + 3 * nat_abs b
+nat_abs-step a e b small =
+    let product : nat_abs (e *ℤ b) ≡ nat_abs e * nat_abs b = unsigned_abs-mul e b
+    in let least : nat_abs b * nat_abs e ≤ nat_abs b * 3 = mul-le-mul_left (nat_abs b) small
+    in let sum : nat_abs (a -ℤ (e *ℤ b)) ≤ nat_abs a + nat_abs (e *ℤ b) = omega (arith, ints)
+    in omega (arith, product, least, sum)
+
+power : (k : ℕ) → 4 ^ suc k ≡ 4 * 4 ^ k
+power k = omega arith
+
+-- 4^63 + 4^62 < 2^127
+two_bounds : (x y i j : ℕ) → x ≤ 4 ^ i → y ≤ 4 ^ j → i ≤ 63 → j ≤ 62 → x + y < 2 ^ 127
+two_bounds x y i j h k l m =
+    let first : 4 ^ i ≤ 4 ^ 63 = pow-le-pow_right (lit< tt) l
+    in let second : 4 ^ j ≤ 4 ^ 62 = pow-le-pow_right (lit< tt) m
+    in let room : 4 ^ 63 + 4 ^ 62 < 2 ^ 127 = lit< tt
+    in omega (arith, first, second, room, h, k)
+
+either_bound : (x y i j : ℕ) → x ≤ 4 ^ i → y ≤ 4 ^ j → i ≤ 63 → j ≤ 63 → i + j ≤ 125 → x + y < 2 ^ 127
+either_bound x y i j h k l m n =
+    ⊎_elim (λ (low : i < 63). let swapped : y + x < 2 ^ 127 = two_bounds y x j i k h m (omega (arith, low)) in omega (arith, swapped))
+    (λ (high : 63 ≤ i). two_bounds x y i j h k l (omega (arith, high, n))) (cases_lt i 63)
+
+module _ (A : IntegerMatrix) (g : IsAdmissible A) where
+  pub height-bound : (u : List ℕ) (t : ℕ) → nat_abs (height A u t) ≤ 4 ^ length u
+  height-bound [] t =
+      ⊎_elim (λ l. rw (height-nil A t l) (omega arith)) (λ foreign. rw (height-outside A t foreign) (omega arith)) (letter_cases A.rank t)
+  height-bound (s ∷ u) t =
+      let step : nat_abs (height A u t -ℤ (A.entry s t *ℤ height A u s)) ≤ nat_abs (height A u t) + 3 * nat_abs (height A u s)
+      = nat_abs-step (height A u t) (A.entry s t) (height A u s) (entry-small A g s t)
+      in rw (height-cons A g s u t) (omega (arith, step, height-bound u t, height-bound u s, power (length u)))
+
+  pub height-bound_reduced : (u : List ℕ) (t : ℕ) → nat_abs (height A u t) ≤ 4 ^ word_length A u
+  height-bound_reduced u t =
+      rw (height-equal A g {u = u} (same-sym A g (normal_form-same A g u)) t, word_length-is A u) (height-bound (normal_form A u) t)
+
+  -- From u to su there is room, where both elements have at most 63 letters.
+  pub HasRoom-lengths : (u : List ℕ) (s : ℕ) (heights : List ℤ) → IsLetter A.rank s → word_length A u ≤ 63 → word_length A (s ∷ u) ≤ 63
+      → AreHeights A u heights → HasRoom A s heights
+  HasRoom-lengths u s heights ls short next_short a = record { room = room }
+    where
+      both : word_length A u + word_length A (s ∷ u) ≤ 125
+      both = ⊎_elim (λ longer. omega (arith, longer, short, next_short)) (λ shorter. omega (arith, shorter, short, next_short))
+          (left_length A g s u ls)
+
+      room : (t : ℕ) → IsLetter A.rank t → nat_abs (at_letter heights t) + nat_abs
+          (at_letter heights t -ℤ (A.entry s t *ℤ at_letter heights s)) < 2 ^ 127
+      room t l =
+          let next : nat_abs (height A u t -ℤ (A.entry s t *ℤ height A u s)) ≤ 4 ^ word_length A (s ∷ u) = rw (height-cons A g s u t) at
+          (height-bound_reduced (s ∷ u) t)
+          in rw (a.each t l, a.each s ls)
+          (either_bound (nat_abs (height A u t)) (nat_abs (height A u t -ℤ (A.entry s t *ℤ height A u s))) (word_length A u)
+          (word_length A (s ∷ u))
+          (height-bound_reduced u t) next short next_short both)
+
+  -- .. so from the heights of a word of at most 62 letters,
+  pub HasRoom-word : (u : List ℕ) (s : ℕ) (heights : List ℤ) → IsLetter A.rank s → length u ≤ 62 → AreHeights A u heights
+      → HasRoom A s heights
+  HasRoom-word u s heights ls short a =
+      let small = word_length-length A g u
+      in let next = word_length-cons A g s u in HasRoom-lengths u s heights ls (omega (arith, small, short))
+      (omega (arith, small, next, short)) a
+
+  -- .. and from those of an element of length at most 63 to a shorter one
+  pub HasRoom-descent : (u : List ℕ) (s : ℕ) (heights : List ℤ) → IsLeftDescent A u s → word_length A u ≤ 63 → AreHeights A u heights
+      → HasRoom A s heights
+  HasRoom-descent u s heights d short a = HasRoom-lengths u s heights (left_descent-letter A g u s d) short (omega (arith, d, short)) a
+
+-- the room for one number
+pub room_at : (A : IntegerMatrix) (s t : ℕ) (heights old : List ℤ) (x : ℤ) → HasRoom A s heights → old ≡ heights → x ≡ at_letter old t
+    → IsLetter A.rank t
+    → nat_abs x + nat_abs (x -ℤ (A.entry s t *ℤ at_letter old s)) < 2 ^ 127
+room_at A s t heights old x h e is l = rw (is, e) (h.room t l)
+
+-- the new numbers are the heights of s u
+pub AreHeights-cons : (A : IntegerMatrix) (g : IsAdmissible A) (s : ℕ) (u : List ℕ) (heights old new : List ℤ) → old ≡ heights
+    → IsLetter A.rank s → AreHeights A u heights
+    → ((t : ℕ) → IsLetter A.rank t → at_letter new t ≡ at_letter old t -ℤ (A.entry s t *ℤ at_letter old s)) → AreHeights A (s ∷ u) new
+AreHeights-cons A g s u heights old new e ls a h = record {
+  each = λ t l. h t l ∙ rw (e, a.each t l, a.each s ls) (sym (height-cons A g s u t));
+}
+
+-- ---- their signs
+
+module _ (A : IntegerMatrix) (g : IsAdmissible A) where
+  pub descent-height : (u : List ℕ) (t : ℕ) → IsLeftDescent A u t → height A u t <ℤ pos 0
+  descent-height u t d =
+      rw (height-column A u t) (by_lt_z (sum_to A.rank root) (pos 0) (λ h. h) (λ h. absurd (root-not_zero A g (reverse u) t (vanishes h))))
+    where
+      root : Vector
+      root = act A (reverse u) (simple_root t)
+
+      l : IsLetter A.rank t
+      l = left_descent-letter A g u t d
+
+      nonpositive : IsNonpositive root
+      nonpositive = descent-nonpositive A g (reverse u) t l (left_descent_reverse A g u t d)
+
+      apart : (i : ℕ) → (IsLetter A.rank i → ⊥) → i ≡ t → ⊥
+      apart i foreign e = foreign (let f : t ≡ i = sym e in rw f at l)
+
+      vanishes : pos 0 ≤ℤ sum_to A.rank root → (i : ℕ) → root i ≡ pos 0
+      vanishes h i =
+          ⊎_elim (sum_to-vanishes A.rank root (λ j m. nonpositive j) h i)
+          (λ foreign. act-outside A g (reverse u) (simple_root t) i foreign ∙ simple_root-other t i (apart i foreign))
+          (letter_cases A.rank i)
+
+  pub height-descent : (u : List ℕ) (t : ℕ) → IsLetter A.rank t → height A u t <ℤ pos 0 → IsLeftDescent A u t
+  height-descent u t l h = go (sign_of A g (reverse u) t l)
+    where
+      go : SignOf A (reverse u) t → IsLeftDescent A u t
+      go (longer e p) =
+          let sum : pos 0 ≤ℤ sum_to A.rank (act A (reverse u) (simple_root t)) = sum_to-nonnegative A.rank
+          (act A (reverse u) (simple_root t)) (λ i m. p i)
+          in absurd (omega (arith, linears, sum, height-column A u t, h))
+      go (shorter e n) = reverse_left_descent A g u t (omega (arith, e))
+
+  -- .. so a list of heights tells the descents
+  pub descent_from_heights : (u : List ℕ) (heights : List ℤ) (t : ℕ) → AreHeights A u heights → IsLetter A.rank t
+      → at_letter heights t <ℤ pos 0 → IsLeftDescent A u t
+  descent_from_heights u heights t a l h = height-descent u t l (rw (a.each t l) at h)
+
+  pub heights_at_descent : (u : List ℕ) (heights : List ℤ) (t : ℕ) → AreHeights A u heights → IsLeftDescent A u t
+      → at_letter heights t <ℤ pos 0
+  heights_at_descent u heights t a d = rw (a.each t (left_descent-letter A g u t d)) (descent-height u t d)
+
+  -- where no letter below s has a negative height, no descent is below s
+  pub descents_from : (u : List ℕ) (heights : List ℤ) (s : ℕ) → AreHeights A u heights
+      → ((t : ℕ) → 1 ≤ t → t < s → pos 0 ≤ℤ at_letter heights t)
+      → (t : ℕ) → IsLeftDescent A u t → s ≤ t
+  descents_from u heights s a none t d =
+      ⊎_elim (λ (below : t < s). absurd (omega (
+        arith,
+        linears,
+        heights_at_descent u heights t a d,
+        none t
+            (left_descent-letter A g u t d).from_one below,
+      ))) (λ (above : s ≤ t). above) (cases_lt t s)

@@ -1,0 +1,6 @@
+use Rattle.std.proofs.Common.{◌≡◌, ◌-◌}
+use Rattle.cox_reflect.proofs.LetterLists.{negative_letters}
+use Rattle.cox_reflect.proofs.heights.Heights.descents.Given as goal
+
+abbrev pub invariant-loop-letter : goal.invariant-loop-letter
+invariant-loop-letter l = l.found.items ≡ negative_letters l.self (l.letter - 1)

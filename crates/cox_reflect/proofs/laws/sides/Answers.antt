@@ -1,0 +1,5 @@
+use Rattle.cox_reflect.proofs.Deletion.{sides_same}
+use Rattle.cox_reflect.proofs.laws.sides.Goals as goal
+
+pub returns : goal.returns
+returns c = sides_same

@@ -1,0 +1,20 @@
+-- the action of words on integer vectors
+pub mod Action
+-- words made of other words: a reflection, a word without one of its letters
+pub mod Words
+-- the sign of a root
+pub mod Root
+-- the Coxeter relations
+pub mod Relations
+-- the transposed matrix
+pub mod Transpose
+-- chains of reflections
+pub mod Chain
+-- an element by a word with letters left out
+pub mod Exchange
+-- an element that a subword names
+pub mod Subword
+-- heights of roots, and least left descents
+pub mod Height
+-- descents by the side
+pub mod Side

@@ -1,0 +1,74 @@
+//! Descents, lengths and normal forms of words of at most 63 letters.
+ghost use Rattle.std.specs.Prelude.{◌≡◌, ◌≤◌, length};
+ghost use Rattle.cox_base.specs.Matrix.{IsWord};
+ghost use Rattle.cox_base.specs.IntegerMatrix.{integer_matrix};
+ghost use Rattle.cox_base.specs.ShortLex.{normal_form};
+ghost use Rattle.cox_base.specs.Length.{word_length};
+ghost use Rattle.cox_reflect.specs.Height.{AreHeights};
+ghost use Rattle.cox_reflect.specs.Side.{word_at, descents_at};
+
+use crate::Heights;
+use cox_base::{Coxeter, Side, Word};
+
+/// The letters s with l(sw) < l(w), or on the right with l(ws) < l(w), rising.
+///
+/// For example in A 3 the word `12` has the left descents 1 and the right descents 2.
+pub fn descents(g: &Coxeter, w: &Word, side: Side) -> Word
+    requires letters { IsWord g.now.rank w.now.items }
+    requires short { length w.now.items ≤ 63 }
+    ensures descents { result.items ≡ descents_at side (integer_matrix g.now) w.now.items }
+    ensures word { IsWord g.now.rank result.items }
+    ensures few { length result.items ≤ g.now.rank }
+    ensures limit { g.now.rank ≤ 9 }
+{
+    heights_at(g, w, side).descents(g.rank())
+}
+
+/// The heights whose left descents are the descents of w on that side.
+fn heights_at(g: &Coxeter, w: &Word, side: Side) -> Heights
+    requires letters { IsWord g.now.rank w.now.items }
+    requires short { length w.now.items ≤ 63 }
+    ensures { AreHeights (integer_matrix g.now) (word_at side w.now.items) result }
+{
+    match side {
+        Side::Left => Heights::of_word(g, w),
+        Side::Right => Heights::of_reversed(g, w),
+    }
+}
+
+/// The length of the element that w names.
+pub fn length(g: &Coxeter, w: &Word) -> u32
+    requires letters { IsWord g.now.rank w.now.items }
+    requires short { length w.now.items ≤ 63 }
+    ensures length { result ≡ word_length (integer_matrix g.now) w.now.items }
+    ensures no_longer { result ≤ length w.now.items }
+    ensures limit { g.now.rank ≤ 9 }
+{
+    let mut heights = Heights::of_word(g, w);
+    let mut count = 0;
+    while let Some(s) = heights.least_descent(g.rank()) {
+        heights.prepend(g, s);
+        count += 1;
+    }
+    count
+}
+
+/// The normal form of the element that w names: its ShortLex-first word.
+///
+/// It is read off letter by letter: nf(w) = s nf(sw) for the least left descent s of w. For example in A 2 that of `212` is `121`.
+pub fn normal_form(g: &Coxeter, w: &Word) -> Word
+    requires letters { IsWord g.now.rank w.now.items }
+    requires short { length w.now.items ≤ 63 }
+    ensures form { result.items ≡ normal_form (integer_matrix g.now) w.now.items }
+    ensures word { IsWord g.now.rank result.items }
+    ensures no_longer { length result.items ≤ length w.now.items }
+    ensures limit { g.now.rank ≤ 9 }
+{
+    let mut heights = Heights::of_word(g, w);
+    let mut form = Word::new();
+    while let Some(s) = heights.least_descent(g.rank()) {
+        heights.prepend(g, s);
+        form.push(s);
+    }
+    form
+}

@@ -1,0 +1,27 @@
+//! Coxeter groups as groups of integer matrices (Humphreys, "Reflection Groups and Coxeter Groups", chapter 5): descents, lengths,
+//! normal forms and Bruhat order of words of at most 63 letters, by the signs of roots. Nothing here takes memory.
+//!
+//! An element is told by a word. Contracts say what is computed by the definitions of `cox_base`: the normal form is the ShortLex-first
+//! word of the element, its length is that word's, and y <= w where a subword of the normal form of w names y. The code reads descents off
+//! the heights of nine roots, in 128 bits.
+//!
+//! - `laws`: the theory of lengths, roots, reduced words, normal forms and Bruhat order, for every admissible integer matrix; the lemmas
+//!   behind it are in `proofs/`, for the crates above
+//! - `heights`: the heights of roots, and the descents that they tell
+//! - `coordinates`: the coordinates of a root
+//! - `forms`: descents, lengths and normal forms
+//! - `order`: Bruhat order
+#![tactic(auto)]
+
+mod coordinates;
+mod forms;
+mod heights;
+pub mod laws;
+mod order;
+#[cfg(test)]
+mod tests;
+
+pub use coordinates::image;
+pub use forms::{descents, length, normal_form};
+pub use heights::Heights;
+pub use order::below;
