@@ -1,0 +1,12 @@
+use Rattle.std.proofs.Common.{◌≡◌, ◌<◌, ◌^◌, take, true}
+use Rattle.std.specs.List.{list_all}
+use Rattle.std.specs.Char.{is_ascii_digit}
+use Rattle.cox_command.specs.Number.{number_of}
+use Rattle.cox_command.proofs.number.read_number.Given as goal
+
+abbrev pub invariant-loop-byte : goal.invariant-loop-byte
+invariant-loop-byte l = record {
+  value_is : l.value ≡ number_of (take l.byte-index l.token);
+  small : l.value < 10 ^ l.byte-index;
+  digits : list_all is_ascii_digit (take l.byte-index l.token) ≡ true;
+}

@@ -1,0 +1,5 @@
+use Rattle.std.proofs.Common.{◌≡◌, ◌+◌, length}
+use Rattle.cox_command.proofs.tokens.Tokens.has_count.Given as goal
+
+abbrev pub invariant-loop : goal.invariant-loop
+invariant-loop l = l.counter + length l.left ≡ length l.self

@@ -1,0 +1,20 @@
+-- The table of command words, which are read exactly.
+use Rattle.std.specs.Prelude.{ℕ, if◌then◌else◌, List, Option, None, Some, codes}
+use Rattle.std.specs.Str.{bytes_eq}
+use Rattle.cox_command.specs.declared.command.OneWord.TheVariants.{Compute, Length, Inverse, Descent}
+use Rattle.cox_command.specs.declared.command.TwoWord.TheVariants.{Inorder, Rpol}
+use Rattle.cox_command.specs.declared.command_word.CommandWord.{CommandWord}
+use Rattle.cox_command.specs.declared.command_word.CommandWord.TheVariants.{Named, Matrix, Quit, One, Two}
+
+-- the command that a token names, if it names one
+abbrev pub command_word_of : List ℕ → Option CommandWord
+command_word_of token = if bytes_eq token (codes "type") then Some Named
+    else if bytes_eq token (codes "matrix") then Some Matrix
+    else if bytes_eq token (codes "quit") then Some Quit
+    else if bytes_eq token (codes "compute") then Some (One Compute)
+    else if bytes_eq token (codes "length") then Some (One Length)
+    else if bytes_eq token (codes "inverse") then Some (One Inverse)
+    else if bytes_eq token (codes "descent") then Some (One Descent)
+    else if bytes_eq token (codes "inorder") then Some (Two Inorder)
+    else if bytes_eq token (codes "rpol") then Some (Two Rpol)
+    else None

@@ -1,0 +1,21 @@
+//! Numbers as they are written.
+ghost use Rattle.std.specs.Prelude.{◌≡◌, ◌<◌, ◌^◌, if◌then◌else◌, Some, None, IfSome};
+ghost use Rattle.cox_command.specs.Number.{is_number, number_of};
+
+/// The value of a number of 1 to 9 decimal digits.
+pub fn read_number(token: &[u8]) -> Option<u32>
+    ensures value { result ≡ (if is_number token.now then Some (number_of token.now) else None) }
+    ensures small { IfSome result (λ n. n < 10 ^ 9) }
+{
+    if token.is_empty() || token.len() > 9 {
+        return None;
+    }
+    let mut value = 0;
+    for &byte in token {
+        if !byte.is_ascii_digit() {
+            return None;
+        }
+        value = 10 * value + (byte - b'0') as u32;
+    }
+    Some(value)
+}

@@ -1,0 +1,87 @@
+//! Lines, and what they give.
+use super::*;
+use std::process::Abort;
+use std::test::Fail;
+
+/// The number by which a line is refused, or 0.
+fn refusal(rt: &impl Abort, line: &[u8], rank: Option<u32>) -> u8 {
+    assert!(rt; line.len() < 5000 && rank.unwrap_or(0) <= 9);
+    match parse(line, rank) {
+        Ok(_) => 0,
+        Err(fault) => fault.number,
+    }
+}
+
+#[test]
+fn refuses_lines_in_order(rt: HostRuntime) {
+    let lines = [
+        ("", None, 0),
+        ("quit", None, 0),
+        (" quit  ", None, 0),
+        ("Quit", None, 10),
+        ("quit now", None, 11),
+        ("foo 1x", None, 10),
+        ("type\tA 2", None, 10),
+        ("types A 2", None, 10),
+        ("type A", None, 11),
+        ("type A 1 1", None, 11),
+        ("type A x", None, 12),
+        ("type Q 1x", None, 12),
+        ("type A +1", None, 12),
+        ("type A 0000000001", None, 12),
+        ("type A 000000001", None, 0),
+        ("type A 0", None, 13),
+        ("type A 10", None, 13),
+        ("type AA 1", None, 13),
+        ("type H 3", None, 13),
+        ("type a 8", None, 0),
+        ("matrix", None, 11),
+        ("matrix 0", None, 12),
+        ("matrix 10", None, 12),
+        ("matrix x 3 3 3 3", None, 12),
+        ("matrix 1", None, 0),
+        ("matrix 2", None, 11),
+        ("matrix 2 x x", None, 11),
+        ("matrix 2 5", None, 14),
+        ("matrix 3 5 x 3", None, 12),
+        ("matrix 3 3 3 3", Some(2), 0),
+        ("compute", None, 11),
+        ("compute 1", None, 15),
+        ("inorder 1x", None, 11),
+        ("inorder 1x e", None, 15),
+        ("inorder 12 21", Some(2), 0),
+        ("length e", Some(2), 0),
+        ("length ee", Some(2), 16),
+        ("compute 13", Some(2), 16),
+        ("descent 1x", Some(2), 16),
+    ];
+    for (line, rank, number) in lines {
+        assert_eq!(rt; refusal(&rt, line.as_bytes(), rank), number, "at {line:?}");
+    }
+}
+
+#[test]
+fn counts_letters_first(rt: HostRuntime) {
+    let mut line = [b'9'; 267];
+    line[..11].copy_from_slice(b"inorder 1x ");
+    assert_eq!(rt; refusal(&rt, &line, Some(2)), 17);
+    assert_eq!(rt; refusal(&rt, &line[..266], Some(2)), 16);
+    assert_eq!(rt; refusal(&rt, &[b' '; 4096], None), 0);
+}
+
+#[test]
+fn gives_commands(rt: HostRuntime) -> Result<(), Fail> {
+    let Command::Two(TwoWord::Inorder, y, w) = parse(b"inorder e  212", Some(2))? else {
+        panic!(rt; "two words");
+    };
+    assert!(rt; y.is_empty() && w.as_slice() == [2, 1, 2].as_slice());
+    let Command::Group(group) = parse(b"matrix 3 3 2 04", None)? else {
+        panic!(rt; "a group");
+    };
+    assert_eq!(rt; group.rank(), 3);
+    assert_eq!(rt;
+        [group.label(1, 2), group.label(1, 3), group.label(2, 3)],
+        [3, 2, 4]
+    );
+    Ok(())
+}
