@@ -1,0 +1,50 @@
+-- One text behind another.
+use Rattle.std.proofs.Common.{◌≡◌, ℕ, List, ◌++◌, map, take, drop, Result, Ok, Err, IsErr, append_assoc, ap, sym, ◌∙◌}
+use Rattle.std.proofs.lemmas.List.{take-append-drop, map-append}
+use Rattle.std.specs.declared.alloc.AllocError.{AllocError}
+use Rattle.cox_print.specs.Puts.{PutsFront, Puts}
+
+-- a front of the first text is one of both
+pub PutsFront-first : (a b old new : List ℕ) → PutsFront a old new → PutsFront (a ++ b) old new
+PutsFront-first a b old new put = record {
+  front = put.front;
+  rest = put.rest ++ b;
+  parts = rw (put.parts, append_assoc);
+  behind = put.behind;
+}
+
+-- the first text, and then the second
+pub append-second : (a b old mid new : List ℕ) → mid ≡ old ++ a → new ≡ mid ++ b → new ≡ old ++ (a ++ b)
+append-second a b old mid new first second = rw (second, first, append_assoc)
+
+-- the first text, and then a front of the second
+pub PutsFront-second : (a b old mid new : List ℕ) → mid ≡ old ++ a → PutsFront b mid new → PutsFront (a ++ b) old new
+PutsFront-second a b old mid new first put = record {
+  front = a ++ put.front;
+  rest = put.rest;
+  parts = rw (put.parts, append_assoc);
+  behind = append-second a put.front old mid new first put.behind;
+}
+
+-- the answer for want of memory
+pub Puts-failed : (result : Result Unit AllocError) (text old new : List ℕ) → IsErr result → PutsFront text old new → Puts result text old new
+Puts-failed (Ok done) text old new failed put = absurd (cc failed)
+Puts-failed (Err fault) text old new failed put = put
+
+-- want of memory at the first text
+pub Puts-first : (result : Result Unit AllocError) (a b old new : List ℕ) → IsErr result → PutsFront a old new → Puts result (a ++ b) old new
+Puts-first result a b old new failed put = Puts-failed result (a ++ b) old new failed (PutsFront-first a b old new put)
+
+-- the last text, behind the others
+pub Puts-second : (result : Result Unit AllocError) (a b old mid new : List ℕ) → mid ≡ old ++ a → Puts result b mid new → Puts result (a ++ b) old new
+Puts-second (Ok done) a b old mid new first put = append-second a b old mid new first put
+Puts-second (Err fault) a b old mid new first put = PutsFront-second a b old mid new first put
+
+-- the texts of the first elements are a front of the whole text
+pub PutsFront-take : (f : ℕ → ℕ) (xs : List ℕ) (i : ℕ) (old new : List ℕ) → new ≡ old ++ map f (take i xs) → PutsFront (map f xs) old new
+PutsFront-take f xs i old new put = record {
+  front = map f (take i xs);
+  rest = map f (drop i xs);
+  parts = ap (map f) (sym (take-append-drop i xs)) ∙ map-append f (take i xs) (drop i xs);
+  behind = put;
+}

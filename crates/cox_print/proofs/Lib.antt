@@ -1,0 +1,2 @@
+-- one text behind another
+pub mod Behind

@@ -1,0 +1,7 @@
+use Rattle.std.proofs.Common.{◌≡◌, ◌++◌, map, take}
+use Rattle.cox_print.specs.Text.{letter_digit}
+use Rattle.cox_print.proofs.element.put_letters.Given as goal
+
+abbrev pub invariant-loop-letter : goal.invariant-loop-letter
+invariant-loop-letter l =
+    l.out.items ≡ l.initial.out.items ++ map letter_digit (take l.letter-index l.letters.items)

@@ -1,0 +1,4 @@
+-- the texts of answers
+pub mod Text
+-- how a text is put behind others
+pub mod Puts

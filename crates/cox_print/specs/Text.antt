@@ -1,0 +1,27 @@
+-- The texts of answers, as lists of bytes.
+use Rattle.std.specs.Prelude.{ℕ, ◌+◌, ◌++◌, Bool, if◌then◌else◌, List, [], ◌∷◌, map, codes, decimal}
+
+-- the digit of a letter (48 is the code of 0)
+abbrev pub letter_digit : ℕ → ℕ
+letter_digit letter = 48 + letter
+
+-- an element: `e` for the identity, else its word, letter by letter
+abbrev pub element_text : List ℕ → List ℕ
+element_text [] = codes "e"
+element_text (letter ∷ word) = map letter_digit (letter ∷ word)
+
+-- a set of letters: the letters, which rise; `-` for the empty set
+abbrev pub set_text : List ℕ → List ℕ
+set_text [] = codes "-"
+set_text (letter ∷ letters) = map letter_digit (letter ∷ letters)
+
+-- the left and the right descents
+abbrev pub descent_text : List ℕ → List ℕ → List ℕ
+descent_text left right = codes "L " ++ set_text left ++ codes " R " ++ set_text right
+
+abbrev pub truth_text : Bool → List ℕ
+truth_text truth = if truth then codes "true" else codes "false"
+
+-- the text of a refused line
+abbrev pub refusal_text : ℕ → List ℕ
+refusal_text number = codes "error " ++ decimal number

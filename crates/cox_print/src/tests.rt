@@ -1,0 +1,42 @@
+//! Each call once, and the texts that the clauses leave to their words.
+use super::*;
+use cox_base::read_word;
+use std::test::Fail;
+
+#[test]
+fn puts_elements_and_sets(rt: HostRuntime) -> Result<(), Fail> {
+    let mut out = Vec::new(rt.alloc());
+    let (word, empty) = (read_word(b"12321", 3)?, read_word(b"e", 3)?);
+    put_element(&mut out, 3, &word)?;
+    put_text(&mut out, b" ")?;
+    put_element(&mut out, 3, &empty)?;
+    put_end(&mut out)?;
+    put_descent(&mut out, 3, &empty, &empty)?;
+    put_end(&mut out)?;
+    let (left, right) = (read_word(b"13", 3)?, read_word(b"2", 3)?);
+    put_set(&mut out, 3, &left)?;
+    put_set(&mut out, 3, &empty)?;
+    put_end(&mut out)?;
+    put_descent(&mut out, 3, &left, &right)?;
+    assert_eq!(rt;
+        out.as_slice(),
+        b"12321 e\nL - R -\n13-\nL 13 R 2".as_slice()
+    );
+    Ok(())
+}
+
+#[test]
+fn puts_numbers_and_words(rt: HostRuntime) -> Result<(), Fail> {
+    let mut out = Vec::new(rt.alloc());
+    for n in [0, -1, 10, i128::MIN] {
+        put_number(&mut out, n)?;
+        put_end(&mut out)?;
+    }
+    put_truth(&mut out, true)?;
+    put_truth(&mut out, false)?;
+    put_refusal(&mut out, 10)?;
+    put_refusal(&mut out, 255)?;
+    let want = b"0\n-1\n10\n-170141183460469231731687303715884105728\ntruefalseerror 10error 255";
+    assert_eq!(rt; out.as_slice(), want.as_slice());
+    Ok(())
+}
