@@ -1,0 +1,9 @@
+pub mod Appending
+pub mod Coefficients
+pub mod Measured
+pub mod Norms
+pub mod Polynomials
+pub mod Products
+pub mod Ring
+pub mod Sums
+pub mod Terms

@@ -1,0 +1,84 @@
+-- Products of polynomials as coefficient functions.
+use Rattle.std.proofs.Common.{◌≡◌, ℕ, zero, suc, ◌+◌, ◌≤◌, refl, sym, ap, arith}
+use Rattle.std.proofs.Common.{ℤ, pos, ◌+ℤ◌, ◌*ℤ◌, neg_ℤ}
+use Rattle.std.proofs.lemmas.Int.{ints}
+use Rattle.cox_poly.specs.Coefficients.{Coefficients, zero_polynomial, one_polynomial, plus, negated, scaled, times_q, times_q_power, without_constant, product, front, HasDegreeAtMost}
+use Rattle.cox_poly.proofs.Coefficients.{times_q_power_at, times_q_power_below, times_q_power-suc}
+use Rattle.cox_poly.proofs.Ring.{ring, mul-mul_swap}
+
+-- with 0 and 1
+pub product_of_none : (f g : Coefficients) → ((j : ℕ) → f j ≡ pos 0) → (k : ℕ) → product f g k ≡ pos 0
+product_of_none f g none zero = omega (arith, ints, ap (λ z. z *ℤ g zero) (none zero))
+product_of_none f g none (suc k) = omega (arith, ints, ap (λ z. z *ℤ g (suc k)) (none zero), product_of_none (without_constant f) g (λ j. none (suc j)) k)
+
+pub zero-product : (g : Coefficients) (k : ℕ) → product zero_polynomial g k ≡ pos 0
+zero-product g = product_of_none zero_polynomial g (λ j. refl)
+
+pub product-zero : (f : Coefficients) (k : ℕ) → product f zero_polynomial k ≡ pos 0
+product-zero f zero = omega (arith, ints)
+product-zero f (suc k) = omega (arith, ints, product-zero (without_constant f) k)
+
+pub one-product : (g : Coefficients) (k : ℕ) → product one_polynomial g k ≡ g k
+one-product g zero = omega (arith, ints)
+one-product g (suc k) = omega (arith, ints, zero-product g k)
+
+pub product-one : (f : Coefficients) (k : ℕ) → product f one_polynomial k ≡ f k
+product-one f zero = omega (arith, ints)
+product-one f (suc k) = omega (arith, ints, product-one (without_constant f) k)
+
+-- with sums, negatives and multiples
+pub product-plus : (f g h : Coefficients) (k : ℕ) → product f (plus g h) k ≡ product f g k +ℤ product f h k
+product-plus f g h zero = simp ring (omega (arith, ints))
+product-plus f g h (suc k) = simp ring (omega (arith, ints, product-plus (without_constant f) g h k))
+
+pub plus-product : (f g h : Coefficients) (k : ℕ) → product (plus f g) h k ≡ product f h k +ℤ product g h k
+plus-product f g h zero = simp ring (omega (arith, ints))
+plus-product f g h (suc k) = simp ring (omega (arith, ints, plus-product (without_constant f) (without_constant g) h k))
+
+pub product-negated : (f g : Coefficients) (k : ℕ) → product f (negated g) k ≡ neg_ℤ (product f g k)
+product-negated f g zero = simp ring (omega (arith, ints))
+product-negated f g (suc k) = simp ring (omega (arith, ints, product-negated (without_constant f) g k))
+
+pub negated-product : (f g : Coefficients) (k : ℕ) → product (negated f) g k ≡ neg_ℤ (product f g k)
+negated-product f g zero = simp ring (omega (arith, ints))
+negated-product f g (suc k) = simp ring (omega (arith, ints, negated-product (without_constant f) g k))
+
+pub product-scaled : (c : ℤ) (f g : Coefficients) (k : ℕ) → product f (scaled c g) k ≡ c *ℤ product f g k
+product-scaled c f g zero = mul-mul_swap (f zero) c (g zero)
+product-scaled c f g (suc k) = simp ring (omega (arith, ints, mul-mul_swap (f zero) c (g (suc k)), product-scaled c (without_constant f) g k))
+
+pub scaled-product : (c : ℤ) (f g : Coefficients) (k : ℕ) → product (scaled c f) g k ≡ c *ℤ product f g k
+scaled-product c f g zero = simp ring
+scaled-product c f g (suc k) = simp ring (omega (arith, ints, scaled-product c (without_constant f) g k))
+
+-- with multiples of q
+pub product-times_q : (f g : Coefficients) (k : ℕ) → product f (times_q g) k ≡ times_q (product f g) k
+product-times_q f g zero = omega (arith, ints)
+product-times_q f g (suc zero) = omega (arith, ints)
+product-times_q f g (suc (suc k)) = omega (arith, ints, product-times_q (without_constant f) g (suc k))
+
+pub times_q-product : (f g : Coefficients) (k : ℕ) → product (times_q f) g k ≡ times_q (product f g) k
+times_q-product f g zero = omega (arith, ints)
+times_q-product f g (suc k) = omega (arith, ints)
+
+-- one term more in front
+pub front-product : (f g : Coefficients) (i k : ℕ) → product (front (suc i) f) g k ≡ product (front i f) g k +ℤ f i *ℤ times_q_power i g k
+front-product f g zero zero = omega (arith, ints)
+front-product f g zero (suc k) = omega (arith, ints, zero-product g k, ap (λ z. f zero *ℤ z) (times_q_power_at g 0 (suc k) (suc k) (omega arith)))
+front-product f g (suc i) zero = omega (arith, ints, ap (λ z. f (suc i) *ℤ z) (times_q_power_below g (suc i) 0 (omega arith)))
+front-product f g (suc i) (suc k) =
+    omega (arith, ints, front-product (without_constant f) g i k, ap (λ h. f (suc i) *ℤ h (suc k)) (times_q_power-suc i g))
+
+-- a front that leaves out no term is the whole
+pub front-all : (f : Coefficients) (n : ℕ) → ((k : ℕ) → n ≤ k → f k ≡ pos 0) → (k : ℕ) → front n f k ≡ f k
+front-all f zero none k = sym (none k (omega arith))
+front-all f (suc n) none zero = refl
+front-all f (suc n) none (suc k) = front-all (without_constant f) n (λ j h. none (suc j) (omega arith)) k
+
+-- the degrees add up
+pub HasDegreeAtMost-product : (f g : Coefficients) (n m : ℕ) → HasDegreeAtMost f n → HasDegreeAtMost g m → HasDegreeAtMost (product f g) (n + m)
+HasDegreeAtMost-product f g n m f_low g_low zero h = absurd (omega arith)
+HasDegreeAtMost-product f g zero m f_low g_low (suc k) h =
+    omega (arith, ints, ap (λ z. f zero *ℤ z) (g_low (suc k) (omega arith)), product_of_none (without_constant f) g (λ j. f_low (suc j) (omega arith)) k)
+HasDegreeAtMost-product f g (suc n) m f_low g_low (suc k) h =
+    omega (arith, ints, ap (λ z. f zero *ℤ z) (g_low (suc k) (omega arith)), HasDegreeAtMost-product (without_constant f) g n m (λ j lt. f_low (suc j) (omega arith)) g_low k (omega arith))

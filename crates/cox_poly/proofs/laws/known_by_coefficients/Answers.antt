@@ -1,0 +1,5 @@
+use Rattle.cox_poly.proofs.Polynomials.{same_polynomial}
+use Rattle.cox_poly.proofs.laws.known_by_coefficients.Goals as goal
+
+pub returns : goal.returns
+returns c = same_polynomial

@@ -1,0 +1,80 @@
+use crate::append::put_number;
+use crate::{Acc, Poly, PolyFault};
+use std::alloc::Global;
+use std::test::Fail;
+
+// The text of the polynomial.
+fn text_of(alloc: Global, p: &Poly) -> Result<String, Fail> {
+    let mut out = Vec::new(alloc);
+    p.put_text(&mut out)?;
+    Ok(String::from_utf8(out).ok().ok_or("not UTF-8")?)
+}
+
+#[test]
+fn texts(rt: HostRuntime) -> Result<(), Fail> {
+    let alloc = rt.alloc();
+    let table: [(&[i64], &str); 9] = [
+        (&[1, 2, 1], "1+2q+q^2"),
+        (&[-1, 1], "-1+q"),
+        (&[0, 1], "q"),
+        (&[0, 0, 0, -2], "-2q^3"),
+        (&[], "0"),
+        (&[0, 0], "0"),
+        (&[1, -1, 1, -1, 0], "1-q+q^2-q^3"),
+        (&[7, 0, -1, 0, 0, 0, 0, 0, 0, 0, 12], "7-q^2+12q^10"),
+        (
+            &[i64::MIN, i64::MAX],
+            "-9223372036854775808+9223372036854775807q",
+        ),
+    ];
+    for (list, text) in table {
+        let p = Poly::of(alloc, list)?;
+        assert_eq!(rt; text_of(alloc, &p)?.as_str(), text);
+    }
+    Ok(())
+}
+
+#[test]
+fn parts_of_a_polynomial(rt: HostRuntime) -> Result<(), Fail> {
+    let alloc = rt.alloc();
+    let p = Poly::of(alloc, &[3, 0, -5, 0])?.copy()?;
+    assert_eq!(rt; p.degree(), Some(2));
+    assert_eq!(rt; p.coefficient(0), 3);
+    assert_eq!(rt; p.coefficient(2), -5);
+    assert_eq!(rt; p.coefficient(4_000_000_000), 0);
+    assert_eq!(rt; Poly::zero(alloc)?.degree(), None);
+    assert_eq!(rt; Poly::one(alloc)?.degree(), Some(0));
+    assert_eq!(rt; Poly::one(alloc)?.coefficient(0), 1);
+    Ok(())
+}
+
+#[test]
+fn sums(rt: HostRuntime) -> Result<(), Fail> {
+    let alloc = rt.alloc();
+    let p = Poly::of(alloc, &[1, 1])?;
+    let mut sum = Acc::default();
+    sum.add_scaled(&p, 3, 2);
+    let closed = sum.close(alloc, 3)?;
+    assert_eq!(rt; text_of(alloc, &closed)?.as_str(), "3q^2+3q^3");
+    let fault = PolyFault::TooBig {
+        degree: 2,
+        value: 3,
+    };
+    assert_eq!(rt; sum.close(alloc, 2).err(), Some(fault));
+    Ok(())
+}
+
+#[test]
+fn integers(rt: HostRuntime) -> Result<(), Fail> {
+    let mut out = Vec::new(rt.alloc());
+    put_number(
+        &mut out,
+        -170_141_183_460_469_231_731_687_303_715_884_105_728,
+    )?;
+    put_number(&mut out, 0)?;
+    assert_eq!(rt;
+        out.as_slice(),
+        b"-1701411834604692317316873037158841057280".as_slice()
+    );
+    Ok(())
+}
