@@ -1,0 +1,5 @@
+use Rattle.cox_rpoly.proofs.TermLemmas.{coefficient-one}
+use Rattle.cox_rpoly.proofs.terms.one.Goals as goal
+
+pub returns : goal.returns
+returns c = λ k. coefficient-one k
