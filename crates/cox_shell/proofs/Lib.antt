@@ -1,0 +1,22 @@
+-- the reply to the content of a line is one
+pub mod ContentReply
+-- replies to lines are one
+pub mod Replies
+-- what is heard of a line
+pub mod Hearing
+-- no line lies ahead: at the end, and at the limit
+pub mod Lines
+-- how far a run has come
+pub mod Progress
+-- how it ends
+pub mod Endings
+-- facts of values that are known or not
+pub mod Known
+-- what a run over the lines says of the whole
+pub mod Whole
+-- what is said when a text was put
+pub mod Sayings
+-- the text of an R-polynomial
+pub mod PolynomialTexts
+-- texts that are put unless a number refuses them
+pub mod Unless

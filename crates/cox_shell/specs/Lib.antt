@@ -1,0 +1,20 @@
+-- replies to lines
+pub mod Reply
+-- the replies to commands, in the terms of Coxeter groups
+pub mod CommandReply
+-- the reply to the content of a line
+pub mod ContentReply
+-- the reply to a line
+pub mod LineReply
+-- the replies to lines, and the answer to a script
+pub mod Answer
+-- what a session says to a line
+pub mod Saying
+-- how a run ends
+pub mod Status
+-- where a run stands, and what serving a line does
+pub mod Run
+-- what a run over the lines does
+pub mod Outcome
+-- what a whole run does
+pub mod Top

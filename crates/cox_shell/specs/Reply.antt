@@ -1,0 +1,40 @@
+-- What a line is answered.
+use Rattle.std.specs.Prelude.{ℕ, ◌++◌, Bool, true, false, List, [], ◌∷◌, Option, None}
+use Rattle.std.specs.Option.{option_map}
+use Rattle.cox_base.specs.Matrix.{CoxeterMatrix}
+use Rattle.cox_print.specs.Text.{refusal_text}
+
+-- the state of a session: the Coxeter matrix of the group that is set, if one is
+abbrev pub State : Type 0
+State = Option CoxeterMatrix
+
+-- the state of a session that begins: no group is set
+abbrev pub opening : State
+opening = None
+
+-- the rank of the group that is set
+abbrev pub rank_of : State → Option ℕ
+rank_of state = option_map (λ g. g.rank) state
+
+-- the text that a line is answered, the state after it, whether it is refused, and whether it ends the run
+pub record Reply : Type 0 where
+  pub text : List ℕ
+  pub after : State
+  pub refused : Bool
+  pub quits : Bool
+
+-- the reply to a refused line: `error` and a number; nothing changes
+abbrev pub refusal : State → ℕ → Reply
+refusal state number = record { text = refusal_text number ++ 10 ∷ []; after = state; refused = true; quits = false }
+
+-- the reply to a line that is answered nothing, and leaves this state
+abbrev pub silence : State → Reply
+silence state = record { text = []; after = state; refused = false; quits = false }
+
+-- the reply that ends the run
+abbrev pub farewell : State → Reply
+farewell state = record { text = []; after = state; refused = false; quits = true }
+
+-- the reply with one line of text
+abbrev pub answered : State → List ℕ → Reply
+answered state text = record { text = text ++ 10 ∷ []; after = state; refused = false; quits = false }

@@ -1,0 +1,75 @@
+-- Where a run stands, and what serving one line does.
+use Rattle.std.specs.Prelude.{◌≡◌, ℕ, ◌<◌, Bool, true, false, List, [], length, Option, IfSome, Result, Ok, Err}
+use Rattle.cox_outside.specs.declared.line_reader.Stop.{Stop}
+use Rattle.cox_outside.specs.declared.line_reader.Next.TheVariants as next
+use Rattle.cox_outside.specs.Reading.{Supply}
+use Rattle.cox_outside.specs.Writing.{Outlet, Puts, IsFront}
+use Rattle.cox_outside.specs.Ahead.{Ahead, ahead}
+use Rattle.cox_outside.specs.Reader.{Reader, TakesNext, Reads}
+use Rattle.std.specs.declared.alloc.AllocError.{AllocError}
+use Rattle.cox_shell.specs.declared.session.Said.{Said}
+use Rattle.cox_shell.specs.declared.serving.Heard.{Heard}
+use Rattle.cox_shell.specs.declared.serving.Heard.TheVariants as heard
+use Rattle.cox_shell.specs.declared.serving.Served.{Served}
+use Rattle.cox_shell.specs.declared.serving.Served.TheVariants.{Answered, Refused, Quit, End, InputLimit, ReadFault, WriteFault, NoMemory}
+use Rattle.cox_shell.specs.Reply.{State, Reply}
+use Rattle.cox_shell.specs.LineReply.{IsReply}
+use Rattle.cox_shell.specs.Saying.{Says}
+
+-- the session's state, whether the reader stopped, what lies ahead of it, and what the sink tells
+pub record Stand : Type 0 where
+  pub state : State
+  pub stop : Option Stop
+  pub ahead : Ahead
+  pub out : Outlet
+
+-- where a run stands, by the values that it is made of
+abbrev pub stand : State → Reader → Supply → Outlet → Stand
+stand state reader supply outlet = record { state = state; stop = reader.stop; ahead = ahead reader.feed supply.left; out = outlet }
+
+-- what was heard of a line to which this was said
+abbrev pub heard_of : Result Said AllocError → Heard
+heard_of (Ok said) = heard.Line said
+heard_of (Err error) = heard.NoMemory
+
+-- a line was taken, which has this reply
+pub record IsTaken (reply : Reply) (state : State) (halt : Option Stop) (old new : Ahead) : Type 0 where
+  pub line : List ℕ
+  pub takes : TakesNext halt line old new
+  pub is_reply : IsReply state line reply
+
+-- what hearing the next line did: its reply stands in the buffer, or memory was wanting for it, or no line was there
+abbrev pub Hears : Heard → State → State → Option Stop → Ahead → Ahead → List ℕ → Type 0
+Hears (heard.Line said) before after halt old new buffer = (reply : Reply) × IsTaken reply before halt old new × Says said reply after [] buffer
+Hears heard.NoMemory before after halt old new buffer = (reply : Reply) × IsTaken reply before halt old new
+Hears heard.End before after halt old new buffer = Reads next.End halt old new × (buffer ≡ []) × (after ≡ before)
+Hears heard.Failed before after halt old new buffer = Reads next.Failed halt old new × (buffer ≡ []) × (after ≡ before)
+Hears heard.Limit before after halt old new buffer = Reads next.Limit halt old new × (buffer ≡ []) × (after ≡ before)
+
+-- a line was taken and its reply written, which is a refusal or not, and ends the run or not
+pub record IsServed (refused quits : Bool) (old new : Stand) : Type 0 where
+  pub reply : Reply
+  pub taken : IsTaken reply old.state new.stop old.ahead new.ahead
+  pub puts : Puts reply.text old.out new.out
+  pub state_after : new.state ≡ reply.after
+  pub refuses : reply.refused ≡ refused
+  pub quitting : reply.quits ≡ quits
+
+-- a line was taken and a front of its reply written
+pub record IsCutOff (old new : Stand) : Type 0 where
+  pub reply : Reply
+  pub taken : IsTaken reply old.state new.stop old.ahead new.ahead
+  pub front : List ℕ
+  pub is_front : IsFront front reply.text
+  pub puts : Puts front old.out new.out
+
+-- what serving the next line did
+abbrev pub Serves : Served → Stand → Stand → Type 0
+Serves Answered old new = IsServed false false old new
+Serves Refused old new = IsServed true false old new
+Serves Quit old new = IsServed false true old new
+Serves End old new = Reads next.End new.stop old.ahead new.ahead × (new.out ≡ old.out)
+Serves InputLimit old new = Reads next.Limit new.stop old.ahead new.ahead × (new.out ≡ old.out)
+Serves ReadFault old new = Reads next.Failed new.stop old.ahead new.ahead × (new.out ≡ old.out)
+Serves WriteFault old new = (cut : IsCutOff old new) × IfSome old.out.room (λ left. left < length cut.reply.text)
+Serves NoMemory old new = IsCutOff old new

@@ -1,0 +1,34 @@
+//! The shell: the answer to a script, from the bytes of a source to the bytes of a sink.
+//!
+//! [`run_one`] reads lines, answers each before it asks for the next, and ends by a [`Status`]. Its
+//! contract says, by the replies to the lines that the definitions give, what was written at each
+//! status and what the status came from. A [`Session`] answers single lines.
+//!
+//! It stands on `cox_outside` for lines and bytes, on `cox_command` and `cox_print` for commands and
+//! texts, and on `cox_reflect` and `cox_rpoly` for what is asked of a group. A new command is a case
+//! of the words in `specs/CommandReply.antt`, and an arm in `answers`.
+//!
+//! - `status`: how a run ends
+//! - `options`: what the words of the command line say
+//! - `answers`: the lines that commands answer
+//! - `session`: the session, which answers the contents of lines
+//! - `serving`: one line, from the source to the sink
+//! - `running`: all lines, and the status that they lead to
+//! - `top`: the whole run, with the words of the command line
+//! - `laws`: a script has at most one answer
+#![tactic(auto)]
+
+mod answers;
+pub mod laws;
+mod options;
+mod running;
+mod serving;
+mod session;
+mod status;
+mod top;
+
+pub use cox_outside::NoMemory;
+pub use options::Options;
+pub use session::{Said, Session};
+pub use status::Status;
+pub use top::run_one;

@@ -1,0 +1,54 @@
+//! All lines, and the status that they lead to.
+
+ghost use Rattle.std.specs.Prelude.{◌≡◌, None, if◌then◌else◌};
+ghost use Rattle.cox_outside.specs.Reading.{SourceCause};
+ghost use Rattle.cox_outside.specs.Writing.{SinkCause};
+ghost use Rattle.cox_shell.specs.Run.{stand};
+ghost use Rattle.cox_shell.specs.Outcome.{Runs};
+
+use crate::serving::{Served, serve_line};
+use crate::session::Session;
+use crate::status::Status;
+use cox_outside::{LineReader, Sink, Source};
+
+/// Serves line after line, until one ends the run, none is left, or something fails. The buffer's
+/// content is lost.
+pub fn run_lines<S: Source, K: Sink>(
+    reader: &mut LineReader,
+    session: &mut Session,
+    buffer: &mut Vec<u8>,
+    source: &mut S,
+    sink: &mut K,
+) -> Status
+    requires { reader.old.stop ≡ None }
+    ensures runs { Runs result
+        (stand session.old reader.old (S.seen source.old) (K.seen sink.old))
+        (stand session.new reader.new (S.seen source.new) (K.seen sink.new)) }
+    ensures source_cause { SourceCause (S.seen source.old) (S.seen source.new) (result ≡ Status.ReadFault) }
+    ensures sink_cause { SinkCause (K.seen sink.old) (K.seen sink.new) (result ≡ Status.WriteFault) }
+{
+    let mut refused = false;
+    'lines: while !reader.has_stopped() {
+        match serve_line(reader, session, buffer, source, sink) {
+            Served::Answered => {}
+            Served::Refused => refused = true,
+            Served::Quit | Served::End => return at_the_end(refused),
+            Served::ReadFault => return Status::ReadFault,
+            Served::WriteFault => return Status::WriteFault,
+            Served::NoMemory => return Status::NoMemory,
+            Served::InputLimit => return Status::InputLimit,
+        }
+    }
+    at_the_end(refused)
+}
+
+/// How a run ends that came to its end.
+fn at_the_end(refused: bool) -> Status
+    ensures { result ≡ (if refused then Status.Refused else Status.Done) }
+{
+    if refused {
+        Status::Refused
+    } else {
+        Status::Done
+    }
+}

@@ -1,0 +1,117 @@
+//! One line, from the source to the sink.
+
+ghost use Rattle.std.specs.Prelude.{◌≡◌, [], None};
+ghost use Rattle.cox_outside.specs.Ahead.{ahead};
+ghost use Rattle.cox_outside.specs.Reading.{SourceCause};
+ghost use Rattle.cox_outside.specs.Writing.{SinkCause};
+ghost use Rattle.cox_shell.specs.Run.{stand, Hears, Serves, heard_of};
+
+use crate::session::{Said, Session};
+use cox_outside::{LineReader, Next, Sink, Source, write_all};
+use std::alloc::AllocError;
+
+/// The number of the refusal of a line that is too long.
+const LONG: u8 = 18;
+
+/// The number of the refusal of a line with a byte that no line may have.
+const FOREIGN: u8 = 19;
+
+/// What hearing the next line led to.
+pub enum Heard {
+    /// A line, to which this was said.
+    Line(Said),
+    /// A line, for whose reply memory was wanting.
+    NoMemory,
+    /// No line: the input has ended.
+    End,
+    /// No line: a read failed.
+    Failed,
+    /// No line: there are more bytes than may be read.
+    Limit,
+}
+
+/// What serving the next line led to.
+pub enum Served {
+    /// The line was answered.
+    Answered,
+    /// The line was refused.
+    Refused,
+    /// The line ends the run.
+    Quit,
+    /// No line: the input has ended.
+    End,
+    /// No line: a read failed.
+    ReadFault,
+    /// A write of the reply failed.
+    WriteFault,
+    /// Memory was wanting for the reply, and nothing of it is written.
+    NoMemory,
+    /// No line: there are more bytes than may be read.
+    InputLimit,
+}
+
+/// Serves the next line: its reply is written before this returns. The buffer's content is lost.
+pub fn serve_line<S: Source, K: Sink>(
+    reader: &mut LineReader,
+    session: &mut Session,
+    buffer: &mut Vec<u8>,
+    source: &mut S,
+    sink: &mut K,
+) -> Served
+    requires { reader.old.stop ≡ None }
+    ensures serves { Serves result
+        (stand session.old reader.old (S.seen source.old) (K.seen sink.old))
+        (stand session.new reader.new (S.seen source.new) (K.seen sink.new)) }
+    ensures source_cause { SourceCause (S.seen source.old) (S.seen source.new) (result ≡ Served.ReadFault) }
+    ensures sink_cause { SinkCause (K.seen sink.old) (K.seen sink.new) (result ≡ Served.WriteFault) }
+{
+    buffer.clear();
+    let said = match hear_line(reader, session, buffer, source) {
+        Heard::Line(said) => said,
+        Heard::NoMemory => return Served::NoMemory,
+        Heard::End => return Served::End,
+        Heard::Failed => return Served::ReadFault,
+        Heard::Limit => return Served::InputLimit,
+    };
+    if let Err(_) = write_all(sink, buffer) {
+        return Served::WriteFault;
+    }
+    match said {
+        Said::Answered => Served::Answered,
+        Said::Refused(_) => Served::Refused,
+        Said::Quit => Served::Quit,
+    }
+}
+
+/// Reads the next line and puts its reply into the empty buffer.
+fn hear_line<S: Source>(
+    reader: &mut LineReader,
+    session: &mut Session,
+    buffer: &mut Vec<u8>,
+    source: &mut S,
+) -> Heard
+    requires going { reader.old.stop ≡ None }
+    requires empty { buffer.old.items ≡ [] }
+    ensures hears { Hears result session.old session.new reader.new.stop
+        (ahead reader.old.feed (S.seen source.old).left) (ahead reader.new.feed (S.seen source.new).left) buffer.new.items }
+    ensures cause { SourceCause (S.seen source.old) (S.seen source.new) (result ≡ Heard.Failed) }
+{
+    match reader.next(source) {
+        Next::Line(line) => to_heard(session.answer(line, buffer)),
+        Next::Long(_) => to_heard(session.refuse(LONG, buffer)),
+        Next::Byte(_) => to_heard(session.refuse(FOREIGN, buffer)),
+        Next::End => Heard::End,
+        Next::Failed => Heard::Failed,
+        Next::Limit => Heard::Limit,
+    }
+}
+
+/// What was said to a line, or that memory was wanting.
+fn to_heard(said: Result<Said, AllocError>) -> Heard
+    ensures { result ≡ heard_of said }
+{
+    match said {
+        Ok(said) => Heard::Line(said),
+        Err(_) => Heard::NoMemory,
+    }
+}

@@ -1,0 +1,33 @@
+//! How a run ends.
+
+ghost use Rattle.std.specs.Prelude.{◌≡◌};
+ghost use Rattle.cox_shell.specs.Status.{code_of};
+
+/// How a run ends.
+#[derive(Clone, Copy, Debug, PartialEq, Eq)]
+pub enum Status {
+    /// The input was read to its end or to a line that ends the run, and no line was refused.
+    Done,
+    /// The same, and at least one line was refused.
+    Refused,
+    /// The words of the command line are wrong. The usage line is written.
+    Usage,
+    /// A read failed. Written are the answers to the lines that were read whole.
+    ReadFault,
+    /// A write failed. Written is a front of the answers to the lines that were read.
+    WriteFault,
+    /// Memory was wanting. Written is a front of the answers to the lines that were read.
+    NoMemory,
+    /// There were more bytes than may be read. Written are the answers to the lines that end by LF
+    /// within the limit.
+    InputLimit,
+}
+
+impl Status {
+    /// The number that the program ends with, from 0 in the order above.
+    pub fn code(self) -> u8
+        ensures { result ≡ code_of self }
+    {
+        self as u8
+    }
+}
