@@ -1,0 +1,269 @@
+//! Whole runs over sources and sinks in memory.
+
+use cox_outside::{MemorySink, MemorySource};
+use cox_shell::{Status, run_one};
+use std::alloc::{AllocError, Global};
+use std::process::Abort;
+use std::test::Fail;
+
+/// Scripts, what has to be written and how the run has to end.
+const ANSWERS: &[(&str, &str, Status)] = &[
+    ("", "", Status::Done),
+    ("\n \n\r\n", "", Status::Done),
+    ("quit\nfoo\n", "", Status::Done),
+    (
+        "type A 2\ncompute 212\nlength 212\n",
+        "121\n3\n",
+        Status::Done,
+    ),
+    (
+        "type A 2\r\ncompute 212\r\nlength 212\r",
+        "121\n3\n",
+        Status::Done,
+    ),
+    (
+        "type B 2\ncompute 2121\ncompute 121212",
+        "1212\n21\n",
+        Status::Done,
+    ),
+    ("type A 1\ncompute e\ncompute 11\n", "e\ne\n", Status::Done),
+    (
+        "type G 2\ndescent 212121\ndescent e\n",
+        "L 12 R 12\nL - R -\n",
+        Status::Done,
+    ),
+    (
+        "type A 3\ninorder 13 123\ninorder 2132 12321\n",
+        "true\nfalse\n",
+        Status::Done,
+    ),
+    (
+        "type D 4\ncompute 4343\ntype E 6\ncompute 4242\ntype F 4\ncompute 3232\n",
+        "e\n24\n2323\n",
+        Status::Done,
+    ),
+    ("matrix 3 3 2 3\ncompute 212\n", "121\n", Status::Done),
+    (
+        "compute 1\nmatrix 2 5\ntype H 3\nfoo\ncompute\nmatrix 10\nmatrix 2\ntype A x\n",
+        "error 15\nerror 14\nerror 13\nerror 10\nerror 11\nerror 12\nerror 11\nerror 12\n",
+        Status::Refused,
+    ),
+    (
+        "type A 2\ncompute 13\ncompute 1x\ninverse 12\ninorder 1 21\ninorder 12 21\n",
+        "error 16\nerror 16\n21\ntrue\nfalse\n",
+        Status::Refused,
+    ),
+    (
+        "matrix 0\nmatrix\n",
+        "error 12\nerror 11\n",
+        Status::Refused,
+    ),
+    (
+        "type A 2\ntype H 3\ncompute 212\n",
+        "error 13\n121\n",
+        Status::Refused,
+    ),
+    ("foo\nquit\ncompute 1\n", "error 10\n", Status::Refused),
+    (
+        "type\tA 1\nqu\rit\n",
+        "error 19\nerror 19\n",
+        Status::Refused,
+    ),
+    (
+        "type A 2\nrpol e 1\nrpol e 12\nrpol e 121\nrpol 12 21\n",
+        "-1+q\n1-2q+q^2\n-1+2q-2q^2+q^3\n0\n",
+        Status::Done,
+    ),
+];
+
+/// The first word is repeated so often.
+const LONG_WORDS: &[(&str, &str, usize, &str)] = &[
+    ("type A 2\nlength 1", "21", 31, "3\n"),
+    ("type A 2\nlength ", "12", 32, "error 33\n"),
+    ("matrix 2 0\nlength 1", "21", 31, "63\n"),
+    ("matrix 2 0\nlength 1", "21", 127, "error 33\n"),
+    ("matrix 2 0\nlength ", "12", 128, "error 17\n"),
+    ("matrix 2 0\nrpol e 1", "21", 1, "-1+2q-2q^2+q^3\n"),
+    ("matrix 2 0\nrpol e ", "12", 20, "error 34\n"),
+];
+
+/// Scripts by their first bytes, the size that they are filled up to, the byte for that, and their
+/// last bytes; what has to be written, and how the run has to end.
+type Filled = (
+    &'static [u8],
+    usize,
+    u8,
+    &'static [u8],
+    &'static [u8],
+    Status,
+);
+
+const LINES: &[Filled] = &[
+    (b"", 4096, b' ', b"\r\n", b"", Status::Done),
+    (b"", 4096, b'z', b"\n", b"error 10\n", Status::Refused),
+    (b"", 4097, b' ', b"\n", b"error 18\n", Status::Refused),
+    (b"\t", 5000, b'z', b"\n", b"error 18\n", Status::Refused),
+];
+
+const INPUTS: &[Filled] = &[
+    (b"", 16_777_216, b'\n', b"", b"", Status::Done),
+    (b"", 16_777_216, b'\n', b"\n", b"", Status::InputLimit),
+    (b"", 16_777_216, b'z', b"", b"error 18\n", Status::Refused),
+    (b"", 16_777_216, b'z', b"z", b"", Status::InputLimit),
+    (b"quit\n", 17_000_000, b'z', b"", b"", Status::Done),
+];
+
+const USAGE: &[u8] = b"usage: coxeter [--workers N] [--context N] [--coef N] [--roots N]\n";
+
+/// A script of 32 bytes, which is answered by `121` and `3`.
+const SCRIPT: &[u8] = b"type A 2\ncompute 212\nlength 212\n";
+
+/// A run over a script, with at most one read and one write that has to fail; at 0 none has.
+#[derive(Clone, Copy)]
+struct Run<'a> {
+    words: &'a [&'a str],
+    script: &'a [u8],
+    piece: usize,
+    failing_read: u64,
+    failing_write: u64,
+    room: usize,
+}
+
+/// A run without options, in which nothing fails, and each call moves one byte.
+fn plain(script: &[u8]) -> Run<'_> {
+    Run {
+        words: &["coxeter"],
+        script,
+        piece: 1,
+        failing_read: 0,
+        failing_write: 0,
+        room: 100,
+    }
+}
+
+/// How a run ends, and the sink that it wrote to.
+fn end_of(alloc: Global, run: Run) -> Result<(Status, MemorySink), AllocError> {
+    let script = run.script.to_vec(alloc)?;
+    let reads = one_call(alloc, run.failing_read)?;
+    let writes = one_call(alloc, run.failing_write)?;
+    let mut source = MemorySource::new(script, run.piece.max(1), reads);
+    let mut sink = MemorySink::new(alloc, run.room, 1, writes)?;
+    let status = run_one(alloc, run.words, &mut source, &mut sink);
+    Ok((status, sink))
+}
+
+/// The list of one call, or of none at 0.
+fn one_call(alloc: Global, call: u64) -> Result<Vec<u64>, AllocError> {
+    let mut calls = Vec::new(alloc);
+    if call > 0 {
+        calls.push(call)?;
+    }
+    Ok(calls)
+}
+
+#[test]
+fn answers(rt: HostRuntime) -> Result<(), Fail> {
+    for (script, written, status) in ANSWERS {
+        let (ended, sink) = end_of(rt.alloc(), plain(script.as_bytes()))?;
+        assert_eq!(rt; ended, *status, "at {script:?}");
+        assert_eq!(rt; sink.bytes(), written.as_bytes(), "at {script:?}");
+    }
+    Ok(())
+}
+
+#[test]
+fn long_words(rt: HostRuntime) -> Result<(), Fail> {
+    for (begin, letters, count, written) in LONG_WORDS {
+        let mut script = begin.as_bytes().to_vec(rt.alloc())?;
+        for _ in 0..*count {
+            script.extend_from_slice(letters.as_bytes())?;
+        }
+        let (_, sink) = end_of(rt.alloc(), plain(&script))?;
+        assert_eq!(rt; sink.bytes(), written.as_bytes(), "{count} times {letters}");
+    }
+    Ok(())
+}
+
+/// Runs each of these scripts.
+fn run_filled(rt: &impl Abort, alloc: Global, scripts: &[Filled]) -> Result<(), Fail> {
+    for (first, size, byte, last, written, status) in scripts {
+        let mut script = first.to_vec(alloc)?;
+        script.resize(*size, *byte)?;
+        script.extend_from_slice(last)?;
+        let run = Run {
+            piece: 4096,
+            ..plain(&script)
+        };
+        let (ended, sink) = end_of(alloc, run)?;
+        assert_eq!(rt; ended, *status, "at {size} bytes {byte}");
+        assert_eq!(rt; sink.bytes(), *written, "at {size} bytes {byte}");
+    }
+    Ok(())
+}
+
+#[test]
+fn long_lines(rt: HostRuntime) -> Result<(), Fail> {
+    run_filled(&rt, rt.alloc(), LINES)
+}
+
+#[test]
+fn large_inputs(rt: HostRuntime) -> Result<(), Fail> {
+    run_filled(&rt, rt.alloc(), INPUTS)
+}
+
+#[test]
+fn usage(rt: HostRuntime) -> Result<(), Fail> {
+    let run = Run {
+        words: &["coxeter", "--foo"],
+        ..plain(b"get\n")
+    };
+    let (ended, sink) = end_of(rt.alloc(), run)?;
+    assert_eq!(rt; ended, Status::Usage);
+    assert_eq!(rt; sink.bytes(), USAGE);
+    Ok(())
+}
+
+#[test]
+fn failing_reads(rt: HostRuntime) -> Result<(), Fail> {
+    for failing_read in 1..34 {
+        let written = match failing_read {
+            1..=21 => b"".as_slice(),
+            22..=32 => b"121\n",
+            _ => b"121\n3\n",
+        };
+        let run = Run {
+            failing_read,
+            ..plain(SCRIPT)
+        };
+        let (ended, sink) = end_of(rt.alloc(), run)?;
+        assert_eq!(rt; ended, Status::ReadFault, "at read {failing_read}");
+        assert_eq!(rt; sink.bytes(), written, "at read {failing_read}");
+    }
+    Ok(())
+}
+
+#[test]
+fn failing_writes(rt: HostRuntime) -> Result<(), Fail> {
+    let answer = b"121\n3\n";
+    for taken in 0..7 {
+        let run = Run {
+            failing_write: taken + 1,
+            ..plain(SCRIPT)
+        };
+        let (ended, sink) = end_of(rt.alloc(), run)?;
+        let status = match taken {
+            6 => Status::Done,
+            _ => Status::WriteFault,
+        };
+        assert_eq!(rt; ended, status, "after {taken} bytes");
+        assert_eq!(rt; sink.bytes(), &answer[..taken as usize]);
+    }
+    let run = Run {
+        room: 5,
+        ..plain(SCRIPT)
+    };
+    let (ended, sink) = end_of(rt.alloc(), run)?;
+    assert_eq!(rt; ended, Status::WriteFault);
+    assert_eq!(rt; sink.bytes(), &answer[..5]);
+    Ok(())
+}
