@@ -1,0 +1,71 @@
+// A stress test of the table of claims: several threads claim, publish, void and look over one table at once.
+//
+// Each row has to be won once, and a row that a worker has seen Published or Void has to stay so, to the end. What is
+// printed is the same by every schedule.
+//
+// - work: what one worker does, and what it reports
+// - tally: what all reports say together
+#![tactic(auto)]
+
+ghost use Rattle.std.specs.Prelude.{IfOk, All};
+ghost use Rattle.cox_claims.specs.Tables.{IsSeatOf};
+ghost use Rattle.claims_stress.specs.Jobs.{IsReady};
+
+use cox_claims::{Claims, NoMemory, Seat};
+use std::alloc::{AllocError, Global};
+use std::thread;
+use std::thread::Threads;
+use tally::Tally;
+use work::{Job, Report};
+
+mod tally;
+mod work;
+
+const ROWS: u32 = 2000;
+
+const WORKERS: u32 = 8;
+
+// A job for each worker.
+fn jobs(alloc: Global, claims: &Claims, seat: &mut Seat) -> Result<Vec<Job>, NoMemory>
+    requires { IsSeatOf claims.now seat.old }
+    ensures own { IsSeatOf claims.now seat.new }
+    ensures ready { IfOk result (λ jobs. All (IsReady claims.now) jobs.items) }
+{
+    let mut jobs = Vec::new(alloc);
+    for worker in 0..WORKERS {
+        let seat = claims.split(seat);
+        jobs.push(Job { worker, seat })?;
+    }
+    Ok(jobs)
+}
+
+// Has each job done in a thread of its own.
+fn reports<R: Threads + Sync>(
+    rt: &R,
+    alloc: Global,
+    claims: &Claims,
+    jobs: Vec<Job>,
+) -> Result<Vec<Result<Report, NoMemory>>, NoMemory>
+    requires { All (IsReady claims.now) jobs.items }
+{
+    thread::map_vec(rt, jobs, &|job| work::work(alloc, claims, job))
+}
+
+fn main(rt: HostRuntime) -> anyhow::Result<()> {
+    let alloc = rt.alloc();
+    let (claims, mut seat) = Claims::new(alloc, ROWS)?;
+    let jobs = jobs(alloc, &claims, &mut seat)?;
+    let reports = reports(&rt, alloc, &claims, jobs)?;
+    let Ok(states) = claims.close(seat) else {
+        return Err(AllocError.into());
+    };
+    let mut tally = Tally::new(alloc, states)?;
+    for report in reports {
+        tally.add(&report?);
+    }
+    println!(rt; "{} rows, {} workers", ROWS, WORKERS)?;
+    println!(rt; "{} rows were won once", tally.won_once())?;
+    println!(rt; "{} published, {} void", tally.published(), tally.void())?;
+    println!(rt; "{} ended rows changed", tally.changed())?;
+    Ok(())
+}

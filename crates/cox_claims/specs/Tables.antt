@@ -1,0 +1,21 @@
+-- The table as callers see it.
+use Rattle.std.specs.Prelude.{◌≡◌, ℕ, ◌<◌, List, length, slice_index_or}
+use Rattle.cox_fill_core.specs.declared.event.RowState.{RowState}
+use Rattle.cox_claims.specs.declared.view.View.{View}
+use Rattle.cox_claims.specs.declared.seat.Seat.{Seat}
+use Rattle.cox_claims.specs.declared.table.Claims.{Claims}
+use Rattle.cox_claims.specs.Knowledge.{IsKnown}
+use Rattle.cox_claims.specs.Seats.{table_of}
+
+-- how many rows there are
+abbrev pub rows_of : Claims → ℕ
+rows_of claims = claims.rows
+
+-- the seat sits at this table
+abbrev pub IsSeatOf : Claims → Seat → Type 0
+IsSeatOf claims seat = table_of seat ≡ claims.table.shared.table_id
+
+-- a state for each row, and none earlier than what the view knows of it
+pub record Closes (view : View) (rows : ℕ) (states : List RowState) : Type 0 where
+  pub count : length states ≡ rows
+  pub known : (i : ℕ) → i < rows → IsKnown view i (slice_index_or states i RowState.Free)

@@ -1,0 +1,234 @@
+ghost use Rattle.std.specs.Prelude.{◌≡◌, ◌≢◌, ℕ, ◌<◌, ◌≤◌, max, [], map, vec_capacity, IfOk, IfErr};
+ghost use Rattle.cox_claims.specs.Knowledge.{holds, SeesAll, newcomer, Looks, TriesClaim, Publishes, Voids, told, joined};
+ghost use Rattle.cox_claims.specs.Plays.{claim_answer};
+ghost use Rattle.cox_claims.specs.Rule.{state_of};
+ghost use Rattle.cox_fill_core.specs.declared.event.RowState.{RowState};
+ghost use Rattle.cox_fill_core.specs.declared.event.RowState.TheVariants.{Free};
+ghost use Rattle.std.specs.Slots.{slots_items, slots_len, IsFull};
+
+use crate::NoMemory;
+use crate::rule::{ClaimPlay, LookPlay, Meeting, Parting, PublishPlay, Rule, VoidPlay};
+use crate::seat::Seat;
+use crate::view::View;
+use atomic_table::{Closed, Table};
+use cox_fill_core::RowState;
+use std::alloc::Global;
+
+/// What a claim came to.
+#[derive(Clone, Copy, Debug, PartialEq, Eq)]
+pub enum Claimed {
+    /// The row was Free, and the seat holds it now.
+    Won,
+    /// The row was not Free, but in this state.
+    Lost(RowState),
+}
+
+// The words of a row.
+const FREE: u64 = 0;
+
+const CLAIMED: u64 = 1;
+
+const PUBLISHED: u64 = 2;
+
+const VOID: u64 = 3;
+
+fn state_from(word: u64) -> RowState
+    ensures { result ≡ state_of word }
+{
+    match word {
+        FREE => RowState::Free,
+        CLAIMED => RowState::Claimed,
+        PUBLISHED => RowState::Published,
+        _ => RowState::Void,
+    }
+}
+
+/// The states of all rows, shared by any number of threads.
+#[derive(Drop)]
+pub struct Claims {
+    table: Table<(), View, u32, Rule, Global>,
+    rows: u32,
+    alloc: Global,
+    ghost keyed: { table.shared.key ≡ rows },
+    ghost a_word_each: { table.shared.table_id.words ≡ rows },
+    ghost no_slots: { table.shared.table_id.slots ≡ 0 },
+    ghost some_rows: { 0 < rows },
+}
+
+impl Claims {
+    ghost use Rattle.cox_claims.specs.Seats.{view_of, splits_of, one_more_split, IsSameSeat, Holds, HoldsNothing, HasSeen, HasSeenVoid, HasMarked, Reads};
+    ghost use Rattle.cox_claims.specs.Tables.{rows_of, IsSeatOf, Closes};
+
+    /// A table of this many rows, all Free, and its first seat.
+    pub fn new(alloc: Global, rows: u32) -> Result<(Claims, Seat), NoMemory>
+        requires { 0 < rows }
+        ensures seat { IfOk result (λ made. IsSeatOf made.0 made.1) }
+        ensures rows { IfOk result (λ made. rows_of made.0 ≡ rows) }
+        ensures view { IfOk result (λ made. view_of made.1 ≡ newcomer) }
+        ensures splits { IfOk result (λ made. splits_of made.1 ≡ 0) }
+    {
+        let words = vec![in alloc; FREE; rows as usize]?;
+        let (table, seat) = Table::of_words(alloc, &words, &rows)?;
+        Ok((Claims { table, rows, alloc }, Seat { seat, splits: 0 }))
+    }
+
+    /// How many rows there are.
+    pub fn rows(&self) -> u32
+        ensures { result ≡ rows_of self.now }
+    {
+        self.rows
+    }
+
+    /// Claims a row, by one step that changes the row's word only if the row is Free.
+    /// `Lost` comes only where the row was not Free at that step, with the state that it had.
+    pub fn claim(&self, seat: &mut Seat, row: u32) -> Claimed
+        requires own { IsSeatOf self.now seat.old }
+        requires row { row < rows_of self.now }
+        ensures seat { IsSameSeat seat.old seat.new }
+        ensures step { TriesClaim (view_of seat.old) row result (view_of seat.new) }
+        ensures won { result ≡ Claimed.Won → Holds seat.new row }
+        ensures lost { (state : RowState) → result ≡ Claimed.Lost state
+            → (state ≢ Free) × Reads seat.old row state seat.new }
+    {
+        match self.exchange(seat, row) {
+            FREE => Claimed::Won,
+            found => Claimed::Lost(state_from(found)),
+        }
+    }
+
+    /// The state of a row at this call's one step, never earlier than what the seat has seen of it.
+    pub fn look(&self, seat: &mut Seat, row: u32) -> RowState
+        requires own { IsSeatOf self.now seat.old }
+        requires row { row < rows_of self.now }
+        ensures seat { IsSameSeat seat.old seat.new }
+        ensures step { Looks (view_of seat.old) row result (view_of seat.new) }
+        ensures read { Reads seat.old row result seat.new }
+    {
+        state_from(self.load(seat, row))
+    }
+
+    // The one step of a claim: the word found, which becomes that of a Claimed row if it was that of a Free one.
+    fn exchange(&self, seat: &mut Seat, row: u32) -> u64
+        requires own { IsSeatOf self.now seat.old }
+        requires row { row < rows_of self.now }
+        ensures seat { IsSameSeat seat.old seat.new }
+        ensures step { TriesClaim (view_of seat.old) row (claim_answer result) (view_of seat.new) }
+    {
+        let shared = &self.table.shared;
+        shared.compare_exchange::<ClaimPlay>(&mut seat.seat, row as usize, FREE, CLAIMED)
+    }
+
+    // The one step of a look: the word found.
+    fn load(&self, seat: &mut Seat, row: u32) -> u64
+        requires own { IsSeatOf self.now seat.old }
+        requires row { row < rows_of self.now }
+        ensures seat { IsSameSeat seat.old seat.new }
+        ensures step { Looks (view_of seat.old) row (state_of result) (view_of seat.new) }
+    {
+        let shared = &self.table.shared;
+        shared.load::<LookPlay>(&mut seat.seat, row as usize)
+    }
+
+    /// Publishes a row that the seat holds.
+    pub fn publish(&self, seat: &mut Seat, row: u32)
+        requires own { IsSeatOf self.now seat.old }
+        requires row { row < rows_of self.now }
+        requires held { Holds seat.old row }
+        ensures seat { IsSameSeat seat.old seat.new }
+        ensures step { Publishes (view_of seat.old) row (view_of seat.new) }
+        ensures seen { HasSeen seat.new row }
+    {
+        let shared = &self.table.shared;
+        shared.store::<PublishPlay>(&mut seat.seat, row as usize, PUBLISHED);
+    }
+
+    /// Gives up a row that the seat holds.
+    pub fn void(&self, seat: &mut Seat, row: u32)
+        requires own { IsSeatOf self.now seat.old }
+        requires row { row < rows_of self.now }
+        requires held { Holds seat.old row }
+        ensures seat { IsSameSeat seat.old seat.new }
+        ensures step { Voids (view_of seat.old) row (view_of seat.new) }
+        ensures seen { HasSeenVoid seat.new row × HasMarked seat.new row }
+    {
+        let shared = &self.table.shared;
+        shared.store::<VoidPlay>(&mut seat.seat, row as usize, VOID);
+    }
+
+    /// A new seat, which has seen what this one has and holds nothing. Both count one split more.
+    pub fn split(&self, seat: &mut Seat) -> Seat
+        requires { IsSeatOf self.now seat.old }
+        ensures own { IsSeatOf self.now seat.new × IsSeatOf self.now result }
+        ensures old { view_of seat.new ≡ view_of seat.old }
+        ensures new { view_of result ≡ told (view_of seat.old) }
+        ensures seen { SeesAll (view_of seat.old) (view_of result) }
+        ensures idle { HoldsNothing result }
+        ensures splits { let count = one_more_split (splits_of seat.old) in
+            (splits_of seat.new ≡ count) × (splits_of result ≡ count) }
+    {
+        let other = self.table.shared.split_seat::<Parting>(&mut seat.seat);
+        seat.splits = seat.splits.saturating_add(1);
+        Seat {
+            seat: other,
+            splits: seat.splits,
+        }
+    }
+
+    /// Ends a seat that holds nothing: the first seat has then seen what both had.
+    pub fn meet(&self, seat: &mut Seat, other: Seat)
+        requires own { IsSeatOf self.now seat.old × IsSeatOf self.now other }
+        requires idle { HoldsNothing other }
+        ensures own { IsSeatOf self.now seat.new }
+        ensures view { view_of seat.new ≡ joined (view_of seat.old) (view_of other) }
+        ensures seen { SeesAll (view_of seat.old) (view_of seat.new) × SeesAll (view_of other) (view_of seat.new) }
+        ensures held { (i : ℕ) → holds (view_of seat.new) i ≡ holds (view_of seat.old) i }
+        ensures splits { splits_of seat.new ≡ max (splits_of seat.old) (splits_of other) }
+    {
+        let Seat {
+            seat: other,
+            splits,
+        } = other;
+        self.table
+            .shared
+            .join_seat::<Meeting>(&mut seat.seat, other);
+        seat.splits = seat.splits.max(splits);
+    }
+
+    /// Ends the table. Gives the state of each row, none of them earlier than what the seat knows of it.
+    /// Where there is no memory, the table and the seat come back as they were.
+    pub fn close(self, seat: Seat) -> Result<Vec<RowState>, (Claims, Seat)>
+        requires { IsSeatOf self seat }
+        ensures states { IfOk result (λ states. Closes (view_of seat) (rows_of self) states.items) }
+        ensures back { IfErr result (λ both. (both.0 ≡ self) × (both.1 ≡ seat)) }
+    {
+        let Ok(states) = Vec::with_capacity(self.alloc, self.rows as usize) else {
+            return Err((self, seat));
+        };
+        let Claims {
+            table,
+            rows: _,
+            alloc: _,
+        } = self;
+        let Seat { seat, splits: _ } = seat;
+        let closed = table.close_with(seat);
+        let states = read_states(&closed, states);
+        closed.free();
+        Ok(states)
+    }
+}
+
+// The states that the words say, one for each row.
+fn read_states(closed: &Closed<(), Global>, mut states: Vec<RowState>) -> Vec<RowState>
+    requires empty { states.items ≡ [] }
+    requires room { slots_len closed.now.words ≤ vec_capacity states }
+    requires full { IsFull closed.now.words }
+    ensures { result.items ≡ map state_of (slots_items closed.now.words) }
+{
+    for row in 0..closed.words.len() {
+        states.push_reserved(state_from(closed.word(row)));
+    }
+    states
+}
+
+#[cfg(test)]
+mod tests;

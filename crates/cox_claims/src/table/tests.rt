@@ -1,0 +1,34 @@
+use super::{Claimed, Claims};
+use cox_fill_core::RowState;
+use std::test::Fail;
+
+#[test]
+fn two_seats_share_two_rows(rt: HostRuntime) -> Result<(), Fail> {
+    let (claims, mut first) = Claims::new(rt.alloc(), 2)?;
+    assert!(rt; claims.rows() == 2 && first.splits() == 0);
+    let Claimed::Won = claims.claim(&mut first, 0) else {
+        panic!(rt; "the row was free")
+    };
+    let mut second = claims.split(&mut first);
+    let lost = claims.claim(&mut second, 0);
+    assert_eq!(rt; lost, Claimed::Lost(RowState::Claimed));
+    claims.publish(&mut first, 0);
+    let seen = claims.look(&mut second, 0);
+    assert_eq!(rt; seen, RowState::Published);
+    let Claimed::Won = claims.claim(&mut second, 1) else {
+        panic!(rt; "the row was free")
+    };
+    claims.void(&mut second, 1);
+    let seen = claims.look(&mut first, 1);
+    assert_eq!(rt; seen, RowState::Void);
+    claims.meet(&mut first, second);
+    assert_eq!(rt; first.splits(), 1);
+    let Ok(states) = claims.close(first) else {
+        panic!(rt; "no memory")
+    };
+    assert_eq!(rt;
+        states.as_slice(),
+        [RowState::Published, RowState::Void].as_slice()
+    );
+    Ok(())
+}

@@ -1,0 +1,5 @@
+use Rattle.std.proofs.Common.{◌≡◌, false, replicate}
+use Rattle.cox_fill_core.proofs.lists.unseen.Given as goal
+
+abbrev pub invariant-loop : goal.invariant-loop
+invariant-loop l = l.seen.items ≡ replicate l.counter (replicate l.rows false)

@@ -1,0 +1,35 @@
+-- A `Core` as plain data.
+use Rattle.std.specs.Prelude.{◌≡◌, ◌≢◌, ℕ, ◌<◌, List, vec_len}
+use Rattle.cox_fill_core.specs.declared.event.Event.{Event}
+use Rattle.cox_fill_core.specs.declared.machine.Core.{Core}
+use Rattle.cox_fill_core.specs.Fill.{Fill}
+use Rattle.cox_fill_core.specs.Parts.{rows_at, listed_fill}
+
+-- how many rows and how many actors there are
+abbrev pub rows_of : Core → ℕ
+rows_of core = vec_len core.needs
+
+abbrev pub actors_of : Core → ℕ
+actors_of core = vec_len core.seen
+
+-- the rows that each row needs
+abbrev pub needs_of : Core → ℕ → List ℕ
+needs_of core = rows_at core.needs.items
+
+-- the state of each row, who holds it, and who has seen it Published
+abbrev pub fill_of : Core → Fill
+fill_of core = listed_fill core.states.items core.holders.items core.seen.items
+
+-- the event names actors and rows of the core, and a Tell two different actors
+abbrev pub IsInRange : Core → Event → Type 0
+IsInRange core (Event.Claim a i) = (a < actors_of core) × (i < rows_of core)
+IsInRange core (Event.Look a i) = (a < actors_of core) × (i < rows_of core)
+IsInRange core (Event.Publish a i) = (a < actors_of core) × (i < rows_of core)
+IsInRange core (Event.Void a i) = (a < actors_of core) × (i < rows_of core)
+IsInRange core (Event.Tell a b) = (a < actors_of core) × (b < actors_of core) × (a ≢ b)
+
+-- no event changes what rows need, nor how many rows and actors there are
+pub record HasSameShape (old new : Core) : Type 0 where
+  pub needs : needs_of new ≡ needs_of old
+  pub rows : rows_of new ≡ rows_of old
+  pub actors : actors_of new ≡ actors_of old

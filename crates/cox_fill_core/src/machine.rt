@@ -1,0 +1,220 @@
+// The fill core as a program: `Core` takes events one by one, or as a list.
+ghost use Rattle.std.specs.Prelude.{◌≡◌, ◌≢◌, ℕ, ◌<◌, true, [], length, vec_len, slice_index_or, replicate, take, ◌++◌, List, IfOk, OnOk, OnErr, All, None, IsTrue};
+ghost use Rattle.cox_fill_core.specs.Fill.{opening, missing, after, reply, after_all, replies};
+ghost use Rattle.cox_fill_core.specs.Parts.{rows_at, given_needs, NeedsLower, is_held_by};
+ghost use Rattle.cox_fill_core.specs.declared.event.RowState.TheVariants.{Claimed, Free};
+
+use crate::NoMemory;
+use crate::event::{Event, Reply, RowState};
+use crate::lists::{Known, Needs, copy_needs, least_missing, mark, tell, unseen};
+use std::alloc::Global;
+
+/// The state of a fill: what each row is, who holds it, and which rows each actor has seen Published.
+#[derive(Drop)]
+pub struct Core {
+    alloc: Global,
+    needs: Vec<Needs>,
+    states: Vec<RowState>,
+    holders: Vec<Option<u32>>,
+    seen: Vec<Known>,
+    ghost a_state_each: { vec_len states ≡ vec_len needs },
+    ghost a_holder_each: { vec_len holders ≡ vec_len needs },
+    ghost a_mark_each: { (a : ℕ) → a < vec_len seen → length (slice_index_or seen.items a []) ≡ vec_len needs },
+    ghost lower: { NeedsLower (rows_at needs.items) },
+    ghost unheld: { (i : ℕ) → slice_index_or states.items i Free ≢ Claimed → slice_index_or holders.items i None ≡ None },
+}
+
+impl Core {
+    ghost use Rattle.cox_fill_core.specs.Machine.{fill_of, needs_of, rows_of, actors_of, IsInRange, HasSameShape};
+
+    /// A core in which all rows are Free. Row `i` needs the rows of `needs[i]`, which have smaller numbers.
+    /// With the needs `[[], [0]]` there are two rows, and the second needs the first.
+    pub fn new(alloc: Global, needs: &[Vec<u32>], actors: u32) -> Result<Core, NoMemory>
+        requires { NeedsLower (given_needs needs.now) }
+        ensures opening { IfOk result (λ core. fill_of core ≡ opening) }
+        ensures needs { IfOk result (λ core. needs_of core ≡ given_needs needs.now) }
+        ensures rows { IfOk result (λ core. rows_of core ≡ length needs.now) }
+        ensures actors { IfOk result (λ core. actors_of core ≡ actors) }
+    {
+        let rows = needs.len();
+        Ok(Core {
+            alloc,
+            needs: copy_needs(alloc, needs)?,
+            states: free_rows(alloc, rows)?,
+            holders: no_holders(alloc, rows)?,
+            seen: unseen(alloc, actors, rows)?,
+        })
+    }
+
+    /// How many rows there are.
+    pub fn rows(&self) -> usize
+        ensures { result ≡ rows_of self.now }
+    {
+        self.needs.len()
+    }
+
+    /// How many actors there are.
+    pub fn actors(&self) -> usize
+        ensures { result ≡ actors_of self.now }
+    {
+        self.seen.len()
+    }
+
+    /// The state of a row.
+    pub fn state(&self, row: u32) -> RowState
+        requires { row < rows_of self.now }
+        ensures { result ≡ (fill_of self.now).state row }
+    {
+        self.states[row as usize]
+    }
+
+    /// Whether the actor has seen the row Published.
+    pub fn seen(&self, actor: u32, row: u32) -> bool
+        requires actor { actor < actors_of self.now }
+        requires row { row < rows_of self.now }
+        ensures { result ≡ (fill_of self.now).seen actor row }
+    {
+        self.seen[actor as usize].has(row)
+    }
+
+    fn holds(&self, actor: u32, row: u32) -> bool
+        requires { row < rows_of self.now }
+        ensures { result ≡ (fill_of self.now).holds actor row }
+    {
+        match self.holders[row as usize] {
+            Some(holder) => holder == actor,
+            None => false,
+        }
+    }
+
+    // The least row that the row needs and that the actor has not seen Published.
+    fn missing(&self, actor: u32, row: u32) -> Option<u32>
+        requires actor { actor < actors_of self.now }
+        requires row { row < rows_of self.now }
+        ensures { result ≡ missing (needs_of self.now) (fill_of self.now) actor row }
+    {
+        least_missing(&self.needs[row as usize], &self.seen[actor as usize])
+    }
+
+    /// Takes one event and says what it led to. After `NoMemory` the core is as it was.
+    pub fn step(&mut self, event: Event) -> Result<Reply, NoMemory>
+        requires { IsInRange self.old event }
+        ensures reply { IfOk result (λ r. r ≡ reply (needs_of self.old) (fill_of self.old) event) }
+        ensures state { OnOk result (fill_of self.new ≡ after (needs_of self.old) (fill_of self.old) event) }
+        ensures shape { HasSameShape self.old self.new }
+        ensures err { OnErr result (self.new ≡ self.old) }
+    {
+        Ok(match event {
+            Event::Claim(actor, row) => self.claim(actor, row),
+            Event::Look(actor, row) => self.look(actor, row),
+            Event::Publish(actor, row) => self.publish(actor, row),
+            Event::Void(actor, row) => self.void(actor, row),
+            Event::Tell(from, to) => self.tell(from, to),
+        })
+    }
+
+    /// Takes the events in order and says what each led to.
+    /// After `NoMemory` the core stands after the first of them, as far as they were taken.
+    pub fn run(&mut self, events: &[Event]) -> Result<Vec<Reply>, NoMemory>
+        requires { All (IsInRange self.old) events.now }
+        ensures replies { IfOk result (λ r. r.items ≡ replies (needs_of self.old) (fill_of self.old) events.now) }
+        ensures state { OnOk result (fill_of self.new ≡ after_all (needs_of self.old) (fill_of self.old) events.now) }
+        ensures shape { HasSameShape self.old self.new }
+        ensures err { OnErr result ((n : ℕ)
+            × (fill_of self.new ≡ after_all (needs_of self.old) (fill_of self.old) (take n events.now))) }
+    {
+        let mut answers = Vec::with_capacity(self.alloc, events.len())?;
+        for &event in events {
+            answers.push(self.step(event)?)?;
+        }
+        Ok(answers)
+    }
+
+    fn claim(&mut self, actor: u32, row: u32) -> Reply
+        requires { IsInRange self.old (Event.Claim actor row) }
+        ensures reply { result ≡ reply (needs_of self.old) (fill_of self.old) (Event.Claim actor row) }
+        ensures state { fill_of self.new ≡ after (needs_of self.old) (fill_of self.old) (Event.Claim actor row) }
+        ensures shape { HasSameShape self.old self.new }
+    {
+        let state = self.states[row as usize];
+        if state == RowState::Free {
+            self.states[row as usize] = RowState::Claimed;
+            self.holders[row as usize] = Some(actor);
+            return Reply::Won;
+        }
+        if state == RowState::Published {
+            mark(&mut self.seen, actor, row);
+        }
+        Reply::Lost(state)
+    }
+
+    fn look(&mut self, actor: u32, row: u32) -> Reply
+        requires { IsInRange self.old (Event.Look actor row) }
+        ensures reply { result ≡ reply (needs_of self.old) (fill_of self.old) (Event.Look actor row) }
+        ensures state { fill_of self.new ≡ after (needs_of self.old) (fill_of self.old) (Event.Look actor row) }
+        ensures shape { HasSameShape self.old self.new }
+    {
+        let state = self.states[row as usize];
+        if state == RowState::Published {
+            mark(&mut self.seen, actor, row);
+        }
+        Reply::Seen(state)
+    }
+
+    fn publish(&mut self, actor: u32, row: u32) -> Reply
+        requires { IsInRange self.old (Event.Publish actor row) }
+        ensures reply { result ≡ reply (needs_of self.old) (fill_of self.old) (Event.Publish actor row) }
+        ensures state { fill_of self.new ≡ after (needs_of self.old) (fill_of self.old) (Event.Publish actor row) }
+        ensures shape { HasSameShape self.old self.new }
+    {
+        if !self.holds(actor, row) {
+            return Reply::NotYours;
+        }
+        if let Some(other) = self.missing(actor, row) {
+            return Reply::Missing(other);
+        }
+        self.states[row as usize] = RowState::Published;
+        self.holders[row as usize] = None;
+        mark(&mut self.seen, actor, row);
+        Reply::Made
+    }
+
+    fn void(&mut self, actor: u32, row: u32) -> Reply
+        requires { IsInRange self.old (Event.Void actor row) }
+        ensures reply { result ≡ reply (needs_of self.old) (fill_of self.old) (Event.Void actor row) }
+        ensures state { fill_of self.new ≡ after (needs_of self.old) (fill_of self.old) (Event.Void actor row) }
+        ensures shape { HasSameShape self.old self.new }
+    {
+        if !self.holds(actor, row) {
+            return Reply::NotYours;
+        }
+        self.states[row as usize] = RowState::Void;
+        self.holders[row as usize] = None;
+        Reply::Voided
+    }
+
+    fn tell(&mut self, from: u32, to: u32) -> Reply
+        requires { IsInRange self.old (Event.Tell from to) }
+        ensures reply { result ≡ reply (needs_of self.old) (fill_of self.old) (Event.Tell from to) }
+        ensures state { fill_of self.new ≡ after (needs_of self.old) (fill_of self.old) (Event.Tell from to) }
+        ensures shape { HasSameShape self.old self.new }
+    {
+        tell(&mut self.seen, from, to);
+        Reply::Told
+    }
+}
+
+fn free_rows(alloc: Global, rows: usize) -> Result<Vec<RowState>, NoMemory>
+    ensures { IfOk result (λ states. states.items ≡ replicate rows Free) }
+{
+    vec![in alloc; RowState::Free; rows]
+}
+
+fn no_holders(alloc: Global, rows: usize) -> Result<Vec<Option<u32>>, NoMemory>
+    ensures { IfOk result (λ holders. holders.items ≡ replicate rows None) }
+{
+    vec![in alloc; None; rows]
+}
+
+#[cfg(test)]
+mod tests;
