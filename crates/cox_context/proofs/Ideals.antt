@@ -1,0 +1,63 @@
+-- What is closed downwards in Bruhat order: the group, and the interval up to an element.
+use Rattle.std.proofs.Common.{◌≡◌, ℕ, ◌≤◌, List, [], ◌∷◌, length, Option, None, Some, refl, ap, ◌∙◌, ⊎_elim, arith}
+use Rattle.std.proofs.lemmas.List.Elements.{All-nil, All-head, All-tail}
+use Rattle.arrayvec.specs.ArrayVec.{ArrayVec}
+use Rattle.cox_base.specs.Matrix.{IsLetter}
+use Rattle.cox_base.specs.IntegerMatrix.{IntegerMatrix, IsAdmissible}
+use Rattle.cox_base.specs.ShortLex.{normal_form}
+use Rattle.cox_base.specs.Length.{word_length}
+use Rattle.cox_base.specs.Bruhat.{IsBelow}
+use Rattle.cox_reflect.proofs.Elements.{same-cons, same-refl}
+use Rattle.cox_reflect.proofs.Search.{normal_form-same, normal_form-equal, word_length-length, length-normal_form, IsWord-normal_form}
+use Rattle.cox_reflect.proofs.Lengths.{word_length-is}
+use Rattle.cox_reflect.proofs.ShortLexFirst.{IsBefore-cons, normal_form-comes_first, none-before_normal_form}
+use Rattle.cox_reflect.proofs.Bruhat.{below-trans, below-ascent, below-least}
+use Rattle.cox_context.specs.Members.{IsElement, IsMember}
+use Rattle.cox_context.proofs.GrowthLemmas.{IsTailed}
+
+-- a property of elements that goes over to each element below
+pub record IsIdeal (A : IntegerMatrix) (P : List ℕ → Type 0) : Type 0 where
+  pub element : (w : List ℕ) → P w → IsElement A w
+  pub down : (y w : List ℕ) → P w → IsElement A y → IsBelow A y w → P y
+  pub least : P []
+
+module _ (A : IntegerMatrix) (g : IsAdmissible A) where
+  pub element-normal_form : (u : List ℕ) → IsElement A (normal_form A u)
+  element-normal_form u = record { letters = IsWord-normal_form A g u; normal = normal_form-equal A g (normal_form-same A g u) }
+
+  pub element-length : (u : List ℕ) → IsElement A u → word_length A u ≡ length u
+  element-length u e = word_length-is A u ∙ ap length e.normal
+
+  pub element-nil : IsElement A []
+  element-nil = record { letters = All-nil (IsLetter A.rank); normal = empty (normal_form A []) (length-normal_form A g []) }
+    where
+      empty : (n : List ℕ) → length n ≤ 0 → n ≡ []
+      empty [] l = refl
+      empty (s ∷ x) l = absurd (omega (arith, l))
+
+  -- the rest of a normal form behind its first letter is one
+  pub element-tail : (s : ℕ) (x : List ℕ) → IsElement A (s ∷ x) → IsElement A x
+  element-tail s x e = record {
+    letters = All-tail (IsLetter A.rank) s x e.letters;
+    normal = ⊎_elim (λ same. same)
+        (λ before. absurd (none-before_normal_form A g {w = s ∷ normal_form A x} {u = s ∷ x} (same-cons A g s (normal_form-same A g x)) (rw e.normal (IsBefore-cons s before))))
+        (normal_form-comes_first A g {w = x} {u = x} (same-refl A g x));
+  }
+
+  pub below-tail : (s : ℕ) (x : List ℕ) → IsElement A (s ∷ x) → IsBelow A x (s ∷ x)
+  below-tail s x e = below-ascent A g x s (All-head (IsLetter A.rank) s x e.letters) (omega (arith, element-length (s ∷ x) e, word_length-length A g x))
+
+  pub ideal-member : (top : Option (ArrayVec ℕ)) → IsIdeal A (IsMember A top)
+  ideal-member None = record { element = λ w p. p; down = λ y w p e b. e; least = element-nil }
+  ideal-member (Some top) = record {
+    element = λ w p. p.element;
+    down = λ y w p e b. record { element = e; below = below-trans A g b p.below };
+    least = record { element = element-nil; below = below-least A g top.items };
+  }
+
+  pub ideal-tailed : (P : List ℕ → Type 0) → IsIdeal A P → IsTailed A.rank P
+  ideal-tailed P i = record {
+    least = i.least;
+    letter = λ s x p. All-head (IsLetter A.rank) s x (i.element (s ∷ x) p).letters;
+    tail = λ s x p. i.down x (s ∷ x) p (element-tail s x (i.element (s ∷ x) p)) (below-tail s x (i.element (s ∷ x) p));
+  }

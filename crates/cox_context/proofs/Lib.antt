@@ -1,0 +1,34 @@
+-- what holds of an Ok
+pub mod ResultLemmas
+-- places and members of lists of words
+pub mod ListLemmas
+-- when a word with one letter more is a normal form
+pub mod NormalLemmas
+-- words as the keys of a set
+pub mod KeyLemmas
+-- a list of members as it grows
+pub mod GrowthLemmas
+-- what is closed downwards
+pub mod Ideals
+-- why a context is refused
+pub mod FaultLemmas
+-- places in a table of shifts
+pub mod Places
+-- shifts of members
+pub mod Shifting
+-- the heights of the members
+pub mod HeightLists
+-- how the table of left shifts is filled
+pub mod Links
+-- right shifts
+pub mod RightShifts
+-- the letters that pass a test
+pub mod FilterLemmas
+-- contexts of intervals and of groups
+pub mod ContextLemmas
+-- Bruhat order and descents of members
+pub mod BelowLemmas
+-- a walk by two letters in turn
+pub mod Walks
+-- reading an element off by its descents
+pub mod Reading

@@ -1,0 +1,102 @@
+-- Right shifts, from those of the members without their first letters.
+use Rattle.std.proofs.Common.{◌≡◌, ℕ, ◌+◌, ◌-◌, ◌*◌, ◌≤◌, ◌<◌, List, [], ◌∷◌, ◌++◌, length, Contains, Option, None, Some, ◌⊎◌, inl, inr, refl, ap, sym, ◌∙◌, ⊎_elim, arith, subst, slice_get}
+use Rattle.std.proofs.lemmas.List.{length-append}
+use Rattle.std.proofs.lemmas.Bool.{cases_lt}
+use Rattle.std.proofs.lemmas.List.Elements.{All-head}
+use Rattle.cox_base.specs.Matrix.{IsLetter}
+use Rattle.cox_base.specs.IntegerMatrix.{IntegerMatrix, IsAdmissible}
+use Rattle.cox_base.specs.ShortLex.{normal_form}
+use Rattle.cox_reflect.proofs.Elements.{same-trans, same-equal, same-cons, same-square}
+use Rattle.cox_reflect.proofs.Search.{normal_form-same, normal_form-equal}
+use Rattle.cox_context.specs.Members.{IsElement, IsClosed}
+use Rattle.cox_context.specs.Numbers.{word_at, IsNumberOf}
+use Rattle.cox_context.specs.Shifts.{entry, AreRightShifts}
+use Rattle.cox_context.proofs.ListLemmas.{contains-at, rising-length}
+use Rattle.cox_context.proofs.Ideals.{element-tail, below-tail}
+use Rattle.cox_context.proofs.Places.{place-one, entry-old, entry-new}
+use Rattle.cox_context.proofs.Shifting.{element-at, right-parent}
+
+-- a list with a first element
+pub record HasFirst (x : List ℕ) (t : ℕ) : Type 0 where
+  pub rest : List ℕ
+  pub is : x ≡ t ∷ rest
+
+pub first-of : (x : List ℕ) (t : ℕ) → Some t ≡ slice_get x 0 → HasFirst x t
+first-of [] t e = absurd (cc)
+first-of (s ∷ rest) t e = record { rest = rest; is = let q : s ≡ t = cc in ap (λ (r : ℕ). r ∷ rest) q }
+
+pub none-first : (x : List ℕ) → None ≡ slice_get x 0 → x ≡ []
+none-first [] e = refl
+none-first (s ∷ rest) e = absurd (cc)
+
+-- a word that is x' for the member t x' is the member before it that t leads to
+pub record IsParent (words : List (List ℕ)) (i : ℕ) (x : List ℕ) (found : Option ℕ) : Type 0 where
+  pub p : ℕ
+  pub is : found ≡ Some p
+  pub less : p < i
+  pub within : p < length words
+  pub word : word_at words p ≡ x
+
+module _ (A : IntegerMatrix) (g : IsAdmissible A) (words : List (List ℕ)) (closed : IsClosed A words) where
+  pub first-letter : (t : ℕ) (x : List ℕ) (i : ℕ) → i < length words → word_at words i ≡ t ∷ x → IsLetter A.rank t
+  first-letter t x i l e = let elem : IsElement A (t ∷ x) = rw e at (element-at A g words closed i l) in All-head (IsLetter A.rank) t x elem.letters
+
+  pub parent : (t : ℕ) (x : List ℕ) (i : ℕ) (found : Option ℕ) → i < length words → word_at words i ≡ t ∷ x → IsNumberOf words (normal_form A (t ∷ word_at words i)) found → IsParent words i x found
+  parent t x i found l e n = go found n
+    where
+      elem : IsElement A (t ∷ x)
+      elem = rw e at (element-at A g words closed i l)
+
+      form : normal_form A (t ∷ word_at words i) ≡ x
+      form = rw e (normal_form-equal A g (same-square A g t x) ∙ (element-tail A g t x elem).normal)
+
+      there : Contains words x
+      there = closed.down x (word_at words i) (contains-at words i l) (element-tail A g t x elem) (rw e (below-tail A g t x elem))
+
+      go : (found : Option ℕ) → IsNumberOf words (normal_form A (t ∷ word_at words i)) found → IsParent words i x found
+      go None none = absurd (none (rw form there))
+      go (Some p) (within, is) =
+          let word : word_at words p ≡ x = is ∙ form
+          in record {
+            p = p;
+            is = refl;
+            less = ⊎_elim (λ (less : p < i). less) (λ (more : i ≤ p). absurd (omega (arith, rising-length words i p closed.rising more within, ap length word, ap length e))) (cases_lt p i);
+            within = within;
+            word = word;
+          }
+
+  pub parent-some : (t : ℕ) (x : List ℕ) (i k : ℕ) → i < length words → word_at words i ≡ t ∷ x → IsNumberOf words (normal_form A (t ∷ word_at words i)) (Some k) → (k < i) × (word_at words k ≡ x)
+  parent-some t x i k l e n =
+      let p = parent t x i (Some k) l e n
+      in let q : p.p ≡ k = (let f = p.is in cc)
+      in (rw q at p.less, rw q at p.word)
+
+  pub parent-none : (t : ℕ) (x : List ℕ) (i : ℕ) → i < length words → word_at words i ≡ t ∷ x → (Contains words (normal_form A (t ∷ word_at words i)) → ⊥) → ⊥
+  parent-none t x i l e n = let p = parent t x i None l e n in let f = p.is in absurd (cc)
+
+  pub right-none : (t s : ℕ) (x : List ℕ) (i p : ℕ) → IsLetter A.rank s → i < length words → word_at words i ≡ t ∷ x → word_at words p ≡ x
+      → (Contains words (normal_form A (word_at words p ++ s ∷ [])) → ⊥) → Contains words (normal_form A (word_at words i ++ s ∷ [])) → ⊥
+  right-none t s x i p letter l e f none c = none (rw f (right-parent A g words closed t s x i letter l e (rw e at c)))
+
+  pub right-some : (t s : ℕ) (x : List ℕ) (i p q : ℕ) (found : Option ℕ) → word_at words i ≡ t ∷ x → word_at words p ≡ x
+      → word_at words q ≡ normal_form A (word_at words p ++ s ∷ []) → IsNumberOf words (normal_form A (t ∷ word_at words q)) found → IsNumberOf words (normal_form A (word_at words i ++ s ∷ [])) found
+  right-some t s x i p q found e f h n = subst (λ (v : List ℕ). IsNumberOf words v found) same n
+    where
+      same : normal_form A (t ∷ word_at words q) ≡ normal_form A (word_at words i ++ s ∷ [])
+      same = rw e (normal_form-equal A g (same-cons A g t (same-trans A g (same-equal A g h) (rw f (normal_form-same A g (x ++ s ∷ []))))))
+
+  pub right-start : AreRightShifts A words []
+  right-start = record { shift = λ s i l m k. absurd (omega (arith, k)) }
+
+  -- one more entry
+  pub right-push : (table : List (Option ℕ)) (s i : ℕ) (x : Option ℕ) → AreRightShifts A words table → IsLetter A.rank s → length table ≡ i * A.rank + (s - 1)
+      → IsNumberOf words (normal_form A (word_at words i ++ s ∷ [])) x → AreRightShifts A words (table ++ x ∷ [])
+  right-push table s i x h letter size n = record { shift = λ t j l m k. go t j l m k (cases_lt (j * A.rank + (t - 1)) (length table)) }
+    where
+      go : (t j : ℕ) → IsLetter A.rank t → j < length words → j * A.rank + (t - 1) < length (table ++ x ∷ []) → (j * A.rank + (t - 1) < length table) ⊎ (length table ≤ j * A.rank + (t - 1))
+          → IsNumberOf words (normal_form A (word_at words j ++ t ∷ [])) (entry A.rank (table ++ x ∷ []) t j)
+      go t j l m k (inl below) = rw (entry-old A.rank table t j x below) (h.shift t j l m below)
+      go t j l m k (inr above) =
+          let place : j * A.rank + (t - 1) ≡ length table = omega (arith, above, k, length-append table (x ∷ []))
+          in let one = place-one A.rank i j s t letter l (sym size ∙ sym place)
+          in rw (entry-new A.rank table t j x place, ← one.0, ← one.1) n

@@ -1,0 +1,11 @@
+-- The number of a word in a list: its place, from 0.
+use Rattle.std.specs.Prelude.{◌≡◌, ℕ, ◌<◌, List, [], length, slice_index_or, Option, None, Some, Contains}
+
+-- the word with a number
+abbrev pub word_at : List (List ℕ) → ℕ → List ℕ
+word_at words i = slice_index_or words i []
+
+-- the number of a word; None exactly where the list does not have it
+abbrev pub IsNumberOf : List (List ℕ) → List ℕ → Option ℕ → Type 0
+IsNumberOf words word None = ¬ (Contains words word)
+IsNumberOf words word (Some k) = (k < length words) × (word_at words k ≡ word)

@@ -1,0 +1,27 @@
+-- Why a context is refused: exactly by its first members in ShortLex order.
+use Rattle.std.specs.Prelude.{◌≡◌, ℕ, ◌+◌, ◌≤◌, List, length, Contains}
+use Rattle.cox_context.specs.SortedList.{IsListOf, IsFrontOf}
+use Rattle.cox_context.specs.declared.fault.ContextFault.{ContextFault}
+use Rattle.cox_context.specs.declared.fault.ContextFault.TheVariants.{Size, Long, NoMemory}
+
+-- there are more than limit members, and the first limit + 1 have at most 63 letters each
+pub record IsOver (P : List ℕ → Type 0) (limit : ℕ) : Type 0 where
+  pub front : List (List ℕ)
+  pub first : IsFrontOf P front
+  pub count : length front ≡ limit + 1
+  pub short : (word : List ℕ) → Contains front word → length word ≤ 63
+
+-- no more than limit members have at most 63 letters, and one has 64: so one of the first limit + 1 members has 64 letters
+pub record IsLong (P : List ℕ → Type 0) (limit : ℕ) : Type 0 where
+  pub front : List (List ℕ)
+  pub are : IsListOf (λ word. P word × (length word ≤ 63)) front
+  pub count : length front ≤ limit
+  pub long : List ℕ
+  pub member : P long
+  pub letters : length long ≡ 64
+
+-- what a fault says of the members with a property; want of memory says nothing
+abbrev pub IsRefusal : (List ℕ → Type 0) → ℕ → ContextFault → Type 0
+IsRefusal P limit (Size bound seen) = (bound ≡ limit) × (seen ≡ limit + 1) × IsOver P limit
+IsRefusal P limit Long = IsLong P limit
+IsRefusal P limit NoMemory = Unit {0}

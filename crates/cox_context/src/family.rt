@@ -1,0 +1,79 @@
+//! The group, or the interval, whose elements a context has as members.
+ghost use Rattle.std.specs.Prelude.{◌≡◌, ◌≤◌, ◌↔◌, ◌∷◌, length, IsTrue, IfSome, IfNone};
+ghost use Rattle.cox_base.specs.Matrix.{IsLetter};
+ghost use Rattle.cox_base.specs.IntegerMatrix.{integer_matrix};
+ghost use Rattle.cox_base.specs.ShortLex.{normal_form};
+ghost use Rattle.cox_reflect.specs.Height.{AreHeights};
+ghost use Rattle.cox_context.specs.Members.{IsElement, IsMember, IsTop};
+
+use cox_base::{Coxeter, Word};
+use cox_reflect::{Heights, below};
+
+/// A Coxeter group, and the top of an interval where an interval is meant.
+#[derive(Drop)]
+pub(crate) struct Family {
+    pub(crate) group: Coxeter,
+    pub(crate) top: Option<Word>,
+}
+
+impl Family {
+    /// Whether s x is a normal form and a member, for a normal form x, whose heights are given and stay.
+    pub(crate) fn child(&self, heights: &mut Heights, s: u8, x: &Word) -> Option<Word>
+        requires top { IsTop self.now.group.rank self.now.top }
+        requires letter { IsLetter self.now.group.rank s }
+        requires element { IsElement (integer_matrix self.now.group) x.now.items }
+        requires short { length x.now.items ≤ 62 }
+        requires heights { AreHeights (integer_matrix self.now.group) x.now.items heights.old }
+        ensures child { IfSome result (λ y. (y.items ≡ s ∷ x.now.items) × IsMember (integer_matrix self.now.group) self.now.top y.items) }
+        ensures none { IfNone result (¬ (IsMember (integer_matrix self.now.group) self.now.top (s ∷ x.now.items))) }
+        ensures kept { AreHeights (integer_matrix self.now.group) x.now.items heights.new }
+    {
+        if !is_normal(&self.group, heights, s, x) {
+            return None;
+        }
+        let child = with_first(s, x);
+        if self.has(&child) { Some(child) } else { None }
+    }
+
+    /// Whether an element is a member.
+    fn has(&self, word: &Word) -> bool
+        requires top { IsTop self.now.group.rank self.now.top }
+        requires element { IsElement (integer_matrix self.now.group) word.now.items }
+        requires short { length word.now.items ≤ 63 }
+        ensures { IsTrue result ↔ IsMember (integer_matrix self.now.group) self.now.top word.now.items }
+    {
+        match &self.top {
+            None => true,
+            Some(top) => below(&self.group, word, top),
+        }
+    }
+}
+
+/// Whether s x is a normal form, for a normal form x, whose heights are given and stay.
+fn is_normal(g: &Coxeter, heights: &mut Heights, s: u8, x: &Word) -> bool
+    requires letter { IsLetter g.now.rank s }
+    requires element { IsElement (integer_matrix g.now) x.now.items }
+    requires short { length x.now.items ≤ 62 }
+    requires heights { AreHeights (integer_matrix g.now) x.now.items heights.old }
+    ensures normal { IsTrue result ↔ (normal_form (integer_matrix g.now) (s ∷ x.now.items) ≡ s ∷ x.now.items) }
+    ensures kept { AreHeights (integer_matrix g.now) x.now.items heights.new }
+{
+    let rank = g.rank();
+    heights.prepend(g, s);
+    let least = heights.least_descent(rank);
+    heights.prepend(g, s);
+    least == Some(s)
+}
+
+/// The word s x.
+fn with_first(s: u8, x: &Word) -> Word
+    requires { length x.now.items ≤ 62 }
+    ensures { result.items ≡ s ∷ x.now.items }
+{
+    let mut word = Word::new();
+    word.push(s);
+    match word.try_extend_from_slice(x.as_slice()) {
+        Ok(()) => word,
+        Err(_) => unreachable!(),
+    }
+}
