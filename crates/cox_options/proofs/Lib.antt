@@ -1,0 +1,6 @@
+-- an argument with a default has a value after a parse
+pub mod DefaultValue
+-- and the options of the command have numbers
+pub mod Numbers
+-- what the words give where one option is named
+pub mod OneNumber

@@ -1,0 +1,31 @@
+//! The command `coxeter`, as `clap` is told it.
+ghost use Rattle.std.specs.Prelude.{◌≡◌, IfOk, false};
+ghost use Rattle.clap.specs.Words.{rule_of, app_of};
+ghost use Rattle.cox_options.specs.Command.{number_rule, coxeter_app};
+
+use crate::options::MAX_CONTEXT;
+use clap::builder::ValueParser;
+use clap::{Arg, ArgAction, Command};
+use std::alloc::{AllocError, Global};
+
+/// The option `--name` with one number from 1 to `most`, and the number that `default` writes where it is not given.
+fn number_option<'a>(alloc: Global, name: &'a str, most: u64, default: &'a str) -> Arg<'a>
+    ensures rule { rule_of result ≡ number_rule name.entry.now most default.entry.now }
+    ensures local { result.global ≡ false }
+{
+    Arg::new(alloc, name)
+        .long(name)
+        .action(ArgAction::Set)
+        .value_parser(ValueParser::unsigned(1, most))
+        .default_value(default)
+}
+
+/// The command `coxeter`: its options, and neither a flag for help nor one for the version.
+pub fn command<'a>(alloc: Global) -> Result<Command<'a>, AllocError>
+    ensures { IfOk result (λ command. app_of command ≡ coxeter_app) }
+{
+    let context = number_option(alloc, "context", u64::from(MAX_CONTEXT), "65536");
+    Command::new(alloc, "coxeter")
+        .disable_help_flag(true)
+        .arg(context)
+}

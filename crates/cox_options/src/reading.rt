@@ -1,0 +1,65 @@
+//! Words, and the options that they give.
+ghost use Rattle.std.specs.Prelude.{◌≡◌, ◌≢◌, Err, IfOk, OnOk, Some, codes, map, option_map};
+ghost use Rattle.clap.specs.Words.{found_of, kind_of, one_text};
+ghost use Rattle.clap.specs.declared.error.kind.ErrorKind.TheVariants.{OutOfMemory};
+ghost use Rattle.cox_options.specs.Words.{IsTaken, IsUsage, number_of, given_number};
+ghost use Rattle.cox_options.specs.Found.{HasNumber};
+ghost use Rattle.cox_options.specs.declared.reading.OptionFault.TheVariants.{NoMemory, Usage};
+
+use crate::definition::command;
+use crate::options::Options;
+use clap::ArgMatches;
+use clap::error::ErrorKind;
+use std::alloc::Global;
+use thiserror::Error;
+
+/// Why words give no options.
+#[derive(Clone, Copy, Debug, Drop, PartialEq, Eq, Error)]
+pub enum OptionFault {
+    /// The command does not take them: an unknown option, an option twice or without its number, a number outside its range, or a word beside options.
+    #[error("the words give no options")]
+    Usage,
+    /// Memory has run out.
+    #[error("out of memory")]
+    NoMemory,
+}
+
+/// The options that the words give. The first word is the program's name; with no other word each option has its default.
+///
+/// For example `["coxeter", "--context", "23"]` gives the context 23, and so does `["coxeter", "--context=23"]`. A number is written in decimal digits,
+/// where a plus may stand first.
+/// `Usage` comes just where the definition of the command refuses the words; `NoMemory` may come at any.
+pub fn read(alloc: Global, words: &[&str]) -> Result<Options, OptionFault>
+    ensures taken { OnOk result (IsTaken (map (λ word. word.now) words.now)) }
+    ensures context { IfOk result (λ options. given_number (codes "context") (map (λ word. word.now) words.now) ≡ Some options.context) }
+    ensures usage { result ≡ Err Usage → IsUsage (map (λ word. word.now) words.now) }
+{
+    let Ok(command) = command(alloc) else {
+        return Err(OptionFault::NoMemory);
+    };
+    match command.try_get_matches_from(words) {
+        Ok(matches) => Ok(options_in(&matches)),
+        Err(error) => Err(fault_of(&error)),
+    }
+}
+
+/// The options by what a parse of the command found.
+fn options_in(matches: &ArgMatches<'_>) -> Options
+    requires context { HasNumber (found_of matches.now) (codes "context") 65536 }
+    ensures context { option_map number_of (one_text (found_of matches.now) (codes "context")) ≡ Some result.context }
+{
+    Options {
+        context: matches.get_one::<u64>("context").unwrap() as u32,
+    }
+}
+
+/// Want of memory is told apart from the other errors of a parse.
+fn fault_of(error: &clap::Error) -> OptionFault
+    ensures usage { result ≡ Usage → kind_of error.now ≢ OutOfMemory }
+    ensures memory { result ≡ NoMemory → kind_of error.now ≡ OutOfMemory }
+{
+    match error.kind() {
+        ErrorKind::OutOfMemory => OptionFault::NoMemory,
+        _ => OptionFault::Usage,
+    }
+}
