@@ -30,34 +30,38 @@ abbrev pub lesser : ℕ → Option ℕ → ℕ
 lesser i None = i
 lesser i (Some k) = min i k
 
-module _ (A : IntegerMatrix) (g : IsAdmissible A) (words : List (List ℕ)) (closed : IsClosed A words) where
-  front-descent : (t : ℕ) (v : List ℕ) → IsReduced A (t ∷ v) → IsLeftDescent A (t ∷ v) t
+module _ (A : IntegerMatrix) (g : IsAdmissible A) where
+  pub front-descent : (t : ℕ) (v : List ℕ) → IsReduced A (t ∷ v) → IsLeftDescent A (t ∷ v) t
   front-descent t v r = omega (arith, r, word_length-equal A g (same-square A g t v), word_length-length A g v)
 
-  drop-square : (t : ℕ) (y v : List ℕ) → IsBelow A y (t ∷ t ∷ v) ↔ IsBelow A y v
-  drop-square t y v = (λ b. below-same A g (same-refl A g y) (same-square A g t v) b, λ b. below-same A g (same-refl A g y) (same-sym A g (same-square A g t v)) b)
+  pub drop-square : (t : ℕ) (y v : List ℕ) → IsBelow A y (t ∷ t ∷ v) ↔ IsBelow A y v
+  drop-square t y v = (
+    λ b. below-same A g (same-refl A g y) (same-square A g t v) b,
+    λ b. below-same A g (same-refl A g y) (same-sym A g (same-square A g t v)) b,
+  )
 
+module _ (A : IntegerMatrix) (g : IsAdmissible A) (words : List (List ℕ)) (closed : IsClosed A words) where
   settled-down : (x w rest v : List ℕ) (t i k : ℕ) → IsSettled A words x w rest i → rest ≡ t ∷ v → IsReduced A rest → IsLeftDescent A (word_at words i) t → k < length words
       → word_at words k ≡ normal_form A (t ∷ word_at words i) → IsSettled A words x w v k
   settled-down x w rest v t i k c e r d within shift =
       let before : IsBelow A x w ↔ IsBelow A (word_at words i) (t ∷ v) = rw e at c.settles
-      in let step = lift_down A g (word_at words i) (t ∷ v) t (front-descent t v (rw e at r)) d
+      in let step = lift_down A g (word_at words i) (t ∷ v) t (front-descent A g t v (rw e at r)) d
       in let same : SameElement A (word_at words k) (t ∷ word_at words i) = rw shift (normal_form-same A g (t ∷ word_at words i))
       in record {
         within = within;
         settles = (
-          λ b. below-same A g (same-sym A g same) (same-refl A g v) ((drop-square t (t ∷ word_at words i) v).0 (step.0 (before.0 b))),
-          λ b. before.1 (step.1 ((drop-square t (t ∷ word_at words i) v).1 (below-same A g same (same-refl A g v) b))),
+          λ b. below-same A g (same-sym A g same) (same-refl A g v) ((drop-square A g t (t ∷ word_at words i) v).0 (step.0 (before.0 b))),
+          λ b. before.1 (step.1 ((drop-square A g t (t ∷ word_at words i) v).1 (below-same A g same (same-refl A g v) b))),
         );
       }
 
   settled-up : (x w rest v : List ℕ) (t i : ℕ) → IsSettled A words x w rest i → rest ≡ t ∷ v → IsReduced A rest → (IsLeftDescent A (word_at words i) t → ⊥) → IsSettled A words x w v i
   settled-up x w rest v t i c e r none =
       let before : IsBelow A x w ↔ IsBelow A (word_at words i) (t ∷ v) = rw e at c.settles
-      in let step = lift_up A g (word_at words i) (t ∷ v) t (front-descent t v (rw e at r)) none
+      in let step = lift_up A g (word_at words i) (t ∷ v) t (front-descent A g t v (rw e at r)) none
       in record {
         within = c.within;
-        settles = (λ b. (drop-square t (word_at words i) v).0 (step.0 (before.0 b)), λ b. before.1 (step.1 ((drop-square t (word_at words i) v).1 b)));
+        settles = (λ b. (drop-square A g t (word_at words i) v).0 (step.0 (before.0 b)), λ b. before.1 (step.1 ((drop-square A g t (word_at words i) v).1 b)));
       }
 
   pub reduced-drop : (k : ℕ) (u : List ℕ) → IsReduced A u → IsReduced A (drop k u)

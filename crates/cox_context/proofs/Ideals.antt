@@ -1,18 +1,18 @@
 -- What is closed downwards in Bruhat order: the group, and the interval up to an element.
-use Rattle.std.proofs.Common.{◌≡◌, ℕ, ◌≤◌, List, [], ◌∷◌, length, Option, None, Some, refl, ap, ◌∙◌, ⊎_elim, arith}
-use Rattle.std.proofs.lemmas.List.Elements.{All-nil, All-head, All-tail}
+use Rattle.std.proofs.Common.{◌≡◌, ℕ, ◌≤◌, Bool, true, nat_lt, List, [], ◌∷◌, length, filter, Contains, Option, None, Some, refl, ap, ◌∙◌, ⊎_elim, arith, ltb-true}
+use Rattle.std.proofs.lemmas.List.Elements.{All-nil, All-head, All-tail, All-contains, filter_passes}
 use Rattle.arrayvec.specs.ArrayVec.{ArrayVec}
 use Rattle.cox_base.specs.Matrix.{IsLetter}
 use Rattle.cox_base.specs.IntegerMatrix.{IntegerMatrix, IsAdmissible}
-use Rattle.cox_base.specs.ShortLex.{normal_form}
-use Rattle.cox_base.specs.Length.{word_length}
+use Rattle.cox_base.specs.ShortLex.{normal_form, letters}
+use Rattle.cox_base.specs.Length.{word_length, IsLeftDescent, left_descents}
 use Rattle.cox_base.specs.Bruhat.{IsBelow}
 use Rattle.cox_reflect.proofs.Elements.{same-cons, same-refl}
 use Rattle.cox_reflect.proofs.Search.{normal_form-same, normal_form-equal, word_length-length, length-normal_form, IsWord-normal_form}
 use Rattle.cox_reflect.proofs.Lengths.{word_length-is}
 use Rattle.cox_reflect.proofs.ShortLexFirst.{IsBefore-cons, normal_form-comes_first, none-before_normal_form}
-use Rattle.cox_reflect.proofs.Bruhat.{below-trans, below-ascent, below-least}
-use Rattle.cox_context.specs.Members.{IsElement, IsMember}
+use Rattle.cox_reflect.proofs.Bruhat.{below-trans, below-ascent, below-cons, below-least}
+use Rattle.cox_context.specs.Members.{IsElement, IsMember, top_descents}
 use Rattle.cox_context.proofs.GrowthLemmas.{IsTailed}
 
 -- a property of elements that goes over to each element below
@@ -47,6 +47,13 @@ module _ (A : IntegerMatrix) (g : IsAdmissible A) where
   pub below-tail : (s : ℕ) (x : List ℕ) → IsElement A (s ∷ x) → IsBelow A x (s ∷ x)
   below-tail s x e = below-ascent A g x s (All-head (IsLetter A.rank) s x e.letters) (omega (arith, element-length (s ∷ x) e, word_length-length A g x))
 
+  contained-descent : (w : List ℕ) (s : ℕ) → Contains (left_descents A w) s → IsLeftDescent A w s
+  unfolding left_descents
+  contained-descent w s c =
+      let test : ℕ → Bool = λ t. nat_lt (word_length A (t ∷ w)) (word_length A w)
+      in ltb-true (word_length A (s ∷ w)) (word_length A w)
+      (All-contains (λ t. test t ≡ true) (filter test (letters A.rank)) s (filter_passes test (letters A.rank)) c)
+
   pub ideal-member : (top : Option (ArrayVec ℕ)) → IsIdeal A (IsMember A top)
   ideal-member None = record { element = λ w p. p; down = λ y w p e b. e; least = element-nil }
   ideal-member (Some top) = record {
@@ -54,6 +61,12 @@ module _ (A : IntegerMatrix) (g : IsAdmissible A) where
     down = λ y w p e b. record { element = e; below = below-trans A g b p.below };
     least = record { element = element-nil; below = below-least A g top.items };
   }
+
+  -- with x a member is s x for each left descent s of the top
+  pub member-descent : (top : Option (ArrayVec ℕ)) (s : ℕ) (x y : List ℕ) → Contains (top_descents A top) s → IsMember A top x → y ≡ s ∷ x
+      → IsElement A y → IsMember A top y
+  member-descent None s x y c p e q = q
+  member-descent (Some top) s x y c p e q = record { element = q; below = rw e (below-cons A g x top.items s (contained-descent top.items s c) p.below) }
 
   pub ideal-tailed : (P : List ℕ → Type 0) → IsIdeal A P → IsTailed A.rank P
   ideal-tailed P i = record {

@@ -32,3 +32,9 @@ pub mod BelowLemmas
 pub mod Walks
 -- reading an element off by its descents
 pub mod Reading
+-- lists in ShortLex order
+pub mod SortedLemmas
+-- words in any order, listed in ShortLex order
+mod Listing
+-- Bruhat intervals as lists
+pub mod IntervalLemmas

@@ -2,6 +2,8 @@
 pub mod SortedList
 -- the members of a context
 pub mod Members
+-- Bruhat intervals
+pub mod Interval
 -- why a context is refused
 pub mod Refusal
 -- words by their numbers in a list

@@ -1,9 +1,10 @@
 -- The members of a context.
-use Rattle.std.specs.Prelude.{◌≡◌, ℕ, ◌≤◌, List, length, Option, None, Some, Contains}
+use Rattle.std.specs.Prelude.{◌≡◌, ℕ, ◌≤◌, List, [], length, Option, None, Some, Contains}
 use Rattle.arrayvec.specs.ArrayVec.{ArrayVec}
 use Rattle.cox_base.specs.Matrix.{IsWord, CoxeterMatrix}
 use Rattle.cox_base.specs.IntegerMatrix.{IntegerMatrix}
 use Rattle.cox_base.specs.ShortLex.{normal_form}
+use Rattle.cox_base.specs.Length.{left_descents}
 use Rattle.cox_base.specs.Bruhat.{IsBelow}
 use Rattle.cox_context.specs.SortedList.{IsRising}
 
@@ -26,6 +27,11 @@ IsMember A (Some top) word = IsInInterval A top.items word
 abbrev pub IsTop : ℕ → Option (ArrayVec ℕ) → Type 0
 IsTop rank None = Unit {0}
 IsTop rank (Some top) = IsWord rank top.items × (length top.items ≤ 63)
+
+-- the left descents of the top, where there is one
+abbrev pub top_descents : IntegerMatrix → Option (ArrayVec ℕ) → List ℕ
+top_descents A None = []
+top_descents A (Some top) = left_descents A top.items
 
 -- what contracts see of a context: the Coxeter matrix of its group, and its members
 pub record Elements : Type 0 where

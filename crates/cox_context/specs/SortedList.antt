@@ -13,6 +13,10 @@ pub record IsListOf (P : List ℕ → Type 0) (words : List (List ℕ)) : Type 0
   pub sound : (word : List ℕ) → Contains words word → P word
   pub whole : (word : List ℕ) → P word → Contains words word
 
+-- there are more than so many words with a property
+abbrev pub HasMoreThan : ℕ → (List ℕ → Type 0) → Type 0
+HasMoreThan limit P = (words : List (List ℕ)) × IsListOf P words × (limit < length words)
+
 -- the first words with a property, in ShortLex order: each other word with it comes after all of them
 pub record IsFrontOf (P : List ℕ → Type 0) (words : List (List ℕ)) : Type 0 where
   pub rising : IsRising words

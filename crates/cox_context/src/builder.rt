@@ -7,7 +7,7 @@ ghost use Rattle.cox_base.specs.Matrix.{IsCoxeterMatrix, IsLetter, IsWord};
 ghost use Rattle.cox_base.specs.IntegerMatrix.{IntegerMatrix, IsAdmissible, integer_matrix};
 ghost use Rattle.cox_base.specs.Length.{IsLeftDescent};
 ghost use Rattle.cox_reflect.specs.Height.{AreHeights};
-ghost use Rattle.cox_context.specs.Members.{IsElement, IsMember, IsTop};
+ghost use Rattle.cox_context.specs.Members.{IsMember, IsTop};
 ghost use Rattle.cox_context.specs.SortedList.{IsFrontOf};
 ghost use Rattle.cox_context.specs.Numbers.{word_at};
 ghost use Rattle.cox_context.specs.Growth.{IsGrowing, IsGrown, AreAllHeights};
@@ -135,7 +135,7 @@ impl Builder {
         requires top { IsTop family.now.group.rank family.now.top }
         requires letter { IsLetter family.now.group.rank s }
         requires parent { parent < length self.old.members }
-        requires element { IsElement (integer_matrix family.now.group) (word_at self.old.members parent) }
+        requires member { IsMember (integer_matrix family.now.group) family.now.top (word_at self.old.members parent) }
         requires short { length (word_at self.old.members parent) ≤ 62 }
         requires heights { AreAllHeights (integer_matrix family.now.group) self.old.members self.old.heights.items }
         ensures child { IfSome result (λ y. (y.items ≡ s ∷ word_at self.old.members parent) × IsMember (integer_matrix family.now.group) family.now.top y.items) }

@@ -15,8 +15,8 @@ use crate::builder::Builder;
 use crate::family::Family;
 use crate::members::Members;
 use crate::shifts::{entry, left_shifts, lowering, right_shifts};
-use cox_base::{Coxeter, Word, copy_word};
-use cox_reflect::length;
+use cox_base::{Coxeter, Side, Word, copy_word};
+use cox_reflect::{descents, length};
 use std::alloc::Global;
 use std::marker::Model;
 
@@ -69,6 +69,7 @@ impl Context {
         let family = Family {
             group: group.copy(),
             top: Some(copy_word(w)),
+            descents: descents(group, w, Side::Left),
         };
         let mut builder = Builder::new(alloc, &family)?;
         builder.grow(&family, length(group, w), limit)?;
@@ -90,6 +91,7 @@ impl Context {
         let family = Family {
             group: group.copy(),
             top: None,
+            descents: Word::new(),
         };
         let mut builder = Builder::new(alloc, &family)?;
         let low = builder.grow(&family, MAX_LENGTH, limit)?;

@@ -1,10 +1,10 @@
 //! The group, or the interval, whose elements a context has as members.
 ghost use Rattle.std.specs.Prelude.{◌≡◌, ◌≤◌, ◌↔◌, ◌∷◌, length, IsTrue, IfSome, IfNone};
-ghost use Rattle.cox_base.specs.Matrix.{IsLetter};
+ghost use Rattle.cox_base.specs.Matrix.{IsCoxeterMatrix, IsLetter};
 ghost use Rattle.cox_base.specs.IntegerMatrix.{integer_matrix};
 ghost use Rattle.cox_base.specs.ShortLex.{normal_form};
 ghost use Rattle.cox_reflect.specs.Height.{AreHeights};
-ghost use Rattle.cox_context.specs.Members.{IsElement, IsMember, IsTop};
+ghost use Rattle.cox_context.specs.Members.{IsElement, IsMember, IsTop, top_descents};
 
 use cox_base::{Coxeter, Word};
 use cox_reflect::{Heights, below};
@@ -14,14 +14,17 @@ use cox_reflect::{Heights, below};
 pub(crate) struct Family {
     pub(crate) group: Coxeter,
     pub(crate) top: Option<Word>,
+    // the left descents of the top: with x in the interval, s x is in it for each of them
+    pub(crate) descents: Word,
+    ghost descents_of: { descents.items ≡ top_descents (integer_matrix group) top },
 }
 
 impl Family {
-    /// Whether s x is a normal form and a member, for a normal form x, whose heights are given and stay.
+    /// Whether s x is a normal form and a member, for a member x, whose heights are given and stay.
     pub(crate) fn child(&self, heights: &mut Heights, s: u8, x: &Word) -> Option<Word>
         requires top { IsTop self.now.group.rank self.now.top }
         requires letter { IsLetter self.now.group.rank s }
-        requires element { IsElement (integer_matrix self.now.group) x.now.items }
+        requires member { IsMember (integer_matrix self.now.group) self.now.top x.now.items }
         requires short { length x.now.items ≤ 62 }
         requires heights { AreHeights (integer_matrix self.now.group) x.now.items heights.old }
         ensures child { IfSome result (λ y. (y.items ≡ s ∷ x.now.items) × IsMember (integer_matrix self.now.group) self.now.top y.items) }
@@ -32,7 +35,11 @@ impl Family {
             return None;
         }
         let child = with_first(s, x);
-        if self.has(&child) { Some(child) } else { None }
+        if self.descents.as_slice().contains(&s) || self.has(&child) {
+            Some(child)
+        } else {
+            None
+        }
     }
 
     /// Whether an element is a member.
@@ -55,6 +62,7 @@ fn is_normal(g: &Coxeter, heights: &mut Heights, s: u8, x: &Word) -> bool
     requires element { IsElement (integer_matrix g.now) x.now.items }
     requires short { length x.now.items ≤ 62 }
     requires heights { AreHeights (integer_matrix g.now) x.now.items heights.old }
+    ensures matrix { IsCoxeterMatrix g.now }
     ensures normal { IsTrue result ↔ (normal_form (integer_matrix g.now) (s ∷ x.now.items) ≡ s ∷ x.now.items) }
     ensures kept { AreHeights (integer_matrix g.now) x.now.items heights.new }
 {

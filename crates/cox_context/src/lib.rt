@@ -11,12 +11,14 @@
 //! - `members`: the members, by number and by word
 //! - `builder`: finds the members, length by length
 //! - `shifts`: the tables of left and right shifts
+//! - `laws`: each interval has one list in ShortLex order, closed downwards
 #![tactic(auto)]
 
 mod builder;
 mod context;
 mod family;
 mod fault;
+pub mod laws;
 mod members;
 mod shifts;
 #[cfg(test)]

@@ -66,9 +66,9 @@ impl Members {
         requires new { ¬ (Contains self.old word.items) }
         ensures { OnOk result (self.new ≡ self.old ++ word.items ∷ []) }
     {
-        match self.words.insert(word) {
-            Ok(_) => Ok(()),
-            Err(_) => Err(AllocError),
-        }
+        let Ok(_) = self.words.insert(word) else {
+            return Err(AllocError);
+        };
+        Ok(())
     }
 }

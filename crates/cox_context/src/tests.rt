@@ -44,12 +44,13 @@ fn word(rt: &impl Abort, g: &Coxeter, text: &[u8]) -> Result<Word, Fail>
 
 #[test]
 fn has_the_published_elements_of_finite_groups(rt: HostRuntime) -> Result<(), Fail> {
-    let cases: [(u8, u32, u32, &[usize]); 5] = [
+    let cases: [(u8, u32, u32, &[usize]); 6] = [
         (b'A', 3, 24, &[2, 3, 4]),
         (b'A', 4, 120, &[2, 3, 4, 5]),
         (b'B', 4, 384, &[2, 4, 6, 8]),
         (b'D', 5, 1920, &[2, 4, 5, 6, 8]),
         (b'F', 4, 1152, &[2, 6, 8, 12]),
+        (b'E', 6, 51840, &[2, 5, 6, 8, 9, 12]),
     ];
     for (letter, n, order, degrees) in cases {
         let g = Coxeter::named(letter, n)?;

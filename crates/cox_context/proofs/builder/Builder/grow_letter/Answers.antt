@@ -3,7 +3,7 @@ use Rattle.cox_base.specs.IntegerMatrix.{IntegerMatrix, integer_matrix}
 use Rattle.cox_reflect.proofs.Admissible.{IsAdmissible-integer_matrix}
 use Rattle.cox_context.specs.Members.{IsMember}
 use Rattle.cox_context.specs.Numbers.{word_at}
-use Rattle.cox_context.proofs.Ideals.{IsIdeal, ideal-member, ideal-tailed}
+use Rattle.cox_context.proofs.Ideals.{ideal-member, ideal-tailed}
 use Rattle.cox_context.proofs.GrowthLemmas.{IsTailed, growing-skip, growing-push, growing-front, growing-letter, push-length}
 use Rattle.cox_context.proofs.builder.Builder.grow_letter.Goals as goal
 use Rattle.cox_context.proofs.builder.Builder.grow_letter.Goals.{in-Some+in_ok-add, in_default}
@@ -11,11 +11,8 @@ use Rattle.cox_context.proofs.builder.Builder.grow_letter.Goals.{in-Some+in_ok-a
 pub child-requires-clause-parent : goal.child-requires-clause-parent
 child-requires-clause-parent c = omega (arith, c.loop-parent.invariant.growing.end)
 
-pub child-requires-clause-element : goal.child-requires-clause-element
-child-requires-clause-element c =
-    let A : IntegerMatrix = integer_matrix c.args.family.now.group
-    in let ideal : IsIdeal A (IsMember A c.args.family.now.top) = ideal-member A (IsAdmissible-integer_matrix c.args.family.now.group c.requires.matrix) c.args.family.now.top
-    in ideal.element (word_at c.loop-parent.self.members c.loop-parent.parent) (c.loop-parent.invariant.growing.sound c.loop-parent.parent (omega (arith, c.loop-parent.invariant.growing.end)))
+pub child-requires-clause-member : goal.child-requires-clause-member
+child-requires-clause-member c = c.loop-parent.invariant.growing.sound c.loop-parent.parent (omega (arith, c.loop-parent.invariant.growing.end))
 
 pub child-requires-clause-short : goal.child-requires-clause-short
 child-requires-clause-short c =

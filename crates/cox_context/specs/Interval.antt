@@ -1,0 +1,27 @@
+-- Bruhat intervals: the elements between two, the elements that one covers, and how many there are of each length.
+use Rattle.std.specs.Prelude.{◌≡◌, ℕ, ℤ, pos, ◌+◌, ◌==◌, List, length, map, filter}
+use Rattle.std.specs.List.{range_with_len}
+use Rattle.cox_base.specs.IntegerMatrix.{IntegerMatrix}
+use Rattle.cox_base.specs.Length.{word_length}
+use Rattle.cox_base.specs.Bruhat.{IsBelow}
+use Rattle.cox_context.specs.Members.{IsElement}
+
+-- an element x with y ≤ x ≤ w
+pub record IsBetween (A : IntegerMatrix) (y w word : List ℕ) : Type 0 where
+  pub element : IsElement A word
+  pub above : IsBelow A y word
+  pub below : IsBelow A word w
+
+-- an element x < w with l(x) = l(w) - 1
+pub record IsCoatom (A : IntegerMatrix) (w word : List ℕ) : Type 0 where
+  pub element : IsElement A word
+  pub below : IsBelow A word w
+  pub letters : length word + 1 ≡ word_length A w
+
+-- how many words of a list have k letters
+abbrev pub count_of_length : List (List ℕ) → ℕ → ℕ
+count_of_length words k = length (filter (λ word. length word == k) words)
+
+-- the same for k = 0 to n
+abbrev pub counts_by_length : List (List ℕ) → ℕ → List ℤ
+counts_by_length words n = map (λ k. pos (count_of_length words k)) (range_with_len 0 (n + 1))
