@@ -4,3 +4,5 @@ pub mod DefaultValue
 pub mod Numbers
 -- what the words give where one option is named
 pub mod OneNumber
+-- words that are taken give a context within its range
+pub mod Taken

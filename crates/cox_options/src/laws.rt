@@ -1,5 +1,5 @@
 //! What the command's definition gives.
-ghost use Rattle.std.specs.Prelude.{◌≡◌, ◌≢◌, ◌∷◌, ◌++◌, [], ℕ, List, Some, codes, not, slice_index};
+ghost use Rattle.std.specs.Prelude.{◌≡◌, ◌≢◌, ◌≤◌, ◌∷◌, ◌++◌, [], ℕ, List, Some, IsSomeAnd, codes, not, slice_index};
 ghost use Rattle.clap.specs.ValueTests.{is_unsigned_in};
 ghost use Rattle.cox_options.specs.Words.{IsTaken, is_refused, number_of, given_number};
 
@@ -21,4 +21,9 @@ pub fn next_number_is_context()
         → is_refused (name ∷ codes "--context" ∷ text ∷ []) ≡ not (is_unsigned_in 1 65536 text) }
     ensures context { (name text : List ℕ) → slice_index text 0 ≢ 45
         → given_number (codes "context") (name ∷ codes "--context" ∷ text ∷ []) ≡ Some (number_of text) }
+{}
+
+/// Words that are taken give a context within its range, whether they name it or not.
+pub fn taken_words_give_a_context()
+    ensures { (words : List (List ℕ)) → IsTaken words → IsSomeAnd (given_number (codes "context") words) (λ n. (1 ≤ n) × (n ≤ 65536)) }
 {}

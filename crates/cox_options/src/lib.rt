@@ -10,7 +10,7 @@
 //! - `options`: the options as values, each within its range
 //! - `definition`: the command as `clap` is told it
 //! - `reading`: words, and the options that they give
-//! - `laws`: a program's name alone gives the defaults
+//! - `laws`: what the definition gives: defaults, numbers that are named, and always a context within its range
 #![tactic(auto)]
 
 mod definition;
