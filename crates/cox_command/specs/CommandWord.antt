@@ -1,8 +1,8 @@
 -- The table of command words, which are read exactly.
 use Rattle.std.specs.Prelude.{ℕ, if◌then◌else◌, List, Option, None, Some, codes}
 use Rattle.std.specs.Str.{bytes_eq}
-use Rattle.cox_command.specs.declared.command.OneWord.TheVariants.{Compute, Length, Inverse, Descent}
-use Rattle.cox_command.specs.declared.command.TwoWord.TheVariants.{Inorder, Rpol}
+use Rattle.cox_command.specs.declared.command.OneWord.TheVariants.{Compute, Length, Inverse, Descent, Coatoms, Betti}
+use Rattle.cox_command.specs.declared.command.TwoWord.TheVariants.{Inorder, Interval, Rpol}
 use Rattle.cox_command.specs.declared.command_word.CommandWord.{CommandWord}
 use Rattle.cox_command.specs.declared.command_word.CommandWord.TheVariants.{Named, Matrix, Quit, One, Two}
 
@@ -15,6 +15,9 @@ command_word_of token = if bytes_eq token (codes "type") then Some Named
     else if bytes_eq token (codes "length") then Some (One Length)
     else if bytes_eq token (codes "inverse") then Some (One Inverse)
     else if bytes_eq token (codes "descent") then Some (One Descent)
+    else if bytes_eq token (codes "coatoms") then Some (One Coatoms)
+    else if bytes_eq token (codes "betti") then Some (One Betti)
     else if bytes_eq token (codes "inorder") then Some (Two Inorder)
+    else if bytes_eq token (codes "interval") then Some (Two Interval)
     else if bytes_eq token (codes "rpol") then Some (Two Rpol)
     else None

@@ -29,6 +29,10 @@ pub enum OneWord {
     Inverse,
     /// Its left and right descents.
     Descent,
+    /// The elements that it covers in Bruhat order.
+    Coatoms,
+    /// How many elements of each length are below it.
+    Betti,
 }
 
 /// The commands with two words.
@@ -36,6 +40,8 @@ pub enum OneWord {
 pub enum TwoWord {
     /// Whether the first is below the second in Bruhat order.
     Inorder,
+    /// The elements between them in Bruhat order.
+    Interval,
     /// Their R-polynomial.
     Rpol,
 }

@@ -37,8 +37,14 @@ pub fn command_word(token: &[u8]) -> Option<CommandWord>
         Some(CommandWord::One(OneWord::Inverse))
     } else if token == b"descent".as_slice() {
         Some(CommandWord::One(OneWord::Descent))
+    } else if token == b"coatoms".as_slice() {
+        Some(CommandWord::One(OneWord::Coatoms))
+    } else if token == b"betti".as_slice() {
+        Some(CommandWord::One(OneWord::Betti))
     } else if token == b"inorder".as_slice() {
         Some(CommandWord::Two(TwoWord::Inorder))
+    } else if token == b"interval".as_slice() {
+        Some(CommandWord::Two(TwoWord::Interval))
     } else if token == b"rpol".as_slice() {
         Some(CommandWord::Two(TwoWord::Rpol))
     } else {

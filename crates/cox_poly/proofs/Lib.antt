@@ -1,4 +1,4 @@
-pub mod Appending
+pub mod Behind
 pub mod Coefficients
 pub mod Measured
 pub mod Norms

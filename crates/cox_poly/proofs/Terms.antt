@@ -1,14 +1,15 @@
 -- The text of a polynomial, written term by term.
-use Rattle.std.proofs.Common.{◌≡◌, ◌≢◌, ℕ, zero, suc, ◌+◌, ◌<◌, Bool, true, false, not, List, [], ◌∷◌, ◌++◌, length, drop, filter, flat_map, refl, sym, append_assoc, append-nil, add-one, arith}
+use Rattle.std.proofs.Common.{◌≡◌, ◌≢◌, ℕ, zero, suc, ◌+◌, ◌<◌, ◌≤◌, Bool, true, false, not, List, ◌∷◌, ◌++◌, length, drop, filter, flat_map, codes, refl, append_assoc, add-one, arith}
 use Rattle.std.proofs.Common.{ℤ, pos, negsuc}
 use Rattle.std.specs.Ordering.{int_eq}
 use Rattle.std.specs.List.{enumerate_from}
-use Rattle.std.proofs.Math.Seq.{drop-cons, drop-length}
+use Rattle.std.proofs.Math.Seq.{drop-cons}
+use Rattle.std.proofs.lemmas.List.{drop_all}
 use Rattle.std.proofs.lemmas.Bool.Decides.{nat_tests}
 use Rattle.cox_poly.specs.Polynomial.{coefficient}
-use Rattle.cox_poly.specs.Appending.{ExtendsByFront}
+use Rattle.cox_poly.specs.Puts.{PutsFront}
 use Rattle.cox_poly.specs.Text.{next_term_text, listed_term_text, terms_text}
-use Rattle.cox_poly.proofs.Appending.{ExtendsByFront-same, ExtendsByFront-before, ExtendsByFront-after}
+use Rattle.cox_poly.proofs.Behind.{PutsFront-first, PutsFront-second, append-second}
 
 -- the terms from degree k on
 abbrev pub terms_from : ℕ → List ℤ → List (ℕ × ℤ)
@@ -19,36 +20,26 @@ abbrev pub rest_text : Bool → List (ℕ × ℤ) → List ℕ
 rest_text true ts = terms_text ts
 rest_text false ts = flat_map next_term_text ts
 
--- out is old with the text but for its rest
+-- a front of the text was put behind what was there: all but this rest
 pub record Written (old out text rest : List ℕ) : Type 0 where
-  pub done : List ℕ
-  pub out_is : out ≡ old ++ done
-  pub text_is : text ≡ done ++ rest
+  pub front : List ℕ
+  pub parts : text ≡ front ++ rest
+  pub behind : out ≡ old ++ front
 
-pub Written-none : (old text : List ℕ) → Written old old text text
-Written-none old text = record { done = []; out_is = sym (append-nil old); text_is = refl }
+-- and then a front of the next piece
+pub Written-front : {old out text rest : List ℕ} (new piece rest' : List ℕ)
+    → Written old out text rest → PutsFront piece out new → rest ≡ piece ++ rest' → PutsFront text old new
+Written-front {old} {out} new piece rest' w put split =
+    rw (w.parts, split) (PutsFront-second w.front (piece ++ rest') old out new w.behind (PutsFront-first piece rest' out new put))
 
--- the next piece of the rest
-pub Written-more : {old out text rest : List ℕ} (out' piece rest' : List ℕ) → Written old out text rest → out' ≡ out ++ piece → rest ≡ piece ++ rest' → Written old out' text rest'
-Written-more {old} out' piece rest' w e split = record {
-  done = w.done ++ piece;
-  out_is = let f = w.out_is in let g = append_assoc old w.done piece in cc;
-  text_is = let f = w.text_is in let g = append_assoc w.done piece rest' in cc;
+-- and then the next piece
+pub Written-more : {old out text rest : List ℕ} (new piece rest' : List ℕ)
+    → Written old out text rest → new ≡ out ++ piece → rest ≡ piece ++ rest' → Written old new text rest'
+Written-more {old} {out} new piece rest' w put split = record {
+  front = w.front ++ piece;
+  parts = let e = w.parts in let f = append_assoc w.front piece rest' in cc;
+  behind = append-second w.front piece old out new w.behind put;
 }
-
--- a front of the next piece
-pub Written-front : {old out text rest : List ℕ} (out' piece rest' : List ℕ) → Written old out text rest → ExtendsByFront out out' piece → rest ≡ piece ++ rest' → ExtendsByFront old out' text
-Written-front {old} {out} out' piece rest' w front split =
-    rw (w.text_is, split) (ExtendsByFront-after old out out' w.done (piece ++ rest') w.out_is (ExtendsByFront-before out out' piece rest' front))
-
--- what is written so far is a front
-pub Written-so_far : {old out text rest : List ℕ} (new : List ℕ) → Written old out text rest → new ≡ out → ExtendsByFront old new text
-Written-so_far {old} {out} {text} {rest} new w same =
-    rw w.text_is (ExtendsByFront-after old out new w.done rest w.out_is (ExtendsByFront-same out new rest same))
-
--- all of it
-pub Written-all : {old out text : List ℕ} → Written old out text [] → out ≡ old ++ text
-Written-all w = let f = w.out_is in let g = w.text_is in let h = append-nil w.done in cc
 
 -- the coefficients from k on are the one at k and those from k + 1 on
 drop-step : (p : List ℤ) (k : ℕ) → k < length p → drop k p ≡ coefficient p k ∷ drop (k + 1) p
@@ -58,7 +49,8 @@ drop-step p k h = rw add-one (drop-cons p k (pos 0) h)
 terms_from-skip : (p : List ℤ) (k : ℕ) → k < length p → coefficient p k ≡ pos 0 → terms_from k (drop k p) ≡ terms_from (k + 1) (drop (k + 1) p)
 terms_from-skip p k h e = rw (drop-step p k h, e) refl
 
-pub Written-zero : {old out text : List ℕ} (p : List ℤ) (k : ℕ) (first : Bool) → k < length p → coefficient p k ≡ pos 0 → Written old out text (rest_text first (terms_from k (drop k p))) → Written old out text (rest_text first (terms_from (k + 1) (drop (k + 1) p)))
+pub Written-zero : {old out text : List ℕ} (p : List ℤ) (k : ℕ) (first : Bool) → k < length p → coefficient p k ≡ pos 0
+    → Written old out text (rest_text first (terms_from k (drop k p))) → Written old out text (rest_text first (terms_from (k + 1) (drop (k + 1) p)))
 Written-zero p k first h e w = rw (terms_from-skip p k h e) at w
 
 int_eq-zero : (c : ℤ) → c ≢ pos 0 → int_eq c (pos 0) ≡ false
@@ -71,9 +63,11 @@ rest_text-cons true t ts = refl
 rest_text-cons false t ts = refl
 
 -- another one has
-pub rest_text-term : (p : List ℤ) (k : ℕ) (first : Bool) → k < length p → coefficient p k ≢ pos 0 → rest_text first (terms_from k (drop k p)) ≡ listed_term_text first (k, coefficient p k) ++ rest_text false (terms_from (k + 1) (drop (k + 1) p))
-rest_text-term p k first h e = rw (drop-step p k h, int_eq-zero (coefficient p k) e) (rest_text-cons first (k, coefficient p k) (terms_from (k + 1) (drop (k + 1) p)))
+pub rest_text-term : (p : List ℤ) (k : ℕ) (first : Bool) → k < length p → coefficient p k ≢ pos 0
+    → rest_text first (terms_from k (drop k p)) ≡ listed_term_text first (k, coefficient p k) ++ rest_text false (terms_from (k + 1) (drop (k + 1) p))
+rest_text-term p k first h e =
+    rw (drop-step p k h, int_eq-zero (coefficient p k) e) (rest_text-cons first (k, coefficient p k) (terms_from (k + 1) (drop (k + 1) p)))
 
--- no term is left at the end
-pub rest_text-end : (p : List ℤ) (first : Bool) → rest_text first (terms_from (length p) (drop (length p) p)) ≡ rest_text first []
-rest_text-end p first = rw (drop-length p) refl
+-- the text where there is no term
+pub rest_text-zero : (p : List ℤ) (k : ℕ) (first : Bool) → first ≡ true → length p ≤ k → rest_text first (terms_from k (drop k p)) ≡ codes "0"
+rest_text-zero p k first none past = rw (none, drop_all k p past) refl

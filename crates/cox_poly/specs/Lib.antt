@@ -1,6 +1,5 @@
-pub mod Appending
 pub mod Coefficients
 pub mod Polynomial
 pub mod Fault
-pub mod Decimal
+pub mod Puts
 pub mod Text

@@ -1,8 +1,8 @@
 -- The text of a polynomial in q, as ASCII codes.
 use Rattle.std.specs.Prelude.{ℕ, pos, negsuc, ℤ, List, [], ◌∷◌, ◌++◌, filter, flat_map, codes, decimal, if◌then◌else◌, ◌==◌, Bool, not, int_lt}
+use Rattle.std.specs.Fmt.{signed_decimal}
 use Rattle.std.specs.Ordering.{int_eq}
 use Rattle.std.specs.List.{enumerate_from}
-use Rattle.cox_poly.specs.Decimal.{decimal_text}
 
 -- the power of q at a degree: none at 0, `q` at 1, `q^k` above
 abbrev pub power_text : ℕ → List ℕ
@@ -11,8 +11,8 @@ power_text k = if k == 0 then [] else (if k == 1 then codes "q" else codes "q^" 
 -- what stands before the power: the number c, but nothing for 1 and `-` for -1 where there is a power
 abbrev pub factor_text : ℕ → ℤ → List ℕ
 factor_text k c =
-    if k == 0 then decimal_text c
-    else (if int_eq c (pos 1) then [] else (if int_eq c (negsuc 0) then codes "-" else decimal_text c))
+    if k == 0 then signed_decimal c
+    else (if int_eq c (pos 1) then [] else (if int_eq c (negsuc 0) then codes "-" else signed_decimal c))
 
 -- the term c q^k, of a degree k and its coefficient c
 abbrev pub term_text : ℕ × ℤ → List ℕ

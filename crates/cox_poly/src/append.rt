@@ -1,23 +1,21 @@
-//! Bytes and integers, appended to what is written so far.
-ghost use Rattle.std.specs.Prelude.{◌≡◌, ◌++◌, OnOk, OnErr};
-ghost use Rattle.cox_poly.specs.Decimal.{decimal_text};
+//! Bytes and whole numbers, appended to what is written so far.
+ghost use Rattle.std.specs.Fmt.{signed_decimal};
+ghost use Rattle.cox_poly.specs.Puts.{Puts};
 
 use crate::NoMemory;
 use itoa::Buffer;
 
-/// Appends the bytes, or on want of memory none of them.
-pub fn put_bytes(out: &mut Vec<u8>, bytes: &[u8]) -> Result<(), NoMemory>
-    ensures ok { OnOk result (out.new.items ≡ out.old.items ++ bytes.now) }
-    ensures err { OnErr result (out.new.items ≡ out.old.items) }
+/// Appends these bytes.
+pub fn put_text(out: &mut Vec<u8>, text: &[u8]) -> Result<(), NoMemory>
+    ensures { Puts result text.now out.old.items out.new.items }
 {
-    out.extend_from_slice(bytes)
+    out.extend_from_slice(text)?;
+    Ok(())
 }
 
-/// Appends the integer in decimal, or on want of memory nothing.
+/// Appends a whole number in decimal, with `-` before a negative one.
 pub fn put_number(out: &mut Vec<u8>, n: i128) -> Result<(), NoMemory>
-    ensures ok { OnOk result (out.new.items ≡ out.old.items ++ decimal_text n) }
-    ensures err { OnErr result (out.new.items ≡ out.old.items) }
+    ensures { Puts result (signed_decimal n) out.old.items out.new.items }
 {
-    let mut digits = Buffer::new();
-    put_bytes(out, digits.format(n).as_bytes())
+    put_text(out, Buffer::new().format(n).as_bytes())
 }

@@ -1,6 +1,6 @@
-ghost use Rattle.std.specs.Prelude.{◌≡◌, ◌≢◌, ◌↔◌, ℕ, ◌+◌, ◌-◌, ◌^◌, ◌<◌, ◌≤◌, length, ◌++◌, [], ◌∷◌, pos, IfOk, IfSome, IsNone, OnOk, OnErr, unsigned_abs};
+ghost use Rattle.std.specs.Prelude.{◌≡◌, ◌≢◌, ◌↔◌, ℕ, ◌+◌, ◌-◌, ◌^◌, ◌<◌, ◌≤◌, length, [], ◌∷◌, pos, IfOk, IfSome, IsNone, unsigned_abs};
 ghost use Rattle.cox_poly.specs.Polynomial.{coefficient, IsPolynomial, IsStorable, SameCoefficients, HasSmallCoefficients, IsDegree, IsTrimmedLength};
-ghost use Rattle.cox_poly.specs.Appending.{ExtendsByFront};
+ghost use Rattle.cox_poly.specs.Puts.{Puts};
 ghost use Rattle.cox_poly.specs.Text.{polynomial_text};
 
 use crate::NoMemory;
@@ -132,8 +132,7 @@ impl Poly {
     /// Appends the text: the terms by rising degree, as in `1+2q+q^2`, `-1+q` and `-2q^3`, and `0`
     /// for the zero polynomial.
     pub fn put_text(&self, out: &mut Vec<u8>) -> Result<(), NoMemory>
-        ensures ok { OnOk result (out.new.items ≡ out.old.items ++ polynomial_text self.now) }
-        ensures err { OnErr result (ExtendsByFront out.old.items out.new.items (polynomial_text self.now)) }
+        ensures { Puts result (polynomial_text self.now) out.old.items out.new.items }
     {
         put_polynomial(out, &self.coefficients)
     }

@@ -1,12 +1,12 @@
 //! Elements and sets of letters.
 ghost use Rattle.std.specs.Prelude.{◌≤◌, map};
 ghost use Rattle.cox_base.specs.Matrix.{IsWord};
-ghost use Rattle.cox_print.specs.Puts.{Puts};
+ghost use Rattle.cox_poly.specs.Puts.{Puts};
 ghost use Rattle.cox_print.specs.Text.{letter_digit, element_text, set_text};
 
 use crate::NoMemory;
-use crate::putting::put_text;
 use cox_base::Word;
+use cox_poly::append::put_text;
 
 /// Appends an element: `e` for the empty word, else its letters. `rank` is that of the group.
 pub fn put_element(out: &mut Vec<u8>, rank: u32, w: &Word) -> Result<(), NoMemory>

@@ -1,8 +1,9 @@
 //! The texts of answers. Each call appends one text to a vector of bytes; for want of memory it appends a front of that text, which may be empty.
 //!
-//! The texts are definitions in `specs/Text.antt`; `Puts` in `specs/Puts.antt` says how one is put behind others. It stands on `itoa` for digits.
+//! The texts are definitions in `specs/Text.antt`; `Puts` in `specs/Puts.antt` of `cox_poly` says how one is put behind others.
+//! It stands on `cox_poly` for bytes and numbers, whose calls it hands on, and on `cox_base` for words.
 //!
-//! - `putting`: bytes and numbers
+//! - `putting`: lists of numbers, and the end of a line
 //! - `element`: elements and sets of letters
 //! - `line`: whole lines, without their ends
 #![tactic(auto)]
@@ -13,9 +14,8 @@ mod putting;
 #[cfg(test)]
 mod tests;
 
+pub use cox_poly::NoMemory;
+pub use cox_poly::append::{put_number, put_text};
 pub use element::{put_element, put_set};
 pub use line::{put_descent, put_refusal, put_truth};
-pub use putting::{put_end, put_number, put_text};
-
-/// The allocator had no memory left.
-pub type NoMemory = std::alloc::AllocError;
+pub use putting::{put_end, put_numbers};

@@ -1,13 +1,13 @@
 //! Whole lines, without their ends.
 ghost use Rattle.std.specs.Prelude.{◌≤◌};
 ghost use Rattle.cox_base.specs.Matrix.{IsWord};
-ghost use Rattle.cox_print.specs.Puts.{Puts};
+ghost use Rattle.cox_poly.specs.Puts.{Puts};
 ghost use Rattle.cox_print.specs.Text.{descent_text, truth_text, refusal_text};
 
 use crate::NoMemory;
 use crate::element::put_set;
-use crate::putting::{put_number, put_text};
 use cox_base::Word;
+use cox_poly::append::{put_number, put_text};
 
 /// Appends `L `, the left descents, ` R ` and the right descents.
 pub fn put_descent(out: &mut Vec<u8>, rank: u32, left: &Word, right: &Word) -> Result<(), NoMemory>

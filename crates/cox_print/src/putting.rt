@@ -1,24 +1,32 @@
-//! Bytes and numbers.
-ghost use Rattle.std.specs.Prelude.{[], ◌∷◌};
+//! Lists of numbers, and the end of a line.
+ghost use Rattle.std.specs.Prelude.{[], ◌∷◌, ◌++◌, codes};
 ghost use Rattle.std.specs.Fmt.{signed_decimal};
-ghost use Rattle.cox_print.specs.Puts.{Puts};
+ghost use Rattle.cox_poly.specs.Puts.{Puts};
+ghost use Rattle.cox_print.specs.Text.{numbers_text};
 
 use crate::NoMemory;
-use itoa::Buffer;
+use cox_poly::append::{put_number, put_text};
 
-/// Appends these bytes.
-pub fn put_text(out: &mut Vec<u8>, text: &[u8]) -> Result<(), NoMemory>
-    ensures { Puts result text.now out.old.items out.new.items }
+/// Appends whole numbers, parted by one space.
+pub fn put_numbers(out: &mut Vec<u8>, list: &[i128]) -> Result<(), NoMemory>
+    ensures { Puts result (numbers_text list.now) out.old.items out.new.items }
 {
-    out.extend_from_slice(text)?;
+    let Some((&first, others)) = list.split_first() else {
+        return Ok(());
+    };
+    put_number(out, first)?;
+    for &n in others {
+        put_next_number(out, n)?;
+    }
     Ok(())
 }
 
-/// Appends a whole number in decimal, with `-` before a negative one.
-pub fn put_number(out: &mut Vec<u8>, n: i128) -> Result<(), NoMemory>
-    ensures { Puts result (signed_decimal n) out.old.items out.new.items }
+/// Appends a space and a number.
+fn put_next_number(out: &mut Vec<u8>, n: i128) -> Result<(), NoMemory>
+    ensures { Puts result (codes " " ++ signed_decimal n) out.old.items out.new.items }
 {
-    put_text(out, Buffer::new().format(n).as_bytes())
+    put_text(out, b" ")?;
+    put_number(out, n)
 }
 
 /// Appends the end of a line: LF.

@@ -40,3 +40,15 @@ fn puts_numbers_and_words(rt: HostRuntime) -> Result<(), Fail> {
     assert_eq!(rt; out.as_slice(), want.as_slice());
     Ok(())
 }
+
+#[test]
+fn puts_lists_of_numbers(rt: HostRuntime) -> Result<(), Fail> {
+    let mut out = Vec::new(rt.alloc());
+    let lists: [&[i128]; 4] = [&[1, 3, 5, 6, 5, 3, 1], &[], &[-2], &[0, -10]];
+    for list in lists {
+        put_numbers(&mut out, list)?;
+        put_end(&mut out)?;
+    }
+    assert_eq!(rt; out.as_slice(), b"1 3 5 6 5 3 1\n\n-2\n0 -10\n".as_slice());
+    Ok(())
+}

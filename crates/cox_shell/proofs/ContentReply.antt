@@ -1,22 +1,32 @@
 -- The reply to a line by its content.
-use Rattle.std.proofs.Common.{refl, inl, inr, ◌≡◌, ℕ, ◌↔◌, ◌||◌, Bool, true, false, IsTrue, List, Option, Some, None, MatchOption, sym, ap, ◌∙◌}
-use Rattle.std.specs.Bool.{MatchBool}
+use Rattle.std.proofs.Common.{refl, inl, inr, ◌≡◌, ℕ, ◌↔◌, ◌||◌, Bool, true, false, IsTrue, List, Option, Some, None, IsSomeAnd, MatchOption, sym, ap, ◌∙◌}
 use Rattle.cox_command.specs.declared.command.OneWord.{OneWord}
-use Rattle.cox_command.specs.declared.command.OneWord.TheVariants.{Compute, Length, Inverse, Descent}
+use Rattle.cox_command.specs.declared.command.OneWord.TheVariants.{Compute, Length, Inverse, Descent, Coatoms, Betti}
 use Rattle.cox_command.specs.declared.command.TwoWord.{TwoWord}
-use Rattle.cox_command.specs.declared.command.TwoWord.TheVariants.{Inorder, Rpol}
+use Rattle.cox_command.specs.declared.command.TwoWord.TheVariants.{Inorder, Interval, Rpol}
 use Rattle.cox_command.specs.declared.command.Command.{Command}
 use Rattle.cox_command.specs.declared.command.Command.TheVariants.{Nothing, Quit, Group, One, Two}
 use Rattle.cox_command.specs.Tokens.{tokens_of}
 use Rattle.cox_command.specs.Refusal.{line_refusal}
 use Rattle.cox_command.specs.Reading.{IsGiven, SameCommand}
 use Rattle.cox_command.proofs.OneCommand.{IsGiven-unique}
+use Rattle.cox_base.specs.Matrix.{CoxeterMatrix}
 use Rattle.cox_base.specs.IntegerMatrix.{IntegerMatrix, integer_matrix}
+use Rattle.cox_base.specs.Length.{word_length}
 use Rattle.cox_base.specs.Bruhat.{IsBelow}
-use Rattle.cox_print.specs.Text.{truth_text}
-use Rattle.cox_shell.specs.Reply.{State, Reply, rank_of, refusal, silence, answered}
-use Rattle.cox_shell.specs.CommandReply.{is_over_limit, RefusesTwo, IsDecidedReply, IsOneText, IsTwoText, IsTextReply, IsOneReply, IsTwoReply, IsCommandReply}
+use Rattle.cox_context.specs.Members.{IsInInterval}
+use Rattle.cox_context.specs.SortedList.{IsListOf}
+use Rattle.cox_context.specs.Interval.{IsBetween, IsCoatom, counts_by_length}
+use Rattle.cox_context.proofs.SortedLemmas.{IsListOf-unique}
+use Rattle.cox_print.specs.Text.{truth_text, numbers_text}
+use Rattle.cox_shell.specs.Reply.{Limits, State, Reply, rank_of, with_group, refusal, silence, answered}
+use Rattle.cox_shell.specs.CommandReply.{elements_text, RefusesOne, RefusesTwo, is_over_limit, IsDecidedReply, IsWordReply, IsOneText, IsTwoText, IsOneReply, IsTwoReply, IsCommandReply}
 use Rattle.cox_shell.specs.ContentReply.{IsContentReply}
+
+-- the words with a property give one text
+listed-unique : (P : List ℕ → Type 0) (text_of : List (List ℕ) → List ℕ) (a b : List ℕ)
+    → (words : List (List ℕ)) × IsListOf P words × (a ≡ text_of words) → (words : List (List ℕ)) × IsListOf P words × (b ≡ text_of words) → a ≡ b
+listed-unique P text_of a b p q = p.2 ∙ ap text_of (IsListOf-unique P p.0 q.0 p.1 q.1) ∙ sym q.2
 
 -- a command with one word answers one text
 IsOneText-unique : (kind : OneWord) (A : IntegerMatrix) (w a b : List ℕ) → IsOneText kind A w a → IsOneText kind A w b → a ≡ b
@@ -24,6 +34,8 @@ IsOneText-unique Compute A w a b p q = p ∙ sym q
 IsOneText-unique Length A w a b p q = p ∙ sym q
 IsOneText-unique Inverse A w a b p q = p ∙ sym q
 IsOneText-unique Descent A w a b p q = p ∙ sym q
+IsOneText-unique Coatoms A w a b p q = listed-unique (IsCoatom A w) elements_text a b p q
+IsOneText-unique Betti A w a b p q = listed-unique (IsInInterval A w) (λ members. numbers_text (counts_by_length members (word_length A w))) a b p q
 
 -- the truth of a fact is one
 truth-unique : (P : Type 0) (b d : Bool) → (IsTrue b ↔ P) → (IsTrue d ↔ P) → b ≡ d
@@ -34,55 +46,63 @@ truth-unique P false false p q = refl
 
 -- a command with two words answers one text
 IsTwoText-unique : (kind : TwoWord) (A : IntegerMatrix) (y w a b : List ℕ) → IsTwoText kind A y w a → IsTwoText kind A y w b → a ≡ b
-IsTwoText-unique Rpol A y w a b p q = p ∙ sym q
 IsTwoText-unique Inorder A y w a b p q = p.2 ∙ ap truth_text (truth-unique (IsBelow A y w) p.0 q.0 p.1 q.1) ∙ sym q.2
-
--- a line of text is one
-IsTextReply-unique : (is_over : Bool) (state : State) (IsText : List ℕ → Type 0) → ((a b : List ℕ) → IsText a → IsText b → a ≡ b)
-    → (one other : Reply) → IsTextReply is_over state IsText one → IsTextReply is_over state IsText other → one ≡ other
-IsTextReply-unique true state IsText one_text one other p q = p ∙ sym q
-IsTextReply-unique false state IsText one_text one other p q = p.2 ∙ ap (answered state) (one_text p.0 q.0 p.1 q.1) ∙ sym q.2
+IsTwoText-unique Interval A y w a b p q = listed-unique (IsBetween A y w) elements_text a b p q
+IsTwoText-unique Rpol A y w a b p q = p ∙ sym q
 
 -- a command is refused by one number
-RefusesTwo-unique : (kind : TwoWord) (A : IntegerMatrix) (y w : List ℕ) (m n : ℕ) → RefusesTwo kind A y w m → RefusesTwo kind A y w n → m ≡ n
-RefusesTwo-unique Inorder A y w m n p q = absurd p
-RefusesTwo-unique Rpol A y w m n p q = p.0 ∙ sym q.0
+RefusesOne-unique : (kind : OneWord) (limits : Limits) (A : IntegerMatrix) (w : List ℕ) (m n : ℕ)
+    → RefusesOne kind limits A w m → RefusesOne kind limits A w n → m ≡ n
+RefusesOne-unique Coatoms limits A w m n p q = p.0 ∙ sym q.0
+RefusesOne-unique Betti limits A w m n p q = p.0 ∙ sym q.0
+RefusesOne-unique _ limits A w m n p q = absurd p
 
--- a reply that may be a refusal is one
-IsDecidedReply-unique : (state : State) (Refuses : ℕ → Type 0) (IsText : List ℕ → Type 0) → ((m n : ℕ) → Refuses m → Refuses n → m ≡ n)
-    → ((a b : List ℕ) → IsText a → IsText b → a ≡ b) → (one other : Reply) → IsDecidedReply state Refuses IsText one → IsDecidedReply state Refuses IsText other
-    → one ≡ other
-IsDecidedReply-unique state Refuses IsText one_number one_text one other (inl p) (inl q) = p.2 ∙ ap (refusal state) (one_number p.0 q.0 p.1 q.1) ∙ sym q.2
-IsDecidedReply-unique state Refuses IsText one_number one_text one other (inl p) (inr q) = absurd (q.0 p.0 p.1)
-IsDecidedReply-unique state Refuses IsText one_number one_text one other (inr p) (inl q) = absurd (p.0 q.0 q.1)
-IsDecidedReply-unique state Refuses IsText one_number one_text one other (inr p) (inr q) = p.3 ∙ ap (answered state) (one_text p.1 q.1 p.2 q.2) ∙ sym q.3
+RefusesTwo-unique : (kind : TwoWord) (limits : Limits) (A : IntegerMatrix) (y w : List ℕ) (m n : ℕ)
+    → RefusesTwo kind limits A y w m → RefusesTwo kind limits A y w n → m ≡ n
+RefusesTwo-unique Inorder limits A y w m n p q = absurd p
+RefusesTwo-unique Interval limits A y w m n p q = p.0 ∙ sym q.0
+RefusesTwo-unique Rpol limits A y w m n p q = p.0 ∙ sym q.0
 
--- where both may come, by a test
-by_test : (b : Bool) (P Q : Reply → Type 0) → ((one other : Reply) → P one → P other → one ≡ other) → ((one other : Reply) → Q one → Q other → one ≡ other)
-    → (one other : Reply) → MatchBool b (P one) (Q one) → MatchBool b (P other) (Q other) → one ≡ other
-by_test true P Q one_p one_q one other p q = one_p one other p q
-by_test false P Q one_p one_q one other p q = one_q one other p q
+-- a reply that may be a refusal is one, where its number and its text are
+module _ (state : State) (Refuses : ℕ → Type 0) (IsText : List ℕ → Type 0) (one_number : (m n : ℕ) → Refuses m → Refuses n → m ≡ n)
+    (one_text : (a b : List ℕ) → IsText a → IsText b → a ≡ b) where
+  IsDecidedReply-unique : (one other : Reply) → IsDecidedReply state Refuses IsText one → IsDecidedReply state Refuses IsText other → one ≡ other
+  IsDecidedReply-unique one other (inl p) (inl q) = p.2 ∙ ap (refusal state) (one_number p.0 q.0 p.1 q.1) ∙ sym q.2
+  IsDecidedReply-unique one other (inl p) (inr q) = absurd (q.0 p.0 p.1)
+  IsDecidedReply-unique one other (inr p) (inl q) = absurd (p.0 q.0 q.1)
+  IsDecidedReply-unique one other (inr p) (inr q) = p.3 ∙ ap (answered state) (one_text p.1 q.1 p.2 q.2) ∙ sym q.3
+
+  IsWordReply-unique : (is_over : Bool) (one other : Reply) → IsWordReply is_over state Refuses IsText one
+      → IsWordReply is_over state Refuses IsText other → one ≡ other
+  IsWordReply-unique true one other p q = p ∙ sym q
+  IsWordReply-unique false one other p q = IsDecidedReply-unique one other p q
+
+-- where a group is set
+by_group : (group : Option CoxeterMatrix) (Is : CoxeterMatrix → Reply → Type 0)
+    → ((g : CoxeterMatrix) (one other : Reply) → Is g one → Is g other → one ≡ other) → (one other : Reply)
+    → IsSomeAnd group (λ g. Is g one) → IsSomeAnd group (λ g. Is g other) → one ≡ other
+by_group None Is unique one other p q = absurd p
+by_group (Some g) Is unique one other p q = unique g one other p q
 
 -- the replies to commands with words
-IsOneReply-unique : (kind : OneWord) (w : List ℕ) (state : State) (one other : Reply) → IsOneReply kind w state one → IsOneReply kind w state other → one ≡ other
-IsOneReply-unique kind w None one other p q = absurd p
-IsOneReply-unique kind w (Some g) one other p q =
-    IsTextReply-unique (is_over_limit w) (Some g) (λ text. IsOneText kind (integer_matrix g) w text) (IsOneText-unique kind (integer_matrix g) w) one other p q
+IsOneReply-unique : (kind : OneWord) (w : List ℕ) (state : State) (one other : Reply) → IsOneReply kind w state one
+    → IsOneReply kind w state other → one ≡ other
+IsOneReply-unique kind w state = by_group state.group _ (λ g. IsWordReply-unique state (RefusesOne kind state.limits (integer_matrix g) w)
+    (IsOneText kind (integer_matrix g) w) (RefusesOne-unique kind state.limits (integer_matrix g) w) (IsOneText-unique kind (integer_matrix g) w)
+    (is_over_limit w))
 
-IsTwoReply-unique : (kind : TwoWord) (y w : List ℕ) (state : State) (one other : Reply) → IsTwoReply kind y w state one → IsTwoReply kind y w state other → one ≡ other
-IsTwoReply-unique kind y w None one other p q = absurd p
-IsTwoReply-unique kind y w (Some g) one other p q =
-    let Refuses : ℕ → Type 0 = λ number. RefusesTwo kind (integer_matrix g) y w number in
-    let IsText : List ℕ → Type 0 = λ text. IsTwoText kind (integer_matrix g) y w text in
-    by_test (is_over_limit y || is_over_limit w) (λ reply. reply ≡ refusal (Some g) 33) (IsDecidedReply (Some g) Refuses IsText) (λ a b first second. first ∙ sym second)
-    (IsDecidedReply-unique (Some g) Refuses IsText (RefusesTwo-unique kind (integer_matrix g) y w) (IsTwoText-unique kind (integer_matrix g) y w)) one other p q
+IsTwoReply-unique : (kind : TwoWord) (y w : List ℕ) (state : State) (one other : Reply) → IsTwoReply kind y w state one
+    → IsTwoReply kind y w state other → one ≡ other
+IsTwoReply-unique kind y w state = by_group state.group _ (λ g. IsWordReply-unique state (RefusesTwo kind state.limits (integer_matrix g) y w)
+    (IsTwoText kind (integer_matrix g) y w) (RefusesTwo-unique kind state.limits (integer_matrix g) y w) (IsTwoText-unique kind (integer_matrix g) y w)
+    (is_over_limit y || is_over_limit w))
 
 -- the same command has one reply
 IsCommandReply-unique : (first second : Command) → SameCommand first second → (state : State) (one other : Reply)
     → IsCommandReply first state one → IsCommandReply second state other → one ≡ other
 IsCommandReply-unique Nothing Nothing same state one other p q = p ∙ sym q
 IsCommandReply-unique Quit Quit same state one other p q = p ∙ sym q
-IsCommandReply-unique (Group g) (Group h) same state one other p q = p ∙ ap (λ k. silence (Some k)) same ∙ sym q
+IsCommandReply-unique (Group g) (Group h) same state one other p q = p ∙ ap (λ k. silence (with_group state k)) same ∙ sym q
 IsCommandReply-unique (One kind w) (One other_kind v) same state one other p q =
     IsOneReply-unique kind w.items state one other p (rw (← same.0, ← same.1) at q)
 IsCommandReply-unique (Two kind y w) (Two other_kind x v) same state one other p q =
@@ -97,7 +117,8 @@ by_refusal None tokens state one other p q = IsCommandReply-unique p.0 q.0 (IsGi
 by_refusal (Some number) tokens state one other p q = p ∙ sym q
 
 -- a content has at most one reply
-pub IsContentReply-unique : (state : State) (content : List ℕ) (one other : Reply) → IsContentReply state content one → IsContentReply state content other → one ≡ other
+pub IsContentReply-unique : (state : State) (content : List ℕ) (one other : Reply) → IsContentReply state content one
+    → IsContentReply state content other → one ≡ other
 unfolding IsContentReply
 IsContentReply-unique state content one other p q = by_refusal (line_refusal content (rank_of state)) (tokens_of content) state one other p q
 

@@ -20,3 +20,19 @@ pub mod Sayings
 pub mod PolynomialTexts
 -- texts that are put unless a number refuses them
 pub mod Unless
+-- members by their numbers
+pub mod MemberLists
+-- the members above an element
+pub mod MembersAbove
+-- counts by length
+pub mod LengthCounts
+-- the text of a list of members
+pub mod MemberTexts
+-- the texts on Bruhat intervals
+pub mod IntervalTexts
+-- each line has a reply
+pub mod SomeReply
+-- the group that is set stays a Coxeter matrix
+pub mod KeptGroup
+-- each script has an answer
+pub mod SomeAnswer

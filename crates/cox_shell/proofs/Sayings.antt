@@ -1,22 +1,23 @@
 -- What is said to lines.
-use Rattle.std.proofs.Common.{◌≡◌, ℕ, ◌≤◌, false, List, length, Result, Ok, Err, IfOk, OnErr, Some, inl, inr, refl, sym, arith}
+use Rattle.std.proofs.Common.{◌≡◌, ℕ, ◌≤◌, false, List, [], ◌∷◌, length, Result, Ok, Err, IfOk, OnErr, Option, Some, IsSomeAnd, inl, inr, refl, sym, ◌∙◌, arith}
 use Rattle.std.proofs.lemmas.List.{append-nil}
 use Rattle.std.specs.declared.alloc.AllocError.{AllocError}
 use Rattle.cox_base.specs.Matrix.{CoxeterMatrix}
 use Rattle.cox_base.specs.IntegerMatrix.{integer_matrix}
 use Rattle.cox_command.specs.declared.command.OneWord.{OneWord}
 use Rattle.cox_command.specs.declared.command.TwoWord.{TwoWord}
+use Rattle.cox_poly.specs.Puts.{PutsFront}
+use Rattle.cox_shell.specs.declared.answers.unanswered.Unanswered.{Unanswered}
+use Rattle.cox_shell.specs.declared.answers.unanswered.Unanswered.TheVariants as unanswered
 use Rattle.cox_shell.specs.declared.session.Said.{Said}
 use Rattle.cox_shell.specs.declared.session.Said.TheVariants.{Answered, Quit}
 use Rattle.cox_shell.specs.Reply.{State, Reply, refusal, silence, farewell, answered}
-use Rattle.cox_shell.specs.CommandReply.{is_over_limit, IsAllowed, RefusesTwo, IsOneText, IsTwoText, IsOneReply, IsTwoReply}
-use Rattle.cox_shell.specs.ContentReply.{IsContentReply}
-use Rattle.cox_print.specs.Puts.{PutsFront}
-use Rattle.cox_shell.specs.Saying.{Says, SaysFront}
+use Rattle.cox_shell.specs.CommandReply.{is_over_limit, RefusesOne, RefusesTwo, IsOneText, IsTwoText, IsDecidedReply, IsOneReply, IsTwoReply}
+use Rattle.cox_shell.specs.Saying.{Says, SaysFront, PutsUnless, Concludes}
 
 -- nothing is said to a line that is answered nothing
-pub Says-silence : (state : State) (out : List ℕ) → Says Answered (silence state) state out out
-Says-silence state out = record { tells = (refl, refl); text = sym (append-nil out); state_after = refl }
+pub Says-silence : (state new : State) (out : List ℕ) → new ≡ state → Says Answered (silence state) new out out
+Says-silence state new out same = record { tells = (refl, refl); text = sym (append-nil out); state_after = same }
 
 pub Says-farewell : (state : State) (out : List ℕ) → Says Quit (farewell state) state out out
 Says-farewell state out = record { tells = (refl, refl); text = sym (append-nil out); state_after = refl }
@@ -25,57 +26,80 @@ Says-farewell state out = record { tells = (refl, refl); text = sym (append-nil 
 within : (word : List ℕ) → length word ≤ 63 → is_over_limit word ≡ false
 within word short = grind arith
 
+-- a fact of the group that is set
+of_group : (group : Option CoxeterMatrix) (g : CoxeterMatrix) (Is : CoxeterMatrix → Type 0) → group ≡ Some g → Is g → IsSomeAnd group Is
+of_group group g Is set is = rw set is
+
 -- the reply of a command with one word that is short enough
-pub IsOneReply-answered : (kind : OneWord) (w : List ℕ) (state : State) (g : CoxeterMatrix) (text : List ℕ) → state ≡ Some g → length w ≤ 63
-    → IsOneText kind (integer_matrix g) w text → IsOneReply kind w state (answered state text)
-IsOneReply-answered kind w state g text set short is = rw set (rw (within w short) (text, is, refl))
+pub IsOneReply-decided : (kind : OneWord) (w : List ℕ) (state : State) (g : CoxeterMatrix) (reply : Reply) → state.group ≡ Some g → length w ≤ 63
+    → IsDecidedReply state (RefusesOne kind state.limits (integer_matrix g) w) (IsOneText kind (integer_matrix g) w) reply → IsOneReply kind w state reply
+IsOneReply-decided kind w state g reply set short decided = of_group state.group g _ set (rw (within w short) decided)
 
 -- the reply of a command with two words that are short enough
-pub IsTwoReply-answered : (kind : TwoWord) (y w : List ℕ) (state : State) (g : CoxeterMatrix) (text : List ℕ) → state ≡ Some g → length y ≤ 63 → length w ≤ 63
-    → IsAllowed (λ number. RefusesTwo kind (integer_matrix g) y w number) → IsTwoText kind (integer_matrix g) y w text → IsTwoReply kind y w state (answered state text)
-IsTwoReply-answered kind y w state g text set short_y short_w allowed is = rw set (rw (within y short_y, within w short_w) (inr (allowed, text, is, refl)))
+pub IsTwoReply-decided : (kind : TwoWord) (y w : List ℕ) (state : State) (g : CoxeterMatrix) (reply : Reply) → state.group ≡ Some g
+    → length y ≤ 63 → length w ≤ 63
+    → IsDecidedReply state (RefusesTwo kind state.limits (integer_matrix g) y w) (IsTwoText kind (integer_matrix g) y w) reply → IsTwoReply kind y w state reply
+IsTwoReply-decided kind y w state g reply set short_y short_w decided = of_group state.group g _ set (rw (within y short_y, within w short_w) decided)
 
--- the reply of such a command that is refused
-pub IsTwoReply-refused : (kind : TwoWord) (y w : List ℕ) (state : State) (g : CoxeterMatrix) (number : ℕ) → state ≡ Some g → length y ≤ 63 → length w ≤ 63
-    → RefusesTwo kind (integer_matrix g) y w number → IsTwoReply kind y w state (refusal state number)
-IsTwoReply-refused kind y w state g number set short_y short_w refuses = rw set (rw (within y short_y, within w short_w) (inl (number, refuses, refl)))
+-- nothing was put of a text
+PutsFront-none : (text before after : List ℕ) → after ≡ before → PutsFront text before after
+PutsFront-none text before after same = record { front = []; rest = text; parts = refl; behind = same ∙ sym (append-nil before) }
 
--- what was said to a content that has this reply
-pub Says-content : (result : Result Said AllocError) (old new : State) (content : List ℕ) (Is : Reply → Type 0) (before after : List ℕ)
-    → ((reply : Reply) → Is reply → IsContentReply old content reply)
-    → IfOk result (λ said. (reply : Reply) × Is reply × Says said reply new before after)
-    → IfOk result (λ said. (reply : Reply) × IsContentReply old content reply × Says said reply new before after)
-Says-content (Ok said) old new content Is before after of (reply, is, says) = (reply, of reply is, says)
-Says-content (Err error) old new content Is before after of says = tt
+-- what is said after a line was put, or refused: the reply of its command ..
+module _ (state : State) (Refuses : ℕ → Type 0) (IsText : List ℕ → Type 0) where
+  pub Concludes-says : (put : Result Unit Unanswered) (result : Result Said AllocError) (before mid after : List ℕ)
+      → PutsUnless put Refuses IsText (10 ∷ []) before mid → Concludes put state result mid after
+      → IfOk result (λ said. (reply : Reply) × IsDecidedReply state Refuses IsText reply × Says said reply state before after)
+  Concludes-says (Ok done) result before mid after put end =
+      rw end.0 (answered state put.1, inr (put.0, put.1, put.2, refl), record { tells = (refl, refl); text = end.1 ∙ put.3; state_after = refl })
+  Concludes-says (Err (unanswered.Refused number)) (Ok said) before mid after put end = (refusal state number, inl (number, put.0, refl), rw put.1 at end.0)
+  Concludes-says (Err unanswered.NoMemory) (Ok said) before mid after put end = absurd (cc end.0)
+  Concludes-says (Err why) (Err error) before mid after put end = tt
+
+  -- .. or a front of it, where memory was wanting
+  pub Concludes-breaks : (put : Result Unit Unanswered) (result : Result Said AllocError) (before mid after : List ℕ)
+      → PutsUnless put Refuses IsText (10 ∷ []) before mid → Concludes put state result mid after
+      → OnErr result ((reply : Reply) × IsDecidedReply state Refuses IsText reply × SaysFront reply state state before after)
+  Concludes-breaks (Ok done) result before mid after put end = rw end.0 tt
+  Concludes-breaks (Err (unanswered.Refused number)) (Err error) before mid after put end = (refusal state number, inl (number, put.0, refl), rw put.1 at end.1)
+  Concludes-breaks (Err unanswered.NoMemory) (Err error) before mid after (inl put) end = (
+    refusal state put.0,
+    inl (put.0, put.1, refl),
+    record { puts_front = PutsFront-none _ before after (end.1 ∙ put.2); same_state = refl },
+  )
+  Concludes-breaks (Err unanswered.NoMemory) (Err error) before mid after (inr put) end =
+      (answered state put.1, inr (put.0, put.1, put.2, refl), record { puts_front = rw end.1 put.3; same_state = refl })
+  Concludes-breaks (Err why) (Ok said) before mid after put end = tt
+
+-- a reply that was said, by what follows for it
+pub Says-follows : (result : Result Said AllocError) (Was Is : Reply → Type 0) (state : State) (before after : List ℕ)
+    → ((reply : Reply) → Was reply → Is reply)
+    → IfOk result (λ said. (reply : Reply) × Was reply × Says said reply state before after)
+    → IfOk result (λ said. (reply : Reply) × Is reply × Says said reply state before after)
+Says-follows (Ok said) Was Is state before after of (reply, was, says) = (reply, of reply was, says)
+Says-follows (Err error) Was Is state before after of says = tt
 
 -- the same where it was broken off
-pub SaysFront-content : (result : Result Said AllocError) (old new : State) (content : List ℕ) (Is : Reply → Type 0) (before after : List ℕ)
-    → ((reply : Reply) → Is reply → IsContentReply old content reply)
+pub SaysFront-follows : (result : Result Said AllocError) (Was Is : Reply → Type 0) (old new : State) (before after : List ℕ)
+    → ((reply : Reply) → Was reply → Is reply) → OnErr result ((reply : Reply) × Was reply × SaysFront reply old new before after)
     → OnErr result ((reply : Reply) × Is reply × SaysFront reply old new before after)
-    → OnErr result ((reply : Reply) × IsContentReply old content reply × SaysFront reply old new before after)
-SaysFront-content (Ok said) old new content Is before after of says = tt
-SaysFront-content (Err error) old new content Is before after of (reply, is, says) = (reply, of reply is, says)
+SaysFront-follows (Ok said) Was Is old new before after of says = tt
+SaysFront-follows (Err error) Was Is old new before after of (reply, was, says) = (reply, of reply was, says)
+
+-- what was said, by the one reply that is right
+pub Says-reply : (result : Result Said AllocError) (Is : Reply → Type 0) (reply : Reply) (state : State) (before after : List ℕ) → Is reply
+    → IfOk result (λ said. Says said reply state before after) → IfOk result (λ said. (is : Reply) × Is is × Says said is state before after)
+Says-reply (Ok said) Is reply state before after is says = (reply, is, says)
+Says-reply (Err error) Is reply state before after is says = tt
+
+-- the same where it was broken off
+pub SaysFront-reply : (result : Result Said AllocError) (Is : Reply → Type 0) (reply : Reply) (old new : State) (before after : List ℕ) → Is reply
+    → OnErr result (SaysFront reply old new before after) → OnErr result ((is : Reply) × Is is × SaysFront is old new before after)
+SaysFront-reply (Ok said) Is reply old new before after is says = tt
+SaysFront-reply (Err error) Is reply old new before after is says = (reply, is, says)
 
 -- a reply was broken off, which leaves the state as it was
 pub SaysFront-broken : (result : Result Said AllocError) (reply : Reply) (state : State) (before after : List ℕ) → PutsFront reply.text before after
     → OnErr result (SaysFront reply state state before after)
 SaysFront-broken (Ok said) reply state before after puts = tt
 SaysFront-broken (Err error) reply state before after puts = record { puts_front = puts; same_state = refl }
-
--- the same of one of the replies that are right
-pub SaysFront-some : (result : Result Said AllocError) (Is : Reply → Type 0) (reply : Reply) (state : State) (before after : List ℕ) → Is reply
-    → PutsFront reply.text before after → OnErr result ((is : Reply) × Is is × SaysFront is state state before after)
-SaysFront-some (Ok said) Is reply state before after right puts = tt
-SaysFront-some (Err error) Is reply state before after right puts = (reply, right, record { puts_front = puts; same_state = refl })
-
--- what was said to a content, by its one reply
-pub Says-reply : (result : Result Said AllocError) (old new : State) (content : List ℕ) (reply : Reply) (before after : List ℕ) → IsContentReply old content reply
-    → IfOk result (λ said. Says said reply new before after) → IfOk result (λ said. (is : Reply) × IsContentReply old content is × Says said is new before after)
-Says-reply (Ok said) old new content reply before after is says = (reply, is, says)
-Says-reply (Err error) old new content reply before after is says = tt
-
--- the same where it was broken off
-pub SaysFront-reply : (result : Result Said AllocError) (old new : State) (content : List ℕ) (reply : Reply) (before after : List ℕ) → IsContentReply old content reply
-    → OnErr result (SaysFront reply old new before after) → OnErr result ((is : Reply) × IsContentReply old content is × SaysFront is old new before after)
-SaysFront-reply (Ok said) old new content reply before after is says = tt
-SaysFront-reply (Err error) old new content reply before after is says = (reply, is, says)

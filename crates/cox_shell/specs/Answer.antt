@@ -2,7 +2,7 @@
 use Rattle.std.specs.Prelude.{◌≡◌, ℕ, Bool, List, [], ◌∷◌, ◌++◌, MatchBool}
 use Rattle.std.specs.List.{flat_map, list_any}
 use Rattle.cox_outside.specs.Line.{lines_within}
-use Rattle.cox_shell.specs.Reply.{State, Reply, opening}
+use Rattle.cox_shell.specs.Reply.{Limits, State, Reply, opening}
 use Rattle.cox_shell.specs.LineReply.{IsReply}
 
 -- these are the replies to the lines, in order, up to one that ends the run
@@ -35,14 +35,14 @@ input_limit = 16777216
 abbrev pub script_lines : List ℕ → List (List ℕ)
 script_lines script = lines_within input_limit script
 
--- these are the replies to the lines of a script
-abbrev pub AreScriptReplies : List ℕ → List Reply → Type 0
-AreScriptReplies script replies = AreReplies opening (script_lines script) replies
+-- these are the replies to the lines of a script, within these limits
+abbrev pub AreScriptReplies : Limits → List ℕ → List Reply → Type 0
+AreScriptReplies limits script replies = AreReplies (opening limits) (script_lines script) replies
 
 -- these are the replies to the first lines of a script
-abbrev pub AreFirstReplies : List ℕ → List Reply → Type 0
-AreFirstReplies script replies = AreRepliesToFirst opening (script_lines script) replies
+abbrev pub AreFirstReplies : Limits → List ℕ → List Reply → Type 0
+AreFirstReplies limits script replies = AreRepliesToFirst (opening limits) (script_lines script) replies
 
--- the answer to a script
-abbrev pub IsAnswer : List ℕ → List ℕ → Type 0
-IsAnswer script text = (replies : List Reply) × AreScriptReplies script replies × (text ≡ texts replies)
+-- the answer to a script, within these limits
+abbrev pub IsAnswer : Limits → List ℕ → List ℕ → Type 0
+IsAnswer limits script text = (replies : List Reply) × AreScriptReplies limits script replies × (text ≡ texts replies)

@@ -1,20 +1,35 @@
 -- What a line is answered.
-use Rattle.std.specs.Prelude.{ℕ, ◌++◌, Bool, true, false, List, [], ◌∷◌, Option, None}
+use Rattle.std.specs.Prelude.{ℕ, ◌++◌, Bool, true, false, List, [], ◌∷◌, Option, None, Some}
 use Rattle.std.specs.Option.{option_map}
 use Rattle.cox_base.specs.Matrix.{CoxeterMatrix}
+use Rattle.cox_options.specs.declared.options.Options.{Options}
 use Rattle.cox_print.specs.Text.{refusal_text}
 
--- the state of a session: the Coxeter matrix of the group that is set, if one is
-abbrev pub State : Type 0
-State = Option CoxeterMatrix
+-- what the options of a session limit
+pub record Limits : Type 0 where
+  -- how many members an interval may have
+  pub context : ℕ
+
+-- the limits that options give
+abbrev pub limits_of : Options → Limits
+limits_of options = record { context = options.context }
+
+-- the state of a session: its limits, and the Coxeter matrix of the group that is set, if one is
+pub record State : Type 0 where
+  pub limits : Limits
+  pub group : Option CoxeterMatrix
 
 -- the state of a session that begins: no group is set
-abbrev pub opening : State
-opening = None
+abbrev pub opening : Limits → State
+opening limits = record { limits = limits; group = None }
+
+-- the state after a group is set
+abbrev pub with_group : State → CoxeterMatrix → State
+with_group state g = record { limits = state.limits; group = Some g }
 
 -- the rank of the group that is set
 abbrev pub rank_of : State → Option ℕ
-rank_of state = option_map (λ g. g.rank) state
+rank_of state = option_map (λ g. g.rank) state.group
 
 -- the text that a line is answered, the state after it, whether it is refused, and whether it ends the run
 pub record Reply : Type 0 where

@@ -2,16 +2,21 @@
 
 ghost use Rattle.std.specs.Prelude.{◌≡◌, ℕ, List};
 ghost use Rattle.cox_outside.specs.Writing.{IsFront};
-ghost use Rattle.cox_shell.specs.Reply.{Reply};
+ghost use Rattle.cox_shell.specs.Reply.{Limits, Reply};
 ghost use Rattle.cox_shell.specs.Answer.{AreFirstReplies, AreScriptReplies, IsAnswer, texts};
+
+/// A script has an answer, within any limits.
+pub fn some_answer()
+    ensures { (limits : Limits) → (script : List ℕ) → (text : List ℕ) × IsAnswer limits script text }
+{}
 
 /// A script has at most one answer, and each of its lines at most one reply.
 pub fn one_answer()
-    ensures replies { (script : List ℕ) → (one other : List Reply) → AreScriptReplies script one → AreScriptReplies script other → one ≡ other }
-    ensures text { (script one other : List ℕ) → IsAnswer script one → IsAnswer script other → one ≡ other }
+    ensures replies { (limits : Limits) → (script : List ℕ) → (one other : List Reply) → AreScriptReplies limits script one → AreScriptReplies limits script other → one ≡ other }
+    ensures text { (limits : Limits) → (script one other : List ℕ) → IsAnswer limits script one → IsAnswer limits script other → one ≡ other }
 {}
 
 /// What the replies to the first lines of a script write is a front of its answer, if it has one.
 pub fn first_replies_are_a_front()
-    ensures { (script text : List ℕ) → (replies : List Reply) → AreFirstReplies script replies → IsAnswer script text → IsFront (texts replies) text }
+    ensures { (limits : Limits) → (script text : List ℕ) → (replies : List Reply) → AreFirstReplies limits script replies → IsAnswer limits script text → IsFront (texts replies) text }
 {}

@@ -5,30 +5,29 @@
 //! status and what the status came from. A [`Session`] answers single lines.
 //!
 //! It stands on `cox_outside` for lines and bytes, on `cox_command` and `cox_print` for commands and
-//! texts, and on `cox_reflect` and `cox_rpoly` for what is asked of a group. A new command is a case
-//! of the words in `specs/CommandReply.antt`, and an arm in `answers`.
+//! texts, on `cox_options` for the words of the command line, and on `cox_reflect`, `cox_context` and
+//! `cox_rpoly` for what is asked of a group. A new command is a case of the words in
+//! `specs/CommandReply.antt`, and an arm in `answers`.
 //!
 //! - `status`: how a run ends
-//! - `options`: what the words of the command line say
 //! - `answers`: the lines that commands answer
 //! - `session`: the session, which answers the contents of lines
 //! - `serving`: one line, from the source to the sink
 //! - `running`: all lines, and the status that they lead to
 //! - `top`: the whole run, with the words of the command line
-//! - `laws`: a script has at most one answer
+//! - `laws`: a script has exactly one answer
 #![tactic(auto)]
 
 mod answers;
 pub mod laws;
-mod options;
 mod running;
 mod serving;
 mod session;
 mod status;
 mod top;
 
+pub use cox_options::Options;
 pub use cox_outside::NoMemory;
-pub use options::Options;
 pub use session::{Said, Session};
 pub use status::Status;
 pub use top::run_one;

@@ -1,9 +1,9 @@
 //! The session, which answers the contents of lines.
 
 use crate::answers::{Unanswered, WORD_LIMIT, put_one, put_two};
-use crate::options::Options;
 use cox_base::{Coxeter, Word};
 use cox_command::{Command, OneWord, TwoWord, parse};
+use cox_options::Options;
 use cox_print::{put_end, put_refusal};
 use std::alloc::AllocError;
 use std::marker::Model;
@@ -19,36 +19,40 @@ pub enum Said {
     Quit,
 }
 
-/// A session: the group that is set, if one is. It answers lines one by one, each by the lines before.
+/// A session: its options, and the group that is set, if one is. It answers lines one by one, each by the lines before.
 ///
-/// Contracts see it as the Coxeter matrix of the group.
+/// Contracts see the limits that the options give, and the Coxeter matrix of the group.
 #[derive(Drop)]
 pub struct Session {
+    options: Options,
     group: Option<Coxeter>,
 }
 
 impl Model for Session {
-    ghost use Rattle.cox_shell.specs.Reply.{State};
+    ghost use Rattle.cox_shell.specs.Reply.{State, limits_of};
 
     ghost Value = { State };
 
-    ghost view = { λ s. s.group };
+    ghost view = { λ s. record { limits = limits_of s.options; group = s.group } };
 }
 
 impl Session {
     ghost use Rattle.std.specs.Prelude.{◌≡◌, ◌<◌, ◌≤◌, ◌^◌, length, IfOk, OnErr, IfSome, IsSomeAnd};
     ghost use Rattle.cox_base.specs.Matrix.{IsWord};
     ghost use Rattle.cox_command.specs.Reading.{HasWordsOf};
-    ghost use Rattle.cox_shell.specs.Reply.{Reply, opening, refusal, rank_of};
+    ghost use Rattle.cox_shell.specs.Reply.{Reply, opening, limits_of, refusal, rank_of};
     ghost use Rattle.cox_shell.specs.ContentReply.{IsContentReply};
     ghost use Rattle.cox_shell.specs.CommandReply.{IsCommandReply, IsOneReply, IsTwoReply};
-    ghost use Rattle.cox_shell.specs.Saying.{Says, SaysFront};
+    ghost use Rattle.cox_shell.specs.Saying.{Says, SaysFront, Concludes};
 
-    /// A session with no group.
-    pub fn new(_options: Options) -> Session
-        ensures { result ≡ opening }
+    /// A session with these options, and no group.
+    pub fn new(options: Options) -> Session
+        ensures { result ≡ opening (limits_of options) }
     {
-        Session { group: None }
+        Session {
+            options,
+            group: None,
+        }
     }
 
     /// Answers a line with this content, of bytes from 0x20 to 0x7E, behind what `out` has. On
@@ -104,8 +108,8 @@ impl Session {
     {
         match &self.group {
             Some(group) if w.len() <= WORD_LIMIT => {
-                put_one(out, group, kind, w)?;
-                Ok(Said::Answered)
+                let put = put_one(out, group, self.options, kind, w);
+                self.conclude(put, out)
             }
             _ => self.refuse(33, out),
         }
@@ -127,13 +131,21 @@ impl Session {
     {
         match &self.group {
             Some(group) if y.len() <= WORD_LIMIT && w.len() <= WORD_LIMIT => {
-                match put_two(out, group, kind, y, w) {
-                    Ok(()) => Ok(Said::Answered),
-                    Err(Unanswered::Refused(number)) => self.refuse(number, out),
-                    Err(Unanswered::NoMemory) => Err(AllocError),
-                }
+                let put = put_two(out, group, self.options, kind, y, w);
+                self.conclude(put, out)
             }
             _ => self.refuse(33, out),
+        }
+    }
+
+    /// What is said where a command put its line, or was refused.
+    fn conclude(&self, put: Result<(), Unanswered>, out: &mut Vec<u8>) -> Result<Said, AllocError>
+        ensures { Concludes put self.now result out.old.items out.new.items }
+    {
+        match put {
+            Ok(()) => Ok(Said::Answered),
+            Err(Unanswered::Refused(number)) => self.refuse(number, out),
+            Err(Unanswered::NoMemory) => Err(AllocError),
         }
     }
 

@@ -74,6 +74,66 @@ const ANSWERS: &[(&str, &str, Status)] = &[
         "-1+q\n1-2q+q^2\n-1+2q-2q^2+q^3\n0\n",
         Status::Done,
     ),
+    (
+        "type A 3\ninterval 2 2132\ninterval 12 21\ninterval 1 1\n",
+        "10\n2\n12\n21\n23\n32\n121\n132\n213\n232\n2132\n0\n1\n1\n",
+        Status::Done,
+    ),
+    (
+        "type A 3\nbetti 121321\ncoatoms 121321\ncoatoms e\nbetti e\n",
+        "1 3 5 6 5 3 1\n3\n12132\n12321\n21321\n0\n1\n",
+        Status::Done,
+    ),
+];
+
+/// The elements of A 3 in ShortLex order, as a list.
+const ALL_OF_A_3: &str =
+    "24\ne\n1\n2\n3\n12\n13\n21\n23\n32\n121\n123\n132\n213\n232\n321\n1213\n1232\n1321\n2132\n2321\n12132\n12321\n21321\n121321\n";
+
+/// The words after the program's name, a script, what has to be written, and how the run has to end.
+type WithOptions = (&'static [&'static str], &'static str, &'static str, Status);
+
+const OPTIONS: &[WithOptions] = &[
+    (
+        &["coxeter", "--context", "24"],
+        "type A 3\ninterval e 121321\n",
+        ALL_OF_A_3,
+        Status::Done,
+    ),
+    (
+        &["coxeter", "--context=23"],
+        "type A 3\ninterval e 121321\ninterval 121321 e\n",
+        "error 31\n0\n",
+        Status::Refused,
+    ),
+    (
+        &["coxeter", "--context", "3"],
+        "type A 2\nbetti 12\ncoatoms 12\ninterval 12 1\ncompute 12\n",
+        "error 31\nerror 31\n0\n12\n",
+        Status::Refused,
+    ),
+    (
+        &["coxeter", "--context", "4"],
+        "type A 2\nbetti 12\n",
+        "1 2 1\n",
+        Status::Done,
+    ),
+    (
+        &["coxeter", "--context", "1"],
+        "type A 1\ninterval e e\ninterval e 1\nbetti e\n",
+        "1\ne\nerror 31\n1\n",
+        Status::Refused,
+    ),
+];
+
+/// Words that give no options.
+const WRONG_WORDS: &[&[&str]] = &[
+    &["coxeter", "--foo"],
+    &["coxeter", "script"],
+    &["coxeter", "--context"],
+    &["coxeter", "--context", "0"],
+    &["coxeter", "--context", "65537"],
+    &["coxeter", "--context", "1", "--context", "2"],
 ];
 
 /// The first word is repeated so often.
@@ -137,7 +197,7 @@ fn plain(script: &[u8]) -> Run<'_> {
         piece: 1,
         failing_read: 0,
         failing_write: 0,
-        room: 100,
+        room: 200,
     }
 }
 
@@ -213,13 +273,29 @@ fn large_inputs(rt: HostRuntime) -> Result<(), Fail> {
 
 #[test]
 fn usage(rt: HostRuntime) -> Result<(), Fail> {
-    let run = Run {
-        words: &["coxeter", "--foo"],
-        ..plain(b"get\n")
-    };
-    let (ended, sink) = end_of(rt.alloc(), run)?;
-    assert_eq!(rt; ended, Status::Usage);
-    assert_eq!(rt; sink.bytes(), USAGE);
+    for words in WRONG_WORDS {
+        let run = Run {
+            words,
+            ..plain(b"get\n")
+        };
+        let (ended, sink) = end_of(rt.alloc(), run)?;
+        assert_eq!(rt; ended, Status::Usage, "at {words:?}");
+        assert_eq!(rt; sink.bytes(), USAGE, "at {words:?}");
+    }
+    Ok(())
+}
+
+#[test]
+fn options(rt: HostRuntime) -> Result<(), Fail> {
+    for (words, script, written, status) in OPTIONS {
+        let run = Run {
+            words,
+            ..plain(script.as_bytes())
+        };
+        let (ended, sink) = end_of(rt.alloc(), run)?;
+        assert_eq!(rt; ended, *status, "at {words:?} {script:?}");
+        assert_eq!(rt; sink.bytes(), written.as_bytes(), "at {words:?} {script:?}");
+    }
     Ok(())
 }
 

@@ -1,10 +1,11 @@
 use Rattle.std.proofs.Common.{codes, arith, rules}
 use Rattle.std.specs.Prelude.{decimal}
 use Rattle.std.proofs.lemmas.Bool.Decides.{nat_tests}
-use Rattle.cox_poly.proofs.Appending.{OnErr-after_same}
+use Rattle.cox_poly.proofs.Behind.{Puts-first}
 use Rattle.cox_poly.proofs.text.put_power.Goals as goal
 
-pub returns-in_ok-put_bytes-clause-err : goal.returns-in_ok-put_bytes-clause-err
-returns-in_ok-put_bytes-clause-err c =
-    let e = OnErr-after_same c.put_number.result c.args.out.now.items c.put_bytes-else-k-eq1.new.out.items c.put_number.new.out.items (codes "q^") (decimal c.args.k) (search rules) (search rules) in
+pub returns-in_err-put_text : goal.returns-in_err-put_text
+returns-in_err-put_text c =
+    let put = c.in_err-put_text.ensures in
+    let e = Puts-first c.from_residual.result (codes "q^") (decimal c.args.k) c.args.out.now.items c.put_text-else-k-eq1.new.out.items (search rules) put in
     grind (arith, nat_tests, e)

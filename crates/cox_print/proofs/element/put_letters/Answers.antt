@@ -1,6 +1,6 @@
 use Rattle.std.proofs.Common.{rules}
 use Rattle.cox_print.specs.Text.{letter_digit}
-use Rattle.cox_print.proofs.Behind.{PutsFront-take, Puts-failed}
+use Rattle.cox_poly.proofs.Behind.{PutsFront-take, Puts-failed}
 use Rattle.cox_print.proofs.element.put_letters.Goals as goal
 
 pub returns-in_err-push : goal.returns-in_err-push

@@ -1,6 +1,6 @@
 use Rattle.std.proofs.Common.{◌++◌, codes, rules}
 use Rattle.cox_print.specs.Text.{set_text}
-use Rattle.cox_print.proofs.Behind.{append-second, PutsFront-second, Puts-first, Puts-second}
+use Rattle.cox_poly.proofs.Behind.{append-second, PutsFront-second, Puts-first, Puts-second}
 use Rattle.cox_print.proofs.line.put_descent.Goals as goal
 
 pub returns-in_err-put_text : goal.returns-in_err-put_text

@@ -1,6 +1,6 @@
 use Rattle.std.proofs.Common.{codes, rules}
 use Rattle.std.specs.Fmt.{decimal}
-use Rattle.cox_print.proofs.Behind.{Puts-first}
+use Rattle.cox_poly.proofs.Behind.{Puts-first}
 use Rattle.cox_print.proofs.line.put_refusal.Goals as goal
 
 pub returns-in_err-put_text : goal.returns-in_err-put_text

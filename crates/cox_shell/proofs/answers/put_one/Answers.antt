@@ -1,9 +1,17 @@
 use Rattle.std.proofs.Common.{[], ◌∷◌, rules}
-use Rattle.cox_print.proofs.Behind.{Puts-first, Puts-second}
+use Rattle.std.proofs.lemmas.Result.{err_from_is_err_and}
+use Rattle.cox_shell.proofs.Unless.{PutsUnless-failed, PutsUnless-broken, PutsUnless-ended}
 use Rattle.cox_shell.proofs.answers.put_one.Goals as goal
 
 pub returns-in_err-put_one_text : goal.returns-in_err-put_one_text
-returns-in_err-put_one_text c = let put = c.in_err-put_one_text.ensures {u = tt} in (put.0, put.1, Puts-first _ put.0 (10 ∷ []) _ _ (search rules) put.2)
+returns-in_err-put_one_text c =
+    let p = err_from_is_err_and c.from_residual.result c.from_residual.ensures.1 in
+    rw (p.1, p.2) (PutsUnless-failed c.put_one_text.result c.in_err-put_one_text.field-0.0 _ _ (10 ∷ []) _ _ (c.in_err-put_one_text.was {u = tt}) c.put_one_text.ensures)
+
+pub returns-in_err-put_end : goal.returns-in_err-put_end
+returns-in_err-put_end c =
+    let p = err_from_is_err_and c.from_residual-in_err-put_end.result c.from_residual-in_err-put_end.ensures.1 in
+    rw (p.1, p.2) (PutsUnless-broken c.put_one_text.result _ _ (10 ∷ []) _ _ _ (search rules) c.put_one_text.ensures (c.in_err-put_end.ensures {u = tt}))
 
 pub returns : goal.returns
-returns c = let put = c.in_ok-put_one_text.ensures {u = tt} in (put.0, put.1, Puts-second _ put.0 (10 ∷ []) _ _ _ put.2 c.put_end.ensures)
+returns c = PutsUnless-ended c.put_one_text.result _ _ (10 ∷ []) _ _ _ (search rules) c.put_one_text.ensures (c.in_ok-put_end.ensures {u = tt})

@@ -1,20 +1,22 @@
-use Rattle.std.proofs.Common.{◌≡◌, ◌≤◌, length, Some, refl, sym, ◌∙◌, arith}
-use Rattle.cox_shell.specs.Reply.{answered}
-use Rattle.cox_shell.specs.CommandReply.{IsOneReply}
-use Rattle.cox_shell.proofs.Sayings.{IsOneReply-answered, SaysFront-some}
+use Rattle.std.proofs.Common.{◌≡◌, ℕ, ◌≤◌, List, length, Some, sym, ap, ◌∙◌, arith}
+use Rattle.cox_base.specs.IntegerMatrix.{integer_matrix}
+use Rattle.cox_shell.specs.Reply.{Reply}
+use Rattle.cox_shell.specs.CommandReply.{RefusesOne, IsOneText, IsDecidedReply, IsOneReply}
+use Rattle.cox_shell.proofs.Sayings.{IsOneReply-decided, Concludes-says, Concludes-breaks, Says-follows, SaysFront-follows}
 use Rattle.cox_shell.proofs.session.Session.answer_one.Goals as goal
 
-pub returns-in_err-put_one-in-Some-clause-err : goal.returns-in_err-put_one-in-Some-clause-err
-returns-in_err-put_one-in-Some-clause-err c =
-    let put = c.in_err-put_one-in-Some.ensures {u = tt} in
-    let set : c.args.self.now ≡ Some c.in-Some.group = sym c.self.view_is ∙ c.in-Some.is in
-    let short : length c.args.w.now.items ≤ 63 = omega (arith, c.len.ensures.value, c.if-len-le-WORD_LIMIT.true) in
-    SaysFront-some _ (λ reply. IsOneReply c.args.kind c.args.w.now.items c.args.self.now reply) (answered c.args.self.now put.0) _ _ _
-    (IsOneReply-answered _ _ _ _ put.0 set short put.1) put.2
-
-pub returns-in_ok-put_one-in-Some-clause-ok : goal.returns-in_ok-put_one-in-Some-clause-ok
-returns-in_ok-put_one-in-Some-clause-ok c =
-    let put = c.in_ok-put_one-in-Some.ensures {u = tt} in
-    let set : c.args.self.now ≡ Some c.in-Some.group = sym c.self.view_is ∙ c.in-Some.is in
-    let short : length c.args.w.now.items ≤ 63 = omega (arith, c.len.ensures.value, c.if-len-le-WORD_LIMIT.true) in
-    (answered c.args.self.now put.0, IsOneReply-answered _ _ _ _ put.0 set short put.1, record { tells = (refl, refl); text = put.2; state_after = refl })
+pub returns-in-Some : goal.returns-in-Some
+returns-in-Some c =
+    let state = c.args.self.now in
+    let Refuses : ℕ → Type 0 = RefusesOne c.args.kind state.limits (integer_matrix c.in-Some.group) c.args.w.now.items in
+    let IsText : List ℕ → Type 0 = IsOneText c.args.kind (integer_matrix c.in-Some.group) c.args.w.now.items in
+    let Is : Reply → Type 0 = IsOneReply c.args.kind c.args.w.now.items state in
+    let put = rw (ap (λ s. s.limits) c.self.view_is) at c.put_one-put.ensures in
+    let set : state.group ≡ Some c.in-Some.group = ap (λ s. s.group) (sym c.self.view_is) ∙ c.in-Some.is in
+    let short : length c.args.w.now.items ≤ 63 = omega arith in
+    let is : (reply : Reply) → IsDecidedReply state Refuses IsText reply → Is reply =
+    λ reply decided. IsOneReply-decided _ _ _ c.in-Some.group reply set short decided in
+    record {
+      ok = Says-follows _ (IsDecidedReply state Refuses IsText) Is _ _ _ is (Concludes-says state Refuses IsText _ _ _ _ _ put c.conclude.ensures);
+      err = SaysFront-follows _ (IsDecidedReply state Refuses IsText) Is _ _ _ _ is (Concludes-breaks state Refuses IsText _ _ _ _ _ put c.conclude.ensures);
+    }

@@ -1,5 +1,5 @@
 use Rattle.std.proofs.Common.{[], ◌∷◌}
-use Rattle.cox_print.proofs.Behind.{PutsFront-first}
+use Rattle.cox_poly.proofs.Behind.{PutsFront-first}
 use Rattle.cox_print.specs.Text.{refusal_text}
 use Rattle.cox_shell.proofs.Sayings.{SaysFront-broken}
 use Rattle.cox_shell.specs.Reply.{refusal}

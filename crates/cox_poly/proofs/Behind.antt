@@ -1,8 +1,12 @@
 -- One text behind another.
-use Rattle.std.proofs.Common.{◌≡◌, ℕ, List, ◌++◌, map, take, drop, Result, Ok, Err, IsErr, append_assoc, ap, sym, ◌∙◌}
-use Rattle.std.proofs.lemmas.List.{take-append-drop, map-append}
+use Rattle.std.proofs.Common.{◌≡◌, ◌<◌, ◌≤◌, ◌+◌, ℕ, List, ◌++◌, ◌∷◌, [], map, take, drop, length, get_or, Result, Ok, Err, IsErr, append_assoc, add-one, ap}
+use Rattle.std.proofs.Common.{sym, ◌∙◌}
+use Rattle.std.specs.List.{flat_map}
+use Rattle.std.proofs.Math.Seq.{take-suc, drop-cons}
+use Rattle.std.proofs.lemmas.List.{take-append-drop, map-append, take_all, flat_map_more}
+use Rattle.std.proofs.lemmas.Grind.{flat_map-append}
 use Rattle.std.specs.declared.alloc.AllocError.{AllocError}
-use Rattle.cox_print.specs.Puts.{PutsFront, Puts}
+use Rattle.cox_poly.specs.Puts.{PutsFront, Puts}
 
 -- a front of the first text is one of both
 pub PutsFront-first : (a b old new : List ℕ) → PutsFront a old new → PutsFront (a ++ b) old new
@@ -47,4 +51,29 @@ PutsFront-take f xs i old new put = record {
   rest = map f (drop i xs);
   parts = ap (map f) (sym (take-append-drop i xs)) ∙ map-append f (take i xs) (drop i xs);
   behind = put;
+}
+
+-- the texts of the first items, and then the next one's
+pub append-next : {X : Type 0} (f : X → List ℕ) (xs : List X) (i : ℕ) (x d : X) (old mid new : List ℕ) → i < length xs → x ≡ get_or xs i d
+    → mid ≡ old ++ flat_map f (take i xs) → new ≡ mid ++ f x → new ≡ old ++ flat_map f (take (i + 1) xs)
+append-next f xs i x d old mid new below at first next =
+    let more : take (i + 1) xs ≡ take i xs ++ x ∷ [] = rw (add-one, at) (take-suc xs i d below) in
+    next ∙ ap (λ ys. ys ++ f x) first ∙ flat_map_more f old (take i xs) x ∙ ap (λ ys. old ++ flat_map f ys) (sym more)
+
+-- the texts of all items, at the end
+pub append-all : {X : Type 0} (f : X → List ℕ) (xs : List X) (i : ℕ) (old new : List ℕ) → length xs ≤ i
+    → new ≡ old ++ flat_map f (take i xs) → new ≡ old ++ flat_map f xs
+append-all f xs i old new past put = put ∙ ap (λ ys. old ++ flat_map f ys) (take_all i xs past)
+
+-- the texts of the first items, and then a front of the next one's
+pub PutsFront-next : {X : Type 0} (f : X → List ℕ) (xs : List X) (i : ℕ) (x d : X) (old mid new : List ℕ) → i < length xs → x ≡ get_or xs i d
+    → mid ≡ old ++ flat_map f (take i xs) → PutsFront (f x) mid new → PutsFront (flat_map f xs) old new
+PutsFront-next f xs i x d old mid new below at first put = record {
+  front = flat_map f (take i xs) ++ put.front;
+  rest = put.rest ++ flat_map f (drop (i + 1) xs);
+  parts =
+      let next : x ∷ drop (i + 1) xs ≡ drop i xs = rw (add-one, at) (sym (drop-cons xs i d below)) in
+      let whole : take i xs ++ x ∷ drop (i + 1) xs ≡ xs = ap (λ ys. take i xs ++ ys) next ∙ take-append-drop i xs in
+      ap (flat_map f) (sym whole) ∙ flat_map-append f (take i xs) (x ∷ drop (i + 1) xs) ∙ rw put.parts (simp append_assoc);
+  behind = append-second (flat_map f (take i xs)) put.front old mid new first put.behind;
 }

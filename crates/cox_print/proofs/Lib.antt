@@ -1,2 +1,0 @@
--- one text behind another
-pub mod Behind

@@ -1,0 +1,47 @@
+-- Each script has an answer.
+use Rattle.std.proofs.Common.{◌≡◌, ℕ, Bool, true, false, List, [], ◌∷◌, Option, Some, None, MatchOption, refl}
+use Rattle.std.specs.Bool.{MatchBool}
+use Rattle.cox_outside.specs.Line.{content_of}
+use Rattle.cox_shell.specs.Reply.{Limits, State, Reply, opening, refusal}
+use Rattle.cox_shell.specs.ContentReply.{IsContentReply}
+use Rattle.cox_shell.specs.LineReply.{IsReply, content_refusal}
+use Rattle.cox_shell.specs.Answer.{AreReplies, IsAnswer, texts, script_lines}
+use Rattle.cox_shell.proofs.SomeReply.{IsContentReply-exists}
+use Rattle.cox_shell.proofs.KeptGroup.{HasMatrix, IsContentReply-matrix}
+
+-- each line has a reply, by which the group stays a Coxeter matrix
+record HasReply (state : State) (line : List ℕ) : Type 0 where
+  reply : Reply
+  is : IsReply state line reply
+  matrix : HasMatrix reply.after
+
+IsReply-exists : (state : State) (line : List ℕ) → HasMatrix state → HasReply state line
+IsReply-exists state line matrix = record { reply = found.0; is = found.1; matrix = found.2 } where
+  by_refusal : (o : Option ℕ) → (reply : Reply) × MatchOption o (IsContentReply state (content_of line) reply) (λ number. reply ≡ refusal state number)
+      × HasMatrix reply.after
+  by_refusal None =
+      let some = IsContentReply-exists state (content_of line) matrix in (some.0, some.1, IsContentReply-matrix state (content_of line) some.0 matrix some.1)
+  by_refusal (Some number) = (refusal state number, refl, matrix)
+
+  found : (reply : Reply) × IsReply state line reply × HasMatrix reply.after
+  found = by_refusal (content_refusal (content_of line))
+
+-- one more reply in front: others follow, or it ends the run
+in_front : (state : State) (line : List ℕ) (lines : List (List ℕ)) (has : HasReply state line)
+    → (replies : List Reply) × AreReplies has.reply.after lines replies → (replies : List Reply) × AreReplies state (line ∷ lines) replies
+in_front state line lines has rest = let more = by_end has.reply.quits in (has.reply ∷ more.0, (has.is, more.1))
+  where
+    by_end : (quits : Bool) → (replies : List Reply) × MatchBool quits (replies ≡ []) (AreReplies has.reply.after lines replies)
+    by_end true = ([], refl)
+    by_end false = rest
+
+-- lines have replies
+pub AreReplies-exists : (state : State) (lines : List (List ℕ)) → HasMatrix state → (replies : List Reply) × AreReplies state lines replies
+AreReplies-exists state [] matrix = ([], refl)
+AreReplies-exists state (line ∷ lines) matrix =
+    let has = IsReply-exists state line matrix in in_front state line lines has (AreReplies-exists has.reply.after lines has.matrix)
+
+-- a script has an answer
+pub IsAnswer-exists : (limits : Limits) (script : List ℕ) → (text : List ℕ) × IsAnswer limits script text
+IsAnswer-exists limits script =
+    let all = AreReplies-exists (opening limits) (script_lines script) tt in (texts all.0, (all.0, all.1, refl))
