@@ -67,7 +67,7 @@ def main():
         each = seconds / members
         print(
             f"{name:<22}{members:>8}{letters:>8}{seconds * 1e3:>10.3f}{each * 1e6:>11.2f}"
-            f"{each * 1e9 / (letters * rank):>12.2f}{peak - floor:>8.1f}"
+            f"{each * 1e9 / (letters * rank):>12.2f}{max(0, peak - floor):>8.1f}"
         )
 
 

@@ -1,29 +1,23 @@
 -- When s x is a normal form, for a normal form x: exactly where s is the least left descent of s x.
-use Rattle.std.proofs.Common.{◌≡◌, ℕ, ◌≤◌, Bool, IsTrue, Option, Some, None, MatchOption, List, ◌∷◌, length, ℤ, ◌↔◌, ap, sym, ◌∙◌, arith, true≢false, eqb}
+use Rattle.std.proofs.Common.{◌≡◌, ℕ, Bool, IsTrue, Option, Some, None, MatchOption, List, ◌∷◌, length, ◌↔◌, ap, sym, ◌∙◌, arith, true≢false, eqb}
 use Rattle.std.specs.Option.{option_eq}
 use Rattle.std.proofs.lemmas.Bool.{eqb-true, eq-eqb}
-use Rattle.cox_base.specs.Matrix.{IsLetter}
 use Rattle.cox_base.specs.IntegerMatrix.{IntegerMatrix, IsAdmissible}
 use Rattle.cox_base.specs.ShortLex.{normal_form}
 use Rattle.cox_base.specs.Length.{IsLeftDescent}
-use Rattle.cox_reflect.specs.Height.{AreHeights, HasRoom, IsLeastLeftDescent}
+use Rattle.cox_reflect.specs.Height.{IsLeastLeftDescent}
 use Rattle.cox_reflect.proofs.Elements.{same-square}
 use Rattle.cox_reflect.proofs.Search.{word_length-equal, word_length-length, normal_form-equal}
-use Rattle.cox_reflect.proofs.Lengths.{word_length-is, word_length-cons}
-use Rattle.cox_reflect.proofs.HeightLemmas.{height-equal, HasRoom-lengths}
+use Rattle.cox_reflect.proofs.Lengths.{word_length-is}
 use Rattle.cox_reflect.proofs.NormalForm.{normal_form-descent}
 use Rattle.cox_context.specs.Members.{IsElement}
 
+-- a comparison with Some s
+some_answer : (found : Option ℕ) (s : ℕ) (answer : Bool) → answer ≡ option_eq eqb found (Some s) → IsTrue answer ↔ (found ≡ Some s)
+some_answer None s answer e = (λ h. absurd (true≢false (sym h ∙ e)), λ f. absurd (cc))
+some_answer (Some t) s answer e = (λ h. ap (λ (r : ℕ). Some r) (eqb-true t s (sym e ∙ h)), λ f. let q : t ≡ s = cc in e ∙ eq-eqb t s q)
+
 module _ (A : IntegerMatrix) (g : IsAdmissible A) where
-  -- with s twice in front the heights are those of x again
-  pub heights-back : (s : ℕ) (x : List ℕ) (heights : List ℤ) → AreHeights A (s ∷ s ∷ x) heights → AreHeights A x heights
-  heights-back s x heights a = record { each = λ t l. a.each t l ∙ height-equal A g (same-square A g s x) t }
-
-  pub room-back : (s : ℕ) (x : List ℕ) (heights : List ℤ) → IsLetter A.rank s → length x ≤ 62 → AreHeights A (s ∷ x) heights → HasRoom A s heights
-  room-back s x heights l short a =
-      HasRoom-lengths A g (s ∷ x) s heights l (omega (arith, word_length-cons A g s x, word_length-length A g x, short))
-      (omega (arith, word_length-equal A g (same-square A g s x), word_length-length A g x, short)) a
-
   least-normal : (s : ℕ) (x : List ℕ) → IsElement A x → IsLeastLeftDescent A (s ∷ x) s → normal_form A (s ∷ x) ≡ s ∷ x
   least-normal s x e d =
       normal_form-descent A g (s ∷ x) s d.descent (λ t less k. absurd (omega (arith, d.least t k, less)))
@@ -39,15 +33,13 @@ module _ (A : IntegerMatrix) (g : IsAdmissible A) where
   normal-descent : (s : ℕ) (x : List ℕ) → IsElement A x → normal_form A (s ∷ x) ≡ s ∷ x → IsLeftDescent A (s ∷ x) s
   normal-descent s x e n = omega (arith, word_length-equal A g (same-square A g s x), word_length-length A g x, word_length-is A (s ∷ x), ap length n)
 
-  pub normal_answer : (s : ℕ) (x : List ℕ) → IsElement A x → (least : Option ℕ) (answer : Bool) → (IsTrue answer ↔ (least ≡ Some s))
+  pub normal_answer : (s : ℕ) (x : List ℕ) → IsElement A x → (least : Option ℕ) (answer : Bool) → answer ≡ option_eq eqb least (Some s)
       → MatchOption least ((t : ℕ) → IsLeftDescent A (s ∷ x) t → ⊥) (IsLeastLeftDescent A (s ∷ x)) → IsTrue answer ↔ (normal_form A (s ∷ x) ≡ s ∷ x)
-  normal_answer s x e None answer k m = (λ h. absurd (let f = k.0 h in cc), λ n. absurd (m s (normal-descent s x e n)))
-  normal_answer s x e (Some t) answer k m = (
-    λ h. let f : t ≡ s = (let q = k.0 h in cc) in least-normal s x e (rw f at m),
-    λ n. k.1 (ap (λ (r : ℕ). Some r) (normal-least s x n t m)),
+  normal_answer s x e None answer q m = (
+    λ h. absurd (let f = (some_answer None s answer q).0 h in cc),
+    λ n. absurd (m s (normal-descent s x e n)),
   )
-
--- a comparison with Some s
-pub some_answer : (found : Option ℕ) (s : ℕ) (answer : Bool) → answer ≡ option_eq eqb found (Some s) → IsTrue answer ↔ (found ≡ Some s)
-some_answer None s answer e = (λ h. absurd (true≢false (sym h ∙ e)), λ f. absurd (cc))
-some_answer (Some t) s answer e = (λ h. ap (λ (r : ℕ). Some r) (eqb-true t s (sym e ∙ h)), λ f. let q : t ≡ s = cc in e ∙ eq-eqb t s q)
+  normal_answer s x e (Some t) answer q m = (
+    λ h. let f : t ≡ s = (let k = (some_answer (Some t) s answer q).0 h in cc) in least-normal s x e (rw f at m),
+    λ n. (some_answer (Some t) s answer q).1 (ap (λ (r : ℕ). Some r) (normal-least s x n t m)),
+  )

@@ -41,6 +41,12 @@ module _ (A : IntegerMatrix) (g : IsAdmissible A) (words : List (List ℕ)) (clo
   pub first-letter : (t : ℕ) (x : List ℕ) (i : ℕ) → i < length words → word_at words i ≡ t ∷ x → IsLetter A.rank t
   first-letter t x i l e = let elem : IsElement A (t ∷ x) = rw e at (element-at A g words closed i l) in All-head (IsLetter A.rank) t x elem.letters
 
+  -- the first letter of a member takes it to the word without that letter
+  pub first-off : (t : ℕ) (x : List ℕ) (i : ℕ) → i < length words → word_at words i ≡ t ∷ x → normal_form A (t ∷ word_at words i) ≡ x
+  first-off t x i l e =
+      let elem : IsElement A (t ∷ x) = rw e at (element-at A g words closed i l)
+      in rw e (normal_form-equal A g (same-square A g t x) ∙ (element-tail A g t x elem).normal)
+
   pub parent : (t : ℕ) (x : List ℕ) (i : ℕ) (found : Option ℕ) → i < length words → word_at words i ≡ t ∷ x → IsNumberOf words (normal_form A (t ∷ word_at words i)) found → IsParent words i x found
   parent t x i found l e n = go found n
     where
@@ -48,7 +54,7 @@ module _ (A : IntegerMatrix) (g : IsAdmissible A) (words : List (List ℕ)) (clo
       elem = rw e at (element-at A g words closed i l)
 
       form : normal_form A (t ∷ word_at words i) ≡ x
-      form = rw e (normal_form-equal A g (same-square A g t x) ∙ (element-tail A g t x elem).normal)
+      form = first-off t x i l e
 
       there : Contains words x
       there = closed.down x (word_at words i) (contains-at words i l) (element-tail A g t x elem) (rw e (below-tail A g t x elem))

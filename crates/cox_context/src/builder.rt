@@ -2,8 +2,9 @@
 //!
 //! The members with one letter more are the s x for s = 1, 2, .. and, for each s, the members x of the last length in order, where s is the least
 //! left descent of s x. So each is found once, and they come in ShortLex order.
-ghost use Rattle.std.specs.Prelude.{◌≡◌, ℕ, List, ◌+◌, ◌<◌, ◌≤◌, ◌∷◌, ◌++◌, [], length, IfOk, IfErr, OnOk, IfSome, IfNone, IsTrue};
-ghost use Rattle.cox_base.specs.Matrix.{IsCoxeterMatrix, IsLetter, IsWord};
+ghost use Rattle.std.specs.Prelude.{◌≡◌, ℕ, List, ◌+◌, ◌<◌, ◌≤◌, ◌∷◌, ◌++◌, [], length, IfOk, IfErr, OnOk, IfSome, IfNone, IsTrue, Option, Contains};
+ghost use Rattle.arrayvec.specs.ArrayVec.{ArrayVec};
+ghost use Rattle.cox_base.specs.Matrix.{IsCoxeterMatrix, IsLetter};
 ghost use Rattle.cox_base.specs.IntegerMatrix.{IntegerMatrix, IsAdmissible, integer_matrix};
 ghost use Rattle.cox_base.specs.Length.{IsLeftDescent};
 ghost use Rattle.cox_reflect.specs.Height.{AreHeights};
@@ -14,7 +15,7 @@ ghost use Rattle.cox_context.specs.Growth.{IsGrowing, IsGrown, AreAllHeights};
 ghost use Rattle.cox_context.specs.Refusal.{IsRefusal};
 
 use crate::ContextFault;
-use crate::family::Family;
+use crate::family::{Child, Family};
 use crate::members::Members;
 use cox_base::Word;
 use cox_reflect::Heights;
@@ -24,7 +25,7 @@ use std::alloc::Global;
 #[derive(Drop)]
 pub(crate) struct Builder {
     pub(crate) members: Members,
-    heights: Vec<Heights>,
+    pub(crate) heights: Vec<Heights>,
 }
 
 impl Builder {
@@ -124,41 +125,39 @@ impl Builder {
     {
         for parent in low..high {
             if let Some(child) = self.child(family, s, parent) {
-                self.add(family, child, limit)?;
+                self.add(child, limit)?;
             }
         }
         Ok(())
     }
 
-    /// The word s x of the member x with this number, if it is a normal form and a member.
-    fn child(&mut self, family: &Family, s: u8, parent: u32) -> Option<Word>
+    /// The word s x of the member x with this number, and its heights, if it is a normal form and a member.
+    fn child(&self, family: &Family, s: u8, parent: u32) -> Option<Child>
         requires top { IsTop family.now.group.rank family.now.top }
         requires letter { IsLetter family.now.group.rank s }
-        requires parent { parent < length self.old.members }
-        requires member { IsMember (integer_matrix family.now.group) family.now.top (word_at self.old.members parent) }
-        requires short { length (word_at self.old.members parent) ≤ 62 }
-        requires heights { AreAllHeights (integer_matrix family.now.group) self.old.members self.old.heights.items }
-        ensures child { IfSome result (λ y. (y.items ≡ s ∷ word_at self.old.members parent) × IsMember (integer_matrix family.now.group) family.now.top y.items) }
-        ensures none { IfNone result (¬ (IsMember (integer_matrix family.now.group) family.now.top (s ∷ word_at self.old.members parent))) }
-        ensures members { self.new.members ≡ self.old.members }
-        ensures heights { AreAllHeights (integer_matrix family.now.group) self.old.members self.new.heights.items }
+        requires parent { parent < length self.now.members }
+        requires member { IsMember (integer_matrix family.now.group) family.now.top (word_at self.now.members parent) }
+        requires short { length (word_at self.now.members parent) ≤ 62 }
+        requires heights { AreAllHeights (integer_matrix family.now.group) self.now.members self.now.heights.items }
+        ensures child { IfSome result (λ y. (y.word.items ≡ s ∷ word_at self.now.members parent) × IsMember (integer_matrix family.now.group) family.now.top y.word.items) }
+        ensures heights { IfSome result (λ y. AreHeights (integer_matrix family.now.group) y.word.items y.heights) }
+        ensures none { IfNone result (¬ (IsMember (integer_matrix family.now.group) family.now.top (s ∷ word_at self.now.members parent))) }
     {
-        let heights = &mut self.heights[parent as usize];
+        let heights = &self.heights[parent as usize];
         family.child(heights, s, self.members.word(parent))
     }
 
     /// Appends a member, if the limit admits one more.
-    fn add(&mut self, family: &Family, word: Word, limit: u32) -> Result<(), ContextFault>
+    fn add(&mut self, child: Child, limit: u32) -> Result<(), ContextFault>
         requires limit { limit ≤ 65536 }
         requires room { length self.old.members ≤ limit }
-        requires heights { AreAllHeights (integer_matrix family.now.group) self.old.members self.old.heights.items }
-        requires letters { IsWord family.now.group.rank word.items }
-        requires short { (i : ℕ) → i < length self.old.members + 1 → length (word_at (self.old.members ++ word.items ∷ []) i) ≤ 63 }
-        requires front { IsFrontOf (IsMember (integer_matrix family.now.group) family.now.top) (self.old.members ++ word.items ∷ []) }
-        ensures added { OnOk result (self.new.members ≡ self.old.members ++ word.items ∷ []) }
-        ensures heights { OnOk result (AreAllHeights (integer_matrix family.now.group) self.new.members self.new.heights.items) }
+        requires new { ¬ (Contains self.old.members child.word.items) }
+        ensures added { OnOk result (self.new.members ≡ self.old.members ++ child.word.items ∷ []) }
+        ensures heights { OnOk result (self.new.heights.items ≡ self.old.heights.items ++ child.heights ∷ []) }
         ensures room { OnOk result (length self.new.members ≤ limit) }
-        ensures fault { IfErr result (IsRefusal (IsMember (integer_matrix family.now.group) family.now.top) limit) }
+        ensures fault { (A : IntegerMatrix) → (top : Option (ArrayVec ℕ)) → IsFrontOf (IsMember A top) (self.old.members ++ child.word.items ∷ [])
+            → ((i : ℕ) → i < length self.old.members + 1 → length (word_at (self.old.members ++ child.word.items ∷ []) i) ≤ 63)
+            → IfErr result (IsRefusal (IsMember A top) limit) }
     {
         if self.members.len() == limit {
             return Err(ContextFault::Size {
@@ -166,8 +165,7 @@ impl Builder {
                 seen: limit + 1,
             });
         }
-        let heights = Heights::of_word(&family.group, &word);
-        if self.heights.push(heights).is_err() || self.members.push(word).is_err() {
+        if self.heights.push(child.heights).is_err() || self.members.push(child.word).is_err() {
             return Err(ContextFault::NoMemory);
         }
         Ok(())

@@ -8,13 +8,15 @@ ghost use Rattle.cox_base.specs.Bruhat.{IsBelow};
 ghost use Rattle.cox_context.specs.Members.{IsElement, IsInInterval, IsClosed};
 ghost use Rattle.cox_context.specs.SortedList.{IsListOf};
 ghost use Rattle.cox_context.specs.Numbers.{word_at, IsNumberOf};
+ghost use Rattle.cox_context.specs.Growth.{AreAllHeights};
 ghost use Rattle.cox_context.specs.Refusal.{IsRefusal};
 
 use crate::ContextFault;
 use crate::builder::Builder;
 use crate::family::Family;
 use crate::members::Members;
-use crate::shifts::{entry, left_shifts, lowering, right_shifts};
+use crate::right_shifts::right_shifts;
+use crate::shifts::{entry, left_shifts, lowering};
 use cox_base::{Coxeter, Side, Word, copy_word};
 use cox_reflect::{descents, length};
 use std::alloc::Global;
@@ -73,7 +75,7 @@ impl Context {
         };
         let mut builder = Builder::new(alloc, &family)?;
         builder.grow(&family, length(group, w), limit)?;
-        Context::of_members(alloc, family.group, builder.members)
+        Context::of_members(alloc, family.group, builder)
     }
 
     /// The elements of a group.
@@ -98,16 +100,18 @@ impl Context {
         if builder.goes_on(&family, low) {
             return Err(ContextFault::Long);
         }
-        Context::of_members(alloc, family.group, builder.members)
+        Context::of_members(alloc, family.group, builder)
     }
 
-    /// The context with these members.
-    fn of_members(alloc: Global, group: Coxeter, members: Members) -> Result<Context, ContextFault>
-        requires { IsClosed (integer_matrix group) members }
-        ensures made { IfOk result (λ c. c ≡ record { matrix = group; members = members }) }
+    /// The context with the members that were found.
+    fn of_members(alloc: Global, group: Coxeter, builder: Builder) -> Result<Context, ContextFault>
+        requires closed { IsClosed (integer_matrix group) builder.members }
+        requires heights { AreAllHeights (integer_matrix group) builder.members builder.heights.items }
+        ensures made { IfOk result (λ c. c ≡ record { matrix = group; members = builder.members }) }
         ensures fault { IfErr result (λ fault. fault ≡ ContextFault.NoMemory) }
     {
-        let Ok(left) = left_shifts(alloc, &group, &members) else {
+        let Builder { members, heights } = builder;
+        let Ok(left) = left_shifts(alloc, &group, &members, heights.as_slice()) else {
             return Err(ContextFault::NoMemory);
         };
         let Ok(right) = right_shifts(alloc, &group, &members, left.as_slice()) else {

@@ -19,24 +19,29 @@ pub(crate) struct Family {
     ghost descents_of: { descents.items ≡ top_descents (integer_matrix group) top },
 }
 
+/// A member that was found, and its heights.
+#[derive(Drop)]
+pub(crate) struct Child {
+    pub(crate) word: Word,
+    pub(crate) heights: Heights,
+}
+
 impl Family {
-    /// Whether s x is a normal form and a member, for a member x, whose heights are given and stay.
-    pub(crate) fn child(&self, heights: &mut Heights, s: u8, x: &Word) -> Option<Word>
+    /// The word s x and its heights, if it is a normal form and a member, for a member x with its heights.
+    pub(crate) fn child(&self, heights: &Heights, s: u8, x: &Word) -> Option<Child>
         requires top { IsTop self.now.group.rank self.now.top }
         requires letter { IsLetter self.now.group.rank s }
         requires member { IsMember (integer_matrix self.now.group) self.now.top x.now.items }
         requires short { length x.now.items ≤ 62 }
-        requires heights { AreHeights (integer_matrix self.now.group) x.now.items heights.old }
-        ensures child { IfSome result (λ y. (y.items ≡ s ∷ x.now.items) × IsMember (integer_matrix self.now.group) self.now.top y.items) }
+        requires heights { AreHeights (integer_matrix self.now.group) x.now.items heights.now }
+        ensures child { IfSome result (λ y. (y.word.items ≡ s ∷ x.now.items) × IsMember (integer_matrix self.now.group) self.now.top y.word.items) }
+        ensures heights { IfSome result (λ y. AreHeights (integer_matrix self.now.group) y.word.items y.heights) }
         ensures none { IfNone result (¬ (IsMember (integer_matrix self.now.group) self.now.top (s ∷ x.now.items))) }
-        ensures kept { AreHeights (integer_matrix self.now.group) x.now.items heights.new }
     {
-        if !is_normal(&self.group, heights, s, x) {
-            return None;
-        }
-        let child = with_first(s, x);
-        if self.descents.as_slice().contains(&s) || self.has(&child) {
-            Some(child)
+        let heights = normal_heights(&self.group, heights, s, x)?;
+        let word = with_first(s, x);
+        if self.descents.as_slice().contains(&s) || self.has(&word) {
+            Some(Child { word, heights })
         } else {
             None
         }
@@ -56,21 +61,24 @@ impl Family {
     }
 }
 
-/// Whether s x is a normal form, for a normal form x, whose heights are given and stay.
-fn is_normal(g: &Coxeter, heights: &mut Heights, s: u8, x: &Word) -> bool
+/// The heights of s x where it is a normal form, for a normal form x with its heights.
+fn normal_heights(g: &Coxeter, heights: &Heights, s: u8, x: &Word) -> Option<Heights>
     requires letter { IsLetter g.now.rank s }
     requires element { IsElement (integer_matrix g.now) x.now.items }
     requires short { length x.now.items ≤ 62 }
-    requires heights { AreHeights (integer_matrix g.now) x.now.items heights.old }
+    requires heights { AreHeights (integer_matrix g.now) x.now.items heights.now }
     ensures matrix { IsCoxeterMatrix g.now }
-    ensures normal { IsTrue result ↔ (normal_form (integer_matrix g.now) (s ∷ x.now.items) ≡ s ∷ x.now.items) }
-    ensures kept { AreHeights (integer_matrix g.now) x.now.items heights.new }
+    ensures some { IfSome result (λ h. AreHeights (integer_matrix g.now) (s ∷ x.now.items) h × (normal_form (integer_matrix g.now) (s ∷ x.now.items) ≡ s ∷ x.now.items)) }
+    ensures none { IfNone result (¬ (normal_form (integer_matrix g.now) (s ∷ x.now.items) ≡ s ∷ x.now.items)) }
 {
     let rank = g.rank();
-    heights.prepend(g, s);
-    let least = heights.least_descent(rank);
-    heights.prepend(g, s);
-    least == Some(s)
+    let mut longer = *heights;
+    longer.prepend(g, s);
+    if longer.least_descent(rank) == Some(s) {
+        Some(longer)
+    } else {
+        None
+    }
 }
 
 /// The word s x.

@@ -10,7 +10,7 @@
 //! - `family`: the group or the interval that is meant
 //! - `members`: the members, by number and by word
 //! - `builder`: finds the members, length by length
-//! - `shifts`: the tables of left and right shifts
+//! - `shifts`, `right_shifts`: the tables of left and right shifts
 //! - `laws`: each interval has one list in ShortLex order, closed downwards
 #![tactic(auto)]
 
@@ -20,6 +20,7 @@ mod family;
 mod fault;
 pub mod laws;
 mod members;
+mod right_shifts;
 mod shifts;
 #[cfg(test)]
 mod tests;

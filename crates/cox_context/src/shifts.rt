@@ -1,47 +1,56 @@
-//! The tables of left and right shifts: for each member, in order, one entry for each letter.
-ghost use Rattle.std.specs.Prelude.{◌≡◌, ℕ, ◌+◌, ◌-◌, ◌*◌, ◌<◌, ◌≤◌, ◌⊎◌, ◌∷◌, ◌++◌, [], length, Some, None, Option, List, filter, IfOk, IfSome, OnOk};
+//! The table of left shifts: for each member, in order, one entry for each letter.
+ghost use Rattle.std.specs.Prelude.{◌≡◌, ℕ, ◌+◌, ◌-◌, ◌*◌, ◌<◌, ◌≤◌, ◌⊎◌, ◌∷◌, length, Some, None, Option, List, filter, IfOk, IfSome};
 ghost use Rattle.cox_base.specs.Matrix.{IsCoxeterMatrix, IsLetter};
 ghost use Rattle.cox_base.specs.IntegerMatrix.{integer_matrix};
 ghost use Rattle.cox_base.specs.ShortLex.{normal_form, letters};
 ghost use Rattle.cox_base.specs.Length.{IsLeftDescent};
+ghost use Rattle.cox_reflect.specs.Height.{AreHeights};
 ghost use Rattle.cox_context.specs.Members.{IsElement, IsClosed};
 ghost use Rattle.cox_context.specs.Numbers.{word_at, IsNumberOf};
-ghost use Rattle.cox_context.specs.Shifts.{entry, is_lower, AreLeftShifts, AreRightShifts, AreSoundLinks, AreLinks};
+ghost use Rattle.cox_context.specs.Growth.{AreAllHeights};
+ghost use Rattle.cox_context.specs.Shifts.{entry, is_lower, AreLeftShifts, AreSoundLinks, AreLinks};
 
 use crate::members::Members;
-use cox_base::{Coxeter, Word};
+use cox_base::{Coxeter, Word, copy_word};
 use cox_reflect::Heights;
 use std::alloc::{AllocError, Global};
 
 /// The number of s x for each member x and each letter s, where it is a member.
 ///
-/// Each descent is found once, from the longer of the two, and noted at both.
+/// Each descent is found once, from the longer of the two, by its heights, and noted at both.
 pub(crate) fn left_shifts(
     alloc: Global,
     g: &Coxeter,
     members: &Members,
+    heights: &[Heights],
 ) -> Result<Vec<Option<u32>>, AllocError>
-    requires { IsClosed (integer_matrix g.now) members.now }
+    requires closed { IsClosed (integer_matrix g.now) members.now }
+    requires heights { AreAllHeights (integer_matrix g.now) members.now heights.now }
     ensures { IfOk result (λ table. AreLeftShifts (integer_matrix g.now) members.now table.items) }
 {
     let size = members.len() as usize * g.rank() as usize;
     let mut table = vec![in alloc; None; size]?;
     for i in 0..members.len() {
-        link_member(g, members, &mut table, i);
+        link_member(g, members, &heights[i as usize], &mut table, i);
     }
     Ok(table)
 }
 
-/// Notes the descents of a member.
-fn link_member(g: &Coxeter, members: &Members, table: &mut Vec<Option<u32>>, i: u32)
+/// Notes the descents of a member, which has these heights.
+fn link_member(
+    g: &Coxeter,
+    members: &Members,
+    heights: &Heights,
+    table: &mut Vec<Option<u32>>,
+    i: u32,
+)
     requires closed { IsClosed (integer_matrix g.now) members.now }
     requires member { i < length members.now }
+    requires heights { AreHeights (integer_matrix g.now) (word_at members.now i) heights.now }
     requires links { AreLinks (integer_matrix g.now) members.now i 1 table.old.items }
     ensures { AreLinks (integer_matrix g.now) members.now i (g.now.rank + 1) table.new.items }
 {
     let rank = g.rank();
-    let word = members.word(i);
-    let heights = Heights::of_word(g, word);
     for s in 1..rank as u8 + 1 {
         if heights.is_descent(s) {
             if let Some(k) = lower_member(g, members, table.as_slice(), s, i) {
@@ -53,7 +62,8 @@ fn link_member(g: &Coxeter, members: &Members, table: &mut Vec<Option<u32>>, i: 
 
 /// The number of s y, for a left descent s of the member y.
 ///
-/// Where y begins with a lesser letter t it is found by a walk; else, and where a shift on the way is not noted, by its word.
+/// Where s is the first letter of y it is taken off, and where y begins with a lesser letter s y is found by a walk. The word is sought only where a shift
+/// on the way is not noted.
 fn lower_member(g: &Coxeter, members: &Members, table: &[Option<u32>], s: u8, i: u32) -> Option<u32>
     requires matrix { IsCoxeterMatrix g.now }
     requires closed { IsClosed (integer_matrix g.now) members.now }
@@ -62,14 +72,28 @@ fn lower_member(g: &Coxeter, members: &Members, table: &[Option<u32>], s: u8, i:
     requires descent { IsLeftDescent (integer_matrix g.now) (word_at members.now i) s }
     ensures { IsNumberOf members.now (normal_form (integer_matrix g.now) (s ∷ word_at members.now i)) result }
 {
-    if let Some(&t) = members.word(i).as_slice().first()
-        && t < s
-    {
-        if let Some(k) = walk(g, members, table, t, s, i) {
-            return Some(k);
+    let word = members.word(i);
+    if let Some(&t) = word.as_slice().first() {
+        if t == s {
+            return members.number(&without_first(word));
+        }
+        if t < s {
+            if let Some(k) = walk(g, members, table, t, s, i) {
+                return Some(k);
+            }
         }
     }
-    members.number(&shifted(g, members.word(i), s))
+    members.number(&shifted(g, word, s))
+}
+
+/// The word without its first letter.
+fn without_first(word: &Word) -> Word
+    requires { 1 ≤ length word.now.items }
+    ensures { (s : ℕ) → (x : List ℕ) → word.now.items ≡ s ∷ x → result.items ≡ x }
+{
+    let mut rest = copy_word(word);
+    rest.remove(0);
+    rest
 }
 
 /// The number of s y for the member y, by shifts by t and s in turn, 2 m(t,s) - 1 of them: these letters together are s.
@@ -160,112 +184,6 @@ pub(crate) fn entry(table: &[Option<u32>], rank: u32, s: u8, i: u32) -> Option<u
     ensures { result ≡ entry rank table.now s i }
 {
     table[place(rank, s, i)]
-}
-
-/// The number of x s for each member x and each letter s, where it is a member.
-///
-/// With the first letter t of x = t x' it is the left shift by t of the right shift of x', which was found before.
-pub(crate) fn right_shifts(
-    alloc: Global,
-    g: &Coxeter,
-    members: &Members,
-    left: &[Option<u32>],
-) -> Result<Vec<Option<u32>>, AllocError>
-    requires closed { IsClosed (integer_matrix g.now) members.now }
-    requires left { AreLeftShifts (integer_matrix g.now) members.now left.now }
-    ensures size { IfOk result (λ table. length table.items ≡ length members.now * g.now.rank) }
-    ensures shifts { IfOk result (λ table. AreRightShifts (integer_matrix g.now) members.now table.items) }
-{
-    let mut table = Vec::new(alloc);
-    for i in 0..members.len() {
-        push_row(g, members, left, &mut table, i)?;
-    }
-    Ok(table)
-}
-
-/// Appends the entries of a member.
-fn push_row(
-    g: &Coxeter,
-    members: &Members,
-    left: &[Option<u32>],
-    table: &mut Vec<Option<u32>>,
-    i: u32,
-) -> Result<(), AllocError>
-    requires closed { IsClosed (integer_matrix g.now) members.now }
-    requires left { AreLeftShifts (integer_matrix g.now) members.now left.now }
-    requires member { i < length members.now }
-    requires size { length table.old.items ≡ i * g.now.rank }
-    requires shifts { AreRightShifts (integer_matrix g.now) members.now table.old.items }
-    ensures size { OnOk result (length table.new.items ≡ (i + 1) * g.now.rank) }
-    ensures shifts { OnOk result (AreRightShifts (integer_matrix g.now) members.now table.new.items) }
-{
-    let rank = g.rank();
-    for s in 1..rank as u8 + 1 {
-        let shift = right_shift(g, members, left, table.as_slice(), s, i);
-        table.push(shift)?;
-    }
-    Ok(())
-}
-
-/// The right shift of a member, by those of the members before it.
-fn right_shift(
-    g: &Coxeter,
-    members: &Members,
-    left: &[Option<u32>],
-    right: &[Option<u32>],
-    s: u8,
-    i: u32,
-) -> Option<u32>
-    requires matrix { IsCoxeterMatrix g.now }
-    requires closed { IsClosed (integer_matrix g.now) members.now }
-    requires left { AreLeftShifts (integer_matrix g.now) members.now left.now }
-    requires member { i < length members.now }
-    requires letter { IsLetter g.now.rank s }
-    requires before { i * g.now.rank ≤ length right.now }
-    requires right { AreRightShifts (integer_matrix g.now) members.now right.now }
-    ensures { IsNumberOf members.now (normal_form (integer_matrix g.now) (word_at members.now i ++ s ∷ [])) result }
-{
-    let Some(&t) = members.word(i).as_slice().first() else {
-        return left_shift(g, members, left, s, i);
-    };
-    let parent = left_shift(g, members, left, t, i)?;
-    let shifted = known_right_shift(g, members, right, s, parent)?;
-    left_shift(g, members, left, t, shifted)
-}
-
-/// The left shift of a member.
-pub(crate) fn left_shift(
-    g: &Coxeter,
-    members: &Members,
-    left: &[Option<u32>],
-    s: u8,
-    i: u32,
-) -> Option<u32>
-    requires few { length members.now ≤ 65536 }
-    requires left { AreLeftShifts (integer_matrix g.now) members.now left.now }
-    requires member { i < length members.now }
-    requires letter { IsLetter g.now.rank s }
-    ensures { IsNumberOf members.now (normal_form (integer_matrix g.now) (s ∷ word_at members.now i)) result }
-{
-    entry(left, g.rank(), s, i)
-}
-
-/// The right shift of a member whose entries are there.
-fn known_right_shift(
-    g: &Coxeter,
-    members: &Members,
-    right: &[Option<u32>],
-    s: u8,
-    i: u32,
-) -> Option<u32>
-    requires few { length members.now ≤ 65536 }
-    requires right { AreRightShifts (integer_matrix g.now) members.now right.now }
-    requires member { i < length members.now }
-    requires letter { IsLetter g.now.rank s }
-    requires known { i * g.now.rank + (s - 1) < length right.now }
-    ensures { IsNumberOf members.now (normal_form (integer_matrix g.now) (word_at members.now i ++ s ∷ [])) result }
-{
-    entry(right, g.rank(), s, i)
 }
 
 /// The letters, rising, that take member i to a member before it.

@@ -17,8 +17,8 @@ pub returns-then-goes_on-clause-refused : goal.returns-then-goes_on-clause-refus
 returns-then-goes_on-clause-refused c =
     rw (← c.copy.ensures) (group-long (integer_matrix c.copy.result) (IsAdmissible-integer_matrix c.copy.result c.new-2.ensures.matrix) c.in_ok-low.low c.args.limit c.grow.new.self.members c.in_ok-low.ensures.grown c.in_ok-low.ensures.room (c.goes_on.ensures.yes c.if-goes_on.true))
 
-pub of_members-requires : goal.of_members-requires
-of_members-requires c =
+pub of_members-requires-clause-closed : goal.of_members-requires-clause-closed
+of_members-requires-clause-closed c =
     let A : IntegerMatrix = integer_matrix c.copy.result
     in let g : IsAdmissible A = IsAdmissible-integer_matrix c.copy.result c.new-2.ensures.matrix
     in let short : (word : List ℕ) → IsElement A word → length word ≤ 63

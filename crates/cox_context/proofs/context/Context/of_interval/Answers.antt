@@ -13,8 +13,8 @@ use Rattle.cox_context.proofs.context.Context.of_interval.Goals as goal
 pub returns-in_err-grow-clause-refused : goal.returns-in_err-grow-clause-refused
 returns-in_err-grow-clause-refused c = rw (← c.copy.ensures, ← c.copy_word.ensures) (search rules)
 
-pub of_members-requires : goal.of_members-requires
-of_members-requires c =
+pub of_members-requires-clause-closed : goal.of_members-requires-clause-closed
+of_members-requires-clause-closed c =
     let A : IntegerMatrix = integer_matrix c.copy.result
     in let g : IsAdmissible A = IsAdmissible-integer_matrix c.copy.result c.new.ensures.matrix
     in let top : List ℕ = c.copy_word.result.items

@@ -11,9 +11,9 @@ use Rattle.cox_context.proofs.family.Family.child.Goals.{then-contains, else-con
 pub returns-then-has-clause-child : goal.returns-then-has-clause-child
 returns-then-has-clause-child c =
     let A : IntegerMatrix = integer_matrix c.args.self.now.group
-    in let g : IsAdmissible A = IsAdmissible-integer_matrix c.args.self.now.group c.is_normal.ensures.matrix
-    in let y : List ℕ = c.with_first-child.result.items
-    in let child : y ≡ c.args.s ∷ c.args.x.now.items = c.with_first-child.ensures
+    in let g : IsAdmissible A = IsAdmissible-integer_matrix c.args.self.now.group c.in_ok-heights.ensures.matrix
+    in let y : List ℕ = c.with_first-word.result.items
+    in let child : y ≡ c.args.s ∷ c.args.x.now.items = c.with_first-word.ensures
     in let parent : IsElement A c.args.x.now.items = (ideal-member A g c.args.self.now.top).element c.args.x.now.items c.requires.member
     in elim c.if-contains.branch [
       | then-contains w ↦
@@ -22,7 +22,7 @@ returns-then-has-clause-child c =
           = rw (← same) (w.if-contains.ensures.cases.0, w.if-contains.ensures.cases.1, eqb-true _ _ (w.if-contains.ensures.cases.2 c.args.s))
           in let e : IsElement A y = rw child (record {
             letters = All-cons (IsLetter A.rank) c.args.s c.args.x.now.items c.requires.letter parent.letters;
-            normal = c.is_normal.ensures.normal.0 c.if-not-is_normal.false;
+            normal = c.in_ok-heights.ensures.some.1;
           })
           in (child, member-descent A g c.args.self.now.top c.args.s c.args.x.now.items y there c.requires.member child e)
       | else-contains w ↦ (child, w.has.ensures.0 (sym w.value-is ∙ c.if-has.true))

@@ -4,7 +4,7 @@ use Rattle.cox_reflect.proofs.Admissible.{IsAdmissible-integer_matrix}
 use Rattle.cox_context.specs.Numbers.{word_at}
 use Rattle.cox_context.proofs.Places.{place-within}
 use Rattle.cox_context.proofs.RightShifts.{HasFirst, first-of, first-letter, parent-some, parent-none, right-none, right-some}
-use Rattle.cox_context.proofs.shifts.right_shift.Goals as goal
+use Rattle.cox_context.proofs.right_shifts.right_shift.Goals as goal
 
 pub left_shift-requires-2-clause-letter : goal.left_shift-requires-2-clause-letter
 left_shift-requires-2-clause-letter c =

@@ -2,7 +2,7 @@ use Rattle.std.proofs.Common.{◌∷◌, [], length-append, arith}
 use Rattle.cox_base.specs.IntegerMatrix.{integer_matrix}
 use Rattle.cox_reflect.proofs.Admissible.{IsAdmissible-integer_matrix}
 use Rattle.cox_context.proofs.RightShifts.{right-push}
-use Rattle.cox_context.proofs.shifts.push_row.Goals as goal
+use Rattle.cox_context.proofs.right_shifts.push_row.Goals as goal
 
 pub loop-s-preserved : goal.loop-s-preserved
 loop-s-preserved c = record {

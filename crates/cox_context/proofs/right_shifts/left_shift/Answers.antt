@@ -1,5 +1,5 @@
 use Rattle.cox_context.proofs.Places.{place-within}
-use Rattle.cox_context.proofs.shifts.left_shift.Goals as goal
+use Rattle.cox_context.proofs.right_shifts.left_shift.Goals as goal
 
 pub entry-requires-clause-within : goal.entry-requires-clause-within
 entry-requires-clause-within c = rw (c.rank.ensures.rank, c.requires.left.size) (place-within c.args.g.now.rank _ c.args.i c.args.s c.requires.letter c.requires.member)

@@ -1,4 +1,4 @@
-use Rattle.cox_context.proofs.shifts.known_right_shift.Goals as goal
+use Rattle.cox_context.proofs.right_shifts.known_right_shift.Goals as goal
 
 pub entry-requires-clause-within : goal.entry-requires-clause-within
 entry-requires-clause-within c = rw c.rank.ensures.rank c.requires.known

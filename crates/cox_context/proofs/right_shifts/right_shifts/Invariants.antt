@@ -1,7 +1,7 @@
 use Rattle.std.proofs.Common.{◌≡◌, ◌*◌, length}
 use Rattle.cox_base.specs.IntegerMatrix.{integer_matrix}
 use Rattle.cox_context.specs.Shifts.{AreRightShifts}
-use Rattle.cox_context.proofs.shifts.right_shifts.Given as goal
+use Rattle.cox_context.proofs.right_shifts.right_shifts.Given as goal
 
 abbrev pub invariant-loop-i : goal.invariant-loop-i
 invariant-loop-i l = record {

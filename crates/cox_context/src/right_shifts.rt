@@ -1,0 +1,113 @@
+//! The table of right shifts, from that of left shifts.
+ghost use Rattle.std.specs.Prelude.{◌≡◌, ◌+◌, ◌-◌, ◌*◌, ◌<◌, ◌≤◌, ◌∷◌, ◌++◌, [], length, IfOk, OnOk};
+ghost use Rattle.cox_base.specs.Matrix.{IsCoxeterMatrix, IsLetter};
+ghost use Rattle.cox_base.specs.IntegerMatrix.{integer_matrix};
+ghost use Rattle.cox_base.specs.ShortLex.{normal_form};
+ghost use Rattle.cox_context.specs.Members.{IsClosed};
+ghost use Rattle.cox_context.specs.Numbers.{word_at, IsNumberOf};
+ghost use Rattle.cox_context.specs.Shifts.{AreLeftShifts, AreRightShifts};
+
+use crate::members::Members;
+use crate::shifts::entry;
+use cox_base::Coxeter;
+use std::alloc::{AllocError, Global};
+
+/// The number of x s for each member x and each letter s, where it is a member.
+///
+/// With the first letter t of x = t x' it is the left shift by t of the right shift of x', which was found before.
+pub(crate) fn right_shifts(
+    alloc: Global,
+    g: &Coxeter,
+    members: &Members,
+    left: &[Option<u32>],
+) -> Result<Vec<Option<u32>>, AllocError>
+    requires closed { IsClosed (integer_matrix g.now) members.now }
+    requires left { AreLeftShifts (integer_matrix g.now) members.now left.now }
+    ensures size { IfOk result (λ table. length table.items ≡ length members.now * g.now.rank) }
+    ensures shifts { IfOk result (λ table. AreRightShifts (integer_matrix g.now) members.now table.items) }
+{
+    let mut table = Vec::new(alloc);
+    for i in 0..members.len() {
+        push_row(g, members, left, &mut table, i)?;
+    }
+    Ok(table)
+}
+
+/// Appends the entries of a member.
+fn push_row(
+    g: &Coxeter,
+    members: &Members,
+    left: &[Option<u32>],
+    table: &mut Vec<Option<u32>>,
+    i: u32,
+) -> Result<(), AllocError>
+    requires closed { IsClosed (integer_matrix g.now) members.now }
+    requires left { AreLeftShifts (integer_matrix g.now) members.now left.now }
+    requires member { i < length members.now }
+    requires size { length table.old.items ≡ i * g.now.rank }
+    requires shifts { AreRightShifts (integer_matrix g.now) members.now table.old.items }
+    ensures size { OnOk result (length table.new.items ≡ (i + 1) * g.now.rank) }
+    ensures shifts { OnOk result (AreRightShifts (integer_matrix g.now) members.now table.new.items) }
+{
+    let rank = g.rank();
+    for s in 1..rank as u8 + 1 {
+        let shift = right_shift(g, members, left, table.as_slice(), s, i);
+        table.push(shift)?;
+    }
+    Ok(())
+}
+
+/// The right shift of a member, by those of the members before it.
+fn right_shift(
+    g: &Coxeter,
+    members: &Members,
+    left: &[Option<u32>],
+    right: &[Option<u32>],
+    s: u8,
+    i: u32,
+) -> Option<u32>
+    requires matrix { IsCoxeterMatrix g.now }
+    requires closed { IsClosed (integer_matrix g.now) members.now }
+    requires left { AreLeftShifts (integer_matrix g.now) members.now left.now }
+    requires member { i < length members.now }
+    requires letter { IsLetter g.now.rank s }
+    requires before { i * g.now.rank ≤ length right.now }
+    requires right { AreRightShifts (integer_matrix g.now) members.now right.now }
+    ensures { IsNumberOf members.now (normal_form (integer_matrix g.now) (word_at members.now i ++ s ∷ [])) result }
+{
+    let Some(&t) = members.word(i).as_slice().first() else {
+        return left_shift(g, members, left, s, i);
+    };
+    let parent = left_shift(g, members, left, t, i)?;
+    let shifted = known_right_shift(g, members, right, s, parent)?;
+    left_shift(g, members, left, t, shifted)
+}
+
+/// The left shift of a member.
+fn left_shift(g: &Coxeter, members: &Members, left: &[Option<u32>], s: u8, i: u32) -> Option<u32>
+    requires few { length members.now ≤ 65536 }
+    requires left { AreLeftShifts (integer_matrix g.now) members.now left.now }
+    requires member { i < length members.now }
+    requires letter { IsLetter g.now.rank s }
+    ensures { IsNumberOf members.now (normal_form (integer_matrix g.now) (s ∷ word_at members.now i)) result }
+{
+    entry(left, g.rank(), s, i)
+}
+
+/// The right shift of a member whose entries are there.
+fn known_right_shift(
+    g: &Coxeter,
+    members: &Members,
+    right: &[Option<u32>],
+    s: u8,
+    i: u32,
+) -> Option<u32>
+    requires few { length members.now ≤ 65536 }
+    requires right { AreRightShifts (integer_matrix g.now) members.now right.now }
+    requires member { i < length members.now }
+    requires letter { IsLetter g.now.rank s }
+    requires known { i * g.now.rank + (s - 1) < length right.now }
+    ensures { IsNumberOf members.now (normal_form (integer_matrix g.now) (word_at members.now i ++ s ∷ [])) result }
+{
+    entry(right, g.rank(), s, i)
+}
