@@ -1,11 +1,12 @@
 -- Bruhat order and descents of members, by their left shifts.
-use Rattle.std.proofs.Common.{◌≡◌, ℕ, ◌≤◌, ◌<◌, Bool, true, min, List, [], ◌∷◌, ◌++◌, length, filter, ◌*◌, Option, None, Some, ◌↔◌, IsTrue, refl, sym, ◌∙◌, ⊎_elim, arith, ltb-true, lt-ltb, take, drop}
+use Rattle.std.proofs.Common.{◌≡◌, ℕ, ◌≤◌, ◌<◌, Bool, true, min, List, [], ◌∷◌, ◌++◌, length, ◌*◌, Option, None, Some, ◌↔◌, IsTrue, refl, sym, ◌∙◌, ⊎_elim, arith, ltb-true, lt-ltb, take, drop}
 use Rattle.std.proofs.lemmas.List.{take-append-drop}
 use Rattle.std.proofs.lemmas.Bool.{cases_lt}
+use Rattle.arrayvec.specs.ArrayVec.{ArrayVec}
 use Rattle.cox_base.specs.Matrix.{IsLetter}
 use Rattle.cox_base.specs.IntegerMatrix.{IntegerMatrix, IsAdmissible}
 use Rattle.cox_base.specs.Element.{SameElement}
-use Rattle.cox_base.specs.ShortLex.{normal_form, letters}
+use Rattle.cox_base.specs.ShortLex.{normal_form}
 use Rattle.cox_base.specs.Length.{IsReduced, IsLeftDescent, IsRightDescent, left_descents, right_descents}
 use Rattle.cox_base.specs.Bruhat.{IsBelow}
 use Rattle.cox_reflect.proofs.Elements.{same-refl, same-sym, same-square}
@@ -15,7 +16,7 @@ use Rattle.cox_reflect.proofs.Bruhat.{below-same, below-refl, below-length, lift
 use Rattle.cox_reflect.proofs.DescentLists.{left_descents-by, right_descents-by}
 use Rattle.cox_context.specs.Members.{IsClosed}
 use Rattle.cox_context.specs.Numbers.{word_at, IsNumberOf}
-use Rattle.cox_context.specs.Shifts.{entry, is_lower, AreLeftShifts, AreRightShifts}
+use Rattle.cox_context.specs.Shifts.{entry, is_lower, AreLeftShifts, AreRightShifts, lowering_letters, AreLoweringLetters, AreDescents}
 use Rattle.cox_context.proofs.ListLemmas.{rising-place}
 use Rattle.cox_context.proofs.Places.{place-within}
 use Rattle.cox_context.proofs.Shifting.{length-at, first-member, shift-less, right_shift-less, descent-member, right_descent-member}
@@ -112,14 +113,21 @@ module _ (A : IntegerMatrix) (g : IsAdmissible A) (words : List (List ℕ)) (clo
   lower-right_descent s i (Some k) l m (within, shift) =
       let less = right_shift-less A g words closed s i k l m within shift in (λ f. less.0 (ltb-true k i f), λ d. lt-ltb k i (less.1 d))
 
-  -- the descents of a member, read off its shifts
-  pub left-filter : (table : List (Option ℕ)) (i : ℕ) → AreLeftShifts A words table → i < length words → (r : ℕ) (t : List (Option ℕ)) → r ≡ A.rank → t ≡ table
-      → filter (λ s. is_lower i (entry r t s i)) (letters r) ≡ left_descents A (word_at words i)
-  left-filter table i h l r t e f =
-      rw (e, f) (sym (left_descents-by A (word_at words i) (λ s. is_lower i (entry A.rank table s i)) (λ s k. lower-descent s i (entry A.rank table s i) k l (h.shift s i k l))))
+  -- the descents of the members, read off their shifts
+  pub left-lowering : (table : List (Option ℕ)) (kept : List (ArrayVec ℕ)) → AreLeftShifts A words table → AreLoweringLetters A.rank table (length words) kept → AreDescents (left_descents A) words kept
+  unfolding lowering_letters
+  left-lowering table kept h k = record {
+    size = k.size;
+    letters = λ i l. k.letters i l
+        ∙ sym (left_descents-by A (word_at words i) (λ s. is_lower i (entry A.rank table s i)) (λ s m. lower-descent s i (entry A.rank table s i) m l (h.shift s i m l)));
+  }
 
-  pub right-filter : (table : List (Option ℕ)) (i : ℕ) → length table ≡ length words * A.rank → AreRightShifts A words table → i < length words → (r : ℕ) (t : List (Option ℕ)) → r ≡ A.rank → t ≡ table
-      → filter (λ s. is_lower i (entry r t s i)) (letters r) ≡ right_descents A (word_at words i)
-  right-filter table i size h l r t e f =
-      rw (e, f) (sym (right_descents-by A (word_at words i) (λ s. is_lower i (entry A.rank table s i))
-      (λ s k. lower-right_descent s i (entry A.rank table s i) k l (h.shift s i k l (rw size (place-within A.rank (length words) i s k l))))))
+  pub right-lowering : (table : List (Option ℕ)) (kept : List (ArrayVec ℕ)) → length table ≡ length words * A.rank → AreRightShifts A words table → AreLoweringLetters A.rank table (length words) kept
+      → AreDescents (right_descents A) words kept
+  unfolding lowering_letters
+  right-lowering table kept size h k = record {
+    size = k.size;
+    letters = λ i l. k.letters i l
+        ∙ sym (right_descents-by A (word_at words i) (λ s. is_lower i (entry A.rank table s i))
+        (λ s m. lower-right_descent s i (entry A.rank table s i) m l (h.shift s i m l (rw size (place-within A.rank (length words) i s m l)))));
+  }

@@ -5,7 +5,7 @@ use Rattle.std.proofs.lemmas.List.{append-nil}
 use Rattle.std.proofs.lemmas.List.Elements.{filter-append}
 use Rattle.std.proofs.lemmas.List.FromFn.{length-range_with_len}
 use Rattle.cox_base.specs.ShortLex.{letters}
-use Rattle.cox_context.specs.Shifts.{entry, is_lower}
+use Rattle.cox_context.specs.Shifts.{entry, is_lower, lowering_letters}
 
 range-push : (a n : ℕ) → range_with_len a (suc n) ≡ range_with_len a n ++ (a + n) ∷ []
 range-push a zero = ap (λ (x : ℕ). x ∷ []) (omega arith)
@@ -58,6 +58,6 @@ pub lowered-length : (rank : ℕ) (table : List (Option ℕ)) (i n : ℕ) → le
 unfolding lowered
 lowered-length rank table i n = filter-length (λ s. is_lower i (entry rank table s i)) n
 
-pub lowered-is : (rank : ℕ) (table : List (Option ℕ)) (i n : ℕ) → lowered rank table i n ≡ filter (λ s. is_lower i (entry rank table s i)) (letters n)
-unfolding lowered
-lowered-is rank table i n = refl
+pub lowered-is : (rank : ℕ) (table : List (Option ℕ)) (i : ℕ) → lowered rank table i rank ≡ lowering_letters rank table i
+unfolding lowered lowering_letters
+lowered-is rank table i = refl

@@ -24,14 +24,18 @@ pub mod Links
 pub mod RightShifts
 -- the letters that pass a test
 pub mod FilterLemmas
+-- the letters that are kept for the members
+pub mod KeptLetters
 -- contexts of intervals and of groups
 pub mod ContextLemmas
 -- Bruhat order and descents of members
 pub mod BelowLemmas
 -- a walk by two letters in turn
 pub mod Walks
--- reading an element off by its descents
-pub mod Reading
+-- two letters that both shorten an element
+pub mod TwoDescents
+-- the links that a walk needs
+pub mod Turns
 -- lists in ShortLex order
 pub mod SortedLemmas
 -- words in any order, listed in ShortLex order

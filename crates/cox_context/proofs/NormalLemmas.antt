@@ -1,14 +1,16 @@
 -- When s x is a normal form, for a normal form x: exactly where s is the least left descent of s x.
-use Rattle.std.proofs.Common.{◌≡◌, ℕ, Bool, IsTrue, Option, Some, None, MatchOption, List, ◌∷◌, length, ◌↔◌, ap, sym, ◌∙◌, arith, true≢false, eqb}
+use Rattle.std.proofs.Common.{◌≡◌, ℕ, Bool, IsTrue, Option, Some, None, MatchOption, ◌<◌, List, ◌∷◌, length, ◌↔◌, ap, sym, ◌∙◌, arith, true≢false, eqb}
 use Rattle.std.specs.Option.{option_eq}
 use Rattle.std.proofs.lemmas.Bool.{eqb-true, eq-eqb}
 use Rattle.cox_base.specs.IntegerMatrix.{IntegerMatrix, IsAdmissible}
+use Rattle.cox_base.specs.Element.{SameElement}
 use Rattle.cox_base.specs.ShortLex.{normal_form}
 use Rattle.cox_base.specs.Length.{IsLeftDescent}
 use Rattle.cox_reflect.specs.Height.{IsLeastLeftDescent}
-use Rattle.cox_reflect.proofs.Elements.{same-square}
-use Rattle.cox_reflect.proofs.Search.{word_length-equal, word_length-length, normal_form-equal}
-use Rattle.cox_reflect.proofs.Lengths.{word_length-is}
+use Rattle.cox_reflect.proofs.Elements.{same-trans, same-cons, same-square}
+use Rattle.cox_reflect.proofs.Search.{normal_form-same, word_length-equal, word_length-length, normal_form-equal}
+use Rattle.cox_reflect.proofs.Lengths.{word_length-is, cons-word_length}
+use Rattle.cox_reflect.proofs.ShortLexFirst.{IsBefore-head, none-before_normal_form}
 use Rattle.cox_reflect.proofs.NormalForm.{normal_form-descent}
 use Rattle.cox_context.specs.Members.{IsElement}
 
@@ -43,3 +45,13 @@ module _ (A : IntegerMatrix) (g : IsAdmissible A) where
     λ h. let f : t ≡ s = (let k = (some_answer (Some t) s answer q).0 h in cc) in least-normal s x e (rw f at m),
     λ n. (some_answer (Some t) s answer q).1 (ap (λ (r : ℕ). Some r) (normal-least s x n t m)),
   )
+
+  -- no lesser letter shortens it
+  pub first-least : (t : ℕ) (x : List ℕ) → IsElement A (t ∷ x) → (s : ℕ) → IsLeftDescent A (t ∷ x) s → s < t → ⊥
+  first-least t x e s d less = none-before_normal_form A g same (rw e.normal (IsBefore-head s t (normal_form A (s ∷ t ∷ x)) x long less))
+    where
+      same : SameElement A (s ∷ normal_form A (s ∷ t ∷ x)) (t ∷ x)
+      same = same-trans A g (same-cons A g s (normal_form-same A g (s ∷ t ∷ x))) (same-square A g s (t ∷ x))
+
+      long : length (normal_form A (s ∷ t ∷ x)) ≡ length x
+      long = omega (arith, d, cons-word_length A g s (t ∷ x), word_length-is A (t ∷ x), word_length-is A (s ∷ t ∷ x), ap length e.normal)

@@ -1,16 +1,14 @@
 -- A walk by two letters in turn, all round but for one step.
-use Rattle.std.proofs.Common.{◌≡◌, ℕ, zero, suc, ◌-◌, ◌<◌, List, [], ◌∷◌, ◌++◌, length, Option, None, Some, IfSome, ℤ, sym, ◌∙◌}
-use Rattle.cox_base.specs.Matrix.{CoxeterMatrix, IsCoxeterMatrix, IsLetter, label}
-use Rattle.cox_base.specs.IntegerMatrix.{IntegerMatrix, IsAdmissible, integer_matrix, HasOrder, order_two, order_three, order_four, order_back_four, order_six, order_back_six}
+use Rattle.std.proofs.Common.{◌≡◌, ℕ, zero, suc, ◌-◌, ◌<◌, List, [], ◌∷◌, ◌++◌, length, ℤ, sym, ◌∙◌}
+use Rattle.cox_base.specs.Matrix.{IsLetter}
+use Rattle.cox_base.specs.IntegerMatrix.{IntegerMatrix, IsAdmissible, HasOrder, order_two, order_three, order_four, order_back_four, order_six, order_back_six}
 use Rattle.cox_base.specs.Element.{SameElement}
 use Rattle.cox_base.specs.ShortLex.{normal_form}
-use Rattle.cox_base.proofs.Admissible.{HasOrder-integer_matrix}
 use Rattle.cox_reflect.proofs.Elements.{same-refl, same-sym, same-trans, same-cons, same-square, same-append}
 use Rattle.cox_reflect.proofs.RankTwo.{alternating, same-braid}
 use Rattle.cox_reflect.proofs.Search.{normal_form-same, normal_form-equal}
 use Rattle.cox_context.specs.Members.{IsElement}
 use Rattle.cox_context.specs.Numbers.{word_at}
-use Rattle.cox_context.specs.Shifts.{entry, AreSoundLinks}
 
 -- t s t .. t, of 2 k + 1 letters
 abbrev pub zigzag : ℕ → ℕ → ℕ → List ℕ
@@ -70,13 +68,3 @@ module _ (A : IntegerMatrix) (g : IsAdmissible A) where
       → (at < length words) × (word_at words at ≡ normal_form A (s ∷ word_at words i))
   walked-end words t s m i at lt ls h e w =
       (w.within, sym e.normal ∙ normal_form-equal A g (same-trans A g w.same (same-append A g (zigzag-order t s m lt ls h) (same-refl A g (word_at words i)))))
-
--- the order of two letters, by their label
-pub order-label : (c : CoxeterMatrix) → IsCoxeterMatrix c → (t s : ℕ) → IsLetter c.rank t → IsLetter c.rank s → t < s → (label c t s ≡ 0 → ⊥)
-    → HasOrder ((integer_matrix c).entry t s) ((integer_matrix c).entry s t) (label c t s)
-order-label c m t s lt ls less finite = HasOrder-integer_matrix c m t s lt.from_one less ls.to_rank finite
-
-pub linked-is : (A : IntegerMatrix) (words : List (List ℕ)) (table : List (Option ℕ)) → AreSoundLinks A words table → (s i : ℕ) → IsLetter A.rank s → i < length words → (found : Option ℕ)
-    → found ≡ entry A.rank table s i → IfSome found (λ k. (k < length words) × (word_at words k ≡ normal_form A (s ∷ word_at words i)))
-linked-is A words table h s i l m None e = tt
-linked-is A words table h s i l m (Some k) e = h.right s i k l m (sym e)

@@ -13,10 +13,11 @@ ghost use Rattle.cox_context.specs.Refusal.{IsRefusal};
 
 use crate::ContextFault;
 use crate::builder::Builder;
+use crate::descents::{Letters, all_lowering, kept_word};
 use crate::family::Family;
 use crate::members::Members;
 use crate::right_shifts::right_shifts;
-use crate::shifts::{entry, left_shifts, lowering};
+use crate::shifts::{entry, left_shifts};
 use cox_base::{Coxeter, Side, Word, copy_word};
 use cox_reflect::{descents, length};
 use std::alloc::Global;
@@ -27,7 +28,7 @@ const MAX_LENGTH: u32 = 63;
 
 /// The elements of a Bruhat interval from the identity, or of a whole finite group: distinct normal forms in ShortLex order, closed downwards.
 ///
-/// A member's number is its place in that order, from 0, so the identity has the number 0. The members' left and right shifts are kept by number.
+/// A member's number is its place in that order, from 0, so the identity has the number 0. The members' left and right shifts and descents are kept by number.
 /// Contracts see the Coxeter matrix and the list of the members; `len` tells what holds of each such list.
 #[derive(Drop)]
 pub struct Context {
@@ -35,6 +36,8 @@ pub struct Context {
     members: Members,
     left: Vec<Option<u32>>,
     right: Vec<Option<u32>>,
+    left_descents: Vec<Letters>,
+    right_descents: Vec<Letters>,
 }
 
 impl Model for Context {
@@ -46,7 +49,7 @@ impl Model for Context {
 
     ghost view = { λ c. record { matrix = c.group; members = c.members } };
 
-    ghost invariant = { λ c. IsContext (integer_matrix c.group) c.members c.left.items c.right.items };
+    ghost invariant = { λ c. IsContext (integer_matrix c.group) c.members c.left.items c.right.items c.left_descents.items c.right_descents.items };
 }
 
 impl Context {
@@ -117,11 +120,20 @@ impl Context {
         let Ok(right) = right_shifts(alloc, &group, &members, left.as_slice()) else {
             return Err(ContextFault::NoMemory);
         };
+        let (rank, count) = (group.rank(), members.len());
+        let Ok(left_descents) = all_lowering(alloc, left.as_slice(), rank, count) else {
+            return Err(ContextFault::NoMemory);
+        };
+        let Ok(right_descents) = all_lowering(alloc, right.as_slice(), rank, count) else {
+            return Err(ContextFault::NoMemory);
+        };
         Ok(Context {
             group,
             members,
             left,
             right,
+            left_descents,
+            right_descents,
         })
     }
 
@@ -205,7 +217,7 @@ impl Context {
         requires { i < length self.now.members }
         ensures { result.items ≡ left_descents (integer_matrix self.now.matrix) (word_at self.now.members i) }
     {
-        lowering(self.left.as_slice(), self.group.rank(), i)
+        kept_word(self.left_descents.as_slice(), i)
     }
 
     /// The letters s with l(x s) < l(x) for the member x with the number i, rising.
@@ -213,6 +225,6 @@ impl Context {
         requires { i < length self.now.members }
         ensures { result.items ≡ right_descents (integer_matrix self.now.matrix) (word_at self.now.members i) }
     {
-        lowering(self.right.as_slice(), self.group.rank(), i)
+        kept_word(self.right_descents.as_slice(), i)
     }
 }

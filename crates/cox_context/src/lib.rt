@@ -11,11 +11,13 @@
 //! - `members`: the members, by number and by word
 //! - `builder`: finds the members, length by length
 //! - `shifts`, `right_shifts`: the tables of left and right shifts
+//! - `descents`: the descents of each member, read off these tables
 //! - `laws`: each interval has one list in ShortLex order, closed downwards
 #![tactic(auto)]
 
 mod builder;
 mod context;
+mod descents;
 mod family;
 mod fault;
 pub mod laws;

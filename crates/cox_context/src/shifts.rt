@@ -1,14 +1,14 @@
 //! The table of left shifts: for each member, in order, one entry for each letter.
-ghost use Rattle.std.specs.Prelude.{◌≡◌, ℕ, ◌+◌, ◌-◌, ◌*◌, ◌<◌, ◌≤◌, ◌⊎◌, ◌∷◌, length, Some, None, Option, List, filter, IfOk, IfSome};
-ghost use Rattle.cox_base.specs.Matrix.{IsCoxeterMatrix, IsLetter};
+ghost use Rattle.std.specs.Prelude.{◌≡◌, ℕ, ◌+◌, ◌-◌, ◌*◌, ◌<◌, ◌≤◌, ◌⊎◌, ◌∷◌, length, Some, List, IfOk};
+ghost use Rattle.cox_base.specs.Matrix.{IsCoxeterMatrix, IsLetter, label};
 ghost use Rattle.cox_base.specs.IntegerMatrix.{integer_matrix};
-ghost use Rattle.cox_base.specs.ShortLex.{normal_form, letters};
+ghost use Rattle.cox_base.specs.ShortLex.{normal_form};
 ghost use Rattle.cox_base.specs.Length.{IsLeftDescent};
 ghost use Rattle.cox_reflect.specs.Height.{AreHeights};
-ghost use Rattle.cox_context.specs.Members.{IsElement, IsClosed};
-ghost use Rattle.cox_context.specs.Numbers.{word_at, IsNumberOf};
+ghost use Rattle.cox_context.specs.Members.{IsClosed};
+ghost use Rattle.cox_context.specs.Numbers.{word_at};
 ghost use Rattle.cox_context.specs.Growth.{AreAllHeights};
-ghost use Rattle.cox_context.specs.Shifts.{entry, is_lower, AreLeftShifts, AreSoundLinks, AreLinks};
+ghost use Rattle.cox_context.specs.Shifts.{entry, IsNoted, IsRound, AreLeftShifts, AreLinks};
 
 use crate::members::Members;
 use cox_base::{Coxeter, Word, copy_word};
@@ -53,37 +53,35 @@ fn link_member(
     let rank = g.rank();
     for s in 1..rank as u8 + 1 {
         if heights.is_descent(s) {
-            if let Some(k) = lower_member(g, members, table.as_slice(), s, i) {
-                link(table, rank, s, i, k);
-            }
+            let k = lower_member(g, members, table.as_slice(), s, i);
+            link(table, rank, s, i, k);
         }
     }
 }
 
 /// The number of s y, for a left descent s of the member y.
 ///
-/// Where s is the first letter of y it is taken off, and where y begins with a lesser letter s y is found by a walk. The word is sought only where a shift
-/// on the way is not noted.
-fn lower_member(g: &Coxeter, members: &Members, table: &[Option<u32>], s: u8, i: u32) -> Option<u32>
+/// The first letter t of y is the least such letter. Where it is s it is taken off, and where it is less s y is found by a walk.
+fn lower_member(g: &Coxeter, members: &Members, table: &[Option<u32>], s: u8, i: u32) -> u32
     requires matrix { IsCoxeterMatrix g.now }
     requires closed { IsClosed (integer_matrix g.now) members.now }
     requires member { i < length members.now }
-    requires links { AreSoundLinks (integer_matrix g.now) members.now table.now }
+    requires links { AreLinks (integer_matrix g.now) members.now i s table.now }
     requires descent { IsLeftDescent (integer_matrix g.now) (word_at members.now i) s }
-    ensures { IsNumberOf members.now (normal_form (integer_matrix g.now) (s ∷ word_at members.now i)) result }
+    ensures within { result < length members.now }
+    ensures word { word_at members.now result ≡ normal_form (integer_matrix g.now) (s ∷ word_at members.now i) }
 {
     let word = members.word(i);
-    if let Some(&t) = word.as_slice().first() {
-        if t == s {
-            return members.number(&without_first(word));
-        }
-        if t < s {
-            if let Some(k) = walk(g, members, table, t, s, i) {
-                return Some(k);
-            }
-        }
+    let Some(&t) = word.as_slice().first() else {
+        unreachable!();
+    };
+    if t < s {
+        return walk(g, members, table, t, s, i);
     }
-    members.number(&shifted(g, word, s))
+    match members.number(&without_first(word)) {
+        Some(k) => k,
+        None => unreachable!(),
+    }
 }
 
 /// The word without its first letter.
@@ -96,56 +94,35 @@ fn without_first(word: &Word) -> Word
     rest
 }
 
-/// The number of s y for the member y, by shifts by t and s in turn, 2 m(t,s) - 1 of them: these letters together are s.
-fn walk(g: &Coxeter, members: &Members, table: &[Option<u32>], t: u8, s: u8, i: u32) -> Option<u32>
+/// The number of s y for the member y that begins with t, where both shorten it: by shifts by t and s in turn, 2 m(t,s) - 1 of them.
+///
+/// These letters together are s. All that the walk comes to is below y, and each of its shifts is noted: it ends right before the shift by s that leads to y.
+fn walk(g: &Coxeter, members: &Members, table: &[Option<u32>], t: u8, s: u8, i: u32) -> u32
     requires matrix { IsCoxeterMatrix g.now }
     requires closed { IsClosed (integer_matrix g.now) members.now }
-    requires member { i < length members.now }
-    requires links { AreSoundLinks (integer_matrix g.now) members.now table.now }
-    requires t { IsLetter g.now.rank t }
-    requires s { IsLetter g.now.rank s }
-    requires rising { t < s }
-    ensures { IfSome result (λ k. (k < length members.now) × (word_at members.now k ≡ normal_form (integer_matrix g.now) (s ∷ word_at members.now i))) }
+    requires links { AreLinks (integer_matrix g.now) members.now i s table.now }
+    requires round { IsRound (integer_matrix g.now) members.now i t s (label g.now t s) }
+    ensures within { result < length members.now }
+    ensures word { word_at members.now result ≡ normal_form (integer_matrix g.now) (s ∷ word_at members.now i) }
 {
-    let order = g.label(t, s);
-    if order == 0 {
-        return None;
+    let mut at = noted(g, table, t, i);
+    for _turn in 1..g.label(t, s) {
+        let half = noted(g, table, s, at);
+        at = noted(g, table, t, half);
     }
-    let mut at = linked(g, members, table, t, i)?;
-    for _turn in 1..order {
-        let half = linked(g, members, table, s, at)?;
-        at = linked(g, members, table, t, half)?;
-    }
-    Some(at)
+    at
 }
 
-/// The left shift of a member, where it is noted.
-fn linked(g: &Coxeter, members: &Members, table: &[Option<u32>], s: u8, i: u32) -> Option<u32>
-    requires few { length members.now ≤ 65536 }
-    requires links { AreSoundLinks (integer_matrix g.now) members.now table.now }
-    requires member { i < length members.now }
-    requires letter { IsLetter g.now.rank s }
-    ensures { IfSome result (λ k. (k < length members.now) × (word_at members.now k ≡ normal_form (integer_matrix g.now) (s ∷ word_at members.now i))) }
+/// The left shift of a member, which is noted.
+fn noted(g: &Coxeter, table: &[Option<u32>], s: u8, i: u32) -> u32
+    requires few { i ≤ 65536 }
+    requires noted { IsNoted g.now.rank table.now s i }
+    ensures { entry g.now.rank table.now s i ≡ Some result }
 {
-    entry(table, g.rank(), s, i)
-}
-
-/// The normal form of s y, for a left descent s of y.
-fn shifted(g: &Coxeter, y: &Word, s: u8) -> Word
-    requires element { IsElement (integer_matrix g.now) y.now.items }
-    requires short { length y.now.items ≤ 63 }
-    requires descent { IsLeftDescent (integer_matrix g.now) y.now.items s }
-    ensures { result.items ≡ normal_form (integer_matrix g.now) (s ∷ y.now.items) }
-{
-    let rank = g.rank();
-    let mut heights = Heights::of_word(g, y);
-    heights.prepend(g, s);
-    let mut form = Word::new();
-    while let Some(t) = heights.least_descent(rank) {
-        heights.prepend(g, t);
-        form.push(t);
+    match entry(table, g.rank(), s, i) {
+        Some(k) => k,
+        None => unreachable!(),
     }
-    form
 }
 
 /// Notes that s takes the members i and k to each other.
@@ -184,30 +161,4 @@ pub(crate) fn entry(table: &[Option<u32>], rank: u32, s: u8, i: u32) -> Option<u
     ensures { result ≡ entry rank table.now s i }
 {
     table[place(rank, s, i)]
-}
-
-/// The letters, rising, that take member i to a member before it.
-pub(crate) fn lowering(table: &[Option<u32>], rank: u32, i: u32) -> Word
-    requires limit { rank ≤ 9 }
-    requires few { i < 65536 }
-    requires within { (i + 1) * rank ≤ length table.now }
-    ensures { result.items ≡ filter (λ s. is_lower i (entry rank table.now s i)) (letters rank) }
-{
-    let mut found = Word::new();
-    for s in 1..rank as u8 + 1 {
-        if is_lower(i, entry(table, rank, s, i)) {
-            found.push(s);
-        }
-    }
-    found
-}
-
-/// Whether a shift takes member i to a member before it.
-pub(crate) fn is_lower(i: u32, shift: Option<u32>) -> bool
-    ensures { result ≡ is_lower i shift }
-{
-    match shift {
-        Some(k) => k < i,
-        None => false,
-    }
 }

@@ -54,9 +54,8 @@ pub fn put_coatoms(
     ensures { PutsUnless result (RefusesOne OneWord.Coatoms (limits_of options) (integer_matrix g.now) w.now.items)
         (IsOneText OneWord.Coatoms (integer_matrix g.now) w.now.items) [] out.old.items out.new.items }
 {
-    let alloc = *out.allocator();
-    let context = interval_of(alloc, g, options, w)?;
-    let coatoms = members_below_length(alloc, &context, length(g, w))?;
+    let context = interval_of(*out.allocator(), g, options, w)?;
+    let coatoms = members_below_length(*out.allocator(), &context, length(g, w))?;
     put_members(out, &context, coatoms.as_slice())?;
     Ok(())
 }

@@ -1,21 +1,20 @@
-use Rattle.std.proofs.Common.{◌≡◌, ◌∷◌, ◌<◌, sym, ◌∙◌, arith}
+use Rattle.std.proofs.Common.{◌<◌, sym, ◌∙◌, arith}
 use Rattle.std.proofs.lemmas.Bool.{false≢true}
 use Rattle.cox_base.specs.Matrix.{IsLetter}
 use Rattle.cox_base.specs.IntegerMatrix.{IntegerMatrix, IsAdmissible, integer_matrix}
-use Rattle.cox_base.specs.ShortLex.{normal_form}
 use Rattle.cox_base.specs.Length.{IsLeftDescent}
 use Rattle.cox_reflect.proofs.Admissible.{IsAdmissible-integer_matrix}
 use Rattle.cox_context.specs.Numbers.{word_at}
-use Rattle.cox_context.proofs.Shifting.{descent-member, shift-less}
+use Rattle.cox_context.proofs.Shifting.{shift-less}
 use Rattle.cox_context.proofs.Links.{links-skip, links-add_at}
 use Rattle.cox_context.proofs.shifts.link_member.Goals as goal
-use Rattle.cox_context.proofs.shifts.link_member.Goals.{then-is_descent+in-Some, then-is_descent+in_default, else-is_descent}
+use Rattle.cox_context.proofs.shifts.link_member.Goals.{then-is_descent, else-is_descent}
 
-pub lower_member-requires-clause-links : goal.lower_member-requires-clause-links
-lower_member-requires-clause-links c = rw c.as_slice.ensures.value (record { size = c.loop-s.invariant.size; right = c.loop-s.invariant.right })
+pub lower_member-k-requires-clause-links : goal.lower_member-k-requires-clause-links
+lower_member-k-requires-clause-links c = rw c.as_slice.ensures.value c.loop-s.invariant
 
-pub lower_member-requires-clause-descent : goal.lower_member-requires-clause-descent
-lower_member-requires-clause-descent c =
+pub lower_member-k-requires-clause-descent : goal.lower_member-k-requires-clause-descent
+lower_member-k-requires-clause-descent c =
     let l : IsLetter (integer_matrix c.args.g.now).rank c.loop-s.s = record { from_one = c.loop-s.auto.s; to_rank = omega (arith, c.rank-rank.ensures.rank) }
     in (c.is_descent.ensures.descent (integer_matrix c.args.g.now) (word_at c.args.members.now c.args.i) (IsAdmissible-integer_matrix c.args.g.now c.rank-rank.ensures.matrix) l c.requires.heights).0 c.if-is_descent.true
 
@@ -26,16 +25,11 @@ loop-s-preserved c =
     in let l : IsLetter A.rank c.loop-s.s = record { from_one = c.loop-s.auto.s; to_rank = omega (arith, c.rank-rank.ensures.rank) }
     in let descent = c.is_descent.ensures.descent A (word_at c.args.members.now c.args.i) g l c.requires.heights
     in elim c.if-is_descent.branch [
-      | then-is_descent+in-Some w ↦
+      | then-is_descent w ↦
           let d : IsLeftDescent A (word_at c.args.members.now c.args.i) c.loop-s.s = descent.0 w.if-is_descent.true
-          in let shift : word_at c.args.members.now w.in-Some.k ≡ normal_form A (c.loop-s.s ∷ word_at c.args.members.now c.args.i)
-          = w.in-Some.ensures.1
-          in let lower : w.in-Some.k < c.args.i = (shift-less A g c.args.members.now c.requires.closed c.loop-s.s c.args.i w.in-Some.k l c.requires.member w.in-Some.ensures.0 shift).1 d
-          in rw w.table-is (links-add_at A g c.args.members.now c.requires.closed c.args.i c.loop-s.s l c.requires.member c.loop-s.table.items c.loop-s.invariant c.rank-rank.result c.rank-rank.ensures.rank w.in-Some.k w.link.new.table.items w.in-Some.ensures.0 shift d
-          w.link.ensures.size w.link.ensures.at_k (w.link.ensures.at_i (λ e. omega (arith, e, lower))) w.link.ensures.others)
-      | then-is_descent+in_default w ↦
-          let d : IsLeftDescent A (word_at c.args.members.now c.args.i) c.loop-s.s = descent.0 w.if-is_descent.true
-          in absurd (w.in_default.ensures (descent-member A g c.args.members.now c.requires.closed c.loop-s.s c.args.i c.requires.member d))
+          in let lower : w.lower_member-k.result < c.args.i = (shift-less A g c.args.members.now c.requires.closed c.loop-s.s c.args.i w.lower_member-k.result l c.requires.member w.lower_member-k.ensures.within w.lower_member-k.ensures.word).1 d
+          in rw w.table-is (links-add_at A g c.args.members.now c.requires.closed c.args.i c.loop-s.s l c.requires.member c.loop-s.table.items c.loop-s.invariant c.rank-rank.result c.rank-rank.ensures.rank w.lower_member-k.result w.link.new.table.items
+          w.lower_member-k.ensures.within w.lower_member-k.ensures.word d w.link.ensures.size w.link.ensures.at_k (w.link.ensures.at_i (λ e. omega (arith, e, lower))) w.link.ensures.others)
       | else-is_descent w ↦
           rw w.table-is (links-skip A g c.args.members.now c.requires.closed c.args.i c.loop-s.s l c.requires.member c.loop-s.table.items c.loop-s.invariant
           (λ d. absurd (false≢true (sym w.if-is_descent.false ∙ descent.1 d))))

@@ -1,8 +1,8 @@
 use Rattle.std.proofs.Common.{◌≡◌, ℕ, ◌+◌, ◌-◌, length, List, ap, sym, ◌∙◌, arith, lit<}
 use Rattle.cox_context.specs.Shifts.{is_lower}
 use Rattle.cox_context.proofs.FilterLemmas.{lowered-start, lowered-next, lowered-length, lowered-is}
-use Rattle.cox_context.proofs.shifts.lowering.Goals as goal
-use Rattle.cox_context.proofs.shifts.lowering.Goals.{then-is_lower, else-is_lower}
+use Rattle.cox_context.proofs.descents.lowering.Goals as goal
+use Rattle.cox_context.proofs.descents.lowering.Goals.{then-is_lower, else-is_lower}
 
 pub loop-s-init : goal.loop-s-init
 loop-s-init c = c.new-found.ensures ∙ sym (lowered-start c.args.rank c.args.table.now c.args.i)
@@ -22,4 +22,4 @@ loop-s-preserved c =
 pub returns : goal.returns
 returns c =
     let last : c.loop-s.s - 1 ≡ c.args.rank = omega arith
-    in c.loop-s.invariant ∙ rw last (lowered-is c.args.rank c.args.table.now c.args.i c.args.rank)
+    in c.loop-s.invariant ∙ rw last (lowered-is c.args.rank c.args.table.now c.args.i)
