@@ -39,7 +39,7 @@ module _ (A : IntegerMatrix) (g : IsAdmissible A) where
       → PutsPart (RefusesInterval limits A w) IsText [] out out
   PutsPart-none limits w IsText out text =
       ⊎_elim (λ many. inl (31, (refl, many), refl))
-      (λ few. let right = text few.1 few.2 in inr (interval-allowed limits A w few.0, right.0, right.1, PutsFront-none (right.0 ++ []) out))
+      (λ few. let right = text few.1 few.2 in inr (interval-allowed limits A w few.0, right.0, right.1, PutsFront-none (right.0 ++ []) out out refl))
       (interval-decided A g limits.context w)
 
   -- the interval was not given

@@ -13,6 +13,7 @@ use Rattle.cox_shell.specs.declared.session.Said.{Said}
 use Rattle.cox_shell.specs.declared.session.Said.TheVariants.{Answered, Quit}
 use Rattle.cox_shell.specs.Reply.{State, Reply, refusal, silence, farewell, answered}
 use Rattle.cox_shell.specs.CommandReply.{is_over_limit, RefusesOne, RefusesTwo, IsOneText, IsTwoText, IsDecidedReply, IsOneReply, IsTwoReply}
+use Rattle.cox_shell.proofs.Unless.{PutsFront-none}
 use Rattle.cox_shell.specs.Saying.{Says, SaysFront, PutsUnless, Concludes}
 
 -- nothing is said to a line that is answered nothing
@@ -40,10 +41,6 @@ pub IsTwoReply-decided : (kind : TwoWord) (y w : List ℕ) (state : State) (g : 
     → length y ≤ 63 → length w ≤ 63
     → IsDecidedReply state (RefusesTwo kind state.limits (integer_matrix g) y w) (IsTwoText kind (integer_matrix g) y w) reply → IsTwoReply kind y w state reply
 IsTwoReply-decided kind y w state g reply set short_y short_w decided = of_group state.group g _ set (rw (within y short_y, within w short_w) decided)
-
--- nothing was put of a text
-PutsFront-none : (text before after : List ℕ) → after ≡ before → PutsFront text before after
-PutsFront-none text before after same = record { front = []; rest = text; parts = refl; behind = same ∙ sym (append-nil before) }
 
 -- what is said after a line was put, or refused: the reply of its command ..
 module _ (state : State) (Refuses : ℕ → Type 0) (IsText : List ℕ → Type 0) where

@@ -27,8 +27,8 @@ pub failed_allows : {X : Type 0} (result : Result X RFault) (IsDeepBy : ℕ → 
 failed_allows result IsDeepBy f deep is which number refuses = let bad : result ≡ Err (Deep refuses.1) = (deep refuses.1).1 refuses.2 in cc
 
 -- nothing was put of a text
-pub PutsFront-none : (text before : List ℕ) → PutsFront text before before
-PutsFront-none text before = record { front = []; rest = text; parts = refl; behind = sym (append-nil before) }
+pub PutsFront-none : (text before after : List ℕ) → after ≡ before → PutsFront text before after
+PutsFront-none text before after same = record { front = []; rest = text; parts = refl; behind = same ∙ sym (append-nil before) }
 
 -- a front of an equal text was put
 pub PutsFront-same : (text put before after : List ℕ) → put ≡ text → PutsFront put before after → PutsFront (text ++ []) before after

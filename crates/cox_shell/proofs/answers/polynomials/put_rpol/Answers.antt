@@ -13,7 +13,7 @@ returns-in-Err-Deep c = λ limits.
 pub returns-in-Err-NoMemory : goal.returns-in-Err-NoMemory
 returns-in-Err-NoMemory c = λ limits.
     let allowed = failed_allows c.r.result (IsDeep (integer_matrix c.args.g.now) c.args.y.now.items c.args.w.now.items) _ c.r.ensures.deep
-    c.in-Err-NoMemory.is c.in-Err-NoMemory.field-0-is in inr (allowed, _, refl, PutsFront-none _ _)
+    c.in-Err-NoMemory.is c.in-Err-NoMemory.field-0-is in inr (allowed, _, refl, PutsFront-none _ _ _ refl)
 
 pub returns-in-Ok-put_text : goal.returns-in-Ok-put_text
 returns-in-Ok-put_text c = λ limits.
