@@ -135,7 +135,6 @@ fn members_below_length(
     context: &Context,
     letters: u32,
 ) -> Result<Vec<u32>, NoMemory>
-    requires { letters ≤ 63 }
     ensures within { IfOk result (λ numbers. All (λ i. i < length context.now.members) numbers.items) }
     ensures coatoms { IfOk result (λ numbers. words_at context.now.members numbers.items ≡ filter (λ word. length word + 1 == letters) context.now.members) }
 {
