@@ -1,13 +1,18 @@
 #!/usr/bin/env python3
 """How long Bruhat intervals take, and how much memory: whole finite groups, and intervals of growing length in affine A 2.
 
-    bench/intervals.py [PROGRAM]        the program of this repository, if none is named; it is built first where it is not
+    bench/intervals.py [--instructions] [PROGRAM]
+                                        the program of this repository, if none is named; it is built first where it is not
 
-Each row asks `betti w` of one element w, once for the memory and so often for the time that a run takes some tenths of a second. A run
+With `--instructions` each row has the instructions a member in place of times, counted by valgrind's callgrind: they do not depend on what else
+the machine does. Else each row asks `betti w` of one element w, once for the memory and so often for the time that a run takes some tenths of a second. A run
 over a script that sets the group alone is taken off. Time a member is also given over length times rank, since that is what it may grow by.
 """
 import os
+import re
+import subprocess
 import sys
+import tempfile
 import time
 
 HERE = os.path.dirname(os.path.abspath(__file__))
@@ -53,9 +58,35 @@ def best(program, script, times=5):
     return min(run(program, script)[1] for _ in range(times))
 
 
+def instructions(program, script):
+    """How many instructions a run takes."""
+    with tempfile.TemporaryFile() as given:
+        given.write(script.encode())
+        given.seek(0)
+        counting = ["valgrind", "--tool=callgrind", "--callgrind-out-file=/dev/null", program]
+        told = subprocess.run(counting, stdin=given, stdout=subprocess.DEVNULL, stderr=subprocess.PIPE, check=True)
+    return int(re.search(rb"Collected : (\d+)", told.stderr).group(1))
+
+
+def count(program):
+    """A row for each interval: the instructions of one more `betti`, a member."""
+    print(f"{'interval':<22}{'members':>8}{'letters':>8}{'a member':>10}{'/(l*r)':>9}")
+    for name, group, rank, word in cases():
+        betti, length = run(program, f"{group}\nbetti {word}\nlength {word}\n")[0].splitlines()
+        members, letters = sum(map(int, betti.split())), int(length)
+        once, twice = (instructions(program, f"{group}\n" + f"betti {word}\n" * times) for times in (1, 2))
+        each = (twice - once) / members
+        print(f"{name:<22}{members:>8}{letters:>8}{each:>10.0f}{each / (letters * rank):>9.1f}")
+
+
 def main():
-    run(os.path.join(TOP, "coxeter"), "")
-    program = os.path.abspath(sys.argv[1] if len(sys.argv) > 1 else os.path.join(TOP, "crates", "coxeter", "out", "coxeter"))
+    words = [word for word in sys.argv[1:] if word != "--instructions"]
+    if not words:
+        run(os.path.join(TOP, "coxeter"), "")
+    program = os.path.abspath(words[0] if words else os.path.join(TOP, "crates", "coxeter", "out", "coxeter"))
+    if len(words) < len(sys.argv) - 1:
+        count(program)
+        return
     print(f"{'interval':<22}{'members':>8}{'letters':>8}{'ms':>10}{'us/member':>11}{'ns/(m*l*r)':>12}{'MiB':>8}")
     for name, group, rank, word in cases():
         numbers, once, peak = run(program, f"{group}\nbetti {word}\nlength {word}\n")
