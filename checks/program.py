@@ -174,8 +174,8 @@ def memory():
     COUNT.check("with memory", (whole[0], whole[1][:2], whole[1][-2:], whole[2]), (DONE, b"2\n", b"1\n", b""))
     prefixes = [b"".join(whole[1].splitlines(True)[:count]) for count in range(4)]
     ends = {DONE: 0, NO_MEMORY: 0}
-    for mebibytes in [1, 2, 3, 4, 5, 6, 8, 10, 12, 14, 16, 20, 24, 28, 32, 40, 64, 128, 256]:
-        size = mebibytes << 20
+    for kibibytes in [*range(1024, 4096, 64), *range(4096, 40 << 10, 2048), 64 << 10, 256 << 10]:
+        size = kibibytes << 10
 
         def limit():
             resource.setrlimit(resource.RLIMIT_AS, (size, size))
@@ -189,7 +189,7 @@ def memory():
         if status in ends:
             ends[status] += 1
         known = (status == DONE and out == whole[1]) or (status == NO_MEMORY and out in prefixes[:3])
-        COUNT.check(f"{mebibytes} MiB: status {status}, {out[-40:]!r}, {error!r}", known and not error, True)
+        COUNT.check(f"{kibibytes} KiB: status {status}, {out[-40:]!r}, {error!r}", known and not error, True)
     COUNT.check("some runs end with status 0, some with status 5", min(ends.values()) > 0, True)
 
 
