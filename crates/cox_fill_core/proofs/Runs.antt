@@ -1,5 +1,5 @@
--- Lists of events, one event after another.
-use Rattle.std.proofs.Common.{◌≡◌, ℕ, ◌+◌, ◌<◌, List, [], ◌∷◌, ◌++◌, length, take, get_or, refl, sym, ap, ◌∙◌, Result, Ok, Err, OnErr}
+-- A list of events is taken one event after another: the core and the replies after one event more.
+use Rattle.std.proofs.Common.{◌≡◌, ℕ, ◌+◌, ◌<◌, List, [], ◌∷◌, ◌++◌, length, take, get_or, refl, sym, ap, ◌∙◌, length-append, arith}
 use Rattle.std.proofs.lemmas.List.{take_more}
 use Rattle.cox_fill_core.specs.declared.event.Event.{Event}
 use Rattle.cox_fill_core.specs.declared.event.Reply.{Reply}
@@ -33,6 +33,5 @@ replies_more needs given c d all rs r es k x pushed same at lt so_far step =
 pub same_shape : (a b c : Core) → HasSameShape a b → HasSameShape b c → HasSameShape a c
 same_shape a b c p q = record { needs = q.needs ∙ p.needs; rows = q.rows ∙ p.rows; actors = q.actors ∙ p.actors }
 
-pub on_err : {T E P : Type 0} (r : Result T E) → P → OnErr r P
-on_err (Ok x) p = tt
-on_err (Err e) p = p
+pub one_answer_more : (rs all : List Reply) (r : Reply) (k : ℕ) → all ≡ rs ++ r ∷ [] → length rs ≡ k → length all ≡ k + 1
+one_answer_more rs all r k pushed count = omega (arith, ap length pushed, length-append rs (r ∷ []), count)

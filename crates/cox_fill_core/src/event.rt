@@ -1,3 +1,4 @@
+//! The states of a row, the events, and the replies.
 /// What is known of a row of the store.
 #[derive(Clone, Copy, Debug, PartialEq, Eq)]
 pub enum RowState {
