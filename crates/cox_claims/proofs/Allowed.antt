@@ -1,5 +1,6 @@
 -- Each step is allowed: it keeps the rule of the table, and tells its seat what its call ensures.
-use Rattle.std.proofs.Common.{◌≡◌, ◌≢◌, ℕ, ◌<◌, true, false, cond, ◌==◌, ◌⊎◌, ⊎_elim, inl, inr, List, [], ◌∷◌, ◌++◌, length, get_or, set, length-set, refl, sym, ap, subst, ◌∙◌, arith}
+use Rattle.std.proofs.Common.{◌≡◌, ◌≢◌, ℕ, ◌<◌, true, false, cond, ◌==◌, ◌⊎◌, ⊎_elim, inl, inr, List, [], ◌∷◌, ◌++◌, length}
+use Rattle.std.proofs.Common.{get_or, set, length-set, refl, sym, ap, subst, ◌∙◌, arith}
 use Rattle.std.proofs.lemmas.Bool.{cases_eq, cases_lt, eq-eqb, ne_eqb, false≢true}
 use Rattle.std.proofs.lemmas.Bool.Decides.{nat_tests}
 use Rattle.std.proofs.lemmas.List.{get_or-set_same, get_or-set_other, set_past, get_or_past}
@@ -13,7 +14,8 @@ use Rattle.cox_fill_core.specs.Fill.{put}
 use Rattle.cox_fill_core.proofs.Points.{put_here, put_else}
 use Rattle.cox_claims.specs.declared.view.View.{View}
 use Rattle.cox_claims.specs.declared.table.Claimed.{Claimed}
-use Rattle.cox_claims.specs.Knowledge.{among, holds, caused, IsKnown, nothing, looked, won, published, voided, parted, told, joined, TriesClaim}
+use Rattle.cox_claims.specs.Knowledge.{among, holds, caused, IsKnown, nothing, looked, won, published, voided, parted, told}
+use Rattle.cox_claims.specs.Knowledge.{joined, TriesClaim}
 use Rattle.cox_claims.specs.Rule.{state_of, IsKept, state_at, view_at, KeepsRule}
 use Rattle.cox_claims.specs.declared.seat.Seat.{Seat}
 use Rattle.cox_claims.specs.declared.table.Claims.{Claims}
@@ -23,7 +25,9 @@ use Rattle.cox_claims.specs.Plays.{Sitter, TellsLook, TellsClaim, TellsPublish, 
 use Rattle.cox_claims.proofs.Boards.{state_set, view_set, view_snoc, view_here, at_within, put_same}
 use Rattle.cox_claims.proofs.Keeps.{Acts, learns_keeps, causes_here, acts_keeps, won_acts, published_acts, voided_acts}
 use Rattle.cox_claims.proofs.Splits.{step_splits, split_splits, meeting_splits}
-use Rattle.cox_claims.proofs.Views.{DidSame, looked_did, did_caused, looked_known, parted_known, parted_caused, told_known, nothing_caused, joined_known, joined_caused_first, joined_caused_second, nothing_known, looked_sees, won_sees, published_sees, voided_sees}
+use Rattle.cox_claims.proofs.Views.{DidSame, looked_did, did_caused, looked_known, parted_known, parted_caused, told_known}
+use Rattle.cox_claims.proofs.Views.{nothing_caused, joined_known, joined_caused_first, joined_caused_second, nothing_known}
+use Rattle.cox_claims.proofs.Views.{looked_sees, won_sees, published_sees, voided_sees}
 
 -- ---- what a seat knows is so, and the rule after a step
 
@@ -68,7 +72,8 @@ learns rows s a i v c k lt at live =
     (λ gone. absurd (false≢true (sym live ∙ sym did.live ∙ gone)))))
 
 -- a seat changes the state of row i, which was Free or which it held
-pub changes : (rows : ℕ) (s : State (Unit {0}) View) (a i n : ℕ) (v w : View) (c : List (ℕ × Unit {0})) → KeepsRule rows s → i < rows → n < 4
+pub changes : (rows : ℕ) (s : State (Unit {0}) View) (a i n : ℕ) (v w : View) (c : List (ℕ × Unit {0})) → KeepsRule rows s → i < rows
+    → n < 4
     → get_elem? s.views a ≡ some v → v.spent ≡ false → (state_at s.words i ≡ RowState.Free) ⊎ (holds v i ≡ true) → Acts v i (state_of n) w
     → KeepsRule rows (stepped s i n a c w keeps)
 changes rows s a i n v w c k lt small at live mine acts =
@@ -109,7 +114,8 @@ pub wins : (rows : ℕ) (s : State (Unit {0}) View) (a i : ℕ) (v : View) (c : 
     → get_elem? s.views a ≡ some v → v.spent ≡ false → get_or s.words i 0 ≡ 0 → KeepsRule rows (stepped s i 1 a c (won v i) keeps)
 wins rows s a i v c k lt at live is_zero =
     let free = zero_free (get_or s.words i 0) is_zero in
-    changes rows s a i 1 v (won v i) c k lt (omega arith) at live (inl free) (won_acts v i (subst (IsKnown v i) free (known_here rows s a v k at i)))
+    changes rows s a i 1 v (won v i) c k lt (omega arith) at live (inl free)
+    (won_acts v i (subst (IsKnown v i) free (known_here rows s a v k at i)))
 
 claim_allowed : (rows slots a i : ℕ) (me : Sitter) → i < rows → me.0.spent ≡ false
     → Allows (KeepsRule rows) slots a me i (λ n. either (n == 0) 1 n) (TellsClaim (step slots i 0 1 none) me)
@@ -149,7 +155,8 @@ claim_allowed rows slots a i me lt live = λ s k homes at small.
 -- ---- a publication and a void
 
 -- a seat that holds row i stores a word there, and is told so
-store_allowed : (rows slots a i n : ℕ) (me : Sitter) (w : View) (then : Sitter → Type 0) → i < rows → me.0.spent ≡ false → holds me.0 i ≡ true → n < 4
+store_allowed : (rows slots a i n : ℕ) (me : Sitter) (w : View) (then : Sitter → Type 0) → i < rows → me.0.spent ≡ false
+    → holds me.0 i ≡ true → n < 4
     → (IsKnown me.0 i RowState.Claimed → Acts me.0 i (state_of n) w × then (w, me.1))
     → Allows (KeepsRule rows) slots a me i (λ _. n) (λ _. then)
 store_allowed rows slots a i n me w then lt live mine small acts = λ s k homes at fits.
@@ -166,13 +173,19 @@ publish_allowed : (rows slots a i : ℕ) (me : Sitter) → i < rows → me.0.spe
     → Allows (KeepsRule rows) slots a me i (λ _. 2) (λ _. TellsPublish (step slots i 2 0 none) me 2)
 publish_allowed rows slots a i me lt live mine =
     store_allowed rows slots a i 2 me (published me.0 i) (TellsPublish (step slots i 2 0 none) me 2) lt live mine (omega arith)
-    (λ known. (published_acts me.0 i known, (record { known = known; after = refl; kept = published_sees me.0 i }, record { carried = refl; live = refl })))
+    (λ known. (
+      published_acts me.0 i known,
+      (record { known = known; after = refl; kept = published_sees me.0 i }, record { carried = refl; live = refl }),
+    ))
 
 void_allowed : (rows slots a i : ℕ) (me : Sitter) → i < rows → me.0.spent ≡ false → holds me.0 i ≡ true
     → Allows (KeepsRule rows) slots a me i (λ _. 3) (λ _. TellsVoid (step slots i 3 0 none) me 3)
 void_allowed rows slots a i me lt live mine =
     store_allowed rows slots a i 3 me (voided me.0 i) (TellsVoid (step slots i 3 0 none) me 3) lt live mine (omega arith)
-    (λ known. (voided_acts me.0 i known, (record { known = known; after = refl; kept = voided_sees me.0 i }, record { carried = refl; live = refl })))
+    (λ known. (
+      voided_acts me.0 i known,
+      (record { known = known; after = refl; kept = voided_sees me.0 i }, record { carried = refl; live = refl }),
+    ))
 
 -- ---- a split and a meeting
 
@@ -216,13 +229,18 @@ join_allowed rows a b v w live idle = λ s k at ne there.
     (λ j. joined_known v w j (state j) (known_here rows s a v k at j) (known_here rows s b w k second j))
     (λ gone. absurd (false≢true (sym live ∙ gone)))) in
     let joins : put (view_at views) b nothing a ≡ both
-    = put_else (view_at views) b nothing a (λ e. ne (sym e)) ∙ ap (λ f. f a) (view_set s.views a both (at_within s.views a v at)) ∙ put_here (view_at s.views) a both in
+    = put_else (view_at views) b nothing a (λ e. ne (sym e)) ∙ ap (λ f. f a) (view_set s.views a both (at_within s.views a v at))
+    ∙ put_here (view_at s.views) a both in
     record {
       count = k.count;
       words = k.words;
       kept = subst (IsKept state) (sym (view_set views b nothing (at_within views b w there)))
           (learns_keeps state (view_at views) b nothing first
-          (λ j x h. (a, ap (λ u. caused u j x) joins ∙ joined_caused_second v w j x idle (ap (λ u. caused u j x) (sym (view_here views b w there)) ∙ h)))
+          (λ j x h. (
+            a,
+            ap (λ u. caused u j x) joins ∙ joined_caused_second v w j x idle
+                (ap (λ u. caused u j x) (sym (view_here views b w there)) ∙ h),
+          ))
           (λ j h. cc)
           (λ j. nothing_known j (state j))
           (λ _. refl));
@@ -254,7 +272,8 @@ look_owed claims seat row own within =
 pub claim_owed : (claims : Claims) (seat : Seat) (row : ℕ) → IsSeatOf claims seat → row < rows_of claims
     → Owes claims seat row (λ n. either (n == 0) 1 n) (TellsClaim (step claims.table.shared.table_id.slots row 0 1 none) seat.seat.me)
 claim_owed claims seat row own within =
-    owed claims seat row (λ n. either (n == 0) 1 n) (TellsClaim (step claims.table.shared.table_id.slots row 0 1 none) seat.seat.me) own within
+    owed claims seat row (λ n. either (n == 0) 1 n)
+    (TellsClaim (step claims.table.shared.table_id.slots row 0 1 none) seat.seat.me) own within
     (claim_allowed claims.rows claims.table.shared.table_id.slots seat.seat.id row seat.seat.me within seat.live)
 
 pub publish_owed : (claims : Claims) (seat : Seat) (row : ℕ) → IsSeatOf claims seat → row < rows_of claims → Holds seat row

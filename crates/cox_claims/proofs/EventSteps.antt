@@ -1,5 +1,6 @@
 -- Each step of a table is the event that it is named after, and every table under the rule shows a good core.
-use Rattle.std.proofs.Common.{◌≡◌, ◌≢◌, ℕ, zero, suc, ◌<◌, Bool, true, false, ◌&&◌, cond, ◌==◌, ⊎_elim, inr, List, [], ◌∷◌, ◌++◌, length, get_or, set, replicate, length-set, length-append, refl, sym, ap, subst, ◌∙◌, arith}
+use Rattle.std.proofs.Common.{◌≡◌, ◌≢◌, ℕ, zero, suc, ◌<◌, Bool, true, false, ◌&&◌, cond, ◌==◌, ⊎_elim, inr, List, [], ◌∷◌, ◌++◌}
+use Rattle.std.proofs.Common.{length, get_or, set, replicate, length-set, length-append, refl, sym, ap, subst, ◌∙◌, arith}
 use Rattle.std.proofs.lemmas.Bool.{cases_eq, eq-eqb, ne_eqb, false≢true, cond-true, cond-false}
 use Rattle.std.proofs.lemmas.List.{get_or_past, length-replicate}
 use mathlib.Core.Option.{some}
@@ -9,16 +10,19 @@ use Rattle.atomic_table.proofs.Lists.{set_else}
 use Rattle.cox_fill_core.specs.declared.event.RowState.{RowState}
 use Rattle.cox_fill_core.specs.declared.event.Event.{Event}
 use Rattle.cox_fill_core.specs.declared.event.Reply.{Reply}
-use Rattle.cox_fill_core.specs.Fill.{Fill, put, is_free, opening, after, reply, noticed, told as told_core, claimed as claimed_core, published as published_core, voided as voided_core}
+use Rattle.cox_fill_core.specs.Fill.{Fill, put, is_free, opening, after, reply, noticed, told as told_core}
+use Rattle.cox_fill_core.specs.Fill.{claimed as claimed_core, published as published_core, voided as voided_core}
 use Rattle.cox_fill_core.specs.Good.{IsGood}
 use Rattle.cox_fill_core.proofs.Steps.{after_good}
 use Rattle.cox_fill_core.proofs.Marks.{all_replicate}
 use Rattle.cox_claims.specs.declared.view.View.{View}
 use Rattle.cox_claims.specs.declared.table.Claimed.{Claimed}
-use Rattle.cox_claims.specs.Knowledge.{holds, saw_published, caused, IsKnown, nothing, newcomer, looked, won, claimed, published, voided, parted, told, joined}
+use Rattle.cox_claims.specs.Knowledge.{holds, saw_published, caused, IsKnown, nothing, newcomer, looked, won, claimed, published}
+use Rattle.cox_claims.specs.Knowledge.{voided, parted, told, joined}
 use Rattle.cox_claims.specs.Plays.{claim_answer}
 use Rattle.cox_claims.specs.Rule.{state_of, IsKept, state_at, view_at, KeepsRule}
-use Rattle.cox_claims.specs.Events.{no_needs, IsShown, Table, Shows, IsEvent, Sits, moved, after_split, after_meeting, fresh_table, claim_reply, StepsAreEvents}
+use Rattle.cox_claims.specs.Events.{no_needs, IsShown, Table, Shows, IsEvent, Sits, moved, after_split, after_meeting}
+use Rattle.cox_claims.specs.Events.{fresh_table, claim_reply, StepsAreEvents}
 use Rattle.cox_claims.proofs.Views.{nothing_known, nothing_caused}
 use Rattle.cox_claims.proofs.Keeps.{learns_keeps, published_acts, voided_acts}
 use Rattle.cox_claims.proofs.Boards.{state_set, view_set, view_snoc, view_here, at_within, put_same}
@@ -91,9 +95,11 @@ told_state rows s a i h c sh kept =
     (subst (λ f. IsKept f (put (view_at s.views) a w)) same kept))
 
 look_event : (rows : ℕ) (s : Table) (a i : ℕ) → Stands rows s a i
-    → IsEvent rows s (moved s i (get_or s.words i 0) a (looked (view_at s.views a) i (state_at s.words i))) (Event.Look a i) (Reply.Seen (state_at s.words i))
+    → IsEvent rows s (moved s i (get_or s.words i 0) a (looked (view_at s.views a) i (state_at s.words i))) (Event.Look a i)
+    (Reply.Seen (state_at s.words i))
 look_event rows s a i h =
-    step_event rows s a i (get_or s.words i 0) (looked (view_at s.views a) i (state_at s.words i)) (Event.Look a i) (Reply.Seen (state_at s.words i)) h
+    step_event rows s a i (get_or s.words i 0) (looked (view_at s.views a) i (state_at s.words i)) (Event.Look a i)
+    (Reply.Seen (state_at s.words i)) h
     (learns rows s a i (view_at s.views a) [] h.rule h.within h.at h.live)
     (told_state rows s a i h)
     (λ c sh. ap Reply.Seen (sh.state_is i))
@@ -109,18 +115,21 @@ win_event rows s a i h is_zero =
     let free = λ (c : Fill) (sh : Shows s c). ap is_free (sh.state_is i ∙ zero_free (get_or s.words i 0) is_zero) in
     step_event rows s a i 1 (won (view a) i) (Event.Claim a i) Reply.Won h
     (wins rows s a i (view a) [] h.rule h.within h.at h.live is_zero)
-    (λ c sh kept. subst (λ b. IsShown (put state i RowState.Claimed) (put view a (won (view a) i)) (length s.views) (cond b (claimed_core c a i) (noticed c a i)))
+    (λ c sh kept. subst (λ b. IsShown (put state i RowState.Claimed) (put view a (won (view a) i)) (length s.views)
+    (cond b (claimed_core c a i) (noticed c a i)))
     (sym (free c sh)) (claim_shown state view (length s.views) c a i sh kept))
     (λ c sh. cond-true (is_free (c.state i)) Reply.Won (Reply.Lost (c.state i)) (free c sh))
 
 -- a claim on a row that is not Free
 lose_event : (rows : ℕ) (s : Table) (a i : ℕ) → Stands rows s a i → get_or s.words i 0 ≢ 0
-    → IsEvent rows s (moved s i (get_or s.words i 0) a (looked (view_at s.views a) i (state_at s.words i))) (Event.Claim a i) (Reply.Lost (state_at s.words i))
+    → IsEvent rows s (moved s i (get_or s.words i 0) a (looked (view_at s.views a) i (state_at s.words i))) (Event.Claim a i)
+    (Reply.Lost (state_at s.words i))
 lose_event rows s a i h not_zero =
     let state = state_at s.words in
     let view = view_at s.views in
     let w = looked (view a) i (state i) in
-    let taken = λ (c : Fill) (sh : Shows s c). ap is_free (sh.state_is i) ∙ not_free (state i) (taken_not_free (get_or s.words i 0) not_zero) in
+    let taken =
+    λ (c : Fill) (sh : Shows s c). ap is_free (sh.state_is i) ∙ not_free (state i) (taken_not_free (get_or s.words i 0) not_zero) in
     step_event rows s a i (get_or s.words i 0) w (Event.Claim a i) (Reply.Lost (state i)) h
     (learns rows s a i (view a) [] h.rule h.within h.at h.live)
     (λ c sh kept. subst (λ b. IsShown (put state i (state i)) (put view a w) (length s.views) (cond b (claimed_core c a i) (noticed c a i)))
@@ -128,7 +137,8 @@ lose_event rows s a i h not_zero =
     (λ c sh. cond-false (is_free (c.state i)) Reply.Won (Reply.Lost (c.state i)) (taken c sh) ∙ ap Reply.Lost (sh.state_is i))
 
 claim_event : (rows : ℕ) (s : Table) (a i : ℕ) → Stands rows s a i
-    → IsEvent rows s (moved s i (either (get_or s.words i 0 == 0) 1 (get_or s.words i 0)) a (claimed (view_at s.views a) i (state_at s.words i))) (Event.Claim a i) (claim_reply (claim_answer (get_or s.words i 0)))
+    → IsEvent rows s (moved s i (either (get_or s.words i 0 == 0) 1 (get_or s.words i 0)) a
+    (claimed (view_at s.views a) i (state_at s.words i))) (Event.Claim a i) (claim_reply (claim_answer (get_or s.words i 0)))
 claim_event rows s a i h = ⊎_elim
     (λ is_zero. at true (eq-eqb n 0 is_zero) (ap is_free (zero_free n is_zero)) (win_event rows s a i h is_zero))
     (λ not_zero. at false (ne_eqb n 0 not_zero) (not_free x (taken_not_free n not_zero)) (lose_event rows s a i h not_zero))
@@ -144,11 +154,15 @@ claim_event rows s a i h = ⊎_elim
     v = view_at s.views a
 
     at : (b : Bool) → (n == 0) ≡ b → is_free x ≡ b
-        → IsEvent rows s (moved s i (either b 1 n) a (cond b (won v i) (looked v i x))) (Event.Claim a i) (claim_reply (cond b Claimed.Won (Claimed.Lost x)))
-        → IsEvent rows s (moved s i (either (n == 0) 1 n) a (cond (is_free x) (won v i) (looked v i x))) (Event.Claim a i) (claim_reply (cond (n == 0) Claimed.Won (Claimed.Lost x)))
+        → IsEvent rows s (moved s i (either b 1 n) a (cond b (won v i) (looked v i x))) (Event.Claim a i)
+        (claim_reply (cond b Claimed.Won (Claimed.Lost x)))
+        → IsEvent rows s (moved s i (either (n == 0) 1 n) a (cond (is_free x) (won v i) (looked v i x))) (Event.Claim a i)
+        (claim_reply (cond (n == 0) Claimed.Won (Claimed.Lost x)))
     at b word free e =
-        subst (λ z. IsEvent rows s (moved s i (either z 1 n) a (cond (is_free x) (won v i) (looked v i x))) (Event.Claim a i) (claim_reply (cond z Claimed.Won (Claimed.Lost x)))) (sym word)
-        (subst (λ z. IsEvent rows s (moved s i (either b 1 n) a (cond z (won v i) (looked v i x))) (Event.Claim a i) (claim_reply (cond b Claimed.Won (Claimed.Lost x)))) (sym free) e)
+        subst (λ z. IsEvent rows s (moved s i (either z 1 n) a (cond (is_free x) (won v i) (looked v i x))) (Event.Claim a i)
+        (claim_reply (cond z Claimed.Won (Claimed.Lost x)))) (sym word)
+        (subst (λ z. IsEvent rows s (moved s i (either b 1 n) a (cond z (won v i) (looked v i x))) (Event.Claim a i)
+        (claim_reply (cond b Claimed.Won (Claimed.Lost x)))) (sym free) e)
 
 -- ---- a publication and a void
 
@@ -157,7 +171,8 @@ held_core : (s : Table) (a i : ℕ) → holds (view_at s.views a) i ≡ true →
 held_core s a i mine c sh = sh.holds_is a i ∙ mine
 
 -- row i is Claimed where the seat holds it
-claimed_here : (rows : ℕ) (s : Table) (a i : ℕ) → Stands rows s a i → holds (view_at s.views a) i ≡ true → IsKnown (view_at s.views a) i RowState.Claimed
+claimed_here : (rows : ℕ) (s : Table) (a i : ℕ) → Stands rows s a i → holds (view_at s.views a) i ≡ true
+    → IsKnown (view_at s.views a) i RowState.Claimed
 claimed_here rows s a i h mine =
     let known = known_here rows s a (view_at s.views a) h.rule h.at i in
     subst (IsKnown (view_at s.views a) i) (known.held mine) known
@@ -169,8 +184,10 @@ publish_event rows s a i h mine =
     let view = view_at s.views in
     let w = published (view a) i in
     step_event rows s a i 2 w (Event.Publish a i) Reply.Made h
-    (changes rows s a i 2 (view a) w [] h.rule h.within (omega arith) h.at h.live (inr mine) (published_acts (view a) i (claimed_here rows s a i h mine)))
-    (λ c sh kept. subst (λ b. IsShown (put state i RowState.Published) (put view a w) (length s.views) (cond (b && true) (published_core c a i) c))
+    (changes rows s a i 2 (view a) w [] h.rule h.within (omega arith) h.at h.live (inr mine)
+    (published_acts (view a) i (claimed_here rows s a i h mine)))
+    (λ c sh kept. subst (λ b. IsShown (put state i RowState.Published) (put view a w) (length s.views)
+    (cond (b && true) (published_core c a i) c))
     (sym (held_core s a i mine c sh)) (publish_shown state view (length s.views) c a i sh (seat_there rows s a i h) h.live kept))
     (λ c sh. cond-true (c.holds a i) Reply.Made Reply.NotYours (held_core s a i mine c sh))
 
@@ -181,14 +198,16 @@ void_event rows s a i h mine =
     let view = view_at s.views in
     let w = voided (view a) i in
     step_event rows s a i 3 w (Event.Void a i) Reply.Voided h
-    (changes rows s a i 3 (view a) w [] h.rule h.within (omega arith) h.at h.live (inr mine) (voided_acts (view a) i (claimed_here rows s a i h mine)))
+    (changes rows s a i 3 (view a) w [] h.rule h.within (omega arith) h.at h.live (inr mine)
+    (voided_acts (view a) i (claimed_here rows s a i h mine)))
     (λ c sh kept. subst (λ b. IsShown (put state i RowState.Void) (put view a w) (length s.views) (cond b (voided_core c a i) c))
     (sym (held_core s a i mine c sh)) (void_shown state view (length s.views) c a i sh kept))
     (λ c sh. cond-true (c.holds a i) Reply.Voided Reply.NotYours (held_core s a i mine c sh))
 
 -- ---- a split and a meeting
 
-split_event : (rows : ℕ) (s : Table) (a : ℕ) → KeepsRule rows s → get_elem? s.views a ≡ some (view_at s.views a) → (view_at s.views a).spent ≡ false
+split_event : (rows : ℕ) (s : Table) (a : ℕ) → KeepsRule rows s → get_elem? s.views a ≡ some (view_at s.views a)
+    → (view_at s.views a).spent ≡ false
     → IsEvent rows s (after_split s a (view_at s.views a)) (Event.Tell a (length s.views)) Reply.Told
 split_event rows s a k at live = record {
   rule = rule;
@@ -196,7 +215,8 @@ split_event rows s a k at live = record {
   shown = λ c g sh.
       subst (λ m. IsShown (state_at s.words) (view_at (old ++ new ∷ [])) m (told_core c a (length s.views))) (sym longer)
       (subst (λ f. IsShown (state_at s.words) f (suc (length s.views)) (told_core c a (length s.views))) (sym views)
-      (split_shown (state_at s.words) (view_at s.views) (length s.views) c a sh live nobody (subst (IsKept (state_at s.words)) views rule.kept)));
+      (split_shown (state_at s.words) (view_at s.views) (length s.views) c a sh live nobody
+      (subst (IsKept (state_at s.words)) views rule.kept)));
   reply_is = λ c g sh. refl;
 }
   where
@@ -214,7 +234,8 @@ split_event rows s a k at live = record {
 
     views : view_at (old ++ new ∷ []) ≡ put (put (view_at s.views) a (parted (view_at s.views a))) (length s.views) new
     views = view_snoc old new ∙ ap (λ m. put (view_at old) m new) same_count
-        ∙ ap (λ f. put f (length s.views) new) (view_set s.views a (parted (view_at s.views a)) (at_within s.views a (view_at s.views a) at))
+        ∙ ap (λ f. put f (length s.views) new)
+        (view_set s.views a (parted (view_at s.views a)) (at_within s.views a (view_at s.views a) at))
 
     nobody : (view_at s.views (length s.views)).held ≡ []
     nobody = ap (λ u. u.held) (get_or_past s.views (length s.views) nothing (omega arith))
@@ -222,16 +243,19 @@ split_event rows s a k at live = record {
     rule : KeepsRule rows (after_split s a (view_at s.views a))
     rule = split_allowed rows a (view_at s.views a) live s k at
 
-meet_event : (rows : ℕ) (s : Table) (a b : ℕ) → KeepsRule rows s → get_elem? s.views a ≡ some (view_at s.views a) → (view_at s.views a).spent ≡ false
+meet_event : (rows : ℕ) (s : Table) (a b : ℕ) → KeepsRule rows s → get_elem? s.views a ≡ some (view_at s.views a)
+    → (view_at s.views a).spent ≡ false
     → get_elem? s.views b ≡ some (view_at s.views b) → (view_at s.views b).spent ≡ false → b ≢ a → (view_at s.views b).held ≡ []
     → IsEvent rows s (after_meeting s a (view_at s.views a) b (view_at s.views b)) (Event.Tell b a) Reply.Told
 meet_event rows s a b k at live there alive ne idle = record {
   rule = rule;
   good = λ c g _. after_good no_needs c (Event.Tell b a) g;
   shown = λ c g sh.
-      subst (λ m. IsShown (state_at s.words) (view_at (set (set s.views a both) b nothing)) m (told_core c b a)) (sym (length-set (set s.views a both) b nothing ∙ length-set s.views a both))
+      subst (λ m. IsShown (state_at s.words) (view_at (set (set s.views a both) b nothing)) m (told_core c b a))
+      (sym (length-set (set s.views a both) b nothing ∙ length-set s.views a both))
       (subst (λ f. IsShown (state_at s.words) f (length s.views) (told_core c b a)) (sym views)
-      (meet_shown (state_at s.words) (view_at s.views) (length s.views) c a b sh here ne live alive idle (subst (IsKept (state_at s.words)) views rule.kept)));
+      (meet_shown (state_at s.words) (view_at s.views) (length s.views) c a b sh here ne live alive idle
+      (subst (IsKept (state_at s.words)) views rule.kept)));
   reply_is = λ c g sh. refl;
 }
   where
@@ -242,7 +266,9 @@ meet_event rows s a b k at live there alive ne idle = record {
     here = at_within s.views a (view_at s.views a) at
 
     views : view_at (set (set s.views a both) b nothing) ≡ put (put (view_at s.views) a both) b nothing
-    views = view_set (set s.views a both) b nothing (let l = at_within s.views b (view_at s.views b) there in let e = length-set s.views a both in omega arith) ∙ ap (λ f. put f b nothing) (view_set s.views a both here)
+    views = view_set (set s.views a both) b nothing
+        (let l = at_within s.views b (view_at s.views b) there in let e = length-set s.views a both in omega arith) ∙ ap
+        (λ f. put f b nothing) (view_set s.views a both here)
 
     rule : KeepsRule rows (after_meeting s a (view_at s.views a) b (view_at s.views b))
     rule = join_allowed rows a b (view_at s.views a) (view_at s.views b) live idle s k at ne (set_else s.views a b both ne ∙ there)
@@ -272,17 +298,20 @@ start_rule rows = record {
   words = λ i. below_four (get_or (replicate rows 0) i 0) (all_replicate rows i 0);
   kept = subst (λ f. IsKept f (view_at (newcomer ∷ []))) (sym (all_free rows))
       (subst (IsKept (λ _. RowState.Free)) (sym (view_snoc [] newcomer))
-      (learns_keeps (λ _. RowState.Free) (λ _. nothing) 0 newcomer blank_kept (λ i x h. absurd (nothing_caused i x h)) (λ i h. h) newcomer_known
+      (learns_keeps (λ _. RowState.Free) (λ _. nothing) 0 newcomer blank_kept (λ i x h. absurd (nothing_caused i x h))
+      (λ i h. h) newcomer_known
       (λ gone. absurd (false≢true gone))));
   seats = record { count = refl; first = λ lt. absurd (omega arith) };
 }
 
 -- the core that a table under the rule shows
 abbrev core_of : Table → Fill
-core_of s = record { state = state_at s.words; holds = λ a i. holds (view_at s.views a) i; seen = λ a i. saw_published (view_at s.views a) i }
+core_of s =
+    record { state = state_at s.words; holds = λ a i. holds (view_at s.views a) i; seen = λ a i. saw_published (view_at s.views a) i }
 
 -- a Claimed row is held
-claimed_held : (state : ℕ → RowState) (view : ℕ → View) (i : ℕ) → IsKept state view → state i ≡ RowState.Claimed → (a : ℕ) × (holds (view a) i ≡ true)
+claimed_held : (state : ℕ → RowState) (view : ℕ → View) (i : ℕ) → IsKept state view → state i ≡ RowState.Claimed
+    → (a : ℕ) × (holds (view a) i ≡ true)
 claimed_held state view i k h =
     let c = k.cause i (λ e. cc) in
     (c.0, subst (λ x. caused (view c.0) i x ≡ true) h c.1)
@@ -333,10 +362,12 @@ steps_are_events rows = record {
   start = (start_rule rows, start_shown rows);
   shows = shows_core rows;
   look = λ s a i v k lt sits.
-      subst (λ u. IsEvent rows s (moved s i (get_or s.words i 0) a (looked u i (state_at s.words i))) (Event.Look a i) (Reply.Seen (state_at s.words i)))
+      subst (λ u. IsEvent rows s (moved s i (get_or s.words i 0) a (looked u i (state_at s.words i))) (Event.Look a i)
+      (Reply.Seen (state_at s.words i)))
       (view_here s.views a v sits.at) (look_event rows s a i (stands rows s a i v k lt sits));
   claim = λ s a i v k lt sits.
-      subst (λ u. IsEvent rows s (moved s i (either (get_or s.words i 0 == 0) 1 (get_or s.words i 0)) a (claimed u i (state_at s.words i))) (Event.Claim a i) (claim_reply (claim_answer (get_or s.words i 0))))
+      subst (λ u. IsEvent rows s (moved s i (either (get_or s.words i 0 == 0) 1 (get_or s.words i 0)) a
+      (claimed u i (state_at s.words i))) (Event.Claim a i) (claim_reply (claim_answer (get_or s.words i 0))))
       (view_here s.views a v sits.at) (claim_event rows s a i (stands rows s a i v k lt sits));
   publish = λ s a i v k lt sits mine.
       subst (λ u. IsEvent rows s (moved s i 2 a (published u i)) (Event.Publish a i) Reply.Made)

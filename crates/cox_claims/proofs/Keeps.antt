@@ -7,7 +7,8 @@ use Rattle.cox_fill_core.specs.declared.event.RowState.{RowState}
 use Rattle.cox_fill_core.specs.Fill.{put}
 use Rattle.cox_fill_core.proofs.Points.{put_here, put_else}
 use Rattle.cox_claims.specs.declared.view.View.{View}
-use Rattle.cox_claims.specs.Knowledge.{holds, saw_published, saw_void, saw_claimed, has_published, has_voided, caused, IsKnown, nothing, won, published, voided}
+use Rattle.cox_claims.specs.Knowledge.{holds, saw_published, saw_void, saw_claimed, has_published, has_voided, caused, IsKnown}
+use Rattle.cox_claims.specs.Knowledge.{nothing, won, published, voided}
 use Rattle.cox_claims.specs.Rule.{IsKept}
 use Rattle.cox_claims.proofs.Rows.{among_else, among-without_same, among-without_other}
 
@@ -147,7 +148,8 @@ same_known v w j y s k = record {
 
 -- seat a may change the state of row i where that is Free, or where the seat holds the row
 pub acts_keeps : (state : ℕ → RowState) (view : ℕ → View) (a i : ℕ) (x : RowState) (w : View) → IsKept state view
-    → (state i ≡ RowState.Free) ⊎ (holds (view a) i ≡ true) → (view a).spent ≡ false → Acts (view a) i x w → IsKept (put state i x) (put view a w)
+    → (state i ≡ RowState.Free) ⊎ (holds (view a) i ≡ true) → (view a).spent ≡ false → Acts (view a) i x w
+    → IsKept (put state i x) (put view a w)
 acts_keeps state view a i x w k mine live acts = record {
   cause = λ j h. ⊎_elim
       (λ e. (a, subst (λ z. caused (put view a w a) z (put state i x z) ≡ true) (sym e) cause_here))
@@ -159,11 +161,13 @@ acts_keeps state view a i x w k mine live acts = record {
       (λ o. ⊎_elim (λ f. alone b j f.1 o ∙ sym f.0) (λ p. k.one b d j o p) (held_by d j l))
       (held_by b j h);
   known = λ b j. at_put (λ v. IsKnown v j (put state i x j)) view a w b (λ _. hers j) (λ ne. theirs b j ne);
-  spent = λ b. at_put (λ v. v.spent ≡ true → v ≡ nothing) view a w b (λ _ s. absurd (false≢true (sym (acts.live ∙ live) ∙ s))) (λ _. k.spent b);
+  spent = λ b. at_put (λ v. v.spent ≡ true → v ≡ nothing) view a w b (λ _ s. absurd (false≢true (sym (acts.live ∙ live) ∙ s)))
+      (λ _. k.spent b);
 }
   where
     cause_here : caused (put view a w a) i (put state i x i) ≡ true
-    cause_here = subst (λ y. caused (put view a w a) i y ≡ true) (sym (put_here state i x)) (ap (λ v. caused v i x) (put_here view a w) ∙ acts.cause)
+    cause_here = subst (λ y. caused (put view a w a) i y ≡ true) (sym (put_here state i x))
+        (ap (λ v. caused v i x) (put_here view a w) ∙ acts.cause)
 
     cause_else : (j b : ℕ) → j ≢ i → caused (view b) j (state j) ≡ true → caused (put view a w b) j (state j) ≡ true
     cause_else j b ne h = at_put (λ v. caused v j (state j) ≡ true) view a w b

@@ -3,7 +3,8 @@ use Rattle.std.proofs.Common.{◌≡◌, ℕ, true, eqb, ⊎_elim, List, [], ◌
 use Rattle.std.proofs.lemmas.Bool.{or_cases, or_left, or_right, eqb-true, false≢true}
 use Rattle.cox_fill_core.specs.declared.event.RowState.{RowState}
 use Rattle.cox_claims.specs.declared.view.View.{View}
-use Rattle.cox_claims.specs.Knowledge.{among, saw_published, saw_void, saw_claimed, has_published, has_voided, caused, IsKnown, SeesAll, nothing, looked, noted, won, published, voided, parted, told, joined}
+use Rattle.cox_claims.specs.Knowledge.{among, saw_published, saw_void, saw_claimed, has_published, has_voided, caused, IsKnown}
+use Rattle.cox_claims.specs.Knowledge.{SeesAll, nothing, looked, noted, won, published, voided, parted, told, joined}
 use Rattle.cox_claims.proofs.Rows.{among-append}
 
 -- ---- a look
@@ -130,7 +131,8 @@ nothing_caused j RowState.Void h = cc
 pub looked_sees : (v : View) (i : ℕ) (x : RowState) → SeesAll v (looked v i x)
 looked_sees v i RowState.Free = record { published = λ j h. h; void = λ j h. h; claimed = λ j h. h }
 looked_sees v i RowState.Claimed = record { published = λ j h. h; void = λ j h. h; claimed = λ j h. or_right (eqb i j) (saw_claimed v j) h }
-looked_sees v i RowState.Published = record { published = λ j h. or_right (eqb i j) (saw_published v j) h; void = λ j h. h; claimed = λ j h. h }
+looked_sees v i RowState.Published =
+    record { published = λ j h. or_right (eqb i j) (saw_published v j) h; void = λ j h. h; claimed = λ j h. h }
 looked_sees v i RowState.Void = record { published = λ j h. h; void = λ j h. or_right (eqb i j) (saw_void v j) h; claimed = λ j h. h }
 
 pub won_sees : (v : View) (i : ℕ) → SeesAll v (won v i)

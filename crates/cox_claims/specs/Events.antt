@@ -11,7 +11,8 @@ use Rattle.cox_fill_core.specs.Fill.{Fill, opening, after, reply}
 use Rattle.cox_fill_core.specs.Good.{IsGood}
 use Rattle.cox_claims.specs.declared.view.View.{View}
 use Rattle.cox_claims.specs.declared.table.Claimed.{Claimed}
-use Rattle.cox_claims.specs.Knowledge.{holds, saw_published, saw_void, saw_claimed, nothing, newcomer, looked, claimed, published, voided, parted, told, joined}
+use Rattle.cox_claims.specs.Knowledge.{holds, saw_published, saw_void, saw_claimed, nothing, newcomer, looked, claimed, published}
+use Rattle.cox_claims.specs.Knowledge.{voided, parted, told, joined}
 use Rattle.cox_claims.specs.Plays.{claim_answer}
 use Rattle.cox_claims.specs.Rule.{state_at, view_at, KeepsRule}
 
@@ -80,9 +81,11 @@ pub record StepsAreEvents (rows : ℕ) : Type 0 where
   pub shows : (s : Table) → KeepsRule rows s → (c : Fill) × IsGood no_needs c × Shows s c
   -- a load of word i, and a compare-exchange of it from 0 to 1
   pub look : (s : Table) (a i : ℕ) (v : View) → KeepsRule rows s → i < rows → Sits s a v
-      → IsEvent rows s (moved s i (slice_index s.words i) a (looked v i (state_at s.words i))) (Event.Look a i) (Reply.Seen (state_at s.words i))
+      → IsEvent rows s (moved s i (slice_index s.words i) a (looked v i (state_at s.words i))) (Event.Look a i)
+      (Reply.Seen (state_at s.words i))
   pub claim : (s : Table) (a i : ℕ) (v : View) → KeepsRule rows s → i < rows → Sits s a v
-      → IsEvent rows s (moved s i (either (slice_index s.words i == 0) 1 (slice_index s.words i)) a (claimed v i (state_at s.words i))) (Event.Claim a i) (claim_reply (claim_answer (slice_index s.words i)))
+      → IsEvent rows s (moved s i (either (slice_index s.words i == 0) 1 (slice_index s.words i)) a (claimed v i (state_at s.words i)))
+      (Event.Claim a i) (claim_reply (claim_answer (slice_index s.words i)))
   -- a store of 2 or 3 to word i, by the seat that holds row i
   pub publish : (s : Table) (a i : ℕ) (v : View) → KeepsRule rows s → i < rows → Sits s a v → holds v i ≡ true
       → IsEvent rows s (moved s i 2 a (published v i)) (Event.Publish a i) Reply.Made

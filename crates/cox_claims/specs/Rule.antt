@@ -15,7 +15,8 @@ pub record IsKept (state : ℕ → RowState) (view : ℕ → View) : Type 0 wher
   pub cause : (i : ℕ) → state i ≢ RowState.Free → (a : ℕ) × (caused (view a) i (state i) ≡ true)
   -- no two seats hold one row
   pub one : (a b i : ℕ) → holds (view a) i ≡ true → holds (view b) i ≡ true → a ≡ b
-  -- a row that a seat holds is Claimed; one that it has seen Published or Void, or ended so, is so; one that it has seen Claimed is not Free
+  -- a row that a seat holds is Claimed; one that it has seen Published or Void, or ended so, is so; one that it has seen Claimed
+  -- is not Free
   pub known : (a i : ℕ) → IsKnown (view a) i (state i)
   -- the view of a seat that met another is empty
   pub spent : (a : ℕ) → (view a).spent ≡ true → view a ≡ nothing

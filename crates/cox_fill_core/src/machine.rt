@@ -87,7 +87,7 @@ impl Core {
         }
     }
 
-    // The least row that the row needs and that the actor has not seen Published.
+    // The least row that this row needs and that the actor has not seen Published.
     fn missing(&self, actor: u32, row: u32) -> Option<u32>
         requires actor { actor < actors_of self.now }
         requires row { row < rows_of self.now }

@@ -1,3 +1,4 @@
+-- The views tell the words.
 use Rattle.cox_claims.proofs.ViewLaws.{views_tell_words}
 use Rattle.cox_claims.proofs.laws.views_tell_words.Goals as goal
 

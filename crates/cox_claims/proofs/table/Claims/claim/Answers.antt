@@ -1,3 +1,4 @@
+-- The compare-exchange is allowed.
 use Rattle.cox_claims.proofs.Allowed.{claim_owed}
 use Rattle.cox_claims.proofs.table.Claims.claim.Goals as goal
 

@@ -1,3 +1,4 @@
+-- The states fit what the seat knows.
 use Rattle.std.proofs.Common.{subst, sym}
 use Rattle.cox_claims.specs.Tables.{Closes}
 use Rattle.cox_claims.proofs.Ends.{closes}

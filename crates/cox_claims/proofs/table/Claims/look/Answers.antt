@@ -1,3 +1,4 @@
+-- The load is allowed.
 use Rattle.cox_claims.proofs.Allowed.{look_owed}
 use Rattle.cox_claims.proofs.table.Claims.look.Goals as goal
 

@@ -1,3 +1,4 @@
+-- The meeting is allowed, and nothing that was seen is forgotten.
 use Rattle.std.proofs.Common.{subst, sym, ap}
 use Rattle.cox_claims.specs.Knowledge.{SeesAll}
 use Rattle.cox_claims.proofs.Allowed.{join_allowed}

@@ -1,3 +1,4 @@
+-- The store is allowed.
 use Rattle.cox_claims.proofs.Allowed.{publish_owed}
 use Rattle.cox_claims.proofs.table.Claims.publish.Goals as goal
 

@@ -1,3 +1,4 @@
+-- The store is allowed.
 use Rattle.cox_claims.proofs.Allowed.{void_owed}
 use Rattle.cox_claims.proofs.table.Claims.void.Goals as goal
 

@@ -1,3 +1,4 @@
+-- The same holds with one event more.
 use Rattle.std.proofs.Common.{arith}
 use Rattle.cox_fill_core.specs.declared.event.Event.{Event}
 use Rattle.cox_fill_core.proofs.Runs.{after_all_more, replies_more, one_answer_more, same_shape}

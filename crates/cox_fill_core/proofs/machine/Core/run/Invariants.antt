@@ -1,3 +1,4 @@
+-- The core stands after the events so far, the replies are those to them, and there is room for the rest.
 use Rattle.std.proofs.Common.{◌≡◌, ◌≤◌, length, take, vec_capacity}
 use Rattle.cox_fill_core.specs.Fill.{after_all, replies}
 use Rattle.cox_fill_core.specs.Machine.{fill_of, needs_of, HasSameShape}
