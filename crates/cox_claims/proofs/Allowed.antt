@@ -1,5 +1,5 @@
 -- Each step is allowed: it keeps the rule of the table, and tells its seat what its call ensures.
-use Rattle.std.proofs.Common.{◌≡◌, ◌≢◌, ℕ, ◌<◌, true, false, cond, ◌==◌, ◌⊎◌, ⊎_elim, inl, inr, List, [], ◌∷◌, ◌++◌, length}
+use Rattle.std.proofs.Common.{◌≡◌, ◌≢◌, ℕ, ◌<◌, true, false, cond, ◌==◌, ◌⊎◌, ⊎_elim, inl, inr, List, [], length}
 use Rattle.std.proofs.Common.{get_or, set, length-set, refl, sym, ap, subst, ◌∙◌, arith}
 use Rattle.std.proofs.lemmas.Bool.{cases_eq, cases_lt, eq-eqb, ne_eqb, false≢true}
 use Rattle.std.proofs.lemmas.Bool.Decides.{nat_tests}
@@ -25,7 +25,7 @@ use Rattle.cox_claims.specs.Plays.{Sitter, TellsLook, TellsClaim, TellsPublish, 
 use Rattle.cox_claims.proofs.Boards.{state_set, view_set, view_snoc, view_here, at_within, put_same}
 use Rattle.cox_claims.proofs.Keeps.{Acts, learns_keeps, causes_here, acts_keeps, won_acts, published_acts, voided_acts}
 use Rattle.cox_claims.proofs.Splits.{step_splits, split_splits, meeting_splits}
-use Rattle.cox_claims.proofs.Views.{DidSame, looked_did, did_caused, looked_known, parted_known, parted_caused, told_known}
+use Rattle.cox_claims.proofs.Views.{looked_did, did_caused, looked_known, parted_known, parted_caused, told_known}
 use Rattle.cox_claims.proofs.Views.{nothing_caused, joined_known, joined_caused_first, joined_caused_second, nothing_known}
 use Rattle.cox_claims.proofs.Views.{looked_sees, won_sees, published_sees, voided_sees}
 

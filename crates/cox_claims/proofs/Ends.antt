@@ -21,10 +21,11 @@ states_more states words k n x so_far at is =
 
 -- the states of a table that ended under the rule, beside what a seat knows
 pub closes : (rows a : ℕ) (v : View) (words : List ℕ) (slots : List (Unit {0})) → Final (Seen (KeepsRule rows) a v) words slots
-    → Closes v rows (map state_of words)
+    → Closes v a rows (map state_of words)
 closes rows a v words slots (s, seen, is, count, homes) = record {
   count = length-map words state_of ∙ ap length (sym is) ∙ seen.0.count;
   known = λ i lt. subst (IsKnown v i)
       (ap (λ z. state_at z i) is ∙ sym (get_or-map state_of words i 0 RowState.Free (omega (arith, ap length is, seen.0.count))))
       (subst (λ u. IsKnown u i (state_at s.words i)) (view_here s.views a v seen.1) (seen.0.kept.known a i));
+  table = (s, seen.0, seen.1, ap (map state_of) (sym is));
 }

@@ -1,10 +1,9 @@
 -- The views of a table tell its words; and a table whose first seat has the view of the start is the table at the start.
-use Rattle.std.proofs.Common.{◌≡◌, ℕ, ◌<◌, ◌∷◌, [], get_or, refl, sym, ap, subst, ◌∙◌, arith}
+use Rattle.std.proofs.Common.{◌≡◌, ℕ, ◌<◌, get_or, sym, subst, ◌∙◌, arith}
 use Rattle.std.proofs.lemmas.Bool.Decides.{nat_tests}
 use Rattle.std.proofs.lemmas.List.{ext_get_or}
-use mathlib.Core.Option.{some}
-use Rattle.cox_claims.specs.Rule.{state_of, IsKept, state_at, view_at, KeepsRule}
-use Rattle.cox_claims.specs.Events.{Table, fresh_table, ViewsTellWords, StartsFree}
+use Rattle.cox_claims.specs.Rule.{state_of, IsKept, state_at, view_at}
+use Rattle.cox_claims.specs.Events.{fresh_table, ViewsTellWords, StartsFree}
 use Rattle.cox_claims.proofs.Keeps.{same_state}
 use Rattle.cox_claims.proofs.Splits.{only_seat}
 use Rattle.cox_claims.proofs.EventSteps.{start_rule}

@@ -3,7 +3,7 @@ use Rattle.std.proofs.Common.{◌≡◌, ℕ, true, eqb, ⊎_elim, List, [], ◌
 use Rattle.std.proofs.lemmas.Bool.{or_cases, or_left, or_right, eqb-true, false≢true}
 use Rattle.cox_fill_core.specs.declared.event.RowState.{RowState}
 use Rattle.cox_claims.specs.declared.view.View.{View}
-use Rattle.cox_claims.specs.Knowledge.{among, saw_published, saw_void, saw_claimed, has_published, has_voided, caused, IsKnown}
+use Rattle.cox_claims.specs.Knowledge.{among, saw_published, saw_void, saw_claimed, caused, IsKnown}
 use Rattle.cox_claims.specs.Knowledge.{SeesAll, nothing, looked, noted, won, published, voided, parted, told, joined}
 use Rattle.cox_claims.proofs.Rows.{among-append}
 

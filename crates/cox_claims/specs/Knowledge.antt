@@ -106,11 +106,11 @@ won v i = record v { held = i ∷ v.held }
 abbrev pub claimed : View → ℕ → RowState → View
 claimed v i x = if is_free x then won v i else looked v i x
 
--- the seat no longer holds row i, and has seen it Published
+-- the seat published row i: it no longer holds the row, and has seen it Published
 abbrev pub published : View → ℕ → View
 published v i = record v { held = without i v.held; published = i ∷ v.published; made = i ∷ v.made }
 
--- the seat no longer holds row i, has seen it Void, and marks it
+-- the seat voided row i: it no longer holds the row, has seen it Void, and marks it
 abbrev pub voided : View → ℕ → View
 voided v i = record v { held = without i v.held; voids = i ∷ v.voids; marks = i ∷ v.marks; given_up = i ∷ v.given_up }
 

@@ -180,11 +180,11 @@ impl Claims {
         seat.splits = seat.splits.max(splits);
     }
 
-    /// Ends the table. Gives the state of each row, none of them earlier than what the seat knows of it.
+    /// Ends the table. Gives the state of each row at the end, none of them earlier than what the seat knows of it.
     /// Out of memory, the table and the seat come back as they were.
     pub fn close(self, seat: Seat) -> Result<Vec<RowState>, (Claims, Seat)>
         requires { IsSeatOf self seat }
-        ensures states { IfOk result (λ states. Closes (view_of seat) (rows_of self) states.items) }
+        ensures states { IfOk result (λ states. Closes (view_of seat) (number_of seat) (rows_of self) states.items) }
         ensures back { IfErr result (λ both. (both.0 ≡ self) × (both.1 ≡ seat)) }
     {
         let Ok(states) = Vec::with_capacity(self.alloc, self.rows as usize) else {
