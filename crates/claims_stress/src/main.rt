@@ -1,10 +1,10 @@
-// A stress test of the table of claims: several threads claim, publish, void and look over one table at once.
-//
-// Each row has to be won once, and a row that a worker has seen Published or Void has to stay so, to the end. What is
-// printed is the same by every schedule.
-//
-// - work: what one worker does, and what it reports
-// - tally: what all reports say together
+//! A stress test of the table of claims: several threads claim, publish, void and look over one table at once.
+//!
+//! Each row has to be won once, and a row that a worker has seen Published or Void has to stay so, to the end. What is
+//! printed is the same by every schedule.
+//!
+//! - work: what one worker does, and what it reports
+//! - tally: what all reports say together
 #![tactic(auto)]
 
 ghost use Rattle.std.specs.Prelude.{IfOk, All};

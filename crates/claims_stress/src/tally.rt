@@ -1,4 +1,4 @@
-// What all reports say together.
+//! What all reports say together.
 use crate::work::{Report, is_ended};
 use cox_claims::{NoMemory, RowState};
 use std::alloc::Global;

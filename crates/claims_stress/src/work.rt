@@ -1,4 +1,4 @@
-// What one worker does: it claims each row, ends those that it wins, and watches that no ended row changes.
+//! What one worker does: it claims each row, ends those that it wins, and watches that no ended row changes.
 ghost use Rattle.std.specs.Prelude.{◌≡◌, ◌<◌, length};
 ghost use Rattle.cox_claims.specs.Tables.{rows_of, IsSeatOf};
 ghost use Rattle.claims_stress.specs.Jobs.{IsReady};

@@ -1,4 +1,4 @@
--- The words and views of a table as functions of numbers.
+-- The words and views of a table as functions of numbers: a change or an addition in the list is one in the function.
 use Rattle.std.proofs.Common.{◌≡◌, ℕ, zero, suc, ◌<◌, ⊎_elim, List, [], ◌∷◌, ◌++◌, length, get_or, set, refl, sym, ap, ◌∙◌, arith}
 use Rattle.std.proofs.lemmas.Bool.{cases_eq}
 use Rattle.std.proofs.lemmas.Bool.Decides.{nat_tests}
@@ -17,7 +17,8 @@ state_set words i n lt = λ k j. at j k
   where
     at : (j : ℕ) → state_at (set words i n) j ≡ put (state_at words) i (state_of n) j
     at j = ⊎_elim
-        (λ e. ap (state_at (set words i n)) e ∙ ap state_of (get_or-set_same words i n 0 lt) ∙ sym (ap (put (state_at words) i (state_of n)) e ∙ put_here (state_at words) i (state_of n)))
+        (λ e. ap (state_at (set words i n)) e ∙ ap state_of (get_or-set_same words i n 0 lt) ∙ sym
+        (ap (put (state_at words) i (state_of n)) e ∙ put_here (state_at words) i (state_of n)))
         (λ ne. ap state_of (get_or-set_other words i j n 0 ne) ∙ sym (put_else (state_at words) i (state_of n) j ne))
         (cases_eq j i)
 
@@ -26,7 +27,8 @@ view_set views a w lt = λ k b. at b k
   where
     at : (b : ℕ) → view_at (set views a w) b ≡ put (view_at views) a w b
     at b = ⊎_elim
-        (λ e. ap (view_at (set views a w)) e ∙ get_or-set_same views a w nothing lt ∙ sym (ap (put (view_at views) a w) e ∙ put_here (view_at views) a w))
+        (λ e. ap (view_at (set views a w)) e ∙ get_or-set_same views a w nothing lt ∙ sym
+        (ap (put (view_at views) a w) e ∙ put_here (view_at views) a w))
         (λ ne. get_or-set_other views a b w nothing ne ∙ sym (put_else (view_at views) a w b ne))
         (cases_eq b a)
 

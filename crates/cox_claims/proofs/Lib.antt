@@ -1,7 +1,10 @@
 pub mod Rows
+pub mod Views
 pub mod Keeps
 pub mod Boards
+pub mod Splits
 pub mod Allowed
 pub mod Ends
 pub mod Shown
 pub mod EventSteps
+pub mod ViewLaws

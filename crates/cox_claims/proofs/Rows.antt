@@ -1,6 +1,6 @@
--- Lists of rows as functions of rows.
-use Rattle.std.proofs.Common.{◌≡◌, ◌≢◌, ℕ, true, false, ◌||◌, List, [], ◌∷◌, ◌++◌, refl, sym, ap, ◌∙◌, ⊎_elim, arith}
-use Rattle.std.proofs.lemmas.Bool.{cases_eq, false≢true}
+-- Lists of rows as tests on rows: with a row more, without one, and one list after another.
+use Rattle.std.proofs.Common.{◌≡◌, ◌≢◌, ℕ, false, ◌||◌, List, [], ◌∷◌, ◌++◌, refl, sym, ap, arith}
+use Rattle.std.proofs.lemmas.Bool.{ne_eqb}
 use Rattle.std.proofs.lemmas.Bool.Decides.{nat_tests}
 use Rattle.cox_claims.specs.Knowledge.{among, without}
 
@@ -16,8 +16,6 @@ pub among-append : (i : ℕ) (xs ys : List ℕ) → among i (xs ++ ys) ≡ (amon
 among-append i [] ys = refl
 among-append i (x ∷ xs) ys = let h = among-append i xs ys in grind (arith, nat_tests, h)
 
-pub without-among : (i j : ℕ) (xs : List ℕ) → among j (without i xs) ≡ true → (j ≢ i) × (among j xs ≡ true)
-without-among i j xs h = ⊎_elim
-    (λ e. let s = among-without_same i xs in absurd (false≢true (sym s ∙ ap (λ z. among z (without i xs)) (sym e) ∙ h)))
-    (λ ne. (ne, sym (among-without_other i j xs ne) ∙ h))
-    (cases_eq j i)
+-- a row more does not count for another
+pub among_else : (i j : ℕ) (xs : List ℕ) → j ≢ i → among j (i ∷ xs) ≡ among j xs
+among_else i j xs ne = ap (λ b. b || among j xs) (ne_eqb i j (λ e. ne (sym e)))

@@ -11,7 +11,8 @@ use Rattle.cox_fill_core.specs.Fill.{Fill, opening, after, reply}
 use Rattle.cox_fill_core.specs.Good.{IsGood}
 use Rattle.cox_claims.specs.declared.view.View.{View}
 use Rattle.cox_claims.specs.declared.table.Claimed.{Claimed}
-use Rattle.cox_claims.specs.Knowledge.{holds, saw_published, saw_void, saw_claimed, nothing, newcomer, looked, claimed, published, voided, told, joined}
+use Rattle.cox_claims.specs.Knowledge.{holds, saw_published, saw_void, saw_claimed, nothing, newcomer, looked, claimed, published}
+use Rattle.cox_claims.specs.Knowledge.{voided, parted, told, joined}
 use Rattle.cox_claims.specs.Plays.{claim_answer}
 use Rattle.cox_claims.specs.Rule.{state_at, view_at, KeepsRule}
 
@@ -55,13 +56,13 @@ pub record Sits (s : Table) (a : ℕ) (v : View) : Type 0 where
 abbrev pub moved : Table → ℕ → ℕ → ℕ → View → Table
 moved s i n a w = stepped s i n a [] w keeps
 
--- the table after seat a, whose view is v, was split
-abbrev pub parted : Table → ℕ → View → Table
-parted s a v = record s { views = slice_set s.views a v ++ told v ∷ [] }
+-- the table after seat a, whose view was v, was split
+abbrev pub after_split : Table → ℕ → View → Table
+after_split s a v = record s { views = slice_set s.views a (parted v) ++ told v ∷ [] }
 
 -- the table after seat a, whose view was v, met seat b, whose view was w
-abbrev pub met : Table → ℕ → View → ℕ → View → Table
-met s a v b w = record s { views = slice_set (slice_set s.views a (joined v w)) b nothing }
+abbrev pub after_meeting : Table → ℕ → View → ℕ → View → Table
+after_meeting s a v b w = record s { views = slice_set (slice_set s.views a (joined v w)) b nothing }
 
 -- the table at the start: all rows Free, and one seat
 abbrev pub fresh_table : ℕ → Table
@@ -80,9 +81,11 @@ pub record StepsAreEvents (rows : ℕ) : Type 0 where
   pub shows : (s : Table) → KeepsRule rows s → (c : Fill) × IsGood no_needs c × Shows s c
   -- a load of word i, and a compare-exchange of it from 0 to 1
   pub look : (s : Table) (a i : ℕ) (v : View) → KeepsRule rows s → i < rows → Sits s a v
-      → IsEvent rows s (moved s i (slice_index s.words i) a (looked v i (state_at s.words i))) (Event.Look a i) (Reply.Seen (state_at s.words i))
+      → IsEvent rows s (moved s i (slice_index s.words i) a (looked v i (state_at s.words i))) (Event.Look a i)
+      (Reply.Seen (state_at s.words i))
   pub claim : (s : Table) (a i : ℕ) (v : View) → KeepsRule rows s → i < rows → Sits s a v
-      → IsEvent rows s (moved s i (either (slice_index s.words i == 0) 1 (slice_index s.words i)) a (claimed v i (state_at s.words i))) (Event.Claim a i) (claim_reply (claim_answer (slice_index s.words i)))
+      → IsEvent rows s (moved s i (either (slice_index s.words i == 0) 1 (slice_index s.words i)) a (claimed v i (state_at s.words i)))
+      (Event.Claim a i) (claim_reply (claim_answer (slice_index s.words i)))
   -- a store of 2 or 3 to word i, by the seat that holds row i
   pub publish : (s : Table) (a i : ℕ) (v : View) → KeepsRule rows s → i < rows → Sits s a v → holds v i ≡ true
       → IsEvent rows s (moved s i 2 a (published v i)) (Event.Publish a i) Reply.Made
@@ -90,6 +93,15 @@ pub record StepsAreEvents (rows : ℕ) : Type 0 where
       → IsEvent rows s (moved s i 3 a (voided v i)) (Event.Void a i) Reply.Voided
   -- a split, which makes the next seat, and a meeting with a seat that holds nothing and is spent from then on
   pub split : (s : Table) (a : ℕ) (v : View) → KeepsRule rows s → Sits s a v
-      → IsEvent rows s (parted s a v) (Event.Tell a (length s.views)) Reply.Told
+      → IsEvent rows s (after_split s a v) (Event.Tell a (length s.views)) Reply.Told
   pub meet : (s : Table) (a b : ℕ) (v w : View) → KeepsRule rows s → Sits s a v → Sits s b w → b ≢ a → w.held ≡ []
-      → IsEvent rows s (met s a v b w) (Event.Tell b a) Reply.Told
+      → IsEvent rows s (after_meeting s a v b w) (Event.Tell b a) Reply.Told
+
+-- two tables under the rule whose seats have the same views have the same words: what a step does to the views is all that it does
+abbrev pub ViewsTellWords : ℕ → Type 0
+ViewsTellWords rows = (s t : Table) → KeepsRule rows s → KeepsRule rows t → s.views ≡ t.views → s.words ≡ t.words
+
+-- a table under the rule whose first seat has the view of the start is the table at the start
+abbrev pub StartsFree : ℕ → Type 0
+StartsFree rows = (s : Table) → KeepsRule rows s → get_elem? s.views 0 ≡ some newcomer
+    → (s.words ≡ replicate rows 0) × (s.views ≡ newcomer ∷ [])

@@ -1,4 +1,4 @@
--- What a seat knows, as functions of rows, and how each step changes it.
+-- What a seat knows and did, as functions of rows, and how each step changes it.
 use Rattle.std.specs.Prelude.{◌≡◌, ◌≢◌, ℕ, ◌+◌, Bool, true, false, ◌||◌, ◌==◌, if◌then◌else◌, List, [], ◌∷◌, ◌++◌, Some, None}
 use Rattle.cox_fill_core.specs.declared.event.RowState.{RowState}
 use Rattle.cox_fill_core.specs.Fill.{is_free}
@@ -33,13 +33,29 @@ saw_claimed v i = among i v.claimed
 abbrev pub marked : View → ℕ → Bool
 marked v i = among i v.marks
 
+-- the seat, or one that it met, published row i, or voided it
+abbrev pub has_published : View → ℕ → Bool
+has_published v i = among i v.made
+
+abbrev pub has_voided : View → ℕ → Bool
+has_voided v i = among i v.given_up
+
+-- row i came to the state x by what the seat did: it claimed the row and holds it, or it, or a seat that it met, ended the row
+abbrev pub caused : View → ℕ → RowState → Bool
+caused v i RowState.Free = false
+caused v i RowState.Claimed = holds v i
+caused v i RowState.Published = has_published v i
+caused v i RowState.Void = has_voided v i
+
 -- the state x of row i is not earlier than what the view knows: a row that it holds is Claimed, one that it has seen
--- Published or Void is so, and one that it has seen Claimed is not Free
+-- Published or Void, or ended so, is so, and one that it has seen Claimed is not Free
 pub record IsKnown (v : View) (i : ℕ) (x : RowState) : Type 0 where
   pub held : holds v i ≡ true → x ≡ RowState.Claimed
   pub published : saw_published v i ≡ true → x ≡ RowState.Published
   pub void : saw_void v i ≡ true → x ≡ RowState.Void
   pub claimed : saw_claimed v i ≡ true → x ≢ RowState.Free
+  pub made : has_published v i ≡ true → x ≡ RowState.Published
+  pub given_up : has_voided v i ≡ true → x ≡ RowState.Void
 
 -- all rows that v has seen Published, Void or Claimed w has seen so too
 pub record SeesAll (v w : View) : Type 0 where
@@ -49,11 +65,23 @@ pub record SeesAll (v w : View) : Type 0 where
 
 -- ---- views
 
--- a view that was spent by a join, or that was never made: it holds nothing and has seen nothing
+-- the view of a seat that met another, or that was never made: it holds nothing, has seen nothing and did nothing
 abbrev pub nothing : View
-nothing = record { held = []; published = []; voids = []; claimed = []; marks = []; last = None; reads = 0; spent = true }
+nothing = record {
+  held = [];
+  published = [];
+  voids = [];
+  claimed = [];
+  marks = [];
+  last = None;
+  reads = 0;
+  made = [];
+  given_up = [];
+  children = 0;
+  spent = true;
+}
 
--- the view of the first seat
+-- the view of the first seat at the start
 abbrev pub newcomer : View
 newcomer = record nothing { spent = false }
 
@@ -78,21 +106,32 @@ won v i = record v { held = i ∷ v.held }
 abbrev pub claimed : View → ℕ → RowState → View
 claimed v i x = if is_free x then won v i else looked v i x
 
--- the seat no longer holds row i, and has seen it Published
+-- the seat published row i: it no longer holds the row, and has seen it Published
 abbrev pub published : View → ℕ → View
-published v i = record v { held = without i v.held; published = i ∷ v.published }
+published v i = record v { held = without i v.held; published = i ∷ v.published; made = i ∷ v.made }
 
--- the seat no longer holds row i, has seen it Void, and marks it
+-- the seat voided row i: it no longer holds the row, has seen it Void, and marks it
 abbrev pub voided : View → ℕ → View
-voided v i = record v { held = without i v.held; voids = i ∷ v.voids; marks = i ∷ v.marks }
+voided v i = record v { held = without i v.held; voids = i ∷ v.voids; marks = i ∷ v.marks; given_up = i ∷ v.given_up }
 
--- the view of a seat that was split from one with the view v: it has seen the same, holds nothing, and has no mark and no read
+-- one seat more was split from the seat
+abbrev pub parted : View → View
+parted v = record v { children = v.children + 1 }
+
+-- the view of a seat that was split from one with the view v: it has seen the same, holds nothing, did nothing, and has no mark and no read
 abbrev pub told : View → View
 told v = record newcomer { published = v.published; voids = v.voids; claimed = v.claimed }
 
--- v, with all that w has seen
+-- v, with all that w has seen and did, but for its marks and reads
 abbrev pub joined : View → View → View
-joined v w = record v { published = v.published ++ w.published; voids = v.voids ++ w.voids; claimed = v.claimed ++ w.claimed }
+joined v w = record v {
+  published = v.published ++ w.published;
+  voids = v.voids ++ w.voids;
+  claimed = v.claimed ++ w.claimed;
+  made = v.made ++ w.made;
+  given_up = v.given_up ++ w.given_up;
+  children = v.children + w.children;
+}
 
 -- ---- what a step tells its seat: the view was v and is w
 

@@ -32,7 +32,7 @@ Holds seat i = holds (view_of seat) i ≡ true
 abbrev pub HoldsNothing : Seat → Type 0
 HoldsNothing seat = (view_of seat).held ≡ []
 
--- the seat has seen row i Published, Void, or Claimed by another
+-- the seat has seen row i Published, or Void, or Claimed by another
 abbrev pub HasSeen : Seat → ℕ → Type 0
 HasSeen seat i = saw_published (view_of seat) i ≡ true
 
@@ -53,11 +53,10 @@ last_read seat = (view_of seat).last
 abbrev pub reads_of : Seat → ℕ
 reads_of seat = (view_of seat).reads
 
--- the same seat: its table, its number and its count of splits
+-- the same seat: its table, and its number there
 pub record IsSameSeat (old new : Seat) : Type 0 where
   pub table : table_of new ≡ table_of old
   pub number : number_of new ≡ number_of old
-  pub splits : splits_of new ≡ splits_of old
 
 -- the seat was told the state x of row i: that is its last read, and it counts one read more
 pub record Reads (old : Seat) (i : ℕ) (x : RowState) (new : Seat) : Type 0 where

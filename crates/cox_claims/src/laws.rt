@@ -1,10 +1,21 @@
-// The laws of the table, each the contract of an empty function.
+//! The laws of the table, each the contract of an empty function.
 ghost use Rattle.std.specs.Prelude.{ℕ, ◌<◌};
-ghost use Rattle.cox_claims.specs.Events.{StepsAreEvents};
+ghost use Rattle.cox_claims.specs.Events.{StepsAreEvents, ViewsTellWords, StartsFree};
 
 /// Whatever the schedule, the words and the views of a table show a good state of the fill core between
 /// any two steps, and each step is the event that it is named after, with the reply that its call answers.
 /// A split tells the new seat what the old one has seen, and a meeting tells the first seat what the other has.
 pub fn steps_are_events()
     ensures { (rows : ℕ) → StepsAreEvents rows }
+{}
+
+/// The views of all seats tell each word: a step that does to the views what an event does to them does to
+/// the words what the event does, and nothing else.
+pub fn views_tell_words()
+    ensures { (rows : ℕ) → ViewsTellWords rows }
+{}
+
+/// Where the first seat has the view of a newcomer, it is the only seat, and all rows are Free.
+pub fn starts_free()
+    ensures { (rows : ℕ) → StartsFree rows }
 {}

@@ -1,17 +1,17 @@
-// The table of claims: which row of a shared store is claimed, published or void, for any number of threads.
-//
-// Each row has one word of an `atomic_table`. A thread works through a `Seat`, which knows what it holds and
-// what it has seen. Every call makes one atomic step and takes no lock, no handle and no memory (`new` and
-// `close` alone take memory). A row is won at most once, is published or voided at most once, by the seat
-// that won it, and stays so for good.
-//
-// - view: what a seat knows, in proofs alone
-// - rule: the fact that holds of words and views between any two steps, and what each step tells its seat
-// - seat: the seat itself
-// - table: `Claims` and its calls
-// - laws: each step is the event of the fill core (`cox_fill_core`) that it is named after
-//
-// It stands on `cox_fill_core` and on the kit's `atomic_table`.
+//! The table of claims: which row of a shared store is claimed, published or void, for any number of threads.
+//!
+//! Each row has one word of an `atomic_table`. A thread works through a `Seat`, which knows what it holds and
+//! what it has seen. Every call but `new` and `close` makes one atomic step, and takes no lock, no handle and
+//! no memory. A row is won at most once, and is published or voided at most once, by the seat that won it. It
+//! stays so for good.
+//!
+//! - view: what a seat knows and did, in proofs alone
+//! - rule: the fact that holds of words and views between any two steps, and what each step tells its seat
+//! - seat: the seat itself
+//! - table: `Claims` and its calls
+//! - laws: each step is the event of the fill core (`cox_fill_core`) that it is named after, and nothing else
+//!
+//! It stands on `cox_fill_core` and on the kit's `atomic_table`.
 #![tactic(auto)]
 
 pub mod laws;
@@ -26,5 +26,5 @@ use std::alloc::AllocError;
 pub use table::{Claimed, Claims};
 pub use view::View;
 
-/// There was no memory.
+/// Out of memory.
 pub type NoMemory = AllocError;

@@ -1,5 +1,5 @@
-// The rule of the table, and what each step may do under it.
-ghost use Rattle.cox_claims.specs.Knowledge.{newcomer, nothing, told, joined};
+//! The rule of the table, and what each step may do under it.
+ghost use Rattle.cox_claims.specs.Knowledge.{newcomer, nothing, parted, told, joined};
 ghost use Rattle.cox_claims.specs.Plays.{TellsLook, TellsClaim, TellsPublish, TellsVoid};
 ghost use Rattle.cox_claims.specs.Rule.{KeepsRule};
 
@@ -39,16 +39,16 @@ impl Play<(), View> for VoidPlay {
     ghost then = { TellsVoid };
 }
 
-/// One seat becomes two: the new one has seen what the old one had.
+/// One seat becomes two: the new one has seen what the old one had, which counts it.
 pub struct Parting;
 
 impl Split<View> for Parting {
-    ghost left = { λ v. v };
+    ghost left = { parted };
 
     ghost right = { told };
 }
 
-/// Two seats become one, which has seen what both had.
+/// Two seats become one, which has seen what both had and did what both did.
 pub struct Meeting;
 
 impl Join<View> for Meeting {

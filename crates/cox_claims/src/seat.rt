@@ -1,3 +1,4 @@
+//! The seat of a thread at a table.
 ghost use Rattle.std.specs.Prelude.{◌≡◌, false, []};
 
 use crate::view::View;

@@ -1,6 +1,6 @@
+//! The table, and the calls of threads.
 ghost use Rattle.std.specs.Prelude.{◌≡◌, ◌≢◌, ℕ, ◌<◌, ◌≤◌, max, [], map, vec_capacity, IfOk, IfErr};
-ghost use Rattle.cox_claims.specs.Knowledge.{holds, SeesAll, newcomer, Looks, TriesClaim, Publishes, Voids, told, joined};
-ghost use Rattle.cox_claims.specs.Plays.{claim_answer};
+ghost use Rattle.cox_claims.specs.Knowledge.{holds, SeesAll, newcomer, Looks, TriesClaim, Publishes, Voids, parted, told, joined};
 ghost use Rattle.cox_claims.specs.Rule.{state_of};
 ghost use Rattle.cox_fill_core.specs.declared.event.RowState.{RowState};
 ghost use Rattle.cox_fill_core.specs.declared.event.RowState.TheVariants.{Free};
@@ -23,7 +23,7 @@ pub enum Claimed {
     Lost(RowState),
 }
 
-// The words of a row.
+// What the word of a row may be.
 const FREE: u64 = 0;
 
 const CLAIMED: u64 = 1;
@@ -56,7 +56,7 @@ pub struct Claims {
 }
 
 impl Claims {
-    ghost use Rattle.cox_claims.specs.Seats.{view_of, splits_of, one_more_split, IsSameSeat, Holds, HoldsNothing, HasSeen, HasSeenVoid, HasMarked, Reads};
+    ghost use Rattle.cox_claims.specs.Seats.{view_of, number_of, splits_of, one_more_split, IsSameSeat, Holds, HoldsNothing, HasSeen, HasSeenVoid, HasMarked, Reads};
     ghost use Rattle.cox_claims.specs.Tables.{rows_of, IsSeatOf, Closes};
 
     /// A table of this many rows, all Free, and its first seat.
@@ -65,6 +65,7 @@ impl Claims {
         ensures seat { IfOk result (λ made. IsSeatOf made.0 made.1) }
         ensures rows { IfOk result (λ made. rows_of made.0 ≡ rows) }
         ensures view { IfOk result (λ made. view_of made.1 ≡ newcomer) }
+        ensures first { IfOk result (λ made. number_of made.1 ≡ 0) }
         ensures splits { IfOk result (λ made. splits_of made.1 ≡ 0) }
     {
         let words = vec![in alloc; FREE; rows as usize]?;
@@ -85,12 +86,14 @@ impl Claims {
         requires own { IsSeatOf self.now seat.old }
         requires row { row < rows_of self.now }
         ensures seat { IsSameSeat seat.old seat.new }
+        ensures splits { splits_of seat.new ≡ splits_of seat.old }
         ensures step { TriesClaim (view_of seat.old) row result (view_of seat.new) }
         ensures won { result ≡ Claimed.Won → Holds seat.new row }
         ensures lost { (state : RowState) → result ≡ Claimed.Lost state
             → (state ≢ Free) × Reads seat.old row state seat.new }
     {
-        match self.exchange(seat, row) {
+        let shared = &self.table.shared;
+        match shared.compare_exchange::<ClaimPlay>(&mut seat.seat, row as usize, FREE, CLAIMED) {
             FREE => Claimed::Won,
             found => Claimed::Lost(state_from(found)),
         }
@@ -101,32 +104,12 @@ impl Claims {
         requires own { IsSeatOf self.now seat.old }
         requires row { row < rows_of self.now }
         ensures seat { IsSameSeat seat.old seat.new }
+        ensures splits { splits_of seat.new ≡ splits_of seat.old }
         ensures step { Looks (view_of seat.old) row result (view_of seat.new) }
         ensures read { Reads seat.old row result seat.new }
     {
-        state_from(self.load(seat, row))
-    }
-
-    // The one step of a claim: the word found, which becomes that of a Claimed row if it was that of a Free one.
-    fn exchange(&self, seat: &mut Seat, row: u32) -> u64
-        requires own { IsSeatOf self.now seat.old }
-        requires row { row < rows_of self.now }
-        ensures seat { IsSameSeat seat.old seat.new }
-        ensures step { TriesClaim (view_of seat.old) row (claim_answer result) (view_of seat.new) }
-    {
         let shared = &self.table.shared;
-        shared.compare_exchange::<ClaimPlay>(&mut seat.seat, row as usize, FREE, CLAIMED)
-    }
-
-    // The one step of a look: the word found.
-    fn load(&self, seat: &mut Seat, row: u32) -> u64
-        requires own { IsSeatOf self.now seat.old }
-        requires row { row < rows_of self.now }
-        ensures seat { IsSameSeat seat.old seat.new }
-        ensures step { Looks (view_of seat.old) row (state_of result) (view_of seat.new) }
-    {
-        let shared = &self.table.shared;
-        shared.load::<LookPlay>(&mut seat.seat, row as usize)
+        state_from(shared.load::<LookPlay>(&mut seat.seat, row as usize))
     }
 
     /// Publishes a row that the seat holds.
@@ -135,6 +118,7 @@ impl Claims {
         requires row { row < rows_of self.now }
         requires held { Holds seat.old row }
         ensures seat { IsSameSeat seat.old seat.new }
+        ensures splits { splits_of seat.new ≡ splits_of seat.old }
         ensures step { Publishes (view_of seat.old) row (view_of seat.new) }
         ensures seen { HasSeen seat.new row }
     {
@@ -148,6 +132,7 @@ impl Claims {
         requires row { row < rows_of self.now }
         requires held { Holds seat.old row }
         ensures seat { IsSameSeat seat.old seat.new }
+        ensures splits { splits_of seat.new ≡ splits_of seat.old }
         ensures step { Voids (view_of seat.old) row (view_of seat.new) }
         ensures seen { HasSeenVoid seat.new row × HasMarked seat.new row }
     {
@@ -158,8 +143,9 @@ impl Claims {
     /// A new seat, which has seen what this one has and holds nothing. Both count one split more.
     pub fn split(&self, seat: &mut Seat) -> Seat
         requires { IsSeatOf self.now seat.old }
-        ensures own { IsSeatOf self.now seat.new × IsSeatOf self.now result }
-        ensures old { view_of seat.new ≡ view_of seat.old }
+        ensures own { IsSeatOf self.now result }
+        ensures seat { IsSameSeat seat.old seat.new }
+        ensures old { view_of seat.new ≡ parted (view_of seat.old) }
         ensures new { view_of result ≡ told (view_of seat.old) }
         ensures seen { SeesAll (view_of seat.old) (view_of result) }
         ensures idle { HoldsNothing result }
@@ -178,7 +164,7 @@ impl Claims {
     pub fn meet(&self, seat: &mut Seat, other: Seat)
         requires own { IsSeatOf self.now seat.old × IsSeatOf self.now other }
         requires idle { HoldsNothing other }
-        ensures own { IsSeatOf self.now seat.new }
+        ensures seat { IsSameSeat seat.old seat.new }
         ensures view { view_of seat.new ≡ joined (view_of seat.old) (view_of other) }
         ensures seen { SeesAll (view_of seat.old) (view_of seat.new) × SeesAll (view_of other) (view_of seat.new) }
         ensures held { (i : ℕ) → holds (view_of seat.new) i ≡ holds (view_of seat.old) i }
@@ -194,11 +180,11 @@ impl Claims {
         seat.splits = seat.splits.max(splits);
     }
 
-    /// Ends the table. Gives the state of each row, none of them earlier than what the seat knows of it.
-    /// Where there is no memory, the table and the seat come back as they were.
+    /// Ends the table. Gives the state of each row at the end, none of them earlier than what the seat knows of it.
+    /// Out of memory, the table and the seat come back as they were.
     pub fn close(self, seat: Seat) -> Result<Vec<RowState>, (Claims, Seat)>
         requires { IsSeatOf self seat }
-        ensures states { IfOk result (λ states. Closes (view_of seat) (rows_of self) states.items) }
+        ensures states { IfOk result (λ states. Closes (view_of seat) (number_of seat) (rows_of self) states.items) }
         ensures back { IfErr result (λ both. (both.0 ≡ self) × (both.1 ≡ seat)) }
     {
         let Ok(states) = Vec::with_capacity(self.alloc, self.rows as usize) else {

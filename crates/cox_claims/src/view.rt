@@ -1,7 +1,8 @@
+//! What a seat knows.
 use cox_fill_core::RowState;
 use std::collections::LinkedList;
 
-/// What a seat knows. No value of it is ever made: it stands in proofs alone.
+/// What a seat knows, and what it did. No value of this type is ever made: views exist in proofs alone.
 pub struct View {
     /// The rows that it holds by a claim.
     pub held: LinkedList<u32>,
@@ -17,6 +18,12 @@ pub struct View {
     pub last: Option<(u32, RowState)>,
     /// How many looks and lost claims there were.
     pub reads: u64,
-    /// Whether it was joined to another view, or was never made.
+    /// The rows that it published, or that a seat that it met did.
+    pub made: LinkedList<u32>,
+    /// The rows that it voided, or that a seat that it met did.
+    pub given_up: LinkedList<u32>,
+    /// How many seats were split from it, or from a seat that it met.
+    pub children: u64,
+    /// Whether the seat met another and is gone, or was never made.
     pub spent: bool,
 }

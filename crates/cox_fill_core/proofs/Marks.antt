@@ -1,5 +1,6 @@
--- The lists of a `Core`.
-use Rattle.std.proofs.Common.{◌≡◌, ℕ, ◌+◌, ◌<◌, min, Bool, true, false, cond, List, [], ◌∷◌, ◌++◌, length, take, get_or, replicate, Contains, filter, Option, Some, None, refl, ap, subst, ◌∙◌, ⊎_elim, append-nil, arith}
+-- The lists of a `Core`: the least missing row with one row more, the marks of needed rows, and that lists of nothing are the opening.
+use Rattle.std.proofs.Common.{◌≡◌, ℕ, ◌+◌, ◌<◌, min, Bool, true, false, cond, List, [], ◌∷◌, ◌++◌, length, take, get_or}
+use Rattle.std.proofs.Common.{replicate, Contains, filter, Option, Some, None, refl, ap, subst, ◌∙◌, ⊎_elim, append-nil, arith}
 use Rattle.std.proofs.lemmas.Bool.{cases_lt}
 use Rattle.std.proofs.lemmas.List.{take_more, get_or-replicate, get_or_past, get_or_default, length-replicate}
 use Rattle.std.proofs.lemmas.List.Elements.{filter-append}
@@ -15,7 +16,8 @@ least-push : (xs : List ℕ) (y : ℕ) → least (xs ++ y ∷ []) ≡ lesser_of 
 least-push [] y = refl
 least-push (x ∷ xs) y = ap (λ o. Some (least_with x o)) (least-push xs y) ∙ with_lesser x y (least xs)
 
-filter-push : (p : ℕ → Bool) (xs : List ℕ) (y : ℕ) → least (filter p (xs ++ y ∷ [])) ≡ cond (p y) (lesser_of (least (filter p xs)) y) (least (filter p xs))
+filter-push : (p : ℕ → Bool) (xs : List ℕ) (y : ℕ) → least (filter p (xs ++ y ∷ [])) ≡ cond (p y) (lesser_of (least (filter p xs)) y)
+    (least (filter p xs))
 filter-push p xs y = ap least (filter-append p xs (y ∷ [])) ∙ by_test (p y) (filter p xs)
   where
     by_test : (b : Bool) (ys : List ℕ) → least (ys ++ cond b (y ∷ []) []) ≡ cond b (lesser_of (least ys) y) (least ys)
@@ -23,11 +25,14 @@ filter-push p xs y = ap least (filter-append p xs (y ∷ [])) ∙ by_test (p y) 
     by_test false ys = ap least (append-nil ys)
 
 -- the least of the rows that pass, with one row more
-pub least-take_more : (p : ℕ → Bool) (xs : List ℕ) (k d : ℕ) → k < length xs → least (filter p (take (k + 1) xs)) ≡ cond (p (get_or xs k d)) (lesser_of (least (filter p (take k xs))) (get_or xs k d)) (least (filter p (take k xs)))
+pub least-take_more : (p : ℕ → Bool) (xs : List ℕ) (k d : ℕ) → k < length xs
+    → least (filter p (take (k + 1) xs)) ≡ cond (p (get_or xs k d)) (lesser_of (least (filter p (take k xs))) (get_or xs k d))
+    (least (filter p (take k xs)))
 least-take_more p xs k d lt = ap (λ z. least (filter p z)) (take_more xs k d lt) ∙ filter-push p (take k xs) (get_or xs k d)
 
 pub all_replicate : {X : Type 0} (n i : ℕ) (x : X) → get_or (replicate n x) i x ≡ x
-all_replicate n i x = ⊎_elim (λ lt. get_or-replicate n i x x lt) (λ le. get_or_past (replicate n x) i x (omega (arith, length-replicate n x))) (cases_lt i n)
+all_replicate n i x = ⊎_elim (λ lt. get_or-replicate n i x x lt)
+    (λ le. get_or_past (replicate n x) i x (omega (arith, length-replicate n x))) (cases_lt i n)
 
 pub no_marks : (n m i j : ℕ) → get_or (get_or (replicate n (replicate m false)) i []) j false ≡ false
 no_marks n m i j = ⊎_elim
@@ -50,7 +55,8 @@ pub listed_fill-opening : (states : List RowState) (holders : List (Option ℕ))
     → states ≡ replicate r RowState.Free → holders ≡ replicate r None → seen ≡ replicate a (replicate r false)
     → listed_fill states holders seen ≡ opening
 listed_fill-opening states holders seen r a p q s =
-    ap (λ z. listed_fill z holders seen) p ∙ ap (λ z. listed_fill (replicate r RowState.Free) z seen) q ∙ ap (listed_fill (replicate r RowState.Free) (replicate r None)) s
+    ap (λ z. listed_fill z holders seen) p ∙ ap (λ z. listed_fill (replicate r RowState.Free) z seen) q ∙ ap
+    (listed_fill (replicate r RowState.Free) (replicate r None)) s
     ∙ (λ k. record {
       state = λ i. all_replicate r i RowState.Free k;
       holds = λ b i. ap (is_held_by b) (all_replicate r i None) k;

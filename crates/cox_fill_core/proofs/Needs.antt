@@ -1,14 +1,17 @@
--- The least row that is missing.
-use Rattle.std.proofs.Common.{◌≡◌, ℕ, zero, suc, ◌<◌, ◌≤◌, Bool, true, false, not, cond, ◌⊎◌, ⊎_elim, inl, inr, List, [], ◌∷◌, length, get_or, Contains, filter, Option, Some, None, is_none, refl, sym, ap, subst, ◌∙◌, arith}
+-- The least of the needed rows that were not seen is one of them, and each other one is greater; if there is none, all were seen.
+use Rattle.std.proofs.Common.{◌≡◌, ℕ, zero, suc, ◌<◌, ◌≤◌, Bool, true, false, not, cond, ◌⊎◌, ⊎_elim, inl, inr, List, [], ◌∷◌}
+use Rattle.std.proofs.Common.{length, get_or, Contains, filter, Option, Some, None, is_none, refl, sym, ap, subst, ◌∙◌, arith}
 use Rattle.std.proofs.lemmas.Bool.{cases_lt, false≢true, not-true, not_from_false}
 use Rattle.cox_fill_core.specs.Fill.{least, least_with}
 
 -- where nothing is missing, the first of the needed rows passes, and nothing of the others is missing
-first_passes : (b : Bool) (x : ℕ) (xs : List ℕ) → is_none (least (cond (not b) (x ∷ xs) xs)) ≡ true → (b ≡ true) × (is_none (least xs) ≡ true)
+first_passes : (b : Bool) (x : ℕ) (xs : List ℕ) → is_none (least (cond (not b) (x ∷ xs) xs)) ≡ true
+    → (b ≡ true) × (is_none (least xs) ≡ true)
 first_passes true x xs h = (refl, h)
 first_passes false x xs h = cc
 
-passes_at : (p : ℕ → Bool) (xs : List ℕ) (k d : ℕ) → is_none (least (filter (λ j. not (p j)) xs)) ≡ true → k < length xs → p (get_or xs k d) ≡ true
+passes_at : (p : ℕ → Bool) (xs : List ℕ) (k d : ℕ) → is_none (least (filter (λ j. not (p j)) xs)) ≡ true → k < length xs
+    → p (get_or xs k d) ≡ true
 passes_at p [] k d h lt = absurd (omega arith)
 passes_at p (x ∷ xs) zero d h lt = (first_passes (p x) x (filter (λ j. not (p j)) xs) h).0
 passes_at p (x ∷ xs) (suc k) d h lt = passes_at p xs k d (first_passes (p x) x (filter (λ j. not (p j)) xs) h).1 (omega arith)
@@ -25,7 +28,8 @@ In j (x ∷ xs) = (x ≡ j) ⊎ In j xs
 
 In-contains : (xs : List ℕ) (j : ℕ) → In j xs → Contains xs j
 In-contains [] j h = absurd h
-In-contains (x ∷ xs) j h = ⊎_elim (λ e. (zero, omega arith, e)) (λ k. let c = In-contains xs j k in (suc c.0, (let l = c.1 in omega arith), c.2)) h
+In-contains (x ∷ xs) j h =
+    ⊎_elim (λ e. (zero, omega arith, e)) (λ k. let c = In-contains xs j k in (suc c.0, (let l = c.1 in omega arith), c.2)) h
 
 In-from : (xs : List ℕ) (k j : ℕ) → k < length xs → get_or xs k j ≡ j → In j xs
 In-from [] k j lt e = absurd (omega arith)
@@ -50,7 +54,8 @@ least_pass : (p : ℕ → Bool) (xs : List ℕ) (j : ℕ) → least (filter p xs
 least_pass p [] j n = cc
 least_pass p (x ∷ xs) j n = at (λ y. least_pass p xs y) (p x) refl n
   where
-    first : ((y : ℕ) → least (filter p xs) ≡ Some y → IsLeastPass p xs y) → (o : Option ℕ) → least (filter p xs) ≡ o → p x ≡ true → least_with x o ≡ j → IsLeastPass p (x ∷ xs) j
+    first : ((y : ℕ) → least (filter p xs) ≡ Some y → IsLeastPass p xs y) → (o : Option ℕ) → least (filter p xs) ≡ o → p x ≡ true
+        → least_with x o ≡ j → IsLeastPass p (x ∷ xs) j
     first others None e t is = record {
       among = inl is;
       passes = ap p (sym is) ∙ t;
@@ -71,7 +76,8 @@ least_pass p (x ∷ xs) j n = at (λ y. least_pass p xs y) (p x) refl n
         })
         (cases_lt x y)
 
-    at : ((y : ℕ) → least (filter p xs) ≡ Some y → IsLeastPass p xs y) → (b : Bool) → p x ≡ b → least (cond b (x ∷ filter p xs) (filter p xs)) ≡ Some j → IsLeastPass p (x ∷ xs) j
+    at : ((y : ℕ) → least (filter p xs) ≡ Some y → IsLeastPass p xs y) → (b : Bool) → p x ≡ b
+        → least (cond b (x ∷ filter p xs) (filter p xs)) ≡ Some j → IsLeastPass p (x ∷ xs) j
     at others true e q = first others (least (filter p xs)) refl e cc
     at others false e q =
         let l = others j q in record {

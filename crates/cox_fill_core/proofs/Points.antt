@@ -1,4 +1,4 @@
--- A function of numbers with one value changed.
+-- A function of numbers with one value changed: its values there and elsewhere.
 use Rattle.std.proofs.Common.{◌≡◌, ◌≢◌, ℕ, ◌⊎◌, arith}
 use Rattle.std.proofs.lemmas.Bool.Decides.{nat_tests}
 use Rattle.cox_fill_core.specs.Fill.{put}

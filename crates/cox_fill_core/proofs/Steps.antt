@@ -1,11 +1,13 @@
--- Each event keeps a core state good.
-use Rattle.std.proofs.Common.{◌≡◌, ◌≢◌, ℕ, Bool, true, false, ◌&&◌, cond, ⊎_elim, List, Contains, Option, Some, None, is_none, refl, subst, arith}
+-- The cases of each event, and that each event keeps a core good.
+use Rattle.std.proofs.Common.{◌≡◌, ◌≢◌, ℕ, Bool, true, false, ◌&&◌, cond, ⊎_elim, List, Contains, Option, Some, None, is_none}
+use Rattle.std.proofs.Common.{refl, subst, arith}
 use Rattle.std.proofs.lemmas.Bool.{or_cases}
 use Rattle.std.proofs.lemmas.Bool.Decides.{nat_tests}
 use Rattle.cox_fill_core.specs.declared.event.RowState.{RowState}
 use Rattle.cox_fill_core.specs.declared.event.Event.{Event}
 use Rattle.cox_fill_core.specs.declared.event.Reply.{Reply}
-use Rattle.cox_fill_core.specs.Fill.{Fill, is_free, is_published, noticed, claimed, published, voided, told, missing, publish_reply, after, reply}
+use Rattle.cox_fill_core.specs.Fill.{Fill, is_free, is_published, noticed, claimed, published, voided, told, missing}
+use Rattle.cox_fill_core.specs.Fill.{publish_reply, after, reply}
 use Rattle.cox_fill_core.specs.Good.{IsGood}
 use Rattle.cox_fill_core.proofs.Needs.{none_missing}
 use Rattle.cox_fill_core.proofs.Points.{put_cases}
@@ -27,7 +29,8 @@ noticed_good needs c a i g = record {
   claimed = g.claimed;
   held = g.held;
   one = g.one;
-  seen = λ b j h. grind (arith, nat_tests, g.seen b j, or_cases (c.seen a i) (is_published (c.state i)), is_published-published (c.state i));
+  seen =
+      λ b j h. grind (arith, nat_tests, g.seen b j, or_cases (c.seen a i) (is_published (c.state i)), is_published-published (c.state i));
   needed = g.needed;
 }
 
@@ -51,7 +54,8 @@ voided_good needs c a i mine g = record {
   needed = λ j k h n. grind (arith, nat_tests, g.needed j k, n, g.held a i);
 }
 
-published_good : (needs : ℕ → List ℕ) (c : Fill) (a i : ℕ) → c.holds a i ≡ true → ((j : ℕ) → Contains (needs i) j → c.seen a j ≡ true) → IsGood needs c → IsGood needs (published c a i)
+published_good : (needs : ℕ → List ℕ) (c : Fill) (a i : ℕ) → c.holds a i ≡ true → ((j : ℕ) → Contains (needs i) j → c.seen a j ≡ true)
+    → IsGood needs c → IsGood needs (published c a i)
 published_good needs c a i mine all g = record {
   claimed = λ j h. ⊎_elim (λ k. cc) (λ k. let w = g.claimed j k.1 in (w.0, grind (arith, nat_tests)))
       (put_cases c.state i RowState.Published j RowState.Claimed h);
@@ -74,7 +78,8 @@ told_good needs c a b g = record {
 }
 
 -- one test decides both the core after and the reply
-by_test : {A B : Type 0} (b : Bool) (P : A → B → Type 0) (x y : A) (u v : B) → (b ≡ true → P x u) → (b ≡ false → P y v) → P (cond b x y) (cond b u v)
+by_test : {A B : Type 0} (b : Bool) (P : A → B → Type 0) (x y : A) (u v : B) → (b ≡ true → P x u) → (b ≡ false → P y v)
+    → P (cond b x y) (cond b u v)
 by_test true P x y u v at_true at_false = at_true refl
 by_test false P x y u v at_true at_false = at_false refl
 
@@ -114,8 +119,10 @@ publish_cases needs c a i P made not_made =
     not_made
 
 pub after_good : (needs : ℕ → List ℕ) (c : Fill) (e : Event) → IsGood needs c → IsGood needs (after needs c e)
-after_good needs c (Event.Claim a i) g = claim_cases needs c a i (λ d r. IsGood needs d) (λ free. claimed_good needs c a i free g) (λ _. noticed_good needs c a i g)
+after_good needs c (Event.Claim a i) g =
+    claim_cases needs c a i (λ d r. IsGood needs d) (λ free. claimed_good needs c a i free g) (λ _. noticed_good needs c a i g)
 after_good needs c (Event.Look a i) g = noticed_good needs c a i g
-after_good needs c (Event.Publish a i) g = publish_cases needs c a i (λ d r. IsGood needs d) (λ mine all. published_good needs c a i mine all g) (λ _ _. g)
+after_good needs c (Event.Publish a i) g =
+    publish_cases needs c a i (λ d r. IsGood needs d) (λ mine all. published_good needs c a i mine all g) (λ _ _. g)
 after_good needs c (Event.Void a i) g = void_cases needs c a i (λ d r. IsGood needs d) (λ mine. voided_good needs c a i mine g) (λ _. g)
 after_good needs c (Event.Tell a b) g = told_good needs c a b g

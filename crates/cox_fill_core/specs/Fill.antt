@@ -1,5 +1,6 @@
 -- The fill core as plain data: the state of each row, who holds it, who has seen it Published, and what an event does to them.
-use Rattle.std.specs.Prelude.{ℕ, min, Bool, true, false, ◌&&◌, ◌||◌, ◌==◌, not, is_none, if◌then◌else◌, List, [], ◌∷◌, filter, Option, Some, None}
+use Rattle.std.specs.Prelude.{ℕ, min, Bool, true, false, ◌&&◌, ◌||◌, ◌==◌, not, is_none, if◌then◌else◌, List, [], ◌∷◌, filter}
+use Rattle.std.specs.Prelude.{Option, Some, None}
 use Rattle.cox_fill_core.specs.declared.event.RowState.{RowState}
 use Rattle.cox_fill_core.specs.declared.event.Event.{Event}
 use Rattle.cox_fill_core.specs.declared.event.Reply.{Reply}

@@ -43,7 +43,8 @@ IsWonOnce needs = (before between : List Event) (a i : ℕ)
     → reply_after needs before (Event.Claim a i) ≡ Reply.Won
     → StaysWon needs (before ++ Event.Claim a i ∷ between) i
 
--- actor a may publish row i after these events: it won the row and did not void it, it has seen all that the row needs, and each of that was made before
+-- actor a may publish row i after these events: it won the row and did not void it, it has seen all that the row needs, and each
+-- of that was made before
 pub record HasEarned (needs : ℕ → List ℕ) (events : List Event) (a i : ℕ) : Type 0 where
   pub won : Happened needs events (Event.Claim a i) Reply.Won
   pub not_voided : ¬ Happened needs events (Event.Void a i) Reply.Voided
@@ -87,12 +88,19 @@ IsVoidForGood needs = (before later : List Event) (a i : ℕ)
     → reply_after needs before (Event.Void a i) ≡ Reply.Voided
     → IsSettled needs (before ++ Event.Void a i ∷ later) i RowState.Void
 
--- an actor has seen a row Published once a claim or a look told it so, once it made the row itself, or once another that had seen it told it;
+-- an actor has seen a row Published once a claim or a look told it so, once it made the row itself, or once another that had seen
+-- it told it;
 -- from then on the row stays so, whoever asks, and the actor has seen it for good
 pub record SeenStays (needs : ℕ → List ℕ) : Type 0 where
-  pub by_claim : (events : List Event) (a i : ℕ) → reply_after needs events (Event.Claim a i) ≡ Reply.Lost RowState.Published → (reached needs (events ++ Event.Claim a i ∷ [])).seen a i ≡ true
-  pub by_look : (events : List Event) (a i : ℕ) → reply_after needs events (Event.Look a i) ≡ Reply.Seen RowState.Published → (reached needs (events ++ Event.Look a i ∷ [])).seen a i ≡ true
-  pub by_publish : (events : List Event) (a i : ℕ) → reply_after needs events (Event.Publish a i) ≡ Reply.Made → (reached needs (events ++ Event.Publish a i ∷ [])).seen a i ≡ true
-  pub by_tell : (events : List Event) (a b i : ℕ) → (reached needs events).seen a i ≡ true → (reached needs (events ++ Event.Tell a b ∷ [])).seen b i ≡ true
-  pub settled : (before later : List Event) (a i : ℕ) → (reached needs before).seen a i ≡ true → IsSettled needs (before ++ later) i RowState.Published
-  pub stays : (before later : List Event) (a i : ℕ) → (reached needs before).seen a i ≡ true → (reached needs (before ++ later)).seen a i ≡ true
+  pub by_claim : (events : List Event) (a i : ℕ) → reply_after needs events (Event.Claim a i) ≡ Reply.Lost RowState.Published
+      → (reached needs (events ++ Event.Claim a i ∷ [])).seen a i ≡ true
+  pub by_look : (events : List Event) (a i : ℕ) → reply_after needs events (Event.Look a i) ≡ Reply.Seen RowState.Published
+      → (reached needs (events ++ Event.Look a i ∷ [])).seen a i ≡ true
+  pub by_publish : (events : List Event) (a i : ℕ) → reply_after needs events (Event.Publish a i) ≡ Reply.Made
+      → (reached needs (events ++ Event.Publish a i ∷ [])).seen a i ≡ true
+  pub by_tell : (events : List Event) (a b i : ℕ) → (reached needs events).seen a i ≡ true
+      → (reached needs (events ++ Event.Tell a b ∷ [])).seen b i ≡ true
+  pub settled : (before later : List Event) (a i : ℕ) → (reached needs before).seen a i ≡ true
+      → IsSettled needs (before ++ later) i RowState.Published
+  pub stays : (before later : List Event) (a i : ℕ) → (reached needs before).seen a i ≡ true
+      → (reached needs (before ++ later)).seen a i ≡ true

@@ -1,8 +1,9 @@
--- A `Core` as plain data.
+-- A `Core` as plain data, and what an event does to it.
 use Rattle.std.specs.Prelude.{◌≡◌, ◌≢◌, ℕ, ◌<◌, List, vec_len}
 use Rattle.cox_fill_core.specs.declared.event.Event.{Event}
 use Rattle.cox_fill_core.specs.declared.machine.Core.{Core}
-use Rattle.cox_fill_core.specs.Fill.{Fill}
+use Rattle.cox_fill_core.specs.declared.event.Reply.{Reply}
+use Rattle.cox_fill_core.specs.Fill.{Fill, after, reply}
 use Rattle.cox_fill_core.specs.Parts.{rows_at, listed_fill}
 
 -- how many rows and how many actors there are
@@ -33,3 +34,9 @@ pub record HasSameShape (old new : Core) : Type 0 where
   pub needs : needs_of new ≡ needs_of old
   pub rows : rows_of new ≡ rows_of old
   pub actors : actors_of new ≡ actors_of old
+
+-- the core takes the event, and replies
+pub record Takes (old new : Core) (event : Event) (answer : Reply) : Type 0 where
+  pub reply_is : answer ≡ reply (needs_of old) (fill_of old) event
+  pub state : fill_of new ≡ after (needs_of old) (fill_of old) event
+  pub shape : HasSameShape old new

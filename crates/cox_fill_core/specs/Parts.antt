@@ -1,5 +1,6 @@
 -- The parts of a `Core`, without the struct itself.
-use Rattle.std.specs.Prelude.{◌≡◌, ◌≢◌, ℕ, ◌<◌, min, Bool, false, ◌||◌, ◌==◌, List, [], map, length, slice_index_or, Option, Some, None, Contains, Vec, vec_items}
+use Rattle.std.specs.Prelude.{◌≡◌, ◌≢◌, ℕ, ◌<◌, min, Bool, false, ◌||◌, ◌==◌, List, [], map, length, slice_index_or, Option, Some}
+use Rattle.std.specs.Prelude.{None, Contains, Vec, vec_items}
 use Rattle.cox_fill_core.specs.declared.event.RowState.{RowState}
 use Rattle.cox_fill_core.specs.Fill.{Fill}
 

@@ -1,3 +1,4 @@
+//! The states of a row, the events, and the replies.
 /// What is known of a row of the store.
 #[derive(Clone, Copy, Debug, PartialEq, Eq)]
 pub enum RowState {
@@ -5,20 +6,20 @@ pub enum RowState {
     Free,
     /// One actor, and only one, has claimed the row and holds it.
     Claimed,
-    /// The row is there, for good.
+    /// The row is there for good.
     Published,
-    /// The actor that had claimed the row gave it up, for good.
+    /// The actor that had claimed the row gave it up for good.
     Void,
 }
 
-/// What an actor does. Actors and rows are counted from 0.
+/// What an actor does: the actor, and the row. Actors and rows are numbers from 0.
 #[derive(Clone, Copy, Debug, PartialEq, Eq)]
 pub enum Event {
-    /// The actor asks for the row.
+    /// The actor claims the row.
     Claim(u32, u32),
     /// The actor looks at the row.
     Look(u32, u32),
-    /// The actor puts out the row.
+    /// The actor publishes the row.
     Publish(u32, u32),
     /// The actor gives up the row.
     Void(u32, u32),

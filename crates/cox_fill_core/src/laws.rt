@@ -1,6 +1,6 @@
-// The laws of every list of events from the opening: each is the contract of an empty function.
-//
-// `needs` gives the rows that each row needs. It may be any function, and actors and rows may be any numbers.
+//! The laws of every list of events from the opening: each is the contract of an empty function.
+//!
+//! `needs` gives the rows that each row needs. It may be any function, and actors and rows may be any numbers.
 ghost use Rattle.std.specs.Prelude.{ℕ, List};
 ghost use Rattle.cox_fill_core.specs.Laws.{KeepsGood, StaysGood, MissesLeast, IsWonOnce, IsMadeByWinner, IsPublishedForGood, IsVoidForGood, SeenStays};
 

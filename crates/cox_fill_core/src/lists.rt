@@ -1,4 +1,4 @@
-// The lists of a core: which rows a row needs, and which rows an actor has seen Published.
+//! The lists of a core: which rows a row needs, and which rows an actor has seen Published.
 ghost use Rattle.std.specs.Prelude.{◌≡◌, ◌≢◌, ℕ, ◌<◌, Bool, false, true, not, ◌||◌, List, [], length, map, filter, replicate, slice_index_or, slice_set, vec_len, vec_items, IfOk, Contains};
 ghost use Rattle.cox_fill_core.specs.Fill.{least};
 ghost use Rattle.cox_fill_core.specs.Parts.{AddsMarks, TellsMarks, lesser_of};
@@ -143,10 +143,10 @@ fn tell_slice(seen: &mut [Known], from: usize, to: usize)
     ensures { TellsMarks seen.old seen.new from to }
 {
     if from < to {
-        let (front, back) = seen.split_at_mut(to);
-        back[0].add_all(&front[from]);
+        let (low, high) = seen.split_at_mut(to);
+        high[0].add_all(&low[from]);
     } else {
-        let (front, back) = seen.split_at_mut(from);
-        front[to].add_all(&back[0]);
+        let (low, high) = seen.split_at_mut(from);
+        low[to].add_all(&high[0]);
     }
 }

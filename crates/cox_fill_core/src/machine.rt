@@ -1,5 +1,5 @@
-// The fill core as a program: `Core` takes events one by one, or as a list.
-ghost use Rattle.std.specs.Prelude.{◌≡◌, ◌≢◌, ℕ, ◌<◌, true, [], length, vec_len, slice_index_or, replicate, take, ◌++◌, List, IfOk, OnOk, OnErr, All, None, IsTrue};
+//! The fill core as a program: `Core` takes events one by one, or as a list.
+ghost use Rattle.std.specs.Prelude.{◌≡◌, ◌≢◌, ℕ, ◌<◌, true, [], length, vec_len, slice_index_or, replicate, IfOk, OnOk, OnErr, All, Ok, None, IsTrue};
 ghost use Rattle.cox_fill_core.specs.Fill.{opening, missing, after, reply, after_all, replies};
 ghost use Rattle.cox_fill_core.specs.Parts.{rows_at, given_needs, NeedsLower, is_held_by};
 ghost use Rattle.cox_fill_core.specs.declared.event.RowState.TheVariants.{Claimed, Free};
@@ -25,7 +25,7 @@ pub struct Core {
 }
 
 impl Core {
-    ghost use Rattle.cox_fill_core.specs.Machine.{fill_of, needs_of, rows_of, actors_of, IsInRange, HasSameShape};
+    ghost use Rattle.cox_fill_core.specs.Machine.{fill_of, needs_of, rows_of, actors_of, IsInRange, HasSameShape, Takes};
 
     /// A core in which all rows are Free. Row `i` needs the rows of `needs[i]`, which have smaller numbers.
     /// With the needs `[[], [0]]` there are two rows, and the second needs the first.
@@ -87,7 +87,7 @@ impl Core {
         }
     }
 
-    // The least row that the row needs and that the actor has not seen Published.
+    // The least row that this row needs and that the actor has not seen Published.
     fn missing(&self, actor: u32, row: u32) -> Option<u32>
         requires actor { actor < actors_of self.now }
         requires row { row < rows_of self.now }
@@ -96,76 +96,71 @@ impl Core {
         least_missing(&self.needs[row as usize], &self.seen[actor as usize])
     }
 
-    /// Takes one event and says what it led to. After `NoMemory` the core is as it was.
+    /// Takes one event and says what it led to. It takes no memory, and never fails.
     pub fn step(&mut self, event: Event) -> Result<Reply, NoMemory>
         requires { IsInRange self.old event }
-        ensures reply { IfOk result (λ r. r ≡ reply (needs_of self.old) (fill_of self.old) event) }
-        ensures state { OnOk result (fill_of self.new ≡ after (needs_of self.old) (fill_of self.old) event) }
+        ensures reply { result ≡ Ok (reply (needs_of self.old) (fill_of self.old) event) }
+        ensures state { fill_of self.new ≡ after (needs_of self.old) (fill_of self.old) event }
         ensures shape { HasSameShape self.old self.new }
-        ensures err { OnErr result (self.new ≡ self.old) }
     {
-        Ok(match event {
-            Event::Claim(actor, row) => self.claim(actor, row),
-            Event::Look(actor, row) => self.look(actor, row),
-            Event::Publish(actor, row) => self.publish(actor, row),
-            Event::Void(actor, row) => self.void(actor, row),
-            Event::Tell(from, to) => self.tell(from, to),
-        })
+        Ok(self.take(event))
     }
 
-    /// Takes the events in order and says what each led to.
-    /// After `NoMemory` the core stands after the first of them, as far as they were taken.
+    /// Takes the events in order and says what each led to. Out of memory, the core is as it was.
     pub fn run(&mut self, events: &[Event]) -> Result<Vec<Reply>, NoMemory>
         requires { All (IsInRange self.old) events.now }
         ensures replies { IfOk result (λ r. r.items ≡ replies (needs_of self.old) (fill_of self.old) events.now) }
         ensures state { OnOk result (fill_of self.new ≡ after_all (needs_of self.old) (fill_of self.old) events.now) }
         ensures shape { HasSameShape self.old self.new }
-        ensures err { OnErr result ((n : ℕ)
-            × (fill_of self.new ≡ after_all (needs_of self.old) (fill_of self.old) (take n events.now))) }
+        ensures err { OnErr result (self.new ≡ self.old) }
     {
         let mut answers = Vec::with_capacity(self.alloc, events.len())?;
         for &event in events {
-            answers.push(self.step(event)?)?;
+            answers.push_reserved(self.take(event));
         }
         Ok(answers)
     }
 
+    fn take(&mut self, event: Event) -> Reply
+        requires { IsInRange self.old event }
+        ensures { Takes self.old self.new event result }
+    {
+        match event {
+            Event::Claim(actor, row) => self.claim(actor, row),
+            Event::Look(actor, row) => Reply::Seen(self.notice(actor, row)),
+            Event::Publish(actor, row) => self.publish(actor, row),
+            Event::Void(actor, row) => self.void(actor, row),
+            Event::Tell(from, to) => self.tell(from, to),
+        }
+    }
+
     fn claim(&mut self, actor: u32, row: u32) -> Reply
         requires { IsInRange self.old (Event.Claim actor row) }
-        ensures reply { result ≡ reply (needs_of self.old) (fill_of self.old) (Event.Claim actor row) }
-        ensures state { fill_of self.new ≡ after (needs_of self.old) (fill_of self.old) (Event.Claim actor row) }
-        ensures shape { HasSameShape self.old self.new }
+        ensures { Takes self.old self.new (Event.Claim actor row) result }
     {
-        let state = self.states[row as usize];
-        if state == RowState::Free {
+        if self.states[row as usize] == RowState::Free {
             self.states[row as usize] = RowState::Claimed;
             self.holders[row as usize] = Some(actor);
             return Reply::Won;
         }
-        if state == RowState::Published {
-            mark(&mut self.seen, actor, row);
-        }
-        Reply::Lost(state)
+        Reply::Lost(self.notice(actor, row))
     }
 
-    fn look(&mut self, actor: u32, row: u32) -> Reply
+    // Tells the actor the state of the row.
+    fn notice(&mut self, actor: u32, row: u32) -> RowState
         requires { IsInRange self.old (Event.Look actor row) }
-        ensures reply { result ≡ reply (needs_of self.old) (fill_of self.old) (Event.Look actor row) }
-        ensures state { fill_of self.new ≡ after (needs_of self.old) (fill_of self.old) (Event.Look actor row) }
-        ensures shape { HasSameShape self.old self.new }
+        ensures { Takes self.old self.new (Event.Look actor row) (Reply.Seen result) }
     {
         let state = self.states[row as usize];
         if state == RowState::Published {
             mark(&mut self.seen, actor, row);
         }
-        Reply::Seen(state)
+        state
     }
 
     fn publish(&mut self, actor: u32, row: u32) -> Reply
         requires { IsInRange self.old (Event.Publish actor row) }
-        ensures reply { result ≡ reply (needs_of self.old) (fill_of self.old) (Event.Publish actor row) }
-        ensures state { fill_of self.new ≡ after (needs_of self.old) (fill_of self.old) (Event.Publish actor row) }
-        ensures shape { HasSameShape self.old self.new }
+        ensures { Takes self.old self.new (Event.Publish actor row) result }
     {
         if !self.holds(actor, row) {
             return Reply::NotYours;
@@ -181,9 +176,7 @@ impl Core {
 
     fn void(&mut self, actor: u32, row: u32) -> Reply
         requires { IsInRange self.old (Event.Void actor row) }
-        ensures reply { result ≡ reply (needs_of self.old) (fill_of self.old) (Event.Void actor row) }
-        ensures state { fill_of self.new ≡ after (needs_of self.old) (fill_of self.old) (Event.Void actor row) }
-        ensures shape { HasSameShape self.old self.new }
+        ensures { Takes self.old self.new (Event.Void actor row) result }
     {
         if !self.holds(actor, row) {
             return Reply::NotYours;
@@ -195,9 +188,7 @@ impl Core {
 
     fn tell(&mut self, from: u32, to: u32) -> Reply
         requires { IsInRange self.old (Event.Tell from to) }
-        ensures reply { result ≡ reply (needs_of self.old) (fill_of self.old) (Event.Tell from to) }
-        ensures state { fill_of self.new ≡ after (needs_of self.old) (fill_of self.old) (Event.Tell from to) }
-        ensures shape { HasSameShape self.old self.new }
+        ensures { Takes self.old self.new (Event.Tell from to) result }
     {
         tell(&mut self.seen, from, to);
         Reply::Told

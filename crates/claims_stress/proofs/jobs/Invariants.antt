@@ -1,3 +1,4 @@
+-- Each job so far has a seat at the table.
 use Rattle.std.proofs.Common.{All}
 use Rattle.cox_claims.specs.Tables.{IsSeatOf}
 use Rattle.claims_stress.specs.Jobs.{IsReady}

@@ -1,3 +1,4 @@
+//! The calls of the table, by one thread.
 use super::{Claimed, Claims};
 use cox_fill_core::RowState;
 use std::test::Fail;
@@ -24,11 +25,27 @@ fn two_seats_share_two_rows(rt: HostRuntime) -> Result<(), Fail> {
     claims.meet(&mut first, second);
     assert_eq!(rt; first.splits(), 1);
     let Ok(states) = claims.close(first) else {
-        panic!(rt; "no memory")
+        panic!(rt; "out of memory")
     };
     assert_eq!(rt;
         states.as_slice(),
         [RowState::Published, RowState::Void].as_slice()
     );
+    Ok(())
+}
+
+#[test]
+fn a_table_of_many_rows_closes(rt: HostRuntime) -> Result<(), Fail> {
+    let (claims, mut seat) = Claims::new(rt.alloc(), 2000)?;
+    let Claimed::Won = claims.claim(&mut seat, 1999) else {
+        panic!(rt; "the row was free")
+    };
+    claims.publish(&mut seat, 1999);
+    let Ok(states) = claims.close(seat) else {
+        panic!(rt; "out of memory")
+    };
+    assert_eq!(rt; states.len(), 2000);
+    assert_eq!(rt; states.first(), Some(&RowState::Free));
+    assert_eq!(rt; states.last(), Some(&RowState::Published));
     Ok(())
 }

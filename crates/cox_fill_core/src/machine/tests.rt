@@ -1,3 +1,4 @@
+//! Worked examples.
 ghost use Rattle.std.specs.Prelude.{◌≡◌, vec_len, IfOk};
 ghost use Rattle.cox_fill_core.specs.Parts.{given_needs, NeedsLower};
 

@@ -1,3 +1,4 @@
+-- The seat sits at the table.
 use Rattle.cox_claims.specs.Tables.{IsSeatOf}
 use Rattle.claims_stress.proofs.work.watch.Given as goal
 

@@ -1,3 +1,4 @@
+-- The seat sits at the table, and there is a noted state for each row.
 use Rattle.std.proofs.Common.{◌≡◌, vec_len}
 use Rattle.cox_claims.specs.Tables.{IsSeatOf, rows_of}
 use Rattle.claims_stress.proofs.work.work.Given as goal

@@ -1,3 +1,4 @@
+-- The same holds with one word more.
 use Rattle.std.proofs.Common.{◌∙◌}
 use Rattle.cox_claims.proofs.Ends.{states_more}
 use Rattle.cox_claims.proofs.table.read_states.Goals as goal

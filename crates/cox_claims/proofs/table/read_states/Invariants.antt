@@ -1,3 +1,4 @@
+-- The states so far are what the words say, and there is room for the rest.
 use Rattle.std.proofs.Common.{◌≡◌, map, take, vec_capacity}
 use Rattle.std.specs.Slots.{slots_items}
 use Rattle.cox_claims.specs.Rule.{state_of}

@@ -1,3 +1,4 @@
+-- The marks before k are those of both, and the others are as they were.
 use Rattle.std.proofs.Common.{◌≡◌, ℕ, ◌<◌, ◌≤◌, false, ◌||◌, slice_index_or}
 use Rattle.cox_fill_core.proofs.lists.add_each.Given as goal
 

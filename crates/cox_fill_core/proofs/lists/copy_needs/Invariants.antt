@@ -1,3 +1,4 @@
+-- The needs of the rows so far were copied.
 use Rattle.std.proofs.Common.{◌≡◌, map, take, vec_items}
 use Rattle.cox_fill_core.proofs.lists.copy_needs.Given as goal
 

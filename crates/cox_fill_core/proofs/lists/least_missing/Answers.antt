@@ -1,3 +1,4 @@
+-- The needed rows have marks.
 use Rattle.std.proofs.Common.{◌<◌, ◌∙◌, length, Contains, subst, sym}
 use Rattle.cox_fill_core.proofs.lists.least_missing.Goals as goal
 

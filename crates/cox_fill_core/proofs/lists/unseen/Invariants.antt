@@ -1,3 +1,4 @@
+-- There is a list without marks for each actor so far.
 use Rattle.std.proofs.Common.{◌≡◌, false, replicate}
 use Rattle.cox_fill_core.proofs.lists.unseen.Given as goal
 

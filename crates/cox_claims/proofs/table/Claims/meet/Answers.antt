@@ -1,7 +1,8 @@
+-- The meeting is allowed, and nothing that was seen is forgotten.
 use Rattle.std.proofs.Common.{subst, sym, ap}
 use Rattle.cox_claims.specs.Knowledge.{SeesAll}
 use Rattle.cox_claims.proofs.Allowed.{join_allowed}
-use Rattle.cox_claims.proofs.Keeps.{joined_sees_first, joined_sees_second}
+use Rattle.cox_claims.proofs.Views.{joined_sees_first, joined_sees_second}
 use Rattle.cox_claims.proofs.table.Claims.meet.Goals as goal
 
 pub join_seat-requires : goal.join_seat-requires

@@ -1,13 +1,6 @@
-use Rattle.cox_claims.proofs.Allowed.{publish_allowed}
+-- The store is allowed.
+use Rattle.cox_claims.proofs.Allowed.{publish_owed}
 use Rattle.cox_claims.proofs.table.Claims.publish.Goals as goal
 
 pub store-requires : goal.store-requires
-store-requires c =
-    let claims = c.args.self.now in
-    let seat = c.args.seat.now in
-    let words = claims.a_word_each in
-    let key = claims.keyed in (
-      c.requires.own,
-      rw words c.requires.row,
-      rw key (publish_allowed claims.rows _ _ c.args.row seat.seat.me c.requires.row seat.live c.requires.held),
-    )
+store-requires c = publish_owed c.args.self.now c.args.seat.now c.args.row c.requires.own c.requires.row c.requires.held

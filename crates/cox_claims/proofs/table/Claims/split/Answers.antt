@@ -1,3 +1,4 @@
+-- The split is allowed.
 use Rattle.cox_claims.proofs.Allowed.{split_allowed}
 use Rattle.cox_claims.proofs.table.Claims.split.Goals as goal
 

@@ -1,3 +1,4 @@
+-- A new core has a state, a holder and marks for each row, and is the opening.
 use Rattle.std.proofs.Common.{◌≡◌, ◌∙◌, [], length, vec_items, get_or, replicate, Contains, None, false, ℕ, Global, ap, subst, sym, arith}
 use Rattle.std.proofs.lemmas.List.{length-map, length-replicate}
 use Rattle.cox_fill_core.specs.Parts.{rows_at}
@@ -7,8 +8,20 @@ use Rattle.cox_fill_core.proofs.machine.Core.new.Goals as goal
 pub invariant_of-result-clause-a_mark_each : goal.invariant_of-result-clause-a_mark_each
 invariant_of-result-clause-a_mark_each c = λ a lt.
     subst (λ z. length (get_or z a []) ≡ c.in_ok-copy_needs.field-0.len) (sym c.in_ok-unseen.ensures)
-    (marks_sized _ _ a (omega (arith, c.in_ok-unseen.field-0.ok, ap length c.in_ok-unseen.ensures, length-replicate c.args.actors (replicate (length c.args.needs.now) false)))
-    ∙ omega (arith, c.in_ok-copy_needs.field-0.ok, ap length c.in_ok-copy_needs.ensures, length-map c.args.needs.now (vec_items {X = ℕ} {Z = Global})))
+    (marks_sized _ _ a (omega (
+      arith,
+      c.in_ok-unseen.field-0.ok,
+      ap length c.in_ok-unseen.ensures,
+      length-replicate c.args.actors
+          (replicate (length c.args.needs.now) false),
+    ))
+    ∙ omega (
+      arith,
+      c.in_ok-copy_needs.field-0.ok,
+      ap length c.in_ok-copy_needs.ensures,
+      length-map c.args.needs.now
+          (vec_items {X = ℕ} {Z = Global}),
+    ))
 
 pub invariant_of-result-clause-lower : goal.invariant_of-result-clause-lower
 invariant_of-result-clause-lower c = λ i j n. c.requires i j (subst (λ z. Contains (rows_at z i) j) c.in_ok-copy_needs.ensures n)

@@ -1,3 +1,4 @@
+-- Needed rows have smaller numbers.
 use Rattle.std.proofs.Common.{subst, sym}
 use Rattle.cox_fill_core.specs.Parts.{given_needs, NeedsLower}
 use Rattle.cox_fill_core.proofs.machine.tests.a_row_waits_for_what_it_needs.Goals as goal

@@ -1,3 +1,4 @@
+-- Needed rows have smaller numbers.
 use Rattle.std.proofs.Common.{subst, sym}
 use Rattle.cox_fill_core.specs.Parts.{given_needs, NeedsLower}
 use Rattle.cox_fill_core.proofs.machine.tests.what_one_saw_another_is_told.Goals as goal
