@@ -1,9 +1,9 @@
 -- R of two elements, by the normal form.
-use Rattle.std.proofs.Common.{◌≡◌, ℕ, ◌+◌, ◌^◌, ◌<◌, ◌≤◌, List, ◌∷◌, length, pos, refl, ap, sym, ◌∙◌, ⊎_elim, arith}
+use Rattle.std.proofs.Common.{◌≡◌, ℕ, ◌+◌, ◌^◌, ◌<◌, ◌≤◌, List, ◌∷◌, pos, refl, ap, sym, ◌∙◌, ⊎_elim, arith}
 use Rattle.cox_base.specs.IntegerMatrix.{IntegerMatrix, IsAdmissible}
 use Rattle.cox_base.specs.Element.{SameElement}
 use Rattle.cox_base.specs.ShortLex.{normal_form}
-use Rattle.cox_base.specs.Length.{word_length, IsReduced, IsLeftDescent}
+use Rattle.cox_base.specs.Length.{word_length, IsLeftDescent}
 use Rattle.cox_base.specs.Bruhat.{IsBelow}
 use Rattle.cox_reflect.specs.Height.{IsLeastLeftDescent}
 use Rattle.cox_reflect.proofs.Elements.{same-refl, same-sym, same-square}
@@ -12,7 +12,7 @@ use Rattle.cox_reflect.proofs.Lengths.{word_length-is, IsReduced-normal_form}
 use Rattle.cox_reflect.proofs.Roots.{left_descent-letter}
 use Rattle.cox_reflect.proofs.Deletion.{left_length}
 use Rattle.cox_reflect.proofs.NormalForm.{normal_form-descent}
-use Rattle.cox_reflect.proofs.Bruhat.{below-same, below-length, below-equal_length}
+use Rattle.cox_reflect.proofs.Bruhat.{below-same}
 use Rattle.cox_poly.specs.Coefficients.{Coefficients, one_polynomial, plus, times_q, times_q_less_one, HasNormAtMost, HasDegreeAtMost}
 use Rattle.cox_rpoly.specs.RPolynomial.{r_along, r_polynomial}
 use Rattle.cox_rpoly.proofs.AlongLemmas.{along-shorter, along-longer, along-same, along-itself, along-not_below, along-degree, along-norm}
@@ -64,13 +64,9 @@ module _ (A : IntegerMatrix) (g : IsAdmissible A) where
   pub r_polynomial-degree : (x w : List ℕ) (n : ℕ) → word_length A w ≤ word_length A x + n → HasDegreeAtMost (r_polynomial A x w) n
   r_polynomial-degree x w n near = rw (r_polynomial-is A x w) (along-degree A g x (normal_form A w) n (omega (arith, near, word_length-is A w)))
 
-  -- from the normal forms of both
-  pub r_polynomial-forms : (x w form_x form_w : List ℕ) → form_x ≡ normal_form A x → form_w ≡ normal_form A w → r_along A form_x form_w ≡ r_polynomial A x w
-  r_polynomial-forms x w form_x form_w e f = rw (e, f) (along-same A g (normal_form-same A g x) (normal_form A w) ∙ sym (r_polynomial-is A x w))
+  -- along the normal form of w
+  pub r_polynomial-form : (x w form : List ℕ) → form ≡ normal_form A w → r_along A x form ≡ r_polynomial A x w
+  r_polynomial-form x w form e = rw e (sym (r_polynomial-is A x w))
 
-  pub below-forms : (x w form_x form_w : List ℕ) → form_x ≡ normal_form A x → form_w ≡ normal_form A w → IsBelow A x w → IsBelow A form_x form_w
-  below-forms x w form_x form_w e f b = rw (e, f) (below-same A g (same-sym A g (normal_form-same A g x)) (same-sym A g (normal_form-same A g w)) b)
-
-  -- a reduced word that is below one that is no longer names its element
-  pub along-no_longer : (x v : List ℕ) → IsReduced A x → IsReduced A v → IsBelow A x v → length v ≤ length x → r_along A x v ≡ one_polynomial
-  along-no_longer x v r q b short = along-itself A g x v q (below-equal_length A g b (omega (arith, r, q, short, below-length A g b)))
+  pub below-form : (x w form : List ℕ) → form ≡ normal_form A w → IsBelow A x w → IsBelow A x form
+  below-form x w form e b = rw e (below-same A g (same-refl A g x) (same-sym A g (normal_form-same A g w)) b)
