@@ -10,7 +10,8 @@ use Rattle.cox_rpoly.specs.declared.TheConstants.{MAX_DIFFERENCE}
 use Rattle.cox_rpoly.specs.Depth.{IsDeep}
 
 -- x has the length m, the normal form of w has n letters, and x is below w
-module _ (A : IntegerMatrix) (g : IsAdmissible A) {x w form : List ℕ} {m n : ℕ} (first : m ≡ word_length A x) (second : form ≡ normal_form A w)
+module _ (A : IntegerMatrix) (g : IsAdmissible A) {x w form : List ℕ} {m n : ℕ} (first : m ≡ word_length A x)
+    (second : form ≡ normal_form A w)
     (count : n ≡ length form) (below : IsBelow A x w) where
   length_w : word_length A w ≡ n
   length_w = omega (arith, count, ap (λ (xs : List ℕ). length xs) second, word_length-is A w)

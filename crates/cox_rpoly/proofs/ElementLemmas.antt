@@ -29,10 +29,13 @@ module _ (A : IntegerMatrix) (g : IsAdmissible A) where
   -- words of one element have the same descents
   same_descents : (u v : List ℕ) (x : Element) → IsElementOf A u x → IsElementOf A v x → (t : ℕ) → IsLeftDescent A u t → IsLeftDescent A v t
   same_descents u v x a b t d =
-      descent_from_heights A g v x.heights t b.heights_of (left_descent-letter A g u t d) (heights_at_descent A g u x.heights t a.heights_of d)
+      descent_from_heights A g v x.heights t b.heights_of (left_descent-letter A g u t d)
+      (heights_at_descent A g u x.heights t a.heights_of d)
 
   -- the element of a word that is below the identity is the identity
-  pub below_identity-length : (w : List ℕ) (x : Element) → IsElementOf A w x → IsBelow A w [] → (u : List ℕ) → IsElementOf A u x → word_length A u ≡ 0
+  pub below_identity-length : (w : List ℕ) (x : Element) → IsElementOf A w x → IsBelow A w [] → (u : List ℕ) → IsElementOf A u x
+      → word_length A u ≡ 0
   below_identity-length w x a b u e =
-      let none : (t : ℕ) → IsLeftDescent A u t → ⊥ = λ t d. omega (arith, same_descents u w x e a t d, below-length A g b, word_length-length A g [])
+      let none : (t : ℕ) → IsLeftDescent A u t
+      → ⊥ = λ t d. omega (arith, same_descents u w x e a t d, below-length A g b, word_length-length A g [])
       in word_length-is A u ∙ ap (λ (n : List ℕ). length n) (normal_form-no_descent A g u none)

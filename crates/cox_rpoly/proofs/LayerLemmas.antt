@@ -1,5 +1,6 @@
 -- Layers: one element more, and what is a member of the next.
-use Rattle.std.proofs.Common.{◌≡◌, ℕ, ◌+◌, ◌<◌, ◌≤◌, Some, None, List, [], ◌∷◌, ◌++◌, length, take, get_or, inl, inr, ap, sym, ◌∙◌, ⊎_elim, arith}
+use Rattle.std.proofs.Common.{◌≡◌, ℕ, ◌+◌, ◌<◌, ◌≤◌, Some, None, List, [], ◌∷◌, ◌++◌, length, take, get_or, inl, inr, ap, sym, ◌∙◌, ⊎_elim}
+use Rattle.std.proofs.Common.{arith}
 use Rattle.std.specs.Prelude.{All}
 use Rattle.std.proofs.lemmas.Bool.{cases_lt}
 use Rattle.std.proofs.lemmas.List.{length-append, get_or_append_left, take_more}
@@ -42,18 +43,22 @@ pub Extends-trans : (a b c : List Element) → Extends a b → Extends b c → E
 Extends-trans a b c e f = record { kept = λ i x h. f.kept i x (e.kept i x h) }
 
 -- a link holds on
-IsTimesAt-extends : (A : IntegerMatrix) (s : ℕ) (x : Element) (old new : List Element) (i : ℕ) → Extends old new → IsTimesAt A s x old i → IsTimesAt A s x new i
+IsTimesAt-extends : (A : IntegerMatrix) (s : ℕ) (x : Element) (old new : List Element) (i : ℕ) → Extends old new → IsTimesAt A s x old i
+    → IsTimesAt A s x new i
 IsTimesAt-extends A s x old new i e t = record { moved = t.moved; moves = t.moves; at = e.kept i t.moved t.at }
 
-IsLongerLink-extends : (A : IntegerMatrix) (s : ℕ) (x : Element) (old new : List Element) (i : ℕ) → Extends old new → IsLongerLink A s x old i
+IsLongerLink-extends : (A : IntegerMatrix) (s : ℕ) (x : Element) (old new : List Element) (i : ℕ) → Extends old new
+    → IsLongerLink A s x old i
     → IsLongerLink A s x new i
 IsLongerLink-extends A s x old new i e l = record { ascent = l.ascent; at = e.kept i x l.at }
 
-pub IsLink-extends : (A : IntegerMatrix) (s : ℕ) (v : List ℕ) (x : Element) (old new : List Element) (l : Link) → Extends old new → IsLink A s v x old l
+pub IsLink-extends : (A : IntegerMatrix) (s : ℕ) (v : List ℕ) (x : Element) (old new : List Element) (l : Link) → Extends old new
+    → IsLink A s v x old l
     → IsLink A s v x new l
 IsLink-extends A s v x old new (Shorter i) e l = record { descent = l.descent; times = IsTimesAt-extends A s x old new i e l.times }
 IsLink-extends A s v x old new (Longer i None) e l = (IsLongerLink-extends A s x old new i e l.0, l.1)
-IsLink-extends A s v x old new (Longer i (Some j)) e l = (IsLongerLink-extends A s x old new i e l.0, IsTimesAt-extends A s x old new j e l.1)
+IsLink-extends A s v x old new (Longer i (Some j)) e l =
+    (IsLongerLink-extends A s x old new i e l.0, IsTimesAt-extends A s x old new j e l.1)
 
 module _ (A : IntegerMatrix) (g : IsAdmissible A) where
   -- ---- members, one letter less
@@ -65,7 +70,8 @@ module _ (A : IntegerMatrix) (g : IsAdmissible A) where
   down s x v b = below-same A g (same-refl A g x) (same-square A g s v) b
 
   pub IsMember-shorter : (s : ℕ) (v : List ℕ) (x moved : Element) → IsReduced A (s ∷ v) → IsMember A (s ∷ v) x
-      → ((u : List ℕ) → IsElementOf A u x → IsLeftDescent A u s) → ((u : List ℕ) → IsElementOf A u x → IsElementOf A (s ∷ u) moved) → IsMember A v moved
+      → ((u : List ℕ) → IsElementOf A u x → IsLeftDescent A u s) → ((u : List ℕ) → IsElementOf A u x → IsElementOf A (s ∷ u) moved)
+      → IsMember A v moved
   IsMember-shorter s v x moved r m descent moves = record {
     word = s ∷ m.word;
     of_word = moves m.word m.of_word;
@@ -92,7 +98,8 @@ module _ (A : IntegerMatrix) (g : IsAdmissible A) where
     near = omega (arith, m.near, cons-word_length A g s m.word, word_length-cons A g s m.word);
   }
 
-  pub IsShortWith-member : (s : ℕ) (v : List ℕ) (x : Element) → IsReduced A (s ∷ v) → length v ≤ 62 → IsMember A (s ∷ v) x → IsShortWith A s x
+  pub IsShortWith-member : (s : ℕ) (v : List ℕ) (x : Element) → IsReduced A (s ∷ v) → length v ≤ 62 → IsMember A (s ∷ v) x
+      → IsShortWith A s x
   IsShortWith-member s v x r short m =
       let low : word_length A m.word ≤ length (s ∷ v) = omega (arith, below-length A g m.below, r)
       in let all : length (s ∷ v) ≤ 63 = omega (arith, short)
@@ -109,25 +116,30 @@ module _ (A : IntegerMatrix) (g : IsAdmissible A) where
       }
 
   -- s x has few letters, where x and s x have
-  pub IsShort-times : (s : ℕ) (x moved : Element) → IsShortWith A s x → ((u : List ℕ) → IsElementOf A u x → IsElementOf A (s ∷ u) moved) → IsShort A moved
+  pub IsShort-times : (s : ℕ) (x moved : Element) → IsShortWith A s x → ((u : List ℕ) → IsElementOf A u x → IsElementOf A (s ∷ u) moved)
+      → IsShort A moved
   IsShort-times s x moved m moves = record { word = s ∷ m.word; of_word = moves m.word m.of_word; short = m.times_short }
 
 -- ---- links, one element more
 
-AreLinks-push : (A : IntegerMatrix) (s : ℕ) (v : List ℕ) (layer old new : List Element) (links : List Link) (x : Element) (l : Link) → AreLinks A s v layer old links
+AreLinks-push : (A : IntegerMatrix) (s : ℕ) (v : List ℕ) (layer old new : List Element) (links : List Link) (x : Element) (l : Link)
+    → AreLinks A s v layer old links
     → Extends old new → IsLink A s v x new l → AreLinks A s v (layer ++ x ∷ []) new (links ++ l ∷ [])
 AreLinks-push A s v layer old new links x l are e here = record {
   count = omega (arith, are.count, length-append layer (x ∷ []), length-append links (l ∷ []));
-  each = λ i y m below. ⊎_elim (before i y m) (λ (le : length layer ≤ i). last i y m (omega (arith, le, below, length-append layer (x ∷ [])))) (cases_lt i (length layer));
+  each = λ i y m below. ⊎_elim (before i y m)
+      (λ (le : length layer ≤ i). last i y m (omega (arith, le, below, length-append layer (x ∷ [])))) (cases_lt i (length layer));
 }
   where
-    before : (i : ℕ) (y : Element) (m : Link) → i < length layer → IsLink A s v (get_or (layer ++ x ∷ []) i y) new (get_or (links ++ l ∷ []) i m)
+    before : (i : ℕ) (y : Element) (m : Link) → i < length layer
+        → IsLink A s v (get_or (layer ++ x ∷ []) i y) new (get_or (links ++ l ∷ []) i m)
     before i y m less =
         let inside : i < length links = omega (arith, less, are.count)
         in rw (get_or_append_left layer (x ∷ []) y i less, get_or_append_left links (l ∷ []) m i inside)
         (IsLink-extends A s v (get_or layer i y) old new (get_or links i m) e (are.each i y m less))
 
-    last : (i : ℕ) (y : Element) (m : Link) → i ≡ length layer → IsLink A s v (get_or (layer ++ x ∷ []) i y) new (get_or (links ++ l ∷ []) i m)
+    last : (i : ℕ) (y : Element) (m : Link) → i ≡ length layer
+        → IsLink A s v (get_or (layer ++ x ∷ []) i y) new (get_or (links ++ l ∷ []) i m)
     last i y m is =
         let also : i ≡ length links = is ∙ sym are.count
         in let first = ap (λ (k : ℕ). get_or (layer ++ x ∷ []) k y) is ∙ get_or-append_seam layer x [] y
@@ -135,7 +147,8 @@ AreLinks-push A s v layer old new links x l are e here = record {
         in rw (first, second) here
 
 -- a turn of the loop over a layer
-pub AreLinks-more : (A : IntegerMatrix) (s : ℕ) (v : List ℕ) (layer old new : List Element) (links : List Link) (k : ℕ) (x : Element) (l : Link) → k < length layer
+pub AreLinks-more : (A : IntegerMatrix) (s : ℕ) (v : List ℕ) (layer old new : List Element) (links : List Link) (k : ℕ) (x : Element)
+    (l : Link) → k < length layer
     → x ≡ get_or layer k x → AreLinks A s v (take k layer) old links → Extends old new → IsLink A s v x new l
     → AreLinks A s v (take (k + 1) layer) new (links ++ l ∷ [])
 AreLinks-more A s v layer old new links k x l inside is are e here =

@@ -1,8 +1,10 @@
 -- Polynomials as lists of so many coefficients: (q - 1) f + q h, one by one and without overflow; and the values of links.
-use Rattle.std.proofs.Common.{◌≡◌, ℕ, zero, suc, ◌+◌, ◌-◌, ◌^◌, ◌<◌, ◌≤◌, List, [], ◌∷◌, ◌++◌, length, take, get_or, set, replicate, ℤ, pos, ◌+ℤ◌, ◌-ℤ◌, unsigned_abs, FitsSigned, w64, refl, ap, sym, ◌∙◌, ⊎_elim, arith, lit<}
+use Rattle.std.proofs.Common.{◌≡◌, ℕ, zero, suc, ◌+◌, ◌-◌, ◌^◌, ◌<◌, ◌≤◌, List, [], ◌∷◌, ◌++◌, length, take, get_or, set, replicate, ℤ, pos}
+use Rattle.std.proofs.Common.{◌+ℤ◌, ◌-ℤ◌, unsigned_abs, FitsSigned, w64, refl, ap, sym, ◌∙◌, ⊎_elim, arith, lit<}
 use Rattle.std.proofs.lemmas.Bool.{cases_lt, cases_eq}
 use Rattle.std.proofs.lemmas.Int.{ints, fits_signed_from_abs}
-use Rattle.std.proofs.lemmas.List.{get_or-set_same, get_or-set_other, length-set, length-append, get_or_append_left, take_more, length-replicate, get_or-replicate}
+use Rattle.std.proofs.lemmas.List.{get_or-set_same, get_or-set_other, length-set, length-append, get_or_append_left, take_more}
+use Rattle.std.proofs.lemmas.List.{length-replicate, get_or-replicate}
 use Rattle.std.proofs.Math.Seq.{get_or-append_seam}
 use Rattle.cox_poly.specs.Coefficients.{one_polynomial, plus, times_q, times_q_less_one}
 use Rattle.cox_poly.specs.Polynomial.{coefficient}
@@ -13,7 +15,8 @@ use Rattle.cox_rpoly.specs.Terms.{numbered, linked_value, AreLinkedValues, AreOn
 
 pub coefficient-one : (k : ℕ) → coefficient (set (replicate (MAX_DIFFERENCE + 1) (pos 0)) 0 (pos 1)) k ≡ one_polynomial k
 coefficient-one zero = get_or-set_same (replicate (MAX_DIFFERENCE + 1) (pos 0)) 0 (pos 1) (pos 0) (lit< tt)
-coefficient-one (suc k) = let ne : suc k ≡ 0 → ⊥ = omega arith in get_or-set_other (replicate (MAX_DIFFERENCE + 1) (pos 0)) 0 (suc k) (pos 1) (pos 0) ne ∙ coefficient-zeros (MAX_DIFFERENCE + 1) (suc k)
+coefficient-one (suc k) = let ne : suc k ≡ 0 → ⊥ = omega arith in get_or-set_other (replicate (MAX_DIFFERENCE + 1) (pos 0)) 0 (suc k)
+    (pos 1) (pos 0) ne ∙ coefficient-zeros (MAX_DIFFERENCE + 1) (suc k)
 
 -- the first n coefficients of (q - 1) f + q h are there
 pub record IsCombined (f h terms : List ℤ) (n : ℕ) : Type 0 where
@@ -32,15 +35,20 @@ IsCombined-more f h terms (suc m) v c some low e = record {
     before k l = let ne : k ≡ suc m → ⊥ = omega arith in get_or-set_other terms (suc m) k v (pos 0) ne ∙ c.done k l
 
     here : (k : ℕ) → k ≡ suc m → coefficient (set terms (suc m) v) k ≡ plus (times_q_less_one (coefficient f)) (times_q (coefficient h)) k
-    here k is = let back : suc m - 1 ≡ m = omega arith in rw is (get_or-set_same terms (suc m) v (pos 0) (omega (arith, low, c.size)) ∙ (rw back at e))
+    here k is = let back : suc m - 1
+        ≡ m = omega arith in rw is (get_or-set_same terms (suc m) v (pos 0) (omega (arith, low, c.size)) ∙ (rw back at e))
 
 -- all of them
-pub IsCombined-all : (f h terms : List ℤ) → length f ≡ MAX_DIFFERENCE + 1 → length h ≡ MAX_DIFFERENCE + 1 → coefficient f MAX_DIFFERENCE ≡ pos 0 → coefficient h MAX_DIFFERENCE ≡ pos 0 → IsCombined f h terms (MAX_DIFFERENCE + 1)
+pub IsCombined-all : (f h terms : List ℤ) → length f ≡ MAX_DIFFERENCE + 1 → length h ≡ MAX_DIFFERENCE + 1 → coefficient f MAX_DIFFERENCE
+    ≡ pos 0 → coefficient h MAX_DIFFERENCE ≡ pos 0 → IsCombined f h terms (MAX_DIFFERENCE + 1)
     → (k : ℕ) → coefficient terms k ≡ plus (times_q_less_one (coefficient f)) (times_q (coefficient h)) k
-IsCombined-all f h terms size_f size_h top_f top_h c k = ⊎_elim (λ (l : k < MAX_DIFFERENCE + 1). c.done k l) (λ (l : MAX_DIFFERENCE + 1 ≤ k). past k l) (cases_lt k (MAX_DIFFERENCE + 1))
+IsCombined-all f h terms size_f size_h top_f top_h c k = ⊎_elim (λ (l : k < MAX_DIFFERENCE + 1). c.done k l)
+    (λ (l : MAX_DIFFERENCE + 1 ≤ k). past k l) (cases_lt k (MAX_DIFFERENCE + 1))
   where
-    none : (p : List ℤ) → length p ≡ MAX_DIFFERENCE + 1 → coefficient p MAX_DIFFERENCE ≡ pos 0 → (j : ℕ) → MAX_DIFFERENCE ≤ j → coefficient p j ≡ pos 0
-    none p size top j l = ⊎_elim (λ (e : j ≡ MAX_DIFFERENCE). rw e top) (λ (ne : j ≡ MAX_DIFFERENCE → ⊥). coefficient_past p j (omega (arith, size, l, ne))) (cases_eq j MAX_DIFFERENCE)
+    none : (p : List ℤ) → length p ≡ MAX_DIFFERENCE + 1 → coefficient p MAX_DIFFERENCE ≡ pos 0 → (j : ℕ) → MAX_DIFFERENCE ≤ j
+        → coefficient p j ≡ pos 0
+    none p size top j l = ⊎_elim (λ (e : j ≡ MAX_DIFFERENCE). rw e top)
+        (λ (ne : j ≡ MAX_DIFFERENCE → ⊥). coefficient_past p j (omega (arith, size, l, ne))) (cases_eq j MAX_DIFFERENCE)
 
     past : (k : ℕ) → MAX_DIFFERENCE + 1 ≤ k → coefficient terms k ≡ plus (times_q_less_one (coefficient f)) (times_q (coefficient h)) k
     past zero l = absurd (omega arith)
@@ -49,12 +57,15 @@ IsCombined-all f h terms size_f size_h top_f top_h c k = ⊎_elim (λ (l : k < M
         (coefficient_past terms (suc j) (omega (arith, l, c.size)))
 
 -- with coefficients of 61 bits no step on the way needs more than 64
-pub difference_fits : (f h : List ℤ) (j k : ℕ) → ((i : ℕ) → unsigned_abs (coefficient f i) ≤ 2 ^ 61) → FitsSigned w64 (coefficient f j -ℤ coefficient f k)
+pub difference_fits : (f h : List ℤ) (j k : ℕ) → ((i : ℕ) → unsigned_abs (coefficient f i) ≤ 2 ^ 61)
+    → FitsSigned w64 (coefficient f j -ℤ coefficient f k)
 difference_fits f h j k small = fits_signed_from_abs w64 (coefficient f j -ℤ coefficient f k) (omega (arith, ints, small j, small k))
 
-pub term_fits : (f h : List ℤ) (j k : ℕ) → ((i : ℕ) → unsigned_abs (coefficient f i) ≤ 2 ^ 61) → ((i : ℕ) → unsigned_abs (coefficient h i) ≤ 2 ^ 61)
+pub term_fits : (f h : List ℤ) (j k : ℕ) → ((i : ℕ) → unsigned_abs (coefficient f i) ≤ 2 ^ 61)
+    → ((i : ℕ) → unsigned_abs (coefficient h i) ≤ 2 ^ 61)
     → FitsSigned w64 ((coefficient f j -ℤ coefficient f k) +ℤ coefficient h j)
-term_fits f h j k small_f small_h = fits_signed_from_abs w64 ((coefficient f j -ℤ coefficient f k) +ℤ coefficient h j) (omega (arith, ints, small_f j, small_f k, small_h j))
+term_fits f h j k small_f small_h = fits_signed_from_abs w64 ((coefficient f j -ℤ coefficient f k) +ℤ coefficient h j)
+    (omega (arith, ints, small_f j, small_f k, small_h j))
 
 -- ---- the values of links, one more
 
@@ -63,15 +74,18 @@ AreLinkedValues-push : (links : List Link) (next values : List (List ℤ)) (l : 
 AreLinkedValues-push links next values l p are here = record {
   count = omega (arith, are.count, length-append links (l ∷ []), length-append values (p ∷ []));
   each = λ i m k below.
-      ⊎_elim (before i m k) (λ (le : length links ≤ i). last i m k (omega (arith, le, below, length-append links (l ∷ [])))) (cases_lt i (length links));
+      ⊎_elim (before i m k) (λ (le : length links ≤ i). last i m k (omega (arith, le, below, length-append links (l ∷ []))))
+      (cases_lt i (length links));
 }
   where
-    before : (i : ℕ) (m : Link) (k : ℕ) → i < length links → coefficient (numbered (values ++ p ∷ []) i) k ≡ linked_value next (get_or (links ++ l ∷ []) i m) k
+    before : (i : ℕ) (m : Link) (k : ℕ) → i < length links → coefficient (numbered (values ++ p ∷ []) i) k
+        ≡ linked_value next (get_or (links ++ l ∷ []) i m) k
     before i m k less =
         let inside : i < length values = omega (arith, less, are.count)
         in rw (get_or_append_left values (p ∷ []) [] i inside, get_or_append_left links (l ∷ []) m i less) (are.each i m k less)
 
-    last : (i : ℕ) (m : Link) (k : ℕ) → i ≡ length links → coefficient (numbered (values ++ p ∷ []) i) k ≡ linked_value next (get_or (links ++ l ∷ []) i m) k
+    last : (i : ℕ) (m : Link) (k : ℕ) → i ≡ length links → coefficient (numbered (values ++ p ∷ []) i) k
+        ≡ linked_value next (get_or (links ++ l ∷ []) i m) k
     last i m k is =
         let also : i ≡ length values = is ∙ sym are.count
         in let first = ap (λ (j : ℕ). get_or (values ++ p ∷ []) j []) also ∙ get_or-append_seam values p [] []

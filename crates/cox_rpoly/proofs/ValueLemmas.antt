@@ -14,11 +14,13 @@ use Rattle.cox_rpoly.specs.RPolynomial.{r_along}
 use Rattle.cox_rpoly.specs.Element.{IsElementOf}
 use Rattle.cox_rpoly.specs.Terms.{IsSmall, IsSmallAt, IsLinkWithin, numbered, linked_value, AreLinkedValues, AreOnes}
 use Rattle.cox_rpoly.specs.Layer.{IsMember, IsValue, AreValues, IsAt, IsLongerLink, IsLink, AreLinks}
-use Rattle.cox_rpoly.proofs.AlongLemmas.{along-identity, along-shorter, along-longer, along-not_below, along-degree, along-norm, longer-length}
+use Rattle.cox_rpoly.proofs.AlongLemmas.{along-identity, along-shorter, along-longer, along-not_below, along-degree, along-norm}
+use Rattle.cox_rpoly.proofs.AlongLemmas.{longer-length}
 use Rattle.cox_rpoly.proofs.ElementLemmas.{below_identity-length}
 
 -- the value of the element with a number
-value_at : (A : IntegerMatrix) (v : List ℕ) (layer : List Element) (values : List (List ℤ)) (i : ℕ) (x : Element) → AreValues A v layer values → IsAt layer i x
+value_at : (A : IntegerMatrix) (v : List ℕ) (layer : List Element) (values : List (List ℤ)) (i : ℕ) (x : Element)
+    → AreValues A v layer values → IsAt layer i x
     → IsValue A v x (numbered values i)
 value_at A v layer values i x all a = rw (a.is x) at (all.each i x a.within)
 
@@ -26,10 +28,12 @@ module _ (A : IntegerMatrix) (g : IsAdmissible A) where
   -- where no letters are left
   pub IsValue-end : (x : Element) (p : List ℤ) → IsMember A [] x → ((k : ℕ) → coefficient p k ≡ one_polynomial k) → IsValue A [] x p
   IsValue-end x p m one = record {
-    at = λ u e k. one k ∙ sym (ap (λ (f : Coefficients). f k) (along-identity A u (below_identity-length A g m.word x m.of_word m.below u e)));
+    at = λ u e k. one k ∙ sym
+        (ap (λ (f : Coefficients). f k) (along-identity A u (below_identity-length A g m.word x m.of_word m.below u e)));
   }
 
-  pub AreValues-end : (v : List ℕ) (layer : List Element) (values : List (List ℤ)) {n : ℕ} → length v ≡ 0 → All (IsMember A v) layer → n ≡ length layer
+  pub AreValues-end : (v : List ℕ) (layer : List Element) (values : List (List ℤ)) {n : ℕ} → length v ≡ 0 → All (IsMember A v) layer → n
+      ≡ length layer
       → AreOnes n values → AreValues A v layer values
   AreValues-end (s ∷ v) layer values none members count ones = absurd (omega (arith, none))
   AreValues-end [] layer values none members count ones = record {
@@ -39,7 +43,8 @@ module _ (A : IntegerMatrix) (g : IsAdmissible A) where
   }
 
   -- where at most 38 letters more are left than x has
-  IsSmall-value : (v : List ℕ) (x : Element) (p : List ℤ) (w : List ℕ) → IsValue A v x p → IsElementOf A w x → length v ≤ word_length A w + 38 → IsSmall p
+  IsSmall-value : (v : List ℕ) (x : Element) (p : List ℤ) (w : List ℕ) → IsValue A v x p → IsElementOf A w x
+      → length v ≤ word_length A w + 38 → IsSmall p
   IsSmall-value v x p w value e near = record {
     top = value.at w e 39 ∙ along-degree A g w v 38 near 39 (omega arith);
     small = λ k.
@@ -62,7 +67,8 @@ module _ (A : IntegerMatrix) (g : IsAdmissible A) where
       small_still i m l.0,
       record {
         within = omega (arith, l.1.at.within, all.count);
-        small = IsSmall-value v l.1.moved (numbered values j) (s ∷ m.word) (value_at A v next values j l.1.moved all l.1.at) (l.1.moves m.word m.of_word)
+        small = IsSmall-value v l.1.moved (numbered values j) (s ∷ m.word) (value_at A v next values j l.1.moved all l.1.at)
+            (l.1.moves m.word m.of_word)
             (omega (arith, m.near, longer-length A m.word s (l.0.ascent m.word m.of_word)));
       },
     )
@@ -75,7 +81,8 @@ module _ (A : IntegerMatrix) (g : IsAdmissible A) where
     still : (i : ℕ) (u : List ℕ) → IsLongerLink A s x next i → IsElementOf A u x → coefficient (numbered values i) ≡ r_along A u v
     still i u l e = fun_ext ((value_at A v next values i x all l.at).at u e)
 
-    pub IsLink-value : (l : Link) (p : List ℤ) → IsReduced A v → IsLink A s v x next l → ((k : ℕ) → coefficient p k ≡ linked_value values l k)
+    pub IsLink-value : (l : Link) (p : List ℤ) → IsReduced A v → IsLink A s v x next l
+        → ((k : ℕ) → coefficient p k ≡ linked_value values l k)
         → IsValue A (s ∷ v) x p
     IsLink-value (Shorter i) p r l step = record {
       at = λ u e k.
@@ -96,7 +103,8 @@ module _ (A : IntegerMatrix) (g : IsAdmissible A) where
 
   -- ---- a whole layer
 
-  module _ (s : ℕ) (v : List ℕ) (layer next : List Element) (links : List Link) (values : List (List ℤ)) (are : AreLinks A s v layer next links)
+  module _ (s : ℕ) (v : List ℕ) (layer next : List Element) (links : List Link) (values : List (List ℤ))
+      (are : AreLinks A s v layer next links)
       (all : AreValues A v next values) where
     pub AreLinks-within : All (IsMember A (s ∷ v)) layer → All (IsLinkWithin values) links
     AreLinks-within members k d below =
@@ -109,6 +117,7 @@ module _ (A : IntegerMatrix) (g : IsAdmissible A) where
       count = linked.count ∙ are.count;
       each = λ i x below.
           let inside : i < length links = omega (arith, below, are.count)
-          in IsLink-value s v (get_or layer i x) next values all (get_or links i (Shorter 0)) (numbered mine i) r (are.each i x (Shorter 0) below)
+          in IsLink-value s v (get_or layer i x) next values all (get_or links i (Shorter 0)) (numbered mine i) r
+          (are.each i x (Shorter 0) below)
           (λ k. linked.each i (Shorter 0) k inside);
     }

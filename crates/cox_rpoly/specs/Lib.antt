@@ -1,6 +1,6 @@
--- R-polynomials
+-- R-polynomials: what is computed
 pub mod RPolynomial
--- where the lengths differ by too much
+-- where they are not computed
 pub mod Depth
 -- for code: elements and their words
 pub mod Element

@@ -34,7 +34,8 @@ linked_value ps (Longer i (Some j)) = plus (times_q_less_one (coefficient (numbe
 -- one value a link
 pub record AreLinkedValues (links : List Link) (next values : List (List ℤ)) : Type 0 where
   pub count : length values ≡ length links
-  pub each : (i : ℕ) (l : Link) (k : ℕ) → i < length links → coefficient (numbered values i) k ≡ linked_value next (slice_index_or links i l) k
+  pub each : (i : ℕ) (l : Link) (k : ℕ) → i < length links → coefficient (numbered values i) k
+      ≡ linked_value next (slice_index_or links i l) k
 
 -- so many polynomials 1
 pub record AreOnes (n : ℕ) (values : List (List ℤ)) : Type 0 where

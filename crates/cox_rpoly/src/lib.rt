@@ -2,29 +2,29 @@
 //!
 //! [`r`] computes R(y,w) for words of at most 63 letters, where the lengths differ by at most [`MAX_DIFFERENCE`]: then the coefficients
 //! have 64 bits. It goes along the reduced word of w, layer by layer, and meets each element that is below what is left of the word once.
-//! It stands on `cox_reflect` for heights and Bruhat order and on `cox_poly` for polynomials.
+//! It stands on `cox_reflect` for heights and Bruhat order, on `cox_poly` for polynomials, and on `indexmap` for the elements of a layer.
 //!
 //! - `laws`: R(w,w) = 1, R(x,w) = 0 unless x <= w, the recursion, and how large the coefficients get
 //! - `polynomial`: R of two words
 //! - `layers`: the values along a reduced word
 //! - `elements`: elements, and what is asked of them
 //! - `terms`: polynomials of a small degree
-//! - `fault`: why R is not given
+//! - `r_fault`: why R is not given
 #![tactic(auto)]
 
 use std::alloc::AllocError;
 
 mod elements;
-mod fault;
 pub mod laws;
 mod layers;
 mod polynomial;
+mod r_fault;
 mod terms;
 #[cfg(test)]
 mod tests;
 
-pub use fault::RFault;
 pub use polynomial::r;
+pub use r_fault::RFault;
 
 /// The greatest difference of the lengths at which R is computed. The absolute coefficients add up to at most 3^39 then, which has 62 bits.
 pub const MAX_DIFFERENCE: usize = 39;

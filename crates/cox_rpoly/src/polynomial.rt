@@ -9,8 +9,8 @@ ghost use Rattle.cox_rpoly.specs.RPolynomial.{r_along, r_polynomial};
 ghost use Rattle.cox_rpoly.specs.Depth.{IsDeep};
 
 use crate::elements::Element;
-use crate::fault::RFault;
 use crate::layers::values;
+use crate::r_fault::RFault;
 use crate::{MAX_DIFFERENCE, NoMemory};
 use cox_base::{Coxeter, Word};
 use cox_poly::Poly;

@@ -14,7 +14,8 @@ use Rattle.cox_rpoly.proofs.layers.+values.Goals as goal
 pub returns-in_default : goal.returns-in_default
 returns-in_default t c =
     IfOk-weaker c.ones.result _ _
-    (λ values ones. AreValues-end (integer_matrix c.args.g.now) (IsAdmissible-integer_matrix c.args.g.now c.rank-rank.ensures.matrix) c.args.form.now c.args.layer.keys values.items
+    (λ values ones. AreValues-end (integer_matrix c.args.g.now)
+    (IsAdmissible-integer_matrix c.args.g.now c.rank-rank.ensures.matrix) c.args.form.now c.args.layer.keys values.items
     c.in_default.ensures.cases c.requires.members c.len.ensures.len ones) c.ones.ensures
 
 pub next_layer-requires-clause-letter : goal.next_layer-requires-clause-letter
@@ -31,7 +32,8 @@ values-requires t c = (
   (
     All-tail (IsLetter c.args.g.now.rank) c.in-Some.field-0-0.now c.in-Some.rest.now (rw c.in-Some.ensures.cases.0 at c.requires.letters),
     (
-      IsReduced-tail (integer_matrix c.args.g.now) (IsAdmissible-integer_matrix c.args.g.now c.rank-rank.ensures.matrix) c.in-Some.field-0-0.now c.in-Some.rest.now
+      IsReduced-tail (integer_matrix c.args.g.now)
+          (IsAdmissible-integer_matrix c.args.g.now c.rank-rank.ensures.matrix) c.in-Some.field-0-0.now c.in-Some.rest.now
           (rw c.in-Some.ensures.cases.0 at c.requires.reduced),
       (omega (arith, c.in-Some.ensures.cases.1), c.in_ok-next.ensures.members),
     ),

@@ -1,3 +1,4 @@
+-- Each call has one letter less.
 use Rattle.std.proofs.Common.{length}
 use Rattle.cox_rpoly.proofs.layers.+values.Given as goal
 

@@ -1,3 +1,4 @@
+-- What the set stores at the number is the element: equal elements have equal heights.
 use Rattle.std.proofs.Common.{sym, ◌∙◌}
 use Rattle.std.proofs.lemmas.Option.{slice_get_within, get_or_from_slice_get}
 use Rattle.cox_rpoly.proofs.ElementLemmas.{same_element}

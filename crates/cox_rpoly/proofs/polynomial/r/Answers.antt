@@ -11,13 +11,16 @@ use Rattle.cox_rpoly.proofs.polynomial.r.Goals as goal
 
 pub returns-then-not-below-clause-value : goal.returns-then-not-below-clause-value
 returns-then-not-below-clause-value c = λ k.
-    rw c.in_ok-zero.ensures (sym (r_polynomial-not_below (integer_matrix c.args.g.now) (IsAdmissible-integer_matrix c.args.g.now c.rank-rank.ensures.matrix) c.args.y.now.items c.args.w.now.items
+    rw c.in_ok-zero.ensures
+    (sym (r_polynomial-not_below (integer_matrix c.args.g.now)
+    (IsAdmissible-integer_matrix c.args.g.now c.rank-rank.ensures.matrix) c.args.y.now.items c.args.w.now.items
     (λ b. false≢true (c.if-not-below.ensures.1 b)) k))
 
 pub overflow_sub-difference : goal.overflow_sub-difference
 overflow_sub-difference c =
     let g = IsAdmissible-integer_matrix c.args.g.now c.rank-rank.ensures.matrix
-    in lengths-rise (integer_matrix c.args.g.now) g c.length.ensures.length c.normal_form-form.ensures.form c.len.ensures.value (c.if-not-below.ensures.0 refl)
+    in lengths-rise (integer_matrix c.args.g.now) g c.length.ensures.length c.normal_form-form.ensures.form c.len.ensures.value
+    (c.if-not-below.ensures.0 refl)
 
 pub returns-then-difference-gt-MAX_DIFFERENCE-clause-deep : goal.returns-then-difference-gt-MAX_DIFFERENCE-clause-deep
 returns-then-difference-gt-MAX_DIFFERENCE-clause-deep c = λ d.
@@ -34,7 +37,8 @@ returns-then-difference-gt-MAX_DIFFERENCE-clause-deep c = λ d.
 pub along-requires-clause-reduced : goal.along-requires-clause-reduced
 along-requires-clause-reduced c =
     let g = IsAdmissible-integer_matrix c.args.g.now c.rank-rank.ensures.matrix
-    in rw (c.as_slice.ensures.value, c.normal_form-form.ensures.form) (IsReduced-normal_form (integer_matrix c.args.g.now) g c.args.w.now.items)
+    in rw (c.as_slice.ensures.value, c.normal_form-form.ensures.form)
+    (IsReduced-normal_form (integer_matrix c.args.g.now) g c.args.w.now.items)
 
 pub along-requires-clause-below : goal.along-requires-clause-below
 along-requires-clause-below c =
@@ -47,7 +51,8 @@ returns-in_err-along-clause-deep c = λ d.
     let g = IsAdmissible-integer_matrix c.args.g.now c.rank-rank.ensures.matrix
     in (
       λ e. let h = rw e at c.from_residual-in_err-along.ensures.1 in absurd (cc),
-      λ deep. absurd (not_deep (integer_matrix c.args.g.now) g c.length.ensures.length c.normal_form-form.ensures.form c.len.ensures.value (c.if-not-below.ensures.0 refl)
+      λ deep. absurd (not_deep (integer_matrix c.args.g.now) g c.length.ensures.length c.normal_form-form.ensures.form c.len.ensures.value
+          (c.if-not-below.ensures.0 refl)
           (omega arith) d deep),
     )
 
@@ -55,7 +60,8 @@ pub returns-clause-value : goal.returns-clause-value
 returns-clause-value c = λ k.
     let g = IsAdmissible-integer_matrix c.args.g.now c.rank-rank.ensures.matrix
     in c.in_ok-along.ensures.value k
-    ∙ ap (λ (f : Coefficients). f k) (r_polynomial-form (integer_matrix c.args.g.now) g c.args.y.now.items c.args.w.now.items c.as_slice.result.now
+    ∙ ap (λ (f : Coefficients). f k)
+    (r_polynomial-form (integer_matrix c.args.g.now) g c.args.y.now.items c.args.w.now.items c.as_slice.result.now
     (c.as_slice.ensures.value ∙ c.normal_form-form.ensures.form))
 
 pub returns-clause-deep : goal.returns-clause-deep
@@ -63,6 +69,7 @@ returns-clause-deep c = λ d.
     let g = IsAdmissible-integer_matrix c.args.g.now c.rank-rank.ensures.matrix
     in (
       λ e. absurd (cc),
-      λ deep. absurd (not_deep (integer_matrix c.args.g.now) g c.length.ensures.length c.normal_form-form.ensures.form c.len.ensures.value (c.if-not-below.ensures.0 refl)
+      λ deep. absurd (not_deep (integer_matrix c.args.g.now) g c.length.ensures.length c.normal_form-form.ensures.form c.len.ensures.value
+          (c.if-not-below.ensures.0 refl)
           (omega arith) d deep),
     )

@@ -1,3 +1,4 @@
+-- The list of zeros is the polynomial 0.
 use Rattle.std.proofs.Common.{◌+◌}
 use Rattle.cox_poly.proofs.Polynomials.{coefficient-zeros}
 use Rattle.cox_rpoly.specs.declared.TheConstants.{MAX_DIFFERENCE}

@@ -1,5 +1,6 @@
 -- The text of a polynomial in q, as ASCII codes.
-use Rattle.std.specs.Prelude.{ℕ, pos, negsuc, ℤ, List, [], ◌∷◌, ◌++◌, filter, flat_map, codes, decimal, if◌then◌else◌, ◌==◌, Bool, not, int_lt}
+use Rattle.std.specs.Prelude.{ℕ, pos, negsuc, ℤ, List, [], ◌∷◌, ◌++◌, filter, flat_map, codes, decimal, if◌then◌else◌, ◌==◌, Bool, not}
+use Rattle.std.specs.Prelude.{int_lt}
 use Rattle.std.specs.Fmt.{signed_decimal}
 use Rattle.std.specs.Ordering.{int_eq}
 use Rattle.std.specs.List.{enumerate_from}

@@ -1,8 +1,9 @@
+-- The sign, and then the term behind it.
 use Rattle.std.proofs.Common.{FitsSigned, w64, rules}
 use Rattle.std.proofs.lemmas.Int.{to_z-of_z}
-use Rattle.cox_poly.specs.Text.{plus_text, term_text}
+use Rattle.cox_poly.specs.PolynomialText.{plus_text, term_text}
 use Rattle.cox_poly.proofs.Behind.{Puts-first, Puts-second}
-use Rattle.cox_poly.proofs.text.put_next_term.Goals as goal
+use Rattle.cox_poly.proofs.polynomial_text.put_next_term.Goals as goal
 
 pub returns-in_err-put_plus : goal.returns-in_err-put_plus
 returns-in_err-put_plus c =

@@ -1,8 +1,6 @@
--- When a sum is no polynomial with coefficients within a limit.
+-- Sums with coefficients within a limit, and the first coefficient that is beyond it.
 use Rattle.std.specs.Prelude.{◌≡◌, ℕ, ◌<◌, List, ℤ, pos, ◌<ℤ◌, ◌≤ℤ◌, unsigned_abs}
 use Rattle.cox_poly.specs.Polynomial.{coefficient}
-use Rattle.cox_poly.specs.declared.fault.PolyFault.{PolyFault}
-use Rattle.cox_poly.specs.declared.fault.PolyFault.TheVariants.{TooBig, NoMemory}
 
 -- the limit bounds the absolute value
 abbrev pub IsWithin : ℤ → ℤ → Type 0
@@ -17,8 +15,3 @@ pub record IsFirstAbove (limit : ℤ) (p : List ℤ) (d : ℕ) (v : ℤ) : Type 
   pub value : v ≡ coefficient p d
   pub above : limit <ℤ pos (unsigned_abs v)
   pub least : (k : ℕ) → k < d → IsWithin limit (coefficient p k)
-
--- the fault is true of p; want of memory may always come
-abbrev pub IsFault : ℤ → List ℤ → PolyFault → Type 0
-IsFault limit p (TooBig d v) = IsFirstAbove limit p d v
-IsFault limit p NoMemory = Unit {0}

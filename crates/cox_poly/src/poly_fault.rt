@@ -1,5 +1,6 @@
+//! Why a sum is not given as a polynomial.
 ghost use Rattle.std.specs.Prelude.{◌≡◌};
-ghost use Rattle.cox_poly.specs.declared.fault.PolyFault.TheVariants.{NoMemory};
+ghost use Rattle.cox_poly.specs.declared.poly_fault.PolyFault.TheVariants.{NoMemory};
 
 use std::alloc::AllocError;
 use thiserror::Error;
@@ -16,7 +17,7 @@ pub enum PolyFault {
         /// The coefficient, with its sign.
         value: i128,
     },
-    /// Memory has run out.
+    /// Out of memory.
     #[error("out of memory")]
     NoMemory,
 }

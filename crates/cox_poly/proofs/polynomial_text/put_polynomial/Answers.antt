@@ -1,11 +1,12 @@
+-- The terms so far are put, and at the end all of them are.
 use Rattle.std.proofs.Common.{[], ap, arith, codes, rules, FitsSigned, w64, of_z}
 use Rattle.std.proofs.lemmas.Int.{ints, to_z-of_z}
 use Rattle.cox_poly.specs.Polynomial.{coefficient}
-use Rattle.cox_poly.specs.Text.{listed_term_text}
+use Rattle.cox_poly.specs.PolynomialText.{listed_term_text}
 use Rattle.cox_poly.proofs.Behind.{Puts-failed}
 use Rattle.cox_poly.proofs.Terms.{Written-more, Written-front, Written-zero, rest_text-term, rest_text-zero}
-use Rattle.cox_poly.proofs.text.put_polynomial.Goals as goal
-use Rattle.cox_poly.proofs.text.put_polynomial.Goals.{then-c-ne0+in_ok-put_listed_term, else-c-ne0}
+use Rattle.cox_poly.proofs.polynomial_text.put_polynomial.Goals as goal
+use Rattle.cox_poly.proofs.polynomial_text.put_polynomial.Goals.{then-c-ne0+in_ok-put_listed_term, else-c-ne0}
 
 pub returns-in_err-put_listed_term : goal.returns-in_err-put_listed_term
 returns-in_err-put_listed_term c =
@@ -14,7 +15,8 @@ returns-in_err-put_listed_term c =
     let fits : FitsSigned w64 (coefficient p k) = search rules in
     let put = simp to_z-of_z at c.in_err-put_listed_term.ensures in
     let split = rest_text-term p k c.loop-k.first (omega arith) (λ e. c.if-c-ne0.true (ap (of_z w64) e)) in
-    Puts-failed _ _ _ _ (search rules) (Written-front _ (listed_term_text c.loop-k.first (k, coefficient p k)) _ c.loop-k.invariant put split)
+    Puts-failed _ _ _ _ (search rules)
+    (Written-front _ (listed_term_text c.loop-k.first (k, coefficient p k)) _ c.loop-k.invariant put split)
 
 pub loop-k-preserved : goal.loop-k-preserved
 loop-k-preserved c =
