@@ -1,5 +1,6 @@
 -- One text behind another.
-use Rattle.std.proofs.Common.{◌≡◌, ◌<◌, ◌≤◌, ◌+◌, ℕ, List, ◌++◌, ◌∷◌, [], map, take, drop, length, get_or, Result, Ok, Err, IsErr, append_assoc, add-one, ap}
+use Rattle.std.proofs.Common.{◌≡◌, ◌<◌, ◌≤◌, ◌+◌, ℕ, List, ◌++◌, ◌∷◌, [], map, take, drop, length, get_or, Result, Ok, Err, IsErr}
+use Rattle.std.proofs.Common.{append_assoc, add-one, ap}
 use Rattle.std.proofs.Common.{sym, ◌∙◌}
 use Rattle.std.specs.List.{flat_map}
 use Rattle.std.proofs.Math.Seq.{take-suc, drop-cons}
@@ -8,7 +9,7 @@ use Rattle.std.proofs.lemmas.Grind.{flat_map-append}
 use Rattle.std.specs.declared.alloc.AllocError.{AllocError}
 use Rattle.cox_poly.specs.Puts.{PutsFront, Puts}
 
--- a front of the first text is one of both
+-- a prefix of the first text is one of both
 pub PutsFront-first : (a b old new : List ℕ) → PutsFront a old new → PutsFront (a ++ b) old new
 PutsFront-first a b old new put = record {
   front = put.front;
@@ -21,7 +22,7 @@ PutsFront-first a b old new put = record {
 pub append-second : (a b old mid new : List ℕ) → mid ≡ old ++ a → new ≡ mid ++ b → new ≡ old ++ (a ++ b)
 append-second a b old mid new first second = rw (second, first, append_assoc)
 
--- the first text, and then a front of the second
+-- the first text, and then a prefix of the second
 pub PutsFront-second : (a b old mid new : List ℕ) → mid ≡ old ++ a → PutsFront b mid new → PutsFront (a ++ b) old new
 PutsFront-second a b old mid new first put = record {
   front = a ++ put.front;
@@ -30,21 +31,24 @@ PutsFront-second a b old mid new first put = record {
   behind = append-second a put.front old mid new first put.behind;
 }
 
--- the answer for want of memory
-pub Puts-failed : (result : Result Unit AllocError) (text old new : List ℕ) → IsErr result → PutsFront text old new → Puts result text old new
+-- the answer where memory ran out
+pub Puts-failed : (result : Result Unit AllocError) (text old new : List ℕ) → IsErr result → PutsFront text old new
+    → Puts result text old new
 Puts-failed (Ok done) text old new failed put = absurd (cc failed)
 Puts-failed (Err fault) text old new failed put = put
 
--- want of memory at the first text
-pub Puts-first : (result : Result Unit AllocError) (a b old new : List ℕ) → IsErr result → PutsFront a old new → Puts result (a ++ b) old new
+-- out of memory at the first text
+pub Puts-first : (result : Result Unit AllocError) (a b old new : List ℕ) → IsErr result → PutsFront a old new
+    → Puts result (a ++ b) old new
 Puts-first result a b old new failed put = Puts-failed result (a ++ b) old new failed (PutsFront-first a b old new put)
 
 -- the last text, behind the others
-pub Puts-second : (result : Result Unit AllocError) (a b old mid new : List ℕ) → mid ≡ old ++ a → Puts result b mid new → Puts result (a ++ b) old new
+pub Puts-second : (result : Result Unit AllocError) (a b old mid new : List ℕ) → mid ≡ old ++ a → Puts result b mid new
+    → Puts result (a ++ b) old new
 Puts-second (Ok done) a b old mid new first put = append-second a b old mid new first put
 Puts-second (Err fault) a b old mid new first put = PutsFront-second a b old mid new first put
 
--- the texts of the first elements are a front of the whole text
+-- the texts of the first elements are a prefix of the whole text
 pub PutsFront-take : (f : ℕ → ℕ) (xs : List ℕ) (i : ℕ) (old new : List ℕ) → new ≡ old ++ map f (take i xs) → PutsFront (map f xs) old new
 PutsFront-take f xs i old new put = record {
   front = map f (take i xs);
@@ -65,8 +69,9 @@ pub append-all : {X : Type 0} (f : X → List ℕ) (xs : List X) (i : ℕ) (old 
     → new ≡ old ++ flat_map f (take i xs) → new ≡ old ++ flat_map f xs
 append-all f xs i old new past put = put ∙ ap (λ ys. old ++ flat_map f ys) (take_all i xs past)
 
--- the texts of the first items, and then a front of the next one's
-pub PutsFront-next : {X : Type 0} (f : X → List ℕ) (xs : List X) (i : ℕ) (x d : X) (old mid new : List ℕ) → i < length xs → x ≡ get_or xs i d
+-- the texts of the first items, and then a prefix of the next one's
+pub PutsFront-next : {X : Type 0} (f : X → List ℕ) (xs : List X) (i : ℕ) (x d : X) (old mid new : List ℕ) → i < length xs → x
+    ≡ get_or xs i d
     → mid ≡ old ++ flat_map f (take i xs) → PutsFront (f x) mid new → PutsFront (flat_map f xs) old new
 PutsFront-next f xs i x d old mid new below at first put = record {
   front = flat_map f (take i xs) ++ put.front;

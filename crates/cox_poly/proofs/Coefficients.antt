@@ -3,7 +3,9 @@ use Rattle.std.proofs.Common.{◌≡◌, ℕ, zero, suc, ◌+◌, ◌-◌, ◌<�
 use Rattle.std.proofs.Common.{pos}
 use Rattle.std.proofs.lemmas.Bool.{cases_lt}
 use Rattle.std.proofs.lemmas.Bool.Decides.{nat_tests}
-use Rattle.cox_poly.specs.Coefficients.{Coefficients, times_q, times_q_power, flip, HasDegreeAtMost}
+use Rattle.cox_poly.specs.Coefficients.{Coefficients, times_q}
+use Rattle.cox_poly.specs.Products.{times_q_power, flip}
+use Rattle.cox_poly.specs.Size.{HasDegreeAtMost}
 
 -- the coefficient of q^n f at n + i is that of f at i
 pub times_q_power_at : (f : Coefficients) (n k i : ℕ) → i + n ≡ k → times_q_power n f k ≡ f i
@@ -48,7 +50,8 @@ flip-suc n f low (suc k) = elim (cases_lt n k) [
 pub flip-times_q : (n : ℕ) (f : Coefficients) (k : ℕ) → flip (suc n) (times_q f) k ≡ flip n f k
 flip-times_q n f k = elim (cases_lt n k) [
   | inl above ↦ top k above ∙ sym (flip_above f n k above)
-  | inr within ↦ let j_is : suc (n - k) + k ≡ suc n = omega arith in flip_at (times_q f) (suc n) k (suc (n - k)) j_is ∙ sym (flip_at f n k (n - k) (omega arith))
+  | inr within ↦ let j_is : suc (n - k) + k ≡ suc n = omega arith in flip_at (times_q f) (suc n) k (suc (n - k)) j_is
+      ∙ sym (flip_at f n k (n - k) (omega arith))
 ]
   where
     top : (k : ℕ) → n < k → flip (suc n) (times_q f) k ≡ pos 0

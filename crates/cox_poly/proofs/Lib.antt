@@ -1,8 +1,18 @@
-pub mod Behind
+-- multiples by powers of q, polynomials turned round
 pub mod Coefficients
-pub mod Measured
-pub mod Norms
-pub mod Polynomials
+-- products
 pub mod Products
+-- sums of absolute coefficients
+pub mod Norms
+-- lists of coefficients
+pub mod Polynomials
+-- for code: a search for the last coefficient that is not 0
+pub mod Measured
+-- for code: a multiple added to sums, coefficient by coefficient
 pub mod Sums
+-- one text behind another
+pub mod Behind
+-- for code: the terms of a polynomial, one by one
 pub mod Terms
+-- the first coefficient beyond a limit
+pub mod Limits

@@ -2,7 +2,7 @@
 use Rattle.std.proofs.Common.{◌≡◌, ◌≢◌, ℕ, ◌-◌, ◌^◌, ◌<◌, ◌≤◌, List}
 use Rattle.std.proofs.Common.{ℤ, pos, unsigned_abs}
 use Rattle.cox_poly.specs.Polynomial.{coefficient}
-use Rattle.cox_poly.specs.Fault.{IsWithin}
+use Rattle.cox_poly.specs.Limit.{IsWithin}
 
 -- of the first k coefficients n are left without trailing zeros
 pub record Trimmed (p : List ℤ) (k n : ℕ) : Type 0 where

@@ -5,7 +5,9 @@ use Rattle.std.proofs.lemmas.Int.{ints, unsigned_abs-mul}
 use Rattle.std.proofs.Math.Nat.{mul-le-mul_left}
 use Rattle.cox_poly.proofs.Coefficients.{times_q_power_at, times_q_power_below, times_q_power-suc}
 use Rattle.std.proofs.lemmas.Bool.{cases_lt}
-use Rattle.cox_poly.specs.Coefficients.{Coefficients, zero_polynomial, one_polynomial, plus, minus, negated, scaled, times_q, times_q_power, times_q_less_one, without_constant, product, absolute_sum, HasNormAtMost}
+use Rattle.cox_poly.specs.Coefficients.{Coefficients, zero_polynomial, one_polynomial, plus, times_q, times_q_less_one}
+use Rattle.cox_poly.specs.Products.{minus, negated, scaled, times_q_power, without_constant, product}
+use Rattle.cox_poly.specs.Size.{absolute_sum, HasNormAtMost}
 
 -- of sums, differences and multiples
 pub absolute_sum-plus : (n : ℕ) (f g : Coefficients) → absolute_sum n (plus f g) ≤ absolute_sum n f + absolute_sum n g
@@ -64,18 +66,29 @@ pub HasNormAtMost-scaled : (c : ℤ) (f : Coefficients) (a : ℕ) → HasNormAtM
 HasNormAtMost-scaled c f a low n = omega (arith, absolute_sum-scaled n c f, mul-le-mul_left (unsigned_abs c) (low n))
 
 pub HasNormAtMost-times_q_power : (n : ℕ) (f : Coefficients) (a : ℕ) → HasNormAtMost f a → HasNormAtMost (times_q_power n f) a
-HasNormAtMost-times_q_power zero f a low = HasNormAtMost-same f (times_q_power 0 f) a (λ k. sym (times_q_power_at f 0 k k (omega arith))) low
+HasNormAtMost-times_q_power zero f a low = HasNormAtMost-same f (times_q_power 0 f) a
+    (λ k. sym (times_q_power_at f 0 k k (omega arith))) low
 HasNormAtMost-times_q_power (suc n) f a low =
-    HasNormAtMost-same (times_q (times_q_power n f)) (times_q_power (suc n) f) a (λ k. sym (ap (λ h. h k) (times_q_power-suc n f))) (HasNormAtMost-times_q (times_q_power n f) a (HasNormAtMost-times_q_power n f a low))
+    HasNormAtMost-same (times_q (times_q_power n f)) (times_q_power (suc n) f) a (λ k. sym (ap (λ h. h k) (times_q_power-suc n f)))
+    (HasNormAtMost-times_q (times_q_power n f) a (HasNormAtMost-times_q_power n f a low))
 
 -- no coefficient is larger
 pub HasNormAtMost-coefficient : (f : Coefficients) (a : ℕ) → HasNormAtMost f a → (k : ℕ) → unsigned_abs (f k) ≤ a
 HasNormAtMost-coefficient f a low k = omega (arith, absolute_sum-above k f, low (suc k))
 
 -- a product has no coefficient above the sum of the one factor times a bound on the coefficients of the other
-pub absolute_product : (f g : Coefficients) (b : ℕ) → ((j : ℕ) → unsigned_abs (g j) ≤ b) → (k : ℕ) → unsigned_abs (product f g k) ≤ absolute_sum (suc k) f * b
+pub absolute_product : (f g : Coefficients) (b : ℕ) → ((j : ℕ) → unsigned_abs (g j) ≤ b) → (k : ℕ)
+    → unsigned_abs (product f g k) ≤ absolute_sum (suc k) f * b
 absolute_product f g b low zero = omega (arith, unsigned_abs-mul (f zero) (g zero), mul-le-mul_left (unsigned_abs (f zero)) (low zero))
-absolute_product f g b low (suc k) = omega (arith, ints, unsigned_abs-mul (f zero) (g (suc k)), mul-le-mul_left (unsigned_abs (f zero)) (low (suc k)), absolute_product (without_constant f) g b low k)
+absolute_product f g b low (suc k) =
+    omega (
+      arith,
+      ints,
+      unsigned_abs-mul (f zero) (g (suc k)),
+      mul-le-mul_left (unsigned_abs (f zero)) (low (suc k)),
+      absolute_product
+          (without_constant f) g b low k,
+    )
 
 -- and the sum of its absolute coefficients is at most the product of theirs
 pub absolute_sum-product : (n : ℕ) (f g : Coefficients) (b : ℕ) → HasNormAtMost g b → absolute_sum n (product f g) ≤ absolute_sum n f * b
@@ -94,12 +107,16 @@ pub HasNormAtMost-product : (f g : Coefficients) (a b : ℕ) → HasNormAtMost f
 HasNormAtMost-product f g a b f_low g_low n = omega (arith, absolute_sum-product n f g b g_low, mul-le-mul_left b (f_low n))
 
 -- f + c q^n g, as one addition to a sum makes it: bounds of the sums, and of one coefficient
-pub HasNormAtMost-after : (f g : Coefficients) (c : ℤ) (n a b : ℕ) → HasNormAtMost f a → HasNormAtMost g b → HasNormAtMost (plus f (scaled c (times_q_power n g))) (a + unsigned_abs c * b)
+pub HasNormAtMost-after : (f g : Coefficients) (c : ℤ) (n a b : ℕ) → HasNormAtMost f a → HasNormAtMost g b
+    → HasNormAtMost (plus f (scaled c (times_q_power n g))) (a + unsigned_abs c * b)
 HasNormAtMost-after f g c n a b f_low g_low =
-    HasNormAtMost-plus f (scaled c (times_q_power n g)) a (unsigned_abs c * b) f_low (HasNormAtMost-scaled c (times_q_power n g) b (HasNormAtMost-times_q_power n g b g_low))
+    HasNormAtMost-plus f (scaled c (times_q_power n g)) a (unsigned_abs c * b) f_low
+    (HasNormAtMost-scaled c (times_q_power n g) b (HasNormAtMost-times_q_power n g b g_low))
 
-pub absolute_after : (f g : Coefficients) (c : ℤ) (n k a b : ℕ) → unsigned_abs (f k) ≤ a → ((j : ℕ) → unsigned_abs (g j) ≤ b) → unsigned_abs (plus f (scaled c (times_q_power n g)) k) ≤ a + unsigned_abs c * b
+pub absolute_after : (f g : Coefficients) (c : ℤ) (n k a b : ℕ) → unsigned_abs (f k) ≤ a → ((j : ℕ) → unsigned_abs (g j) ≤ b)
+    → unsigned_abs (plus f (scaled c (times_q_power n g)) k) ≤ a + unsigned_abs c * b
 absolute_after f g c n k a b f_low g_low = elim (cases_lt k n) [
   | inl below ↦ rw (times_q_power_below g n k below) (omega (arith, ints))
-  | inr from ↦ rw (times_q_power_at g n k (k - n) (omega arith)) (omega (arith, ints, unsigned_abs-mul c (g (k - n)), mul-le-mul_left (unsigned_abs c) (g_low (k - n))))
+  | inr from ↦ rw (times_q_power_at g n k (k - n) (omega arith))
+      (omega (arith, ints, unsigned_abs-mul c (g (k - n)), mul-le-mul_left (unsigned_abs c) (g_low (k - n))))
 ]

@@ -6,7 +6,7 @@ use Rattle.std.proofs.lemmas.Int.{ints}
 use Rattle.std.proofs.lemmas.List.{get_or_past, get_or-take, ext_get_or, length-take}
 use Rattle.std.proofs.lemmas.Grind.{common_steps}
 use Rattle.cox_poly.specs.Polynomial.{coefficient, IsPolynomial, SameCoefficients, HasDegreeBelow, IsTrimmedLength, IsStorable}
-use Rattle.cox_poly.specs.Fault.{AllWithin, IsFirstAbove}
+use Rattle.cox_poly.specs.Limit.{AllWithin, IsFirstAbove}
 
 -- past the end of the list
 pub coefficient_past : (p : List ℤ) (k : ℕ) → length p ≤ k → coefficient p k ≡ pos 0
@@ -23,8 +23,9 @@ coefficient-take p n below k = elim (cases_lt k n) [
   | inr past ↦ coefficient_past (take n p) k (omega (arith, length-take n p)) ∙ sym (below k past)
 ]
 
--- the same holds of a front of a front
-pub coefficient-take_twice : (p : List ℤ) (used n : ℕ) → HasDegreeBelow p used → IsTrimmedLength (take used p) n → SameCoefficients (take n (take used p)) p
+-- the same holds of a prefix of a front
+pub coefficient-take_twice : (p : List ℤ) (used n : ℕ) → HasDegreeBelow p used → IsTrimmedLength (take used p) n
+    → SameCoefficients (take n (take used p)) p
 coefficient-take_twice p used n below trimmed k = coefficient-take (take used p) n trimmed.zeros k ∙ coefficient-take p used below k
 
 -- the front without trailing zeros is a polynomial
@@ -42,15 +43,17 @@ AllWithin-take limit p n within up k = elim (cases_lt k n) [
   | inr past ↦ rw (coefficient_past (take n p) k (omega (arith, length-take n p))) up
 ]
 
--- a front of 64 bits without trailing zeros can be held
-pub IsStorable-take : (limit : ℤ) (p : List ℤ) (n : ℕ) → AllWithin limit p → pos 0 ≤ℤ limit → FitsSigned w64 limit → IsTrimmedLength p n → length p ≤ 2 ^ 32 → IsStorable (take n p)
+-- a prefix of 64 bits without trailing zeros can be held
+pub IsStorable-take : (limit : ℤ) (p : List ℤ) (n : ℕ) → AllWithin limit p → pos 0 ≤ℤ limit → FitsSigned w64 limit → IsTrimmedLength p n
+    → length p ≤ 2 ^ 32 → IsStorable (take n p)
 IsStorable-take limit p n within up fits trimmed short = record {
   trimmed = IsPolynomial-take p n trimmed;
   short = omega (arith, length-take n p);
   small = λ k. omega (arith, ints, AllWithin-take limit p n within up k);
 }
 
-pub IsFirstAbove-same : (limit : ℤ) (p r : List ℤ) (d : ℕ) (v : ℤ) → SameCoefficients p r → IsFirstAbove limit p d v → IsFirstAbove limit r d v
+pub IsFirstAbove-same : (limit : ℤ) (p r : List ℤ) (d : ℕ) (v : ℤ) → SameCoefficients p r → IsFirstAbove limit p d v
+    → IsFirstAbove limit r d v
 IsFirstAbove-same limit p r d v same first = record {
   value = first.value ∙ same d;
   above = first.above;
@@ -59,7 +62,8 @@ IsFirstAbove-same limit p r d v same first = record {
 
 -- a polynomial is known by its coefficients
 pub same_polynomial : (p r : List ℤ) → IsPolynomial p → IsPolynomial r → SameCoefficients p r → p ≡ r
-same_polynomial p r p_ends r_ends same = ext_get_or (pos 0) p r (le_antisymm (no_longer p r p_ends same) (no_longer r p r_ends (λ k. sym (same k)))) (λ i h. same i)
+same_polynomial p r p_ends r_ends same = ext_get_or (pos 0) p r
+    (le_antisymm (no_longer p r p_ends same) (no_longer r p r_ends (λ k. sym (same k)))) (λ i h. same i)
   where
     no_longer : (p r : List ℤ) → IsPolynomial p → SameCoefficients p r → length p ≤ length r
     no_longer p r ends same = elim (cases_lt (length r) (length p)) [

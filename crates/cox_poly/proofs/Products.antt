@@ -2,14 +2,17 @@
 use Rattle.std.proofs.Common.{◌≡◌, ℕ, zero, suc, ◌+◌, ◌≤◌, refl, sym, ap, arith}
 use Rattle.std.proofs.Common.{ℤ, pos, ◌+ℤ◌, ◌*ℤ◌, neg_ℤ}
 use Rattle.std.proofs.lemmas.Int.{ints}
-use Rattle.cox_poly.specs.Coefficients.{Coefficients, zero_polynomial, one_polynomial, plus, negated, scaled, times_q, times_q_power, without_constant, product, front, HasDegreeAtMost}
+use Rattle.cox_poly.specs.Coefficients.{Coefficients, zero_polynomial, one_polynomial, plus, times_q}
+use Rattle.cox_poly.specs.Products.{negated, scaled, times_q_power, without_constant, product, terms_below}
+use Rattle.cox_poly.specs.Size.{HasDegreeAtMost}
 use Rattle.cox_poly.proofs.Coefficients.{times_q_power_at, times_q_power_below, times_q_power-suc}
 use Rattle.cox_lemmas.proofs.Ring.{multiply_out, mul_left_comm}
 
 -- with 0 and 1
 pub product_of_none : (f g : Coefficients) → ((j : ℕ) → f j ≡ pos 0) → (k : ℕ) → product f g k ≡ pos 0
 product_of_none f g none zero = omega (arith, ints, ap (λ z. z *ℤ g zero) (none zero))
-product_of_none f g none (suc k) = omega (arith, ints, ap (λ z. z *ℤ g (suc k)) (none zero), product_of_none (without_constant f) g (λ j. none (suc j)) k)
+product_of_none f g none (suc k) =
+    omega (arith, ints, ap (λ z. z *ℤ g (suc k)) (none zero), product_of_none (without_constant f) g (λ j. none (suc j)) k)
 
 pub zero-product : (g : Coefficients) (k : ℕ) → product zero_polynomial g k ≡ pos 0
 zero-product g = product_of_none zero_polynomial g (λ j. refl)
@@ -45,7 +48,8 @@ negated-product f g (suc k) = simp multiply_out (omega (arith, ints, negated-pro
 
 pub product-scaled : (c : ℤ) (f g : Coefficients) (k : ℕ) → product f (scaled c g) k ≡ c *ℤ product f g k
 product-scaled c f g zero = mul_left_comm (f zero) c (g zero)
-product-scaled c f g (suc k) = simp multiply_out (omega (arith, ints, mul_left_comm (f zero) c (g (suc k)), product-scaled c (without_constant f) g k))
+product-scaled c f g (suc k) = simp multiply_out
+    (omega (arith, ints, mul_left_comm (f zero) c (g (suc k)), product-scaled c (without_constant f) g k))
 
 pub scaled-product : (c : ℤ) (f g : Coefficients) (k : ℕ) → product (scaled c f) g k ≡ c *ℤ product f g k
 scaled-product c f g zero = simp multiply_out
@@ -62,23 +66,38 @@ times_q-product f g zero = omega (arith, ints)
 times_q-product f g (suc k) = omega (arith, ints)
 
 -- one term more in front
-pub front-product : (f g : Coefficients) (i k : ℕ) → product (front (suc i) f) g k ≡ product (front i f) g k +ℤ f i *ℤ times_q_power i g k
-front-product f g zero zero = omega (arith, ints)
-front-product f g zero (suc k) = omega (arith, ints, zero-product g k, ap (λ z. f zero *ℤ z) (times_q_power_at g 0 (suc k) (suc k) (omega arith)))
-front-product f g (suc i) zero = omega (arith, ints, ap (λ z. f (suc i) *ℤ z) (times_q_power_below g (suc i) 0 (omega arith)))
-front-product f g (suc i) (suc k) =
-    omega (arith, ints, front-product (without_constant f) g i k, ap (λ h. f (suc i) *ℤ h (suc k)) (times_q_power-suc i g))
+pub terms_below-product : (f g : Coefficients) (i k : ℕ) → product (terms_below (suc i) f) g k
+    ≡ product (terms_below i f) g k +ℤ f i *ℤ times_q_power i g k
+terms_below-product f g zero zero = omega (arith, ints)
+terms_below-product f g zero (suc k) =
+    omega (arith, ints, zero-product g k, ap (λ z. f zero *ℤ z) (times_q_power_at g 0 (suc k) (suc k) (omega arith)))
+terms_below-product f g (suc i) zero = omega (arith, ints, ap (λ z. f (suc i) *ℤ z) (times_q_power_below g (suc i) 0 (omega arith)))
+terms_below-product f g (suc i) (suc k) =
+    omega (arith, ints, terms_below-product (without_constant f) g i k, ap (λ h. f (suc i) *ℤ h (suc k)) (times_q_power-suc i g))
 
--- a front that leaves out no term is the whole
-pub front-all : (f : Coefficients) (n : ℕ) → ((k : ℕ) → n ≤ k → f k ≡ pos 0) → (k : ℕ) → front n f k ≡ f k
-front-all f zero none k = sym (none k (omega arith))
-front-all f (suc n) none zero = refl
-front-all f (suc n) none (suc k) = front-all (without_constant f) n (λ j h. none (suc j) (omega arith)) k
+-- where it leaves out no term it is the whole
+pub terms_below-all : (f : Coefficients) (n : ℕ) → ((k : ℕ) → n ≤ k → f k ≡ pos 0) → (k : ℕ) → terms_below n f k ≡ f k
+terms_below-all f zero none k = sym (none k (omega arith))
+terms_below-all f (suc n) none zero = refl
+terms_below-all f (suc n) none (suc k) = terms_below-all (without_constant f) n (λ j h. none (suc j) (omega arith)) k
 
 -- the degrees add up
-pub HasDegreeAtMost-product : (f g : Coefficients) (n m : ℕ) → HasDegreeAtMost f n → HasDegreeAtMost g m → HasDegreeAtMost (product f g) (n + m)
+pub HasDegreeAtMost-product : (f g : Coefficients) (n m : ℕ) → HasDegreeAtMost f n → HasDegreeAtMost g m
+    → HasDegreeAtMost (product f g) (n + m)
 HasDegreeAtMost-product f g n m f_low g_low zero h = absurd (omega arith)
 HasDegreeAtMost-product f g zero m f_low g_low (suc k) h =
-    omega (arith, ints, ap (λ z. f zero *ℤ z) (g_low (suc k) (omega arith)), product_of_none (without_constant f) g (λ j. f_low (suc j) (omega arith)) k)
+    omega (
+      arith,
+      ints,
+      ap (λ z. f zero *ℤ z) (g_low (suc k) (omega arith)),
+      product_of_none (without_constant f) g
+          (λ j. f_low (suc j) (omega arith)) k,
+    )
 HasDegreeAtMost-product f g (suc n) m f_low g_low (suc k) h =
-    omega (arith, ints, ap (λ z. f zero *ℤ z) (g_low (suc k) (omega arith)), HasDegreeAtMost-product (without_constant f) g n m (λ j lt. f_low (suc j) (omega arith)) g_low k (omega arith))
+    omega (
+      arith,
+      ints,
+      ap (λ z. f zero *ℤ z) (g_low (suc k) (omega arith)),
+      HasDegreeAtMost-product (without_constant f) g n m
+          (λ j lt. f_low (suc j) (omega arith)) g_low k (omega arith),
+    )

@@ -1,5 +1,6 @@
 -- The text of a polynomial, written term by term.
-use Rattle.std.proofs.Common.{◌≡◌, ◌≢◌, ℕ, zero, suc, ◌+◌, ◌<◌, ◌≤◌, Bool, true, false, not, List, ◌∷◌, ◌++◌, length, drop, filter, flat_map, codes, refl, append_assoc, add-one, arith}
+use Rattle.std.proofs.Common.{◌≡◌, ◌≢◌, ℕ, zero, suc, ◌+◌, ◌<◌, ◌≤◌, Bool, true, false, not, List, ◌∷◌, ◌++◌, length, drop, filter}
+use Rattle.std.proofs.Common.{flat_map, codes, refl, append_assoc, add-one, arith}
 use Rattle.std.proofs.Common.{ℤ, pos, negsuc}
 use Rattle.std.specs.Ordering.{int_eq}
 use Rattle.std.specs.List.{enumerate_from}
@@ -8,7 +9,7 @@ use Rattle.std.proofs.lemmas.List.{drop_all}
 use Rattle.std.proofs.lemmas.Bool.Decides.{nat_tests}
 use Rattle.cox_poly.specs.Polynomial.{coefficient}
 use Rattle.cox_poly.specs.Puts.{PutsFront}
-use Rattle.cox_poly.specs.Text.{next_term_text, listed_term_text, terms_text}
+use Rattle.cox_poly.specs.PolynomialText.{next_term_text, listed_term_text, terms_text}
 use Rattle.cox_poly.proofs.Behind.{PutsFront-first, PutsFront-second, append-second}
 
 -- the terms from degree k on
@@ -20,13 +21,13 @@ abbrev pub rest_text : Bool → List (ℕ × ℤ) → List ℕ
 rest_text true ts = terms_text ts
 rest_text false ts = flat_map next_term_text ts
 
--- a front of the text was put behind what was there: all but this rest
+-- a prefix of the text was put behind what was there: all but this rest
 pub record Written (old out text rest : List ℕ) : Type 0 where
   pub front : List ℕ
   pub parts : text ≡ front ++ rest
   pub behind : out ≡ old ++ front
 
--- and then a front of the next piece
+-- and then a prefix of the next piece
 pub Written-front : {old out text rest : List ℕ} (new piece rest' : List ℕ)
     → Written old out text rest → PutsFront piece out new → rest ≡ piece ++ rest' → PutsFront text old new
 Written-front {old} {out} new piece rest' w put split =
@@ -46,11 +47,13 @@ drop-step : (p : List ℤ) (k : ℕ) → k < length p → drop k p ≡ coefficie
 drop-step p k h = rw add-one (drop-cons p k (pos 0) h)
 
 -- a zero coefficient has no term
-terms_from-skip : (p : List ℤ) (k : ℕ) → k < length p → coefficient p k ≡ pos 0 → terms_from k (drop k p) ≡ terms_from (k + 1) (drop (k + 1) p)
+terms_from-skip : (p : List ℤ) (k : ℕ) → k < length p → coefficient p k ≡ pos 0 → terms_from k (drop k p)
+    ≡ terms_from (k + 1) (drop (k + 1) p)
 terms_from-skip p k h e = rw (drop-step p k h, e) refl
 
 pub Written-zero : {old out text : List ℕ} (p : List ℤ) (k : ℕ) (first : Bool) → k < length p → coefficient p k ≡ pos 0
-    → Written old out text (rest_text first (terms_from k (drop k p))) → Written old out text (rest_text first (terms_from (k + 1) (drop (k + 1) p)))
+    → Written old out text (rest_text first (terms_from k (drop k p)))
+    → Written old out text (rest_text first (terms_from (k + 1) (drop (k + 1) p)))
 Written-zero p k first h e w = rw (terms_from-skip p k h e) at w
 
 int_eq-zero : (c : ℤ) → c ≢ pos 0 → int_eq c (pos 0) ≡ false
@@ -64,10 +67,12 @@ rest_text-cons false t ts = refl
 
 -- another one has
 pub rest_text-term : (p : List ℤ) (k : ℕ) (first : Bool) → k < length p → coefficient p k ≢ pos 0
-    → rest_text first (terms_from k (drop k p)) ≡ listed_term_text first (k, coefficient p k) ++ rest_text false (terms_from (k + 1) (drop (k + 1) p))
+    → rest_text first (terms_from k (drop k p))
+    ≡ listed_term_text first (k, coefficient p k) ++ rest_text false (terms_from (k + 1) (drop (k + 1) p))
 rest_text-term p k first h e =
     rw (drop-step p k h, int_eq-zero (coefficient p k) e) (rest_text-cons first (k, coefficient p k) (terms_from (k + 1) (drop (k + 1) p)))
 
 -- the text where there is no term
-pub rest_text-zero : (p : List ℤ) (k : ℕ) (first : Bool) → first ≡ true → length p ≤ k → rest_text first (terms_from k (drop k p)) ≡ codes "0"
+pub rest_text-zero : (p : List ℤ) (k : ℕ) (first : Bool) → first ≡ true → length p ≤ k → rest_text first (terms_from k (drop k p))
+    ≡ codes "0"
 rest_text-zero p k first none past = rw (none, drop_all k p past) refl

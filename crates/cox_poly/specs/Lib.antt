@@ -1,5 +1,14 @@
+-- polynomials as functions from degrees to coefficients
 pub mod Coefficients
+-- their multiples and products
+pub mod Products
+-- bounds of their degree and of the sum of their absolute coefficients
+pub mod Size
+-- polynomials as lists of coefficients
 pub mod Polynomial
-pub mod Fault
+-- coefficients within a limit
+pub mod Limit
+-- how a text is put behind others
 pub mod Puts
-pub mod Text
+-- the text of a polynomial
+pub mod PolynomialText

@@ -2,7 +2,8 @@
 -- `coefficient p` is such a polynomial as a function (Coefficients.antt).
 use Rattle.std.specs.Prelude.{◌≡◌, ◌≢◌, ℕ, ◌+◌, ◌-◌, ◌^◌, ◌<◌, ◌≤◌, List, length, slice_index_or}
 use Rattle.std.specs.Prelude.{ℤ, pos, unsigned_abs}
-use Rattle.cox_poly.specs.Coefficients.{plus, scaled, times_q_power}
+use Rattle.cox_poly.specs.Coefficients.{plus}
+use Rattle.cox_poly.specs.Products.{scaled, times_q_power}
 
 -- the coefficient of q^k, which is 0 past the end of the list
 abbrev pub coefficient : List ℤ → ℕ → ℤ

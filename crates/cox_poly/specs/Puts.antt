@@ -1,14 +1,14 @@
--- How a text is put behind others: whole, or, where memory runs out, a front of it.
+-- How a text is put behind others: whole, or, where memory runs out, a prefix of it.
 use Rattle.std.specs.Prelude.{◌≡◌, ◌++◌, List, ℕ, Result, MatchResult}
 use Rattle.std.specs.declared.alloc.AllocError.{AllocError}
 
--- a front of the text was put behind what was there
+-- a prefix of the text was put behind what was there
 pub record PutsFront (text old new : List ℕ) : Type 0 where
   pub front : List ℕ
   pub rest : List ℕ
   pub parts : text ≡ front ++ rest
   pub behind : new ≡ old ++ front
 
--- the text was put behind what was there; for want of memory only a front of it was
+-- the text was put behind what was there; where memory ran out only a prefix of it was
 abbrev pub Puts : Result Unit AllocError → List ℕ → List ℕ → List ℕ → Type 0
 Puts result text old new = MatchResult result (λ _. new ≡ old ++ text) (λ _. PutsFront text old new)

@@ -1,17 +1,18 @@
-ghost use Rattle.std.specs.Prelude.{◌≡◌, ◌≢◌, ◌↔◌, ℕ, ◌+◌, ◌-◌, ◌^◌, ◌<◌, ◌≤◌, pos, ◌*ℤ◌, ◌<ℤ◌, ◌≤ℤ◌, unsigned_abs, length, false, IsTrue, OnOk, IfOk, IfErr};
+//! Sums of multiples of polynomials, in 128 bits a coefficient.
+ghost use Rattle.std.specs.Prelude.{◌≡◌, ◌≢◌, ◌↔◌, ℕ, ℤ, ◌+◌, ◌-◌, ◌^◌, ◌<◌, ◌≤◌, pos, ◌*ℤ◌, ◌<ℤ◌, ◌≤ℤ◌, unsigned_abs, length, false, IsTrue, OnOk, IfOk, IfErr, Err};
 ghost use Rattle.cox_poly.specs.Polynomial.{coefficient, IsPolynomial, SameCoefficients, IsTrimmedLength, coefficient_after};
-ghost use Rattle.cox_poly.specs.Fault.{IsWithin, AllWithin, IsFault, IsFirstAbove};
+ghost use Rattle.cox_poly.specs.Limit.{IsWithin, AllWithin, IsFirstAbove};
 
 use crate::NoMemory;
-use crate::fault::PolyFault;
+use crate::poly_fault::PolyFault;
 use crate::polynomial::Poly;
 use std::alloc::Global;
 use std::marker::Model;
 
 /// How many sums there are: one for each degree below this.
-const DEGREES: usize = 256;
+pub const DEGREES: usize = 256;
 
-/// A sum of polynomials, of a degree of at most 255, in 128 bits a coefficient. It takes no memory.
+/// A sum of polynomials, of degrees below [`DEGREES`], in 128 bits a coefficient. It takes no memory.
 ///
 /// Contracts see the list of its coefficients, from the constant one up; zeros may end this list.
 #[derive(Drop)]
@@ -24,12 +25,13 @@ pub struct Acc {
 impl Model for Acc {
     ghost use Rattle.std.specs.Prelude.{List, ℤ, ◌≤◌};
     ghost use Rattle.cox_poly.specs.Polynomial.{HasDegreeBelow};
+    ghost use Rattle.cox_poly.specs.declared.accumulator.TheConstants.{DEGREES};
 
     ghost Value = { List ℤ };
 
     ghost view = { λ a. a.sums };
 
-    ghost invariant = { λ a. (a.used ≤ 256) × HasDegreeBelow a.sums a.used };
+    ghost invariant = { λ a. (a.used ≤ DEGREES) × HasDegreeBelow a.sums a.used };
 }
 
 // No sum has begun.
@@ -120,12 +122,12 @@ impl Acc {
         }
     }
 
-    /// Adds `factor * q^shift * p`. No term of `q^shift * p` may have a degree above 255, and no
+    /// Adds `factor * q^shift * p`. Each term of `q^shift * p` has a degree below [`DEGREES`], and no
     /// sum may come above `2^126` in absolute value.
     ///
     /// Three times `1 + q`, shifted by 2, makes 0 into `3q^2 + 3q^3`.
     pub fn add_scaled(&mut self, p: &Poly, factor: i64, shift: u32)
-        requires degrees { (k : ℕ) → 255 < k + shift → coefficient p.now k ≡ pos 0 }
+        requires degrees { (k : ℕ) → DEGREES ≤ k + shift → coefficient p.now k ≡ pos 0 }
         requires room { (k : ℕ) →
             unsigned_abs (coefficient_after self.old p.now factor shift k) ≤ 2 ^ 126 }
         ensures sum { (k : ℕ) →
@@ -143,12 +145,14 @@ impl Acc {
     ///
     /// `TooBig` comes exactly where a coefficient is above the limit in absolute value, with the
     /// least degree of such a coefficient and its value: under limit 2 the sum `3q^2 + 3q^3` is
-    /// too big at degree 2, by 3. `NoMemory` comes where there is no memory for the polynomial.
+    /// too big at degree 2, by 3. Memory is asked for only after that, and `NoMemory` comes where
+    /// there is none for the polynomial.
     pub fn close(&self, alloc: Global, limit: i64) -> Result<Poly, PolyFault>
         ensures sum { IfOk result (λ p. SameCoefficients p self.now) }
         ensures normal { IfOk result IsPolynomial }
         ensures within { OnOk result (AllWithin limit self.now) }
-        ensures fault { IfErr result (IsFault limit self.now) }
+        ensures too_big { (d : ℕ) (v : ℤ) →
+            (result ≡ Err (PolyFault.TooBig d v)) ↔ IsFirstAbove limit self.now d v }
     {
         if limit < 0 {
             // not even 0 is within it

@@ -1,10 +1,11 @@
+//! Polynomials in `q` with coefficients of 64 bits.
 ghost use Rattle.std.specs.Prelude.{◌≡◌, ◌≢◌, ◌↔◌, ℕ, ◌+◌, ◌-◌, ◌^◌, ◌<◌, ◌≤◌, length, [], ◌∷◌, pos, IfOk, IfSome, IsNone, unsigned_abs};
 ghost use Rattle.cox_poly.specs.Polynomial.{coefficient, IsPolynomial, IsStorable, SameCoefficients, HasSmallCoefficients, IsDegree, IsTrimmedLength};
 ghost use Rattle.cox_poly.specs.Puts.{Puts};
-ghost use Rattle.cox_poly.specs.Text.{polynomial_text};
+ghost use Rattle.cox_poly.specs.PolynomialText.{polynomial_text};
 
 use crate::NoMemory;
-use crate::text::put_polynomial;
+use crate::polynomial_text::put_polynomial;
 use std::alloc::{AllocError, Global};
 use std::marker::Model;
 

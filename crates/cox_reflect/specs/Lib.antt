@@ -18,3 +18,5 @@ pub mod Subword
 pub mod Height
 -- descents by the side
 pub mod Side
+-- what the test of Bruhat order asks of heights
+pub mod Order

@@ -12,7 +12,7 @@ use std::marker::Model;
 ///
 /// Contracts see nine numbers, that of the letter t at t - 1; past the rank they mean nothing. The letter t is a left descent of u exactly where
 /// its height is negative (Humphreys 5.4).
-#[derive(Clone, Copy)]
+#[derive(Clone, Copy, PartialEq, Eq, Hash)]
 pub struct Heights {
     values: [i128; MAX_RANK],
 }

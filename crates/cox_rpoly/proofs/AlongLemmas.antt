@@ -1,5 +1,6 @@
 -- R along a word, by induction on the word.
-use Rattle.std.proofs.Common.{◌≡◌, ℕ, zero, suc, ◌+◌, ◌*◌, ◌^◌, ◌<◌, ◌≤◌, Bool, true, false, if◌then◌else◌, List, [], ◌∷◌, length, pos, refl, ap, sym, ◌∙◌, ⊎_elim, arith, inl, inr, ◌⊎◌, lit<}
+use Rattle.std.proofs.Common.{◌≡◌, ℕ, zero, suc, ◌+◌, ◌*◌, ◌^◌, ◌<◌, ◌≤◌, Bool, true, false, if◌then◌else◌, List, [], ◌∷◌, length, pos}
+use Rattle.std.proofs.Common.{refl, ap, sym, ◌∙◌, ⊎_elim, arith, inl, inr, ◌⊎◌, lit<}
 use Rattle.std.specs.Prelude.{nat_lt, ◌==◌}
 use Rattle.std.proofs.lemmas.Bool.{cases_lt, cases_eq}
 use Rattle.std.proofs.lemmas.Bool.Decides.{nat_tests}
@@ -15,8 +16,10 @@ use Rattle.cox_reflect.proofs.Lengths.{word_length-is, cons-word_length, IsReduc
 use Rattle.cox_reflect.proofs.Roots.{left_descent-letter}
 use Rattle.cox_reflect.proofs.Deletion.{left_length}
 use Rattle.cox_reflect.proofs.Bruhat.{below-same, below-refl, below-trans, below-ascent, lift_down, lift_up}
-use Rattle.cox_poly.specs.Coefficients.{Coefficients, zero_polynomial, one_polynomial, plus, times_q, times_q_less_one, HasNormAtMost, HasDegreeAtMost, absolute_sum}
-use Rattle.cox_poly.proofs.Norms.{HasNormAtMost-zero, HasNormAtMost-one, HasNormAtMost-plus, HasNormAtMost-times_q, HasNormAtMost-times_q_less_one, HasNormAtMost-same}
+use Rattle.cox_poly.specs.Coefficients.{Coefficients, zero_polynomial, one_polynomial, plus, times_q, times_q_less_one}
+use Rattle.cox_poly.specs.Size.{HasNormAtMost, HasDegreeAtMost, absolute_sum}
+use Rattle.cox_poly.proofs.Norms.{HasNormAtMost-zero, HasNormAtMost-one, HasNormAtMost-plus, HasNormAtMost-times_q}
+use Rattle.cox_poly.proofs.Norms.{HasNormAtMost-times_q_less_one, HasNormAtMost-same}
 use Rattle.cox_rpoly.specs.RPolynomial.{r_along}
 
 -- ---- the four cases
@@ -41,29 +44,35 @@ pub along-longer : (A : IntegerMatrix) (x : List ℕ) (s : ℕ) (v : List ℕ) �
     → r_along A x (s ∷ v) ≡ plus (times_q_less_one (r_along A x v)) (times_q (r_along A (s ∷ x) v))
 unfolding r_along
 along-longer A x s v n =
-    let le : word_length A x ≤ word_length A (s ∷ x) = ⊎_elim (λ d. absurd (n d)) (λ (h : word_length A x ≤ word_length A (s ∷ x)). h) (cases_lt (word_length A (s ∷ x)) (word_length A x))
+    let le : word_length A x ≤ word_length A (s ∷ x) = ⊎_elim (λ d. absurd (n d)) (λ (h : word_length A x ≤ word_length A (s ∷ x)). h)
+    (cases_lt (word_length A (s ∷ x)) (word_length A x))
     in let t : nat_lt (word_length A (s ∷ x)) (word_length A x) ≡ false = grind (arith, nat_tests) in rw t refl
 
 -- whether s shortens x
 pub shortens : (A : IntegerMatrix) (x : List ℕ) (s : ℕ) → IsLeftDescent A x s ⊎ (IsLeftDescent A x s → ⊥)
-shortens A x s = ⊎_elim (λ d. inl d) (λ (le : word_length A x ≤ word_length A (s ∷ x)). inr (λ d. omega (arith, le, d))) (cases_lt (word_length A (s ∷ x)) (word_length A x))
+shortens A x s = ⊎_elim (λ d. inl d) (λ (le : word_length A x ≤ word_length A (s ∷ x)). inr (λ d. omega (arith, le, d)))
+    (cases_lt (word_length A (s ∷ x)) (word_length A x))
 
 pub longer-length : (A : IntegerMatrix) (x : List ℕ) (s : ℕ) → (IsLeftDescent A x s → ⊥) → word_length A x ≤ word_length A (s ∷ x)
 longer-length A x s n = ⊎_elim (λ d. absurd (n d)) (λ le. le) (cases_lt (word_length A (s ∷ x)) (word_length A x))
 
 -- ---- (q-1) f + q h
 
-pub step-none : (f h : Coefficients) → ((k : ℕ) → f k ≡ pos 0) → ((k : ℕ) → h k ≡ pos 0) → (k : ℕ) → plus (times_q_less_one f) (times_q h) k ≡ pos 0
+pub step-none : (f h : Coefficients) → ((k : ℕ) → f k ≡ pos 0) → ((k : ℕ) → h k ≡ pos 0) → (k : ℕ)
+    → plus (times_q_less_one f) (times_q h) k ≡ pos 0
 step-none f h no_f no_h zero = rw (no_f 0) refl
 step-none f h no_f no_h (suc k) = rw (no_f k, no_f (suc k), no_h k) refl
 
-step-degree : (f h : Coefficients) (n : ℕ) → HasDegreeAtMost f n → HasDegreeAtMost h n → HasDegreeAtMost (plus (times_q_less_one f) (times_q h)) (suc n)
+step-degree : (f h : Coefficients) (n : ℕ) → HasDegreeAtMost f n → HasDegreeAtMost h n
+    → HasDegreeAtMost (plus (times_q_less_one f) (times_q h)) (suc n)
 step-degree f h n low_f low_h zero above = absurd (omega arith)
 step-degree f h n low_f low_h (suc k) above = rw (low_f k (omega arith), low_f (suc k) (omega arith), low_h k (omega arith)) refl
 
-step-norm : (f h : Coefficients) (n : ℕ) → HasNormAtMost f (3 ^ n) → HasNormAtMost h (3 ^ n) → HasNormAtMost (plus (times_q_less_one f) (times_q h)) (3 ^ suc n)
+step-norm : (f h : Coefficients) (n : ℕ) → HasNormAtMost f (3 ^ n) → HasNormAtMost h (3 ^ n)
+    → HasNormAtMost (plus (times_q_less_one f) (times_q h)) (3 ^ suc n)
 step-norm f h n low_f low_h k =
-    let whole = HasNormAtMost-plus (times_q_less_one f) (times_q h) (3 ^ n + 3 ^ n) (3 ^ n) (HasNormAtMost-times_q_less_one f (3 ^ n) low_f) (HasNormAtMost-times_q h (3 ^ n) low_h) k
+    let whole = HasNormAtMost-plus (times_q_less_one f) (times_q h) (3 ^ n + 3 ^ n) (3 ^ n)
+    (HasNormAtMost-times_q_less_one f (3 ^ n) low_f) (HasNormAtMost-times_q h (3 ^ n) low_h) k
     in let power : 3 ^ suc n ≡ 3 * 3 ^ n = omega arith
     in omega (arith, whole, power)
 
@@ -74,9 +83,11 @@ module _ (A : IntegerMatrix) (g : IsAdmissible A) where
   along-long x [] long k = ap (λ (f : Coefficients). f k) (along-other A x long)
   along-long x (s ∷ v) long k =
       ⊎_elim
-      (λ (d : IsLeftDescent A x s). ap (λ (f : Coefficients). f k) (along-shorter A x s v d) ∙ along-long (s ∷ x) v (omega (arith, long, cons-word_length A g s x)) k)
+      (λ (d : IsLeftDescent A x s). ap (λ (f : Coefficients). f k) (along-shorter A x s v d)
+      ∙ along-long (s ∷ x) v (omega (arith, long, cons-word_length A g s x)) k)
       (λ (n : IsLeftDescent A x s → ⊥). ap (λ (f : Coefficients). f k) (along-longer A x s v n)
-      ∙ step-none (r_along A x v) (r_along A (s ∷ x) v) (along-long x v (omega (arith, long))) (along-long (s ∷ x) v (omega (arith, long, longer-length A x s n))) k)
+      ∙ step-none (r_along A x v) (r_along A (s ∷ x) v) (along-long x v (omega (arith, long)))
+      (along-long (s ∷ x) v (omega (arith, long, longer-length A x s n))) k)
       (shortens A x s)
 
   -- ---- the degree, and the sum of the absolute coefficients
@@ -96,7 +107,8 @@ module _ (A : IntegerMatrix) (g : IsAdmissible A) where
   along-degree x (s ∷ v) n near =
       ⊎_elim
       (λ (d : IsLeftDescent A x s). rw (along-shorter A x s v d) (along-degree (s ∷ x) v n (omega (arith, near, cons-word_length A g s x))))
-      (λ (none : IsLeftDescent A x s → ⊥). rw (along-longer A x s v none) (longer n near none (λ m near_x. along-degree x v m near_x) (λ m near_sx. along-degree (s ∷ x) v m near_sx)))
+      (λ (none : IsLeftDescent A x s → ⊥). rw (along-longer A x s v none)
+      (longer n near none (λ m near_x. along-degree x v m near_x) (λ m near_sx. along-degree (s ∷ x) v m near_sx)))
       (shortens A x s)
     where
       longer : (n : ℕ) → length (s ∷ v) ≤ word_length A x + n → (IsLeftDescent A x s → ⊥)
@@ -104,9 +116,11 @@ module _ (A : IntegerMatrix) (g : IsAdmissible A) where
           → ((m : ℕ) → length v ≤ word_length A (s ∷ x) + m → HasDegreeAtMost (r_along A (s ∷ x) v) m)
           → HasDegreeAtMost (plus (times_q_less_one (r_along A x v)) (times_q (r_along A (s ∷ x) v))) n
       longer zero near none low_x low_sx =
-          λ k above. step-none (r_along A x v) (r_along A (s ∷ x) v) (along-long x v (omega (arith, near))) (along-long (s ∷ x) v (omega (arith, near, longer-length A x s none))) k
+          λ k above. step-none (r_along A x v) (r_along A (s ∷ x) v) (along-long x v (omega (arith, near)))
+          (along-long (s ∷ x) v (omega (arith, near, longer-length A x s none))) k
       longer (suc n) near none low_x low_sx =
-          step-degree (r_along A x v) (r_along A (s ∷ x) v) n (low_x n (omega (arith, near))) (low_sx n (omega (arith, near, longer-length A x s none)))
+          step-degree (r_along A x v) (r_along A (s ∷ x) v) n (low_x n (omega (arith, near)))
+          (low_sx n (omega (arith, near, longer-length A x s none)))
 
   pub along-norm : (x v : List ℕ) (n : ℕ) → length v ≤ word_length A x + n → HasNormAtMost (r_along A x v) (3 ^ n)
   along-norm x [] n near = λ k. ⊎_elim (identity k) (other k) (cases_eq (word_length A x) 0)
@@ -122,7 +136,8 @@ module _ (A : IntegerMatrix) (g : IsAdmissible A) where
   along-norm x (s ∷ v) n near =
       ⊎_elim
       (λ (d : IsLeftDescent A x s). rw (along-shorter A x s v d) (along-norm (s ∷ x) v n (omega (arith, near, cons-word_length A g s x))))
-      (λ (none : IsLeftDescent A x s → ⊥). rw (along-longer A x s v none) (longer n near none (λ m near_x. along-norm x v m near_x) (λ m near_sx. along-norm (s ∷ x) v m near_sx)))
+      (λ (none : IsLeftDescent A x s → ⊥). rw (along-longer A x s v none)
+      (longer n near none (λ m near_x. along-norm x v m near_x) (λ m near_sx. along-norm (s ∷ x) v m near_sx)))
       (shortens A x s)
     where
       longer : (n : ℕ) → length (s ∷ v) ≤ word_length A x + n → (IsLeftDescent A x s → ⊥)
@@ -132,11 +147,13 @@ module _ (A : IntegerMatrix) (g : IsAdmissible A) where
       longer zero near none low_x low_sx = λ k.
           let nothing : HasNormAtMost (plus (times_q_less_one (r_along A x v)) (times_q (r_along A (s ∷ x) v))) 0
           = HasNormAtMost-same zero_polynomial (plus (times_q_less_one (r_along A x v)) (times_q (r_along A (s ∷ x) v))) 0
-          (λ j. sym (step-none (r_along A x v) (r_along A (s ∷ x) v) (along-long x v (omega (arith, near))) (along-long (s ∷ x) v (omega (arith, near, longer-length A x s none))) j))
+          (λ j. sym (step-none (r_along A x v) (r_along A (s ∷ x) v) (along-long x v (omega (arith, near)))
+          (along-long (s ∷ x) v (omega (arith, near, longer-length A x s none))) j))
           HasNormAtMost-zero
           in omega (arith, nothing k)
       longer (suc n) near none low_x low_sx =
-          step-norm (r_along A x v) (r_along A (s ∷ x) v) n (low_x n (omega (arith, near))) (low_sx n (omega (arith, near, longer-length A x s none)))
+          step-norm (r_along A x v) (r_along A (s ∷ x) v) n (low_x n (omega (arith, near)))
+          (low_sx n (omega (arith, near, longer-length A x s none)))
 
   -- ---- it depends on the element alone
 
@@ -155,7 +172,8 @@ module _ (A : IntegerMatrix) (g : IsAdmissible A) where
       let long : word_length A x ≡ word_length A y = word_length-equal A g e
       in let moved : word_length A (s ∷ x) ≡ word_length A (s ∷ y) = word_length-equal A g (same-cons A g s e)
       in ⊎_elim
-      (λ (d : IsLeftDescent A x s). along-shorter A x s v d ∙ along-same (same-cons A g s e) v ∙ sym (along-shorter A y s v (omega (arith, long, moved, d))))
+      (λ (d : IsLeftDescent A x s). along-shorter A x s v d ∙ along-same (same-cons A g s e) v
+      ∙ sym (along-shorter A y s v (omega (arith, long, moved, d))))
       (λ (n : IsLeftDescent A x s → ⊥). along-longer A x s v n
       ∙ ap (λ (f : Coefficients). plus (times_q_less_one f) (times_q (r_along A (s ∷ x) v))) (along-same e v)
       ∙ ap (λ (h : Coefficients). plus (times_q_less_one (r_along A y v)) (times_q h)) (along-same (same-cons A g s e) v)
@@ -184,20 +202,25 @@ module _ (A : IntegerMatrix) (g : IsAdmissible A) where
   up : (s : ℕ) (z v : List ℕ) → IsBelow A z v → IsBelow A z (s ∷ s ∷ v)
   up s z v b = below-same A g (same-refl A g z) (same-sym A g (same-square A g s v)) b
 
-  moved_not_below : (x : List ℕ) (s : ℕ) (v : List ℕ) → IsReduced A (s ∷ v) → IsLeftDescent A x s → (IsBelow A x (s ∷ v) → ⊥) → IsBelow A (s ∷ x) v → ⊥
+  moved_not_below : (x : List ℕ) (s : ℕ) (v : List ℕ) → IsReduced A (s ∷ v) → IsLeftDescent A x s → (IsBelow A x (s ∷ v) → ⊥)
+      → IsBelow A (s ∷ x) v → ⊥
   moved_not_below x s v r c not_below b = not_below ((lift_down A g x (s ∷ v) s (front-descent s v r) c).1 (up s (s ∷ x) v b))
 
-  still_not_below : (x : List ℕ) (s : ℕ) (v : List ℕ) → IsReduced A (s ∷ v) → (IsLeftDescent A x s → ⊥) → (IsBelow A x (s ∷ v) → ⊥) → IsBelow A x v → ⊥
+  still_not_below : (x : List ℕ) (s : ℕ) (v : List ℕ) → IsReduced A (s ∷ v) → (IsLeftDescent A x s → ⊥) → (IsBelow A x (s ∷ v) → ⊥)
+      → IsBelow A x v → ⊥
   still_not_below x s v r n not_below b = not_below ((lift_up A g x (s ∷ v) s (front-descent s v r) n).1 (up s x v b))
 
-  longer_not_below : (x : List ℕ) (s : ℕ) (v : List ℕ) → IsReduced A (s ∷ v) → (IsLeftDescent A x s → ⊥) → (IsBelow A x (s ∷ v) → ⊥) → IsBelow A (s ∷ x) v → ⊥
+  longer_not_below : (x : List ℕ) (s : ℕ) (v : List ℕ) → IsReduced A (s ∷ v) → (IsLeftDescent A x s → ⊥) → (IsBelow A x (s ∷ v) → ⊥)
+      → IsBelow A (s ∷ x) v → ⊥
   longer_not_below x s v r n not_below b =
       let l = left_descent-letter A g (s ∷ v) s (front-descent s v r)
-      in let rising : word_length A x < word_length A (s ∷ x) = ⊎_elim (λ e. omega (arith, e)) (λ e. absurd (n (omega (arith, e)))) (left_length A g s x l)
+      in let rising : word_length A x < word_length A (s ∷ x) = ⊎_elim (λ e. omega (arith, e)) (λ e. absurd (n (omega (arith, e))))
+      (left_length A g s x l)
       in still_not_below x s v r n not_below (below-trans A g (below-ascent A g x s l rising) b)
 
   pub along-not_below : (x v : List ℕ) → IsReduced A v → (IsBelow A x v → ⊥) → (k : ℕ) → r_along A x v k ≡ pos 0
-  along-not_below x [] r not_below k = ⊎_elim (λ e. absurd (not_below (below-refl A g (empty-same x e)))) other (cases_eq (word_length A x) 0)
+  along-not_below x [] r not_below k = ⊎_elim (λ e. absurd (not_below (below-refl A g (empty-same x e)))) other
+      (cases_eq (word_length A x) 0)
     where
       other : (word_length A x ≡ 0 → ⊥) → r_along A x [] k ≡ pos 0
       other ne = ap (λ (f : Coefficients). f k) (along-other A x (omega (arith, ne)))
@@ -206,6 +229,7 @@ module _ (A : IntegerMatrix) (g : IsAdmissible A) where
       (λ (c : IsLeftDescent A x s). ap (λ (f : Coefficients). f k) (along-shorter A x s v c)
       ∙ along-not_below (s ∷ x) v (IsReduced-tail A g s v r) (moved_not_below x s v r c not_below) k)
       (λ (n : IsLeftDescent A x s → ⊥). ap (λ (f : Coefficients). f k) (along-longer A x s v n)
-      ∙ step-none (r_along A x v) (r_along A (s ∷ x) v) (along-not_below x v (IsReduced-tail A g s v r) (still_not_below x s v r n not_below))
+      ∙ step-none (r_along A x v) (r_along A (s ∷ x) v)
+      (along-not_below x v (IsReduced-tail A g s v r) (still_not_below x s v r n not_below))
       (along-not_below (s ∷ x) v (IsReduced-tail A g s v r) (longer_not_below x s v r n not_below)) k)
       (shortens A x s)

@@ -6,7 +6,9 @@ pub mod PolynomialLemmas
 pub mod TermLemmas
 -- for code: when the lengths differ by too much
 pub mod DepthLemmas
--- one more letter of the word, for code
+-- for code: elements told by their heights
+pub mod ElementLemmas
+-- for code: layers, their links and values
+pub mod LayerLemmas
+-- for code: the values of a layer
 pub mod ValueLemmas
--- a map of values, at a look-up and with one more value
-pub mod KnownLemmas

@@ -1,9 +1,9 @@
 -- R of two elements, by the normal form.
-use Rattle.std.proofs.Common.{◌≡◌, ℕ, ◌+◌, ◌^◌, ◌<◌, ◌≤◌, List, ◌∷◌, length, pos, refl, ap, sym, ◌∙◌, ⊎_elim, arith}
+use Rattle.std.proofs.Common.{◌≡◌, ℕ, ◌+◌, ◌^◌, ◌<◌, ◌≤◌, List, ◌∷◌, pos, refl, ap, sym, ◌∙◌, ⊎_elim, arith}
 use Rattle.cox_base.specs.IntegerMatrix.{IntegerMatrix, IsAdmissible}
 use Rattle.cox_base.specs.Element.{SameElement}
 use Rattle.cox_base.specs.ShortLex.{normal_form}
-use Rattle.cox_base.specs.Length.{word_length, IsReduced, IsLeftDescent}
+use Rattle.cox_base.specs.Length.{word_length, IsLeftDescent}
 use Rattle.cox_base.specs.Bruhat.{IsBelow}
 use Rattle.cox_reflect.specs.Height.{IsLeastLeftDescent}
 use Rattle.cox_reflect.proofs.Elements.{same-refl, same-sym, same-square}
@@ -12,8 +12,9 @@ use Rattle.cox_reflect.proofs.Lengths.{word_length-is, IsReduced-normal_form}
 use Rattle.cox_reflect.proofs.Roots.{left_descent-letter}
 use Rattle.cox_reflect.proofs.Deletion.{left_length}
 use Rattle.cox_reflect.proofs.NormalForm.{normal_form-descent}
-use Rattle.cox_reflect.proofs.Bruhat.{below-same, below-length, below-equal_length}
-use Rattle.cox_poly.specs.Coefficients.{Coefficients, one_polynomial, plus, times_q, times_q_less_one, HasNormAtMost, HasDegreeAtMost}
+use Rattle.cox_reflect.proofs.Bruhat.{below-same}
+use Rattle.cox_poly.specs.Coefficients.{Coefficients, one_polynomial, plus, times_q, times_q_less_one}
+use Rattle.cox_poly.specs.Size.{HasNormAtMost, HasDegreeAtMost}
 use Rattle.cox_rpoly.specs.RPolynomial.{r_along, r_polynomial}
 use Rattle.cox_rpoly.proofs.AlongLemmas.{along-shorter, along-longer, along-same, along-itself, along-not_below, along-degree, along-norm}
 
@@ -34,16 +35,20 @@ module _ (A : IntegerMatrix) (g : IsAdmissible A) where
   pub r_polynomial-not_below : (x w : List ℕ) → (IsBelow A x w → ⊥) → (k : ℕ) → r_polynomial A x w k ≡ pos 0
   r_polynomial-not_below x w not_below k =
       ap (λ (f : Coefficients). f k) (r_polynomial-is A x w)
-      ∙ along-not_below A g x (normal_form A w) (IsReduced-normal_form A g w) (λ b. not_below (below-same A g (same-refl A g x) (normal_form-same A g w) b)) k
+      ∙ along-not_below A g x (normal_form A w) (IsReduced-normal_form A g w)
+      (λ b. not_below (below-same A g (same-refl A g x) (normal_form-same A g w) b)) k
 
   first : (w : List ℕ) (s : ℕ) → IsLeastLeftDescent A w s → normal_form A w ≡ s ∷ normal_form A (s ∷ w)
   first w s d = normal_form-descent A g w s d.descent (λ t l e. let k = d.least t e in omega (arith, k, l))
 
-  pub r_polynomial-shorter : (x w : List ℕ) (s : ℕ) → IsLeastLeftDescent A w s → IsLeftDescent A x s → r_polynomial A x w ≡ r_polynomial A (s ∷ x) (s ∷ w)
+  pub r_polynomial-shorter : (x w : List ℕ) (s : ℕ) → IsLeastLeftDescent A w s → IsLeftDescent A x s → r_polynomial A x w
+      ≡ r_polynomial A (s ∷ x) (s ∷ w)
   r_polynomial-shorter x w s d c =
-      r_polynomial-is A x w ∙ ap (r_along A x) (first w s d) ∙ along-shorter A x s (normal_form A (s ∷ w)) c ∙ sym (r_polynomial-is A (s ∷ x) (s ∷ w))
+      r_polynomial-is A x w ∙ ap (r_along A x) (first w s d) ∙ along-shorter A x s (normal_form A (s ∷ w)) c
+      ∙ sym (r_polynomial-is A (s ∷ x) (s ∷ w))
 
-  pub r_polynomial-moved : (x w : List ℕ) (s : ℕ) → IsLeastLeftDescent A w s → (IsLeftDescent A x s → ⊥) → r_polynomial A (s ∷ x) w ≡ r_polynomial A x (s ∷ w)
+  pub r_polynomial-moved : (x w : List ℕ) (s : ℕ) → IsLeastLeftDescent A w s → (IsLeftDescent A x s → ⊥) → r_polynomial A (s ∷ x) w
+      ≡ r_polynomial A x (s ∷ w)
   r_polynomial-moved x w s d n =
       let back : word_length A (s ∷ s ∷ x) ≡ word_length A x = word_length-equal A g (same-square A g s x)
       in let rising : word_length A x < word_length A (s ∷ x)
@@ -62,15 +67,12 @@ module _ (A : IntegerMatrix) (g : IsAdmissible A) where
   r_polynomial-norm x w n near = rw (r_polynomial-is A x w) (along-norm A g x (normal_form A w) n (omega (arith, near, word_length-is A w)))
 
   pub r_polynomial-degree : (x w : List ℕ) (n : ℕ) → word_length A w ≤ word_length A x + n → HasDegreeAtMost (r_polynomial A x w) n
-  r_polynomial-degree x w n near = rw (r_polynomial-is A x w) (along-degree A g x (normal_form A w) n (omega (arith, near, word_length-is A w)))
+  r_polynomial-degree x w n near = rw (r_polynomial-is A x w)
+      (along-degree A g x (normal_form A w) n (omega (arith, near, word_length-is A w)))
 
-  -- from the normal forms of both
-  pub r_polynomial-forms : (x w form_x form_w : List ℕ) → form_x ≡ normal_form A x → form_w ≡ normal_form A w → r_along A form_x form_w ≡ r_polynomial A x w
-  r_polynomial-forms x w form_x form_w e f = rw (e, f) (along-same A g (normal_form-same A g x) (normal_form A w) ∙ sym (r_polynomial-is A x w))
+  -- along the normal form of w
+  pub r_polynomial-form : (x w form : List ℕ) → form ≡ normal_form A w → r_along A x form ≡ r_polynomial A x w
+  r_polynomial-form x w form e = rw e (sym (r_polynomial-is A x w))
 
-  pub below-forms : (x w form_x form_w : List ℕ) → form_x ≡ normal_form A x → form_w ≡ normal_form A w → IsBelow A x w → IsBelow A form_x form_w
-  below-forms x w form_x form_w e f b = rw (e, f) (below-same A g (same-sym A g (normal_form-same A g x)) (same-sym A g (normal_form-same A g w)) b)
-
-  -- a reduced word that is below one that is no longer names its element
-  pub along-no_longer : (x v : List ℕ) → IsReduced A x → IsReduced A v → IsBelow A x v → length v ≤ length x → r_along A x v ≡ one_polynomial
-  along-no_longer x v r q b short = along-itself A g x v q (below-equal_length A g b (omega (arith, r, q, short, below-length A g b)))
+  pub below-form : (x w form : List ℕ) → form ≡ normal_form A w → IsBelow A x w → IsBelow A x form
+  below-form x w form e b = rw e (below-same A g (same-refl A g x) (same-sym A g (normal_form-same A g w)) b)

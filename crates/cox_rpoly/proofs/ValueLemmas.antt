@@ -1,78 +1,123 @@
--- Values along a reduced word, one letter more.
-use Rattle.std.proofs.Common.{◌≡◌, ℕ, ◌+◌, ◌-◌, ◌^◌, ◌<◌, ◌≤◌, List, [], ◌∷◌, length, drop, get_or, ℤ, pos, unsigned_abs, refl, ap, sym, ◌∙◌, arith, add-one, drop-cons, lit≤}
-use Rattle.std.proofs.lemmas.List.{length-drop}
+-- The values of a layer: at the end of the word, and by links to the values of the next.
+use Rattle.std.proofs.Common.{◌≡◌, ℕ, ◌+◌, ◌^◌, ◌<◌, ◌≤◌, Some, None, List, [], ◌∷◌, length, get_or, ℤ, ap, sym, ◌∙◌, arith, lit≤}
+use Rattle.std.specs.Prelude.{All}
 use Rattle.std.proofs.Math.Path.{fun_ext}
 use Rattle.cox_base.specs.IntegerMatrix.{IntegerMatrix, IsAdmissible}
-use Rattle.cox_base.specs.ShortLex.{normal_form}
 use Rattle.cox_base.specs.Length.{word_length, IsReduced, IsLeftDescent}
-use Rattle.cox_reflect.proofs.Search.{normal_form-same}
-use Rattle.cox_reflect.proofs.Lengths.{word_length-is}
 use Rattle.cox_poly.specs.Coefficients.{Coefficients, zero_polynomial, one_polynomial, plus, times_q, times_q_less_one}
 use Rattle.cox_poly.specs.Polynomial.{coefficient}
 use Rattle.cox_poly.proofs.Norms.{HasNormAtMost-coefficient}
+use Rattle.cox_rpoly.specs.declared.elements.Element.{Element}
+use Rattle.cox_rpoly.specs.declared.terms.Link.{Link}
+use Rattle.cox_rpoly.specs.declared.terms.Link.TheVariants.{Shorter, Longer}
 use Rattle.cox_rpoly.specs.RPolynomial.{r_along}
-use Rattle.cox_rpoly.specs.Value.{IsValue}
-use Rattle.cox_rpoly.proofs.AlongLemmas.{along-shorter, along-longer, along-same, along-long, along-identity, along-degree, along-norm}
+use Rattle.cox_rpoly.specs.Element.{IsElementOf}
+use Rattle.cox_rpoly.specs.Terms.{IsSmall, IsSmallAt, IsLinkWithin, numbered, linked_value, AreLinkedValues, AreOnes}
+use Rattle.cox_rpoly.specs.Layer.{IsMember, IsValue, AreValues, IsAt, IsLongerLink, IsLink, AreLinks}
+use Rattle.cox_rpoly.proofs.AlongLemmas.{along-identity, along-shorter, along-longer, along-not_below, along-degree, along-norm}
+use Rattle.cox_rpoly.proofs.AlongLemmas.{longer-length}
+use Rattle.cox_rpoly.proofs.ElementLemmas.{below_identity-length}
 
--- the letter that is next, and the rest
-letters-left : (form : List ℕ) (used s : ℕ) → used < length form → s ≡ get_or form used 0 → drop used form ≡ s ∷ drop (used + 1) form
-letters-left form used s more e = rw (e, add-one, drop-cons form used 0) refl
+-- the value of the element with a number
+value_at : (A : IntegerMatrix) (v : List ℕ) (layer : List Element) (values : List (List ℤ)) (i : ℕ) (x : Element)
+    → AreValues A v layer values → IsAt layer i x
+    → IsValue A v x (numbered values i)
+value_at A v layer values i x all a = rw (a.is x) at (all.each i x a.within)
 
 module _ (A : IntegerMatrix) (g : IsAdmissible A) where
-  -- no letters are left for x
-  pub IsValue-long : (form : List ℕ) (used : ℕ) (x : List ℕ) (p : List ℤ) → IsReduced A x → length form - used < length x
-      → ((k : ℕ) → coefficient p k ≡ zero_polynomial k) → IsValue A form used x p
-  IsValue-long form used x p r long e = record { at = λ k. e k ∙ sym (along-long A g x (drop used form) (omega (arith, r, long, length-drop used form)) k) }
-
-  -- no letters are left, and x is the identity
-  pub IsValue-end : (form : List ℕ) (used : ℕ) (x : List ℕ) (p : List ℤ) → IsReduced A x → length x ≤ length form - used → length form - used ≡ 0
-      → ((k : ℕ) → coefficient p k ≡ one_polynomial k) → IsValue A form used x p
-  IsValue-end form used x p r short none e = record { at = λ k. e k ∙ ap (λ (f : Coefficients). f k) (sym (whole (drop used form) (omega (arith, none, length-drop used form)))) }
-    where
-      whole : (v : List ℕ) → length v ≡ 0 → r_along A x v ≡ one_polynomial
-      whole [] l = along-identity A x (omega (arith, r, short, none))
-      whole (s ∷ v) l = absurd (omega (arith, l))
-
-  -- s shortens x: the value is that of s x
-  pub IsValue-shorter : (form : List ℕ) (used s : ℕ) (x moved : List ℕ) (p : List ℤ) → used < length form → s ≡ get_or form used 0 → IsReduced A x
-      → moved ≡ normal_form A (s ∷ x) → length moved < length x → IsValue A form (used + 1) moved p → IsValue A form used x p
-  IsValue-shorter form used s x moved p more e r is shorter v = record {
-    at = λ k.
-        let d : IsLeftDescent A x s = omega (arith, r, shorter, word_length-is A (s ∷ x), ap length is)
-        in v.at k ∙ ap (λ (f : Coefficients). f k) (ap (λ (u : List ℕ). r_along A u (drop (used + 1) form)) is
-        ∙ along-same A g (normal_form-same A g (s ∷ x)) (drop (used + 1) form) ∙ sym (along-shorter A x s (drop (used + 1) form) d)
-        ∙ ap (r_along A x) (sym (letters-left form used s more e)));
+  -- where no letters are left
+  pub IsValue-end : (x : Element) (p : List ℤ) → IsMember A [] x → ((k : ℕ) → coefficient p k ≡ one_polynomial k) → IsValue A [] x p
+  IsValue-end x p m one = record {
+    at = λ u e k. one k ∙ sym
+        (ap (λ (f : Coefficients). f k) (along-identity A u (below_identity-length A g m.word x m.of_word m.below u e)));
   }
 
-  -- it does not
-  pub IsValue-longer : (form : List ℕ) (used s : ℕ) (x moved : List ℕ) (before after p : List ℤ) → used < length form → s ≡ get_or form used 0 → IsReduced A x
-      → moved ≡ normal_form A (s ∷ x) → length x ≤ length moved → IsValue A form (used + 1) x before → IsValue A form (used + 1) moved after
-      → ((k : ℕ) → coefficient p k ≡ plus (times_q_less_one (coefficient before)) (times_q (coefficient after)) k) → IsValue A form used x p
-  IsValue-longer form used s x moved before after p more e r is longer vb va step = record { at = λ k. step k ∙ ap (λ (f : Coefficients). f k) whole }
-    where
-      none : IsLeftDescent A x s → ⊥
-      none d = omega (arith, d, r, longer, word_length-is A (s ∷ x), ap length is)
+  pub AreValues-end : (v : List ℕ) (layer : List Element) (values : List (List ℤ)) {n : ℕ} → length v ≡ 0 → All (IsMember A v) layer → n
+      ≡ length layer
+      → AreOnes n values → AreValues A v layer values
+  AreValues-end (s ∷ v) layer values none members count ones = absurd (omega (arith, none))
+  AreValues-end [] layer values none members count ones = record {
+    count = ones.count ∙ count;
+    each = λ i x below.
+        IsValue-end (get_or layer i x) (numbered values i) (members i x below) (λ k. ones.each i k (omega (arith, below, count)));
+  }
 
-      before-is : coefficient before ≡ r_along A x (drop (used + 1) form)
-      before-is = fun_ext vb.at
+  -- where at most 38 letters more are left than x has
+  IsSmall-value : (v : List ℕ) (x : Element) (p : List ℤ) (w : List ℕ) → IsValue A v x p → IsElementOf A w x
+      → length v ≤ word_length A w + 38 → IsSmall p
+  IsSmall-value v x p w value e near = record {
+    top = value.at w e 39 ∙ along-degree A g w v 38 near 39 (omega arith);
+    small = λ k.
+        let bound = HasNormAtMost-coefficient (r_along A w v) (3 ^ 38) (along-norm A g w v 38 near) k
+        in let power : 3 ^ 38 ≤ 2 ^ 61 = lit≤ tt
+        in rw (value.at w e k) (omega (arith, bound, power));
+  }
 
-      after-is : coefficient after ≡ r_along A (s ∷ x) (drop (used + 1) form)
-      after-is = fun_ext va.at ∙ ap (λ (u : List ℕ). r_along A u (drop (used + 1) form)) is ∙ along-same A g (normal_form-same A g (s ∷ x)) (drop (used + 1) form)
+  module _ (s : ℕ) (v : List ℕ) (x : Element) (next : List Element) (values : List (List ℤ)) (all : AreValues A v next values) where
+    small_still : (i : ℕ) → IsMember A (s ∷ v) x → IsLongerLink A s x next i → IsSmallAt values i
+    small_still i m l = record {
+      within = omega (arith, l.at.within, all.count);
+      small = IsSmall-value v x (numbered values i) m.word (value_at A v next values i x all l.at) m.of_word (omega (arith, m.near));
+    }
 
-      whole : plus (times_q_less_one (coefficient before)) (times_q (coefficient after)) ≡ r_along A x (drop used form)
-      whole =
-          ap (λ (f : Coefficients). plus (times_q_less_one f) (times_q (coefficient after))) before-is
-          ∙ ap (λ (h : Coefficients). plus (times_q_less_one (r_along A x (drop (used + 1) form))) (times_q h)) after-is
-          ∙ sym (along-longer A x s (drop (used + 1) form) none) ∙ ap (r_along A x) (sym (letters-left form used s more e))
+    pub IsLink-within : (l : Link) → IsMember A (s ∷ v) x → IsLink A s v x next l → IsLinkWithin values l
+    IsLink-within (Shorter i) m l = omega (arith, l.times.at.within, all.count)
+    IsLink-within (Longer i None) m l = small_still i m l.0
+    IsLink-within (Longer i (Some j)) m l = (
+      small_still i m l.0,
+      record {
+        within = omega (arith, l.1.at.within, all.count);
+        small = IsSmall-value v l.1.moved (numbered values j) (s ∷ m.word) (value_at A v next values j l.1.moved all l.1.at)
+            (l.1.moves m.word m.of_word)
+            (omega (arith, m.near, longer-length A m.word s (l.0.ascent m.word m.of_word)));
+      },
+    )
 
-  -- a value has small coefficients, and none at 39, where at most 38 letters more are left than x has
-  pub IsValue-small : (form : List ℕ) (used : ℕ) (x : List ℕ) (p : List ℤ) → IsValue A form used x p → length form ≤ used + word_length A x + 38
-      → (k : ℕ) → unsigned_abs (coefficient p k) ≤ 2 ^ 61
-  IsValue-small form used x p v near k =
-      let bound = HasNormAtMost-coefficient (r_along A x (drop used form)) (3 ^ 38) (along-norm A g x (drop used form) 38 (omega (arith, near, length-drop used form))) k
-      in let power : 3 ^ 38 ≤ 2 ^ 61 = lit≤ tt
-      in rw (v.at k) (omega (arith, bound, power))
+    -- (q-1) R(x,v) + q R(sx,v) is R(x,sv)
+    longer : (u : List ℕ) (f h : Coefficients) → (IsLeftDescent A u s → ⊥) → f ≡ r_along A u v → h ≡ r_along A (s ∷ u) v
+        → plus (times_q_less_one f) (times_q h) ≡ r_along A u (s ∷ v)
+    longer u f h none e d = rw (e, d) (sym (along-longer A u s v none))
 
-  pub IsValue-top : (form : List ℕ) (used : ℕ) (x : List ℕ) (p : List ℤ) → IsValue A form used x p → length form ≤ used + word_length A x + 38
-      → coefficient p 39 ≡ pos 0
-  IsValue-top form used x p v near = v.at 39 ∙ along-degree A g x (drop used form) 38 (omega (arith, near, length-drop used form)) 39 (omega arith)
+    still : (i : ℕ) (u : List ℕ) → IsLongerLink A s x next i → IsElementOf A u x → coefficient (numbered values i) ≡ r_along A u v
+    still i u l e = fun_ext ((value_at A v next values i x all l.at).at u e)
+
+    pub IsLink-value : (l : Link) (p : List ℤ) → IsReduced A v → IsLink A s v x next l
+        → ((k : ℕ) → coefficient p k ≡ linked_value values l k)
+        → IsValue A (s ∷ v) x p
+    IsLink-value (Shorter i) p r l step = record {
+      at = λ u e k.
+          step k ∙ (value_at A v next values i l.times.moved all l.times.at).at (s ∷ u) (l.times.moves u e) k
+          ∙ sym (ap (λ (f : Coefficients). f k) (along-shorter A u s v (l.descent u e)));
+    }
+    IsLink-value (Longer i None) p r l step = record {
+      at = λ u e k.
+          let none : zero_polynomial ≡ r_along A (s ∷ u) v = fun_ext (λ j. sym (along-not_below A g (s ∷ u) v r (l.1 u e) j))
+          in step k ∙ ap (λ (f : Coefficients). f k) (longer u _ _ (l.0.ascent u e) (still i u l.0 e) none);
+    }
+    IsLink-value (Longer i (Some j)) p r l step = record {
+      at = λ u e k.
+          let moved : coefficient (numbered values j) ≡ r_along A (s ∷ u) v
+          = fun_ext ((value_at A v next values j l.1.moved all l.1.at).at (s ∷ u) (l.1.moves u e))
+          in step k ∙ ap (λ (f : Coefficients). f k) (longer u _ _ (l.0.ascent u e) (still i u l.0 e) moved);
+    }
+
+  -- ---- a whole layer
+
+  module _ (s : ℕ) (v : List ℕ) (layer next : List Element) (links : List Link) (values : List (List ℤ))
+      (are : AreLinks A s v layer next links)
+      (all : AreValues A v next values) where
+    pub AreLinks-within : All (IsMember A (s ∷ v)) layer → All (IsLinkWithin values) links
+    AreLinks-within members k d below =
+        let z : Element = record { heights = [] }
+        in let inside : k < length layer = omega (arith, below, are.count)
+        in IsLink-within s v (get_or layer k z) next values all (get_or links k d) (members k z inside) (are.each k z d inside)
+
+    pub AreLinks-values : (mine : List (List ℤ)) → IsReduced A v → AreLinkedValues links values mine → AreValues A (s ∷ v) layer mine
+    AreLinks-values mine r linked = record {
+      count = linked.count ∙ are.count;
+      each = λ i x below.
+          let inside : i < length links = omega (arith, below, are.count)
+          in IsLink-value s v (get_or layer i x) next values all (get_or links i (Shorter 0)) (numbered mine i) r
+          (are.each i x (Shorter 0) below)
+          (λ k. linked.each i (Shorter 0) k inside);
+    }

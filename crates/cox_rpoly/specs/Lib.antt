@@ -1,8 +1,10 @@
--- R-polynomials
+-- R-polynomials: what is computed
 pub mod RPolynomial
--- where the lengths differ by too much
+-- where they are not computed
 pub mod Depth
--- what a value along a reduced word is
-pub mod Value
--- what the values that are kept are
-pub mod Known
+-- for code: elements and their words
+pub mod Element
+-- for code: values by links
+pub mod Terms
+-- for code: layers, their values and links
+pub mod Layer

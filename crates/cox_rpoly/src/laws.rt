@@ -6,7 +6,8 @@ ghost use Rattle.cox_base.specs.Element.{SameElement};
 ghost use Rattle.cox_base.specs.IntegerMatrix.{IntegerMatrix, IsAdmissible};
 ghost use Rattle.cox_base.specs.Length.{word_length, IsLeftDescent};
 ghost use Rattle.cox_reflect.specs.Height.{IsLeastLeftDescent};
-ghost use Rattle.cox_poly.specs.Coefficients.{zero_polynomial, one_polynomial, plus, times_q, times_q_less_one, HasNormAtMost, HasDegreeAtMost};
+ghost use Rattle.cox_poly.specs.Coefficients.{zero_polynomial, one_polynomial, plus, times_q, times_q_less_one};
+ghost use Rattle.cox_poly.specs.Size.{HasNormAtMost, HasDegreeAtMost};
 ghost use Rattle.cox_rpoly.specs.RPolynomial.{r_polynomial};
 
 /// R(w,w) = 1, and R(x,w) = 0 unless x <= w.

@@ -1,30 +1,33 @@
 //! R-polynomials of Coxeter groups (Kazhdan and Lusztig 1979; Humphreys, "Reflection Groups and Coxeter Groups", 7.4, 7.5).
 //!
-//! [`r`] computes R(y,w) for words of at most 63 letters, where the lengths differ by at most 39: then the coefficients have 64 bits. It
-//! goes along the reduced word of w, and computes each value that it needs once. It stands on `cox_reflect` for normal forms and Bruhat
-//! order and on `cox_poly` for polynomials.
+//! [`r`] computes R(y,w) for words of at most 63 letters, where the lengths differ by at most [`MAX_DIFFERENCE`]: then the coefficients
+//! have 64 bits. It goes along the reduced word of w, layer by layer, and meets each element that is below what is left of the word once.
+//! It stands on `cox_reflect` for heights and Bruhat order, on `cox_poly` for polynomials, and on `indexmap` for the elements of a layer.
 //!
 //! - `laws`: R(w,w) = 1, R(x,w) = 0 unless x <= w, the recursion, and how large the coefficients get
 //! - `polynomial`: R of two words
-//! - `values`: the values along a reduced word
-//! - `known`: the values that are kept, each for the letters used and an element
-//! - `terms`: polynomials of a degree of at most 39
-//! - `fault`: why R is not given
+//! - `layers`: the values along a reduced word
+//! - `elements`: elements, and what is asked of them
+//! - `terms`: polynomials of a small degree
+//! - `r_fault`: why R is not given
 #![tactic(auto)]
 
 use std::alloc::AllocError;
 
-mod fault;
-mod known;
+mod elements;
 pub mod laws;
+mod layers;
 mod polynomial;
+mod r_fault;
 mod terms;
 #[cfg(test)]
 mod tests;
-mod values;
 
-pub use fault::RFault;
 pub use polynomial::r;
+pub use r_fault::RFault;
 
-/// Want of memory.
+/// The greatest difference of the lengths at which R is computed. The absolute coefficients add up to at most 3^39 then, which has 62 bits.
+pub const MAX_DIFFERENCE: usize = 39;
+
+/// Out of memory.
 pub type NoMemory = AllocError;

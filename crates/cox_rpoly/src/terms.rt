@@ -1,23 +1,36 @@
-//! Polynomials of a degree of at most 39, by their coefficients from the constant one up.
-ghost use Rattle.std.specs.Prelude.{◌≡◌, ℕ, ◌+◌, ◌^◌, ◌<◌, ◌≤◌, pos, unsigned_abs};
+//! Polynomials of a degree of at most [`MAX_DIFFERENCE`], by their coefficients from the constant one up, and the values of a layer by links.
+ghost use Rattle.std.specs.Prelude.{◌≡◌, ℕ, ◌+◌, ◌^◌, ◌<◌, ◌≤◌, pos, unsigned_abs, All, IfOk};
 ghost use Rattle.cox_poly.specs.Coefficients.{zero_polynomial, one_polynomial, plus, times_q, times_q_less_one};
 ghost use Rattle.cox_poly.specs.Polynomial.{coefficient};
+ghost use Rattle.cox_rpoly.specs.Terms.{IsSmall, IsLinkWithin, linked_value, AreLinkedValues, AreOnes};
+
+use crate::{MAX_DIFFERENCE, NoMemory};
+use std::alloc::Global;
 
 /// How many coefficients there are.
-pub(crate) const TERMS: usize = 40;
+const TERMS: usize = MAX_DIFFERENCE + 1;
 
-/// The coefficients of q^0, q^1, .., q^39.
+/// The coefficients of q^0, q^1, ..
 pub(crate) type Terms = [i64; TERMS];
 
+/// Where the value R(x,su) comes from, among the values R(y,u).
+#[derive(Clone, Copy)]
+pub(crate) enum Link {
+    /// s shortens x: it is the value with this number, which is that of s x.
+    Shorter(usize),
+    /// It doesn't: the numbers of the values of x and, where it isn't 0, of s x.
+    Longer(usize, Option<usize>),
+}
+
 /// The polynomial 0.
-pub(crate) fn zero() -> Terms
+fn zero() -> Terms
     ensures { (k : ℕ) → coefficient result k ≡ zero_polynomial k }
 {
     [0; TERMS]
 }
 
 /// The polynomial 1.
-pub(crate) fn one() -> Terms
+fn one() -> Terms
     ensures { (k : ℕ) → coefficient result k ≡ one_polynomial k }
 {
     let mut terms = [0; TERMS];
@@ -25,12 +38,47 @@ pub(crate) fn one() -> Terms
     terms
 }
 
-/// (q - 1) f + q h, of a degree of at most 39 too.
-pub(crate) fn combined(f: &Terms, h: &Terms) -> Terms
-    requires top_f { coefficient f.now 39 ≡ pos 0 }
-    requires top_h { coefficient h.now 39 ≡ pos 0 }
-    requires small_f { (k : ℕ) → unsigned_abs (coefficient f.now k) ≤ 2 ^ 61 }
-    requires small_h { (k : ℕ) → unsigned_abs (coefficient h.now k) ≤ 2 ^ 61 }
+/// So many polynomials 1.
+pub(crate) fn ones(alloc: Global, n: usize) -> Result<Vec<Terms>, NoMemory>
+    ensures { IfOk result (λ values. AreOnes n values.items) }
+{
+    let mut values = Vec::new(alloc);
+    values.resize(n, one())?;
+    Ok(values)
+}
+
+/// The values of a layer, by their links to the values of the next.
+pub(crate) fn terms_of_links(
+    alloc: Global,
+    links: &[Link],
+    next: &[Terms],
+) -> Result<Vec<Terms>, NoMemory>
+    requires { All (IsLinkWithin next.now) links.now }
+    ensures { IfOk result (λ values. AreLinkedValues links.now next.now values.items) }
+{
+    let mut values = Vec::with_capacity(alloc, links.len())?;
+    for link in links {
+        values.push(linked(*link, next))?;
+    }
+    Ok(values)
+}
+
+/// The value that a link leads to.
+fn linked(link: Link, next: &[Terms]) -> Terms
+    requires { IsLinkWithin next.now link }
+    ensures { (k : ℕ) → coefficient result k ≡ linked_value next.now link k }
+{
+    match link {
+        Link::Shorter(moved) => next[moved],
+        Link::Longer(still, None) => combined(&next[still], &zero()),
+        Link::Longer(still, Some(moved)) => combined(&next[still], &next[moved]),
+    }
+}
+
+/// (q - 1) f + q h, of a degree of at most [`MAX_DIFFERENCE`] too.
+fn combined(f: &Terms, h: &Terms) -> Terms
+    requires small_f { IsSmall f.now }
+    requires small_h { IsSmall h.now }
     ensures { (k : ℕ) → coefficient result k ≡ plus (times_q_less_one (coefficient f.now)) (times_q (coefficient h.now)) k }
 {
     let mut terms = [0; TERMS];

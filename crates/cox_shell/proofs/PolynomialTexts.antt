@@ -8,7 +8,7 @@ use Rattle.cox_base.specs.ShortLex.{normal_form}
 use Rattle.cox_base.specs.Length.{word_length}
 use Rattle.cox_poly.specs.Coefficients.{Coefficients}
 use Rattle.cox_poly.specs.Polynomial.{coefficient, SameCoefficients}
-use Rattle.cox_poly.specs.Text.{terms_text, polynomial_text}
+use Rattle.cox_poly.specs.PolynomialText.{terms_text, polynomial_text}
 use Rattle.cox_rpoly.specs.RPolynomial.{r_along, r_polynomial}
 use Rattle.cox_rpoly.proofs.AlongLemmas.{along-identity, along-other, along-shorter, along-longer, shortens}
 use Rattle.cox_rpoly.proofs.PolynomialLemmas.{r_polynomial-is}

@@ -25,7 +25,7 @@ use Rattle.cox_context.specs.SortedList.{IsListOf, HasMoreThan}
 use Rattle.cox_context.specs.Interval.{IsBetween, IsCoatom, counts_by_length}
 use Rattle.cox_context.proofs.IntervalLemmas.{is_below, is_below-tells, between-of, coatoms-of, interval-decided}
 use Rattle.cox_rpoly.specs.Depth.{IsDeep}
-use Rattle.cox_poly.specs.Text.{polynomial_text}
+use Rattle.cox_poly.specs.PolynomialText.{polynomial_text}
 use Rattle.cox_print.specs.Text.{element_text, descent_text, truth_text, numbers_text}
 use Rattle.cox_shell.specs.Reply.{Limits, State, Reply, rank_of, with_group, refusal, silence, farewell, answered}
 use Rattle.cox_shell.specs.CommandReply.{elements_text, r_coefficients, RefusesInterval, RefusesOne, RefusesTwo, is_over_limit, IsAllowed, IsWordReply, IsOneText, IsTwoText, IsOneReply, IsTwoReply, IsCommandReply}

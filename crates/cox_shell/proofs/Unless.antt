@@ -1,9 +1,9 @@
 -- Texts that are put unless a number refuses them.
 use Rattle.std.proofs.Common.{◌≡◌, ℕ, ◌↔◌, List, [], ◌++◌, Result, Ok, Err, IsOk, inl, inr, refl, sym, ap, ◌∙◌, append_assoc}
 use Rattle.std.proofs.lemmas.List.{append-nil}
-use Rattle.cox_rpoly.specs.declared.fault.RFault.{RFault}
-use Rattle.cox_rpoly.specs.declared.fault.RFault.TheVariants.{Deep}
-use Rattle.cox_rpoly.specs.declared.fault.RFault.TheVariants as fault
+use Rattle.cox_rpoly.specs.declared.r_fault.RFault.{RFault}
+use Rattle.cox_rpoly.specs.declared.r_fault.RFault.TheVariants.{Deep}
+use Rattle.cox_rpoly.specs.declared.r_fault.RFault.TheVariants as fault
 use Rattle.cox_poly.specs.Puts.{PutsFront}
 use Rattle.cox_poly.proofs.Behind.{PutsFront-first, PutsFront-second}
 use Rattle.cox_shell.specs.declared.answers.unanswered.Unanswered.{Unanswered}

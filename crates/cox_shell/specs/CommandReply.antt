@@ -12,7 +12,7 @@ use Rattle.cox_command.specs.declared.command.TwoWord.{TwoWord}
 use Rattle.cox_command.specs.declared.command.TwoWord.TheVariants.{Inorder, Interval, Rpol}
 use Rattle.cox_command.specs.declared.command.Command.{Command}
 use Rattle.cox_command.specs.declared.command.Command.TheVariants as asks
-use Rattle.cox_poly.specs.Text.{polynomial_text}
+use Rattle.cox_poly.specs.PolynomialText.{polynomial_text}
 use Rattle.cox_rpoly.specs.RPolynomial.{r_polynomial}
 use Rattle.cox_rpoly.specs.Depth.{IsDeep}
 use Rattle.cox_context.specs.Members.{IsInInterval}

@@ -1,3 +1,4 @@
+-- Each sum fits, and the list has one more of the new sums.
 use Rattle.std.proofs.Common.{◌≡◌, ◌+◌, ◌+ℤ◌, ◌*ℤ◌, arith, rules, FitsSigned, w64}
 use Rattle.std.specs.Int.{w128}
 use Rattle.std.proofs.lemmas.Int.{ints, to_z-of_z}
@@ -6,7 +7,8 @@ use Rattle.cox_poly.proofs.Sums.{Added-more, Added-room}
 use Rattle.cox_poly.proofs.accumulator.add_into.Goals as goal
 
 -- the sum that is written fits, and is what it says
-new_sum : (c : goal.After-sums-1) → FitsSigned w128 (coefficient c.loop-i.sums (c.args.shift + c.loop-i.i) +ℤ c.product.result) × (c.product.result ≡ c.args.factor *ℤ coefficient c.args.coefficients.now c.loop-i.i)
+new_sum : (c : goal.After-sums-1) → FitsSigned w128 (coefficient c.loop-i.sums (c.args.shift + c.loop-i.i) +ℤ c.product.result)
+    × (c.product.result ≡ c.args.factor *ℤ coefficient c.args.coefficients.now c.loop-i.i)
 new_sum c =
     let factor_fits : FitsSigned w64 c.args.factor = c.ranges.factor in
     let entry_fits : FitsSigned w64 (coefficient c.args.coefficients.now c.loop-i.i) = search rules in

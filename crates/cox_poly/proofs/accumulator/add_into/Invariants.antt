@@ -1,3 +1,4 @@
+-- The sums at the powers so far have what was added.
 use Rattle.cox_poly.proofs.Sums.{Added}
 use Rattle.cox_poly.proofs.accumulator.add_into.Given as goal
 

@@ -1,3 +1,4 @@
+-- The sums so far are within the limit, and the last one that is not 0 is known.
 use Rattle.cox_poly.proofs.Measured.{TrimmedWithin}
 use Rattle.cox_poly.proofs.accumulator.measure.Given as goal
 

@@ -1,3 +1,4 @@
+-- The list has the sums so far.
 use Rattle.std.proofs.Common.{◌≡◌, take}
 use Rattle.cox_poly.proofs.accumulator.narrowed_list.Given as goal
 

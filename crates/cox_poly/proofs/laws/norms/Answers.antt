@@ -1,5 +1,7 @@
+-- The lemmas on sums of absolute coefficients.
 use Rattle.std.proofs.Common.{arith}
-use Rattle.cox_poly.proofs.Norms.{HasNormAtMost-coefficient, HasNormAtMost-plus, HasNormAtMost-times_q, HasNormAtMost-times_q_less_one, HasNormAtMost-product}
+use Rattle.cox_poly.proofs.Norms.{HasNormAtMost-coefficient, HasNormAtMost-plus, HasNormAtMost-times_q, HasNormAtMost-times_q_less_one}
+use Rattle.cox_poly.proofs.Norms.{HasNormAtMost-product}
 use Rattle.cox_poly.proofs.laws.norms.Goals as goal
 
 pub returns : goal.returns

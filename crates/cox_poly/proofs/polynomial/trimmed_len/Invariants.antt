@@ -1,3 +1,4 @@
+-- The last of the coefficients so far that is not 0 is known.
 use Rattle.cox_poly.proofs.Measured.{TrimmedSmall}
 use Rattle.cox_poly.proofs.polynomial.trimmed_len.Given as goal
 

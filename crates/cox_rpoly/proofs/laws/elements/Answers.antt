@@ -1,3 +1,4 @@
+-- R depends on the elements alone.
 use Rattle.std.proofs.Common.{ap}
 use Rattle.cox_poly.specs.Coefficients.{Coefficients}
 use Rattle.cox_rpoly.proofs.PolynomialLemmas.{r_polynomial-same}

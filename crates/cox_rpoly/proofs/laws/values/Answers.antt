@@ -1,3 +1,4 @@
+-- R is 1 at equal elements, and 0 unless below.
 use Rattle.std.proofs.Common.{ap}
 use Rattle.cox_poly.specs.Coefficients.{Coefficients}
 use Rattle.cox_reflect.proofs.Elements.{same-refl}

@@ -1,3 +1,4 @@
+-- The coefficients so far are those of the sum.
 use Rattle.cox_rpoly.proofs.TermLemmas.{IsCombined}
 use Rattle.cox_rpoly.proofs.terms.combined.Given as goal
 

@@ -1,3 +1,4 @@
+-- The list of 1 and zeros is the polynomial 1.
 use Rattle.cox_rpoly.proofs.TermLemmas.{coefficient-one}
 use Rattle.cox_rpoly.proofs.terms.one.Goals as goal
 

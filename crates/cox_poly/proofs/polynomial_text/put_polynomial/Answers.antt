@@ -1,0 +1,37 @@
+-- The terms so far are put, and at the end all of them are.
+use Rattle.std.proofs.Common.{[], ap, arith, codes, rules, FitsSigned, w64, of_z}
+use Rattle.std.proofs.lemmas.Int.{ints, to_z-of_z}
+use Rattle.cox_poly.specs.Polynomial.{coefficient}
+use Rattle.cox_poly.specs.PolynomialText.{listed_term_text}
+use Rattle.cox_poly.proofs.Behind.{Puts-failed}
+use Rattle.cox_poly.proofs.Terms.{Written-more, Written-front, Written-zero, rest_text-term, rest_text-zero}
+use Rattle.cox_poly.proofs.polynomial_text.put_polynomial.Goals as goal
+use Rattle.cox_poly.proofs.polynomial_text.put_polynomial.Goals.{then-c-ne0+in_ok-put_listed_term, else-c-ne0}
+
+pub returns-in_err-put_listed_term : goal.returns-in_err-put_listed_term
+returns-in_err-put_listed_term c =
+    let p = c.args.coefficients.now in
+    let k = c.loop-k.k in
+    let fits : FitsSigned w64 (coefficient p k) = search rules in
+    let put = simp to_z-of_z at c.in_err-put_listed_term.ensures in
+    let split = rest_text-term p k c.loop-k.first (omega arith) (λ e. c.if-c-ne0.true (ap (of_z w64) e)) in
+    Puts-failed _ _ _ _ (search rules)
+    (Written-front _ (listed_term_text c.loop-k.first (k, coefficient p k)) _ c.loop-k.invariant put split)
+
+pub loop-k-preserved : goal.loop-k-preserved
+loop-k-preserved c =
+    let p = c.args.coefficients.now in
+    let k = c.loop-k.k in
+    let fits : FitsSigned w64 (coefficient p k) = search rules in
+    elim c.if-c-ne0.branch [
+      | then-c-ne0+in_ok-put_listed_term w ↦
+          let put = simp to_z-of_z at w.in_ok-put_listed_term.ensures in
+          let split = rest_text-term p k c.loop-k.first (omega arith) (λ e. w.if-c-ne0.true (ap (of_z w64) e)) in
+          rw (w.out-is, w.first-is) (Written-more _ (listed_term_text c.loop-k.first (k, coefficient p k)) _ c.loop-k.invariant put split)
+      | else-c-ne0 w ↦ rw (w.out-is, w.first-is) (Written-zero p k c.loop-k.first (omega arith) (omega (arith, ints)) c.loop-k.invariant)
+    ]
+
+pub returns-in_err-put_text : goal.returns-in_err-put_text
+returns-in_err-put_text c =
+    let split = rest_text-zero c.args.coefficients.now c.loop-k.k c.loop-k.first (search rules) (omega arith) in
+    Puts-failed _ _ _ _ (search rules) (Written-front _ (codes "0") [] c.loop-k.invariant c.in_err-put_text.ensures split)

@@ -1,0 +1,84 @@
+//! The text of a polynomial: its terms by rising degree.
+ghost use Rattle.cox_poly.specs.Puts.{Puts};
+ghost use Rattle.cox_poly.specs.PolynomialText.{power_text, factor_text, term_text, plus_text, next_term_text, listed_term_text, polynomial_text};
+
+use crate::NoMemory;
+use crate::append::{put_number, put_text};
+
+// The power of q at degree k.
+fn put_power(out: &mut Vec<u8>, k: usize) -> Result<(), NoMemory>
+    ensures { Puts result (power_text k) out.old.items out.new.items }
+{
+    if k == 0 {
+        Ok(())
+    } else if k == 1 {
+        put_text(out, b"q")
+    } else {
+        put_text(out, b"q^")?;
+        put_number(out, k as i128)
+    }
+}
+
+// What stands before the power of q.
+fn put_factor(out: &mut Vec<u8>, k: usize, c: i64) -> Result<(), NoMemory>
+    ensures { Puts result (factor_text k c) out.old.items out.new.items }
+{
+    if k != 0 && c == 1 {
+        Ok(())
+    } else if k != 0 && c == -1 {
+        put_text(out, b"-")
+    } else {
+        put_number(out, i128::from(c))
+    }
+}
+
+// The term c q^k.
+fn put_term(out: &mut Vec<u8>, k: usize, c: i64) -> Result<(), NoMemory>
+    ensures { Puts result (term_text (k, c)) out.old.items out.new.items }
+{
+    put_factor(out, k, c)?;
+    put_power(out, k)
+}
+
+// What stands before a term after the first.
+fn put_plus(out: &mut Vec<u8>, c: i64) -> Result<(), NoMemory>
+    ensures { Puts result (plus_text c) out.old.items out.new.items }
+{
+    if c > 0 { put_text(out, b"+") } else { Ok(()) }
+}
+
+// The term c q^k after another one.
+fn put_next_term(out: &mut Vec<u8>, k: usize, c: i64) -> Result<(), NoMemory>
+    ensures { Puts result (next_term_text (k, c)) out.old.items out.new.items }
+{
+    put_plus(out, c)?;
+    put_term(out, k, c)
+}
+
+// The term c q^k, the first or not.
+fn put_listed_term(out: &mut Vec<u8>, first: bool, k: usize, c: i64) -> Result<(), NoMemory>
+    ensures { Puts result (listed_term_text first (k, c)) out.old.items out.new.items }
+{
+    if first {
+        put_term(out, k, c)
+    } else {
+        put_next_term(out, k, c)
+    }
+}
+
+// The text of the polynomial with these coefficients.
+pub(crate) fn put_polynomial(out: &mut Vec<u8>, coefficients: &[i64]) -> Result<(), NoMemory>
+    ensures { Puts result (polynomial_text coefficients.now) out.old.items out.new.items }
+{
+    let mut first = true;
+    for (k, c) in coefficients.iter().enumerate() {
+        if *c != 0 {
+            put_listed_term(out, first, k, *c)?;
+            first = false;
+        }
+    }
+    if first {
+        put_text(out, b"0")?;
+    }
+    Ok(())
+}
