@@ -1,5 +1,5 @@
 -- Bruhat order by lifting, letter by letter of a reduced word.
-use Rattle.std.proofs.Common.{◌≡◌, ℕ, ◌≤◌, Bool, true, false, not, IsTrue, Option, Some, None, is_some, MatchOption, List, [], ◌∷◌, ◌++◌, length, take, drop, ℤ, ◌↔◌, refl, arith, slice_index, add-one, drop-cons, sym, ◌∙◌, ◌<◌, ◌+◌}
+use Rattle.std.proofs.Common.{◌≡◌, ℕ, ◌≤◌, Bool, true, false, not, IsTrue, Option, Some, None, is_some, MatchOption, List, [], ◌∷◌, ◌++◌, length, take, drop, ◌↔◌, refl, arith, slice_index, add-one, drop-cons, sym, ◌∙◌, ◌<◌, ◌+◌}
 use Rattle.std.proofs.lemmas.Bool.{false≢true}
 use Rattle.std.proofs.lemmas.List.{take-append-drop}
 use Rattle.cox_base.specs.Matrix.{CoxeterMatrix, IsCoxeterMatrix, IsLetter}
@@ -7,18 +7,19 @@ use Rattle.cox_base.specs.IntegerMatrix.{IntegerMatrix, IsAdmissible, integer_ma
 use Rattle.cox_base.specs.ShortLex.{normal_form}
 use Rattle.cox_base.specs.Length.{word_length, IsReduced, IsLeftDescent}
 use Rattle.cox_base.specs.Bruhat.{IsBelow}
-use Rattle.cox_reflect.specs.Height.{AreHeights, HasRoom, IsLeastLeftDescent}
+use Rattle.cox_reflect.specs.declared.heights.Heights.{Heights}
+use Rattle.cox_reflect.specs.Height.{AreHeights, CanPrepend, IsLeastLeftDescent}
 use Rattle.cox_reflect.proofs.Elements.{same-refl, same-sym, same-trans, same-equal, same-square}
 use Rattle.cox_reflect.proofs.Search.{normal_form-same, IsWord-normal_form, word_length-equal, word_length-length}
 use Rattle.cox_reflect.proofs.Lengths.{IsReduced-back, IsReduced-normal_form}
 use Rattle.cox_reflect.proofs.NormalForm.{normal_form-no_descent}
 use Rattle.cox_reflect.proofs.Admissible.{IsAdmissible-integer_matrix}
-use Rattle.cox_reflect.proofs.HeightLemmas.{HasRoom-descent}
+use Rattle.cox_reflect.proofs.HeightLemmas.{CanPrepend-descent}
 use Rattle.cox_reflect.proofs.FormLemmas.{Prepends}
 use Rattle.cox_reflect.proofs.Bruhat.{below-same, below-refl, below-length, lift_down, lift_up}
 
 -- y <= w is settled by the order of what is left of y and of w, and the heights are those of what is left of y
-pub record IsLifted (A : IntegerMatrix) (y w rest : List ℕ) (heights : List ℤ) : Type 0 where
+pub record IsLifted (A : IntegerMatrix) (y w rest : List ℕ) (heights : Heights) : Type 0 where
   pub left : List ℕ
   pub heights_of : AreHeights A left heights
   pub short : word_length A left ≤ 63
@@ -36,9 +37,9 @@ module _ (A : IntegerMatrix) (g : IsAdmissible A) where
   )
 
   -- s shortens what is left of y: it goes
-  IsLifted-down : (y w front : List ℕ) (s : ℕ) (v : List ℕ) (heights : List ℤ) (c : IsLifted A y w front heights) → front ≡ s ∷ v
+  IsLifted-down : (y w front : List ℕ) (s : ℕ) (v : List ℕ) (heights : Heights) (c : IsLifted A y w front heights) → front ≡ s ∷ v
       → IsReduced A front → IsLeftDescent A c.left s
-      → (next : List ℤ) → AreHeights A (s ∷ c.left) next → IsLifted A y w v next
+      → (next : Heights) → AreHeights A (s ∷ c.left) next → IsLifted A y w v next
   IsLifted-down y w front s v heights c e r d next a =
       let before : IsBelow A y w ↔ IsBelow A c.left (s ∷ v) = rw e at c.settles
       in let step = lift_down A g c.left (s ∷ v) s (front-descent s v (rw e at r)) d
@@ -50,7 +51,7 @@ module _ (A : IntegerMatrix) (g : IsAdmissible A) where
       }
 
   -- it does not: it stays
-  IsLifted-up : (y w front : List ℕ) (s : ℕ) (v : List ℕ) (heights : List ℤ) (c : IsLifted A y w front heights) → front ≡ s ∷ v
+  IsLifted-up : (y w front : List ℕ) (s : ℕ) (v : List ℕ) (heights : Heights) (c : IsLifted A y w front heights) → front ≡ s ∷ v
       → IsReduced A front → (IsLeftDescent A c.left s → ⊥)
       → IsLifted A y w v heights
   IsLifted-up y w front s v heights c e r none =
@@ -63,7 +64,7 @@ module _ (A : IntegerMatrix) (g : IsAdmissible A) where
         settles = (λ b. (below-drop s c.left v).0 (step.0 (before.0 b)), λ b. before.1 (step.1 ((below-drop s c.left v).1 b)));
       }
 
-  pub IsLifted-start : (y w : List ℕ) (heights : List ℤ) → AreHeights A y heights → length y ≤ 63 → IsLifted A y w (normal_form A w) heights
+  pub IsLifted-start : (y w : List ℕ) (heights : Heights) → AreHeights A y heights → length y ≤ 63 → IsLifted A y w (normal_form A w) heights
   IsLifted-start y w heights a short = record {
     left = y;
     heights_of = a;
@@ -76,17 +77,17 @@ module _ (A : IntegerMatrix) (g : IsAdmissible A) where
   }
 
   -- at the end the identity alone is below
-  IsLifted-yes : (y w : List ℕ) (heights : List ℤ) (c : IsLifted A y w [] heights) → ((t : ℕ) → IsLeftDescent A c.left t → ⊥)
+  IsLifted-yes : (y w : List ℕ) (heights : Heights) (c : IsLifted A y w [] heights) → ((t : ℕ) → IsLeftDescent A c.left t → ⊥)
       → IsBelow A y w
   IsLifted-yes y w heights c none =
       c.settles.1 (below-refl A g (same-trans A g (same-sym A g (normal_form-same A g c.left))
       (same-equal A g (normal_form-no_descent A g c.left none))))
 
-  IsLifted-no : (y w : List ℕ) (heights : List ℤ) (c : IsLifted A y w [] heights) (s : ℕ) → IsLeftDescent A c.left s → IsBelow A y w → ⊥
+  IsLifted-no : (y w : List ℕ) (heights : Heights) (c : IsLifted A y w [] heights) (s : ℕ) → IsLeftDescent A c.left s → IsBelow A y w → ⊥
   IsLifted-no y w heights c s d b = omega (arith, d, below-length A g (c.settles.0 b), word_length-length A g [])
 
   -- where no letter of w is to come, the answer is whether nothing is left of y
-  pub IsLifted-answer : (y w rest : List ℕ) (heights : List ℤ) (c : IsLifted A y w rest heights) → rest ≡ []
+  pub IsLifted-answer : (y w rest : List ℕ) (heights : Heights) (c : IsLifted A y w rest heights) → rest ≡ []
       → (found : Option ℕ) (answer : Bool)
       → MatchOption found ((t : ℕ) → IsLeftDescent A c.left t → ⊥) (IsLeastLeftDescent A c.left) → is_some found ≡ not answer
       → IsTrue answer ↔ IsBelow A y w
@@ -110,7 +111,7 @@ module _ (A : IntegerMatrix) (g : IsAdmissible A) where
 -- ---- a turn of the loop over the letters of the normal form of w
 
 -- what the code knows of its test of a letter
-abbrev pub TellsDescent : List ℤ → ℕ → Bool → Type 0
+abbrev pub TellsDescent : Heights → ℕ → Bool → Type 0
 TellsDescent heights s answer =
     (A : IntegerMatrix) → (u : List ℕ) → IsAdmissible A → IsLetter A.rank s → AreHeights A u heights → (IsTrue answer ↔ IsLeftDescent A u s)
 
@@ -128,15 +129,15 @@ module _ (x : CoxeterMatrix) (matrix : IsCoxeterMatrix x) (w items : List ℕ) (
   reduced : IsReduced (integer_matrix x) (drop k items)
   reduced = IsReduced-drop (integer_matrix x) g k items (rw are (IsReduced-normal_form (integer_matrix x) g w))
 
-  module _ (y : List ℕ) (heights : List ℤ) (c : IsLifted (integer_matrix x) y w (drop k items) heights) (answer : Bool)
+  module _ (y : List ℕ) (heights : Heights) (c : IsLifted (integer_matrix x) y w (drop k items) heights) (answer : Bool)
       (tells : TellsDescent heights (slice_index items k) answer) where
     descent : IsTrue answer ↔ IsLeftDescent (integer_matrix x) c.left (slice_index items k)
     descent = tells (integer_matrix x) c.left g turn-letter c.heights_of
 
-    pub turn-room : IsTrue answer → HasRoom (integer_matrix x) (slice_index items k) heights
-    turn-room taken = HasRoom-descent (integer_matrix x) g c.left (slice_index items k) heights (descent.0 taken) c.short c.heights_of
+    pub turn-room : IsTrue answer → CanPrepend (integer_matrix x) (slice_index items k) heights
+    turn-room taken = CanPrepend-descent (integer_matrix x) g c.left (slice_index items k) heights (descent.0 taken) c.short c.heights_of
 
-    pub turn-down : IsTrue answer → (next : List ℤ) → Prepends (integer_matrix x) (slice_index items k) heights next
+    pub turn-down : IsTrue answer → (next : Heights) → Prepends (integer_matrix x) (slice_index items k) heights next
         → IsLifted (integer_matrix x) y w (drop (k + 1) items) next
     turn-down taken next moves =
         IsLifted-down (integer_matrix x) g y w (drop k items) (slice_index items k) (drop (k + 1) items) heights c front reduced

@@ -14,7 +14,9 @@ pub mod Chain
 pub mod Exchange
 -- an element that a subword names
 pub mod Subword
--- heights of roots, and least left descents
+-- the height of a root
+pub mod RootHeight
+-- the heights of a word, and least left descents
 pub mod Height
 -- descents by the side
 pub mod Side

@@ -3,13 +3,13 @@ use Rattle.std.proofs.lemmas.Bool.{false≢true}
 use Rattle.cox_base.specs.IntegerMatrix.{IntegerMatrix, IsAdmissible, integer_matrix}
 use Rattle.cox_reflect.specs.Height.{AreHeights}
 use Rattle.cox_reflect.proofs.Admissible.{IsAdmissible-integer_matrix}
-use Rattle.cox_reflect.proofs.HeightLemmas.{HasRoom-word}
+use Rattle.cox_reflect.proofs.HeightLemmas.{CanPrepend-word}
 use Rattle.cox_context.proofs.NormalLemmas.{normal_answer}
 use Rattle.cox_context.proofs.family.normal_heights.Goals as goal
 
 pub prepend-requires-clause-room : goal.prepend-requires-clause-room
 prepend-requires-clause-room c =
-    HasRoom-word (integer_matrix c.args.g.now) (IsAdmissible-integer_matrix c.args.g.now c.rank-rank.ensures.matrix) c.args.x.now.items c.args.s c.args.heights.now c.requires.letter c.requires.short c.requires.heights
+    CanPrepend-word (integer_matrix c.args.g.now) (IsAdmissible-integer_matrix c.args.g.now c.rank-rank.ensures.matrix) c.args.x.now.items c.args.s c.args.heights.now c.requires.short c.requires.heights
 
 pub returns-then-eq-clause-some : goal.returns-then-eq-clause-some
 returns-then-eq-clause-some c =

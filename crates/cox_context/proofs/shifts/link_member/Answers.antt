@@ -16,14 +16,14 @@ lower_member-k-requires-clause-links c = rw c.as_slice.ensures.value c.loop-s.in
 pub lower_member-k-requires-clause-descent : goal.lower_member-k-requires-clause-descent
 lower_member-k-requires-clause-descent c =
     let l : IsLetter (integer_matrix c.args.g.now).rank c.loop-s.s = record { from_one = c.loop-s.auto.s; to_rank = omega (arith, c.rank-rank.ensures.rank) }
-    in (c.is_descent.ensures.descent (integer_matrix c.args.g.now) (word_at c.args.members.now c.args.i) (IsAdmissible-integer_matrix c.args.g.now c.rank-rank.ensures.matrix) l c.requires.heights).0 c.if-is_descent.true
+    in (c.is_descent.ensures (integer_matrix c.args.g.now) (word_at c.args.members.now c.args.i) (IsAdmissible-integer_matrix c.args.g.now c.rank-rank.ensures.matrix) l c.requires.heights).0 c.if-is_descent.true
 
 pub loop-s-preserved : goal.loop-s-preserved
 loop-s-preserved c =
     let A : IntegerMatrix = integer_matrix c.args.g.now
     in let g : IsAdmissible A = IsAdmissible-integer_matrix c.args.g.now c.rank-rank.ensures.matrix
     in let l : IsLetter A.rank c.loop-s.s = record { from_one = c.loop-s.auto.s; to_rank = omega (arith, c.rank-rank.ensures.rank) }
-    in let descent = c.is_descent.ensures.descent A (word_at c.args.members.now c.args.i) g l c.requires.heights
+    in let descent = c.is_descent.ensures A (word_at c.args.members.now c.args.i) g l c.requires.heights
     in elim c.if-is_descent.branch [
       | then-is_descent w ↦
           let d : IsLeftDescent A (word_at c.args.members.now c.args.i) c.loop-s.s = descent.0 w.if-is_descent.true

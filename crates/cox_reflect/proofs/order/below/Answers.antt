@@ -24,7 +24,7 @@ pub prepend-requires-clause-room : goal.prepend-requires-clause-room
 prepend-requires-clause-room c =
     let form = c.as_slice-s-items.ensures.value ∙ c.normal_form-form.ensures.form
     in turn-room c.args.g.now c.rank-rank.ensures.matrix c.args.w.now.items c.as_slice-s-items.result.now form c.loop-s.s-index c.loop-s-test.true
-    c.args.y.now.items c.loop-s.heights c.loop-s.invariant c.is_descent.result c.is_descent.ensures.descent c.if-is_descent.true
+    c.args.y.now.items c.loop-s.heights c.loop-s.invariant c.is_descent.result c.is_descent.ensures c.if-is_descent.true
 
 pub loop-s-preserved : goal.loop-s-preserved
 loop-s-preserved c =
@@ -32,11 +32,11 @@ loop-s-preserved c =
     in elim c.if-is_descent.branch [
       | then-is_descent w ↦ rw w.heights-is
           (turn-down c.args.g.now c.rank-rank.ensures.matrix c.args.w.now.items c.as_slice-s-items.result.now form c.loop-s.s-index c.loop-s-test.true
-          c.args.y.now.items c.loop-s.heights c.loop-s.invariant c.is_descent.result c.is_descent.ensures.descent w.if-is_descent.true
+          c.args.y.now.items c.loop-s.heights c.loop-s.invariant c.is_descent.result c.is_descent.ensures w.if-is_descent.true
           w.prepend.new.self w.prepend.ensures)
       | else-is_descent w ↦ rw w.heights-is
           (turn-up c.args.g.now c.rank-rank.ensures.matrix c.args.w.now.items c.as_slice-s-items.result.now form c.loop-s.s-index c.loop-s-test.true
-          c.args.y.now.items c.loop-s.heights c.loop-s.invariant c.is_descent.result c.is_descent.ensures.descent w.if-is_descent.false)
+          c.args.y.now.items c.loop-s.heights c.loop-s.invariant c.is_descent.result c.is_descent.ensures w.if-is_descent.false)
     ]
 
 pub returns : goal.returns
