@@ -13,6 +13,7 @@ use Rattle.cox_reflect.proofs.Elements.{same-refl, same-sym, same-square}
 use Rattle.cox_reflect.proofs.Search.{normal_form-same, word_length-equal, word_length-length}
 use Rattle.cox_reflect.proofs.Lengths.{IsReduced-back}
 use Rattle.cox_reflect.proofs.Bruhat.{below-same, below-refl, below-length, lift_down, lift_up}
+use Rattle.cox_reflect.proofs.OrderLemmas.{first-descent, below-drop}
 use Rattle.cox_reflect.proofs.DescentLists.{left_descents-by, right_descents-by}
 use Rattle.cox_context.specs.Members.{IsClosed}
 use Rattle.cox_context.specs.Numbers.{word_at, IsNumberOf}
@@ -31,42 +32,29 @@ abbrev pub lesser : ℕ → Option ℕ → ℕ
 lesser i None = i
 lesser i (Some k) = min i k
 
-module _ (A : IntegerMatrix) (g : IsAdmissible A) where
-  pub front-descent : (t : ℕ) (v : List ℕ) → IsReduced A (t ∷ v) → IsLeftDescent A (t ∷ v) t
-  front-descent t v r = omega (arith, r, word_length-equal A g (same-square A g t v), word_length-length A g v)
-
-  pub drop-square : (t : ℕ) (y v : List ℕ) → IsBelow A y (t ∷ t ∷ v) ↔ IsBelow A y v
-  drop-square t y v = (
-    λ b. below-same A g (same-refl A g y) (same-square A g t v) b,
-    λ b. below-same A g (same-refl A g y) (same-sym A g (same-square A g t v)) b,
-  )
-
 module _ (A : IntegerMatrix) (g : IsAdmissible A) (words : List (List ℕ)) (closed : IsClosed A words) where
   settled-down : (x w rest v : List ℕ) (t i k : ℕ) → IsSettled A words x w rest i → rest ≡ t ∷ v → IsReduced A rest → IsLeftDescent A (word_at words i) t → k < length words
       → word_at words k ≡ normal_form A (t ∷ word_at words i) → IsSettled A words x w v k
   settled-down x w rest v t i k c e r d within shift =
       let before : IsBelow A x w ↔ IsBelow A (word_at words i) (t ∷ v) = rw e at c.settles
-      in let step = lift_down A g (word_at words i) (t ∷ v) t (front-descent A g t v (rw e at r)) d
+      in let step = lift_down A g (word_at words i) (t ∷ v) t (first-descent A g t v (rw e at r)) d
       in let same : SameElement A (word_at words k) (t ∷ word_at words i) = rw shift (normal_form-same A g (t ∷ word_at words i))
       in record {
         within = within;
         settles = (
-          λ b. below-same A g (same-sym A g same) (same-refl A g v) ((drop-square A g t (t ∷ word_at words i) v).0 (step.0 (before.0 b))),
-          λ b. before.1 (step.1 ((drop-square A g t (t ∷ word_at words i) v).1 (below-same A g same (same-refl A g v) b))),
+          λ b. below-same A g (same-sym A g same) (same-refl A g v) ((below-drop A g t (t ∷ word_at words i) v).0 (step.0 (before.0 b))),
+          λ b. before.1 (step.1 ((below-drop A g t (t ∷ word_at words i) v).1 (below-same A g same (same-refl A g v) b))),
         );
       }
 
   settled-up : (x w rest v : List ℕ) (t i : ℕ) → IsSettled A words x w rest i → rest ≡ t ∷ v → IsReduced A rest → (IsLeftDescent A (word_at words i) t → ⊥) → IsSettled A words x w v i
   settled-up x w rest v t i c e r none =
       let before : IsBelow A x w ↔ IsBelow A (word_at words i) (t ∷ v) = rw e at c.settles
-      in let step = lift_up A g (word_at words i) (t ∷ v) t (front-descent A g t v (rw e at r)) none
+      in let step = lift_up A g (word_at words i) (t ∷ v) t (first-descent A g t v (rw e at r)) none
       in record {
         within = c.within;
-        settles = (λ b. (drop-square A g t (word_at words i) v).0 (step.0 (before.0 b)), λ b. before.1 (step.1 ((drop-square A g t (word_at words i) v).1 b)));
+        settles = (λ b. (below-drop A g t (word_at words i) v).0 (step.0 (before.0 b)), λ b. before.1 (step.1 ((below-drop A g t (word_at words i) v).1 b)));
       }
-
-  pub reduced-drop : (k : ℕ) (u : List ℕ) → IsReduced A u → IsReduced A (drop k u)
-  reduced-drop k u r = let e : take k u ++ drop k u ≡ u = take-append-drop k u in IsReduced-back A g (take k u) (drop k u) (rw e r)
 
   -- a letter of the word, and the left shift by it
   pub settled-next : (x w rest v : List ℕ) (t i : ℕ) (found : Option ℕ) → IsLetter A.rank t → IsSettled A words x w rest i → rest ≡ t ∷ v → IsReduced A rest

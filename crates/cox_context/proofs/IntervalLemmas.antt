@@ -16,7 +16,7 @@ use Rattle.cox_context.specs.Interval.{IsBetween, IsCoatom}
 use Rattle.cox_context.specs.Refusal.{IsRefusal}
 use Rattle.cox_context.specs.declared.fault.ContextFault.{ContextFault}
 use Rattle.cox_context.specs.declared.fault.ContextFault.TheVariants.{Size, Long, NoMemory}
-use Rattle.cox_context.proofs.BelowLemmas.{front-descent, drop-square}
+use Rattle.cox_reflect.proofs.OrderLemmas.{first-descent, below-drop}
 use Rattle.cox_context.proofs.ContextLemmas.{interval-length}
 use Rattle.cox_context.proofs.Ideals.{element-normal_form}
 use Rattle.cox_context.proofs.Listing.{listing, subwords, Each-subwords, In-subwords}
@@ -51,17 +51,17 @@ module _ (A : IntegerMatrix) (g : IsAdmissible A) where
       go (nat_lt (word_length A (t ∷ y)) (word_length A y)) refl (along-tells (t ∷ y) v (IsReduced-tail A g t v r)) (along-tells y v (IsReduced-tail A g t v r))
     where
       first : IsLeftDescent A (t ∷ v) t
-      first = front-descent A g t v r
+      first = first-descent A g t v r
 
       go : (b : Bool) → nat_lt (word_length A (t ∷ y)) (word_length A y) ≡ b → (below_along A (t ∷ y) v ≡ true) ↔ IsBelow A (t ∷ y) v
           → (below_along A y v ≡ true) ↔ IsBelow A y v
           → ((if b then below_along A (t ∷ y) v else below_along A y v) ≡ true) ↔ IsBelow A y (t ∷ v)
       go true e down up =
           let step = lift_down A g y (t ∷ v) t first (ltb-true (word_length A (t ∷ y)) (word_length A y) e)
-          in (λ k. step.1 ((drop-square A g t (t ∷ y) v).1 (down.0 k)), λ b. down.1 ((drop-square A g t (t ∷ y) v).0 (step.0 b)))
+          in (λ k. step.1 ((below-drop A g t (t ∷ y) v).1 (down.0 k)), λ b. down.1 ((below-drop A g t (t ∷ y) v).0 (step.0 b)))
       go false e down up =
           let step = lift_up A g y (t ∷ v) t first (λ d. true≢false (sym (lt-ltb (word_length A (t ∷ y)) (word_length A y) d) ∙ e))
-          in (λ k. step.1 ((drop-square A g t y v).1 (up.0 k)), λ b. up.1 ((drop-square A g t y v).0 (step.0 b)))
+          in (λ k. step.1 ((below-drop A g t y v).1 (up.0 k)), λ b. up.1 ((below-drop A g t y v).0 (step.0 b)))
 
   pub is_below-tells : (y w : List ℕ) → (is_below A y w ≡ true) ↔ IsBelow A y w
   unfolding is_below

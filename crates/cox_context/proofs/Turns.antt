@@ -20,11 +20,11 @@ use Rattle.cox_context.specs.Shifts.{entry, IsNoted, IsRound, AreLinks}
 use Rattle.cox_context.proofs.ListLemmas.{IsPlaced, contains-placed, rising-length, rising-place}
 use Rattle.cox_context.proofs.NormalLemmas.{first-least}
 use Rattle.cox_context.proofs.RightShifts.{HasFirst, none-first, first-letter, first-off}
-use Rattle.cox_context.proofs.BelowLemmas.{front-descent}
+use Rattle.cox_reflect.proofs.OrderLemmas.{first-descent}
 use Rattle.cox_context.proofs.Places.{place-within}
 use Rattle.cox_context.proofs.Shifting.{element-at, length-at, member-below}
-use Rattle.cox_context.proofs.Walks.{zigzag, IsWalked, walked-start, walked-next, walked-end}
-use Rattle.cox_context.proofs.TwoDescents.{turns-move, descents-label}
+use Rattle.cox_context.proofs.Walks.{IsWalked, walked-start, walked-next, walked-end}
+use Rattle.cox_reflect.proofs.TwoDescents.{zigzag, turns-move, descents-label}
 
 odd-length : (t s k : ℕ) → length (zigzag t s k) ≡ 2 * k + 1
 odd-length t s zero = refl
@@ -165,7 +165,7 @@ round-of c h words closed i t s within first rising descent =
     in record {
       within = within;
       rising = rising;
-      by_t = rw first.is (front-descent (integer_matrix c) g t first.rest reduced);
+      by_t = rw first.is (first-descent (integer_matrix c) g t first.rest reduced);
       by_s = descent;
       some = order.0;
       order = order.1;

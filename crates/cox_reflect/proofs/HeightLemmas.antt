@@ -14,7 +14,7 @@ use Rattle.cox_reflect.specs.Action.{Vector, simple_root, pairing, minus, reflec
 use Rattle.cox_reflect.specs.declared.heights.Heights.{Heights}
 use Rattle.cox_reflect.specs.RootHeight.{at_letter, height}
 use Rattle.cox_reflect.specs.Height.{AreHeights, CanPrepend}
-use Rattle.cox_reflect.proofs.Ring.{linears, multiply_out, one_times}
+use Rattle.cox_lemmas.proofs.Ring.{linears, multiply_out, one_times}
 use Rattle.cox_reflect.proofs.Sums.{letter_above, last_letter, letter_cases, sum_to-same, sum_to-simple_root, sum_to-other_root, simple_root-other}
 use Rattle.cox_reflect.proofs.Action.{act-nil, act-push, act-minus, act-outside, pairing-simple_root}
 use Rattle.cox_reflect.proofs.Elements.{matrix-column, same-act, same-reverse, same-sym}

@@ -1,5 +1,3 @@
--- the ring laws of the integers, and sets of them for the tactics
-pub mod Ring
 -- sums over the letters of the rank
 pub mod Sums
 -- the action of words on vectors: linear, and undone by the reversed word
@@ -52,6 +50,8 @@ pub mod HeightLemmas
 pub mod LetterLists
 -- products and differences in 128 bits
 pub mod Computed
+-- two letters in turn, and their order where both shorten an element
+pub mod TwoDescents
 -- lengths and normal forms, read off by descents
 pub mod FormLemmas
 -- Bruhat order by lifting

@@ -26,10 +26,11 @@ pub record IsLifted (A : IntegerMatrix) (y w rest : List ℕ) (heights : Heights
   pub settles : IsBelow A y w ↔ IsBelow A left rest
 
 module _ (A : IntegerMatrix) (g : IsAdmissible A) where
-  front-descent : (s : ℕ) (v : List ℕ) → IsReduced A (s ∷ v) → IsLeftDescent A (s ∷ v) s
-  front-descent s v r = omega (arith, r, word_length-equal A g (same-square A g s v), word_length-length A g v)
+  -- the first letter of a reduced word is a left descent
+  pub first-descent : (s : ℕ) (v : List ℕ) → IsReduced A (s ∷ v) → IsLeftDescent A (s ∷ v) s
+  first-descent s v r = omega (arith, r, word_length-equal A g (same-square A g s v), word_length-length A g v)
 
-  below-drop : (s : ℕ) (x v : List ℕ) → IsBelow A x (s ∷ s ∷ v) ↔ IsBelow A x v
+  pub below-drop : (s : ℕ) (x v : List ℕ) → IsBelow A x (s ∷ s ∷ v) ↔ IsBelow A x v
   below-drop s x v = (
     λ b. below-same A g (same-refl A g x) (same-square A g s v) b,
     λ b. below-same A g (same-refl A g x)
@@ -42,7 +43,7 @@ module _ (A : IntegerMatrix) (g : IsAdmissible A) where
       → (next : Heights) → AreHeights A (s ∷ c.left) next → IsLifted A y w v next
   IsLifted-down y w front s v heights c e r d next a =
       let before : IsBelow A y w ↔ IsBelow A c.left (s ∷ v) = rw e at c.settles
-      in let step = lift_down A g c.left (s ∷ v) s (front-descent s v (rw e at r)) d
+      in let step = lift_down A g c.left (s ∷ v) s (first-descent s v (rw e at r)) d
       in record {
         left = s ∷ c.left;
         heights_of = a;
@@ -56,7 +57,7 @@ module _ (A : IntegerMatrix) (g : IsAdmissible A) where
       → IsLifted A y w v heights
   IsLifted-up y w front s v heights c e r none =
       let before : IsBelow A y w ↔ IsBelow A c.left (s ∷ v) = rw e at c.settles
-      in let step = lift_up A g c.left (s ∷ v) s (front-descent s v (rw e at r)) none
+      in let step = lift_up A g c.left (s ∷ v) s (first-descent s v (rw e at r)) none
       in record {
         left = c.left;
         heights_of = c.heights_of;
@@ -105,7 +106,7 @@ module _ (A : IntegerMatrix) (g : IsAdmissible A) where
       go (Some s) false d k = (λ t. absurd (cc), λ b. absurd (IsLifted-no y w heights end s d.descent b))
 
   -- what is left of a reduced word is reduced
-  IsReduced-drop : (k : ℕ) (u : List ℕ) → IsReduced A u → IsReduced A (drop k u)
+  pub IsReduced-drop : (k : ℕ) (u : List ℕ) → IsReduced A u → IsReduced A (drop k u)
   IsReduced-drop k u r = let e : take k u ++ drop k u ≡ u = take-append-drop k u in IsReduced-back A g (take k u) (drop k u) (rw e r)
 
 -- ---- a turn of the loop over the letters of the normal form of w

@@ -1,7 +1,8 @@
 -- Positivity (Humphreys 5.4): u e(s) is nonnegative where l(us) >= l(u). A rank-two end is split off u, and what is left is shorter.
-use Rattle.std.proofs.Common.{◌≡◌, ℕ, zero, suc, ◌+◌, ◌≤◌, ◌<◌, Bool, true, false, not, cond, List, [], ◌∷◌, ◌++◌, length, ℤ, pos, ◌-ℤ◌, ◌*ℤ◌, neg_ℤ, ◌≤ℤ◌, ap, sym, ◌∙◌, ⊎_elim, arith}
+use Rattle.std.proofs.Common.{◌≡◌, ℕ, zero, suc, ◌+◌, ◌≤◌, ◌<◌, Bool, true, false, not, cond, List, [], ◌∷◌, ◌++◌, length, ℤ, pos, negsuc, ◌-ℤ◌, ◌*ℤ◌, neg_ℤ, ◌≤ℤ◌, ap, sym, ◌∙◌, ⊎_elim, arith}
 use Rattle.std.proofs.lemmas.Bool.{cases_eq, cases_lt}
 use lib.Signed.{le_z_yes}
+use Rattle.std.proofs.lemmas.Int.{ints}
 use Rattle.std.proofs.lemmas.List.{length-append, append_assoc}
 use Rattle.std.proofs.lemmas.List.Elements.{All-nil, All-cons, All-contains, Contains-push}
 use Rattle.cox_base.specs.Matrix.{IsLetter, IsWord}
@@ -10,13 +11,18 @@ use Rattle.cox_base.specs.Element.{SameElement}
 use Rattle.cox_base.specs.ShortLex.{normal_form}
 use Rattle.cox_base.specs.Length.{word_length, IsReduced}
 use Rattle.cox_reflect.specs.Action.{Vector, simple_root, minus, act, IsNonnegative}
-use Rattle.cox_reflect.proofs.Ring.{linears, multiply_out, neg_mul, product_nonnegative}
+use Rattle.cox_lemmas.proofs.Ring.{linears, multiply_out, neg_mul}
 use Rattle.cox_reflect.proofs.Sums.{letter_cases, simple_root-self, simple_root-other}
 use Rattle.cox_reflect.proofs.Action.{act-nil, act-append, act-minus}
 use Rattle.cox_reflect.proofs.Elements.{same-act, same-refl, same-sym, same-trans, same-equal, same-append, same-push, same-push_twice, same-square, same-outside}
 use Rattle.cox_reflect.proofs.Search.{normal_form-same, length-normal_form, word_length-least, word_length-equal, word_length-length}
 use Rattle.cox_reflect.proofs.Lengths.{word_length-is, IsReduced-front, IsReduced-same, IsReduced-tail, IsReduced-normal_form}
 use Rattle.cox_reflect.proofs.RankTwo.{is_even, alternating, alternating-suc, alternating-zero, alternating-last, alternating-ends, length-alternating, moved, shift, TwoLetters, spread, braids, two_letters, HasOrder-swap, pair_of, same-braid, act-alternating_root}
+
+product_nonnegative : (a b : ℤ) → pos 0 ≤ℤ a → pos 0 ≤ℤ b → pos 0 ≤ℤ (a *ℤ b)
+product_nonnegative (pos a) (pos b) h k = omega (arith, ints)
+product_nonnegative (pos a) (negsuc b) h k = absurd k.le
+product_nonnegative (negsuc a) b h k = absurd h.le
 
 -- a word is empty, or has a last letter
 pub data LastLetter : List ℕ → Type 0 where

@@ -11,7 +11,7 @@ use Rattle.cox_base.specs.Matrix.{IsLetter}
 use Rattle.cox_base.specs.IntegerMatrix.{IntegerMatrix, IsAdmissible, IsAdmissiblePair, two, three, four, back_four, six, back_six, infinity, HasOrder, order_two, order_three, order_four, order_back_four, order_six, order_back_six}
 use Rattle.cox_base.specs.Element.{SameElement}
 use Rattle.cox_reflect.specs.Action.{Vector, simple_root, pairing, minus, reflect, act}
-use Rattle.cox_reflect.proofs.Ring.{linears, multiply_out}
+use Rattle.cox_lemmas.proofs.Ring.{linears, multiply_out}
 use Rattle.cox_reflect.proofs.Action.{act-nil, act-cons, pairing-minus, pairing-simple_root}
 use Rattle.cox_reflect.proofs.Elements.{act-same}
 

@@ -10,7 +10,7 @@ use Rattle.cox_base.specs.Element.{matrix, SameElement}
 use Rattle.cox_base.specs.Length.{word_length, IsLeftDescent, IsRightDescent}
 use Rattle.cox_reflect.specs.Action.{simple_root, act, IsNonnegative, IsNonpositive}
 use Rattle.cox_reflect.specs.Root.{IsNonnegativeRoot, IsNonpositiveRoot, IsZeroRoot}
-use Rattle.cox_reflect.proofs.Ring.{linears}
+use Rattle.cox_lemmas.proofs.Ring.{linears}
 use Rattle.cox_reflect.proofs.Sums.{letter_cases, letter_above, last_letter, simple_root-other}
 use Rattle.cox_reflect.proofs.Action.{act-outside}
 use Rattle.cox_reflect.proofs.Elements.{matrix-column}

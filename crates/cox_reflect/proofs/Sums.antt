@@ -5,7 +5,7 @@ use Rattle.std.proofs.lemmas.Int.{ints}
 use Rattle.cox_base.specs.Matrix.{IsLetter}
 use Rattle.cox_base.specs.Element.{sum_to}
 use Rattle.cox_reflect.specs.Action.{Vector, simple_root, minus}
-use Rattle.cox_reflect.proofs.Ring.{linears, multiply_out}
+use Rattle.cox_lemmas.proofs.Ring.{linears, multiply_out}
 
 pub letter_above : (n s : ℕ) → IsLetter n s → IsLetter (suc n) s
 letter_above n s l = record { from_one = l.from_one; to_rank = omega (arith, l.to_rank) }

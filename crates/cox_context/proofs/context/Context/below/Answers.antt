@@ -9,7 +9,8 @@ use Rattle.cox_context.specs.Members.{Elements, IsElement, IsClosed}
 use Rattle.cox_context.specs.Numbers.{word_at}
 use Rattle.cox_context.proofs.Ideals.{element-length}
 use Rattle.cox_context.proofs.Shifting.{element-at}
-use Rattle.cox_context.proofs.BelowLemmas.{reduced-drop, settled-start, settled-next, settled-end}
+use Rattle.cox_reflect.proofs.OrderLemmas.{IsReduced-drop}
+use Rattle.cox_context.proofs.BelowLemmas.{settled-start, settled-next, settled-end}
 use Rattle.cox_context.proofs.context.Context.below.Goals as goal
 use Rattle.cox_context.proofs.context.Context.below.Goals.{in-Some, in_default}
 
@@ -45,7 +46,7 @@ loop-t-preserved c =
     in let t : ℕ = slice_index c.as_slice-t-items.result.now c.loop-t.t-index
     in let front : drop c.loop-t.t-index c.as_slice-t-items.result.now ≡ t ∷ drop (c.loop-t.t-index + 1) c.as_slice-t-items.result.now
     = rw (add-one, drop-cons c.as_slice-t-items.result.now c.loop-t.t-index 0)
-    in let reduced : IsReduced A (drop c.loop-t.t-index c.as_slice-t-items.result.now) = reduced-drop A g c.args.self.now.members closed c.loop-t.t-index c.as_slice-t-items.result.now (element-length A g c.as_slice-t-items.result.now e)
+    in let reduced : IsReduced A (drop c.loop-t.t-index c.as_slice-t-items.result.now) = IsReduced-drop A g c.loop-t.t-index c.as_slice-t-items.result.now (element-length A g c.as_slice-t-items.result.now e)
     in let next = settled-next A g c.args.self.now.members closed (word_at c.args.self.now.members c.args.i) (word_at c.args.self.now.members c.args.j) (drop c.loop-t.t-index c.as_slice-t-items.result.now)
     (drop (c.loop-t.t-index + 1) c.as_slice-t-items.result.now) t c.loop-t.rest c.left.result (e.letters c.loop-t.t-index 0 more) c.loop-t.invariant front reduced c.left.ensures
     in elim c.match-left.branch [

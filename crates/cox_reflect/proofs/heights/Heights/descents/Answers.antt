@@ -1,3 +1,4 @@
+-- The letters found so far are those up to the last whose heights are negative.
 use Rattle.std.proofs.Common.{ℕ, ◌≡◌, suc, ◌+◌, ◌-◌, List, length, sym, ap, ◌∙◌, arith, lit<}
 use Rattle.std.proofs.lemmas.Bool.{false≢true}
 use Rattle.cox_base.specs.Matrix.{IsWord}
@@ -21,19 +22,16 @@ loop-letter-init c = c.new-found.ensures ∙ sym (negative_letters-none c.args.s
 
 pub loop-letter-preserved : goal.loop-letter-preserved
 loop-letter-preserved c =
-    let before : suc (c.loop-letter.letter - 1) ≡ c.loop-letter.letter + 1 - 1 = omega arith
+    let at : c.loop-letter.letter + 1 - 1 ≡ c.loop-letter.letter = omega arith
     in let here : c.loop-letter.letter ≡ suc (c.loop-letter.letter - 1) = omega arith
     in elim c.if-is_negative.branch [
-      | then-is_negative w ↦ rw (w.found-is, w.push.ensures.items, ← before, c.loop-letter.invariant)
+      | then-is_negative w ↦ rw (w.found-is, w.push.ensures.items, at, c.loop-letter.invariant)
           (sym (negative_letters-yes c.args.self.now.values (c.loop-letter.letter - 1) c.loop-letter.letter here
           (c.is_negative.ensures.0 w.if-is_negative.true)))
-      | else-is_negative w ↦ rw (w.found-is, ← before, c.loop-letter.invariant)
+      | else-is_negative w ↦ rw (w.found-is, at, c.loop-letter.invariant)
           (sym (negative_letters-no c.args.self.now.values (c.loop-letter.letter - 1) c.loop-letter.letter here
           (λ h. absurd (false≢true (sym w.if-is_negative.false ∙ c.is_negative.ensures.1 h)))))
     ]
-
-all_letters : (n s : ℕ) → s ≡ n + 1 → s - 1 ≡ n
-all_letters n s e = omega arith
 
 pub returns-clause-descents : goal.returns-clause-descents
 returns-clause-descents c = λ A u g e a.

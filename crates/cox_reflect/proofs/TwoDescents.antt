@@ -1,5 +1,6 @@
--- Two letters that both shorten an element have an order m, and fewer than m turns by them move e(s).
-use Rattle.std.proofs.Common.{◌≡◌, ℕ, zero, suc, ◌+◌, ◌<◌, false, List, [], ◌∷◌, ◌++◌, reverse, ℤ, pos, ◌*ℤ◌, ◌-ℤ◌, refl, ap, sym, ◌∙◌, arith}
+-- Two letters t and s in turn: with their order m, t s t .. of 2 m - 1 letters is s, and s t s .. of fewer than 2 m letters, an even number, is
+-- not the identity; two letters that both shorten an element have an order.
+use Rattle.std.proofs.Common.{◌≡◌, ℕ, zero, suc, ◌+◌, ◌-◌, ◌<◌, false, List, [], ◌∷◌, ◌++◌, reverse, ℤ, pos, ◌*ℤ◌, ◌-ℤ◌, refl, ap, sym, ◌∙◌, arith}
 use Rattle.std.proofs.lemmas.Int.{ints}
 use mathlib.Core.List.{reverse-cons}
 use Rattle.cox_base.specs.Matrix.{CoxeterMatrix, IsCoxeterMatrix, IsLetter, label}
@@ -10,12 +11,16 @@ use Rattle.cox_reflect.specs.Action.{Vector, simple_root, minus}
 use Rattle.cox_reflect.proofs.Admissible.{IsAdmissible-integer_matrix, order_label}
 use Rattle.cox_reflect.proofs.Sums.{simple_root-self, simple_root-other}
 use Rattle.cox_reflect.proofs.Action.{act-nil}
-use Rattle.cox_reflect.proofs.Elements.{same-act}
+use Rattle.cox_reflect.proofs.Elements.{same-act, same-refl, same-sym, same-trans, same-append, same-square}
 use Rattle.cox_reflect.proofs.Lengths.{IsReduced-reverse}
-use Rattle.cox_reflect.proofs.RankTwo.{is_even, alternating, moved, shift, TwoLetters, spread, braids, two_letters, pair_of, HasOrder-swap, act-alternating_root}
+use Rattle.cox_reflect.proofs.RankTwo.{is_even, alternating, moved, shift, TwoLetters, spread, braids, two_letters, pair_of, HasOrder-swap, act-alternating_root, same-braid}
 use Rattle.cox_reflect.proofs.Positivity.{Split, split, positive, spread_nonnegative}
 use Rattle.cox_reflect.proofs.Roots.{no_descent, descent-letter, left_descent-letter, left_descent_reverse}
-use Rattle.cox_context.proofs.Walks.{zigzag}
+
+-- t s t .. t, of 2 k + 1 letters
+abbrev pub zigzag : ℕ → ℕ → ℕ → List ℕ
+zigzag t s zero = t ∷ []
+zigzag t s (suc k) = t ∷ s ∷ zigzag t s k
 
 -- 2 k + 1
 abbrev pub odd : ℕ → ℕ
@@ -77,7 +82,41 @@ moved-still s t c ne e =
     in (omega (arith, ints, at_s), omega (arith, ints, at_t))
 
 module _ (A : IntegerMatrix) (g : IsAdmissible A) where
-  -- so they are not the identity
+  -- with the same word in front
+  front : (p : List ℕ) {u v : List ℕ} → SameElement A u v → SameElement A (p ++ u) (p ++ v)
+  front p e = same-append A g (same-refl A g p) e
+
+  one_turn : (t s : ℕ) → SameElement A (t ∷ t ∷ s ∷ []) (s ∷ [])
+  one_turn t s = same-square A g t (s ∷ [])
+
+  two_turns : (t s : ℕ) → SameElement A (t ∷ s ∷ s ∷ t ∷ s ∷ []) (s ∷ [])
+  two_turns t s = same-trans A g (front (t ∷ []) (same-square A g s (t ∷ s ∷ []))) (one_turn t s)
+
+  three_turns : (t s : ℕ) → SameElement A (t ∷ s ∷ t ∷ t ∷ s ∷ t ∷ s ∷ []) (s ∷ [])
+  three_turns t s = same-trans A g (front (t ∷ s ∷ []) (same-square A g t (s ∷ t ∷ s ∷ []))) (two_turns t s)
+
+  five_turns : (t s : ℕ) → SameElement A (t ∷ s ∷ t ∷ s ∷ t ∷ t ∷ s ∷ t ∷ s ∷ t ∷ s ∷ []) (s ∷ [])
+  five_turns t s =
+      same-trans A g (front (t ∷ s ∷ t ∷ s ∷ []) (same-square A g t (s ∷ t ∷ s ∷ t ∷ s ∷ [])))
+      (same-trans A g (front (t ∷ s ∷ t ∷ []) (same-square A g s (t ∷ s ∷ t ∷ s ∷ []))) (three_turns t s))
+
+  braid_of : (t s m : ℕ) → IsLetter A.rank t → IsLetter A.rank s → HasOrder (A.entry t s) (A.entry s t) m → SameElement A (alternating m s t) (alternating m t s)
+  braid_of t s m lt ls h = same-sym A g (same-braid A g t s lt ls h)
+
+  by_order : {a b : ℤ} (t s m : ℕ) → HasOrder a b m → SameElement A (alternating m s t) (alternating m t s) → SameElement A (zigzag t s (m - 1)) (s ∷ [])
+  unfolding alternating
+  by_order t s m order_two e = same-trans A g (front (t ∷ []) e) (one_turn t s)
+  by_order t s m order_three e = same-trans A g (front (t ∷ s ∷ []) e) (two_turns t s)
+  by_order t s m order_four e = same-trans A g (front (t ∷ s ∷ t ∷ []) e) (three_turns t s)
+  by_order t s m order_back_four e = same-trans A g (front (t ∷ s ∷ t ∷ []) e) (three_turns t s)
+  by_order t s m order_six e = same-trans A g (front (t ∷ s ∷ t ∷ s ∷ t ∷ []) e) (five_turns t s)
+  by_order t s m order_back_six e = same-trans A g (front (t ∷ s ∷ t ∷ s ∷ t ∷ []) e) (five_turns t s)
+
+  -- the walk that goes all round but for one step: the letters together are s
+  pub zigzag-order : (t s m : ℕ) → IsLetter A.rank t → IsLetter A.rank s → HasOrder (A.entry t s) (A.entry s t) m → SameElement A (zigzag t s (m - 1)) (s ∷ [])
+  zigzag-order t s m lt ls h = by_order t s m h (braid_of t s m lt ls h)
+
+  -- fewer turns than all round are not the identity
   pub turns-move : (t s m k : ℕ) → IsLetter A.rank t → IsLetter A.rank s → (s ≡ t → ⊥) → HasOrder (A.entry t s) (A.entry s t) m → k + 1 < m
       → SameElement A (s ∷ zigzag t s k) [] → ⊥
   turns-move t s m k lt ls ne order less same =
