@@ -4,6 +4,5 @@ pub mod Measured
 pub mod Norms
 pub mod Polynomials
 pub mod Products
-pub mod Ring
 pub mod Sums
 pub mod Terms

@@ -4,7 +4,7 @@ use Rattle.std.proofs.Common.{ℤ, pos, ◌+ℤ◌, ◌*ℤ◌, neg_ℤ}
 use Rattle.std.proofs.lemmas.Int.{ints}
 use Rattle.cox_poly.specs.Coefficients.{Coefficients, zero_polynomial, one_polynomial, plus, negated, scaled, times_q, times_q_power, without_constant, product, front, HasDegreeAtMost}
 use Rattle.cox_poly.proofs.Coefficients.{times_q_power_at, times_q_power_below, times_q_power-suc}
-use Rattle.cox_poly.proofs.Ring.{ring, mul-mul_swap}
+use Rattle.cox_lemmas.proofs.Ring.{multiply_out, mul_left_comm}
 
 -- with 0 and 1
 pub product_of_none : (f g : Coefficients) → ((j : ℕ) → f j ≡ pos 0) → (k : ℕ) → product f g k ≡ pos 0
@@ -28,28 +28,28 @@ product-one f (suc k) = omega (arith, ints, product-one (without_constant f) k)
 
 -- with sums, negatives and multiples
 pub product-plus : (f g h : Coefficients) (k : ℕ) → product f (plus g h) k ≡ product f g k +ℤ product f h k
-product-plus f g h zero = simp ring (omega (arith, ints))
-product-plus f g h (suc k) = simp ring (omega (arith, ints, product-plus (without_constant f) g h k))
+product-plus f g h zero = simp multiply_out (omega (arith, ints))
+product-plus f g h (suc k) = simp multiply_out (omega (arith, ints, product-plus (without_constant f) g h k))
 
 pub plus-product : (f g h : Coefficients) (k : ℕ) → product (plus f g) h k ≡ product f h k +ℤ product g h k
-plus-product f g h zero = simp ring (omega (arith, ints))
-plus-product f g h (suc k) = simp ring (omega (arith, ints, plus-product (without_constant f) (without_constant g) h k))
+plus-product f g h zero = simp multiply_out (omega (arith, ints))
+plus-product f g h (suc k) = simp multiply_out (omega (arith, ints, plus-product (without_constant f) (without_constant g) h k))
 
 pub product-negated : (f g : Coefficients) (k : ℕ) → product f (negated g) k ≡ neg_ℤ (product f g k)
-product-negated f g zero = simp ring (omega (arith, ints))
-product-negated f g (suc k) = simp ring (omega (arith, ints, product-negated (without_constant f) g k))
+product-negated f g zero = simp multiply_out (omega (arith, ints))
+product-negated f g (suc k) = simp multiply_out (omega (arith, ints, product-negated (without_constant f) g k))
 
 pub negated-product : (f g : Coefficients) (k : ℕ) → product (negated f) g k ≡ neg_ℤ (product f g k)
-negated-product f g zero = simp ring (omega (arith, ints))
-negated-product f g (suc k) = simp ring (omega (arith, ints, negated-product (without_constant f) g k))
+negated-product f g zero = simp multiply_out (omega (arith, ints))
+negated-product f g (suc k) = simp multiply_out (omega (arith, ints, negated-product (without_constant f) g k))
 
 pub product-scaled : (c : ℤ) (f g : Coefficients) (k : ℕ) → product f (scaled c g) k ≡ c *ℤ product f g k
-product-scaled c f g zero = mul-mul_swap (f zero) c (g zero)
-product-scaled c f g (suc k) = simp ring (omega (arith, ints, mul-mul_swap (f zero) c (g (suc k)), product-scaled c (without_constant f) g k))
+product-scaled c f g zero = mul_left_comm (f zero) c (g zero)
+product-scaled c f g (suc k) = simp multiply_out (omega (arith, ints, mul_left_comm (f zero) c (g (suc k)), product-scaled c (without_constant f) g k))
 
 pub scaled-product : (c : ℤ) (f g : Coefficients) (k : ℕ) → product (scaled c f) g k ≡ c *ℤ product f g k
-scaled-product c f g zero = simp ring
-scaled-product c f g (suc k) = simp ring (omega (arith, ints, scaled-product c (without_constant f) g k))
+scaled-product c f g zero = simp multiply_out
+scaled-product c f g (suc k) = simp multiply_out (omega (arith, ints, scaled-product c (without_constant f) g k))
 
 -- with multiples of q
 pub product-times_q : (f g : Coefficients) (k : ℕ) → product f (times_q g) k ≡ times_q (product f g) k

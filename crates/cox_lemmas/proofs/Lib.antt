@@ -1,0 +1,4 @@
+-- the ring laws of ℤ, and two sets of them for polynomial identities
+pub mod Ring
+-- the numbers from 1 up that pass a test
+pub mod RangeFilters

@@ -1,0 +1,3 @@
+//! Lemmas that several crates cite: the ring laws of the integers, and lists of numbers that are filtered. There is no code here, only
+//! what stands in `proofs/`.
+#![tactic(auto)]
