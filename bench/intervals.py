@@ -2,11 +2,15 @@
 """How long Bruhat intervals take, and how much memory: whole finite groups, and intervals of growing length in affine A 2.
 
     bench/intervals.py [--instructions] [PROGRAM]
-                                        the program of this repository, if none is named; it is built first where it is not
+                                the program of this repository, if none is named; it is built first where it is not
 
-With `--instructions` each row has the instructions a member in place of times, counted by valgrind's callgrind: they do not depend on what else
-the machine does. Else each row asks `betti w` of one element w, once for the memory and so often for the time that a run takes some tenths of a second. A run
-over a script that sets the group alone is taken off. Time a member is also given over length times rank, since that is what it may grow by.
+Each row asks `betti w` of one element w, as often as makes a run take some tenths of a second. The time of a run that only
+sets the group is taken off. Time a member is also given over length times rank, since that is what it may grow by. The peak
+of memory is that of a run with one `betti w`, beside that of a run that only sets the group; both are the program's own, as
+the kernel keeps them (VmHWM), so this script runs on Linux alone.
+
+With `--instructions` each row has the instructions a member in place of times and memory, counted by valgrind's callgrind:
+they do not depend on what else the machine does.
 """
 import os
 import re
@@ -29,28 +33,26 @@ def cases():
 
 
 def run(program, script):
-    """The output of a run, its seconds, and its peak memory in MiB."""
-    read_in, write_in = os.pipe()
-    read_out, write_out = os.pipe()
+    """The output of a run, and its seconds."""
     start = time.perf_counter()
-    child = os.fork()
-    if child == 0:
-        os.dup2(read_in, 0)
-        os.dup2(write_out, 1)
-        for end in (read_in, write_in, read_out, write_out):
-            os.close(end)
-        os.execv(program, [program])
-    os.close(read_in)
-    os.close(write_out)
-    os.write(write_in, script.encode())
-    os.close(write_in)
-    with os.fdopen(read_out, "rb") as out:
-        text = out.read().decode()
-    _, status, usage = os.wait4(child, 0)
+    ran = subprocess.run([program], input=script.encode(), stdout=subprocess.PIPE)
     seconds = time.perf_counter() - start
-    if status != 0:
-        sys.exit(f"the program ended by {status} on:\n{script}")
-    return text, seconds, usage.ru_maxrss / 1024
+    if ran.returncode != 0:
+        sys.exit(f"the program ended with status {ran.returncode} on:\n{script}")
+    return ran.stdout.decode(), seconds
+
+
+def peak(program, script, answers):
+    """The peak of a run's memory in MiB. It is read once these many lines of answers have come, before the run ends."""
+    with subprocess.Popen([program], stdin=subprocess.PIPE, stdout=subprocess.PIPE) as child:
+        child.stdin.write(script.encode())
+        child.stdin.flush()
+        for _ in range(answers):
+            child.stdout.readline()
+        with open(f"/proc/{child.pid}/status", encoding="ascii") as status:
+            kibibytes = re.search(r"^VmHWM:\s*(\d+) kB$", status.read(), re.M).group(1)
+        child.stdin.close()
+    return int(kibibytes) / 1024
 
 
 def best(program, script, times=5):
@@ -79,27 +81,30 @@ def count(program):
         print(f"{name:<22}{members:>8}{letters:>8}{each:>10.0f}{each / (letters * rank):>9.1f}")
 
 
+def measure(program):
+    """A row for each interval: times and memory."""
+    print(f"{'interval':<20}{'members':>8}{'letters':>8}{'ms':>9}{'us/member':>10}{'ns/(m*l*r)':>11}{'MiB':>7}{'above':>7}")
+    for name, group, rank, word in cases():
+        numbers, once = run(program, f"{group}\nbetti {word}\nlength {word}\n")
+        betti, length = numbers.splitlines()
+        members, letters = sum(map(int, betti.split())), int(length)
+        repeats = max(1, min(60, int(0.3 / max(once, 0.001))))
+        idle = best(program, f"{group}\n")
+        seconds = (best(program, f"{group}\n" + f"betti {word}\n" * repeats) - idle) / repeats
+        each = seconds / members
+        floor, top = peak(program, f"{group}\nlength e\n", 1), peak(program, f"{group}\nbetti {word}\n", 1)
+        print(
+            f"{name:<20}{members:>8}{letters:>8}{seconds * 1e3:>9.2f}{each * 1e6:>10.2f}"
+            f"{each * 1e9 / (letters * rank):>11.2f}{top:>7.1f}{top - floor:>7.1f}"
+        )
+
+
 def main():
     words = [word for word in sys.argv[1:] if word != "--instructions"]
     if not words:
         run(os.path.join(TOP, "coxeter"), "")
     program = os.path.abspath(words[0] if words else os.path.join(TOP, "crates", "coxeter", "out", "coxeter"))
-    if len(words) < len(sys.argv) - 1:
-        count(program)
-        return
-    print(f"{'interval':<22}{'members':>8}{'letters':>8}{'ms':>10}{'us/member':>11}{'ns/(m*l*r)':>12}{'MiB':>8}")
-    for name, group, rank, word in cases():
-        numbers, once, peak = run(program, f"{group}\nbetti {word}\nlength {word}\n")
-        betti, length = numbers.splitlines()
-        members, letters = sum(map(int, betti.split())), int(length)
-        repeats = max(1, min(60, int(0.3 / max(once, 0.001))))
-        idle, floor = best(program, f"{group}\n"), run(program, f"{group}\n")[2]
-        seconds = (best(program, f"{group}\n" + f"betti {word}\n" * repeats) - idle) / repeats
-        each = seconds / members
-        print(
-            f"{name:<22}{members:>8}{letters:>8}{seconds * 1e3:>10.3f}{each * 1e6:>11.2f}"
-            f"{each * 1e9 / (letters * rank):>12.2f}{max(0, peak - floor):>8.1f}"
-        )
+    (count if len(words) < len(sys.argv) - 1 else measure)(program)
 
 
 if __name__ == "__main__":
