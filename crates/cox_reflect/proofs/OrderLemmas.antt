@@ -1,17 +1,17 @@
 -- Bruhat order by lifting, letter by letter of a reduced word.
-use Rattle.std.proofs.Common.{◌≡◌, ℕ, ◌≤◌, Bool, true, false, not, IsTrue, Option, Some, None, is_some, MatchOption, List, [], ◌∷◌, ◌++◌, length, take, drop, ◌↔◌, refl, arith, slice_index, add-one, drop-cons, sym, ◌∙◌, ◌<◌, ◌+◌}
+use Rattle.std.proofs.Common.{◌≡◌, ℕ, Bool, true, false, not, IsTrue, Option, Some, None, is_some, MatchOption, List, [], ◌∷◌, ◌++◌, length, take, drop, ◌↔◌, refl, arith, slice_index, add-one, drop-cons, sym, ◌∙◌, ◌<◌, ◌+◌}
 use Rattle.std.proofs.lemmas.Bool.{false≢true}
 use Rattle.std.proofs.lemmas.List.{take-append-drop}
-use Rattle.cox_base.specs.Matrix.{CoxeterMatrix, IsCoxeterMatrix, IsLetter}
+use Rattle.cox_base.specs.Matrix.{CoxeterMatrix, IsCoxeterMatrix, IsLetter, IsWord}
 use Rattle.cox_base.specs.IntegerMatrix.{IntegerMatrix, IsAdmissible, integer_matrix}
-use Rattle.cox_base.specs.ShortLex.{normal_form}
-use Rattle.cox_base.specs.Length.{word_length, IsReduced, IsLeftDescent}
+use Rattle.cox_base.specs.Length.{IsReduced, IsLeftDescent}
 use Rattle.cox_base.specs.Bruhat.{IsBelow}
 use Rattle.cox_reflect.specs.declared.heights.Heights.{Heights}
 use Rattle.cox_reflect.specs.Height.{AreHeights, CanPrepend, IsLeastLeftDescent}
+use Rattle.cox_reflect.specs.Order.{AreOfShortElement}
 use Rattle.cox_reflect.proofs.Elements.{same-refl, same-sym, same-trans, same-equal, same-square}
-use Rattle.cox_reflect.proofs.Search.{normal_form-same, IsWord-normal_form, word_length-equal, word_length-length}
-use Rattle.cox_reflect.proofs.Lengths.{IsReduced-back, IsReduced-normal_form}
+use Rattle.cox_reflect.proofs.Search.{normal_form-same, word_length-equal, word_length-length}
+use Rattle.cox_reflect.proofs.Lengths.{IsReduced-back}
 use Rattle.cox_reflect.proofs.NormalForm.{normal_form-no_descent}
 use Rattle.cox_reflect.proofs.Admissible.{IsAdmissible-integer_matrix}
 use Rattle.cox_reflect.proofs.HeightLemmas.{CanPrepend-descent}
@@ -22,8 +22,12 @@ use Rattle.cox_reflect.proofs.Bruhat.{below-same, below-refl, below-length, lift
 pub record IsLifted (A : IntegerMatrix) (y w rest : List ℕ) (heights : Heights) : Type 0 where
   pub left : List ℕ
   pub heights_of : AreHeights A left heights
-  pub short : word_length A left ≤ 63
   pub settles : IsBelow A y w ↔ IsBelow A left rest
+
+-- so it is for each y with the first heights, and what is left has at most 63 letters
+pub record AreLifted (A : IntegerMatrix) (w rest : List ℕ) (first heights : Heights) : Type 0 where
+  pub each : (y : List ℕ) → AreHeights A y first → IsLifted A y w rest heights
+  pub element : AreOfShortElement A heights
 
 module _ (A : IntegerMatrix) (g : IsAdmissible A) where
   -- the first letter of a reduced word is a left descent
@@ -47,7 +51,6 @@ module _ (A : IntegerMatrix) (g : IsAdmissible A) where
       in record {
         left = s ∷ c.left;
         heights_of = a;
-        short = omega (arith, d, c.short);
         settles = (λ b. (below-drop s (s ∷ c.left) v).0 (step.0 (before.0 b)), λ b. before.1 (step.1 ((below-drop s (s ∷ c.left) v).1 b)));
       }
 
@@ -61,21 +64,8 @@ module _ (A : IntegerMatrix) (g : IsAdmissible A) where
       in record {
         left = c.left;
         heights_of = c.heights_of;
-        short = c.short;
         settles = (λ b. (below-drop s c.left v).0 (step.0 (before.0 b)), λ b. before.1 (step.1 ((below-drop s c.left v).1 b)));
       }
-
-  pub IsLifted-start : (y w : List ℕ) (heights : Heights) → AreHeights A y heights → length y ≤ 63 → IsLifted A y w (normal_form A w) heights
-  IsLifted-start y w heights a short = record {
-    left = y;
-    heights_of = a;
-    short = omega (arith, short, word_length-length A g y);
-    settles = (
-      λ b. below-same A g (same-refl A g y) (same-sym A g (normal_form-same A g w)) b,
-      λ b. below-same A g (same-refl A g y)
-          (normal_form-same A g w) b,
-    );
-  }
 
   -- at the end the identity alone is below
   IsLifted-yes : (y w : List ℕ) (heights : Heights) (c : IsLifted A y w [] heights) → ((t : ℕ) → IsLeftDescent A c.left t → ⊥)
@@ -95,7 +85,7 @@ module _ (A : IntegerMatrix) (g : IsAdmissible A) where
   IsLifted-answer y w rest heights c e found answer m k = go found answer m k
     where
       end : IsLifted A y w [] heights
-      end = record { left = c.left; heights_of = c.heights_of; short = c.short; settles = rw e at c.settles }
+      end = record { left = c.left; heights_of = c.heights_of; settles = rw e at c.settles }
 
       go : (found : Option ℕ) (answer : Bool) → MatchOption found ((t : ℕ) → IsLeftDescent A c.left t → ⊥) (IsLeastLeftDescent A c.left)
           → is_some found ≡ not answer
@@ -109,42 +99,55 @@ module _ (A : IntegerMatrix) (g : IsAdmissible A) where
   pub IsReduced-drop : (k : ℕ) (u : List ℕ) → IsReduced A u → IsReduced A (drop k u)
   IsReduced-drop k u r = let e : take k u ++ drop k u ≡ u = take-append-drop k u in IsReduced-back A g (take k u) (drop k u) (rw e r)
 
--- ---- a turn of the loop over the letters of the normal form of w
+-- ---- a turn of the loop over the letters of a reduced word
 
 -- what the code knows of its test of a letter
 abbrev pub TellsDescent : Heights → ℕ → Bool → Type 0
 TellsDescent heights s answer =
     (A : IntegerMatrix) → (u : List ℕ) → IsAdmissible A → IsLetter A.rank s → AreHeights A u heights → (IsTrue answer ↔ IsLeftDescent A u s)
 
-module _ (x : CoxeterMatrix) (matrix : IsCoxeterMatrix x) (w items : List ℕ) (are : items ≡ normal_form (integer_matrix x) w)
-    (k : ℕ) (more : k < length items) where
+module _ (x : CoxeterMatrix) (matrix : IsCoxeterMatrix x) (form : List ℕ) (word : IsWord x.rank form)
+    (is_reduced : IsReduced (integer_matrix x) form) (k : ℕ) (more : k < length form) where
   g : IsAdmissible (integer_matrix x)
   g = IsAdmissible-integer_matrix x matrix
 
-  pub turn-letter : IsLetter x.rank (slice_index items k)
-  turn-letter = rw are (IsWord-normal_form (integer_matrix x) g w k 0 (rw are at more))
+  pub turn-letter : IsLetter x.rank (slice_index form k)
+  turn-letter = word k 0 more
 
-  front : drop k items ≡ slice_index items k ∷ drop (k + 1) items
-  front = rw (add-one, drop-cons items k 0)
+  front : drop k form ≡ slice_index form k ∷ drop (k + 1) form
+  front = rw (add-one, drop-cons form k 0)
 
-  reduced : IsReduced (integer_matrix x) (drop k items)
-  reduced = IsReduced-drop (integer_matrix x) g k items (rw are (IsReduced-normal_form (integer_matrix x) g w))
+  reduced : IsReduced (integer_matrix x) (drop k form)
+  reduced = IsReduced-drop (integer_matrix x) g k form is_reduced
 
-  module _ (y : List ℕ) (heights : Heights) (c : IsLifted (integer_matrix x) y w (drop k items) heights) (answer : Bool)
-      (tells : TellsDescent heights (slice_index items k) answer) where
-    descent : IsTrue answer ↔ IsLeftDescent (integer_matrix x) c.left (slice_index items k)
-    descent = tells (integer_matrix x) c.left g turn-letter c.heights_of
+  module _ (first heights : Heights) (c : AreLifted (integer_matrix x) form (drop k form) first heights) (answer : Bool)
+      (tells : TellsDescent heights (slice_index form k) answer) where
+    descent : (u : List ℕ) → AreHeights (integer_matrix x) u heights → IsTrue answer ↔ IsLeftDescent (integer_matrix x) u (slice_index form k)
+    descent u a = tells (integer_matrix x) u g turn-letter a
 
-    pub turn-room : IsTrue answer → CanPrepend (integer_matrix x) (slice_index items k) heights
-    turn-room taken = CanPrepend-descent (integer_matrix x) g c.left (slice_index items k) heights (descent.0 taken) c.short c.heights_of
+    pub turn-room : IsTrue answer → CanPrepend (integer_matrix x) (slice_index form k) heights
+    turn-room taken =
+        let e = c.element
+        in CanPrepend-descent (integer_matrix x) g e.word (slice_index form k) heights ((descent e.word e.heights_of).0 taken) e.short e.heights_of
 
-    pub turn-down : IsTrue answer → (next : Heights) → Prepends (integer_matrix x) (slice_index items k) heights next
-        → IsLifted (integer_matrix x) y w (drop (k + 1) items) next
+    pub turn-down : IsTrue answer → (next : Heights) → Prepends (integer_matrix x) (slice_index form k) heights next
+        → AreLifted (integer_matrix x) form (drop (k + 1) form) first next
     turn-down taken next moves =
-        IsLifted-down (integer_matrix x) g y w (drop k items) (slice_index items k) (drop (k + 1) items) heights c front reduced
-        (descent.0 taken) next (moves c.left c.heights_of)
+        let e = c.element
+        in let d = (descent e.word e.heights_of).0 taken
+        in record {
+          each = λ y a.
+              let l = c.each y a
+              in IsLifted-down (integer_matrix x) g y form (drop k form) (slice_index form k) (drop (k + 1) form) heights l front reduced
+              ((descent l.left l.heights_of).0 taken) next (moves l.left l.heights_of);
+          element = record { word = slice_index form k ∷ e.word; heights_of = moves e.word e.heights_of; short = omega (arith, d, e.short) };
+        }
 
-    pub turn-up : answer ≡ false → IsLifted (integer_matrix x) y w (drop (k + 1) items) heights
-    turn-up other =
-        IsLifted-up (integer_matrix x) g y w (drop k items) (slice_index items k) (drop (k + 1) items) heights c front reduced
-        (λ d. absurd (false≢true (sym other ∙ descent.1 d)))
+    pub turn-up : answer ≡ false → AreLifted (integer_matrix x) form (drop (k + 1) form) first heights
+    turn-up other = record {
+      each = λ y a.
+          let l = c.each y a
+          in IsLifted-up (integer_matrix x) g y form (drop k form) (slice_index form k) (drop (k + 1) form) heights l front reduced
+          (λ d. absurd (false≢true (sym other ∙ (descent l.left l.heights_of).1 d)));
+      element = c.element;
+    }

@@ -20,3 +20,5 @@ pub mod RootHeight
 pub mod Height
 -- descents by the side
 pub mod Side
+-- what the test of Bruhat order asks of heights
+pub mod Order

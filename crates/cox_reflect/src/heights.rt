@@ -12,7 +12,7 @@ use cox_base::{Coxeter, MAX_RANK, Word};
 ///
 /// The letter t is a left descent of u exactly where its height is negative (Humphreys 5.4). Other crates do not see the numbers: contracts say
 /// only which word they are the heights of.
-#[derive(Clone, Copy)]
+#[derive(Clone, Copy, PartialEq, Eq, Hash)]
 pub struct Heights {
     // that of the letter t at t - 1; past the rank they mean nothing
     values: [i128; MAX_RANK],

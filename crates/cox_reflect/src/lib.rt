@@ -24,4 +24,4 @@ mod tests;
 pub use coordinates::image;
 pub use forms::{descents, length, normal_form};
 pub use heights::Heights;
-pub use order::below;
+pub use order::{below, below_reduced};
