@@ -1,17 +1,18 @@
 -- Why a context is refused.
 use Rattle.std.proofs.Common.{◌≡◌, ℕ, ◌+◌, ◌≤◌, ◌<◌, List, [], ◌∷◌, ◌++◌, length, Contains, arith, refl}
 use Rattle.cox_reflect.proofs.ShortLexFirst.{IsBefore, IsBefore-irrefl}
-use Rattle.cox_context.specs.SortedList.{IsRising, IsFrontOf}
+use Rattle.cox_context.specs.SortedList.{IsRising}
+use Rattle.cox_context.specs.Refusal.{IsPrefixOf}
 use Rattle.cox_context.specs.Numbers.{word_at}
 use Rattle.cox_context.specs.Refusal.{IsOver}
 use Rattle.cox_context.proofs.ListLemmas.{contains-placed, word_at-old, word_at-new, length-push, rising-before}
 
--- a front with one word more than the limit
-pub over-front : (P : List ℕ → Type 0) (limit : ℕ) (words : List (List ℕ)) (word : List ℕ) → length words ≡ limit → IsFrontOf P (words ++ word ∷ [])
+-- a prefix with one word more than the limit
+pub over-prefix : (P : List ℕ → Type 0) (limit : ℕ) (words : List (List ℕ)) (word : List ℕ) → length words ≡ limit → IsPrefixOf P (words ++ word ∷ [])
     → ((i : ℕ) → i < length words + 1 → length (word_at (words ++ word ∷ []) i) ≤ 63) → IsOver P limit
-over-front P limit words word count front short = record {
-  front = words ++ word ∷ [];
-  first = front;
+over-prefix P limit words word count prefix short = record {
+  prefix = words ++ word ∷ [];
+  first = prefix;
   count = omega (arith, length-push words word, count);
   short = λ other c. let p = contains-placed (words ++ word ∷ []) other c in rw (← p.is) (short p.i (omega (arith, p.within, length-push words word)));
 }

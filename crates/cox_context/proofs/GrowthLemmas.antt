@@ -4,7 +4,8 @@ use Rattle.std.proofs.lemmas.Bool.{cases_lt, cases_order}
 use Rattle.cox_base.specs.Matrix.{IsLetter}
 use Rattle.cox_base.specs.ShortLex.{shortlex_cmp}
 use Rattle.cox_reflect.proofs.ShortLexFirst.{IsBefore, by_length, IsBefore-cons, IsBefore-head, before-shortlex_cmp}
-use Rattle.cox_context.specs.SortedList.{IsListOf, IsFrontOf}
+use Rattle.cox_context.specs.SortedList.{IsListOf}
+use Rattle.cox_context.specs.Refusal.{IsPrefixOf}
 use Rattle.cox_context.specs.Numbers.{word_at}
 use Rattle.cox_context.specs.Growth.{IsGrown, IsGrowing, IsChild, IsEarlier}
 use Rattle.cox_context.proofs.ListLemmas.{contains-placed, placed-contains, word_at-old, word_at-new, length-push, push_cases, rising-before, rising-push}
@@ -179,9 +180,9 @@ module _ (rank : ℕ) (P : List ℕ → Type 0) (closed : IsTailed rank P) where
         (λ last. rw (word_at-new words (s ∷ word_at words j) i last) (omega (arith, h.level j h.start inside)))
         (push_cases words (s ∷ word_at words j) i (omega (arith, l, length-push words (s ∷ word_at words j))))
 
-    -- .. and then the list is a front of the members
-    pub growing-front : j < high → P (s ∷ word_at words j) → IsFrontOf P (words ++ (s ∷ word_at words j) ∷ [])
-    growing-front inside member = record {
+    -- .. and then the list is a prefix of the members
+    pub growing-prefix : j < high → P (s ∷ word_at words j) → IsPrefixOf P (words ++ (s ∷ word_at words j) ∷ [])
+    growing-prefix inside member = record {
       rising = next.rising;
       sound = λ word c. let p = contains-placed all word c in subst P p.is (next.sound p.i p.within);
       first = λ word p. first_of word p;

@@ -7,7 +7,7 @@ use Rattle.cox_base.specs.Matrix.{IsLetter}
 use Rattle.cox_base.specs.IntegerMatrix.{IntegerMatrix, IsAdmissible}
 use Rattle.cox_base.specs.ShortLex.{normal_form}
 use Rattle.cox_base.specs.Length.{IsLeftDescent}
-use Rattle.cox_context.specs.Members.{IsClosed}
+use Rattle.cox_context.specs.Closed.{IsClosed}
 use Rattle.cox_context.specs.Numbers.{word_at, IsNumberOf}
 use Rattle.cox_context.specs.Shifts.{entry, AreLeftShifts, AreLinks}
 use Rattle.cox_context.proofs.ListLemmas.{contains-placed, rising-place}

@@ -1,7 +1,7 @@
 -- What holds of an Ok.
 use Rattle.std.proofs.Common.{◌≡◌, false, Result, Ok, Err, is_err, is_ok, OnOk, IfOk, if◌then◌else◌, ap, ℕ, List}
 use Rattle.cox_base.specs.Matrix.{CoxeterMatrix}
-use Rattle.cox_context.specs.Members.{Elements}
+use Rattle.cox_context.specs.Closed.{Elements}
 
 pub on_ok : {T E : Type 0} (r : Result T E) (P : Type 0) → is_err r ≡ false → OnOk r P → P
 on_ok (Ok x) P e h = h

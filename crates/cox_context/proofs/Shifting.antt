@@ -13,7 +13,8 @@ use Rattle.cox_reflect.proofs.Search.{normal_form-same, normal_form-equal}
 use Rattle.cox_reflect.proofs.Lengths.{word_length-is}
 use Rattle.cox_reflect.proofs.Deletion.{left_length, right_length, sides_same}
 use Rattle.cox_reflect.proofs.Bruhat.{below-same, below-refl, below-trans, below-least, below-descent, below-ascent, below-push}
-use Rattle.cox_context.specs.Members.{IsElement, IsClosed}
+use Rattle.cox_context.specs.Members.{IsElement}
+use Rattle.cox_context.specs.Closed.{IsClosed}
 use Rattle.cox_context.specs.Numbers.{word_at}
 use Rattle.cox_context.proofs.ListLemmas.{IsPlaced, contains-placed, contains-at, rising-length}
 use Rattle.cox_context.proofs.Ideals.{element-normal_form, element-length, element-nil, element-tail, below-tail}

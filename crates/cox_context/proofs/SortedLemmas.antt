@@ -108,10 +108,10 @@ IsListOf-filter P Q test xs a tells narrower = record {
 
 -- ---- more than so many words
 
--- a front of limit + 1 words ..
+-- a prefix of limit + 1 words ..
 pub HasMoreThan-over : (P : List ℕ → Type 0) (limit : ℕ) (xs : List (List ℕ)) → IsListOf P xs → IsOver P limit → HasMoreThan limit P
 HasMoreThan-over P limit xs a over =
-    let size : length over.front ≤ length xs = no-longer over.front xs over.first.rising a.rising (λ word c. a.whole word (over.first.sound word c))
+    let size : length over.prefix ≤ length xs = no-longer over.prefix xs over.first.rising a.rising (λ word c. a.whole word (over.first.sound word c))
     in (xs, a, omega (arith, size, over.count))
 
 -- .. which a list of no more than limit words rules out

@@ -14,7 +14,7 @@ use Rattle.cox_reflect.proofs.Search.{normal_form-same, normal_form-equal, word_
 use Rattle.cox_reflect.proofs.Roots.{left_descent-letter}
 use Rattle.cox_reflect.proofs.Deletion.{parity}
 use Rattle.cox_reflect.proofs.Bruhat.{below-same, below-refl, below-length, below-equal_length, below-cons}
-use Rattle.cox_context.specs.Members.{IsClosed}
+use Rattle.cox_context.specs.Closed.{IsClosed}
 use Rattle.cox_context.specs.Numbers.{word_at}
 use Rattle.cox_context.specs.Shifts.{entry, IsNoted, IsRound, AreLinks}
 use Rattle.cox_context.proofs.ListLemmas.{IsPlaced, contains-placed, rising-length, rising-place}

@@ -1,11 +1,10 @@
 -- A walk from member to member by two letters in turn: after 2 m - 1 turns it has come to the shift by the other letter.
-use Rattle.std.proofs.Common.{◌≡◌, ℕ, zero, suc, ◌-◌, ◌<◌, List, [], ◌∷◌, ◌++◌, length, ℤ, sym, ◌∙◌}
+use Rattle.std.proofs.Common.{◌≡◌, ℕ, suc, ◌-◌, ◌<◌, List, ◌∷◌, ◌++◌, length, sym, ◌∙◌}
 use Rattle.cox_base.specs.Matrix.{IsLetter}
-use Rattle.cox_base.specs.IntegerMatrix.{IntegerMatrix, IsAdmissible, HasOrder, order_two, order_three, order_four, order_back_four, order_six, order_back_six}
+use Rattle.cox_base.specs.IntegerMatrix.{IntegerMatrix, IsAdmissible, HasOrder}
 use Rattle.cox_base.specs.Element.{SameElement}
 use Rattle.cox_base.specs.ShortLex.{normal_form}
-use Rattle.cox_reflect.proofs.Elements.{same-refl, same-sym, same-trans, same-cons, same-square, same-append}
-use Rattle.cox_reflect.proofs.RankTwo.{alternating, same-braid}
+use Rattle.cox_reflect.proofs.Elements.{same-refl, same-trans, same-cons, same-append}
 use Rattle.cox_reflect.proofs.TwoDescents.{zigzag, zigzag-order}
 use Rattle.cox_reflect.proofs.Search.{normal_form-same, normal_form-equal}
 use Rattle.cox_context.specs.Members.{IsElement}

@@ -5,7 +5,7 @@ use Rattle.cox_base.specs.Matrix.{IsLetter}
 use Rattle.cox_base.specs.IntegerMatrix.{IntegerMatrix, HasOrder}
 use Rattle.cox_base.specs.ShortLex.{normal_form, letters}
 use Rattle.cox_base.specs.Length.{IsLeftDescent, left_descents, right_descents}
-use Rattle.cox_context.specs.Members.{IsClosed}
+use Rattle.cox_context.specs.Closed.{IsClosed}
 use Rattle.cox_context.specs.Numbers.{word_at, IsNumberOf}
 
 -- the entry of member i for the letter s

@@ -1,6 +1,6 @@
 use Rattle.std.proofs.Common.{◌≤◌, length}
 use Rattle.cox_base.specs.IntegerMatrix.{integer_matrix}
-use Rattle.cox_context.specs.Members.{IsMember}
+use Rattle.cox_context.specs.Family.{IsMember}
 use Rattle.cox_context.specs.Growth.{IsGrowing, AreAllHeights}
 use Rattle.cox_context.proofs.builder.Builder.grow_length.Given as goal
 

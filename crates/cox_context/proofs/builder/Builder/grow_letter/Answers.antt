@@ -1,13 +1,13 @@
 use Rattle.std.proofs.Common.{rules, ℕ, ◌≡◌, ◌≤◌, ◌<◌, ◌+◌, ◌∷◌, ◌++◌, [], List, length, arith}
 use Rattle.cox_base.specs.IntegerMatrix.{IntegerMatrix, integer_matrix}
 use Rattle.cox_reflect.proofs.Admissible.{IsAdmissible-integer_matrix}
-use Rattle.cox_context.specs.Members.{IsMember}
-use Rattle.cox_context.specs.SortedList.{IsFrontOf}
+use Rattle.cox_context.specs.Family.{IsMember}
+use Rattle.cox_context.specs.Refusal.{IsPrefixOf}
 use Rattle.cox_context.specs.Numbers.{word_at}
 use Rattle.cox_context.proofs.Ideals.{ideal-member, ideal-tailed}
 use Rattle.cox_context.proofs.HeightLists.{heights-push}
 use Rattle.cox_context.proofs.FaultLemmas.{rising-new}
-use Rattle.cox_context.proofs.GrowthLemmas.{IsTailed, growing-skip, growing-push, growing-front, growing-letter, push-length}
+use Rattle.cox_context.proofs.GrowthLemmas.{IsTailed, growing-skip, growing-push, growing-prefix, growing-letter, push-length}
 use Rattle.cox_context.proofs.builder.Builder.grow_letter.Goals as goal
 use Rattle.cox_context.proofs.builder.Builder.grow_letter.Goals.{in-Some+in_ok-add, in_default}
 
@@ -19,7 +19,7 @@ add-requires-clause-new c =
     in let child : c.in-Some.child.word.items ≡ c.args.s ∷ word_at c.loop-parent.self.members c.loop-parent.parent = c.in-Some.ensures.child.0
     in let member : P (c.args.s ∷ word_at c.loop-parent.self.members c.loop-parent.parent) = rw child at c.in-Some.ensures.child.1
     in rw child (rising-new c.loop-parent.self.members (c.args.s ∷ word_at c.loop-parent.self.members c.loop-parent.parent)
-    (growing-front c.args.family.now.group.rank P tailed c.args.letters c.args.low c.args.high c.args.s c.loop-parent.parent c.loop-parent.self.members c.loop-parent.invariant.growing c.loop-parent-test.true member).rising)
+    (growing-prefix c.args.family.now.group.rank P tailed c.args.letters c.args.low c.args.high c.args.s c.loop-parent.parent c.loop-parent.self.members c.loop-parent.invariant.growing c.loop-parent-test.true member).rising)
 
 pub returns-in_err-add-clause-fault : goal.returns-in_err-add-clause-fault
 returns-in_err-add-clause-fault c =
@@ -28,11 +28,11 @@ returns-in_err-add-clause-fault c =
     in let tailed : IsTailed c.args.family.now.group.rank P = ideal-tailed A (IsAdmissible-integer_matrix c.args.family.now.group c.requires.matrix) P (ideal-member A (IsAdmissible-integer_matrix c.args.family.now.group c.requires.matrix) c.args.family.now.top)
     in let child : c.in-Some.child.word.items ≡ c.args.s ∷ word_at c.loop-parent.self.members c.loop-parent.parent = c.in-Some.ensures.child.0
     in let member : P (c.args.s ∷ word_at c.loop-parent.self.members c.loop-parent.parent) = rw child at c.in-Some.ensures.child.1
-    in let front : IsFrontOf P (c.loop-parent.self.members ++ c.in-Some.child.word.items ∷ [])
-    = rw child (growing-front c.args.family.now.group.rank P tailed c.args.letters c.args.low c.args.high c.args.s c.loop-parent.parent c.loop-parent.self.members c.loop-parent.invariant.growing c.loop-parent-test.true member)
+    in let prefix : IsPrefixOf P (c.loop-parent.self.members ++ c.in-Some.child.word.items ∷ [])
+    = rw child (growing-prefix c.args.family.now.group.rank P tailed c.args.letters c.args.low c.args.high c.args.s c.loop-parent.parent c.loop-parent.self.members c.loop-parent.invariant.growing c.loop-parent-test.true member)
     in let short : (i : ℕ) → i < length c.loop-parent.self.members + 1 → length (word_at (c.loop-parent.self.members ++ c.in-Some.child.word.items ∷ []) i) ≤ 63
     = rw child (λ i l. omega (arith, push-length c.args.family.now.group.rank P tailed c.args.letters c.args.low c.args.high c.args.s c.loop-parent.parent c.loop-parent.self.members c.loop-parent.invariant.growing c.loop-parent-test.true i l, c.requires.short))
-    in search (rules, c.in_err-add.ensures.fault A c.args.family.now.top front short)
+    in search (rules, c.in_err-add.ensures.fault A c.args.family.now.top prefix short)
 
 pub loop-parent-preserved : goal.loop-parent-preserved
 loop-parent-preserved c =

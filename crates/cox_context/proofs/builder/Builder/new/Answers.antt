@@ -2,7 +2,7 @@ use Rattle.std.proofs.Common.{◌≡◌, ◌∷◌, [], refl, ◌++◌, sym, ◌
 use Rattle.cox_context.proofs.ResultLemmas.{on_ok}
 use Rattle.cox_base.specs.IntegerMatrix.{integer_matrix}
 use Rattle.cox_reflect.proofs.Admissible.{IsAdmissible-integer_matrix}
-use Rattle.cox_context.specs.Members.{IsMember}
+use Rattle.cox_context.specs.Family.{IsMember}
 use Rattle.cox_context.proofs.GrowthLemmas.{grown-start}
 use Rattle.cox_context.proofs.Ideals.{ideal-member, ideal-tailed}
 use Rattle.cox_context.proofs.builder.Builder.new.Goals as goal

@@ -5,7 +5,8 @@ use Rattle.cox_base.specs.Matrix.{IsCoxeterMatrix}
 use Rattle.cox_base.specs.IntegerMatrix.{IntegerMatrix, IsAdmissible, integer_matrix}
 use Rattle.cox_base.specs.Length.{IsReduced}
 use Rattle.cox_reflect.proofs.Admissible.{IsAdmissible-integer_matrix}
-use Rattle.cox_context.specs.Members.{Elements, IsElement, IsClosed}
+use Rattle.cox_context.specs.Closed.{Elements, IsClosed}
+use Rattle.cox_context.specs.Members.{IsElement}
 use Rattle.cox_context.specs.Numbers.{word_at}
 use Rattle.cox_context.proofs.Ideals.{element-length}
 use Rattle.cox_context.proofs.Shifting.{element-at}

@@ -1,6 +1,6 @@
 use Rattle.std.proofs.Common.{◌<◌, ℕ, List, length, ap, subst, sym, ◌∙◌}
 use Rattle.arrayvec.specs.ArrayVec.{ArrayVec}
-use Rattle.cox_context.specs.Members.{Elements}
+use Rattle.cox_context.specs.Closed.{Elements}
 use Rattle.cox_context.specs.Shifts.{letters_at}
 use Rattle.cox_context.proofs.context.Context.right_descents.Goals as goal
 
