@@ -1,5 +1,6 @@
 -- Contexts of intervals and of groups: their members are closed downwards, and what a group that goes on has.
-use Rattle.std.proofs.Common.{◌≡◌, ℕ, ◌≤◌, ◌<◌, List, [], ◌∷◌, length, None, Some, Result, Ok, Err, IfErr, ap, sym, ◌∙◌, ⊎_elim, arith, subst}
+use Rattle.std.proofs.Common.{◌≡◌, ℕ, ◌≤◌, ◌<◌, List, [], ◌∷◌, length, None, Some, Result, Ok, Err, IfErr, ap, sym, ◌∙◌, ⊎_elim}
+use Rattle.std.proofs.Common.{arith, subst}
 use Rattle.std.proofs.lemmas.Bool.{cases_lt}
 use Rattle.std.proofs.lemmas.List.Elements.{All-head}
 use Rattle.cox_base.specs.Matrix.{IsLetter}
@@ -69,7 +70,8 @@ result-along P Q to from limit (Err fault) h = refusal-along P Q to from limit f
 -- ---- the members of a context
 
 module _ (A : IntegerMatrix) (g : IsAdmissible A) where
-  pub list-closed : (P : List ℕ → Type 0) (words : List (List ℕ)) → IsIdeal A P → IsListOf P words → ((word : List ℕ) → P word → length word ≤ 63) → length words ≤ MAX_MEMBERS → IsClosed A words
+  pub list-closed : (P : List ℕ → Type 0) (words : List (List ℕ)) → IsIdeal A P → IsListOf P words
+      → ((word : List ℕ) → P word → length word ≤ 63) → length words ≤ MAX_MEMBERS → IsClosed A words
   list-closed P words ideal are short few = record {
     rising = are.rising;
     element = λ word c. ideal.element word (are.sound word c);
@@ -96,7 +98,8 @@ module _ (A : IntegerMatrix) (g : IsAdmissible A) where
   pub interval-closed : (top : List ℕ) (words : List (List ℕ)) → IsReduced A top → length top ≤ 63 → length words ≤ MAX_MEMBERS
       → IsListOf (IsInInterval A top) words → IsClosed A words
   interval-closed top words reduced short few are =
-      list-closed (IsInInterval A top) words (interval-ideal top) are (λ word p. omega (arith, interval-length top word p, reduced, short)) few
+      list-closed (IsInInterval A top) words (interval-ideal top) are
+      (λ word p. omega (arith, interval-length top word p, reduced, short)) few
 
   -- the interval up to w is that up to a word of the same element
   pub interval-from : (w top : List ℕ) → SameElement A top w → (word : List ℕ) → IsInInterval A top word → IsInInterval A w word
@@ -104,27 +107,35 @@ module _ (A : IntegerMatrix) (g : IsAdmissible A) where
 
   -- where each member of 63 letters is shortened by each letter, no element is longer
   pub group-length : (low : ℕ) (words : List (List ℕ)) → IsGrown A.rank (IsElement A) 63 low words
-      → ((i s : ℕ) → low ≤ i → i < length words → IsLetter A.rank s → IsLeftDescent A (word_at words i) s) → (word : List ℕ) → IsElement A word → length word ≤ 63
+      → ((i s : ℕ) → low ≤ i → i < length words → IsLetter A.rank s → IsLeftDescent A (word_at words i) s) → (word : List ℕ)
+      → IsElement A word → length word ≤ 63
   group-length low words h all [] e = omega arith
   group-length low words h all (t ∷ x) e = go (group-length low words h all x (element-tail A g t x e))
     where
       long : (i : ℕ) × (i < length words) × (word_at words i ≡ x) → 63 ≤ length x → ⊥
       long (i, l, q) m =
-          let from : low ≤ i = ⊎_elim (λ (less : i < low). absurd (omega (arith, h.shorter i less, ap length q, m))) (λ (more : low ≤ i). more) (cases_lt i low)
+          let from : low ≤ i = ⊎_elim (λ (less : i < low). absurd (omega (arith, h.shorter i less, ap length q, m)))
+          (λ (more : low ≤ i). more) (cases_lt i low)
           in let d : IsLeftDescent A x t = rw q at (all i t from l (All-head (IsLetter A.rank) t x e.letters))
           in omega (arith, d, element-length A g (t ∷ x) e, element-length A g x (element-tail A g t x e))
 
       go : length x ≤ 63 → length (t ∷ x) ≤ 63
-      go l = ⊎_elim (λ (less : length x < 63). omega (arith, less)) (λ (more : 63 ≤ length x). absurd (long (h.whole x (element-tail A g t x e) l) more)) (cases_lt (length x) 63)
+      go l = ⊎_elim (λ (less : length x < 63). omega (arith, less))
+          (λ (more : 63 ≤ length x). absurd (long (h.whole x (element-tail A g t x e) l) more)) (cases_lt (length x) 63)
 
   -- where one is not, there is an element of 64 letters
   pub group-long : (low limit : ℕ) (words : List (List ℕ)) → IsGrown A.rank (IsElement A) 63 low words → length words ≤ limit
-      → (i : ℕ) × (s : ℕ) × (low ≤ i) × (i < length words) × IsLetter A.rank s × (IsLeftDescent A (word_at words i) s → ⊥) → IsLong (IsElement A) limit
+      → (i : ℕ) × (s : ℕ) × (low ≤ i) × (i < length words) × IsLetter A.rank s × (IsLeftDescent A (word_at words i) s → ⊥)
+      → IsLong (IsElement A) limit
   group-long low limit words h few (i, s, from, l, letter, none) = record {
     words = words;
     are = record {
       rising = h.rising;
-      sound = λ word c. let p = contains-placed words word c in (subst (IsElement A) p.is (h.sound p.i p.within), rw (← p.is) (grown-length A.rank (IsElement A) tailed 63 low words h p.i p.within));
+      sound = λ word c. let p = contains-placed words word c in (
+        subst (IsElement A) p.is (h.sound p.i p.within),
+        rw (← p.is)
+            (grown-length A.rank (IsElement A) tailed 63 low words h p.i p.within),
+      );
       whole = λ word p. let w = h.whole word p.0 p.1 in placed-contains words word (record { i = w.0; within = w.1; is = w.2 });
     };
     count = few;
@@ -138,5 +149,6 @@ module _ (A : IntegerMatrix) (g : IsAdmissible A) where
 
       up : word_length A (s ∷ word_at words i) ≡ 64
       up =
-          ⊎_elim (λ longer. omega (arith, longer, element-length A g (word_at words i) (h.sound i l), h.level i from l)) (λ shorter. absurd (none (omega (arith, shorter))))
+          ⊎_elim (λ longer. omega (arith, longer, element-length A g (word_at words i) (h.sound i l), h.level i from l))
+          (λ shorter. absurd (none (omega (arith, shorter))))
           (left_length A g s (word_at words i) letter)

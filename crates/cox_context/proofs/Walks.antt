@@ -16,16 +16,23 @@ pub record IsWalked (A : IntegerMatrix) (words : List (List ℕ)) (t s i k at : 
   pub same : SameElement A (word_at words at) (zigzag t s k ++ word_at words i)
 
 module _ (A : IntegerMatrix) (g : IsAdmissible A) where
-  pub walked-start : (words : List (List ℕ)) (t s i k : ℕ) → k < length words → word_at words k ≡ normal_form A (t ∷ word_at words i) → IsWalked A words t s i 0 k
+  pub walked-start : (words : List (List ℕ)) (t s i k : ℕ) → k < length words → word_at words k ≡ normal_form A (t ∷ word_at words i)
+      → IsWalked A words t s i 0 k
   walked-start words t s i k l e = record { within = l; same = rw e (normal_form-same A g (t ∷ word_at words i)) }
 
-  pub walked-next : (words : List (List ℕ)) (t s i k at half next : ℕ) → IsWalked A words t s i k at → word_at words half ≡ normal_form A (s ∷ word_at words at)
+  pub walked-next : (words : List (List ℕ)) (t s i k at half next : ℕ) → IsWalked A words t s i k at
+      → word_at words half ≡ normal_form A (s ∷ word_at words at)
       → next < length words → word_at words next ≡ normal_form A (t ∷ word_at words half) → IsWalked A words t s i (suc k) next
   walked-next words t s i k at half next w e l f =
-      let first : SameElement A (word_at words half) (s ∷ (zigzag t s k ++ word_at words i)) = rw e (same-trans A g (normal_form-same A g (s ∷ word_at words at)) (same-cons A g s w.same))
+      let first : SameElement A (word_at words half) (s ∷ (zigzag t s k ++ word_at words i)) =
+      rw e (same-trans A g (normal_form-same A g (s ∷ word_at words at)) (same-cons A g s w.same))
       in record { within = l; same = rw f (same-trans A g (normal_form-same A g (t ∷ word_at words half)) (same-cons A g t first)) }
 
-  pub walked-end : (words : List (List ℕ)) (t s m i at : ℕ) → IsLetter A.rank t → IsLetter A.rank s → HasOrder (A.entry t s) (A.entry s t) m → IsElement A (word_at words at) → IsWalked A words t s i (m - 1) at
+  pub walked-end : (words : List (List ℕ)) (t s m i at : ℕ) → IsLetter A.rank t → IsLetter A.rank s
+      → HasOrder (A.entry t s) (A.entry s t) m → IsElement A (word_at words at) → IsWalked A words t s i (m - 1) at
       → (at < length words) × (word_at words at ≡ normal_form A (s ∷ word_at words i))
-  walked-end words t s m i at lt ls h e w =
-      (w.within, sym e.normal ∙ normal_form-equal A g (same-trans A g w.same (same-append A g (zigzag-order A g t s m lt ls h) (same-refl A g (word_at words i)))))
+  walked-end words t s m i at lt ls h e w = (
+    w.within,
+    sym e.normal ∙ normal_form-equal A g
+        (same-trans A g w.same (same-append A g (zigzag-order A g t s m lt ls h) (same-refl A g (word_at words i)))),
+  )

@@ -1,5 +1,7 @@
 -- Coordinates of roots as the code computes them: how a list of numbers changes under a letter, and that 128 bits are enough.
-use Rattle.std.proofs.Common.{◌≡◌, ℕ, zero, suc, ◌+◌, ◌-◌, ◌*◌, ◌^◌, ◌≤◌, ◌<◌, List, [], ◌∷◌, ◌++◌, length, reverse, map, set, ℤ, pos, ◌+ℤ◌, ◌-ℤ◌, ◌*ℤ◌, nat_abs, replicate, slice_index_or, get_or-set_other, refl, sym, ◌∙◌, ⊎_elim, arith, lit<, get_or}
+use Rattle.std.proofs.Common.{◌≡◌, ℕ, zero, suc, ◌+◌, ◌-◌, ◌*◌, ◌^◌, ◌≤◌, ◌<◌, List, [], ◌∷◌, ◌++◌, length, reverse, map, set, ℤ}
+use Rattle.std.proofs.Common.{pos, ◌+ℤ◌, ◌-ℤ◌, ◌*ℤ◌, nat_abs, replicate, slice_index_or, get_or-set_other, refl, sym, ◌∙◌, ⊎_elim}
+use Rattle.std.proofs.Common.{arith, lit<, get_or}
 use Rattle.std.proofs.Math.Nat.{mul-le-mul_right, pow-le-pow_right}
 use Rattle.std.proofs.lemmas.Bool.{cases_eq, cases_lt}
 use Rattle.std.proofs.lemmas.List.{length-set, length-replicate, get_or-replicate, get_or_past}
@@ -115,7 +117,8 @@ pub AreCoordinates-simple_root : (A : IntegerMatrix) (s : ℕ) (list : List ℤ)
 AreCoordinates-simple_root A s list l limit e = record {
   count = rw e (length-set (replicate MAX_RANK (pos 0)) (s - 1) (pos 1) ∙ length-replicate MAX_RANK (pos 0));
   each = λ i k. ⊎_elim (λ (f : i ≡ s). rw (e, f)
-      (at_letter-set_same (replicate MAX_RANK (pos 0)) s (pos 1) l.from_one (omega (arith, length-replicate MAX_RANK (pos 0), l.to_rank, limit))
+      (at_letter-set_same (replicate MAX_RANK (pos 0)) s (pos 1) l.from_one
+      (omega (arith, length-replicate MAX_RANK (pos 0), l.to_rank, limit))
       ∙ sym (simple_root-self s)))
       (λ ne. rw e (at_letter-set_other (replicate MAX_RANK (pos 0)) s i (pos 1) l.from_one k.from_one ne ∙ zeros (i - 1)
       ∙ sym (simple_root-other s i ne))) (cases_eq i s);
@@ -126,7 +129,8 @@ AreCoordinates-simple_root A s list l limit e = record {
     zeros : (k : ℕ) → slice_index_or (replicate MAX_RANK (pos 0)) k (pos 0) ≡ pos 0
     zeros k =
         ⊎_elim (λ (low : k < MAX_RANK). get_or-replicate MAX_RANK k (pos 0) (pos 0) low)
-        (λ (high : MAX_RANK ≤ k). get_or_past (replicate MAX_RANK (pos 0)) k (pos 0) (omega (arith, high, length-replicate MAX_RANK (pos 0)))) (cases_lt k MAX_RANK)
+        (λ (high : MAX_RANK ≤ k). get_or_past (replicate MAX_RANK (pos 0)) k (pos 0)
+        (omega (arith, high, length-replicate MAX_RANK (pos 0)))) (cases_lt k MAX_RANK)
 
 pub AreCoordinates-column : (A : IntegerMatrix) (w : List ℕ) (s : ℕ) (list : List ℤ) → AreCoordinates A list (act A w (simple_root s))
     → (i : ℕ) → IsLetter A.rank i
@@ -140,7 +144,8 @@ AreCoordinates-next A f xs x s list is = rw (reverse-map_push f xs x, act-cons A
 
 -- ---- a turn of the loop over the letters of w, the last one first: xs are the items so far, item is the next, f gives their letters
 
-module _ (x : CoxeterMatrix) (matrix : IsCoxeterMatrix x) (w : List ℕ) (word : IsWord x.rank w) (short : length w ≤ 63) (s : ℕ) {X : Type 0} (f : X → ℕ)
+module _ (x : CoxeterMatrix) (matrix : IsCoxeterMatrix x) (w : List ℕ) (word : IsWord x.rank w) (short : length w ≤ 63) (s : ℕ)
+    {X : Type 0} (f : X → ℕ)
     (xs : List X) (item : X) (turn : (length xs < length (reverse w)) × (f item ≡ get_or (reverse w) (length xs) (f item)))
     (list : List ℤ) (are : AreCoordinates (integer_matrix x) list (act (integer_matrix x) (reverse (map f xs)) (simple_root s))) where
   g : IsAdmissible (integer_matrix x)
@@ -155,8 +160,10 @@ module _ (x : CoxeterMatrix) (matrix : IsCoxeterMatrix x) (w : List ℕ) (word :
   pub image-fits : (p : ℤ) → nat_abs p ≤ 3 * size x.rank (at_letter list) → SFits w128 (at_letter list (f item) -ℤ p)
   image-fits p small = reflected-fits (integer_matrix x) list (f item) p image-letter small image-room
 
-  pub image-next : (p v : ℤ) → x.rank ≤ MAX_RANK → p ≡ sum_to x.rank (λ t. entry_of x (f item) t *ℤ at_letter list t) → v ≡ at_letter list (f item) -ℤ p
-      → AreCoordinates (integer_matrix x) (set list (f item - 1) v) (act (integer_matrix x) (reverse (map f (xs ++ item ∷ []))) (simple_root s))
+  pub image-next : (p v : ℤ) → x.rank ≤ MAX_RANK → p ≡ sum_to x.rank (λ t. entry_of x (f item) t *ℤ at_letter list t)
+      → v ≡ at_letter list (f item) -ℤ p
+      → AreCoordinates (integer_matrix x) (set list (f item - 1) v)
+      (act (integer_matrix x) (reverse (map f (xs ++ item ∷ []))) (simple_root s))
   image-next p v limit p_is v_is =
       AreCoordinates-next (integer_matrix x) f xs item s (set list (f item - 1) v)
       (AreCoordinates-reflect (integer_matrix x) list _ are (f item) p v image-letter limit

@@ -1,5 +1,6 @@
 -- Exchange on either side, deletion, parity (Humphreys 5.8), and the law on s w t.
-use Rattle.std.proofs.Common.{◌%◌, ◌≡◌, ℕ, ◌+◌, ◌*◌, ◌≤◌, ◌<◌, List, [], ◌∷◌, ◌++◌, length, reverse, ◌⊎◌, refl, ap, sym, ◌∙◌, ⊎_elim, inl, inr, arith}
+use Rattle.std.proofs.Common.{◌%◌, ◌≡◌, ℕ, ◌+◌, ◌*◌, ◌≤◌, ◌<◌, List, [], ◌∷◌, ◌++◌, length, reverse, ◌⊎◌, refl, ap, sym, ◌∙◌}
+use Rattle.std.proofs.Common.{⊎_elim, inl, inr, arith}
 use Rattle.std.proofs.lemmas.Bool.{cases_lt}
 use Rattle.std.proofs.lemmas.List.{reverse-reverse}
 use Rattle.std.proofs.lemmas.List.Elements.{All-head, All-tail}
@@ -86,7 +87,14 @@ module _ (A : IntegerMatrix) (g : IsAdmissible A) where
           → LeavesTwoOut A (s ∷ u) (s ∷ u)
       further rest k =
           let r = rest k
-          in record { between = s ∷ r.between; rest = s ∷ r.rest; first = later_one r.first; second = later_one r.second; same = same-cons A g s r.same }
+          in record {
+            between = s ∷ r.between;
+            rest = s ∷ r.rest;
+            first = later_one r.first;
+            second = later_one r.second;
+            same = same-cons
+                A g s r.same;
+          }
 
       here : length u ≤ word_length A u → LeavesTwoOut A (s ∷ u) (s ∷ u)
       here k =

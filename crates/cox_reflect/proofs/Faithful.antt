@@ -1,5 +1,6 @@
 -- The matrices are faithful (Humphreys 5.4): two words name one element exactly where the Coxeter relations lead from one to the other.
-use Rattle.std.proofs.Common.{◌≡◌, ℕ, zero, suc, ◌+◌, ◌<◌, Bool, true, false, not, cond, List, [], ◌∷◌, ◌++◌, length, ◌↔◌, refl, ap, sym, ◌∙◌, ⊎_elim, arith}
+use Rattle.std.proofs.Common.{◌≡◌, ℕ, zero, suc, ◌+◌, ◌<◌, Bool, true, false, not, cond, List, [], ◌∷◌, ◌++◌, length, ◌↔◌, refl}
+use Rattle.std.proofs.Common.{ap, sym, ◌∙◌, ⊎_elim, arith}
 use Rattle.std.proofs.lemmas.Bool.{cases_eq}
 use Rattle.std.proofs.lemmas.List.{length-append, append_assoc}
 use Rattle.std.proofs.lemmas.List.Elements.{All-head, All-tail, All-contains, Contains-push}
@@ -9,11 +10,14 @@ use Rattle.cox_base.specs.Element.{SameElement}
 use Rattle.cox_base.specs.ShortLex.{normal_form}
 use Rattle.cox_base.specs.Length.{word_length, IsReduced, IsRightDescent}
 use Rattle.cox_reflect.specs.Relations.{alternating_from, AreRelated, itself, turned, chained, joined, square, braided}
-use Rattle.cox_reflect.proofs.Elements.{same-refl, same-sym, same-trans, same-cons, same-push, same-append, same-equal, same-square, same-push_twice, same-drop_back}
+use Rattle.cox_reflect.proofs.Elements.{same-refl, same-sym, same-trans, same-cons, same-push, same-append, same-equal}
+use Rattle.cox_reflect.proofs.Elements.{same-square, same-push_twice, same-drop_back}
 use Rattle.cox_reflect.proofs.Search.{normal_form-same, word_length-equal, word_length-length}
 use Rattle.cox_reflect.proofs.Lengths.{word_length-is, IsReduced-front, IsReduced-same, IsReduced-normal_form, IsReduced-nil}
-use Rattle.cox_reflect.proofs.RankTwo.{is_even, alternating, alternating-last, length-alternating, TwoLetters, spread, braids, two_letters, pair_of, same-braid}
-use Rattle.cox_reflect.proofs.Positivity.{LastLetter, no_letter, last_letter, last_letter_of, Split, split, braid_end, spread_nonnegative, positive, IsWord-reduced}
+use Rattle.cox_reflect.proofs.RankTwo.{is_even, alternating, alternating-last, length-alternating, TwoLetters, spread, braids}
+use Rattle.cox_reflect.proofs.RankTwo.{two_letters, pair_of, same-braid}
+use Rattle.cox_reflect.proofs.Positivity.{LastLetter, no_letter, last_letter, last_letter_of, Split, split, braid_end}
+use Rattle.cox_reflect.proofs.Positivity.{spread_nonnegative, positive, IsWord-reduced}
 use Rattle.cox_reflect.proofs.Roots.{no_descent}
 use Rattle.cox_reflect.proofs.Deletion.{left_length}
 

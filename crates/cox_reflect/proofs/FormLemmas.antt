@@ -88,7 +88,8 @@ module _ (x : CoxeterMatrix) (matrix : IsCoxeterMatrix x) (rank : ℕ) (e : rank
         total = omega (arith, c.total, least.descent, cons-word_length (integer_matrix x) g s c.rest);
       }
 
-  pub IsCounted-end : (count : ℕ) → IsCounted (integer_matrix x) w heights count → TellsNone rank heights → count ≡ word_length (integer_matrix x) w
+  pub IsCounted-end : (count : ℕ) → IsCounted (integer_matrix x) w heights count → TellsNone rank heights
+      → count ≡ word_length (integer_matrix x) w
   IsCounted-end count c none =
       let empty = normal_form-no_descent (integer_matrix x) g c.rest (none (integer_matrix x) c.rest g (sym e) c.heights_of)
       in omega (arith, c.total, word_length-is (integer_matrix x) c.rest, ap length empty)
@@ -113,7 +114,8 @@ module _ (x : CoxeterMatrix) (matrix : IsCoxeterMatrix x) (rank : ℕ) (e : rank
       → (next : Heights) → Prepends (integer_matrix x) s heights next → IsBegun (integer_matrix x) w next (form ++ s ∷ [])
   IsBegun-next form s c tells next moves =
       let least = tells (integer_matrix x) c.rest g (sym e) c.heights_of
-      in let step = normal_form-descent (integer_matrix x) g c.rest s least.descent (λ t l d. let k = least.least t d in omega (arith, k, l))
+      in let step =
+      normal_form-descent (integer_matrix x) g c.rest s least.descent (λ t l d. let k = least.least t d in omega (arith, k, l))
       in record {
         rest = s ∷ c.rest;
         heights_of = moves c.rest c.heights_of;
@@ -121,7 +123,8 @@ module _ (x : CoxeterMatrix) (matrix : IsCoxeterMatrix x) (rank : ℕ) (e : rank
             ∙ sym (append_assoc form (s ∷ []) (normal_form (integer_matrix x) (s ∷ c.rest)));
       }
 
-  pub IsBegun-end : (form : List ℕ) → IsBegun (integer_matrix x) w heights form → TellsNone rank heights → form ≡ normal_form (integer_matrix x) w
+  pub IsBegun-end : (form : List ℕ) → IsBegun (integer_matrix x) w heights form → TellsNone rank heights
+      → form ≡ normal_form (integer_matrix x) w
   IsBegun-end form c none =
       let empty = normal_form-no_descent (integer_matrix x) g c.rest (none (integer_matrix x) c.rest g (sym e) c.heights_of)
       in sym (c.whole ∙ ap (λ (v : List ℕ). form ++ v) empty ∙ append-nil form)

@@ -1,6 +1,7 @@
 -- Heights of the roots u^-1 e(t): how they change with a letter before u, how large they are, and that t is a left descent of u exactly
 -- where the height is negative.
-use Rattle.std.proofs.Common.{◌≡◌, ℕ, zero, suc, ◌+◌, ◌*◌, ◌^◌, ◌≤◌, ◌<◌, List, [], ◌∷◌, length, reverse, ℤ, pos, ◌-ℤ◌, ◌*ℤ◌, ◌≤ℤ◌, ◌<ℤ◌, nat_abs, refl, ap, sym, ◌∙◌, ⊎_elim, arith, lit<}
+use Rattle.std.proofs.Common.{◌≡◌, ℕ, zero, suc, ◌+◌, ◌*◌, ◌^◌, ◌≤◌, ◌<◌, List, [], ◌∷◌, length, reverse, ℤ, pos, ◌-ℤ◌, ◌*ℤ◌}
+use Rattle.std.proofs.Common.{◌≤ℤ◌, ◌<ℤ◌, nat_abs, refl, ap, sym, ◌∙◌, ⊎_elim, arith, lit<}
 use Rattle.std.proofs.Math.Nat.{pow-le-pow_right, mul-le-mul_left}
 use Rattle.std.proofs.lemmas.Bool.{cases_eq, cases_lt}
 use Rattle.std.proofs.lemmas.Int.{ints, by_lt_z, unsigned_abs-mul}
@@ -15,14 +16,16 @@ use Rattle.cox_reflect.specs.declared.heights.Heights.{Heights}
 use Rattle.cox_reflect.specs.RootHeight.{at_letter, height}
 use Rattle.cox_reflect.specs.Height.{AreHeights, CanPrepend}
 use Rattle.cox_lemmas.proofs.Ring.{linears, multiply_out, one_times}
-use Rattle.cox_reflect.proofs.Sums.{letter_above, last_letter, letter_cases, sum_to-same, sum_to-simple_root, sum_to-other_root, simple_root-other}
+use Rattle.cox_reflect.proofs.Sums.{letter_above, last_letter, letter_cases, sum_to-same, sum_to-simple_root, sum_to-other_root}
+use Rattle.cox_reflect.proofs.Sums.{simple_root-other}
 use Rattle.cox_reflect.proofs.Action.{act-nil, act-push, act-minus, act-outside, pairing-simple_root}
 use Rattle.cox_reflect.proofs.Elements.{matrix-column, same-act, same-reverse, same-sym}
 use Rattle.cox_reflect.proofs.Search.{normal_form-same, word_length-length}
 use Rattle.cox_reflect.proofs.Lengths.{word_length-is, word_length-cons}
 use Rattle.cox_reflect.proofs.Deletion.{left_length}
 use Rattle.cox_reflect.proofs.Sizes.{entry-small}
-use Rattle.cox_reflect.proofs.Roots.{sign_of, SignOf, longer, shorter, root-not_zero, descent-nonpositive, left_descent_reverse, reverse_left_descent, left_descent-letter}
+use Rattle.cox_reflect.proofs.Roots.{sign_of, SignOf, longer, shorter, root-not_zero, descent-nonpositive, left_descent_reverse}
+use Rattle.cox_reflect.proofs.Roots.{reverse_left_descent, left_descent-letter}
 
 -- ---- sums
 

@@ -1,5 +1,6 @@
 -- Lists of numbers, one for each letter: a write at a letter, and the letters whose numbers are negative.
-use Rattle.std.proofs.Common.{◌≡◌, ℕ, zero, suc, ◌+◌, ◌-◌, ◌≤◌, ◌<◌, Bool, true, false, T, List, [], ◌∷◌, ◌++◌, length, set, filter, ℤ, pos, ◌<ℤ◌, int_lt, refl, sym, ◌∙◌, ⊎_elim, arith, get_or-set_same, get_or-set_other}
+use Rattle.std.proofs.Common.{◌≡◌, ℕ, zero, suc, ◌+◌, ◌-◌, ◌≤◌, ◌<◌, Bool, true, false, T, List, [], ◌∷◌, ◌++◌, length, set}
+use Rattle.std.proofs.Common.{filter, ℤ, pos, ◌<ℤ◌, int_lt, refl, sym, ◌∙◌, ⊎_elim, arith, get_or-set_same, get_or-set_other}
 use Rattle.std.specs.List.{range_with_len}
 use Rattle.std.specs.Bool.{Decides}
 use Rattle.std.proofs.lemmas.Bool.{cases_eq, false_from_ne_true}
@@ -53,11 +54,14 @@ pub negative_letters-none : (xs : List ℤ) → negative_letters xs 0 ≡ []
 unfolding negative_letters
 negative_letters-none xs = refl
 
-pub negative_letters-yes : (xs : List ℤ) (k s : ℕ) → s ≡ suc k → at_letter xs s <ℤ pos 0 → negative_letters xs s ≡ negative_letters xs k ++ s ∷ []
+pub negative_letters-yes : (xs : List ℤ) (k s : ℕ) → s ≡ suc k → at_letter xs s <ℤ pos 0
+    → negative_letters xs s ≡ negative_letters xs k ++ s ∷ []
 unfolding negative_letters
-negative_letters-yes xs k s e h = filter_range-yes (λ t. int_lt (at_letter xs t) (pos 0)) k s e ((Decides-int_lt (at_letter xs s) (pos 0)).1 h)
+negative_letters-yes xs k s e h =
+    filter_range-yes (λ t. int_lt (at_letter xs t) (pos 0)) k s e ((Decides-int_lt (at_letter xs s) (pos 0)).1 h)
 
-pub negative_letters-no : (xs : List ℤ) (k s : ℕ) → s ≡ suc k → (at_letter xs s <ℤ pos 0 → ⊥) → negative_letters xs s ≡ negative_letters xs k
+pub negative_letters-no : (xs : List ℤ) (k s : ℕ) → s ≡ suc k → (at_letter xs s <ℤ pos 0 → ⊥)
+    → negative_letters xs s ≡ negative_letters xs k
 unfolding negative_letters
 negative_letters-no xs k s e h =
     filter_range-no (λ t. int_lt (at_letter xs t) (pos 0)) k s e

@@ -1,5 +1,6 @@
 -- Bruhat order by lifting, letter by letter of a reduced word.
-use Rattle.std.proofs.Common.{◌≡◌, ℕ, Bool, true, false, not, IsTrue, Option, Some, None, is_some, MatchOption, List, [], ◌∷◌, ◌++◌, length, take, drop, ◌↔◌, refl, arith, slice_index, add-one, drop-cons, sym, ◌∙◌, ◌<◌, ◌+◌}
+use Rattle.std.proofs.Common.{◌≡◌, ℕ, Bool, true, false, not, IsTrue, Option, Some, None, is_some, MatchOption, List, [], ◌∷◌}
+use Rattle.std.proofs.Common.{◌++◌, length, take, drop, ◌↔◌, refl, arith, slice_index, add-one, drop-cons, sym, ◌∙◌, ◌<◌, ◌+◌}
 use Rattle.std.proofs.lemmas.Bool.{false≢true}
 use Rattle.std.proofs.lemmas.List.{take-append-drop}
 use Rattle.cox_base.specs.Matrix.{CoxeterMatrix, IsCoxeterMatrix, IsLetter, IsWord}
@@ -122,13 +123,15 @@ module _ (x : CoxeterMatrix) (matrix : IsCoxeterMatrix x) (form : List ℕ) (wor
 
   module _ (first heights : Heights) (c : AreLifted (integer_matrix x) form (drop k form) first heights) (answer : Bool)
       (tells : TellsDescent heights (slice_index form k) answer) where
-    descent : (u : List ℕ) → AreHeights (integer_matrix x) u heights → IsTrue answer ↔ IsLeftDescent (integer_matrix x) u (slice_index form k)
+    descent : (u : List ℕ) → AreHeights (integer_matrix x) u heights
+        → IsTrue answer ↔ IsLeftDescent (integer_matrix x) u (slice_index form k)
     descent u a = tells (integer_matrix x) u g turn-letter a
 
     pub turn-room : IsTrue answer → CanPrepend (integer_matrix x) (slice_index form k) heights
     turn-room taken =
         let e = c.element
-        in CanPrepend-descent (integer_matrix x) g e.word (slice_index form k) heights ((descent e.word e.heights_of).0 taken) e.short e.heights_of
+        in CanPrepend-descent (integer_matrix x) g e.word (slice_index form k) heights
+        ((descent e.word e.heights_of).0 taken) e.short e.heights_of
 
     pub turn-down : IsTrue answer → (next : Heights) → Prepends (integer_matrix x) (slice_index form k) heights next
         → AreLifted (integer_matrix x) form (drop (k + 1) form) first next
@@ -140,7 +143,8 @@ module _ (x : CoxeterMatrix) (matrix : IsCoxeterMatrix x) (form : List ℕ) (wor
               let l = c.each y a
               in IsLifted-down (integer_matrix x) g y form (drop k form) (slice_index form k) (drop (k + 1) form) heights l front reduced
               ((descent l.left l.heights_of).0 taken) next (moves l.left l.heights_of);
-          element = record { word = slice_index form k ∷ e.word; heights_of = moves e.word e.heights_of; short = omega (arith, d, e.short) };
+          element =
+              record { word = slice_index form k ∷ e.word; heights_of = moves e.word e.heights_of; short = omega (arith, d, e.short) };
         }
 
     pub turn-up : answer ≡ false → AreLifted (integer_matrix x) form (drop (k + 1) form) first heights

@@ -1,5 +1,6 @@
 -- Positivity (Humphreys 5.4): u e(s) is nonnegative where l(us) >= l(u). A rank-two end is split off u, and what is left is shorter.
-use Rattle.std.proofs.Common.{◌≡◌, ℕ, zero, suc, ◌+◌, ◌≤◌, ◌<◌, Bool, true, false, not, cond, List, [], ◌∷◌, ◌++◌, length, ℤ, pos, negsuc, ◌-ℤ◌, ◌*ℤ◌, neg_ℤ, ◌≤ℤ◌, ap, sym, ◌∙◌, ⊎_elim, arith}
+use Rattle.std.proofs.Common.{◌≡◌, ℕ, zero, suc, ◌+◌, ◌≤◌, ◌<◌, Bool, true, false, not, cond, List, [], ◌∷◌, ◌++◌, length, ℤ, pos}
+use Rattle.std.proofs.Common.{negsuc, ◌-ℤ◌, ◌*ℤ◌, neg_ℤ, ◌≤ℤ◌, ap, sym, ◌∙◌, ⊎_elim, arith}
 use Rattle.std.proofs.lemmas.Bool.{cases_eq, cases_lt}
 use lib.Signed.{le_z_yes}
 use Rattle.std.proofs.lemmas.Int.{ints}
@@ -14,10 +15,13 @@ use Rattle.cox_reflect.specs.Action.{Vector, simple_root, minus, act, IsNonnegat
 use Rattle.cox_lemmas.proofs.Ring.{linears, multiply_out, neg_mul}
 use Rattle.cox_reflect.proofs.Sums.{letter_cases, simple_root-self, simple_root-other}
 use Rattle.cox_reflect.proofs.Action.{act-nil, act-append, act-minus}
-use Rattle.cox_reflect.proofs.Elements.{same-act, same-refl, same-sym, same-trans, same-equal, same-append, same-push, same-push_twice, same-square, same-outside}
+use Rattle.cox_reflect.proofs.Elements.{same-act, same-refl, same-sym, same-trans, same-equal, same-append, same-push}
+use Rattle.cox_reflect.proofs.Elements.{same-push_twice, same-square, same-outside}
 use Rattle.cox_reflect.proofs.Search.{normal_form-same, length-normal_form, word_length-least, word_length-equal, word_length-length}
 use Rattle.cox_reflect.proofs.Lengths.{word_length-is, IsReduced-front, IsReduced-same, IsReduced-tail, IsReduced-normal_form}
-use Rattle.cox_reflect.proofs.RankTwo.{is_even, alternating, alternating-suc, alternating-zero, alternating-last, alternating-ends, length-alternating, moved, shift, TwoLetters, spread, braids, two_letters, HasOrder-swap, pair_of, same-braid, act-alternating_root}
+use Rattle.cox_reflect.proofs.RankTwo.{is_even, alternating, alternating-suc, alternating-zero, alternating-last}
+use Rattle.cox_reflect.proofs.RankTwo.{alternating-ends, length-alternating, moved, shift, TwoLetters, spread, braids}
+use Rattle.cox_reflect.proofs.RankTwo.{two_letters, HasOrder-swap, pair_of, same-braid, act-alternating_root}
 
 product_nonnegative : (a b : ℤ) → pos 0 ≤ℤ a → pos 0 ≤ℤ b → pos 0 ≤ℤ (a *ℤ b)
 product_nonnegative (pos a) (pos b) h k = omega (arith, ints)

@@ -1,5 +1,6 @@
 -- The normal form, found by search: it names the element, no word of the element is shorter, and it depends on the element alone.
-use Rattle.std.proofs.Common.{◌↔◌, ◌≡◌, ℕ, zero, suc, ◌≤◌, ◌<◌, Bool, true, List, [], ◌∷◌, ◌++◌, map, length, refl, ap, sym, ◌∙◌, ⊎_elim, arith, subst, Some, find}
+use Rattle.std.proofs.Common.{◌↔◌, ◌≡◌, ℕ, zero, suc, ◌≤◌, ◌<◌, Bool, true, List, [], ◌∷◌, ◌++◌, map, length, refl, ap, sym, ◌∙◌}
+use Rattle.std.proofs.Common.{⊎_elim, arith, subst, Some, find}
 use Rattle.std.proofs.Math.Path.{fun_ext}
 use Rattle.std.proofs.lemmas.Bool.{cases_eq, cases_lt, and_parts, and_from}
 use Rattle.std.proofs.lemmas.Bool.Decides.{Decides-int_eq}
@@ -14,7 +15,9 @@ use Rattle.cox_reflect.proofs.Sums.{letter_above, last_letter, letter_cases}
 use Rattle.cox_base.specs.Length.{word_length}
 use Rattle.std.specs.Bool.{one_answer}
 use Rattle.cox_reflect.proofs.Elements.{same-refl, same-equal, same-sym, same-trans, same-cons, same-outside}
-use Rattle.cox_reflect.proofs.Members.{In, here, Each, none, more, In-append_left, In-append_right, In-map, In-flat_map, In-range, Each-append, Each-map, Each-flat_map, Each-weaker, Each-range, Each-find, find-passes, find-in, find-front}
+use Rattle.cox_reflect.proofs.Members.{In, here, Each, none, more, In-append_left, In-append_right, In-map, In-flat_map, In-range}
+use Rattle.cox_reflect.proofs.Members.{Each-append, Each-map, Each-flat_map, Each-weaker, Each-range, Each-find, find-passes}
+use Rattle.cox_reflect.proofs.Members.{find-in, find-front}
 
 each_letter-out : (n : ℕ) (test : ℕ → Bool) → each_letter n test ≡ true → (t : ℕ) → IsLetter n t → test t ≡ true
 unfolding each_letter

@@ -1,11 +1,13 @@
 -- How large coordinates get: a letter multiplies the sum of their absolute values by 4 at most.
-use Rattle.std.proofs.Common.{◌≡◌, ℕ, zero, suc, ◌+◌, ◌*◌, ◌^◌, ◌≤◌, ◌<◌, List, [], ◌∷◌, length, ℤ, ◌-ℤ◌, ◌*ℤ◌, nat_abs, refl, sym, ⊎_elim, arith, lit≤, pow-suc, mul-le-mul_right}
+use Rattle.std.proofs.Common.{◌≡◌, ℕ, zero, suc, ◌+◌, ◌*◌, ◌^◌, ◌≤◌, ◌<◌, List, [], ◌∷◌, length, ℤ, ◌-ℤ◌, ◌*ℤ◌, nat_abs, refl}
+use Rattle.std.proofs.Common.{sym, ⊎_elim, arith, lit≤, pow-suc, mul-le-mul_right}
 use Rattle.std.proofs.Math.Nat.{pow-le-pow_right}
 use Rattle.std.proofs.Common.{lit<}
 use Rattle.std.proofs.lemmas.Bool.{cases_eq}
 use Rattle.std.proofs.lemmas.Int.{ints, unsigned_abs-mul}
 use Rattle.cox_base.specs.Matrix.{IsLetter}
-use Rattle.cox_base.specs.IntegerMatrix.{IntegerMatrix, IsAdmissible, IsAdmissiblePair, two, three, four, back_four, six, back_six, infinity}
+use Rattle.cox_base.specs.IntegerMatrix.{IntegerMatrix, IsAdmissible, IsAdmissiblePair, two, three, four, back_four, six}
+use Rattle.cox_base.specs.IntegerMatrix.{back_six, infinity}
 use Rattle.cox_base.specs.Element.{sum_to}
 use Rattle.cox_reflect.specs.Action.{Vector, simple_root, pairing, minus, reflect, act, size}
 use Rattle.cox_reflect.proofs.Sums.{letter_cases, simple_root-self, simple_root-other}
@@ -54,7 +56,8 @@ unfolding size
 size-minus zero s v c = omega arith
 size-minus (suc n) s v c = ⊎_elim last (before (size-minus n s v c)) (cases_eq s (suc n))
   where
-    at_last : size n (minus v c (simple_root (suc n))) + nat_abs (minus v c (simple_root (suc n)) (suc n)) ≤ size n v + nat_abs (v (suc n)) + nat_abs c
+    at_last : size n (minus v c (simple_root (suc n))) + nat_abs (minus v c (simple_root (suc n)) (suc n)) ≤ size n v + nat_abs
+        (v (suc n)) + nat_abs c
     at_last = rw (size-below n (suc n) v c (omega arith), minus-self (suc n) v c) (omega (arith, ints))
 
     last : s ≡ suc n

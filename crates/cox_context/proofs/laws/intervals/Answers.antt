@@ -13,4 +13,5 @@ pub returns-clause-unique : goal.returns-clause-unique
 returns-clause-unique c = λ g m w words others a b. IsListOf-unique (IsInInterval (integer_matrix g) w) words others a b
 
 pub returns-clause-downwards : goal.returns-clause-downwards
-returns-clause-downwards c = λ g m w x z e b p. record { element = e; below = below-trans (integer_matrix g) (IsAdmissible-integer_matrix g m) b p.below }
+returns-clause-downwards c =
+    λ g m w x z e b p. record { element = e; below = below-trans (integer_matrix g) (IsAdmissible-integer_matrix g m) b p.below }

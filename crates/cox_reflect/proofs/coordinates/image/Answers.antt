@@ -7,7 +7,8 @@ use Rattle.cox_reflect.specs.Action.{simple_root}
 use Rattle.cox_reflect.specs.RootHeight.{at_letter}
 use Rattle.cox_reflect.proofs.Action.{act-nil}
 use Rattle.cox_reflect.proofs.Computed.{minus-fits, minus-value}
-use Rattle.cox_reflect.proofs.CoordinateLemmas.{AreCoordinates-simple_root, AreCoordinates-column, image-letter, image-room, image-fits, image-next}
+use Rattle.cox_reflect.proofs.CoordinateLemmas.{AreCoordinates-simple_root, AreCoordinates-column, image-letter, image-room}
+use Rattle.cox_reflect.proofs.CoordinateLemmas.{image-fits, image-next}
 use Rattle.cox_reflect.proofs.coordinates.image.Goals as goal
 
 pub loop-letter-init : goal.loop-letter-init
@@ -34,7 +35,8 @@ pub overflow_sub-root-in-loop-letter-2 : goal.overflow_sub-root-in-loop-letter-2
 overflow_sub-root-in-loop-letter-2 c =
     let turn = YieldsList-turn (YieldsList-from_rev_slice c.args.w.now.items cc) c.loop-letter.yielded _
     c.loop-letter.yielded_by _ _ c.in-Some.field-0 c.in-Some.is c.next.ensures.steps
-    in let fits = image-fits c.args.g.now c.rank-rank.ensures.matrix c.args.w.now.items c.requires.letters c.requires.short c.args.s (λ x. x.now)
+    in let fits =
+    image-fits c.args.g.now c.rank-rank.ensures.matrix c.args.w.now.items c.requires.letters c.requires.short c.args.s (λ x. x.now)
     c.loop-letter.yielded c.in-Some.field-0 turn c.loop-letter.root c.loop-letter.invariant c.pairing.result c.pairing.ensures.bound
     in minus-fits (at_letter c.loop-letter.root c.in-Some.field-0.now) c.pairing.result (search rules) (search rules) fits
 
@@ -42,7 +44,8 @@ pub loop-letter-preserved : goal.loop-letter-preserved
 loop-letter-preserved c =
     let turn = YieldsList-turn (YieldsList-from_rev_slice c.args.w.now.items cc) c.loop-letter.yielded _
     c.loop-letter.yielded_by _ _ c.in-Some.field-0 c.in-Some.is c.next.ensures.steps
-    in let fits = image-fits c.args.g.now c.rank-rank.ensures.matrix c.args.w.now.items c.requires.letters c.requires.short c.args.s (λ x. x.now)
+    in let fits =
+    image-fits c.args.g.now c.rank-rank.ensures.matrix c.args.w.now.items c.requires.letters c.requires.short c.args.s (λ x. x.now)
     c.loop-letter.yielded c.in-Some.field-0 turn c.loop-letter.root c.loop-letter.invariant c.pairing.result c.pairing.ensures.bound
     in image-next c.args.g.now c.rank-rank.ensures.matrix c.args.w.now.items c.requires.letters c.requires.short c.args.s (λ x. x.now)
     c.loop-letter.yielded c.in-Some.field-0 turn c.loop-letter.root c.loop-letter.invariant c.pairing.result _

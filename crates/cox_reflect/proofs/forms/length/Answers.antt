@@ -37,4 +37,5 @@ returns-clause-length c =
 
 pub returns-clause-no_longer : goal.returns-clause-no_longer
 returns-clause-no_longer c =
-    rw (returns-clause-length c) (word_length-length (integer_matrix c.args.g.now) (IsAdmissible-integer_matrix c.args.g.now c.rank.ensures.matrix) c.args.w.now.items)
+    rw (returns-clause-length c) (word_length-length (integer_matrix c.args.g.now)
+    (IsAdmissible-integer_matrix c.args.g.now c.rank.ensures.matrix) c.args.w.now.items)

@@ -1,4 +1,5 @@
-use Rattle.cox_reflect.proofs.RootSigns.{root_signs, no_zero_root, longer-root, shorter-root, descent_by_coordinate, longer_left-root, shorter_left-root}
+use Rattle.cox_reflect.proofs.RootSigns.{root_signs, no_zero_root, longer-root, shorter-root, descent_by_coordinate}
+use Rattle.cox_reflect.proofs.RootSigns.{longer_left-root, shorter_left-root}
 use Rattle.cox_reflect.proofs.laws.positivity.Goals as goal
 
 pub returns-clause-sign : goal.returns-clause-sign

@@ -4,4 +4,9 @@ use Rattle.cox_context.proofs.FaultLemmas.{over-prefix}
 use Rattle.cox_context.proofs.builder.Builder.add.Goals as goal
 
 pub returns-then-len-limit-clause-fault : goal.returns-then-len-limit-clause-fault
-returns-then-len-limit-clause-fault c = λ A top prefix short. (refl, refl, over-prefix (IsMember A top) c.args.limit c.args.self.now.members c.args.child.word.items (omega (arith, c.len.ensures.len, c.if-len-limit.true)) prefix short)
+returns-then-len-limit-clause-fault c = λ A top prefix short. (
+  refl,
+  refl,
+  over-prefix (IsMember A top) c.args.limit c.args.self.now.members c.args.child.word.items
+      (omega (arith, c.len.ensures.len, c.if-len-limit.true)) prefix short,
+)

@@ -5,4 +5,5 @@ use Rattle.cox_context.proofs.BelowLemmas.{IsSettled}
 use Rattle.cox_context.proofs.context.Context.below.Given as goal
 
 abbrev pub invariant-loop-t : goal.invariant-loop-t
-invariant-loop-t l = IsSettled (integer_matrix l.self.matrix) l.self.members (word_at l.self.members l.i) (word_at l.self.members l.j) (drop l.t-index l.t-items) l.rest
+invariant-loop-t l = IsSettled (integer_matrix l.self.matrix) l.self.members (word_at l.self.members l.i) (word_at l.self.members l.j)
+    (drop l.t-index l.t-items) l.rest

@@ -6,5 +6,7 @@ use Rattle.cox_context.proofs.context.Context.left_descents.Goals as goal
 
 pub returns : goal.returns
 returns c =
-    let member : c.args.i < length c.self.inside.members = (let P : Elements → Type 0 = λ e. c.args.i < length e.members in subst P (sym c.self.view_is) c.requires)
-    in rw (← c.self.view_is) (c.kept_word.ensures ∙ ap (λ (kept : List (ArrayVec ℕ)). letters_at kept c.args.i) c.as_slice.ensures.value ∙ c.self.invariant.left_letters.letters c.args.i member)
+    let member : c.args.i < length c.self.inside.members =
+    (let P : Elements → Type 0 = λ e. c.args.i < length e.members in subst P (sym c.self.view_is) c.requires)
+    in rw (← c.self.view_is) (c.kept_word.ensures ∙ ap (λ (kept : List (ArrayVec ℕ)). letters_at kept c.args.i) c.as_slice.ensures.value
+    ∙ c.self.invariant.left_letters.letters c.args.i member)

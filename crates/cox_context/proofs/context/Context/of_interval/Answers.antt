@@ -38,13 +38,15 @@ returns-in_err-grow-clause-refused c =
     in let g : IsAdmissible A = IsAdmissible-integer_matrix c.copy.result c.in_ok-builder.ensures.matrix
     in let top : List ℕ = c.normal_form-top.result.items
     in let w : List ℕ = c.args.w.now.items
-    in let form = form-same c.args.group.now c.copy.result c.copy.ensures c.in_ok-builder.ensures.matrix w top c.normal_form-top.ensures.form
+    in let form =
+    form-same c.args.group.now c.copy.result c.copy.ensures c.in_ok-builder.ensures.matrix w top c.normal_form-top.ensures.form
     in let refused : IfErr c.from_residual-in_err-grow.result (IsRefusal (IsInInterval A top) c.args.limit) = search rules
     in rw (← c.copy.ensures) (result-along (IsInInterval A top) (IsInInterval A w) (interval-from A g w top form.1)
     (interval-from A g top w (same-sym A g form.1)) c.args.limit c.from_residual-in_err-grow.result refused)
 
 -- the members that were found are the interval up to the normal form
-members : (c : goal.In_ok-grow) → IsListOf (IsInInterval (integer_matrix c.copy.result) c.normal_form-top.result.items) c.grow.new.self.members
+members : (c : goal.In_ok-grow) → IsListOf
+    (IsInInterval (integer_matrix c.copy.result) c.normal_form-top.result.items) c.grow.new.self.members
 members c =
     let A : IntegerMatrix = integer_matrix c.copy.result
     in let g : IsAdmissible A = IsAdmissible-integer_matrix c.copy.result c.in_ok-builder.ensures.matrix
@@ -68,7 +70,8 @@ returns-clause-members c =
     in let g : IsAdmissible A = IsAdmissible-integer_matrix c.copy.result c.in_ok-builder.ensures.matrix
     in let top : List ℕ = c.normal_form-top.result.items
     in let w : List ℕ = c.args.w.now.items
-    in let form = form-same c.args.group.now c.copy.result c.copy.ensures c.in_ok-builder.ensures.matrix w top c.normal_form-top.ensures.form
+    in let form =
+    form-same c.args.group.now c.copy.result c.copy.ensures c.in_ok-builder.ensures.matrix w top c.normal_form-top.ensures.form
     in let list : IsListOf (IsInInterval A w) c.grow.new.self.members = list-along (IsInInterval A top) (IsInInterval A w)
     (interval-from A g w top form.1) (interval-from A g top w (same-sym A g form.1)) c.grow.new.self.members (members c.before)
     in rw (← c.copy.ensures) (made_members c.of_members.result c.copy.result c.grow.new.self.members (IsListOf (IsInInterval A w))

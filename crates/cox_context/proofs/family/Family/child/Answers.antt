@@ -36,8 +36,17 @@ returns-then-has-clause-child c =
       | then-contains w ↦
           let same : c.as_slice.result.now ≡ top_descents A c.args.self.now.top = c.as_slice.ensures.value ∙ c.args.self.now.descents_of
           in let there : Contains (top_descents A c.args.self.now.top) c.args.s
-          = rw (← same) (w.if-contains.ensures.cases.0, w.if-contains.ensures.cases.1, eqb-true _ _ (w.if-contains.ensures.cases.2 c.args.s))
-          in (c.with_first.ensures, rw c.with_first.ensures (member-descent A g c.args.self.now.top c.args.s c.args.x.now.items y there c.requires.member refl e))
+          = rw (← same) (
+            w.if-contains.ensures.cases.0,
+            w.if-contains.ensures.cases.1,
+            eqb-true _ _
+                (w.if-contains.ensures.cases.2 c.args.s),
+          )
+          in (
+            c.with_first.ensures,
+            rw c.with_first.ensures
+                (member-descent A g c.args.self.now.top c.args.s c.args.x.now.items y there c.requires.member refl e),
+          )
       | else-contains w ↦ (
         c.with_first.ensures,
         rw c.with_first.ensures ((w.has.ensures y e c.in_ok-heights.ensures.some.0).0 (sym w.value-is ∙ c.if-has.true)),

@@ -2,7 +2,8 @@
 use Rattle.std.proofs.Common.{ℕ, ◌≡◌, suc, ◌+◌, ◌-◌, List, length, sym, ap, ◌∙◌, arith, lit<}
 use Rattle.std.proofs.lemmas.Bool.{false≢true}
 use Rattle.cox_base.specs.Matrix.{IsWord}
-use Rattle.cox_reflect.proofs.LetterLists.{negative_letters-none, negative_letters-yes, negative_letters-no, negative_letters-descents, IsWord-negative_letters, length-negative_letters}
+use Rattle.cox_reflect.proofs.LetterLists.{negative_letters-none, negative_letters-yes, negative_letters-no}
+use Rattle.cox_reflect.proofs.LetterLists.{negative_letters-descents, IsWord-negative_letters, length-negative_letters}
 use Rattle.cox_reflect.proofs.heights.Heights.descents.Goals as goal
 use Rattle.cox_reflect.proofs.heights.Heights.descents.Goals.{then-is_negative, else-is_negative}
 
