@@ -115,7 +115,7 @@ module _ (A : IntegerMatrix) (g : IsAdmissible A) where
       (λ (few : length c.0 ≤ limit). inr (HasMoreThan-few (IsInInterval A w) limit c.0 c.1 few, c.0, c.1))
       (cases_lt limit (length c.0))
 
-  -- an interval is refused for its size alone, apart from want of memory
+  -- an interval is refused for its size alone, apart from memory that runs out
   pub interval-refused : (limit : ℕ) (w : List ℕ) → length w ≤ 63 → (fault : ContextFault) → IsRefusal (IsInInterval A w) limit fault
       → (fault ≡ NoMemory → ⊥)
       → HasMoreThan limit (IsInInterval A w)

@@ -54,8 +54,8 @@ with-word x rises_none = record {
 }
 with-word x (rises_more {x = y} {xs = words} h r) = go (before_cases x y) (with-word x r)
   where
-    front : (word : List ℕ) (c : IsWith x words) → In word (y ∷ c.list) → (word ≡ x) ⊎ In word (y ∷ words)
-    front word c i = ⊎_elim (λ e. inr (rw e here)) (λ j. ⊎_elim (λ e. inl e) (λ k. inr (there k)) (c.only word j)) (in_cases i)
+    prefix : (word : List ℕ) (c : IsWith x words) → In word (y ∷ c.list) → (word ≡ x) ⊎ In word (y ∷ words)
+    prefix word c i = ⊎_elim (λ e. inr (rw e here)) (λ j. ⊎_elim (λ e. inl e) (λ k. inr (there k)) (c.only word j)) (in_cases i)
 
     go : (x ≡ y) ⊎ (IsBefore x y ⊎ IsBefore y x) → IsWith x words → IsWith x (y ∷ words)
     go (inl e) c = record { list = y ∷ words; rises = rises_more h r; new = rw e here; old = λ word i. i; only = λ word i. inr i }
@@ -71,7 +71,7 @@ with-word x (rises_more {x = y} {xs = words} h r) = go (before_cases x y) (with-
       rises = rises_more (Each-from c.list (λ w i. ⊎_elim (λ e. rw e b) (λ j. Each-in h j) (c.only w i))) c.rises;
       new = there c.new;
       old = λ word i. ⊎_elim (λ e. rw e here) (λ j. there (c.old word j)) (in_cases i);
-      only = λ word i. front word c i;
+      only = λ word i. prefix word c i;
     }
 
 -- in any order

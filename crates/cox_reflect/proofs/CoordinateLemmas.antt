@@ -20,7 +20,7 @@ use Rattle.cox_reflect.proofs.Admissible.{IsAdmissible-integer_matrix}
 use Rattle.cox_reflect.proofs.LetterLists.{at_letter-set_same, at_letter-set_other}
 use Rattle.cox_reflect.proofs.Action.{act-cons}
 use Rattle.cox_reflect.proofs.Elements.{matrix-column}
-use Rattle.cox_reflect.proofs.Sizes.{coordinate-size, size-front, entry-small, sum_to-small, size-act}
+use Rattle.cox_reflect.proofs.Sizes.{coordinate-size, size-prefix, entry-small, sum_to-small, size-act}
 
 fits-bound : (z : ℤ) (n : ℕ) → nat_abs z ≤ 4 * n → n ≤ 4 ^ 62 → SFits w128 z
 fits-bound z n small bound = let top : 4 * 4 ^ 62 < 2 ^ 127 = lit< tt in fits_signed_from_abs w128 z (omega (arith, small, bound, top))
@@ -47,7 +47,7 @@ module _ (A : IntegerMatrix) (g : IsAdmissible A) where
   part-fits s t v l bound =
       rw (sum_to-next t (λ k. A.entry s k *ℤ v k) l.from_one)
       (fits-bound (sum_to t (λ k. A.entry s k *ℤ v k)) (size A.rank v)
-      (omega (arith, sum_to-small A g s t v, size-front t A.rank v l.to_rank)) bound)
+      (omega (arith, sum_to-small A g s t v, size-prefix t A.rank v l.to_rank)) bound)
 
 pub part-next : (A : IntegerMatrix) (s t : ℕ) (v : Vector) → 1 ≤ t
     → sum_to (t - 1) (λ k. A.entry s k *ℤ v k) +ℤ (A.entry s t *ℤ v t) ≡ sum_to t (λ k. A.entry s k *ℤ v k)

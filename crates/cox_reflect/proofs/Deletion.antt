@@ -10,7 +10,7 @@ use Rattle.cox_base.specs.Element.{SameElement}
 use Rattle.cox_base.specs.ShortLex.{normal_form}
 use Rattle.cox_base.specs.Length.{word_length, IsReduced, IsLeftDescent, IsRightDescent}
 use Rattle.cox_reflect.specs.Exchange.{LeavesOneOut, LeavesTwoOut}
-use Rattle.cox_reflect.specs.Words.{reflection, IsWithoutOne, this_one, later_one}
+use Rattle.cox_reflect.specs.DerivedWords.{reflection, IsWithoutOne, this_one, later_one}
 use Rattle.cox_reflect.proofs.Elements.{act-same, same-sym, same-trans, same-cons, same-push, same-square, same-push_twice, same-drop_front}
 use Rattle.cox_reflect.proofs.Action.{act-cons, act-append, reverse-act}
 use Rattle.cox_reflect.specs.Action.{reflect, act}

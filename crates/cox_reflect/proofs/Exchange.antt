@@ -11,7 +11,7 @@ use Rattle.cox_base.specs.ShortLex.{normal_form}
 use Rattle.cox_base.specs.Length.{word_length}
 use Rattle.cox_reflect.specs.Action.{Vector, simple_root, pairing, minus, reflect, act, IsNonnegative, IsNonpositive}
 use Rattle.cox_reflect.specs.Exchange.{LeavesOneOut}
-use Rattle.cox_reflect.specs.Words.{reflection, IsWithoutOne, this_one, later_one}
+use Rattle.cox_reflect.specs.DerivedWords.{reflection, IsWithoutOne, this_one, later_one}
 use Rattle.cox_lemmas.proofs.Ring.{linears, multiply_out}
 use Rattle.cox_reflect.proofs.Sums.{letter_cases, simple_root-self, simple_root-other}
 use Rattle.cox_reflect.proofs.Action.{act-nil, act-cons, act-single, act-append, act-push, act-minus, act-reverse, reverse-act}

@@ -49,16 +49,16 @@ sum_to-vanishes : (n : ℕ) (v : Vector) → ((i : ℕ) → IsLetter n i → v i
     → v i ≡ pos 0
 unfolding sum_to
 sum_to-vanishes zero v h k i l = absurd (omega (arith, l.from_one, l.to_rank))
-sum_to-vanishes (suc n) v h k i l = ⊎_elim at_last (before (sum_to-vanishes n v front)) (cases_eq i (suc n))
+sum_to-vanishes (suc n) v h k i l = ⊎_elim at_last (before (sum_to-vanishes n v prefix)) (cases_eq i (suc n))
   where
-    front : (j : ℕ) → IsLetter n j → v j ≤ℤ pos 0
-    front j m = h j (letter_above n j m)
+    prefix : (j : ℕ) → IsLetter n j → v j ≤ℤ pos 0
+    prefix j m = h j (letter_above n j m)
 
     last : v (suc n) ≤ℤ pos 0
     last = h (suc n) (last_letter n)
 
     at_last : i ≡ suc n → v i ≡ pos 0
-    at_last e = let there : v (suc n) ≡ pos 0 = omega (arith, linears, k, last, sum_to-nonpositive n v front) in rw e there
+    at_last e = let there : v (suc n) ≡ pos 0 = omega (arith, linears, k, last, sum_to-nonpositive n v prefix) in rw e there
 
     before : (pos 0 ≤ℤ sum_to n v → (j : ℕ) → IsLetter n j → v j ≡ pos 0) → (i ≡ suc n → ⊥) → v i ≡ pos 0
     before rest ne = rest (omega (arith, linears, k, last)) i (record { from_one = l.from_one; to_rank = omega (arith, l.to_rank) })

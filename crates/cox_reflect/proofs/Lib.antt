@@ -44,7 +44,7 @@ pub mod RootSigns
 pub mod Removal
 -- for code: the lists of descents by a test of one's own, and the least descent
 pub mod DescentLists
--- heights of roots: their change with a letter in front, their size, and descents by their signs
+-- heights of roots: how a letter before the word changes them, their size, and descents by their signs
 pub mod HeightLemmas
 -- lists of numbers, one a letter: a write at a letter, and the letters whose numbers are negative
 pub mod LetterLists

@@ -101,6 +101,6 @@ Each-find {P = P} p x (more {x = y} {xs = xs} h a) e = go (p y) refl (Each-find 
     go true q rest = let f = rw q at e in let same : y ≡ x = cc in subst P same h
     go false q rest = rest (rw q at e)
 
--- what is found in a front is found in the whole
-pub find-front : {X : Type 0} (p : X → Bool) (xs ys : List X) (x : X) → find p xs ≡ Some x → find p (xs ++ ys) ≡ Some x
-find-front p xs ys x e = rw (find-append p xs ys, e)
+-- what is found in a prefix is found in the whole
+pub find-prefix : {X : Type 0} (p : X → Bool) (xs ys : List X) (x : X) → find p xs ≡ Some x → find p (xs ++ ys) ≡ Some x
+find-prefix p xs ys x e = rw (find-append p xs ys, e)

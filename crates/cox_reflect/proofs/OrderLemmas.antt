@@ -43,10 +43,10 @@ module _ (A : IntegerMatrix) (g : IsAdmissible A) where
   )
 
   -- s shortens what is left of y: it goes
-  IsLifted-down : (y w front : List ℕ) (s : ℕ) (v : List ℕ) (heights : Heights) (c : IsLifted A y w front heights) → front ≡ s ∷ v
-      → IsReduced A front → IsLeftDescent A c.left s
+  IsLifted-down : (y w prefix : List ℕ) (s : ℕ) (v : List ℕ) (heights : Heights) (c : IsLifted A y w prefix heights) → prefix ≡ s ∷ v
+      → IsReduced A prefix → IsLeftDescent A c.left s
       → (next : Heights) → AreHeights A (s ∷ c.left) next → IsLifted A y w v next
-  IsLifted-down y w front s v heights c e r d next a =
+  IsLifted-down y w prefix s v heights c e r d next a =
       let before : IsBelow A y w ↔ IsBelow A c.left (s ∷ v) = rw e at c.settles
       in let step = lift_down A g c.left (s ∷ v) s (first-descent s v (rw e at r)) d
       in record {
@@ -56,10 +56,10 @@ module _ (A : IntegerMatrix) (g : IsAdmissible A) where
       }
 
   -- it does not: it stays
-  IsLifted-up : (y w front : List ℕ) (s : ℕ) (v : List ℕ) (heights : Heights) (c : IsLifted A y w front heights) → front ≡ s ∷ v
-      → IsReduced A front → (IsLeftDescent A c.left s → ⊥)
+  IsLifted-up : (y w prefix : List ℕ) (s : ℕ) (v : List ℕ) (heights : Heights) (c : IsLifted A y w prefix heights) → prefix ≡ s ∷ v
+      → IsReduced A prefix → (IsLeftDescent A c.left s → ⊥)
       → IsLifted A y w v heights
-  IsLifted-up y w front s v heights c e r none =
+  IsLifted-up y w prefix s v heights c e r none =
       let before : IsBelow A y w ↔ IsBelow A c.left (s ∷ v) = rw e at c.settles
       in let step = lift_up A g c.left (s ∷ v) s (first-descent s v (rw e at r)) none
       in record {
@@ -115,8 +115,8 @@ module _ (x : CoxeterMatrix) (matrix : IsCoxeterMatrix x) (form : List ℕ) (wor
   pub turn-letter : IsLetter x.rank (slice_index form k)
   turn-letter = word k 0 more
 
-  front : drop k form ≡ slice_index form k ∷ drop (k + 1) form
-  front = rw (add-one, drop-cons form k 0)
+  prefix : drop k form ≡ slice_index form k ∷ drop (k + 1) form
+  prefix = rw (add-one, drop-cons form k 0)
 
   reduced : IsReduced (integer_matrix x) (drop k form)
   reduced = IsReduced-drop (integer_matrix x) g k form is_reduced
@@ -141,7 +141,7 @@ module _ (x : CoxeterMatrix) (matrix : IsCoxeterMatrix x) (form : List ℕ) (wor
         in record {
           each = λ y a.
               let l = c.each y a
-              in IsLifted-down (integer_matrix x) g y form (drop k form) (slice_index form k) (drop (k + 1) form) heights l front reduced
+              in IsLifted-down (integer_matrix x) g y form (drop k form) (slice_index form k) (drop (k + 1) form) heights l prefix reduced
               ((descent l.left l.heights_of).0 taken) next (moves l.left l.heights_of);
           element =
               record { word = slice_index form k ∷ e.word; heights_of = moves e.word e.heights_of; short = omega (arith, d, e.short) };
@@ -151,7 +151,7 @@ module _ (x : CoxeterMatrix) (matrix : IsCoxeterMatrix x) (form : List ℕ) (wor
     turn-up other = record {
       each = λ y a.
           let l = c.each y a
-          in IsLifted-up (integer_matrix x) g y form (drop k form) (slice_index form k) (drop (k + 1) form) heights l front reduced
+          in IsLifted-up (integer_matrix x) g y form (drop k form) (slice_index form k) (drop (k + 1) form) heights l prefix reduced
           (λ d. absurd (false≢true (sym other ∙ (descent l.left l.heights_of).1 d)));
       element = c.element;
     }

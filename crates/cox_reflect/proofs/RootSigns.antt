@@ -17,7 +17,7 @@ use Rattle.cox_reflect.proofs.Action.{act-outside}
 use Rattle.cox_reflect.proofs.Elements.{matrix-column}
 use Rattle.cox_reflect.proofs.Lengths.{word_length-cons_reverse, word_length-reverse}
 use Rattle.cox_reflect.proofs.Positivity.{simple_root-nonnegative}
-use Rattle.cox_reflect.specs.Words.{reflection}
+use Rattle.cox_reflect.specs.DerivedWords.{reflection}
 use Rattle.cox_reflect.proofs.Exchange.{equal_root_reflections}
 use Rattle.cox_reflect.proofs.Roots.{SignOf, longer, shorter, sign_of, root_sign, root-not_zero, root-apart, left_descent_reverse}
 use Rattle.cox_reflect.proofs.Roots.{reverse_left_descent}

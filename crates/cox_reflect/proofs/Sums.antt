@@ -76,8 +76,8 @@ sum_to-simple_root (suc n) a s l = ⊎_elim at_last (before (sum_to-simple_root 
 
     before : (IsLetter n s → sum_to n (λ t. a t *ℤ simple_root s t) ≡ a s) → (s ≡ suc n → ⊥)
         → sum_to n (λ t. a t *ℤ simple_root s t) +ℤ (a (suc n) *ℤ simple_root s (suc n)) ≡ a s
-    before front ne =
-        rw (front (record { from_one = l.from_one; to_rank = omega (arith, l.to_rank) }), apart (suc n) (λ e. ne (sym e)))
+    before prefix ne =
+        rw (prefix (record { from_one = l.from_one; to_rank = omega (arith, l.to_rank) }), apart (suc n) (λ e. ne (sym e)))
         (omega (arith, linears))
 
 pub sum_to-other_root : (n : ℕ) (a : ℕ → ℤ) (s : ℕ) → (IsLetter n s → ⊥)

@@ -87,23 +87,23 @@ moved-still s t c ne e =
     in (omega (arith, ints, at_s), omega (arith, ints, at_t))
 
 module _ (A : IntegerMatrix) (g : IsAdmissible A) where
-  -- with the same word in front
-  front : (p : List ℕ) {u v : List ℕ} → SameElement A u v → SameElement A (p ++ u) (p ++ v)
-  front p e = same-append A g (same-refl A g p) e
+  -- with the same word before both
+  prefix : (p : List ℕ) {u v : List ℕ} → SameElement A u v → SameElement A (p ++ u) (p ++ v)
+  prefix p e = same-append A g (same-refl A g p) e
 
   one_turn : (t s : ℕ) → SameElement A (t ∷ t ∷ s ∷ []) (s ∷ [])
   one_turn t s = same-square A g t (s ∷ [])
 
   two_turns : (t s : ℕ) → SameElement A (t ∷ s ∷ s ∷ t ∷ s ∷ []) (s ∷ [])
-  two_turns t s = same-trans A g (front (t ∷ []) (same-square A g s (t ∷ s ∷ []))) (one_turn t s)
+  two_turns t s = same-trans A g (prefix (t ∷ []) (same-square A g s (t ∷ s ∷ []))) (one_turn t s)
 
   three_turns : (t s : ℕ) → SameElement A (t ∷ s ∷ t ∷ t ∷ s ∷ t ∷ s ∷ []) (s ∷ [])
-  three_turns t s = same-trans A g (front (t ∷ s ∷ []) (same-square A g t (s ∷ t ∷ s ∷ []))) (two_turns t s)
+  three_turns t s = same-trans A g (prefix (t ∷ s ∷ []) (same-square A g t (s ∷ t ∷ s ∷ []))) (two_turns t s)
 
   five_turns : (t s : ℕ) → SameElement A (t ∷ s ∷ t ∷ s ∷ t ∷ t ∷ s ∷ t ∷ s ∷ t ∷ s ∷ []) (s ∷ [])
   five_turns t s =
-      same-trans A g (front (t ∷ s ∷ t ∷ s ∷ []) (same-square A g t (s ∷ t ∷ s ∷ t ∷ s ∷ [])))
-      (same-trans A g (front (t ∷ s ∷ t ∷ []) (same-square A g s (t ∷ s ∷ t ∷ s ∷ []))) (three_turns t s))
+      same-trans A g (prefix (t ∷ s ∷ t ∷ s ∷ []) (same-square A g t (s ∷ t ∷ s ∷ t ∷ s ∷ [])))
+      (same-trans A g (prefix (t ∷ s ∷ t ∷ []) (same-square A g s (t ∷ s ∷ t ∷ s ∷ []))) (three_turns t s))
 
   braid_of : (t s m : ℕ) → IsLetter A.rank t → IsLetter A.rank s → HasOrder (A.entry t s) (A.entry s t) m
       → SameElement A (alternating m s t) (alternating m t s)
@@ -112,12 +112,12 @@ module _ (A : IntegerMatrix) (g : IsAdmissible A) where
   by_order : {a b : ℤ} (t s m : ℕ) → HasOrder a b m → SameElement A (alternating m s t) (alternating m t s)
       → SameElement A (zigzag t s (m - 1)) (s ∷ [])
   unfolding alternating
-  by_order t s m order_two e = same-trans A g (front (t ∷ []) e) (one_turn t s)
-  by_order t s m order_three e = same-trans A g (front (t ∷ s ∷ []) e) (two_turns t s)
-  by_order t s m order_four e = same-trans A g (front (t ∷ s ∷ t ∷ []) e) (three_turns t s)
-  by_order t s m order_back_four e = same-trans A g (front (t ∷ s ∷ t ∷ []) e) (three_turns t s)
-  by_order t s m order_six e = same-trans A g (front (t ∷ s ∷ t ∷ s ∷ t ∷ []) e) (five_turns t s)
-  by_order t s m order_back_six e = same-trans A g (front (t ∷ s ∷ t ∷ s ∷ t ∷ []) e) (five_turns t s)
+  by_order t s m order_two e = same-trans A g (prefix (t ∷ []) e) (one_turn t s)
+  by_order t s m order_three e = same-trans A g (prefix (t ∷ s ∷ []) e) (two_turns t s)
+  by_order t s m order_four e = same-trans A g (prefix (t ∷ s ∷ t ∷ []) e) (three_turns t s)
+  by_order t s m order_back_four e = same-trans A g (prefix (t ∷ s ∷ t ∷ []) e) (three_turns t s)
+  by_order t s m order_six e = same-trans A g (prefix (t ∷ s ∷ t ∷ s ∷ t ∷ []) e) (five_turns t s)
+  by_order t s m order_back_six e = same-trans A g (prefix (t ∷ s ∷ t ∷ s ∷ t ∷ []) e) (five_turns t s)
 
   -- the walk that goes all round but for one step: the letters together are s
   pub zigzag-order : (t s m : ℕ) → IsLetter A.rank t → IsLetter A.rank s → HasOrder (A.entry t s) (A.entry s t) m
@@ -147,8 +147,8 @@ module _ (A : IntegerMatrix) (g : IsAdmissible A) where
       go : TwoLetters r.count (A.entry s t) (A.entry t s) → (m : ℕ) × HasOrder (A.entry s t) (A.entry t s) m
       go (spread hx hy) =
           absurd (no_descent A g (x ++ t ∷ []) s ls
-          (spread_nonnegative A g (x ++ t ∷ []) s t r ls lt hx hy (positive A g r.front s ls r.not_s)
-          (positive A g r.front t lt r.not_t)) d)
+          (spread_nonnegative A g (x ++ t ∷ []) s t r ls lt hx hy (positive A g r.prefix s ls r.not_s)
+          (positive A g r.prefix t lt r.not_t)) d)
       go (braids m l k order) = (m, order)
 
   -- the first letter of a word and another letter that shortens it have an order

@@ -1,7 +1,7 @@
 -- the action of words on integer vectors
 pub mod Action
 -- words made of other words: a reflection, a word without one of its letters
-pub mod Words
+pub mod DerivedWords
 -- the sign of a root
 pub mod Root
 -- the Coxeter relations

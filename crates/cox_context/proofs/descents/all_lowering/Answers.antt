@@ -1,3 +1,4 @@
+-- One member more.
 use Rattle.std.proofs.Common.{◌≡◌, ℕ, arith, subst}
 use Rattle.cox_context.specs.Shifts.{AreLoweringLetters}
 use Rattle.cox_context.proofs.KeptLetters.{kept-start, kept-push}

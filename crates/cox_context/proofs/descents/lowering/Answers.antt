@@ -1,3 +1,4 @@
+-- Each letter is appended exactly where its shift goes to a member before.
 use Rattle.std.proofs.Common.{◌≡◌, ℕ, ◌+◌, ◌-◌, length, List, ap, sym, ◌∙◌, arith, lit<}
 use Rattle.cox_context.specs.Shifts.{is_lower}
 use Rattle.cox_context.proofs.FilterLemmas.{lowered-start, lowered-next, lowered-length, lowered-is}

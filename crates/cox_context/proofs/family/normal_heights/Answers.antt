@@ -1,3 +1,4 @@
+-- The word s x is a normal form exactly where s is its least left descent.
 use Rattle.std.proofs.Common.{◌∷◌, sym, ◌∙◌}
 use Rattle.std.proofs.lemmas.Bool.{false≢true}
 use Rattle.cox_base.specs.IntegerMatrix.{IntegerMatrix, IsAdmissible, integer_matrix}

@@ -1,3 +1,4 @@
+-- Each clause is a lemma on intervals as lists.
 use Rattle.cox_base.specs.IntegerMatrix.{integer_matrix}
 use Rattle.cox_reflect.proofs.Admissible.{IsAdmissible-integer_matrix}
 use Rattle.cox_reflect.proofs.Bruhat.{below-trans}

@@ -1,3 +1,4 @@
+-- The entry of a member lies within the table.
 use Rattle.cox_context.proofs.right_shifts.known_right_shift.Goals as goal
 
 pub entry-requires-clause-within : goal.entry-requires-clause-within

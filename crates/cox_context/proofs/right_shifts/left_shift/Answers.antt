@@ -1,3 +1,4 @@
+-- The entry of a member lies within the table.
 use Rattle.cox_context.proofs.Places.{place-within}
 use Rattle.cox_context.proofs.right_shifts.left_shift.Goals as goal
 

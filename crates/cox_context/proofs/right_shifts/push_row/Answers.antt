@@ -1,3 +1,4 @@
+-- One entry more keeps the table right.
 use Rattle.std.proofs.Common.{◌∷◌, [], length-append, arith}
 use Rattle.cox_base.specs.IntegerMatrix.{integer_matrix}
 use Rattle.cox_reflect.proofs.Admissible.{IsAdmissible-integer_matrix}

@@ -1,3 +1,4 @@
+-- At first nothing is noted; after the last member the table has all left shifts.
 use Rattle.std.proofs.Common.{rules, ◌≡◌, ℕ, ◌*◌, Option, None, length, arith}
 use Rattle.std.proofs.Math.ListN.{replicate}
 use Rattle.std.proofs.lemmas.List.{length-replicate}

@@ -1,3 +1,4 @@
+-- Two writes to a table: at k, at i, and nowhere else.
 use Rattle.std.proofs.Common.{◌+◌, ◌-◌, ◌*◌, Some, set, arith, inl, inr}
 use Rattle.std.proofs.lemmas.List.{length-set}
 use Rattle.cox_context.proofs.Places.{entry-set_same, entry-set_other}

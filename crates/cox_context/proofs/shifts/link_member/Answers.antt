@@ -1,3 +1,4 @@
+-- A descent is noted at both members, and any other letter leaves the table as it is.
 use Rattle.std.proofs.Common.{◌<◌, sym, ◌∙◌, arith}
 use Rattle.std.proofs.lemmas.Bool.{false≢true}
 use Rattle.cox_base.specs.Matrix.{IsLetter}

@@ -1,3 +1,4 @@
+-- Each shift of the walk is noted, and after the last one the walk has come to s y.
 use Rattle.std.proofs.Common.{◌≡◌, ◌+◌, ◌-◌, ◌<◌, suc, arith}
 use Rattle.cox_base.specs.Matrix.{label}
 use Rattle.cox_base.specs.IntegerMatrix.{integer_matrix}

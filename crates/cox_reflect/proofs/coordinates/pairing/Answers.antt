@@ -1,3 +1,4 @@
+-- Each product and each sum fits in 128 bits, and the last sum is the pairing.
 use Rattle.std.proofs.Common.{◌≡◌, ◌+◌, ◌-◌, sym, ◌∙◌, arith, rules}
 use Rattle.std.proofs.lemmas.Int.{to_z-of_z}
 use mir.Syntax.{w128}

@@ -1,3 +1,4 @@
+-- The sum of the products for the letters before t.
 use Rattle.std.proofs.Common.{◌≡◌, ◌-◌, ◌*ℤ◌}
 use Rattle.cox_base.specs.IntegerMatrix.{entry_of}
 use Rattle.cox_base.specs.Element.{sum_to}

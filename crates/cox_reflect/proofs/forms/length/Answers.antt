@@ -1,3 +1,4 @@
+-- Each least left descent that is taken off makes the element shorter by one.
 use Rattle.std.proofs.Common.{arith}
 use Rattle.cox_base.specs.IntegerMatrix.{integer_matrix}
 use Rattle.cox_reflect.proofs.Admissible.{IsAdmissible-integer_matrix}

@@ -1,3 +1,4 @@
+-- A word more than the limit admits shows that there are too many members.
 use Rattle.std.proofs.Common.{arith, refl}
 use Rattle.cox_context.specs.Family.{IsMember}
 use Rattle.cox_context.proofs.FaultLemmas.{over-prefix}

@@ -1,3 +1,4 @@
+-- The heights of each member tell whether some letter is no left descent of it.
 use Rattle.std.proofs.Common.{ℕ, ◌≡◌, ◌≤◌, ◌<◌, length, arith, sym, ◌∙◌, get_or, ⊎_elim}
 use Rattle.std.proofs.lemmas.Bool.{cases_lt, false≢true}
 use Rattle.cox_reflect.specs.Height.{AreHeights}

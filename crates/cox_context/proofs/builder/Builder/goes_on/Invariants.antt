@@ -1,3 +1,4 @@
+-- Each letter is a left descent of the members from low to i.
 use Rattle.std.proofs.Common.{ℕ, ◌≤◌, ◌<◌}
 use Rattle.cox_base.specs.Matrix.{IsLetter}
 use Rattle.cox_base.specs.IntegerMatrix.{integer_matrix}

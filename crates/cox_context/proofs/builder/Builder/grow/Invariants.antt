@@ -1,3 +1,4 @@
+-- The list has the members of at most so many letters.
 use Rattle.std.proofs.Common.{◌≤◌, length}
 use Rattle.cox_base.specs.IntegerMatrix.{integer_matrix}
 use Rattle.cox_context.specs.Family.{IsMember}

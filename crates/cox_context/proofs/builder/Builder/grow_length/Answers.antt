@@ -1,3 +1,4 @@
+-- After the last letter the list has all members of the next length.
 use Rattle.std.proofs.Common.{ℕ, List, ◌+◌, ◌≡◌, arith}
 use Rattle.cox_base.specs.IntegerMatrix.{IntegerMatrix, IsAdmissible, integer_matrix}
 use Rattle.cox_reflect.proofs.Admissible.{IsAdmissible-integer_matrix}

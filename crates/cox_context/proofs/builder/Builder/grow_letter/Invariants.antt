@@ -1,3 +1,4 @@
+-- Of the next length the list has the members that begin with s and come from a member before the parent.
 use Rattle.std.proofs.Common.{◌≤◌, length}
 use Rattle.cox_base.specs.IntegerMatrix.{integer_matrix}
 use Rattle.cox_context.specs.Family.{IsMember}

@@ -1,3 +1,4 @@
+-- The identity alone has no letter.
 use Rattle.std.proofs.Common.{◌≡◌, ◌∷◌, [], refl, ◌++◌, sym, ◌∙◌}
 use Rattle.cox_context.proofs.ResultLemmas.{on_ok}
 use Rattle.cox_base.specs.IntegerMatrix.{integer_matrix}

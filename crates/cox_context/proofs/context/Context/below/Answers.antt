@@ -1,3 +1,4 @@
+-- Each letter is a step of lifting, by the left shift that is kept.
 use Rattle.std.proofs.Common.{◌≡◌, ℕ, ◌+◌, ◌∷◌, ◌<◌, drop, slice_index, length, ap, subst, ◌∙◌, arith, add-one, drop-cons}
 use Rattle.std.proofs.lemmas.Bool.{eqb-true, eq-eqb}
 use Rattle.std.proofs.lemmas.List.{drop_all}
@@ -52,14 +53,14 @@ loop-t-preserved c =
     in let e : IsElement A c.as_slice-t-items.result.now = rw items (element-at A g c.args.self.now.members closed c.args.j c.requires.j)
     in let more : c.loop-t.t-index < length c.as_slice-t-items.result.now = c.loop-t-test.true
     in let t : ℕ = slice_index c.as_slice-t-items.result.now c.loop-t.t-index
-    in let front : drop c.loop-t.t-index c.as_slice-t-items.result.now ≡ t ∷ drop (c.loop-t.t-index + 1) c.as_slice-t-items.result.now
+    in let prefix : drop c.loop-t.t-index c.as_slice-t-items.result.now ≡ t ∷ drop (c.loop-t.t-index + 1) c.as_slice-t-items.result.now
     = rw (add-one, drop-cons c.as_slice-t-items.result.now c.loop-t.t-index 0)
     in let reduced : IsReduced A (drop c.loop-t.t-index c.as_slice-t-items.result.now) =
     IsReduced-drop A g c.loop-t.t-index c.as_slice-t-items.result.now (element-length A g c.as_slice-t-items.result.now e)
     in let next = settled-next A g c.args.self.now.members closed (word_at c.args.self.now.members c.args.i)
     (word_at c.args.self.now.members c.args.j) (drop c.loop-t.t-index c.as_slice-t-items.result.now)
     (drop (c.loop-t.t-index + 1) c.as_slice-t-items.result.now) t c.loop-t.rest c.left.result
-    (e.letters c.loop-t.t-index 0 more) c.loop-t.invariant front reduced c.left.ensures
+    (e.letters c.loop-t.t-index 0 more) c.loop-t.invariant prefix reduced c.left.ensures
     in elim c.match-left.branch [
       | in-Some w ↦ let lower = rw w.in-Some.is at next in rw (w.rest-is, w.min-rest.ensures) lower
       | in_default w ↦ let same = rw w.in_default.is at next in rw w.rest-is same

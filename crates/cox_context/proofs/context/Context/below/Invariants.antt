@@ -1,3 +1,4 @@
+-- What is left of x is below the rest of the word of y exactly where x is below y.
 use Rattle.std.proofs.Common.{drop}
 use Rattle.cox_base.specs.IntegerMatrix.{integer_matrix}
 use Rattle.cox_context.specs.Numbers.{word_at}

@@ -1,3 +1,4 @@
+-- The letters that are kept for a member are its left descents.
 use Rattle.std.proofs.Common.{◌<◌, ℕ, List, length, ap, subst, sym, ◌∙◌}
 use Rattle.arrayvec.specs.ArrayVec.{ArrayVec}
 use Rattle.cox_context.specs.Closed.{Elements}

@@ -1,3 +1,4 @@
+-- The members of at most 63 letters are the group where no letter makes one of 63 longer.
 use Rattle.std.proofs.Common.{rules, ◌≤◌, ℕ, List, None, length, arith, sym, ◌∙◌}
 use Rattle.std.proofs.lemmas.Bool.{false≢true}
 use Rattle.cox_base.specs.IntegerMatrix.{IntegerMatrix, IsAdmissible, integer_matrix}

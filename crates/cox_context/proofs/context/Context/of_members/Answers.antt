@@ -1,3 +1,4 @@
+-- The tables are those of the members, so they make a context.
 use Rattle.cox_base.specs.IntegerMatrix.{IntegerMatrix, IsAdmissible, integer_matrix}
 use Rattle.cox_reflect.proofs.Admissible.{IsAdmissible-integer_matrix}
 use Rattle.cox_context.proofs.BelowLemmas.{left-lowering, right-lowering}

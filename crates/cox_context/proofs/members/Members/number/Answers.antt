@@ -1,3 +1,4 @@
+-- The place of a key in the set is the number of its word.
 use Rattle.std.proofs.Common.{sym, ◌∙◌}
 use Rattle.cox_context.proofs.KeyLemmas.{number-found, number-absent}
 use Rattle.cox_context.proofs.members.Members.number.Goals as goal

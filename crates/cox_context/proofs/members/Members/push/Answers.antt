@@ -1,3 +1,4 @@
+-- A new key is appended.
 use Rattle.cox_context.proofs.KeyLemmas.{push-new}
 use Rattle.cox_context.proofs.members.Members.push.Goals as goal
 

@@ -1,3 +1,4 @@
+-- The letters found so far are those before the next whose heights are negative.
 use Rattle.std.proofs.Common.{◌≡◌, ◌-◌}
 use Rattle.cox_reflect.proofs.LetterLists.{negative_letters}
 use Rattle.cox_reflect.proofs.heights.Heights.descents.Given as goal

@@ -1,3 +1,4 @@
+-- Each simple root has the height 1.
 use Rattle.std.proofs.Common.{◌-◌, pos, sym, ◌∙◌, arith}
 use Rattle.std.proofs.lemmas.List.{get_or-replicate}
 use Rattle.cox_base.specs.declared.coxeter.TheConstants.{MAX_RANK}

@@ -1,3 +1,4 @@
+-- No letter before s has a negative height.
 use Rattle.std.proofs.Common.{ℕ, ◌≤◌, ◌<◌, pos, ◌≤ℤ◌}
 use Rattle.cox_reflect.specs.RootHeight.{at_letter}
 use Rattle.cox_reflect.proofs.heights.Heights.least_descent.Given as goal

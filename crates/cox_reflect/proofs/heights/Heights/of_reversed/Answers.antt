@@ -1,3 +1,4 @@
+-- A letter is put before a word of at most 62 letters.
 use Rattle.std.proofs.Common.{◌≤◌, reverse, take, length, arith, rules}
 use Rattle.std.proofs.lemmas.List.{length-take, length-reverse}
 use Rattle.cox_base.specs.IntegerMatrix.{integer_matrix}

@@ -1,3 +1,4 @@
+-- A letter is put before a word of at most 62 letters; after the last one it is the whole word.
 use Rattle.std.proofs.Common.{reverse, map, arith}
 use Rattle.std.proofs.lemmas.List.{reverse-reverse}
 use Rattle.std.proofs.lemmas.Iterator.Adapters.{YieldsList-from_rev_slice}

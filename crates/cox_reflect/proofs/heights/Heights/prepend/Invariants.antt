@@ -1,3 +1,4 @@
+-- What is kept over the letters whose heights are replaced.
 use Rattle.std.proofs.Common.{◌≡◌, ℕ, ◌≤◌, ◌<◌, length, ◌-ℤ◌, ◌*ℤ◌}
 use Rattle.cox_base.specs.declared.coxeter.TheConstants.{MAX_RANK}
 use Rattle.cox_base.specs.Matrix.{IsLetter}
