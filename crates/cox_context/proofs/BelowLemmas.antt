@@ -1,6 +1,6 @@
 -- Bruhat order and descents of members, by their left shifts.
-use Rattle.std.proofs.Common.{◌≡◌, ℕ, ◌≤◌, ◌<◌, Bool, true, min, List, [], ◌∷◌, ◌++◌, length, ◌*◌, Option, None, Some, ◌↔◌, IsTrue, refl, sym, ◌∙◌, ⊎_elim, arith, ltb-true, lt-ltb, take, drop}
-use Rattle.std.proofs.lemmas.List.{take-append-drop}
+use Rattle.std.proofs.Common.{◌≡◌, ℕ, ◌≤◌, ◌<◌, Bool, true, min, List, [], ◌∷◌, ◌++◌, length, ◌*◌, Option, None, Some, ◌↔◌}
+use Rattle.std.proofs.Common.{IsTrue, refl, sym, ◌∙◌, ⊎_elim, arith, ltb-true, lt-ltb}
 use Rattle.std.proofs.lemmas.Bool.{cases_lt}
 use Rattle.arrayvec.specs.ArrayVec.{ArrayVec}
 use Rattle.cox_base.specs.Matrix.{IsLetter}
@@ -9,12 +9,12 @@ use Rattle.cox_base.specs.Element.{SameElement}
 use Rattle.cox_base.specs.ShortLex.{normal_form}
 use Rattle.cox_base.specs.Length.{IsReduced, IsLeftDescent, IsRightDescent, left_descents, right_descents}
 use Rattle.cox_base.specs.Bruhat.{IsBelow}
-use Rattle.cox_reflect.proofs.Elements.{same-refl, same-sym, same-square}
-use Rattle.cox_reflect.proofs.Search.{normal_form-same, word_length-equal, word_length-length}
-use Rattle.cox_reflect.proofs.Lengths.{IsReduced-back}
+use Rattle.cox_reflect.proofs.Elements.{same-refl, same-sym}
+use Rattle.cox_reflect.proofs.Search.{normal_form-same, word_length-length}
 use Rattle.cox_reflect.proofs.Bruhat.{below-same, below-refl, below-length, lift_down, lift_up}
+use Rattle.cox_reflect.proofs.OrderLemmas.{first-descent, below-drop}
 use Rattle.cox_reflect.proofs.DescentLists.{left_descents-by, right_descents-by}
-use Rattle.cox_context.specs.Members.{IsClosed}
+use Rattle.cox_context.specs.Closed.{IsClosed}
 use Rattle.cox_context.specs.Numbers.{word_at, IsNumberOf}
 use Rattle.cox_context.specs.Shifts.{entry, is_lower, AreLeftShifts, AreRightShifts, lowering_letters, AreLoweringLetters, AreDescents}
 use Rattle.cox_context.proofs.ListLemmas.{rising-place}
@@ -31,47 +31,42 @@ abbrev pub lesser : ℕ → Option ℕ → ℕ
 lesser i None = i
 lesser i (Some k) = min i k
 
-module _ (A : IntegerMatrix) (g : IsAdmissible A) where
-  pub front-descent : (t : ℕ) (v : List ℕ) → IsReduced A (t ∷ v) → IsLeftDescent A (t ∷ v) t
-  front-descent t v r = omega (arith, r, word_length-equal A g (same-square A g t v), word_length-length A g v)
-
-  pub drop-square : (t : ℕ) (y v : List ℕ) → IsBelow A y (t ∷ t ∷ v) ↔ IsBelow A y v
-  drop-square t y v = (
-    λ b. below-same A g (same-refl A g y) (same-square A g t v) b,
-    λ b. below-same A g (same-refl A g y) (same-sym A g (same-square A g t v)) b,
-  )
-
 module _ (A : IntegerMatrix) (g : IsAdmissible A) (words : List (List ℕ)) (closed : IsClosed A words) where
-  settled-down : (x w rest v : List ℕ) (t i k : ℕ) → IsSettled A words x w rest i → rest ≡ t ∷ v → IsReduced A rest → IsLeftDescent A (word_at words i) t → k < length words
+  settled-down : (x w rest v : List ℕ) (t i k : ℕ) → IsSettled A words x w rest i → rest ≡ t ∷ v → IsReduced A rest
+      → IsLeftDescent A (word_at words i) t → k < length words
       → word_at words k ≡ normal_form A (t ∷ word_at words i) → IsSettled A words x w v k
   settled-down x w rest v t i k c e r d within shift =
       let before : IsBelow A x w ↔ IsBelow A (word_at words i) (t ∷ v) = rw e at c.settles
-      in let step = lift_down A g (word_at words i) (t ∷ v) t (front-descent A g t v (rw e at r)) d
+      in let step = lift_down A g (word_at words i) (t ∷ v) t (first-descent A g t v (rw e at r)) d
       in let same : SameElement A (word_at words k) (t ∷ word_at words i) = rw shift (normal_form-same A g (t ∷ word_at words i))
       in record {
         within = within;
         settles = (
-          λ b. below-same A g (same-sym A g same) (same-refl A g v) ((drop-square A g t (t ∷ word_at words i) v).0 (step.0 (before.0 b))),
-          λ b. before.1 (step.1 ((drop-square A g t (t ∷ word_at words i) v).1 (below-same A g same (same-refl A g v) b))),
+          λ b. below-same A g (same-sym A g same) (same-refl A g v) ((below-drop A g t (t ∷ word_at words i) v).0 (step.0 (before.0 b))),
+          λ b. before.1 (step.1 ((below-drop A g t (t ∷ word_at words i) v).1 (below-same A g same (same-refl A g v) b))),
         );
       }
 
-  settled-up : (x w rest v : List ℕ) (t i : ℕ) → IsSettled A words x w rest i → rest ≡ t ∷ v → IsReduced A rest → (IsLeftDescent A (word_at words i) t → ⊥) → IsSettled A words x w v i
+  settled-up : (x w rest v : List ℕ) (t i : ℕ) → IsSettled A words x w rest i → rest ≡ t ∷ v → IsReduced A rest
+      → (IsLeftDescent A (word_at words i) t → ⊥) → IsSettled A words x w v i
   settled-up x w rest v t i c e r none =
       let before : IsBelow A x w ↔ IsBelow A (word_at words i) (t ∷ v) = rw e at c.settles
-      in let step = lift_up A g (word_at words i) (t ∷ v) t (front-descent A g t v (rw e at r)) none
+      in let step = lift_up A g (word_at words i) (t ∷ v) t (first-descent A g t v (rw e at r)) none
       in record {
         within = c.within;
-        settles = (λ b. (drop-square A g t (word_at words i) v).0 (step.0 (before.0 b)), λ b. before.1 (step.1 ((drop-square A g t (word_at words i) v).1 b)));
+        settles = (
+          λ b. (below-drop A g t (word_at words i) v).0 (step.0 (before.0 b)),
+          λ b. before.1
+              (step.1 ((below-drop A g t (word_at words i) v).1 b)),
+        );
       }
 
-  pub reduced-drop : (k : ℕ) (u : List ℕ) → IsReduced A u → IsReduced A (drop k u)
-  reduced-drop k u r = let e : take k u ++ drop k u ≡ u = take-append-drop k u in IsReduced-back A g (take k u) (drop k u) (rw e r)
-
   -- a letter of the word, and the left shift by it
-  pub settled-next : (x w rest v : List ℕ) (t i : ℕ) (found : Option ℕ) → IsLetter A.rank t → IsSettled A words x w rest i → rest ≡ t ∷ v → IsReduced A rest
+  pub settled-next : (x w rest v : List ℕ) (t i : ℕ) (found : Option ℕ) → IsLetter A.rank t → IsSettled A words x w rest i → rest ≡ t ∷ v
+      → IsReduced A rest
       → IsNumberOf words (normal_form A (t ∷ word_at words i)) found → IsSettled A words x w v (lesser i found)
-  settled-next x w rest v t i None l c e r none = settled-up x w rest v t i c e r (λ d. none (descent-member A g words closed t i c.within d))
+  settled-next x w rest v t i None l c e r none =
+      settled-up x w rest v t i c e r (λ d. none (descent-member A g words closed t i c.within d))
   settled-next x w rest v t i (Some k) l c e r (within, shift) =
       ⊎_elim
       (λ (less : k < i).
@@ -86,7 +81,8 @@ module _ (A : IntegerMatrix) (g : IsAdmissible A) (words : List (List ℕ)) (clo
   settled-start i j l = record { within = l; settles = (λ b. b, λ b. b) }
 
   -- at the end the identity alone is below
-  pub settled-end : (x w rest : List ℕ) (i : ℕ) (answer : Bool) → rest ≡ [] → IsSettled A words x w rest i → (answer ≡ true) ↔ (i ≡ 0) → IsTrue answer ↔ IsBelow A x w
+  pub settled-end : (x w rest : List ℕ) (i : ℕ) (answer : Bool) → rest ≡ [] → IsSettled A words x w rest i → (answer ≡ true) ↔ (i ≡ 0)
+      → IsTrue answer ↔ IsBelow A x w
   settled-end x w rest i answer e c k = (
     λ yes. let q : i ≡ 0 = k.0 yes in c.settles.1 (rw (e, q, first-member A g words closed) (below-refl A g (same-refl A g []))),
     λ b. k.1 (only (rw e at (c.settles.0 b))),
@@ -95,39 +91,46 @@ module _ (A : IntegerMatrix) (g : IsAdmissible A) (words : List (List ℕ)) (clo
       only : IsBelow A (word_at words i) [] → i ≡ 0
       only b =
           rising-place words i 0 closed.rising c.within (omega (arith, closed.some))
-          (empty (word_at words i) (omega (arith, below-length A g b, length-at A g words closed i c.within, word_length-length A g [])) ∙ sym (first-member A g words closed))
+          (empty (word_at words i) (omega (arith, below-length A g b, length-at A g words closed i c.within, word_length-length A g []))
+          ∙ sym (first-member A g words closed))
         where
           empty : (n : List ℕ) → length n ≤ 0 → n ≡ []
           empty [] l = refl
           empty (s ∷ x) l = absurd (omega (arith, l))
 
-  pub lower-descent : (s i : ℕ) (found : Option ℕ) → IsLetter A.rank s → i < length words → IsNumberOf words (normal_form A (s ∷ word_at words i)) found
+  pub lower-descent : (s i : ℕ) (found : Option ℕ) → IsLetter A.rank s → i < length words
+      → IsNumberOf words (normal_form A (s ∷ word_at words i)) found
       → (is_lower i found ≡ true) ↔ IsLeftDescent A (word_at words i) s
   lower-descent s i None l m none = (λ f. absurd (cc), λ d. absurd (none (descent-member A g words closed s i m d)))
   lower-descent s i (Some k) l m (within, shift) =
       let less = shift-less A g words closed s i k l m within shift in (λ f. less.0 (ltb-true k i f), λ d. lt-ltb k i (less.1 d))
 
-  pub lower-right_descent : (s i : ℕ) (found : Option ℕ) → IsLetter A.rank s → i < length words → IsNumberOf words (normal_form A (word_at words i ++ s ∷ [])) found
+  pub lower-right_descent : (s i : ℕ) (found : Option ℕ) → IsLetter A.rank s → i < length words
+      → IsNumberOf words (normal_form A (word_at words i ++ s ∷ [])) found
       → (is_lower i found ≡ true) ↔ IsRightDescent A (word_at words i) s
   lower-right_descent s i None l m none = (λ f. absurd (cc), λ d. absurd (none (right_descent-member A g words closed s i m d)))
   lower-right_descent s i (Some k) l m (within, shift) =
       let less = right_shift-less A g words closed s i k l m within shift in (λ f. less.0 (ltb-true k i f), λ d. lt-ltb k i (less.1 d))
 
   -- the descents of the members, read off their shifts
-  pub left-lowering : (table : List (Option ℕ)) (kept : List (ArrayVec ℕ)) → AreLeftShifts A words table → AreLoweringLetters A.rank table (length words) kept → AreDescents (left_descents A) words kept
+  pub left-lowering : (table : List (Option ℕ)) (kept : List (ArrayVec ℕ)) → AreLeftShifts A words table
+      → AreLoweringLetters A.rank table (length words) kept → AreDescents (left_descents A) words kept
   unfolding lowering_letters
   left-lowering table kept h k = record {
     size = k.size;
     letters = λ i l. k.letters i l
-        ∙ sym (left_descents-by A (word_at words i) (λ s. is_lower i (entry A.rank table s i)) (λ s m. lower-descent s i (entry A.rank table s i) m l (h.shift s i m l)));
+        ∙ sym (left_descents-by A (word_at words i) (λ s. is_lower i (entry A.rank table s i))
+        (λ s m. lower-descent s i (entry A.rank table s i) m l (h.shift s i m l)));
   }
 
-  pub right-lowering : (table : List (Option ℕ)) (kept : List (ArrayVec ℕ)) → length table ≡ length words * A.rank → AreRightShifts A words table → AreLoweringLetters A.rank table (length words) kept
+  pub right-lowering : (table : List (Option ℕ)) (kept : List (ArrayVec ℕ)) → length table ≡ length words * A.rank
+      → AreRightShifts A words table → AreLoweringLetters A.rank table (length words) kept
       → AreDescents (right_descents A) words kept
   unfolding lowering_letters
   right-lowering table kept size h k = record {
     size = k.size;
     letters = λ i l. k.letters i l
         ∙ sym (right_descents-by A (word_at words i) (λ s. is_lower i (entry A.rank table s i))
-        (λ s m. lower-right_descent s i (entry A.rank table s i) m l (h.shift s i m l (rw size (place-within A.rank (length words) i s m l)))));
+        (λ s m. lower-right_descent s i (entry A.rank table s i) m l
+        (h.shift s i m l (rw size (place-within A.rank (length words) i s m l)))));
   }

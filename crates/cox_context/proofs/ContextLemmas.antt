@@ -1,25 +1,77 @@
 -- Contexts of intervals and of groups: their members are closed downwards, and what a group that goes on has.
-use Rattle.std.proofs.Common.{◌≡◌, ℕ, ◌≤◌, ◌<◌, List, [], ◌∷◌, length, None, ap, sym, ◌∙◌, ⊎_elim, arith, subst}
+use Rattle.std.proofs.Common.{◌≡◌, ℕ, ◌≤◌, ◌<◌, List, [], ◌∷◌, length, None, Some, Result, Ok, Err, IfErr, ap, sym, ◌∙◌, ⊎_elim}
+use Rattle.std.proofs.Common.{arith, subst}
 use Rattle.std.proofs.lemmas.Bool.{cases_lt}
 use Rattle.std.proofs.lemmas.List.Elements.{All-head}
 use Rattle.cox_base.specs.Matrix.{IsLetter}
 use Rattle.cox_base.specs.IntegerMatrix.{IntegerMatrix, IsAdmissible}
+use Rattle.cox_base.specs.Element.{SameElement}
 use Rattle.cox_base.specs.ShortLex.{normal_form}
-use Rattle.cox_base.specs.Length.{word_length, IsLeftDescent}
+use Rattle.cox_base.specs.Length.{word_length, IsReduced, IsLeftDescent}
+use Rattle.cox_reflect.proofs.Elements.{same-refl}
 use Rattle.cox_reflect.proofs.Lengths.{word_length-is}
 use Rattle.cox_reflect.proofs.Deletion.{left_length}
-use Rattle.cox_reflect.proofs.Bruhat.{below-length}
-use Rattle.cox_context.specs.Members.{IsElement, IsInInterval, IsClosed}
+use Rattle.cox_reflect.proofs.Bruhat.{below-length, below-same}
+use Rattle.cox_context.specs.declared.fault.ContextFault.{ContextFault}
+use Rattle.cox_context.specs.declared.fault.ContextFault.TheVariants.{Size, Long, NoMemory}
+use Rattle.cox_context.specs.declared.members.TheConstants.{MAX_MEMBERS}
+use Rattle.cox_context.specs.Members.{IsElement, IsInInterval}
+use Rattle.cox_context.specs.Closed.{IsClosed}
 use Rattle.cox_context.specs.SortedList.{IsListOf}
 use Rattle.cox_context.specs.Numbers.{word_at}
 use Rattle.cox_context.specs.Growth.{IsGrown}
-use Rattle.cox_context.specs.Refusal.{IsLong}
+use Rattle.cox_context.specs.Refusal.{IsLong, IsRefusal}
 use Rattle.cox_context.proofs.ListLemmas.{contains-placed, placed-contains}
 use Rattle.cox_context.proofs.Ideals.{IsIdeal, ideal-member, ideal-tailed, element-normal_form, element-length, element-tail}
-use Rattle.cox_context.proofs.GrowthLemmas.{IsTailed, grown-length}
+use Rattle.cox_context.proofs.GrowthLemmas.{IsTailed, grown-length, grown-list}
+
+-- ---- the same words with two properties
+
+pub list-along : (P Q : List ℕ → Type 0) → ((word : List ℕ) → P word → Q word) → ((word : List ℕ) → Q word → P word)
+    → (words : List (List ℕ)) → IsListOf P words → IsListOf Q words
+list-along P Q to from words are = record {
+  rising = are.rising;
+  sound = λ word c. to word (are.sound word c);
+  whole = λ word q. are.whole word (from word q);
+}
+
+pub refusal-along : (P Q : List ℕ → Type 0) → ((word : List ℕ) → P word → Q word) → ((word : List ℕ) → Q word → P word)
+    → (limit : ℕ) (fault : ContextFault) → IsRefusal P limit fault → IsRefusal Q limit fault
+refusal-along P Q to from limit (Size bound seen) (is, one_more, over) = (
+  is,
+  one_more,
+  record {
+    prefix = over.prefix;
+    first = record {
+      rising = over.first.rising;
+      sound = λ word c. to word (over.first.sound word c);
+      first = λ word q. over.first.first word (from word q);
+    };
+    count = over.count;
+    short = over.short;
+  },
+)
+refusal-along P Q to from limit Long l = record {
+  words = l.words;
+  are = list-along (λ word. P word × (length word ≤ 63)) (λ word. Q word × (length word ≤ 63)) (λ word p. (to word p.0, p.1))
+      (λ word q. (from word q.0, q.1)) l.words l.are;
+  count = l.count;
+  long = l.long;
+  member = to l.long l.member;
+  letters = l.letters;
+}
+refusal-along P Q to from limit NoMemory n = n
+
+pub result-along : {T : Type 0} (P Q : List ℕ → Type 0) → ((word : List ℕ) → P word → Q word) → ((word : List ℕ) → Q word → P word)
+    → (limit : ℕ) (r : Result T ContextFault) → IfErr r (IsRefusal P limit) → IfErr r (IsRefusal Q limit)
+result-along P Q to from limit (Ok x) h = h
+result-along P Q to from limit (Err fault) h = refusal-along P Q to from limit fault h
+
+-- ---- the members of a context
 
 module _ (A : IntegerMatrix) (g : IsAdmissible A) where
-  pub list-closed : (P : List ℕ → Type 0) (words : List (List ℕ)) → IsIdeal A P → IsListOf P words → ((word : List ℕ) → P word → length word ≤ 63) → length words ≤ 65536 → IsClosed A words
+  pub list-closed : (P : List ℕ → Type 0) (words : List (List ℕ)) → IsIdeal A P → IsListOf P words
+      → ((word : List ℕ) → P word → length word ≤ 63) → length words ≤ MAX_MEMBERS → IsClosed A words
   list-closed P words ideal are short few = record {
     rising = are.rising;
     element = λ word c. ideal.element word (are.sound word c);
@@ -29,33 +81,61 @@ module _ (A : IntegerMatrix) (g : IsAdmissible A) where
     few = few;
   }
 
+  interval-ideal : (top : List ℕ) → IsIdeal A (IsInInterval A top)
+  interval-ideal top = ideal-member A g (Some (record { items = top }))
+
   -- no member of the interval is longer than its top
   pub interval-length : (w word : List ℕ) → IsInInterval A w word → length word ≤ word_length A w
   interval-length w word p = omega (arith, below-length A g p.below, element-length A g word p.element)
 
+  -- the members of no more letters than the top, a reduced word, are the interval
+  pub interval-list : (top : List ℕ) (low : ℕ) (words : List (List ℕ)) → IsReduced A top
+      → IsGrown A.rank (IsInInterval A top) (length top) low words → IsListOf (IsInInterval A top) words
+  interval-list top low words reduced h =
+      grown-list A.rank (IsInInterval A top) (ideal-tailed A g (IsInInterval A top) (interval-ideal top)) (length top) low words h
+      (λ word p. omega (arith, interval-length top word p, reduced))
+
+  pub interval-closed : (top : List ℕ) (words : List (List ℕ)) → IsReduced A top → length top ≤ 63 → length words ≤ MAX_MEMBERS
+      → IsListOf (IsInInterval A top) words → IsClosed A words
+  interval-closed top words reduced short few are =
+      list-closed (IsInInterval A top) words (interval-ideal top) are
+      (λ word p. omega (arith, interval-length top word p, reduced, short)) few
+
+  -- the interval up to w is that up to a word of the same element
+  pub interval-from : (w top : List ℕ) → SameElement A top w → (word : List ℕ) → IsInInterval A top word → IsInInterval A w word
+  interval-from w top same word p = record { element = p.element; below = below-same A g (same-refl A g word) same p.below }
+
   -- where each member of 63 letters is shortened by each letter, no element is longer
   pub group-length : (low : ℕ) (words : List (List ℕ)) → IsGrown A.rank (IsElement A) 63 low words
-      → ((i s : ℕ) → low ≤ i → i < length words → IsLetter A.rank s → IsLeftDescent A (word_at words i) s) → (word : List ℕ) → IsElement A word → length word ≤ 63
+      → ((i s : ℕ) → low ≤ i → i < length words → IsLetter A.rank s → IsLeftDescent A (word_at words i) s) → (word : List ℕ)
+      → IsElement A word → length word ≤ 63
   group-length low words h all [] e = omega arith
   group-length low words h all (t ∷ x) e = go (group-length low words h all x (element-tail A g t x e))
     where
       long : (i : ℕ) × (i < length words) × (word_at words i ≡ x) → 63 ≤ length x → ⊥
       long (i, l, q) m =
-          let from : low ≤ i = ⊎_elim (λ (less : i < low). absurd (omega (arith, h.shorter i less, ap length q, m))) (λ (more : low ≤ i). more) (cases_lt i low)
+          let from : low ≤ i = ⊎_elim (λ (less : i < low). absurd (omega (arith, h.shorter i less, ap length q, m)))
+          (λ (more : low ≤ i). more) (cases_lt i low)
           in let d : IsLeftDescent A x t = rw q at (all i t from l (All-head (IsLetter A.rank) t x e.letters))
           in omega (arith, d, element-length A g (t ∷ x) e, element-length A g x (element-tail A g t x e))
 
       go : length x ≤ 63 → length (t ∷ x) ≤ 63
-      go l = ⊎_elim (λ (less : length x < 63). omega (arith, less)) (λ (more : 63 ≤ length x). absurd (long (h.whole x (element-tail A g t x e) l) more)) (cases_lt (length x) 63)
+      go l = ⊎_elim (λ (less : length x < 63). omega (arith, less))
+          (λ (more : 63 ≤ length x). absurd (long (h.whole x (element-tail A g t x e) l) more)) (cases_lt (length x) 63)
 
   -- where one is not, there is an element of 64 letters
   pub group-long : (low limit : ℕ) (words : List (List ℕ)) → IsGrown A.rank (IsElement A) 63 low words → length words ≤ limit
-      → (i : ℕ) × (s : ℕ) × (low ≤ i) × (i < length words) × IsLetter A.rank s × (IsLeftDescent A (word_at words i) s → ⊥) → IsLong (IsElement A) limit
+      → (i : ℕ) × (s : ℕ) × (low ≤ i) × (i < length words) × IsLetter A.rank s × (IsLeftDescent A (word_at words i) s → ⊥)
+      → IsLong (IsElement A) limit
   group-long low limit words h few (i, s, from, l, letter, none) = record {
-    front = words;
+    words = words;
     are = record {
       rising = h.rising;
-      sound = λ word c. let p = contains-placed words word c in (subst (IsElement A) p.is (h.sound p.i p.within), rw (← p.is) (grown-length A.rank (IsElement A) tailed 63 low words h p.i p.within));
+      sound = λ word c. let p = contains-placed words word c in (
+        subst (IsElement A) p.is (h.sound p.i p.within),
+        rw (← p.is)
+            (grown-length A.rank (IsElement A) tailed 63 low words h p.i p.within),
+      );
       whole = λ word p. let w = h.whole word p.0 p.1 in placed-contains words word (record { i = w.0; within = w.1; is = w.2 });
     };
     count = few;
@@ -69,5 +149,6 @@ module _ (A : IntegerMatrix) (g : IsAdmissible A) where
 
       up : word_length A (s ∷ word_at words i) ≡ 64
       up =
-          ⊎_elim (λ longer. omega (arith, longer, element-length A g (word_at words i) (h.sound i l), h.level i from l)) (λ shorter. absurd (none (omega (arith, shorter))))
+          ⊎_elim (λ longer. omega (arith, longer, element-length A g (word_at words i) (h.sound i l), h.level i from l))
+          (λ shorter. absurd (none (omega (arith, shorter))))
           (left_length A g s (word_at words i) letter)

@@ -1,24 +1,28 @@
 -- Why a context is refused.
 use Rattle.std.proofs.Common.{◌≡◌, ℕ, ◌+◌, ◌≤◌, ◌<◌, List, [], ◌∷◌, ◌++◌, length, Contains, arith, refl}
 use Rattle.cox_reflect.proofs.ShortLexFirst.{IsBefore, IsBefore-irrefl}
-use Rattle.cox_context.specs.SortedList.{IsRising, IsFrontOf}
+use Rattle.cox_context.specs.SortedList.{IsRising}
+use Rattle.cox_context.specs.Refusal.{IsPrefixOf}
 use Rattle.cox_context.specs.Numbers.{word_at}
 use Rattle.cox_context.specs.Refusal.{IsOver}
 use Rattle.cox_context.proofs.ListLemmas.{contains-placed, word_at-old, word_at-new, length-push, rising-before}
 
--- a front with one word more than the limit
-pub over-front : (P : List ℕ → Type 0) (limit : ℕ) (words : List (List ℕ)) (word : List ℕ) → length words ≡ limit → IsFrontOf P (words ++ word ∷ [])
+-- a prefix with one word more than the limit
+pub over-prefix : (P : List ℕ → Type 0) (limit : ℕ) (words : List (List ℕ)) (word : List ℕ) → length words ≡ limit
+    → IsPrefixOf P (words ++ word ∷ [])
     → ((i : ℕ) → i < length words + 1 → length (word_at (words ++ word ∷ []) i) ≤ 63) → IsOver P limit
-over-front P limit words word count front short = record {
-  front = words ++ word ∷ [];
-  first = front;
+over-prefix P limit words word count prefix short = record {
+  prefix = words ++ word ∷ [];
+  first = prefix;
   count = omega (arith, length-push words word, count);
-  short = λ other c. let p = contains-placed (words ++ word ∷ []) other c in rw (← p.is) (short p.i (omega (arith, p.within, length-push words word)));
+  short = λ other c. let p = contains-placed (words ++ word ∷ []) other c in rw (← p.is)
+      (short p.i (omega (arith, p.within, length-push words word)));
 }
 
 -- the last word of a rising list is not among those before it
 pub rising-new : (words : List (List ℕ)) (word : List ℕ) → IsRising (words ++ word ∷ []) → Contains words word → ⊥
 rising-new words word r c =
     let p = contains-placed words word c
-    in let before : IsBefore (word_at (words ++ word ∷ []) p.i) (word_at (words ++ word ∷ []) (length words)) = rising-before (words ++ word ∷ []) p.i (length words) r p.within (omega (arith, length-push words word))
+    in let before : IsBefore (word_at (words ++ word ∷ []) p.i) (word_at (words ++ word ∷ []) (length words)) =
+    rising-before (words ++ word ∷ []) p.i (length words) r p.within (omega (arith, length-push words word))
     in IsBefore-irrefl (rw (word_at-old words word p.i p.within, word_at-new words word (length words) refl, p.is) at before)

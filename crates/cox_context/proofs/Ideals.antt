@@ -1,18 +1,21 @@
 -- What is closed downwards in Bruhat order: the group, and the interval up to an element.
-use Rattle.std.proofs.Common.{◌≡◌, ℕ, ◌≤◌, Bool, true, nat_lt, List, [], ◌∷◌, length, filter, Contains, Option, None, Some, refl, ap, ◌∙◌, ⊎_elim, arith, ltb-true}
+use Rattle.std.proofs.Common.{◌≡◌, ℕ, ◌≤◌, Bool, true, nat_lt, List, [], ◌∷◌, length, filter, Contains, Option, None, Some, refl}
+use Rattle.std.proofs.Common.{ap, ◌∙◌, ⊎_elim, arith, ltb-true}
 use Rattle.std.proofs.lemmas.List.Elements.{All-nil, All-head, All-tail, All-contains, filter_passes}
 use Rattle.arrayvec.specs.ArrayVec.{ArrayVec}
-use Rattle.cox_base.specs.Matrix.{IsLetter}
-use Rattle.cox_base.specs.IntegerMatrix.{IntegerMatrix, IsAdmissible}
+use Rattle.cox_base.specs.Matrix.{CoxeterMatrix, IsCoxeterMatrix, IsLetter}
+use Rattle.cox_base.specs.IntegerMatrix.{IntegerMatrix, IsAdmissible, integer_matrix}
 use Rattle.cox_base.specs.ShortLex.{normal_form, letters}
 use Rattle.cox_base.specs.Length.{word_length, IsLeftDescent, left_descents}
 use Rattle.cox_base.specs.Bruhat.{IsBelow}
+use Rattle.cox_reflect.proofs.Admissible.{IsAdmissible-integer_matrix}
 use Rattle.cox_reflect.proofs.Elements.{same-cons, same-refl}
 use Rattle.cox_reflect.proofs.Search.{normal_form-same, normal_form-equal, word_length-length, length-normal_form, IsWord-normal_form}
 use Rattle.cox_reflect.proofs.Lengths.{word_length-is}
 use Rattle.cox_reflect.proofs.ShortLexFirst.{IsBefore-cons, normal_form-comes_first, none-before_normal_form}
 use Rattle.cox_reflect.proofs.Bruhat.{below-trans, below-ascent, below-cons, below-least}
-use Rattle.cox_context.specs.Members.{IsElement, IsMember, top_descents}
+use Rattle.cox_context.specs.Members.{IsElement}
+use Rattle.cox_context.specs.Family.{IsMember, top_descents}
 use Rattle.cox_context.proofs.GrowthLemmas.{IsTailed}
 
 -- a property of elements that goes over to each element below
@@ -40,12 +43,14 @@ module _ (A : IntegerMatrix) (g : IsAdmissible A) where
   element-tail s x e = record {
     letters = All-tail (IsLetter A.rank) s x e.letters;
     normal = ⊎_elim (λ same. same)
-        (λ before. absurd (none-before_normal_form A g {w = s ∷ normal_form A x} {u = s ∷ x} (same-cons A g s (normal_form-same A g x)) (rw e.normal (IsBefore-cons s before))))
+        (λ before. absurd (none-before_normal_form A g {w = s ∷ normal_form A x} {u = s ∷ x} (same-cons A g s (normal_form-same A g x))
+        (rw e.normal (IsBefore-cons s before))))
         (normal_form-comes_first A g {w = x} {u = x} (same-refl A g x));
   }
 
   pub below-tail : (s : ℕ) (x : List ℕ) → IsElement A (s ∷ x) → IsBelow A x (s ∷ x)
-  below-tail s x e = below-ascent A g x s (All-head (IsLetter A.rank) s x e.letters) (omega (arith, element-length (s ∷ x) e, word_length-length A g x))
+  below-tail s x e =
+      below-ascent A g x s (All-head (IsLetter A.rank) s x e.letters) (omega (arith, element-length (s ∷ x) e, word_length-length A g x))
 
   contained-descent : (w : List ℕ) (s : ℕ) → Contains (left_descents A w) s → IsLeftDescent A w s
   unfolding left_descents
@@ -66,7 +71,8 @@ module _ (A : IntegerMatrix) (g : IsAdmissible A) where
   pub member-descent : (top : Option (ArrayVec ℕ)) (s : ℕ) (x y : List ℕ) → Contains (top_descents A top) s → IsMember A top x → y ≡ s ∷ x
       → IsElement A y → IsMember A top y
   member-descent None s x y c p e q = q
-  member-descent (Some top) s x y c p e q = record { element = q; below = rw e (below-cons A g x top.items s (contained-descent top.items s c) p.below) }
+  member-descent (Some top) s x y c p e q =
+      record { element = q; below = rw e (below-cons A g x top.items s (contained-descent top.items s c) p.below) }
 
   pub ideal-tailed : (P : List ℕ → Type 0) → IsIdeal A P → IsTailed A.rank P
   ideal-tailed P i = record {
@@ -74,3 +80,10 @@ module _ (A : IntegerMatrix) (g : IsAdmissible A) where
     letter = λ s x p. All-head (IsLetter A.rank) s x (i.element (s ∷ x) p).letters;
     tail = λ s x p. i.down x (s ∷ x) p (element-tail s x (i.element (s ∷ x) p)) (below-tail s x (i.element (s ∷ x) p));
   }
+
+-- the family of a group or of an interval, of a Coxeter matrix
+pub member-tailed : (c : CoxeterMatrix) → IsCoxeterMatrix c → (top : Option (ArrayVec ℕ))
+    → IsTailed c.rank (IsMember (integer_matrix c) top)
+member-tailed c matrix top =
+    let g : IsAdmissible (integer_matrix c) = IsAdmissible-integer_matrix c matrix
+    in ideal-tailed (integer_matrix c) g (IsMember (integer_matrix c) top) (ideal-member (integer_matrix c) g top)

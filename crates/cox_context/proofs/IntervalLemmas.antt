@@ -1,5 +1,6 @@
 -- Bruhat intervals as lists: each has one, and what is between two elements and the coatoms are kept of it by a test.
-use Rattle.std.proofs.Common.{◌≡◌, ℕ, ◌+◌, ◌≤◌, ◌<◌, ◌==◌, Bool, true, false, if◌then◌else◌, nat_lt, List, [], ◌∷◌, length, filter, map, ◌⊎◌, ◌↔◌, inl, inr, refl, sym, ◌∙◌, ⊎_elim, arith, subst, ltb-true, lt-ltb, true≢false}
+use Rattle.std.proofs.Common.{◌≡◌, ℕ, ◌+◌, ◌≤◌, ◌<◌, ◌==◌, Bool, true, false, if◌then◌else◌, nat_lt, List, [], ◌∷◌, length}
+use Rattle.std.proofs.Common.{filter, map, ◌⊎◌, ◌↔◌, inl, inr, refl, sym, ◌∙◌, ⊎_elim, arith, subst, ltb-true, lt-ltb, true≢false}
 use Rattle.std.proofs.lemmas.Bool.{cases_lt, eqb-true, eq-eqb}
 use Rattle.cox_base.specs.IntegerMatrix.{IntegerMatrix, IsAdmissible}
 use Rattle.cox_base.specs.ShortLex.{normal_form}
@@ -16,7 +17,7 @@ use Rattle.cox_context.specs.Interval.{IsBetween, IsCoatom}
 use Rattle.cox_context.specs.Refusal.{IsRefusal}
 use Rattle.cox_context.specs.declared.fault.ContextFault.{ContextFault}
 use Rattle.cox_context.specs.declared.fault.ContextFault.TheVariants.{Size, Long, NoMemory}
-use Rattle.cox_context.proofs.BelowLemmas.{front-descent, drop-square}
+use Rattle.cox_reflect.proofs.OrderLemmas.{first-descent, below-drop}
 use Rattle.cox_context.proofs.ContextLemmas.{interval-length}
 use Rattle.cox_context.proofs.Ideals.{element-normal_form}
 use Rattle.cox_context.proofs.Listing.{listing, subwords, Each-subwords, In-subwords}
@@ -48,20 +49,21 @@ module _ (A : IntegerMatrix) (g : IsAdmissible A) where
   unfolding below_along
   along-tells y [] r = empty-tells y
   along-tells y (t ∷ v) r =
-      go (nat_lt (word_length A (t ∷ y)) (word_length A y)) refl (along-tells (t ∷ y) v (IsReduced-tail A g t v r)) (along-tells y v (IsReduced-tail A g t v r))
+      go (nat_lt (word_length A (t ∷ y)) (word_length A y)) refl (along-tells (t ∷ y) v (IsReduced-tail A g t v r))
+      (along-tells y v (IsReduced-tail A g t v r))
     where
       first : IsLeftDescent A (t ∷ v) t
-      first = front-descent A g t v r
+      first = first-descent A g t v r
 
       go : (b : Bool) → nat_lt (word_length A (t ∷ y)) (word_length A y) ≡ b → (below_along A (t ∷ y) v ≡ true) ↔ IsBelow A (t ∷ y) v
           → (below_along A y v ≡ true) ↔ IsBelow A y v
           → ((if b then below_along A (t ∷ y) v else below_along A y v) ≡ true) ↔ IsBelow A y (t ∷ v)
       go true e down up =
           let step = lift_down A g y (t ∷ v) t first (ltb-true (word_length A (t ∷ y)) (word_length A y) e)
-          in (λ k. step.1 ((drop-square A g t (t ∷ y) v).1 (down.0 k)), λ b. down.1 ((drop-square A g t (t ∷ y) v).0 (step.0 b)))
+          in (λ k. step.1 ((below-drop A g t (t ∷ y) v).1 (down.0 k)), λ b. down.1 ((below-drop A g t (t ∷ y) v).0 (step.0 b)))
       go false e down up =
           let step = lift_up A g y (t ∷ v) t first (λ d. true≢false (sym (lt-ltb (word_length A (t ∷ y)) (word_length A y) d) ∙ e))
-          in (λ k. step.1 ((drop-square A g t y v).1 (up.0 k)), λ b. up.1 ((drop-square A g t y v).0 (step.0 b)))
+          in (λ k. step.1 ((below-drop A g t y v).1 (up.0 k)), λ b. up.1 ((below-drop A g t y v).0 (step.0 b)))
 
   pub is_below-tells : (y w : List ℕ) → (is_below A y w ≡ true) ↔ IsBelow A y w
   unfolding is_below
@@ -83,9 +85,14 @@ module _ (A : IntegerMatrix) (g : IsAdmissible A) where
       (normal_form-equal A g p.below.same ∙ p.element.normal) (In-map (normal_form A) (In-subwords p.below.subword)))
 
   -- what is between y and w
-  pub between-of : (y w : List ℕ) (xs : List (List ℕ)) → IsListOf (IsInInterval A w) xs → IsListOf (IsBetween A y w) (filter (λ x. is_below A y x) xs)
+  pub between-of : (y w : List ℕ) (xs : List (List ℕ)) → IsListOf (IsInInterval A w) xs
+      → IsListOf (IsBetween A y w) (filter (λ x. is_below A y x) xs)
   between-of y w xs a = IsListOf-filter (IsInInterval A w) (IsBetween A y w) (is_below A y) xs a
-      (λ word p. (λ e. record { element = p.element; above = (is_below-tells y word).0 e; below = p.below }, λ q. (is_below-tells y word).1 q.above))
+      (λ word p. (
+        λ e. record { element = p.element; above = (is_below-tells y word).0 e; below = p.below },
+        λ q.
+            (is_below-tells y word).1 q.above,
+      ))
       (λ word q. record { element = q.element; below = q.below })
 
   -- what w covers
@@ -100,17 +107,20 @@ module _ (A : IntegerMatrix) (g : IsAdmissible A) where
 
   -- an interval has more than so many elements or it has not
   pub interval-decided : (limit : ℕ) (w : List ℕ)
-      → HasMoreThan limit (IsInInterval A w) ⊎ ((HasMoreThan limit (IsInInterval A w) → ⊥) × (words : List (List ℕ)) × IsListOf (IsInInterval A w) words)
+      → HasMoreThan limit (IsInInterval A w) ⊎
+      ((HasMoreThan limit (IsInInterval A w) → ⊥) × (words : List (List ℕ)) × IsListOf (IsInInterval A w) words)
   interval-decided limit w =
       let c = interval-exists w
       in ⊎_elim (λ (many : limit < length c.0). inl (c.0, c.1, many))
       (λ (few : length c.0 ≤ limit). inr (HasMoreThan-few (IsInInterval A w) limit c.0 c.1 few, c.0, c.1))
       (cases_lt limit (length c.0))
 
-  -- an interval is refused for its size alone, apart from want of memory
-  pub interval-refused : (limit : ℕ) (w : List ℕ) → length w ≤ 63 → (fault : ContextFault) → IsRefusal (IsInInterval A w) limit fault → (fault ≡ NoMemory → ⊥)
+  -- an interval is refused for its size alone, apart from memory that runs out
+  pub interval-refused : (limit : ℕ) (w : List ℕ) → length w ≤ 63 → (fault : ContextFault) → IsRefusal (IsInInterval A w) limit fault
+      → (fault ≡ NoMemory → ⊥)
       → HasMoreThan limit (IsInInterval A w)
-  interval-refused limit w short (Size bound seen) refusal memory = let c = interval-exists w in HasMoreThan-over (IsInInterval A w) limit c.0 c.1 refusal.2
+  interval-refused limit w short (Size bound seen) refusal memory =
+      let c = interval-exists w in HasMoreThan-over (IsInInterval A w) limit c.0 c.1 refusal.2
   interval-refused limit w short Long refusal memory =
       absurd (omega (arith, short, interval-length A g w refusal.long refusal.member, refusal.letters, word_length-length A g w))
   interval-refused limit w short NoMemory refusal memory = absurd (memory refl)

@@ -1,41 +1,39 @@
 -- what holds of an Ok
 pub mod ResultLemmas
--- places and members of lists of words
+-- places in lists of words, rising lists, and members by their places
 pub mod ListLemmas
--- when a word with one letter more is a normal form
-pub mod NormalLemmas
 -- words as the keys of a set
 pub mod KeyLemmas
--- a list of members as it grows
-pub mod GrowthLemmas
--- what is closed downwards
+-- for a normal form x: when s x is a normal form
+pub mod NormalLemmas
+-- families of elements that are closed downwards, as an interval or a group
 pub mod Ideals
+-- a list of members as it grows, letter by letter and length by length
+pub mod GrowthLemmas
+-- the heights of the members, one more at the end
+pub mod HeightLists
 -- why a context is refused
 pub mod FaultLemmas
--- places in a table of shifts
-pub mod Places
--- shifts of members
-pub mod Shifting
--- the heights of the members
-pub mod HeightLists
--- how the table of left shifts is filled
-pub mod Links
--- right shifts
-pub mod RightShifts
--- the letters that pass a test
-pub mod FilterLemmas
--- the letters that are kept for the members
-pub mod KeptLetters
--- contexts of intervals and of groups
+-- the context of an interval or a group is closed downwards; a group with more elements has one of 64 letters
 pub mod ContextLemmas
--- Bruhat order and descents of members
-pub mod BelowLemmas
+-- where the entries of a table of shifts stand
+pub mod Places
+-- shifts of members: which are members, and which come before
+pub mod Shifting
+-- the table of left shifts, filled member by member and letter by letter
+pub mod Links
 -- a walk by two letters in turn
 pub mod Walks
--- two letters that both shorten an element
-pub mod TwoDescents
--- the links that a walk needs
+-- the links that a walk needs are there
 pub mod Turns
+-- the table of right shifts
+pub mod RightShifts
+-- the letters that take a member to one before it, letter by letter
+pub mod FilterLemmas
+-- .. and member by member
+pub mod KeptLetters
+-- Bruhat order and descents of members, by their left shifts
+pub mod BelowLemmas
 -- lists in ShortLex order
 pub mod SortedLemmas
 -- words in any order, listed in ShortLex order

@@ -1,5 +1,6 @@
 -- Places and members of lists of words, and the order of their words.
-use Rattle.std.proofs.Common.{◌≡◌, ℕ, ◌+◌, ◌≤◌, ◌<◌, List, [], ◌∷◌, ◌++◌, length, Contains, ◌⊎◌, inl, inr, Less, refl, ◌∙◌, ⊎_elim, arith, length-append}
+use Rattle.std.proofs.Common.{◌≡◌, ℕ, ◌+◌, ◌≤◌, ◌<◌, List, [], ◌∷◌, ◌++◌, length, Contains, ◌⊎◌, inl, inr, Less, refl, ◌∙◌}
+use Rattle.std.proofs.Common.{⊎_elim, arith, length-append}
 use Rattle.std.proofs.lemmas.Bool.{cases_lt, cases_order}
 use Rattle.std.proofs.lemmas.List.{get_or_default, get_or_append_left}
 use Rattle.std.proofs.Math.Seq.{get_or-append_seam}
@@ -36,25 +37,33 @@ length-push words y = length-append words (y ∷ [])
 
 -- a place of the longer list is an old one, or the last
 pub push_cases : (words : List (List ℕ)) (y : List ℕ) (i : ℕ) → i < length (words ++ y ∷ []) → (i < length words) ⊎ (i ≡ length words)
-push_cases words y i l = ⊎_elim (λ below. inl below) (λ above. inr (omega (arith, length-push words y, l, above))) (cases_lt i (length words))
+push_cases words y i l =
+    ⊎_elim (λ below. inl below) (λ above. inr (omega (arith, length-push words y, l, above))) (cases_lt i (length words))
 
 -- ---- rising lists
 
-pub rising-before : (words : List (List ℕ)) (i j : ℕ) → IsRising words → i < j → j < length words → IsBefore (word_at words i) (word_at words j)
+pub rising-before : (words : List (List ℕ)) (i j : ℕ) → IsRising words → i < j → j < length words
+    → IsBefore (word_at words i) (word_at words j)
 rising-before words i j r l k = shortlex_cmp-before (word_at words i) (word_at words j) (r i j l k)
 
-pub rising-length : (words : List (List ℕ)) (i j : ℕ) → IsRising words → i ≤ j → j < length words → length (word_at words i) ≤ length (word_at words j)
+pub rising-length : (words : List (List ℕ)) (i j : ℕ) → IsRising words → i ≤ j → j < length words
+    → length (word_at words i) ≤ length (word_at words j)
 rising-length words i j r l k =
-    ⊎_elim (λ (e : i ≡ j). rw e (omega arith)) (λ side. ⊎_elim (λ (less : i < j). length-before (rising-before words i j r less k)) (λ (more : j < i). absurd (omega (arith, l, more))) side) (cases_order i j)
+    ⊎_elim (λ (e : i ≡ j). rw e (omega arith))
+    (λ side. ⊎_elim (λ (less : i < j). length-before (rising-before words i j r less k))
+    (λ (more : j < i). absurd (omega (arith, l, more))) side) (cases_order i j)
 
 -- one word has one place
-pub rising-place : (words : List (List ℕ)) (i j : ℕ) → IsRising words → i < length words → j < length words → word_at words i ≡ word_at words j → i ≡ j
+pub rising-place : (words : List (List ℕ)) (i j : ℕ) → IsRising words → i < length words → j < length words
+    → word_at words i ≡ word_at words j → i ≡ j
 rising-place words i j r l k e =
     ⊎_elim (λ (q : i ≡ j). q)
-    (λ side. ⊎_elim (λ (less : i < j). absurd (IsBefore-irrefl (rw e at (rising-before words i j r less k)))) (λ (more : j < i). absurd (IsBefore-irrefl (rw e at (rising-before words j i r more l)))) side)
+    (λ side. ⊎_elim (λ (less : i < j). absurd (IsBefore-irrefl (rw e at (rising-before words i j r less k))))
+    (λ (more : j < i). absurd (IsBefore-irrefl (rw e at (rising-before words j i r more l)))) side)
     (cases_order i j)
 
-pub rising-push : (words : List (List ℕ)) (y : List ℕ) → IsRising words → ((i : ℕ) → i < length words → IsBefore (word_at words i) y) → IsRising (words ++ y ∷ [])
+pub rising-push : (words : List (List ℕ)) (y : List ℕ) → IsRising words → ((i : ℕ) → i < length words → IsBefore (word_at words i) y)
+    → IsRising (words ++ y ∷ [])
 rising-push words y r last i j l k = ⊎_elim old new (push_cases words y j k)
   where
     old : j < length words → shortlex_cmp (word_at (words ++ y ∷ []) i) (word_at (words ++ y ∷ []) j) ≡ Less

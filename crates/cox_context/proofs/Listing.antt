@@ -2,7 +2,8 @@
 use Rattle.std.proofs.Common.{◌≡◌, ℕ, zero, suc, ◌<◌, List, [], ◌∷◌, ◌++◌, map, length, ◌⊎◌, inl, inr, refl, ⊎_elim, arith}
 use Rattle.std.proofs.lemmas.Cmp.{nat_cmp_total, nat_list_cmp_total, on_total, then_total}
 use Rattle.cox_base.specs.Bruhat.{IsSubword, none, kept, left_out}
-use Rattle.cox_reflect.proofs.Members.{In, here, there, Each, more, none as nothing, Each-append, Each-from, Each-in, Each-map, Each-weaker, In-append_left, In-append_right, In-map}
+use Rattle.cox_reflect.proofs.Members.{In, here, there, Each, more, none as nothing, Each-append, Each-from, Each-in, Each-map}
+use Rattle.cox_reflect.proofs.Members.{Each-weaker, In-append_left, In-append_right, In-map}
 use Rattle.cox_reflect.proofs.ShortLexFirst.{IsBefore, before_cases, before-shortlex_cmp, shortlex_cmp-before}
 use Rattle.cox_context.specs.SortedList.{IsRising, IsListOf}
 use Rattle.cox_context.specs.Numbers.{word_at}
@@ -12,7 +13,8 @@ use Rattle.cox_context.proofs.SortedLemmas.{contains-in, in-contains}
 
 before-trans : {u v w : List ℕ} → IsBefore u v → IsBefore v w → IsBefore u w
 before-trans {u} {v} {w} a b =
-    shortlex_cmp-before u w ((then_total (on_total length nat_cmp_total) nat_list_cmp_total).trans u v w (before-shortlex_cmp a) (before-shortlex_cmp b))
+    shortlex_cmp-before u w ((then_total (on_total length nat_cmp_total) nat_list_cmp_total).trans u v w (before-shortlex_cmp a)
+    (before-shortlex_cmp b))
 
 -- each word comes before those behind it
 data Rises : List (List ℕ) → Type 0 where
@@ -52,8 +54,8 @@ with-word x rises_none = record {
 }
 with-word x (rises_more {x = y} {xs = words} h r) = go (before_cases x y) (with-word x r)
   where
-    front : (word : List ℕ) (c : IsWith x words) → In word (y ∷ c.list) → (word ≡ x) ⊎ In word (y ∷ words)
-    front word c i = ⊎_elim (λ e. inr (rw e here)) (λ j. ⊎_elim (λ e. inl e) (λ k. inr (there k)) (c.only word j)) (in_cases i)
+    prefix : (word : List ℕ) (c : IsWith x words) → In word (y ∷ c.list) → (word ≡ x) ⊎ In word (y ∷ words)
+    prefix word c i = ⊎_elim (λ e. inr (rw e here)) (λ j. ⊎_elim (λ e. inl e) (λ k. inr (there k)) (c.only word j)) (in_cases i)
 
     go : (x ≡ y) ⊎ (IsBefore x y ⊎ IsBefore y x) → IsWith x words → IsWith x (y ∷ words)
     go (inl e) c = record { list = y ∷ words; rises = rises_more h r; new = rw e here; old = λ word i. i; only = λ word i. inr i }
@@ -69,7 +71,7 @@ with-word x (rises_more {x = y} {xs = words} h r) = go (before_cases x y) (with-
       rises = rises_more (Each-from c.list (λ w i. ⊎_elim (λ e. rw e b) (λ j. Each-in h j) (c.only w i))) c.rises;
       new = there c.new;
       old = λ word i. ⊎_elim (λ e. rw e here) (λ j. there (c.old word j)) (in_cases i);
-      only = λ word i. front word c i;
+      only = λ word i. prefix word c i;
     }
 
 -- in any order

@@ -1,5 +1,6 @@
 -- When s x is a normal form, for a normal form x: exactly where s is the least left descent of s x.
-use Rattle.std.proofs.Common.{◌≡◌, ℕ, Bool, IsTrue, Option, Some, None, MatchOption, ◌<◌, List, ◌∷◌, length, ◌↔◌, ap, sym, ◌∙◌, arith, true≢false, eqb}
+use Rattle.std.proofs.Common.{◌≡◌, ℕ, Bool, IsTrue, Option, Some, None, MatchOption, ◌<◌, List, ◌∷◌, length, ◌↔◌, ap, sym, ◌∙◌}
+use Rattle.std.proofs.Common.{arith, true≢false, eqb}
 use Rattle.std.specs.Option.{option_eq}
 use Rattle.std.proofs.lemmas.Bool.{eqb-true, eq-eqb}
 use Rattle.cox_base.specs.IntegerMatrix.{IntegerMatrix, IsAdmissible}
@@ -27,16 +28,19 @@ module _ (A : IntegerMatrix) (g : IsAdmissible A) where
 
   -- the first letter of a normal form is the least left descent
   normal-least : (s : ℕ) (x : List ℕ) → normal_form A (s ∷ x) ≡ s ∷ x → (t : ℕ) → IsLeastLeftDescent A (s ∷ x) t → t ≡ s
-  normal-least s x e t d = head (sym (normal_form-descent A g (s ∷ x) t d.descent (λ r less k. absurd (omega (arith, d.least r k, less)))) ∙ e)
+  normal-least s x e t d =
+      head (sym (normal_form-descent A g (s ∷ x) t d.descent (λ r less k. absurd (omega (arith, d.least r k, less)))) ∙ e)
     where
       head : {v w : List ℕ} → t ∷ v ≡ s ∷ w → t ≡ s
       head f = cc
 
   normal-descent : (s : ℕ) (x : List ℕ) → IsElement A x → normal_form A (s ∷ x) ≡ s ∷ x → IsLeftDescent A (s ∷ x) s
-  normal-descent s x e n = omega (arith, word_length-equal A g (same-square A g s x), word_length-length A g x, word_length-is A (s ∷ x), ap length n)
+  normal-descent s x e n =
+      omega (arith, word_length-equal A g (same-square A g s x), word_length-length A g x, word_length-is A (s ∷ x), ap length n)
 
   pub normal_answer : (s : ℕ) (x : List ℕ) → IsElement A x → (least : Option ℕ) (answer : Bool) → answer ≡ option_eq eqb least (Some s)
-      → MatchOption least ((t : ℕ) → IsLeftDescent A (s ∷ x) t → ⊥) (IsLeastLeftDescent A (s ∷ x)) → IsTrue answer ↔ (normal_form A (s ∷ x) ≡ s ∷ x)
+      → MatchOption least ((t : ℕ) → IsLeftDescent A (s ∷ x) t → ⊥) (IsLeastLeftDescent A (s ∷ x))
+      → IsTrue answer ↔ (normal_form A (s ∷ x) ≡ s ∷ x)
   normal_answer s x e None answer q m = (
     λ h. absurd (let f = (some_answer None s answer q).0 h in cc),
     λ n. absurd (m s (normal-descent s x e n)),

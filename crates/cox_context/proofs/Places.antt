@@ -1,5 +1,6 @@
 -- Places in a table of shifts.
-use Rattle.std.proofs.Common.{◌≡◌, ℕ, suc, ◌+◌, ◌-◌, ◌*◌, ◌<◌, List, [], ◌∷◌, ◌++◌, length, get_or, set, Option, None, refl, sym, ⊎_elim, arith}
+use Rattle.std.proofs.Common.{◌≡◌, ℕ, suc, ◌+◌, ◌-◌, ◌*◌, ◌<◌, List, [], ◌∷◌, ◌++◌, length, get_or, set, Option, None, refl, sym}
+use Rattle.std.proofs.Common.{⊎_elim, arith}
 use Rattle.std.proofs.Math.Nat.{mul-le-mul_left}
 use Rattle.std.proofs.lemmas.Bool.{cases_order}
 use Rattle.std.proofs.lemmas.List.{get_or_append_left, get_or-set_same, get_or-set_other}
@@ -8,13 +9,15 @@ use Rattle.cox_base.specs.Matrix.{IsLetter}
 use Rattle.cox_context.specs.Shifts.{entry}
 
 row_below : (r i j s t : ℕ) → IsLetter r s → IsLetter r t → i < j → i * r + (s - 1) ≡ j * r + (t - 1) → ⊥
-row_below r i j s t l k less e = omega (arith, mul-le-mul_left {m = suc i} {n = j} r (omega (arith, less)), l.from_one, l.to_rank, k.from_one, e)
+row_below r i j s t l k less e =
+    omega (arith, mul-le-mul_left {m = suc i} {n = j} r (omega (arith, less)), l.from_one, l.to_rank, k.from_one, e)
 
 -- each place belongs to one member and one letter
 pub place-one : (r i j s t : ℕ) → IsLetter r s → IsLetter r t → i * r + (s - 1) ≡ j * r + (t - 1) → (s ≡ t) × (i ≡ j)
 place-one r i j s t l k e =
     ⊎_elim (λ (q : i ≡ j). let f : j * r + (s - 1) ≡ j * r + (t - 1) = rw q at e in (omega (arith, f, l.from_one, k.from_one), q))
-    (λ side. ⊎_elim (λ less. absurd (row_below r i j s t l k less e)) (λ more. absurd (row_below r j i t s k l more (sym e))) side) (cases_order i j)
+    (λ side. ⊎_elim (λ less. absurd (row_below r i j s t l k less e)) (λ more. absurd (row_below r j i t s k l more (sym e))) side)
+    (cases_order i j)
 
 pub place-within : (r n i s : ℕ) → IsLetter r s → i < n → i * r + (s - 1) < n * r
 place-within r n i s l less = omega (arith, mul-le-mul_left {m = suc i} {n = n} r (omega (arith, less)), l.from_one, l.to_rank)
@@ -23,18 +26,23 @@ pub entry-is : (r : ℕ) (table : List (Option ℕ)) (s i : ℕ) → get_or tabl
 unfolding entry
 entry-is r table s i = refl
 
-pub entry-set_same : (r : ℕ) (table : List (Option ℕ)) (s i : ℕ) (x : Option ℕ) → i * r + (s - 1) < length table → entry r (set table (i * r + (s - 1)) x) s i ≡ x
+pub entry-set_same : (r : ℕ) (table : List (Option ℕ)) (s i : ℕ) (x : Option ℕ) → i * r + (s - 1) < length table
+    → entry r (set table (i * r + (s - 1)) x) s i ≡ x
 unfolding entry
 entry-set_same r table s i x l = get_or-set_same table (i * r + (s - 1)) x None l
 
-pub entry-set_other : (r : ℕ) (table : List (Option ℕ)) (s i t j : ℕ) (x : Option ℕ) → IsLetter r s → IsLetter r t → ((t ≡ s) × (j ≡ i) → ⊥) → entry r (set table (i * r + (s - 1)) x) t j ≡ entry r table t j
+pub entry-set_other : (r : ℕ) (table : List (Option ℕ)) (s i t j : ℕ) (x : Option ℕ) → IsLetter r s → IsLetter r t
+    → ((t ≡ s) × (j ≡ i) → ⊥) → entry r (set table (i * r + (s - 1)) x) t j ≡ entry r table t j
 unfolding entry
-entry-set_other r table s i t j x l k ne = get_or-set_other table (i * r + (s - 1)) (j * r + (t - 1)) x None (λ e. ne (place-one r j i t s k l e))
+entry-set_other r table s i t j x l k ne =
+    get_or-set_other table (i * r + (s - 1)) (j * r + (t - 1)) x None (λ e. ne (place-one r j i t s k l e))
 
-pub entry-old : (r : ℕ) (table : List (Option ℕ)) (s i : ℕ) (x : Option ℕ) → i * r + (s - 1) < length table → entry r (table ++ x ∷ []) s i ≡ entry r table s i
+pub entry-old : (r : ℕ) (table : List (Option ℕ)) (s i : ℕ) (x : Option ℕ) → i * r + (s - 1) < length table
+    → entry r (table ++ x ∷ []) s i ≡ entry r table s i
 unfolding entry
 entry-old r table s i x l = get_or_append_left table (x ∷ []) None (i * r + (s - 1)) l
 
-pub entry-new : (r : ℕ) (table : List (Option ℕ)) (s i : ℕ) (x : Option ℕ) → i * r + (s - 1) ≡ length table → entry r (table ++ x ∷ []) s i ≡ x
+pub entry-new : (r : ℕ) (table : List (Option ℕ)) (s i : ℕ) (x : Option ℕ) → i * r + (s - 1) ≡ length table
+    → entry r (table ++ x ∷ []) s i ≡ x
 unfolding entry
 entry-new r table s i x e = rw e (get_or-append_seam table x [] None)

@@ -1,5 +1,6 @@
 -- Right shifts, from those of the members without their first letters.
-use Rattle.std.proofs.Common.{◌≡◌, ℕ, ◌+◌, ◌-◌, ◌*◌, ◌≤◌, ◌<◌, List, [], ◌∷◌, ◌++◌, length, Contains, Option, None, Some, ◌⊎◌, inl, inr, refl, ap, sym, ◌∙◌, ⊎_elim, arith, subst, slice_get}
+use Rattle.std.proofs.Common.{◌≡◌, ℕ, ◌+◌, ◌-◌, ◌*◌, ◌≤◌, ◌<◌, List, [], ◌∷◌, ◌++◌, length, Contains, Option, None, Some, ◌⊎◌}
+use Rattle.std.proofs.Common.{inl, inr, refl, ap, sym, ◌∙◌, ⊎_elim, arith, subst, slice_get}
 use Rattle.std.proofs.lemmas.List.{length-append}
 use Rattle.std.proofs.lemmas.Bool.{cases_lt}
 use Rattle.std.proofs.lemmas.List.Elements.{All-head}
@@ -8,7 +9,8 @@ use Rattle.cox_base.specs.IntegerMatrix.{IntegerMatrix, IsAdmissible}
 use Rattle.cox_base.specs.ShortLex.{normal_form}
 use Rattle.cox_reflect.proofs.Elements.{same-trans, same-equal, same-cons, same-square}
 use Rattle.cox_reflect.proofs.Search.{normal_form-same, normal_form-equal}
-use Rattle.cox_context.specs.Members.{IsElement, IsClosed}
+use Rattle.cox_context.specs.Members.{IsElement}
+use Rattle.cox_context.specs.Closed.{IsClosed}
 use Rattle.cox_context.specs.Numbers.{word_at, IsNumberOf}
 use Rattle.cox_context.specs.Shifts.{entry, AreRightShifts}
 use Rattle.cox_context.proofs.ListLemmas.{contains-at, rising-length}
@@ -39,7 +41,8 @@ pub record IsParent (words : List (List ℕ)) (i : ℕ) (x : List ℕ) (found : 
 
 module _ (A : IntegerMatrix) (g : IsAdmissible A) (words : List (List ℕ)) (closed : IsClosed A words) where
   pub first-letter : (t : ℕ) (x : List ℕ) (i : ℕ) → i < length words → word_at words i ≡ t ∷ x → IsLetter A.rank t
-  first-letter t x i l e = let elem : IsElement A (t ∷ x) = rw e at (element-at A g words closed i l) in All-head (IsLetter A.rank) t x elem.letters
+  first-letter t x i l e =
+      let elem : IsElement A (t ∷ x) = rw e at (element-at A g words closed i l) in All-head (IsLetter A.rank) t x elem.letters
 
   -- the first letter of a member takes it to the word without that letter
   pub first-off : (t : ℕ) (x : List ℕ) (i : ℕ) → i < length words → word_at words i ≡ t ∷ x → normal_form A (t ∷ word_at words i) ≡ x
@@ -47,7 +50,8 @@ module _ (A : IntegerMatrix) (g : IsAdmissible A) (words : List (List ℕ)) (clo
       let elem : IsElement A (t ∷ x) = rw e at (element-at A g words closed i l)
       in rw e (normal_form-equal A g (same-square A g t x) ∙ (element-tail A g t x elem).normal)
 
-  pub parent : (t : ℕ) (x : List ℕ) (i : ℕ) (found : Option ℕ) → i < length words → word_at words i ≡ t ∷ x → IsNumberOf words (normal_form A (t ∷ word_at words i)) found → IsParent words i x found
+  pub parent : (t : ℕ) (x : List ℕ) (i : ℕ) (found : Option ℕ) → i < length words → word_at words i ≡ t ∷ x
+      → IsNumberOf words (normal_form A (t ∷ word_at words i)) found → IsParent words i x found
   parent t x i found l e n = go found n
     where
       elem : IsElement A (t ∷ x)
@@ -66,18 +70,22 @@ module _ (A : IntegerMatrix) (g : IsAdmissible A) (words : List (List ℕ)) (clo
           in record {
             p = p;
             is = refl;
-            less = ⊎_elim (λ (less : p < i). less) (λ (more : i ≤ p). absurd (omega (arith, rising-length words i p closed.rising more within, ap length word, ap length e))) (cases_lt p i);
+            less = ⊎_elim (λ (less : p < i). less)
+                (λ (more : i ≤ p). absurd (omega
+                (arith, rising-length words i p closed.rising more within, ap length word, ap length e))) (cases_lt p i);
             within = within;
             word = word;
           }
 
-  pub parent-some : (t : ℕ) (x : List ℕ) (i k : ℕ) → i < length words → word_at words i ≡ t ∷ x → IsNumberOf words (normal_form A (t ∷ word_at words i)) (Some k) → (k < i) × (word_at words k ≡ x)
+  pub parent-some : (t : ℕ) (x : List ℕ) (i k : ℕ) → i < length words → word_at words i ≡ t ∷ x
+      → IsNumberOf words (normal_form A (t ∷ word_at words i)) (Some k) → (k < i) × (word_at words k ≡ x)
   parent-some t x i k l e n =
       let p = parent t x i (Some k) l e n
       in let q : p.p ≡ k = (let f = p.is in cc)
       in (rw q at p.less, rw q at p.word)
 
-  pub parent-none : (t : ℕ) (x : List ℕ) (i : ℕ) → i < length words → word_at words i ≡ t ∷ x → (Contains words (normal_form A (t ∷ word_at words i)) → ⊥) → ⊥
+  pub parent-none : (t : ℕ) (x : List ℕ) (i : ℕ) → i < length words → word_at words i ≡ t ∷ x
+      → (Contains words (normal_form A (t ∷ word_at words i)) → ⊥) → ⊥
   parent-none t x i l e n = let p = parent t x i None l e n in let f = p.is in absurd (cc)
 
   pub right-none : (t s : ℕ) (x : List ℕ) (i p : ℕ) → IsLetter A.rank s → i < length words → word_at words i ≡ t ∷ x → word_at words p ≡ x
@@ -85,7 +93,8 @@ module _ (A : IntegerMatrix) (g : IsAdmissible A) (words : List (List ℕ)) (clo
   right-none t s x i p letter l e f none c = none (rw f (right-parent A g words closed t s x i letter l e (rw e at c)))
 
   pub right-some : (t s : ℕ) (x : List ℕ) (i p q : ℕ) (found : Option ℕ) → word_at words i ≡ t ∷ x → word_at words p ≡ x
-      → word_at words q ≡ normal_form A (word_at words p ++ s ∷ []) → IsNumberOf words (normal_form A (t ∷ word_at words q)) found → IsNumberOf words (normal_form A (word_at words i ++ s ∷ [])) found
+      → word_at words q ≡ normal_form A (word_at words p ++ s ∷ []) → IsNumberOf words (normal_form A (t ∷ word_at words q)) found
+      → IsNumberOf words (normal_form A (word_at words i ++ s ∷ [])) found
   right-some t s x i p q found e f h n = subst (λ (v : List ℕ). IsNumberOf words v found) same n
     where
       same : normal_form A (t ∷ word_at words q) ≡ normal_form A (word_at words i ++ s ∷ [])
@@ -95,11 +104,13 @@ module _ (A : IntegerMatrix) (g : IsAdmissible A) (words : List (List ℕ)) (clo
   right-start = record { shift = λ s i l m k. absurd (omega (arith, k)) }
 
   -- one more entry
-  pub right-push : (table : List (Option ℕ)) (s i : ℕ) (x : Option ℕ) → AreRightShifts A words table → IsLetter A.rank s → length table ≡ i * A.rank + (s - 1)
+  pub right-push : (table : List (Option ℕ)) (s i : ℕ) (x : Option ℕ) → AreRightShifts A words table → IsLetter A.rank s
+      → length table ≡ i * A.rank + (s - 1)
       → IsNumberOf words (normal_form A (word_at words i ++ s ∷ [])) x → AreRightShifts A words (table ++ x ∷ [])
   right-push table s i x h letter size n = record { shift = λ t j l m k. go t j l m k (cases_lt (j * A.rank + (t - 1)) (length table)) }
     where
-      go : (t j : ℕ) → IsLetter A.rank t → j < length words → j * A.rank + (t - 1) < length (table ++ x ∷ []) → (j * A.rank + (t - 1) < length table) ⊎ (length table ≤ j * A.rank + (t - 1))
+      go : (t j : ℕ) → IsLetter A.rank t → j < length words → j * A.rank + (t - 1) < length (table ++ x ∷ [])
+          → (j * A.rank + (t - 1) < length table) ⊎ (length table ≤ j * A.rank + (t - 1))
           → IsNumberOf words (normal_form A (word_at words j ++ t ∷ [])) (entry A.rank (table ++ x ∷ []) t j)
       go t j l m k (inl below) = rw (entry-old A.rank table t j x below) (h.shift t j l m below)
       go t j l m k (inr above) =

@@ -13,7 +13,8 @@ use Rattle.cox_reflect.proofs.Search.{normal_form-same, normal_form-equal}
 use Rattle.cox_reflect.proofs.Lengths.{word_length-is}
 use Rattle.cox_reflect.proofs.Deletion.{left_length, right_length, sides_same}
 use Rattle.cox_reflect.proofs.Bruhat.{below-same, below-refl, below-trans, below-least, below-descent, below-ascent, below-push}
-use Rattle.cox_context.specs.Members.{IsElement, IsClosed}
+use Rattle.cox_context.specs.Members.{IsElement}
+use Rattle.cox_context.specs.Closed.{IsClosed}
 use Rattle.cox_context.specs.Numbers.{word_at}
 use Rattle.cox_context.proofs.ListLemmas.{IsPlaced, contains-placed, contains-at, rising-length}
 use Rattle.cox_context.proofs.Ideals.{element-normal_form, element-length, element-nil, element-tail, below-tail}
@@ -36,53 +37,84 @@ module _ (A : IntegerMatrix) (g : IsAdmissible A) (words : List (List ℕ)) (clo
   first-member = empty (word_at words 0) (omega (arith, rising-length words 0 p.i closed.rising (omega arith) p.within, ap length p.is))
     where
       p : IsPlaced words []
-      p = contains-placed words [] (closed.down [] (word_at words 0) (contains-at words 0 (omega (arith, closed.some))) (element-nil A g) (below-least A g (word_at words 0)))
+      p = contains-placed words [] (closed.down [] (word_at words 0) (contains-at words 0 (omega (arith, closed.some))) (element-nil A g)
+          (below-least A g (word_at words 0)))
 
       empty : (n : List ℕ) → length n ≤ 0 → n ≡ []
       empty [] l = refl
       empty (s ∷ x) l = absurd (omega (arith, l))
 
   -- from s x back to x
-  pub shift-back : (s : ℕ) (i k : ℕ) → i < length words → word_at words k ≡ normal_form A (s ∷ word_at words i) → word_at words i ≡ normal_form A (s ∷ word_at words k)
+  pub shift-back : (s : ℕ) (i k : ℕ) → i < length words → word_at words k ≡ normal_form A (s ∷ word_at words i)
+      → word_at words i ≡ normal_form A (s ∷ word_at words k)
   shift-back s i k l e =
-      sym (normal_form-equal A g (same-trans A g (same-cons A g s (same-trans A g (same-equal A g e) (normal_form-same A g (s ∷ word_at words i)))) (same-square A g s (word_at words i))) ∙ (element-at i l).normal)
+      sym (normal_form-equal A g (same-trans A g
+      (same-cons A g s (same-trans A g (same-equal A g e) (normal_form-same A g (s ∷ word_at words i))))
+      (same-square A g s (word_at words i))) ∙ (element-at i l).normal)
 
   -- where s shortens x, the number of s x is less than that of x, and otherwise it is not
-  pub shift-less : (s : ℕ) (i k : ℕ) → IsLetter A.rank s → i < length words → k < length words → word_at words k ≡ normal_form A (s ∷ word_at words i) → (k < i) ↔ IsLeftDescent A (word_at words i) s
+  pub shift-less : (s : ℕ) (i k : ℕ) → IsLetter A.rank s → i < length words → k < length words
+      → word_at words k ≡ normal_form A (s ∷ word_at words i) → (k < i) ↔ IsLeftDescent A (word_at words i) s
   shift-less s i k l m n e = (
-    λ less. ⊎_elim (λ up. absurd (omega (arith, up, size, length-at i m, rising-length words k i closed.rising (omega (arith, less)) m))) (λ down. omega (arith, down)) (left_length A g s (word_at words i) l),
+    λ less. ⊎_elim (λ up. absurd (omega (arith, up, size, length-at i m, rising-length words k i closed.rising (omega (arith, less)) m)))
+        (λ down. omega (arith, down)) (left_length A g s (word_at words i) l),
     λ d. ⊎_elim (λ (q : k ≡ i). absurd (omega (arith, d, size, length-at i m, ap (λ (j : ℕ). length (word_at words j)) q)))
-        (λ side. ⊎_elim (λ below. below) (λ above. absurd (omega (arith, d, size, length-at i m, rising-length words i k closed.rising (omega (arith, above)) n))) side) (cases_order k i),
+        (λ side. ⊎_elim (λ below. below)
+        (λ above. absurd (omega (
+          arith,
+          d,
+          size,
+          length-at i m,
+          rising-length words i k closed.rising
+              (omega (arith, above)) n,
+        ))) side) (cases_order k i),
   )
     where
       size : word_length A (s ∷ word_at words i) ≡ length (word_at words k)
       size = word_length-is A (s ∷ word_at words i) ∙ sym (ap length e)
 
   -- s x is not x
-  pub shift-moves : (s : ℕ) (i k : ℕ) → IsLetter A.rank s → i < length words → word_at words k ≡ normal_form A (s ∷ word_at words i) → k ≡ i → ⊥
+  pub shift-moves : (s : ℕ) (i k : ℕ) → IsLetter A.rank s → i < length words → word_at words k ≡ normal_form A (s ∷ word_at words i)
+      → k ≡ i → ⊥
   shift-moves s i k l m e q =
       let size : word_length A (s ∷ word_at words i) ≡ length (word_at words k) = word_length-is A (s ∷ word_at words i) ∙ sym (ap length e)
-      in ⊎_elim (λ up. omega (arith, up, size, length-at i m, ap (λ (j : ℕ). length (word_at words j)) q)) (λ down. omega (arith, down, size, length-at i m, ap (λ (j : ℕ). length (word_at words j)) q)) (left_length A g s (word_at words i) l)
+      in ⊎_elim (λ up. omega (arith, up, size, length-at i m, ap (λ (j : ℕ). length (word_at words j)) q))
+      (λ down. omega (arith, down, size, length-at i m, ap (λ (j : ℕ). length (word_at words j)) q))
+      (left_length A g s (word_at words i) l)
 
-  pub right_shift-less : (s : ℕ) (i k : ℕ) → IsLetter A.rank s → i < length words → k < length words → word_at words k ≡ normal_form A (word_at words i ++ s ∷ []) → (k < i) ↔ IsRightDescent A (word_at words i) s
+  pub right_shift-less : (s : ℕ) (i k : ℕ) → IsLetter A.rank s → i < length words → k < length words
+      → word_at words k ≡ normal_form A (word_at words i ++ s ∷ []) → (k < i) ↔ IsRightDescent A (word_at words i) s
   right_shift-less s i k l m n e = (
-    λ less. ⊎_elim (λ up. absurd (omega (arith, up, size, length-at i m, rising-length words k i closed.rising (omega (arith, less)) m))) (λ down. omega (arith, down)) (right_length A g (word_at words i) s l),
+    λ less. ⊎_elim (λ up. absurd (omega (arith, up, size, length-at i m, rising-length words k i closed.rising (omega (arith, less)) m)))
+        (λ down. omega (arith, down)) (right_length A g (word_at words i) s l),
     λ d. ⊎_elim (λ (q : k ≡ i). absurd (omega (arith, d, size, length-at i m, ap (λ (j : ℕ). length (word_at words j)) q)))
-        (λ side. ⊎_elim (λ below. below) (λ above. absurd (omega (arith, d, size, length-at i m, rising-length words i k closed.rising (omega (arith, above)) n))) side) (cases_order k i),
+        (λ side. ⊎_elim (λ below. below)
+        (λ above. absurd (omega (
+          arith,
+          d,
+          size,
+          length-at i m,
+          rising-length words i k closed.rising
+              (omega (arith, above)) n,
+        ))) side) (cases_order k i),
   )
     where
       size : word_length A (word_at words i ++ s ∷ []) ≡ length (word_at words k)
       size = word_length-is A (word_at words i ++ s ∷ []) ∙ sym (ap length e)
 
   -- a shift that shortens a member is a member
-  pub descent-member : (s : ℕ) (i : ℕ) → i < length words → IsLeftDescent A (word_at words i) s → Contains words (normal_form A (s ∷ word_at words i))
+  pub descent-member : (s : ℕ) (i : ℕ) → i < length words → IsLeftDescent A (word_at words i) s
+      → Contains words (normal_form A (s ∷ word_at words i))
   descent-member s i l d = member-below (s ∷ word_at words i) i l (below-descent A g (word_at words i) s d)
 
-  pub right_descent-member : (s : ℕ) (i : ℕ) → i < length words → IsRightDescent A (word_at words i) s → Contains words (normal_form A (word_at words i ++ s ∷ []))
-  right_descent-member s i l d = member-below (word_at words i ++ s ∷ []) i l (below-push A g (word_at words i) (word_at words i) s d (below-refl A g (same-refl A g (word_at words i))))
+  pub right_descent-member : (s : ℕ) (i : ℕ) → i < length words → IsRightDescent A (word_at words i) s
+      → Contains words (normal_form A (word_at words i ++ s ∷ []))
+  right_descent-member s i l d = member-below (word_at words i ++ s ∷ []) i l
+      (below-push A g (word_at words i) (word_at words i) s d (below-refl A g (same-refl A g (word_at words i))))
 
   -- with x = t x': where x s is a member, so is x' s
-  pub right-parent : (t s : ℕ) (x : List ℕ) (i : ℕ) → IsLetter A.rank s → i < length words → word_at words i ≡ t ∷ x → Contains words (normal_form A ((t ∷ x) ++ s ∷ [])) → Contains words (normal_form A (x ++ s ∷ []))
+  pub right-parent : (t s : ℕ) (x : List ℕ) (i : ℕ) → IsLetter A.rank s → i < length words → word_at words i ≡ t ∷ x
+      → Contains words (normal_form A ((t ∷ x) ++ s ∷ [])) → Contains words (normal_form A (x ++ s ∷ []))
   right-parent t s x i l within e c = ⊎_elim up down (left_length A g t z letter)
     where
       z : List ℕ
@@ -100,7 +132,8 @@ module _ (A : IntegerMatrix) (g : IsAdmissible A) (words : List (List ℕ)) (clo
       up : word_length A (t ∷ z) ≡ word_length A z + 1 → Contains words (normal_form A z)
       up h =
           member-below z p.i p.within
-          (below-same A g (same-refl A g z) (same-trans A g (same-sym A g (normal_form-same A g (t ∷ z))) (same-equal A g (sym p.is))) (below-ascent A g z t letter (omega (arith, h))))
+          (below-same A g (same-refl A g z) (same-trans A g (same-sym A g (normal_form-same A g (t ∷ z))) (same-equal A g (sym p.is)))
+          (below-ascent A g z t letter (omega (arith, h))))
 
       down : word_length A z ≡ word_length A (t ∷ z) + 1 → Contains words (normal_form A z)
       down h = ⊎_elim longer shorter (right_length A g x s l)
@@ -108,11 +141,13 @@ module _ (A : IntegerMatrix) (g : IsAdmissible A) (words : List (List ℕ)) (clo
           shorter : word_length A x ≡ word_length A z + 1 → Contains words (normal_form A z)
           shorter k =
               member-below z i within
-              (rw e (below-trans A g (below-push A g x x s (omega (arith, k)) (below-refl A g (same-refl A g x))) (below-tail A g t x elem)))
+              (rw e (below-trans A g (below-push A g x x s (omega (arith, k)) (below-refl A g (same-refl A g x)))
+              (below-tail A g t x elem)))
 
           longer : word_length A z ≡ word_length A x + 1 → Contains words (normal_form A z)
           longer k =
-              let inner : word_length A (t ∷ x) ≡ word_length A z = omega (arith, k, element-length A g (t ∷ x) elem, element-length A g x (element-tail A g t x elem))
+              let inner : word_length A (t ∷ x) ≡ word_length A z =
+              omega (arith, k, element-length A g (t ∷ x) elem, element-length A g x (element-tail A g t x elem))
               in let same : SameElement A (t ∷ x) z = sides_same A g t s x letter (omega (arith, h, k)) inner
               in let q : normal_form A z ≡ word_at words i = normal_form-equal A g (same-sym A g same) ∙ elem.normal ∙ sym e
               in rw q (contains-at words i within)

@@ -1,5 +1,6 @@
 -- Lists in ShortLex order: one list for each property, what a test keeps of it, and how many words it has.
-use Rattle.std.proofs.Common.{◌≡◌, ℕ, zero, suc, ◌-◌, ◌≤◌, ◌<◌, Bool, true, false, List, [], ◌∷◌, length, filter, get_or, Contains, ◌↔◌, Less, refl, sym, ⊎_elim, arith, subst}
+use Rattle.std.proofs.Common.{◌≡◌, ℕ, zero, suc, ◌-◌, ◌≤◌, ◌<◌, Bool, true, false, List, [], ◌∷◌, length, filter, get_or}
+use Rattle.std.proofs.Common.{Contains, ◌↔◌, Less, refl, sym, ⊎_elim, arith, subst}
 use Rattle.std.proofs.lemmas.Bool.{cases_lt, cases_order}
 use Rattle.std.proofs.lemmas.List.{ext_get_or, get_or_default}
 use Rattle.std.proofs.lemmas.List.Elements.{All-contains, All-filter, All-contains_itself, filter_passes}
@@ -18,7 +19,8 @@ use Rattle.cox_context.proofs.ListLemmas.{IsPlaced, contains-placed, contains-at
 before-less : (words : List (List ℕ)) (i j : ℕ) → IsRising words → i < length words → IsBefore (word_at words i) (word_at words j) → i < j
 before-less words i j r l b =
     ⊎_elim (λ (e : i ≡ j). absurd (IsBefore-irrefl (rw e at b)))
-    (λ side. ⊎_elim (λ (less : i < j). less) (λ (more : j < i). absurd (IsBefore-asym b (rising-before words j i r more l))) side) (cases_order i j)
+    (λ side. ⊎_elim (λ (less : i < j). less) (λ (more : j < i). absurd (IsBefore-asym b (rising-before words j i r more l))) side)
+    (cases_order i j)
 
 -- a word has its place or a later one in a list with all the words
 record IsLater (xs ys : List (List ℕ)) (i : ℕ) : Type 0 where
@@ -61,13 +63,15 @@ same-words xs ys r q forth back =
     at i l c d =
         ⊎_elim
         (λ (less : i < c.k). ⊎_elim
-        (λ (more : i < d.k). absurd (IsBefore-asym (rw c.is at (rising-before ys i c.k q less c.within)) (rw d.is at (rising-before xs i d.k r more d.within))))
+        (λ (more : i < d.k). absurd (IsBefore-asym (rw c.is at (rising-before ys i c.k q less c.within))
+        (rw d.is at (rising-before xs i d.k r more d.within))))
         (λ here. let e : d.k ≡ i = omega (arith, here, d.later) in rw e at d.is) (cases_lt i d.k))
         (λ here. let e : c.k ≡ i = omega (arith, here, c.later) in sym (rw e at c.is)) (cases_lt i c.k)
 
 -- one list has the words with a property in ShortLex order
 pub IsListOf-unique : (P : List ℕ → Type 0) (xs ys : List (List ℕ)) → IsListOf P xs → IsListOf P ys → xs ≡ ys
-IsListOf-unique P xs ys a b = same-words xs ys a.rising b.rising (λ word c. b.whole word (a.sound word c)) (λ word c. a.whole word (b.sound word c))
+IsListOf-unique P xs ys a b =
+    same-words xs ys a.rising b.rising (λ word c. b.whole word (a.sound word c)) (λ word c. a.whole word (b.sound word c))
 
 -- ---- what a test keeps
 
@@ -108,10 +112,11 @@ IsListOf-filter P Q test xs a tells narrower = record {
 
 -- ---- more than so many words
 
--- a front of limit + 1 words ..
+-- a prefix of limit + 1 words ..
 pub HasMoreThan-over : (P : List ℕ → Type 0) (limit : ℕ) (xs : List (List ℕ)) → IsListOf P xs → IsOver P limit → HasMoreThan limit P
 HasMoreThan-over P limit xs a over =
-    let size : length over.front ≤ length xs = no-longer over.front xs over.first.rising a.rising (λ word c. a.whole word (over.first.sound word c))
+    let size : length over.prefix ≤ length xs =
+    no-longer over.prefix xs over.first.rising a.rising (λ word c. a.whole word (over.first.sound word c))
     in (xs, a, omega (arith, size, over.count))
 
 -- .. which a list of no more than limit words rules out

@@ -1,7 +1,9 @@
--- A list of members as it grows by length: the members of the next length are the s x for s = 1, 2, .. and for each s the members x of this length, in order.
-use Rattle.std.specs.Prelude.{◌≡◌, ◌⊎◌, ℕ, ◌<◌, ◌≤◌, List, ◌∷◌, length, slice_index_or, ℤ, []}
+-- A list of members as it grows by length: the members of the next length are the s x for s = 1, 2, .. and for each s the members
+-- x of this length, in order.
+use Rattle.std.specs.Prelude.{◌≡◌, ◌⊎◌, ℕ, ◌<◌, ◌≤◌, List, ◌∷◌, length, slice_index_or}
 use Rattle.cox_base.specs.Matrix.{IsLetter}
 use Rattle.cox_base.specs.IntegerMatrix.{IntegerMatrix}
+use Rattle.cox_reflect.specs.declared.heights.Heights.{Heights}
 use Rattle.cox_reflect.specs.Height.{AreHeights}
 use Rattle.cox_context.specs.SortedList.{IsRising}
 use Rattle.cox_context.specs.Numbers.{word_at}
@@ -42,6 +44,6 @@ pub record IsGrowing (rank : ℕ) (P : List ℕ → Type 0) (k low high s j : �
       → (m : ℕ) × (m < length words) × (word_at words m ≡ t ∷ word_at words i)
 
 -- the heights of each word, in order
-pub record AreAllHeights (A : IntegerMatrix) (words : List (List ℕ)) (heights : List (List ℤ)) : Type 0 where
+pub record AreAllHeights (A : IntegerMatrix) (words : List (List ℕ)) (heights : List Heights) : Type 0 where
   pub count : length heights ≡ length words
-  pub each : (i : ℕ) → i < length words → AreHeights A (word_at words i) (slice_index_or heights i [])
+  pub each : (i : ℕ) (other : Heights) → i < length words → AreHeights A (word_at words i) (slice_index_or heights i other)

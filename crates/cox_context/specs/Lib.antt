@@ -1,11 +1,15 @@
 -- lists of elements in ShortLex order
 pub mod SortedList
--- the members of a context
+-- elements, and those below an element
 pub mod Members
 -- Bruhat intervals
 pub mod Interval
 -- why a context is refused
 pub mod Refusal
+-- what holds of the members of a context
+pub mod Closed
+-- the elements that a context is to have
+pub mod Family
 -- words by their numbers in a list
 pub mod Numbers
 -- the tables of shifts

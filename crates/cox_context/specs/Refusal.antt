@@ -1,26 +1,35 @@
 -- Why a context is refused: exactly by its first members in ShortLex order.
-use Rattle.std.specs.Prelude.{◌≡◌, ℕ, ◌+◌, ◌≤◌, List, length, Contains}
-use Rattle.cox_context.specs.SortedList.{IsListOf, IsFrontOf}
+use Rattle.std.specs.Prelude.{◌≡◌, ◌⊎◌, ℕ, ◌+◌, ◌≤◌, List, length, Contains}
+use Rattle.std.specs.declared.cmp.Ordering.TheVariants.{Less}
+use Rattle.cox_base.specs.ShortLex.{shortlex_cmp}
+use Rattle.cox_context.specs.SortedList.{IsRising, IsListOf}
 use Rattle.cox_context.specs.declared.fault.ContextFault.{ContextFault}
 use Rattle.cox_context.specs.declared.fault.ContextFault.TheVariants.{Size, Long, NoMemory}
 
+-- the first words with a property, in ShortLex order: each other word with it comes after all of them
+pub record IsPrefixOf (P : List ℕ → Type 0) (words : List (List ℕ)) : Type 0 where
+  pub rising : IsRising words
+  pub sound : (word : List ℕ) → Contains words word → P word
+  pub first : (word : List ℕ) → P word
+      → Contains words word ⊎ ((other : List ℕ) → Contains words other → shortlex_cmp other word ≡ Less)
+
 -- there are more than limit members, and the first limit + 1 have at most 63 letters each
 pub record IsOver (P : List ℕ → Type 0) (limit : ℕ) : Type 0 where
-  pub front : List (List ℕ)
-  pub first : IsFrontOf P front
-  pub count : length front ≡ limit + 1
-  pub short : (word : List ℕ) → Contains front word → length word ≤ 63
+  pub prefix : List (List ℕ)
+  pub first : IsPrefixOf P prefix
+  pub count : length prefix ≡ limit + 1
+  pub short : (word : List ℕ) → Contains prefix word → length word ≤ 63
 
 -- no more than limit members have at most 63 letters, and one has 64: so one of the first limit + 1 members has 64 letters
 pub record IsLong (P : List ℕ → Type 0) (limit : ℕ) : Type 0 where
-  pub front : List (List ℕ)
-  pub are : IsListOf (λ word. P word × (length word ≤ 63)) front
-  pub count : length front ≤ limit
+  pub words : List (List ℕ)
+  pub are : IsListOf (λ word. P word × (length word ≤ 63)) words
+  pub count : length words ≤ limit
   pub long : List ℕ
   pub member : P long
   pub letters : length long ≡ 64
 
--- what a fault says of the members with a property; want of memory says nothing
+-- what a fault says of the members with a property; out of memory says nothing
 abbrev pub IsRefusal : (List ℕ → Type 0) → ℕ → ContextFault → Type 0
 IsRefusal P limit (Size bound seen) = (bound ≡ limit) × (seen ≡ limit + 1) × IsOver P limit
 IsRefusal P limit Long = IsLong P limit

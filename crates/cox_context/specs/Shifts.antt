@@ -1,11 +1,12 @@
 -- The tables of shifts: for each member, in order, one entry for each letter. And the descents that are read off them.
-use Rattle.std.specs.Prelude.{◌≡◌, ◌⊎◌, ℕ, ◌+◌, ◌-◌, ◌*◌, ◌<◌, ◌≤◌, List, [], ◌∷◌, ◌++◌, length, slice_index_or, Option, None, Some, Bool, false, nat_lt, filter}
+use Rattle.std.specs.Prelude.{◌≡◌, ◌⊎◌, ℕ, ◌+◌, ◌-◌, ◌*◌, ◌<◌, ◌≤◌, List, [], ◌∷◌, ◌++◌, length, slice_index_or, Option, None}
+use Rattle.std.specs.Prelude.{Some, Bool, false, nat_lt, filter}
 use Rattle.arrayvec.specs.ArrayVec.{ArrayVec}
 use Rattle.cox_base.specs.Matrix.{IsLetter}
 use Rattle.cox_base.specs.IntegerMatrix.{IntegerMatrix, HasOrder}
 use Rattle.cox_base.specs.ShortLex.{normal_form, letters}
 use Rattle.cox_base.specs.Length.{IsLeftDescent, left_descents, right_descents}
-use Rattle.cox_context.specs.Members.{IsClosed}
+use Rattle.cox_context.specs.Closed.{IsClosed}
 use Rattle.cox_context.specs.Numbers.{word_at, IsNumberOf}
 
 -- the entry of member i for the letter s
@@ -20,7 +21,8 @@ is_lower i (Some k) = nat_lt k i
 -- the table has the number of s x for each member x and each letter s
 pub record AreLeftShifts (A : IntegerMatrix) (members : List (List ℕ)) (table : List (Option ℕ)) : Type 0 where
   pub size : length table ≡ length members * A.rank
-  pub shift : (s i : ℕ) → IsLetter A.rank s → i < length members → IsNumberOf members (normal_form A (s ∷ word_at members i)) (entry A.rank table s i)
+  pub shift : (s i : ℕ) → IsLetter A.rank s → i < length members
+      → IsNumberOf members (normal_form A (s ∷ word_at members i)) (entry A.rank table s i)
 
 -- the table has the number of x s for each member x and each letter s, as far as it goes
 pub record AreRightShifts (A : IntegerMatrix) (members : List (List ℕ)) (table : List (Option ℕ)) : Type 0 where
@@ -34,12 +36,14 @@ pub record IsNoted (rank : ℕ) (table : List (Option ℕ)) (s i : ℕ) : Type 0
   pub k : ℕ
   pub is : entry rank table s i ≡ Some k
 
--- Links between members below count + 1 and, with letters below next, to the member count: an entry that is there is right, and those are there.
+-- Links between members below count + 1 and, with letters below next, to the member count: an entry that is there is right, and
+-- those are there.
 pub record AreLinks (A : IntegerMatrix) (members : List (List ℕ)) (count next : ℕ) (table : List (Option ℕ)) : Type 0 where
   pub size : length table ≡ length members * A.rank
   pub right : (s i k : ℕ) → IsLetter A.rank s → i < length members → entry A.rank table s i ≡ Some k
       → (k < length members) × (word_at members k ≡ normal_form A (s ∷ word_at members i))
-  pub there : (s i k : ℕ) → IsLetter A.rank s → i < length members → k < length members → i ≤ count → k ≤ count → (s < next) ⊎ ((i < count) × (k < count))
+  pub there : (s i k : ℕ) → IsLetter A.rank s → i < length members → k < length members → i ≤ count → k ≤ count
+      → (s < next) ⊎ ((i < count) × (k < count))
       → word_at members k ≡ normal_form A (s ∷ word_at members i) → entry A.rank table s i ≡ Some k
 
 -- the letters t < s both shorten member i, and their product has the finite order m
@@ -70,7 +74,8 @@ pub record AreDescents (descents : List ℕ → List ℕ) (members : List (List 
   pub letters : (i : ℕ) → i < length members → letters_at kept i ≡ descents (word_at members i)
 
 -- what a context keeps: its members, the tables of their shifts, and their descents
-pub record IsContext (A : IntegerMatrix) (members : List (List ℕ)) (left right : List (Option ℕ)) (left_kept right_kept : List (ArrayVec ℕ)) : Type 0 where
+pub record IsContext (A : IntegerMatrix) (members : List (List ℕ)) (left right : List (Option ℕ))
+    (left_kept right_kept : List (ArrayVec ℕ)) : Type 0 where
   pub closed : IsClosed A members
   pub left_shifts : AreLeftShifts A members left
   pub right_size : length right ≡ length members * A.rank

@@ -1,5 +1,5 @@
 -- Lists of elements in ShortLex order.
-use Rattle.std.specs.Prelude.{◌≡◌, ℕ, ◌<◌, ◌⊎◌, List, [], length, slice_index_or, Contains}
+use Rattle.std.specs.Prelude.{◌≡◌, ℕ, ◌<◌, List, [], length, slice_index_or, Contains}
 use Rattle.std.specs.declared.cmp.Ordering.TheVariants.{Less}
 use Rattle.cox_base.specs.ShortLex.{shortlex_cmp}
 
@@ -16,9 +16,3 @@ pub record IsListOf (P : List ℕ → Type 0) (words : List (List ℕ)) : Type 0
 -- there are more than so many words with a property
 abbrev pub HasMoreThan : ℕ → (List ℕ → Type 0) → Type 0
 HasMoreThan limit P = (words : List (List ℕ)) × IsListOf P words × (limit < length words)
-
--- the first words with a property, in ShortLex order: each other word with it comes after all of them
-pub record IsFrontOf (P : List ℕ → Type 0) (words : List (List ℕ)) : Type 0 where
-  pub rising : IsRising words
-  pub sound : (word : List ℕ) → Contains words word → P word
-  pub first : (word : List ℕ) → P word → Contains words word ⊎ ((other : List ℕ) → Contains words other → shortlex_cmp other word ≡ Less)

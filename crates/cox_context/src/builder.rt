@@ -8,16 +8,15 @@ ghost use Rattle.cox_base.specs.Matrix.{IsCoxeterMatrix, IsLetter};
 ghost use Rattle.cox_base.specs.IntegerMatrix.{IntegerMatrix, IsAdmissible, integer_matrix};
 ghost use Rattle.cox_base.specs.Length.{IsLeftDescent};
 ghost use Rattle.cox_reflect.specs.Height.{AreHeights};
-ghost use Rattle.cox_context.specs.Members.{IsMember, IsTop};
-ghost use Rattle.cox_context.specs.SortedList.{IsFrontOf};
+ghost use Rattle.cox_context.specs.Family.{IsMember, IsTop};
 ghost use Rattle.cox_context.specs.Numbers.{word_at};
 ghost use Rattle.cox_context.specs.Growth.{IsGrowing, IsGrown, AreAllHeights};
-ghost use Rattle.cox_context.specs.Refusal.{IsRefusal};
+ghost use Rattle.cox_context.specs.Refusal.{IsPrefixOf, IsRefusal};
 
 use crate::ContextFault;
 use crate::family::{Child, Family};
-use crate::members::Members;
-use cox_base::Word;
+use crate::members::{MAX_MEMBERS, Members};
+use cox_base::{MAX_RANK, Word};
 use cox_reflect::Heights;
 use std::alloc::Global;
 
@@ -53,9 +52,9 @@ impl Builder {
         letters: u32,
         limit: u32,
     ) -> Result<u32, ContextFault>
-        requires top { IsTop family.now.group.rank family.now.top }
+        requires top { IsTop (integer_matrix family.now.group) family.now.top }
         requires short { letters ≤ 63 }
-        requires limit { limit ≤ 65536 }
+        requires limit { limit ≤ MAX_MEMBERS }
         requires room { length self.old.members ≤ limit }
         requires grown { IsGrown family.now.group.rank (IsMember (integer_matrix family.now.group) family.now.top) 0 0 self.old.members }
         requires heights { AreAllHeights (integer_matrix family.now.group) self.old.members self.old.heights.items }
@@ -81,9 +80,9 @@ impl Builder {
         low: u32,
         limit: u32,
     ) -> Result<(), ContextFault>
-        requires top { IsTop family.now.group.rank family.now.top }
+        requires top { IsTop (integer_matrix family.now.group) family.now.top }
         requires short { letters ≤ 62 }
-        requires limit { limit ≤ 65536 }
+        requires limit { limit ≤ MAX_MEMBERS }
         requires room { length self.old.members ≤ limit }
         requires grown { IsGrown family.now.group.rank (IsMember (integer_matrix family.now.group) family.now.top) letters low self.old.members }
         requires heights { AreAllHeights (integer_matrix family.now.group) self.old.members self.old.heights.items }
@@ -111,10 +110,10 @@ impl Builder {
         limit: u32,
     ) -> Result<(), ContextFault>
         requires matrix { IsCoxeterMatrix family.now.group }
-        requires top { IsTop family.now.group.rank family.now.top }
+        requires top { IsTop (integer_matrix family.now.group) family.now.top }
         requires short { letters ≤ 62 }
         requires letter { IsLetter family.now.group.rank s }
-        requires limit { limit ≤ 65536 }
+        requires limit { limit ≤ MAX_MEMBERS }
         requires room { length self.old.members ≤ limit }
         requires growing { IsGrowing family.now.group.rank (IsMember (integer_matrix family.now.group) family.now.top) letters low high s low self.old.members }
         requires heights { AreAllHeights (integer_matrix family.now.group) self.old.members self.old.heights.items }
@@ -133,7 +132,7 @@ impl Builder {
 
     /// The word s x of the member x with this number, and its heights, if it is a normal form and a member.
     fn child(&self, family: &Family, s: u8, parent: u32) -> Option<Child>
-        requires top { IsTop family.now.group.rank family.now.top }
+        requires top { IsTop (integer_matrix family.now.group) family.now.top }
         requires letter { IsLetter family.now.group.rank s }
         requires parent { parent < length self.now.members }
         requires member { IsMember (integer_matrix family.now.group) family.now.top (word_at self.now.members parent) }
@@ -149,13 +148,13 @@ impl Builder {
 
     /// Appends a member, if the limit admits one more.
     fn add(&mut self, child: Child, limit: u32) -> Result<(), ContextFault>
-        requires limit { limit ≤ 65536 }
+        requires limit { limit ≤ MAX_MEMBERS }
         requires room { length self.old.members ≤ limit }
         requires new { ¬ (Contains self.old.members child.word.items) }
         ensures added { OnOk result (self.new.members ≡ self.old.members ++ child.word.items ∷ []) }
         ensures heights { OnOk result (self.new.heights.items ≡ self.old.heights.items ++ child.heights ∷ []) }
         ensures room { OnOk result (length self.new.members ≤ limit) }
-        ensures fault { (A : IntegerMatrix) → (top : Option (ArrayVec ℕ)) → IsFrontOf (IsMember A top) (self.old.members ++ child.word.items ∷ [])
+        ensures fault { (A : IntegerMatrix) → (top : Option (ArrayVec ℕ)) → IsPrefixOf (IsMember A top) (self.old.members ++ child.word.items ∷ [])
             → ((i : ℕ) → i < length self.old.members + 1 → length (word_at (self.old.members ++ child.word.items ∷ []) i) ≤ 63)
             → IfErr result (IsRefusal (IsMember A top) limit) }
     {
@@ -190,7 +189,7 @@ impl Builder {
 
 /// Whether some letter is no left descent.
 fn has_ascent(heights: &Heights, rank: u32) -> bool
-    requires limit { rank ≤ 9 }
+    requires limit { rank ≤ MAX_RANK }
     ensures yes { (A : IntegerMatrix) → (u : List ℕ) → IsAdmissible A → A.rank ≡ rank → AreHeights A u heights.now → IsTrue result → (s : ℕ) × IsLetter rank s × (¬ (IsLeftDescent A u s)) }
     ensures no { (A : IntegerMatrix) → (u : List ℕ) → IsAdmissible A → A.rank ≡ rank → AreHeights A u heights.now → ¬ (IsTrue result) → (s : ℕ) → IsLetter rank s → IsLeftDescent A u s }
 {

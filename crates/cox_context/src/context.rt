@@ -5,7 +5,8 @@ ghost use Rattle.cox_base.specs.IntegerMatrix.{integer_matrix};
 ghost use Rattle.cox_base.specs.ShortLex.{normal_form};
 ghost use Rattle.cox_base.specs.Length.{left_descents, right_descents};
 ghost use Rattle.cox_base.specs.Bruhat.{IsBelow};
-ghost use Rattle.cox_context.specs.Members.{IsElement, IsInInterval, IsClosed};
+ghost use Rattle.cox_context.specs.Members.{IsElement, IsInInterval};
+ghost use Rattle.cox_context.specs.Closed.{IsClosed};
 ghost use Rattle.cox_context.specs.SortedList.{IsListOf};
 ghost use Rattle.cox_context.specs.Numbers.{word_at, IsNumberOf};
 ghost use Rattle.cox_context.specs.Growth.{AreAllHeights};
@@ -15,11 +16,11 @@ use crate::ContextFault;
 use crate::builder::Builder;
 use crate::descents::{Letters, all_lowering, kept_word};
 use crate::family::Family;
-use crate::members::Members;
+use crate::members::{MAX_MEMBERS, Members};
 use crate::right_shifts::right_shifts;
 use crate::shifts::{entry, left_shifts};
-use cox_base::{Coxeter, Side, Word, copy_word};
-use cox_reflect::{descents, length};
+use cox_base::{Coxeter, Side, Word};
+use cox_reflect::{descents, normal_form};
 use std::alloc::Global;
 use std::marker::Model;
 
@@ -42,7 +43,7 @@ pub struct Context {
 
 impl Model for Context {
     ghost use Rattle.cox_base.specs.IntegerMatrix.{integer_matrix};
-    ghost use Rattle.cox_context.specs.Members.{Elements};
+    ghost use Rattle.cox_context.specs.Closed.{Elements};
     ghost use Rattle.cox_context.specs.Shifts.{IsContext};
 
     ghost Value = { Elements };
@@ -65,19 +66,21 @@ impl Context {
         requires letters { IsWord group.now.rank w.now.items }
         requires short { length w.now.items ≤ 63 }
         requires some { 1 ≤ limit }
-        requires limit { limit ≤ 65536 }
+        requires limit { limit ≤ MAX_MEMBERS }
         ensures matrix { IfOk result (λ c. c.matrix ≡ group.now) }
         ensures members { IfOk result (λ c. IsListOf (IsInInterval (integer_matrix group.now) w.now.items) c.members) }
         ensures few { IfOk result (λ c. length c.members ≤ limit) }
         ensures refused { IfErr result (IsRefusal (IsInInterval (integer_matrix group.now) w.now.items) limit) }
     {
+        let top = normal_form(group, w);
+        let letters = top.len() as u32;
         let family = Family {
             group: group.copy(),
-            top: Some(copy_word(w)),
-            descents: descents(group, w, Side::Left),
+            descents: descents(group, &top, Side::Left),
+            top: Some(top),
         };
         let mut builder = Builder::new(alloc, &family)?;
-        builder.grow(&family, length(group, w), limit)?;
+        builder.grow(&family, letters, limit)?;
         Context::of_members(alloc, family.group, builder)
     }
 
@@ -87,7 +90,7 @@ impl Context {
     /// has 64 letters, as in each infinite group if `limit` is great enough.
     pub fn of_group(alloc: Global, group: &Coxeter, limit: u32) -> Result<Context, ContextFault>
         requires some { 1 ≤ limit }
-        requires limit { limit ≤ 65536 }
+        requires limit { limit ≤ MAX_MEMBERS }
         ensures matrix { IfOk result (λ c. c.matrix ≡ group.now) }
         ensures members { IfOk result (λ c. IsListOf (IsElement (integer_matrix group.now)) c.members) }
         ensures few { IfOk result (λ c. length c.members ≤ limit) }

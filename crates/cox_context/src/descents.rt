@@ -2,6 +2,7 @@
 ghost use Rattle.std.specs.Prelude.{◌≡◌, ℕ, ◌+◌, ◌*◌, ◌<◌, ◌≤◌, length, IfOk, OnOk};
 ghost use Rattle.cox_context.specs.Shifts.{entry, is_lower, letters_at, lowering_letters, AreLoweringLetters};
 
+use crate::members::MAX_MEMBERS;
 use crate::shifts::entry;
 use arrayvec::ArrayVec;
 use cox_base::{MAX_RANK, Word};
@@ -17,8 +18,8 @@ pub(crate) fn all_lowering(
     rank: u32,
     count: u32,
 ) -> Result<Vec<Letters>, AllocError>
-    requires limit { rank ≤ 9 }
-    requires few { count ≤ 65536 }
+    requires limit { rank ≤ MAX_RANK }
+    requires few { count ≤ MAX_MEMBERS }
     requires within { count * rank ≤ length table.now }
     ensures { IfOk result (λ kept. AreLoweringLetters rank table.now count kept.items) }
 {
@@ -31,8 +32,8 @@ pub(crate) fn all_lowering(
 
 /// The letters, rising, that take member i to a member before it.
 fn lowering(table: &[Option<u32>], rank: u32, i: u32) -> Letters
-    requires limit { rank ≤ 9 }
-    requires few { i < 65536 }
+    requires limit { rank ≤ MAX_RANK }
+    requires few { i < MAX_MEMBERS }
     requires within { (i + 1) * rank ≤ length table.now }
     ensures { result.items ≡ lowering_letters rank table.now i }
 {

@@ -1,15 +1,17 @@
 //! The group, or the interval, whose elements a context has as members.
-ghost use Rattle.std.specs.Prelude.{◌≡◌, ◌≤◌, ◌↔◌, ◌∷◌, length, IsTrue, IfSome, IfNone};
+ghost use Rattle.std.specs.Prelude.{◌≡◌, ℕ, List, ◌≤◌, ◌↔◌, ◌∷◌, length, IsTrue, IfSome, IfNone};
 ghost use Rattle.cox_base.specs.Matrix.{IsCoxeterMatrix, IsLetter};
 ghost use Rattle.cox_base.specs.IntegerMatrix.{integer_matrix};
 ghost use Rattle.cox_base.specs.ShortLex.{normal_form};
 ghost use Rattle.cox_reflect.specs.Height.{AreHeights};
-ghost use Rattle.cox_context.specs.Members.{IsElement, IsMember, IsTop, top_descents};
+ghost use Rattle.cox_reflect.specs.Order.{AreOfShortElement};
+ghost use Rattle.cox_context.specs.Members.{IsElement};
+ghost use Rattle.cox_context.specs.Family.{IsMember, IsTop, top_descents};
 
 use cox_base::{Coxeter, Word};
-use cox_reflect::{Heights, below};
+use cox_reflect::{Heights, below_reduced};
 
-/// A Coxeter group, and the top of an interval where an interval is meant.
+/// A Coxeter group, and the top of an interval where an interval is meant, as a reduced word.
 #[derive(Drop)]
 pub(crate) struct Family {
     pub(crate) group: Coxeter,
@@ -29,7 +31,7 @@ pub(crate) struct Child {
 impl Family {
     /// The word s x and its heights, if it is a normal form and a member, for a member x with its heights.
     pub(crate) fn child(&self, heights: &Heights, s: u8, x: &Word) -> Option<Child>
-        requires top { IsTop self.now.group.rank self.now.top }
+        requires top { IsTop (integer_matrix self.now.group) self.now.top }
         requires letter { IsLetter self.now.group.rank s }
         requires member { IsMember (integer_matrix self.now.group) self.now.top x.now.items }
         requires short { length x.now.items ≤ 62 }
@@ -39,24 +41,26 @@ impl Family {
         ensures none { IfNone result (¬ (IsMember (integer_matrix self.now.group) self.now.top (s ∷ x.now.items))) }
     {
         let heights = normal_heights(&self.group, heights, s, x)?;
-        let word = with_first(s, x);
-        if self.descents.as_slice().contains(&s) || self.has(&word) {
-            Some(Child { word, heights })
+        if self.descents.as_slice().contains(&s) || self.has(heights) {
+            Some(Child {
+                word: with_first(s, x),
+                heights,
+            })
         } else {
             None
         }
     }
 
-    /// Whether an element is a member.
-    fn has(&self, word: &Word) -> bool
-        requires top { IsTop self.now.group.rank self.now.top }
-        requires element { IsElement (integer_matrix self.now.group) word.now.items }
-        requires short { length word.now.items ≤ 63 }
-        ensures { IsTrue result ↔ IsMember (integer_matrix self.now.group) self.now.top word.now.items }
+    /// Whether the element with these heights is a member.
+    fn has(&self, heights: Heights) -> bool
+        requires top { IsTop (integer_matrix self.now.group) self.now.top }
+        requires element { AreOfShortElement (integer_matrix self.now.group) heights }
+        ensures { (word : List ℕ) → IsElement (integer_matrix self.now.group) word → AreHeights (integer_matrix self.now.group) word heights
+            → (IsTrue result ↔ IsMember (integer_matrix self.now.group) self.now.top word) }
     {
         match &self.top {
             None => true,
-            Some(top) => below(&self.group, word, top),
+            Some(top) => below_reduced(&self.group, heights, top.as_slice()),
         }
     }
 }

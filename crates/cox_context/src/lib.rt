@@ -29,3 +29,4 @@ mod tests;
 
 pub use context::Context;
 pub use fault::ContextFault;
+pub use members::MAX_MEMBERS;

@@ -7,10 +7,10 @@ use indexmap::IndexSet;
 use std::alloc::{AllocError, Global};
 use std::marker::Model;
 
-/// How many members a context has at most.
-pub(crate) const MAX_MEMBERS: u32 = 65_536;
+/// The greatest number of members of a context.
+pub const MAX_MEMBERS: u32 = 65_536;
 
-/// Distinct words in the order in which they came, at most 65,536 of them. Contracts see the list of the words.
+/// Distinct words in the order in which they came, no more than `MAX_MEMBERS`. Contracts see the list of the words.
 #[derive(Drop)]
 pub(crate) struct Members {
     words: IndexSet<Word>,
@@ -18,12 +18,13 @@ pub(crate) struct Members {
 
 impl Model for Members {
     ghost use Rattle.std.specs.Prelude.{◌≤◌, ℕ, List, map, length};
+    ghost use Rattle.cox_context.specs.declared.members.TheConstants.{MAX_MEMBERS};
 
     ghost Value = { List (List ℕ) };
 
     ghost view = { λ m. map (λ w. w.items) m.words.keys };
 
-    ghost invariant = { λ m. length m.words.keys ≤ 65536 };
+    ghost invariant = { λ m. length m.words.keys ≤ MAX_MEMBERS };
 }
 
 impl Members {
@@ -39,7 +40,7 @@ impl Members {
     /// How many words there are.
     pub(crate) fn len(&self) -> u32
         ensures len { result ≡ length self.now }
-        ensures few { result ≤ 65536 }
+        ensures few { result ≤ MAX_MEMBERS }
     {
         self.words.len() as u32
     }
@@ -62,7 +63,7 @@ impl Members {
 
     /// Appends a word that is not here yet.
     pub(crate) fn push(&mut self, word: Word) -> Result<(), AllocError>
-        requires room { length self.old < 65536 }
+        requires room { length self.old < MAX_MEMBERS }
         requires new { ¬ (Contains self.old word.items) }
         ensures { OnOk result (self.new ≡ self.old ++ word.items ∷ []) }
     {

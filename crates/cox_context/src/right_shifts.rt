@@ -3,11 +3,11 @@ ghost use Rattle.std.specs.Prelude.{◌≡◌, ◌+◌, ◌-◌, ◌*◌, ◌<�
 ghost use Rattle.cox_base.specs.Matrix.{IsCoxeterMatrix, IsLetter};
 ghost use Rattle.cox_base.specs.IntegerMatrix.{integer_matrix};
 ghost use Rattle.cox_base.specs.ShortLex.{normal_form};
-ghost use Rattle.cox_context.specs.Members.{IsClosed};
+ghost use Rattle.cox_context.specs.Closed.{IsClosed};
 ghost use Rattle.cox_context.specs.Numbers.{word_at, IsNumberOf};
 ghost use Rattle.cox_context.specs.Shifts.{AreLeftShifts, AreRightShifts};
 
-use crate::members::Members;
+use crate::members::{MAX_MEMBERS, Members};
 use crate::shifts::entry;
 use cox_base::Coxeter;
 use std::alloc::{AllocError, Global};
@@ -85,7 +85,7 @@ fn right_shift(
 
 /// The left shift of a member.
 fn left_shift(g: &Coxeter, members: &Members, left: &[Option<u32>], s: u8, i: u32) -> Option<u32>
-    requires few { length members.now ≤ 65536 }
+    requires few { length members.now ≤ MAX_MEMBERS }
     requires left { AreLeftShifts (integer_matrix g.now) members.now left.now }
     requires member { i < length members.now }
     requires letter { IsLetter g.now.rank s }
@@ -102,7 +102,7 @@ fn known_right_shift(
     s: u8,
     i: u32,
 ) -> Option<u32>
-    requires few { length members.now ≤ 65536 }
+    requires few { length members.now ≤ MAX_MEMBERS }
     requires right { AreRightShifts (integer_matrix g.now) members.now right.now }
     requires member { i < length members.now }
     requires letter { IsLetter g.now.rank s }

@@ -5,13 +5,13 @@ ghost use Rattle.cox_base.specs.IntegerMatrix.{integer_matrix};
 ghost use Rattle.cox_base.specs.ShortLex.{normal_form};
 ghost use Rattle.cox_base.specs.Length.{IsLeftDescent};
 ghost use Rattle.cox_reflect.specs.Height.{AreHeights};
-ghost use Rattle.cox_context.specs.Members.{IsClosed};
+ghost use Rattle.cox_context.specs.Closed.{IsClosed};
 ghost use Rattle.cox_context.specs.Numbers.{word_at};
 ghost use Rattle.cox_context.specs.Growth.{AreAllHeights};
 ghost use Rattle.cox_context.specs.Shifts.{entry, IsNoted, IsRound, AreLeftShifts, AreLinks};
 
-use crate::members::Members;
-use cox_base::{Coxeter, Word, copy_word};
+use crate::members::{MAX_MEMBERS, Members};
+use cox_base::{Coxeter, MAX_RANK, Word, copy_word};
 use cox_reflect::Heights;
 use std::alloc::{AllocError, Global};
 
@@ -115,7 +115,7 @@ fn walk(g: &Coxeter, members: &Members, table: &[Option<u32>], t: u8, s: u8, i: 
 
 /// The left shift of a member, which is noted.
 fn noted(g: &Coxeter, table: &[Option<u32>], s: u8, i: u32) -> u32
-    requires few { i ≤ 65536 }
+    requires few { i ≤ MAX_MEMBERS }
     requires noted { IsNoted g.now.rank table.now s i }
     ensures { entry g.now.rank table.now s i ≡ Some result }
 {
@@ -128,9 +128,9 @@ fn noted(g: &Coxeter, table: &[Option<u32>], s: u8, i: u32) -> u32
 /// Notes that s takes the members i and k to each other.
 fn link(table: &mut Vec<Option<u32>>, rank: u32, s: u8, i: u32, k: u32)
     requires letter { IsLetter rank s }
-    requires limit { rank ≤ 9 }
-    requires few_i { i ≤ 65536 }
-    requires few_k { k ≤ 65536 }
+    requires limit { rank ≤ MAX_RANK }
+    requires few_i { i ≤ MAX_MEMBERS }
+    requires few_k { k ≤ MAX_MEMBERS }
     requires room_i { i * rank + (s - 1) < length table.old.items }
     requires room_k { k * rank + (s - 1) < length table.old.items }
     ensures size { length table.new.items ≡ length table.old.items }
@@ -145,8 +145,8 @@ fn link(table: &mut Vec<Option<u32>>, rank: u32, s: u8, i: u32, k: u32)
 /// Where the entry of member i for the letter s stands.
 fn place(rank: u32, s: u8, i: u32) -> usize
     requires letter { IsLetter rank s }
-    requires limit { rank ≤ 9 }
-    requires few { i ≤ 65536 }
+    requires limit { rank ≤ MAX_RANK }
+    requires few { i ≤ MAX_MEMBERS }
     ensures { result ≡ i * rank + (s - 1) }
 {
     i as usize * rank as usize + (s as usize - 1)
@@ -155,8 +155,8 @@ fn place(rank: u32, s: u8, i: u32) -> usize
 /// The entry of member i for the letter s.
 pub(crate) fn entry(table: &[Option<u32>], rank: u32, s: u8, i: u32) -> Option<u32>
     requires letter { IsLetter rank s }
-    requires limit { rank ≤ 9 }
-    requires few { i ≤ 65536 }
+    requires limit { rank ≤ MAX_RANK }
+    requires few { i ≤ MAX_MEMBERS }
     requires within { i * rank + (s - 1) < length table.now }
     ensures { result ≡ entry rank table.now s i }
 {

@@ -1,8 +1,8 @@
 -- The integer matrix of a Coxeter matrix is admissible, and its finite labels are the orders of the braid relations.
-use Rattle.std.proofs.Common.{◌≡◌, ℕ, ◌<◌, ◌↔◌, ℤ, negsuc, refl, sym, ◌∙◌, ⊎_elim, arith}
+use Rattle.std.proofs.Common.{◌≡◌, ℕ, ◌<◌, ◌↔◌, ℤ, negsuc, refl, sym, ◌∙◌, ⊎_elim}
 use Rattle.std.proofs.lemmas.Bool.{cases_eq, cases_order}
 use Rattle.cox_base.specs.Matrix.{CoxeterMatrix, IsCoxeterMatrix, IsLetter, label}
-use Rattle.cox_base.specs.IntegerMatrix.{entry_of, entry_above, entry_below, HasOrder, order_two, order_three, order_four, order_back_four, order_six, order_back_six}
+use Rattle.cox_base.specs.IntegerMatrix.{entry_of, HasOrder, order_two, order_three, order_four, order_back_four, order_six, order_back_six}
 use Rattle.cox_base.proofs.Entries.{label-above, label-symmetric, entry_of-above, entry_of-below}
 use Rattle.cox_base.proofs.Admissible.{HasOrder-integer_matrix}
 pub use Rattle.cox_base.proofs.Admissible.{IsAdmissible-integer_matrix}
@@ -21,7 +21,8 @@ HasOrder-infinity h = elim h [ ]
 
 module _ (c : CoxeterMatrix) (h : IsCoxeterMatrix c) where
   -- where the label is infinity there is no order
-  no_order : (s t m : ℕ) → IsLetter c.rank s → IsLetter c.rank t → s < t → label c s t ≡ 0 → HasOrder (entry_of c s t) (entry_of c t s) m → ⊥
+  no_order : (s t m : ℕ) → IsLetter c.rank s → IsLetter c.rank t → s < t → label c s t ≡ 0 → HasOrder (entry_of c s t) (entry_of c t s) m
+      → ⊥
   no_order s t m l k lt infinite order =
       let stored = sym (label-above c s t lt) ∙ infinite in
       let above : entry_of c s t ≡ negsuc 1 = rw stored at (entry_of-above c s t l.from_one lt k.to_rank) in
@@ -33,7 +34,8 @@ module _ (c : CoxeterMatrix) (h : IsCoxeterMatrix c) where
       → HasOrder (entry_of c s t) (entry_of c t s) m ↔ ((label c s t ≡ m) × (m ≡ 0 → ⊥))
   order_above s t m l k lt = (
     λ order. ⊎_elim (λ infinite. absurd (no_order s t m l k lt infinite order))
-        (λ some. let e : label c s t ≡ m = HasOrder-unique (HasOrder-integer_matrix c h s t l.from_one lt k.to_rank some) order in (e, λ z. some (e ∙ z)))
+        (λ some. let e : label c s t ≡ m = HasOrder-unique (HasOrder-integer_matrix c h s t l.from_one lt k.to_rank some) order in
+        (e, λ z. some (e ∙ z)))
         (cases_eq (label c s t) 0),
     λ p. rw p.0 at (HasOrder-integer_matrix c h s t l.from_one lt k.to_rank (λ z. p.1 (sym p.0 ∙ z))),
   )

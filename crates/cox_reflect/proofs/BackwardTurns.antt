@@ -4,7 +4,7 @@ use Rattle.std.proofs.lemmas.List.{map-append, reverse-append, length-map, lengt
 use Rattle.cox_base.specs.Matrix.{IsLetter, IsWord}
 use Rattle.cox_reflect.proofs.WordLemmas.{IsWord-reverse}
 
--- one more letter in front
+-- one more letter before
 pub reverse-map_push : {X : Type 0} (f : X → ℕ) (xs : List X) (x : X) → reverse (map f (xs ++ x ∷ [])) ≡ f x ∷ reverse (map f xs)
 reverse-map_push f xs x = rw (map-append f xs (x ∷ [])) (reverse-append (map f xs) (f x ∷ []))
 

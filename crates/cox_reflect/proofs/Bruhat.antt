@@ -15,7 +15,8 @@ use Rattle.cox_reflect.proofs.Search.{normal_form-same, word_length-length}
 use Rattle.cox_reflect.proofs.Lengths.{IsReduced-normal_form, IsReduced-reverse}
 use Rattle.cox_reflect.proofs.Roots.{left_descent-letter, left_descent_reverse, reverse_left_descent}
 use Rattle.cox_reflect.proofs.Deletion.{left_length}
-use Rattle.cox_reflect.proofs.Chains.{chain_upper, chain_lower, chain_join, chain-length, chain-same, descent_step, ascent_step, chain_subword, lift_chain, subword_chain}
+use Rattle.cox_reflect.proofs.Chains.{chain_upper, chain_lower, chain_join, chain-length, chain-same, descent_step, ascent_step}
+use Rattle.cox_reflect.proofs.Chains.{chain_subword, lift_chain, subword_chain}
 
 module _ (A : IntegerMatrix) (g : IsAdmissible A) where
   -- ---- by chains

@@ -8,7 +8,7 @@ use Rattle.cox_base.specs.Element.{SameElement}
 use Rattle.cox_base.specs.ShortLex.{normal_form}
 use Rattle.cox_base.specs.Length.{word_length, IsReduced}
 use Rattle.cox_base.specs.Bruhat.{IsSubword, none, kept, left_out}
-use Rattle.cox_reflect.specs.Words.{reflection, IsWithoutOne, this_one, later_one}
+use Rattle.cox_reflect.specs.DerivedWords.{reflection, IsWithoutOne, this_one, later_one}
 use Rattle.cox_reflect.specs.Chain.{IsStep, IsChain, no_step, last_step}
 use Rattle.cox_reflect.proofs.Sums.{letter_cases}
 use Rattle.cox_reflect.proofs.WordLemmas.{IsSubword-refl, IsSubword-trans, IsSubword-without_one}

@@ -1,37 +1,29 @@
--- Coordinates of roots as the code computes them: how a list of nine changes under a letter, and that 128 bits are enough.
-use Rattle.std.proofs.Common.{◌≡◌, ℕ, zero, suc, ◌+◌, ◌-◌, ◌*◌, ◌^◌, ◌≤◌, ◌<◌, List, [], ◌∷◌, ◌++◌, length, reverse, map, set, ℤ, pos, ◌+ℤ◌, ◌-ℤ◌, ◌*ℤ◌, nat_abs, to_z, of_z, replicate, slice_index_or, get_or-set_other, refl, sym, ◌∙◌, ⊎_elim, arith, lit<, get_or}
+-- Coordinates of roots as the code computes them: how a list of numbers changes under a letter, and that 128 bits are enough.
+use Rattle.std.proofs.Common.{◌≡◌, ℕ, zero, suc, ◌+◌, ◌-◌, ◌*◌, ◌^◌, ◌≤◌, ◌<◌, List, [], ◌∷◌, ◌++◌, length, reverse, map, set, ℤ}
+use Rattle.std.proofs.Common.{pos, ◌+ℤ◌, ◌-ℤ◌, ◌*ℤ◌, nat_abs, replicate, slice_index_or, get_or-set_other, refl, sym, ◌∙◌, ⊎_elim}
+use Rattle.std.proofs.Common.{arith, lit<, get_or}
 use Rattle.std.proofs.Math.Nat.{mul-le-mul_right, pow-le-pow_right}
 use Rattle.std.proofs.lemmas.Bool.{cases_eq, cases_lt}
 use Rattle.std.proofs.lemmas.List.{length-set, length-replicate, get_or-replicate, get_or_past}
-use Rattle.std.proofs.lemmas.Int.{ints, to_z-of_z, fits_signed_from_abs, unsigned_abs-mul}
+use Rattle.std.proofs.lemmas.Int.{ints, fits_signed_from_abs, unsigned_abs-mul}
 use mir.Syntax.{w128}
 use mir.Val.{SFits}
+use Rattle.cox_base.specs.declared.coxeter.TheConstants.{MAX_RANK}
 use Rattle.cox_base.specs.Matrix.{CoxeterMatrix, IsCoxeterMatrix, IsLetter, IsWord}
 use Rattle.cox_base.specs.IntegerMatrix.{IntegerMatrix, IsAdmissible, integer_matrix, entry_of}
 use Rattle.cox_base.specs.Element.{sum_to, matrix}
 use Rattle.cox_reflect.specs.Action.{Vector, simple_root, pairing, minus, reflect, act, size}
-use Rattle.cox_reflect.specs.Height.{at_letter}
+use Rattle.cox_reflect.specs.RootHeight.{at_letter}
 use Rattle.cox_reflect.proofs.Sums.{sum_to-same, simple_root-self, simple_root-other}
 use Rattle.cox_reflect.proofs.BackwardTurns.{reverse-map_push, turn-letter, turn-length}
 use Rattle.cox_reflect.proofs.Admissible.{IsAdmissible-integer_matrix}
 use Rattle.cox_reflect.proofs.LetterLists.{at_letter-set_same, at_letter-set_other}
 use Rattle.cox_reflect.proofs.Action.{act-cons}
 use Rattle.cox_reflect.proofs.Elements.{matrix-column}
-use Rattle.cox_reflect.proofs.Sizes.{coordinate-size, size-front, entry-small, sum_to-small, size-act}
+use Rattle.cox_reflect.proofs.Sizes.{coordinate-size, size-prefix, entry-small, sum_to-small, size-act}
 
 fits-bound : (z : ℤ) (n : ℕ) → nat_abs z ≤ 4 * n → n ≤ 4 ^ 62 → SFits w128 z
 fits-bound z n small bound = let top : 4 * 4 ^ 62 < 2 ^ 127 = lit< tt in fits_signed_from_abs w128 z (omega (arith, small, bound, top))
-
--- a product, and a sum with one more product, as the code computes them
-module _ (r x e : ℤ) (r_fits : SFits w128 r) (x_fits : SFits w128 x) (is : r ≡ e) (fits : SFits w128 (e *ℤ x)) where
-  product-value : to_z w128 (of_z w128 r) *ℤ to_z w128 (of_z w128 x) ≡ e *ℤ x
-  product-value = rw (to_z-of_z w128 r r_fits, to_z-of_z w128 x x_fits, is) refl
-
-  pub product-fits : SFits w128 (to_z w128 (of_z w128 r) *ℤ to_z w128 (of_z w128 x))
-  product-fits = rw product-value fits
-
-  pub sum-value : (sum s : ℤ) → sum ≡ s → sum +ℤ to_z w128 (of_z w128 (to_z w128 (of_z w128 r) *ℤ to_z w128 (of_z w128 x))) ≡ s +ℤ (e *ℤ x)
-  sum-value sum s sum_is = rw (product-value, to_z-of_z w128 (e *ℤ x) fits, sum_is) refl
 
 pub part-none : (f : ℕ → ℤ) → sum_to 0 f ≡ pos 0
 unfolding sum_to
@@ -55,7 +47,7 @@ module _ (A : IntegerMatrix) (g : IsAdmissible A) where
   part-fits s t v l bound =
       rw (sum_to-next t (λ k. A.entry s k *ℤ v k) l.from_one)
       (fits-bound (sum_to t (λ k. A.entry s k *ℤ v k)) (size A.rank v)
-      (omega (arith, sum_to-small A g s t v, size-front t A.rank v l.to_rank)) bound)
+      (omega (arith, sum_to-small A g s t v, size-prefix t A.rank v l.to_rank)) bound)
 
 pub part-next : (A : IntegerMatrix) (s t : ℕ) (v : Vector) → 1 ≤ t
     → sum_to (t - 1) (λ k. A.entry s k *ℤ v k) +ℤ (A.entry s t *ℤ v t) ≡ sum_to t (λ k. A.entry s k *ℤ v k)
@@ -65,7 +57,7 @@ part-next A s t v l = sum_to-next t (λ k. A.entry s k *ℤ v k) l
 
 -- the numbers for the letters are the coordinates of a vector
 pub record AreCoordinates (A : IntegerMatrix) (list : List ℤ) (v : Vector) : Type 0 where
-  pub count : length list ≡ 9
+  pub count : length list ≡ MAX_RANK
   pub each : (i : ℕ) → IsLetter A.rank i → at_letter list i ≡ v i
   pub past : (k : ℕ) → A.rank ≤ k → slice_index_or list k (pos 0) ≡ pos 0
 
@@ -80,7 +72,7 @@ module _ (A : IntegerMatrix) (list : List ℤ) (v : Vector) (is : AreCoordinates
   unfolding pairing
   pairing-at_letter s = sum_to-same A.rank (λ t. A.entry s t *ℤ at_letter list t) (λ t. A.entry s t *ℤ v t) (λ t l. rw (is.each t l))
 
-  AreCoordinates-reflect : (s : ℕ) (p x : ℤ) → IsLetter A.rank s → A.rank ≤ 9 → p ≡ pairing A s v → x ≡ at_letter list s -ℤ p
+  AreCoordinates-reflect : (s : ℕ) (p x : ℤ) → IsLetter A.rank s → A.rank ≤ MAX_RANK → p ≡ pairing A s v → x ≡ at_letter list s -ℤ p
       → AreCoordinates A (set list (s - 1) x) (reflect A s v)
   unfolding reflect minus
   AreCoordinates-reflect s p x l limit p_is x_is = record {
@@ -119,24 +111,26 @@ reflected-fits A list s p l small bound =
     (omega (arith, difference, small, coordinate-size A.rank s (at_letter list) l)) bound
 
 -- the code's list for a simple root
-pub AreCoordinates-simple_root : (A : IntegerMatrix) (s : ℕ) (list : List ℤ) → IsLetter A.rank s → A.rank ≤ 9
-    → list ≡ set (replicate 9 (pos 0)) (s - 1) (pos 1)
+pub AreCoordinates-simple_root : (A : IntegerMatrix) (s : ℕ) (list : List ℤ) → IsLetter A.rank s → A.rank ≤ MAX_RANK
+    → list ≡ set (replicate MAX_RANK (pos 0)) (s - 1) (pos 1)
     → AreCoordinates A list (simple_root s)
 AreCoordinates-simple_root A s list l limit e = record {
-  count = rw e (length-set (replicate 9 (pos 0)) (s - 1) (pos 1) ∙ length-replicate 9 (pos 0));
+  count = rw e (length-set (replicate MAX_RANK (pos 0)) (s - 1) (pos 1) ∙ length-replicate MAX_RANK (pos 0));
   each = λ i k. ⊎_elim (λ (f : i ≡ s). rw (e, f)
-      (at_letter-set_same (replicate 9 (pos 0)) s (pos 1) l.from_one (omega (arith, length-replicate 9 (pos 0), l.to_rank, limit))
+      (at_letter-set_same (replicate MAX_RANK (pos 0)) s (pos 1) l.from_one
+      (omega (arith, length-replicate MAX_RANK (pos 0), l.to_rank, limit))
       ∙ sym (simple_root-self s)))
-      (λ ne. rw e (at_letter-set_other (replicate 9 (pos 0)) s i (pos 1) l.from_one k.from_one ne ∙ zeros (i - 1)
+      (λ ne. rw e (at_letter-set_other (replicate MAX_RANK (pos 0)) s i (pos 1) l.from_one k.from_one ne ∙ zeros (i - 1)
       ∙ sym (simple_root-other s i ne))) (cases_eq i s);
-  past = λ k above. rw e (get_or-set_other (replicate 9 (pos 0)) (s - 1) k (pos 1) (pos 0)
+  past = λ k above. rw e (get_or-set_other (replicate MAX_RANK (pos 0)) (s - 1) k (pos 1) (pos 0)
       (λ f. omega (arith, f, l.from_one, l.to_rank, above)) ∙ zeros k);
 }
   where
-    zeros : (k : ℕ) → slice_index_or (replicate 9 (pos 0)) k (pos 0) ≡ pos 0
+    zeros : (k : ℕ) → slice_index_or (replicate MAX_RANK (pos 0)) k (pos 0) ≡ pos 0
     zeros k =
-        ⊎_elim (λ (low : k < 9). get_or-replicate 9 k (pos 0) (pos 0) low)
-        (λ (high : 9 ≤ k). get_or_past (replicate 9 (pos 0)) k (pos 0) (omega (arith, high, length-replicate 9 (pos 0)))) (cases_lt k 9)
+        ⊎_elim (λ (low : k < MAX_RANK). get_or-replicate MAX_RANK k (pos 0) (pos 0) low)
+        (λ (high : MAX_RANK ≤ k). get_or_past (replicate MAX_RANK (pos 0)) k (pos 0)
+        (omega (arith, high, length-replicate MAX_RANK (pos 0)))) (cases_lt k MAX_RANK)
 
 pub AreCoordinates-column : (A : IntegerMatrix) (w : List ℕ) (s : ℕ) (list : List ℤ) → AreCoordinates A list (act A w (simple_root s))
     → (i : ℕ) → IsLetter A.rank i
@@ -150,7 +144,8 @@ AreCoordinates-next A f xs x s list is = rw (reverse-map_push f xs x, act-cons A
 
 -- ---- a turn of the loop over the letters of w, the last one first: xs are the items so far, item is the next, f gives their letters
 
-module _ (x : CoxeterMatrix) (matrix : IsCoxeterMatrix x) (w : List ℕ) (word : IsWord x.rank w) (short : length w ≤ 63) (s : ℕ) {X : Type 0} (f : X → ℕ)
+module _ (x : CoxeterMatrix) (matrix : IsCoxeterMatrix x) (w : List ℕ) (word : IsWord x.rank w) (short : length w ≤ 63) (s : ℕ)
+    {X : Type 0} (f : X → ℕ)
     (xs : List X) (item : X) (turn : (length xs < length (reverse w)) × (f item ≡ get_or (reverse w) (length xs) (f item)))
     (list : List ℤ) (are : AreCoordinates (integer_matrix x) list (act (integer_matrix x) (reverse (map f xs)) (simple_root s))) where
   g : IsAdmissible (integer_matrix x)
@@ -165,8 +160,10 @@ module _ (x : CoxeterMatrix) (matrix : IsCoxeterMatrix x) (w : List ℕ) (word :
   pub image-fits : (p : ℤ) → nat_abs p ≤ 3 * size x.rank (at_letter list) → SFits w128 (at_letter list (f item) -ℤ p)
   image-fits p small = reflected-fits (integer_matrix x) list (f item) p image-letter small image-room
 
-  pub image-next : (p v : ℤ) → x.rank ≤ 9 → p ≡ sum_to x.rank (λ t. entry_of x (f item) t *ℤ at_letter list t) → v ≡ at_letter list (f item) -ℤ p
-      → AreCoordinates (integer_matrix x) (set list (f item - 1) v) (act (integer_matrix x) (reverse (map f (xs ++ item ∷ []))) (simple_root s))
+  pub image-next : (p v : ℤ) → x.rank ≤ MAX_RANK → p ≡ sum_to x.rank (λ t. entry_of x (f item) t *ℤ at_letter list t)
+      → v ≡ at_letter list (f item) -ℤ p
+      → AreCoordinates (integer_matrix x) (set list (f item - 1) v)
+      (act (integer_matrix x) (reverse (map f (xs ++ item ∷ []))) (simple_root s))
   image-next p v limit p_is v_is =
       AreCoordinates-next (integer_matrix x) f xs item s (set list (f item - 1) v)
       (AreCoordinates-reflect (integer_matrix x) list _ are (f item) p v image-letter limit

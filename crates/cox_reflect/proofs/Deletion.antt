@@ -1,5 +1,6 @@
 -- Exchange on either side, deletion, parity (Humphreys 5.8), and the law on s w t.
-use Rattle.std.proofs.Common.{◌%◌, ◌≡◌, ℕ, ◌+◌, ◌*◌, ◌≤◌, ◌<◌, List, [], ◌∷◌, ◌++◌, length, reverse, ◌⊎◌, refl, ap, sym, ◌∙◌, ⊎_elim, inl, inr, arith}
+use Rattle.std.proofs.Common.{◌%◌, ◌≡◌, ℕ, ◌+◌, ◌*◌, ◌≤◌, ◌<◌, List, [], ◌∷◌, ◌++◌, length, reverse, ◌⊎◌, refl, ap, sym, ◌∙◌}
+use Rattle.std.proofs.Common.{⊎_elim, inl, inr, arith}
 use Rattle.std.proofs.lemmas.Bool.{cases_lt}
 use Rattle.std.proofs.lemmas.List.{reverse-reverse}
 use Rattle.std.proofs.lemmas.List.Elements.{All-head, All-tail}
@@ -9,7 +10,7 @@ use Rattle.cox_base.specs.Element.{SameElement}
 use Rattle.cox_base.specs.ShortLex.{normal_form}
 use Rattle.cox_base.specs.Length.{word_length, IsReduced, IsLeftDescent, IsRightDescent}
 use Rattle.cox_reflect.specs.Exchange.{LeavesOneOut, LeavesTwoOut}
-use Rattle.cox_reflect.specs.Words.{reflection, IsWithoutOne, this_one, later_one}
+use Rattle.cox_reflect.specs.DerivedWords.{reflection, IsWithoutOne, this_one, later_one}
 use Rattle.cox_reflect.proofs.Elements.{act-same, same-sym, same-trans, same-cons, same-push, same-square, same-push_twice, same-drop_front}
 use Rattle.cox_reflect.proofs.Action.{act-cons, act-append, reverse-act}
 use Rattle.cox_reflect.specs.Action.{reflect, act}
@@ -86,7 +87,14 @@ module _ (A : IntegerMatrix) (g : IsAdmissible A) where
           → LeavesTwoOut A (s ∷ u) (s ∷ u)
       further rest k =
           let r = rest k
-          in record { between = s ∷ r.between; rest = s ∷ r.rest; first = later_one r.first; second = later_one r.second; same = same-cons A g s r.same }
+          in record {
+            between = s ∷ r.between;
+            rest = s ∷ r.rest;
+            first = later_one r.first;
+            second = later_one r.second;
+            same = same-cons
+                A g s r.same;
+          }
 
       here : length u ≤ word_length A u → LeavesTwoOut A (s ∷ u) (s ∷ u)
       here k =

@@ -1,6 +1,7 @@
 -- When two words name one element: exactly where they act alike on every vector. So `SameElement` is an equivalence and a congruence.
 -- The matrix of a word, a product of matrices, has the images of the simple roots as its columns.
-use Rattle.std.proofs.Common.{◌≡◌, ℕ, zero, suc, ◌<◌, List, [], ◌∷◌, ◌++◌, reverse, ℤ, pos, ◌*ℤ◌, refl, ap, sym, ◌∙◌, ⊎_elim, arith, subst, eq-eqb, ne_eqb}
+use Rattle.std.proofs.Common.{◌≡◌, ℕ, zero, suc, ◌<◌, List, [], ◌∷◌, ◌++◌, reverse, ℤ, pos, ◌*ℤ◌, refl, ap, sym, ◌∙◌, ⊎_elim}
+use Rattle.std.proofs.Common.{arith, subst, eq-eqb, ne_eqb}
 use Rattle.std.proofs.Math.Path.{fun_ext}
 use Rattle.std.proofs.lemmas.Int.{ints}
 use lib.IntN.{*ℤ_comm}
@@ -10,9 +11,10 @@ use Rattle.cox_base.specs.Matrix.{IsLetter}
 use Rattle.cox_base.specs.IntegerMatrix.{IntegerMatrix, IsAdmissible}
 use Rattle.cox_base.specs.Element.{sum_to, identity, product, generator_matrix, matrix, SameElement}
 use Rattle.cox_reflect.specs.Action.{Vector, simple_root, pairing, minus, reflect, act}
-use Rattle.cox_reflect.proofs.Ring.{linears, multiply_out}
+use Rattle.cox_lemmas.proofs.Ring.{linears, multiply_out}
 use Rattle.cox_reflect.proofs.Sums.{letter_cases, sum_to-same, minus-sum_to, sum_to-simple_root, simple_root-self, simple_root-other}
-use Rattle.cox_reflect.proofs.Action.{act-nil, act-cons, act-append, act-push, act-minus, act-outside, act-other_root, act-fixed, act-reverse, reverse-act, reflect-reflect, reflect-outside}
+use Rattle.cox_reflect.proofs.Action.{act-nil, act-cons, act-append, act-push, act-minus, act-outside, act-other_root, act-fixed}
+use Rattle.cox_reflect.proofs.Action.{act-reverse, reverse-act, reflect-reflect, reflect-outside}
 
 -- ---- the columns of the matrix of a word
 

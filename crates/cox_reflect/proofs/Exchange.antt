@@ -11,10 +11,11 @@ use Rattle.cox_base.specs.ShortLex.{normal_form}
 use Rattle.cox_base.specs.Length.{word_length}
 use Rattle.cox_reflect.specs.Action.{Vector, simple_root, pairing, minus, reflect, act, IsNonnegative, IsNonpositive}
 use Rattle.cox_reflect.specs.Exchange.{LeavesOneOut}
-use Rattle.cox_reflect.specs.Words.{reflection, IsWithoutOne, this_one, later_one}
-use Rattle.cox_reflect.proofs.Ring.{linears, multiply_out}
+use Rattle.cox_reflect.specs.DerivedWords.{reflection, IsWithoutOne, this_one, later_one}
+use Rattle.cox_lemmas.proofs.Ring.{linears, multiply_out}
 use Rattle.cox_reflect.proofs.Sums.{letter_cases, simple_root-self, simple_root-other}
-use Rattle.cox_reflect.proofs.Action.{act-nil, act-cons, act-single, act-append, act-push, act-minus, act-reverse, reverse-act, reflect-reflect, reflect-outside, reflect-simple_root, pairing-minus, pairing-simple_root}
+use Rattle.cox_reflect.proofs.Action.{act-nil, act-cons, act-single, act-append, act-push, act-minus, act-reverse, reverse-act}
+use Rattle.cox_reflect.proofs.Action.{reflect-reflect, reflect-outside, reflect-simple_root, pairing-minus, pairing-simple_root}
 use Rattle.cox_reflect.proofs.Elements.{same-act, act-same, roots-same, same-refl, same-sym, same-trans, same-cons, same-append}
 use Rattle.cox_reflect.proofs.Search.{normal_form-same, word_length-least, word_length-equal}
 use Rattle.cox_reflect.proofs.Lengths.{word_length-is}

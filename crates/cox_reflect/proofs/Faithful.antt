@@ -1,5 +1,6 @@
 -- The matrices are faithful (Humphreys 5.4): two words name one element exactly where the Coxeter relations lead from one to the other.
-use Rattle.std.proofs.Common.{◌≡◌, ℕ, zero, suc, ◌+◌, ◌<◌, Bool, true, false, not, cond, List, [], ◌∷◌, ◌++◌, length, ◌↔◌, refl, ap, sym, ◌∙◌, ⊎_elim, arith}
+use Rattle.std.proofs.Common.{◌≡◌, ℕ, zero, suc, ◌+◌, ◌<◌, Bool, true, false, not, cond, List, [], ◌∷◌, ◌++◌, length, ◌↔◌, refl}
+use Rattle.std.proofs.Common.{ap, sym, ◌∙◌, ⊎_elim, arith}
 use Rattle.std.proofs.lemmas.Bool.{cases_eq}
 use Rattle.std.proofs.lemmas.List.{length-append, append_assoc}
 use Rattle.std.proofs.lemmas.List.Elements.{All-head, All-tail, All-contains, Contains-push}
@@ -9,11 +10,14 @@ use Rattle.cox_base.specs.Element.{SameElement}
 use Rattle.cox_base.specs.ShortLex.{normal_form}
 use Rattle.cox_base.specs.Length.{word_length, IsReduced, IsRightDescent}
 use Rattle.cox_reflect.specs.Relations.{alternating_from, AreRelated, itself, turned, chained, joined, square, braided}
-use Rattle.cox_reflect.proofs.Elements.{same-refl, same-sym, same-trans, same-cons, same-push, same-append, same-equal, same-square, same-push_twice, same-drop_back}
+use Rattle.cox_reflect.proofs.Elements.{same-refl, same-sym, same-trans, same-cons, same-push, same-append, same-equal}
+use Rattle.cox_reflect.proofs.Elements.{same-square, same-push_twice, same-drop_back}
 use Rattle.cox_reflect.proofs.Search.{normal_form-same, word_length-equal, word_length-length}
-use Rattle.cox_reflect.proofs.Lengths.{word_length-is, IsReduced-front, IsReduced-same, IsReduced-normal_form, IsReduced-nil}
-use Rattle.cox_reflect.proofs.RankTwo.{is_even, alternating, alternating-last, length-alternating, TwoLetters, spread, braids, two_letters, pair_of, same-braid}
-use Rattle.cox_reflect.proofs.Positivity.{LastLetter, no_letter, last_letter, last_letter_of, Split, split, braid_end, spread_nonnegative, positive, IsWord-reduced}
+use Rattle.cox_reflect.proofs.Lengths.{word_length-is, IsReduced-prefix, IsReduced-same, IsReduced-normal_form, IsReduced-nil}
+use Rattle.cox_reflect.proofs.RankTwo.{is_even, alternating, alternating-last, length-alternating, TwoLetters, spread, braids}
+use Rattle.cox_reflect.proofs.RankTwo.{two_letters, pair_of, same-braid}
+use Rattle.cox_reflect.proofs.Positivity.{LastLetter, no_letter, last_letter, last_letter_of, Split, split, braid_end}
+use Rattle.cox_reflect.proofs.Positivity.{spread_nonnegative, positive, IsWord-reduced}
 use Rattle.cox_reflect.proofs.Roots.{no_descent}
 use Rattle.cox_reflect.proofs.Deletion.{left_length}
 
@@ -85,11 +89,11 @@ module _ (A : IntegerMatrix) (g : IsAdmissible A) where
       in let long : length (x ++ s ∷ []) ≡ length x + 1 = length-append x (s ∷ [])
       in let same : SameElement A x (p ++ alternating j s t) = same-drop_back A g (s ∷ [])
       (same-trans A g (same-sym A g e) (same-equal A g word))
-      in let front : IsReduced A x = IsReduced-front A g x (s ∷ []) hu
+      in let prefix : IsReduced A x = IsReduced-prefix A g x (s ∷ []) hu
       in let other : IsReduced A (p ++ alternating j s t)
-      = IsReduced-same A g (same-sym A g same) front
+      = IsReduced-same A g (same-sym A g same) prefix
       (omega (arith, size, long, length-append p (alternating j s t), length-alternating j s t))
-      in rw word (joined (known x (p ++ alternating j s t) (omega (arith, long)) front other same) (itself (s ∷ [])))
+      in rw word (joined (known x (p ++ alternating j s t) (omega (arith, long)) prefix other same) (itself (s ∷ [])))
 
   related_step : (x y : List ℕ) (s t : ℕ) → Known (length (x ++ s ∷ [])) → IsReduced A (x ++ s ∷ [])
       → IsReduced A (y ++ t ∷ []) → SameElement A (x ++ s ∷ []) (y ++ t ∷ [])
@@ -109,8 +113,8 @@ module _ (A : IntegerMatrix) (g : IsAdmissible A) where
       equal : s ≡ t → AreRelated A (x ++ s ∷ []) (y ++ t ∷ [])
       equal q =
           let same : SameElement A x y = same-drop_back A g (s ∷ []) (rw (← q) at e)
-          in rw (← q) (joined (known x y (omega (arith, length-append x (s ∷ []))) (IsReduced-front A g x (s ∷ []) hu)
-          (IsReduced-front A g y (t ∷ []) hv) same) (itself (s ∷ [])))
+          in rw (← q) (joined (known x y (omega (arith, length-append x (s ∷ []))) (IsReduced-prefix A g x (s ∷ []) hu)
+          (IsReduced-prefix A g y (t ∷ []) hv) same) (itself (s ∷ [])))
 
       descent : IsRightDescent A (x ++ s ∷ []) t
       descent =
@@ -129,14 +133,14 @@ module _ (A : IntegerMatrix) (g : IsAdmissible A) where
           → AreRelated A (x ++ s ∷ []) (y ++ t ∷ [])
       go r (spread hx hy) =
           absurd (no_descent A g (x ++ s ∷ []) t lt
-          (spread_nonnegative A g (x ++ s ∷ []) t s r lt ls hx hy (positive A g r.front t lt r.not_s)
-          (positive A g r.front s ls r.not_t)) descent)
+          (spread_nonnegative A g (x ++ s ∷ []) t s r lt ls hx hy (positive A g r.prefix t lt r.not_s)
+          (positive A g r.prefix s ls r.not_t)) descent)
       go r (braids zero pos le order) = absurd (omega (arith, pos))
       go r (braids (suc j) pos le order) =
           let b = braid_end A g (x ++ s ∷ []) t s (suc j) r le lt ls order
-          in chained (braid_side x s t j b.front known hu b.ends_t b.size)
-          (chained (joined (itself b.front) (related-braid t s lt ls order))
-          (turned (braid_side y t s j b.front (λ a c l. known a c (omega (arith, l, long))) hv (same-trans A g b.ends_s e)
+          in chained (braid_side x s t j b.prefix known hu b.ends_t b.size)
+          (chained (joined (itself b.prefix) (related-braid t s lt ls order))
+          (turned (braid_side y t s j b.prefix (λ a c l. known a c (omega (arith, l, long))) hv (same-trans A g b.ends_s e)
           (b.size ∙ long))))
 
       apart : (s ≡ t → ⊥) → AreRelated A (x ++ s ∷ []) (y ++ t ∷ [])

@@ -1,6 +1,7 @@
 -- Heights of the roots u^-1 e(t): how they change with a letter before u, how large they are, and that t is a left descent of u exactly
 -- where the height is negative.
-use Rattle.std.proofs.Common.{◌≡◌, ℕ, zero, suc, ◌+◌, ◌*◌, ◌^◌, ◌≤◌, ◌<◌, List, [], ◌∷◌, length, reverse, ℤ, pos, ◌-ℤ◌, ◌*ℤ◌, ◌≤ℤ◌, ◌<ℤ◌, nat_abs, refl, ap, sym, ◌∙◌, ⊎_elim, arith, lit<}
+use Rattle.std.proofs.Common.{◌≡◌, ℕ, zero, suc, ◌+◌, ◌*◌, ◌^◌, ◌≤◌, ◌<◌, List, [], ◌∷◌, length, reverse, ℤ, pos, ◌-ℤ◌, ◌*ℤ◌}
+use Rattle.std.proofs.Common.{◌≤ℤ◌, ◌<ℤ◌, nat_abs, refl, ap, sym, ◌∙◌, ⊎_elim, arith, lit<}
 use Rattle.std.proofs.Math.Nat.{pow-le-pow_right, mul-le-mul_left}
 use Rattle.std.proofs.lemmas.Bool.{cases_eq, cases_lt}
 use Rattle.std.proofs.lemmas.Int.{ints, by_lt_z, unsigned_abs-mul}
@@ -11,16 +12,20 @@ use Rattle.cox_base.specs.Element.{sum_to, matrix, SameElement}
 use Rattle.cox_base.specs.ShortLex.{normal_form}
 use Rattle.cox_base.specs.Length.{word_length, IsLeftDescent}
 use Rattle.cox_reflect.specs.Action.{Vector, simple_root, pairing, minus, reflect, act, IsNonpositive}
-use Rattle.cox_reflect.specs.Height.{at_letter, height, AreHeights, HasRoom}
-use Rattle.cox_reflect.proofs.Ring.{linears, multiply_out, one_times}
-use Rattle.cox_reflect.proofs.Sums.{letter_above, last_letter, letter_cases, sum_to-same, sum_to-simple_root, sum_to-other_root, simple_root-other}
+use Rattle.cox_reflect.specs.declared.heights.Heights.{Heights}
+use Rattle.cox_reflect.specs.RootHeight.{at_letter, height}
+use Rattle.cox_reflect.specs.Height.{AreHeights, CanPrepend}
+use Rattle.cox_lemmas.proofs.Ring.{linears, multiply_out, one_times}
+use Rattle.cox_reflect.proofs.Sums.{letter_above, last_letter, letter_cases, sum_to-same, sum_to-simple_root, sum_to-other_root}
+use Rattle.cox_reflect.proofs.Sums.{simple_root-other}
 use Rattle.cox_reflect.proofs.Action.{act-nil, act-push, act-minus, act-outside, pairing-simple_root}
 use Rattle.cox_reflect.proofs.Elements.{matrix-column, same-act, same-reverse, same-sym}
 use Rattle.cox_reflect.proofs.Search.{normal_form-same, word_length-length}
 use Rattle.cox_reflect.proofs.Lengths.{word_length-is, word_length-cons}
 use Rattle.cox_reflect.proofs.Deletion.{left_length}
 use Rattle.cox_reflect.proofs.Sizes.{entry-small}
-use Rattle.cox_reflect.proofs.Roots.{sign_of, SignOf, longer, shorter, root-not_zero, descent-nonpositive, left_descent_reverse, reverse_left_descent, left_descent-letter}
+use Rattle.cox_reflect.proofs.Roots.{sign_of, SignOf, longer, shorter, root-not_zero, descent-nonpositive, left_descent_reverse}
+use Rattle.cox_reflect.proofs.Roots.{reverse_left_descent, left_descent-letter}
 
 -- ---- sums
 
@@ -44,16 +49,16 @@ sum_to-vanishes : (n : ℕ) (v : Vector) → ((i : ℕ) → IsLetter n i → v i
     → v i ≡ pos 0
 unfolding sum_to
 sum_to-vanishes zero v h k i l = absurd (omega (arith, l.from_one, l.to_rank))
-sum_to-vanishes (suc n) v h k i l = ⊎_elim at_last (before (sum_to-vanishes n v front)) (cases_eq i (suc n))
+sum_to-vanishes (suc n) v h k i l = ⊎_elim at_last (before (sum_to-vanishes n v prefix)) (cases_eq i (suc n))
   where
-    front : (j : ℕ) → IsLetter n j → v j ≤ℤ pos 0
-    front j m = h j (letter_above n j m)
+    prefix : (j : ℕ) → IsLetter n j → v j ≤ℤ pos 0
+    prefix j m = h j (letter_above n j m)
 
     last : v (suc n) ≤ℤ pos 0
     last = h (suc n) (last_letter n)
 
     at_last : i ≡ suc n → v i ≡ pos 0
-    at_last e = let there : v (suc n) ≡ pos 0 = omega (arith, linears, k, last, sum_to-nonpositive n v front) in rw e there
+    at_last e = let there : v (suc n) ≡ pos 0 = omega (arith, linears, k, last, sum_to-nonpositive n v prefix) in rw e there
 
     before : (pos 0 ≤ℤ sum_to n v → (j : ℕ) → IsLetter n j → v j ≡ pos 0) → (i ≡ suc n → ⊥) → v i ≡ pos 0
     before rest ne = rest (omega (arith, linears, k, last)) i (record { from_one = l.from_one; to_rank = omega (arith, l.to_rank) })
@@ -120,6 +125,11 @@ either_bound x y i j h k l m n =
     ⊎_elim (λ (low : i < 63). let swapped : y + x < 2 ^ 127 = two_bounds y x j i k h m (omega (arith, low)) in omega (arith, swapped))
     (λ (high : 63 ≤ i). two_bounds x y i j h k l (omega (arith, high, n))) (cases_lt i 63)
 
+-- From u to su each height h(t) becomes h(t) - a(s,t) h(s): no number on the way there needs more than 128 bits.
+record HasRoom (A : IntegerMatrix) (s : ℕ) (heights : Heights) : Type 0 where
+  pub room : (t : ℕ) → IsLetter A.rank t → nat_abs (at_letter heights.values t) + nat_abs
+      (at_letter heights.values t -ℤ (A.entry s t *ℤ at_letter heights.values s)) < 2 ^ 127
+
 module _ (A : IntegerMatrix) (g : IsAdmissible A) where
   pub height-bound : (u : List ℕ) (t : ℕ) → nat_abs (height A u t) ≤ 4 ^ length u
   height-bound [] t =
@@ -134,49 +144,48 @@ module _ (A : IntegerMatrix) (g : IsAdmissible A) where
       rw (height-equal A g {u = u} (same-sym A g (normal_form-same A g u)) t, word_length-is A u) (height-bound (normal_form A u) t)
 
   -- From u to su there is room, where both elements have at most 63 letters.
-  pub HasRoom-lengths : (u : List ℕ) (s : ℕ) (heights : List ℤ) → IsLetter A.rank s → word_length A u ≤ 63 → word_length A (s ∷ u) ≤ 63
-      → AreHeights A u heights → HasRoom A s heights
-  HasRoom-lengths u s heights ls short next_short a = record { room = room }
+  CanPrepend-room : (s : ℕ) (heights : Heights) → IsLetter A.rank s → CanPrepend A s heights → HasRoom A s heights
+  CanPrepend-room s heights ls c = record { room = room }
     where
-      both : word_length A u + word_length A (s ∷ u) ≤ 125
-      both = ⊎_elim (λ longer. omega (arith, longer, short, next_short)) (λ shorter. omega (arith, shorter, short, next_short))
-          (left_length A g s u ls)
+      both : word_length A c.word + word_length A (s ∷ c.word) ≤ 125
+      both = ⊎_elim (λ longer. omega (arith, longer, c.short, c.next_short)) (λ shorter. omega (arith, shorter, c.short, c.next_short))
+          (left_length A g s c.word ls)
 
-      room : (t : ℕ) → IsLetter A.rank t → nat_abs (at_letter heights t) + nat_abs
-          (at_letter heights t -ℤ (A.entry s t *ℤ at_letter heights s)) < 2 ^ 127
+      room : (t : ℕ) → IsLetter A.rank t → nat_abs (at_letter heights.values t) + nat_abs
+          (at_letter heights.values t -ℤ (A.entry s t *ℤ at_letter heights.values s)) < 2 ^ 127
       room t l =
-          let next : nat_abs (height A u t -ℤ (A.entry s t *ℤ height A u s)) ≤ 4 ^ word_length A (s ∷ u) = rw (height-cons A g s u t) at
-          (height-bound_reduced (s ∷ u) t)
-          in rw (a.each t l, a.each s ls)
-          (either_bound (nat_abs (height A u t)) (nat_abs (height A u t -ℤ (A.entry s t *ℤ height A u s))) (word_length A u)
-          (word_length A (s ∷ u))
-          (height-bound_reduced u t) next short next_short both)
+          let next : nat_abs (height A c.word t -ℤ (A.entry s t *ℤ height A c.word s)) ≤ 4 ^ word_length A (s ∷ c.word)
+          = rw (height-cons A g s c.word t) at (height-bound_reduced (s ∷ c.word) t)
+          in rw (c.heights_of.each t l, c.heights_of.each s ls)
+          (either_bound (nat_abs (height A c.word t)) (nat_abs (height A c.word t -ℤ (A.entry s t *ℤ height A c.word s)))
+          (word_length A c.word) (word_length A (s ∷ c.word)) (height-bound_reduced c.word t) next c.short c.next_short both)
 
-  -- .. so from the heights of a word of at most 62 letters,
-  pub HasRoom-word : (u : List ℕ) (s : ℕ) (heights : List ℤ) → IsLetter A.rank s → length u ≤ 62 → AreHeights A u heights
-      → HasRoom A s heights
-  HasRoom-word u s heights ls short a =
-      let small = word_length-length A g u
-      in let next = word_length-cons A g s u in HasRoom-lengths u s heights ls (omega (arith, small, short))
-      (omega (arith, small, next, short)) a
+  -- the room for one number, which is the old one until its turn comes
+  pub room_at : (s t : ℕ) (heights : Heights) (x : ℤ) → IsLetter A.rank s → CanPrepend A s heights → x ≡ at_letter heights.values t
+      → IsLetter A.rank t → nat_abs x + nat_abs (x -ℤ (A.entry s t *ℤ at_letter heights.values s)) < 2 ^ 127
+  room_at s t heights x ls c is l = rw is ((CanPrepend-room s heights ls c).room t l)
 
-  -- .. and from those of an element of length at most 63 to a shorter one
-  pub HasRoom-descent : (u : List ℕ) (s : ℕ) (heights : List ℤ) → IsLeftDescent A u s → word_length A u ≤ 63 → AreHeights A u heights
-      → HasRoom A s heights
-  HasRoom-descent u s heights d short a = HasRoom-lengths u s heights (left_descent-letter A g u s d) short (omega (arith, d, short)) a
+  -- a letter may come before a word of at most 62 letters,
+  pub CanPrepend-word : (u : List ℕ) (s : ℕ) (heights : Heights) → length u ≤ 62 → AreHeights A u heights → CanPrepend A s heights
+  CanPrepend-word u s heights short a = record {
+    word = u;
+    heights_of = a;
+    short = omega (arith, word_length-length A g u, short);
+    next_short = omega (arith, word_length-length A g u, word_length-cons A g s u, short);
+  }
 
--- the room for one number
-pub room_at : (A : IntegerMatrix) (s t : ℕ) (heights old : List ℤ) (x : ℤ) → HasRoom A s heights → old ≡ heights → x ≡ at_letter old t
-    → IsLetter A.rank t
-    → nat_abs x + nat_abs (x -ℤ (A.entry s t *ℤ at_letter old s)) < 2 ^ 127
-room_at A s t heights old x h e is l = rw (is, e) (h.room t l)
+  -- and a left descent before a word of an element of at most 63
+  pub CanPrepend-descent : (u : List ℕ) (s : ℕ) (heights : Heights) → IsLeftDescent A u s → word_length A u ≤ 63 → AreHeights A u heights
+      → CanPrepend A s heights
+  CanPrepend-descent u s heights d short a = record { word = u; heights_of = a; short = short; next_short = omega (arith, d, short) }
 
 -- the new numbers are the heights of s u
-pub AreHeights-cons : (A : IntegerMatrix) (g : IsAdmissible A) (s : ℕ) (u : List ℕ) (heights old new : List ℤ) → old ≡ heights
-    → IsLetter A.rank s → AreHeights A u heights
-    → ((t : ℕ) → IsLetter A.rank t → at_letter new t ≡ at_letter old t -ℤ (A.entry s t *ℤ at_letter old s)) → AreHeights A (s ∷ u) new
-AreHeights-cons A g s u heights old new e ls a h = record {
-  each = λ t l. h t l ∙ rw (e, a.each t l, a.each s ls) (sym (height-cons A g s u t));
+pub AreHeights-cons : (A : IntegerMatrix) (g : IsAdmissible A) (s : ℕ) (u : List ℕ) (old new : Heights)
+    → IsLetter A.rank s → AreHeights A u old
+    → ((t : ℕ) → IsLetter A.rank t → at_letter new.values t ≡ at_letter old.values t -ℤ (A.entry s t *ℤ at_letter old.values s))
+    → AreHeights A (s ∷ u) new
+AreHeights-cons A g s u old new ls a h = record {
+  each = λ t l. h t l ∙ rw (a.each t l, a.each s ls) (sym (height-cons A g s u t));
 }
 
 -- ---- their signs
@@ -215,17 +224,17 @@ module _ (A : IntegerMatrix) (g : IsAdmissible A) where
       go (shorter e n) = reverse_left_descent A g u t (omega (arith, e))
 
   -- .. so a list of heights tells the descents
-  pub descent_from_heights : (u : List ℕ) (heights : List ℤ) (t : ℕ) → AreHeights A u heights → IsLetter A.rank t
-      → at_letter heights t <ℤ pos 0 → IsLeftDescent A u t
+  pub descent_from_heights : (u : List ℕ) (heights : Heights) (t : ℕ) → AreHeights A u heights → IsLetter A.rank t
+      → at_letter heights.values t <ℤ pos 0 → IsLeftDescent A u t
   descent_from_heights u heights t a l h = height-descent u t l (rw (a.each t l) at h)
 
-  pub heights_at_descent : (u : List ℕ) (heights : List ℤ) (t : ℕ) → AreHeights A u heights → IsLeftDescent A u t
-      → at_letter heights t <ℤ pos 0
+  pub heights_at_descent : (u : List ℕ) (heights : Heights) (t : ℕ) → AreHeights A u heights → IsLeftDescent A u t
+      → at_letter heights.values t <ℤ pos 0
   heights_at_descent u heights t a d = rw (a.each t (left_descent-letter A g u t d)) (descent-height u t d)
 
   -- where no letter below s has a negative height, no descent is below s
-  pub descents_from : (u : List ℕ) (heights : List ℤ) (s : ℕ) → AreHeights A u heights
-      → ((t : ℕ) → 1 ≤ t → t < s → pos 0 ≤ℤ at_letter heights t)
+  pub descents_from : (u : List ℕ) (heights : Heights) (s : ℕ) → AreHeights A u heights
+      → ((t : ℕ) → 1 ≤ t → t < s → pos 0 ≤ℤ at_letter heights.values t)
       → (t : ℕ) → IsLeftDescent A u t → s ≤ t
   descents_from u heights s a none t d =
       ⊎_elim (λ (below : t < s). absurd (omega (

@@ -61,8 +61,8 @@ module _ (A : IntegerMatrix) (g : IsAdmissible A) where
   pub IsReduced-nil : IsReduced A []
   IsReduced-nil = omega (arith, word_length-length A g [])
 
-  pub IsReduced-front : (u v : List ℕ) → IsReduced A (u ++ v) → IsReduced A u
-  IsReduced-front u v h =
+  pub IsReduced-prefix : (u v : List ℕ) → IsReduced A (u ++ v) → IsReduced A u
+  IsReduced-prefix u v h =
       omega (arith, h, word_length-append u v, word_length-length A g u, word_length-length A g v, length-append u v)
 
   pub IsReduced-back : (u v : List ℕ) → IsReduced A (u ++ v) → IsReduced A v

@@ -1,16 +1,18 @@
--- Lists of nine numbers, one a letter: a write at a letter, and the letters whose numbers are negative.
-use Rattle.std.proofs.Common.{◌≡◌, ℕ, zero, suc, ◌+◌, ◌-◌, ◌≤◌, ◌<◌, Bool, true, false, T, List, [], ◌∷◌, ◌++◌, length, set, filter, ℤ, pos, ◌<ℤ◌, int_lt, refl, ap, sym, ◌∙◌, ⊎_elim, arith, get_or-set_same, get_or-set_other}
+-- Lists of numbers, one for each letter: a write at a letter, and the letters whose numbers are negative.
+use Rattle.std.proofs.Common.{◌≡◌, ℕ, zero, suc, ◌+◌, ◌-◌, ◌≤◌, ◌<◌, Bool, true, false, T, List, [], ◌∷◌, ◌++◌, length, set}
+use Rattle.std.proofs.Common.{filter, ℤ, pos, ◌<ℤ◌, int_lt, refl, sym, ◌∙◌, ⊎_elim, arith, get_or-set_same, get_or-set_other}
 use Rattle.std.specs.List.{range_with_len}
 use Rattle.std.specs.Bool.{Decides}
 use Rattle.std.proofs.lemmas.Bool.{cases_eq, false_from_ne_true}
-use Rattle.std.proofs.lemmas.List.{append-nil}
-use Rattle.std.proofs.lemmas.List.Elements.{All-filter, All-cons, All-nil, filter-append}
-use Rattle.std.proofs.lemmas.List.FromFn.{length-range_with_len}
+use Rattle.std.proofs.lemmas.List.Elements.{All-filter, All-cons, All-nil}
+use Rattle.cox_lemmas.proofs.RangeFilters.{filter_range-yes, filter_range-no, length-filter_range}
 use Rattle.cox_base.specs.Matrix.{IsLetter, IsWord}
 use Rattle.cox_base.specs.IntegerMatrix.{IntegerMatrix, IsAdmissible}
 use Rattle.cox_base.specs.ShortLex.{letters}
 use Rattle.cox_base.specs.Length.{left_descents}
-use Rattle.cox_reflect.specs.Height.{at_letter, AreHeights}
+use Rattle.cox_reflect.specs.declared.heights.Heights.{Heights}
+use Rattle.cox_reflect.specs.RootHeight.{at_letter}
+use Rattle.cox_reflect.specs.Height.{AreHeights}
 use Rattle.cox_reflect.proofs.DescentLists.{left_descents-by}
 use Rattle.cox_reflect.proofs.HeightLemmas.{descent_from_heights, heights_at_descent}
 
@@ -48,31 +50,22 @@ Decides-int_lt x y = (λ e. record { lt = rw e tt }, λ h. true_from_T (int_lt x
 unfoldable pub negative_letters : List ℤ → ℕ → List ℕ
 negative_letters xs k = filter (λ t. int_lt (at_letter xs t) (pos 0)) (range_with_len 1 k)
 
-range-push : (a n : ℕ) → range_with_len a (suc n) ≡ range_with_len a n ++ (a + n) ∷ []
-range-push a zero = ap (λ (x : ℕ). x ∷ []) (omega arith)
-range-push a (suc n) = let e : a + 1 + n ≡ a + suc n = omega arith in ap (λ (xs : List ℕ). a ∷ xs) (rw e at (range-push (a + 1) n))
-
-negative_letters-push : (xs : List ℤ) (k : ℕ)
-    → negative_letters xs (suc k) ≡ negative_letters xs k ++ filter (λ t. int_lt (at_letter xs t) (pos 0)) (suc k ∷ [])
-unfolding negative_letters
-negative_letters-push xs k =
-    let e : 1 + k ≡ suc k = omega arith
-    in ap (filter (λ t. int_lt (at_letter xs t) (pos 0))) (rw e at (range-push 1 k))
-    ∙ filter-append (λ t. int_lt (at_letter xs t) (pos 0)) (range_with_len 1 k) (suc k ∷ [])
-
 pub negative_letters-none : (xs : List ℤ) → negative_letters xs 0 ≡ []
 unfolding negative_letters
 negative_letters-none xs = refl
 
 pub negative_letters-yes : (xs : List ℤ) (k s : ℕ) → s ≡ suc k → at_letter xs s <ℤ pos 0
-    → negative_letters xs (suc k) ≡ negative_letters xs k ++ s ∷ []
-negative_letters-yes xs k s e h = let test = (Decides-int_lt (at_letter xs s) (pos 0)).1 h in negative_letters-push xs k ∙ rw (← e, test)
+    → negative_letters xs s ≡ negative_letters xs k ++ s ∷ []
+unfolding negative_letters
+negative_letters-yes xs k s e h =
+    filter_range-yes (λ t. int_lt (at_letter xs t) (pos 0)) k s e ((Decides-int_lt (at_letter xs s) (pos 0)).1 h)
 
 pub negative_letters-no : (xs : List ℤ) (k s : ℕ) → s ≡ suc k → (at_letter xs s <ℤ pos 0 → ⊥)
-    → negative_letters xs (suc k) ≡ negative_letters xs k
+    → negative_letters xs s ≡ negative_letters xs k
+unfolding negative_letters
 negative_letters-no xs k s e h =
-    let test = false_from_ne_true (int_lt (at_letter xs s) (pos 0)) (λ t. h ((Decides-int_lt (at_letter xs s) (pos 0)).0 t))
-    in negative_letters-push xs k ∙ rw (← e, test) (append-nil (negative_letters xs k))
+    filter_range-no (λ t. int_lt (at_letter xs t) (pos 0)) k s e
+    (false_from_ne_true (int_lt (at_letter xs s) (pos 0)) (λ t. h ((Decides-int_lt (at_letter xs s) (pos 0)).0 t)))
 
 letters-All : (a n top : ℕ) → 1 ≤ a → a + n ≤ top + 1 → IsWord top (range_with_len a n)
 letters-All a zero top from to = All-nil (IsLetter top)
@@ -85,29 +78,16 @@ unfolding negative_letters
 IsWord-negative_letters xs k = All-filter (λ t. int_lt (at_letter xs t) (pos 0)) (IsLetter k) (range_with_len 1 k)
     (letters-All 1 k k (omega arith) (omega arith))
 
-length-filter_le : (p : ℕ → Bool) (xs : List ℕ) → length (filter p xs) ≤ length xs
-length-filter_le p [] = omega arith
-length-filter_le p (x ∷ xs) = go (p x) refl (length-filter_le p xs)
-  where
-    go : (b : Bool) → p x ≡ b → length (filter p xs) ≤ length xs → length (filter p (x ∷ xs)) ≤ length (x ∷ xs)
-    go true e rest = rw e (omega (arith, rest))
-    go false e rest = rw e (omega (arith, rest))
-
 pub length-negative_letters : (xs : List ℤ) (k : ℕ) → length (negative_letters xs k) ≤ k
 unfolding negative_letters
-length-negative_letters xs k = omega (
-  arith,
-  length-filter_le (λ t. int_lt (at_letter xs t) (pos 0))
-      (range_with_len 1 k),
-  length-range_with_len 1 k,
-)
+length-negative_letters xs k = length-filter_range (λ t. int_lt (at_letter xs t) (pos 0)) k
 
 -- the letters whose heights are negative are the left descents
-pub negative_letters-descents : (A : IntegerMatrix) (g : IsAdmissible A) (u : List ℕ) (heights : List ℤ) → AreHeights A u heights
-    → negative_letters heights A.rank ≡ left_descents A u
+pub negative_letters-descents : (A : IntegerMatrix) (g : IsAdmissible A) (u : List ℕ) (heights : Heights) → AreHeights A u heights
+    → negative_letters heights.values A.rank ≡ left_descents A u
 unfolding negative_letters letters
 negative_letters-descents A g u heights a =
-    sym (left_descents-by A u (λ t. int_lt (at_letter heights t) (pos 0)) (λ t l. (
-      λ h. descent_from_heights A g u heights t a l ((Decides-int_lt (at_letter heights t) (pos 0)).0 h),
-      λ d. (Decides-int_lt (at_letter heights t) (pos 0)).1 (heights_at_descent A g u heights t a d),
+    sym (left_descents-by A u (λ t. int_lt (at_letter heights.values t) (pos 0)) (λ t l. (
+      λ h. descent_from_heights A g u heights t a l ((Decides-int_lt (at_letter heights.values t) (pos 0)).0 h),
+      λ d. (Decides-int_lt (at_letter heights.values t) (pos 0)).1 (heights_at_descent A g u heights t a d),
     )))

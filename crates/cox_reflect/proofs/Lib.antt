@@ -1,5 +1,3 @@
--- the ring laws of the integers, and sets of them for the tactics
-pub mod Ring
 -- sums over the letters of the rank
 pub mod Sums
 -- the action of words on vectors: linear, and undone by the reversed word
@@ -46,12 +44,14 @@ pub mod RootSigns
 pub mod Removal
 -- for code: the lists of descents by a test of one's own, and the least descent
 pub mod DescentLists
--- heights of roots: their change with a letter in front, their size, and descents by their signs
+-- heights of roots: how a letter before the word changes them, their size, and descents by their signs
 pub mod HeightLemmas
 -- lists of numbers, one a letter: a write at a letter, and the letters whose numbers are negative
 pub mod LetterLists
 -- products and differences in 128 bits
 pub mod Computed
+-- two letters in turn, and their order where both shorten an element
+pub mod TwoDescents
 -- lengths and normal forms, read off by descents
 pub mod FormLemmas
 -- Bruhat order by lifting

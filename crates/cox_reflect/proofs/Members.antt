@@ -1,5 +1,6 @@
 -- What is in a list, what holds of each of its elements, and what `find` finds.
-use Rattle.std.proofs.Common.{◌≡◌, ℕ, zero, suc, ◌+◌, ◌≤◌, ◌<◌, Bool, true, false, List, [], ◌∷◌, ◌++◌, map, refl, ⊎_elim, arith, subst, Some, find}
+use Rattle.std.proofs.Common.{◌≡◌, ℕ, zero, suc, ◌+◌, ◌≤◌, ◌<◌, Bool, true, false, List, [], ◌∷◌, ◌++◌, map, refl, ⊎_elim, arith}
+use Rattle.std.proofs.Common.{subst, Some, find}
 use Rattle.std.proofs.lemmas.Bool.{cases_eq}
 use Rattle.std.proofs.lemmas.List.Folds.{find-append}
 use Rattle.std.specs.List.{range_with_len, flat_map}
@@ -100,6 +101,6 @@ Each-find {P = P} p x (more {x = y} {xs = xs} h a) e = go (p y) refl (Each-find 
     go true q rest = let f = rw q at e in let same : y ≡ x = cc in subst P same h
     go false q rest = rest (rw q at e)
 
--- what is found in a front is found in the whole
-pub find-front : {X : Type 0} (p : X → Bool) (xs ys : List X) (x : X) → find p xs ≡ Some x → find p (xs ++ ys) ≡ Some x
-find-front p xs ys x e = rw (find-append p xs ys, e)
+-- what is found in a prefix is found in the whole
+pub find-prefix : {X : Type 0} (p : X → Bool) (xs ys : List X) (x : X) → find p xs ≡ Some x → find p (xs ++ ys) ≡ Some x
+find-prefix p xs ys x e = rw (find-append p xs ys, e)

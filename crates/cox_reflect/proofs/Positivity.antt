@@ -1,7 +1,9 @@
 -- Positivity (Humphreys 5.4): u e(s) is nonnegative where l(us) >= l(u). A rank-two end is split off u, and what is left is shorter.
-use Rattle.std.proofs.Common.{◌≡◌, ℕ, zero, suc, ◌+◌, ◌≤◌, ◌<◌, Bool, true, false, not, cond, List, [], ◌∷◌, ◌++◌, length, ℤ, pos, ◌-ℤ◌, ◌*ℤ◌, neg_ℤ, ◌≤ℤ◌, ap, sym, ◌∙◌, ⊎_elim, arith}
+use Rattle.std.proofs.Common.{◌≡◌, ℕ, zero, suc, ◌+◌, ◌≤◌, ◌<◌, Bool, true, false, not, cond, List, [], ◌∷◌, ◌++◌, length, ℤ, pos}
+use Rattle.std.proofs.Common.{negsuc, ◌-ℤ◌, ◌*ℤ◌, neg_ℤ, ◌≤ℤ◌, ap, sym, ◌∙◌, ⊎_elim, arith}
 use Rattle.std.proofs.lemmas.Bool.{cases_eq, cases_lt}
 use lib.Signed.{le_z_yes}
+use Rattle.std.proofs.lemmas.Int.{ints}
 use Rattle.std.proofs.lemmas.List.{length-append, append_assoc}
 use Rattle.std.proofs.lemmas.List.Elements.{All-nil, All-cons, All-contains, Contains-push}
 use Rattle.cox_base.specs.Matrix.{IsLetter, IsWord}
@@ -10,13 +12,21 @@ use Rattle.cox_base.specs.Element.{SameElement}
 use Rattle.cox_base.specs.ShortLex.{normal_form}
 use Rattle.cox_base.specs.Length.{word_length, IsReduced}
 use Rattle.cox_reflect.specs.Action.{Vector, simple_root, minus, act, IsNonnegative}
-use Rattle.cox_reflect.proofs.Ring.{linears, multiply_out, neg_mul, product_nonnegative}
+use Rattle.cox_lemmas.proofs.Ring.{linears, multiply_out, neg_mul}
 use Rattle.cox_reflect.proofs.Sums.{letter_cases, simple_root-self, simple_root-other}
 use Rattle.cox_reflect.proofs.Action.{act-nil, act-append, act-minus}
-use Rattle.cox_reflect.proofs.Elements.{same-act, same-refl, same-sym, same-trans, same-equal, same-append, same-push, same-push_twice, same-square, same-outside}
+use Rattle.cox_reflect.proofs.Elements.{same-act, same-refl, same-sym, same-trans, same-equal, same-append, same-push}
+use Rattle.cox_reflect.proofs.Elements.{same-push_twice, same-square, same-outside}
 use Rattle.cox_reflect.proofs.Search.{normal_form-same, length-normal_form, word_length-least, word_length-equal, word_length-length}
-use Rattle.cox_reflect.proofs.Lengths.{word_length-is, IsReduced-front, IsReduced-same, IsReduced-tail, IsReduced-normal_form}
-use Rattle.cox_reflect.proofs.RankTwo.{is_even, alternating, alternating-suc, alternating-zero, alternating-last, alternating-ends, length-alternating, moved, shift, TwoLetters, spread, braids, two_letters, HasOrder-swap, pair_of, same-braid, act-alternating_root}
+use Rattle.cox_reflect.proofs.Lengths.{word_length-is, IsReduced-prefix, IsReduced-same, IsReduced-tail, IsReduced-normal_form}
+use Rattle.cox_reflect.proofs.RankTwo.{is_even, alternating, alternating-suc, alternating-zero, alternating-last}
+use Rattle.cox_reflect.proofs.RankTwo.{alternating-ends, length-alternating, moved, shift, TwoLetters, spread, braids}
+use Rattle.cox_reflect.proofs.RankTwo.{two_letters, HasOrder-swap, pair_of, same-braid, act-alternating_root}
+
+product_nonnegative : (a b : ℤ) → pos 0 ≤ℤ a → pos 0 ≤ℤ b → pos 0 ≤ℤ (a *ℤ b)
+product_nonnegative (pos a) (pos b) h k = omega (arith, ints)
+product_nonnegative (pos a) (negsuc b) h k = absurd k.le
+product_nonnegative (negsuc a) b h k = absurd h.le
 
 -- a word is empty, or has a last letter
 pub data LastLetter : List ℕ → Type 0 where
@@ -33,21 +43,21 @@ last_letter_of (s ∷ u) = go s u (last_letter_of u)
 
 -- u with its end in s and t split off: the alternating word of `count` letters that ends with t. Neither s nor t shortens what is left.
 pub record Split (A : IntegerMatrix) (u : List ℕ) (s t : ℕ) : Type 0 where
-  pub front : List ℕ
+  pub prefix : List ℕ
   pub count : ℕ
   pub some : 1 ≤ count
-  pub same : SameElement A (front ++ alternating count s t) u
-  pub size : length front + count ≡ length u
-  pub not_s : word_length A front ≤ word_length A (front ++ s ∷ [])
-  pub not_t : word_length A front ≤ word_length A (front ++ t ∷ [])
+  pub same : SameElement A (prefix ++ alternating count s t) u
+  pub size : length prefix + count ≡ length u
+  pub not_s : word_length A prefix ≤ word_length A (prefix ++ s ∷ [])
+  pub not_t : word_length A prefix ≤ word_length A (prefix ++ t ∷ [])
 
 -- u ends in an alternating word of m letters, as many as the relation of s and t has: so it has a word that ends with s and one
 -- that ends with t
 pub record BraidEnd (A : IntegerMatrix) (u : List ℕ) (s t m : ℕ) : Type 0 where
-  pub front : List ℕ
-  pub ends_t : SameElement A (front ++ alternating m s t) u
-  pub ends_s : SameElement A (front ++ alternating m t s) u
-  pub size : length front + m ≡ length u
+  pub prefix : List ℕ
+  pub ends_t : SameElement A (prefix ++ alternating m s t) u
+  pub ends_s : SameElement A (prefix ++ alternating m t s) u
+  pub size : length prefix + m ≡ length u
 
 combination_nonnegative : (x y a b : ℤ) → x ≤ℤ pos 1 → y ≤ℤ pos 0 → pos 0 ≤ℤ a → pos 0 ≤ℤ b
     → pos 0 ≤ℤ ((a -ℤ (x *ℤ a)) -ℤ (y *ℤ b))
@@ -87,8 +97,8 @@ module _ (A : IntegerMatrix) (g : IsAdmissible A) where
       in let long : length (v ++ alternating (suc j) s t) ≡ length v + suc j
       = length-append v (alternating (suc j) s t) ∙ ap (λ (n : ℕ). length v + n) (length-alternating (suc j) s t)
       in let reduced : IsReduced A (v ++ alternating (suc j) s t) = IsReduced-same A g e h (omega arith)
-      in let front : IsReduced A (v ++ r ∷ []) = IsReduced-front A g (v ++ r ∷ []) (alternating j s t) (rw word reduced)
-      in omega (arith, front, word_length-length A g v, length-append v (r ∷ []))
+      in let prefix : IsReduced A (v ++ r ∷ []) = IsReduced-prefix A g (v ++ r ∷ []) (alternating j s t) (rw word reduced)
+      in omega (arith, prefix, word_length-length A g v, length-append v (r ∷ []))
 
   -- one letter more is split off ..
   split_off : (v : List ℕ) (j : ℕ) (s t : ℕ)
@@ -104,7 +114,7 @@ module _ (A : IntegerMatrix) (g : IsAdmissible A) where
       → word_length A v ≤ word_length A (v ++ cond (is_even (suc j)) t s ∷ []) → Split A u s t
   split_stop u v j s t h e size k =
       let neither = both_letters (λ r. word_length A v ≤ word_length A (v ++ r ∷ [])) (is_even j) s t (not_first u v j s t h e size) k
-      in record { front = v; count = suc j; some = omega arith; same = e; size = size; not_s = neither.0; not_t = neither.1 }
+      in record { prefix = v; count = suc j; some = omega arith; same = e; size = size; not_s = neither.0; not_t = neither.1 }
 
   -- what is left is shorter by one letter
   split_size : (u v : List ℕ) (j : ℕ) (s t : ℕ) → IsReduced A u → SameElement A (v ++ alternating (suc j) s t) u
@@ -161,17 +171,17 @@ module _ (A : IntegerMatrix) (g : IsAdmissible A) where
       → BraidEnd A u s t m
   braid_end u s t m r l ls lt h =
       let a = alternating-ends r.count m s t l
-      in let whole : SameElement A ((r.front ++ a.0) ++ alternating m s t) u = rw
-      (append_assoc r.front a.0 (alternating m s t), ← a.1) r.same
+      in let whole : SameElement A ((r.prefix ++ a.0) ++ alternating m s t) u = rw
+      (append_assoc r.prefix a.0 (alternating m s t), ← a.1) r.same
       in record {
-        front = r.front ++ a.0;
+        prefix = r.prefix ++ a.0;
         ends_t = whole;
         ends_s =
-            same-trans A g (same-append A g (same-refl A g (r.front ++ a.0)) (same-braid A g t s lt ls (HasOrder-swap h))) whole;
+            same-trans A g (same-append A g (same-refl A g (r.prefix ++ a.0)) (same-braid A g t s lt ls (HasOrder-swap h))) whole;
         size = omega (
           arith,
           r.size,
-          length-append r.front a.0,
+          length-append r.prefix a.0,
           length-alternating r.count s t,
           length-alternating m s t,
           ap length a.1,
@@ -183,30 +193,30 @@ module _ (A : IntegerMatrix) (g : IsAdmissible A) where
   braid_shortens : (u : List ℕ) (s t m : ℕ) → 0 < m → BraidEnd A u s t m → word_length A (u ++ s ∷ []) < length u
   braid_shortens u s t zero l r = absurd (omega arith)
   braid_shortens u s t (suc j) l r =
-      let word : (r.front ++ alternating (suc j) t s) ++ s ∷ [] ≡ ((r.front ++ alternating j s t) ++ s ∷ []) ++ s ∷ []
-      = ap (λ (w : List ℕ). w ++ s ∷ []) (ap (λ (w : List ℕ). r.front ++ w) (alternating-last j t s)
-      ∙ sym (append_assoc r.front (alternating j s t) (s ∷ [])))
-      in let e : SameElement A (r.front ++ alternating j s t) (u ++ s ∷ [])
-      = same-trans A g (same-sym A g (same-push_twice A g (r.front ++ alternating j s t) s))
+      let word : (r.prefix ++ alternating (suc j) t s) ++ s ∷ [] ≡ ((r.prefix ++ alternating j s t) ++ s ∷ []) ++ s ∷ []
+      = ap (λ (w : List ℕ). w ++ s ∷ []) (ap (λ (w : List ℕ). r.prefix ++ w) (alternating-last j t s)
+      ∙ sym (append_assoc r.prefix (alternating j s t) (s ∷ [])))
+      in let e : SameElement A (r.prefix ++ alternating j s t) (u ++ s ∷ [])
+      = same-trans A g (same-sym A g (same-push_twice A g (r.prefix ++ alternating j s t) s))
       (same-trans A g (same-equal A g (sym word)) (same-push A g s r.ends_s))
-      in omega (arith, r.size, word_length-least A g e, length-append r.front (alternating j s t), length-alternating j s t)
+      in omega (arith, r.size, word_length-least A g e, length-append r.prefix (alternating j s t), length-alternating j s t)
 
   pub spread_nonnegative : (u : List ℕ) (s t : ℕ) (r : Split A u s t) → IsLetter A.rank s → IsLetter A.rank t
       → (shift r.count (pos 2) (A.entry t s) (A.entry s t) (A.entry t s)).0 ≤ℤ pos 1
       → (shift r.count (pos 2) (A.entry t s) (A.entry s t) (A.entry t s)).1 ≤ℤ pos 0
-      → IsNonnegative (act A r.front (simple_root s)) → IsNonnegative (act A r.front (simple_root t))
+      → IsNonnegative (act A r.prefix (simple_root s)) → IsNonnegative (act A r.prefix (simple_root t))
       → IsNonnegative (act A u (simple_root s))
   unfolding moved minus
   spread_nonnegative u s t r ls lt hx hy ps pt =
       let x : ℤ = (shift r.count (pos 2) (A.entry t s) (A.entry s t) (A.entry t s)).0
       in let y : ℤ = (shift r.count (pos 2) (A.entry t s) (A.entry s t) (A.entry t s)).1
-      in let e : act A u (simple_root s) ≡ minus (minus (act A r.front (simple_root s)) x (act A r.front (simple_root s))) y
-      (act A r.front (simple_root t))
-      = sym (same-act A g r.same (simple_root s)) ∙ act-append A r.front (alternating r.count s t) (simple_root s)
-      ∙ ap (act A r.front) (act-alternating_root A g r.count s t ls lt)
-      ∙ act-minus A r.front (minus (simple_root s) x (simple_root s)) y (simple_root t)
-      ∙ ap (λ (v : Vector). minus v y (act A r.front (simple_root t))) (act-minus A r.front (simple_root s) x (simple_root s))
-      in λ i. rw e (combination_nonnegative x y (act A r.front (simple_root s) i) (act A r.front (simple_root t) i) hx hy (ps i) (pt i))
+      in let e : act A u (simple_root s) ≡ minus (minus (act A r.prefix (simple_root s)) x (act A r.prefix (simple_root s))) y
+      (act A r.prefix (simple_root t))
+      = sym (same-act A g r.same (simple_root s)) ∙ act-append A r.prefix (alternating r.count s t) (simple_root s)
+      ∙ ap (act A r.prefix) (act-alternating_root A g r.count s t ls lt)
+      ∙ act-minus A r.prefix (minus (simple_root s) x (simple_root s)) y (simple_root t)
+      ∙ ap (λ (v : Vector). minus v y (act A r.prefix (simple_root t))) (act-minus A r.prefix (simple_root s) x (simple_root s))
+      in λ i. rw e (combination_nonnegative x y (act A r.prefix (simple_root s) i) (act A r.prefix (simple_root t) i) hx hy (ps i) (pt i))
 
   positive_step : (x : List ℕ) (t s : ℕ) → Shorter (length (x ++ t ∷ [])) → IsReduced A (x ++ t ∷ [])
       → IsLetter A.rank s
@@ -228,8 +238,8 @@ module _ (A : IntegerMatrix) (g : IsAdmissible A) where
 
       go : TwoLetters r.count (A.entry s t) (A.entry t s) → IsNonnegative (act A (x ++ t ∷ []) (simple_root s))
       go (spread hx hy) =
-          spread_nonnegative (x ++ t ∷ []) s t r ls lt hx hy (shorter r.front s (omega (arith, r.size, r.some)) ls r.not_s)
-          (shorter r.front t (omega (arith, r.size, r.some)) lt r.not_t)
+          spread_nonnegative (x ++ t ∷ []) s t r ls lt hx hy (shorter r.prefix s (omega (arith, r.size, r.some)) ls r.not_s)
+          (shorter r.prefix t (omega (arith, r.size, r.some)) lt r.not_t)
       go (braids m l k order) =
           absurd (omega (arith, longer, h, braid_shortens (x ++ t ∷ []) s t m l (braid_end (x ++ t ∷ []) s t m r k ls lt order)))
 

@@ -1,17 +1,21 @@
 -- Two letters s and t. An alternating word moves a vector by a combination of e(s) and e(t), so two coefficients tell all: the
 -- braid relations
 -- for m = 2, 3, 4 and 6, and that a shorter alternating word takes e(s) to a nonnegative combination of e(s) and e(t).
-use Rattle.std.proofs.Common.{◌≡◌, ℕ, zero, suc, ◌+◌, ◌-◌, ◌≤◌, ◌<◌, Bool, true, false, not, cond, List, [], ◌∷◌, ◌++◌, length, ℤ, pos, negsuc, ◌+ℤ◌, ◌-ℤ◌, ◌*ℤ◌, ◌≤ℤ◌, refl, ap, ap₂, sym, ◌∙◌, ⊎_elim, arith, lit<, zero-add, suc-add}
+use Rattle.std.proofs.Common.{◌≡◌, ℕ, zero, suc, ◌+◌, ◌-◌, ◌≤◌, ◌<◌, Bool, true, false, not, cond, List, [], ◌∷◌, ◌++◌, length, ℤ}
+use Rattle.std.proofs.Common.{pos, negsuc, ◌+ℤ◌, ◌-ℤ◌, ◌*ℤ◌, ◌≤ℤ◌, refl, ap, ap₂, sym, ◌∙◌, ⊎_elim, arith, lit<, zero-add}
+use Rattle.std.proofs.Common.{suc-add}
 use Rattle.std.proofs.Math.Path.{fun_ext}
 use Rattle.std.proofs.lemmas.Int.{ints}
 use Rattle.std.proofs.lemmas.Bool.{cases_order}
 use lib.IntN.{+ℤ_comm}
 use lib.Signed.{le_z_yes}
 use Rattle.cox_base.specs.Matrix.{IsLetter}
-use Rattle.cox_base.specs.IntegerMatrix.{IntegerMatrix, IsAdmissible, IsAdmissiblePair, two, three, four, back_four, six, back_six, infinity, HasOrder, order_two, order_three, order_four, order_back_four, order_six, order_back_six}
+use Rattle.cox_base.specs.IntegerMatrix.{IntegerMatrix, IsAdmissible, IsAdmissiblePair, two, three, four, back_four, six}
+use Rattle.cox_base.specs.IntegerMatrix.{back_six, infinity, HasOrder, order_two, order_three, order_four, order_back_four}
+use Rattle.cox_base.specs.IntegerMatrix.{order_six, order_back_six}
 use Rattle.cox_base.specs.Element.{SameElement}
 use Rattle.cox_reflect.specs.Action.{Vector, simple_root, pairing, minus, reflect, act}
-use Rattle.cox_reflect.proofs.Ring.{linears, multiply_out}
+use Rattle.cox_lemmas.proofs.Ring.{linears, multiply_out}
 use Rattle.cox_reflect.proofs.Action.{act-nil, act-cons, pairing-minus, pairing-simple_root}
 use Rattle.cox_reflect.proofs.Elements.{act-same}
 

@@ -41,8 +41,8 @@ module _ (A : IntegerMatrix) (g : IsAdmissible A) where
   pub left_letter_goes : (a b : List ℕ) (q s : ℕ) → IsLetter A.rank q → IsLetter A.rank s
       → act A (reverse a) (simple_root s) ≡ simple_root q → SameElement A (s ∷ a ++ q ∷ b) (a ++ b)
   left_letter_goes a b q s lq ls e =
-      let front : SameElement A (s ∷ a) (a ++ q ∷ [])
+      let prefix : SameElement A (s ∷ a) (a ++ q ∷ [])
       = rw (reverse-append (reverse a) (s ∷ []), reverse-cons q (reverse a), reverse-reverse a) at
       (same-reverse A g (equal_roots A g (reverse a) s q ls lq e))
-      in same-trans A g (same-append A g front (same-refl A g (q ∷ b)))
+      in same-trans A g (same-append A g prefix (same-refl A g (q ∷ b)))
       (rw (append_assoc a (q ∷ []) (q ∷ b)) (same-append A g (same-refl A g a) (same-square A g q b)))

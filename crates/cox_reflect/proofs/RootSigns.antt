@@ -1,5 +1,6 @@
 -- The signs of roots, stated of the columns of the matrices of words.
-use Rattle.std.proofs.Common.{ℤ, ◌≤ℤ◌, zero, suc, ◌≡◌, ℕ, ◌<◌, List, [], ◌∷◌, ◌++◌, reverse, ◌⊎◌, ◌↔◌, pos, ◌<ℤ◌, sym, ◌∙◌, ⊎_elim, inl, inr, arith, subst}
+use Rattle.std.proofs.Common.{ℤ, ◌≤ℤ◌, zero, suc, ◌≡◌, ℕ, ◌<◌, List, [], ◌∷◌, ◌++◌, reverse, ◌⊎◌, ◌↔◌, pos, ◌<ℤ◌, sym, ◌∙◌}
+use Rattle.std.proofs.Common.{⊎_elim, inl, inr, arith, subst}
 use Rattle.std.proofs.Math.Path.{fun_ext}
 use Rattle.std.proofs.lemmas.Bool.{cases_eq}
 use Rattle.std.proofs.lemmas.Int.{by_lt_z}
@@ -10,15 +11,16 @@ use Rattle.cox_base.specs.Element.{matrix, SameElement}
 use Rattle.cox_base.specs.Length.{word_length, IsLeftDescent, IsRightDescent}
 use Rattle.cox_reflect.specs.Action.{simple_root, act, IsNonnegative, IsNonpositive}
 use Rattle.cox_reflect.specs.Root.{IsNonnegativeRoot, IsNonpositiveRoot, IsZeroRoot}
-use Rattle.cox_reflect.proofs.Ring.{linears}
+use Rattle.cox_lemmas.proofs.Ring.{linears}
 use Rattle.cox_reflect.proofs.Sums.{letter_cases, letter_above, last_letter, simple_root-other}
 use Rattle.cox_reflect.proofs.Action.{act-outside}
 use Rattle.cox_reflect.proofs.Elements.{matrix-column}
 use Rattle.cox_reflect.proofs.Lengths.{word_length-cons_reverse, word_length-reverse}
 use Rattle.cox_reflect.proofs.Positivity.{simple_root-nonnegative}
-use Rattle.cox_reflect.specs.Words.{reflection}
+use Rattle.cox_reflect.specs.DerivedWords.{reflection}
 use Rattle.cox_reflect.proofs.Exchange.{equal_root_reflections}
-use Rattle.cox_reflect.proofs.Roots.{SignOf, longer, shorter, sign_of, root_sign, root-not_zero, root-apart, left_descent_reverse, reverse_left_descent}
+use Rattle.cox_reflect.proofs.Roots.{SignOf, longer, shorter, sign_of, root_sign, root-not_zero, root-apart, left_descent_reverse}
+use Rattle.cox_reflect.proofs.Roots.{reverse_left_descent}
 
 -- of numbers that are at most 0 and not all 0 one is negative
 some_negative : (n : ℕ) (f : ℕ → ℤ) → ((i : ℕ) → IsLetter n i → f i ≤ℤ pos 0) → (((i : ℕ) → IsLetter n i → f i ≡ pos 0) → ⊥)
@@ -131,7 +133,8 @@ module _ (A : IntegerMatrix) (g : IsAdmissible A) where
   pub descent_by_coordinate : (w : List ℕ) (s : ℕ) → IsLetter A.rank s
       → IsRightDescent A w s ↔ ((i : ℕ) × IsLetter A.rank i × (matrix A w i s <ℤ pos 0))
   descent_by_coordinate w s l = (
-    λ d. some_negative A.rank (λ i. matrix A w i s) (((shorter-root w s l).0 d).coordinate) (λ zeros. no_zero_root w s l (record { coordinate = zeros })),
+    λ d. some_negative A.rank (λ i. matrix A w i s) (((shorter-root w s l).0 d).coordinate)
+        (λ zeros. no_zero_root w s l (record { coordinate = zeros })),
     λ r. descent_coordinate w s r.0 l r.1 r.2,
   )
 

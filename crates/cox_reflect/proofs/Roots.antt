@@ -1,21 +1,32 @@
 -- Roots u e(s): their signs tell which letters shorten u, and only e(s) changes its sign under s.
-use Rattle.std.proofs.Common.{◌≡◌, ℕ, ◌+◌, ◌≤◌, ◌<◌, List, [], ◌∷◌, ◌++◌, reverse, ◌⊎◌, pos, ◌-ℤ◌, ◌*ℤ◌, neg_ℤ, ◌≤ℤ◌, ◌<ℤ◌, ap, sym, ◌∙◌, ⊎_elim, inl, inr, arith}
+use Rattle.std.proofs.Common.{◌≡◌, ℕ, zero, suc, ◌+◌, ◌≤◌, ◌<◌, List, [], ◌∷◌, ◌++◌, reverse, ◌⊎◌, ℤ, pos, negsuc, ◌-ℤ◌, ◌*ℤ◌}
+use Rattle.std.proofs.Common.{neg_ℤ, ◌≤ℤ◌, ◌<ℤ◌, refl, ap, sym, ◌∙◌, ⊎_elim, inl, inr, arith}
 use Rattle.std.proofs.Math.Path.{fun_ext}
 use Rattle.std.proofs.lemmas.Bool.{cases_eq, cases_lt}
 use Rattle.std.proofs.lemmas.Int.{ints}
 use Rattle.std.proofs.lemmas.List.{append-nil}
+use borrow.Author.Differences.{up}
 use Rattle.cox_base.specs.Matrix.{IsLetter}
 use Rattle.cox_base.specs.IntegerMatrix.{IntegerMatrix, IsAdmissible}
 use Rattle.cox_base.specs.Element.{SameElement}
 use Rattle.cox_base.specs.Length.{word_length, IsLeftDescent, IsRightDescent}
 use Rattle.cox_reflect.specs.Action.{Vector, simple_root, minus, reflect, act, IsNonnegative, IsNonpositive}
-use Rattle.cox_reflect.proofs.Ring.{linears, factor-one}
+use Rattle.cox_lemmas.proofs.Ring.{linears, zero_times, times_zero}
 use Rattle.cox_reflect.proofs.Sums.{letter_cases, simple_root-self, simple_root-other}
 use Rattle.cox_reflect.proofs.Action.{act-push, act-minus, act-reverse, act-fixed, reflect-simple_root, reflect-other, act-other_root}
 use Rattle.cox_reflect.proofs.Elements.{same-refl, same-append, same-outside, same-push_twice}
 use Rattle.cox_reflect.proofs.Search.{word_length-equal}
 use Rattle.cox_reflect.proofs.Lengths.{word_length-push, push-word_length, word_length-reverse, word_length-cons_reverse}
 use Rattle.cox_reflect.proofs.Positivity.{positive, simple_root-nonnegative}
+
+-- a nonnegative factor of 1 is 1
+factor-one : (c d : ℤ) → pos 0 ≤ℤ c → c *ℤ d ≡ pos 1 → c ≡ pos 1
+factor-one (pos zero) d h e = absurd (omega (arith, linears, zero_times d, e))
+factor-one (pos (suc zero)) d h e = refl
+factor-one (pos (suc (suc c))) (pos zero) h e = absurd (omega (arith, linears, times_zero (pos (suc (suc c))), e))
+factor-one (pos (suc (suc c))) (pos (suc d)) h e = absurd (omega (arith, ints, ap up e))
+factor-one (pos (suc (suc c))) (negsuc d) h e = absurd (omega (arith, ints, e))
+factor-one (negsuc c) d h e = absurd h.le
 
 -- -v
 unfoldable pub negated : Vector → Vector

@@ -1,5 +1,6 @@
 -- The normal form, found by search: it names the element, no word of the element is shorter, and it depends on the element alone.
-use Rattle.std.proofs.Common.{◌↔◌, ◌≡◌, ℕ, zero, suc, ◌≤◌, ◌<◌, Bool, true, List, [], ◌∷◌, ◌++◌, map, length, refl, ap, sym, ◌∙◌, ⊎_elim, arith, subst, Some, find}
+use Rattle.std.proofs.Common.{◌↔◌, ◌≡◌, ℕ, zero, suc, ◌≤◌, ◌<◌, Bool, true, List, [], ◌∷◌, ◌++◌, map, length, refl, ap, sym, ◌∙◌}
+use Rattle.std.proofs.Common.{⊎_elim, arith, subst, Some, find}
 use Rattle.std.proofs.Math.Path.{fun_ext}
 use Rattle.std.proofs.lemmas.Bool.{cases_eq, cases_lt, and_parts, and_from}
 use Rattle.std.proofs.lemmas.Bool.Decides.{Decides-int_eq}
@@ -14,7 +15,9 @@ use Rattle.cox_reflect.proofs.Sums.{letter_above, last_letter, letter_cases}
 use Rattle.cox_base.specs.Length.{word_length}
 use Rattle.std.specs.Bool.{one_answer}
 use Rattle.cox_reflect.proofs.Elements.{same-refl, same-equal, same-sym, same-trans, same-cons, same-outside}
-use Rattle.cox_reflect.proofs.Members.{In, here, Each, none, more, In-append_left, In-append_right, In-map, In-flat_map, In-range, Each-append, Each-map, Each-flat_map, Each-weaker, Each-range, Each-find, find-passes, find-in, find-front}
+use Rattle.cox_reflect.proofs.Members.{In, here, Each, none, more, In-append_left, In-append_right, In-map, In-flat_map, In-range}
+use Rattle.cox_reflect.proofs.Members.{Each-append, Each-map, Each-flat_map, Each-weaker, Each-range, Each-find, find-passes}
+use Rattle.cox_reflect.proofs.Members.{find-in, find-prefix}
 
 each_letter-out : (n : ℕ) (test : ℕ → Bool) → each_letter n test ≡ true → (t : ℕ) → IsLetter n t → test t ≡ true
 unfolding each_letter
@@ -26,7 +29,7 @@ each_letter-out (suc n) test e t l =
     at f = rw f (and_parts (each_letter n test) (test (suc n)) e).1
 
     before : (IsLetter n t → test t ≡ true) → (t ≡ suc n → ⊥) → test t ≡ true
-    before front ne = front (record { from_one = l.from_one; to_rank = omega (arith, l.to_rank) })
+    before prefix ne = prefix (record { from_one = l.from_one; to_rank = omega (arith, l.to_rank) })
 
 each_letter-in : (n : ℕ) (test : ℕ → Bool) → ((t : ℕ) → IsLetter n t → test t ≡ true) → each_letter n test ≡ true
 unfolding each_letter
@@ -85,19 +88,19 @@ In-words_of_length n (s ∷ w) h =
     in In-flat_map (λ s. map (λ w. s ∷ w) (words_of_length n (length w))) (In-range 1 n s l.from_one (omega (arith, l.to_rank)))
     (In-map (λ w. s ∷ w) (In-words_of_length n w (All-tail (IsLetter n) s w h)))
 
--- the shorter list is a front of the longer
-words_up_to-front : (n j k : ℕ) → j ≤ k → (rest : List (List ℕ)) × (words_up_to n k ≡ words_up_to n j ++ rest)
+-- the shorter list is a prefix of the longer
+words_up_to-prefix : (n j k : ℕ) → j ≤ k → (rest : List (List ℕ)) × (words_up_to n k ≡ words_up_to n j ++ rest)
 unfolding words_up_to
-words_up_to-front n j zero l = ([], let e : j ≡ 0 = omega arith in rw e (sym (append-nil (words_up_to n 0))))
-words_up_to-front n j (suc k) l = ⊎_elim last (before (words_up_to-front n j k)) (cases_eq j (suc k))
+words_up_to-prefix n j zero l = ([], let e : j ≡ 0 = omega arith in rw e (sym (append-nil (words_up_to n 0))))
+words_up_to-prefix n j (suc k) l = ⊎_elim last (before (words_up_to-prefix n j k)) (cases_eq j (suc k))
   where
     last : j ≡ suc k → (rest : List (List ℕ)) × (words_up_to n (suc k) ≡ words_up_to n j ++ rest)
     last e = ([], rw e (sym (append-nil (words_up_to n (suc k)))))
 
     before : (j ≤ k → (rest : List (List ℕ)) × (words_up_to n k ≡ words_up_to n j ++ rest)) → (j ≡ suc k → ⊥)
         → (rest : List (List ℕ)) × (words_up_to n (suc k) ≡ words_up_to n j ++ rest)
-    before front ne =
-        let f = front (omega arith) in (
+    before prefix ne =
+        let f = prefix (omega arith) in (
           f.0 ++ words_of_length n (suc k),
           rw f.1 (append_assoc (words_up_to n j) f.0 (words_of_length n (suc k))),
         )
@@ -109,7 +112,7 @@ In-words_up_to_its_length n (s ∷ w) h = In-append_right (words_up_to n (length
 
 pub In-words_up_to : (n k : ℕ) (w : List ℕ) → IsWord n w → length w ≤ k → In w (words_up_to n k)
 In-words_up_to n k w h l =
-    let f = words_up_to-front n (length w) k l
+    let f = words_up_to-prefix n (length w) k l
     in subst (In w) (sym f.1) (In-append_left f.0 (In-words_up_to_its_length n w h))
 
 -- ---- a word without its letters outside the rank
@@ -185,9 +188,9 @@ module _ (A : IntegerMatrix) (g : IsAdmissible A) where
   find-shorter : (u : List ℕ) (j : ℕ) (y : List ℕ) → j ≤ length u → find (test_of A u) (words_up_to A.rank j) ≡ Some y
       → normal_form A u ≡ y
   find-shorter u j y l e =
-      let front = words_up_to-front A.rank j (length u) l
-      in let whole : find (test_of A u) (words_up_to A.rank (length u)) ≡ Some y = rw front.1
-      (find-front (test_of A u) (words_up_to A.rank j) front.0 y e)
+      let prefix = words_up_to-prefix A.rank j (length u) l
+      in let whole : find (test_of A u) (words_up_to A.rank (length u)) ≡ Some y = rw prefix.1
+      (find-prefix (test_of A u) (words_up_to A.rank j) prefix.0 y e)
       in normal_form-first u (record { first = y; is = whole })
 
   -- .. no word of the element is shorter ..

@@ -1,5 +1,7 @@
 -- The ShortLex order: the list that is searched is sorted, so the normal form is the first word of its element, and the only such word.
-use Rattle.std.proofs.Common.{◌≡◌, ℕ, zero, suc, ◌+◌, ◌≤◌, ◌<◌, Bool, true, false, List, [], ◌∷◌, ◌++◌, map, length, ◌⊎◌, inl, inr, refl, ap, sym, ◌∙◌, ⊎_elim, arith, subst, Some, find, Less, Equal, Greater, nat_cmp, lt-ltb, le-ltb, eq-eqb, ne_eqb}
+use Rattle.std.proofs.Common.{◌≡◌, ℕ, zero, suc, ◌+◌, ◌≤◌, ◌<◌, Bool, true, false, List, [], ◌∷◌, ◌++◌, map, length, ◌⊎◌, inl}
+use Rattle.std.proofs.Common.{inr, refl, ap, sym, ◌∙◌, ⊎_elim, arith, subst, Some, find, Less, Equal, Greater, nat_cmp, lt-ltb}
+use Rattle.std.proofs.Common.{le-ltb, eq-eqb, ne_eqb}
 use Rattle.std.proofs.lemmas.Bool.{cases_lt, cases_order}
 use Rattle.std.specs.Cmp.Lexicographic.{slice_cmp}
 use Rattle.std.specs.List.{range_with_len, flat_map}
@@ -9,8 +11,11 @@ use Rattle.cox_base.specs.Element.{SameElement}
 use Rattle.cox_base.specs.ShortLex.{letters, words_of_length, words_up_to, normal_form, shortlex_cmp}
 use Rattle.cox_reflect.proofs.Lengths.{word_length-is}
 use Rattle.cox_reflect.proofs.Positivity.{IsWord-reduced}
-use Rattle.cox_reflect.proofs.Search.{word_length-equal, word_length-length, Each-words_of_length, Each-words_up_to, In-words_up_to, test_of, same-passes, found, normal_form-first, normal_form-same, length-normal_form}
-use Rattle.cox_reflect.proofs.Members.{In, here, there, Each, none, more, Each-append, Each-from, Each-flat_map, Each-map, Each-weaker, Each-range, Each-in}
+use Rattle.cox_reflect.proofs.Search.{word_length-equal, word_length-length, Each-words_of_length, Each-words_up_to}
+use Rattle.cox_reflect.proofs.Search.{In-words_up_to, test_of, same-passes, found, normal_form-first, normal_form-same}
+use Rattle.cox_reflect.proofs.Search.{length-normal_form}
+use Rattle.cox_reflect.proofs.Members.{In, here, there, Each, none, more, Each-append, Each-from, Each-flat_map, Each-map}
+use Rattle.cox_reflect.proofs.Members.{Each-weaker, Each-range, Each-in}
 
 -- ---- the order
 

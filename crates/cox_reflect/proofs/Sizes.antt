@@ -1,11 +1,13 @@
 -- How large coordinates get: a letter multiplies the sum of their absolute values by 4 at most.
-use Rattle.std.proofs.Common.{◌≡◌, ℕ, zero, suc, ◌+◌, ◌*◌, ◌^◌, ◌≤◌, ◌<◌, List, [], ◌∷◌, length, ℤ, ◌-ℤ◌, ◌*ℤ◌, nat_abs, refl, sym, ⊎_elim, arith, lit≤, pow-suc, mul-le-mul_right}
+use Rattle.std.proofs.Common.{◌≡◌, ℕ, zero, suc, ◌+◌, ◌*◌, ◌^◌, ◌≤◌, ◌<◌, List, [], ◌∷◌, length, ℤ, ◌-ℤ◌, ◌*ℤ◌, nat_abs, refl}
+use Rattle.std.proofs.Common.{sym, ⊎_elim, arith, lit≤, pow-suc, mul-le-mul_right}
 use Rattle.std.proofs.Math.Nat.{pow-le-pow_right}
 use Rattle.std.proofs.Common.{lit<}
 use Rattle.std.proofs.lemmas.Bool.{cases_eq}
 use Rattle.std.proofs.lemmas.Int.{ints, unsigned_abs-mul}
 use Rattle.cox_base.specs.Matrix.{IsLetter}
-use Rattle.cox_base.specs.IntegerMatrix.{IntegerMatrix, IsAdmissible, IsAdmissiblePair, two, three, four, back_four, six, back_six, infinity}
+use Rattle.cox_base.specs.IntegerMatrix.{IntegerMatrix, IsAdmissible, IsAdmissiblePair, two, three, four, back_four, six}
+use Rattle.cox_base.specs.IntegerMatrix.{back_six, infinity}
 use Rattle.cox_base.specs.Element.{sum_to}
 use Rattle.cox_reflect.specs.Action.{Vector, simple_root, pairing, minus, reflect, act, size}
 use Rattle.cox_reflect.proofs.Sums.{letter_cases, simple_root-self, simple_root-other}
@@ -22,17 +24,17 @@ coordinate-size (suc n) i v l = ⊎_elim last (before (coordinate-size n i v)) (
 
     before : (IsLetter n i → nat_abs (v i) ≤ size n v) → (i ≡ suc n → ⊥)
         → nat_abs (v i) ≤ size n v + nat_abs (v (suc n))
-    before front ne =
-        let small = front (record { from_one = l.from_one; to_rank = omega (arith, l.to_rank) }) in omega (arith, small)
+    before prefix ne =
+        let small = prefix (record { from_one = l.from_one; to_rank = omega (arith, l.to_rank) }) in omega (arith, small)
 
-pub size-front : (k n : ℕ) (v : Vector) → k ≤ n → size k v ≤ size n v
+pub size-prefix : (k n : ℕ) (v : Vector) → k ≤ n → size k v ≤ size n v
 unfolding size
-size-front k zero v l = let e : k ≡ 0 = omega arith in rw e (omega arith)
-size-front k (suc n) v l =
-    ⊎_elim (λ (e : k ≡ suc n). rw e (omega arith)) (before (size-front k n v)) (cases_eq k (suc n))
+size-prefix k zero v l = let e : k ≡ 0 = omega arith in rw e (omega arith)
+size-prefix k (suc n) v l =
+    ⊎_elim (λ (e : k ≡ suc n). rw e (omega arith)) (before (size-prefix k n v)) (cases_eq k (suc n))
   where
     before : (k ≤ n → size k v ≤ size n v) → (k ≡ suc n → ⊥) → size k v ≤ size n v + nat_abs (v (suc n))
-    before front ne = let small = front (omega arith) in omega (arith, small)
+    before prefix ne = let small = prefix (omega arith) in omega (arith, small)
 
 minus-other : (s i : ℕ) (v : Vector) (c : ℤ) → (i ≡ s → ⊥) → minus v c (simple_root s) i ≡ v i
 unfolding minus
@@ -54,7 +56,8 @@ unfolding size
 size-minus zero s v c = omega arith
 size-minus (suc n) s v c = ⊎_elim last (before (size-minus n s v c)) (cases_eq s (suc n))
   where
-    at_last : size n (minus v c (simple_root (suc n))) + nat_abs (minus v c (simple_root (suc n)) (suc n)) ≤ size n v + nat_abs (v (suc n)) + nat_abs c
+    at_last : size n (minus v c (simple_root (suc n))) + nat_abs (minus v c (simple_root (suc n)) (suc n)) ≤ size n v + nat_abs
+        (v (suc n)) + nat_abs c
     at_last = rw (size-below n (suc n) v c (omega arith), minus-self (suc n) v c) (omega (arith, ints))
 
     last : s ≡ suc n
@@ -63,7 +66,7 @@ size-minus (suc n) s v c = ⊎_elim last (before (size-minus n s v c)) (cases_eq
 
     before : size n (minus v c (simple_root s)) ≤ size n v + nat_abs c → (s ≡ suc n → ⊥)
         → size n (minus v c (simple_root s)) + nat_abs (minus v c (simple_root s) (suc n)) ≤ size n v + nat_abs (v (suc n)) + nat_abs c
-    before front ne = rw (minus-other s (suc n) v c (λ e. ne (sym e))) (omega (arith, front))
+    before prefix ne = rw (minus-other s (suc n) v c (λ e. ne (sym e))) (omega (arith, prefix))
 
 size-simple_root_below : (n s : ℕ) → n < s → size n (simple_root s) ≡ 0
 unfolding size
@@ -84,7 +87,7 @@ size-simple_root (suc n) s = ⊎_elim last (before (size-simple_root n s)) (case
     last e = rw e at_last
 
     before : size n (simple_root s) ≤ 1 → (s ≡ suc n → ⊥) → size n (simple_root s) + nat_abs (simple_root s (suc n)) ≤ 1
-    before front ne = rw (simple_root-other s (suc n) (λ e. ne (sym e))) (omega (arith, front))
+    before prefix ne = rw (simple_root-other s (suc n) (λ e. ne (sym e))) (omega (arith, prefix))
 
 pair-small : {a b : ℤ} → IsAdmissiblePair a b → nat_abs a ≤ 3
 pair-small two = lit≤ tt
@@ -139,7 +142,7 @@ module _ (A : IntegerMatrix) (g : IsAdmissible A) where
       omega (
         arith,
         sum_to-small s k (act A w (simple_root r)),
-        size-front k A.rank (act A w (simple_root r)) within,
+        size-prefix k A.rank (act A w (simple_root r)) within,
         size-act w r,
         pow-le-pow_right {n = 4} (lit< tt) short,
       )

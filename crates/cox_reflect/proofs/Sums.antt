@@ -1,11 +1,12 @@
 -- Sums f 1 + .. + f n over the letters of the rank.
-use Rattle.std.proofs.Common.{◌≡◌, ℕ, zero, suc, ◌<◌, ◌≤◌, ◌⊎◌, ℤ, pos, ◌+ℤ◌, ◌-ℤ◌, ◌*ℤ◌, refl, ap₂, sym, subst, inl, inr, ⊎_elim, arith, eq-eqb, ne_eqb}
+use Rattle.std.proofs.Common.{◌≡◌, ℕ, zero, suc, ◌<◌, ◌≤◌, ◌⊎◌, ℤ, pos, ◌+ℤ◌, ◌-ℤ◌, ◌*ℤ◌, refl, ap₂, sym, subst, inl, inr, ⊎_elim}
+use Rattle.std.proofs.Common.{arith, eq-eqb, ne_eqb}
 use Rattle.std.proofs.lemmas.Bool.{cases_lt, cases_eq}
 use Rattle.std.proofs.lemmas.Int.{ints}
 use Rattle.cox_base.specs.Matrix.{IsLetter}
 use Rattle.cox_base.specs.Element.{sum_to}
 use Rattle.cox_reflect.specs.Action.{Vector, simple_root, minus}
-use Rattle.cox_reflect.proofs.Ring.{linears, multiply_out}
+use Rattle.cox_lemmas.proofs.Ring.{linears, multiply_out}
 
 pub letter_above : (n s : ℕ) → IsLetter n s → IsLetter (suc n) s
 letter_above n s l = record { from_one = l.from_one; to_rank = omega (arith, l.to_rank) }
@@ -75,8 +76,8 @@ sum_to-simple_root (suc n) a s l = ⊎_elim at_last (before (sum_to-simple_root 
 
     before : (IsLetter n s → sum_to n (λ t. a t *ℤ simple_root s t) ≡ a s) → (s ≡ suc n → ⊥)
         → sum_to n (λ t. a t *ℤ simple_root s t) +ℤ (a (suc n) *ℤ simple_root s (suc n)) ≡ a s
-    before front ne =
-        rw (front (record { from_one = l.from_one; to_rank = omega (arith, l.to_rank) }), apart (suc n) (λ e. ne (sym e)))
+    before prefix ne =
+        rw (prefix (record { from_one = l.from_one; to_rank = omega (arith, l.to_rank) }), apart (suc n) (λ e. ne (sym e)))
         (omega (arith, linears))
 
 pub sum_to-other_root : (n : ℕ) (a : ℕ → ℤ) (s : ℕ) → (IsLetter n s → ⊥)

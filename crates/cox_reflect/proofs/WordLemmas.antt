@@ -5,7 +5,7 @@ use mathlib.Core.List.{reverse-cons}
 use Rattle.std.proofs.lemmas.List.Elements.{All-nil, All-cons, All-head, All-tail, All-append}
 use Rattle.cox_base.specs.Matrix.{IsLetter, IsWord}
 use Rattle.cox_base.specs.Bruhat.{IsSubword, none, kept, left_out}
-use Rattle.cox_reflect.specs.Words.{IsWithoutOne, this_one, later_one}
+use Rattle.cox_reflect.specs.DerivedWords.{IsWithoutOne, this_one, later_one}
 
 pub IsWord-single : {n s : ℕ} → IsLetter n s → IsWord n (s ∷ [])
 IsWord-single {n} {s} l = All-cons (IsLetter n) s [] l (All-nil (IsLetter n))
@@ -13,10 +13,10 @@ IsWord-single {n} {s} l = All-cons (IsLetter n) s [] l (All-nil (IsLetter n))
 pub IsWord-append : {n : ℕ} (u v : List ℕ) → IsWord n u → IsWord n v → IsWord n (u ++ v)
 IsWord-append {n} u v h k = All-append (IsLetter n) u v h k
 
-pub IsWord-front : {n : ℕ} (u v : List ℕ) → IsWord n (u ++ v) → IsWord n u
-IsWord-front {n} [] v h = All-nil (IsLetter n)
-IsWord-front {n} (s ∷ u) v h =
-    All-cons (IsLetter n) s u (All-head (IsLetter n) s (u ++ v) h) (IsWord-front u v (All-tail (IsLetter n) s (u ++ v) h))
+pub IsWord-prefix : {n : ℕ} (u v : List ℕ) → IsWord n (u ++ v) → IsWord n u
+IsWord-prefix {n} [] v h = All-nil (IsLetter n)
+IsWord-prefix {n} (s ∷ u) v h =
+    All-cons (IsLetter n) s u (All-head (IsLetter n) s (u ++ v) h) (IsWord-prefix u v (All-tail (IsLetter n) s (u ++ v) h))
 
 pub IsWord-back : {n : ℕ} (u v : List ℕ) → IsWord n (u ++ v) → IsWord n v
 IsWord-back [] v h = h

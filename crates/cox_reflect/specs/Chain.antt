@@ -4,7 +4,7 @@ use Rattle.cox_base.specs.Matrix.{IsLetter}
 use Rattle.cox_base.specs.IntegerMatrix.{IntegerMatrix}
 use Rattle.cox_base.specs.Element.{SameElement}
 use Rattle.cox_base.specs.Length.{word_length}
-use Rattle.cox_reflect.specs.Words.{reflection}
+use Rattle.cox_reflect.specs.DerivedWords.{reflection}
 
 -- x = w y s y^-1 for a word y and a letter s, and x is shorter than w
 pub record IsStep (A : IntegerMatrix) (x w : List ℕ) : Type 0 where

@@ -2,7 +2,7 @@
 use Rattle.std.specs.Prelude.{ℕ, List}
 use Rattle.cox_base.specs.IntegerMatrix.{IntegerMatrix}
 use Rattle.cox_base.specs.Element.{SameElement}
-use Rattle.cox_reflect.specs.Words.{IsWithoutOne}
+use Rattle.cox_reflect.specs.DerivedWords.{IsWithoutOne}
 
 -- u without one of its letters names the element of x
 pub record LeavesOneOut (A : IntegerMatrix) (u x : List ℕ) : Type 0 where

@@ -1,7 +1,7 @@
 -- the action of words on integer vectors
 pub mod Action
 -- words made of other words: a reflection, a word without one of its letters
-pub mod Words
+pub mod DerivedWords
 -- the sign of a root
 pub mod Root
 -- the Coxeter relations
@@ -14,7 +14,9 @@ pub mod Chain
 pub mod Exchange
 -- an element that a subword names
 pub mod Subword
--- heights of roots, and least left descents
+-- the height of a root
+pub mod RootHeight
+-- the heights of a word, and least left descents
 pub mod Height
 -- descents by the side
 pub mod Side

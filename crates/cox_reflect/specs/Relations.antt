@@ -1,4 +1,5 @@
--- The Coxeter relations (Humphreys 5.1): s s = e for each letter s, and s t s .. = t s t .., m letters each, for letters s and t with a finite m.
+-- The Coxeter relations (Humphreys 5.1): s s = e for each letter s, and s t s .. = t s t .., m letters each, for letters s and t
+-- with a finite m.
 use Rattle.std.specs.Prelude.{ℕ, zero, suc, List, [], ◌∷◌, ◌++◌}
 use Rattle.cox_base.specs.Matrix.{IsLetter}
 use Rattle.cox_base.specs.IntegerMatrix.{IntegerMatrix, HasOrder}

@@ -8,7 +8,7 @@ ghost use Rattle.cox_reflect.specs.Height.{AreHeights};
 ghost use Rattle.cox_reflect.specs.Side.{word_at, descents_at};
 
 use crate::Heights;
-use cox_base::{Coxeter, Side, Word};
+use cox_base::{Coxeter, MAX_RANK, Side, Word};
 
 /// The letters s with l(sw) < l(w), or on the right with l(ws) < l(w), rising.
 ///
@@ -19,7 +19,7 @@ pub fn descents(g: &Coxeter, w: &Word, side: Side) -> Word
     ensures descents { result.items ≡ descents_at side (integer_matrix g.now) w.now.items }
     ensures word { IsWord g.now.rank result.items }
     ensures few { length result.items ≤ g.now.rank }
-    ensures limit { g.now.rank ≤ 9 }
+    ensures limit { g.now.rank ≤ MAX_RANK }
 {
     heights_at(g, w, side).descents(g.rank())
 }
@@ -42,7 +42,7 @@ pub fn length(g: &Coxeter, w: &Word) -> u32
     requires short { length w.now.items ≤ 63 }
     ensures length { result ≡ word_length (integer_matrix g.now) w.now.items }
     ensures no_longer { result ≤ length w.now.items }
-    ensures limit { g.now.rank ≤ 9 }
+    ensures limit { g.now.rank ≤ MAX_RANK }
 {
     let mut heights = Heights::of_word(g, w);
     let mut count = 0;
@@ -62,7 +62,7 @@ pub fn normal_form(g: &Coxeter, w: &Word) -> Word
     ensures form { result.items ≡ normal_form (integer_matrix g.now) w.now.items }
     ensures word { IsWord g.now.rank result.items }
     ensures no_longer { length result.items ≤ length w.now.items }
-    ensures limit { g.now.rank ≤ 9 }
+    ensures limit { g.now.rank ≤ MAX_RANK }
 {
     let mut heights = Heights::of_word(g, w);
     let mut form = Word::new();

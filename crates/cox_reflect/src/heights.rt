@@ -3,34 +3,25 @@ ghost use Rattle.std.specs.Prelude.{◌≡◌, ℕ, ◌≤◌, ◌↔◌, List, 
 ghost use Rattle.cox_base.specs.Matrix.{IsLetter, IsWord};
 ghost use Rattle.cox_base.specs.IntegerMatrix.{IntegerMatrix, IsAdmissible, integer_matrix};
 ghost use Rattle.cox_base.specs.Length.{IsLeftDescent, left_descents};
-ghost use Rattle.cox_reflect.specs.Height.{at_letter, AreHeights, HasRoom, IsLeastLeftDescent};
+ghost use Rattle.cox_reflect.specs.RootHeight.{at_letter};
+ghost use Rattle.cox_reflect.specs.Height.{AreHeights, CanPrepend, IsLeastLeftDescent};
 
 use cox_base::{Coxeter, MAX_RANK, Word};
-use std::marker::Model;
 
 /// For an element u the heights of the roots u^-1 e(t), t = 1 to the rank: a root's height is the sum of its coordinates.
 ///
-/// Contracts see nine numbers, that of the letter t at t - 1; past the rank they mean nothing. The letter t is a left descent of u exactly where
-/// its height is negative (Humphreys 5.4).
+/// The letter t is a left descent of u exactly where its height is negative (Humphreys 5.4). Other crates do not see the numbers: contracts say
+/// only which word they are the heights of.
 #[derive(Clone, Copy, PartialEq, Eq, Hash)]
 pub struct Heights {
+    // that of the letter t at t - 1; past the rank they mean nothing
     values: [i128; MAX_RANK],
-}
-
-impl Model for Heights {
-    ghost use Rattle.std.specs.Prelude.{List, ℤ};
-
-    ghost Value = { List ℤ };
-
-    ghost view = { λ h. h.values };
-
-    ghost inverse = { λ values. record { values = values } };
 }
 
 impl Heights {
     /// The heights of the identity: each simple root has the height 1.
     pub fn identity() -> Heights
-        ensures { (A : IntegerMatrix) → A.rank ≤ 9 → AreHeights A [] result }
+        ensures { (A : IntegerMatrix) → A.rank ≤ MAX_RANK → AreHeights A [] result }
     {
         Heights {
             values: [1; MAX_RANK],
@@ -65,10 +56,10 @@ impl Heights {
         heights
     }
 
-    /// From the heights of u to those of s u. There is room where both elements have at most 63 letters.
+    /// From the heights of u to those of s u, where both elements have at most 63 letters.
     pub fn prepend(&mut self, g: &Coxeter, s: u8)
         requires letter { IsLetter g.now.rank s }
-        requires room { HasRoom (integer_matrix g.now) s self.old }
+        requires room { CanPrepend (integer_matrix g.now) s self.old }
         ensures { (u : List ℕ) → AreHeights (integer_matrix g.now) u self.old → AreHeights (integer_matrix g.now) (s ∷ u) self.new }
     {
         let rank = g.rank() as u8;
@@ -80,23 +71,30 @@ impl Heights {
 
     /// Whether s is a left descent.
     pub fn is_descent(&self, s: u8) -> bool
-        requires letter { IsLetter 9 s }
-        ensures sign { IsTrue result ↔ (at_letter self.now s <ℤ pos 0) }
-        ensures descent { (A : IntegerMatrix) → (u : List ℕ) → IsAdmissible A → IsLetter A.rank s → AreHeights A u self.now
+        requires letter { IsLetter MAX_RANK s }
+        ensures { (A : IntegerMatrix) → (u : List ℕ) → IsAdmissible A → IsLetter A.rank s → AreHeights A u self.now
             → (IsTrue result ↔ IsLeftDescent A u s) }
+    {
+        self.is_negative(s)
+    }
+
+    /// Whether the height of the letter s is negative.
+    fn is_negative(&self, s: u8) -> bool
+        requires letter { IsLetter MAX_RANK s }
+        ensures { IsTrue result ↔ (at_letter self.now.values s <ℤ pos 0) }
     {
         self.values[s as usize - 1] < 0
     }
 
     /// The least left descent, if there is one; only the identity has none.
     pub fn least_descent(&self, rank: u32) -> Option<u8>
-        requires limit { rank ≤ 9 }
+        requires limit { rank ≤ MAX_RANK }
         ensures letter { IfSome result (λ s. IsLetter rank s) }
         ensures least { (A : IntegerMatrix) → (u : List ℕ) → IsAdmissible A → A.rank ≡ rank → AreHeights A u self.now
             → MatchOption result ((t : ℕ) → ¬ (IsLeftDescent A u t)) (IsLeastLeftDescent A u) }
     {
         for s in 1..rank as u8 + 1 {
-            if self.is_descent(s) {
+            if self.is_negative(s) {
                 return Some(s);
             }
         }
@@ -105,7 +103,7 @@ impl Heights {
 
     /// The left descents, rising.
     pub fn descents(&self, rank: u32) -> Word
-        requires limit { rank ≤ 9 }
+        requires limit { rank ≤ MAX_RANK }
         ensures descents { (A : IntegerMatrix) → (u : List ℕ) → IsAdmissible A → A.rank ≡ rank → AreHeights A u self.now
             → result.items ≡ left_descents A u }
         ensures letters { IsWord rank result.items }
@@ -113,7 +111,7 @@ impl Heights {
     {
         let mut found = Word::new();
         for letter in 1..rank as u8 + 1 {
-            if self.is_descent(letter) {
+            if self.is_negative(letter) {
                 found.push(letter);
             }
         }

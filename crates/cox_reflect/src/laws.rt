@@ -15,7 +15,7 @@ ghost use Rattle.cox_reflect.specs.Relations.{AreRelated};
 ghost use Rattle.cox_reflect.specs.Root.{IsNonnegativeRoot, IsNonpositiveRoot, IsZeroRoot};
 ghost use Rattle.cox_reflect.specs.Subword.{HasSubword};
 ghost use Rattle.cox_reflect.specs.Transpose.{transposed};
-ghost use Rattle.cox_reflect.specs.Words.{reflection};
+ghost use Rattle.cox_reflect.specs.DerivedWords.{reflection};
 
 /// The integer matrix of a Coxeter matrix is admissible, its finite labels are the orders m of the braid relations,
 /// and the transpose of an admissible matrix is admissible.

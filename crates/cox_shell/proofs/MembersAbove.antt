@@ -10,7 +10,7 @@ use Rattle.cox_reflect.proofs.Elements.{same-refl, same-sym}
 use Rattle.cox_reflect.proofs.Search.{normal_form-same, normal_form-equal}
 use Rattle.cox_reflect.proofs.Lengths.{word_length-is}
 use Rattle.cox_reflect.proofs.Bruhat.{below-same, below-length, below-equal_length}
-use Rattle.cox_context.specs.Members.{IsClosed}
+use Rattle.cox_context.specs.Closed.{IsClosed}
 use Rattle.cox_context.specs.Numbers.{word_at}
 use Rattle.cox_context.proofs.ListLemmas.{rising-length, rising-place}
 use Rattle.cox_context.proofs.Shifting.{element-at, length-at, member-below}

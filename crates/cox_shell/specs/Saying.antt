@@ -3,7 +3,8 @@ use Rattle.std.specs.Prelude.{◌⊎◌, Result, Ok, Err, IfOk, OnErr, IsErr, �
 use Rattle.std.specs.declared.alloc.AllocError.{AllocError}
 use Rattle.cox_poly.specs.Puts.{PutsFront}
 use Rattle.cox_base.specs.IntegerMatrix.{IntegerMatrix}
-use Rattle.cox_context.specs.Members.{IsInInterval, Elements}
+use Rattle.cox_context.specs.Members.{IsInInterval}
+use Rattle.cox_context.specs.Closed.{Elements}
 use Rattle.cox_context.specs.SortedList.{IsListOf, HasMoreThan}
 use Rattle.cox_context.specs.Numbers.{word_at}
 use Rattle.cox_shell.specs.declared.answers.unanswered.Unanswered.{Unanswered}

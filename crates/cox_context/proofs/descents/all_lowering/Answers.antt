@@ -1,3 +1,4 @@
+-- One member more.
 use Rattle.std.proofs.Common.{◌≡◌, ℕ, arith, subst}
 use Rattle.cox_context.specs.Shifts.{AreLoweringLetters}
 use Rattle.cox_context.proofs.KeptLetters.{kept-start, kept-push}
@@ -7,7 +8,8 @@ pub loop-i-init : goal.loop-i-init
 loop-i-init c = rw c.new-kept.ensures.items (kept-start c.args.rank c.args.table.now)
 
 pub loop-i-preserved : goal.loop-i-preserved
-loop-i-preserved c = rw c.in_ok-push.ensures.items (kept-push c.args.rank c.args.table.now c.loop-i.i c.loop-i.kept.items c.lowering.result c.loop-i.invariant c.lowering.ensures)
+loop-i-preserved c = rw c.in_ok-push.ensures.items
+    (kept-push c.args.rank c.args.table.now c.loop-i.i c.loop-i.kept.items c.lowering.result c.loop-i.invariant c.lowering.ensures)
 
 pub returns : goal.returns
 returns c =

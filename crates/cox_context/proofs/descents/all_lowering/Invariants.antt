@@ -1,3 +1,4 @@
+-- The letters of the members before i.
 use Rattle.cox_context.specs.Shifts.{AreLoweringLetters}
 use Rattle.cox_context.proofs.descents.all_lowering.Given as goal
 

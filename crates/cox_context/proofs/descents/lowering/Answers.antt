@@ -1,3 +1,4 @@
+-- Each letter is appended exactly where its shift goes to a member before.
 use Rattle.std.proofs.Common.{◌≡◌, ℕ, ◌+◌, ◌-◌, length, List, ap, sym, ◌∙◌, arith, lit<}
 use Rattle.cox_context.specs.Shifts.{is_lower}
 use Rattle.cox_context.proofs.FilterLemmas.{lowered-start, lowered-next, lowered-length, lowered-is}
@@ -8,12 +9,17 @@ pub loop-s-init : goal.loop-s-init
 loop-s-init c = c.new-found.ensures ∙ sym (lowered-start c.args.rank c.args.table.now c.args.i)
 
 pub push-requires : goal.push-requires
-push-requires c = (lit< tt, omega (arith, ap (λ (xs : List ℕ). length xs) c.loop-s.invariant, lowered-length c.args.rank c.args.table.now c.args.i (c.loop-s.s - 1)))
+push-requires c = (
+  lit< tt,
+  omega
+      (arith, ap (λ (xs : List ℕ). length xs) c.loop-s.invariant, lowered-length c.args.rank c.args.table.now c.args.i (c.loop-s.s - 1)),
+)
 
 pub loop-s-preserved : goal.loop-s-preserved
 loop-s-preserved c =
     let at : c.loop-s.s + 1 - 1 ≡ c.loop-s.s = omega arith
-    in let next = lowered-next c.args.rank c.args.table.now c.args.i c.loop-s.s c.is_lower.result c.loop-s.auto.s (c.is_lower.ensures ∙ ap (is_lower c.args.i) c.entry.ensures)
+    in let next = lowered-next c.args.rank c.args.table.now c.args.i c.loop-s.s c.is_lower.result c.loop-s.auto.s
+    (c.is_lower.ensures ∙ ap (is_lower c.args.i) c.entry.ensures)
     in elim c.if-is_lower.branch [
       | then-is_lower w ↦ let q = rw w.if-is_lower.true at next in rw (w.found-is, at, w.push.ensures.items, c.loop-s.invariant) (sym q)
       | else-is_lower w ↦ let q = rw w.if-is_lower.false at next in rw (w.found-is, at, c.loop-s.invariant) (sym q)

@@ -1,3 +1,4 @@
+-- The letters found so far, of those before s.
 use Rattle.std.proofs.Common.{◌≡◌, ◌-◌}
 use Rattle.cox_context.proofs.FilterLemmas.{lowered}
 use Rattle.cox_context.proofs.descents.lowering.Given as goal

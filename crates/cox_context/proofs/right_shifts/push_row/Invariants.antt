@@ -1,3 +1,4 @@
+-- The table has the entries of the members before i, and those of i for the letters before s.
 use Rattle.std.proofs.Common.{◌≡◌, ◌+◌, ◌-◌, ◌*◌, length}
 use Rattle.cox_base.specs.IntegerMatrix.{integer_matrix}
 use Rattle.cox_context.specs.Shifts.{AreRightShifts}

@@ -1,3 +1,4 @@
+-- The entry is read at its place.
 use Rattle.cox_context.proofs.Places.{entry-is}
 use Rattle.cox_context.proofs.shifts.entry.Goals as goal
 

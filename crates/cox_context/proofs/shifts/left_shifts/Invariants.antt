@@ -1,3 +1,4 @@
+-- The links among the members before i are noted.
 use Rattle.cox_base.specs.IntegerMatrix.{integer_matrix}
 use Rattle.cox_context.specs.Shifts.{AreLinks}
 use Rattle.cox_context.proofs.shifts.left_shifts.Given as goal

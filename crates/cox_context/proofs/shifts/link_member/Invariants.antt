@@ -1,3 +1,4 @@
+-- The links among the members before i are noted, and those of i for the letters before s.
 use Rattle.cox_base.specs.IntegerMatrix.{integer_matrix}
 use Rattle.cox_context.specs.Shifts.{AreLinks}
 use Rattle.cox_context.proofs.shifts.link_member.Given as goal

@@ -1,3 +1,4 @@
+-- The member that the walk has come to.
 use Rattle.std.proofs.Common.{◌-◌}
 use Rattle.cox_base.specs.IntegerMatrix.{integer_matrix}
 use Rattle.cox_context.proofs.Walks.{IsWalked}

@@ -1,3 +1,4 @@
+-- The list has the coordinates of the root under the letters so far.
 use Rattle.std.proofs.Common.{reverse, map}
 use Rattle.cox_base.specs.IntegerMatrix.{integer_matrix}
 use Rattle.cox_reflect.specs.Action.{simple_root, act}

@@ -1,13 +1,14 @@
+-- Each product and each sum fits in 128 bits, and the last sum is the pairing.
 use Rattle.std.proofs.Common.{◌≡◌, ◌+◌, ◌-◌, sym, ◌∙◌, arith, rules}
 use Rattle.std.proofs.lemmas.Int.{to_z-of_z}
 use mir.Syntax.{w128}
 use Rattle.cox_base.specs.Matrix.{IsLetter}
 use Rattle.cox_base.specs.IntegerMatrix.{integer_matrix, entry_of}
-use Rattle.cox_reflect.specs.Height.{at_letter}
+use Rattle.cox_reflect.specs.RootHeight.{at_letter}
 use Rattle.cox_reflect.proofs.Admissible.{IsAdmissible-integer_matrix}
 use Rattle.cox_reflect.proofs.Sizes.{sum_to-small}
-use Rattle.cox_reflect.proofs.Computed.{widened}
-use Rattle.cox_reflect.proofs.CoordinateLemmas.{product-fits, sum-value, term-fits, part-fits, part-next, part-none}
+use Rattle.cox_reflect.proofs.Computed.{widened, product-fits, sum-value}
+use Rattle.cox_reflect.proofs.CoordinateLemmas.{term-fits, part-fits, part-next, part-none}
 use Rattle.cox_reflect.proofs.coordinates.pairing.Goals as goal
 
 pub loop-t-init : goal.loop-t-init

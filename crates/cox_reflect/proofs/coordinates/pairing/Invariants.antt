@@ -1,7 +1,8 @@
+-- The sum of the products for the letters before t.
 use Rattle.std.proofs.Common.{◌≡◌, ◌-◌, ◌*ℤ◌}
 use Rattle.cox_base.specs.IntegerMatrix.{entry_of}
 use Rattle.cox_base.specs.Element.{sum_to}
-use Rattle.cox_reflect.specs.Height.{at_letter}
+use Rattle.cox_reflect.specs.RootHeight.{at_letter}
 use Rattle.cox_reflect.proofs.coordinates.pairing.Given as goal
 
 abbrev pub invariant-loop-t : goal.invariant-loop-t

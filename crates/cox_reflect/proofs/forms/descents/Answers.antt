@@ -1,3 +1,4 @@
+-- The left descents of the word or of the reversed word.
 use Rattle.std.proofs.Common.{sym, ◌∙◌}
 use Rattle.cox_base.specs.IntegerMatrix.{integer_matrix}
 use Rattle.cox_reflect.specs.Side.{word_at}

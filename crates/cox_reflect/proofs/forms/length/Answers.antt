@@ -1,3 +1,4 @@
+-- Each least left descent that is taken off makes the element shorter by one.
 use Rattle.std.proofs.Common.{arith}
 use Rattle.cox_base.specs.IntegerMatrix.{integer_matrix}
 use Rattle.cox_reflect.proofs.Admissible.{IsAdmissible-integer_matrix}
@@ -37,4 +38,5 @@ returns-clause-length c =
 
 pub returns-clause-no_longer : goal.returns-clause-no_longer
 returns-clause-no_longer c =
-    rw (returns-clause-length c) (word_length-length (integer_matrix c.args.g.now) (IsAdmissible-integer_matrix c.args.g.now c.rank.ensures.matrix) c.args.w.now.items)
+    rw (returns-clause-length c) (word_length-length (integer_matrix c.args.g.now)
+    (IsAdmissible-integer_matrix c.args.g.now c.rank.ensures.matrix) c.args.w.now.items)

@@ -1,3 +1,4 @@
+-- How many letters are read; each one is another step towards 63.
 use Rattle.std.proofs.Common.{◌-◌}
 use Rattle.cox_base.specs.IntegerMatrix.{integer_matrix}
 use Rattle.cox_reflect.proofs.FormLemmas.{IsCounted}

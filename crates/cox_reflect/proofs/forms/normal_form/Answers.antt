@@ -1,3 +1,4 @@
+-- The normal form begins with the least left descent, and goes on with the normal form of the rest.
 use Rattle.std.proofs.Common.{arith, lit<}
 use Rattle.cox_base.specs.Matrix.{IsWord}
 use Rattle.cox_base.specs.IntegerMatrix.{integer_matrix}

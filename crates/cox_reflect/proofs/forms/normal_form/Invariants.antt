@@ -1,3 +1,4 @@
+-- The normal form begins with the letters so far; each one is another step towards 63.
 use Rattle.std.proofs.Common.{◌-◌, length}
 use Rattle.cox_base.specs.IntegerMatrix.{integer_matrix}
 use Rattle.cox_reflect.proofs.FormLemmas.{IsBegun}

@@ -1,3 +1,4 @@
+-- Each clause is a lemma on the integer matrix of a Coxeter matrix, or on its transpose.
 use Rattle.cox_reflect.proofs.Admissible.{IsAdmissible-integer_matrix, order_label}
 use Rattle.cox_reflect.proofs.Transposed.{IsAdmissible-transposed}
 use Rattle.cox_reflect.proofs.laws.admissible.Goals as goal

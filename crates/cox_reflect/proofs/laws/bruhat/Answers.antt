@@ -1,3 +1,4 @@
+-- Each clause is a lemma on Bruhat order: by chains, and by the subwords of any reduced word.
 use Rattle.cox_reflect.proofs.Bruhat.{below-chain, chain-below, below_by_subword, below-subword, below_reverse}
 use Rattle.cox_reflect.proofs.laws.bruhat.Goals as goal
 

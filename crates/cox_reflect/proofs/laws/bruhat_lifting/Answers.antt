@@ -1,3 +1,4 @@
+-- Each clause is a lemma on Bruhat order: lifting from either side.
 use Rattle.cox_reflect.proofs.Bruhat.{lift_down, lift_up, lift_down_right, lift_up_right}
 use Rattle.cox_reflect.proofs.laws.bruhat_lifting.Goals as goal
 

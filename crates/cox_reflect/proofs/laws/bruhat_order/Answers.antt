@@ -1,3 +1,4 @@
+-- Each clause is a lemma on Bruhat order: a partial order, with lengths, inverses and the least element.
 use Rattle.cox_reflect.proofs.Bruhat.{below-refl, below-trans, below-antisym, below-least, below_identity, below-length, below-equal_length}
 use Rattle.cox_reflect.proofs.laws.bruhat_order.Goals as goal
 

@@ -1,3 +1,4 @@
+-- Each clause is a lemma on words that name one element.
 use Rattle.cox_reflect.proofs.Elements.{same-append, same-inverse}
 use Rattle.cox_reflect.proofs.laws.elements.Goals as goal
 

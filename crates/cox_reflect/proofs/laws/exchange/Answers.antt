@@ -1,3 +1,4 @@
+-- Each clause is a lemma on words with letters left out.
 use Rattle.cox_reflect.proofs.Exchange.{strong_exchange, reflection-moves}
 use Rattle.cox_reflect.proofs.Deletion.{exchange_right, exchange_left, deletion}
 use Rattle.cox_reflect.proofs.RootSigns.{equal_reflection_words}

@@ -1,3 +1,4 @@
+-- The law is the theorem of Faithful: one element exactly where the relations lead from word to word.
 use Rattle.cox_reflect.proofs.Faithful.{same_as_related}
 use Rattle.cox_reflect.proofs.laws.faithful.Goals as goal
 

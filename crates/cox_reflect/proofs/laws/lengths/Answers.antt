@@ -1,3 +1,4 @@
+-- Each clause is a lemma on lengths.
 use Rattle.cox_reflect.proofs.Lengths.{word_length-append, word_length-reverse}
 use Rattle.cox_reflect.proofs.Deletion.{right_length, left_length, parity_mod}
 use Rattle.cox_reflect.proofs.laws.lengths.Goals as goal

@@ -1,3 +1,4 @@
+-- Each clause is a lemma on normal forms: the search finds them, and they come first in ShortLex order.
 use Rattle.cox_reflect.proofs.Search.{normal_form-same, IsWord-normal_form, word_length-least, normal_form-tells}
 use Rattle.cox_reflect.proofs.Lengths.{IsReduced-normal_form}
 use Rattle.cox_reflect.proofs.ShortLexFirst.{none-less, only-least}

@@ -1,4 +1,6 @@
-use Rattle.cox_reflect.proofs.RootSigns.{root_signs, no_zero_root, longer-root, shorter-root, descent_by_coordinate, longer_left-root, shorter_left-root}
+-- Each clause is a lemma on the signs of roots.
+use Rattle.cox_reflect.proofs.RootSigns.{root_signs, no_zero_root, longer-root, shorter-root, descent_by_coordinate}
+use Rattle.cox_reflect.proofs.RootSigns.{longer_left-root, shorter_left-root}
 use Rattle.cox_reflect.proofs.laws.positivity.Goals as goal
 
 pub returns-clause-sign : goal.returns-clause-sign

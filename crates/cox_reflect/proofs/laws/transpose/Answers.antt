@@ -1,3 +1,4 @@
+-- Each clause is a lemma on the transposed matrix.
 use Rattle.cox_reflect.proofs.Transposed.{same_over_transposed, normal_form-transposed, root_over_transposed, equal_columns}
 use Rattle.cox_reflect.proofs.laws.transpose.Goals as goal
 

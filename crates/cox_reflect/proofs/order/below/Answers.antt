@@ -12,7 +12,8 @@ use Rattle.cox_reflect.proofs.order.below.Goals as goal
 pub below_reduced-requires-clause-reduced : goal.below_reduced-requires-clause-reduced
 below_reduced-requires-clause-reduced c =
     let g = IsAdmissible-integer_matrix c.args.g.now c.rank-rank.ensures.matrix
-    in rw (c.as_slice.ensures.value, c.normal_form-form.ensures.form) (IsReduced-normal_form (integer_matrix c.args.g.now) g c.args.w.now.items)
+    in rw (c.as_slice.ensures.value, c.normal_form-form.ensures.form)
+    (IsReduced-normal_form (integer_matrix c.args.g.now) g c.args.w.now.items)
 
 pub below_reduced-requires-clause-element : goal.below_reduced-requires-clause-element
 below_reduced-requires-clause-element c =

@@ -9,18 +9,21 @@ use Rattle.cox_reflect.proofs.order.below_reduced.Goals.{then-is_descent, else-i
 
 pub prepend-requires-clause-room : goal.prepend-requires-clause-room
 prepend-requires-clause-room c =
-    turn-room c.args.g.now c.rank-rank.ensures.matrix c.args.form.now c.requires.letters c.requires.reduced c.loop-s.s-index c.loop-s-test.true
-    c.args.heights c.loop-s.heights c.loop-s.invariant c.is_descent.result c.is_descent.ensures.descent c.if-is_descent.true
+    turn-room c.args.g.now c.rank-rank.ensures.matrix c.args.form.now c.requires.letters c.requires.reduced c.loop-s.s-index
+    c.loop-s-test.true
+    c.args.heights c.loop-s.heights c.loop-s.invariant c.is_descent.result c.is_descent.ensures c.if-is_descent.true
 
 pub loop-s-preserved : goal.loop-s-preserved
 loop-s-preserved c = elim c.if-is_descent.branch [
   | then-is_descent w ↦ rw w.heights-is
-      (turn-down c.args.g.now c.rank-rank.ensures.matrix c.args.form.now c.requires.letters c.requires.reduced c.loop-s.s-index c.loop-s-test.true
-      c.args.heights c.loop-s.heights c.loop-s.invariant c.is_descent.result c.is_descent.ensures.descent w.if-is_descent.true
+      (turn-down c.args.g.now c.rank-rank.ensures.matrix c.args.form.now c.requires.letters c.requires.reduced c.loop-s.s-index
+      c.loop-s-test.true
+      c.args.heights c.loop-s.heights c.loop-s.invariant c.is_descent.result c.is_descent.ensures w.if-is_descent.true
       w.prepend.new.self w.prepend.ensures)
   | else-is_descent w ↦ rw w.heights-is
-      (turn-up c.args.g.now c.rank-rank.ensures.matrix c.args.form.now c.requires.letters c.requires.reduced c.loop-s.s-index c.loop-s-test.true
-      c.args.heights c.loop-s.heights c.loop-s.invariant c.is_descent.result c.is_descent.ensures.descent w.if-is_descent.false)
+      (turn-up c.args.g.now c.rank-rank.ensures.matrix c.args.form.now c.requires.letters c.requires.reduced c.loop-s.s-index
+      c.loop-s-test.true
+      c.args.heights c.loop-s.heights c.loop-s.invariant c.is_descent.result c.is_descent.ensures w.if-is_descent.false)
 ]
 
 pub returns : goal.returns

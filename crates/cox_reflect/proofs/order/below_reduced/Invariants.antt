@@ -1,3 +1,4 @@
+-- What is kept over the letters of the reduced word.
 use Rattle.std.proofs.Common.{drop}
 use Rattle.cox_base.specs.IntegerMatrix.{integer_matrix}
 use Rattle.cox_reflect.proofs.OrderLemmas.{AreLifted}

@@ -1,3 +1,4 @@
+-- What is left of x is below the rest of the word of y exactly where x is below y.
 use Rattle.std.proofs.Common.{drop}
 use Rattle.cox_base.specs.IntegerMatrix.{integer_matrix}
 use Rattle.cox_context.specs.Numbers.{word_at}
@@ -5,4 +6,5 @@ use Rattle.cox_context.proofs.BelowLemmas.{IsSettled}
 use Rattle.cox_context.proofs.context.Context.below.Given as goal
 
 abbrev pub invariant-loop-t : goal.invariant-loop-t
-invariant-loop-t l = IsSettled (integer_matrix l.self.matrix) l.self.members (word_at l.self.members l.i) (word_at l.self.members l.j) (drop l.t-index l.t-items) l.rest
+invariant-loop-t l = IsSettled (integer_matrix l.self.matrix) l.self.members (word_at l.self.members l.i) (word_at l.self.members l.j)
+    (drop l.t-index l.t-items) l.rest

@@ -1,9 +1,11 @@
+-- The letters found so far are those up to the last whose heights are negative.
 use Rattle.std.proofs.Common.{ℕ, ◌≡◌, suc, ◌+◌, ◌-◌, List, length, sym, ap, ◌∙◌, arith, lit<}
 use Rattle.std.proofs.lemmas.Bool.{false≢true}
 use Rattle.cox_base.specs.Matrix.{IsWord}
-use Rattle.cox_reflect.proofs.LetterLists.{negative_letters-none, negative_letters-yes, negative_letters-no, negative_letters-descents, IsWord-negative_letters, length-negative_letters}
+use Rattle.cox_reflect.proofs.LetterLists.{negative_letters-none, negative_letters-yes, negative_letters-no}
+use Rattle.cox_reflect.proofs.LetterLists.{negative_letters-descents, IsWord-negative_letters, length-negative_letters}
 use Rattle.cox_reflect.proofs.heights.Heights.descents.Goals as goal
-use Rattle.cox_reflect.proofs.heights.Heights.descents.Goals.{then-is_descent, else-is_descent}
+use Rattle.cox_reflect.proofs.heights.Heights.descents.Goals.{then-is_negative, else-is_negative}
 
 pub push-requires : goal.push-requires
 push-requires c = (
@@ -11,29 +13,26 @@ push-requires c = (
   omega (
     arith,
     ap (λ (xs : List ℕ). length xs) c.loop-letter.invariant,
-    length-negative_letters c.args.self.now
+    length-negative_letters c.args.self.now.values
         (c.loop-letter.letter - 1),
   ),
 )
 
 pub loop-letter-init : goal.loop-letter-init
-loop-letter-init c = c.new-found.ensures ∙ sym (negative_letters-none c.args.self.now)
+loop-letter-init c = c.new-found.ensures ∙ sym (negative_letters-none c.args.self.now.values)
 
 pub loop-letter-preserved : goal.loop-letter-preserved
 loop-letter-preserved c =
-    let before : suc (c.loop-letter.letter - 1) ≡ c.loop-letter.letter + 1 - 1 = omega arith
+    let at : c.loop-letter.letter + 1 - 1 ≡ c.loop-letter.letter = omega arith
     in let here : c.loop-letter.letter ≡ suc (c.loop-letter.letter - 1) = omega arith
-    in elim c.if-is_descent.branch [
-      | then-is_descent w ↦ rw (w.found-is, w.push.ensures.items, ← before, c.loop-letter.invariant)
-          (sym (negative_letters-yes c.args.self.now (c.loop-letter.letter - 1) c.loop-letter.letter here
-          (c.is_descent.ensures.sign.0 w.if-is_descent.true)))
-      | else-is_descent w ↦ rw (w.found-is, ← before, c.loop-letter.invariant)
-          (sym (negative_letters-no c.args.self.now (c.loop-letter.letter - 1) c.loop-letter.letter here
-          (λ h. absurd (false≢true (sym w.if-is_descent.false ∙ c.is_descent.ensures.sign.1 h)))))
+    in elim c.if-is_negative.branch [
+      | then-is_negative w ↦ rw (w.found-is, w.push.ensures.items, at, c.loop-letter.invariant)
+          (sym (negative_letters-yes c.args.self.now.values (c.loop-letter.letter - 1) c.loop-letter.letter here
+          (c.is_negative.ensures.0 w.if-is_negative.true)))
+      | else-is_negative w ↦ rw (w.found-is, at, c.loop-letter.invariant)
+          (sym (negative_letters-no c.args.self.now.values (c.loop-letter.letter - 1) c.loop-letter.letter here
+          (λ h. absurd (false≢true (sym w.if-is_negative.false ∙ c.is_negative.ensures.1 h)))))
     ]
-
-all_letters : (n s : ℕ) → s ≡ n + 1 → s - 1 ≡ n
-all_letters n s e = omega arith
 
 pub returns-clause-descents : goal.returns-clause-descents
 returns-clause-descents c = λ A u g e a.
@@ -44,13 +43,13 @@ pub returns-clause-letters : goal.returns-clause-letters
 returns-clause-letters c =
     let last : c.loop-letter.letter - 1 ≡ c.args.rank = omega arith
     in let all : IsWord c.args.rank c.loop-letter.found.items = rw (c.loop-letter.invariant, last)
-    (IsWord-negative_letters c.args.self.now c.args.rank)
+    (IsWord-negative_letters c.args.self.now.values c.args.rank)
     in all
 
 pub returns-clause-short : goal.returns-clause-short
 returns-clause-short c = omega (
   arith,
   ap (λ (xs : List ℕ). length xs) c.loop-letter.invariant,
-  length-negative_letters c.args.self.now
+  length-negative_letters c.args.self.now.values
       (c.loop-letter.letter - 1),
 )

@@ -1,12 +1,13 @@
+-- The first letter with a negative height is the least left descent; where there is none, there is no descent.
 use Rattle.std.proofs.Common.{arith}
 use Rattle.cox_reflect.proofs.HeightLemmas.{descent_from_heights, descents_from}
 use Rattle.cox_reflect.proofs.Roots.{left_descent-letter}
 use Rattle.cox_reflect.proofs.heights.Heights.least_descent.Goals as goal
 
-pub returns-then-is_descent-clause-least : goal.returns-then-is_descent-clause-least
-returns-then-is_descent-clause-least c = λ A u g e a. record {
+pub returns-then-is_negative-clause-least : goal.returns-then-is_negative-clause-least
+returns-then-is_negative-clause-least c = λ A u g e a. record {
   descent = descent_from_heights A g u c.args.self.now c.loop-s.s a (record { from_one = omega arith; to_rank = omega (arith, e) })
-      (c.is_descent.ensures.sign.0 c.if-is_descent.true);
+      (c.is_negative.ensures.0 c.if-is_negative.true);
   least = descents_from A g u c.args.self.now c.loop-s.s a c.loop-s.invariant;
 }
 

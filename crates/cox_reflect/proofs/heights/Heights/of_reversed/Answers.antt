@@ -1,8 +1,9 @@
+-- A letter is put before a word of at most 62 letters.
 use Rattle.std.proofs.Common.{◌≤◌, reverse, take, length, arith, rules}
 use Rattle.std.proofs.lemmas.List.{length-take, length-reverse}
 use Rattle.cox_base.specs.IntegerMatrix.{integer_matrix}
 use Rattle.cox_reflect.proofs.Admissible.{IsAdmissible-integer_matrix}
-use Rattle.cox_reflect.proofs.HeightLemmas.{HasRoom-word}
+use Rattle.cox_reflect.proofs.HeightLemmas.{CanPrepend-word}
 use Rattle.cox_reflect.proofs.heights.Heights.of_reversed.Goals as goal
 
 pub loop-s-init : goal.loop-s-init
@@ -16,6 +17,6 @@ prepend-requires-clause-room c =
     let count : length c.as_slice-s-items.result.now ≤ 63 = rw c.as_slice-s-items.ensures.value c.requires.short
     in let short : length (reverse (take c.loop-s.s-index c.args.w.now.items)) ≤ 62
     = omega (arith, length-reverse (take c.loop-s.s-index c.args.w.now.items), length-take c.loop-s.s-index c.args.w.now.items, count)
-    in HasRoom-word (integer_matrix c.args.g.now) (IsAdmissible-integer_matrix c.args.g.now c.rank.ensures.matrix)
+    in CanPrepend-word (integer_matrix c.args.g.now) (IsAdmissible-integer_matrix c.args.g.now c.rank.ensures.matrix)
     (reverse (take c.loop-s.s-index c.args.w.now.items)) _ c.loop-s.heights
-    (prepend-requires-clause-letter c) short c.loop-s.invariant
+    short c.loop-s.invariant

@@ -1,3 +1,4 @@
+-- They are the heights of the reversed prefix that was read.
 use Rattle.std.proofs.Common.{reverse, take}
 use Rattle.cox_base.specs.IntegerMatrix.{integer_matrix}
 use Rattle.cox_reflect.specs.Height.{AreHeights}

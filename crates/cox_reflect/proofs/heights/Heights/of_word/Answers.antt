@@ -1,3 +1,4 @@
+-- A letter is put before a word of at most 62 letters; after the last one it is the whole word.
 use Rattle.std.proofs.Common.{reverse, map, arith}
 use Rattle.std.proofs.lemmas.List.{reverse-reverse}
 use Rattle.std.proofs.lemmas.Iterator.Adapters.{YieldsList-from_rev_slice}
@@ -5,7 +6,7 @@ use Rattle.std.proofs.lemmas.Iterator.Consumers.{YieldsList-turn, YieldsList-end
 use Rattle.cox_base.specs.IntegerMatrix.{integer_matrix}
 use Rattle.cox_reflect.proofs.Admissible.{IsAdmissible-integer_matrix}
 use Rattle.cox_reflect.proofs.BackwardTurns.{turn-letter, turn-length}
-use Rattle.cox_reflect.proofs.HeightLemmas.{HasRoom-word}
+use Rattle.cox_reflect.proofs.HeightLemmas.{CanPrepend-word}
 use Rattle.cox_reflect.proofs.heights.Heights.of_word.Goals as goal
 
 pub loop-s-init : goal.loop-s-init
@@ -21,9 +22,9 @@ pub prepend-requires-clause-room : goal.prepend-requires-clause-room
 prepend-requires-clause-room c =
     let turn = YieldsList-turn (YieldsList-from_rev_slice c.args.w.now.items cc) c.loop-s.yielded _ c.loop-s.yielded_by _ _
     c.in-Some.field-0 c.in-Some.is c.next.ensures.steps
-    in HasRoom-word (integer_matrix c.args.g.now) (IsAdmissible-integer_matrix c.args.g.now c.rank.ensures.matrix)
+    in CanPrepend-word (integer_matrix c.args.g.now) (IsAdmissible-integer_matrix c.args.g.now c.rank.ensures.matrix)
     (reverse (map (λ x. x.now) c.loop-s.yielded)) c.in-Some.field-0.now c.loop-s.heights
-    (prepend-requires-clause-letter c) (turn-length (λ x. x.now) c.loop-s.yielded c.args.w.now.items turn.0 c.requires.short)
+    (turn-length (λ x. x.now) c.loop-s.yielded c.args.w.now.items turn.0 c.requires.short)
     c.loop-s.invariant
 
 pub returns : goal.returns

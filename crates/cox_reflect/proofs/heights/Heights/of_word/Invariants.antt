@@ -1,3 +1,4 @@
+-- They are the heights of the letters that were read, the last of the word first.
 use Rattle.std.proofs.Common.{reverse, map}
 use Rattle.cox_base.specs.IntegerMatrix.{integer_matrix}
 use Rattle.cox_reflect.specs.Height.{AreHeights}

@@ -1,4 +1,4 @@
--- Words made of other words.
+-- Words made of other words: a reflection, and a word without one of its letters. Words themselves are lists of letters (cox_base).
 use Rattle.std.specs.Prelude.{ℕ, List, ◌∷◌, ◌++◌, reverse}
 
 -- y s y^-1, a word for a reflection

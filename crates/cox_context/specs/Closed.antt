@@ -1,0 +1,22 @@
+-- What a context is, for proofs: what contracts see of it, and what holds of its members.
+use Rattle.std.specs.Prelude.{ℕ, ◌≤◌, List, length, Contains}
+use Rattle.cox_base.specs.Matrix.{CoxeterMatrix}
+use Rattle.cox_base.specs.IntegerMatrix.{IntegerMatrix}
+use Rattle.cox_base.specs.Bruhat.{IsBelow}
+use Rattle.cox_context.specs.declared.members.TheConstants.{MAX_MEMBERS}
+use Rattle.cox_context.specs.SortedList.{IsRising}
+use Rattle.cox_context.specs.Members.{IsElement}
+
+-- what contracts see of a context: the Coxeter matrix of its group, and its members
+pub record Elements : Type 0 where
+  pub matrix : CoxeterMatrix
+  pub members : List (List ℕ)
+
+-- a list of elements in ShortLex order, closed downwards in Bruhat order, not too many, of at most 63 letters each
+pub record IsClosed (A : IntegerMatrix) (members : List (List ℕ)) : Type 0 where
+  pub rising : IsRising members
+  pub element : (word : List ℕ) → Contains members word → IsElement A word
+  pub down : (y w : List ℕ) → Contains members w → IsElement A y → IsBelow A y w → Contains members y
+  pub short : (word : List ℕ) → Contains members word → length word ≤ 63
+  pub some : 1 ≤ length members
+  pub few : length members ≤ MAX_MEMBERS

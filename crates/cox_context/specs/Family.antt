@@ -1,0 +1,22 @@
+-- The family of elements that a context is to have as members: those of a group, or of the interval up to an element, the top.
+use Rattle.std.specs.Prelude.{ℕ, ◌≤◌, List, [], length, Option, None, Some}
+use Rattle.arrayvec.specs.ArrayVec.{ArrayVec}
+use Rattle.cox_base.specs.Matrix.{IsWord}
+use Rattle.cox_base.specs.IntegerMatrix.{IntegerMatrix}
+use Rattle.cox_base.specs.Length.{IsReduced, left_descents}
+use Rattle.cox_context.specs.Members.{IsElement, IsInInterval}
+
+-- an element of the group, or of the interval up to the top where there is one
+abbrev pub IsMember : IntegerMatrix → Option (ArrayVec ℕ) → List ℕ → Type 0
+IsMember A None word = IsElement A word
+IsMember A (Some top) word = IsInInterval A top.items word
+
+-- the top, where there is one, is given by a reduced word of at most 63 letters
+abbrev pub IsTop : IntegerMatrix → Option (ArrayVec ℕ) → Type 0
+IsTop A None = Unit {0}
+IsTop A (Some top) = IsWord A.rank top.items × IsReduced A top.items × (length top.items ≤ 63)
+
+-- the left descents of the top, where there is one
+abbrev pub top_descents : IntegerMatrix → Option (ArrayVec ℕ) → List ℕ
+top_descents A None = []
+top_descents A (Some top) = left_descents A top.items
