@@ -15,9 +15,9 @@ ends_with_byte-push byte last bytes =
     rw (same, get_or_push bytes last 0 (length bytes) refl) (grind (arith, nat_tests)))
 
 -- the first bytes of a line, in a buffer with so much room, after one more byte
-pub front-push : (room count byte : ℕ) (begun old new : List ℕ) → length old ≡ room → count ≡ length begun → take count old ≡ take room begun
+pub prefix-push : (room count byte : ℕ) (begun old new : List ℕ) → length old ≡ room → count ≡ length begun → take count old ≡ take room begun
     → (count < room → new ≡ slice_set old count byte) → (room ≤ count → new ≡ old) → take (count + 1) new ≡ take room (begun ++ byte ∷ [])
-front-push room count byte begun old new size same front kept full =
+prefix-push room count byte begun old new size same front kept full =
     elim (cases_lt count room) [
       | inl lt ↦
           let within : count < length old = omega arith in
@@ -36,6 +36,6 @@ pub KeepsLine-push : (count byte : ℕ) (by_cr : Bool) (begun old new : List ℕ
     → (count < LINE_LIMIT + 1 → new ≡ slice_set old count byte) → (LINE_LIMIT < count → new ≡ old) → KeepsLine (begun ++ byte ∷ []) (count + 1) (byte == carriage_return) new
 KeepsLine-push count byte by_cr begun old new size k kept full = record {
   size = omega (arith, length_push begun byte, k.size);
-  front = front-push (LINE_LIMIT + 1) count byte begun old new size k.size k.front kept (λ h. full (omega arith));
+  prefix = prefix-push (LINE_LIMIT + 1) count byte begun old new size k.size k.prefix kept (λ h. full (omega arith));
   last = sym (ends_with_byte-push carriage_return byte begun);
 }

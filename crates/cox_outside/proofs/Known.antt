@@ -5,7 +5,7 @@ use Rattle.std.specs.Io.KnownBytes.{prepend_known, append_known}
 use Rattle.std.proofs.lemmas.List.{take_at, length-take-le, take-append-drop, drop-drop, append-nil}
 use Rattle.std.proofs.lemmas.Bool.Decides.{nat_tests}
 use Rattle.std.proofs.Math.Seq.{take-add}
-use Rattle.cox_outside.specs.Writing.{Outlet, Puts, more_room}
+use Rattle.cox_outside.specs.Outlet.{Outlet, Writes, more_room}
 
 -- two takes, one after the other
 pub prepend_known-append : (front next : List ℕ) (known : Option (List ℕ)) → prepend_known front (prepend_known next known) ≡ prepend_known (front ++ next) known
@@ -36,25 +36,25 @@ more_room-zero None = refl
 more_room-zero (Some left) = ap Some (omega arith)
 
 -- no bytes were put
-pub Puts-none : (here : Outlet) → Puts [] here here
-Puts-none here = record { written = sym (append_known-none here.written); room = sym (more_room-zero here.room) }
+pub Writes-none : (here : Outlet) → Writes [] here here
+Writes-none here = record { written = sym (append_known-none here.written); room = sym (more_room-zero here.room) }
 
 -- bytes were put, and then more
-pub Puts-append : (front next : List ℕ) (old mid new : Outlet) → Puts front old mid → Puts next mid new → Puts (front ++ next) old new
-Puts-append front next old mid new p q = record {
+pub Writes-append : (front next : List ℕ) (old mid new : Outlet) → Writes front old mid → Writes next mid new → Writes (front ++ next) old new
+Writes-append front next old mid new p q = record {
   written = q.written ∙ ap (λ known. append_known known next) p.written ∙ append_known-append old.written front next;
   room = p.room ∙ ap (more_room (length front)) q.room ∙ more_room-add (length front) (length next) new.room
       ∙ ap (λ n. more_room n new.room) (sym (length-append front next));
 }
 
 -- the front was put, and then more of the same bytes
-pub Puts-on : (at count : ℕ) (bytes : List ℕ) (old mid new : Outlet) → Puts (take at bytes) old mid → Puts (take count (drop at bytes)) mid new → Puts (take (at + count) bytes) old new
-Puts-on at count bytes old mid new p q =
-    rw (take-add at count bytes) (Puts-append (take at bytes) (take count (drop at bytes)) old mid new p q)
+pub Writes-on : (at count : ℕ) (bytes : List ℕ) (old mid new : Outlet) → Writes (take at bytes) old mid → Writes (take count (drop at bytes)) mid new → Writes (take (at + count) bytes) old new
+Writes-on at count bytes old mid new p q =
+    rw (take-add at count bytes) (Writes-append (take at bytes) (take count (drop at bytes)) old mid new p q)
 
 -- bytes were put, and then none
-pub Puts-stay : (bytes : List ℕ) (old mid new : Outlet) → Puts bytes old mid → Puts [] mid new → Puts bytes old new
-Puts-stay bytes old mid new p q = rw (← append-nil bytes) (Puts-append bytes [] old mid new p q)
+pub Writes-stay : (bytes : List ℕ) (old mid new : Outlet) → Writes bytes old mid → Writes [] mid new → Writes bytes old new
+Writes-stay bytes old mid new p q = rw (← append-nil bytes) (Writes-append bytes [] old mid new p q)
 
 -- a front that was copied into a buffer, and what is left behind it
 pub copied_front : (at n : ℕ) (xs kept : List ℕ) → n ≤ length xs - at → drop at xs ≡ take n (take n (drop at xs) ++ kept) ++ drop (at + n) xs

@@ -4,7 +4,8 @@ use Rattle.std.proofs.lemmas.List.{take_at}
 use Rattle.std.proofs.lemmas.List.Elements.{All-head, All-tail}
 use Rattle.std.proofs.lemmas.Bool.Decides.{nat_tests}
 use Rattle.std.proofs.Math.Seq.{take-append-add}
-use Rattle.cox_outside.specs.Line.{line_feed, onto_first, into_first, lines_of, ended_lines, lines_within, IsUnbroken}
+use Rattle.cox_outside.specs.Line.{line_feed, onto_first, into_first, lines_of, ended_lines, lines_within}
+use Rattle.cox_outside.specs.Unbroken.{IsUnbroken}
 
 -- the first byte of an unbroken text is not LF
 not_lf : (byte : ℕ) (bytes : List ℕ) → IsUnbroken (byte ∷ bytes) → (byte == line_feed) ≡ false

@@ -6,7 +6,8 @@ use Rattle.std.proofs.lemmas.List.{append-nil}
 use Rattle.std.proofs.lemmas.List.Elements.{All-push}
 use Rattle.cox_outside.specs.declared.line_reader.Stop.{Stop}
 use Rattle.cox_outside.specs.declared.line_reader.Stop.TheVariants as stop
-use Rattle.cox_outside.specs.Line.{line_feed, lines_within, IsUnbroken}
+use Rattle.cox_outside.specs.Line.{line_feed, lines_within}
+use Rattle.cox_outside.specs.Unbroken.{IsUnbroken}
 use Rattle.cox_outside.specs.declared.limits.TheConstants.{INPUT_LIMIT}
 use Rattle.cox_outside.specs.Ahead.{Ahead, ahead, lines_ahead, Takes, TakesPart, MeetsEnd, MeetsLimit}
 use Rattle.cox_outside.specs.Reader.{fresh_reader, TakesNext}

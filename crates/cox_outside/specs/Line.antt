@@ -1,5 +1,5 @@
 -- The lines of a text, as lists of bytes.
-use Rattle.std.specs.Prelude.{◌≢◌, ℕ, Bool, ◌||◌, ◌==◌, nat_lt, nat_le, if◌then◌else◌, List, [], ◌∷◌, length, take, All}
+use Rattle.std.specs.Prelude.{ℕ, Bool, ◌||◌, ◌==◌, nat_lt, nat_le, if◌then◌else◌, List, [], ◌∷◌, length, take}
 use Rattle.std.specs.Io.BufRead.{strip_last}
 
 -- the byte that ends a line
@@ -33,10 +33,6 @@ ended_lines (byte ∷ bytes) = if byte == line_feed then [] ∷ ended_lines byte
 -- the lines of a text of which at most so many bytes may be read: of a longer one those that end by LF within the limit
 abbrev pub lines_within : ℕ → List ℕ → List (List ℕ)
 lines_within limit bytes = if nat_le (length bytes) limit then lines_of bytes else ended_lines (take limit bytes)
-
--- no byte of it is LF
-abbrev pub IsUnbroken : List ℕ → Type 0
-IsUnbroken bytes = All (λ byte. byte ≢ line_feed) bytes
 
 -- the byte is none of those from 0x20 to 0x7E, of which lines are made
 abbrev pub is_foreign : ℕ → Bool

@@ -3,7 +3,8 @@
 ghost use Rattle.std.specs.Prelude.{◌≡◌, ◌<◌, ◌≤◌, ◌++◌, length, take, drop};
 ghost use Rattle.std.specs.Io.KnownBytes.{prepend_known, IsAtEnd};
 ghost use Rattle.cox_outside.specs.Calls.{no_calls};
-ghost use Rattle.cox_outside.specs.Reading.{GotFits, SourceCause, got_bytes, got_count};
+ghost use Rattle.cox_outside.specs.SourceRead.{GotFits, got_bytes, got_count, got_failed};
+ghost use Rattle.cox_outside.specs.Supply.{SourceCause};
 ghost use Rattle.cox_outside.specs.Memory.{supply_of, next_got, after_read};
 
 use crate::calls::CallLog;
@@ -62,7 +63,7 @@ impl Source for MemorySource {
         ensures count { GotFits result (length into.old) }
         ensures bytes { (supply_of self.old).left ≡ prepend_known (got_bytes result into.new) (supply_of self.new).left }
         ensures end { result ≡ Got.End → IsAtEnd (supply_of self.old).left }
-        ensures cause { SourceCause (supply_of self.old) (supply_of self.new) (result ≡ Got.Failed) }
+        ensures cause { SourceCause (supply_of self.old) (supply_of self.new) (got_failed result) }
     {
         if self.calls.begin() {
             self.calls.fail();

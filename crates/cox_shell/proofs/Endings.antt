@@ -7,8 +7,8 @@ use Rattle.cox_outside.specs.declared.line_reader.Stop.{Stop}
 use Rattle.cox_outside.specs.declared.line_reader.Stop.TheVariants as stop
 use Rattle.cox_outside.specs.Reader.{TakesNext}
 use Rattle.cox_outside.specs.Ahead.{Ahead, Takes, lines_ahead, MeetsEnd, MeetsFault, MeetsLimit}
-use Rattle.cox_outside.specs.Writing.{Puts}
-use Rattle.cox_outside.proofs.Known.{Puts-append, prepend_known-none}
+use Rattle.cox_outside.specs.Outlet.{Writes}
+use Rattle.cox_outside.proofs.Known.{Writes-append, prepend_known-none}
 use Rattle.cox_outside.proofs.Taking.{Takes-none, Takes-append}
 use Rattle.cox_shell.specs.declared.status.Status.TheVariants.{Done, Refused}
 use Rattle.cox_shell.specs.declared.serving.Served.{Served}
@@ -48,7 +48,7 @@ pub ends_at_end : (refused : Bool) (old now next : Stand) → Progress refused o
 ends_at_end refused old now next p m same =
     let none : IfSome (lines_ahead now.ahead) (λ lines. lines ≡ []) = no_lines-end now.ahead next.ahead m in
     let taken : Takes (p.taken ++ []) old.ahead next.ahead = Takes-append p.taken [] old.ahead now.ahead next.ahead p.takes m.taken in (
-      record { replies = p.done; are_replies = no_more refused old now p none; puts = subst (λ out. Puts (texts p.done) old.out out) (sym same) p.puts },
+      record { replies = p.done; are_replies = no_more refused old now p none; puts = subst (λ out. Writes (texts p.done) old.out out) (sym same) p.puts },
       p.refuses,
       λ _. (within_budget (p.taken ++ []) old.ahead next.ahead taken m.end, m.end),
     )
@@ -66,7 +66,7 @@ ends_at_quit refused old now next p s =
         replies = p.done ++ s.reply ∷ [];
         are_replies = IfSome-made (λ more. (p.lines ++ s.taken.line ∷ []) ++ more) (λ lines. AreReplies old.state lines (p.done ++ s.reply ∷ [])) (lines_ahead old.ahead) (lines_ahead next.ahead) cut
             (IfSome-each (λ more. AreReplies old.state ((p.lines ++ s.taken.line ∷ []) ++ more) (p.done ++ s.reply ∷ [])) (lines_ahead next.ahead) (λ more. all more));
-        puts = subst (λ t. Puts t old.out next.out) (sym (texts-push p.done s.reply)) (Puts-append (texts p.done) s.reply.text old.out now.out next.out p.puts s.puts);
+        puts = subst (λ t. Writes t old.out next.out) (sym (texts-push p.done s.reply)) (Writes-append (texts p.done) s.reply.text old.out now.out next.out p.puts s.puts);
       },
       has_refusal-push p.done s.reply refused false p.refuses s.refuses ∙ or_false refused,
       λ no. absurd (cc (has_quit-push p.done s.reply false true p.quits s.quitting, no)),
@@ -82,7 +82,7 @@ ends_at_limit refused old now next p m same = (
   record {
     replies = p.done;
     are_replies = no_more refused old now p (no_lines-limit now.ahead next.ahead m);
-    puts = subst (λ out. Puts (texts p.done) old.out out) (sym same) p.puts;
+    puts = subst (λ out. Writes (texts p.done) old.out out) (sym same) p.puts;
   },
   IfSome-made (λ bytes. p.taken ++ bytes) (λ bytes. old.ahead.budget < length bytes) old.ahead.bytes now.ahead.bytes p.takes.bytes
       (IfSome-follows (λ bytes. now.ahead.budget < length bytes) (λ bytes. old.ahead.budget < length (p.taken ++ bytes)) now.ahead.bytes (λ bytes over. omega (arith, p.takes.cost, length-append p.taken bytes)) (over_limit now.ahead next.ahead m)),
@@ -97,7 +97,7 @@ front_so_far refused old now next p same = record {
       (IfSome-each (λ more. AreRepliesToFirst old.state (p.lines ++ more) p.done) (lines_ahead now.ahead) (λ more. (p.lines, more, refl, first)));
   front = texts p.done;
   is_front = ([], sym (append-nil (texts p.done)));
-  puts = subst (λ out. Puts (texts p.done) old.out out) (sym same) p.puts;
+  puts = subst (λ out. Writes (texts p.done) old.out out) (sym same) p.puts;
 } where
   first : AreReplies old.state p.lines p.done
   first = subst (λ lines. AreReplies old.state lines p.done) (append-nil p.lines) (subst (λ replies. AreReplies old.state (p.lines ++ []) replies) (append-nil p.done) (p.says [] [] refl))
@@ -113,7 +113,7 @@ ends_at_fault refused old now next going p m same = (
     replies = p.done;
     are_replies = subst (λ lines. AreReplies old.state lines p.done) (sym (p.ended going m.begun ∙ ap (λ l. p.lines ++ l) (ended_lines-none m.begun m.part.unbroken)))
         (subst (λ replies. AreReplies old.state (p.lines ++ []) replies) (append-nil p.done) (p.says [] [] refl));
-    puts = subst (λ out. Puts (texts p.done) old.out out) (sym same) p.puts;
+    puts = subst (λ out. Writes (texts p.done) old.out out) (sym same) p.puts;
   },
 )
 
@@ -133,7 +133,7 @@ ends_cut_off refused old now next p cut =
             (IfSome-each (λ more. AreRepliesToFirst old.state (lines ++ more) replies) (lines_ahead next.ahead) (λ more. (lines, more, refl, are)));
         front = texts p.done ++ cut.front;
         is_front = (cut.is_front.0, joined ∙ ap (λ t. texts p.done ++ t) cut.is_front.1 ∙ sym (append_assoc (texts p.done) cut.front cut.is_front.0));
-        puts = Puts-append (texts p.done) cut.front old.out now.out next.out p.puts cut.puts;
+        puts = Writes-append (texts p.done) cut.front old.out now.out next.out p.puts cut.puts;
       },
       λ small. IfSome-made (λ left. left + length (texts p.done)) (λ left. left < length (texts replies)) old.out.room now.out.room p.puts.room
           (IfSome-follows (λ left. left < length cut.reply.text) (λ left. left + length (texts p.done) < length (texts replies)) now.out.room

@@ -10,9 +10,9 @@ use Rattle.cox_outside.specs.declared.line_reader.Stop.{Stop}
 use Rattle.cox_outside.specs.declared.line_reader.Stop.TheVariants as stop
 use Rattle.cox_outside.specs.Line.{ended_lines}
 use Rattle.cox_outside.specs.Ahead.{Ahead, Takes, lines_ahead}
-use Rattle.cox_outside.specs.Writing.{Puts}
+use Rattle.cox_outside.specs.Outlet.{Writes}
 use Rattle.cox_outside.specs.Reader.{TakesNext}
-use Rattle.cox_outside.proofs.Known.{Puts-none, Puts-append}
+use Rattle.cox_outside.proofs.Known.{Writes-none, Writes-append}
 use Rattle.cox_outside.proofs.Taking.{Takes-none, Takes-append}
 use Rattle.cox_shell.specs.Reply.{Reply}
 use Rattle.cox_shell.specs.Answer.{AreReplies, texts, has_refusal, has_quit}
@@ -27,7 +27,7 @@ pub record Progress (refused : Bool) (old now : Stand) : Type 0 where
   pub done : List Reply
   pub says : (more : List (List ℕ)) (rest : List Reply) → AreReplies now.state more rest → AreReplies old.state (lines ++ more) (done ++ rest)
   pub cut : lines_ahead old.ahead ≡ option_map (λ more. lines ++ more) (lines_ahead now.ahead)
-  pub puts : Puts (texts done) old.out now.out
+  pub puts : Writes (texts done) old.out now.out
   pub refuses : has_refusal done ≡ refused
   pub quits : has_quit done ≡ false
   pub taken : List ℕ
@@ -100,7 +100,7 @@ Progress-start here going = record {
   done = [];
   says = λ more rest h. h;
   cut = same (lines_ahead here.ahead);
-  puts = Puts-none here.out;
+  puts = Writes-none here.out;
   refuses = refl;
   quits = refl;
   taken = [];
@@ -122,7 +122,7 @@ Progress-more before refused old now next going p s =
       says = λ more rest h. AreReplies-rejoin old.state p.lines more p.done rest s.taken.line s.reply
           (p.says (s.taken.line ∷ more) (s.reply ∷ rest) (AreReplies-cons now.state next.state s.taken.line s.reply more rest s.taken.is_reply s.quitting s.state_after h));
       cut = cut_more p.lines s.taken.line (lines_ahead old.ahead) (lines_ahead now.ahead) (lines_ahead next.ahead) p.cut one.cut;
-      puts = subst (λ t. Puts t old.out next.out) (sym (texts-push p.done s.reply)) (Puts-append (texts p.done) s.reply.text old.out now.out next.out p.puts s.puts);
+      puts = subst (λ t. Writes t old.out next.out) (sym (texts-push p.done s.reply)) (Writes-append (texts p.done) s.reply.text old.out now.out next.out p.puts s.puts);
       refuses = has_refusal-push p.done s.reply before refused p.refuses s.refuses;
       quits = has_quit-push p.done s.reply false false p.quits s.quitting;
       taken = p.taken ++ one.taken;

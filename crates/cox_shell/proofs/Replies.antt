@@ -4,7 +4,7 @@ use Rattle.std.specs.Option.{MatchOption}
 use Rattle.std.specs.Bool.{MatchBool}
 use Rattle.std.proofs.lemmas.Grind.{flat_map-append}
 use Rattle.cox_outside.specs.Line.{content_of}
-use Rattle.cox_outside.specs.Writing.{IsFront}
+use Rattle.cox_outside.specs.Outlet.{IsPrefix}
 use Rattle.cox_shell.specs.Reply.{Limits, State, Reply, refusal, opening}
 use Rattle.cox_shell.specs.ContentReply.{IsContentReply}
 use Rattle.cox_shell.specs.LineReply.{IsReply, content_refusal}
@@ -72,17 +72,17 @@ AreReplies-unique state (line ∷ lines) (reply ∷ one) (also ∷ other) p q =
     ap (λ l. reply ∷ l) tail ∙ ap (λ r. r ∷ other) (sym same)
 
 -- the text of the first replies is a front of the text of all
-pub IsFront-texts : (some more : List Reply) → IsFront (texts some) (texts (some ++ more))
-IsFront-texts some more = (texts more, flat_map-append (λ (reply : Reply). reply.text) some more)
+pub IsPrefix-texts : (some more : List Reply) → IsPrefix (texts some) (texts (some ++ more))
+IsPrefix-texts some more = (texts more, flat_map-append (λ (reply : Reply). reply.text) some more)
 
 -- a script has one answer
 pub IsAnswer-unique : (limits : Limits) (script one other : List ℕ) → IsAnswer limits script one → IsAnswer limits script other → one ≡ other
 IsAnswer-unique limits script one other p q = p.2 ∙ ap texts (AreReplies-unique (opening limits) (script_lines script) p.0 q.0 p.1 q.1) ∙ sym q.2
 
 -- the text of the replies to its first lines is a front of it
-pub IsFront-answer : (limits : Limits) (script text : List ℕ) (replies : List Reply) → AreFirstReplies limits script replies → IsAnswer limits script text
-    → IsFront (texts replies) text
-IsFront-answer limits script text replies p q =
+pub IsPrefix-answer : (limits : Limits) (script text : List ℕ) (replies : List Reply) → AreFirstReplies limits script replies → IsAnswer limits script text
+    → IsPrefix (texts replies) text
+IsPrefix-answer limits script text replies p q =
     let all : AreReplies (opening limits) (p.0 ++ p.1) q.0 = subst (λ lines. AreReplies (opening limits) lines q.0) p.2 q.1 in
     let front = AreReplies-front (opening limits) p.0 p.1 replies q.0 p.3 all in
-    subst (λ t. IsFront (texts replies) t) (ap texts (sym front.1) ∙ sym q.2) (IsFront-texts replies front.0)
+    subst (λ t. IsPrefix (texts replies) t) (ap texts (sym front.1) ∙ sym q.2) (IsPrefix-texts replies front.0)

@@ -4,10 +4,10 @@ use Rattle.std.specs.Option.{IfSome, option_map}
 use Rattle.std.specs.Io.KnownBytes.{prepend_known, IsAtEnd}
 use Rattle.std.proofs.lemmas.List.{append-nil}
 use Rattle.cox_outside.specs.Line.{lines_within}
-use Rattle.cox_outside.specs.Reading.{Supply}
+use Rattle.cox_outside.specs.Supply.{Supply}
 use Rattle.cox_outside.specs.Reader.{Reader}
-use Rattle.cox_outside.specs.Writing.{Outlet}
-use Rattle.cox_outside.proofs.Known.{prepend_known-none, Puts-none}
+use Rattle.cox_outside.specs.Outlet.{Outlet}
+use Rattle.cox_outside.proofs.Known.{prepend_known-none, Writes-none}
 use Rattle.cox_options.specs.Words.{is_refused, given_number, IsTaken, IsUsage}
 use Rattle.cox_options.specs.declared.options.Options.{Options}
 use Rattle.cox_shell.specs.declared.status.Status.{Status}
@@ -102,13 +102,13 @@ pub WritesDue-none : (words : List (List ℕ)) (script : Option (List ℕ)) (old
 WritesDue-none words script old = by_words (is_refused words) refl
   where
     by_words : (b : Bool) → is_refused words ≡ b → WritesDue words script old old
-    by_words true wrong = (usage_line, [], IsDue-usage words script wrong, (usage_line, refl), Puts-none old)
+    by_words true wrong = (usage_line, [], IsDue-usage words script wrong, (usage_line, refl), Writes-none old)
     by_words false right = (
       [],
       [],
       IsDue-replies words script [] right (IfSome-each (λ bytes. AreFirstReplies (given_limits words) bytes []) script (λ bytes. ([], lines_within input_limit bytes, refl, refl))),
       ([], refl),
-      Puts-none old,
+      Writes-none old,
     )
 
 -- more was due than there was room for

@@ -3,7 +3,7 @@ use Rattle.std.specs.Prelude.{◌≡◌, ℕ, ◌<◌, ◌≤◌, Bool, true, fa
 use Rattle.std.specs.Io.KnownBytes.{prepend_known, IsAtEnd}
 use Rattle.cox_outside.specs.Line.{ended_lines}
 use Rattle.cox_outside.specs.Ahead.{Ahead, lines_ahead}
-use Rattle.cox_outside.specs.Writing.{Puts, IsFront}
+use Rattle.cox_outside.specs.Outlet.{Writes, IsPrefix}
 use Rattle.cox_shell.specs.declared.status.Status.{Status}
 use Rattle.cox_shell.specs.declared.status.Status.TheVariants.{Done, Refused, Usage, ReadFault, WriteFault, NoMemory, InputLimit}
 use Rattle.cox_shell.specs.Reply.{Reply}
@@ -14,7 +14,7 @@ use Rattle.cox_shell.specs.Run.{Stand}
 pub record WritesAll (old new : Stand) : Type 0 where
   pub replies : List Reply
   pub are_replies : IfSome (lines_ahead old.ahead) (λ lines. AreReplies old.state lines replies)
-  pub puts : Puts (texts replies) old.out new.out
+  pub puts : Writes (texts replies) old.out new.out
 
 -- there was a reply that ends the run, or the input was read to its end, and was within the budget
 abbrev pub EndsAll : List Reply → Ahead → Ahead → Type 0
@@ -29,8 +29,8 @@ pub record WritesFront (old new : Stand) : Type 0 where
   pub replies : List Reply
   pub are_replies : IfSome (lines_ahead old.ahead) (λ lines. AreRepliesToFirst old.state lines replies)
   pub front : List ℕ
-  pub is_front : IsFront front (texts replies)
-  pub puts : Puts front old.out new.out
+  pub is_front : IsPrefix front (texts replies)
+  pub puts : Writes front old.out new.out
 
 -- the replies to the lines that end by LF among the bytes given were written
 pub record WritesGiven (old new : Stand) : Type 0 where
@@ -39,7 +39,7 @@ pub record WritesGiven (old new : Stand) : Type 0 where
   pub none_pending : new.ahead.pending ≡ []
   pub replies : List Reply
   pub are_replies : AreReplies old.state (ended_lines given) replies
-  pub puts : Puts (texts replies) old.out new.out
+  pub puts : Writes (texts replies) old.out new.out
 
 -- what a run over the lines does
 abbrev pub Runs : Status → Stand → Stand → Type 0

@@ -2,8 +2,8 @@
 use Rattle.std.specs.Prelude.{◌≡◌, ℕ, ◌<◌, Bool, true, false, List, [], length, Option, IfSome, Result, Ok, Err}
 use Rattle.cox_outside.specs.declared.line_reader.Stop.{Stop}
 use Rattle.cox_outside.specs.declared.line_reader.Next.TheVariants as next
-use Rattle.cox_outside.specs.Reading.{Supply}
-use Rattle.cox_outside.specs.Writing.{Outlet, Puts, IsFront}
+use Rattle.cox_outside.specs.Supply.{Supply}
+use Rattle.cox_outside.specs.Outlet.{Outlet, Writes, IsPrefix}
 use Rattle.cox_outside.specs.Ahead.{Ahead, ahead}
 use Rattle.cox_outside.specs.Reader.{Reader, TakesNext, Reads}
 use Rattle.std.specs.declared.alloc.AllocError.{AllocError}
@@ -50,7 +50,7 @@ Hears heard.Limit before after halt old new buffer = Reads next.Limit halt old n
 pub record IsServed (refused quits : Bool) (old new : Stand) : Type 0 where
   pub reply : Reply
   pub taken : IsTaken reply old.state new.stop old.ahead new.ahead
-  pub puts : Puts reply.text old.out new.out
+  pub puts : Writes reply.text old.out new.out
   pub state_after : new.state ≡ reply.after
   pub refuses : reply.refused ≡ refused
   pub quitting : reply.quits ≡ quits
@@ -60,8 +60,8 @@ pub record IsCutOff (old new : Stand) : Type 0 where
   pub reply : Reply
   pub taken : IsTaken reply old.state new.stop old.ahead new.ahead
   pub front : List ℕ
-  pub is_front : IsFront front reply.text
-  pub puts : Puts front old.out new.out
+  pub is_front : IsPrefix front reply.text
+  pub puts : Writes front old.out new.out
 
 -- what serving the next line did
 abbrev pub Serves : Served → Stand → Stand → Type 0

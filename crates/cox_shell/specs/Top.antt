@@ -3,7 +3,7 @@ use Rattle.std.specs.Prelude.{◌≡◌, ℕ, ◌<◌, ◌≤◌, Bool, false, L
 use Rattle.std.specs.Borrow.{Bor}
 use Rattle.std.specs.Io.KnownBytes.{prepend_known, IsAtEnd}
 use Rattle.cox_outside.specs.Line.{ended_lines}
-use Rattle.cox_outside.specs.Writing.{Outlet, Puts, IsFront}
+use Rattle.cox_outside.specs.Outlet.{Outlet, Writes, IsPrefix}
 use Rattle.cox_options.specs.Words.{is_refused, given_number}
 use Rattle.cox_shell.specs.Reply.{Limits, Reply, opening}
 use Rattle.cox_shell.specs.Answer.{AreReplies, AreScriptReplies, AreFirstReplies, texts, has_refusal, has_quit, input_limit}
@@ -24,7 +24,7 @@ given_limits words = record { context = unwrap_or (given_number (codes "context"
 pub record WritesAnswer (limits : Limits) (script : Option (List ℕ)) (old new : Outlet) : Type 0 where
   pub replies : List Reply
   pub are_replies : IfSome script (λ bytes. AreScriptReplies limits bytes replies)
-  pub puts : Puts (texts replies) old new
+  pub puts : Writes (texts replies) old new
 
 -- One of the replies ends the run, or the script was within the limit and was read to its end.
 abbrev pub IsReadWhole : List Reply → Option (List ℕ) → Option (List ℕ) → Type 0
@@ -44,7 +44,7 @@ pub record AnswersGiven (limits : Limits) (script left : Option (List ℕ)) (old
   pub taken : script ≡ prepend_known given left
   pub replies : List Reply
   pub are_replies : AreReplies (opening limits) (ended_lines given) replies
-  pub puts : Puts (texts replies) old new
+  pub puts : Writes (texts replies) old new
 
 -- what is due after some lines were read: their replies, or the usage line for wrong words
 abbrev pub IsDue : List (List ℕ) → Option (List ℕ) → List ℕ → Type 0
@@ -53,7 +53,7 @@ IsDue words script text = MatchBool (is_refused words) (text ≡ usage_line)
 
 -- a front of what is due was written
 abbrev pub WritesDue : List (List ℕ) → Option (List ℕ) → Outlet → Outlet → Type 0
-WritesDue words script old new = (text : List ℕ) × (front : List ℕ) × IsDue words script text × IsFront front text × Puts front old new
+WritesDue words script old new = (text : List ℕ) × (front : List ℕ) × IsDue words script text × IsPrefix front text × Writes front old new
 
 -- more was due than there was room for, where that is told
 abbrev pub IsOverRoom : List (List ℕ) → Option (List ℕ) → Option ℕ → Type 0

@@ -1,8 +1,8 @@
 //! All lines, and the status that they lead to.
 
 ghost use Rattle.std.specs.Prelude.{◌≡◌, None, if◌then◌else◌};
-ghost use Rattle.cox_outside.specs.Reading.{SourceCause};
-ghost use Rattle.cox_outside.specs.Writing.{SinkCause};
+ghost use Rattle.cox_outside.specs.Supply.{SourceCause};
+ghost use Rattle.cox_outside.specs.Outlet.{SinkCause};
 ghost use Rattle.cox_shell.specs.Run.{stand};
 ghost use Rattle.cox_shell.specs.Outcome.{Runs};
 

@@ -2,8 +2,8 @@
 
 ghost use Rattle.std.specs.Prelude.{◌≡◌, [], None};
 ghost use Rattle.cox_outside.specs.Ahead.{ahead};
-ghost use Rattle.cox_outside.specs.Reading.{SourceCause};
-ghost use Rattle.cox_outside.specs.Writing.{SinkCause};
+ghost use Rattle.cox_outside.specs.Supply.{SourceCause};
+ghost use Rattle.cox_outside.specs.Outlet.{SinkCause};
 ghost use Rattle.cox_shell.specs.Run.{stand, Hears, Serves, heard_of};
 
 use crate::session::{Said, Session};

@@ -2,9 +2,9 @@
 
 ghost use Rattle.std.specs.Prelude.{◌≡◌, ◌≤◌, ◌⊎◌, length, true, false, IsSomeAnd};
 ghost use Rattle.cox_options.specs.Words.{IsTaken, IsUsage};
-ghost use Rattle.cox_outside.specs.Fault.{Rose};
-ghost use Rattle.cox_outside.specs.Reading.{SourceCause};
-ghost use Rattle.cox_outside.specs.Writing.{Puts, SinkCause};
+ghost use Rattle.cox_outside.specs.FaultCount.{Rose};
+ghost use Rattle.cox_outside.specs.Supply.{SourceCause};
+ghost use Rattle.cox_outside.specs.Outlet.{Writes, SinkCause};
 ghost use Rattle.cox_shell.specs.Answer.{input_limit};
 ghost use Rattle.cox_shell.specs.Status.{IsUnhindered};
 ghost use Rattle.cox_shell.specs.Top.{usage_line, word_texts, given_limits, AnswersWhole, AnswersWithin, AnswersGiven, WritesDue, IsOverRoom};
@@ -41,7 +41,7 @@ pub fn run_one<S: Source, K: Sink>(
 
     // Where the words give no options it is the usage line, and only there.
     ensures usage { result ≡ Status.Usage → IsUsage (word_texts words.now)
-        × Puts usage_line (K.seen sink.old) (K.seen sink.new) }
+        × Writes usage_line (K.seen sink.old) (K.seen sink.new) }
     ensures usage_always { IsUsage (word_texts words.now)
         → (result ≡ Status.Usage) ⊎ (result ≡ Status.WriteFault) ⊎ (result ≡ Status.NoMemory) }
 

@@ -11,6 +11,6 @@ scan-preserved g c = record {
   size = c.keep_byte.ensures.size;
   room = omega (arith, c.in-Byte.ensures.budget);
   spent = omega (arith, c.in-Byte.ensures.budget);
-  later = omega (arith, c.in-Byte.ensures.cause.later);
+  faults = c.in-Byte.ensures.cause.faults ∙ c.scan.invariant.faults;
   same_sure = c.in-Byte.ensures.cause.same_sure ∙ c.scan.invariant.same_sure;
 }

@@ -12,7 +12,7 @@ invariant-scan g l = record {
   size : length l.line ≡ LINE_LIMIT + 1;
   room : l.count + l.feed.budget ≤ INPUT_LIMIT;
   spent : l.feed.budget ≤ l.initial.feed.budget;
-  later : (g.S.Source.seen l.initial.source).faults ≤ (g.S.Source.seen l.source).faults;
+  faults : (g.S.Source.seen l.source).faults ≡ (g.S.Source.seen l.initial.source).faults;
   same_sure : (g.S.Source.seen l.source).sure ≡ (g.S.Source.seen l.initial.source).sure;
 }
 

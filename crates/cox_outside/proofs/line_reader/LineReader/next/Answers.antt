@@ -3,7 +3,7 @@ use Rattle.std.proofs.lemmas.List.{take_at}
 use Rattle.cox_outside.specs.declared.line_reader.Stop.TheVariants as stop
 use Rattle.cox_outside.specs.Scan.{KeepsLine}
 use Rattle.cox_outside.specs.Reader.{halt_of}
-use Rattle.cox_outside.proofs.Telling.{Reads-line, Shows-no_fault, SourceCause-from, none_is_not_some}
+use Rattle.cox_outside.proofs.Telling.{Reads-line, SourceCause-shown, none_is_not_some}
 use Rattle.cox_outside.proofs.line_reader.LineReader.next.Goals as goal
 
 pub returns-in-Line : goal.returns-in-Line
@@ -16,7 +16,7 @@ returns-in-Line g c =
     let halt : c.stop_at-self-inside.result ≡ None = c.stop_at-self-inside.ensures ∙ ap halt_of c.in-Line.is in
     rw (← c.self.view_is) (
       (refl, (λ _. tt), rw going (rw halt (Reads-line _ None _ _ _ scans.1 shows))),
-      record { answers = tt; still = λ stopped. absurd (none_is_not_some _ going stopped); cause = SourceCause-from _ _ _ _ (λ t. absurd (Shows-no_fault _ _ shows t.1)) c.in-Line.ensures.cause },
+      record { answers = tt; still = λ stopped. absurd (none_is_not_some _ going stopped); cause = SourceCause-shown _ _ _ _ _ shows going c.in-Line.ensures.cause },
     )
 
 pub returns-in-Last : goal.returns-in-Last
@@ -29,5 +29,5 @@ returns-in-Last g c =
     let halt : c.stop_at-self-inside.result ≡ Some stop.End = c.stop_at-self-inside.ensures ∙ ap halt_of c.in-Last.is in
     rw (← c.self.view_is) (
       (refl, (λ _. tt), rw going (rw halt (Reads-line _ (Some stop.End) _ _ _ scans.1 shows))),
-      record { answers = tt; still = λ stopped. absurd (none_is_not_some _ going stopped); cause = SourceCause-from _ _ _ _ (λ t. absurd (Shows-no_fault _ _ shows t.1)) c.in-Last.ensures.cause },
+      record { answers = tt; still = λ stopped. absurd (none_is_not_some _ going stopped); cause = SourceCause-shown _ _ _ _ _ shows going c.in-Last.ensures.cause },
     )
