@@ -20,7 +20,7 @@ use Rattle.clap.proofs.SimpleLemmas.{all_simple, is_nil, plain_fields, simple_gr
 use Rattle.clap.proofs.WalkLemmas.{both, one_text-rows}
 use Rattle.cox_options.specs.Command.{coxeter_app, number_rule}
 use Rattle.cox_options.specs.Found.{HasNumber}
-use Rattle.cox_options.specs.Words.{given_number, number_of}
+use Rattle.cox_options.specs.Arguments.{given_number, number_of}
 use Rattle.cox_options.proofs.DefaultValue.{default_read}
 
 is_none : {X : Type 0} (o : Option X) → not (is_some o) ≡ true → o ≡ None

@@ -4,7 +4,7 @@ use Rattle.std.proofs.lemmas.Bool.{ne_eqb}
 use Rattle.clap.specs.Lexer.{strip_byte}
 use Rattle.clap.specs.ValueTests.{is_unsigned_in}
 use Rattle.clap.proofs.OnLiterals.{clap_on_literals}
-use Rattle.cox_options.specs.Words.{given_number, is_refused, number_of}
+use Rattle.cox_options.specs.Arguments.{given_number, is_refused, number_of}
 
 pub joined_taken : (name text : List ℕ) → is_refused (name ∷ (codes "--context=" ++ text) ∷ []) ≡ not (is_unsigned_in 1 65536 text)
 unfolding clap_on_literals

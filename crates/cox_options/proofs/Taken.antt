@@ -21,7 +21,7 @@ use Rattle.clap.specs.declared.parser.matches.ValueSource.TheVariants.{CommandLi
 use Rattle.clap.proofs.SimpleLemmas.{is_nil}
 use Rattle.clap.proofs.WalkLemmas.{both}
 use Rattle.cox_options.specs.Command.{coxeter_app, number_rule}
-use Rattle.cox_options.specs.Words.{IsTaken, given_number, number_of}
+use Rattle.cox_options.specs.Arguments.{IsTaken, given_number, number_of}
 
 -- the command and its one option, as a parse reads them
 abbrev command : Shape

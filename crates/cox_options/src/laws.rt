@@ -1,7 +1,7 @@
 //! What the command's definition gives.
 ghost use Rattle.std.specs.Prelude.{◌≡◌, ◌≢◌, ◌≤◌, ◌∷◌, ◌++◌, [], ℕ, List, Some, IsSomeAnd, codes, not, slice_index};
 ghost use Rattle.clap.specs.ValueTests.{is_unsigned_in};
-ghost use Rattle.cox_options.specs.Words.{IsTaken, is_refused, number_of, given_number};
+ghost use Rattle.cox_options.specs.Arguments.{IsTaken, is_refused, number_of, given_number};
 
 /// The program's name alone is taken, and gives each option its default.
 pub fn name_alone_gives_defaults()

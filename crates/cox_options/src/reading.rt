@@ -2,7 +2,7 @@
 ghost use Rattle.std.specs.Prelude.{◌≡◌, ◌≢◌, Err, IfOk, OnOk, Some, codes, map, option_map};
 ghost use Rattle.clap.specs.Words.{found_of, kind_of, one_text};
 ghost use Rattle.clap.specs.declared.error.kind.ErrorKind.TheVariants.{OutOfMemory};
-ghost use Rattle.cox_options.specs.Words.{IsTaken, IsUsage, number_of, given_number};
+ghost use Rattle.cox_options.specs.Arguments.{IsTaken, IsUsage, number_of, given_number};
 ghost use Rattle.cox_options.specs.Found.{HasNumber};
 ghost use Rattle.cox_options.specs.declared.reading.OptionFault.TheVariants.{NoMemory, Usage};
 

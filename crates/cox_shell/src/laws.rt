@@ -3,7 +3,8 @@
 ghost use Rattle.std.specs.Prelude.{◌≡◌, ℕ, List};
 ghost use Rattle.cox_outside.specs.Outlet.{IsPrefix};
 ghost use Rattle.cox_shell.specs.Reply.{Limits, Reply};
-ghost use Rattle.cox_shell.specs.Answer.{AreFirstReplies, AreScriptReplies, IsAnswer, texts};
+ghost use Rattle.cox_shell.specs.Answer.{AreScriptReplies, texts};
+ghost use Rattle.cox_shell.specs.FirstReplies.{AreFirstReplies, IsAnswer};
 
 /// A script has an answer, within any limits.
 pub fn some_answer()
