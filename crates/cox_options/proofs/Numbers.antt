@@ -3,6 +3,7 @@ use Rattle.std.proofs.Common.{◌≡◌, ◌∙◌, ◌<◌, ap, ℕ, true, fals
 use Rattle.std.specs.List.{slice_index_or}
 use Rattle.std.specs.Str.{bytes_eq}
 use Rattle.std.proofs.lemmas.List.{get_or-map, length-map}
+use Rattle.cox_options.specs.declared.options.TheConstants.{MAX_CONTEXT, MAX_CONTEXT_TEXT}
 use Rattle.clap.specs.Facts.{args_of, least_values, unwrap_or_range}
 use Rattle.clap.specs.Built.{IsParsedFrom}
 use Rattle.clap.specs.Matches.{found_of, one_text}
@@ -75,8 +76,8 @@ number_read app c m p is plain simple k name most default below rule unique name
     subst (λ (t : Text). HasNumber (found_of m) t most) id read
 
 -- the context
-pub context_read : (c : Command) (m : ArgMatches) → IsParsedFrom c m → app_of c ≡ coxeter_app → HasNumber (found_of m) (codes "context") 65536
-context_read c m p is = number_read coxeter_app c m p is refl refl 0 (codes "context") 65536 (codes "65536") (omega arith) (λ r. refl)
+pub context_read : (c : Command) (m : ArgMatches) → IsParsedFrom c m → app_of c ≡ coxeter_app → HasNumber (found_of m) (codes "context") MAX_CONTEXT
+context_read c m p is = number_read coxeter_app c m p is refl refl 0 (codes "context") MAX_CONTEXT MAX_CONTEXT_TEXT.now (omega arith) (λ r. refl)
     (λ j r lt same. omega arith)
     (λ e. let bad : 99 ≡ 0 = ap (λ (t : Text). slice_index t 0) e in absurd (omega arith))
     (λ e. let bad : 99 ≡ 104 = ap (λ (t : Text). slice_index t 0) e in absurd (omega arith))

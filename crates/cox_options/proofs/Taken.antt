@@ -6,6 +6,7 @@ use Rattle.std.specs.Option.{option_map_or}
 use Rattle.std.specs.List.{find, fold}
 use Rattle.std.specs.Str.{bytes_eq, chars}
 use Rattle.std.proofs.lemmas.Bool.{leb-true, ne_eqb}
+use Rattle.cox_options.specs.declared.options.TheConstants.{MAX_CONTEXT, MAX_CONTEXT_TEXT}
 use Rattle.clap.specs.Faults.{flag_word_fault, long_fault, option_fault, other_fault, settle_fault, turn_fault, use_fault, walk_fault, word_fault}
 use Rattle.clap.specs.Kinds.{Kinds, or_else}
 use Rattle.clap.specs.Lexer.{long_of, short_of}
@@ -28,7 +29,7 @@ abbrev command : Shape
 command = (built coxeter_app).top
 
 abbrev rule : Rule
-rule = with_index 1 (filled (number_rule (codes "context") 65536 (codes "65536")))
+rule = with_index 1 (filled (number_rule (codes "context") MAX_CONTEXT MAX_CONTEXT_TEXT.now))
 
 abbrev rules : List Rule
 rules = rule ∷ []
@@ -40,7 +41,7 @@ given_row text = record { id = codes "context"; values = text ∷ []; count = No
 -- nothing is found, or a number in the range
 abbrev IsGood : List Row → Type 0
 IsGood [] = Unit {0}
-IsGood (r ∷ rs) = (text : Text) × (r ∷ rs ≡ given_row text ∷ []) × (is_unsigned_in 1 65536 text ≡ true)
+IsGood (r ∷ rs) = (text : Text) × (r ∷ rs ≡ given_row text ∷ []) × (is_unsigned_in 1 MAX_CONTEXT text ≡ true)
 
 none_of_both : (a b : Kinds) → or_else a b ≡ [] → (a ≡ []) × (b ≡ [])
 none_of_both [] b e = (refl, e)
@@ -51,9 +52,9 @@ used_good : (values : List Text) (rows : List Row) → IsGood rows → use_fault
 used_good [] rows good e =
     let bad : InvalidValue ∷ [] ≡ [] = e in
     cc
-used_good (v ∷ []) [] good e = go (is_unsigned_in 1 65536 v) refl e
+used_good (v ∷ []) [] good e = go (is_unsigned_in 1 MAX_CONTEXT v) refl e
   where
-    go : (b : Bool) → is_unsigned_in 1 65536 v ≡ b → use_fault false rule (v ∷ []) [] ≡ [] → IsGood (used rule (v ∷ []) [])
+    go : (b : Bool) → is_unsigned_in 1 MAX_CONTEXT v ≡ b → use_fault false rule (v ∷ []) [] ≡ [] → IsGood (used rule (v ∷ []) [])
     go true ok e = (v, refl, ok)
     go false out e =
         let bad : ValueValidation ∷ [] ≡ [] = rw out at e in
@@ -207,7 +208,7 @@ walk_good w (word ∷ words) good e =
     walk_good (walked rules [] w word) words (turn_good w word good parts.0) parts.1
 
 abbrev IsInRange : ℕ → Type 0
-IsInRange n = (1 ≤ n) × (n ≤ 65536)
+IsInRange n = (1 ≤ n) × (n ≤ MAX_CONTEXT)
 
 -- what is found at the end is a number in the range: the default, where none was given
 finished_good : (rows : List Row) → IsGood rows → IsSomeAnd (option_map number_of (one_of (codes "context") (with_default rows rule))) IsInRange
