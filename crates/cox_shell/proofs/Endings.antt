@@ -108,7 +108,7 @@ ends_at_quit refused old now next going p s =
     let lines : List (List ℕ) = p.lines ++ s.taken.line ∷ [] in
     let replies : List Reply = p.done ++ s.reply ∷ [] in
     let read : TakenLines lines next.stop old.ahead next.ahead = TakenLines-append p.lines (s.taken.line ∷ []) next.stop old.ahead now.ahead next.ahead (going_lines refused old now going p)
-        (TakenLines-one next.stop s.taken.line now.ahead next.ahead s.taken.takes) in
+    (TakenLines-one next.stop s.taken.line now.ahead next.ahead s.taken.takes) in
     let written : Writes (texts replies) old.out next.out = subst (λ t. Writes t old.out next.out) (sym (texts-push p.done s.reply)) (Writes-append (texts p.done) s.reply.text old.out now.out next.out p.writes s.writes) in
     let quits : has_quit replies ≡ true = has_quit-push p.done s.reply false true p.quits s.quitting in
     record {

@@ -96,8 +96,14 @@ TakenLines-append first next halt old now new p q = record {
   taken = p.taken ++ q.taken;
   takes = Takes-append p.taken q.taken old now new p.takes q.takes;
   cut = cut_append first next (lines_ahead old) (lines_ahead now) (lines_ahead new) p.cut q.cut;
-  size = omega (arith, p.size, q.size, length-append p.taken q.taken, length-append (bytes_of first) (bytes_of next),
-      ap length (flat_map-append (λ (line : List ℕ). line ++ line_feed ∷ []) first next));
+  size = omega (
+    arith,
+    p.size,
+    q.size,
+    length-append p.taken q.taken,
+    length-append (bytes_of first) (bytes_of next),
+    ap length (flat_map-append (λ (line : List ℕ). line ++ line_feed ∷ []) first next),
+  );
   ended = λ h more. ap ended_lines (append_assoc p.taken q.taken more) ∙ p.ended refl (q.taken ++ more) ∙ ap (λ l. first ++ l) (q.ended h more)
       ∙ sym (append_assoc first next (ended_lines more));
   all = λ h more. ap lines_of (append_assoc p.taken q.taken more) ∙ p.all refl (q.taken ++ more) ∙ ap (λ l. first ++ l) (q.all h more)

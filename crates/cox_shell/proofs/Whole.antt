@@ -81,9 +81,9 @@ module _ (limits : Limits) (script : Option (List ℕ)) (old : Outlet) (state : 
         h.refuses,
         elim (has_quit replies) as (λ b. MatchBool b (StopsThere replies begins.ahead ends.ahead) (IfSome script (λ bytes. length bytes ≤ INPUT_LIMIT) × IsAtEnd ends.ahead.bytes)
             → MatchBool b (StopsReading replies script supply.left) (IfSome script (λ bytes. length bytes ≤ INPUT_LIMIT) × IsAtEnd supply.left)) [
-          | true ↦ λ stops. StopsThere-reading replies stops
-          | false ↦ λ whole. (whole.0, IsAtEnd-left reader.feed.pending supply.left whole.1)
-        ] h.ends,
+              | true ↦ λ stops. StopsThere-reading replies stops
+              | false ↦ λ whole. (whole.0, IsAtEnd-left reader.feed.pending supply.left whole.1)
+            ] h.ends,
       )
 
   -- the lines within the limit were answered
@@ -153,8 +153,11 @@ pub Runs-room : (arguments : List (List ℕ)) (script : Option (List ℕ)) (old 
     → Runs WriteFault (beginning (given_limits arguments) script old) (stand state reader supply new) → IsOverRoom arguments script supply.left old.room
 Runs-room arguments script old state reader supply new right runs =
     IfSome-follows (λ count. count < length (texts runs.0.replies)) (λ count. (text : List ℕ) × IsDue arguments script supply.left text × (count < length text)) old.room
-    (λ count small. (texts runs.0.replies,
-        IsDue-replies arguments script supply.left runs.0.replies right (WritesPrefix-due (given_limits arguments) script old state reader supply new runs.0), small)) runs.1
+    (λ count small. (
+      texts runs.0.replies,
+      IsDue-replies arguments script supply.left runs.0.replies right (WritesPrefix-due (given_limits arguments) script old state reader supply new runs.0),
+      small,
+    )) runs.1
 
 -- the same of the usage line
 pub IsOverRoom-usage : (arguments : List (List ℕ)) (script left : Option (List ℕ)) (room : Option ℕ) → IsUsage arguments → IfSome room (λ count. count < length usage_line)

@@ -62,10 +62,7 @@ impl<R: Env> Env for Named<'_, R> {
 
 /// The arguments of this environment, of which the first is a fixed name; or `None` where another is
 /// no text.
-pub fn arguments_of<R: Env>(
-    env: &R,
-    alloc: Global,
-) -> Result<Option<Vec<String>>, AllocError> {
+pub fn arguments_of<R: Env>(env: &R, alloc: Global) -> Result<Option<Vec<String>>, AllocError> {
     match env::args(&(Named::new(env), alloc)) {
         Ok(arguments) => Ok(Some(arguments.collect::<Vec<String>>(alloc)?)),
         Err(error) if error.kind() == io::ErrorKind::OutOfMemory => Err(AllocError),

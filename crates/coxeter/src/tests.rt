@@ -5,8 +5,8 @@ use cox_outside::{Got, MemorySink, MemorySource, Source};
 use cox_shell::{Status, run_one};
 use std::alloc::{AllocError, Global};
 use std::env::FillError;
-use std::rt::Env;
 use std::process::Abort;
+use std::rt::Env;
 use std::test::Fail;
 
 /// Scripts, what has to be written and how the run has to end.
