@@ -11,11 +11,13 @@ pub joined_taken : (name text : List ℕ) → is_refused (name ∷ (codes "--con
 unfolding clap_on_literals
 joined_taken name text = go (is_unsigned_in 1 MAX_CONTEXT text) refl
   where
-    go : (b : Bool) → is_unsigned_in 1 MAX_CONTEXT text ≡ b → is_refused (name ∷ (codes "--context=" ++ text) ∷ []) ≡ not (is_unsigned_in 1 MAX_CONTEXT text)
+    go : (b : Bool) → is_unsigned_in 1 MAX_CONTEXT text ≡ b → is_refused (name ∷ (codes "--context=" ++ text) ∷ [])
+        ≡ not (is_unsigned_in 1 MAX_CONTEXT text)
     go true e = rw e refl
     go false e = rw e refl
 
-pub joined_context : (name text : List ℕ) → given_number (codes "context") (name ∷ (codes "--context=" ++ text) ∷ []) ≡ Some (number_of text)
+pub joined_context : (name text : List ℕ) → given_number (codes "context") (name ∷ (codes "--context=" ++ text) ∷ [])
+    ≡ Some (number_of text)
 unfolding clap_on_literals
 joined_context name text = refl
 
@@ -25,7 +27,8 @@ no_hyphen x xs first =
     let other : (x == 45) ≡ false = ne_eqb x 45 first in
     (other, rw other refl)
 
-pub next_taken : (name text : List ℕ) → slice_index text 0 ≢ 45 → is_refused (name ∷ codes "--context" ∷ text ∷ []) ≡ not (is_unsigned_in 1 MAX_CONTEXT text)
+pub next_taken : (name text : List ℕ) → slice_index text 0 ≢ 45 → is_refused (name ∷ codes "--context" ∷ text ∷ [])
+    ≡ not (is_unsigned_in 1 MAX_CONTEXT text)
 unfolding clap_on_literals
 next_taken name [] first = refl
 next_taken name (x ∷ xs) first = go (is_unsigned_in 1 MAX_CONTEXT (x ∷ xs)) refl (no_hyphen x xs first)
@@ -35,7 +38,8 @@ next_taken name (x ∷ xs) first = go (is_unsigned_in 1 MAX_CONTEXT (x ∷ xs)) 
     go true e plain = rw (plain.0, plain.1, e) refl
     go false e plain = rw (plain.0, plain.1, e) refl
 
-pub next_context : (name text : List ℕ) → slice_index text 0 ≢ 45 → given_number (codes "context") (name ∷ codes "--context" ∷ text ∷ []) ≡ Some (number_of text)
+pub next_context : (name text : List ℕ) → slice_index text 0 ≢ 45 → given_number (codes "context") (name ∷ codes "--context" ∷ text ∷ [])
+    ≡ Some (number_of text)
 unfolding clap_on_literals
 next_context name [] first = refl
 next_context name (x ∷ xs) first =

@@ -1,5 +1,6 @@
 -- How known bytes, room and puts compose.
-use Rattle.std.proofs.Common.{◌≡◌, ℕ, ◌+◌, ◌-◌, ◌≤◌, Bool, true, false, ◌==◌, List, [], ◌∷◌, ◌++◌, length, take, drop, Option, Some, None, refl, sym, ap, ◌∙◌, arith, append_assoc, length-append, length-drop}
+use Rattle.std.proofs.Common.{◌≡◌, ℕ, ◌+◌, ◌-◌, ◌≤◌, Bool, true, false, ◌==◌, List, [], ◌∷◌, ◌++◌, length, take, drop, Option, Some, None}
+use Rattle.std.proofs.Common.{refl, sym, ap, ◌∙◌, arith, append_assoc, length-append, length-drop}
 use Rattle.std.specs.List.{list_any}
 use Rattle.std.specs.Io.KnownBytes.{prepend_known, append_known}
 use Rattle.std.proofs.lemmas.List.{take_at, length-take-le, take-append-drop, drop-drop, append-nil}
@@ -8,7 +9,8 @@ use Rattle.std.proofs.Math.Seq.{take-add}
 use Rattle.cox_outside.specs.Outlet.{Outlet, Writes, more_room}
 
 -- two takes, one after the other
-pub prepend_known-append : (front next : List ℕ) (known : Option (List ℕ)) → prepend_known front (prepend_known next known) ≡ prepend_known (front ++ next) known
+pub prepend_known-append : (front next : List ℕ) (known : Option (List ℕ)) → prepend_known front (prepend_known next known)
+    ≡ prepend_known (front ++ next) known
 prepend_known-append front next None = refl
 prepend_known-append front next (Some rest) = ap Some (sym (append_assoc front next rest))
 
@@ -18,7 +20,8 @@ prepend_known-none None = refl
 prepend_known-none (Some rest) = refl
 
 -- two puts, one after the other
-pub append_known-append : (known : Option (List ℕ)) (front next : List ℕ) → append_known (append_known known front) next ≡ append_known known (front ++ next)
+pub append_known-append : (known : Option (List ℕ)) (front next : List ℕ) → append_known (append_known known front) next
+    ≡ append_known known (front ++ next)
 append_known-append None front next = refl
 append_known-append (Some bytes) front next = ap Some (append_assoc bytes front next)
 
@@ -40,7 +43,8 @@ pub Writes-none : (here : Outlet) → Writes [] here here
 Writes-none here = record { written = sym (append_known-none here.written); room = sym (more_room-zero here.room) }
 
 -- bytes were put, and then more
-pub Writes-append : (front next : List ℕ) (old mid new : Outlet) → Writes front old mid → Writes next mid new → Writes (front ++ next) old new
+pub Writes-append : (front next : List ℕ) (old mid new : Outlet) → Writes front old mid → Writes next mid new
+    → Writes (front ++ next) old new
 Writes-append front next old mid new p q = record {
   written = q.written ∙ ap (λ known. append_known known next) p.written ∙ append_known-append old.written front next;
   room = p.room ∙ ap (more_room (length front)) q.room ∙ more_room-add (length front) (length next) new.room
@@ -48,7 +52,8 @@ Writes-append front next old mid new p q = record {
 }
 
 -- the front was put, and then more of the same bytes
-pub Writes-on : (at count : ℕ) (bytes : List ℕ) (old mid new : Outlet) → Writes (take at bytes) old mid → Writes (take count (drop at bytes)) mid new → Writes (take (at + count) bytes) old new
+pub Writes-on : (at count : ℕ) (bytes : List ℕ) (old mid new : Outlet) → Writes (take at bytes) old mid
+    → Writes (take count (drop at bytes)) mid new → Writes (take (at + count) bytes) old new
 Writes-on at count bytes old mid new p q =
     rw (take-add at count bytes) (Writes-append (take at bytes) (take count (drop at bytes)) old mid new p q)
 
@@ -57,10 +62,12 @@ pub Writes-stay : (bytes : List ℕ) (old mid new : Outlet) → Writes bytes old
 Writes-stay bytes old mid new p q = rw (← append-nil bytes) (Writes-append bytes [] old mid new p q)
 
 -- a front that was copied into a buffer, and what is left behind it
-pub copied_front : (at n : ℕ) (xs kept : List ℕ) → n ≤ length xs - at → drop at xs ≡ take n (take n (drop at xs) ++ kept) ++ drop (at + n) xs
+pub copied_front : (at n : ℕ) (xs kept : List ℕ) → n ≤ length xs - at → drop at xs
+    ≡ take n (take n (drop at xs) ++ kept) ++ drop (at + n) xs
 copied_front at n xs kept h =
     let within : n ≤ length (drop at xs) = omega (arith, length-drop at xs) in
-    sym (take-append-drop n (drop at xs)) ∙ ap (λ l. l ++ drop n (drop at xs)) (sym (take_at (take n (drop at xs)) kept n (length-take-le n (drop at xs) within)))
+    sym (take-append-drop n (drop at xs))
+    ∙ ap (λ l. l ++ drop n (drop at xs)) (sym (take_at (take n (drop at xs)) kept n (length-take-le n (drop at xs) within)))
     ∙ ap (λ l. take n (take n (drop at xs) ++ kept) ++ l) (drop-drop n at xs)
 
 -- a list in which an element passes is not empty

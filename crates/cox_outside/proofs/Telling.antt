@@ -9,7 +9,8 @@ use Rattle.cox_outside.specs.Ahead.{Ahead}
 use Rattle.cox_outside.specs.Reader.{Shows, TakesNext, Reads, tells_fault}
 
 -- a line was taken, and this is shown of it
-pub Reads-line : (next : Next) (halt : Option Stop) (line : List ℕ) (old new : Ahead) → TakesNext halt line old new → Shows next (content_of line) → Reads next halt old new
+pub Reads-line : (next : Next) (halt : Option Stop) (line : List ℕ) (old new : Ahead) → TakesNext halt line old new
+    → Shows next (content_of line) → Reads next halt old new
 Reads-line (Line text) halt line old new takes shows = (line, takes, shows)
 Reads-line (Long count) halt line old new takes shows = (line, takes, shows)
 Reads-line (Byte place) halt line old new takes shows = (line, takes, shows)

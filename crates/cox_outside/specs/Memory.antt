@@ -53,7 +53,8 @@ outlet_of sink = record {
   faults = sink.calls.failed;
 }
 
--- what its next write answers: it fails where the call has to or no room is left, and else takes what the piece, the bytes given and the room allow
+-- what its next write answers: it fails where the call has to or no room is left, and else takes what the piece, the bytes given and the
+-- room allow
 abbrev pub next_took : MemoryOutlet → ℕ → Took
 next_took sink given = if next_fails sink.calls || (room_left sink == 0) then took_variants.Failed
     else took_variants.Bytes (min (room_left sink) (min sink.piece given))

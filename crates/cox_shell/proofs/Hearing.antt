@@ -22,16 +22,19 @@ pub content_refusal-long : (content : List ℕ) → LINE_LIMIT < length content 
 content_refusal-long content long = grind (arith, nat_tests)
 
 -- a content with a foreign byte is refused so
-pub content_refusal-foreign : (content : List ℕ) (place : ℕ) → length content ≤ LINE_LIMIT → option_map (λ before. before + 1) (position is_foreign content) ≡ Some place → content_refusal content ≡ Some 19
+pub content_refusal-foreign : (content : List ℕ) (place : ℕ) → length content ≤ LINE_LIMIT
+    → option_map (λ before. before + 1) (position is_foreign content) ≡ Some place → content_refusal content ≡ Some 19
 content_refusal-foreign content place short =
     let not_long : nat_lt LINE_LIMIT (length content) ≡ false = grind (arith, nat_tests) in
     rw not_long (found_some (position is_foreign content)) where
-      found_some : (found : Option ℕ) → option_map (λ before. before + 1) found ≡ Some place → cond {A = Option ℕ} (is_some found) (Some 19) None ≡ Some 19
+      found_some : (found : Option ℕ) → option_map (λ before. before + 1) found ≡ Some place
+          → cond {A = Option ℕ} (is_some found) (Some 19) None ≡ Some 19
       found_some None e = cc
       found_some (Some before) e = refl
 
 -- what a session says to a line that is refused by its bytes
-pub hears_refused : (said : Result Said AllocError) (number : ℕ) (line : List ℕ) (state : State) (halt : Option Stop) (old new : Ahead) (before after : List ℕ)
+pub hears_refused : (said : Result Said AllocError) (number : ℕ) (line : List ℕ) (state : State) (halt : Option Stop) (old new : Ahead)
+    (before after : List ℕ)
     → content_refusal (content_of line) ≡ Some number → TakesNext halt line old new → before ≡ []
     → IfOk said (λ told. Says told (refusal state number) state before after) → Hears (heard_of said) state state halt old new after
 hears_refused said number line state halt old new before after refused takes empty says =
@@ -39,7 +42,8 @@ hears_refused said number line state halt old new before after refused takes emp
     let taken : TakesReplied reply state halt old new = record {
       line = line;
       takes = takes;
-      is_reply = subst (λ o. MatchOption o (IsContentReply state (content_of line) reply) (λ n. reply ≡ refusal state n)) (sym refused) refl;
+      is_reply = subst (λ o. MatchOption o (IsContentReply state (content_of line) reply) (λ n. reply ≡ refusal state n))
+          (sym refused) refl;
     } in
     elim said as (λ s. IfOk s (λ told. Says told reply state before after) → Hears (heard_of s) state state halt old new after) [
       | Ok told ↦ λ s. (reply, taken, subst (λ b. Says told reply state b after) empty s)

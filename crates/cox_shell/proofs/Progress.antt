@@ -1,5 +1,6 @@
 -- How far a run has come.
-use Rattle.std.proofs.Common.{◌≡◌, ℕ, ◌+◌, Bool, true, false, ◌||◌, Option, Some, None, List, [], ◌∷◌, ◌++◌, length, refl, sym, ap, ◌∙◌, subst, arith}
+use Rattle.std.proofs.Common.{◌≡◌, ℕ, ◌+◌, Bool, true, false, ◌||◌, Option, Some, None, List, [], ◌∷◌, ◌++◌, length, refl, sym, ap, ◌∙◌}
+use Rattle.std.proofs.Common.{subst, arith}
 use Rattle.std.specs.List.{list_any}
 use Rattle.std.proofs.lemmas.List.{append-nil, length_push}
 use Rattle.std.proofs.lemmas.List.Folds.{list_any-append}
@@ -19,7 +20,8 @@ pub record Progress (refused : Bool) (old now : Stand) : Type 0 where
   pub read : TakenLines lines now.stop old.ahead now.ahead
   pub done : List Reply
   pub as_many : length done ≡ length lines
-  pub says : (more : List (List ℕ)) (rest : List Reply) → AreReplies now.state more rest → AreReplies old.state (lines ++ more) (done ++ rest)
+  pub says : (more : List (List ℕ)) (rest : List Reply) → AreReplies now.state more rest
+      → AreReplies old.state (lines ++ more) (done ++ rest)
   pub writes : Writes (texts done) old.out now.out
   pub refuses : has_refusal done ≡ refused
   pub quits : has_quit done ≡ false
@@ -36,19 +38,24 @@ or_true : (b : Bool) → (b || true) ≡ true
 or_true true = refl
 or_true false = refl
 
-any-push : (p : Reply → Bool) (done : List Reply) (reply : Reply) (before last : Bool) → list_any p done ≡ before → p reply ≡ last → list_any p (done ++ reply ∷ []) ≡ (before || last)
+any-push : (p : Reply → Bool) (done : List Reply) (reply : Reply) (before last : Bool) → list_any p done ≡ before → p reply ≡ last
+    → list_any p (done ++ reply ∷ []) ≡ (before || last)
 any-push p done reply before last old new =
-    list_any-append p done (reply ∷ []) ∙ ap (λ b. b || (p reply || false)) old ∙ ap (λ b. before || (b || false)) new ∙ ap (λ b. before || b) (or_false last)
+    list_any-append p done (reply ∷ []) ∙ ap (λ b. b || (p reply || false)) old ∙ ap (λ b. before || (b || false)) new
+    ∙ ap (λ b. before || b) (or_false last)
 
 -- of one more reply, whether it refuses, and whether it ends the run
-pub has_refusal-push : (done : List Reply) (reply : Reply) (before last : Bool) → has_refusal done ≡ before → reply.refused ≡ last → has_refusal (done ++ reply ∷ []) ≡ (before || last)
+pub has_refusal-push : (done : List Reply) (reply : Reply) (before last : Bool) → has_refusal done ≡ before → reply.refused ≡ last
+    → has_refusal (done ++ reply ∷ []) ≡ (before || last)
 has_refusal-push = any-push (λ reply. reply.refused)
 
-pub has_quit-push : (done : List Reply) (reply : Reply) (before last : Bool) → has_quit done ≡ before → reply.quits ≡ last → has_quit (done ++ reply ∷ []) ≡ (before || last)
+pub has_quit-push : (done : List Reply) (reply : Reply) (before last : Bool) → has_quit done ≡ before → reply.quits ≡ last
+    → has_quit (done ++ reply ∷ []) ≡ (before || last)
 has_quit-push = any-push (λ reply. reply.quits)
 
 -- as many replies as lines, after one more of each
-pub as_many-push : (done : List Reply) (lines : List (List ℕ)) (reply : Reply) (line : List ℕ) → length done ≡ length lines → length (done ++ reply ∷ []) ≡ length (lines ++ line ∷ [])
+pub as_many-push : (done : List Reply) (lines : List (List ℕ)) (reply : Reply) (line : List ℕ) → length done ≡ length lines
+    → length (done ++ reply ∷ []) ≡ length (lines ++ line ∷ [])
 as_many-push done lines reply line same = length_push done reply ∙ ap (λ n. n + 1) same ∙ sym (length_push lines line)
 
 -- nothing was taken yet
@@ -65,11 +72,13 @@ Progress-start here going few = record {
 }
 
 -- the lines that were taken, where the reader goes on
-pub going_lines : (refused : Bool) (old now : Stand) → now.stop ≡ None → (p : Progress refused old now) → TakenLines p.lines None old.ahead now.ahead
+pub going_lines : (refused : Bool) (old now : Stand) → now.stop ≡ None → (p : Progress refused old now)
+    → TakenLines p.lines None old.ahead now.ahead
 going_lines refused old now going p = subst (λ halt. TakenLines p.lines halt old.ahead now.ahead) going p.read
 
 -- one more line was served, which does not end the run
-Progress-more : (before refused : Bool) (old now next : Stand) → now.stop ≡ None → Progress before old now → IsServed refused false now next → Progress (before || refused) old next
+Progress-more : (before refused : Bool) (old now next : Stand) → now.stop ≡ None → Progress before old now
+    → IsServed refused false now next → Progress (before || refused) old next
 Progress-more before refused old now next going p s = record {
   lines = p.lines ++ s.taken.line ∷ [];
   read = TakenLines-append p.lines (s.taken.line ∷ []) next.stop old.ahead now.ahead next.ahead (going_lines before old now going p)
@@ -77,16 +86,22 @@ Progress-more before refused old now next going p s = record {
   done = p.done ++ s.reply ∷ [];
   as_many = as_many-push p.done p.lines s.reply s.taken.line p.as_many;
   says = λ more rest h. AreReplies-rejoin old.state p.lines more p.done rest s.taken.line s.reply
-      (p.says (s.taken.line ∷ more) (s.reply ∷ rest) (AreReplies-cons now.state next.state s.taken.line s.reply more rest s.taken.is_reply s.quitting s.state_after h));
-  writes = subst (λ t. Writes t old.out next.out) (sym (texts-push p.done s.reply)) (Writes-append (texts p.done) s.reply.text old.out now.out next.out p.writes s.writes);
+      (p.says (s.taken.line ∷ more) (s.reply ∷ rest)
+      (AreReplies-cons now.state next.state s.taken.line s.reply more rest s.taken.is_reply s.quitting s.state_after h));
+  writes = subst (λ t. Writes t old.out next.out) (sym (texts-push p.done s.reply))
+      (Writes-append (texts p.done) s.reply.text old.out now.out next.out p.writes s.writes);
   refuses = has_refusal-push p.done s.reply before refused p.refuses s.refuses;
   quits = has_quit-push p.done s.reply false false p.quits s.quitting;
 }
 
 -- it was answered
-pub Progress-answered : (refused : Bool) (old now next : Stand) → now.stop ≡ None → Progress refused old now → IsServed false false now next → Progress refused old next
-Progress-answered refused old now next going p s = subst (λ b. Progress b old next) (or_false refused) (Progress-more refused false old now next going p s)
+pub Progress-answered : (refused : Bool) (old now next : Stand) → now.stop ≡ None → Progress refused old now
+    → IsServed false false now next → Progress refused old next
+Progress-answered refused old now next going p s = subst (λ b. Progress b old next) (or_false refused)
+    (Progress-more refused false old now next going p s)
 
 -- it was refused
-pub Progress-refused : (before : Bool) (old now next : Stand) → now.stop ≡ None → Progress before old now → IsServed true false now next → Progress true old next
-Progress-refused before old now next going p s = subst (λ b. Progress b old next) (or_true before) (Progress-more before true old now next going p s)
+pub Progress-refused : (before : Bool) (old now next : Stand) → now.stop ≡ None → Progress before old now → IsServed true false now next
+    → Progress true old next
+Progress-refused before old now next going p s = subst (λ b. Progress b old next) (or_true before)
+    (Progress-more before true old now next going p s)

@@ -1,5 +1,6 @@
 -- Lines that were taken: which bytes they are, and which lines these bytes have.
-use Rattle.std.proofs.Common.{◌≡◌, ◌<◌, ◌≤◌, ◌+◌, ℕ, true, inl, inr, nat_le, Option, Some, None, List, [], ◌∷◌, ◌++◌, length, take, refl, sym, ap, ◌∙◌, arith, append_assoc, length-append}
+use Rattle.std.proofs.Common.{◌≡◌, ◌<◌, ◌≤◌, ◌+◌, ℕ, true, inl, inr, nat_le, Option, Some, None, List, [], ◌∷◌, ◌++◌, length, take, refl}
+use Rattle.std.proofs.Common.{sym, ap, ◌∙◌, arith, append_assoc, length-append}
 use Rattle.std.specs.Option.{IsSome, option_map}
 use Rattle.std.specs.Io.KnownBytes.{prepend_known, IsAtEnd}
 use Rattle.std.proofs.lemmas.List.{append-nil, take_all, take_at}
@@ -53,7 +54,8 @@ bytes_of-one : (line : List ℕ) → length (bytes_of (line ∷ [])) ≡ length 
 bytes_of-one line = ap length (append-nil (line ++ line_feed ∷ [])) ∙ length-append line (line_feed ∷ [])
 
 -- one line was taken
-pub TakenLines-one : (halt : Option Stop) (line : List ℕ) (old new : Ahead) → TakesNext halt line old new → TakenLines (line ∷ []) halt old new
+pub TakenLines-one : (halt : Option Stop) (line : List ℕ) (old new : Ahead) → TakesNext halt line old new
+    → TakenLines (line ∷ []) halt old new
 TakenLines-one None line old new t = record {
   taken = line ++ line_feed ∷ [];
   takes = t.taken;
@@ -82,15 +84,18 @@ TakenLines-one (Some stop.Failed) line old new t = absurd t
 TakenLines-one (Some stop.Limit) line old new t = absurd t
 
 -- lines were cut off, and then more
-cut_append : (first next : List (List ℕ)) (old now new : Option (List (List ℕ))) → old ≡ option_map (λ more. first ++ more) now → now ≡ option_map (λ more. next ++ more) new
+cut_append : (first next : List (List ℕ)) (old now new : Option (List (List ℕ))) → old ≡ option_map (λ more. first ++ more) now → now
+    ≡ option_map (λ more. next ++ more) new
     → old ≡ option_map (λ more. (first ++ next) ++ more) new
 cut_append first next old now new p q = p ∙ ap (option_map (λ more. first ++ more)) q ∙ by_known new where
-  by_known : (known : Option (List (List ℕ))) → option_map (λ more. first ++ more) (option_map (λ more. next ++ more) known) ≡ option_map (λ more. (first ++ next) ++ more) known
+  by_known : (known : Option (List (List ℕ))) → option_map (λ more. first ++ more) (option_map (λ more. next ++ more) known)
+      ≡ option_map (λ more. (first ++ next) ++ more) known
   by_known None = refl
   by_known (Some more) = ap Some (sym (append_assoc first next more))
 
 -- lines were taken, and then more
-pub TakenLines-append : (first next : List (List ℕ)) (halt : Option Stop) (old now new : Ahead) → TakenLines first None old now → TakenLines next halt now new
+pub TakenLines-append : (first next : List (List ℕ)) (halt : Option Stop) (old now new : Ahead) → TakenLines first None old now
+    → TakenLines next halt now new
     → TakenLines (first ++ next) halt old new
 TakenLines-append first next halt old now new p q = record {
   taken = p.taken ++ q.taken;
@@ -104,7 +109,8 @@ TakenLines-append first next halt old now new p q = record {
     length-append (bytes_of first) (bytes_of next),
     ap length (flat_map-append (λ (line : List ℕ). line ++ line_feed ∷ []) first next),
   );
-  ended = λ h more. ap ended_lines (append_assoc p.taken q.taken more) ∙ p.ended refl (q.taken ++ more) ∙ ap (λ l. first ++ l) (q.ended h more)
+  ended = λ h more. ap ended_lines (append_assoc p.taken q.taken more) ∙ p.ended refl (q.taken ++ more)
+      ∙ ap (λ l. first ++ l) (q.ended h more)
       ∙ sym (append_assoc first next (ended_lines more));
   all = λ h more. ap lines_of (append_assoc p.taken q.taken more) ∙ p.all refl (q.taken ++ more) ∙ ap (λ l. first ++ l) (q.all h more)
       ∙ sym (append_assoc first next (lines_of more));
@@ -118,11 +124,16 @@ TakenLines-append first next halt old now new p q = record {
 pub HasRead-taken : (lines : List (List ℕ)) (halt : Option Stop) (old now : Ahead) → TakenLines lines halt old now → HasRead lines old now
 HasRead-taken lines None old now t =
     let few = t.few refl in
-    let within : length (t.taken ++ now.pending) ≤ old.budget = omega (arith, t.takes.cost, few.1, length-append t.taken now.pending) in record {
+    let within : length (t.taken ++ now.pending) ≤ old.budget = omega (arith, t.takes.cost, few.1, length-append t.taken now.pending) in
+    record {
       taken = t.taken;
       gave = t.takes.bytes;
       within = omega (arith, within);
-      are_read = inl (ended_lines now.pending, ap ended_lines (take_all old.budget (t.taken ++ now.pending) within) ∙ t.ended refl now.pending);
+      are_read = inl (
+        ended_lines now.pending,
+        ap ended_lines (take_all old.budget (t.taken ++ now.pending) within)
+            ∙ t.ended refl now.pending,
+      );
     }
 HasRead-taken lines (Some halt) old now t =
     let same : t.taken ++ now.pending ≡ t.taken = ap (λ l. t.taken ++ l) (t.none_pending refl) ∙ append-nil t.taken in
@@ -135,26 +146,38 @@ HasRead-taken lines (Some halt) old now t =
     }
 
 -- and so they are where more bytes were taken, and none that was read is left
-pub HasRead-begun : (lines : List (List ℕ)) (old now next : Ahead) (begun : List ℕ) → TakenLines lines None old now → Takes begun now next → next.pending ≡ [] → HasRead lines old next
+pub HasRead-begun : (lines : List (List ℕ)) (old now next : Ahead) (begun : List ℕ) → TakenLines lines None old now → Takes begun now next
+    → next.pending ≡ [] → HasRead lines old next
 HasRead-begun lines old now next begun t q none =
     let all = Takes-append t.taken begun old now next t.takes q in
-    let same : (t.taken ++ begun) ++ next.pending ≡ t.taken ++ begun = ap (λ l. (t.taken ++ begun) ++ l) none ∙ append-nil (t.taken ++ begun) in
+    let same : (t.taken ++ begun) ++ next.pending ≡ t.taken ++ begun = ap (λ l. (t.taken ++ begun) ++ l) none
+    ∙ append-nil (t.taken ++ begun) in
     let within : length ((t.taken ++ begun) ++ next.pending) ≤ old.budget = omega (arith, all.cost, ap length same) in record {
       taken = t.taken ++ begun;
       gave = all.bytes;
       within = omega (arith, within);
-      are_read = inl (ended_lines begun, ap ended_lines (take_all old.budget ((t.taken ++ begun) ++ next.pending) within ∙ same) ∙ t.ended refl begun);
+      are_read = inl (
+        ended_lines begun,
+        ap ended_lines (take_all old.budget ((t.taken ++ begun) ++ next.pending) within ∙ same)
+            ∙ t.ended refl begun,
+      );
     }
 
 -- and where the limit was met
-pub HasRead-limit : (lines : List (List ℕ)) (old now next : Ahead) → TakenLines lines None old now → MeetsLimit now next → HasRead lines old next
+pub HasRead-limit : (lines : List (List ℕ)) (old now next : Ahead) → TakenLines lines None old now → MeetsLimit now next
+    → HasRead lines old next
 HasRead-limit lines old now next t m =
     let front = t.taken ++ m.begun in
     let part = Takes-append t.taken m.begun old now m.spent t.takes m.part.taken in
     let size : old.budget ≡ length front = omega (arith, part.cost, m.none_left) in
-    let same : (front ++ m.byte ∷ []) ++ next.pending ≡ front ++ m.byte ∷ [] = ap (λ l. (front ++ m.byte ∷ []) ++ l) m.none_pending ∙ append-nil (front ++ m.byte ∷ []) in record {
+    let same : (front ++ m.byte ∷ []) ++ next.pending ≡ front ++ m.byte ∷ [] = ap (λ l. (front ++ m.byte ∷ []) ++ l) m.none_pending
+    ∙ append-nil (front ++ m.byte ∷ []) in record {
       taken = front ++ m.byte ∷ [];
       gave = part.bytes ∙ ap (prepend_known front) m.beyond ∙ prepend_known-append front (m.byte ∷ []) next.bytes;
       within = omega (arith, ap length same, length-append front (m.byte ∷ []), size);
-      are_read = inl (ended_lines m.begun, ap ended_lines (ap (take old.budget) same ∙ take_at front (m.byte ∷ []) old.budget (sym size)) ∙ t.ended refl m.begun);
+      are_read = inl (
+        ended_lines m.begun,
+        ap ended_lines (ap (take old.budget) same ∙ take_at front (m.byte ∷ []) old.budget (sym size))
+            ∙ t.ended refl m.begun,
+      );
     }

@@ -1,5 +1,6 @@
 -- What a run over the lines says of the whole run.
-use Rattle.std.proofs.Common.{◌≡◌, ◌<◌, ◌≤◌, ◌+◌, ℕ, Bool, true, false, inl, inr, Option, Some, None, List, [], ◌∷◌, ◌++◌, length, take, codes, refl, sym, ◌∙◌, subst, arith, length-append}
+use Rattle.std.proofs.Common.{◌≡◌, ◌<◌, ◌≤◌, ◌+◌, ℕ, Bool, true, false, inl, inr, Option, Some, None, List, [], ◌∷◌, ◌++◌, length, take}
+use Rattle.std.proofs.Common.{codes, refl, sym, ◌∙◌, subst, arith, length-append}
 use Rattle.std.specs.Bool.{MatchBool}
 use Rattle.std.specs.Option.{IfSome, option_map}
 use Rattle.std.specs.Io.KnownBytes.{prepend_known, IsAtEnd}
@@ -17,22 +18,28 @@ use Rattle.cox_shell.specs.Reply.{Limits, State, Reply, limits_of, opening}
 use Rattle.cox_shell.specs.Answer.{AreReplies, texts, has_quit, script_lines, bytes_of}
 use Rattle.cox_shell.specs.Run.{Stand, stand}
 use Rattle.cox_shell.specs.Outcome.{Runs, WritesPrefix, WritesAll, StopsThere, AnswersAll, AnswersToLimit}
-use Rattle.cox_shell.specs.Top.{usage_line, given_limits, WritesAnswer, StopsReading, IsReadWhole, AnswersWhole, AnswersWithin, AreRead, AreDue, IsDue, WritesDue, IsOverRoom, TakesWithin}
+use Rattle.cox_shell.specs.Top.{usage_line, given_limits, WritesAnswer, StopsReading, IsReadWhole, AnswersWhole, AnswersWithin, AreRead}
+use Rattle.cox_shell.specs.Top.{AreDue, IsDue, WritesDue, IsOverRoom, TakesWithin}
 use Rattle.cox_shell.proofs.Known.{IfSome-unmade, IfSome-each, IfSome-follows}
 
 -- the limits of the options that arguments give are those that the arguments give
-pub limits-given : (options : Options) (arguments : List (List ℕ)) → given_number (codes "context") arguments ≡ Some options.context → limits_of options ≡ given_limits arguments
+pub limits-given : (options : Options) (arguments : List (List ℕ)) → given_number (codes "context") arguments ≡ Some options.context
+    → limits_of options ≡ given_limits arguments
 limits-given options arguments given = rw given refl
 
 -- where a run begins
 abbrev pub beginning : Limits → Option (List ℕ) → Outlet → Stand
-beginning limits script out = record { state = opening limits; stop = None; ahead = record { bytes = script; budget = INPUT_LIMIT; pending = [] }; out = out }
+beginning limits script out =
+    record { state = opening limits; stop = None; ahead = record { bytes = script; budget = INPUT_LIMIT; pending = [] }; out = out }
 
 -- a fresh session and a fresh reader stand there
-pub Runs-beginning : (status : Status) (limits : Limits) (state : State) (reader : Reader) (supply : Supply) (old : Outlet) (end : Stand) → state ≡ opening limits → reader ≡ fresh_reader
+pub Runs-beginning : (status : Status) (limits : Limits) (state : State) (reader : Reader) (supply : Supply) (old : Outlet) (end : Stand)
+    → state ≡ opening limits → reader ≡ fresh_reader
     → Runs status (stand state reader supply old) end → Runs status (beginning limits supply.left old) end
 Runs-beginning status limits state reader supply old end opens fresh runs =
-    let at_fresh : Runs status (stand (opening limits) fresh_reader supply old) end = subst (λ (r : Reader). Runs status (stand (opening limits) r supply old) end) fresh (subst (λ (s : State). Runs status (stand s reader supply old) end) opens runs) in
+    let at_fresh : Runs status (stand (opening limits) fresh_reader supply old) end = subst
+    (λ (r : Reader). Runs status (stand (opening limits) r supply old) end) fresh
+    (subst (λ (s : State). Runs status (stand s reader supply old) end) opens runs) in
     subst (λ bytes. Runs status (beginning limits bytes old) end) (prepend_known-none supply.left) at_fresh
 
 -- where no byte lies ahead, the source has none left
@@ -42,15 +49,18 @@ IsAtEnd-left [] (Some rest) end = end
 IsAtEnd-left (byte ∷ pending) (Some rest) end = cc
 
 -- the replies to all lines are the script's
-WritesAll-answer : (limits : Limits) (script : Option (List ℕ)) (old : Outlet) (end : Stand) → WritesAll (beginning limits script old) end → WritesAnswer limits script old end.out
+WritesAll-answer : (limits : Limits) (script : Option (List ℕ)) (old : Outlet) (end : Stand) → WritesAll (beginning limits script old) end
+    → WritesAnswer limits script old end.out
 WritesAll-answer limits script old end all = record {
   replies = all.replies;
-  are_replies = IfSome-unmade (λ bytes. lines_within INPUT_LIMIT bytes) (λ lines. AreReplies (opening limits) lines all.replies) script all.are_replies;
+  are_replies = IfSome-unmade (λ bytes. lines_within INPUT_LIMIT bytes)
+      (λ lines. AreReplies (opening limits) lines all.replies) script all.are_replies;
   writes = all.writes;
 }
 
 -- from here on, a run that began with this script and stands there
-module _ (limits : Limits) (script : Option (List ℕ)) (old : Outlet) (state : State) (reader : Reader) (supply : Supply) (new : Outlet) where
+module _ (limits : Limits) (script : Option (List ℕ)) (old : Outlet) (state : State) (reader : Reader) (supply : Supply)
+    (new : Outlet) where
   abbrev begins : Stand
   begins = beginning limits script old
 
@@ -58,7 +68,8 @@ module _ (limits : Limits) (script : Option (List ℕ)) (old : Outlet) (state : 
   ends = stand state reader supply new
 
   -- what the source gave, of which this was taken
-  gave_all : (taken : List ℕ) → script ≡ prepend_known taken (prepend_known reader.feed.pending supply.left) → script ≡ prepend_known (taken ++ reader.feed.pending) supply.left
+  gave_all : (taken : List ℕ) → script ≡ prepend_known taken (prepend_known reader.feed.pending supply.left) → script
+      ≡ prepend_known (taken ++ reader.feed.pending) supply.left
   gave_all taken gave = gave ∙ prepend_known-append taken reader.feed.pending supply.left
 
   -- no more was read than the lines with these replies, and less than a chunk
@@ -67,9 +78,11 @@ module _ (limits : Limits) (script : Option (List ℕ)) (old : Outlet) (state : 
     h.taken ++ reader.feed.pending,
     gave_all h.taken h.gave,
     IfSome-follows (λ bytes. length h.taken ≤ length (bytes_of (take (length replies) (script_lines bytes))))
-        (λ bytes. length (h.taken ++ reader.feed.pending) < length (bytes_of (take (length replies) (script_lines bytes))) + CHUNK_SIZE) script
+        (λ bytes. length (h.taken ++ reader.feed.pending) < length
+        (bytes_of (take (length replies) (script_lines bytes))) + CHUNK_SIZE) script
         (λ bytes size. omega (arith, h.few, length-append h.taken reader.feed.pending))
-        (IfSome-unmade (λ bytes. lines_within INPUT_LIMIT bytes) (λ lines. length h.taken ≤ length (bytes_of (take (length replies) lines))) script h.size),
+        (IfSome-unmade (λ bytes. lines_within INPUT_LIMIT bytes)
+        (λ lines. length h.taken ≤ length (bytes_of (take (length replies) lines))) script h.size),
   )
 
   -- the script was answered whole
@@ -79,8 +92,11 @@ module _ (limits : Limits) (script : Option (List ℕ)) (old : Outlet) (state : 
       let replies = h.writes_all.replies in (
         WritesAll-answer limits script old ends h.writes_all,
         h.refuses,
-        elim (has_quit replies) as (λ b. MatchBool b (StopsThere replies begins.ahead ends.ahead) (IfSome script (λ bytes. length bytes ≤ INPUT_LIMIT) × IsAtEnd ends.ahead.bytes)
-            → MatchBool b (StopsReading replies script supply.left) (IfSome script (λ bytes. length bytes ≤ INPUT_LIMIT) × IsAtEnd supply.left)) [
+        elim (has_quit replies) as
+            (λ b. MatchBool b (StopsThere replies begins.ahead ends.ahead)
+            (IfSome script (λ bytes. length bytes ≤ INPUT_LIMIT) × IsAtEnd ends.ahead.bytes)
+            → MatchBool b (StopsReading replies script supply.left)
+            (IfSome script (λ bytes. length bytes ≤ INPUT_LIMIT) × IsAtEnd supply.left)) [
               | true ↦ λ stops. StopsThere-reading replies stops
               | false ↦ λ whole. (whole.0, IsAtEnd-left reader.feed.pending supply.left whole.1)
             ] h.ends,
@@ -121,18 +137,27 @@ module _ (limits : Limits) (script : Option (List ℕ)) (old : Outlet) (state : 
   }
 
 -- what is due for right arguments, and for wrong ones
-IsDue-replies : (arguments : List (List ℕ)) (script left : Option (List ℕ)) (replies : List Reply) → IsTaken arguments → AreDue (given_limits arguments) script left replies
+IsDue-replies : (arguments : List (List ℕ)) (script left : Option (List ℕ)) (replies : List Reply) → IsTaken arguments
+    → AreDue (given_limits arguments) script left replies
     → IsDue arguments script left (texts replies)
 IsDue-replies arguments script left replies right are = rw right (replies, are, refl)
 
 pub IsDue-usage : (arguments : List (List ℕ)) (script left : Option (List ℕ)) → IsUsage arguments → IsDue arguments script left usage_line
 IsDue-usage arguments script left wrong = rw wrong refl
 
-pub Runs-due : (status : Status) (arguments : List (List ℕ)) (script : Option (List ℕ)) (old : Outlet) (state : State) (reader : Reader) (supply : Supply) (new : Outlet) → IsTaken arguments
-    → Runs status (beginning (given_limits arguments) script old) (stand state reader supply new) → WritesDue arguments script supply.left old new
+pub Runs-due : (status : Status) (arguments : List (List ℕ)) (script : Option (List ℕ)) (old : Outlet) (state : State) (reader : Reader)
+    (supply : Supply) (new : Outlet) → IsTaken arguments
+    → Runs status (beginning (given_limits arguments) script old) (stand state reader supply new)
+    → WritesDue arguments script supply.left old new
 Runs-due status arguments script old state reader supply new right runs =
-    let part = Runs-prefix (given_limits arguments) script old state reader supply new status runs in
-    (texts part.replies, part.prefix, IsDue-replies arguments script supply.left part.replies right (WritesPrefix-due (given_limits arguments) script old state reader supply new part), part.is_prefix, part.writes)
+    let part = Runs-prefix (given_limits arguments) script old state reader supply new status runs in (
+      texts part.replies,
+      part.prefix,
+      IsDue-replies arguments script supply.left part.replies right
+          (WritesPrefix-due (given_limits arguments) script old state reader supply new part),
+      part.is_prefix,
+      part.writes,
+    )
 
 -- nothing was read, whatever the arguments are
 pub WritesDue-none : (arguments : List (List ℕ)) (script : Option (List ℕ)) (old : Outlet) → WritesDue arguments script script old old
@@ -149,19 +174,25 @@ pub TakesWithin-none : (script : Option (List ℕ)) → TakesWithin script scrip
 TakesWithin-none script = ([], sym (prepend_known-none script), omega arith)
 
 -- more was due than there was room for
-pub Runs-room : (arguments : List (List ℕ)) (script : Option (List ℕ)) (old : Outlet) (state : State) (reader : Reader) (supply : Supply) (new : Outlet) → IsTaken arguments
-    → Runs WriteFault (beginning (given_limits arguments) script old) (stand state reader supply new) → IsOverRoom arguments script supply.left old.room
+pub Runs-room : (arguments : List (List ℕ)) (script : Option (List ℕ)) (old : Outlet) (state : State) (reader : Reader) (supply : Supply)
+    (new : Outlet) → IsTaken arguments
+    → Runs WriteFault (beginning (given_limits arguments) script old) (stand state reader supply new)
+    → IsOverRoom arguments script supply.left old.room
 Runs-room arguments script old state reader supply new right runs =
-    IfSome-follows (λ count. count < length (texts runs.0.replies)) (λ count. (text : List ℕ) × IsDue arguments script supply.left text × (count < length text)) old.room
+    IfSome-follows (λ count. count < length (texts runs.0.replies))
+    (λ count. (text : List ℕ) × IsDue arguments script supply.left text × (count < length text)) old.room
     (λ count small. (
       texts runs.0.replies,
-      IsDue-replies arguments script supply.left runs.0.replies right (WritesPrefix-due (given_limits arguments) script old state reader supply new runs.0),
+      IsDue-replies arguments script supply.left runs.0.replies right
+          (WritesPrefix-due (given_limits arguments) script old state reader supply new runs.0),
       small,
     )) runs.1
 
 -- the same of the usage line
-pub IsOverRoom-usage : (arguments : List (List ℕ)) (script left : Option (List ℕ)) (room : Option ℕ) → IsUsage arguments → IfSome room (λ count. count < length usage_line)
+pub IsOverRoom-usage : (arguments : List (List ℕ)) (script left : Option (List ℕ)) (room : Option ℕ) → IsUsage arguments
+    → IfSome room (λ count. count < length usage_line)
     → IsOverRoom arguments script left room
 IsOverRoom-usage arguments script left room wrong small =
-    IfSome-follows (λ count. count < length usage_line) (λ count. (text : List ℕ) × IsDue arguments script left text × (count < length text)) room
+    IfSome-follows (λ count. count < length usage_line)
+    (λ count. (text : List ℕ) × IsDue arguments script left text × (count < length text)) room
     (λ count less. (usage_line, IsDue-usage arguments script left wrong, less)) small

@@ -10,7 +10,8 @@ use Rattle.cox_shell.specs.LineReply.{IsReply}
 abbrev pub AreReplies : State → List (List ℕ) → List Reply → Type 0
 AreReplies state [] replies = replies ≡ []
 AreReplies state (line ∷ lines) [] = ⊥
-AreReplies state (line ∷ lines) (reply ∷ replies) = IsReply state line reply × MatchBool reply.quits (replies ≡ []) (AreReplies reply.after lines replies)
+AreReplies state (line ∷ lines) (reply ∷ replies) = IsReply state line reply
+    × MatchBool reply.quits (replies ≡ []) (AreReplies reply.after lines replies)
 
 -- what replies write
 abbrev pub texts : List Reply → List ℕ

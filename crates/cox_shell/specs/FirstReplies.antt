@@ -9,7 +9,8 @@ IsAnswer limits script text = (replies : List Reply) × AreScriptReplies limits 
 
 -- these are the replies to the first of the lines
 abbrev pub AreRepliesToFirst : State → List (List ℕ) → List Reply → Type 0
-AreRepliesToFirst state lines replies = (first : List (List ℕ)) × (rest : List (List ℕ)) × (lines ≡ first ++ rest) × AreReplies state first replies
+AreRepliesToFirst state lines replies = (first : List (List ℕ)) × (rest : List (List ℕ)) × (lines ≡ first ++ rest)
+    × AreReplies state first replies
 
 -- these are the replies to the first lines of a script
 abbrev pub AreFirstReplies : Limits → List ℕ → List Reply → Type 0

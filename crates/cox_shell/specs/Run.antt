@@ -54,7 +54,8 @@ pub record TakesReplied (reply : Reply) (state : State) (halt : Option Stop) (ol
 
 -- what hearing the next line did: its reply stands in the buffer, or memory ran out for it, or no line was there
 abbrev pub Hears : Heard → State → State → Option Stop → Ahead → Ahead → List ℕ → Type 0
-Hears (heard.Line said) before after halt old new buffer = (reply : Reply) × TakesReplied reply before halt old new × Says said reply after [] buffer
+Hears (heard.Line said) before after halt old new buffer = (reply : Reply) × TakesReplied reply before halt old new
+    × Says said reply after [] buffer
 Hears heard.NoMemory before after halt old new buffer = (reply : Reply) × TakesReplied reply before halt old new
 Hears heard.End before after halt old new buffer = Reads next.End halt old new × (buffer ≡ []) × (after ≡ before)
 Hears heard.Failed before after halt old new buffer = Reads next.Failed halt old new × (buffer ≡ []) × (after ≡ before)

@@ -1,5 +1,6 @@
 -- What a whole run does.
-use Rattle.std.specs.Prelude.{◌≡◌, ℕ, ◌+◌, ◌<◌, ◌≤◌, ◌⊎◌, Bool, false, List, [], ◌∷◌, ◌++◌, length, take, map, codes, Option, IfSome, unwrap_or, MatchBool}
+use Rattle.std.specs.Prelude.{◌≡◌, ℕ, ◌+◌, ◌<◌, ◌≤◌, ◌⊎◌, Bool, false, List, [], ◌∷◌, ◌++◌, length, take, map, codes, Option, IfSome}
+use Rattle.std.specs.Prelude.{unwrap_or, MatchBool}
 use Rattle.std.specs.Borrow.{Bor}
 use Rattle.std.specs.Io.KnownBytes.{prepend_known, IsAtEnd}
 use Rattle.cox_outside.specs.declared.limits.TheConstants.{INPUT_LIMIT, CHUNK_SIZE}

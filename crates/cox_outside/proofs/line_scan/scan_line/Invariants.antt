@@ -1,3 +1,4 @@
+-- Up to here the beginning of one line was taken and kept, and no fault was met.
 use Rattle.std.proofs.Common.{◌≡◌, ℕ, ◌+◌, ◌≤◌, List, length}
 use Rattle.cox_outside.specs.declared.limits.TheConstants.{LINE_LIMIT, INPUT_LIMIT}
 use Rattle.cox_outside.specs.Ahead.{ahead, TakesPart}

@@ -1,3 +1,4 @@
+-- Up to here a prefix was written, and no fault was met.
 use Rattle.std.proofs.Common.{◌≡◌, ◌-◌, ◌≤◌, length, take}
 use Rattle.cox_outside.specs.Outlet.{Writes}
 use Rattle.cox_outside.proofs.writing.write_all.Given as goal

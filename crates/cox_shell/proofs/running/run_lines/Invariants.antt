@@ -1,3 +1,4 @@
+-- Up to here the lines that were taken are answered, and no fault was met.
 use Rattle.std.proofs.Common.{◌≡◌}
 use Rattle.cox_shell.specs.Run.{stand}
 use Rattle.cox_shell.proofs.Progress.{Progress}

@@ -1,3 +1,4 @@
+-- A reply that could not be written is cut off.
 use Rattle.std.proofs.Common.{◌≡◌, ◌<◌, length, refl, ◌∙◌, subst}
 use Rattle.std.specs.Option.{IfSome}
 use Rattle.cox_outside.specs.Outlet.{IsPrefix}
