@@ -19,19 +19,19 @@ ends_with_byte-push byte last bytes =
 pub prefix-push : (room count byte : ℕ) (begun old new : List ℕ) → length old ≡ room → count ≡ length begun → take count old
     ≡ take room begun
     → (count < room → new ≡ slice_set old count byte) → (room ≤ count → new ≡ old) → take (count + 1) new ≡ take room (begun ++ byte ∷ [])
-prefix-push room count byte begun old new size same front kept full =
+prefix-push room count byte begun old new size same prefix kept full =
     elim (cases_lt count room) [
       | inl lt ↦
           let within : count < length old = omega arith in
           let short : length begun ≤ room = omega arith in
           let longer : length (begun ++ byte ∷ []) ≤ room = omega (arith, length_push begun byte) in
-          rw (kept lt) (take_more_set old count byte within ∙ ap (λ l. l ++ byte ∷ []) (front ∙ take_all room begun short)
+          rw (kept lt) (take_more_set old count byte within ∙ ap (λ l. l ++ byte ∷ []) (prefix ∙ take_all room begun short)
           ∙ sym (take_all room (begun ++ byte ∷ []) longer))
       | inr le ↦
           let all : length old ≤ count = omega arith in
           let all_on : length old ≤ count + 1 = omega arith in
           let long : room ≤ length begun = omega arith in
-          rw (full le) (take_all (count + 1) old all_on ∙ sym (take_all count old all) ∙ front
+          rw (full le) (take_all (count + 1) old all_on ∙ sym (take_all count old all) ∙ prefix
           ∙ sym (take-append-le room begun (byte ∷ []) long))
     ]
 

@@ -39,7 +39,7 @@ pub ended_lines-none : (begun : List ℕ) → IsUnbroken begun → ended_lines b
 ended_lines-none [] h = refl
 ended_lines-none (byte ∷ begun) h = rw (not_lf byte begun h) (ap (into_first byte) (ended_lines-none begun (unbroken_tail byte begun h)))
 
--- one line in front, whatever the rest is
+-- one line before the others, whatever the rest is
 both_cons : (b : Bool) (line : List ℕ) (lines more : List (List ℕ)) → cond b (line ∷ lines) (line ∷ more) ≡ line ∷ cond b lines more
 both_cons b line lines more = elim b as (λ v. cond v (line ∷ lines) (line ∷ more) ≡ line ∷ cond v lines more) [ true ↦ refl | false ↦ refl ]
 
@@ -51,14 +51,14 @@ same_test n m more = grind (arith, nat_tests)
 pub lines_within-line : (limit : ℕ) (line rest : List ℕ) → IsUnbroken line
     → lines_within (limit + length (line ++ line_feed ∷ [])) (line ++ line_feed ∷ rest) ≡ line ∷ lines_within limit rest
 lines_within-line limit line rest h =
-    let front = line ++ line_feed ∷ [] in
-    let whole : line ++ line_feed ∷ rest ≡ front ++ rest = sym (append_assoc line (line_feed ∷ []) rest) in
-    let size : length (line ++ line_feed ∷ rest) ≡ length rest + length front = ap length whole ∙ length-append front rest
-    ∙ add_comm (length front) (length rest) in
-    let cut : take (limit + length front) (line ++ line_feed ∷ rest) ≡ line ++ line_feed ∷ take limit rest =
-    ap (take (limit + length front)) whole ∙ ap (λ n. take n (front ++ rest)) (add_comm limit (length front))
-    ∙ take-append-add front rest limit ∙ append_assoc line (line_feed ∷ []) (take limit rest) in
-    rw (size, same_test (length rest) limit (length front), cut, lines_of-line line rest h, ended_lines-line line (take limit rest) h)
+    let prefix = line ++ line_feed ∷ [] in
+    let whole : line ++ line_feed ∷ rest ≡ prefix ++ rest = sym (append_assoc line (line_feed ∷ []) rest) in
+    let size : length (line ++ line_feed ∷ rest) ≡ length rest + length prefix = ap length whole ∙ length-append prefix rest
+    ∙ add_comm (length prefix) (length rest) in
+    let cut : take (limit + length prefix) (line ++ line_feed ∷ rest) ≡ line ++ line_feed ∷ take limit rest =
+    ap (take (limit + length prefix)) whole ∙ ap (λ n. take n (prefix ++ rest)) (add_comm limit (length prefix))
+    ∙ take-append-add prefix rest limit ∙ append_assoc line (line_feed ∷ []) (take limit rest) in
+    rw (size, same_test (length rest) limit (length prefix), cut, lines_of-line line rest h, ended_lines-line line (take limit rest) h)
     (both_cons (nat_le (length rest) limit) line (lines_of rest) (ended_lines (take limit rest)))
 
 -- under a limit, the last line is the only one

@@ -19,17 +19,17 @@ length-content line by_cr h =
 -- a prefix of what was kept
 prefix-take : (line buffer : List ℕ) (count room n : ℕ) → count ≡ length line → take count buffer ≡ take room line → n ≤ count → n ≤ room
     → take n buffer ≡ take n line
-prefix-take line buffer count room n size front within h =
-    sym (take-take n count buffer within) ∙ ap (take n) front ∙ take-take n room line h
+prefix-take line buffer count room n size prefix within h =
+    sym (take-take n count buffer within) ∙ ap (take n) prefix ∙ take-take n room line h
 
 -- the content, where it is no longer than the room less one
 pub prefix-content : (line buffer : List ℕ) (count room n : ℕ) (by_cr : Bool) → by_cr ≡ ends_with_byte carriage_return line → count
     ≡ length line → take count buffer ≡ take room line
     → n ≡ cond by_cr (count - 1) count → n ≤ room → take n buffer ≡ content_of line
-prefix-content line buffer count room n by_cr last size front is h =
+prefix-content line buffer count room n by_cr last size prefix is h =
     rw (← last) (elim by_cr as (λ b. n ≡ cond b (count - 1) count → take n buffer ≡ cond b (take (length line - 1) line) line) [
-      | true ↦ λ e. prefix-take line buffer count room n size front (omega arith) h ∙ ap (λ k. take k line) (e ∙ ap (λ k. k - 1) size)
-      | false ↦ λ e. prefix-take line buffer count room n size front (omega arith) h ∙ take_all n line (omega arith)
+      | true ↦ λ e. prefix-take line buffer count room n size prefix (omega arith) h ∙ ap (λ k. take k line) (e ∙ ap (λ k. k - 1) size)
+      | false ↦ λ e. prefix-take line buffer count room n size prefix (omega arith) h ∙ take_all n line (omega arith)
     ] is)
 
 -- a line that is not long is shown from what was kept of it
@@ -44,6 +44,6 @@ pub shown_length : (line buffer : List ℕ) (count n : ℕ) (by_cr : Bool) → K
 shown_length line buffer count n by_cr k is = is ∙ ap (λ size. cond by_cr (size - 1) size) k.size ∙ sym (length-content line by_cr k.last)
 
 -- the place of the first foreign byte, in an equal list
-pub found_in : (front content : List ℕ) (place : Option ℕ) → front ≡ content → place ≡ position is_foreign front
+pub found_in : (prefix content : List ℕ) (place : Option ℕ) → prefix ≡ content → place ≡ position is_foreign prefix
     → position is_foreign content ≡ place
-found_in front content place same found = ap (position is_foreign) (sym same) ∙ sym found
+found_in prefix content place same found = ap (position is_foreign) (sym same) ∙ sym found

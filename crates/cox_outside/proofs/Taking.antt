@@ -1,4 +1,4 @@
--- What is taken from the front of what lies ahead.
+-- What is taken of what lies ahead.
 use Rattle.std.proofs.Common.{◌≡◌, ◌≢◌, ℕ, ◌+◌, ◌<◌, List, [], ◌∷◌, ◌++◌, length, Option, Some, None, IfSome, refl, sym, ap, ◌∙◌, subst}
 use Rattle.std.proofs.Common.{arith, length-append, append_assoc}
 use Rattle.std.specs.Option.{option_map}
@@ -20,10 +20,10 @@ pub Takes-none : (here : Ahead) → Takes [] here here
 Takes-none here = record { bytes = sym (prepend_known-none here.bytes); cost = omega arith }
 
 -- bytes were taken, and then more
-pub Takes-append : (front next : List ℕ) (old mid new : Ahead) → Takes front old mid → Takes next mid new → Takes (front ++ next) old new
-Takes-append front next old mid new p q = record {
-  bytes = p.bytes ∙ ap (prepend_known front) q.bytes ∙ prepend_known-append front next new.bytes;
-  cost = omega (arith, p.cost, q.cost, length-append front next);
+pub Takes-append : (prefix next : List ℕ) (old mid new : Ahead) → Takes prefix old mid → Takes next mid new → Takes (prefix ++ next) old new
+Takes-append prefix next old mid new p q = record {
+  bytes = p.bytes ∙ ap (prepend_known prefix) q.bytes ∙ prepend_known-append prefix next new.bytes;
+  cost = omega (arith, p.cost, q.cost, length-append prefix next);
 }
 
 -- one more byte of the beginning of a line
@@ -40,7 +40,7 @@ lines_at_end : (limit : ℕ) (known : Option (List ℕ)) → IsAtEnd known → o
 lines_at_end limit None end = refl
 lines_at_end limit (Some bytes) end = ap Some (ap (lines_within limit) end ∙ lines_within-none limit)
 
--- a line that ends by LF, in front of what is known
+-- a line that ends by LF, before what is known
 lines_by_lf : (limit : ℕ) (line : List ℕ) (known : Option (List ℕ)) → IsUnbroken line
     → option_map (λ bytes. lines_within (limit + length (line ++ line_feed ∷ [])) bytes) (prepend_known (line ++ line_feed ∷ []) known)
     ≡ option_map (λ lines. line ∷ lines) (option_map (λ bytes. lines_within limit bytes) known)
@@ -49,7 +49,7 @@ lines_by_lf limit line (Some rest) h = ap Some
     (ap (lines_within (limit + length (line ++ line_feed ∷ []))) (append_assoc line (line_feed ∷ []) rest)
     ∙ lines_within-line limit line rest h)
 
--- a last line, in front of what is known, at its end
+-- a last line, before what is known, at its end
 lines_by_end : (limit : ℕ) (line : List ℕ) (known : Option (List ℕ)) → 0 < length line → IsUnbroken line → IsAtEnd known
     → option_map (λ bytes. lines_within (limit + length line) bytes) (prepend_known line known)
     ≡ option_map (λ lines. line ∷ lines) (option_map (λ bytes. lines_within limit bytes) known)
@@ -80,7 +80,7 @@ pub lines_ahead-end : (old new : Ahead) → MeetsEnd old new → lines_ahead old
 lines_ahead-end old new meets = lines_at_end old.budget old.bytes
     (subst IsAtEnd (sym (meets.taken.bytes ∙ prepend_known-none new.bytes)) meets.end)
 
--- the line that was taken lay in front
+-- the line that was taken was the first
 pub lines_ahead-line : (halt : Option Stop) (line : List ℕ) (old new : Ahead) → TakesNext halt line old new → lines_ahead old
     ≡ option_map (λ lines. line ∷ lines) (lines_ahead new)
 lines_ahead-line None line old new takes = rw (takes.taken.bytes, takes.taken.cost) (lines_by_lf new.budget line new.bytes takes.unbroken)

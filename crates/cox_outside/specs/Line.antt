@@ -10,7 +10,7 @@ line_feed = 10
 abbrev pub carriage_return : ℕ
 carriage_return = 13
 
--- puts a byte in front of the first line, or makes it a line where there is none
+-- puts a byte before the first line, or makes it a line where there is none
 abbrev pub onto_first : ℕ → List (List ℕ) → List (List ℕ)
 onto_first byte [] = (byte ∷ []) ∷ []
 onto_first byte (line ∷ lines) = (byte ∷ line) ∷ lines
@@ -20,7 +20,7 @@ abbrev pub lines_of : List ℕ → List (List ℕ)
 lines_of [] = []
 lines_of (byte ∷ bytes) = if byte == line_feed then [] ∷ lines_of bytes else onto_first byte (lines_of bytes)
 
--- puts a byte in front of the first line, where there is one
+-- puts a byte before the first line, where there is one
 abbrev pub into_first : ℕ → List (List ℕ) → List (List ℕ)
 into_first byte [] = []
 into_first byte (line ∷ lines) = (byte ∷ line) ∷ lines

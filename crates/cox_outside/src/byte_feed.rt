@@ -114,7 +114,7 @@ impl ByteFeed {
         ensures cause { SourceCause (S.seen source.old) (S.seen source.new) (got_failed result) }
     {
         let room = CHUNK_SIZE.min(self.budget);
-        let got = read_front(&mut self.chunk, room, source);
+        let got = read_first(&mut self.chunk, room, source);
         self.from = 0;
         self.to = got.count();
         got
@@ -141,7 +141,7 @@ impl ByteFeed {
 }
 
 /// Reads into the first so many bytes of the buffer.
-fn read_front<S: Source>(buffer: &mut [u8], room: usize, source: &mut S) -> Got
+fn read_first<S: Source>(buffer: &mut [u8], room: usize, source: &mut S) -> Got
     requires some { 0 < room }
     requires within { room ≤ length buffer.old }
     ensures size { length buffer.new ≡ length buffer.old }

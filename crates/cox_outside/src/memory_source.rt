@@ -50,7 +50,7 @@ impl MemorySource {
 impl Source for MemorySource {
     ghost seen = { supply_of };
 
-    #[tactic(auto, using(crate::proofs::Known::copied_front, crate::proofs::Known::some_passes))]
+    #[tactic(auto, using(crate::proofs::Known::copied_prefix, crate::proofs::Known::some_passes))]
     /// Fails exactly where the call has to; else it gives as many bytes as the piece, the buffer and
     /// the bytes left allow.
     fn read(&mut self, into: &mut [u8]) -> Got
@@ -74,14 +74,14 @@ impl Source for MemorySource {
             return Got::End;
         }
         let count = rest.len().min(self.piece.min(into.len()));
-        copy_front(rest, into, count);
+        copy_prefix(rest, into, count);
         self.at += count;
         Got::Bytes(count)
     }
 }
 
 /// Copies the first bytes.
-fn copy_front(from: &[u8], into: &mut [u8], count: usize)
+fn copy_prefix(from: &[u8], into: &mut [u8], count: usize)
     requires from { count ≤ length from.now }
     requires into { count ≤ length into.old }
     ensures { into.new ≡ take count from.now ++ drop count into.old }

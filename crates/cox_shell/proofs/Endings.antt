@@ -1,8 +1,7 @@
 -- How a run that has come so far ends.
 use Rattle.std.proofs.Common.{◌≡◌, ◌<◌, ◌≤◌, ◌+◌, ℕ, Bool, true, false, cond, ◌⊎◌, inl, inr, Option, Some, None, List, [], ◌∷◌, ◌++◌}
 use Rattle.std.proofs.Common.{length, take, refl, sym, ap, ◌∙◌, subst, arith, append_assoc, length-append}
-use Rattle.std.specs.Bool.{MatchBool}
-use Rattle.std.specs.Option.{IsSome, IfSome, option_map}
+use Rattle.std.specs.Option.{IsSome, IfSome}
 use Rattle.std.specs.Io.KnownBytes.{prepend_known, IsAtEnd}
 use Rattle.std.proofs.lemmas.List.{append-nil, take_at}
 use Rattle.cox_outside.specs.declared.limits.TheConstants.{CHUNK_SIZE}

@@ -1,5 +1,5 @@
 -- Lines that were taken: which bytes they are, and which lines these bytes have.
-use Rattle.std.proofs.Common.{◌≡◌, ◌<◌, ◌≤◌, ◌+◌, ℕ, true, inl, inr, nat_le, Option, Some, None, List, [], ◌∷◌, ◌++◌, length, take, refl}
+use Rattle.std.proofs.Common.{◌≡◌, ◌≤◌, ◌+◌, ℕ, true, inl, inr, nat_le, Option, Some, None, List, [], ◌∷◌, ◌++◌, length, take, refl}
 use Rattle.std.proofs.Common.{sym, ap, ◌∙◌, arith, append_assoc, length-append}
 use Rattle.std.specs.Option.{IsSome, option_map}
 use Rattle.std.specs.Io.KnownBytes.{prepend_known, IsAtEnd}
@@ -8,7 +8,7 @@ use Rattle.std.proofs.lemmas.Grind.{flat_map-append}
 use Rattle.std.proofs.lemmas.Bool.Decides.{nat_tests}
 use Rattle.cox_outside.specs.declared.line_reader.Stop.{Stop}
 use Rattle.cox_outside.specs.declared.line_reader.Stop.TheVariants as stop
-use Rattle.cox_outside.specs.Line.{line_feed, ended_lines, lines_of, lines_within}
+use Rattle.cox_outside.specs.Line.{line_feed, ended_lines, lines_of}
 use Rattle.cox_outside.specs.Feed.{HasFewPending}
 use Rattle.cox_outside.specs.Ahead.{Ahead, Takes, MeetsLimit, lines_ahead}
 use Rattle.cox_outside.specs.Reader.{TakesNext}
@@ -167,17 +167,17 @@ HasRead-begun lines old now next begun t q none =
 pub HasRead-limit : (lines : List (List ℕ)) (old now next : Ahead) → TakenLines lines None old now → MeetsLimit now next
     → HasRead lines old next
 HasRead-limit lines old now next t m =
-    let front = t.taken ++ m.begun in
+    let prefix = t.taken ++ m.begun in
     let part = Takes-append t.taken m.begun old now m.spent t.takes m.part.taken in
-    let size : old.budget ≡ length front = omega (arith, part.cost, m.none_left) in
-    let same : (front ++ m.byte ∷ []) ++ next.pending ≡ front ++ m.byte ∷ [] = ap (λ l. (front ++ m.byte ∷ []) ++ l) m.none_pending
-    ∙ append-nil (front ++ m.byte ∷ []) in record {
-      taken = front ++ m.byte ∷ [];
-      gave = part.bytes ∙ ap (prepend_known front) m.beyond ∙ prepend_known-append front (m.byte ∷ []) next.bytes;
-      within = omega (arith, ap length same, length-append front (m.byte ∷ []), size);
+    let size : old.budget ≡ length prefix = omega (arith, part.cost, m.none_left) in
+    let same : (prefix ++ m.byte ∷ []) ++ next.pending ≡ prefix ++ m.byte ∷ [] = ap (λ l. (prefix ++ m.byte ∷ []) ++ l) m.none_pending
+    ∙ append-nil (prefix ++ m.byte ∷ []) in record {
+      taken = prefix ++ m.byte ∷ [];
+      gave = part.bytes ∙ ap (prepend_known prefix) m.beyond ∙ prepend_known-append prefix (m.byte ∷ []) next.bytes;
+      within = omega (arith, ap length same, length-append prefix (m.byte ∷ []), size);
       are_read = inl (
         ended_lines m.begun,
-        ap ended_lines (ap (take old.budget) same ∙ take_at front (m.byte ∷ []) old.budget (sym size))
+        ap ended_lines (ap (take old.budget) same ∙ take_at prefix (m.byte ∷ []) old.budget (sym size))
             ∙ t.ended refl m.begun,
       );
     }

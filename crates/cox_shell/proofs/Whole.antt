@@ -2,7 +2,7 @@
 use Rattle.std.proofs.Common.{◌≡◌, ◌<◌, ◌≤◌, ◌+◌, ℕ, Bool, true, false, inl, inr, Option, Some, None, List, [], ◌∷◌, ◌++◌, length, take}
 use Rattle.std.proofs.Common.{codes, refl, sym, ◌∙◌, subst, arith, length-append}
 use Rattle.std.specs.Bool.{MatchBool}
-use Rattle.std.specs.Option.{IfSome, option_map}
+use Rattle.std.specs.Option.{IfSome}
 use Rattle.std.specs.Io.KnownBytes.{prepend_known, IsAtEnd}
 use Rattle.cox_outside.specs.declared.limits.TheConstants.{INPUT_LIMIT, CHUNK_SIZE}
 use Rattle.cox_outside.specs.Line.{lines_within}
@@ -17,10 +17,10 @@ use Rattle.cox_shell.specs.declared.status.Status.TheVariants.{Done, Refused, Us
 use Rattle.cox_shell.specs.Reply.{Limits, State, Reply, limits_of, opening}
 use Rattle.cox_shell.specs.Answer.{AreReplies, texts, has_quit, script_lines, bytes_of}
 use Rattle.cox_shell.specs.Run.{Stand, stand}
-use Rattle.cox_shell.specs.Outcome.{Runs, WritesPrefix, WritesAll, StopsThere, AnswersAll, AnswersToLimit}
-use Rattle.cox_shell.specs.Top.{usage_line, given_limits, WritesAnswer, StopsReading, IsReadWhole, AnswersWhole, AnswersWithin, AreRead}
+use Rattle.cox_shell.specs.Outcome.{Runs, WritesPrefix, WritesAll, StopsThere, AnswersAll}
+use Rattle.cox_shell.specs.Top.{usage_line, given_limits, WritesAnswer, StopsReading, AnswersWhole, AnswersWithin, AreRead}
 use Rattle.cox_shell.specs.Top.{AreDue, IsDue, WritesDue, IsOverRoom, TakesWithin}
-use Rattle.cox_shell.proofs.Known.{IfSome-unmade, IfSome-each, IfSome-follows}
+use Rattle.cox_shell.proofs.Known.{IfSome-unmade, IfSome-follows}
 
 -- the limits of the options that arguments give are those that the arguments give
 pub limits-given : (options : Options) (arguments : List (List ℕ)) → given_number (codes "context") arguments ≡ Some options.context
@@ -169,9 +169,6 @@ WritesDue-none arguments script old = by_arguments (is_refused arguments) refl
     by_arguments : (b : Bool) → is_refused arguments ≡ b → WritesDue arguments script script old old
     by_arguments true wrong = (usage_line, [], IsDue-usage arguments script script wrong, (usage_line, refl), Writes-none old)
     by_arguments false right = ([], [], IsDue-replies arguments script script [] right nothing, ([], refl), Writes-none old)
-
-pub TakesWithin-none : (script : Option (List ℕ)) → TakesWithin script script
-TakesWithin-none script = ([], sym (prepend_known-none script), omega arith)
 
 -- more was due than there was room for
 pub Runs-room : (arguments : List (List ℕ)) (script : Option (List ℕ)) (old : Outlet) (state : State) (reader : Reader) (supply : Supply)

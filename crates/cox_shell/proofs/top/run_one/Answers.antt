@@ -1,12 +1,11 @@
 -- What a run does follows from what the run over the lines does, or from what was written of the usage line.
 use Rattle.std.proofs.Common.{refl, [], Err, ap, ◌∙◌}
-use Rattle.cox_shell.specs.declared.status.Status.TheVariants.{Done, Refused, WriteFault, InputLimit}
 use Rattle.cox_shell.specs.Reply.{opening}
 use Rattle.cox_shell.specs.Run.{stand}
 use Rattle.cox_shell.specs.Outcome.{Runs}
 use Rattle.cox_shell.specs.Top.{argument_texts, given_limits}
 use Rattle.cox_shell.proofs.Whole.{beginning, limits-given, Runs-beginning, AnswersAll-whole, Runs-within, Runs-takes, Runs-due, Runs-room}
-use Rattle.cox_shell.proofs.Whole.{WritesDue-none, TakesWithin-none, IsDue-usage, IsOverRoom-usage}
+use Rattle.cox_shell.proofs.Whole.{WritesDue-none, IsDue-usage, IsOverRoom-usage}
 use Rattle.cox_shell.proofs.top.run_one.Given as given
 use Rattle.cox_shell.proofs.top.run_one.Goals as goal
 
