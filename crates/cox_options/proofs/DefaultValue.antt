@@ -1,5 +1,6 @@
 -- An argument with a default that takes one value has a value after a parse, which passed its parser.
-use Rattle.std.proofs.Common.{◌≡◌, ◌∙◌, ◌<◌, ◌≤◌, ap, ℕ, Bool, cond, true, false, zero, suc, List, [], ◌∷◌, length, is_some, Option, Some, None, refl, sym, subst, inl, inr, arith}
+use Rattle.std.proofs.Common.{◌≡◌, ◌∙◌, ◌<◌, ◌≤◌, ap, ℕ, Bool, cond, true, false, zero, suc, List, [], ◌∷◌, length, is_some, Option, Some}
+use Rattle.std.proofs.Common.{None, refl, sym, subst, inl, inr, arith}
 use Rattle.std.specs.List.{All, slice_index_or}
 use Rattle.std.specs.Str.{bytes_eq}
 use Rattle.std.specs.Prelude.{find, option_map, slice_get}
@@ -38,23 +39,29 @@ first_of_all : (P : Bor (List ℕ) → Type 0) (how : Reading) (vs : List (Bor (
 first_of_all P how [] all some = absurd (omega arith)
 first_of_all P how (v ∷ vs) all some = (v, refl, All-get_or P (v ∷ vs) 0 v (omega arith) all)
 
-module _ (c : Command) (m : ArgMatches) (p : IsParsedFrom c m) (globals : (out-Command c).has_globals ≡ false) (no_groups : groups_of p.built ≡ [])
+module _ (c : Command) (m : ArgMatches) (p : IsParsedFrom c m) (globals : (out-Command c).has_globals ≡ false)
+    (no_groups : groups_of p.built ≡ [])
     (k : ℕ) (d : Arg) (lt : k < length (args_of c))
-    (unique : (j : ℕ) (e : Arg) → j < length (args_of c) → bytes_eq (slice_index_or (args_of c) j e).id.now (slice_index_or (args_of c) k d).id.now ≡ true → j ≡ k)
+    (unique : (j : ℕ) (e : Arg) → j < length (args_of c)
+    → bytes_eq (slice_index_or (args_of c) j e).id.now (slice_index_or (args_of c) k d).id.now ≡ true → j ≡ k)
     (own : IsAuto (slice_index_or (args_of c) k d) → ⊥) where
   abbrev a : Arg
   a = slice_index_or (args_of c) k d
 
   -- the rules of an argument of the built command with that id
-  rules_by_id : (key : List ℕ) → key ≡ a.id.now → (j : ℕ) (x : Arg) → j < length (args_of p.built) → slice_index_or (args_of p.built) j x ≡ x
+  rules_by_id : (key : List ℕ) → key ≡ a.id.now → (j : ℕ) (x : Arg) → j < length (args_of p.built) → slice_index_or (args_of p.built) j x
+      ≡ x
       → bytes_eq x.id.now key ≡ true → SameRules a x
-  rules_by_id key is j x high at same = same_rules_by_id c m p k d lt unique own j x high at (subst (λ (t : List ℕ). bytes_eq x.id.now t ≡ true) is same)
+  rules_by_id key is j x high at same = same_rules_by_id c m p k d lt unique own j x high at
+      (subst (λ (t : List ℕ). bytes_eq x.id.now t ≡ true) is same)
 
   module _ (set : a.action ≡ Some Set) (delim : a.val_delim ≡ None) (least : 1 ≤ least_values a) (named : a.id.now ≡ [] → ⊥)
       (q : ValueParser) (parser : a.value_parser ≡ Some q) where
     -- what an entry under that id gives
     read_entry : (e : Entry) → e.0.now ≡ a.id.now → EntryPasses p.built e
-        → (v : Bor (List ℕ)) × (option_map (λ s. read_as e.1.reading s.now) (slice_get e.1.vals.items 0) ≡ Some (read_as (reading_of q) v.now)) × Accepts a.ignore_case q v.now
+        → (v : Bor (List ℕ))
+        × (option_map (λ s. read_as e.1.reading s.now) (slice_get e.1.vals.items 0) ≡ Some (read_as (reading_of q) v.now))
+        × Accepts a.ignore_case q v.now
     read_entry e key pass =
         let no_group : e.1.is_group ≡ true → ⊥ = λ g. elim (pass.3 g) [
           | inl empty ↦ named (sym key ∙ empty)
@@ -103,7 +110,8 @@ module _ (c : Command) (m : ArgMatches) (p : IsParsedFrom c m) (globals : (out-C
         )
 
     -- the value that the getters read of that argument
-    pub default_read : WantsDefault a → (t : List ℕ) × (one_text (found_of m) a.id.now ≡ Some (read_as (reading_of q) t)) × Accepts a.ignore_case q t
+    pub default_read : WantsDefault a → (t : List ℕ) × (one_text (found_of m) a.id.now ≡ Some (read_as (reading_of q) t))
+        × Accepts a.ignore_case q t
     default_read wants =
         let has = default_present c m p globals k d lt wants in
         go (matched_of (found_of m) a.id.now) refl (found_entry (found_of m).entries.items a.id.now has.0 has.1 has.2)
@@ -118,5 +126,6 @@ module _ (c : Command) (m : ArgMatches) (p : IsParsedFrom c m) (globals : (out-C
             let got = entry_by_id (EntryPasses p.built) (found_of m).entries.items a.id.now x parsed.values is in
             let read = read_entry got.0 ((bytes_eq-Decides got.0.0.now a.id.now).0 got.2) got.3 in
             let value : option_map (λ s. read_as x.reading s.now) (slice_get x.vals.items 0) ≡ Some (read_as (reading_of q) read.0.now) =
-            subst (λ (y : MatchedArg). option_map (λ s. read_as y.reading s.now) (slice_get y.vals.items 0) ≡ Some (read_as (reading_of q) read.0.now)) got.1 read.1 in
+            subst (λ (y : MatchedArg). option_map (λ s. read_as y.reading s.now) (slice_get y.vals.items 0)
+            ≡ Some (read_as (reading_of q) read.0.now)) got.1 read.1 in
             (read.0.now, rw is value, read.2)

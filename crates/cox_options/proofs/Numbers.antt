@@ -1,8 +1,10 @@
 -- The options with a number have one after a parse, within their range.
-use Rattle.std.proofs.Common.{◌≡◌, ◌∙◌, ◌<◌, ap, ℕ, true, false, List, [], ◌∷◌, map, length, is_some, not, Option, Some, None, refl, sym, subst, inl, inr, arith, codes, slice_index}
+use Rattle.std.proofs.Common.{◌≡◌, ◌∙◌, ◌<◌, ap, ℕ, true, false, List, [], ◌∷◌, map, length, is_some, not, Option, Some, None, refl, sym}
+use Rattle.std.proofs.Common.{subst, inl, inr, arith, codes, slice_index}
 use Rattle.std.specs.List.{slice_index_or}
 use Rattle.std.specs.Str.{bytes_eq}
 use Rattle.std.proofs.lemmas.List.{get_or-map, length-map}
+use Rattle.cox_options.specs.declared.options.TheConstants.{MAX_CONTEXT, MAX_CONTEXT_TEXT}
 use Rattle.clap.specs.Facts.{args_of, least_values, unwrap_or_range}
 use Rattle.clap.specs.Built.{IsParsedFrom}
 use Rattle.clap.specs.Matches.{found_of, one_text}
@@ -20,7 +22,7 @@ use Rattle.clap.proofs.SimpleLemmas.{all_simple, is_nil, plain_fields, simple_gr
 use Rattle.clap.proofs.WalkLemmas.{both, one_text-rows}
 use Rattle.cox_options.specs.Command.{coxeter_app, number_rule}
 use Rattle.cox_options.specs.Found.{HasNumber}
-use Rattle.cox_options.specs.Words.{given_number, number_of}
+use Rattle.cox_options.specs.Arguments.{given_number, number_of}
 use Rattle.cox_options.proofs.DefaultValue.{default_read}
 
 is_none : {X : Type 0} (o : Option X) → not (is_some o) ≡ true → o ≡ None
@@ -59,24 +61,31 @@ number_read app c m p is plain simple k name most default below rule unique name
     let lt : k < length (args_of c) = omega arith in
     let d = some_arg (args_of c) k lt in
     let a = slice_index_or (args_of c) k d in
-    let at : (j : ℕ) (e : Arg) → j < length (args_of c) → rule_of (slice_index_or (args_of c) j e) ≡ slice_index_or app.top.rules j (rule_of e) =
-    λ j e in_range. sym (get_or-map rule_of (args_of c) j e (rule_of e) in_range) ∙ ap (λ (rs : List Rule). slice_index_or rs j (rule_of e)) list in
+    let at : (j : ℕ) (e : Arg) → j < length (args_of c) → rule_of (slice_index_or (args_of c) j e)
+    ≡ slice_index_or app.top.rules j (rule_of e) =
+    λ j e in_range. sym (get_or-map rule_of (args_of c) j e (rule_of e) in_range)
+    ∙ ap (λ (rs : List Rule). slice_index_or rs j (rule_of e)) list in
     let of_a : rule_of a ≡ number_rule name most default = at k d lt ∙ rule (rule_of d) in
     let id : a.id.now ≡ name = ap (λ (r : Rule). r.id) of_a in
     let simple_a = simple_facts a (ap (λ (r : Rule). r.is_simple) of_a) in
     let defaults : texts (items_of a.default_vals) ≡ default ∷ [] = ap (λ (r : Rule). r.defaults) of_a in
     let some : length (items_of a.default_vals) ≡ 1 = sym (length-map (items_of a.default_vals) (λ s. s.now)) ∙ ap length defaults in
-    let range : least_values a ≡ 1 = ap (λ (o : Option ValueRange). (unwrap_or_range o).start_inclusive) (ap (λ (r : Rule). r.range) of_a) in
+    let range : least_values a ≡ 1 = ap (λ (o : Option ValueRange). (unwrap_or_range o).start_inclusive)
+    (ap (λ (r : Rule). r.range) of_a) in
     let read = default_read c m p fields.globals ((p.from.same_groups groups).1 ∙ fields.groups) k d lt
-    (λ j e in_range same. unique j (rule_of e) (omega arith) (subst (λ (t : Text). bytes_eq t name ≡ true) (ap (λ (r : Rule). r.id) (at j e in_range)) (subst (λ (t : Text). bytes_eq (slice_index_or (args_of c) j e).id.now t ≡ true) id same)))
+    (λ j e in_range same. unique j (rule_of e) (omega arith)
+    (subst (λ (t : Text). bytes_eq t name ≡ true) (ap (λ (r : Rule). r.id) (at j e in_range))
+    (subst (λ (t : Text). bytes_eq (slice_index_or (args_of c) j e).id.now t ≡ true) id same)))
     (λ auto. elim auto [ inl h ↦ help (sym id ∙ h) | inr h ↦ version (sym id ∙ h) ])
     (ap (λ (r : Rule). r.action) of_a) simple_a.1 (omega arith) (λ empty. named (sym id ∙ empty))
     (Unsigned 1 most) (ap (λ (r : Rule). r.parser) of_a) (simple_a.0, omega arith) in
     subst (λ (t : Text). HasNumber (found_of m) t most) id read
 
 -- the context
-pub context_read : (c : Command) (m : ArgMatches) → IsParsedFrom c m → app_of c ≡ coxeter_app → HasNumber (found_of m) (codes "context") 65536
-context_read c m p is = number_read coxeter_app c m p is refl refl 0 (codes "context") 65536 (codes "65536") (omega arith) (λ r. refl)
+pub context_read : (c : Command) (m : ArgMatches) → IsParsedFrom c m → app_of c ≡ coxeter_app
+    → HasNumber (found_of m) (codes "context") MAX_CONTEXT
+context_read c m p is = number_read coxeter_app c m p is refl refl 0 (codes "context") MAX_CONTEXT MAX_CONTEXT_TEXT.now (omega arith)
+    (λ r. refl)
     (λ j r lt same. omega arith)
     (λ e. let bad : 99 ≡ 0 = ap (λ (t : Text). slice_index t 0) e in absurd (omega arith))
     (λ e. let bad : 99 ≡ 104 = ap (λ (t : Text). slice_index t 0) e in absurd (omega arith))

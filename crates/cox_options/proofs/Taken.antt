@@ -1,34 +1,41 @@
 -- Words that are taken give a context within its range: on the way through them there is at most one row, that of a number in the range.
-use Rattle.std.proofs.Common.{◌≡◌, ◌∙◌, ◌≤◌, ◌&&◌, ◌==◌, ◌⊎◌, inl, inr, ℕ, Bool, true, false, zero, suc, not, cond, List, [], ◌∷◌, drop, length, Option, Some}
+use Rattle.std.proofs.Common.{◌≡◌, ◌∙◌, ◌≤◌, ◌&&◌, ◌==◌, ◌⊎◌, inl, inr, ℕ, Bool, true, false, zero, suc, not, cond, List, [], ◌∷◌, drop}
+use Rattle.std.proofs.Common.{length, Option, Some}
 use Rattle.std.proofs.Common.{None, is_some, refl, sym, ap, subst, codes, arith}
 use Rattle.std.specs.Prelude.{IsSomeAnd, option_map, encode_utf8, slice_get}
 use Rattle.std.specs.Option.{option_map_or}
 use Rattle.std.specs.List.{find, fold}
 use Rattle.std.specs.Str.{bytes_eq, chars}
 use Rattle.std.proofs.lemmas.Bool.{leb-true, ne_eqb}
-use Rattle.clap.specs.Faults.{flag_word_fault, long_fault, option_fault, other_fault, settle_fault, turn_fault, use_fault, walk_fault, word_fault}
+use Rattle.cox_options.specs.declared.options.TheConstants.{MAX_CONTEXT, MAX_CONTEXT_TEXT}
+use Rattle.clap.specs.Faults.{flag_word_fault, long_fault, option_fault, other_fault, settle_fault, turn_fault, use_fault, walk_fault}
+use Rattle.clap.specs.Faults.{word_fault}
 use Rattle.clap.specs.Kinds.{Kinds, or_else}
 use Rattle.clap.specs.Lexer.{long_of, short_of}
 use Rattle.clap.specs.Simple.{Shape, built, filled, with_index}
 use Rattle.clap.specs.ValueTests.{is_unsigned_in}
-use Rattle.clap.specs.Walk.{Held, Outcome, Row, Rule, Step, Text, Waiting, Walk, after_flag, after_step, arg_by_id, arg_by_long, bundle, bundle_met}
-use Rattle.clap.specs.Walk.{bundle_step, done, has_long, idle, long_met, long_or_other, next, nothing_held, one_of, option, option_met, option_word, plain}
-use Rattle.clap.specs.Walk.{plain_word, positional, refused, settled, settled_rows, short_or_plain, subcommand, subcommand_met, subcommand_or_other, trailing}
+use Rattle.clap.specs.Walk.{Held, Outcome, Row, Rule, Step, Text, Waiting, Walk, after_flag, after_step, arg_by_id, arg_by_long, bundle}
+use Rattle.clap.specs.Walk.{bundle_met}
+use Rattle.clap.specs.Walk.{bundle_step, done, has_long, idle, long_met, long_or_other, next, nothing_held, one_of, option, option_met}
+use Rattle.clap.specs.Walk.{option_word, plain}
+use Rattle.clap.specs.Walk.{plain_word, positional, refused, settled, settled_rows, short_or_plain, subcommand, subcommand_met}
+use Rattle.clap.specs.Walk.{subcommand_or_other, trailing}
 use Rattle.clap.specs.Walk.{used, used_by_id, value, waits, walk, walk_from, walked, walked_from, with_default, word_met}
 use Rattle.clap.specs.declared.builder.value_parser.Reading.TheVariants.{AsWritten}
-use Rattle.clap.specs.declared.error.kind.ErrorKind.TheVariants.{ArgumentConflict, InvalidValue, UnknownArgument, ValueValidation, WrongNumberOfValues}
+use Rattle.clap.specs.declared.error.kind.ErrorKind.TheVariants.{ArgumentConflict, InvalidValue, UnknownArgument, ValueValidation}
+use Rattle.clap.specs.declared.error.kind.ErrorKind.TheVariants.{WrongNumberOfValues}
 use Rattle.clap.specs.declared.parser.matches.ValueSource.TheVariants.{CommandLine}
 use Rattle.clap.proofs.SimpleLemmas.{is_nil}
 use Rattle.clap.proofs.WalkLemmas.{both}
 use Rattle.cox_options.specs.Command.{coxeter_app, number_rule}
-use Rattle.cox_options.specs.Words.{IsTaken, given_number, number_of}
+use Rattle.cox_options.specs.Arguments.{IsTaken, given_number, number_of}
 
 -- the command and its one option, as a parse reads them
 abbrev command : Shape
 command = (built coxeter_app).top
 
 abbrev rule : Rule
-rule = with_index 1 (filled (number_rule (codes "context") 65536 (codes "65536")))
+rule = with_index 1 (filled (number_rule (codes "context") MAX_CONTEXT MAX_CONTEXT_TEXT.now))
 
 abbrev rules : List Rule
 rules = rule ∷ []
@@ -40,7 +47,7 @@ given_row text = record { id = codes "context"; values = text ∷ []; count = No
 -- nothing is found, or a number in the range
 abbrev IsGood : List Row → Type 0
 IsGood [] = Unit {0}
-IsGood (r ∷ rs) = (text : Text) × (r ∷ rs ≡ given_row text ∷ []) × (is_unsigned_in 1 65536 text ≡ true)
+IsGood (r ∷ rs) = (text : Text) × (r ∷ rs ≡ given_row text ∷ []) × (is_unsigned_in 1 MAX_CONTEXT text ≡ true)
 
 none_of_both : (a b : Kinds) → or_else a b ≡ [] → (a ≡ []) × (b ≡ [])
 none_of_both [] b e = (refl, e)
@@ -51,9 +58,9 @@ used_good : (values : List Text) (rows : List Row) → IsGood rows → use_fault
 used_good [] rows good e =
     let bad : InvalidValue ∷ [] ≡ [] = e in
     cc
-used_good (v ∷ []) [] good e = go (is_unsigned_in 1 65536 v) refl e
+used_good (v ∷ []) [] good e = go (is_unsigned_in 1 MAX_CONTEXT v) refl e
   where
-    go : (b : Bool) → is_unsigned_in 1 65536 v ≡ b → use_fault false rule (v ∷ []) [] ≡ [] → IsGood (used rule (v ∷ []) [])
+    go : (b : Bool) → is_unsigned_in 1 MAX_CONTEXT v ≡ b → use_fault false rule (v ∷ []) [] ≡ [] → IsGood (used rule (v ∷ []) [])
     go true ok e = (v, refl, ok)
     go false out e =
         let bad : ValueValidation ∷ [] ≡ [] = rw out at e in
@@ -123,7 +130,8 @@ bundle_rows (suc k) flags skip so_far h = go (slice_get (chars flags) 0) skip (b
     go (Some x) (suc skip) rest = rest (drop (length (encode_utf8 x)) flags) skip so_far h
 
 -- the option by its long name, without a fault
-option_good : (given : Option Text) (h : Held) → IsGood h.rows → option_fault rules false rule given h ≡ [] → IsGood (option_met rules rule given h).0.rows
+option_good : (given : Option Text) (h : Held) → IsGood h.rows → option_fault rules false rule given h ≡ []
+    → IsGood (option_met rules rule given h).0.rows
 option_good None h good e = settled_good h good e
 option_good (Some v) h good e =
     let parts = none_of_both (settle_fault rules false h) _ e in
@@ -153,7 +161,8 @@ flag_good waiting word h good e = go (long_of word) e
         let same = after_rows waiting word met.0 met.1 ∙ bundle_rows (length flags) flags h.skip plain (record h { skip = 0 }) in
         subst IsGood (sym same) good
 
-    go : (o : Option (Text × Option Text)) → flag_word_fault rules false o word h ≡ [] → IsGood (long_or_other rules waiting word o h).0.rows
+    go : (o : Option (Text × Option Text)) → flag_word_fault rules false o word h ≡ []
+        → IsGood (long_or_other rules waiting word o h).0.rows
     go None e = other (short_of word)
     go (Some p) e =
         let met = long_met rules (arg_by_long rules p.0) p.1 h in
@@ -172,7 +181,8 @@ word_good true waiting position word h good e = good
 word_good false waiting position word h good e =
     let none = no_subcommand waiting word in
     let fault = ap (λ o. other_fault command o word h) none in
-    subst (λ o. IsGood (subcommand_or_other rules o waiting position word h).0.rows) (sym none) (go (bytes_eq word (45 ∷ 45 ∷ [])) (sym fault ∙ e))
+    subst (λ o. IsGood (subcommand_or_other rules o waiting position word h).0.rows) (sym none)
+    (go (bytes_eq word (45 ∷ 45 ∷ [])) (sym fault ∙ e))
   where
     go : (b : Bool) → cond b [] (flag_word_fault rules false (long_of word) word h) ≡ []
         → IsGood (cond b (h, trailing position) (long_or_other rules waiting word (long_of word) h)).0.rows
@@ -191,15 +201,18 @@ turn_good : (w : Walk) (word : Text) → IsGood w.held.rows → turn_fault comma
 unfolding walked
 turn_good w word good e = go w.stopped e
   where
-    go : (o : Option (Text × List Text)) → turn_fault command [] (record w { stopped = o }) word ≡ [] → IsGood (walked_from rules [] o w word).held.rows
+    go : (o : Option (Text × List Text)) → turn_fault command [] (record w { stopped = o }) word ≡ []
+        → IsGood (walked_from rules [] o w word).held.rows
     go (Some p) e = good
     go None e =
         let met = word_met rules [] w.is_trailing w.waiting w.position word w.held in
         let here = none_of_both (word_fault command [] w.is_trailing w.waiting word w.held) _ e in
-        subst (λ h. IsGood h.rows) (sym (step_held word w met.0 met.1)) (word_good w.is_trailing w.waiting w.position word w.held good here.0)
+        subst (λ h. IsGood h.rows) (sym (step_held word w met.0 met.1))
+        (word_good w.is_trailing w.waiting w.position word w.held good here.0)
 
 -- all words without a fault
-walk_good : (w : Walk) (words : List Text) → IsGood w.held.rows → walk_fault command [] w words ≡ [] → IsGood (fold (walked rules []) w words).held.rows
+walk_good : (w : Walk) (words : List Text) → IsGood w.held.rows → walk_fault command [] w words ≡ []
+    → IsGood (fold (walked rules []) w words).held.rows
 unfolding walk_fault
 walk_good w [] good e = good
 walk_good w (word ∷ words) good e =
@@ -207,10 +220,11 @@ walk_good w (word ∷ words) good e =
     walk_good (walked rules [] w word) words (turn_good w word good parts.0) parts.1
 
 abbrev IsInRange : ℕ → Type 0
-IsInRange n = (1 ≤ n) × (n ≤ 65536)
+IsInRange n = (1 ≤ n) × (n ≤ MAX_CONTEXT)
 
 -- what is found at the end is a number in the range: the default, where none was given
-finished_good : (rows : List Row) → IsGood rows → IsSomeAnd (option_map number_of (one_of (codes "context") (with_default rows rule))) IsInRange
+finished_good : (rows : List Row) → IsGood rows
+    → IsSomeAnd (option_map number_of (one_of (codes "context") (with_default rows rule))) IsInRange
 finished_good [] good = (omega arith, omega arith)
 finished_good (r ∷ rs) (text, is, ok) =
     let numeral = both _ _ ok in

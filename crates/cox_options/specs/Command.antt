@@ -1,5 +1,6 @@
 -- The command `coxeter`, by the definitions of `clap`.
 use Rattle.std.specs.Prelude.{ℕ, true, [], ◌∷◌, Some, codes}
+use Rattle.cox_options.specs.declared.options.TheConstants.{MAX_CONTEXT, MAX_CONTEXT_TEXT}
 use Rattle.clap.specs.Words.{App, Rule, Text, new_app, new_rule, with_rule}
 use Rattle.clap.specs.Simple.{on_top}
 use Rattle.clap.specs.declared.builder.action.ArgAction.TheVariants.{Set}
@@ -21,4 +22,4 @@ without_help = on_top (λ s. record s { disable_help_flag = true })
 -- the command `coxeter`, an option a line
 abbrev pub coxeter_app : App
 coxeter_app = with_rule (without_help (new_app (codes "coxeter")))
-    (number_rule (codes "context") 65536 (codes "65536"))
+    (number_rule (codes "context") MAX_CONTEXT MAX_CONTEXT_TEXT.now)

@@ -1,6 +1,6 @@
 -- the command and its options
 pub mod Command
--- which words give options, and which
-pub mod Words
+-- which arguments give options, and which
+pub mod Arguments
 -- what a parse found for an option
 pub mod Found

@@ -3,7 +3,7 @@ ghost use Rattle.std.specs.Prelude.{◌≡◌, IfOk, false};
 ghost use Rattle.clap.specs.Words.{rule_of, app_of};
 ghost use Rattle.cox_options.specs.Command.{number_rule, coxeter_app};
 
-use crate::options::MAX_CONTEXT;
+use crate::options::{MAX_CONTEXT, MAX_CONTEXT_TEXT};
 use clap::builder::ValueParser;
 use clap::{Arg, ArgAction, Command};
 use std::alloc::{AllocError, Global};
@@ -24,7 +24,7 @@ fn number_option<'a>(alloc: Global, name: &'a str, most: u64, default: &'a str) 
 pub fn command<'a>(alloc: Global) -> Result<Command<'a>, AllocError>
     ensures { IfOk result (λ command. app_of command ≡ coxeter_app) }
 {
-    let context = number_option(alloc, "context", u64::from(MAX_CONTEXT), "65536");
+    let context = number_option(alloc, "context", u64::from(MAX_CONTEXT), MAX_CONTEXT_TEXT);
     Command::new(alloc, "coxeter")
         .disable_help_flag(true)
         .arg(context)

@@ -1,29 +1,30 @@
 //! What the command's definition gives.
 ghost use Rattle.std.specs.Prelude.{◌≡◌, ◌≢◌, ◌≤◌, ◌∷◌, ◌++◌, [], ℕ, List, Some, IsSomeAnd, codes, not, slice_index};
 ghost use Rattle.clap.specs.ValueTests.{is_unsigned_in};
-ghost use Rattle.cox_options.specs.Words.{IsTaken, is_refused, number_of, given_number};
+ghost use Rattle.cox_options.specs.declared.options.TheConstants.{MAX_CONTEXT};
+ghost use Rattle.cox_options.specs.Arguments.{IsTaken, is_refused, number_of, given_number};
 
 /// The program's name alone is taken, and gives each option its default.
 pub fn name_alone_gives_defaults()
     ensures taken { (name : List ℕ) → IsTaken (name ∷ []) }
-    ensures context { (name : List ℕ) → given_number (codes "context") (name ∷ []) ≡ Some 65536 }
+    ensures context { (name : List ℕ) → given_number (codes "context") (name ∷ []) ≡ Some MAX_CONTEXT }
 {}
 
-/// `--context=N` is taken just where N writes a number from 1 to 65,536, and gives that number.
+/// `--context=N` is taken exactly when N writes a number from 1 to `MAX_CONTEXT`, and gives that number.
 pub fn joined_number_is_context()
-    ensures taken { (name text : List ℕ) → is_refused (name ∷ (codes "--context=" ++ text) ∷ []) ≡ not (is_unsigned_in 1 65536 text) }
+    ensures taken { (name text : List ℕ) → is_refused (name ∷ (codes "--context=" ++ text) ∷ []) ≡ not (is_unsigned_in 1 MAX_CONTEXT text) }
     ensures context { (name text : List ℕ) → given_number (codes "context") (name ∷ (codes "--context=" ++ text) ∷ []) ≡ Some (number_of text) }
 {}
 
 /// So is `--context N`, where N does not begin with a hyphen.
 pub fn next_number_is_context()
     ensures taken { (name text : List ℕ) → slice_index text 0 ≢ 45
-        → is_refused (name ∷ codes "--context" ∷ text ∷ []) ≡ not (is_unsigned_in 1 65536 text) }
+        → is_refused (name ∷ codes "--context" ∷ text ∷ []) ≡ not (is_unsigned_in 1 MAX_CONTEXT text) }
     ensures context { (name text : List ℕ) → slice_index text 0 ≢ 45
         → given_number (codes "context") (name ∷ codes "--context" ∷ text ∷ []) ≡ Some (number_of text) }
 {}
 
-/// Words that are taken give a context within its range, whether they name it or not.
-pub fn taken_words_give_a_context()
-    ensures { (words : List (List ℕ)) → IsTaken words → IsSomeAnd (given_number (codes "context") words) (λ n. (1 ≤ n) × (n ≤ 65536)) }
+/// Arguments that are taken give a context within its range, whether they name it or not.
+pub fn taken_arguments_give_a_context()
+    ensures { (arguments : List (List ℕ)) → IsTaken arguments → IsSomeAnd (given_number (codes "context") arguments) (λ n. (1 ≤ n) × (n ≤ MAX_CONTEXT)) }
 {}

@@ -1,15 +1,15 @@
-//! Reads the words of the command line: which options they give, or that they give none.
+//! Reads the arguments of the program: which options they give, or that they give none.
 //!
 //! The command `coxeter` is a definition (`specs/Command.antt`), in terms of what the crate `clap` says that a parse of a command gives. `read` is exact
-//! by it, want of memory aside: the words are refused just where that definition refuses them, and else each option is the number that it finds for it.
-//! It stands on `clap`, and its fault is derived by `thiserror`.
+//! by it, unless memory runs out: the arguments are refused exactly when that definition refuses them, and else each option is the number that it finds
+//! for it. It stands on `clap`, and its fault is derived by `thiserror`.
 //!
 //! A new option is a row in `definition::command` and in `coxeter_app` of `specs/Command.antt`, a field of `Options` with its range, and its line in
 //! `reading::options_in`.
 //!
 //! - `options`: the options as values, each within its range
 //! - `definition`: the command as `clap` is told it
-//! - `reading`: words, and the options that they give
+//! - `reading`: arguments, and the options that they give
 //! - `laws`: what the definition gives: defaults, numbers that are named, and always a context within its range
 #![tactic(auto)]
 
@@ -21,4 +21,4 @@ mod reading;
 mod tests;
 
 pub use options::{MAX_CONTEXT, Options};
-pub use reading::{OptionFault, read};
+pub use reading::{OptionFault, read, wrong_arguments};

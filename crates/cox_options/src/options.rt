@@ -5,10 +5,13 @@ ghost use Rattle.cox_options.specs.declared.options.TheConstants.{MAX_CONTEXT};
 /// The greatest number that `--context` takes, and its default.
 pub const MAX_CONTEXT: u32 = 65_536;
 
-/// What the words of the command line ask for. Each field is within its range.
+/// The same in decimal digits.
+pub const MAX_CONTEXT_TEXT: &str = "65536";
+
+/// What the arguments ask for. Each field is within its range.
 #[derive(Clone, Copy, Debug, PartialEq, Eq)]
 pub struct Options {
-    // How many members a context may have, from 1 to 65,536.
+    // How many members a context may have, from 1 to `MAX_CONTEXT`.
     pub(crate) context: u32,
     ghost context_in_range: { (1 ≤ context) × (context ≤ MAX_CONTEXT) },
 }
@@ -16,7 +19,7 @@ pub struct Options {
 impl Options {
     ghost use Rattle.std.specs.Prelude.{◌≡◌};
 
-    /// How many members a context may have, from 1 to 65,536.
+    /// How many members a context may have, from 1 to `MAX_CONTEXT`.
     pub fn context(&self) -> u32
         ensures context { result ≡ self.now.context }
         ensures least { 1 ≤ result }
@@ -29,7 +32,7 @@ impl Options {
 impl Default for Options {
     ghost use Rattle.std.specs.Prelude.{◌≡◌};
 
-    /// Each option's default: the context 65,536.
+    /// Each option's default: the context `MAX_CONTEXT`.
     fn default() -> Options
         ensures { result.context ≡ MAX_CONTEXT }
     {

@@ -1,9 +1,10 @@
-//! Words, and the options that they give.
+//! Arguments, and the options that they give.
 ghost use Rattle.std.specs.Prelude.{◌≡◌, ◌≢◌, Err, IfOk, OnOk, Some, codes, map, option_map};
 ghost use Rattle.clap.specs.Words.{found_of, kind_of, one_text};
 ghost use Rattle.clap.specs.declared.error.kind.ErrorKind.TheVariants.{OutOfMemory};
-ghost use Rattle.cox_options.specs.Words.{IsTaken, IsUsage, number_of, given_number};
+ghost use Rattle.cox_options.specs.Arguments.{IsTaken, IsUsage, number_of, given_number};
 ghost use Rattle.cox_options.specs.Found.{HasNumber};
+ghost use Rattle.cox_options.specs.declared.options.TheConstants.{MAX_CONTEXT};
 ghost use Rattle.cox_options.specs.declared.reading.OptionFault.TheVariants.{NoMemory, Usage};
 
 use crate::definition::command;
@@ -13,22 +14,23 @@ use clap::error::ErrorKind;
 use std::alloc::Global;
 use thiserror::Error;
 
-/// Why words give no options.
+/// Why arguments give no options.
 #[derive(Clone, Copy, Debug, Drop, PartialEq, Eq, Error)]
 pub enum OptionFault {
-    /// The command does not take them: an unknown option, an option twice or without its number, a number outside its range, or a word beside options.
-    #[error("the words give no options")]
+    /// The command does not take them: an unknown option, an option twice or without its number, a number outside its range, or an
+    /// argument that belongs to no option.
+    #[error("the arguments give no options")]
     Usage,
     /// Memory has run out.
     #[error("out of memory")]
     NoMemory,
 }
 
-/// The options that the words give. The first word is the program's name; with no other word each option has its default.
+/// The options that the arguments `words` give. The first is the program's name; with no other each option has its default.
 ///
 /// For example `["coxeter", "--context", "23"]` gives the context 23, and so does `["coxeter", "--context=23"]`. A number is written in decimal digits,
 /// where a plus may stand first.
-/// `Usage` comes just where the definition of the command refuses the words; `NoMemory` may come at any.
+/// `Usage` comes only where the definition of the command refuses the arguments, and `Ok` only where it does not; `NoMemory` may come at any.
 pub fn read(alloc: Global, words: &[&str]) -> Result<Options, OptionFault>
     ensures taken { OnOk result (IsTaken (map (λ word. word.now) words.now)) }
     ensures context { IfOk result (λ options. given_number (codes "context") (map (λ word. word.now) words.now) ≡ Some options.context) }
@@ -43,9 +45,16 @@ pub fn read(alloc: Global, words: &[&str]) -> Result<Options, OptionFault>
     }
 }
 
+/// Arguments that give no options, to stand for those that are no text.
+pub fn wrong_arguments() -> [&'static str; 2]
+    ensures { IsUsage (map (λ argument. argument.now) result) }
+{
+    ["coxeter", "?"]
+}
+
 /// The options by what a parse of the command found.
 fn options_in(matches: &ArgMatches<'_>) -> Options
-    requires context { HasNumber (found_of matches.now) (codes "context") 65536 }
+    requires context { HasNumber (found_of matches.now) (codes "context") MAX_CONTEXT }
     ensures context { option_map number_of (one_text (found_of matches.now) (codes "context")) ≡ Some result.context }
 {
     Options {
@@ -53,7 +62,7 @@ fn options_in(matches: &ArgMatches<'_>) -> Options
     }
 }
 
-/// Want of memory is told apart from the other errors of a parse.
+/// Out of memory is told apart from the other errors of a parse.
 fn fault_of(error: &clap::Error) -> OptionFault
     ensures usage { result ≡ Usage → kind_of error.now ≢ OutOfMemory }
     ensures memory { result ≡ NoMemory → kind_of error.now ≡ OutOfMemory }

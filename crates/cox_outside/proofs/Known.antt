@@ -1,28 +1,31 @@
--- How known bytes, room and puts compose.
-use Rattle.std.proofs.Common.{◌≡◌, ℕ, ◌+◌, ◌-◌, ◌≤◌, Bool, true, false, ◌==◌, List, [], ◌∷◌, ◌++◌, length, take, drop, Option, Some, None, refl, sym, ap, ◌∙◌, arith, append_assoc, length-append, length-drop}
+-- How known bytes, room and writes compose.
+use Rattle.std.proofs.Common.{◌≡◌, ℕ, ◌+◌, ◌-◌, ◌≤◌, Bool, true, false, ◌==◌, List, [], ◌∷◌, ◌++◌, length, take, drop, Option, Some, None}
+use Rattle.std.proofs.Common.{refl, sym, ap, ◌∙◌, arith, append_assoc, length-append, length-drop}
 use Rattle.std.specs.List.{list_any}
 use Rattle.std.specs.Io.KnownBytes.{prepend_known, append_known}
 use Rattle.std.proofs.lemmas.List.{take_at, length-take-le, take-append-drop, drop-drop, append-nil}
 use Rattle.std.proofs.lemmas.Bool.Decides.{nat_tests}
 use Rattle.std.proofs.Math.Seq.{take-add}
-use Rattle.cox_outside.specs.Writing.{Outlet, Puts, more_room}
+use Rattle.cox_outside.specs.Outlet.{Outlet, Writes, more_room}
 
 -- two takes, one after the other
-pub prepend_known-append : (front next : List ℕ) (known : Option (List ℕ)) → prepend_known front (prepend_known next known) ≡ prepend_known (front ++ next) known
-prepend_known-append front next None = refl
-prepend_known-append front next (Some rest) = ap Some (sym (append_assoc front next rest))
+pub prepend_known-append : (prefix next : List ℕ) (known : Option (List ℕ)) → prepend_known prefix (prepend_known next known)
+    ≡ prepend_known (prefix ++ next) known
+prepend_known-append prefix next None = refl
+prepend_known-append prefix next (Some rest) = ap Some (sym (append_assoc prefix next rest))
 
 -- nothing was taken
 pub prepend_known-none : (known : Option (List ℕ)) → prepend_known [] known ≡ known
 prepend_known-none None = refl
 prepend_known-none (Some rest) = refl
 
--- two puts, one after the other
-pub append_known-append : (known : Option (List ℕ)) (front next : List ℕ) → append_known (append_known known front) next ≡ append_known known (front ++ next)
-append_known-append None front next = refl
-append_known-append (Some bytes) front next = ap Some (append_assoc bytes front next)
+-- two writes, one after the other
+pub append_known-append : (known : Option (List ℕ)) (prefix next : List ℕ) → append_known (append_known known prefix) next
+    ≡ append_known known (prefix ++ next)
+append_known-append None prefix next = refl
+append_known-append (Some bytes) prefix next = ap Some (append_assoc bytes prefix next)
 
--- nothing was put
+-- nothing was written
 pub append_known-none : (known : Option (List ℕ)) → append_known known [] ≡ known
 append_known-none None = refl
 append_known-none (Some bytes) = ap Some (append-nil bytes)
@@ -35,32 +38,36 @@ pub more_room-zero : (room : Option ℕ) → more_room 0 room ≡ room
 more_room-zero None = refl
 more_room-zero (Some left) = ap Some (omega arith)
 
--- no bytes were put
-pub Puts-none : (here : Outlet) → Puts [] here here
-Puts-none here = record { written = sym (append_known-none here.written); room = sym (more_room-zero here.room) }
+-- no bytes were written
+pub Writes-none : (here : Outlet) → Writes [] here here
+Writes-none here = record { written = sym (append_known-none here.written); room = sym (more_room-zero here.room) }
 
--- bytes were put, and then more
-pub Puts-append : (front next : List ℕ) (old mid new : Outlet) → Puts front old mid → Puts next mid new → Puts (front ++ next) old new
-Puts-append front next old mid new p q = record {
-  written = q.written ∙ ap (λ known. append_known known next) p.written ∙ append_known-append old.written front next;
-  room = p.room ∙ ap (more_room (length front)) q.room ∙ more_room-add (length front) (length next) new.room
-      ∙ ap (λ n. more_room n new.room) (sym (length-append front next));
+-- bytes were written, and then more
+pub Writes-append : (prefix next : List ℕ) (old mid new : Outlet) → Writes prefix old mid → Writes next mid new
+    → Writes (prefix ++ next) old new
+Writes-append prefix next old mid new p q = record {
+  written = q.written ∙ ap (λ known. append_known known next) p.written ∙ append_known-append old.written prefix next;
+  room = p.room ∙ ap (more_room (length prefix)) q.room ∙ more_room-add (length prefix) (length next) new.room
+      ∙ ap (λ n. more_room n new.room) (sym (length-append prefix next));
 }
 
--- the front was put, and then more of the same bytes
-pub Puts-on : (at count : ℕ) (bytes : List ℕ) (old mid new : Outlet) → Puts (take at bytes) old mid → Puts (take count (drop at bytes)) mid new → Puts (take (at + count) bytes) old new
-Puts-on at count bytes old mid new p q =
-    rw (take-add at count bytes) (Puts-append (take at bytes) (take count (drop at bytes)) old mid new p q)
+-- a prefix was written, and then more of the same bytes
+pub Writes-on : (at count : ℕ) (bytes : List ℕ) (old mid new : Outlet) → Writes (take at bytes) old mid
+    → Writes (take count (drop at bytes)) mid new → Writes (take (at + count) bytes) old new
+Writes-on at count bytes old mid new p q =
+    rw (take-add at count bytes) (Writes-append (take at bytes) (take count (drop at bytes)) old mid new p q)
 
--- bytes were put, and then none
-pub Puts-stay : (bytes : List ℕ) (old mid new : Outlet) → Puts bytes old mid → Puts [] mid new → Puts bytes old new
-Puts-stay bytes old mid new p q = rw (← append-nil bytes) (Puts-append bytes [] old mid new p q)
+-- bytes were written, and then none
+pub Writes-stay : (bytes : List ℕ) (old mid new : Outlet) → Writes bytes old mid → Writes [] mid new → Writes bytes old new
+Writes-stay bytes old mid new p q = rw (← append-nil bytes) (Writes-append bytes [] old mid new p q)
 
--- a front that was copied into a buffer, and what is left behind it
-pub copied_front : (at n : ℕ) (xs kept : List ℕ) → n ≤ length xs - at → drop at xs ≡ take n (take n (drop at xs) ++ kept) ++ drop (at + n) xs
-copied_front at n xs kept h =
+-- a prefix that was copied into a buffer, and what is left behind it
+pub copied_prefix : (at n : ℕ) (xs kept : List ℕ) → n ≤ length xs - at → drop at xs
+    ≡ take n (take n (drop at xs) ++ kept) ++ drop (at + n) xs
+copied_prefix at n xs kept h =
     let within : n ≤ length (drop at xs) = omega (arith, length-drop at xs) in
-    sym (take-append-drop n (drop at xs)) ∙ ap (λ l. l ++ drop n (drop at xs)) (sym (take_at (take n (drop at xs)) kept n (length-take-le n (drop at xs) within)))
+    sym (take-append-drop n (drop at xs))
+    ∙ ap (λ l. l ++ drop n (drop at xs)) (sym (take_at (take n (drop at xs)) kept n (length-take-le n (drop at xs) within)))
     ∙ ap (λ l. take n (take n (drop at xs) ++ kept) ++ l) (drop-drop n at xs)
 
 -- a list in which an element passes is not empty

@@ -1,12 +1,14 @@
--- What is taken from the front of what lies ahead.
-use Rattle.std.proofs.Common.{◌≡◌, ◌≢◌, ℕ, ◌+◌, ◌<◌, List, [], ◌∷◌, ◌++◌, length, Option, Some, None, IfSome, refl, sym, ap, ◌∙◌, subst, arith, length-append, append_assoc}
+-- What is taken of what lies ahead.
+use Rattle.std.proofs.Common.{◌≡◌, ◌≢◌, ℕ, ◌+◌, ◌<◌, List, [], ◌∷◌, ◌++◌, length, Option, Some, None, IfSome, refl, sym, ap, ◌∙◌, subst}
+use Rattle.std.proofs.Common.{arith, length-append, append_assoc}
 use Rattle.std.specs.Option.{option_map}
 use Rattle.std.specs.Io.KnownBytes.{prepend_known, IsAtEnd}
 use Rattle.std.proofs.lemmas.List.{append-nil}
 use Rattle.std.proofs.lemmas.List.Elements.{All-push}
 use Rattle.cox_outside.specs.declared.line_reader.Stop.{Stop}
 use Rattle.cox_outside.specs.declared.line_reader.Stop.TheVariants as stop
-use Rattle.cox_outside.specs.Line.{line_feed, lines_within, IsUnbroken}
+use Rattle.cox_outside.specs.Line.{line_feed, lines_within}
+use Rattle.cox_outside.specs.Unbroken.{IsUnbroken}
 use Rattle.cox_outside.specs.declared.limits.TheConstants.{INPUT_LIMIT}
 use Rattle.cox_outside.specs.Ahead.{Ahead, ahead, lines_ahead, Takes, TakesPart, MeetsEnd, MeetsLimit}
 use Rattle.cox_outside.specs.Reader.{fresh_reader, TakesNext}
@@ -18,45 +20,54 @@ pub Takes-none : (here : Ahead) → Takes [] here here
 Takes-none here = record { bytes = sym (prepend_known-none here.bytes); cost = omega arith }
 
 -- bytes were taken, and then more
-pub Takes-append : (front next : List ℕ) (old mid new : Ahead) → Takes front old mid → Takes next mid new → Takes (front ++ next) old new
-Takes-append front next old mid new p q = record {
-  bytes = p.bytes ∙ ap (prepend_known front) q.bytes ∙ prepend_known-append front next new.bytes;
-  cost = omega (arith, p.cost, q.cost, length-append front next);
+pub Takes-append : (prefix next : List ℕ) (old mid new : Ahead) → Takes prefix old mid → Takes next mid new → Takes (prefix ++ next) old new
+Takes-append prefix next old mid new p q = record {
+  bytes = p.bytes ∙ ap (prepend_known prefix) q.bytes ∙ prepend_known-append prefix next new.bytes;
+  cost = omega (arith, p.cost, q.cost, length-append prefix next);
 }
 
 -- one more byte of the beginning of a line
-pub TakesPart-push : (begun : List ℕ) (byte : ℕ) (old mid new : Ahead) → TakesPart begun old mid → byte ≢ line_feed → Takes (byte ∷ []) mid new → TakesPart (begun ++ byte ∷ []) old new
+pub TakesPart-push : (begun : List ℕ) (byte : ℕ) (old mid new : Ahead) → TakesPart begun old mid → byte ≢ line_feed
+    → Takes (byte ∷ []) mid new → TakesPart (begun ++ byte ∷ []) old new
 TakesPart-push begun byte old mid new p other q = record {
   unbroken = All-push (λ b. b ≢ line_feed) begun byte p.unbroken other;
   taken = Takes-append begun (byte ∷ []) old mid new p.taken q;
 }
 
 -- the lines of what is known, at its end
-lines_at_end : (limit : ℕ) (known : Option (List ℕ)) → IsAtEnd known → option_map (λ bytes. lines_within limit bytes) known ≡ option_map (λ _. []) known
+lines_at_end : (limit : ℕ) (known : Option (List ℕ)) → IsAtEnd known → option_map (λ bytes. lines_within limit bytes) known
+    ≡ option_map (λ _. []) known
 lines_at_end limit None end = refl
 lines_at_end limit (Some bytes) end = ap Some (ap (lines_within limit) end ∙ lines_within-none limit)
 
--- a line that ends by LF, in front of what is known
+-- a line that ends by LF, before what is known
 lines_by_lf : (limit : ℕ) (line : List ℕ) (known : Option (List ℕ)) → IsUnbroken line
-    → option_map (λ bytes. lines_within (limit + length (line ++ line_feed ∷ [])) bytes) (prepend_known (line ++ line_feed ∷ []) known) ≡ option_map (λ lines. line ∷ lines) (option_map (λ bytes. lines_within limit bytes) known)
+    → option_map (λ bytes. lines_within (limit + length (line ++ line_feed ∷ [])) bytes) (prepend_known (line ++ line_feed ∷ []) known)
+    ≡ option_map (λ lines. line ∷ lines) (option_map (λ bytes. lines_within limit bytes) known)
 lines_by_lf limit line None h = refl
-lines_by_lf limit line (Some rest) h = ap Some (ap (lines_within (limit + length (line ++ line_feed ∷ []))) (append_assoc line (line_feed ∷ []) rest) ∙ lines_within-line limit line rest h)
+lines_by_lf limit line (Some rest) h = ap Some
+    (ap (lines_within (limit + length (line ++ line_feed ∷ []))) (append_assoc line (line_feed ∷ []) rest)
+    ∙ lines_within-line limit line rest h)
 
--- a last line, in front of what is known, at its end
+-- a last line, before what is known, at its end
 lines_by_end : (limit : ℕ) (line : List ℕ) (known : Option (List ℕ)) → 0 < length line → IsUnbroken line → IsAtEnd known
-    → option_map (λ bytes. lines_within (limit + length line) bytes) (prepend_known line known) ≡ option_map (λ lines. line ∷ lines) (option_map (λ bytes. lines_within limit bytes) known)
+    → option_map (λ bytes. lines_within (limit + length line) bytes) (prepend_known line known)
+    ≡ option_map (λ lines. line ∷ lines) (option_map (λ bytes. lines_within limit bytes) known)
 lines_by_end limit line None some h end = refl
 lines_by_end limit line (Some rest) some h end =
     let whole : line ++ rest ≡ line = ap (λ more. line ++ more) end ∙ append-nil line in
-    ap Some (ap (lines_within (limit + length line)) whole ∙ lines_within-last (limit + length line) line some (omega arith) h ∙ ap (λ lines. line ∷ lines) (sym (ap (lines_within limit) end ∙ lines_within-none limit)))
+    ap Some (ap (lines_within (limit + length line)) whole ∙ lines_within-last (limit + length line) line some (omega arith) h
+    ∙ ap (λ lines. line ∷ lines) (sym (ap (lines_within limit) end ∙ lines_within-none limit)))
 
 -- where the limit falls into the first line
 lines_at_limit : (begun : List ℕ) (byte : ℕ) (known : Option (List ℕ)) → IsUnbroken begun
-    → option_map (λ bytes. lines_within (length begun) bytes) (prepend_known begun (prepend_known (byte ∷ []) known)) ≡ option_map (λ _. []) (prepend_known begun (prepend_known (byte ∷ []) known))
+    → option_map (λ bytes. lines_within (length begun) bytes) (prepend_known begun (prepend_known (byte ∷ []) known))
+    ≡ option_map (λ _. []) (prepend_known begun (prepend_known (byte ∷ []) known))
 lines_at_limit begun byte None h = refl
 lines_at_limit begun byte (Some rest) h = ap Some (lines_within-over begun (byte ∷ rest) h (omega arith))
 
-bytes_at_limit : (begun : List ℕ) (byte : ℕ) (known : Option (List ℕ)) → IfSome (prepend_known begun (prepend_known (byte ∷ []) known)) (λ bytes. length begun < length bytes)
+bytes_at_limit : (begun : List ℕ) (byte : ℕ) (known : Option (List ℕ))
+    → IfSome (prepend_known begun (prepend_known (byte ∷ []) known)) (λ bytes. length begun < length bytes)
 bytes_at_limit begun byte None = tt
 bytes_at_limit begun byte (Some rest) = omega (arith, length-append begun (byte ∷ rest))
 
@@ -66,12 +77,15 @@ ahead-fresh left = ap (λ known. record { bytes = known; budget = INPUT_LIMIT; p
 
 -- at the end no line lay ahead
 pub lines_ahead-end : (old new : Ahead) → MeetsEnd old new → lines_ahead old ≡ option_map (λ _. []) old.bytes
-lines_ahead-end old new meets = lines_at_end old.budget old.bytes (subst IsAtEnd (sym (meets.taken.bytes ∙ prepend_known-none new.bytes)) meets.end)
+lines_ahead-end old new meets = lines_at_end old.budget old.bytes
+    (subst IsAtEnd (sym (meets.taken.bytes ∙ prepend_known-none new.bytes)) meets.end)
 
--- the line that was taken lay in front
-pub lines_ahead-line : (halt : Option Stop) (line : List ℕ) (old new : Ahead) → TakesNext halt line old new → lines_ahead old ≡ option_map (λ lines. line ∷ lines) (lines_ahead new)
+-- the line that was taken was the first
+pub lines_ahead-line : (halt : Option Stop) (line : List ℕ) (old new : Ahead) → TakesNext halt line old new → lines_ahead old
+    ≡ option_map (λ lines. line ∷ lines) (lines_ahead new)
 lines_ahead-line None line old new takes = rw (takes.taken.bytes, takes.taken.cost) (lines_by_lf new.budget line new.bytes takes.unbroken)
-lines_ahead-line (Some stop.End) line old new takes = rw (takes.taken.bytes, takes.taken.cost) (lines_by_end new.budget line new.bytes takes.some takes.unbroken takes.end)
+lines_ahead-line (Some stop.End) line old new takes = rw (takes.taken.bytes, takes.taken.cost)
+    (lines_by_end new.budget line new.bytes takes.some takes.unbroken takes.end)
 lines_ahead-line (Some stop.Failed) line old new takes = absurd takes
 lines_ahead-line (Some stop.Limit) line old new takes = absurd takes
 

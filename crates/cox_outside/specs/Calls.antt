@@ -1,7 +1,7 @@
 -- The calls of a memory form: which of them have to fail, and what was made of them.
 use Rattle.std.specs.Prelude.{ℕ, ◌+◌, ◌-◌, ◌^◌, min, Bool, ◌==◌, List, length}
 use Rattle.std.specs.List.{list_any}
-use Rattle.cox_outside.specs.Fault.{count_after}
+use Rattle.cox_outside.specs.FaultCount.{count_after}
 
 -- the numbers of the calls that have to fail, counted from 1, and how many calls were made and how many have failed
 pub record Calls : Type 0 where

@@ -1,11 +1,20 @@
-pub mod Fault
-pub mod Reading
-pub mod Writing
+-- counts of faults
+pub mod FaultCount
+-- what is known of a source, and of a sink
+pub mod Supply
+pub mod Outlet
+-- the lines of a text
+pub mod Line
+pub mod Unbroken
+-- what a read gives, and what a write takes
+pub mod SourceRead
+pub mod SinkWrite
+-- the forms in memory, and over std's streams
 pub mod Calls
 pub mod Memory
-pub mod Line
+pub mod Std
+-- single bytes, what lies ahead, the ends of lines, and lines
 pub mod Feed
 pub mod Ahead
 pub mod Scan
 pub mod Reader
-pub mod Std

@@ -1,5 +1,5 @@
 -- The lines of a text, as lists of bytes.
-use Rattle.std.specs.Prelude.{◌≢◌, ℕ, Bool, ◌||◌, ◌==◌, nat_lt, nat_le, if◌then◌else◌, List, [], ◌∷◌, length, take, All}
+use Rattle.std.specs.Prelude.{ℕ, Bool, ◌||◌, ◌==◌, nat_lt, nat_le, if◌then◌else◌, List, [], ◌∷◌, length, take}
 use Rattle.std.specs.Io.BufRead.{strip_last}
 
 -- the byte that ends a line
@@ -10,7 +10,7 @@ line_feed = 10
 abbrev pub carriage_return : ℕ
 carriage_return = 13
 
--- puts a byte in front of the first line, or makes it a line where there is none
+-- puts a byte before the first line, or makes it a line where there is none
 abbrev pub onto_first : ℕ → List (List ℕ) → List (List ℕ)
 onto_first byte [] = (byte ∷ []) ∷ []
 onto_first byte (line ∷ lines) = (byte ∷ line) ∷ lines
@@ -20,7 +20,7 @@ abbrev pub lines_of : List ℕ → List (List ℕ)
 lines_of [] = []
 lines_of (byte ∷ bytes) = if byte == line_feed then [] ∷ lines_of bytes else onto_first byte (lines_of bytes)
 
--- puts a byte in front of the first line, where there is one
+-- puts a byte before the first line, where there is one
 abbrev pub into_first : ℕ → List (List ℕ) → List (List ℕ)
 into_first byte [] = []
 into_first byte (line ∷ lines) = (byte ∷ line) ∷ lines
@@ -33,10 +33,6 @@ ended_lines (byte ∷ bytes) = if byte == line_feed then [] ∷ ended_lines byte
 -- the lines of a text of which at most so many bytes may be read: of a longer one those that end by LF within the limit
 abbrev pub lines_within : ℕ → List ℕ → List (List ℕ)
 lines_within limit bytes = if nat_le (length bytes) limit then lines_of bytes else ended_lines (take limit bytes)
-
--- no byte of it is LF
-abbrev pub IsUnbroken : List ℕ → Type 0
-IsUnbroken bytes = All (λ byte. byte ≢ line_feed) bytes
 
 -- the byte is none of those from 0x20 to 0x7E, of which lines are made
 abbrev pub is_foreign : ℕ → Bool

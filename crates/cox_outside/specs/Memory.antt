@@ -5,8 +5,10 @@ use Rattle.cox_outside.specs.declared.source.Got.TheVariants as got_variants
 use Rattle.cox_outside.specs.declared.sink.Took.{Took}
 use Rattle.cox_outside.specs.declared.sink.Took.TheVariants as took_variants
 use Rattle.cox_outside.specs.Calls.{Calls, none_fails, next_fails, after_call}
-use Rattle.cox_outside.specs.Reading.{Supply, got_count, got_failed}
-use Rattle.cox_outside.specs.Writing.{Outlet, took_count, took_failed}
+use Rattle.cox_outside.specs.Supply.{Supply}
+use Rattle.cox_outside.specs.SourceRead.{got_count, got_failed}
+use Rattle.cox_outside.specs.Outlet.{Outlet}
+use Rattle.cox_outside.specs.SinkWrite.{took_count, took_failed}
 
 -- a source in memory: the bytes left, the most bytes that a read gives, and its calls
 pub record MemorySupply : Type 0 where
@@ -51,7 +53,8 @@ outlet_of sink = record {
   faults = sink.calls.failed;
 }
 
--- what its next write answers: it fails where the call has to or no room is left, and else takes what the piece, the bytes given and the room allow
+-- what its next write answers: it fails where the call has to or no room is left, and else takes what the piece, the bytes given and the
+-- room allow
 abbrev pub next_took : MemoryOutlet → ℕ → Took
 next_took sink given = if next_fails sink.calls || (room_left sink == 0) then took_variants.Failed
     else took_variants.Bytes (min (room_left sink) (min sink.piece given))

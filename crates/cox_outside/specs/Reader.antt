@@ -1,5 +1,5 @@
 -- What contracts see of a reader of lines, and what it does.
-use Rattle.std.specs.Prelude.{◌≡◌, ℕ, ◌+◌, ◌<◌, ◌≤◌, List, [], length, position, Option, Some, None, MatchOption}
+use Rattle.std.specs.Prelude.{◌≡◌, ℕ, ◌+◌, ◌<◌, ◌≤◌, Bool, true, false, List, [], length, position, Option, Some, None, MatchOption}
 use Rattle.std.specs.Option.{option_map}
 use Rattle.cox_outside.specs.declared.limits.TheConstants.{LINE_LIMIT, INPUT_LIMIT}
 use Rattle.cox_outside.specs.declared.line_reader.Next.{Next}
@@ -38,6 +38,16 @@ stop_of (Byte place) = None
 stop_of End = Some stop.End
 stop_of Failed = Some stop.Failed
 stop_of Limit = Some stop.Limit
+
+-- whether a read failed in this call, and not in one before
+abbrev pub tells_fault : Option Stop → Next → Bool
+tells_fault (Some stop) next = false
+tells_fault None (Line text) = false
+tells_fault None (Long count) = false
+tells_fault None (Byte place) = false
+tells_fault None End = false
+tells_fault None Failed = true
+tells_fault None Limit = false
 
 -- whether a reader stops where a line ended so
 abbrev pub halt_of : Ended → Option Stop

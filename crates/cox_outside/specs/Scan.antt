@@ -1,5 +1,5 @@
 -- What a scan for the end of a line does.
-use Rattle.std.specs.Prelude.{◌≡◌, ℕ, ◌+◌, Bool, List, length, take}
+use Rattle.std.specs.Prelude.{◌≡◌, ℕ, ◌+◌, Bool, true, false, List, length, take}
 use Rattle.std.specs.Io.BufRead.{ends_with_byte}
 use Rattle.cox_outside.specs.declared.limits.TheConstants.{LINE_LIMIT}
 use Rattle.cox_outside.specs.declared.line_scan.Ended.{Ended}
@@ -10,8 +10,16 @@ use Rattle.cox_outside.specs.Ahead.{Ahead, TakesLine, TakesLast, MeetsEnd, Meets
 -- what is kept of a line: its length, its first bytes, as many as a line may have and one for a CR, and whether it ends by CR
 pub record KeepsLine (line : List ℕ) (count : ℕ) (by_cr : Bool) (buffer : List ℕ) : Type 0 where
   pub size : count ≡ length line
-  pub front : take count buffer ≡ take (LINE_LIMIT + 1) line
+  pub prefix : take count buffer ≡ take (LINE_LIMIT + 1) line
   pub last : by_cr ≡ ends_with_byte carriage_return line
+
+-- whether a read failed
+abbrev pub ended_failed : Ended → Bool
+ended_failed (Line count by_cr) = false
+ended_failed (Last count by_cr) = false
+ended_failed End = false
+ended_failed Failed = true
+ended_failed Limit = false
 
 -- what a scan took, by what it answers
 abbrev pub Scans : Ended → List ℕ → Ahead → Ahead → Type 0

@@ -7,8 +7,8 @@ use Rattle.cox_outside.specs.declared.sink.Took.{Took}
 use Rattle.cox_outside.specs.declared.sink.Took.TheVariants as took
 use Rattle.cox_outside.specs.declared.std_source.StdSource.{StdSource}
 use Rattle.cox_outside.specs.declared.std_sink.StdSink.{StdSink}
-use Rattle.cox_outside.specs.Reading.{Supply}
-use Rattle.cox_outside.specs.Writing.{Outlet}
+use Rattle.cox_outside.specs.Supply.{Supply}
+use Rattle.cox_outside.specs.Outlet.{Outlet}
 
 -- the reader of a source
 abbrev pub reader_of : {R : Type 0} → StdSource R → R

@@ -2,15 +2,14 @@
 
 ghost use Rattle.std.specs.Prelude.{◌≡◌, ℕ, ◌+◌, ◌<◌, ◌≤◌, List, [], ◌∷◌, length, IfOk, ◌==◌, Option, Some};
 ghost use Rattle.std.specs.Io.KnownBytes.{prepend_known, IsAtEnd};
-ghost use Rattle.cox_outside.specs.Reading.{SourceCause, GotFits, got_bytes, got_count};
-ghost use Rattle.cox_outside.specs.Feed.{bytes_ahead, came_bytes, came_cost, LimitIsSpent};
+ghost use Rattle.cox_outside.specs.Supply.{SourceCause};
+ghost use Rattle.cox_outside.specs.SourceRead.{GotFits, got_bytes, got_count, got_failed};
+ghost use Rattle.cox_outside.specs.Feed.{bytes_ahead, came_bytes, came_cost, came_failed, HasFewPending, IsDrainedUnless, LimitIsSpent};
 
+use crate::limits::CHUNK_SIZE;
 use crate::source::{Got, Source};
 use std::alloc::{AllocError, Global};
 use std::marker::Model;
-
-/// The most bytes that one read asks for.
-const CHUNK: usize = 4096;
 
 /// What came next.
 #[derive(Clone, Copy)]
@@ -36,14 +35,14 @@ pub struct ByteFeed {
 
 impl Model for ByteFeed {
     ghost use Rattle.std.specs.Prelude.{◌≡◌, ◌+◌, ◌≤◌, take, drop, vec_len};
-    ghost use Rattle.cox_outside.specs.declared.byte_feed.TheConstants.{CHUNK};
+    ghost use Rattle.cox_outside.specs.declared.limits.TheConstants.{CHUNK_SIZE};
     ghost use Rattle.cox_outside.specs.Feed.{Feed};
 
     ghost Value = { Feed };
 
     ghost view = { λ f. record { pending = drop f.from (take f.to f.chunk.items); budget = f.budget } };
 
-    ghost invariant = { λ f. (f.from ≤ f.to) × (f.to ≤ CHUNK) × (vec_len f.chunk ≡ CHUNK) × (f.to ≤ f.from + f.budget) };
+    ghost invariant = { λ f. (f.from ≤ f.to) × (f.to ≤ CHUNK_SIZE) × (vec_len f.chunk ≡ CHUNK_SIZE) × (f.to ≤ f.from + f.budget) };
 }
 
 impl ByteFeed {
@@ -52,7 +51,7 @@ impl ByteFeed {
         ensures { IfOk result (λ feed. feed ≡ record { pending = []; budget = budget }) }
     {
         Ok(ByteFeed {
-            chunk: vec![in alloc; 0u8; CHUNK]?,
+            chunk: vec![in alloc; 0u8; CHUNK_SIZE]?,
             from: 0,
             to: 0,
             budget,
@@ -66,8 +65,9 @@ impl ByteFeed {
         ensures budget { self.old.budget ≡ self.new.budget + came_cost result }
         ensures end { result ≡ Came.End → IsAtEnd (bytes_ahead self.old (S.seen source.old).left) }
         ensures limit { LimitIsSpent result self.old.budget }
-        ensures failed { result ≡ Came.Failed → self.new.pending ≡ [] }
-        ensures cause { SourceCause (S.seen source.old) (S.seen source.new) (result ≡ Came.Failed) }
+        ensures few { HasFewPending self.new.pending self.new.budget }
+        ensures drained { IsDrainedUnless result self.new.pending }
+        ensures cause { SourceCause (S.seen source.old) (S.seen source.new) (came_failed result) }
     {
         if !self.is_empty() {
             return Came::Byte(self.take_byte());
@@ -93,6 +93,7 @@ impl ByteFeed {
     fn take_byte(&mut self) -> u8
         requires { 0 < length self.old.pending }
         ensures byte { self.old.pending ≡ result ∷ self.new.pending }
+        ensures few { HasFewPending self.new.pending self.new.budget }
         ensures budget { self.old.budget ≡ self.new.budget + 1 }
     {
         let byte = self.chunk[self.from];
@@ -110,10 +111,10 @@ impl ByteFeed {
         ensures some { GotFits result self.old.budget }
         ensures budget { self.new.budget ≡ self.old.budget }
         ensures end { result ≡ Got.End → IsAtEnd (S.seen source.old).left }
-        ensures cause { SourceCause (S.seen source.old) (S.seen source.new) (result ≡ Got.Failed) }
+        ensures cause { SourceCause (S.seen source.old) (S.seen source.new) (got_failed result) }
     {
-        let room = CHUNK.min(self.budget);
-        let got = read_front(&mut self.chunk, room, source);
+        let room = CHUNK_SIZE.min(self.budget);
+        let got = read_first(&mut self.chunk, room, source);
         self.from = 0;
         self.to = got.count();
         got
@@ -128,7 +129,7 @@ impl ByteFeed {
         ensures cost { came_cost result ≡ 0 }
         ensures end { result ≡ Came.End → IsAtEnd (S.seen source.old).left }
         ensures limit { LimitIsSpent result 0 }
-        ensures cause { SourceCause (S.seen source.old) (S.seen source.new) (result ≡ Came.Failed) }
+        ensures cause { SourceCause (S.seen source.old) (S.seen source.new) (came_failed result) }
     {
         let mut beyond = [0u8; 1];
         match source.read(&mut beyond) {
@@ -140,14 +141,14 @@ impl ByteFeed {
 }
 
 /// Reads into the first so many bytes of the buffer.
-fn read_front<S: Source>(buffer: &mut [u8], room: usize, source: &mut S) -> Got
+fn read_first<S: Source>(buffer: &mut [u8], room: usize, source: &mut S) -> Got
     requires some { 0 < room }
     requires within { room ≤ length buffer.old }
     ensures size { length buffer.new ≡ length buffer.old }
     ensures count { GotFits result room }
     ensures bytes { (S.seen source.old).left ≡ prepend_known (got_bytes result buffer.new) (S.seen source.new).left }
     ensures end { result ≡ Got.End → IsAtEnd (S.seen source.old).left }
-    ensures cause { SourceCause (S.seen source.old) (S.seen source.new) (result ≡ Got.Failed) }
+    ensures cause { SourceCause (S.seen source.old) (S.seen source.new) (got_failed result) }
 {
     source.read(&mut buffer[..room])
 }

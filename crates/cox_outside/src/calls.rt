@@ -1,7 +1,7 @@
 //! Which calls of a form in memory have to fail.
 
 ghost use Rattle.std.specs.Prelude.{◌≡◌, ◌≤◌, true};
-ghost use Rattle.cox_outside.specs.Fault.{count_after};
+ghost use Rattle.cox_outside.specs.FaultCount.{count_after};
 ghost use Rattle.cox_outside.specs.Calls.{no_calls, next_call, next_fails};
 
 use std::marker::Model;

@@ -4,9 +4,9 @@
 //! A [`Source`] and a [`Sink`] say by one ghost member each what is known of them: the bytes left
 //! or written, where they are told, and a count of faults. The forms in memory tell them, and their
 //! contracts say exactly what each call answers. The forms over std's `Read` and `Write` tell
-//! nothing but the count. A [`LineReader`] hands out the lines of a source, and its contract says
+//! nothing but the count. The count rises by one exactly where a call tells of a fault. A [`LineReader`] hands out the lines of a source, and its contract says
 //! by the bytes that lie ahead which line comes, or why none does. Each call returns, whatever
-//! a source gives, since a reader hands out no more than 16,777,216 bytes. The crate stands on std
+//! a source gives, since a reader hands out no more than `INPUT_LIMIT` bytes. The crate stands on std
 //! alone.
 //!
 //! - `source`, `sink`: the two traits, and what a read or a write answers
@@ -37,7 +37,7 @@ mod std_source;
 mod tests;
 mod writing;
 
-pub use limits::{INPUT_LIMIT, LINE_LIMIT};
+pub use limits::{CHUNK_SIZE, INPUT_LIMIT, LINE_LIMIT};
 pub use line_reader::{LineReader, Next, Stop};
 pub use memory_sink::MemorySink;
 pub use memory_source::MemorySource;

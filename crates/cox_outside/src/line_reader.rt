@@ -12,9 +12,9 @@ use std::marker::Model;
 /// one CR that may stand right before it.
 #[derive(Clone, Copy, Debug, PartialEq, Eq)]
 pub enum Next<'a> {
-    /// A line of at most 4,096 bytes, all from 0x20 to 0x7E.
+    /// A line of at most `LINE_LIMIT` bytes, all from 0x20 to 0x7E.
     Line(&'a [u8]),
-    /// A line of more than 4,096 bytes: how many it has.
+    /// A line of more bytes than that: how many it has.
     Long(usize),
     /// A line that is not long: the place, from 1, of its first byte outside 0x20 to 0x7E.
     Byte(usize),
@@ -22,7 +22,7 @@ pub enum Next<'a> {
     End,
     /// A read failed, in this call or in one before.
     Failed,
-    /// 16,777,216 bytes were read, all their lines that end by LF are handed out, and one more byte
+    /// `INPUT_LIMIT` bytes were read, all their lines that end by LF are handed out, and one more byte
     /// came.
     Limit,
 }
@@ -65,8 +65,8 @@ impl LineReader {
     ghost use Rattle.std.specs.Borrow.{sem};
     ghost use Rattle.std.specs.Io.BufRead.{Rests};
     ghost use Rattle.cox_outside.specs.contracts.line_reader.LineReader.{the_row};
-    ghost use Rattle.cox_outside.specs.Reading.{SourceCause};
-    ghost use Rattle.cox_outside.specs.Reader.{Answers, fresh_reader};
+    ghost use Rattle.cox_outside.specs.Supply.{SourceCause};
+    ghost use Rattle.cox_outside.specs.Reader.{Answers, fresh_reader, tells_fault};
 
     /// A reader that has read nothing.
     pub fn new(alloc: Global) -> Result<LineReader, AllocError>
@@ -93,7 +93,7 @@ impl LineReader {
         // A reader that has stopped leaves the source alone.
         ensures still { IsSome self.old.stop → source.new ≡ source.old }
         ensures cause { SourceCause (S.seen source.old) (S.seen source.new)
-            ((self.old.stop ≡ None) × (result ≡ Next.Failed)) }
+            (tells_fault self.old.stop result) }
     {
         if let Some(stop) = self.stop {
             return stopped(stop);

@@ -2,9 +2,9 @@
 
 ghost use Rattle.std.specs.Prelude.{◌≡◌, ◌+◌, ◌<◌, ◌≤◌, length, slice_set};
 ghost use Rattle.cox_outside.specs.declared.limits.TheConstants.{LINE_LIMIT, INPUT_LIMIT};
-ghost use Rattle.cox_outside.specs.Reading.{SourceCause};
+ghost use Rattle.cox_outside.specs.Supply.{SourceCause};
 ghost use Rattle.cox_outside.specs.Ahead.{ahead};
-ghost use Rattle.cox_outside.specs.Scan.{Scans};
+ghost use Rattle.cox_outside.specs.Scan.{Scans, ended_failed};
 
 use crate::byte_feed::{ByteFeed, Came};
 use crate::source::Source;
@@ -33,7 +33,7 @@ pub fn scan_line<S: Source>(feed: &mut ByteFeed, line: &mut [u8], source: &mut S
     ensures budget { feed.new.budget ≤ feed.old.budget }
     ensures scans { Scans result line.new (ahead feed.old (S.seen source.old).left)
         (ahead feed.new (S.seen source.new).left) }
-    ensures cause { SourceCause (S.seen source.old) (S.seen source.new) (result ≡ Ended.Failed) }
+    ensures cause { SourceCause (S.seen source.old) (S.seen source.new) (ended_failed result) }
 {
     let mut count = 0;
     let mut by_cr = false;

@@ -2,7 +2,8 @@
 
 ghost use Rattle.std.specs.Prelude.{◌≡◌, ◌+◌, ◌<◌, ◌≤◌, [], ◌++◌, length, take, vec_len, vec_capacity, IfOk, IfSome};
 ghost use Rattle.cox_outside.specs.Calls.{no_calls};
-ghost use Rattle.cox_outside.specs.Writing.{TookFits, Puts, SinkCause, took_count};
+ghost use Rattle.cox_outside.specs.SinkWrite.{TookFits, took_count, took_failed};
+ghost use Rattle.cox_outside.specs.Outlet.{Writes, SinkCause};
 ghost use Rattle.cox_outside.specs.Memory.{outlet_of, next_took, after_write};
 
 use crate::calls::CallLog;
@@ -72,9 +73,9 @@ impl Sink for MemorySink {
 
         // As every sink.
         ensures count { TookFits result (length bytes.now) }
-        ensures puts { Puts (take (took_count result) bytes.now) (outlet_of self.old) (outlet_of self.new) }
+        ensures puts { Writes (take (took_count result) bytes.now) (outlet_of self.old) (outlet_of self.new) }
         ensures full { result ≡ Took.Failed → IfSome (outlet_of self.old).room (λ left. left ≡ 0) }
-        ensures cause { SinkCause (outlet_of self.old) (outlet_of self.new) (result ≡ Took.Failed) }
+        ensures cause { SinkCause (outlet_of self.old) (outlet_of self.new) (took_failed result) }
     {
         let left = self.room - self.bytes.len();
         if self.calls.begin() || left == 0 {

@@ -3,7 +3,8 @@
 ghost use Rattle.std.specs.Prelude.{◌≡◌, ◌<◌, ◌≤◌, ◌++◌, length, take, drop};
 ghost use Rattle.std.specs.Io.KnownBytes.{prepend_known, IsAtEnd};
 ghost use Rattle.cox_outside.specs.Calls.{no_calls};
-ghost use Rattle.cox_outside.specs.Reading.{GotFits, SourceCause, got_bytes, got_count};
+ghost use Rattle.cox_outside.specs.SourceRead.{GotFits, got_bytes, got_count, got_failed};
+ghost use Rattle.cox_outside.specs.Supply.{SourceCause};
 ghost use Rattle.cox_outside.specs.Memory.{supply_of, next_got, after_read};
 
 use crate::calls::CallLog;
@@ -49,7 +50,7 @@ impl MemorySource {
 impl Source for MemorySource {
     ghost seen = { supply_of };
 
-    #[tactic(auto, using(crate::proofs::Known::copied_front, crate::proofs::Known::some_passes))]
+    #[tactic(auto, using(crate::proofs::Known::copied_prefix, crate::proofs::Known::some_passes))]
     /// Fails exactly where the call has to; else it gives as many bytes as the piece, the buffer and
     /// the bytes left allow.
     fn read(&mut self, into: &mut [u8]) -> Got
@@ -62,7 +63,7 @@ impl Source for MemorySource {
         ensures count { GotFits result (length into.old) }
         ensures bytes { (supply_of self.old).left ≡ prepend_known (got_bytes result into.new) (supply_of self.new).left }
         ensures end { result ≡ Got.End → IsAtEnd (supply_of self.old).left }
-        ensures cause { SourceCause (supply_of self.old) (supply_of self.new) (result ≡ Got.Failed) }
+        ensures cause { SourceCause (supply_of self.old) (supply_of self.new) (got_failed result) }
     {
         if self.calls.begin() {
             self.calls.fail();
@@ -73,14 +74,14 @@ impl Source for MemorySource {
             return Got::End;
         }
         let count = rest.len().min(self.piece.min(into.len()));
-        copy_front(rest, into, count);
+        copy_prefix(rest, into, count);
         self.at += count;
         Got::Bytes(count)
     }
 }
 
 /// Copies the first bytes.
-fn copy_front(from: &[u8], into: &mut [u8], count: usize)
+fn copy_prefix(from: &[u8], into: &mut [u8], count: usize)
     requires from { count ≤ length from.now }
     requires into { count ≤ length into.old }
     ensures { into.new ≡ take count from.now ++ drop count into.old }

@@ -2,12 +2,13 @@
 
 ghost use Rattle.std.specs.Prelude.{◌≡◌, ◌<◌, length};
 ghost use Rattle.std.specs.Io.KnownBytes.{prepend_known, IsAtEnd};
-ghost use Rattle.cox_outside.specs.Reading.{Supply, GotFits, SourceCause, got_bytes, got_count};
+ghost use Rattle.cox_outside.specs.Supply.{Supply, SourceCause};
+ghost use Rattle.cox_outside.specs.SourceRead.{GotFits, got_bytes, got_count, got_failed};
 
 /// What a read gave.
 #[derive(Clone, Copy, Debug, PartialEq, Eq)]
 pub enum Got {
-    /// So many bytes, at least one, at the front of the buffer.
+    /// So many bytes, at least one, at the beginning of the buffer.
     Bytes(usize),
     /// No byte is left.
     End,
@@ -32,11 +33,11 @@ pub trait Source {
     /// The bytes left, if it tells them, the count of its faults, and whether it never fails.
     ghost seen: { Self → Supply };
 
-    /// Reads some bytes into the front of the buffer.
+    /// Reads some bytes into the beginning of the buffer. The count of faults rises by one exactly where it fails.
     fn read(&mut self, into: &mut [u8]) -> Got
         requires { 0 < length into.old }
         ensures count { GotFits result (length into.old) }
         ensures bytes { (seen self.old).left ≡ prepend_known (got_bytes result into.new) (seen self.new).left }
         ensures end { result ≡ Got.End → IsAtEnd (seen self.old).left }
-        ensures cause { SourceCause (seen self.old) (seen self.new) (result ≡ Got.Failed) };
+        ensures cause { SourceCause (seen self.old) (seen self.new) (got_failed result) };
 }

@@ -1,8 +1,8 @@
 //! A sink over one of std's writers.
 
 ghost use Rattle.std.specs.Prelude.{◌≡◌, ◌<◌, length, take, IfSome};
-ghost use Rattle.cox_outside.specs.Fault.{count_after};
-ghost use Rattle.cox_outside.specs.Writing.{TookFits, Puts, SinkCause, took_count, took_failed};
+ghost use Rattle.cox_outside.specs.SinkWrite.{TookFits, took_count, took_failed};
+ghost use Rattle.cox_outside.specs.Outlet.{Writes, SinkCause};
 
 use crate::sink::{Sink, Took};
 use std::io::Write;
@@ -36,13 +36,12 @@ impl<W: Write> Sink for StdSink<W> {
     fn write(&mut self, bytes: &[u8]) -> Took
         requires { 0 < length bytes.now }
         ensures writer { HandsOn result bytes.now (W.contents (writer_of self.old)) (W.contents (writer_of self.new)) }
-        ensures faults { (std_outlet self.new).faults ≡ count_after (took_failed result) (std_outlet self.old).faults }
 
         // As every sink.
         ensures count { TookFits result (length bytes.now) }
-        ensures puts { Puts (take (took_count result) bytes.now) (std_outlet self.old) (std_outlet self.new) }
+        ensures puts { Writes (take (took_count result) bytes.now) (std_outlet self.old) (std_outlet self.new) }
         ensures full { result ≡ Took.Failed → IfSome (std_outlet self.old).room (λ left. left ≡ 0) }
-        ensures cause { SinkCause (std_outlet self.old) (std_outlet self.new) (result ≡ Took.Failed) }
+        ensures cause { SinkCause (std_outlet self.old) (std_outlet self.new) (took_failed result) }
     {
         match self.inner.write(bytes) {
             Ok(count) if count > 0 => Took::Bytes(count),

@@ -2,8 +2,8 @@
 
 ghost use Rattle.std.specs.Prelude.{◌≡◌, ◌<◌, length};
 ghost use Rattle.std.specs.Io.KnownBytes.{prepend_known, IsAtEnd};
-ghost use Rattle.cox_outside.specs.Fault.{count_after};
-ghost use Rattle.cox_outside.specs.Reading.{GotFits, SourceCause, got_bytes, got_failed};
+ghost use Rattle.cox_outside.specs.SourceRead.{GotFits, got_bytes, got_failed};
+ghost use Rattle.cox_outside.specs.Supply.{SourceCause};
 
 use crate::source::{Got, Source};
 use std::io::Read;
@@ -37,13 +37,12 @@ impl<R: Read> Source for StdSource<R> {
     fn read(&mut self, into: &mut [u8]) -> Got
         requires { 0 < length into.old }
         ensures reader { TakesFrom result into.new (R.remaining (reader_of self.old)) (R.remaining (reader_of self.new)) }
-        ensures faults { (std_supply self.new).faults ≡ count_after (got_failed result) (std_supply self.old).faults }
 
         // As every source.
         ensures count { GotFits result (length into.old) }
         ensures bytes { (std_supply self.old).left ≡ prepend_known (got_bytes result into.new) (std_supply self.new).left }
         ensures end { result ≡ Got.End → IsAtEnd (std_supply self.old).left }
-        ensures cause { SourceCause (std_supply self.old) (std_supply self.new) (result ≡ Got.Failed) }
+        ensures cause { SourceCause (std_supply self.old) (std_supply self.new) (got_failed result) }
     {
         match self.inner.read(into) {
             Ok(0) => Got::End,

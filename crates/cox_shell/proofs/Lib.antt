@@ -6,6 +6,8 @@ pub mod Replies
 pub mod Hearing
 -- no line lies ahead: at the end, and at the limit
 pub mod Lines
+-- lines that were taken, and the bytes that they are
+pub mod TakenLines
 -- how far a run has come
 pub mod Progress
 -- how it ends

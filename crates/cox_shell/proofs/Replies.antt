@@ -1,14 +1,15 @@
--- Replies to lines are one, and those to the first lines are a front.
+-- Replies to lines are one, and those to the first lines are a prefix.
 use Rattle.std.proofs.Common.{◌≡◌, ℕ, true, false, List, [], ◌∷◌, ◌++◌, Option, Some, None, refl, sym, ap, ◌∙◌, subst, append_assoc}
 use Rattle.std.specs.Option.{MatchOption}
 use Rattle.std.specs.Bool.{MatchBool}
 use Rattle.std.proofs.lemmas.Grind.{flat_map-append}
 use Rattle.cox_outside.specs.Line.{content_of}
-use Rattle.cox_outside.specs.Writing.{IsFront}
+use Rattle.cox_outside.specs.Outlet.{IsPrefix}
 use Rattle.cox_shell.specs.Reply.{Limits, State, Reply, refusal, opening}
 use Rattle.cox_shell.specs.ContentReply.{IsContentReply}
 use Rattle.cox_shell.specs.LineReply.{IsReply, content_refusal}
-use Rattle.cox_shell.specs.Answer.{AreReplies, AreFirstReplies, IsAnswer, texts, script_lines}
+use Rattle.cox_shell.specs.Answer.{AreReplies, texts, script_lines}
+use Rattle.cox_shell.specs.FirstReplies.{AreFirstReplies, IsAnswer}
 use Rattle.cox_shell.proofs.ContentReply.{IsContentReply-unique}
 
 -- a line has at most one reply
@@ -19,70 +20,87 @@ IsReply-unique state line one other = by_refusal (content_refusal (content_of li
   by_refusal None p q = IsContentReply-unique state (content_of line) one other p q
   by_refusal (Some number) p q = p ∙ sym q
 
--- one more reply in front, which does not end the run
-pub AreReplies-cons : (state next : State) (line : List ℕ) (reply : Reply) (lines : List (List ℕ)) (replies : List Reply) → IsReply state line reply → reply.quits ≡ false → next ≡ reply.after
+-- one more reply before the others, which does not end the run
+pub AreReplies-cons : (state next : State) (line : List ℕ) (reply : Reply) (lines : List (List ℕ)) (replies : List Reply)
+    → IsReply state line reply → reply.quits ≡ false → next ≡ reply.after
     → AreReplies next lines replies → AreReplies state (line ∷ lines) (reply ∷ replies)
-AreReplies-cons state next line reply lines replies is going after rest =
-    (is, subst (λ b. MatchBool b (replies ≡ []) (AreReplies reply.after lines replies)) (sym going) (subst (λ s. AreReplies s lines replies) after rest))
+AreReplies-cons state next line reply lines replies is going after rest = (
+  is,
+  subst (λ b. MatchBool b (replies ≡ []) (AreReplies reply.after lines replies)) (sym going)
+      (subst (λ s. AreReplies s lines replies) after rest),
+)
 
 -- the reply that ends the run is the last
-pub AreReplies-quit : (state : State) (line : List ℕ) (reply : Reply) (lines : List (List ℕ)) → IsReply state line reply → reply.quits ≡ true → AreReplies state (line ∷ lines) (reply ∷ [])
-AreReplies-quit state line reply lines is quits = let none : List Reply = [] in (is, subst (λ b. MatchBool b (none ≡ []) (AreReplies reply.after lines none)) (sym quits) refl)
+pub AreReplies-quit : (state : State) (line : List ℕ) (reply : Reply) (lines : List (List ℕ)) → IsReply state line reply → reply.quits
+    ≡ true → AreReplies state (line ∷ lines) (reply ∷ [])
+AreReplies-quit state line reply lines is quits = let none : List Reply = [] in
+    (is, subst (λ b. MatchBool b (none ≡ []) (AreReplies reply.after lines none)) (sym quits) refl)
 
 -- the reply to one line
 pub AreReplies-one : (state : State) (line : List ℕ) (reply : Reply) → IsReply state line reply → AreReplies state (line ∷ []) (reply ∷ [])
-AreReplies-one state line reply is = let none : List Reply = [] in (is, elim reply.quits as (λ b. MatchBool b (none ≡ []) (none ≡ [])) [ true ↦ refl | false ↦ refl ])
+AreReplies-one state line reply is = let none : List Reply = [] in
+    (is, elim reply.quits as (λ b. MatchBool b (none ≡ []) (none ≡ [])) [ true ↦ refl | false ↦ refl ])
 
 -- replies to lines of which one stands with those before it
-pub AreReplies-rejoin : (state : State) (before after : List (List ℕ)) (done rest : List Reply) (line : List ℕ) (reply : Reply) → AreReplies state (before ++ line ∷ after) (done ++ reply ∷ rest)
+pub AreReplies-rejoin : (state : State) (before after : List (List ℕ)) (done rest : List Reply) (line : List ℕ) (reply : Reply)
+    → AreReplies state (before ++ line ∷ after) (done ++ reply ∷ rest)
     → AreReplies state ((before ++ line ∷ []) ++ after) ((done ++ reply ∷ []) ++ rest)
 AreReplies-rejoin state before after done rest line reply h =
     subst (λ lines. AreReplies state lines ((done ++ reply ∷ []) ++ rest)) (sym (append_assoc before (line ∷ []) after))
     (subst (λ replies. AreReplies state (before ++ line ∷ after) replies) (sym (append_assoc done (reply ∷ []) rest)) h)
 
 -- The replies to the first lines are the first of the replies to all.
-pub AreReplies-front : (state : State) (first rest : List (List ℕ)) (some all : List Reply) → AreReplies state first some → AreReplies state (first ++ rest) all
+pub AreReplies-prefix : (state : State) (first rest : List (List ℕ)) (some all : List Reply) → AreReplies state first some
+    → AreReplies state (first ++ rest) all
     → (more : List Reply) × (all ≡ some ++ more)
-AreReplies-front state [] rest some all p q = (all, ap (λ l. l ++ all) (sym p))
-AreReplies-front state (line ∷ first) rest [] all p q = absurd p
-AreReplies-front state (line ∷ first) rest (one ∷ some) [] p q = absurd q
-AreReplies-front state (line ∷ first) rest (one ∷ some) (other ∷ all) p q =
+AreReplies-prefix state [] rest some all p q = (all, ap (λ l. l ++ all) (sym p))
+AreReplies-prefix state (line ∷ first) rest [] all p q = absurd p
+AreReplies-prefix state (line ∷ first) rest (one ∷ some) [] p q = absurd q
+AreReplies-prefix state (line ∷ first) rest (one ∷ some) (other ∷ all) p q =
     let same : other ≡ one = IsReply-unique state line other one q.0 p.0 in
-    let next : MatchBool one.quits (all ≡ []) (AreReplies one.after (first ++ rest) all) = subst (λ (r : Reply). MatchBool r.quits (all ≡ []) (AreReplies r.after (first ++ rest) all)) same q.1 in
+    let next : MatchBool one.quits (all ≡ []) (AreReplies one.after (first ++ rest) all) = subst
+    (λ (r : Reply). MatchBool r.quits (all ≡ []) (AreReplies r.after (first ++ rest) all)) same q.1 in
     let tail : (more : List Reply) × (all ≡ some ++ more) =
-    elim one.quits as (λ b. MatchBool b (some ≡ []) (AreReplies one.after first some) → MatchBool b (all ≡ []) (AreReplies one.after (first ++ rest) all) → (more : List Reply) × (all ≡ some ++ more)) [
+    elim one.quits as (λ b. MatchBool b (some ≡ []) (AreReplies one.after first some)
+    → MatchBool b (all ≡ []) (AreReplies one.after (first ++ rest) all) → (more : List Reply) × (all ≡ some ++ more)) [
       | true ↦ λ none nil. ([], nil ∙ ap (λ l. l ++ []) (sym none))
-      | false ↦ λ some_replies all_replies. AreReplies-front one.after first rest some all some_replies all_replies
+      | false ↦ λ some_replies all_replies. AreReplies-prefix one.after first rest some all some_replies all_replies
     ] p.1 next in
     (tail.0, ap (λ r. r ∷ all) same ∙ ap (λ l. one ∷ l) tail.1)
 
 -- The replies to lines are one.
-pub AreReplies-unique : (state : State) (lines : List (List ℕ)) (one other : List Reply) → AreReplies state lines one → AreReplies state lines other → one ≡ other
+pub AreReplies-unique : (state : State) (lines : List (List ℕ)) (one other : List Reply) → AreReplies state lines one
+    → AreReplies state lines other → one ≡ other
 AreReplies-unique state [] one other p q = p ∙ sym q
 AreReplies-unique state (line ∷ lines) [] other p q = absurd p
 AreReplies-unique state (line ∷ lines) (reply ∷ one) [] p q = absurd q
 AreReplies-unique state (line ∷ lines) (reply ∷ one) (also ∷ other) p q =
     let same : also ≡ reply = IsReply-unique state line also reply q.0 p.0 in
-    let next : MatchBool reply.quits (other ≡ []) (AreReplies reply.after lines other) = subst (λ (r : Reply). MatchBool r.quits (other ≡ []) (AreReplies r.after lines other)) same q.1 in
+    let next : MatchBool reply.quits (other ≡ []) (AreReplies reply.after lines other) = subst
+    (λ (r : Reply). MatchBool r.quits (other ≡ []) (AreReplies r.after lines other)) same q.1 in
     let tail : one ≡ other =
-    elim reply.quits as (λ b. MatchBool b (one ≡ []) (AreReplies reply.after lines one) → MatchBool b (other ≡ []) (AreReplies reply.after lines other) → one ≡ other) [
+    elim reply.quits as (λ b. MatchBool b (one ≡ []) (AreReplies reply.after lines one)
+    → MatchBool b (other ≡ []) (AreReplies reply.after lines other) → one ≡ other) [
       | true ↦ λ none nil. none ∙ sym nil
       | false ↦ λ some_replies all_replies. AreReplies-unique reply.after lines one other some_replies all_replies
     ] p.1 next in
     ap (λ l. reply ∷ l) tail ∙ ap (λ r. r ∷ other) (sym same)
 
--- the text of the first replies is a front of the text of all
-pub IsFront-texts : (some more : List Reply) → IsFront (texts some) (texts (some ++ more))
-IsFront-texts some more = (texts more, flat_map-append (λ (reply : Reply). reply.text) some more)
+-- the text of the first replies is a prefix of the text of all
+pub IsPrefix-texts : (some more : List Reply) → IsPrefix (texts some) (texts (some ++ more))
+IsPrefix-texts some more = (texts more, flat_map-append (λ (reply : Reply). reply.text) some more)
 
 -- a script has one answer
-pub IsAnswer-unique : (limits : Limits) (script one other : List ℕ) → IsAnswer limits script one → IsAnswer limits script other → one ≡ other
-IsAnswer-unique limits script one other p q = p.2 ∙ ap texts (AreReplies-unique (opening limits) (script_lines script) p.0 q.0 p.1 q.1) ∙ sym q.2
+pub IsAnswer-unique : (limits : Limits) (script one other : List ℕ) → IsAnswer limits script one → IsAnswer limits script other → one
+    ≡ other
+IsAnswer-unique limits script one other p q = p.2 ∙ ap texts (AreReplies-unique (opening limits) (script_lines script) p.0 q.0 p.1 q.1)
+    ∙ sym q.2
 
--- the text of the replies to its first lines is a front of it
-pub IsFront-answer : (limits : Limits) (script text : List ℕ) (replies : List Reply) → AreFirstReplies limits script replies → IsAnswer limits script text
-    → IsFront (texts replies) text
-IsFront-answer limits script text replies p q =
+-- the text of the replies to its first lines is a prefix of it
+pub IsPrefix-answer : (limits : Limits) (script text : List ℕ) (replies : List Reply) → AreFirstReplies limits script replies
+    → IsAnswer limits script text
+    → IsPrefix (texts replies) text
+IsPrefix-answer limits script text replies p q =
     let all : AreReplies (opening limits) (p.0 ++ p.1) q.0 = subst (λ lines. AreReplies (opening limits) lines q.0) p.2 q.1 in
-    let front = AreReplies-front (opening limits) p.0 p.1 replies q.0 p.3 all in
-    subst (λ t. IsFront (texts replies) t) (ap texts (sym front.1) ∙ sym q.2) (IsFront-texts replies front.0)
+    let more = AreReplies-prefix (opening limits) p.0 p.1 replies q.0 p.3 all in
+    subst (λ t. IsPrefix (texts replies) t) (ap texts (sym more.1) ∙ sym q.2) (IsPrefix-texts replies more.0)

@@ -5,7 +5,8 @@ use Rattle.cox_outside.specs.Line.{content_of}
 use Rattle.cox_shell.specs.Reply.{Limits, State, Reply, opening, refusal}
 use Rattle.cox_shell.specs.ContentReply.{IsContentReply}
 use Rattle.cox_shell.specs.LineReply.{IsReply, content_refusal}
-use Rattle.cox_shell.specs.Answer.{AreReplies, IsAnswer, texts, script_lines}
+use Rattle.cox_shell.specs.Answer.{AreReplies, texts, script_lines}
+use Rattle.cox_shell.specs.FirstReplies.{IsAnswer}
 use Rattle.cox_shell.proofs.SomeReply.{IsContentReply-exists}
 use Rattle.cox_shell.proofs.KeptGroup.{HasMatrix, IsContentReply-matrix}
 

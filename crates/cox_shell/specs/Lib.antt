@@ -6,8 +6,10 @@ pub mod CommandReply
 pub mod ContentReply
 -- the reply to a line
 pub mod LineReply
--- the replies to lines, and the answer to a script
+-- the replies to the lines of a script
 pub mod Answer
+-- the answer to a script, and the replies to its first lines
+pub mod FirstReplies
 -- what a session says to a line
 pub mod Saying
 -- how a run ends

@@ -1,52 +1,83 @@
 -- What a run over the lines does, between where it begins and where it ends.
-use Rattle.std.specs.Prelude.{◌≡◌, ℕ, ◌<◌, ◌≤◌, Bool, true, false, List, [], length, IfSome}
+use Rattle.std.specs.Prelude.{◌≡◌, ℕ, ◌+◌, ◌<◌, ◌≤◌, ◌⊎◌, Bool, true, false, List, [], ◌++◌, length, take, IfSome, MatchBool}
 use Rattle.std.specs.Io.KnownBytes.{prepend_known, IsAtEnd}
-use Rattle.cox_outside.specs.Line.{ended_lines}
+use Rattle.cox_outside.specs.declared.limits.TheConstants.{CHUNK_SIZE}
+use Rattle.cox_outside.specs.Line.{ended_lines, lines_within}
 use Rattle.cox_outside.specs.Ahead.{Ahead, lines_ahead}
-use Rattle.cox_outside.specs.Writing.{Puts, IsFront}
+use Rattle.cox_outside.specs.Outlet.{Writes, IsPrefix}
 use Rattle.cox_shell.specs.declared.status.Status.{Status}
 use Rattle.cox_shell.specs.declared.status.Status.TheVariants.{Done, Refused, Usage, ReadFault, WriteFault, NoMemory, InputLimit}
 use Rattle.cox_shell.specs.Reply.{Reply}
-use Rattle.cox_shell.specs.Answer.{AreReplies, AreRepliesToFirst, texts, has_refusal, has_quit}
+use Rattle.cox_shell.specs.Answer.{AreReplies, texts, has_refusal, has_quit, bytes_of}
 use Rattle.cox_shell.specs.Run.{Stand}
+
+-- bytes were taken, and with those that were read and not handed out these are the first of their lines
+pub record HasRead (lines : List (List ℕ)) (old new : Ahead) : Type 0 where
+  pub taken : List ℕ
+  pub gave : old.bytes ≡ prepend_known taken new.bytes
+  pub within : length (taken ++ new.pending) ≤ old.budget + 1
+  pub are_read : IsPrefix lines (ended_lines (take old.budget (taken ++ new.pending)))
+      ⊎ (IsAtEnd new.bytes × IsPrefix lines (lines_within old.budget (taken ++ new.pending)))
+
+-- a prefix of the replies to the first lines that were read was written
+pub record WritesPrefix (old new : Stand) : Type 0 where
+  pub lines : List (List ℕ)
+  pub has_read : HasRead lines old.ahead new.ahead
+  pub replies : List Reply
+  pub are_replies : AreReplies old.state lines replies
+  pub prefix : List ℕ
+  pub is_prefix : IsPrefix prefix (texts replies)
+  pub writes : Writes prefix old.out new.out
 
 -- the replies to all lines that lie ahead were written
 pub record WritesAll (old new : Stand) : Type 0 where
   pub replies : List Reply
   pub are_replies : IfSome (lines_ahead old.ahead) (λ lines. AreReplies old.state lines replies)
-  pub puts : Puts (texts replies) old.out new.out
+  pub writes : Writes (texts replies) old.out new.out
+
+-- no more bytes were taken than the lines with these replies have, and fewer than a chunk were read beyond them
+pub record StopsThere (replies : List Reply) (old new : Ahead) : Type 0 where
+  pub taken : List ℕ
+  pub gave : old.bytes ≡ prepend_known taken new.bytes
+  pub few : length new.pending < CHUNK_SIZE
+  pub size : IfSome (lines_ahead old) (λ lines. length taken ≤ length (bytes_of (take (length replies) lines)))
 
 -- there was a reply that ends the run, or the input was read to its end, and was within the budget
 abbrev pub EndsAll : List Reply → Ahead → Ahead → Type 0
-EndsAll replies old new = has_quit replies ≡ false → IfSome old.bytes (λ bytes. length bytes ≤ old.budget) × IsAtEnd new.bytes
+EndsAll replies old new = MatchBool (has_quit replies) (StopsThere replies old new)
+    (IfSome old.bytes (λ bytes. length bytes ≤ old.budget) × IsAtEnd new.bytes)
 
 -- the lines were answered to their end, with a refusal or without
-abbrev pub AnswersAll : Bool → Stand → Stand → Type 0
-AnswersAll refused old new = (all : WritesAll old new) × (has_refusal all.replies ≡ refused) × EndsAll all.replies old.ahead new.ahead
-
--- a front of the replies to the first lines was written
-pub record WritesFront (old new : Stand) : Type 0 where
-  pub replies : List Reply
-  pub are_replies : IfSome (lines_ahead old.ahead) (λ lines. AreRepliesToFirst old.state lines replies)
-  pub front : List ℕ
-  pub is_front : IsFront front (texts replies)
-  pub puts : Puts front old.out new.out
+pub record AnswersAll (refused : Bool) (old new : Stand) : Type 0 where
+  pub writes_prefix : WritesPrefix old new
+  pub writes_all : WritesAll old new
+  pub refuses : has_refusal writes_all.replies ≡ refused
+  pub ends : EndsAll writes_all.replies old.ahead new.ahead
 
 -- the replies to the lines that end by LF among the bytes given were written
-pub record WritesGiven (old new : Stand) : Type 0 where
+pub record AnswersToFault (old new : Stand) : Type 0 where
+  pub writes_prefix : WritesPrefix old new
   pub given : List ℕ
   pub taken : old.ahead.bytes ≡ prepend_known given new.ahead.bytes
   pub none_pending : new.ahead.pending ≡ []
   pub replies : List Reply
   pub are_replies : AreReplies old.state (ended_lines given) replies
-  pub puts : Puts (texts replies) old.out new.out
+  pub none_quits : has_quit replies ≡ false
+  pub writes : Writes (texts replies) old.out new.out
+
+-- the lines within the budget were answered, none of them ends the run, and there were more bytes
+pub record AnswersToLimit (old new : Stand) : Type 0 where
+  pub writes_prefix : WritesPrefix old new
+  pub writes_all : WritesAll old new
+  pub none_quits : has_quit writes_all.replies ≡ false
+  pub over : IfSome old.ahead.bytes (λ bytes. old.ahead.budget < length bytes)
 
 -- what a run over the lines does
 abbrev pub Runs : Status → Stand → Stand → Type 0
 Runs Done old new = AnswersAll false old new
 Runs Refused old new = AnswersAll true old new
 Runs Usage old new = ⊥
-Runs ReadFault old new = WritesFront old new × WritesGiven old new
-Runs WriteFault old new = (cut : WritesFront old new) × IfSome old.out.room (λ left. left < length (texts cut.replies))
-Runs NoMemory old new = WritesFront old new
-Runs InputLimit old new = (all : WritesAll old new) × IfSome old.ahead.bytes (λ bytes. old.ahead.budget < length bytes) × (has_quit all.replies ≡ false)
+Runs ReadFault old new = AnswersToFault old new
+Runs WriteFault old new = (cut : WritesPrefix old new) × IfSome old.out.room (λ left. left < length (texts cut.replies))
+Runs NoMemory old new = WritesPrefix old new
+Runs InputLimit old new = AnswersToLimit old new

@@ -1,9 +1,9 @@
 -- Where a run stands, and what serving one line does.
-use Rattle.std.specs.Prelude.{◌≡◌, ℕ, ◌<◌, Bool, true, false, List, [], length, Option, IfSome, Result, Ok, Err}
+use Rattle.std.specs.Prelude.{◌≡◌, ◌<◌, Bool, true, false, List, [], ℕ, length, Option, IfSome, Result, Ok, Err}
 use Rattle.cox_outside.specs.declared.line_reader.Stop.{Stop}
 use Rattle.cox_outside.specs.declared.line_reader.Next.TheVariants as next
-use Rattle.cox_outside.specs.Reading.{Supply}
-use Rattle.cox_outside.specs.Writing.{Outlet, Puts, IsFront}
+use Rattle.cox_outside.specs.Supply.{Supply}
+use Rattle.cox_outside.specs.Outlet.{Outlet, Writes, IsPrefix}
 use Rattle.cox_outside.specs.Ahead.{Ahead, ahead}
 use Rattle.cox_outside.specs.Reader.{Reader, TakesNext, Reads}
 use Rattle.std.specs.declared.alloc.AllocError.{AllocError}
@@ -32,16 +32,31 @@ abbrev pub heard_of : Result Said AllocError → Heard
 heard_of (Ok said) = heard.Line said
 heard_of (Err error) = heard.NoMemory
 
+-- whether a read failed
+abbrev pub heard_failed : Heard → Bool
+heard_failed heard.Failed = true
+heard_failed other = false
+
+-- whether a read failed, and whether a write did
+abbrev pub served_read_fault : Served → Bool
+served_read_fault ReadFault = true
+served_read_fault other = false
+
+abbrev pub served_write_fault : Served → Bool
+served_write_fault WriteFault = true
+served_write_fault other = false
+
 -- a line was taken, which has this reply
-pub record IsTaken (reply : Reply) (state : State) (halt : Option Stop) (old new : Ahead) : Type 0 where
+pub record TakesReplied (reply : Reply) (state : State) (halt : Option Stop) (old new : Ahead) : Type 0 where
   pub line : List ℕ
   pub takes : TakesNext halt line old new
   pub is_reply : IsReply state line reply
 
--- what hearing the next line did: its reply stands in the buffer, or memory was wanting for it, or no line was there
+-- what hearing the next line did: its reply stands in the buffer, or memory ran out for it, or no line was there
 abbrev pub Hears : Heard → State → State → Option Stop → Ahead → Ahead → List ℕ → Type 0
-Hears (heard.Line said) before after halt old new buffer = (reply : Reply) × IsTaken reply before halt old new × Says said reply after [] buffer
-Hears heard.NoMemory before after halt old new buffer = (reply : Reply) × IsTaken reply before halt old new
+Hears (heard.Line said) before after halt old new buffer = (reply : Reply) × TakesReplied reply before halt old new
+    × Says said reply after [] buffer
+Hears heard.NoMemory before after halt old new buffer = (reply : Reply) × TakesReplied reply before halt old new
 Hears heard.End before after halt old new buffer = Reads next.End halt old new × (buffer ≡ []) × (after ≡ before)
 Hears heard.Failed before after halt old new buffer = Reads next.Failed halt old new × (buffer ≡ []) × (after ≡ before)
 Hears heard.Limit before after halt old new buffer = Reads next.Limit halt old new × (buffer ≡ []) × (after ≡ before)
@@ -49,19 +64,19 @@ Hears heard.Limit before after halt old new buffer = Reads next.Limit halt old n
 -- a line was taken and its reply written, which is a refusal or not, and ends the run or not
 pub record IsServed (refused quits : Bool) (old new : Stand) : Type 0 where
   pub reply : Reply
-  pub taken : IsTaken reply old.state new.stop old.ahead new.ahead
-  pub puts : Puts reply.text old.out new.out
+  pub taken : TakesReplied reply old.state new.stop old.ahead new.ahead
+  pub writes : Writes reply.text old.out new.out
   pub state_after : new.state ≡ reply.after
   pub refuses : reply.refused ≡ refused
   pub quitting : reply.quits ≡ quits
 
--- a line was taken and a front of its reply written
+-- a line was taken and a prefix of its reply written
 pub record IsCutOff (old new : Stand) : Type 0 where
   pub reply : Reply
-  pub taken : IsTaken reply old.state new.stop old.ahead new.ahead
-  pub front : List ℕ
-  pub is_front : IsFront front reply.text
-  pub puts : Puts front old.out new.out
+  pub taken : TakesReplied reply old.state new.stop old.ahead new.ahead
+  pub prefix : List ℕ
+  pub is_prefix : IsPrefix prefix reply.text
+  pub writes : Writes prefix old.out new.out
 
 -- what serving the next line did
 abbrev pub Serves : Served → Stand → Stand → Type 0

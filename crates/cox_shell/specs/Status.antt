@@ -1,5 +1,5 @@
 -- How a run ends.
-use Rattle.std.specs.Prelude.{ℕ}
+use Rattle.std.specs.Prelude.{ℕ, Bool, true, false}
 use Rattle.cox_shell.specs.declared.status.Status.{Status}
 use Rattle.cox_shell.specs.declared.status.Status.TheVariants.{Done, Refused, Usage, ReadFault, WriteFault, NoMemory, InputLimit}
 
@@ -13,7 +13,16 @@ code_of WriteFault = 4
 code_of NoMemory = 5
 code_of InputLimit = 6
 
--- nothing from outside hindered the run: the script was answered, or memory was wanting
+-- whether a read failed, and whether a write did
+abbrev pub is_read_fault : Status → Bool
+is_read_fault ReadFault = true
+is_read_fault other = false
+
+abbrev pub is_write_fault : Status → Bool
+is_write_fault WriteFault = true
+is_write_fault other = false
+
+-- nothing from outside hindered the run: the script was answered, or memory ran out
 abbrev pub IsUnhindered : Status → Type 0
 IsUnhindered Done = Unit {0}
 IsUnhindered Refused = Unit {0}

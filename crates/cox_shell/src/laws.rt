@@ -1,9 +1,10 @@
 //! Laws on answers, over the definitions alone.
 
 ghost use Rattle.std.specs.Prelude.{◌≡◌, ℕ, List};
-ghost use Rattle.cox_outside.specs.Writing.{IsFront};
+ghost use Rattle.cox_outside.specs.Outlet.{IsPrefix};
 ghost use Rattle.cox_shell.specs.Reply.{Limits, Reply};
-ghost use Rattle.cox_shell.specs.Answer.{AreFirstReplies, AreScriptReplies, IsAnswer, texts};
+ghost use Rattle.cox_shell.specs.Answer.{AreScriptReplies, texts};
+ghost use Rattle.cox_shell.specs.FirstReplies.{AreFirstReplies, IsAnswer};
 
 /// A script has an answer, within any limits.
 pub fn some_answer()
@@ -18,5 +19,5 @@ pub fn one_answer()
 
 /// What the replies to the first lines of a script write is a front of its answer, if it has one.
 pub fn first_replies_are_a_front()
-    ensures { (limits : Limits) → (script text : List ℕ) → (replies : List Reply) → AreFirstReplies limits script replies → IsAnswer limits script text → IsFront (texts replies) text }
+    ensures { (limits : Limits) → (script text : List ℕ) → (replies : List Reply) → AreFirstReplies limits script replies → IsAnswer limits script text → IsPrefix (texts replies) text }
 {}

@@ -5,7 +5,7 @@
 //! status and what the status came from. A [`Session`] answers single lines.
 //!
 //! It stands on `cox_outside` for lines and bytes, on `cox_command` and `cox_print` for commands and
-//! texts, on `cox_options` for the words of the command line, and on `cox_reflect`, `cox_context` and
+//! texts, on `cox_options` for the arguments, and on `cox_reflect`, `cox_context` and
 //! `cox_rpoly` for what is asked of a group. A new command is a case of the words in
 //! `specs/CommandReply.antt`, and an arm in `answers`.
 //!
@@ -14,7 +14,7 @@
 //! - `session`: the session, which answers the contents of lines
 //! - `serving`: one line, from the source to the sink
 //! - `running`: all lines, and the status that they lead to
-//! - `top`: the whole run, with the words of the command line
+//! - `top`: the whole run, with the arguments of the program
 //! - `laws`: a script has exactly one answer
 #![tactic(auto)]
 

@@ -1,9 +1,11 @@
 //! All lines, and the status that they lead to.
 
-ghost use Rattle.std.specs.Prelude.{◌≡◌, None, if◌then◌else◌};
-ghost use Rattle.cox_outside.specs.Reading.{SourceCause};
-ghost use Rattle.cox_outside.specs.Writing.{SinkCause};
+ghost use Rattle.std.specs.Prelude.{◌≡◌, if◌then◌else◌};
+ghost use Rattle.cox_outside.specs.Supply.{SourceCause};
+ghost use Rattle.cox_outside.specs.Outlet.{SinkCause};
+ghost use Rattle.cox_outside.specs.Reader.{fresh_reader};
 ghost use Rattle.cox_shell.specs.Run.{stand};
+ghost use Rattle.cox_shell.specs.Status.{is_read_fault, is_write_fault};
 ghost use Rattle.cox_shell.specs.Outcome.{Runs};
 
 use crate::serving::{Served, serve_line};
@@ -11,8 +13,8 @@ use crate::session::Session;
 use crate::status::Status;
 use cox_outside::{LineReader, Sink, Source};
 
-/// Serves line after line, until one ends the run, none is left, or something fails. The buffer's
-/// content is lost.
+/// Serves line after line, until one ends the run, none is left, or something fails. What the buffer
+/// held is lost.
 pub fn run_lines<S: Source, K: Sink>(
     reader: &mut LineReader,
     session: &mut Session,
@@ -20,12 +22,12 @@ pub fn run_lines<S: Source, K: Sink>(
     source: &mut S,
     sink: &mut K,
 ) -> Status
-    requires { reader.old.stop ≡ None }
+    requires { reader.old ≡ fresh_reader }
     ensures runs { Runs result
         (stand session.old reader.old (S.seen source.old) (K.seen sink.old))
         (stand session.new reader.new (S.seen source.new) (K.seen sink.new)) }
-    ensures source_cause { SourceCause (S.seen source.old) (S.seen source.new) (result ≡ Status.ReadFault) }
-    ensures sink_cause { SinkCause (K.seen sink.old) (K.seen sink.new) (result ≡ Status.WriteFault) }
+    ensures source_cause { SourceCause (S.seen source.old) (S.seen source.new) (is_read_fault result) }
+    ensures sink_cause { SinkCause (K.seen sink.old) (K.seen sink.new) (is_write_fault result) }
 {
     let mut refused = false;
     'lines: while !reader.has_stopped() {

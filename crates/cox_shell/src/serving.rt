@@ -2,9 +2,9 @@
 
 ghost use Rattle.std.specs.Prelude.{◌≡◌, [], None};
 ghost use Rattle.cox_outside.specs.Ahead.{ahead};
-ghost use Rattle.cox_outside.specs.Reading.{SourceCause};
-ghost use Rattle.cox_outside.specs.Writing.{SinkCause};
-ghost use Rattle.cox_shell.specs.Run.{stand, Hears, Serves, heard_of};
+ghost use Rattle.cox_outside.specs.Supply.{SourceCause};
+ghost use Rattle.cox_outside.specs.Outlet.{SinkCause};
+ghost use Rattle.cox_shell.specs.Run.{stand, Hears, Serves, heard_of, heard_failed, served_read_fault, served_write_fault};
 
 use crate::session::{Said, Session};
 use cox_outside::{LineReader, Next, Sink, Source, write_all};
@@ -20,7 +20,7 @@ const FOREIGN: u8 = 19;
 pub enum Heard {
     /// A line, to which this was said.
     Line(Said),
-    /// A line, for whose reply memory was wanting.
+    /// A line, for whose reply there was no memory.
     NoMemory,
     /// No line: the input has ended.
     End,
@@ -44,13 +44,14 @@ pub enum Served {
     ReadFault,
     /// A write of the reply failed.
     WriteFault,
-    /// Memory was wanting for the reply, and nothing of it is written.
+    /// There was no memory for the reply, and nothing of it is written.
     NoMemory,
     /// No line: there are more bytes than may be read.
     InputLimit,
 }
 
-/// Serves the next line: its reply is written before this returns. The buffer's content is lost.
+/// Serves the next line: its reply is written before this returns. What the buffer held
+/// is lost.
 pub fn serve_line<S: Source, K: Sink>(
     reader: &mut LineReader,
     session: &mut Session,
@@ -62,8 +63,8 @@ pub fn serve_line<S: Source, K: Sink>(
     ensures serves { Serves result
         (stand session.old reader.old (S.seen source.old) (K.seen sink.old))
         (stand session.new reader.new (S.seen source.new) (K.seen sink.new)) }
-    ensures source_cause { SourceCause (S.seen source.old) (S.seen source.new) (result ≡ Served.ReadFault) }
-    ensures sink_cause { SinkCause (K.seen sink.old) (K.seen sink.new) (result ≡ Served.WriteFault) }
+    ensures source_cause { SourceCause (S.seen source.old) (S.seen source.new) (served_read_fault result) }
+    ensures sink_cause { SinkCause (K.seen sink.old) (K.seen sink.new) (served_write_fault result) }
 {
     buffer.clear();
     let said = match hear_line(reader, session, buffer, source) {
@@ -94,7 +95,7 @@ fn hear_line<S: Source>(
     requires empty { buffer.old.items ≡ [] }
     ensures hears { Hears result session.old session.new reader.new.stop
         (ahead reader.old.feed (S.seen source.old).left) (ahead reader.new.feed (S.seen source.new).left) buffer.new.items }
-    ensures cause { SourceCause (S.seen source.old) (S.seen source.new) (result ≡ Heard.Failed) }
+    ensures cause { SourceCause (S.seen source.old) (S.seen source.new) (heard_failed result) }
 {
     match reader.next(source) {
         Next::Line(line) => to_heard(session.answer(line, buffer)),
@@ -106,7 +107,7 @@ fn hear_line<S: Source>(
     }
 }
 
-/// What was said to a line, or that memory was wanting.
+/// What was said to a line, or that there was no memory.
 fn to_heard(said: Result<Said, AllocError>) -> Heard
     ensures { result ≡ heard_of said }
 {

@@ -10,16 +10,16 @@ pub enum Status {
     Done,
     /// The same, and at least one line was refused.
     Refused,
-    /// The words of the command line are wrong. The usage line is written.
+    /// The arguments are wrong. The usage line is written.
     Usage,
-    /// A read failed. Written are the answers to the lines that were read whole.
+    /// A read failed. The answers to the lines that were read whole are written.
     ReadFault,
-    /// A write failed. Written is a front of the answers to the lines that were read.
+    /// A write failed. A prefix of the answers to the lines that were read is written.
     WriteFault,
-    /// Memory was wanting. Written is a front of the answers to the lines that were read.
+    /// Memory ran out. A prefix of the answers to the lines that were read is written.
     NoMemory,
-    /// There were more bytes than may be read. Written are the answers to the lines that end by LF
-    /// within the limit.
+    /// There were more bytes than may be read. The answers to the lines that end by LF within the
+    /// limit are written.
     InputLimit,
 }
 

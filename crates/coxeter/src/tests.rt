@@ -1,9 +1,12 @@
-//! Whole runs over sources and sinks in memory.
+//! Whole runs over sources and sinks in memory, and the arguments of an environment.
 
-use cox_outside::{MemorySink, MemorySource};
+use crate::arguments::arguments_of;
+use cox_outside::{Got, MemorySink, MemorySource, Source};
 use cox_shell::{Status, run_one};
 use std::alloc::{AllocError, Global};
+use std::env::FillError;
 use std::process::Abort;
+use std::rt::Env;
 use std::test::Fail;
 
 /// Scripts, what has to be written and how the run has to end.
@@ -90,7 +93,7 @@ const ANSWERS: &[(&str, &str, Status)] = &[
 const ALL_OF_A_3: &str =
     "24\ne\n1\n2\n3\n12\n13\n21\n23\n32\n121\n123\n132\n213\n232\n321\n1213\n1232\n1321\n2132\n2321\n12132\n12321\n21321\n121321\n";
 
-/// The words after the program's name, a script, what has to be written, and how the run has to end.
+/// The arguments, a script, what has to be written, and how the run has to end.
 type WithOptions = (&'static [&'static str], &'static str, &'static str, Status);
 
 const OPTIONS: &[WithOptions] = &[
@@ -126,8 +129,9 @@ const OPTIONS: &[WithOptions] = &[
     ),
 ];
 
-/// Words that give no options.
-const WRONG_WORDS: &[&[&str]] = &[
+/// Arguments that give no options.
+const WRONG_ARGUMENTS: &[&[&str]] = &[
+    &["coxeter", "--workers", "0"],
     &["coxeter", "--foo"],
     &["coxeter", "script"],
     &["coxeter", "--context"],
@@ -136,8 +140,12 @@ const WRONG_WORDS: &[&[&str]] = &[
     &["coxeter", "--context", "1", "--context", "2"],
 ];
 
-/// The first word is repeated so often.
+/// Scripts by their beginning, letters, and how often these are repeated behind it; and what has to
+/// be written.
 const LONG_WORDS: &[(&str, &str, usize, &str)] = &[
+    ("matrix 2 0\ncompute 1", "21", 127, "error 33\n"),
+    ("matrix 2 0\ncompute ", "12", 128, "error 17\n"),
+    ("matrix 3 0 0 0\ncompute ", "123", 85, "error 33\n"),
     ("type A 2\nlength 1", "21", 31, "3\n"),
     ("type A 2\nlength ", "12", 32, "error 33\n"),
     ("matrix 2 0\nlength 1", "21", 31, "63\n"),
@@ -273,7 +281,7 @@ fn large_inputs(rt: HostRuntime) -> Result<(), Fail> {
 
 #[test]
 fn usage(rt: HostRuntime) -> Result<(), Fail> {
-    for words in WRONG_WORDS {
+    for words in WRONG_ARGUMENTS {
         let run = Run {
             words,
             ..plain(b"get\n")
@@ -296,6 +304,57 @@ fn options(rt: HostRuntime) -> Result<(), Fail> {
         assert_eq!(rt; ended, *status, "at {words:?} {script:?}");
         assert_eq!(rt; sink.bytes(), written.as_bytes(), "at {words:?} {script:?}");
     }
+    Ok(())
+}
+
+/// An environment with these arguments.
+#[derive(Clone, Copy)]
+struct Called<'a>(&'a [&'a [u8]]);
+
+impl Env for Called<'_> {
+    fn arg(&self, i: usize, buf: &mut [u8]) -> Result<usize, FillError> {
+        let Some(argument) = self.0.get(i) else {
+            return Err(FillError::NotPresent);
+        };
+        if argument.len() > buf.len() {
+            return Err(FillError::TooLong);
+        }
+        buf[..argument.len()].copy_from_slice(argument);
+        Ok(argument.len())
+    }
+
+    fn var(&self, _name: &str, _buf: &mut [u8]) -> Result<usize, FillError> {
+        Err(FillError::NotPresent)
+    }
+
+    fn var_at(&self, _i: usize, _buf: &mut [u8]) -> Result<usize, FillError> {
+        Err(FillError::NotPresent)
+    }
+}
+
+#[test]
+fn arguments(rt: HostRuntime) -> Result<(), Fail> {
+    let named = Called(&[b"./\xff", b"--context", b"\xc3\xa4"]);
+    let arguments = arguments_of(&named, rt.alloc())?.expect(&rt, "these are texts");
+    assert_eq!(rt; arguments.len(), 3);
+    assert_eq!(rt; arguments[0].as_str(), "coxeter");
+    assert_eq!(rt; arguments[1].as_str(), "--context");
+    assert_eq!(rt; arguments[2].as_str(), "\u{e4}");
+    let broken = Called(&[b"coxeter", b"--context", b"\xff"]);
+    assert!(rt; arguments_of(&broken, rt.alloc())?.is_none());
+    Ok(())
+}
+
+#[test]
+fn reads_nothing_after_quit(rt: HostRuntime) -> Result<(), Fail> {
+    let script = b"type A 2\nquit\nfoo\n".to_vec(rt.alloc())?;
+    let mut source = MemorySource::new(script, 1, Vec::new(rt.alloc()));
+    let mut sink = MemorySink::new(rt.alloc(), 9, 9, Vec::new(rt.alloc()))?;
+    let status = run_one(rt.alloc(), &["coxeter"], &mut source, &mut sink);
+    assert_eq!(rt; status, Status::Done);
+    let mut next = [0u8; 9];
+    assert_eq!(rt; source.read(&mut next), Got::Bytes(1));
+    assert_eq!(rt; next[0], b'f');
     Ok(())
 }
 

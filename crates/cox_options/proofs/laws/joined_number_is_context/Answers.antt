@@ -1,3 +1,4 @@
+-- What `--context=N` gives.
 use Rattle.cox_options.proofs.OneNumber.{joined_taken, joined_context}
 use Rattle.cox_options.proofs.laws.joined_number_is_context.Goals as goal
 

@@ -1,3 +1,4 @@
+-- What `--context N` gives.
 use Rattle.cox_options.proofs.OneNumber.{next_taken, next_context}
 use Rattle.cox_options.proofs.laws.next_number_is_context.Goals as goal
 

@@ -1,3 +1,4 @@
+-- A parse without a fault gives the options by their definition.
 use Rattle.std.proofs.Common.{◌∙◌, ap, sym, not, map, codes}
 use Rattle.clap.specs.Simple.{App}
 use Rattle.clap.specs.Walk.{is_empty}
@@ -12,11 +13,14 @@ pub returns-in-Ok-try_get_matches_from-clause-taken :
     goal.returns-in-Ok-try_get_matches_from-clause-taken
 returns-in-Ok-try_get_matches_from-clause-taken c =
     let words = map (λ word. word.now) c.args.words.now in
-    ap (λ (kinds : Kinds). not (is_empty kinds)) (sym (ap (λ (a : App). fault_of a words) c.in-Ok.ensures) ∙ c.in-Ok-try_get_matches_from.ensures.kinds (ap is_simple_and_free c.in-Ok.ensures))
+    ap (λ (kinds : Kinds). not (is_empty kinds))
+    (sym (ap (λ (a : App). fault_of a words) c.in-Ok.ensures)
+    ∙ c.in-Ok-try_get_matches_from.ensures.kinds (ap is_simple_and_free c.in-Ok.ensures))
 
 pub returns-in-Ok-try_get_matches_from-clause-context :
     goal.returns-in-Ok-try_get_matches_from-clause-context
 returns-in-Ok-try_get_matches_from-clause-context c =
     let found = c.in-Ok-try_get_matches_from.ensures.matches (ap is_simple c.in-Ok.ensures) in
-    given_read _ (map (λ word. word.now) c.args.words.now) (found_of c.in-Ok-try_get_matches_from.matches) (codes "context") c.in-Ok.ensures found.0
+    given_read _ (map (λ word. word.now) c.args.words.now) (found_of c.in-Ok-try_get_matches_from.matches)
+    (codes "context") c.in-Ok.ensures found.0
     ∙ c.options_in.ensures.context

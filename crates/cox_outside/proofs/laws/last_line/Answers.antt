@@ -1,3 +1,4 @@
+-- A last line is the only one.
 use Rattle.cox_outside.proofs.Lines.{lines_of-last, ended_lines-none}
 use Rattle.cox_outside.proofs.laws.last_line.Goals as goal
 

@@ -1,3 +1,4 @@
+-- A line that ends by LF is the first.
 use Rattle.cox_outside.proofs.Lines.{lines_of-line, ended_lines-line}
 use Rattle.cox_outside.proofs.laws.line_by_lf.Goals as goal
 

@@ -1,3 +1,4 @@
+-- Up to here the beginning of one line was taken and kept, and no fault was met.
 use Rattle.std.proofs.Common.{◌≡◌, ℕ, ◌+◌, ◌≤◌, List, length}
 use Rattle.cox_outside.specs.declared.limits.TheConstants.{LINE_LIMIT, INPUT_LIMIT}
 use Rattle.cox_outside.specs.Ahead.{ahead, TakesPart}
@@ -12,7 +13,7 @@ invariant-scan g l = record {
   size : length l.line ≡ LINE_LIMIT + 1;
   room : l.count + l.feed.budget ≤ INPUT_LIMIT;
   spent : l.feed.budget ≤ l.initial.feed.budget;
-  later : (g.S.Source.seen l.initial.source).faults ≤ (g.S.Source.seen l.source).faults;
+  faults : (g.S.Source.seen l.source).faults ≡ (g.S.Source.seen l.initial.source).faults;
   same_sure : (g.S.Source.seen l.source).sure ≡ (g.S.Source.seen l.initial.source).sure;
 }
 

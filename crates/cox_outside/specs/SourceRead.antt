@@ -1,14 +1,7 @@
--- What is known of a source, and what a read does.
-use Rattle.std.specs.Prelude.{◌≡◌, ℕ, ◌≤◌, Bool, true, false, List, take, Option}
+-- What a read of a source gives.
+use Rattle.std.specs.Prelude.{ℕ, ◌≤◌, Bool, true, false, List, take}
 use Rattle.cox_outside.specs.declared.source.Got.{Got}
 use Rattle.cox_outside.specs.declared.source.Got.TheVariants.{Bytes, End, Failed}
-use Rattle.cox_outside.specs.Fault.{Rose}
-
--- the bytes left, where the source tells them, the number of its faults, and whether it never fails
-pub record Supply : Type 0 where
-  pub left : Option (List ℕ)
-  pub faults : ℕ
-  pub sure : Bool
 
 -- how many bytes a read gave
 abbrev pub got_count : Got → ℕ
@@ -31,10 +24,3 @@ abbrev pub GotFits : Got → ℕ → Type 0
 GotFits (Bytes count) room = (1 ≤ count) × (count ≤ room)
 GotFits End room = Unit {0}
 GotFits Failed room = Unit {0}
-
--- A call told of a fault only where the source is not sure and its count rose. The count doesn't fall, and being sure stays.
-pub record SourceCause (old new : Supply) (told : Type 0) : Type 0 where
-  pub later : old.faults ≤ new.faults
-  pub rose : told → Rose old.faults new.faults
-  pub same_sure : new.sure ≡ old.sure
-  pub unsure : told → old.sure ≡ false

@@ -1,5 +1,0 @@
-use Rattle.cox_options.proofs.Taken.{taken_context}
-use Rattle.cox_options.proofs.laws.taken_words_give_a_context.Goals as goal
-
-pub returns : goal.returns
-returns c = taken_context

@@ -1,0 +1,7 @@
+-- Bytes of one line.
+use Rattle.std.specs.Prelude.{◌≢◌, ℕ, List, All}
+use Rattle.cox_outside.specs.Line.{line_feed}
+
+-- no byte of it is LF
+abbrev pub IsUnbroken : List ℕ → Type 0
+IsUnbroken bytes = All (λ byte. byte ≢ line_feed) bytes
