@@ -26,12 +26,30 @@ DONE, REFUSED, BAD_USAGE, READ_FAULT, WRITE_FAULT, NO_MEMORY, INPUT_LIMIT = rang
 MOST_BYTES = 16_777_216
 
 
-def run(script=b"", arguments=(), name=b"coxeter", **more):
-    """The status, the standard output and the standard error of a run."""
+# A run may not write more than this, whatever is wrong with the program.
+MOST_WRITTEN = 64 << 20
+
+
+def run(script=b"", arguments=(), name=b"coxeter", prepare=None, **more):
+    """The status, the standard output and the standard error of a run. `prepare` is called in its process before it begins."""
+
+    def begin():
+        resource.setrlimit(resource.RLIMIT_FSIZE, (MOST_WRITTEN, MOST_WRITTEN))
+        if prepare:
+            prepare()
+
     given = {} if "stdin" in more else {"input": script}
-    out = {"stdout": subprocess.PIPE, "stderr": subprocess.PIPE, **more}
-    ran = subprocess.run([name, *arguments], executable=COXETER, timeout=60, **given, **out)
-    return ran.returncode, ran.stdout, ran.stderr
+    with tempfile.TemporaryFile() as out, tempfile.TemporaryFile() as error:
+        streams = {"stdout": out, "stderr": error, **more}
+        words = [name, *arguments]
+        try:
+            ran = subprocess.run(words, executable=COXETER, preexec_fn=begin, timeout=60, **given, **streams)
+            status = ran.returncode
+        except subprocess.TimeoutExpired:
+            status = "none in 60 seconds"
+        out.seek(0)
+        error.seek(0)
+        return status, out.read(), error.read()
 
 
 # ---- options and arguments
@@ -113,7 +131,7 @@ def read_faults():
     folder = os.open("/", os.O_RDONLY)
     COUNT.check("a folder as standard input", run(stdin=folder), (READ_FAULT, b"", b""))
     os.close(folder)
-    closed = run(stdin=None, preexec_fn=lambda: os.close(0))
+    closed = run(stdin=None, prepare=lambda: os.close(0))
     COUNT.check("standard input closed", closed, (READ_FAULT, b"", b""))
     read_end, write_end = os.pipe()
     os.set_blocking(read_end, False)
@@ -140,28 +158,25 @@ def read_faults():
 def write_faults():
     script = b"type A 2\ncompute 212\nlength 212\n"
     with open("/dev/full", "wb") as full:
-        COUNT.check("a full device", run(script, stdout=full), (WRITE_FAULT, None, b""))
-        COUNT.check("a full device, wrong arguments", run(script, ["x"], stdout=full), (WRITE_FAULT, None, b""))
-        COUNT.check("a full device, no answer", run(b"type A 2\n\n", stdout=full), (DONE, None, b""))
-    closed = run(script, stdout=None, preexec_fn=lambda: os.close(1))
-    COUNT.check("standard output closed", closed, (WRITE_FAULT, None, b""))
+        COUNT.check("a full device", run(script, stdout=full), (WRITE_FAULT, b"", b""))
+        COUNT.check("a full device, wrong arguments", run(script, ["x"], stdout=full), (WRITE_FAULT, b"", b""))
+        COUNT.check("a full device, no answer", run(b"type A 2\n\n", stdout=full), (DONE, b"", b""))
+    closed = run(script, stdout=None, prepare=lambda: os.close(1))
+    COUNT.check("standard output closed", closed, (WRITE_FAULT, b"", b""))
     read_end, write_end = os.pipe()
     os.close(read_end)
     for way, restore in (("is ignored", False), ("has its default", True)):
         got = run(script, stdout=write_end, restore_signals=restore)
-        COUNT.check(f"a closed pipe, where SIGPIPE {way}", got, (WRITE_FAULT, None, b""))
+        COUNT.check(f"a closed pipe, where SIGPIPE {way}", got, (WRITE_FAULT, b"", b""))
     os.close(write_end)
     # A file that may have so many bytes: a prefix of the answers is written.
     for most in range(7):
-        with tempfile.TemporaryFile() as out:
 
-            def limit():
-                resource.setrlimit(resource.RLIMIT_FSIZE, (most, most))
+        def limit():
+            resource.setrlimit(resource.RLIMIT_FSIZE, (most, most))
 
-            status = run(script, stdout=out, preexec_fn=limit, restore_signals=False)[0]
-            out.seek(0)
-            wanted = (DONE if most == 6 else WRITE_FAULT), b"121\n3\n"[:most]
-            COUNT.check(f"a file of at most {most} bytes", (status, out.read()), wanted)
+        wanted = (DONE if most == 6 else WRITE_FAULT), b"121\n3\n"[:most], b""
+        COUNT.check(f"a file of at most {most} bytes", run(script, prepare=limit, restore_signals=False), wanted)
 
 
 # ---- status 5: out of memory
@@ -181,15 +196,15 @@ def memory():
             resource.setrlimit(resource.RLIMIT_AS, (size, size))
 
         try:
-            status, out, error = run(script, preexec_fn=limit)
+            status, out, error = run(script, prepare=limit)
         except (OSError, subprocess.SubprocessError):
             continue
-        if status < 0 or status == 127:
+        if status == 127 or error:
             continue  # it could not be started
         if status in ends:
             ends[status] += 1
         known = (status == DONE and out == whole[1]) or (status == NO_MEMORY and out in prefixes[:3])
-        COUNT.check(f"{kibibytes} KiB: status {status}, {out[-40:]!r}, {error!r}", known and not error, True)
+        COUNT.check(f"{kibibytes} KiB: status {status}, {out[-40:]!r}", known, True)
     COUNT.check("some runs end with status 0, some with status 5", min(ends.values()) > 0, True)
 
 
@@ -246,26 +261,34 @@ def read_bytes(stream, count, seconds=10):
 
 def line_by_line():
     """The answer to a line comes before the next line is written, and `quit` ends a run whose input is still open."""
-    for last, status in ((b"quit\n", REFUSED), (b"", REFUSED)):
+    for last in (b"quit\n", b""):
         with subprocess.Popen([COXETER], stdin=subprocess.PIPE, stdout=subprocess.PIPE, bufsize=0) as child:
-            for line, wanted in TALK:
-                child.stdin.write(line + b"\n")
-                COUNT.check(f"the answer to {line!r}", read_bytes(child.stdout, len(wanted)), wanted)
-            # An unfinished line is not answered yet; its rest may come in pieces.
-            for piece in (b"len", b"gth 1", b"2"):
-                child.stdin.write(piece)
-                COUNT.check(f"no answer after {piece!r}", read_bytes(child.stdout, 1, 0.05), b"")
-            child.stdin.write(b"\n")
-            COUNT.check("the answer to a line in pieces", read_bytes(child.stdout, 2), b"2\n")
-            child.stdin.write(last)
+            try:
+                talk(child)
+                child.stdin.write(last)
+            except BrokenPipeError:
+                COUNT.check("the program goes on reading", False, True)
             if not last:
                 child.stdin.close()
             try:
                 ended = child.wait(10)
             except subprocess.TimeoutExpired:
                 child.kill()
-                ended = None
-            COUNT.check(f"the end by {last or b'the end of the input'!r}", (child.stdout.read(), ended), (b"", status))
+                ended = "none in 10 seconds"
+            what = f"the end by {last or b'the end of the input'!r}"
+            COUNT.check(what, (read_bytes(child.stdout, 100, 1), ended), (b"", REFUSED))
+
+
+def talk(child):
+    """Writes the lines of TALK, and a last one in pieces, and waits for each answer."""
+    for line, wanted in TALK:
+        child.stdin.write(line + b"\n")
+        COUNT.check(f"the answer to {line!r}", read_bytes(child.stdout, len(wanted)), wanted)
+    for piece in (b"len", b"gth 1", b"2"):
+        child.stdin.write(piece)
+        COUNT.check(f"no answer after {piece!r}", read_bytes(child.stdout, 1, 0.05), b"")
+    child.stdin.write(b"\n")
+    COUNT.check("the answer to a line in pieces", read_bytes(child.stdout, 2), b"2\n")
 
 
 for part in (arguments, scripts, read_faults, write_faults, memory, input_limit, line_by_line):
