@@ -2,7 +2,7 @@
 //!
 //! The members with one letter more are the s x for s = 1, 2, .. and, for each s, the members x of the last length in order, where s is the least
 //! left descent of s x. So each is found once, and they come in ShortLex order.
-ghost use Rattle.std.specs.Prelude.{◌≡◌, ℕ, List, ◌+◌, ◌<◌, ◌≤◌, ◌∷◌, ◌++◌, [], length, IfOk, IfErr, OnOk, IfSome, IfNone, IsTrue, Option, Contains};
+ghost use Rattle.std.specs.Prelude.{◌≡◌, ℕ, List, ◌+◌, ◌<◌, ◌≤◌, ◌∷◌, ◌++◌, [], length, IfOk, IfErr, OnOk, IfSome, IfNone, OnSome, IsTrue, Option, Contains};
 ghost use Rattle.arrayvec.specs.ArrayVec.{ArrayVec};
 ghost use Rattle.cox_base.specs.Matrix.{IsCoxeterMatrix, IsLetter};
 ghost use Rattle.cox_base.specs.IntegerMatrix.{IntegerMatrix, IsAdmissible, integer_matrix};
@@ -14,7 +14,7 @@ ghost use Rattle.cox_context.specs.Growth.{IsGrowing, IsGrown, AreAllHeights};
 ghost use Rattle.cox_context.specs.Refusal.{IsPrefixOf, IsRefusal};
 
 use crate::ContextFault;
-use crate::family::{Child, Family};
+use crate::family::{Family, with_first};
 use crate::members::{MAX_MEMBERS, Members};
 use cox_base::{MAX_RANK, Word};
 use cox_reflect::Heights;
@@ -123,23 +123,24 @@ impl Builder {
         ensures fault { IfErr result (IsRefusal (IsMember (integer_matrix family.now.group) family.now.top) limit) }
     {
         for parent in low..high {
-            if let Some(child) = self.child(family, s, parent) {
-                self.add(child, limit)?;
+            if let Some(heights) = self.child(family, s, parent) {
+                let word = with_first(s, self.members.word(parent));
+                self.add(word, heights, limit)?;
             }
         }
         Ok(())
     }
 
-    /// The word s x of the member x with this number, and its heights, if it is a normal form and a member.
-    fn child(&self, family: &Family, s: u8, parent: u32) -> Option<Child>
+    /// The heights of s x where that word is a member, for the member x with this number.
+    fn child(&self, family: &Family, s: u8, parent: u32) -> Option<Heights>
         requires top { IsTop (integer_matrix family.now.group) family.now.top }
         requires letter { IsLetter family.now.group.rank s }
         requires parent { parent < length self.now.members }
         requires member { IsMember (integer_matrix family.now.group) family.now.top (word_at self.now.members parent) }
         requires short { length (word_at self.now.members parent) ≤ 62 }
         requires heights { AreAllHeights (integer_matrix family.now.group) self.now.members self.now.heights.items }
-        ensures child { IfSome result (λ y. (y.word.items ≡ s ∷ word_at self.now.members parent) × IsMember (integer_matrix family.now.group) family.now.top y.word.items) }
-        ensures heights { IfSome result (λ y. AreHeights (integer_matrix family.now.group) y.word.items y.heights) }
+        ensures heights { IfSome result (λ h. AreHeights (integer_matrix family.now.group) (s ∷ word_at self.now.members parent) h) }
+        ensures member { OnSome result (IsMember (integer_matrix family.now.group) family.now.top (s ∷ word_at self.now.members parent)) }
         ensures none { IfNone result (¬ (IsMember (integer_matrix family.now.group) family.now.top (s ∷ word_at self.now.members parent))) }
     {
         let heights = &self.heights[parent as usize];
@@ -147,15 +148,15 @@ impl Builder {
     }
 
     /// Appends a member, if the limit admits one more.
-    fn add(&mut self, child: Child, limit: u32) -> Result<(), ContextFault>
+    fn add(&mut self, word: Word, heights: Heights, limit: u32) -> Result<(), ContextFault>
         requires limit { limit ≤ MAX_MEMBERS }
         requires room { length self.old.members ≤ limit }
-        requires new { ¬ (Contains self.old.members child.word.items) }
-        ensures added { OnOk result (self.new.members ≡ self.old.members ++ child.word.items ∷ []) }
-        ensures heights { OnOk result (self.new.heights.items ≡ self.old.heights.items ++ child.heights ∷ []) }
+        requires new { ¬ (Contains self.old.members word.items) }
+        ensures added { OnOk result (self.new.members ≡ self.old.members ++ word.items ∷ []) }
+        ensures heights { OnOk result (self.new.heights.items ≡ self.old.heights.items ++ heights ∷ []) }
         ensures room { OnOk result (length self.new.members ≤ limit) }
-        ensures fault { (A : IntegerMatrix) → (top : Option (ArrayVec ℕ)) → IsPrefixOf (IsMember A top) (self.old.members ++ child.word.items ∷ [])
-            → ((i : ℕ) → i < length self.old.members + 1 → length (word_at (self.old.members ++ child.word.items ∷ []) i) ≤ 63)
+        ensures fault { (A : IntegerMatrix) → (top : Option (ArrayVec ℕ)) → IsPrefixOf (IsMember A top) (self.old.members ++ word.items ∷ [])
+            → ((i : ℕ) → i < length self.old.members + 1 → length (word_at (self.old.members ++ word.items ∷ []) i) ≤ 63)
             → IfErr result (IsRefusal (IsMember A top) limit) }
     {
         if self.members.len() == limit {
@@ -164,7 +165,7 @@ impl Builder {
                 seen: limit + 1,
             });
         }
-        if self.heights.push(child.heights).is_err() || self.members.push(child.word).is_err() {
+        if self.heights.push(heights).is_err() || self.members.push(word).is_err() {
             return Err(ContextFault::NoMemory);
         }
         Ok(())

@@ -1,5 +1,5 @@
 //! The group, or the interval, whose elements a context has as members.
-ghost use Rattle.std.specs.Prelude.{◌≡◌, ℕ, List, ◌≤◌, ◌↔◌, ◌∷◌, length, IsTrue, IfSome, IfNone};
+ghost use Rattle.std.specs.Prelude.{◌≡◌, ℕ, List, ◌≤◌, ◌↔◌, ◌∷◌, length, IsTrue, IfSome, IfNone, OnSome};
 ghost use Rattle.cox_base.specs.Matrix.{IsCoxeterMatrix, IsLetter};
 ghost use Rattle.cox_base.specs.IntegerMatrix.{integer_matrix};
 ghost use Rattle.cox_base.specs.ShortLex.{normal_form};
@@ -21,46 +21,36 @@ pub(crate) struct Family {
     ghost descents_of: { descents.items ≡ top_descents (integer_matrix group) top },
 }
 
-/// A member that was found, and its heights.
-#[derive(Drop)]
-pub(crate) struct Child {
-    pub(crate) word: Word,
-    pub(crate) heights: Heights,
-}
-
 impl Family {
-    /// The word s x and its heights, if it is a normal form and a member, for a member x with its heights.
-    pub(crate) fn child(&self, heights: &Heights, s: u8, x: &Word) -> Option<Child>
+    /// The heights of s x where that word is a member, for a member x with its heights.
+    pub(crate) fn child(&self, heights: &Heights, s: u8, x: &Word) -> Option<Heights>
         requires top { IsTop (integer_matrix self.now.group) self.now.top }
         requires letter { IsLetter self.now.group.rank s }
         requires member { IsMember (integer_matrix self.now.group) self.now.top x.now.items }
         requires short { length x.now.items ≤ 62 }
         requires heights { AreHeights (integer_matrix self.now.group) x.now.items heights.now }
-        ensures child { IfSome result (λ y. (y.word.items ≡ s ∷ x.now.items) × IsMember (integer_matrix self.now.group) self.now.top y.word.items) }
-        ensures heights { IfSome result (λ y. AreHeights (integer_matrix self.now.group) y.word.items y.heights) }
+        ensures heights { IfSome result (λ h. AreHeights (integer_matrix self.now.group) (s ∷ x.now.items) h) }
+        ensures member { OnSome result (IsMember (integer_matrix self.now.group) self.now.top (s ∷ x.now.items)) }
         ensures none { IfNone result (¬ (IsMember (integer_matrix self.now.group) self.now.top (s ∷ x.now.items))) }
     {
-        let heights = normal_heights(&self.group, heights, s, x)?;
-        if self.descents.as_slice().contains(&s) || self.has(heights) {
-            Some(Child {
-                word: with_first(s, x),
-                heights,
-            })
+        let longer = normal_heights(&self.group, heights, s, x)?;
+        if self.descents.as_slice().contains(&s) || self.has(&longer) {
+            Some(longer)
         } else {
             None
         }
     }
 
     /// Whether the element with these heights is a member.
-    fn has(&self, heights: Heights) -> bool
+    fn has(&self, heights: &Heights) -> bool
         requires top { IsTop (integer_matrix self.now.group) self.now.top }
-        requires element { AreOfShortElement (integer_matrix self.now.group) heights }
-        ensures { (word : List ℕ) → IsElement (integer_matrix self.now.group) word → AreHeights (integer_matrix self.now.group) word heights
+        requires element { AreOfShortElement (integer_matrix self.now.group) heights.now }
+        ensures { (word : List ℕ) → IsElement (integer_matrix self.now.group) word → AreHeights (integer_matrix self.now.group) word heights.now
             → (IsTrue result ↔ IsMember (integer_matrix self.now.group) self.now.top word) }
     {
         match &self.top {
             None => true,
-            Some(top) => below_reduced(&self.group, heights, top.as_slice()),
+            Some(top) => below_reduced(&self.group, *heights, top.as_slice()),
         }
     }
 }
@@ -86,7 +76,7 @@ fn normal_heights(g: &Coxeter, heights: &Heights, s: u8, x: &Word) -> Option<Hei
 }
 
 /// The word s x.
-fn with_first(s: u8, x: &Word) -> Word
+pub(crate) fn with_first(s: u8, x: &Word) -> Word
     requires { length x.now.items ≤ 62 }
     ensures { result.items ≡ s ∷ x.now.items }
 {

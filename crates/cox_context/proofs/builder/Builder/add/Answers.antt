@@ -8,6 +8,6 @@ pub returns-then-len-limit-clause-fault : goal.returns-then-len-limit-clause-fau
 returns-then-len-limit-clause-fault c = λ A top prefix short. (
   refl,
   refl,
-  over-prefix (IsMember A top) c.args.limit c.args.self.now.members c.args.child.word.items
+  over-prefix (IsMember A top) c.args.limit c.args.self.now.members c.args.word.items
       (omega (arith, c.len.ensures.len, c.if-len-limit.true)) prefix short,
 )

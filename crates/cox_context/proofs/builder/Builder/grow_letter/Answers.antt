@@ -11,14 +11,18 @@ use Rattle.cox_context.proofs.GrowthLemmas.{IsTailed, growing-skip, growing-push
 use Rattle.cox_context.proofs.builder.Builder.grow_letter.Goals as goal
 use Rattle.cox_context.proofs.builder.Builder.grow_letter.Goals.{in-Some+in_ok-add, in_default}
 
+-- the word s x, with x the parent
+word-is : {s : ℕ} {word x parent : List ℕ} → word ≡ s ∷ x → x ≡ parent → word ≡ s ∷ parent
+word-is e f = rw (← f) e
+
 pub add-requires-clause-new : goal.add-requires-clause-new
 add-requires-clause-new c =
     let A : IntegerMatrix = integer_matrix c.args.family.now.group
     in let P : List ℕ → Type 0 = IsMember A c.args.family.now.top
     in let tailed : IsTailed c.args.family.now.group.rank P = member-tailed c.args.family.now.group c.requires.matrix c.args.family.now.top
-    in let child : c.in-Some.child.word.items ≡ c.args.s ∷ word_at c.loop-parent.self.members c.loop-parent.parent =
-    c.in-Some.ensures.child.0
-    in let member : P (c.args.s ∷ word_at c.loop-parent.self.members c.loop-parent.parent) = rw child at c.in-Some.ensures.child.1
+    in let child : c.with_first-word.result.items ≡ c.args.s ∷ word_at c.loop-parent.self.members c.loop-parent.parent
+    = word-is c.with_first-word.ensures c.word.ensures
+    in let member : P (c.args.s ∷ word_at c.loop-parent.self.members c.loop-parent.parent) = c.in-Some.ensures.member
     in rw child (rising-new c.loop-parent.self.members (c.args.s ∷ word_at c.loop-parent.self.members c.loop-parent.parent)
     (growing-prefix c.args.family.now.group.rank P tailed c.args.letters c.args.low c.args.high c.args.s c.loop-parent.parent
     c.loop-parent.self.members c.loop-parent.invariant.growing c.loop-parent-test.true member).rising)
@@ -28,14 +32,14 @@ returns-in_err-add-clause-fault c =
     let A : IntegerMatrix = integer_matrix c.args.family.now.group
     in let P : List ℕ → Type 0 = IsMember A c.args.family.now.top
     in let tailed : IsTailed c.args.family.now.group.rank P = member-tailed c.args.family.now.group c.requires.matrix c.args.family.now.top
-    in let child : c.in-Some.child.word.items ≡ c.args.s ∷ word_at c.loop-parent.self.members c.loop-parent.parent =
-    c.in-Some.ensures.child.0
-    in let member : P (c.args.s ∷ word_at c.loop-parent.self.members c.loop-parent.parent) = rw child at c.in-Some.ensures.child.1
-    in let prefix : IsPrefixOf P (c.loop-parent.self.members ++ c.in-Some.child.word.items ∷ [])
+    in let child : c.with_first-word.result.items ≡ c.args.s ∷ word_at c.loop-parent.self.members c.loop-parent.parent
+    = word-is c.with_first-word.ensures c.word.ensures
+    in let member : P (c.args.s ∷ word_at c.loop-parent.self.members c.loop-parent.parent) = c.in-Some.ensures.member
+    in let prefix : IsPrefixOf P (c.loop-parent.self.members ++ c.with_first-word.result.items ∷ [])
     = rw child (growing-prefix c.args.family.now.group.rank P tailed c.args.letters c.args.low c.args.high c.args.s c.loop-parent.parent
     c.loop-parent.self.members c.loop-parent.invariant.growing c.loop-parent-test.true member)
     in let short : (i : ℕ) → i < length c.loop-parent.self.members + 1
-    → length (word_at (c.loop-parent.self.members ++ c.in-Some.child.word.items ∷ []) i) ≤ 63
+    → length (word_at (c.loop-parent.self.members ++ c.with_first-word.result.items ∷ []) i) ≤ 63
     = rw child (λ i l. omega (
       arith,
       push-length c.args.family.now.group.rank P tailed c.args.letters c.args.low c.args.high c.args.s
@@ -51,16 +55,16 @@ loop-parent-preserved c =
     in let tailed : IsTailed c.args.family.now.group.rank P = member-tailed c.args.family.now.group c.requires.matrix c.args.family.now.top
     in elim c.match-child.branch [
       | in-Some+in_ok-add w ↦
-          let child : w.in-Some.child.word.items ≡ c.args.s ∷ word_at c.loop-parent.self.members c.loop-parent.parent =
-          w.in-Some.ensures.child.0
-          in let member : P (c.args.s ∷ word_at c.loop-parent.self.members c.loop-parent.parent) = rw child at w.in-Some.ensures.child.1
+          let child : w.with_first-word.result.items ≡ c.args.s ∷ word_at c.loop-parent.self.members c.loop-parent.parent
+          = word-is w.with_first-word.ensures w.word.ensures
+          in let member : P (c.args.s ∷ word_at c.loop-parent.self.members c.loop-parent.parent) = w.in-Some.ensures.member
           in rw w.self-is (record {
             growing = rw (w.in_ok-add.ensures.added, child)
                 (growing-push c.args.family.now.group.rank P tailed c.args.letters c.args.low c.args.high c.args.s c.loop-parent.parent
                 c.loop-parent.self.members c.loop-parent.invariant.growing c.loop-parent-test.true member);
             heights = rw (w.in_ok-add.ensures.added, w.in_ok-add.ensures.heights)
-                (heights-push A c.loop-parent.self.members c.loop-parent.self.heights.items w.in-Some.child.word.items
-                w.in-Some.child.heights c.loop-parent.invariant.heights w.in-Some.ensures.heights);
+                (heights-push A c.loop-parent.self.members c.loop-parent.self.heights.items w.with_first-word.result.items
+                w.in-Some.heights c.loop-parent.invariant.heights (rw child w.in-Some.ensures.heights));
             room = w.in_ok-add.ensures.room;
           })
       | in_default w ↦
