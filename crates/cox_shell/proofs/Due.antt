@@ -1,5 +1,6 @@
 -- What is due is a prefix of the answer: the lines that were read are the first of the script's.
-use Rattle.std.proofs.Common.{◌≡◌, ◌≤◌, ◌+◌, ◌-◌, ℕ, Bool, true, false, inl, inr, cond, nat_le, ◌==◌, Some, List, [], ◌∷◌, ◌++◌, length, take}
+use Rattle.std.proofs.Common.{◌≡◌, ◌≤◌, ◌+◌, ◌-◌, ℕ, Bool, true, false, inl, inr, cond, nat_le, ◌==◌, Some, List, [], ◌∷◌, ◌++◌, length}
+use Rattle.std.proofs.Common.{take}
 use Rattle.std.proofs.Common.{refl, sym, ap, ◌∙◌, subst, arith, append_assoc, length-append}
 use Rattle.std.proofs.lemmas.List.{append-nil, take_all, take-append-le}
 use Rattle.std.proofs.lemmas.Bool.{leb-true, cases_lt}
@@ -57,10 +58,12 @@ ended_lines-within limit given left = by_test (nat_le (length (given ++ left)) l
       → IsPrefix (ended_lines (take limit given)) (cond b (lines_of (given ++ left)) (ended_lines (take limit (given ++ left))))
   by_test true e =
       let within : length given ≤ limit = omega (arith, leb-true _ _ e, length-append given left) in
-      subst (λ bytes. IsPrefix (ended_lines bytes) (lines_of (given ++ left))) (sym (take_all limit given within)) (ended_lines-all given left)
+      subst (λ bytes. IsPrefix (ended_lines bytes) (lines_of (given ++ left))) (sym (take_all limit given within))
+      (ended_lines-all given left)
   by_test false e =
       let more = take-more limit given left in
-      subst (λ bytes. IsPrefix (ended_lines (take limit given)) (ended_lines bytes)) (sym more.1) (ended_lines-more (take limit given) more.0)
+      subst (λ bytes. IsPrefix (ended_lines (take limit given)) (ended_lines bytes)) (sym more.1)
+      (ended_lines-more (take limit given) more.0)
 
 -- the lines that were read are the first of the script's
 AreRead-script : (lines : List (List ℕ)) (given left : List ℕ) → AreRead lines given (Some left)
