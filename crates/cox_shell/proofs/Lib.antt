@@ -16,6 +16,8 @@ pub mod Endings
 pub mod Known
 -- what a run over the lines says of the whole
 pub mod Whole
+-- what is due is a prefix of the answer
+pub mod Due
 -- what is said when a text was put
 pub mod Sayings
 -- the text of an R-polynomial

@@ -16,10 +16,12 @@
 //! - `running`: all lines, and the status that they lead to
 //! - `top`: the whole run, with the arguments of the program
 //! - `laws`: a script has exactly one answer
+//! - `run_laws`: what is due to be written is a prefix of that answer
 #![tactic(auto)]
 
 mod answers;
 pub mod laws;
+pub mod run_laws;
 mod running;
 mod serving;
 mod session;
