@@ -1,5 +1,6 @@
+-- The proof of `put_letters`.
 use Rattle.std.proofs.Common.{rules}
-use Rattle.cox_print.specs.Text.{letter_digit}
+use Rattle.cox_print.specs.AnswerText.{letter_digit}
 use Rattle.cox_poly.proofs.Behind.{PutsFront-take, Puts-failed}
 use Rattle.cox_print.proofs.element.put_letters.Goals as goal
 

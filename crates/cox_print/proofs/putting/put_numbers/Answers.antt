@@ -1,8 +1,9 @@
+-- The proof of `put_numbers`.
 use Rattle.std.proofs.Common.{◌≡◌, ◌∷◌, ◌++◌, ◌∙◌, ap, codes, rules, pos, ℕ, ℤ, List, subst, sym, arith}
 use Rattle.std.specs.Fmt.{signed_decimal}
 use Rattle.std.specs.List.{flat_map}
 use Rattle.cox_poly.specs.Puts.{Puts}
-use Rattle.cox_print.specs.Text.{numbers_text}
+use Rattle.cox_print.specs.AnswerText.{numbers_text}
 use Rattle.cox_poly.proofs.Behind.{PutsFront-next, PutsFront-second, Puts-failed, Puts-first, append-all, append-next, append-second}
 use Rattle.cox_print.proofs.putting.put_numbers.Goals as goal
 
@@ -10,7 +11,8 @@ abbrev next_text : ℤ → List ℕ
 next_text m = codes " " ++ signed_decimal m
 
 -- the text of a list by its first number
-text-parts : (list others : List ℤ) (first n : ℤ) → list ≡ first ∷ others → first ≡ n → signed_decimal n ++ flat_map next_text others ≡ numbers_text list
+text-parts : (list others : List ℤ) (first n : ℤ) → list ≡ first ∷ others → first ≡ n
+    → signed_decimal n ++ flat_map next_text others ≡ numbers_text list
 text-parts list others first n parts is = sym (ap numbers_text parts ∙ ap (λ m. signed_decimal m ++ flat_map next_text others) is)
 
 pub returns-in_err-put_number : goal.returns-in_err-put_number
