@@ -14,7 +14,7 @@ use Rattle.cox_outside.specs.Writing.{Puts}
 use Rattle.cox_outside.specs.Reader.{TakesNext}
 use Rattle.cox_outside.proofs.Known.{Puts-none, Puts-append}
 use Rattle.cox_outside.proofs.Taking.{Takes-none, Takes-append}
-use Rattle.cox_shell.specs.Reply.{Reply}
+use Rattle.cox_shell.specs.Reply.{Reply, is_refused}
 use Rattle.cox_shell.specs.Answer.{AreReplies, texts, has_refusal, has_quit}
 use Rattle.cox_shell.specs.Run.{Stand, IsServed}
 use Rattle.cox_shell.proofs.Replies.{AreReplies-cons, AreReplies-rejoin}
@@ -79,8 +79,8 @@ any-push p done reply before last old new =
     list_any-append p done (reply ∷ []) ∙ ap (λ b. b || (p reply || false)) old ∙ ap (λ b. before || (b || false)) new ∙ ap (λ b. before || b) (or_false last)
 
 -- of one more reply, whether it refuses, and whether it ends the run
-pub has_refusal-push : (done : List Reply) (reply : Reply) (before last : Bool) → has_refusal done ≡ before → reply.refused ≡ last → has_refusal (done ++ reply ∷ []) ≡ (before || last)
-has_refusal-push = any-push (λ reply. reply.refused)
+pub has_refusal-push : (done : List Reply) (reply : Reply) (before last : Bool) → has_refusal done ≡ before → is_refused reply ≡ last → has_refusal (done ++ reply ∷ []) ≡ (before || last)
+has_refusal-push = any-push is_refused
 
 pub has_quit-push : (done : List Reply) (reply : Reply) (before last : Bool) → has_quit done ≡ before → reply.quits ≡ last → has_quit (done ++ reply ∷ []) ≡ (before || last)
 has_quit-push = any-push (λ reply. reply.quits)

@@ -12,7 +12,8 @@ use Rattle.cox_options.specs.Words.{is_refused, given_number, IsTaken, IsUsage}
 use Rattle.cox_options.specs.declared.options.Options.{Options}
 use Rattle.cox_shell.specs.declared.status.Status.{Status}
 use Rattle.cox_shell.specs.declared.status.Status.TheVariants.{Done, Refused, Usage, ReadFault, WriteFault, NoMemory, InputLimit}
-use Rattle.cox_shell.specs.Reply.{Limits, State, Reply, limits_of, opening}
+use Rattle.cox_shell.specs.Reply.{Limits, State, Reply, opening}
+use Rattle.cox_shell.specs.SessionLimits.{limits_of}
 use Rattle.cox_shell.specs.Answer.{AreReplies, AreRepliesToFirst, AreFirstReplies, texts, input_limit}
 use Rattle.cox_shell.specs.Run.{Stand, stand}
 use Rattle.cox_shell.specs.Outcome.{Runs, WritesAll, AnswersAll, WritesFront}

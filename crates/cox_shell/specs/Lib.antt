@@ -1,5 +1,7 @@
 -- replies to lines
 pub mod Reply
+-- what a command asks
+pub mod Question
 -- the replies to commands, in the terms of Coxeter groups
 pub mod CommandReply
 -- the reply to the content of a line
@@ -8,7 +10,9 @@ pub mod ContentReply
 pub mod LineReply
 -- the replies to lines, and the answer to a script
 pub mod Answer
--- what a session says to a line
+-- the limits that options give
+pub mod SessionLimits
+-- what the calls that answer say of a reply
 pub mod Saying
 -- how a run ends
 pub mod Status

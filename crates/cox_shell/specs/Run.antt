@@ -12,7 +12,7 @@ use Rattle.cox_shell.specs.declared.serving.Heard.{Heard}
 use Rattle.cox_shell.specs.declared.serving.Heard.TheVariants as heard
 use Rattle.cox_shell.specs.declared.serving.Served.{Served}
 use Rattle.cox_shell.specs.declared.serving.Served.TheVariants.{Answered, Refused, Quit, End, InputLimit, ReadFault, WriteFault, NoMemory}
-use Rattle.cox_shell.specs.Reply.{State, Reply}
+use Rattle.cox_shell.specs.Reply.{State, Reply, is_refused}
 use Rattle.cox_shell.specs.LineReply.{IsReply}
 use Rattle.cox_shell.specs.Saying.{Says}
 
@@ -52,7 +52,7 @@ pub record IsServed (refused quits : Bool) (old new : Stand) : Type 0 where
   pub taken : IsTaken reply old.state new.stop old.ahead new.ahead
   pub puts : Puts reply.text old.out new.out
   pub state_after : new.state ≡ reply.after
-  pub refuses : reply.refused ≡ refused
+  pub refuses : is_refused reply ≡ refused
   pub quitting : reply.quits ≡ quits
 
 -- a line was taken and a front of its reply written
