@@ -25,12 +25,14 @@ unfolding entry_of
 entry_of-diagonal g s from_one to_rank = grind (arith, nat_tests)
 
 -- above the diagonal
-pub entry_of-above : (g : CoxeterMatrix) (s t : ℕ) → 1 ≤ s → s < t → t ≤ g.rank → entry_of g s t ≡ entry_above (slice_index g.labels (place g.rank s t))
+pub entry_of-above : (g : CoxeterMatrix) (s t : ℕ) → 1 ≤ s → s < t → t ≤ g.rank
+    → entry_of g s t ≡ entry_above (slice_index g.labels (place g.rank s t))
 unfolding entry_of
 entry_of-above g s t from_one rising to_rank = rw (← label-above g s t rising) (grind (arith, nat_tests))
 
 -- below the diagonal
-pub entry_of-below : (g : CoxeterMatrix) (s t : ℕ) → 1 ≤ t → t < s → s ≤ g.rank → entry_of g s t ≡ entry_below (slice_index g.labels (place g.rank t s))
+pub entry_of-below : (g : CoxeterMatrix) (s t : ℕ) → 1 ≤ t → t < s → s ≤ g.rank
+    → entry_of g s t ≡ entry_below (slice_index g.labels (place g.rank t s))
 unfolding entry_of
 entry_of-below g s t from_one falling to_rank = rw (← label-above g t s falling) (grind (arith, nat_tests))
 

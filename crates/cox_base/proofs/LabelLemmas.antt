@@ -1,11 +1,13 @@
 -- Labels that are not admitted.
-use Rattle.std.proofs.Common.{◌≡◌, ℕ, ◌+◌, ◌-◌, ◌<◌, Bool, true, false, not, if◌then◌else◌, Option, Some, None, List, length, slice_index, arith, ap, refl, sym, ◌∙◌}
+use Rattle.std.proofs.Common.{◌≡◌, ℕ, ◌+◌, ◌-◌, ◌<◌, Bool, true, false, not, if◌then◌else◌, Option, Some, None, List, length, slice_index}
+use Rattle.std.proofs.Common.{arith, ap, refl, sym, ◌∙◌}
 use Rattle.cox_base.specs.Matrix.{is_label}
 use Rattle.cox_base.specs.Table.{IsFirstBad}
 use Rattle.cox_base.proofs.Positions.{position-Some_at}
 
 -- the first label that is not admitted
-pub IsFirstBad-at : (labels : List ℕ) (i : ℕ) → i < length labels → ((k : ℕ) → k < i → is_label (slice_index labels k) ≡ true) → is_label (slice_index labels i) ≡ false → IsFirstBad labels (i + 1) (slice_index labels i)
+pub IsFirstBad-at : (labels : List ℕ) (i : ℕ) → i < length labels → ((k : ℕ) → k < i → is_label (slice_index labels k) ≡ true)
+    → is_label (slice_index labels i) ≡ false → IsFirstBad labels (i + 1) (slice_index labels i)
 IsFirstBad-at labels i within before here =
     let back : i + 1 - 1 ≡ i = omega arith in
     record {

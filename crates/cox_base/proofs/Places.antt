@@ -1,6 +1,7 @@
 -- The places of labels in their list.
 use Rattle.std.proofs.Common.{◌≡◌, ℕ, zero, suc, ◌+◌, ◌-◌, ◌*◌, ◌/◌, ◌<◌, ◌≤◌, arith, suc-add, zero-add, refl}
 use Rattle.std.proofs.Math.Nat.{mul-le-mul}
+use Rattle.cox_base.specs.declared.limits.TheConstants.{MAX_RANK, MAX_LABELS}
 use Rattle.cox_base.specs.Matrix.{labels_before, place}
 
 -- twice the number of labels in the first r rows
@@ -24,8 +25,8 @@ labels_before-all (suc n) =
     let doubled : 2 * labels_before (suc n) (suc n) ≡ suc n * (suc n - 1) = grind arith in
     omega arith
 
--- the rows of a matrix of rank at most 9 have at most 9 labels each
-pub labels_before-limit : (n r : ℕ) → n ≤ 9 → labels_before n r ≤ 9 * r
+-- the rows of a matrix have at most as many labels as the greatest rank
+pub labels_before-limit : (n r : ℕ) → n ≤ MAX_RANK → labels_before n r ≤ MAX_RANK * r
 unfolding labels_before
 labels_before-limit n zero limit = omega arith
 labels_before-limit n (suc r) limit = let before = labels_before-limit n r limit in omega arith
@@ -53,11 +54,11 @@ place-within n s t from_one rising to_rank =
     let more = rw whole at (labels_before-more n s (n - s)) in
     omega (arith, place-row n s t from_one rising to_rank, more, labels_before-all n)
 
--- a matrix of rank at most 9 has at most 36 labels
-pub labels_before-small : (n r : ℕ) → n ≤ 9 → r ≤ n → labels_before n r ≤ 36
+-- a matrix has at most as many labels as one of the greatest rank
+pub labels_before-small : (n r : ℕ) → n ≤ MAX_RANK → r ≤ n → labels_before n r ≤ MAX_LABELS
 labels_before-small n r limit row =
     let whole : n - r + r ≡ n = omega arith in
     let more = rw whole at (labels_before-more n r (n - r)) in
-    let fewer : n - 1 ≤ 8 = omega arith in
-    let most : n * (n - 1) ≤ 9 * 8 = mul-le-mul limit fewer in
+    let fewer : n - 1 ≤ MAX_RANK - 1 = omega arith in
+    let most : n * (n - 1) ≤ MAX_RANK * (MAX_RANK - 1) = mul-le-mul limit fewer in
     omega (arith, more, labels_before-all n)

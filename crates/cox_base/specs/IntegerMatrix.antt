@@ -1,4 +1,5 @@
--- The integer matrix a(s,t) of a Coxeter matrix: a generalized Cartan matrix, by which the group acts on integer vectors (compare Humphreys 5.3).
+-- The integer matrix a(s,t) of a Coxeter matrix: a generalized Cartan matrix, by which the group acts on integer vectors (compare
+-- Humphreys 5.3).
 use Rattle.std.specs.Prelude.{◌≡◌, ℕ, ◌<◌, ◌==◌, ◌&&◌, Bool, if◌then◌else◌, nat_lt, nat_le, ℤ, pos, negsuc}
 use Rattle.cox_base.specs.Matrix.{CoxeterMatrix, IsLetter, label}
 

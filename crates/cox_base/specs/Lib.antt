@@ -16,3 +16,5 @@ pub mod Length
 pub mod Bruhat
 -- words as they are written
 pub mod WordText
+-- what reading a word answers
+pub mod WordReading

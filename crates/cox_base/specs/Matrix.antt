@@ -1,5 +1,6 @@
 -- Coxeter matrices (Humphreys, "Reflection Groups and Coxeter Groups", 5.1), with the labels 2, 3, 4, 6 and infinity.
-use Rattle.std.specs.Prelude.{◌≡◌, ℕ, zero, suc, ◌+◌, ◌-◌, ◌*◌, ◌/◌, ◌≤◌, ◌==◌, Bool, ◌||◌, IsTrue, if◌then◌else◌, nat_lt, List, length, slice_index, All}
+use Rattle.std.specs.Prelude.{◌≡◌, ℕ, zero, suc, ◌+◌, ◌-◌, ◌*◌, ◌/◌, ◌≤◌, ◌==◌, Bool, ◌||◌, IsTrue, if◌then◌else◌, nat_lt, List, length}
+use Rattle.std.specs.Prelude.{slice_index, All}
 
 -- A Coxeter matrix is symmetric, with 1 on its diagonal. So it is given by its rank n and by the labels above the diagonal, row by row:
 -- m(1,2), m(1,3), .., m(1,n), m(2,3), .., m(n-1,n). Infinity is written 0.

@@ -1,13 +1,15 @@
 -- What the type `Coxeter` keeps.
-use Rattle.std.specs.Prelude.{◌≡◌, ℕ, ◌+◌, ◌-◌, ◌<◌, ◌≤◌, ◌/◌, ◌%◌, List, ℤ, pos, not, Some, slice_index, slice_index_or, position, option_map}
+use Rattle.std.specs.Prelude.{◌≡◌, ℕ, ◌+◌, ◌-◌, ◌*◌, ◌<◌, ◌≤◌, ◌/◌, ◌%◌, List, ℤ, pos, not, Some, slice_index, slice_index_or, position}
+use Rattle.std.specs.Prelude.{option_map}
+use Rattle.cox_base.specs.declared.limits.TheConstants.{MAX_RANK}
 use Rattle.cox_base.specs.Matrix.{CoxeterMatrix, IsCoxeterMatrix, is_label}
 use Rattle.cox_base.specs.IntegerMatrix.{entry_of}
 
--- a Coxeter matrix of rank at most 9, with the table of its entries a(s,t), nine to a row
+-- a Coxeter matrix of an admitted rank, with the table of its entries a(s,t), row by row of the greatest rank
 pub record IsTable (g : CoxeterMatrix) (entries : List ℤ) : Type 0 where
   pub matrix : IsCoxeterMatrix g
-  pub limit : g.rank ≤ 9
-  pub entries_are : (k : ℕ) → k < 81 → slice_index_or entries k (pos 0) ≡ entry_of g (k / 9 + 1) (k % 9 + 1)
+  pub limit : g.rank ≤ MAX_RANK
+  pub entries_are : (k : ℕ) → k < MAX_RANK * MAX_RANK → slice_index_or entries k (pos 0) ≡ entry_of g (k / MAX_RANK + 1) (k % MAX_RANK + 1)
 
 -- the first label that is not admitted: its place, from 1, and its value
 pub record IsFirstBad (labels : List ℕ) (at value : ℕ) : Type 0 where

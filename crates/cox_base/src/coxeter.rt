@@ -6,16 +6,12 @@ ghost use Rattle.cox_base.specs.IntegerMatrix.{entry_of, entry_above, entry_belo
 ghost use Rattle.cox_base.specs.Table.{IsTable, IsFirstBad};
 
 use crate::copy::copy_of;
+use crate::limits::{MAX_LABELS, MAX_RANK};
 use arrayvec::ArrayVec;
 use std::marker::Model;
 use thiserror::Error;
 
-/// The greatest rank that is admitted.
-pub const MAX_RANK: usize = 9;
-
-/// How many labels a matrix of the greatest rank has, and how many entries.
-pub(crate) const LABELS: usize = 36;
-
+/// How many entries a matrix of the greatest rank has.
 const ENTRIES: usize = MAX_RANK * MAX_RANK;
 
 /// A label that is not admitted.
@@ -28,15 +24,15 @@ pub struct Label {
     pub value: u32,
 }
 
-/// A Coxeter matrix of rank 1 to 9 with labels 2, 3, 4, 6 and infinity (written 0), and its integer matrix.
+/// A Coxeter matrix of rank 1 to `MAX_RANK` with labels 2, 3, 4, 6 and infinity (written 0), and its integer matrix.
 ///
 /// Contracts see it as the rank and the list of labels above the diagonal, row by row (Humphreys, "Reflection Groups and Coxeter Groups", 5.1).
 /// `rank` tells that each is a Coxeter matrix.
 #[derive(Drop)]
 pub struct Coxeter {
     rank: u32,
-    labels: ArrayVec<u8, LABELS>,
-    // a(s,t) at 9 (s - 1) + t - 1
+    labels: ArrayVec<u8, MAX_LABELS>,
+    // a(s,t) at MAX_RANK (s - 1) + t - 1
     entries: [i8; ENTRIES],
 }
 
@@ -54,11 +50,11 @@ impl Model for Coxeter {
 impl Coxeter {
     /// The matrix of rank `n` with these labels above its diagonal, row by row: m(1,2), m(1,3), .., m(1,n), m(2,3), .., m(n-1,n); 0 is infinity.
     ///
-    /// For example `of_labels(3, &[3, 2, 4])` is B 3. The error comes just where a label is not 0, 2, 3, 4 or 6, and tells the first such label:
+    /// For example `of_labels(3, &[3, 2, 4])` is B 3. The error comes exactly where a label is not 0, 2, 3, 4 or 6, and tells the first such label:
     /// for `of_labels(3, &[3, 5, 1])` the place 2 and the value 5.
     pub fn of_labels(n: usize, labels: &[u32]) -> Result<Coxeter, Label>
         requires some { 1 ≤ n }
-        requires limit { n ≤ 9 }
+        requires limit { n ≤ MAX_RANK }
         requires count { length labels.now ≡ n * (n - 1) / 2 }
         ensures matrix { IfOk result (λ g. g ≡ record { rank = n; labels = labels.now }) }
         ensures admitted { OnOk result (All (λ m. IsTrue (is_label m)) labels.now) }
@@ -78,9 +74,9 @@ impl Coxeter {
     }
 
     /// The matrix with these labels.
-    pub(crate) fn from_labels(rank: u32, labels: ArrayVec<u8, LABELS>) -> Coxeter
+    pub(crate) fn from_labels(rank: u32, labels: ArrayVec<u8, MAX_LABELS>) -> Coxeter
         requires matrix { IsCoxeterMatrix (record { rank = rank; labels = labels.items }) }
-        requires limit { rank ≤ 9 }
+        requires limit { rank ≤ MAX_RANK }
         ensures { result ≡ record { rank = rank; labels = labels.items } }
     {
         let mut entries = [0; ENTRIES];
@@ -98,7 +94,7 @@ impl Coxeter {
     /// The rank: the number of letters.
     pub fn rank(&self) -> u32
         ensures rank { result ≡ self.now.rank }
-        ensures limit { result ≤ 9 }
+        ensures limit { result ≤ MAX_RANK }
         ensures matrix { IsCoxeterMatrix self.now }
     {
         self.rank
@@ -160,7 +156,7 @@ fn place_of(rank: u32, s: u32, t: u32) -> usize
     requires from_one { 1 ≤ s }
     requires rising { s < t }
     requires to_rank { t ≤ rank }
-    requires limit { rank ≤ 9 }
+    requires limit { rank ≤ MAX_RANK }
     ensures place { result ≡ place rank s t }
     ensures within { result < rank * (rank - 1) / 2 }
 {
@@ -174,7 +170,7 @@ fn place_of(rank: u32, s: u32, t: u32) -> usize
 /// a(s,t) of the matrix with these labels.
 fn entry_at(rank: u32, labels: &[u8], s: u32, t: u32) -> i8
     requires matrix { IsCoxeterMatrix (record { rank = rank; labels = labels.now }) }
-    requires limit { rank ≤ 9 }
+    requires limit { rank ≤ MAX_RANK }
     requires s { 1 ≤ s }
     requires t { 1 ≤ t }
     ensures { result ≡ entry_of (record { rank = rank; labels = labels.now }) s t }

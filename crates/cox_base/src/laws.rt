@@ -5,12 +5,13 @@ ghost use Rattle.cox_base.specs.IntegerMatrix.{IsAdmissible, HasOrder, entry_of,
 ghost use Rattle.cox_base.specs.NamedType.{is_type, type_rank, type_label, type_matrix};
 
 use crate::Coxeter;
+use crate::limits::MAX_RANK;
 
-/// The matrix of a type is a Coxeter matrix of rank at most 9, whose labels above the diagonal are those of the table of types.
+/// The matrix of a type is a Coxeter matrix of rank at most `MAX_RANK`, whose labels above the diagonal are those of the table of types.
 pub fn labels_of_type(letter: u8, n: u32)
     requires { IsTrue (is_type letter n) }
     ensures matrix { IsCoxeterMatrix (type_matrix letter n) }
-    ensures limit { (type_matrix letter n).rank ≤ 9 }
+    ensures limit { (type_matrix letter n).rank ≤ MAX_RANK }
     ensures labels { (s t : ℕ) → 1 ≤ s → s < t → t ≤ type_rank letter n
         → label (type_matrix letter n) s t ≡ type_label letter n s t }
 {}

@@ -6,7 +6,7 @@ ghost use Rattle.cox_base.specs.Matrix.{is_label};
 ghost use Rattle.cox_base.specs.NamedType.{is_type, type_rank, type_label, type_matrix};
 
 use crate::Coxeter;
-use crate::coxeter::LABELS;
+use crate::limits::{MAX_LABELS, MAX_RANK};
 use arrayvec::ArrayVec;
 use thiserror::Error;
 
@@ -17,7 +17,7 @@ pub struct NotAType;
 
 impl Coxeter {
     /// The matrix of a type: A 1 to 9, B 2 to 9, D 4 to 9, E 6 to 8, F 4, G 2, and the affine a 1 to 8, of rank n + 1; the letter is a character's code.
-    /// The diagrams are those of Humphreys 2.4 and 2.5. The error comes just where there is no such type.
+    /// The diagrams are those of Humphreys 2.4 and 2.5. The error comes exactly where there is no such type.
     ///
     /// For example `named(b'B', 3)` has m(1,2) = 3, m(1,3) = 2 and m(2,3) = 4, and `named(b'a', 2)` has 3 between each two of its three nodes.
     pub fn named(letter: u8, n: u32) -> Result<Coxeter, NotAType>
@@ -38,11 +38,11 @@ impl Coxeter {
 }
 
 /// Puts the labels of the row of `s`: those of s and t for t from s + 1 to the rank.
-fn push_row(labels: &mut ArrayVec<u8, LABELS>, letter: u8, n: u32, s: u32, rank: u32)
+fn push_row(labels: &mut ArrayVec<u8, MAX_LABELS>, letter: u8, n: u32, s: u32, rank: u32)
     requires rising { s < rank }
-    requires limit { rank ≤ 9 }
-    requires n { n ≤ 9 }
-    requires room { array_vec_len labels.old + (rank - s) ≤ LABELS }
+    requires limit { rank ≤ MAX_RANK }
+    requires n { n ≤ MAX_RANK }
+    requires room { array_vec_len labels.old + (rank - s) ≤ MAX_LABELS }
     ensures { labels.new.items ≡ labels.old.items ++ map (λ t. type_label letter n s t) (range_with_len (s + 1) (rank - s)) }
 {
     for t in s + 1..rank + 1 {
@@ -55,13 +55,13 @@ fn has_type(letter: u8, n: u32) -> bool
     ensures { result ≡ is_type letter n }
 {
     match letter {
-        b'A' => 1 <= n && n <= 9,
-        b'B' => 2 <= n && n <= 9,
-        b'D' => 4 <= n && n <= 9,
+        b'A' => 1 <= n && n <= MAX_RANK as u32,
+        b'B' => 2 <= n && n <= MAX_RANK as u32,
+        b'D' => 4 <= n && n <= MAX_RANK as u32,
         b'E' => 6 <= n && n <= 8,
         b'F' => n == 4,
         b'G' => n == 2,
-        b'a' => 1 <= n && n <= 8,
+        b'a' => 1 <= n && n < MAX_RANK as u32,
         _ => false,
     }
 }
@@ -71,7 +71,7 @@ fn rank_of(letter: u8, n: u32) -> u32
     requires { IsTrue (is_type letter n) }
     ensures rank { result ≡ type_rank letter n }
     ensures some { 1 ≤ result }
-    ensures limit { result ≤ 9 }
+    ensures limit { result ≤ MAX_RANK }
 {
     if letter == b'a' { n + 1 } else { n }
 }

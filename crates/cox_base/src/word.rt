@@ -1,16 +1,15 @@
 //! Words, how they are read, and their order.
 ghost use Rattle.std.specs.Prelude.{◌≡◌, ◌+◌, ◌-◌, ◌<◌, ◌≤◌, ◌^◌, length, Some, None};
 ghost use Rattle.cox_base.specs.Matrix.{IsWord};
-ghost use Rattle.cox_base.specs.WordText.{is_e, is_digit, ReadsWord};
+ghost use Rattle.cox_base.specs.WordText.{is_e, is_digit, letter_of};
+ghost use Rattle.cox_base.specs.WordReading.{ReadsWord};
 ghost use Rattle.cox_base.specs.ShortLex.{shortlex_cmp};
 
 use crate::copy::copy_of;
+use crate::limits::{MAX_LETTERS, MAX_RANK};
 use arrayvec::ArrayVec;
 use std::cmp::Ordering;
 use thiserror::Error;
-
-/// How many letters a word has at most.
-pub const MAX_LETTERS: usize = 255;
 
 /// A word: letters, each from 1 to the rank of the group that is meant.
 pub type Word = ArrayVec<u8, MAX_LETTERS>;
@@ -18,7 +17,7 @@ pub type Word = ArrayVec<u8, MAX_LETTERS>;
 /// Why a text names no word.
 #[derive(Clone, Copy, Debug, Drop, Eq, Error, PartialEq)]
 pub enum WordFault {
-    /// It has more than 255 bytes: so many.
+    /// It has more than `MAX_LETTERS` bytes: this many.
     #[error("a word of {0} letters")]
     Long(u32),
     /// The byte at this place, from 1, is the first that is no letter.
@@ -28,10 +27,10 @@ pub enum WordFault {
 
 /// Reads a word: `e` alone is the empty word, else each byte is the digit of a letter, 1 to the rank. The word need not be reduced.
 ///
-/// A text of more than 255 bytes is `Long`, whatever they are; else `Letter` tells the first byte that is no letter.
+/// A text of more than `MAX_LETTERS` bytes is `Long`, whatever they are; else `Letter` tells the first byte that is no letter.
 /// For example `212` in rank 2 is the word 2, 1, 2; `213` there has the fault `Letter(3)`, and `ee` has `Letter(1)`. A text of no bytes is the empty word.
 pub fn read_word(text: &[u8], rank: u32) -> Result<Word, WordFault>
-    requires rank { rank ≤ 9 }
+    requires rank { rank ≤ MAX_RANK }
     requires size { length text.now < 2 ^ 32 }
     ensures { ReadsWord result text.now rank }
 {
@@ -46,7 +45,7 @@ pub fn read_word(text: &[u8], rank: u32) -> Result<Word, WordFault>
         if !is_digit(rank, byte) {
             return Err(WordFault::Letter(place as u32 + 1));
         }
-        word.push(byte - b'0');
+        word.push(letter_of(byte));
     }
     Ok(word)
 }
@@ -60,10 +59,18 @@ fn is_e(text: &[u8]) -> bool
 
 /// Whether a byte is the digit of a letter.
 fn is_digit(rank: u32, byte: u8) -> bool
-    requires { rank ≤ 9 }
+    requires { rank ≤ MAX_RANK }
     ensures { result ≡ is_digit rank byte }
 {
     b'1' <= byte && u32::from(byte) <= u32::from(b'0') + rank
+}
+
+/// The letter of a digit.
+fn letter_of(digit: u8) -> u8
+    requires { 48 ≤ digit }
+    ensures { result ≡ letter_of digit }
+{
+    digit - b'0'
 }
 
 /// The ShortLex order: shorter words first, then by the first letter that differs. So 3 comes before 12, and 12 before 21.

@@ -6,12 +6,13 @@ use Rattle.std.proofs.lemmas.List.Sums.{passes_at_first, list_all-from_AllPass}
 use Rattle.std.proofs.lemmas.List.Folds.{list_all_at, list_all-map}
 use Rattle.cox_base.specs.Matrix.{is_label}
 use Rattle.cox_base.specs.Table.{IsFirstBad}
-use Rattle.cox_command.specs.Number.{number_of}
+use Rattle.cox_command.specs.Number.{value_of}
 
 -- each label is admitted
-pub labels-admitted : (tokens : List (List ℕ)) (labels : List ℕ) → labels ≡ map number_of tokens → All (λ m. IsTrue (is_label m)) labels → list_all (λ token. is_label (number_of token)) tokens ≡ true
+pub labels-admitted : (tokens : List (List ℕ)) (labels : List ℕ) → labels ≡ map value_of tokens → All (λ m. IsTrue (is_label m)) labels
+    → list_all (λ token. is_label (value_of token)) tokens ≡ true
 labels-admitted tokens labels read admitted =
-    sym (list_all-map is_label number_of tokens) ∙ ap (list_all is_label) (sym read) ∙ list_all-from_AllPass is_label labels admitted
+    sym (list_all-map is_label value_of tokens) ∙ ap (list_all is_label) (sym read) ∙ list_all-from_AllPass is_label labels admitted
 
 -- one is not
 labels-bad : (labels : List ℕ) (at value : ℕ) → IsFirstBad labels at value → list_all is_label labels ≡ false
@@ -22,6 +23,7 @@ labels-bad labels at value bad =
     (λ beyond. absurd (cc (rw (le-ltb (position_or_len other labels) (length labels) beyond) at bad.first)))
     (cases_lt (position_or_len other labels) (length labels))
 
-pub labels-refused : (tokens : List (List ℕ)) (labels : List ℕ) (at value : ℕ) → labels ≡ map number_of tokens → IsFirstBad labels at value → list_all (λ token. is_label (number_of token)) tokens ≡ false
+pub labels-refused : (tokens : List (List ℕ)) (labels : List ℕ) (at value : ℕ) → labels ≡ map value_of tokens → IsFirstBad labels at value
+    → list_all (λ token. is_label (value_of token)) tokens ≡ false
 labels-refused tokens labels at value read bad =
-    sym (list_all-map is_label number_of tokens) ∙ ap (list_all is_label) (sym read) ∙ labels-bad labels at value bad
+    sym (list_all-map is_label value_of tokens) ∙ ap (list_all is_label) (sym read) ∙ labels-bad labels at value bad

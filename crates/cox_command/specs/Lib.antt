@@ -2,9 +2,15 @@
 pub mod Tokens
 -- numbers as they are written
 pub mod Number
+-- the numbers of refusals
+pub mod RefusalNumber
 -- the table of command words
 pub mod CommandWord
--- the refusals, their causes and their order
-pub mod Refusal
+-- the refusals of lines, their causes and their order
+pub mod LineRefusal
 -- what command a line gives
-pub mod Reading
+pub mod CommandReading
+-- when two commands are the same
+pub mod SameCommand
+-- what the calls that read a line answer
+pub mod ParseContract

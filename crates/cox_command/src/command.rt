@@ -1,5 +1,8 @@
-//! Commands as values.
+//! Commands as values, and why a line gives none.
+ghost use Rattle.std.specs.Prelude.{◌≡◌};
+ghost use Rattle.cox_command.specs.RefusalNumber.{refusal_number};
 
+use crate::Refusal;
 use cox_base::{Coxeter, Word};
 use thiserror::Error;
 
@@ -46,37 +49,25 @@ pub enum TwoWord {
     Rpol,
 }
 
-/// A line is refused, by this number: 10 where its first token is no command, 11 where the number of arguments is not the command's, 12 where a
-/// number is none or is out of its range, 13 where there is no such type, 14 where a label is not 0, 2, 3, 4 or 6, 15 where no group is set that
-/// the command needs, 16 where a word has a byte that is no letter, 17 where it has more than 255 bytes.
+/// Why `parse` refuses a line, and the number of that refusal.
 #[derive(Clone, Copy, Debug, Drop, Error)]
 #[error("error {number}")]
 pub struct LineFault {
+    /// The number of the refusal.
     pub number: u8,
+    /// The refusal.
+    pub refusal: Refusal,
+    ghost numbered: { number ≡ refusal_number refusal },
 }
 
 impl LineFault {
-    /// The first token is no command.
-    pub(crate) const NO_COMMAND: LineFault = LineFault { number: 10 };
-
-    /// The number of arguments is not the command's.
-    pub(crate) const WRONG_COUNT: LineFault = LineFault { number: 11 };
-
-    /// A number argument is no number, or is outside its range.
-    pub(crate) const WRONG_NUMBER: LineFault = LineFault { number: 12 };
-
-    /// There is no such type.
-    pub(crate) const NO_TYPE: LineFault = LineFault { number: 13 };
-
-    /// A label is not 0, 2, 3, 4 or 6.
-    pub(crate) const WRONG_LABEL: LineFault = LineFault { number: 14 };
-
-    /// The command needs a group and none is set.
-    pub(crate) const LACKS_GROUP: LineFault = LineFault { number: 15 };
-
-    /// A word has a byte that is no letter of the group.
-    pub(crate) const FOREIGN_LETTER: LineFault = LineFault { number: 16 };
-
-    /// A word has more than 255 bytes.
-    pub(crate) const LONG_WORD: LineFault = LineFault { number: 17 };
+    /// The fault of a refusal.
+    pub(crate) fn of(refusal: Refusal) -> LineFault
+        ensures { result.refusal ≡ refusal }
+    {
+        LineFault {
+            number: refusal.number(),
+            refusal,
+        }
+    }
 }

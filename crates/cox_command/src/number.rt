@@ -1,13 +1,16 @@
 //! Numbers as they are written.
 ghost use Rattle.std.specs.Prelude.{◌≡◌, ◌<◌, ◌^◌, if◌then◌else◌, Some, None, IfSome};
-ghost use Rattle.cox_command.specs.Number.{is_number, number_of};
+ghost use Rattle.cox_command.specs.Number.{is_number, value_of};
 
-/// The value of a number of 1 to 9 decimal digits.
+/// The most decimal digits that a number may have.
+pub(crate) const MAX_DIGITS: usize = 9;
+
+/// The value of a number of 1 to `MAX_DIGITS` decimal digits.
 pub fn read_number(token: &[u8]) -> Option<u32>
-    ensures value { result ≡ (if is_number token.now then Some (number_of token.now) else None) }
-    ensures small { IfSome result (λ n. n < 10 ^ 9) }
+    ensures value { result ≡ (if is_number token.now then Some (value_of token.now) else None) }
+    ensures small { IfSome result (λ n. n < 10 ^ MAX_DIGITS) }
 {
-    if token.is_empty() || token.len() > 9 {
+    if token.is_empty() || token.len() > MAX_DIGITS {
         return None;
     }
     let mut value = 0;

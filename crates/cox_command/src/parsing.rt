@@ -1,29 +1,41 @@
 //! Lines.
 ghost use Rattle.std.specs.Prelude.{◌<◌, ◌≤◌, ◌^◌, ℕ, Option, length, IfSome};
-ghost use Rattle.cox_command.specs.Reading.{ParsesAs, ReadsArguments};
+ghost use Rattle.cox_command.specs.ParseContract.{ParsesAs, ReadsTokens, ReadsArguments};
 ghost use Rattle.cox_command.specs.declared.command_word.CommandWord.TheVariants.{Quit};
 
 use crate::command_word::{CommandWord, command_word};
-use crate::group::{parse_matrix, parse_type};
+use crate::group_arguments::{parse_matrix, parse_type};
 use crate::tokens::{Tokens, tokens_in};
-use crate::words::{parse_one, parse_two};
-use crate::{Command, LineFault};
+use crate::word_arguments::{parse_one, parse_two};
+use crate::{Command, LineFault, Refusal};
+use cox_base::MAX_RANK;
 
 /// Reads a line: the command that it gives, where the group that is set, if any, has this rank.
 ///
-/// The error is the first refusal that applies, in the order 10, 11, 12, 15, 13, 14, 17, 16; a blank line is never refused.
-/// For example `type A 2` gives the group A 2, and `length 13` is refused by 16 where its rank is 2, by 15 where none is set.
+/// The error is the first refusal that applies, in the order `UnknownCommand`, `WrongCount`, `WrongNumber`, `NoGroup`, `UnknownType`, `WrongLabel`,
+/// `LongWord`, `ForeignLetter`; a blank line is never refused. For example `type A 2` gives the group A 2, and `length 13` is refused with `ForeignLetter`
+/// where the rank is 2, with `NoGroup` where no group is set.
 pub fn parse(line: &[u8], rank: Option<u32>) -> Result<Command, LineFault>
     requires size { length line.now < 2 ^ 32 }
-    requires rank { IfSome rank (λ n. n ≤ 9) }
+    requires rank { IfSome rank (λ n. n ≤ MAX_RANK) }
     ensures { ParsesAs result line.now rank }
 {
-    let mut tokens = tokens_in(line);
+    match parse_tokens(tokens_in(line), rank) {
+        Ok(command) => Ok(command),
+        Err(refusal) => Err(LineFault::of(refusal)),
+    }
+}
+
+/// Reads the tokens of a line.
+fn parse_tokens(mut tokens: Tokens, rank: Option<u32>) -> Result<Command, Refusal>
+    requires { IfSome rank (λ n. n ≤ MAX_RANK) }
+    ensures { ReadsTokens result tokens.entry rank }
+{
     let Some(name) = tokens.take_next() else {
         return Ok(Command::Nothing);
     };
     let Some(word) = command_word(name) else {
-        return Err(LineFault::NO_COMMAND);
+        return Err(Refusal::UnknownCommand);
     };
     parse_arguments(word, tokens, rank)
 }
@@ -33,8 +45,8 @@ fn parse_arguments(
     word: CommandWord,
     arguments: Tokens,
     rank: Option<u32>,
-) -> Result<Command, LineFault>
-    requires { IfSome rank (λ n. n ≤ 9) }
+) -> Result<Command, Refusal>
+    requires { IfSome rank (λ n. n ≤ MAX_RANK) }
     ensures { ReadsArguments result word arguments.entry rank }
 {
     match word {
@@ -47,11 +59,11 @@ fn parse_arguments(
 }
 
 /// `quit` has no arguments.
-fn parse_quit(arguments: Tokens) -> Result<Command, LineFault>
+fn parse_quit(arguments: Tokens) -> Result<Command, Refusal>
     ensures { (rank : Option ℕ) → ReadsArguments result Quit arguments.entry rank }
 {
     if !arguments.has_count(0) {
-        return Err(LineFault::WRONG_COUNT);
+        return Err(Refusal::WrongCount);
     }
     Ok(Command::Quit)
 }

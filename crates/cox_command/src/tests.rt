@@ -5,7 +5,7 @@ use std::test::Fail;
 
 /// The number by which a line is refused, or 0.
 fn refusal(rt: &impl Abort, line: &[u8], rank: Option<u32>) -> u8 {
-    assert!(rt; line.len() < 5000 && rank.unwrap_or(0) <= 9);
+    assert!(rt; line.len() < 5000 && rank.unwrap_or(0) as usize <= cox_base::MAX_RANK);
     match parse(line, rank) {
         Ok(_) => 0,
         Err(fault) => fault.number,

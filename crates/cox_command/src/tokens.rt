@@ -45,7 +45,7 @@ impl<'a> Tokens<'a> {
         Some(token)
     }
 
-    /// The only token, if there is just one.
+    /// The only token, if there is exactly one.
     pub fn only(mut self) -> Option<&'a [u8]>
         ensures token { MatchOption result (length self.entry ≢ 1) (λ token. self.entry ≡ token.now ∷ []) }
         ensures small { IfSome result (λ token. length token.now < 2 ^ 32) }
@@ -57,7 +57,7 @@ impl<'a> Tokens<'a> {
         }
     }
 
-    /// Both tokens, if there are just two.
+    /// Both tokens, if there are exactly two.
     pub fn both(mut self) -> Option<(&'a [u8], &'a [u8])>
         ensures tokens { MatchOption result (length self.entry ≢ 2) (λ tokens. self.entry ≡ tokens.0.now ∷ tokens.1.now ∷ []) }
         ensures small { IfSome result (λ tokens. (length tokens.0.now < 2 ^ 32) × (length tokens.1.now < 2 ^ 32)) }
@@ -67,7 +67,7 @@ impl<'a> Tokens<'a> {
         Some((first, second))
     }
 
-    /// Whether there are just so many.
+    /// Whether there are exactly this many.
     pub fn has_count(&self, count: usize) -> bool
         ensures { result ≡ (length self.now == count) }
     {
@@ -81,7 +81,7 @@ impl<'a> Tokens<'a> {
     }
 }
 
-/// How many spaces stand at the front.
+/// How many spaces the bytes begin with.
 fn spaces_before(bytes: &[u8]) -> usize
     ensures count { result ≡ prefix_len is_space bytes.now }
     ensures within { result ≤ length bytes.now }

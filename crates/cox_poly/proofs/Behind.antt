@@ -7,11 +7,11 @@ use Rattle.std.proofs.Math.Seq.{take-suc, drop-cons}
 use Rattle.std.proofs.lemmas.List.{take-append-drop, map-append, take_all, flat_map_more}
 use Rattle.std.proofs.lemmas.Grind.{flat_map-append}
 use Rattle.std.specs.declared.alloc.AllocError.{AllocError}
-use Rattle.cox_poly.specs.Puts.{PutsFront, Puts}
+use Rattle.cox_poly.specs.Puts.{PutsPrefix, Puts}
 
 -- a prefix of the first text is one of both
-pub PutsFront-first : (a b old new : List ℕ) → PutsFront a old new → PutsFront (a ++ b) old new
-PutsFront-first a b old new put = record {
+pub PutsPrefix-first : (a b old new : List ℕ) → PutsPrefix a old new → PutsPrefix (a ++ b) old new
+PutsPrefix-first a b old new put = record {
   front = put.front;
   rest = put.rest ++ b;
   parts = rw (put.parts, append_assoc);
@@ -23,8 +23,8 @@ pub append-second : (a b old mid new : List ℕ) → mid ≡ old ++ a → new �
 append-second a b old mid new first second = rw (second, first, append_assoc)
 
 -- the first text, and then a prefix of the second
-pub PutsFront-second : (a b old mid new : List ℕ) → mid ≡ old ++ a → PutsFront b mid new → PutsFront (a ++ b) old new
-PutsFront-second a b old mid new first put = record {
+pub PutsPrefix-second : (a b old mid new : List ℕ) → mid ≡ old ++ a → PutsPrefix b mid new → PutsPrefix (a ++ b) old new
+PutsPrefix-second a b old mid new first put = record {
   front = a ++ put.front;
   rest = put.rest;
   parts = rw (put.parts, append_assoc);
@@ -32,25 +32,25 @@ PutsFront-second a b old mid new first put = record {
 }
 
 -- the answer where memory ran out
-pub Puts-failed : (result : Result Unit AllocError) (text old new : List ℕ) → IsErr result → PutsFront text old new
+pub Puts-failed : (result : Result Unit AllocError) (text old new : List ℕ) → IsErr result → PutsPrefix text old new
     → Puts result text old new
 Puts-failed (Ok done) text old new failed put = absurd (cc failed)
 Puts-failed (Err fault) text old new failed put = put
 
 -- out of memory at the first text
-pub Puts-first : (result : Result Unit AllocError) (a b old new : List ℕ) → IsErr result → PutsFront a old new
+pub Puts-first : (result : Result Unit AllocError) (a b old new : List ℕ) → IsErr result → PutsPrefix a old new
     → Puts result (a ++ b) old new
-Puts-first result a b old new failed put = Puts-failed result (a ++ b) old new failed (PutsFront-first a b old new put)
+Puts-first result a b old new failed put = Puts-failed result (a ++ b) old new failed (PutsPrefix-first a b old new put)
 
 -- the last text, behind the others
 pub Puts-second : (result : Result Unit AllocError) (a b old mid new : List ℕ) → mid ≡ old ++ a → Puts result b mid new
     → Puts result (a ++ b) old new
 Puts-second (Ok done) a b old mid new first put = append-second a b old mid new first put
-Puts-second (Err fault) a b old mid new first put = PutsFront-second a b old mid new first put
+Puts-second (Err fault) a b old mid new first put = PutsPrefix-second a b old mid new first put
 
 -- the texts of the first elements are a prefix of the whole text
-pub PutsFront-take : (f : ℕ → ℕ) (xs : List ℕ) (i : ℕ) (old new : List ℕ) → new ≡ old ++ map f (take i xs) → PutsFront (map f xs) old new
-PutsFront-take f xs i old new put = record {
+pub PutsPrefix-take : (f : ℕ → ℕ) (xs : List ℕ) (i : ℕ) (old new : List ℕ) → new ≡ old ++ map f (take i xs) → PutsPrefix (map f xs) old new
+PutsPrefix-take f xs i old new put = record {
   front = map f (take i xs);
   rest = map f (drop i xs);
   parts = ap (map f) (sym (take-append-drop i xs)) ∙ map-append f (take i xs) (drop i xs);
@@ -70,10 +70,10 @@ pub append-all : {X : Type 0} (f : X → List ℕ) (xs : List X) (i : ℕ) (old 
 append-all f xs i old new past put = put ∙ ap (λ ys. old ++ flat_map f ys) (take_all i xs past)
 
 -- the texts of the first items, and then a prefix of the next one's
-pub PutsFront-next : {X : Type 0} (f : X → List ℕ) (xs : List X) (i : ℕ) (x d : X) (old mid new : List ℕ) → i < length xs → x
+pub PutsPrefix-next : {X : Type 0} (f : X → List ℕ) (xs : List X) (i : ℕ) (x d : X) (old mid new : List ℕ) → i < length xs → x
     ≡ get_or xs i d
-    → mid ≡ old ++ flat_map f (take i xs) → PutsFront (f x) mid new → PutsFront (flat_map f xs) old new
-PutsFront-next f xs i x d old mid new below at first put = record {
+    → mid ≡ old ++ flat_map f (take i xs) → PutsPrefix (f x) mid new → PutsPrefix (flat_map f xs) old new
+PutsPrefix-next f xs i x d old mid new below at first put = record {
   front = flat_map f (take i xs) ++ put.front;
   rest = put.rest ++ flat_map f (drop (i + 1) xs);
   parts =

@@ -8,9 +8,9 @@ use Rattle.std.proofs.Math.Seq.{drop-cons}
 use Rattle.std.proofs.lemmas.List.{drop_all}
 use Rattle.std.proofs.lemmas.Bool.Decides.{nat_tests}
 use Rattle.cox_poly.specs.Polynomial.{coefficient}
-use Rattle.cox_poly.specs.Puts.{PutsFront}
+use Rattle.cox_poly.specs.Puts.{PutsPrefix}
 use Rattle.cox_poly.specs.PolynomialText.{next_term_text, listed_term_text, terms_text}
-use Rattle.cox_poly.proofs.Behind.{PutsFront-first, PutsFront-second, append-second}
+use Rattle.cox_poly.proofs.Behind.{PutsPrefix-first, PutsPrefix-second, append-second}
 
 -- the terms from degree k on
 abbrev pub terms_from : ℕ → List ℤ → List (ℕ × ℤ)
@@ -29,9 +29,9 @@ pub record Written (old out text rest : List ℕ) : Type 0 where
 
 -- and then a prefix of the next piece
 pub Written-front : {old out text rest : List ℕ} (new piece rest' : List ℕ)
-    → Written old out text rest → PutsFront piece out new → rest ≡ piece ++ rest' → PutsFront text old new
+    → Written old out text rest → PutsPrefix piece out new → rest ≡ piece ++ rest' → PutsPrefix text old new
 Written-front {old} {out} new piece rest' w put split =
-    rw (w.parts, split) (PutsFront-second w.front (piece ++ rest') old out new w.behind (PutsFront-first piece rest' out new put))
+    rw (w.parts, split) (PutsPrefix-second w.front (piece ++ rest') old out new w.behind (PutsPrefix-first piece rest' out new put))
 
 -- and then the next piece
 pub Written-more : {old out text rest : List ℕ} (new piece rest' : List ℕ)

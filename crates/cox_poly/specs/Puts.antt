@@ -3,7 +3,7 @@ use Rattle.std.specs.Prelude.{◌≡◌, ◌++◌, List, ℕ, Result, MatchResul
 use Rattle.std.specs.declared.alloc.AllocError.{AllocError}
 
 -- a prefix of the text was put behind what was there
-pub record PutsFront (text old new : List ℕ) : Type 0 where
+pub record PutsPrefix (text old new : List ℕ) : Type 0 where
   pub front : List ℕ
   pub rest : List ℕ
   pub parts : text ≡ front ++ rest
@@ -11,4 +11,4 @@ pub record PutsFront (text old new : List ℕ) : Type 0 where
 
 -- the text was put behind what was there; where memory ran out only a prefix of it was
 abbrev pub Puts : Result Unit AllocError → List ℕ → List ℕ → List ℕ → Type 0
-Puts result text old new = MatchResult result (λ _. new ≡ old ++ text) (λ _. PutsFront text old new)
+Puts result text old new = MatchResult result (λ _. new ≡ old ++ text) (λ _. PutsPrefix text old new)

@@ -1,2 +1,2 @@
 -- the texts of answers
-pub mod Text
+pub mod AnswerText

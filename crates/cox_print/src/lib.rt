@@ -1,10 +1,10 @@
-//! The texts of answers. Each call appends one text to a vector of bytes; for want of memory it appends a front of that text, which may be empty.
+//! The texts of answers. Each call appends one text to a vector of bytes. Where memory runs out it appends a prefix of that text, which may be empty.
 //!
-//! The texts are definitions in `specs/Text.antt`; `Puts` in `specs/Puts.antt` of `cox_poly` says how one is put behind others.
+//! The texts are definitions in `specs/AnswerText.antt`; `Puts` in `specs/Puts.antt` of `cox_poly` says how one is put behind others.
 //! It stands on `cox_poly` for bytes and numbers, whose calls it hands on, and on `cox_base` for words.
 //!
-//! - `putting`: lists of numbers, and the end of a line
-//! - `element`: elements and sets of letters
+//! - `putting`: counts, lists of numbers, and the end of a line
+//! - `element`: elements, lists of elements, and sets of letters; it spells letters
 //! - `line`: whole lines, without their ends
 #![tactic(auto)]
 
@@ -16,6 +16,6 @@ mod tests;
 
 pub use cox_poly::NoMemory;
 pub use cox_poly::append::{put_number, put_text};
-pub use element::{put_element, put_set};
+pub use element::{put_element, put_next_element, put_set};
 pub use line::{put_descent, put_refusal, put_truth};
-pub use putting::{put_end, put_numbers};
+pub use putting::{put_count, put_end, put_numbers};

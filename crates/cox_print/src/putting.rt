@@ -1,13 +1,20 @@
-//! Lists of numbers, and the end of a line.
-ghost use Rattle.std.specs.Prelude.{[], ◌∷◌, ◌++◌, codes};
+//! Counts, lists of numbers, and the end of a line.
+ghost use Rattle.std.specs.Prelude.{[], ◌∷◌, ◌++◌, codes, decimal};
 ghost use Rattle.std.specs.Fmt.{signed_decimal};
 ghost use Rattle.cox_poly.specs.Puts.{Puts};
-ghost use Rattle.cox_print.specs.Text.{numbers_text};
+ghost use Rattle.cox_print.specs.AnswerText.{numbers_text};
 
 use crate::NoMemory;
 use cox_poly::append::{put_number, put_text};
 
-/// Appends whole numbers, parted by one space.
+/// Appends a count in decimal.
+pub fn put_count(out: &mut Vec<u8>, n: usize) -> Result<(), NoMemory>
+    ensures { Puts result (decimal n) out.old.items out.new.items }
+{
+    put_number(out, n as i128)
+}
+
+/// Appends whole numbers, separated by one space.
 pub fn put_numbers(out: &mut Vec<u8>, list: &[i128]) -> Result<(), NoMemory>
     ensures { Puts result (numbers_text list.now) out.old.items out.new.items }
 {

@@ -18,9 +18,13 @@ fn puts_elements_and_sets(rt: HostRuntime) -> Result<(), Fail> {
     put_set(&mut out, 3, &empty)?;
     put_end(&mut out)?;
     put_descent(&mut out, 3, &left, &right)?;
+    put_end(&mut out)?;
+    put_count(&mut out, 2)?;
+    put_next_element(&mut out, 3, &empty)?;
+    put_next_element(&mut out, 3, &word)?;
     assert_eq!(rt;
         out.as_slice(),
-        b"12321 e\nL - R -\n13-\nL 13 R 2".as_slice()
+        b"12321 e\nL - R -\n13-\nL 13 R 2\n2\ne\n12321".as_slice()
     );
     Ok(())
 }

@@ -1,5 +1,7 @@
 -- The group that is set stays a Coxeter matrix.
-use Rattle.std.proofs.Common.{◌≡◌, ℕ, ◌+◌, ◌-◌, ◌*◌, ◌/◌, Bool, true, false, List, [], ◌∷◌, drop, map, length, Option, Some, None, IfSome, IsSomeAnd, MatchOption, inl, inr, refl, sym, ap, ◌∙◌, subst, arith, eqb-true, leb-true, length-drop}
+use Rattle.std.proofs.Common.{◌≡◌, ℕ, ◌+◌, ◌-◌, ◌*◌, ◌/◌, Bool, true, false, List, [], ◌∷◌, drop, map, length, Option, Some, None, IfSome}
+use Rattle.std.proofs.Common.{IsSomeAnd, MatchOption, refl, sym, ap, ◌∙◌, subst, arith, eqb-true, leb-true, length-drop}
+use Rattle.std.specs.Bool.{MatchBool}
 use Rattle.std.specs.List.{slice_index}
 use Rattle.std.proofs.lemmas.Bool.{and_parts, not-false}
 use Rattle.std.proofs.lemmas.List.{length-map}
@@ -8,18 +10,25 @@ use Rattle.std.proofs.lemmas.List.Sums.{AllPass-from_list_all}
 use Rattle.cox_base.specs.Matrix.{CoxeterMatrix, IsCoxeterMatrix, is_label}
 use Rattle.cox_base.specs.NamedType.{type_matrix}
 use Rattle.cox_base.proofs.Rows.{type_matrix-IsCoxeterMatrix}
+use Rattle.cox_command.specs.declared.refusal.Refusal.{Refusal}
+use Rattle.cox_command.specs.declared.refusal.Refusal.TheVariants.{WrongCount, WrongNumber, NoGroup, UnknownType, WrongLabel, ManyLetters}
 use Rattle.cox_command.specs.declared.command.Command.{Command}
 use Rattle.cox_command.specs.declared.command.Command.TheVariants.{Nothing, Group}
 use Rattle.cox_command.specs.declared.command.Command.TheVariants as asks
 use Rattle.cox_command.specs.declared.command_word.CommandWord.{CommandWord}
 use Rattle.cox_command.specs.declared.command_word.CommandWord.TheVariants.{Named, Matrix}
 use Rattle.cox_command.specs.CommandWord.{command_word_of}
-use Rattle.cox_command.specs.Number.{number_of}
+use Rattle.cox_command.specs.Number.{value_of}
 use Rattle.cox_command.specs.Tokens.{tokens_of}
-use Rattle.cox_command.specs.Refusal.{argument, names_type, is_rank, has_wrong_count, has_wrong_number, has_no_type, has_wrong_label, lacks_group, command_refusal, tokens_refusal, line_refusal}
-use Rattle.cox_command.specs.Reading.{IsGiven, matrix_set, named_matrix, matrix_of}
-use Rattle.cox_shell.specs.Reply.{State, Reply, rank_of, refusal}
-use Rattle.cox_shell.specs.CommandReply.{IsWordReply, IsCommandReply}
+use Rattle.cox_command.specs.LineRefusal.{argument, names_type, is_rank, has_wrong_count, has_wrong_number, has_no_type, has_wrong_label}
+use Rattle.cox_command.specs.LineRefusal.{lacks_group, command_refusal, tokens_refusal, line_refusal}
+use Rattle.cox_command.specs.CommandReading.{IsGiven, matrix_set, named_matrix, matrix_of}
+use Rattle.cox_shell.specs.Reply.{State, Reply, rank_of, with_group, refusal, silence}
+use Rattle.cox_shell.specs.declared.inquiry.Inquiry.{Inquiry}
+use Rattle.cox_shell.specs.declared.inquiry.Inquiry.TheVariants.{One, Two}
+use Rattle.cox_shell.specs.Question.{IsDecided}
+use Rattle.cox_shell.specs.CommandReply.{question_of, has_many_letters, Answers, IsInquiryReply, RefusesGroup, IsCommandReply}
+use Rattle.cox_shell.proofs.Refusing.{IsDecided-all}
 use Rattle.cox_shell.specs.ContentReply.{IsContentReply}
 use Rattle.cox_shell.proofs.SomeReply.{passed_over}
 
@@ -28,7 +37,7 @@ named_matrix-is : (arguments : List (List ℕ)) → has_no_type Named arguments 
 named_matrix-is arguments typed = by_name (argument arguments 0) (not-false _ typed)
   where
     n : ℕ
-    n = number_of (argument arguments 1)
+    n = value_of (argument arguments 1)
 
     by_name : (name : List ℕ) → names_type name n ≡ true → IsCoxeterMatrix (type_matrix (slice_index name 0) n)
     by_name [] typed = absurd (cc typed)
@@ -39,13 +48,14 @@ named_matrix-is arguments typed = by_name (argument arguments 0) (not-false _ ty
 matrix_of-is : (arguments : List (List ℕ)) → has_wrong_count Matrix arguments ≡ false → has_wrong_number Matrix arguments ≡ false
     → has_wrong_label Matrix arguments ≡ false → IsCoxeterMatrix (matrix_of arguments)
 matrix_of-is arguments counted numbers labelled =
-    let n = number_of (argument arguments 0) in
+    let n = value_of (argument arguments 0) in
     let ranked : is_rank (argument arguments 0) ≡ true = (and_parts _ _ (not-false _ numbers)).0 in
     let count = eqb-true (length arguments) (1 + n * (n - 1) / 2) (not-false _ (rw ranked at counted)) in
     record {
       some = leb-true 1 n (and_parts _ _ (and_parts _ _ ranked).0).1;
-      count = length-map (drop 1 arguments) number_of ∙ omega (arith, count, length-drop 1 arguments);
-      admitted = AllPass-from_list_all is_label (map number_of (drop 1 arguments)) (list_all-map is_label number_of (drop 1 arguments) ∙ not-false _ labelled);
+      count = length-map (drop 1 arguments) value_of ∙ omega (arith, count, length-drop 1 arguments);
+      admitted = AllPass-from_list_all is_label (map value_of (drop 1 arguments))
+          (list_all-map is_label value_of (drop 1 arguments) ∙ not-false _ labelled);
     }
 
 -- the matrix that a command sets which no test refuses
@@ -59,22 +69,27 @@ tested-is Matrix arguments g counted numbers typed labelled set =
 tested-is word arguments g counted numbers typed labelled set = absurd (cc set)
 
 -- the matrix that an accepted command sets
-matrix_set-is : (word : CommandWord) (arguments : List (List ℕ)) (rank : Option ℕ) (g : CoxeterMatrix) → command_refusal (Some word) arguments rank ≡ None
+matrix_set-is : (word : CommandWord) (arguments : List (List ℕ)) (rank : Option ℕ) (g : CoxeterMatrix)
+    → command_refusal (Some word) arguments rank ≡ None
     → matrix_set word arguments ≡ Some g → IsCoxeterMatrix g
 matrix_set-is word arguments rank g accepted set =
-    let at_11 = passed_over (has_wrong_count word arguments) 11 _ accepted in
-    let at_12 = passed_over (has_wrong_number word arguments) 12 _ at_11.1 in
-    let at_15 = passed_over (lacks_group word rank) 15 _ at_12.1 in
-    let at_13 = passed_over (has_no_type word arguments) 13 _ at_15.1 in
-    let at_14 = passed_over (has_wrong_label word arguments) 14 _ at_13.1 in
-    tested-is word arguments g at_11.0 at_12.0 at_13.0 at_14.0 set
+    let counted = passed_over (has_wrong_count word arguments) WrongCount _ accepted in
+    let numbered = passed_over (has_wrong_number word arguments) WrongNumber _ counted.1 in
+    let grouped = passed_over (lacks_group word rank) NoGroup _ numbered.1 in
+    let typed = passed_over (has_no_type word arguments) UnknownType _ grouped.1 in
+    let labelled = passed_over (has_wrong_label word arguments) WrongLabel _ typed.1 in
+    tested-is word arguments g counted.0 numbered.0 typed.0 labelled.0 set
 
--- a command with words leaves the state
-word-state : (is_over : Bool) (state : State) (Refuses : ℕ → Type 0) (IsText : List ℕ → Type 0) (reply : Reply)
-    → IsWordReply is_over state Refuses IsText reply → reply.after ≡ state
-word-state true state Refuses IsText reply is = ap (λ (r : Reply). r.after) is
-word-state false state Refuses IsText reply (inl is) = ap (λ (r : Reply). r.after) is.2
-word-state false state Refuses IsText reply (inr is) = ap (λ (r : Reply). r.after) is.3
+-- a command on elements leaves the state
+inquiry-state : (test : Bool) (inquiry : Inquiry) (state : State) (g : CoxeterMatrix) (reply : Reply)
+    → (let question = question_of inquiry state.limits g in
+    MatchBool test (reply ≡ refusal state ManyLetters) (IsDecided state question.Refuses (Answers state question) reply)) → reply.after
+    ≡ state
+inquiry-state true inquiry state g reply is = ap (λ (r : Reply). r.after) is
+inquiry-state false inquiry state g reply is =
+    let question = question_of inquiry state.limits g in
+    IsDecided-all question.Refuses state (Answers state question) (λ r. r.after ≡ state) (λ why. refl)
+    (λ r answer. ap (λ (s : Reply). s.after) answer.2) reply is
 
 -- what follows for each value follows where there is one
 of_some : {X : Type 0} (o : Option X) (P : X → Type 0) (S : Type 0) → ((x : X) → P x → S) → IsSomeAnd o P → S
@@ -89,31 +104,40 @@ module _ (state : State) (matrix : HasMatrix state) (reply : Reply) where
   unchanged : reply.after ≡ state → HasMatrix reply.after
   unchanged same = subst HasMatrix (sym same) matrix
 
+  by_inquiry : (inquiry : Inquiry) → IsInquiryReply inquiry state reply → reply.after ≡ state
+  by_inquiry inquiry is = of_some state.group _ (reply.after ≡ state)
+      (λ g. inquiry-state (has_many_letters inquiry) inquiry state g reply) is
+
   -- so it stays by a command that is given and accepted
-  by_command : (command : Command) (tokens : List (List ℕ)) → tokens_refusal tokens (rank_of state) ≡ None → IsGiven command tokens
+  by_command : (command : Command) (tokens : List (List ℕ)) → tokens_refusal tokens (rank_of state) ≡ None
+      → IsGiven command tokens (rank_of state)
       → IsCommandReply command state reply → HasMatrix reply.after
   by_command asks.Nothing tokens accepted given is = unchanged (ap (λ (r : Reply). r.after) is)
   by_command asks.Quit tokens accepted given is = unchanged (ap (λ (r : Reply). r.after) is)
-  by_command (asks.One kind w) tokens accepted given is = unchanged (of_some state.group _ (reply.after ≡ state) (λ g. word-state _ state _ _ reply) is)
-  by_command (asks.Two kind y w) tokens accepted given is = unchanged (of_some state.group _ (reply.after ≡ state) (λ g. word-state _ state _ _ reply) is)
-  by_command (asks.Group g) tokens accepted given is = rw is (of_tokens tokens accepted given)
+  by_command (asks.One kind w) tokens accepted given is = unchanged (by_inquiry (One kind w) is)
+  by_command (asks.Two kind y w) tokens accepted given is = unchanged (by_inquiry (Two kind y w) is)
+  by_command (asks.Group g) tokens accepted given is =
+      IsDecided-all (RefusesGroup state g) state (λ answer. answer ≡ silence (with_group state g)) (λ r. HasMatrix r.after) (λ why. matrix)
+      (λ r answer. rw answer (of_tokens tokens accepted given)) reply is
     where
       by_name : (o : Option CommandWord) (arguments : List (List ℕ)) → command_refusal o arguments (rank_of state) ≡ None
           → IsSomeAnd o (λ word. matrix_set word arguments ≡ Some g) → IsCoxeterMatrix g
       by_name None arguments accepted set = absurd set
       by_name (Some word) arguments accepted set = matrix_set-is word arguments (rank_of state) g accepted set
 
-      of_tokens : (tokens : List (List ℕ)) → tokens_refusal tokens (rank_of state) ≡ None → IsGiven (asks.Group g) tokens → IsCoxeterMatrix g
+      of_tokens : (tokens : List (List ℕ)) → tokens_refusal tokens (rank_of state) ≡ None → IsGiven (asks.Group g) tokens (rank_of state)
+          → IsCoxeterMatrix g
       of_tokens [] accepted given = absurd (cc given)
       of_tokens (name ∷ arguments) accepted given = by_name (command_word_of name) arguments accepted given
 
 -- so it stays by the reply to a content
-pub IsContentReply-matrix : (state : State) (content : List ℕ) (reply : Reply) → HasMatrix state → IsContentReply state content reply → HasMatrix reply.after
+pub IsContentReply-matrix : (state : State) (content : List ℕ) (reply : Reply) → HasMatrix state → IsContentReply state content reply
+    → HasMatrix reply.after
 unfolding IsContentReply
 IsContentReply-matrix state content reply matrix is = by_refusal (line_refusal content (rank_of state)) refl is
   where
-    by_refusal : (o : Option ℕ) → line_refusal content (rank_of state) ≡ o
-        → MatchOption o ((command : Command) × IsGiven command (tokens_of content) × IsCommandReply command state reply)
-        (λ number. reply ≡ refusal state number) → HasMatrix reply.after
+    by_refusal : (o : Option Refusal) → line_refusal content (rank_of state) ≡ o
+        → MatchOption o ((command : Command) × IsGiven command (tokens_of content) (rank_of state) × IsCommandReply command state reply)
+        (λ why. reply ≡ refusal state why) → HasMatrix reply.after
     by_refusal None e is = by_command state matrix reply is.0 (tokens_of content) e is.1 is.2
-    by_refusal (Some number) e is = unchanged state matrix reply (ap (λ (r : Reply). r.after) is)
+    by_refusal (Some why) e is = unchanged state matrix reply (ap (λ (r : Reply). r.after) is)

@@ -1,5 +1,6 @@
 -- How many members of each length are counted in a loop over the members.
-use Rattle.std.proofs.Common.{◌≡◌, ℕ, ◌+◌, ◌≤◌, ◌<◌, ◌==◌, not, true, false, ℤ, pos, ◌+ℤ◌, FitsSigned, to_z, of_z, List, [], length, take, get_or, set, refl, sym, ◌∙◌, ⊎_elim, arith, get_or-set_same, get_or-set_other}
+use Rattle.std.proofs.Common.{◌≡◌, ℕ, ◌+◌, ◌≤◌, ◌<◌, ◌==◌, not, true, false, ℤ, pos, ◌+ℤ◌, FitsSigned, to_z, of_z, List, [], length, take}
+use Rattle.std.proofs.Common.{get_or, set, refl, sym, ◌∙◌, ⊎_elim, arith, get_or-set_same, get_or-set_other}
 use Rattle.std.proofs.lemmas.Bool.{cases_eq, eq-eqb, ne_eqb}
 use Rattle.std.proofs.lemmas.Int.{ints, to_z-of_z, fits_signed_from_abs}
 use Rattle.std.proofs.lemmas.List.{length-take, length-take-le, get_or-take}
@@ -12,7 +13,11 @@ use Rattle.cox_context.specs.Interval.{count_of_length, counts_by_length}
 -- no more are counted than were seen
 pub count-most : (members : List (List ℕ)) (i k : ℕ) → count_of_length (take i members) k ≤ i
 count-most members i k =
-    omega (arith, length-filter_both (λ word. length word == k) (λ word. not (length word == k)) (λ word. refl) (take i members), length-take i members)
+    omega (
+      arith,
+      length-filter_both (λ word. length word == k) (λ word. not (length word == k)) (λ word. refl) (take i members),
+      length-take i members,
+    )
 
 -- a count is within the type of numbers, and one more is
 count-fits : (a : ℕ) → a ≤ 65537 → FitsSigned w128 (pos a)
@@ -22,15 +27,18 @@ one-more : (a : ℕ) → pos a +ℤ pos 1 ≡ pos (a + 1)
 one-more a = omega (arith, ints)
 
 pub count-room : (x : ℤ) (a : ℕ) → x ≡ pos a → a ≤ 65536 → FitsSigned w128 (to_z w128 (of_z w128 x) +ℤ pos 1)
-count-room x a is few = rw (is, to_z-of_z w128 (pos a) (count-fits a (omega (arith, few))), one-more) (count-fits (a + 1) (omega (arith, few)))
+count-room x a is few = rw (is, to_z-of_z w128 (pos a) (count-fits a (omega (arith, few))), one-more)
+    (count-fits (a + 1) (omega (arith, few)))
 
 pub count-added : (x : ℤ) (a : ℕ) → x ≡ pos a → a ≤ 65536 → to_z w128 (of_z w128 (to_z w128 (of_z w128 x) +ℤ pos 1)) ≡ pos (a + 1)
 count-added x a is few =
-    rw (is, to_z-of_z w128 (pos a) (count-fits a (omega (arith, few))), one-more) (to_z-of_z w128 (pos (a + 1)) (count-fits (a + 1) (omega (arith, few))))
+    rw (is, to_z-of_z w128 (pos a) (count-fits a (omega (arith, few))), one-more)
+    (to_z-of_z w128 (pos (a + 1)) (count-fits (a + 1) (omega (arith, few))))
 
 -- one more of the length n
 pub counts-more : (members : List (List ℕ)) (counts : List ℤ) (i n : ℕ) (more : ℤ)
-    → ((k : ℕ) → k < 64 → get_or counts k (pos 0) ≡ pos (count_of_length (take i members) k)) → i < length members → n ≡ length (word_at members i)
+    → ((k : ℕ) → k < 64 → get_or counts k (pos 0) ≡ pos (count_of_length (take i members) k)) → i < length members → n
+    ≡ length (word_at members i)
     → n < length counts → more ≡ pos (count_of_length (take i members) n + 1)
     → (k : ℕ) → k < 64 → get_or (set counts n more) k (pos 0) ≡ pos (count_of_length (take (i + 1) members) k)
 counts-more members counts i n more values below is within sum k bound = ⊎_elim same other (cases_eq k n)
@@ -50,7 +58,9 @@ counts-more members counts i n more values below is within sum k bound = ⊎_eli
 
 -- the first counts
 pub counts-front : (members : List (List ℕ)) (counts : List ℤ) (n : ℕ) → length counts ≡ 64
-    → ((k : ℕ) → k < 64 → get_or counts k (pos 0) ≡ pos (count_of_length members k)) → n ≤ 63 → take (n + 1) counts ≡ counts_by_length members n
+    → ((k : ℕ) → k < 64 → get_or counts k (pos 0) ≡ pos (count_of_length members k)) → n ≤ 63 → take (n + 1) counts
+    ≡ counts_by_length members n
 counts-front members counts n size values few =
-    fill_by_all (λ k. pos (count_of_length members k)) (take (n + 1) counts) (n + 1) (pos 0) (length-take-le (n + 1) counts (omega (arith, size, few)))
+    fill_by_all (λ k. pos (count_of_length members k)) (take (n + 1) counts) (n + 1) (pos 0)
+    (length-take-le (n + 1) counts (omega (arith, size, few)))
     (λ k below. get_or-take (n + 1) counts k (pos 0) below ∙ values k (omega (arith, below, few)))

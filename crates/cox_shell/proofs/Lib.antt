@@ -1,3 +1,7 @@
+-- the refusal of a command, and its reply, are one and exist, for any question
+pub mod Refusing
+-- each question has one text, and can be answered
+pub mod Questions
 -- the reply to the content of a line is one
 pub mod ContentReply
 -- replies to lines are one
@@ -22,7 +26,7 @@ pub mod Due
 pub mod Sayings
 -- the text of an R-polynomial
 pub mod PolynomialTexts
--- texts that are put unless a number refuses them
+-- texts that are put unless a command is refused
 pub mod Unless
 -- members by their numbers
 pub mod MemberLists

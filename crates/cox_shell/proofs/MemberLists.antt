@@ -15,7 +15,8 @@ pub IsKept-none : (test : List ℕ → Bool) (members : List (List ℕ)) (i : �
 IsKept-none test members i none = record { within = All-nil (λ k. k < length members); words = sym none }
 
 -- one member more, which passes
-pub IsKept-more : (test : List ℕ → Bool) (members : List (List ℕ)) (i : ℕ) (numbers more : List ℕ) → IsKept test members i numbers → i < length members
+pub IsKept-more : (test : List ℕ → Bool) (members : List (List ℕ)) (i : ℕ) (numbers more : List ℕ) → IsKept test members i numbers
+    → i < length members
     → test (word_at members i) ≡ true → more ≡ numbers ++ i ∷ [] → IsKept test members (i + 1) more
 IsKept-more test members i numbers more kept below passes is = record {
   within = rw is (All-push (λ k. k < length members) numbers i kept.within below);
@@ -23,7 +24,8 @@ IsKept-more test members i numbers more kept below passes is = record {
 }
 
 -- one member more, which does not
-pub IsKept-same : (test : List ℕ → Bool) (members : List (List ℕ)) (i : ℕ) (numbers : List ℕ) → IsKept test members i numbers → i < length members
+pub IsKept-same : (test : List ℕ → Bool) (members : List (List ℕ)) (i : ℕ) (numbers : List ℕ) → IsKept test members i numbers
+    → i < length members
     → test (word_at members i) ≡ false → IsKept test members (i + 1) numbers
 IsKept-same test members i numbers kept below fails = record {
   within = kept.within;
@@ -31,6 +33,7 @@ IsKept-same test members i numbers kept below fails = record {
 }
 
 -- all members
-pub IsKept-all : (test : List ℕ → Bool) (members : List (List ℕ)) (i : ℕ) (numbers : List ℕ) → IsKept test members i numbers → length members ≤ i
+pub IsKept-all : (test : List ℕ → Bool) (members : List (List ℕ)) (i : ℕ) (numbers : List ℕ) → IsKept test members i numbers
+    → length members ≤ i
     → words_at members numbers ≡ filter test members
 IsKept-all test members i numbers kept past = kept.words ∙ ap (filter test) (take_all i members past)

@@ -1,5 +1,6 @@
 -- The members of a context that are above an element: they begin with that element itself, where it is a member, and else there are none.
-use Rattle.std.proofs.Common.{◌≡◌, ℕ, zero, suc, ◌≤◌, ◌<◌, Bool, true, false, IsTrue, List, [], ◌∷◌, length, filter, take, Contains, ◌↔◌, refl, ap, sym, ◌∙◌, arith}
+use Rattle.std.proofs.Common.{◌≡◌, ℕ, zero, suc, ◌≤◌, ◌<◌, Bool, true, false, IsTrue, List, [], ◌∷◌, length, filter, take, Contains, ◌↔◌}
+use Rattle.std.proofs.Common.{refl, ap, sym, ◌∙◌, arith}
 use Rattle.std.proofs.lemmas.Bool.{false≢true, false_from_ne_true}
 use Rattle.std.proofs.lemmas.List.{take_all}
 use Rattle.cox_base.specs.IntegerMatrix.{IntegerMatrix, IsAdmissible}
@@ -17,7 +18,8 @@ use Rattle.cox_context.proofs.Shifting.{element-at, length-at, member-below}
 use Rattle.cox_context.proofs.IntervalLemmas.{is_below, is_below-tells}
 
 -- a test that none of the first members passes
-none-pass : (test : List ℕ → Bool) (n : ℕ) (members : List (List ℕ)) → n ≤ length members → ((k : ℕ) → k < n → test (word_at members k) ≡ false)
+none-pass : (test : List ℕ → Bool) (n : ℕ) (members : List (List ℕ)) → n ≤ length members
+    → ((k : ℕ) → k < n → test (word_at members k) ≡ false)
     → filter test (take n members) ≡ []
 none-pass test zero members within fails = refl
 none-pass test (suc n) [] within fails = refl
@@ -32,7 +34,8 @@ same-answer b false P tells says = false_from_ne_true b (λ e. false≢true (say
 
 module _ (A : IntegerMatrix) (g : IsAdmissible A) (members : List (List ℕ)) (closed : IsClosed A members) (y : List ℕ) where
   -- the answer for the normal form is that for the element
-  pub above-answer : (low i : ℕ) (answer : Bool) → word_at members low ≡ normal_form A y → IsTrue answer ↔ IsBelow A (word_at members low) (word_at members i)
+  pub above-answer : (low i : ℕ) (answer : Bool) → word_at members low ≡ normal_form A y
+      → IsTrue answer ↔ IsBelow A (word_at members low) (word_at members i)
       → is_below A y (word_at members i) ≡ answer
   above-answer low i answer is says =
       let P = IsBelow A y (word_at members i) in
@@ -47,7 +50,8 @@ module _ (A : IntegerMatrix) (g : IsAdmissible A) (members : List (List ℕ)) (c
   not-before low k within is before below =
       let inside : k < length members = omega (arith, within, before) in
       let size : word_length A y ≡ length (word_at members low) = word_length-is A y ∙ ap length (sym is) in
-      let no_longer : length (word_at members k) ≤ length (word_at members low) = rising-length members k low closed.rising (omega (arith, before)) within in
+      let no_longer : length (word_at members k) ≤ length (word_at members low) = rising-length members k low closed.rising
+      (omega (arith, before)) within in
       let equal : word_length A y ≡ word_length A (word_at members k) =
       omega (arith, below-length A g below, size, no_longer, length-at A g members closed k inside) in
       let same : word_at members low ≡ word_at members k =

@@ -1,5 +1,6 @@
 -- The text of an R-polynomial, by the list of its coefficients up to a degree.
-use Rattle.std.proofs.Common.{◌≡◌, ℕ, zero, suc, ◌+◌, ◌<◌, ◌≤◌, not, List, [], ◌∷◌, map, filter, length, ℤ, pos, refl, ap, sym, ◌∙◌, ⊎_elim, arith}
+use Rattle.std.proofs.Common.{◌≡◌, ℕ, zero, suc, ◌+◌, ◌<◌, ◌≤◌, not, List, [], ◌∷◌, map, filter, length, ℤ, pos, refl, ap, sym, ◌∙◌, ⊎_elim}
+use Rattle.std.proofs.Common.{arith}
 use Rattle.std.specs.List.{range_with_len, enumerate_from}
 use Rattle.std.specs.Ordering.{int_eq}
 use Rattle.std.proofs.lemmas.Bool.{cases_eq}
@@ -40,14 +41,16 @@ listed : (f : Coefficients) (a n k : ℕ) → ((i : ℕ) → n ≤ i → f (a + 
 listed f a zero k beyond = sym (beyond k (omega arith))
 listed f a (suc n) zero beyond = let e : a + 0 ≡ a = omega arith in rw e refl
 listed f a (suc n) (suc k) beyond =
-    let next : (i : ℕ) → n ≤ i → f (a + 1 + i) ≡ pos 0 = λ i h. let e : a + 1 + i ≡ a + suc i = omega arith in rw e (beyond (suc i) (omega arith)) in
+    let next : (i : ℕ) → n ≤ i → f (a + 1 + i) ≡ pos 0 = λ i h. let e : a + 1 + i
+    ≡ a + suc i = omega arith in rw e (beyond (suc i) (omega arith)) in
     let e : a + suc k ≡ a + 1 + k = omega arith in rw e (listed f (a + 1) n k next)
 
 -- R along a word has no higher degree than the word has letters
 degree_along : (A : IntegerMatrix) (v x : List ℕ) (k : ℕ) → length v < k → r_along A x v k ≡ pos 0
 degree_along A [] x zero above = absurd (omega arith)
 degree_along A [] x (suc k) above =
-    ⊎_elim (λ (is : word_length A x ≡ 0). rw (along-identity A x is) refl) (λ (other : word_length A x ≡ 0 → ⊥). rw (along-other A x (omega arith)) refl)
+    ⊎_elim (λ (is : word_length A x ≡ 0). rw (along-identity A x is) refl)
+    (λ (other : word_length A x ≡ 0 → ⊥). rw (along-other A x (omega arith)) refl)
     (cases_eq (word_length A x) 0)
 degree_along A (s ∷ v) x zero above = absurd (omega arith)
 degree_along A (s ∷ v) x (suc k) above =

@@ -8,7 +8,7 @@ use Rattle.std.proofs.lemmas.Grind.{flat_map-append}
 use Rattle.cox_outside.specs.Feed.{HasFewPending}
 use Rattle.cox_outside.specs.Outlet.{Writes}
 use Rattle.cox_outside.proofs.Known.{Writes-none, Writes-append}
-use Rattle.cox_shell.specs.Reply.{Reply}
+use Rattle.cox_shell.specs.Reply.{Reply, is_refusal}
 use Rattle.cox_shell.specs.Answer.{AreReplies, texts, has_refusal, has_quit}
 use Rattle.cox_shell.specs.Run.{Stand, IsServed}
 use Rattle.cox_shell.proofs.Replies.{AreReplies-cons, AreReplies-rejoin}
@@ -45,9 +45,9 @@ any-push p done reply before last old new =
     ∙ ap (λ b. before || b) (or_false last)
 
 -- of one more reply, whether it refuses, and whether it ends the run
-pub has_refusal-push : (done : List Reply) (reply : Reply) (before last : Bool) → has_refusal done ≡ before → reply.refused ≡ last
+pub has_refusal-push : (done : List Reply) (reply : Reply) (before last : Bool) → has_refusal done ≡ before → is_refusal reply ≡ last
     → has_refusal (done ++ reply ∷ []) ≡ (before || last)
-has_refusal-push = any-push (λ reply. reply.refused)
+has_refusal-push = any-push is_refusal
 
 pub has_quit-push : (done : List Reply) (reply : Reply) (before last : Bool) → has_quit done ≡ before → reply.quits ≡ last
     → has_quit (done ++ reply ∷ []) ≡ (before || last)

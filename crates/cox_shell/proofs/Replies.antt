@@ -5,6 +5,7 @@ use Rattle.std.specs.Bool.{MatchBool}
 use Rattle.std.proofs.lemmas.Grind.{flat_map-append}
 use Rattle.cox_outside.specs.Line.{content_of}
 use Rattle.cox_outside.specs.Outlet.{IsPrefix}
+use Rattle.cox_command.specs.declared.refusal.Refusal.{Refusal}
 use Rattle.cox_shell.specs.Reply.{Limits, State, Reply, refusal, opening}
 use Rattle.cox_shell.specs.ContentReply.{IsContentReply}
 use Rattle.cox_shell.specs.LineReply.{IsReply, content_refusal}
@@ -15,10 +16,10 @@ use Rattle.cox_shell.proofs.ContentReply.{IsContentReply-unique}
 -- a line has at most one reply
 pub IsReply-unique : (state : State) (line : List ℕ) (one other : Reply) → IsReply state line one → IsReply state line other → one ≡ other
 IsReply-unique state line one other = by_refusal (content_refusal (content_of line)) where
-  by_refusal : (o : Option ℕ) → MatchOption o (IsContentReply state (content_of line) one) (λ number. one ≡ refusal state number)
-      → MatchOption o (IsContentReply state (content_of line) other) (λ number. other ≡ refusal state number) → one ≡ other
+  by_refusal : (o : Option Refusal) → MatchOption o (IsContentReply state (content_of line) one) (λ why. one ≡ refusal state why)
+      → MatchOption o (IsContentReply state (content_of line) other) (λ why. other ≡ refusal state why) → one ≡ other
   by_refusal None p q = IsContentReply-unique state (content_of line) one other p q
-  by_refusal (Some number) p q = p ∙ sym q
+  by_refusal (Some why) p q = p ∙ sym q
 
 -- one more reply before the others, which does not end the run
 pub AreReplies-cons : (state next : State) (line : List ℕ) (reply : Reply) (lines : List (List ℕ)) (replies : List Reply)

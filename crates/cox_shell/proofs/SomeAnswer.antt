@@ -2,6 +2,7 @@
 use Rattle.std.proofs.Common.{◌≡◌, ℕ, Bool, true, false, List, [], ◌∷◌, Option, Some, None, MatchOption, refl}
 use Rattle.std.specs.Bool.{MatchBool}
 use Rattle.cox_outside.specs.Line.{content_of}
+use Rattle.cox_command.specs.declared.refusal.Refusal.{Refusal}
 use Rattle.cox_shell.specs.Reply.{Limits, State, Reply, opening, refusal}
 use Rattle.cox_shell.specs.ContentReply.{IsContentReply}
 use Rattle.cox_shell.specs.LineReply.{IsReply, content_refusal}
@@ -18,11 +19,11 @@ record HasReply (state : State) (line : List ℕ) : Type 0 where
 
 IsReply-exists : (state : State) (line : List ℕ) → HasMatrix state → HasReply state line
 IsReply-exists state line matrix = record { reply = found.0; is = found.1; matrix = found.2 } where
-  by_refusal : (o : Option ℕ) → (reply : Reply) × MatchOption o (IsContentReply state (content_of line) reply) (λ number. reply ≡ refusal state number)
+  by_refusal : (o : Option Refusal) → (reply : Reply) × MatchOption o (IsContentReply state (content_of line) reply) (λ why. reply ≡ refusal state why)
       × HasMatrix reply.after
   by_refusal None =
       let some = IsContentReply-exists state (content_of line) matrix in (some.0, some.1, IsContentReply-matrix state (content_of line) some.0 matrix some.1)
-  by_refusal (Some number) = (refusal state number, refl, matrix)
+  by_refusal (Some why) = (refusal state why, refl, matrix)
 
   found : (reply : Reply) × IsReply state line reply × HasMatrix reply.after
   found = by_refusal (content_refusal (content_of line))

@@ -1,77 +1,80 @@
--- Texts that are put unless a number refuses them.
-use Rattle.std.proofs.Common.{◌≡◌, ℕ, ◌↔◌, List, [], ◌++◌, Result, Ok, Err, IsOk, inl, inr, refl, sym, ap, ◌∙◌, append_assoc}
+-- Texts that are put unless a command is refused.
+use Rattle.std.proofs.Common.{◌≡◌, ℕ, List, [], ◌∷◌, ◌++◌, None, Some, Result, Ok, Err, IsOk, inl, inr, refl, sym, ap, ◌∙◌}
+use Rattle.std.proofs.Common.{append_assoc}
 use Rattle.std.proofs.lemmas.List.{append-nil}
-use Rattle.cox_rpoly.specs.declared.r_fault.RFault.{RFault}
-use Rattle.cox_rpoly.specs.declared.r_fault.RFault.TheVariants.{Deep}
-use Rattle.cox_rpoly.specs.declared.r_fault.RFault.TheVariants as fault
-use Rattle.cox_poly.specs.Puts.{PutsFront}
-use Rattle.cox_poly.proofs.Behind.{PutsFront-first, PutsFront-second}
+use Rattle.std.specs.declared.alloc.AllocError.{AllocError}
+use Rattle.cox_base.specs.IntegerMatrix.{IntegerMatrix}
+use Rattle.cox_command.specs.declared.refusal.Refusal.{Refusal}
+use Rattle.cox_command.specs.declared.refusal.Refusal.TheVariants.{FarApart}
+use Rattle.cox_context.specs.Members.{IsInInterval}
+use Rattle.cox_context.specs.SortedList.{HasMoreThan}
+use Rattle.cox_rpoly.specs.Depth.{IsDeep}
+use Rattle.cox_poly.specs.Puts.{PutsPrefix, Puts}
+use Rattle.cox_poly.proofs.Behind.{PutsPrefix-first, PutsPrefix-second}
 use Rattle.cox_shell.specs.declared.answers.unanswered.Unanswered.{Unanswered}
 use Rattle.cox_shell.specs.declared.answers.unanswered.Unanswered.TheVariants.{Refused, NoMemory}
-use Rattle.cox_shell.specs.CommandReply.{IsAllowed}
-use Rattle.cox_shell.specs.Saying.{PutsPart, PutsUnless}
-
--- why an R-polynomial is not given, where the lengths differ by too much
-pub deep_refuses : {X : Type 0} (result : Result X RFault) (IsDeepBy : ℕ → Type 0) (f : RFault) (d : ℕ) → ((e : ℕ) → (result ≡ Err (Deep e)) ↔ IsDeepBy e)
-    → result ≡ Err f → f ≡ Deep d → IsDeepBy d
-deep_refuses result IsDeepBy f d deep is which = (deep d).0 (is ∙ ap Err which)
-
--- no difference is too much where one is given
-pub given_allows : {X : Type 0} (result : Result X RFault) (IsDeepBy : ℕ → Type 0) (x : X) → ((e : ℕ) → (result ≡ Err (Deep e)) ↔ IsDeepBy e)
-    → result ≡ Ok x → IsAllowed (λ number. (number ≡ 34) × (d : ℕ) × IsDeepBy d)
-given_allows result IsDeepBy x deep is number refuses = let bad : result ≡ Err (Deep refuses.1) = (deep refuses.1).1 refuses.2 in cc
-
--- nor where memory is wanting
-pub failed_allows : {X : Type 0} (result : Result X RFault) (IsDeepBy : ℕ → Type 0) (f : RFault) → ((e : ℕ) → (result ≡ Err (Deep e)) ↔ IsDeepBy e)
-    → result ≡ Err f → f ≡ fault.NoMemory → IsAllowed (λ number. (number ≡ 34) × (d : ℕ) × IsDeepBy d)
-failed_allows result IsDeepBy f deep is which number refuses = let bad : result ≡ Err (Deep refuses.1) = (deep refuses.1).1 refuses.2 in cc
+use Rattle.cox_shell.specs.Reply.{Limits}
+use Rattle.cox_shell.specs.Question.{element_refusals, IsRefused}
+use Rattle.cox_shell.specs.CommandReply.{RefusesNone, RefusesLarge, RefusesFar}
+use Rattle.cox_shell.specs.Saying.{PutsSome, PutsUnless, IsEnded, unrefused}
+use Rattle.cox_shell.proofs.Refusing.{IsFirstRefusal-none}
 
 -- nothing was put of a text
-pub PutsFront-none : (text before after : List ℕ) → after ≡ before → PutsFront text before after
-PutsFront-none text before after same = record { front = []; rest = text; parts = refl; behind = same ∙ sym (append-nil before) }
+pub PutsPrefix-none : (text before after : List ℕ) → after ≡ before → PutsPrefix text before after
+PutsPrefix-none text before after same = record { front = []; rest = text; parts = refl; behind = same ∙ sym (append-nil before) }
 
--- a front of an equal text was put
-pub PutsFront-same : (text put before after : List ℕ) → put ≡ text → PutsFront put before after → PutsFront (text ++ []) before after
-PutsFront-same text put before after same front = rw (append-nil, ← same) front
+-- an interval within the limit is not refused
+pub large-allowed : (limits : Limits) (A : IntegerMatrix) (w : List ℕ) → (HasMoreThan limits.context (IsInInterval A w) → ⊥)
+    → IsRefused (RefusesLarge limits A w) None
+large-allowed limits A w few = inr (few, inr (λ none. none, refl))
 
--- a text that was put whole
-pub Puts-same : (text put before after : List ℕ) → put ≡ text → after ≡ before ++ put → after ≡ before ++ (text ++ [])
-Puts-same text put before after same is = is ∙ ap (λ t. before ++ t) (same ∙ sym (append-nil text))
+-- two elements are refused exactly where their R-polynomial is of too high a degree
+pub far-refused : (A : IntegerMatrix) (y w : List ℕ) (d : ℕ) → IsDeep A y w d → IsRefused (RefusesFar A y w) (Some FarApart)
+far-refused A y w d deep = inr (λ none. none, inl ((d, deep), refl))
 
--- for want of memory a front of a text was put, and so of that text and an ending
-PutsPart-ending : (Refuses : ℕ → Type 0) (IsText : List ℕ → Type 0) (ending before after : List ℕ) → PutsPart Refuses IsText [] before after
-    → PutsPart Refuses IsText ending before after
-PutsPart-ending Refuses IsText ending before after (inl refused) = inl refused
-PutsPart-ending Refuses IsText ending before after (inr part) =
-    inr (part.0, part.1, part.2, PutsFront-first part.1 ending before after (rw append-nil at part.3))
+pub far-allowed : (A : IntegerMatrix) (y w : List ℕ) → ((d : ℕ) → IsDeep A y w d → ⊥) → IsRefused (RefusesFar A y w) None
+far-allowed A y w near = inr (λ none. none, inr (λ deep. near deep.0 deep.1, refl))
 
--- where the text was not put, neither was the line
-pub PutsUnless-failed : (result : Result Unit Unanswered) (unanswered : Unanswered) (Refuses : ℕ → Type 0) (IsText : List ℕ → Type 0) (ending before after : List ℕ)
-    → result ≡ Err unanswered → PutsUnless result Refuses IsText [] before after → PutsUnless (Err unanswered) Refuses IsText ending before after
-PutsUnless-failed (Ok done) unanswered Refuses IsText ending before after is put = absurd (cc is)
-PutsUnless-failed (Err (Refused number)) (Refused other) Refuses IsText ending before after is put =
-    let same : number ≡ other = cc is in rw (← same) put
-PutsUnless-failed (Err (Refused number)) NoMemory Refuses IsText ending before after is put = absurd (cc is)
-PutsUnless-failed (Err NoMemory) (Refused other) Refuses IsText ending before after is put = absurd (cc is)
-PutsUnless-failed (Err NoMemory) NoMemory Refuses IsText ending before after is put = PutsPart-ending Refuses IsText ending before after put
+-- a text that was put where nothing refuses
+pub PutsUnless-put : (put : Result Unit AllocError) (Refuses : Refusal → Type 0) (IsText : List ℕ → Type 0) (before after : List ℕ)
+    → IsRefused Refuses None → PutsSome put IsText before after → PutsUnless (unrefused put) Refuses IsText before after
+PutsUnless-put (Ok done) Refuses IsText before after free some = (free, some.0, some.1, some.2)
+PutsUnless-put (Err error) Refuses IsText before after free some = inr (free, some.0, some.1, some.2)
 
--- where the text was put, and then a front of the ending
-pub PutsUnless-broken : (result : Result Unit Unanswered) (Refuses : ℕ → Type 0) (IsText : List ℕ → Type 0) (ending before mid after : List ℕ) → IsOk result
-    → PutsUnless result Refuses IsText [] before mid → PutsFront ending mid after → PutsUnless (Err NoMemory) Refuses IsText ending before after
-PutsUnless-broken (Ok done) Refuses IsText ending before mid after fine put front =
-    inr (put.0, put.1, put.2, PutsFront-second put.1 ending before mid after (rw append-nil at put.3) front)
-PutsUnless-broken (Err unanswered) Refuses IsText ending before mid after fine put front = absurd (cc fine)
+-- a text of a command that nothing can refuse
+pub PutsUnless-free : (put : Result Unit AllocError) (IsText : List ℕ → Type 0) (text before after : List ℕ) → IsText text
+    → Puts put text before after → PutsUnless (unrefused put) RefusesNone IsText before after
+PutsUnless-free put IsText text before after is puts =
+    PutsUnless-put put RefusesNone IsText before after (IsFirstRefusal-none RefusesNone (λ why none. none) element_refusals)
+    (text, is, puts)
 
--- where both were put
-pub PutsUnless-ended : (result : Result Unit Unanswered) (Refuses : ℕ → Type 0) (IsText : List ℕ → Type 0) (ending before mid after : List ℕ) → IsOk result
-    → PutsUnless result Refuses IsText [] before mid → after ≡ mid ++ ending
-    → IsAllowed Refuses × (text : List ℕ) × IsText text × (after ≡ before ++ (text ++ ending))
-PutsUnless-ended (Ok done) Refuses IsText ending before mid after fine put end =
-    (put.0, put.1, put.2, end ∙ ap (λ t. t ++ ending) (rw append-nil at put.3) ∙ append_assoc before put.1 ending)
-PutsUnless-ended (Err unanswered) Refuses IsText ending before mid after fine put end = absurd (cc fine)
+-- the same text, with the end of its last line
+module _ (Refuses : Refusal → Type 0) (IsText : List ℕ → Type 0) (before : List ℕ) where
+  -- where the text was not put, neither was the line
+  pub PutsUnless-failed : (result : Result Unit Unanswered) (why : Unanswered) (after : List ℕ) → result ≡ Err why
+      → PutsUnless result Refuses IsText before after → PutsUnless (Err why) Refuses (IsEnded IsText) before after
+  PutsUnless-failed (Ok done) why after is put = absurd (cc is)
+  PutsUnless-failed (Err (Refused one)) (Refused other) after is put = let same : one ≡ other = cc is in rw (← same) put
+  PutsUnless-failed (Err (Refused one)) NoMemory after is put = absurd (cc is)
+  PutsUnless-failed (Err NoMemory) (Refused other) after is put = absurd (cc is)
+  PutsUnless-failed (Err NoMemory) NoMemory after is (inl same) = inl same
+  PutsUnless-failed (Err NoMemory) NoMemory after is (inr part) =
+      inr (part.0, part.1 ++ 10 ∷ [], (part.1, part.2, refl), PutsPrefix-first part.1 (10 ∷ []) before after part.3)
 
--- what was put where memory was wanting
-pub PutsUnless-memory : (unanswered : Unanswered) (Refuses : ℕ → Type 0) (IsText : List ℕ → Type 0) (ending before after : List ℕ) → unanswered ≡ NoMemory
-    → PutsUnless (Err unanswered) Refuses IsText ending before after → PutsPart Refuses IsText ending before after
-PutsUnless-memory (Refused number) Refuses IsText ending before after is put = absurd (cc is)
-PutsUnless-memory NoMemory Refuses IsText ending before after is put = put
+  -- where the text was put, and then a prefix of the end
+  pub PutsUnless-broken : (result : Result Unit Unanswered) (mid after : List ℕ) → IsOk result → PutsUnless result Refuses IsText before mid
+      → PutsPrefix (10 ∷ []) mid after → PutsUnless (Err NoMemory) Refuses (IsEnded IsText) before after
+  PutsUnless-broken (Ok done) mid after fine put front =
+      inr (put.0, put.1 ++ 10 ∷ [], (put.1, put.2, refl), PutsPrefix-second put.1 (10 ∷ []) before mid after put.3 front)
+  PutsUnless-broken (Err why) mid after fine put front = absurd (cc fine)
+
+  -- where both were put
+  pub PutsUnless-ended : (result : Result Unit Unanswered) (mid after : List ℕ) → IsOk result → PutsUnless result Refuses IsText before mid
+      → after ≡ mid ++ 10 ∷ [] → PutsUnless (Ok tt) Refuses (IsEnded IsText) before after
+  PutsUnless-ended (Ok done) mid after fine put end = (
+    put.0,
+    put.1 ++ 10 ∷ [],
+    (put.1, put.2, refl),
+    end ∙ ap (λ t. t ++ 10 ∷ []) put.3 ∙ append_assoc before put.1 (10 ∷ []),
+  )
+  PutsUnless-ended (Err why) mid after fine put end = absurd (cc fine)

@@ -3,7 +3,7 @@ use Rattle.std.specs.Prelude.{◌≡◌, ℕ, Bool, List, [], ◌∷◌, ◌++�
 use Rattle.std.specs.List.{flat_map, list_any}
 use Rattle.cox_outside.specs.declared.limits.TheConstants.{INPUT_LIMIT}
 use Rattle.cox_outside.specs.Line.{line_feed, lines_within}
-use Rattle.cox_shell.specs.Reply.{Limits, State, Reply, opening}
+use Rattle.cox_shell.specs.Reply.{Limits, State, Reply, opening, is_refusal}
 use Rattle.cox_shell.specs.LineReply.{IsReply}
 
 -- these are the replies to the lines, in order, up to one that ends the run
@@ -19,7 +19,7 @@ texts replies = flat_map (λ reply. reply.text) replies
 
 -- whether one of them is a refusal
 abbrev pub has_refusal : List Reply → Bool
-has_refusal replies = list_any (λ reply. reply.refused) replies
+has_refusal replies = list_any is_refusal replies
 
 -- whether one of them ends the run
 abbrev pub has_quit : List Reply → Bool

@@ -1,11 +1,14 @@
 -- The replies to commands, in the terms of Coxeter groups.
-use Rattle.std.specs.Prelude.{◌+◌, ◌⊎◌, ℤ, map, ◌≡◌, ℕ, ◌↔◌, Bool, ◌||◌, IsTrue, nat_lt, List, length, reverse, IsSomeAnd, decimal}
+use Rattle.std.specs.Prelude.{◌+◌, ℤ, map, ◌≡◌, ℕ, ◌↔◌, Bool, ◌||◌, IsTrue, nat_lt, List, length, reverse, IsSomeAnd, decimal}
 use Rattle.std.specs.Bool.{MatchBool}
 use Rattle.std.specs.List.{range_with_len}
+use Rattle.cox_base.specs.Matrix.{CoxeterMatrix}
 use Rattle.cox_base.specs.IntegerMatrix.{IntegerMatrix, integer_matrix}
 use Rattle.cox_base.specs.ShortLex.{normal_form}
 use Rattle.cox_base.specs.Length.{word_length, left_descents, right_descents}
 use Rattle.cox_base.specs.Bruhat.{IsBelow}
+use Rattle.cox_command.specs.declared.refusal.Refusal.{Refusal}
+use Rattle.cox_command.specs.declared.refusal.Refusal.TheVariants.{LargeInterval, ManyLetters, FarApart}
 use Rattle.cox_command.specs.declared.command.OneWord.{OneWord}
 use Rattle.cox_command.specs.declared.command.OneWord.TheVariants.{Compute, Length, Inverse, Descent, Coatoms, Betti}
 use Rattle.cox_command.specs.declared.command.TwoWord.{TwoWord}
@@ -18,79 +21,99 @@ use Rattle.cox_rpoly.specs.Depth.{IsDeep}
 use Rattle.cox_context.specs.Members.{IsInInterval}
 use Rattle.cox_context.specs.SortedList.{IsListOf, HasMoreThan}
 use Rattle.cox_context.specs.Interval.{IsBetween, IsCoatom, counts_by_length}
-use Rattle.cox_print.specs.Text.{element_text, descent_text, truth_text, numbers_text, list_text}
+use Rattle.cox_print.specs.AnswerText.{element_text, descent_text, truth_text, numbers_text, elements_text}
+use Rattle.cox_shell.specs.declared.inquiry.Inquiry.{Inquiry}
+use Rattle.cox_shell.specs.declared.inquiry.Inquiry.TheVariants.{One, Two}
 use Rattle.cox_shell.specs.Reply.{Limits, State, Reply, with_group, refusal, silence, farewell, answered}
+use Rattle.cox_shell.specs.Question.{Question, IsDecided}
 
--- a list of elements
-abbrev pub elements_text : List (List ℕ) → List ℕ
-elements_text words = list_text (map element_text words)
+-- nothing refuses
+abbrev pub RefusesNone : Refusal → Type 0
+RefusesNone why = ⊥
 
--- the text that a command answers for the element of w
-abbrev pub IsOneText : OneWord → IntegerMatrix → List ℕ → List ℕ → Type 0
-IsOneText Compute A w text = text ≡ element_text (normal_form A w)
-IsOneText Length A w text = text ≡ decimal (word_length A w)
-IsOneText Inverse A w text = text ≡ element_text (normal_form A (reverse w))
-IsOneText Descent A w text = text ≡ descent_text (left_descents A w) (right_descents A w)
-IsOneText Coatoms A w text = (coatoms : List (List ℕ)) × IsListOf (IsCoatom A w) coatoms × (text ≡ elements_text coatoms)
-IsOneText Betti A w text = (members : List (List ℕ)) × IsListOf (IsInInterval A w) members × (text ≡ numbers_text (counts_by_length members (word_length A w)))
+-- the interval from the identity to w has more members than the limit
+abbrev pub RefusesLarge : Limits → IntegerMatrix → List ℕ → Refusal → Type 0
+RefusesLarge limits A w LargeInterval = HasMoreThan limits.context (IsInInterval A w)
+RefusesLarge limits A w _ = ⊥
+
+-- y ≤ w, and R(y,w) is of too high a degree
+abbrev pub RefusesFar : IntegerMatrix → List ℕ → List ℕ → Refusal → Type 0
+RefusesFar A y w FarApart = (d : ℕ) × IsDeep A y w d
+RefusesFar A y w _ = ⊥
+
+-- the list of the elements with a property
+abbrev pub IsElementsText : ℕ → (List ℕ → Type 0) → List ℕ → Type 0
+IsElementsText rank P text = (words : List (List ℕ)) × IsListOf P words × (text ≡ elements_text rank words)
+
+-- how many x ≤ w there are of each length
+abbrev pub IsCountsText : IntegerMatrix → List ℕ → List ℕ → Type 0
+IsCountsText A w text = (members : List (List ℕ)) × IsListOf (IsInInterval A w) members
+    × (text ≡ numbers_text (counts_by_length members (word_length A w)))
+
+-- whether y ≤ w
+abbrev pub IsOrderText : IntegerMatrix → List ℕ → List ℕ → List ℕ → Type 0
+IsOrderText A y w text = (truth : Bool) × (IsTrue truth ↔ IsBelow A y w) × (text ≡ truth_text truth)
 
 -- the coefficients of R(y,w) from degree 0 to l(w); there are none beyond
 abbrev pub r_coefficients : IntegerMatrix → List ℕ → List ℕ → List ℤ
 r_coefficients A y w = map (r_polynomial A y w) (range_with_len 0 (word_length A w + 1))
 
--- the text that a command answers for the elements of y and w
-abbrev pub IsTwoText : TwoWord → IntegerMatrix → List ℕ → List ℕ → List ℕ → Type 0
-IsTwoText Inorder A y w text = (truth : Bool) × (IsTrue truth ↔ IsBelow A y w) × (text ≡ truth_text truth)
-IsTwoText Interval A y w text = (between : List (List ℕ)) × IsListOf (IsBetween A y w) between × (text ≡ elements_text between)
-IsTwoText Rpol A y w text = text ≡ polynomial_text (r_coefficients A y w)
+-- R(y,w)
+abbrev pub IsRText : IntegerMatrix → List ℕ → List ℕ → List ℕ → Type 0
+IsRText A y w text = text ≡ polynomial_text (r_coefficients A y w)
 
--- 31: the interval from the identity to w has more members than the limit
-abbrev pub RefusesInterval : Limits → IntegerMatrix → List ℕ → ℕ → Type 0
-RefusesInterval limits A w number = (number ≡ 31) × HasMoreThan limits.context (IsInInterval A w)
+-- what a command asks of the element of w
+abbrev pub one_question : OneWord → Limits → ℕ → IntegerMatrix → List ℕ → Question
+one_question Compute limits rank A w = record { Refuses = RefusesNone; IsText = λ text. text ≡ element_text rank (normal_form A w) }
+one_question Length limits rank A w = record { Refuses = RefusesNone; IsText = λ text. text ≡ decimal (word_length A w) }
+one_question Inverse limits rank A w =
+    record { Refuses = RefusesNone; IsText = λ text. text ≡ element_text rank (normal_form A (reverse w)) }
+one_question Descent limits rank A w = record {
+  Refuses = RefusesNone;
+  IsText = λ text. text ≡ descent_text rank (left_descents A w) (right_descents A w);
+}
+one_question Coatoms limits rank A w = record { Refuses = RefusesLarge limits A w; IsText = IsElementsText rank (IsCoatom A w) }
+one_question Betti limits rank A w = record { Refuses = RefusesLarge limits A w; IsText = IsCountsText A w }
 
--- by which number a command is refused for the element of w, if by any
-abbrev pub RefusesOne : OneWord → Limits → IntegerMatrix → List ℕ → ℕ → Type 0
-RefusesOne Coatoms limits A w number = RefusesInterval limits A w number
-RefusesOne Betti limits A w number = RefusesInterval limits A w number
-RefusesOne _ limits A w number = ⊥
+-- what a command asks of the elements of y and w
+abbrev pub two_question : TwoWord → Limits → ℕ → IntegerMatrix → List ℕ → List ℕ → Question
+two_question Inorder limits rank A y w = record { Refuses = RefusesNone; IsText = IsOrderText A y w }
+two_question Interval limits rank A y w = record { Refuses = RefusesLarge limits A w; IsText = IsElementsText rank (IsBetween A y w) }
+two_question Rpol limits rank A y w = record { Refuses = RefusesFar A y w; IsText = IsRText A y w }
 
--- by which number a command is refused for the elements of y and w, if by any: 34 where R(y,w) is asked for with y ≤ w and l(w) - l(y) > 39
-abbrev pub RefusesTwo : TwoWord → Limits → IntegerMatrix → List ℕ → List ℕ → ℕ → Type 0
-RefusesTwo Inorder limits A y w number = ⊥
-RefusesTwo Interval limits A y w number = RefusesInterval limits A w number
-RefusesTwo Rpol limits A y w number = (number ≡ 34) × (d : ℕ) × IsDeep A y w d
+-- what a command on elements asks of those of its words, in a group
+abbrev pub question_of : Inquiry → Limits → CoxeterMatrix → Question
+question_of (One kind w) limits g = one_question kind limits g.rank (integer_matrix g) w.items
+question_of (Two kind y w) limits g = two_question kind limits g.rank (integer_matrix g) y.items w.items
 
--- whether a word has more letters than are worked with; a line with such a word is refused by 33
+-- whether a word has more letters than are worked with
 abbrev pub is_over_limit : List ℕ → Bool
 is_over_limit word = nat_lt 63 (length word)
 
--- no number refuses
-abbrev pub IsAllowed : (ℕ → Type 0) → Type 0
-IsAllowed Refuses = (number : ℕ) → Refuses number → ⊥
+-- whether a word of a command is so
+abbrev pub has_many_letters : Inquiry → Bool
+has_many_letters (One kind w) = is_over_limit w.items
+has_many_letters (Two kind y w) = is_over_limit y.items || is_over_limit w.items
 
--- the reply of a command that may be refused by its elements: a refusal, or a line of text
-abbrev pub IsDecidedReply : State → (ℕ → Type 0) → (List ℕ → Type 0) → Reply → Type 0
-IsDecidedReply state Refuses IsText reply = ((number : ℕ) × Refuses number × (reply ≡ refusal state number))
-    ⊎ (IsAllowed Refuses × (text : List ℕ) × IsText text × (reply ≡ answered state text))
+-- an answer to a question, which leaves the state
+abbrev pub Answers : State → Question → Reply → Type 0
+Answers state question reply = (text : List ℕ) × question.IsText text × (reply ≡ answered state text)
 
--- the reply of a command with words: 33 if one of them has too many letters
-abbrev pub IsWordReply : Bool → State → (ℕ → Type 0) → (List ℕ → Type 0) → Reply → Type 0
-IsWordReply is_over state Refuses IsText reply = MatchBool is_over (reply ≡ refusal state 33) (IsDecidedReply state Refuses IsText reply)
+-- the reply to a command on elements, where a group is set
+abbrev pub IsInquiryReply : Inquiry → State → Reply → Type 0
+IsInquiryReply inquiry state reply = IsSomeAnd state.group (λ g.
+    let question = question_of inquiry state.limits g in
+    MatchBool (has_many_letters inquiry) (reply ≡ refusal state ManyLetters)
+    (IsDecided state question.Refuses (Answers state question) reply))
 
--- the reply of a command with one word, where a group is set
-abbrev pub IsOneReply : OneWord → List ℕ → State → Reply → Type 0
-IsOneReply kind w state reply = IsSomeAnd state.group (λ g. IsWordReply (is_over_limit w) state
-    (RefusesOne kind state.limits (integer_matrix g) w) (IsOneText kind (integer_matrix g) w) reply)
-
--- the reply of a command with two words, where a group is set
-abbrev pub IsTwoReply : TwoWord → List ℕ → List ℕ → State → Reply → Type 0
-IsTwoReply kind y w state reply = IsSomeAnd state.group (λ g. IsWordReply (is_over_limit y || is_over_limit w) state
-    (RefusesTwo kind state.limits (integer_matrix g) y w) (IsTwoText kind (integer_matrix g) y w) reply)
+-- a refusal by the group that is to be set has a cause: none has
+abbrev pub RefusesGroup : State → CoxeterMatrix → Refusal → Type 0
+RefusesGroup state g why = ⊥
 
 -- the reply to a command
 abbrev pub IsCommandReply : Command → State → Reply → Type 0
 IsCommandReply asks.Nothing state reply = reply ≡ silence state
 IsCommandReply asks.Quit state reply = reply ≡ farewell state
-IsCommandReply (asks.Group g) state reply = reply ≡ silence (with_group state g)
-IsCommandReply (asks.One kind w) state reply = IsOneReply kind w.items state reply
-IsCommandReply (asks.Two kind y w) state reply = IsTwoReply kind y.items w.items state reply
+IsCommandReply (asks.Group g) state reply = IsDecided state (RefusesGroup state g) (λ answer. answer ≡ silence (with_group state g)) reply
+IsCommandReply (asks.One kind w) state reply = IsInquiryReply (One kind w) state reply
+IsCommandReply (asks.Two kind y w) state reply = IsInquiryReply (Two kind y w) state reply

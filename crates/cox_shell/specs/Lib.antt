@@ -1,5 +1,7 @@
 -- replies to lines
 pub mod Reply
+-- what a command asks
+pub mod Question
 -- the replies to commands, in the terms of Coxeter groups
 pub mod CommandReply
 -- the reply to the content of a line
@@ -10,7 +12,9 @@ pub mod LineReply
 pub mod Answer
 -- the answer to a script, and the replies to its first lines
 pub mod FirstReplies
--- what a session says to a line
+-- the limits that options give
+pub mod SessionLimits
+-- what the calls that answer say of a reply
 pub mod Saying
 -- how a run ends
 pub mod Status

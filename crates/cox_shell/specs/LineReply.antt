@@ -2,15 +2,17 @@
 use Rattle.std.specs.Prelude.{◌≡◌, ℕ, if◌then◌else◌, nat_lt, List, length, Option, None, Some, MatchOption, is_some, position}
 use Rattle.cox_outside.specs.declared.limits.TheConstants.{LINE_LIMIT}
 use Rattle.cox_outside.specs.Line.{is_foreign, content_of}
+use Rattle.cox_command.specs.declared.refusal.Refusal.{Refusal}
+use Rattle.cox_command.specs.declared.refusal.Refusal.TheVariants.{LongLine, ForeignByte}
 use Rattle.cox_shell.specs.Reply.{State, Reply, refusal}
 use Rattle.cox_shell.specs.ContentReply.{IsContentReply}
 
--- 18 where the content of a line is longer than the limit, else 19 where a byte of it is outside 0x20 to 0x7E
-abbrev pub content_refusal : List ℕ → Option ℕ
-content_refusal content = if nat_lt LINE_LIMIT (length content) then Some 18 else
-    (if is_some (position is_foreign content) then Some 19 else None)
+-- the content of a line is longer than the limit, or else a byte of it is outside 0x20 to 0x7E
+abbrev pub content_refusal : List ℕ → Option Refusal
+content_refusal content = if nat_lt LINE_LIMIT (length content) then Some LongLine else
+    (if is_some (position is_foreign content) then Some ForeignByte else None)
 
 -- the reply to a line, given by its bytes up to its end
 abbrev pub IsReply : State → List ℕ → Reply → Type 0
 IsReply state line reply = MatchOption (content_refusal (content_of line)) (IsContentReply state (content_of line) reply)
-    (λ number. reply ≡ refusal state number)
+    (λ why. reply ≡ refusal state why)

@@ -1,18 +1,15 @@
 -- What a line is answered.
-use Rattle.std.specs.Prelude.{ℕ, ◌++◌, Bool, true, false, List, [], ◌∷◌, Option, None, Some}
+use Rattle.std.specs.Prelude.{ℕ, ◌++◌, Bool, true, false, List, [], ◌∷◌, Option, None, Some, is_some}
 use Rattle.std.specs.Option.{option_map}
 use Rattle.cox_base.specs.Matrix.{CoxeterMatrix}
-use Rattle.cox_options.specs.declared.options.Options.{Options}
-use Rattle.cox_print.specs.Text.{refusal_text}
+use Rattle.cox_command.specs.declared.refusal.Refusal.{Refusal}
+use Rattle.cox_command.specs.RefusalNumber.{refusal_number}
+use Rattle.cox_print.specs.AnswerText.{refusal_text}
 
 -- what the options of a session limit
 pub record Limits : Type 0 where
   -- how many members an interval may have
   pub context : ℕ
-
--- the limits that options give
-abbrev pub limits_of : Options → Limits
-limits_of options = record { context = options.context }
 
 -- the state of a session: its limits, and the Coxeter matrix of the group that is set, if one is
 pub record State : Type 0 where
@@ -31,25 +28,29 @@ with_group state g = record { limits = state.limits; group = Some g }
 abbrev pub rank_of : State → Option ℕ
 rank_of state = option_map (λ g. g.rank) state.group
 
--- the text that a line is answered, the state after it, whether it is refused, and whether it ends the run
+-- the text that a line is answered, the state after it, its refusal, if it is refused, and whether it ends the run
 pub record Reply : Type 0 where
   pub text : List ℕ
   pub after : State
-  pub refused : Bool
+  pub refused : Option Refusal
   pub quits : Bool
 
+-- whether a reply is a refusal
+abbrev pub is_refusal : Reply → Bool
+is_refusal reply = is_some reply.refused
+
 -- the reply to a refused line: `error` and a number; nothing changes
-abbrev pub refusal : State → ℕ → Reply
-refusal state number = record { text = refusal_text number ++ 10 ∷ []; after = state; refused = true; quits = false }
+abbrev pub refusal : State → Refusal → Reply
+refusal state why = record { text = refusal_text (refusal_number why) ++ 10 ∷ []; after = state; refused = Some why; quits = false }
 
 -- the reply to a line that is answered nothing, and leaves this state
 abbrev pub silence : State → Reply
-silence state = record { text = []; after = state; refused = false; quits = false }
+silence state = record { text = []; after = state; refused = None; quits = false }
 
 -- the reply that ends the run
 abbrev pub farewell : State → Reply
-farewell state = record { text = []; after = state; refused = false; quits = true }
+farewell state = record { text = []; after = state; refused = None; quits = true }
 
--- the reply with one line of text
+-- the reply with one line of text, or several of which this is the text without the last line's end
 abbrev pub answered : State → List ℕ → Reply
-answered state text = record { text = text ++ 10 ∷ []; after = state; refused = false; quits = false }
+answered state text = record { text = text ++ 10 ∷ []; after = state; refused = None; quits = false }

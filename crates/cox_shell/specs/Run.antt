@@ -12,7 +12,7 @@ use Rattle.cox_shell.specs.declared.serving.Heard.{Heard}
 use Rattle.cox_shell.specs.declared.serving.Heard.TheVariants as heard
 use Rattle.cox_shell.specs.declared.serving.Served.{Served}
 use Rattle.cox_shell.specs.declared.serving.Served.TheVariants.{Answered, Refused, Quit, End, InputLimit, ReadFault, WriteFault, NoMemory}
-use Rattle.cox_shell.specs.Reply.{State, Reply}
+use Rattle.cox_shell.specs.Reply.{State, Reply, is_refusal}
 use Rattle.cox_shell.specs.LineReply.{IsReply}
 use Rattle.cox_shell.specs.Saying.{Says}
 
@@ -67,7 +67,7 @@ pub record IsServed (refused quits : Bool) (old new : Stand) : Type 0 where
   pub taken : TakesReplied reply old.state new.stop old.ahead new.ahead
   pub writes : Writes reply.text old.out new.out
   pub state_after : new.state ≡ reply.after
-  pub refuses : reply.refused ≡ refused
+  pub refuses : is_refusal reply ≡ refused
   pub quitting : reply.quits ≡ quits
 
 -- a line was taken and a prefix of its reply written

@@ -17,7 +17,7 @@ pub fn one_answer()
     ensures text { (limits : Limits) → (script one other : List ℕ) → IsAnswer limits script one → IsAnswer limits script other → one ≡ other }
 {}
 
-/// What the replies to the first lines of a script write is a front of its answer, if it has one.
-pub fn first_replies_are_a_front()
+/// What the replies to the first lines of a script write is a prefix of its answer, if it has one.
+pub fn first_replies_are_a_prefix()
     ensures { (limits : Limits) → (script text : List ℕ) → (replies : List Reply) → AreFirstReplies limits script replies → IsAnswer limits script text → IsPrefix (texts replies) text }
 {}

@@ -6,11 +6,13 @@
 //!
 //! It stands on `cox_outside` for lines and bytes, on `cox_command` and `cox_print` for commands and
 //! texts, on `cox_options` for the arguments, and on `cox_reflect`, `cox_context` and
-//! `cox_rpoly` for what is asked of a group. A new command is a case of the words in
-//! `specs/CommandReply.antt`, and an arm in `answers`.
+//! `cox_rpoly` for what is asked of a group. A new command on elements is a case of the questions in
+//! `specs/CommandReply.antt`, and an arm in `answers` that answers it.
 //!
 //! - `status`: how a run ends
-//! - `answers`: the lines that commands answer
+//! - `inquiry`: commands on elements, with their words
+//! - `workspace`: what they work with
+//! - `answers`: the lines that they answer
 //! - `session`: the session, which answers the contents of lines
 //! - `serving`: one line, from the source to the sink
 //! - `running`: all lines, and the status that they lead to
@@ -20,6 +22,7 @@
 #![tactic(auto)]
 
 mod answers;
+mod inquiry;
 pub mod laws;
 pub mod run_laws;
 mod running;
@@ -27,6 +30,7 @@ mod serving;
 mod session;
 mod status;
 mod top;
+mod workspace;
 
 pub use cox_options::Options;
 pub use cox_outside::NoMemory;

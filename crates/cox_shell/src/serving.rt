@@ -7,14 +7,9 @@ ghost use Rattle.cox_outside.specs.Outlet.{SinkCause};
 ghost use Rattle.cox_shell.specs.Run.{stand, Hears, Serves, heard_of, heard_failed, served_read_fault, served_write_fault};
 
 use crate::session::{Said, Session};
+use cox_command::Refusal;
 use cox_outside::{LineReader, Next, Sink, Source, write_all};
 use std::alloc::AllocError;
-
-/// The number of the refusal of a line that is too long.
-const LONG: u8 = 18;
-
-/// The number of the refusal of a line with a byte that no line may have.
-const FOREIGN: u8 = 19;
 
 /// What hearing the next line led to.
 pub enum Heard {
@@ -99,8 +94,8 @@ fn hear_line<S: Source>(
 {
     match reader.next(source) {
         Next::Line(line) => to_heard(session.answer(line, buffer)),
-        Next::Long(_) => to_heard(session.refuse(LONG, buffer)),
-        Next::Byte(_) => to_heard(session.refuse(FOREIGN, buffer)),
+        Next::Long(_) => to_heard(session.refuse(Refusal::LongLine, buffer)),
+        Next::Byte(_) => to_heard(session.refuse(Refusal::ForeignByte, buffer)),
         Next::End => Heard::End,
         Next::Failed => Heard::Failed,
         Next::Limit => Heard::Limit,

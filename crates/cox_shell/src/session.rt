@@ -1,8 +1,10 @@
 //! The session, which answers the contents of lines.
 
-use crate::answers::{Unanswered, WORD_LIMIT, put_one, put_two};
-use cox_base::{Coxeter, Word};
-use cox_command::{Command, OneWord, TwoWord, parse};
+use crate::answers::{Unanswered, put_answer};
+use crate::inquiry::Inquiry;
+use crate::workspace::Workspace;
+use cox_base::{Coxeter, MAX_RANK};
+use cox_command::{Command, Refusal, parse};
 use cox_options::Options;
 use cox_print::{put_end, put_refusal};
 use std::alloc::AllocError;
@@ -19,31 +21,36 @@ pub enum Said {
     Quit,
 }
 
-/// A session: its options, and the group that is set, if one is. It answers lines one by one, each by the lines before.
+/// A session: its options, and what commands on elements work with, once a group is set. It answers lines one by one, each by the lines before.
 ///
 /// Contracts see the limits that the options give, and the Coxeter matrix of the group.
 #[derive(Drop)]
 pub struct Session {
     options: Options,
-    group: Option<Coxeter>,
+    workspace: Option<Workspace>,
 }
 
 impl Model for Session {
-    ghost use Rattle.cox_shell.specs.Reply.{State, limits_of};
+    ghost use Rattle.std.specs.Prelude.{◌≡◌, IfSome};
+    ghost use Rattle.std.specs.Option.{option_map};
+    ghost use Rattle.cox_shell.specs.Reply.{State};
+    ghost use Rattle.cox_shell.specs.SessionLimits.{limits_of};
 
     ghost Value = { State };
 
-    ghost view = { λ s. record { limits = limits_of s.options; group = s.group } };
+    ghost view = { λ s. record { limits = limits_of s.options; group = option_map (λ work. work.group) s.workspace } };
+
+    ghost invariant = { λ s. IfSome s.workspace (λ work. limits_of work.options ≡ limits_of s.options) };
 }
 
 impl Session {
     ghost use Rattle.std.specs.Prelude.{◌≡◌, ◌<◌, ◌≤◌, ◌^◌, length, IfOk, OnErr, IfSome, IsSomeAnd};
-    ghost use Rattle.cox_base.specs.Matrix.{IsWord};
-    ghost use Rattle.cox_command.specs.Reading.{HasWordsOf};
-    ghost use Rattle.cox_shell.specs.Reply.{Reply, opening, limits_of, refusal, rank_of};
+    ghost use Rattle.cox_command.specs.ParseContract.{HasWordsOf};
+    ghost use Rattle.cox_shell.specs.Reply.{Reply, opening, with_group, refusal, rank_of};
+    ghost use Rattle.cox_shell.specs.SessionLimits.{limits_of};
     ghost use Rattle.cox_shell.specs.ContentReply.{IsContentReply};
-    ghost use Rattle.cox_shell.specs.CommandReply.{IsCommandReply, IsOneReply, IsTwoReply};
-    ghost use Rattle.cox_shell.specs.Saying.{Says, SaysFront, Concludes};
+    ghost use Rattle.cox_shell.specs.CommandReply.{IsCommandReply, IsInquiryReply};
+    ghost use Rattle.cox_shell.specs.Saying.{HasLetters, Says, SaysPrefix, Concludes};
 
     /// A session with these options, and no group.
     pub fn new(options: Options) -> Session
@@ -51,31 +58,31 @@ impl Session {
     {
         Session {
             options,
-            group: None,
+            workspace: None,
         }
     }
 
     /// Answers a line with this content, of bytes from 0x20 to 0x7E, behind what `out` has. On
-    /// `NoMemory` the session is as before, and a front of the answer is appended.
+    /// `NoMemory` the session is as before, and a prefix of the answer is appended.
     pub fn answer(&mut self, line: &[u8], out: &mut Vec<u8>) -> Result<Said, AllocError>
         requires size { length line.now < 2 ^ 32 }
         ensures ok { IfOk result (λ said. (reply : Reply) × IsContentReply self.old line.now reply
             × Says said reply self.new out.old.items out.new.items) }
         ensures err { OnErr result ((reply : Reply) × IsContentReply self.old line.now reply
-            × SaysFront reply self.old self.new out.old.items out.new.items) }
+            × SaysPrefix reply self.old self.new out.old.items out.new.items) }
     {
         match parse(line, self.rank()) {
             Ok(command) => self.obey(command, out),
-            Err(fault) => self.refuse(fault.number, out),
+            Err(fault) => self.refuse(fault.refusal, out),
         }
     }
 
     /// The rank of the group that is set.
     fn rank(&self) -> Option<u32>
         ensures rank { result ≡ rank_of self.now }
-        ensures limit { IfSome result (λ n. n ≤ 9) }
+        ensures limit { IfSome result (λ n. n ≤ MAX_RANK) }
     {
-        self.group.as_ref().map(|group| group.rank())
+        self.workspace.as_ref().map(|work| work.group.rank())
     }
 
     /// Answers a command, whose words are over the letters of the group.
@@ -84,57 +91,44 @@ impl Session {
         ensures ok { IfOk result (λ said. (reply : Reply) × IsCommandReply command self.old reply
             × Says said reply self.new out.old.items out.new.items) }
         ensures err { OnErr result ((reply : Reply) × IsCommandReply command self.old reply
-            × SaysFront reply self.old self.new out.old.items out.new.items) }
+            × SaysPrefix reply self.old self.new out.old.items out.new.items) }
     {
         match command {
             Command::Nothing => Ok(Said::Answered),
             Command::Quit => Ok(Said::Quit),
             Command::Group(group) => {
-                self.group = Some(group);
+                self.set_group(group);
                 Ok(Said::Answered)
             }
-            Command::One(kind, w) => self.answer_one(kind, &w, out),
-            Command::Two(kind, y, w) => self.answer_two(kind, &y, &w, out),
+            Command::One(kind, w) => self.answer_inquiry(&Inquiry::One(kind, w), out),
+            Command::Two(kind, y, w) => self.answer_inquiry(&Inquiry::Two(kind, y, w), out),
         }
     }
 
-    /// Answers a command with one word.
-    fn answer_one(&self, kind: OneWord, w: &Word, out: &mut Vec<u8>) -> Result<Said, AllocError>
-        requires { IsSomeAnd (rank_of self.now) (λ n. IsWord n w.now.items) }
-        ensures ok { IfOk result (λ said. (reply : Reply) × IsOneReply kind w.now.items self.now reply
-            × Says said reply self.now out.old.items out.new.items) }
-        ensures err { OnErr result ((reply : Reply) × IsOneReply kind w.now.items self.now reply
-            × SaysFront reply self.now self.now out.old.items out.new.items) }
+    /// Sets the group.
+    fn set_group(&mut self, group: Coxeter)
+        ensures { self.new ≡ with_group self.old group }
     {
-        match &self.group {
-            Some(group) if w.len() <= WORD_LIMIT => {
-                let put = put_one(out, group, self.options, kind, w);
-                self.conclude(put, out)
-            }
-            _ => self.refuse(33, out),
-        }
+        self.workspace = Some(Workspace {
+            group,
+            options: self.options,
+        });
     }
 
-    /// Answers a command with two words.
-    fn answer_two(
-        &self,
-        kind: TwoWord,
-        y: &Word,
-        w: &Word,
-        out: &mut Vec<u8>,
-    ) -> Result<Said, AllocError>
-        requires { IsSomeAnd (rank_of self.now) (λ n. IsWord n y.now.items × IsWord n w.now.items) }
-        ensures ok { IfOk result (λ said. (reply : Reply) × IsTwoReply kind y.now.items w.now.items self.now reply
+    /// Answers a command on elements.
+    fn answer_inquiry(&self, inquiry: &Inquiry, out: &mut Vec<u8>) -> Result<Said, AllocError>
+        requires { IsSomeAnd (rank_of self.now) (λ n. HasLetters n inquiry.now) }
+        ensures ok { IfOk result (λ said. (reply : Reply) × IsInquiryReply inquiry.now self.now reply
             × Says said reply self.now out.old.items out.new.items) }
-        ensures err { OnErr result ((reply : Reply) × IsTwoReply kind y.now.items w.now.items self.now reply
-            × SaysFront reply self.now self.now out.old.items out.new.items) }
+        ensures err { OnErr result ((reply : Reply) × IsInquiryReply inquiry.now self.now reply
+            × SaysPrefix reply self.now self.now out.old.items out.new.items) }
     {
-        match &self.group {
-            Some(group) if y.len() <= WORD_LIMIT && w.len() <= WORD_LIMIT => {
-                let put = put_two(out, group, self.options, kind, y, w);
+        match &self.workspace {
+            Some(work) if !inquiry.has_many_letters() => {
+                let put = put_answer(out, work, inquiry);
                 self.conclude(put, out)
             }
-            _ => self.refuse(33, out),
+            _ => self.refuse(Refusal::ManyLetters, out),
         }
     }
 
@@ -144,19 +138,18 @@ impl Session {
     {
         match put {
             Ok(()) => Ok(Said::Answered),
-            Err(Unanswered::Refused(number)) => self.refuse(number, out),
+            Err(Unanswered::Refused(why)) => self.refuse(why, out),
             Err(Unanswered::NoMemory) => Err(AllocError),
         }
     }
 
-    /// Refuses a line with this number, behind what `out` has. On `NoMemory` a front of the answer
-    /// is appended.
-    pub fn refuse(&self, number: u8, out: &mut Vec<u8>) -> Result<Said, AllocError>
-        ensures ok { IfOk result (λ said. Says said (refusal self.now number) self.now out.old.items out.new.items) }
-        ensures err { OnErr result (SaysFront (refusal self.now number) self.now self.now out.old.items out.new.items) }
+    /// Refuses a line, behind what `out` has. On `NoMemory` a prefix of the answer is appended.
+    pub fn refuse(&self, why: Refusal, out: &mut Vec<u8>) -> Result<Said, AllocError>
+        ensures ok { IfOk result (λ said. Says said (refusal self.now why) self.now out.old.items out.new.items) }
+        ensures err { OnErr result (SaysPrefix (refusal self.now why) self.now self.now out.old.items out.new.items) }
     {
-        put_refusal(out, number)?;
+        put_refusal(out, why.number())?;
         put_end(out)?;
-        Ok(Said::Refused(number))
+        Ok(Said::Refused(why.number()))
     }
 }

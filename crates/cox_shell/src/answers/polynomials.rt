@@ -1,33 +1,28 @@
 //! The answers on polynomials of two elements.
-ghost use Rattle.std.specs.Prelude.{◌≤◌, length, []};
+ghost use Rattle.std.specs.Prelude.{◌≤◌, length};
 ghost use Rattle.cox_base.specs.Matrix.{IsWord};
 ghost use Rattle.cox_base.specs.IntegerMatrix.{integer_matrix};
-ghost use Rattle.cox_shell.specs.Reply.{Limits};
-ghost use Rattle.cox_shell.specs.CommandReply.{IsTwoText, RefusesTwo};
+ghost use Rattle.cox_shell.specs.CommandReply.{RefusesFar, IsRText};
 ghost use Rattle.cox_shell.specs.Saying.{PutsUnless};
 
-use crate::answers::Unanswered;
-use cox_base::{Coxeter, Word};
-use cox_command::TwoWord;
+use crate::answers::unanswered::{Unanswered, unrefused};
+use crate::workspace::Workspace;
+use cox_base::Word;
+use cox_command::Refusal;
 use cox_rpoly::{RFault, r};
 
-/// Puts the R-polynomial of y and w. It is refused where y ≤ w and their lengths differ by too much, whatever the limits of the session.
-pub fn put_rpol(out: &mut Vec<u8>, g: &Coxeter, y: &Word, w: &Word) -> Result<(), Unanswered>
-    requires first { IsWord g.now.rank y.now.items }
-    requires second { IsWord g.now.rank w.now.items }
+/// Puts the R-polynomial of y and w. It is refused where y ≤ w and their lengths differ by too much, whatever the options.
+pub fn put_rpol(out: &mut Vec<u8>, work: &Workspace, y: &Word, w: &Word) -> Result<(), Unanswered>
+    requires first { IsWord work.now.group.rank y.now.items }
+    requires second { IsWord work.now.group.rank w.now.items }
     requires first_short { length y.now.items ≤ 63 }
     requires second_short { length w.now.items ≤ 63 }
-    ensures { (limits : Limits) → PutsUnless result (RefusesTwo TwoWord.Rpol limits (integer_matrix g.now) y.now.items w.now.items)
-        (IsTwoText TwoWord.Rpol (integer_matrix g.now) y.now.items w.now.items) [] out.old.items out.new.items }
+    ensures { PutsUnless result (RefusesFar (integer_matrix work.now.group) y.now.items w.now.items)
+        (IsRText (integer_matrix work.now.group) y.now.items w.now.items) out.old.items out.new.items }
 {
-    prove!(g.rank() <= 9);
-    let p = match r(*out.allocator(), g, y, w) {
-        Ok(p) => p,
-        Err(RFault::Deep(_)) => return Err(Unanswered::Refused(34)),
-        Err(RFault::NoMemory) => return Err(Unanswered::NoMemory),
-    };
-    match p.put_text(out) {
-        Ok(()) => Ok(()),
-        Err(_) => Err(Unanswered::NoMemory),
+    match r(*out.allocator(), &work.group, y, w) {
+        Ok(p) => unrefused(p.put_text(out)),
+        Err(RFault::Deep(_)) => Err(Unanswered::Refused(Refusal::FarApart)),
+        Err(RFault::NoMemory) => Err(Unanswered::NoMemory),
     }
 }

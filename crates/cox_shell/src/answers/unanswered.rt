@@ -1,15 +1,17 @@
 //! Why a command gets no answer.
 ghost use Rattle.std.specs.Prelude.{◌≡◌};
+ghost use Rattle.cox_shell.specs.Saying.{unrefused};
 ghost use Rattle.cox_shell.specs.declared.answers.unanswered.Unanswered.TheVariants.{NoMemory};
 
+use cox_command::Refusal;
 use std::alloc::AllocError;
 
 /// Why a command got no answer.
 #[derive(Clone, Copy, Debug, PartialEq, Eq)]
 pub enum Unanswered {
-    /// It is refused, by this number.
-    Refused(u8),
-    /// Memory ran out; a front of the answer was put.
+    /// It is refused.
+    Refused(Refusal),
+    /// Memory ran out; a prefix of the answer was put.
     NoMemory,
 }
 
@@ -18,5 +20,15 @@ impl From<AllocError> for Unanswered {
 
     fn from(_: AllocError) -> Unanswered {
         Unanswered::NoMemory
+    }
+}
+
+/// What became of a text that nothing refuses.
+pub fn unrefused(put: Result<(), AllocError>) -> Result<(), Unanswered>
+    ensures { result ≡ unrefused put }
+{
+    match put {
+        Ok(()) => Ok(()),
+        Err(_) => Err(Unanswered::NoMemory),
     }
 }

@@ -1,3 +1,4 @@
+-- The proof of `entry_at`.
 use Rattle.std.proofs.Common.{arith}
 use Rattle.std.proofs.lemmas.Int.{ints, to_z-of_z}
 use Rattle.cox_base.proofs.Entries.{entry_of-beyond, entry_of-diagonal, entry_of-above, entry_of-below}

@@ -1,3 +1,4 @@
+-- The proof of `place_of`.
 use Rattle.std.proofs.Common.{◌≡◌, ◌-◌, ◌+◌, arith, rules}
 use Rattle.cox_base.specs.Matrix.{labels_before, place}
 use Rattle.cox_base.proofs.Places.{labels_before-limit, labels_before-next, place-within}
@@ -28,4 +29,9 @@ returns-clause-place c =
 
 pub returns-clause-within : goal.returns-clause-within
 returns-clause-within c =
-    omega (arith, returns-clause-place c, place-within c.args.rank c.args.s c.args.t c.requires.from_one c.requires.rising c.requires.to_rank)
+    omega (
+      arith,
+      returns-clause-place c,
+      place-within c.args.rank c.args.s c.args.t c.requires.from_one c.requires.rising
+          c.requires.to_rank,
+    )

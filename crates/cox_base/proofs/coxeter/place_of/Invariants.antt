@@ -1,3 +1,4 @@
+-- What the loop of `place_of` keeps.
 use Rattle.std.proofs.Common.{◌≡◌, ◌-◌}
 use Rattle.cox_base.specs.Matrix.{labels_before}
 use Rattle.cox_base.proofs.coxeter.place_of.Given as goal

@@ -1,3 +1,4 @@
+-- The law `admissible`.
 use Rattle.cox_base.proofs.Admissible.{IsAdmissible-integer_matrix}
 use Rattle.cox_base.proofs.laws.admissible.Goals as goal
 

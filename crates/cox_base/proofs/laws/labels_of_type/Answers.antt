@@ -1,3 +1,4 @@
+-- The law `labels_of_type`.
 use Rattle.cox_base.specs.NamedType.{type_matrix}
 use Rattle.cox_base.proofs.Rows.{type_matrix-IsCoxeterMatrix, type_rank-limit, label-type_matrix}
 use Rattle.cox_base.proofs.laws.labels_of_type.Goals as goal

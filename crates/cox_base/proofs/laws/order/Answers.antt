@@ -1,3 +1,4 @@
+-- The law `order`.
 use Rattle.cox_base.proofs.Admissible.{HasOrder-integer_matrix}
 use Rattle.cox_base.proofs.laws.order.Goals as goal
 

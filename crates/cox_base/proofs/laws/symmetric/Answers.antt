@@ -1,3 +1,4 @@
+-- The law `symmetric`.
 use Rattle.cox_base.proofs.Entries.{label-symmetric}
 use Rattle.cox_base.proofs.laws.symmetric.Goals as goal
 

@@ -1,3 +1,4 @@
+-- What the loop of `push_row` keeps.
 use Rattle.std.proofs.Common.{◌≡◌, ◌+◌, ◌-◌, ◌++◌, map}
 use Rattle.std.specs.List.{range_with_len}
 use Rattle.cox_base.specs.NamedType.{type_label}

@@ -1,3 +1,4 @@
+-- The proof of `read_number`.
 use Rattle.std.proofs.Common.{◌≤◌, ◌^◌, arith, rules}
 use Rattle.std.proofs.Math.Nat.{pow-le-pow_right}
 use Rattle.cox_command.proofs.number.read_number.Goals as goal

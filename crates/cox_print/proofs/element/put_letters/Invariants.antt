@@ -1,5 +1,6 @@
+-- What the loop of `put_letters` keeps.
 use Rattle.std.proofs.Common.{◌≡◌, ◌++◌, map, take}
-use Rattle.cox_print.specs.Text.{letter_digit}
+use Rattle.cox_print.specs.AnswerText.{letter_digit}
 use Rattle.cox_print.proofs.element.put_letters.Given as goal
 
 abbrev pub invariant-loop-letter : goal.invariant-loop-letter

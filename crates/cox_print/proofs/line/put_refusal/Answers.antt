@@ -1,3 +1,4 @@
+-- The proof of `put_refusal`.
 use Rattle.std.proofs.Common.{codes, rules}
 use Rattle.std.specs.Fmt.{decimal}
 use Rattle.cox_poly.proofs.Behind.{Puts-first}

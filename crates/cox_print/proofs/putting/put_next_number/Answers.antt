@@ -1,3 +1,4 @@
+-- The proof of `put_next_number`.
 use Rattle.std.proofs.Common.{codes, rules}
 use Rattle.std.specs.Fmt.{signed_decimal}
 use Rattle.cox_poly.proofs.Behind.{Puts-first}

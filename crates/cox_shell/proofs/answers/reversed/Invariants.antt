@@ -1,3 +1,4 @@
+-- What the loop of `reversed` keeps.
 use Rattle.std.proofs.Common.{◌≡◌, ◌-◌, length, drop, reverse}
 use Rattle.cox_shell.proofs.answers.reversed.Given as goal
 

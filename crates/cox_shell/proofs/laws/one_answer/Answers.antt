@@ -1,3 +1,4 @@
+-- The law `one_answer`.
 use Rattle.cox_shell.specs.Reply.{opening}
 use Rattle.cox_shell.specs.Answer.{script_lines}
 use Rattle.cox_shell.proofs.Replies.{AreReplies-unique, IsAnswer-unique}

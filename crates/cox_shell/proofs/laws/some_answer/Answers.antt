@@ -1,3 +1,4 @@
+-- The law `some_answer`.
 use Rattle.cox_shell.proofs.SomeAnswer.{IsAnswer-exists}
 use Rattle.cox_shell.proofs.laws.some_answer.Goals as goal
 

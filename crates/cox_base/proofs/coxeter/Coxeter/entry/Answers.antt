@@ -1,3 +1,4 @@
+-- The proof of `Coxeter::entry`.
 use Rattle.std.proofs.Common.{arith}
 use Rattle.std.proofs.lemmas.Grind.{common_steps}
 use Rattle.cox_base.proofs.Entries.{entry_of-small}

@@ -1,3 +1,4 @@
+-- The proof of `Coxeter::label`.
 use Rattle.std.proofs.Common.{arith}
 use Rattle.std.proofs.lemmas.Bool.Decides.{nat_tests}
 use Rattle.cox_base.specs.Matrix.{label}

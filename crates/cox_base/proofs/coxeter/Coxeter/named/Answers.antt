@@ -1,3 +1,4 @@
+-- The proof of `Coxeter::named`.
 use Rattle.std.proofs.Common.{◌≡◌, ◌+◌, ◌-◌, ◌∙◌, arith, rules, ap, sym, length}
 use Rattle.cox_base.specs.NamedType.{rows_above, type_label}
 use Rattle.cox_base.proofs.Places.{labels_before-small, labels_before-next}
@@ -19,16 +20,24 @@ pub loop-s-preserved : goal.loop-s-preserved
 loop-s-preserved c =
     let s = c.loop-s.s in
     let next : s + 1 - 1 ≡ s = omega arith in
-    rw (next, c.push_row.ensures, c.loop-s.invariant, ← rows_above-next c.rank_of-rank.result (type_label c.args.letter c.args.n) s (omega arith))
+    rw (
+      next,
+      c.push_row.ensures,
+      c.loop-s.invariant,
+      ← rows_above-next c.rank_of-rank.result (type_label c.args.letter c.args.n) s
+          (omega arith),
+    )
 
 pub from_labels-requires-clause-matrix : goal.from_labels-requires-clause-matrix
 from_labels-requires-clause-matrix c =
     let rank = c.rank_of-rank in
-    rw (type_matrix-rows c.args.letter c.args.n rank.result c.loop-s.s c.loop-s.labels.items rank.ensures.rank rank.ensures.some (omega arith) c.loop-s.invariant)
+    rw (type_matrix-rows c.args.letter c.args.n rank.result c.loop-s.s c.loop-s.labels.items rank.ensures.rank rank.ensures.some
+    (omega arith) c.loop-s.invariant)
     (type_matrix-IsCoxeterMatrix c.args.letter c.args.n (sym c.has_type.ensures ∙ c.if-not-has_type.false))
 
 pub returns-clause-matrix : goal.returns-clause-matrix
 returns-clause-matrix c =
     let rank = c.rank_of-rank in
     c.from_labels.ensures
-    ∙ type_matrix-rows c.args.letter c.args.n rank.result c.loop-s.s c.loop-s.labels.items rank.ensures.rank rank.ensures.some (omega arith) c.loop-s.invariant
+    ∙ type_matrix-rows c.args.letter c.args.n rank.result c.loop-s.s c.loop-s.labels.items rank.ensures.rank rank.ensures.some
+    (omega arith) c.loop-s.invariant

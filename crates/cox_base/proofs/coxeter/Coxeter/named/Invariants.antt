@@ -1,3 +1,4 @@
+-- What the loop of `Coxeter::named` keeps.
 use Rattle.std.proofs.Common.{◌≡◌, ◌-◌}
 use Rattle.cox_base.specs.NamedType.{rows_above, type_label}
 use Rattle.cox_base.proofs.coxeter.Coxeter.named.Given as goal

@@ -1,3 +1,4 @@
+-- The proof of `Coxeter::of_labels`.
 use Rattle.std.proofs.Common.{slice_index}
 use Rattle.cox_base.proofs.LabelLemmas.{IsFirstBad-at, is_label-false}
 use Rattle.cox_base.proofs.coxeter.Coxeter.of_labels.Goals as goal

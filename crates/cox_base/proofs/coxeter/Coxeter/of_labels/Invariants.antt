@@ -1,3 +1,4 @@
+-- What the loop of `Coxeter::of_labels` keeps.
 use Rattle.std.proofs.Common.{◌≡◌, ℕ, ◌<◌, take, slice_index, true}
 use Rattle.cox_base.specs.Matrix.{is_label}
 use Rattle.cox_base.proofs.coxeter.Coxeter.of_labels.Given as goal

@@ -1,3 +1,4 @@
+-- What the loop of `Tokens::has_count` keeps.
 use Rattle.std.proofs.Common.{◌≡◌, ◌+◌, length}
 use Rattle.cox_command.proofs.tokens.Tokens.has_count.Given as goal
 

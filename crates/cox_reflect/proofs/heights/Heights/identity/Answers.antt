@@ -1,7 +1,7 @@
 -- Each simple root has the height 1.
 use Rattle.std.proofs.Common.{◌-◌, pos, sym, ◌∙◌, arith}
 use Rattle.std.proofs.lemmas.List.{get_or-replicate}
-use Rattle.cox_base.specs.declared.coxeter.TheConstants.{MAX_RANK}
+use Rattle.cox_base.specs.declared.limits.TheConstants.{MAX_RANK}
 use Rattle.cox_reflect.proofs.HeightLemmas.{height-nil}
 use Rattle.cox_reflect.proofs.heights.Heights.identity.Goals as goal
 

@@ -1,6 +1,6 @@
 -- What is kept over the letters whose heights are replaced.
 use Rattle.std.proofs.Common.{◌≡◌, ℕ, ◌≤◌, ◌<◌, length, ◌-ℤ◌, ◌*ℤ◌}
-use Rattle.cox_base.specs.declared.coxeter.TheConstants.{MAX_RANK}
+use Rattle.cox_base.specs.declared.limits.TheConstants.{MAX_RANK}
 use Rattle.cox_base.specs.Matrix.{IsLetter}
 use Rattle.cox_base.specs.IntegerMatrix.{entry_of}
 use Rattle.cox_reflect.specs.RootHeight.{at_letter}

@@ -1,3 +1,4 @@
+-- The proof of `counts`.
 use Rattle.std.proofs.Common.{◌<◌, pos, refl, ◌∙◌, length, take, arith}
 use Rattle.std.proofs.lemmas.List.{get_or-replicate, length-set}
 use Rattle.cox_context.specs.Interval.{count_of_length}
@@ -15,7 +16,8 @@ overflow_add-counts c =
     let below : c.loop-i.i < length members = omega arith in
     let short = c.len-i-end.ensures.closed.short (word_at members c.loop-i.i) (contains-at members c.loop-i.i below) in
     let few = count-most members c.loop-i.i c.length.result in
-    count-room _ (count_of_length (take c.loop-i.i members) c.length.result) (c.loop-i.invariant.values c.length.result (omega (arith, short)))
+    count-room _ (count_of_length (take c.loop-i.i members) c.length.result)
+    (c.loop-i.invariant.values c.length.result (omega (arith, short)))
     (omega (arith, few, c.len-i-end.ensures.closed.few))
 
 pub loop-i-preserved : goal.loop-i-preserved
@@ -29,5 +31,6 @@ loop-i-preserved c =
     (omega (arith, few, c.len-i-end.ensures.closed.few)) in
     record {
       long = length-set c.loop-i.counts c.length.result _ ∙ c.loop-i.invariant.long;
-      values = counts-more members c.loop-i.counts c.loop-i.i c.length.result _ c.loop-i.invariant.values below c.length.ensures (omega (arith, bound)) sum;
+      values = counts-more members c.loop-i.counts c.loop-i.i c.length.result _ c.loop-i.invariant.values below c.length.ensures
+          (omega (arith, bound)) sum;
     }

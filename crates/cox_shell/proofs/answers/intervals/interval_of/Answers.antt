@@ -1,4 +1,5 @@
-use Rattle.std.proofs.Common.{◌≡◌, ◌≤◌, ℕ, List, length, refl, arith}
+-- The proof of `interval_of`.
+use Rattle.std.proofs.Common.{◌≡◌, ◌≤◌, ℕ, List, length, inl, refl, arith}
 use Rattle.cox_base.specs.IntegerMatrix.{IntegerMatrix, IsAdmissible, integer_matrix}
 use Rattle.cox_reflect.proofs.Admissible.{IsAdmissible-integer_matrix}
 use Rattle.cox_reflect.proofs.Search.{word_length-length}
@@ -13,9 +14,11 @@ use Rattle.cox_context.proofs.IntervalLemmas.{interval-refused}
 use Rattle.cox_shell.proofs.answers.intervals.interval_of.Goals as goal
 
 -- an interval that is refused for its size
-interval-size : (A : IntegerMatrix) → IsAdmissible A → (limit : ℕ) (w : List ℕ) → length w ≤ 63 → (fault : ContextFault) (bound seen : ℕ) → fault ≡ Size bound seen
+interval-size : (A : IntegerMatrix) → IsAdmissible A → (limit : ℕ) (w : List ℕ) → length w ≤ 63 → (fault : ContextFault) (bound seen : ℕ)
+    → fault ≡ Size bound seen
     → IsRefusal (IsInInterval A w) limit fault → HasMoreThan limit (IsInInterval A w)
-interval-size A g limit w short fault bound seen is refusal = interval-refused A g limit w short fault refusal (λ memory. absurd (cc (is, memory)))
+interval-size A g limit w short fault bound seen is refusal = interval-refused A g limit w short fault refusal
+    (λ memory. absurd (cc (is, memory)))
 
 -- none is refused for a long member
 interval-long : (A : IntegerMatrix) → IsAdmissible A → (limit : ℕ) (w : List ℕ) → length w ≤ 63 → (fault : ContextFault) → fault ≡ Long
@@ -26,22 +29,29 @@ interval-long A g limit w short fault is refusal =
 pub returns-in-Ok-clause-members : goal.returns-in-Ok-clause-members
 returns-in-Ok-clause-members c = (
   c.in-Ok.ensures.members,
-  HasMoreThan-few (IsInInterval (integer_matrix c.args.g.now) c.args.w.now.items) c.args.options.context c.in-Ok.context.members
+  HasMoreThan-few (IsInInterval
+      (integer_matrix c.args.work.now.group) c.args.w.now.items) c.args.work.now.options.context c.in-Ok.context.members
       c.in-Ok.ensures.members (omega (arith, c.in-Ok.ensures.few, c.context.ensures.context)),
 )
 
 pub returns-in-Err-Size : goal.returns-in-Err-Size
 returns-in-Err-Size c =
-    let admissible = IsAdmissible-integer_matrix c.args.g.now c.rank.ensures.matrix in
+    let admissible = IsAdmissible-integer_matrix c.args.work.now.group c.rank.ensures.matrix in
     let refusal = rw c.context.ensures.context at (c.in-Err-Size.ensures {u = tt}).refused in
     record {
       matrix = tt;
-      members = (refl, interval-size (integer_matrix c.args.g.now) admissible c.args.options.context c.args.w.now.items c.requires.short _ _ _ c.in-Err-Size.field-0-is refusal);
+      members = inl (
+        interval-size
+            (integer_matrix c.args.work.now.group) admissible c.args.work.now.options.context c.args.w.now.items c.requires.short _ _ _
+            c.in-Err-Size.field-0-is refusal,
+        refl,
+      );
       group = c.rank.ensures.matrix;
     }
 
 pub unreachable-requires : goal.unreachable-requires
 unreachable-requires c =
-    let admissible = IsAdmissible-integer_matrix c.args.g.now c.rank.ensures.matrix in
-    interval-long (integer_matrix c.args.g.now) admissible c.context.result c.args.w.now.items c.requires.short _ c.in-Err-Long.field-0-is
+    let admissible = IsAdmissible-integer_matrix c.args.work.now.group c.rank.ensures.matrix in
+    interval-long (integer_matrix c.args.work.now.group) admissible c.context.result c.args.w.now.items c.requires.short _
+    c.in-Err-Long.field-0-is
     (c.in-Err-Long.ensures {u = tt}).refused

@@ -1,3 +1,4 @@
+-- The proof of `members_above`.
 use Rattle.std.proofs.Common.{◌∙◌, arith}
 use Rattle.cox_base.specs.IntegerMatrix.{integer_matrix}
 use Rattle.cox_reflect.proofs.Admissible.{IsAdmissible-integer_matrix}
@@ -10,33 +11,35 @@ use Rattle.cox_shell.proofs.answers.intervals.members_above.Goals.{then-below+in
 
 pub returns-in_default-clause-between : goal.returns-in_default-clause-between
 returns-in_default-clause-between c = λ w list.
-    let A = integer_matrix c.args.g.now in
-    let admissible = IsAdmissible-integer_matrix c.args.g.now c.requires.group in
-    let closed : IsClosed A c.args.context.now.members = rw c.requires.matrix at c.len-count.ensures.closed in
-    let outside = rw c.normal_form.ensures.form at (c.in_default.ensures {u = tt}) in
+    let A = integer_matrix c.args.context.now.matrix in
+    let admissible = IsAdmissible-integer_matrix c.args.context.now.matrix c.requires.group in
+    let closed : IsClosed A c.args.context.now.members = c.len-count.ensures.closed in
+    let outside = rw (c.normal_form.ensures.form, c.matrix.ensures) at (c.in_default.ensures {u = tt}) in
     let none = none-above A admissible c.args.context.now.members closed c.args.y.now.items outside in
     rw (c.new-above.ensures.items, ← none) (between-of A admissible c.args.y.now.items w c.args.context.now.members list)
 
 pub loop-i-init : goal.loop-i-init
 loop-i-init c =
-    let A = integer_matrix c.args.g.now in
-    let admissible = IsAdmissible-integer_matrix c.args.g.now c.requires.group in
-    let closed : IsClosed A c.args.context.now.members = rw c.requires.matrix at c.len-count.ensures.closed in
+    let A = integer_matrix c.args.context.now.matrix in
+    let admissible = IsAdmissible-integer_matrix c.args.context.now.matrix c.requires.group in
+    let closed : IsClosed A c.args.context.now.members = c.len-count.ensures.closed in
     let found = c.in-Some.ensures {u = tt} in
-    let is = rw c.normal_form.ensures.form at found.1 in
+    let is = rw (c.normal_form.ensures.form, c.matrix.ensures) at found.1 in
     rw c.new-above.ensures.items (IsKept-none (is_below A c.args.y.now.items) c.args.context.now.members c.in-Some.low
     (none-before A admissible c.args.context.now.members closed c.args.y.now.items c.in-Some.low found.0 is))
 
 pub loop-i-preserved : goal.loop-i-preserved
 loop-i-preserved c =
-    let A = integer_matrix c.args.g.now in
-    let admissible = IsAdmissible-integer_matrix c.args.g.now c.requires.group in
-    let closed : IsClosed A c.args.context.now.members = rw c.requires.matrix at c.len-count.ensures.closed in
-    let is = rw c.normal_form.ensures.form at (c.in-Some.ensures {u = tt}).1 in
-    let says = rw c.requires.matrix at c.below.ensures in
-    let answer = above-answer A admissible c.args.context.now.members closed c.args.y.now.items c.in-Some.low c.loop-i.i c.below.result is says in
+    let A = integer_matrix c.args.context.now.matrix in
+    let admissible = IsAdmissible-integer_matrix c.args.context.now.matrix c.requires.group in
+    let closed : IsClosed A c.args.context.now.members = c.len-count.ensures.closed in
+    let is = rw (c.normal_form.ensures.form, c.matrix.ensures) at (c.in-Some.ensures {u = tt}).1 in
+    let says = c.below.ensures in
+    let answer = above-answer A admissible c.args.context.now.members closed c.args.y.now.items c.in-Some.low c.loop-i.i c.below.result is
+    says in
     elim c.if-below.branch [
-      | then-below+in_ok-push w ↦ rw w.above-is (IsKept-more (is_below A c.args.y.now.items) c.args.context.now.members c.loop-i.i c.loop-i.above.items _
+      | then-below+in_ok-push w ↦ rw w.above-is
+          (IsKept-more (is_below A c.args.y.now.items) c.args.context.now.members c.loop-i.i c.loop-i.above.items _
           c.loop-i.invariant (omega arith) (answer ∙ w.if-below.true) (w.in_ok-push.ensures {u = tt}).items)
       | else-below w ↦ rw w.above-is (IsKept-same (is_below A c.args.y.now.items) c.args.context.now.members c.loop-i.i c.loop-i.above.items
           c.loop-i.invariant (omega arith) (answer ∙ w.if-below.false))
@@ -44,7 +47,8 @@ loop-i-preserved c =
 
 pub returns-clause-between : goal.returns-clause-between
 returns-clause-between c = λ w list.
-    let A = integer_matrix c.args.g.now in
-    let admissible = IsAdmissible-integer_matrix c.args.g.now c.requires.group in
-    let whole = IsKept-all (is_below A c.args.y.now.items) c.args.context.now.members c.loop-i.i c.loop-i.above.items c.loop-i.invariant (omega arith) in
+    let A = integer_matrix c.args.context.now.matrix in
+    let admissible = IsAdmissible-integer_matrix c.args.context.now.matrix c.requires.group in
+    let whole = IsKept-all (is_below A c.args.y.now.items) c.args.context.now.members c.loop-i.i c.loop-i.above.items c.loop-i.invariant
+    (omega arith) in
     rw whole (between-of A admissible c.args.y.now.items w c.args.context.now.members list)

@@ -1,3 +1,4 @@
+-- What the loop of `members_below_length` keeps.
 use Rattle.std.proofs.Common.{◌+◌, ◌==◌, length}
 use Rattle.cox_shell.proofs.MemberLists.{IsKept}
 use Rattle.cox_shell.proofs.answers.intervals.members_below_length.Given as goal

@@ -1,54 +1,13 @@
-use Rattle.std.proofs.Common.{[], inr, refl}
-use Rattle.std.proofs.lemmas.List.{append-nil}
-use Rattle.std.proofs.lemmas.Result.{err_from_is_err_and}
+-- The proof of `put_interval`.
 use Rattle.cox_base.specs.IntegerMatrix.{integer_matrix}
-use Rattle.cox_reflect.proofs.Admissible.{IsAdmissible-integer_matrix}
-use Rattle.cox_poly.proofs.Behind.{PutsFront-first}
-use Rattle.cox_shell.specs.Reply.{limits_of}
-use Rattle.cox_shell.specs.CommandReply.{elements_text}
-use Rattle.cox_shell.specs.Saying.{words_at}
-use Rattle.cox_shell.proofs.IntervalTexts.{interval-allowed, interval-text, PutsPart-none, PutsUnless-ungiven}
+use Rattle.cox_shell.specs.SessionLimits.{limits_of}
+use Rattle.cox_shell.proofs.IntervalTexts.{PutsUnless-given}
 use Rattle.cox_shell.proofs.answers.intervals.put_interval.Goals as goal
-
-pub returns-in_err-context : goal.returns-in_err-context
-returns-in_err-context c =
-    let p = err_from_is_err_and c.from_residual.result c.from_residual.ensures.1 in
-    let A = integer_matrix c.args.g.now in
-    let told = c.in_err-context.ensures {u = tt} in
-    let admissible = IsAdmissible-integer_matrix c.args.g.now told.group in
-    rw (p.1, p.2) (PutsUnless-ungiven A admissible (limits_of c.args.options) c.args.w.now.items _ c.args.out.now.items c.in_err-context.field-0.0 told.members
-    (interval-text A admissible c.args.y.now.items c.args.w.now.items))
-
-pub returns-in_err-between : goal.returns-in_err-between
-returns-in_err-between c =
-    let p = err_from_is_err_and c.from_residual-in_err-between.result c.from_residual-in_err-between.ensures.1 in
-    let A = integer_matrix c.args.g.now in
-    let admissible = IsAdmissible-integer_matrix c.args.g.now (c.in_ok-context.ensures {u = tt}).group in
-    rw (p.1, p.2) (PutsPart-none A admissible (limits_of c.args.options) c.args.w.now.items _ c.args.out.now.items
-    (interval-text A admissible c.args.y.now.items c.args.w.now.items))
-
-pub returns-in_err-put_members : goal.returns-in_err-put_members
-returns-in_err-put_members c =
-    let p = err_from_is_err_and c.from_residual-in_err-put_members.result c.from_residual-in_err-put_members.ensures.1 in
-    let A = integer_matrix c.args.g.now in
-    let members = c.in_ok-context.context.members in
-    let given = (c.in_ok-context.ensures {u = tt}).members in
-    let list = (c.in_ok-between.ensures {u = tt}).between c.args.w.now.items given.0 in
-    let front = rw c.as_slice.ensures.value at (c.in_err-put_members.ensures {u = tt}) in
-    let words = words_at members c.in_ok-between.between.items in
-    rw (p.1, p.2) (inr (
-      interval-allowed (limits_of c.args.options) A c.args.w.now.items given.1,
-      elements_text words,
-      (words, list, refl),
-      PutsFront-first (elements_text words) [] _ _ front,
-    ))
 
 pub returns : goal.returns
 returns c =
-    let A = integer_matrix c.args.g.now in
-    let members = c.in_ok-context.context.members in
-    let given = (c.in_ok-context.ensures {u = tt}).members in
-    let list = (c.in_ok-between.ensures {u = tt}).between c.args.w.now.items given.0 in
-    let put = rw c.as_slice.ensures.value at (c.in_ok-put_members.ensures {u = tt}) in
-    let words = words_at members c.in_ok-between.between.items in
-    (interval-allowed (limits_of c.args.options) A c.args.w.now.items given.1, elements_text words, (words, list, refl), rw append-nil put)
+    let A = integer_matrix c.args.work.now.group in
+    let context = c.in_ok-context.context in
+    let told = c.in_ok-context.ensures {u = tt} in
+    let some = rw told.matrix at (c.put_between.ensures c.args.w.now.items (rw told.matrix told.members.0)) in
+    rw c.unrefused.ensures (PutsUnless-given (limits_of c.args.work.now.options) A c.args.w.now.items _ context _ _ _ told.members some)

@@ -1,0 +1,121 @@
+-- Each question has one right text at most, and can be answered: each cause of a refusal is decided, and there is a right text.
+use Rattle.std.proofs.Common.{◌≡◌, ◌⊎◌, ℕ, ◌-◌, ◌<◌, ◌≤◌, ◌↔◌, Bool, true, false, IsTrue, List, inl, inr, refl, sym, ap, ◌∙◌}
+use Rattle.std.proofs.Common.{⊎_elim, arith}
+use Rattle.std.proofs.Common.{true≢false}
+use Rattle.std.proofs.lemmas.Bool.{cases_lt}
+use Rattle.cox_base.specs.Matrix.{CoxeterMatrix}
+use Rattle.cox_base.specs.IntegerMatrix.{IntegerMatrix, IsAdmissible, integer_matrix}
+use Rattle.cox_base.specs.Length.{word_length}
+use Rattle.cox_base.specs.Bruhat.{IsBelow}
+use Rattle.cox_command.specs.declared.refusal.Refusal.{Refusal}
+use Rattle.cox_command.specs.declared.refusal.Refusal.TheVariants.{LargeInterval, FarApart}
+use Rattle.cox_command.specs.declared.command.OneWord.{OneWord}
+use Rattle.cox_command.specs.declared.command.OneWord.TheVariants.{Compute, Length, Inverse, Descent, Coatoms, Betti}
+use Rattle.cox_command.specs.declared.command.TwoWord.{TwoWord}
+use Rattle.cox_command.specs.declared.command.TwoWord.TheVariants.{Inorder, Interval, Rpol}
+use Rattle.cox_context.specs.Members.{IsInInterval}
+use Rattle.cox_context.specs.SortedList.{IsListOf}
+use Rattle.cox_context.specs.Interval.{IsBetween, IsCoatom, counts_by_length}
+use Rattle.cox_context.proofs.SortedLemmas.{IsListOf-unique}
+use Rattle.cox_context.proofs.IntervalLemmas.{is_below, is_below-tells, interval-exists, between-of, coatoms-of, interval-decided}
+use Rattle.cox_print.specs.AnswerText.{truth_text, numbers_text, elements_text}
+use Rattle.cox_shell.specs.declared.inquiry.Inquiry.{Inquiry}
+use Rattle.cox_shell.specs.declared.inquiry.Inquiry.TheVariants.{One, Two}
+use Rattle.cox_shell.specs.Reply.{Limits}
+use Rattle.cox_shell.specs.CommandReply.{RefusesNone, RefusesLarge, RefusesFar, one_question, two_question, question_of}
+use Rattle.cox_shell.proofs.Refusing.{HasOneText, IsAnswerable}
+
+-- the words with a property give one text
+listed-unique : (P : List ℕ → Type 0) (text_of : List (List ℕ) → List ℕ) (a b : List ℕ)
+    → (words : List (List ℕ)) × IsListOf P words × (a ≡ text_of words) → (words : List (List ℕ)) × IsListOf P words × (b ≡ text_of words)
+    → a ≡ b
+listed-unique P text_of a b p q = p.2 ∙ ap text_of (IsListOf-unique P p.0 q.0 p.1 q.1) ∙ sym q.2
+
+-- the truth of a fact is one
+truth-unique : (P : Type 0) (b d : Bool) → (IsTrue b ↔ P) → (IsTrue d ↔ P) → b ≡ d
+truth-unique P true true p q = refl
+truth-unique P true false p q = absurd (cc (q.1 (p.0 refl)))
+truth-unique P false true p q = absurd (cc (p.1 (q.0 refl)))
+truth-unique P false false p q = refl
+
+-- each question has one right text at most
+one-text : (kind : OneWord) (limits : Limits) (rank : ℕ) (A : IntegerMatrix) (w : List ℕ) → HasOneText (one_question kind limits rank A w)
+one-text Compute limits rank A w a b p q = p ∙ sym q
+one-text Length limits rank A w a b p q = p ∙ sym q
+one-text Inverse limits rank A w a b p q = p ∙ sym q
+one-text Descent limits rank A w a b p q = p ∙ sym q
+one-text Coatoms limits rank A w a b p q = listed-unique (IsCoatom A w) (elements_text rank) a b p q
+one-text Betti limits rank A w a b p q =
+    listed-unique (IsInInterval A w) (λ members. numbers_text (counts_by_length members (word_length A w))) a b p q
+
+two-text : (kind : TwoWord) (limits : Limits) (rank : ℕ) (A : IntegerMatrix) (y w : List ℕ)
+    → HasOneText (two_question kind limits rank A y w)
+two-text Inorder limits rank A y w a b p q = p.2 ∙ ap truth_text (truth-unique (IsBelow A y w) p.0 q.0 p.1 q.1) ∙ sym q.2
+two-text Interval limits rank A y w a b p q = listed-unique (IsBetween A y w) (elements_text rank) a b p q
+two-text Rpol limits rank A y w a b p q = p ∙ sym q
+
+pub question-one : (inquiry : Inquiry) (limits : Limits) (g : CoxeterMatrix) → HasOneText (question_of inquiry limits g)
+question-one (One kind w) limits g = one-text kind limits g.rank (integer_matrix g) w.items
+question-one (Two kind y w) limits g = two-text kind limits g.rank (integer_matrix g) y.items w.items
+
+-- a question that nothing refuses, whose text is computed
+computed : (text : List ℕ) → IsAnswerable (record { Refuses = RefusesNone; IsText = λ t. t ≡ text })
+computed text = record { decided = λ why. inr (λ none. none); text = text; is_text = refl }
+
+module _ (limits : Limits) (A : IntegerMatrix) (g : IsAdmissible A) where
+  -- whether an interval is too large is decided
+  large-decided : (w : List ℕ) (why : Refusal) → RefusesLarge limits A w why ⊎ (RefusesLarge limits A w why → ⊥)
+  large-decided w LargeInterval = ⊎_elim (λ many. inl many) (λ few. inr few.0) (interval-decided A g limits.context w)
+  large-decided w _ = inr (λ none. none)
+
+  -- a text of words that are kept of an interval
+  listed : (w : List ℕ) (P : List ℕ → Type 0) (keep : List (List ℕ) → List (List ℕ)) (text_of : List (List ℕ) → List ℕ)
+      → ((xs : List (List ℕ)) → IsListOf (IsInInterval A w) xs → IsListOf P (keep xs))
+      → IsAnswerable (record {
+        Refuses = RefusesLarge limits A w;
+        IsText = λ text. (words : List (List ℕ)) × IsListOf P words × (text ≡ text_of words);
+      })
+  listed w P keep text_of of =
+      let members = interval-exists A g w in
+      record { decided = large-decided w; text = text_of (keep members.0); is_text = (keep members.0, of members.0 members.1, refl) }
+
+  -- whether R(y,w) is of too high a degree is decided
+  deep-decided : (y w : List ℕ) → RefusesFar A y w FarApart ⊎ (RefusesFar A y w FarApart → ⊥)
+  deep-decided y w = by_order (is_below A y w) refl
+    where
+      d : ℕ
+      d = word_length A w - word_length A y
+
+      by_order : (b : Bool) → is_below A y w ≡ b → RefusesFar A y w FarApart ⊎ (RefusesFar A y w FarApart → ⊥)
+      by_order true e = ⊎_elim
+          (λ (far : 39 < d). inl (d, record { below = (is_below-tells A g y w).0 e; difference = omega (arith, far); above = far }))
+          (λ (near : d ≤ 39). inr (λ refuses. absurd (omega (arith, near, refuses.1.difference, refuses.1.above)))) (cases_lt 39 d)
+      by_order false e = inr (λ refuses. true≢false (sym ((is_below-tells A g y w).1 refuses.1.below) ∙ e))
+
+  far-decided : (y w : List ℕ) (why : Refusal) → RefusesFar A y w why ⊎ (RefusesFar A y w why → ⊥)
+  far-decided y w FarApart = deep-decided y w
+  far-decided y w _ = inr (λ none. none)
+
+  -- each question can be answered
+  one-answerable : (rank : ℕ) (kind : OneWord) (w : List ℕ) → IsAnswerable (one_question kind limits rank A w)
+  one-answerable rank Compute w = computed _
+  one-answerable rank Length w = computed _
+  one-answerable rank Inverse w = computed _
+  one-answerable rank Descent w = computed _
+  one-answerable rank Coatoms w = listed w (IsCoatom A w) _ (elements_text rank) (coatoms-of A g w)
+  one-answerable rank Betti w =
+      listed w (IsInInterval A w) (λ xs. xs) (λ members. numbers_text (counts_by_length members (word_length A w))) (λ xs a. a)
+
+  two-answerable : (rank : ℕ) (kind : TwoWord) (y w : List ℕ) → IsAnswerable (two_question kind limits rank A y w)
+  two-answerable rank Inorder y w = record {
+    decided = λ why. inr (λ none. none);
+    text = truth_text (is_below A y w);
+    is_text = (is_below A y w, is_below-tells A g y w, refl);
+  }
+  two-answerable rank Interval y w = listed w (IsBetween A y w) _ (elements_text rank) (between-of A g y w)
+  two-answerable rank Rpol y w = record { decided = far-decided y w; text = _; is_text = refl }
+
+pub question-answerable : (inquiry : Inquiry) (limits : Limits) (g : CoxeterMatrix) → IsAdmissible (integer_matrix g)
+    → IsAnswerable (question_of inquiry limits g)
+question-answerable (One kind w) limits g admissible = one-answerable limits (integer_matrix g) admissible g.rank kind w.items
+question-answerable (Two kind y w) limits g admissible = two-answerable limits (integer_matrix g) admissible g.rank kind y.items w.items

@@ -1,0 +1,87 @@
+-- The refusal of a command is one, and where each cause is decided there is one or none; so the reply is one and exists, for any question.
+use Rattle.std.proofs.Common.{◌≡◌, ◌⊎◌, ℕ, List, [], ◌∷◌, Option, None, Some, MatchOption, inl, inr, refl, sym, ap, ◌∙◌, subst}
+use Rattle.cox_command.specs.declared.refusal.Refusal.{Refusal}
+use Rattle.cox_shell.specs.Reply.{State, Reply, refusal, answered}
+use Rattle.cox_shell.specs.Question.{Question, element_refusals, IsFirstRefusal, IsRefused, IsDecided}
+use Rattle.cox_shell.specs.CommandReply.{Answers}
+
+module _ (Refuses : Refusal → Type 0) where
+  -- the first refusal with a cause is one
+  pub IsFirstRefusal-unique : (order : List Refusal) (one other : Option Refusal) → IsFirstRefusal Refuses order one
+      → IsFirstRefusal Refuses order other → one ≡ other
+  IsFirstRefusal-unique [] one other p q = p ∙ sym q
+  IsFirstRefusal-unique (why ∷ later) one other (inl p) (inl q) = p.1 ∙ sym q.1
+  IsFirstRefusal-unique (why ∷ later) one other (inl p) (inr q) = absurd (q.0 p.0)
+  IsFirstRefusal-unique (why ∷ later) one other (inr p) (inl q) = absurd (p.0 q.0)
+  IsFirstRefusal-unique (why ∷ later) one other (inr p) (inr q) = IsFirstRefusal-unique later one other p.1 q.1
+
+  -- where each cause is decided, there is one or none
+  pub IsFirstRefusal-exists : ((why : Refusal) → Refuses why ⊎ (Refuses why → ⊥)) → (order : List Refusal)
+      → (found : Option Refusal) × IsFirstRefusal Refuses order found
+  IsFirstRefusal-exists decided [] = (None, refl)
+  IsFirstRefusal-exists decided (why ∷ later) = by_cause (decided why) (IsFirstRefusal-exists decided later)
+    where
+      by_cause : Refuses why ⊎ (Refuses why → ⊥) → (found : Option Refusal) × IsFirstRefusal Refuses later found
+          → (found : Option Refusal) × IsFirstRefusal Refuses (why ∷ later) found
+      by_cause (inl cause) rest = (Some why, inl (cause, refl))
+      by_cause (inr none) rest = (rest.0, inr (none, rest.1))
+
+  -- where none has a cause, there is none
+  pub IsFirstRefusal-none : ((why : Refusal) → Refuses why → ⊥) → (order : List Refusal) → IsFirstRefusal Refuses order None
+  IsFirstRefusal-none free [] = refl
+  IsFirstRefusal-none free (why ∷ later) = inr (free why, IsFirstRefusal-none free later)
+
+  module _ (state : State) (Is : Reply → Type 0) where
+    -- a command has one reply, where it has one where it is not refused
+    pub IsDecided-unique : ((one other : Reply) → Is one → Is other → one ≡ other) → (one other : Reply)
+        → IsDecided state Refuses Is one → IsDecided state Refuses Is other → one ≡ other
+    IsDecided-unique unique one other p q =
+        by_found p.0 p.2 (subst (λ found. MatchOption found (Is other) (λ why. other ≡ refusal state why))
+        (IsFirstRefusal-unique element_refusals q.0 p.0 q.1 p.1) q.2)
+      where
+        by_found : (found : Option Refusal) → MatchOption found (Is one) (λ why. one ≡ refusal state why)
+            → MatchOption found (Is other) (λ why. other ≡ refusal state why) → one ≡ other
+        by_found None p q = unique one other p q
+        by_found (Some why) p q = p ∙ sym q
+
+    -- a command has a reply
+    pub IsDecided-exists : ((why : Refusal) → Refuses why ⊎ (Refuses why → ⊥)) → (reply : Reply) × Is reply
+        → (reply : Reply) × IsDecided state Refuses Is reply
+    IsDecided-exists decided answer =
+        let first = IsFirstRefusal-exists decided element_refusals in by_found first.0 first.1
+      where
+        by_found : (found : Option Refusal) → IsRefused Refuses found → (reply : Reply) × IsDecided state Refuses Is reply
+        by_found None is = (answer.0, (None, is, answer.1))
+        by_found (Some why) is = (refusal state why, (Some why, is, refl))
+
+    -- what holds of refusals, and of its answers, holds of its reply
+    pub IsDecided-all : (P : Reply → Type 0) → ((why : Refusal) → P (refusal state why)) → ((reply : Reply) → Is reply → P reply)
+        → (reply : Reply) → IsDecided state Refuses Is reply → P reply
+    IsDecided-all P refused answered reply is = by_found is.0 is.2
+      where
+        by_found : (found : Option Refusal) → MatchOption found (Is reply) (λ why. reply ≡ refusal state why) → P reply
+        by_found None is = answered reply is
+        by_found (Some why) is = subst P (sym is) (refused why)
+
+-- a question has one right text at most
+abbrev pub HasOneText : Question → Type 0
+HasOneText question = (a b : List ℕ) → question.IsText a → question.IsText b → a ≡ b
+
+-- a question can be answered: each cause of a refusal is decided, and there is a right text
+pub record IsAnswerable (question : Question) : Type 0 where
+  pub decided : (why : Refusal) → question.Refuses why ⊎ (question.Refuses why → ⊥)
+  pub text : List ℕ
+  pub is_text : question.IsText text
+
+-- the reply to a question is one ..
+pub IsReply-unique : (state : State) (question : Question) → HasOneText question → (one other : Reply)
+    → IsDecided state question.Refuses (Answers state question) one → IsDecided state question.Refuses (Answers state question) other → one
+    ≡ other
+IsReply-unique state question one_text = IsDecided-unique question.Refuses state (Answers state question)
+    (λ one other p q. p.2 ∙ ap (answered state) (one_text p.0 q.0 p.1 q.1) ∙ sym q.2)
+
+-- .. and it exists
+pub IsReply-exists : (state : State) (question : Question) → IsAnswerable question
+    → (reply : Reply) × IsDecided state question.Refuses (Answers state question) reply
+IsReply-exists state question can = IsDecided-exists question.Refuses state (Answers state question) can.decided
+    (answered state can.text, (can.text, can.is_text, refl))

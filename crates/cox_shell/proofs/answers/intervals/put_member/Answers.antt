@@ -1,7 +1,0 @@
-use Rattle.std.proofs.Common.{[], ◌∷◌, rules}
-use Rattle.cox_print.specs.Text.{element_text}
-use Rattle.cox_poly.proofs.Behind.{Puts-first}
-use Rattle.cox_shell.proofs.answers.intervals.put_member.Goals as goal
-
-pub returns-in_err-put_end : goal.returns-in_err-put_end
-returns-in_err-put_end c = Puts-first _ (10 ∷ []) (element_text c.args.word.now.items) _ _ (search rules) c.in_err-put_end.ensures

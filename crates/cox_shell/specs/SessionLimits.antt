@@ -1,0 +1,7 @@
+-- The limits that options give.
+use Rattle.cox_options.specs.declared.options.Options.{Options}
+use Rattle.cox_shell.specs.Reply.{Limits}
+
+-- the limits that options give
+abbrev pub limits_of : Options → Limits
+limits_of options = record { context = options.context }
