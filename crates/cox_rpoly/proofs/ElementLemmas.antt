@@ -3,13 +3,13 @@ use Rattle.std.proofs.Common.{◌≡◌, ℕ, true, List, [], length, ℤ, ap, �
 use Rattle.std.specs.Ordering.{int_eq}
 use Rattle.std.specs.Cmp.Rules.{signed_items}
 use lib.Pointwise.{pointwise}
-use Rattle.cox_base.specs.Matrix.{IsLetter}
 use Rattle.cox_base.specs.IntegerMatrix.{IntegerMatrix, IsAdmissible}
 use Rattle.cox_base.specs.Length.{word_length, IsLeftDescent}
 use Rattle.cox_base.specs.Bruhat.{IsBelow}
-use Rattle.cox_reflect.specs.Height.{HasRoom}
+use Rattle.cox_reflect.specs.declared.heights.Heights.{Heights}
+use Rattle.cox_reflect.specs.Height.{CanPrepend}
 use Rattle.cox_reflect.proofs.Bruhat.{below-length}
-use Rattle.cox_reflect.proofs.HeightLemmas.{HasRoom-lengths, descent_from_heights, heights_at_descent}
+use Rattle.cox_reflect.proofs.HeightLemmas.{descent_from_heights, heights_at_descent}
 use Rattle.cox_reflect.proofs.Lengths.{word_length-is}
 use Rattle.cox_reflect.proofs.NormalForm.{normal_form-no_descent}
 use Rattle.cox_reflect.proofs.Roots.{left_descent-letter}
@@ -18,14 +18,21 @@ use Rattle.cox_rpoly.specs.declared.elements.Element.{Element}
 use Rattle.cox_rpoly.specs.Element.{IsElementOf, IsShortWith}
 
 -- what the test of equality tells
-pub same_element : (x y : Element) → pointwise int_eq x.heights y.heights ≡ true → x ≡ y
+pub same_element : (x y : Element) → pointwise int_eq x.heights.values y.heights.values ≡ true → x ≡ y
 same_element x y t =
-    let e = (signed_items x.heights y.heights).0 t in ap (λ (h : List ℤ). let z : Element = record { heights = h } in z) e
+    let e = (signed_items x.heights.values y.heights.values).0 t
+    in ap (λ (values : List ℤ). let h : Heights = record { values = values } in let z : Element = record { heights = h } in z) e
+
+-- the heights of a short element can be moved by a letter that leaves it short
+pub CanPrepend-short : (A : IntegerMatrix) (s : ℕ) (x : Element) → IsShortWith A s x → CanPrepend A s x.heights
+CanPrepend-short A s x h = record {
+  word = h.word;
+  heights_of = h.of_word.heights_of;
+  short = h.short;
+  next_short = h.times_short;
+}
 
 module _ (A : IntegerMatrix) (g : IsAdmissible A) where
-  pub HasRoom-short : (s : ℕ) (x : Element) → IsLetter A.rank s → IsShortWith A s x → HasRoom A s x.heights
-  HasRoom-short s x l h = HasRoom-lengths A g h.word s x.heights l h.short h.times_short h.of_word.heights_of
-
   -- words of one element have the same descents
   same_descents : (u v : List ℕ) (x : Element) → IsElementOf A u x → IsElementOf A v x → (t : ℕ) → IsLeftDescent A u t → IsLeftDescent A v t
   same_descents u v x a b t d =

@@ -7,6 +7,7 @@ use Rattle.cox_base.specs.Length.{word_length, IsReduced, IsLeftDescent}
 use Rattle.cox_poly.specs.Coefficients.{Coefficients, zero_polynomial, one_polynomial, plus, times_q, times_q_less_one}
 use Rattle.cox_poly.specs.Polynomial.{coefficient}
 use Rattle.cox_poly.proofs.Norms.{HasNormAtMost-coefficient}
+use Rattle.cox_reflect.specs.declared.heights.Heights.{Heights}
 use Rattle.cox_rpoly.specs.declared.elements.Element.{Element}
 use Rattle.cox_rpoly.specs.declared.terms.Link.{Link}
 use Rattle.cox_rpoly.specs.declared.terms.Link.TheVariants.{Shorter, Longer}
@@ -108,7 +109,8 @@ module _ (A : IntegerMatrix) (g : IsAdmissible A) where
       (all : AreValues A v next values) where
     pub AreLinks-within : All (IsMember A (s ∷ v)) layer → All (IsLinkWithin values) links
     AreLinks-within members k d below =
-        let z : Element = record { heights = [] }
+        let none : Heights = record { values = [] }
+        in let z : Element = record { heights = none }
         in let inside : k < length layer = omega (arith, below, are.count)
         in IsLink-within s v (get_or layer k z) next values all (get_or links k d) (members k z inside) (are.each k z d inside)
 
