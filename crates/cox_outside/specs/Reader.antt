@@ -25,7 +25,8 @@ fresh_reader = record { feed = record { pending = []; budget = INPUT_LIMIT }; st
 abbrev pub ShowsContent : Next → List ℕ → Type 0
 ShowsContent (Line text) content = (text.now ≡ content) × (length content ≤ LINE_LIMIT) × (position is_foreign content ≡ None)
 ShowsContent (Long count) content = (count ≡ length content) × (LINE_LIMIT < length content)
-ShowsContent (Byte place) content = (length content ≤ LINE_LIMIT) × (option_map (λ before. before + 1) (position is_foreign content) ≡ Some place)
+ShowsContent (Byte place) content = (length content ≤ LINE_LIMIT)
+    × (option_map (λ before. before + 1) (position is_foreign content) ≡ Some place)
 ShowsContent End content = ⊥
 ShowsContent Failed content = ⊥
 ShowsContent Limit content = ⊥
