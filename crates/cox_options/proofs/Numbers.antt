@@ -22,7 +22,7 @@ use Rattle.clap.proofs.SimpleLemmas.{all_simple, is_nil, plain_fields, simple_gr
 use Rattle.clap.proofs.WalkLemmas.{both, one_text-rows}
 use Rattle.cox_options.specs.Command.{coxeter_app, number_rule}
 use Rattle.cox_options.specs.Found.{HasNumber}
-use Rattle.cox_options.specs.Arguments.{given_number, number_of}
+use Rattle.cox_options.specs.Arguments.{given_number, decimal_value}
 use Rattle.cox_options.proofs.DefaultValue.{default_read}
 
 is_none : {X : Type 0} (o : Option X) → not (is_some o) ≡ true → o ≡ None
@@ -93,8 +93,8 @@ context_read c m p is = number_read coxeter_app c m p is refl refl 0 (codes "con
 
 -- what a parse found for an option is what the words give
 pub given_read : (app : App) (words : List Text) (found : Found) (name : Text) → app ≡ coxeter_app → rows_of found ≡ matches_of app words
-    → given_number name words ≡ option_map number_of (one_text found name)
+    → given_number name words ≡ option_map decimal_value (one_text found name)
 given_read app words found name is rows =
-    ap (λ (a : App). option_map number_of (one_of name (matches_of a words))) (sym is)
-    ∙ ap (λ (rs : List Row). option_map number_of (one_of name rs)) (sym rows)
-    ∙ ap (option_map number_of) (sym (one_text-rows found name))
+    ap (λ (a : App). option_map decimal_value (one_of name (matches_of a words))) (sym is)
+    ∙ ap (λ (rs : List Row). option_map decimal_value (one_of name rs)) (sym rows)
+    ∙ ap (option_map decimal_value) (sym (one_text-rows found name))

@@ -5,7 +5,7 @@ use Rattle.cox_options.specs.declared.options.TheConstants.{MAX_CONTEXT}
 use Rattle.clap.specs.Lexer.{strip_byte}
 use Rattle.clap.specs.ValueTests.{is_unsigned_in}
 use Rattle.clap.proofs.OnLiterals.{clap_on_literals}
-use Rattle.cox_options.specs.Arguments.{given_number, is_refused, number_of}
+use Rattle.cox_options.specs.Arguments.{given_number, is_refused, decimal_value}
 
 pub joined_taken : (name text : List ℕ) → is_refused (name ∷ (codes "--context=" ++ text) ∷ []) ≡ not (is_unsigned_in 1 MAX_CONTEXT text)
 unfolding clap_on_literals
@@ -17,7 +17,7 @@ joined_taken name text = go (is_unsigned_in 1 MAX_CONTEXT text) refl
     go false e = rw e refl
 
 pub joined_context : (name text : List ℕ) → given_number (codes "context") (name ∷ (codes "--context=" ++ text) ∷ [])
-    ≡ Some (number_of text)
+    ≡ Some (decimal_value text)
 unfolding clap_on_literals
 joined_context name text = refl
 
@@ -39,7 +39,7 @@ next_taken name (x ∷ xs) first = go (is_unsigned_in 1 MAX_CONTEXT (x ∷ xs)) 
     go false e plain = rw (plain.0, plain.1, e) refl
 
 pub next_context : (name text : List ℕ) → slice_index text 0 ≢ 45 → given_number (codes "context") (name ∷ codes "--context" ∷ text ∷ [])
-    ≡ Some (number_of text)
+    ≡ Some (decimal_value text)
 unfolding clap_on_literals
 next_context name [] first = refl
 next_context name (x ∷ xs) first =

@@ -28,7 +28,7 @@ use Rattle.clap.specs.declared.parser.matches.ValueSource.TheVariants.{CommandLi
 use Rattle.clap.proofs.SimpleLemmas.{is_nil}
 use Rattle.clap.proofs.WalkLemmas.{both}
 use Rattle.cox_options.specs.Command.{coxeter_app, number_rule}
-use Rattle.cox_options.specs.Arguments.{IsTaken, given_number, number_of}
+use Rattle.cox_options.specs.Arguments.{IsTaken, given_number, decimal_value}
 
 -- the command and its one option, as a parse reads them
 abbrev command : Shape
@@ -224,13 +224,13 @@ IsInRange n = (1 ≤ n) × (n ≤ MAX_CONTEXT)
 
 -- what is found at the end is a number in the range: the default, where none was given
 finished_good : (rows : List Row) → IsGood rows
-    → IsSomeAnd (option_map number_of (one_of (codes "context") (with_default rows rule))) IsInRange
+    → IsSomeAnd (option_map decimal_value (one_of (codes "context") (with_default rows rule))) IsInRange
 finished_good [] good = (omega arith, omega arith)
 finished_good (r ∷ rs) (text, is, ok) =
     let numeral = both _ _ ok in
     let small = both _ _ numeral.1 in
     let range = both _ _ small.1 in
-    subst (λ rows. IsSomeAnd (option_map number_of (one_of (codes "context") (with_default rows rule))) IsInRange) (sym is)
+    subst (λ rows. IsSomeAnd (option_map decimal_value (one_of (codes "context") (with_default rows rule))) IsInRange) (sym is)
     (leb-true _ _ range.0, leb-true _ _ range.1)
 
 not_refused : (b : Bool) → not b ≡ false → b ≡ true

@@ -18,9 +18,9 @@ abbrev pub IsUsage : List Text → Type 0
 IsUsage arguments = is_refused arguments ≡ true
 
 -- the number that decimal digits write, where a plus may stand first
-abbrev pub number_of : Text → ℕ
-number_of text = digits_value 10 (without_leading_plus text)
+abbrev pub decimal_value : Text → ℕ
+decimal_value text = digits_value 10 (without_leading_plus text)
 
 -- the number that the arguments give to the option `--name`: its default, where they do not name it
 abbrev pub given_number : Text → List Text → Option ℕ
-given_number name arguments = option_map number_of (one_of name (matches_of coxeter_app arguments))
+given_number name arguments = option_map decimal_value (one_of name (matches_of coxeter_app arguments))

@@ -2,7 +2,7 @@
 ghost use Rattle.std.specs.Prelude.{◌≡◌, ◌≢◌, Err, IfOk, OnOk, Some, codes, map, option_map};
 ghost use Rattle.clap.specs.Words.{found_of, kind_of, one_text};
 ghost use Rattle.clap.specs.declared.error.kind.ErrorKind.TheVariants.{OutOfMemory};
-ghost use Rattle.cox_options.specs.Arguments.{IsTaken, IsUsage, number_of, given_number};
+ghost use Rattle.cox_options.specs.Arguments.{IsTaken, IsUsage, decimal_value, given_number};
 ghost use Rattle.cox_options.specs.Found.{HasNumber};
 ghost use Rattle.cox_options.specs.declared.options.TheConstants.{MAX_CONTEXT};
 ghost use Rattle.cox_options.specs.declared.reading.OptionFault.TheVariants.{NoMemory, Usage};
@@ -55,7 +55,7 @@ pub fn wrong_arguments() -> [&'static str; 2]
 /// The options by what a parse of the command found.
 fn options_in(matches: &ArgMatches<'_>) -> Options
     requires context { HasNumber (found_of matches.now) (codes "context") MAX_CONTEXT }
-    ensures context { option_map number_of (one_text (found_of matches.now) (codes "context")) ≡ Some result.context }
+    ensures context { option_map decimal_value (one_text (found_of matches.now) (codes "context")) ≡ Some result.context }
 {
     Options {
         context: matches.get_one::<u64>("context").unwrap() as u32,

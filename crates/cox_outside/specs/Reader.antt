@@ -22,13 +22,14 @@ abbrev pub fresh_reader : Reader
 fresh_reader = record { feed = record { pending = []; budget = INPUT_LIMIT }; stop = None }
 
 -- what is told of a line with this content: the content itself, its length if it is long, or the place from 1 of its first foreign byte
-abbrev pub Shows : Next → List ℕ → Type 0
-Shows (Line text) content = (text.now ≡ content) × (length content ≤ LINE_LIMIT) × (position is_foreign content ≡ None)
-Shows (Long count) content = (count ≡ length content) × (LINE_LIMIT < length content)
-Shows (Byte place) content = (length content ≤ LINE_LIMIT) × (option_map (λ before. before + 1) (position is_foreign content) ≡ Some place)
-Shows End content = ⊥
-Shows Failed content = ⊥
-Shows Limit content = ⊥
+abbrev pub ShowsContent : Next → List ℕ → Type 0
+ShowsContent (Line text) content = (text.now ≡ content) × (length content ≤ LINE_LIMIT) × (position is_foreign content ≡ None)
+ShowsContent (Long count) content = (count ≡ length content) × (LINE_LIMIT < length content)
+ShowsContent (Byte place) content = (length content ≤ LINE_LIMIT)
+    × (option_map (λ before. before + 1) (position is_foreign content) ≡ Some place)
+ShowsContent End content = ⊥
+ShowsContent Failed content = ⊥
+ShowsContent Limit content = ⊥
 
 -- why there are no more lines, if so
 abbrev pub stop_of : Next → Option Stop
@@ -66,19 +67,19 @@ TakesNext (Some stop.Limit) line old new = ⊥
 
 -- a line was taken, and is shown
 abbrev pub ShowsLine : Next → Option Stop → Ahead → Ahead → Type 0
-ShowsLine next halt old new = (line : List ℕ) × TakesNext halt line old new × Shows next (content_of line)
+ShowsLine next halt old new = (line : List ℕ) × TakesNext halt line old new × ShowsContent next (content_of line)
 
 -- What a reader that goes on does, and whether it stops: it takes a line and shows it, or meets the end, a fault or the limit.
-abbrev pub Reads : Next → Option Stop → Ahead → Ahead → Type 0
-Reads (Line text) halt old new = ShowsLine (Line text) halt old new
-Reads (Long count) halt old new = ShowsLine (Long count) halt old new
-Reads (Byte place) halt old new = ShowsLine (Byte place) halt old new
-Reads End halt old new = MeetsEnd old new × (halt ≡ Some stop.End)
-Reads Failed halt old new = MeetsFault old new × (halt ≡ Some stop.Failed)
-Reads Limit halt old new = MeetsLimit old new × (halt ≡ Some stop.Limit)
+abbrev pub ReadsNext : Next → Option Stop → Ahead → Ahead → Type 0
+ReadsNext (Line text) halt old new = ShowsLine (Line text) halt old new
+ReadsNext (Long count) halt old new = ShowsLine (Long count) halt old new
+ReadsNext (Byte place) halt old new = ShowsLine (Byte place) halt old new
+ReadsNext End halt old new = MeetsEnd old new × (halt ≡ Some stop.End)
+ReadsNext Failed halt old new = MeetsFault old new × (halt ≡ Some stop.Failed)
+ReadsNext Limit halt old new = MeetsLimit old new × (halt ≡ Some stop.Limit)
 
 -- What a reader does over a source with these bytes left before and after. One that had stopped says so again and does nothing.
 abbrev pub Answers : Next → Reader → Reader → Option (List ℕ) → Option (List ℕ) → Type 0
 Answers next old new left_old left_new = MatchOption old.stop
-    (Reads next new.stop (ahead old.feed left_old) (ahead new.feed left_new))
+    (ReadsNext next new.stop (ahead old.feed left_old) (ahead new.feed left_new))
     (λ halt. (stop_of next ≡ Some halt) × (new ≡ old) × (left_new ≡ left_old))

@@ -4,7 +4,7 @@ ghost use Rattle.std.specs.Prelude.{◌≡◌, ℕ, ◌+◌, ◌-◌, ◌<◌, i
 ghost use Rattle.cox_outside.specs.declared.limits.TheConstants.{LINE_LIMIT};
 ghost use Rattle.cox_outside.specs.Line.{content_of, is_foreign};
 ghost use Rattle.cox_outside.specs.Scan.{KeepsLine};
-ghost use Rattle.cox_outside.specs.Reader.{Shows, stop_of, halt_of};
+ghost use Rattle.cox_outside.specs.Reader.{ShowsContent, stop_of, halt_of};
 
 use crate::limits::LINE_LIMIT;
 use crate::line_reader::{Next, Stop};
@@ -36,7 +36,7 @@ pub fn stop_at(ended: Ended) -> Option<Stop>
 /// What is told of the line of which this was kept.
 pub fn show(buffer: &[u8], count: usize, by_cr: bool) -> Next<'_>
     requires { length buffer.now ≡ LINE_LIMIT + 1 }
-    ensures { (line : List ℕ) → KeepsLine line count by_cr buffer.now → Shows result (content_of line) }
+    ensures { (line : List ℕ) → KeepsLine line count by_cr buffer.now → ShowsContent result (content_of line) }
 {
     let len = content_len(count, by_cr);
     if len > LINE_LIMIT {

@@ -21,9 +21,9 @@ use Rattle.cox_shell.specs.Reply.{Reply}
 use Rattle.cox_shell.specs.Answer.{AreReplies, texts, has_quit, bytes_of}
 use Rattle.cox_shell.specs.Run.{Stand, IsServed, IsCutOff, Serves}
 use Rattle.cox_shell.specs.Outcome.{HasRead, WritesPrefix, WritesAll, StopsThere, AnswersAll, AnswersToFault, AnswersToLimit, Runs}
-use Rattle.cox_shell.proofs.Known.{IfSome-made, IfSome-each, IfSome-follows}
+use Rattle.cox_shell.proofs.KnownValues.{IfSome-made, IfSome-each, IfSome-follows}
 use Rattle.cox_shell.proofs.Replies.{AreReplies-one, AreReplies-quit}
-use Rattle.cox_shell.proofs.Lines.{no_lines-end, no_lines-limit}
+use Rattle.cox_shell.proofs.NoLines.{no_lines-end, no_lines-limit}
 use Rattle.cox_shell.proofs.TakenLines.{TakenLines, TakenLines-one, TakenLines-append, HasRead-taken, HasRead-begun, HasRead-limit}
 use Rattle.cox_shell.proofs.Progress.{Progress, going_lines, texts-push, has_refusal-push, has_quit-push, as_many-push, or_false}
 

@@ -9,7 +9,7 @@ pub mod Replies
 -- what is heard of a line
 pub mod Hearing
 -- no line lies ahead: at the end, and at the limit
-pub mod Lines
+pub mod NoLines
 -- lines that were taken, and the bytes that they are
 pub mod TakenLines
 -- how far a run has come
@@ -17,7 +17,7 @@ pub mod Progress
 -- how it ends
 pub mod Endings
 -- facts of values that are known or not
-pub mod Known
+pub mod KnownValues
 -- what a run over the lines says of the whole
 pub mod Whole
 -- what is due is a prefix of the answer

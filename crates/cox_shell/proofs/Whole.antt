@@ -21,7 +21,7 @@ use Rattle.cox_shell.specs.Run.{Stand, stand}
 use Rattle.cox_shell.specs.Outcome.{Runs, WritesPrefix, WritesAll, StopsThere, AnswersAll}
 use Rattle.cox_shell.specs.Top.{usage_line, given_limits, WritesAnswer, StopsReading, AnswersWhole, AnswersWithin, AreRead}
 use Rattle.cox_shell.specs.Top.{AreDue, IsDue, WritesDue, IsOverRoom, TakesWithin}
-use Rattle.cox_shell.proofs.Known.{IfSome-unmade, IfSome-follows}
+use Rattle.cox_shell.proofs.KnownValues.{IfSome-unmade, IfSome-follows}
 
 -- the limits of the options that arguments give are those that the arguments give
 pub limits-given : (options : Options) (arguments : List (List ℕ)) → given_number (codes "context") arguments ≡ Some options.context

@@ -5,7 +5,7 @@ use Rattle.cox_outside.specs.declared.line_reader.Next.TheVariants as next
 use Rattle.cox_outside.specs.Supply.{Supply}
 use Rattle.cox_outside.specs.Outlet.{Outlet, Writes, IsPrefix}
 use Rattle.cox_outside.specs.Ahead.{Ahead, ahead}
-use Rattle.cox_outside.specs.Reader.{Reader, TakesNext, Reads}
+use Rattle.cox_outside.specs.Reader.{Reader, TakesNext, ReadsNext}
 use Rattle.std.specs.declared.alloc.AllocError.{AllocError}
 use Rattle.cox_shell.specs.declared.session.Said.{Said}
 use Rattle.cox_shell.specs.declared.serving.Heard.{Heard}
@@ -57,9 +57,9 @@ abbrev pub Hears : Heard → State → State → Option Stop → Ahead → Ahead
 Hears (heard.Line said) before after halt old new buffer = (reply : Reply) × TakesReplied reply before halt old new
     × Says said reply after [] buffer
 Hears heard.NoMemory before after halt old new buffer = (reply : Reply) × TakesReplied reply before halt old new
-Hears heard.End before after halt old new buffer = Reads next.End halt old new × (buffer ≡ []) × (after ≡ before)
-Hears heard.Failed before after halt old new buffer = Reads next.Failed halt old new × (buffer ≡ []) × (after ≡ before)
-Hears heard.Limit before after halt old new buffer = Reads next.Limit halt old new × (buffer ≡ []) × (after ≡ before)
+Hears heard.End before after halt old new buffer = ReadsNext next.End halt old new × (buffer ≡ []) × (after ≡ before)
+Hears heard.Failed before after halt old new buffer = ReadsNext next.Failed halt old new × (buffer ≡ []) × (after ≡ before)
+Hears heard.Limit before after halt old new buffer = ReadsNext next.Limit halt old new × (buffer ≡ []) × (after ≡ before)
 
 -- a line was taken and its reply written, which is a refusal or not, and ends the run or not
 pub record IsServed (refused quits : Bool) (old new : Stand) : Type 0 where
@@ -83,8 +83,8 @@ abbrev pub Serves : Served → Stand → Stand → Type 0
 Serves Answered old new = IsServed false false old new
 Serves Refused old new = IsServed true false old new
 Serves Quit old new = IsServed false true old new
-Serves End old new = Reads next.End new.stop old.ahead new.ahead × (new.out ≡ old.out)
-Serves InputLimit old new = Reads next.Limit new.stop old.ahead new.ahead × (new.out ≡ old.out)
-Serves ReadFault old new = Reads next.Failed new.stop old.ahead new.ahead × (new.out ≡ old.out)
+Serves End old new = ReadsNext next.End new.stop old.ahead new.ahead × (new.out ≡ old.out)
+Serves InputLimit old new = ReadsNext next.Limit new.stop old.ahead new.ahead × (new.out ≡ old.out)
+Serves ReadFault old new = ReadsNext next.Failed new.stop old.ahead new.ahead × (new.out ≡ old.out)
 Serves WriteFault old new = (cut : IsCutOff old new) × IfSome old.out.room (λ left. left < length cut.reply.text)
 Serves NoMemory old new = IsCutOff old new

@@ -4,7 +4,7 @@ use Rattle.std.proofs.lemmas.List.{take_at}
 use Rattle.cox_outside.specs.declared.line_reader.Stop.TheVariants as stop
 use Rattle.cox_outside.specs.Scan.{KeepsLine}
 use Rattle.cox_outside.specs.Reader.{halt_of}
-use Rattle.cox_outside.proofs.Telling.{Reads-line, SourceCause-shown, none_is_not_some}
+use Rattle.cox_outside.proofs.Telling.{ReadsNext-line, SourceCause-shown, none_is_not_some}
 use Rattle.cox_outside.proofs.line_reader.LineReader.next.Goals as goal
 
 pub returns-in-Line : goal.returns-in-Line
@@ -18,7 +18,7 @@ returns-in-Line g c =
     let going : c.self.inside.stop ≡ None = search rules in
     let halt : c.stop_at-self-inside.result ≡ None = c.stop_at-self-inside.ensures ∙ ap halt_of c.in-Line.is in
     rw (← c.self.view_is) (
-      (refl, (λ _. tt), rw going (rw halt (Reads-line _ None _ _ _ scans.1 shows))),
+      (refl, (λ _. tt), rw going (rw halt (ReadsNext-line _ None _ _ _ scans.1 shows))),
       record {
         answers = tt;
         still = λ stopped. absurd (none_is_not_some _ going stopped);
@@ -38,7 +38,7 @@ returns-in-Last g c =
     let going : c.self.inside.stop ≡ None = search rules in
     let halt : c.stop_at-self-inside.result ≡ Some stop.End = c.stop_at-self-inside.ensures ∙ ap halt_of c.in-Last.is in
     rw (← c.self.view_is) (
-      (refl, (λ _. tt), rw going (rw halt (Reads-line _ (Some stop.End) _ _ _ scans.1 shows))),
+      (refl, (λ _. tt), rw going (rw halt (ReadsNext-line _ (Some stop.End) _ _ _ scans.1 shows))),
       record {
         answers = tt;
         still = λ stopped. absurd (none_is_not_some _ going stopped);
