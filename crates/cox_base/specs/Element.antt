@@ -1,6 +1,6 @@
--- Words and the elements that they name. The generator s acts on integer vectors by e(t) -> e(t) - a(s,t) e(s), a word by the product of
--- the
--- matrices of its letters, and two words name one element where their matrices are equal (Humphreys 5.3, 5.4: this action is faithful).
+-- Words and the elements that they name. The generator s acts on integer vectors by e(t) -> e(t) - a(s,t) e(s), a
+-- word by the product of the matrices of its letters, and two words name one element where their matrices are equal
+-- (Humphreys 5.3, 5.4: this action is faithful).
 use Rattle.std.specs.Prelude.{◌≡◌, ℕ, zero, suc, ◌==◌, if◌then◌else◌, List, [], ◌∷◌, ℤ, pos, ◌+ℤ◌, ◌-ℤ◌, ◌*ℤ◌}
 use Rattle.cox_base.specs.Matrix.{IsLetter}
 use Rattle.cox_base.specs.IntegerMatrix.{IntegerMatrix}

@@ -1,7 +1,7 @@
--- The named types: a letter, as the code of its character, and a number, as A 4 or E 6. A small a stands for the affine types of A.
--- The nodes are numbered along the diagram as in Bourbaki (Lie groups and Lie algebras, chapters 4 to 6, the plates), so the double bond
--- of B stands
--- at its last two nodes; those of the affine types go round the cycle.
+-- The named types: a letter, as the code of its character, and a number, as A 4 or E 6. A small a stands for the
+-- affine types of A. The nodes are numbered along the diagram as in Bourbaki (Lie groups and Lie algebras, chapters 4
+-- to 6, the plates), so the double bond of B stands at its last two nodes; those of the affine types go round the
+-- cycle.
 use Rattle.std.specs.Prelude.{ℕ, zero, suc, ◌+◌, ◌-◌, ◌==◌, Bool, ◌&&◌, ◌||◌, if◌then◌else◌, nat_le, List, [], ◌++◌, map}
 use Rattle.std.specs.List.{range_with_len}
 use Rattle.cox_base.specs.declared.limits.TheConstants.{MAX_RANK}
@@ -14,10 +14,9 @@ is_between low high n = nat_le low n && nat_le n high
 -- Which types there are, up to the greatest rank: A from 1, B from 2, D from 4, E 6 to 8, F 4, G 2 and a from 1 (65 is the code of A, 66
 -- of B, and so on; 97 that of a).
 abbrev pub is_type : ℕ → ℕ → Bool
-is_type letter n = (letter == 65 && is_between 1 MAX_RANK n) || (letter == 66 && is_between 2 MAX_RANK n) ||
-    (letter == 68 && is_between 4 MAX_RANK n)
-    || (letter == 69 && is_between 6 8 n) || (letter == 70 && n == 4) || (letter == 71 && n == 2) ||
-    (letter == 97 && is_between 1 (MAX_RANK - 1) n)
+is_type letter n = (letter == 65 && is_between 1 MAX_RANK n) || (letter == 66 && is_between 2 MAX_RANK n)
+    || (letter == 68 && is_between 4 MAX_RANK n) || (letter == 69 && is_between 6 8 n) || (letter == 70 && n == 4)
+    || (letter == 71 && n == 2) || (letter == 97 && is_between 1 (MAX_RANK - 1) n)
 
 -- the number of nodes: n, but n + 1 for the affine types
 abbrev pub type_rank : ℕ → ℕ → ℕ
@@ -49,9 +48,13 @@ label_affine n s t = if n == 1 then 0 else if s == 1 && t == n + 1 then 3 else c
 
 -- the label between nodes s < t
 abbrev pub type_label : ℕ → ℕ → ℕ → ℕ → ℕ
-type_label letter n s t = if letter == 65 then chain_label s t else if letter == 66 then label_b n s t else if letter == 68 then label_d n
-    s t
-    else if letter == 69 then label_e s t else if letter == 70 then label_f s t else if letter == 71 then 6 else label_affine n s t
+type_label letter n s t = if letter == 65 then chain_label s t
+    else if letter == 66 then label_b n s t
+    else if letter == 68 then label_d n s t
+    else if letter == 69 then label_e s t
+    else if letter == 70 then label_f s t
+    else if letter == 71 then 6
+    else label_affine n s t
 
 -- f s t for s < t ≤ n, in the first rows, row by row
 unfoldable pub rows_above : ℕ → (ℕ → ℕ → ℕ) → ℕ → List ℕ

@@ -1,6 +1,6 @@
--- Two letters s and t. An alternating word moves a vector by a combination of e(s) and e(t), so two coefficients tell all: the
--- braid relations
--- for m = 2, 3, 4 and 6, and that a shorter alternating word takes e(s) to a nonnegative combination of e(s) and e(t).
+-- Two letters s and t. An alternating word moves a vector by a combination of e(s) and e(t), so two coefficients tell
+-- all: the braid relations for m = 2, 3, 4 and 6, and that a shorter alternating word takes e(s) to a nonnegative
+-- combination of e(s) and e(t).
 use Rattle.std.proofs.Common.{◌≡◌, ℕ, zero, suc, ◌+◌, ◌-◌, ◌≤◌, ◌<◌, Bool, true, false, not, cond, List, [], ◌∷◌, ◌++◌, length, ℤ}
 use Rattle.std.proofs.Common.{pos, negsuc, ◌+ℤ◌, ◌-ℤ◌, ◌*ℤ◌, ◌≤ℤ◌, refl, ap, ap₂, sym, ◌∙◌, ⊎_elim, arith, lit<, zero-add}
 use Rattle.std.proofs.Common.{suc-add}

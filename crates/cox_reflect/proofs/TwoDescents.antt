@@ -1,6 +1,5 @@
--- Two letters t and s in turn: with their order m, t s t .. of 2 m - 1 letters is s, and s t s .. of fewer than 2 m letters, an
--- even number, is
--- not the identity; two letters that both shorten an element have an order.
+-- Two letters t and s in turn: with their order m, t s t .. of 2 m - 1 letters is s, and s t s .. of fewer than 2 m
+-- letters, an even number, is not the identity; two letters that both shorten an element have an order.
 use Rattle.std.proofs.Common.{◌≡◌, ℕ, zero, suc, ◌+◌, ◌-◌, ◌<◌, false, List, [], ◌∷◌, ◌++◌, reverse, ℤ, pos, ◌*ℤ◌, ◌-ℤ◌, refl, ap}
 use Rattle.std.proofs.Common.{sym, ◌∙◌, arith}
 use Rattle.std.proofs.lemmas.Int.{ints}

@@ -6,9 +6,8 @@ use Rattle.cox_base.specs.ShortLex.{normal_form}
 use Rattle.cox_base.specs.Length.{word_length}
 use Rattle.cox_poly.specs.Coefficients.{Coefficients, zero_polynomial, one_polynomial, plus, times_q, times_q_less_one}
 
--- R(x,w), w being a word in which each letter shortens what follows it and itself, from the left. For w = e it is 1 where x is the
--- identity, else 0. For w = s v,
--- R(x, s v) = R(sx, v) where sx < x, else (q-1) R(x, v) + q R(sx, v).
+-- R(x,w), w being a word in which each letter shortens what follows it and itself, from the left. For w = e it is 1
+-- where x is the identity, else 0. For w = s v, R(x, s v) = R(sx, v) where sx < x, else (q-1) R(x, v) + q R(sx, v).
 unfoldable pub r_along : IntegerMatrix → List ℕ → List ℕ → Coefficients
 r_along A x [] = if word_length A x == 0 then one_polynomial else zero_polynomial
 r_along A x (s ∷ v) = if nat_lt (word_length A (s ∷ x)) (word_length A x) then r_along A (s ∷ x) v

@@ -11,7 +11,8 @@ invariant_of-self c =
     let list = c.coefficients-coefficients.ensures.list in
     let some : 0 < length c.coefficients-coefficients.result.now = grind (arith, nat_tests) in
     let room : c.args.shift + length c.coefficients-coefficients.result.now ≤ DEGREES = rw list
-    (IsPolynomial-room DEGREES _ c.args.shift c.coefficients-coefficients.ensures.storable.trimmed (rw (← list) some) c.requires.degrees) in (
+    (IsPolynomial-room DEGREES _ c.args.shift c.coefficients-coefficients.ensures.storable.trimmed (rw (← list) some)
+    c.requires.degrees) in (
       omega (arith, c.self.invariant.0),
       HasDegreeBelow-added _ _ _ _ c.args.shift c.self.inside.used _ c.self.invariant.1 c.add_into.ensures (omega arith) (omega arith),
     )
