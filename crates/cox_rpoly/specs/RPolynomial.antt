@@ -13,7 +13,7 @@ r_along A x [] = if word_length A x == 0 then one_polynomial else zero_polynomia
 r_along A x (s ∷ v) = if nat_lt (word_length A (s ∷ x)) (word_length A x) then r_along A (s ∷ x) v
     else plus (times_q_less_one (r_along A x v)) (times_q (r_along A (s ∷ x) v))
 
--- R(x,w) is defined by the recursion along the letters of the normal form of w, each of which is the least left descent of what is left. That
--- it depends on the elements alone, and is 0 unless x <= w, are laws.
+-- R(x,w) is defined by the recursion along the letters of the normal form of w, each of which is the least left descent of what is left.
+-- That it depends on the elements alone, and is 0 unless x <= w, are laws.
 unfoldable pub r_polynomial : IntegerMatrix → List ℕ → List ℕ → Coefficients
 r_polynomial A x w = r_along A x (normal_form A w)
