@@ -10,7 +10,7 @@ use Rattle.cox_outside.specs.Line.{line_feed, into_first, onto_first, ended_line
 use Rattle.cox_outside.specs.Outlet.{IsPrefix}
 use Rattle.cox_shell.specs.Reply.{Limits, Reply}
 use Rattle.cox_shell.specs.Answer.{texts, script_lines}
-use Rattle.cox_shell.specs.FirstReplies.{IsAnswer}
+use Rattle.cox_shell.specs.ScriptAnswer.{IsAnswer}
 use Rattle.cox_shell.specs.Top.{AreRead, AreDue}
 use Rattle.cox_shell.proofs.Replies.{IsPrefix-answer}
 
@@ -81,4 +81,4 @@ AreDue-prefix limits script left text replies due answer =
     let same : script ≡ due.given ++ left = cc (due.taken) in
     let first : IsPrefix due.lines (script_lines script) = subst (λ bytes. IsPrefix due.lines (script_lines bytes)) (sym same)
     (AreRead-script due.lines due.given left due.are_read) in
-    IsPrefix-answer limits script text replies (due.lines, first.0, first.1, due.are_replies) answer
+    IsPrefix-answer limits script text due.lines replies first due.are_replies answer

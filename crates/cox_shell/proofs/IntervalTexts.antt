@@ -2,7 +2,7 @@
 use Rattle.std.proofs.Common.{ℕ, List, Result, Ok, Err, inl, refl}
 use Rattle.std.specs.declared.alloc.AllocError.{AllocError}
 use Rattle.cox_base.specs.IntegerMatrix.{IntegerMatrix}
-use Rattle.cox_context.specs.Members.{Elements}
+use Rattle.cox_context.specs.Closed.{Elements}
 use Rattle.cox_shell.specs.declared.answers.unanswered.Unanswered.{Unanswered}
 use Rattle.cox_shell.specs.declared.answers.unanswered.Unanswered.TheVariants.{Refused, NoMemory}
 use Rattle.cox_shell.specs.Reply.{Limits}

@@ -10,7 +10,7 @@ use Rattle.cox_shell.specs.Reply.{Limits, State, Reply, refusal, opening}
 use Rattle.cox_shell.specs.ContentReply.{IsContentReply}
 use Rattle.cox_shell.specs.LineReply.{IsReply, content_refusal}
 use Rattle.cox_shell.specs.Answer.{AreReplies, texts, script_lines}
-use Rattle.cox_shell.specs.FirstReplies.{AreFirstReplies, IsAnswer}
+use Rattle.cox_shell.specs.ScriptAnswer.{IsAnswer}
 use Rattle.cox_shell.proofs.ContentReply.{IsContentReply-unique}
 
 -- a line has at most one reply
@@ -97,11 +97,11 @@ pub IsAnswer-unique : (limits : Limits) (script one other : List ℕ) → IsAnsw
 IsAnswer-unique limits script one other p q = p.2 ∙ ap texts (AreReplies-unique (opening limits) (script_lines script) p.0 q.0 p.1 q.1)
     ∙ sym q.2
 
--- the text of the replies to its first lines is a prefix of it
-pub IsPrefix-answer : (limits : Limits) (script text : List ℕ) (replies : List Reply) → AreFirstReplies limits script replies
-    → IsAnswer limits script text
+-- the text of the replies to the first of its lines is a prefix of it
+pub IsPrefix-answer : (limits : Limits) (script text : List ℕ) (first : List (List ℕ)) (replies : List Reply)
+    → IsPrefix first (script_lines script) → AreReplies (opening limits) first replies → IsAnswer limits script text
     → IsPrefix (texts replies) text
-IsPrefix-answer limits script text replies p q =
-    let all : AreReplies (opening limits) (p.0 ++ p.1) q.0 = subst (λ lines. AreReplies (opening limits) lines q.0) p.2 q.1 in
-    let more = AreReplies-prefix (opening limits) p.0 p.1 replies q.0 p.3 all in
+IsPrefix-answer limits script text first replies p are q =
+    let all : AreReplies (opening limits) (first ++ p.0) q.0 = subst (λ lines. AreReplies (opening limits) lines q.0) p.1 q.1 in
+    let more = AreReplies-prefix (opening limits) first p.0 replies q.0 are all in
     subst (λ t. IsPrefix (texts replies) t) (ap texts (sym more.1) ∙ sym q.2) (IsPrefix-texts replies more.0)

@@ -7,7 +7,7 @@ use Rattle.cox_shell.specs.Reply.{Limits, State, Reply, opening, refusal}
 use Rattle.cox_shell.specs.ContentReply.{IsContentReply}
 use Rattle.cox_shell.specs.LineReply.{IsReply, content_refusal}
 use Rattle.cox_shell.specs.Answer.{AreReplies, texts, script_lines}
-use Rattle.cox_shell.specs.FirstReplies.{IsAnswer}
+use Rattle.cox_shell.specs.ScriptAnswer.{IsAnswer}
 use Rattle.cox_shell.proofs.SomeReply.{IsContentReply-exists}
 use Rattle.cox_shell.proofs.KeptGroup.{HasMatrix, IsContentReply-matrix}
 
@@ -19,10 +19,12 @@ record HasReply (state : State) (line : List ℕ) : Type 0 where
 
 IsReply-exists : (state : State) (line : List ℕ) → HasMatrix state → HasReply state line
 IsReply-exists state line matrix = record { reply = found.0; is = found.1; matrix = found.2 } where
-  by_refusal : (o : Option Refusal) → (reply : Reply) × MatchOption o (IsContentReply state (content_of line) reply) (λ why. reply ≡ refusal state why)
+  by_refusal : (o : Option Refusal)
+      → (reply : Reply) × MatchOption o (IsContentReply state (content_of line) reply) (λ why. reply ≡ refusal state why)
       × HasMatrix reply.after
   by_refusal None =
-      let some = IsContentReply-exists state (content_of line) matrix in (some.0, some.1, IsContentReply-matrix state (content_of line) some.0 matrix some.1)
+      let some = IsContentReply-exists state (content_of line) matrix in
+      (some.0, some.1, IsContentReply-matrix state (content_of line) some.0 matrix some.1)
   by_refusal (Some why) = (refusal state why, refl, matrix)
 
   found : (reply : Reply) × IsReply state line reply × HasMatrix reply.after

@@ -10,8 +10,8 @@ pub mod ContentReply
 pub mod LineReply
 -- the replies to the lines of a script
 pub mod Answer
--- the answer to a script, and the replies to its first lines
-pub mod FirstReplies
+-- the text that answers a script
+pub mod ScriptAnswer
 -- the limits that options give
 pub mod SessionLimits
 -- what the calls that answer say of a reply

@@ -1,10 +1,11 @@
 //! Laws on answers, over the definitions alone.
 
-ghost use Rattle.std.specs.Prelude.{◌≡◌, ℕ, List};
+ghost use Rattle.std.specs.Prelude.{◌≡◌, ℕ, List, Some};
 ghost use Rattle.cox_outside.specs.Outlet.{IsPrefix};
 ghost use Rattle.cox_shell.specs.Reply.{Limits, Reply};
 ghost use Rattle.cox_shell.specs.Answer.{AreScriptReplies, texts};
-ghost use Rattle.cox_shell.specs.FirstReplies.{AreFirstReplies, IsAnswer};
+ghost use Rattle.cox_shell.specs.ScriptAnswer.{IsAnswer};
+ghost use Rattle.cox_shell.specs.Top.{AreDue};
 
 /// A script has an answer, within any limits.
 pub fn some_answer()
@@ -17,7 +18,8 @@ pub fn one_answer()
     ensures text { (limits : Limits) → (script one other : List ℕ) → IsAnswer limits script one → IsAnswer limits script other → one ≡ other }
 {}
 
-/// What the replies to the first lines of a script write is a prefix of its answer, if it has one.
-pub fn first_replies_are_a_prefix()
-    ensures { (limits : Limits) → (script text : List ℕ) → (replies : List Reply) → AreFirstReplies limits script replies → IsAnswer limits script text → IsPrefix (texts replies) text }
+/// What is due of a script, wherever reading stands, is a prefix of its answer.
+pub fn due_begins_the_answer()
+    ensures { (limits : Limits) → (script left text : List ℕ) → (replies : List Reply) → AreDue limits (Some script) (Some left) replies
+        → IsAnswer limits script text → IsPrefix (texts replies) text }
 {}

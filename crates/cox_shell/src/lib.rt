@@ -17,14 +17,12 @@
 //! - `serving`: one line, from the source to the sink
 //! - `running`: all lines, and the status that they lead to
 //! - `top`: the whole run, with the arguments of the program
-//! - `laws`: a script has exactly one answer
-//! - `run_laws`: what is due to be written is a prefix of that answer
+//! - `laws`: a script has exactly one answer, and what is due to be written is a prefix of it
 #![tactic(auto)]
 
 mod answers;
 mod inquiry;
 pub mod laws;
-pub mod run_laws;
 mod running;
 mod serving;
 mod session;

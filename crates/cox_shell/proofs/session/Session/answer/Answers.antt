@@ -36,4 +36,5 @@ pub returns-in-Err-clause-err : goal.returns-in-Err-clause-err
 returns-in-Err-clause-err c =
     let refused : line_refusal c.args.line.now (rank_of c.args.self.now) ≡ Some c.in-Err.fault.refusal =
     rw (← c.rank.ensures.rank) (c.in-Err.ensures {u = tt}) in
-    SaysPrefix-reply _ (IsContentReply c.args.self.now c.args.line.now) _ _ _ _ _ (IsContentReply-refusal _ _ _ refused) c.refuse.ensures.err
+    SaysPrefix-reply _ (IsContentReply c.args.self.now c.args.line.now) _ _ _ _ _ (IsContentReply-refusal _ _ _ refused)
+    c.refuse.ensures.err
