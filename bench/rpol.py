@@ -3,17 +3,21 @@
 
     bench/rpol.py [PROGRAM [PROGRAM]]   the program of this repository, if none is named; two programs run in turn
 
-Each row is `rpol y w` of one pair of elements: seconds, the least of three runs, and the peak memory of one run in MiB. A run over a script that
-sets the group alone is taken off both.
+Each row is `rpol y w` of one pair of elements: seconds of processor time, the least of three runs, and the peak of one run's memory in MiB, as the
+kernel keeps it (VmHWM), so this script runs on Linux alone. A run that sets the group alone is taken off both.
 """
 import os
 import random
+import resource
+import subprocess
 import sys
-import time
+
+from intervals import peak
 
 HERE = os.path.dirname(os.path.abspath(__file__))
 TOP = os.path.dirname(HERE)
 LETTERS = 39
+RUNS = 3
 
 INFINITE = "matrix 9 " + " ".join(["0"] * 36)
 THREES = "matrix 9 " + " ".join(["3"] * 36)
@@ -53,48 +57,37 @@ def cases():
 
 
 def run(program, script):
-    """The output of a run, its seconds, and its peak memory in MiB."""
-    read_in, write_in = os.pipe()
-    read_out, write_out = os.pipe()
-    start = time.perf_counter()
-    child = os.fork()
-    if child == 0:
-        for end in (write_in, read_out):
-            os.close(end)
-        os.dup2(read_in, 0)
-        os.dup2(write_out, 1)
-        os.execv(program, [program])
-    os.close(read_in)
-    os.close(write_out)
-    os.write(write_in, script.encode())
-    os.close(write_in)
-    with os.fdopen(read_out, "rb") as out:
-        text = out.read().decode()
-    _, status, usage = os.wait4(child, 0)
-    seconds = time.perf_counter() - start
-    if status != 0:
-        sys.exit(f"the program ended by {status} on:\n{script}")
-    return text, seconds, usage.ru_maxrss / 1024
+    """The output of a run, and the seconds of processor time that it took."""
+    before = resource.getrusage(resource.RUSAGE_CHILDREN)
+    ran = subprocess.run([program], input=script.encode(), stdout=subprocess.PIPE)
+    after = resource.getrusage(resource.RUSAGE_CHILDREN)
+    if ran.returncode != 0:
+        sys.exit(f"the program ended with status {ran.returncode} on:\n{script}")
+    seconds = after.ru_utime + after.ru_stime - before.ru_utime - before.ru_stime
+    return ran.stdout.decode(), seconds
+
+
+def measure(program, group, y, w):
+    """The polynomial, and what one `rpol` takes beyond a run that sets the group alone: seconds and MiB."""
+    empty, script = f"{group}\nlength e\n", f"{group}\nrpol {y} {w}\n"
+    runs = [run(program, script) for _ in range(RUNS)]
+    idle = min(run(program, empty)[1] for _ in range(RUNS))
+    seconds = max(0.0, min(seconds for _, seconds in runs) - idle)
+    memory = max(0.0, peak(program, script, 1) - peak(program, empty, 1))
+    return runs[0][0].strip(), seconds, memory
 
 
 def main():
     """Prints the table."""
-    programs = sys.argv[1:] or [os.path.join(TOP, "crates/coxeter/out/coxeter")]
+    programs = [os.path.abspath(word) for word in sys.argv[1:]] or [os.path.join(TOP, "crates", "coxeter", "out", "coxeter")]
     print("| w, y = e | " + " | ".join(f"seconds {k + 1} | MiB {k + 1}" for k in range(len(programs))) + " | polynomial |")
     print("|---|" + "---|---|" * len(programs) + "---|")
     for name, group, y, w in cases():
-        base = f"{group}\n"
-        script = f"{base}rpol {y} {w}\n"
-        columns, texts = [], set()
-        for program in programs:
-            _, base_seconds, base_memory = run(program, base)
-            runs = [run(program, script) for _ in range(3)]
-            seconds = max(0.0, min(r[1] for r in runs) - base_seconds)
-            memory = max(0.0, max(r[2] for r in runs) - base_memory)
-            texts.add(runs[0][0].strip().splitlines()[-1])
-            columns.append(f"{seconds:.2f} | {memory:.0f}")
+        rows = [measure(program, group, y, w) for program in programs]
+        texts = {text for text, _, _ in rows}
         text = texts.pop() if len(texts) == 1 else "they differ"
-        print(f"| {name} | " + " | ".join(columns) + f" | {text[:40]} |", flush=True)
+        columns = " | ".join(f"{seconds:.2f} | {memory:.1f}" for _, seconds, memory in rows)
+        print(f"| {name} | {columns} | {text[:40]} |", flush=True)
 
 
 if __name__ == "__main__":
