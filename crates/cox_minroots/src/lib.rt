@@ -1,0 +1,2 @@
+//! Small roots.
+#![tactic(auto)]
