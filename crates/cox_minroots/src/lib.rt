@@ -1,2 +1,2 @@
-//! Small roots.
+//! x
 #![tactic(auto)]

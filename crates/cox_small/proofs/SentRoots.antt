@@ -1,24 +1,22 @@
 -- Words that make a positive root negative. Such a word bounds the root, and if the pairing of the root with e(s) is positive then
 -- a shorter word makes the image under s negative.
-use Rattle.std.proofs.Common.{◌≡◌, ℕ, zero, suc, ◌+◌, ◌≤◌, ◌<◌, max, nat_abs, List, [], ◌∷◌, ◌++◌, length, reverse, ◌⊎◌, ℤ, pos, ◌-ℤ◌, ◌*ℤ◌, neg_ℤ, ◌≤ℤ◌, ◌<ℤ◌, ap, sym, ◌∙◌, ⊎_elim, arith}
+use Rattle.std.proofs.Common.{◌≡◌, ℕ, suc, ◌+◌, ◌<◌, nat_abs, List, [], ◌∷◌, ◌++◌, length, reverse, ◌⊎◌, ℤ, pos, ◌-ℤ◌, ◌*ℤ◌, neg_ℤ, ◌≤ℤ◌, ◌<ℤ◌, ap, sym, ◌∙◌, ⊎_elim, arith}
 use Rattle.std.proofs.Math.Path.{fun_ext}
-use Rattle.std.proofs.lemmas.Bool.{cases_lt}
 use Rattle.std.proofs.lemmas.Int.{ints}
 use Rattle.cox_base.specs.Matrix.{IsLetter}
 use Rattle.cox_base.specs.IntegerMatrix.{IntegerMatrix, IsAdmissible}
 use Rattle.cox_base.specs.ShortLex.{normal_form}
-use Rattle.cox_base.specs.Length.{word_length}
 use Rattle.cox_reflect.specs.Action.{Vector, simple_root, pairing, minus, reflect, act, IsNonnegative, IsNonpositive}
-use Rattle.cox_reflect.proofs.Ring.{linears, multiply_out, product_nonnegative}
+use Rattle.cox_reflect.proofs.Ring.{linears, product_nonnegative}
 use Rattle.cox_reflect.proofs.Sums.{letter_cases, simple_root-self}
-use Rattle.cox_reflect.proofs.Action.{act-nil, act-cons, act-append, act-push, act-single, act-minus, act-reverse, pairing-outside, reflect-minus, reflect-simple_root, reflect-outside, reflect-reflect}
+use Rattle.cox_reflect.proofs.Action.{act-nil, act-cons, act-push, act-single, act-minus, act-reverse, pairing-outside, reflect-minus, reflect-simple_root, reflect-outside, reflect-reflect}
 use Rattle.cox_reflect.proofs.Elements.{same-act}
 use Rattle.cox_reflect.proofs.Search.{normal_form-same, word_length-length}
 use Rattle.cox_reflect.proofs.Lengths.{word_length-is}
 use Rattle.cox_reflect.proofs.Positivity.{simple_root-nonnegative}
 use Rattle.cox_reflect.proofs.Roots.{negated, act-negated, SignOf, longer, shorter, sign_of, root-apart, act-push_root}
-use Rattle.cox_minroots.specs.Elementary.{IsRoot}
-use Rattle.cox_minroots.proofs.RootPairs.{root-sign, root-one_sign, root-act, root-reflect, root-simple, root-sign_changes}
+use Rattle.cox_small.specs.Elementary.{IsRoot}
+use Rattle.cox_small.proofs.RootPairs.{root-sign, root-one_sign, root-act, root-reflect, root-simple, root-sign_changes}
 
 -- where the sign of the root b turns, as the letters of w are applied from the last to the first: at a letter, when the letters behind it
 -- have made b the simple root of the letter

@@ -1,7 +1,6 @@
 -- Roots with their coroots: both move by the same words, have the same sign, and a root has one coroot.
 -- A word acts as what is left of it without the letters that are none, so no law here asks for a word over the letters.
-use Rattle.std.proofs.Common.{◌≡◌, ℕ, List, [], ◌∷◌, ◌++◌, ◌⊎◌, pos, refl, ap, sym, ◌∙◌, ⊎_elim, inl, inr, arith, subst}
-use Rattle.std.proofs.Math.Path.{fun_ext}
+use Rattle.std.proofs.Common.{◌≡◌, ℕ, List, [], ◌∷◌, ◌++◌, ◌⊎◌, pos, ap, sym, ◌∙◌, ⊎_elim, inl, inr, arith, subst}
 use Rattle.std.proofs.lemmas.List.Elements.{All-nil, All-cons}
 use Rattle.cox_base.specs.Matrix.{IsLetter, IsWord}
 use Rattle.cox_base.specs.IntegerMatrix.{IntegerMatrix, IsAdmissible}
@@ -10,12 +9,11 @@ use Rattle.cox_reflect.specs.Action.{Vector, simple_root, reflect, act, IsNonneg
 use Rattle.cox_reflect.specs.Transpose.{transposed}
 use Rattle.cox_reflect.proofs.Ring.{linears}
 use Rattle.cox_reflect.proofs.Sums.{letter_cases}
-use Rattle.cox_reflect.proofs.Action.{act-nil, act-cons, act-append, act-single}
+use Rattle.cox_reflect.proofs.Action.{act-nil, act-append, act-single}
 use Rattle.cox_reflect.proofs.Elements.{same-refl, same-trans, same-cons, same-outside, same-act}
-use Rattle.cox_reflect.proofs.Positivity.{simple_root-nonnegative}
-use Rattle.cox_reflect.proofs.Roots.{root_sign, root-apart, root-not_zero, sign_changes}
+use Rattle.cox_reflect.proofs.Roots.{root_sign, root-not_zero, sign_changes}
 use Rattle.cox_reflect.proofs.Transposed.{IsAdmissible-transposed, coroot-nonnegative, equal_coroots}
-use Rattle.cox_minroots.specs.Elementary.{IsRoot}
+use Rattle.cox_small.specs.Elementary.{IsRoot}
 
 -- b is a root, and c its coroot
 pub record IsRootPair (A : IntegerMatrix) (b c : Vector) : Type 0 where

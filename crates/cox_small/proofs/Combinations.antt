@@ -1,5 +1,5 @@
 -- Combinations x e(s) + y b of a simple root and a root b with the coroot c: how s and the reflection of b change the coefficients x and y.
-use Rattle.std.proofs.Common.{◌≡◌, ℕ, Bool, true, false, List, [], ◌∷◌, ◌++◌, reverse, ℤ, pos, ◌+ℤ◌, ◌-ℤ◌, ◌*ℤ◌, neg_ℤ, refl, ap, ap₂, sym, ◌∙◌, arith}
+use Rattle.std.proofs.Common.{◌≡◌, ℕ, Bool, true, false, List, [], ◌∷◌, ◌++◌, reverse, ℤ, pos, ◌+ℤ◌, ◌-ℤ◌, ◌*ℤ◌, neg_ℤ, refl, ap, sym, ◌∙◌, arith}
 use Rattle.std.proofs.Math.Path.{fun_ext}
 use mathlib.Core.List.{reverse-cons}
 use Rattle.cox_base.specs.Matrix.{IsLetter}
@@ -8,11 +8,11 @@ use Rattle.cox_reflect.specs.Action.{Vector, simple_root, pairing, minus, reflec
 use Rattle.cox_reflect.specs.Transpose.{transposed}
 use Rattle.cox_reflect.specs.Words.{reflection}
 use Rattle.cox_reflect.proofs.Ring.{linears, multiply_out}
-use Rattle.cox_reflect.proofs.Action.{act-nil, act-cons, act-append, act-push, act-minus, act-reverse, act-fixed, pairing-minus, pairing-zero, pairing-simple_root, reverse-act}
+use Rattle.cox_reflect.proofs.Action.{act-nil, act-cons, act-append, act-push, act-minus, act-fixed, pairing-minus, pairing-zero, pairing-simple_root, reverse-act}
 use Rattle.cox_reflect.proofs.Roots.{negated}
 use Rattle.cox_reflect.proofs.Exchange.{act-reflection, reflection-root}
 use Rattle.cox_reflect.proofs.Transposed.{IsAdmissible-transposed}
-use Rattle.cox_minroots.proofs.RootPairs.{IsRootPair}
+use Rattle.cox_small.proofs.RootPairs.{IsRootPair}
 
 -- x v + y w
 unfoldable pub mix : ℤ → Vector → ℤ → Vector → Vector

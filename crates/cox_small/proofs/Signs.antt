@@ -1,8 +1,7 @@
 -- For a positive root b with the coroot c, and a letter s with b other than e(s): the pairing of b with s over A and that of c over the
 -- transposed matrix have the same sign.
-use Rattle.std.proofs.Common.{◌≡◌, ℕ, zero, suc, ◌<◌, List, length, ◌⊎◌, pos, neg_ℤ, ◌≤ℤ◌, ◌<ℤ◌, ap, sym, ◌∙◌, ⊎_elim, arith, subst}
+use Rattle.std.proofs.Common.{◌≡◌, ℕ, zero, suc, ◌<◌, List, length, pos, neg_ℤ, ◌≤ℤ◌, ◌<ℤ◌, ⊎_elim, arith}
 use Rattle.std.proofs.lemmas.Int.{ints, by_lt_z}
-use lib.Signed.{le_z_yes}
 use Rattle.cox_base.specs.Matrix.{IsLetter}
 use Rattle.cox_base.specs.IntegerMatrix.{IntegerMatrix, IsAdmissible}
 use Rattle.cox_reflect.specs.Action.{Vector, simple_root, pairing, reflect, act, IsNonnegative, IsNonpositive}
@@ -11,9 +10,9 @@ use Rattle.cox_reflect.proofs.Ring.{linears}
 use Rattle.cox_reflect.proofs.Sums.{letter_cases}
 use Rattle.cox_reflect.proofs.Action.{pairing-simple_root, pairing-reflect, pairing-outside, reflect-fixed, reflect-reflect}
 use Rattle.cox_reflect.proofs.Transposed.{IsAdmissible-transposed}
-use Rattle.cox_minroots.specs.Elementary.{IsRoot}
-use Rattle.cox_minroots.proofs.RootPairs.{IsRootPair, root-sign, root-reflect, root-sign_changes, simple_or_stays, pair-root, pair-swap, pair-act, pair-reflect, pair-nonnegative, pair-nonpositive}
-use Rattle.cox_minroots.proofs.SentRoots.{sending, shorter-sends}
+use Rattle.cox_small.specs.Elementary.{IsRoot}
+use Rattle.cox_small.proofs.RootPairs.{IsRootPair, root-reflect, simple_or_stays, pair-root, pair-swap, pair-act, pair-reflect, pair-nonnegative, pair-nonpositive}
+use Rattle.cox_small.proofs.SentRoots.{sending, shorter-sends}
 
 module _ (A : IntegerMatrix) (g : IsAdmissible A) where
   -- a letter with a pairing other than 0 is one of the rank
