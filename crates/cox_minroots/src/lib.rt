@@ -1,2 +1,5 @@
-//! x
+//! Small roots.
 #![tactic(auto)]
+
+mod root;
+mod roots;
