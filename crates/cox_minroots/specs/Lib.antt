@@ -2,3 +2,5 @@
 pub mod Coordinates
 -- lists of distinct roots
 pub mod RootLists
+-- lists of small roots on the way to all of them
+pub mod Closure

@@ -1,5 +1,10 @@
 //! Small roots.
 #![tactic(auto)]
 
+mod closure;
+mod fault;
 mod root;
 mod roots;
+
+pub use closure::MAX_SMALL_ROOTS;
+pub use fault::RootFault;
