@@ -28,7 +28,7 @@ pub rows-equal : {m n : ℕ} (xs ys : List ℕ) → IsRow m xs → IsRow n ys �
 rows-equal xs ys h k e = ext_get_or 0 xs ys (h.full ∙ sym k.full) (λ i l. vector_of-at xs ys e i)
 
 -- a root of small lists is told by its vector
-root-equal : (r q : Root) → r.root ≡ q.root → r.coroot ≡ q.coroot → r ≡ q
+pub root-equal : (r q : Root) → r.root ≡ q.root → r.coroot ≡ q.coroot → r ≡ q
 root-equal r q a b = λ i. record { root = a i; coroot = b i }
 
 pub longer-refl : (roots : List Root) → IsLonger roots roots
@@ -116,7 +116,7 @@ module _ (A : IntegerMatrix) (g : IsAdmissible A) where
   -- ---- steps by the product
 
   -- where the pairing is negative the rise is -p, and the other way round
-  rise-negative : (s : ℕ) (xs : List ℕ) → IsLetter A.rank s → pairing A s (vector_of xs) <ℤ pos 0
+  pub rise-negative : (s : ℕ) (xs : List ℕ) → IsLetter A.rank s → pairing A s (vector_of xs) <ℤ pos 0
       → pairing A s (vector_of xs) ≡ neg_ℤ (pos (rise A s xs))
   rise-negative s xs l n =
       let m : (pos (4 * get_or xs (s - 1) 0) -ℤ pos (weight A s xs)) <ℤ pos 0 = rw (pairing-weight A g s xs l) at n
@@ -188,7 +188,7 @@ module _ (A : IntegerMatrix) (g : IsAdmissible A) (fits : A.rank ≤ MAX_RANK) (
   abbrev Y : ℕ
   Y = rise (transposed A) s (root_at roots i).coroot
 
-  short : 1 ≤ X * Y → X * Y ≤ 3 → IsShortStep A s (root_of roots i) (coroot_of roots i)
+  pub short : 1 ≤ X * Y → X * Y ≤ 3 → IsShortStep A s (root_of roots i) (coroot_of roots i)
   short m n =
       let f = factors X Y m
       in let p = rise-positive A g s (root_at roots i).root ls f.0
@@ -203,7 +203,7 @@ module _ (A : IntegerMatrix) (g : IsAdmissible A) (fits : A.rank ≤ MAX_RANK) (
       }
 
   -- where both pairings are negative, their product is that of the rises
-  negative-product : pairing A s (root_of roots i) <ℤ pos 0
+  pub negative-product : pairing A s (root_of roots i) <ℤ pos 0
       → pairing A s (root_of roots i) *ℤ pairing (transposed A) s (coroot_of roots i) ≡ pos (X * Y)
   negative-product n =
       let small = h.small i l
@@ -212,7 +212,7 @@ module _ (A : IntegerMatrix) (g : IsAdmissible A) (fits : A.rank ≤ MAX_RANK) (
       (rise-negative (transposed A) gt s (root_at roots i).coroot ls m)
       ∙ product_is X Y
 
-  short-product : IsShortStep A s (root_of roots i) (coroot_of roots i) → (1 ≤ X * Y) × (X * Y ≤ 3)
+  pub short-product : IsShortStep A s (root_of roots i) (coroot_of roots i) → (1 ≤ X * Y) × (X * Y ≤ 3)
   short-product q =
       let e = negative-product q.negative
       in (omega (arith, ints, e, q.at_least_one), omega (arith, ints, e, q.at_most_three))

@@ -10,3 +10,5 @@ pub mod Stepping
 pub mod SimpleRoots
 -- the steps of all roots, one root after the other
 pub mod Closing
+-- the image of a small root under a letter is in a list of all of them
+pub mod Targets

@@ -4,3 +4,5 @@ pub mod Coordinates
 pub mod RootLists
 -- lists of small roots on the way to all of them
 pub mod Closure
+-- the table of small roots
+pub mod Moves

@@ -3,6 +3,7 @@
 
 mod closure;
 mod fault;
+mod moves;
 mod root;
 mod roots;
 
