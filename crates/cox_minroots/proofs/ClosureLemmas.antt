@@ -122,7 +122,7 @@ module _ (A : IntegerMatrix) (g : IsAdmissible A) where
       let m : (pos (4 * get_or xs (s - 1) 0) -ℤ pos (weight A s xs)) <ℤ pos 0 = rw (pairing-weight A g s xs l) at n
       in rw (pairing-weight A g s xs l) (omega (arith, ints, m))
 
-  rise-positive : (s : ℕ) (xs : List ℕ) → IsLetter A.rank s → 1 ≤ rise A s xs
+  pub rise-positive : (s : ℕ) (xs : List ℕ) → IsLetter A.rank s → 1 ≤ rise A s xs
       → pairing A s (vector_of xs) ≡ neg_ℤ (pos (rise A s xs))
   rise-positive s xs l n = rw (pairing-weight A g s xs l) (omega (arith, ints, n))
 
@@ -153,7 +153,7 @@ module _ (A : IntegerMatrix) (g : IsAdmissible A) where
 product_is : (x y : ℕ) → neg_ℤ (pos x) *ℤ neg_ℤ (pos y) ≡ pos (x * y)
 product_is x y = let e : pos x *ℤ pos y ≡ pos (x * y) = omega (arith, ints) in rw (neg_mul, mul_neg, e) (omega (arith, ints))
 
-factors : (x y : ℕ) → 1 ≤ x * y → (1 ≤ x) × (1 ≤ y)
+pub factors : (x y : ℕ) → 1 ≤ x * y → (1 ≤ x) × (1 ≤ y)
 factors zero y l = absurd (omega (arith, l))
 factors (suc x) zero l = absurd (omega (arith, l))
 factors (suc x) (suc y) l = (omega arith, omega arith)

@@ -1,5 +1,6 @@
 -- The table of small roots: where each letter takes each of them.
 use Rattle.std.specs.Prelude.{◌≡◌, ℕ, ◌+◌, ◌-◌, ◌*◌, ◌<◌, ◌≤◌, List, length, slice_index, pos, ◌*ℤ◌, ◌≤ℤ◌, ◌<ℤ◌}
+use mathlib.Core.Logic.{∥◌∥₁}
 use Rattle.cox_base.specs.declared.coxeter.TheConstants.{MAX_RANK}
 use Rattle.cox_base.specs.Matrix.{CoxeterMatrix, IsLetter}
 use Rattle.cox_base.specs.IntegerMatrix.{IntegerMatrix, integer_matrix}
@@ -29,3 +30,9 @@ pub record IsTable (A : IntegerMatrix) (n : ℕ) (moves : List ℕ) : Type 0 whe
   pub all : {b : Vector} → IsSmallRoot A b → (i : ℕ) × (i < n) × (root i ≡ b)
   pub simple : (s : ℕ) → IsLetter A.rank s → (s - 1 < n) × (root (s - 1) ≡ simple_root s)
   pub move : (i s : ℕ) → i < n → IsLetter A.rank s → IsMove A n root coroot i s (slice_index moves (MAX_RANK * i + (s - 1)))
+
+-- what the type of tables keeps
+pub record IsRootTable (A : IntegerMatrix) (count : ℕ) (moves : List ℕ) : Type 0 where
+  pub few : count ≤ 4096
+  pub size : length moves ≡ MAX_RANK * count
+  pub table : ∥ IsTable A count moves ∥₁

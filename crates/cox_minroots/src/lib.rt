@@ -6,6 +6,8 @@ mod fault;
 mod moves;
 mod root;
 mod roots;
+mod table;
 
 pub use closure::MAX_SMALL_ROOTS;
 pub use fault::RootFault;
+pub use table::RootTable;

@@ -28,23 +28,22 @@ pub(crate) fn moves(alloc: Global, g: &Coxeter, roots: &Roots) -> Result<Vec<u16
     let mut moves = Vec::new(alloc);
     for place in 0..MAX_RANK * roots.len() {
         let s = (place % MAX_RANK + 1) as u8;
-        moves.push(if u32::from(s) <= g.rank() {
-            move_of(g, roots, place / MAX_RANK, s)
-        } else {
-            OUT
-        })?;
+        moves.push(move_of(g, roots, place / MAX_RANK, s))?;
     }
     Ok(moves)
 }
 
-/// Where s takes the root `i`.
+/// Where s takes the root `i`; OUT past the rank.
 fn move_of(g: &Coxeter, roots: &Roots, i: usize, s: u8) -> u16
     requires closed { IsClosed (integer_matrix g.now) roots.now }
     requires few { length roots.now ≤ MAX_SMALL_ROOTS }
     requires within { i < length roots.now }
-    requires letter { IsLetter g.now.rank s }
-    ensures { IsMove (integer_matrix g.now) (length roots.now) (root_of roots.now) (coroot_of roots.now) i s result }
+    requires letter { 1 ≤ s }
+    ensures { s ≤ g.now.rank → IsMove (integer_matrix g.now) (length roots.now) (root_of roots.now) (coroot_of roots.now) i s result }
 {
+    if u32::from(s) > g.rank() {
+        return OUT;
+    }
     if i == s as usize - 1 {
         return NEGATIVE;
     }
