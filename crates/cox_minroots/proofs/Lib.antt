@@ -12,3 +12,9 @@ pub mod SimpleRoots
 pub mod Closing
 -- the image of a small root under a letter is in a list of all of them
 pub mod Targets
+-- the table, and the number of small roots
+pub mod TableLemmas
+-- a walk over the table, from the last letter of a reduced word to the first
+pub mod Walks
+-- products of reduced words by letters
+pub mod ProductLemmas

@@ -1,6 +1,5 @@
 -- The table of small roots: where each letter takes each of them.
 use Rattle.std.specs.Prelude.{◌≡◌, ℕ, ◌+◌, ◌-◌, ◌*◌, ◌<◌, ◌≤◌, List, length, slice_index, pos, ◌*ℤ◌, ◌≤ℤ◌, ◌<ℤ◌}
-use mathlib.Core.Logic.{∥◌∥₁}
 use Rattle.cox_base.specs.declared.coxeter.TheConstants.{MAX_RANK}
 use Rattle.cox_base.specs.Matrix.{CoxeterMatrix, IsLetter}
 use Rattle.cox_base.specs.IntegerMatrix.{IntegerMatrix, integer_matrix}

@@ -4,6 +4,7 @@
 mod closure;
 mod fault;
 mod moves;
+mod products;
 mod root;
 mod roots;
 mod table;

@@ -1,5 +1,5 @@
 //! Where each letter takes each small root.
-ghost use Rattle.std.specs.Prelude.{◌≡◌, ℕ, ◌+◌, ◌-◌, ◌*◌, ◌<◌, ◌≤◌, length, IfOk, vec_len, slice_index};
+ghost use Rattle.std.specs.Prelude.{◌≡◌, ℕ, ◌+◌, ◌-◌, ◌*◌, ◌<◌, ◌≤◌, length, IfOk, slice_index};
 ghost use Rattle.cox_base.specs.Matrix.{IsLetter};
 ghost use Rattle.cox_base.specs.IntegerMatrix.{integer_matrix};
 ghost use Rattle.cox_minroots.specs.Closure.{IsClosed};
@@ -21,10 +21,11 @@ pub(crate) const OUT: u16 = 65535;
 pub(crate) fn moves(alloc: Global, g: &Coxeter, roots: &Roots) -> Result<Vec<u16>, AllocError>
     requires closed { IsClosed (integer_matrix g.now) roots.now }
     requires few { length roots.now ≤ MAX_SMALL_ROOTS }
-    ensures size { IfOk result (λ moves. vec_len moves ≡ MAX_RANK * length roots.now) }
+    ensures size { IfOk result (λ moves. length moves.items ≡ MAX_RANK * length roots.now) }
     ensures moves { IfOk result (λ moves. (i s : ℕ) → i < length roots.now → IsLetter g.now.rank s
         → IsMove (integer_matrix g.now) (length roots.now) (root_of roots.now) (coroot_of roots.now) i s (slice_index moves.items (MAX_RANK * i + (s - 1)))) }
 {
+    prove!(g.rank() as usize <= MAX_RANK);
     let mut moves = Vec::new(alloc);
     for place in 0..MAX_RANK * roots.len() {
         let s = (place % MAX_RANK + 1) as u8;

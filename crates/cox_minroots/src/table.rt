@@ -45,6 +45,7 @@ impl RootTable {
         ensures few { OnOk result (HasAtMost (integer_matrix g.now) max) }
         ensures many { IfErr result (WhenTooMany (λ seen. (seen ≡ max + 1) × HasMoreThan (integer_matrix g.now) max)) }
     {
+        let _rank = g.rank();
         let roots = close(alloc, g, max)?;
         let Ok(moves) = moves(alloc, g, &roots) else {
             return Err(RootFault::NoMemory);
