@@ -18,3 +18,7 @@ pub mod TableLemmas
 pub mod Walks
 -- products of reduced words by letters
 pub mod ProductLemmas
+-- normal forms and descents of reduced words, by exchanges
+pub mod FormLemmas
+-- Bruhat order by lifting
+pub mod Lifting

@@ -14,6 +14,7 @@ use Rattle.cox_base.specs.Length.{IsReduced}
 use Rattle.cox_reflect.specs.Action.{Vector, simple_root, reflect, act}
 use Rattle.cox_reflect.proofs.Action.{act-nil, act-cons}
 use Rattle.cox_reflect.proofs.Removal.{right_letter_goes}
+use Rattle.cox_small.specs.SmallRoots.{IsSmall}
 use Rattle.cox_small.proofs.Reading.{read-front, read-out}
 use Rattle.cox_minroots.specs.declared.moves.TheConstants.{NEGATIVE, OUT}
 use Rattle.cox_minroots.specs.Moves.{IsMove, IsTable, IsRootTable}
@@ -101,7 +102,7 @@ module _ (A : IntegerMatrix) (g : IsAdmissible A) (fits : A.rank ≤ MAX_RANK) (
             → IsReduced A ((take place w ++ q ∷ drop (length w - k) w) ++ s ∷ [])
         out_at x =
             let step = (move_at x.table).out e
-            in read-out A g (take place w) (drop (length w - k) w) q s h.letter (rw (← split) h.reduced)
+            in read-out A g (take place w) (drop (length w - k) w) q s {c = x.table.coroot i} h.letter (rw (← split) h.reduced)
             (rw x.is (x.table.small i h.inside)) (rw x.is step.0) (rw x.is step.1)
 
     pub walk-on : move < NEGATIVE → IsWalk A moves w s (k + 1) move
@@ -131,7 +132,10 @@ module _ (A : IntegerMatrix) (g : IsAdmissible A) (fits : A.rank ≤ MAX_RANK) (
 pub walk-end : (A : IntegerMatrix) → IsAdmissible A → (moves w : List ℕ) (s k i : ℕ) → IsWalk A moves w s k i → k ≡ length w → IsReduced A (w ++ s ∷ [])
 walk-end A g moves w s k i h e =
     ∥∥₁_elim h.reads (hlevel ℕ_set) (λ (x : IsAt A h.count moves (drop (length w - k) w) s i).
-    read-front A g w s h.letter h.reduced (rw (whole, x.is) at (rw (← x.is) (x.table.small i h.inside))))
+    read-front A g w s {c = x.table.coroot i} h.letter h.reduced (at_end x))
   where
     whole : drop (length w - k) w ≡ w
     whole = let none : length w - k ≡ 0 = omega (arith, e) in rw none refl
+
+    at_end : (x : IsAt A h.count moves (drop (length w - k) w) s i) → IsSmall A (act A w (simple_root s)) (x.table.coroot i)
+    at_end x = let same : act A w (simple_root s) ≡ x.table.root i = rw whole at x.is in rw same (x.table.small i h.inside)

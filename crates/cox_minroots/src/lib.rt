@@ -3,7 +3,9 @@
 
 mod closure;
 mod fault;
+mod forms;
 mod moves;
+mod order;
 mod products;
 mod root;
 mod roots;

@@ -1,7 +1,7 @@
 //! Products by letters, by the table.
 ghost use Rattle.std.specs.Prelude.{◌≡◌, ◌+◌, ◌<◌, ◌≤◌, [], ◌∷◌, ◌++◌, length, reverse, IfSome, IfNone};
 ghost use Rattle.std.specs.List.{remove};
-ghost use Rattle.cox_base.specs.Matrix.{IsLetter, IsWord};
+ghost use Rattle.cox_base.specs.Matrix.{IsLetter, IsWord, IsCoxeterMatrix};
 ghost use Rattle.cox_base.specs.IntegerMatrix.{integer_matrix};
 ghost use Rattle.cox_base.specs.Element.{SameElement};
 ghost use Rattle.cox_base.specs.Length.{IsReduced};
@@ -13,7 +13,7 @@ use cox_base::{MAX_LETTERS, MAX_RANK, Word};
 impl RootTable {
     /// The place, from 0, of the letter of the reduced word w for which s is exchanged: w s is w without that letter. None if w s is a reduced word.
     ///
-    /// For example in A 2 the letter 2 behind `12` is put in, as `122` without ... is `1`.
+    /// For example in A 2 the letter 1 behind `12` gives the reduced word `121`, and the letter 2 behind `121` is exchanged for its first letter.
     pub fn exchanged(&self, w: &Word, s: u8) -> Option<usize>
         requires letters { IsWord self.now.rank w.now.items }
         requires letter { IsLetter self.now.rank s }
@@ -21,6 +21,7 @@ impl RootTable {
         ensures within { IfSome result (λ place. place < length w.now.items) }
         ensures without { IfSome result (λ place. SameElement (integer_matrix self.now) (w.now.items ++ s ∷ []) (remove w.now.items place)) }
         ensures longer { IfNone result (IsReduced (integer_matrix self.now) (w.now.items ++ s ∷ [])) }
+        ensures matrix { IsCoxeterMatrix self.now }
     {
         prove!(self.group.rank() as usize <= MAX_RANK);
         let moves = self.moves.as_slice();
@@ -70,7 +71,9 @@ impl RootTable {
         ensures reduced { IsReduced (integer_matrix self.now) v.new.items }
         ensures letters { IsWord self.now.rank v.new.items }
         ensures longer { length v.new.items ≤ length v.old.items + length w.now.items }
+        ensures matrix { IsCoxeterMatrix self.now }
     {
+        prove!(self.group.rank() as usize <= MAX_RANK);
         for &s in w.as_slice().iter().rev() {
             self.multiply(v, s);
         }
@@ -83,7 +86,10 @@ impl RootTable {
         ensures reduced { IsReduced (integer_matrix self.now) result.items }
         ensures letters { IsWord self.now.rank result.items }
         ensures no_longer { length result.items ≤ length w.now.items }
+        ensures matrix { IsCoxeterMatrix self.now }
     {
+        prove!(self.group.rank() as usize <= MAX_RANK);
+        prove!(w.len() <= MAX_LETTERS);
         let mut v = Word::new();
         self.multiply_inverse(&mut v, w);
         v
