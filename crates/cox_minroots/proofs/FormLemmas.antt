@@ -1,17 +1,20 @@
 -- Normal forms and descents of reduced words, by exchanges.
-use Rattle.std.proofs.Common.{◌≡◌, ℕ, zero, suc, ◌+◌, ◌-◌, ◌≤◌, ◌<◌, Bool, true, false, nat_lt, List, [], ◌∷◌, ◌++◌, length, reverse, filter, refl, ap, sym, ◌∙◌, ⊎_elim, arith, ltb-true, lt-ltb}
+use Rattle.std.proofs.Common.{◌≡◌, ℕ, zero, suc, ◌+◌, ◌-◌, ◌≤◌, ◌<◌, Bool, true, false, Option, None, Some, is_some, IfSome, IfNone, nat_lt, List, [], ◌∷◌, ◌++◌, length, reverse, filter, refl, ap, sym, ◌∙◌, ⊎_elim, arith, ltb-true, lt-ltb}
 use Rattle.std.specs.List.{range_with_len, remove}
+use Rattle.std.proofs.Math.Path.{fun_ext}
 use Rattle.std.proofs.lemmas.Bool.{cases_lt}
 use Rattle.std.proofs.lemmas.List.{append-nil, append_assoc, length-append, length-reverse, reverse-append, reverse-reverse}
 use Rattle.std.proofs.lemmas.List.Elements.{All-filter, All-cons, All-nil, filter-append}
 use Rattle.std.proofs.lemmas.List.Elements.{All-nil}
+use Rattle.cox_base.specs.declared.side.Side.TheVariants.{Right}
 use Rattle.cox_base.specs.Matrix.{IsLetter, IsWord}
 use Rattle.cox_base.specs.IntegerMatrix.{IntegerMatrix, IsAdmissible}
 use Rattle.cox_base.specs.Element.{SameElement}
 use Rattle.cox_base.specs.ShortLex.{letters, normal_form}
 use Rattle.cox_base.specs.Length.{word_length, left_descents, right_descents, IsReduced, IsLeftDescent, IsRightDescent}
 use Rattle.cox_reflect.proofs.Sums.{letter_above}
-use Rattle.cox_reflect.proofs.Elements.{same-refl, same-sym, same-trans, same-reverse, same-equal}
+use Rattle.cox_reflect.proofs.Elements.{same-refl, same-trans, same-reverse, same-push, same-append}
+use Rattle.cox_reflect.proofs.FormLemmas.{left_descents-word_at}
 use Rattle.cox_reflect.proofs.Search.{normal_form-equal, word_length-equal, word_length-length}
 use Rattle.cox_reflect.proofs.Lengths.{word_length-reverse, word_length-cons_reverse}
 use Rattle.cox_reflect.proofs.Roots.{reverse_left_descent, left_descent_reverse, left_descent-letter}
@@ -44,6 +47,41 @@ module _ (A : IntegerMatrix) (g : IsAdmissible A) where
   -- a reduced word of the inverse has the length of the element
   pub length-inverse : (w v : List ℕ) → SameElement A v (reverse w) → IsReduced A v → length v ≡ word_length A w
   length-inverse w v e h = sym h ∙ word_length-equal A g e ∙ word_length-reverse A g w
+
+  -- the normal form of w, by a word of its inverse
+  pub form-inverse : (w v : List ℕ) → SameElement A v (reverse w) → normal_form A (reverse v) ≡ normal_form A w
+  form-inverse w v e = normal_form-equal A g (rw (reverse-reverse w) at (same-reverse A g e))
+
+  -- the inverse of the inverse
+  pub same-inverse_twice : (w v u : List ℕ) → SameElement A v (reverse w) → SameElement A u (reverse v) → SameElement A u w
+  same-inverse_twice w v u e f = same-trans A g f (rw (reverse-reverse w) at (same-reverse A g e))
+
+  pub right_descents-same : {u v : List ℕ} → SameElement A u v → right_descents A u ≡ right_descents A v
+  unfolding right_descents
+  right_descents-same {u} {v} e =
+      ap (λ (p : ℕ → Bool). filter p (letters A.rank))
+      (fun_ext (λ s. rw (word_length-equal A g (same-push A g s e), word_length-equal A g e) refl))
+
+  -- the left descents of w, by a word of its inverse
+  pub left_descents-inverse : (w v : List ℕ) → SameElement A v (reverse w) → right_descents A v ≡ left_descents A w
+  left_descents-inverse w v e =
+      let back : left_descents A (reverse (reverse w)) ≡ right_descents A (reverse w) = left_descents-word_at A g Right (reverse w)
+      in right_descents-same e ∙ sym (rw (reverse-reverse w) at back)
+
+  -- the inverse of a product
+  pub same-product : (x y v u : List ℕ) → SameElement A v (reverse y) → SameElement A u (v ++ reverse x) → SameElement A u (reverse (x ++ y))
+  same-product x y v u e f = rw (reverse-append x y) (same-trans A g f (same-append A g e (same-refl A g (reverse x))))
+
+  -- what the code knows where it asks for an exchange
+  pub some-descent : (v : List ℕ) (s : ℕ) (found : Option ℕ) → IsReduced A v → is_some found ≡ true → IfSome found (λ place. place < length v)
+      → IfSome found (λ place. SameElement A (v ++ s ∷ []) (remove v place)) → IsRightDescent A v s
+  some-descent v s None h e a b = absurd (cc)
+  some-descent v s (Some place) h e a b = exchanged-descent v s place h a b
+
+  pub none-no_descent : (v : List ℕ) (s : ℕ) (found : Option ℕ) → IsReduced A v → is_some found ≡ false → IfNone found (IsReduced A (v ++ s ∷ []))
+      → IsRightDescent A v s → ⊥
+  none-no_descent v s None h e a d = put_in-no_descent v s h a d
+  none-no_descent v s (Some place) h e a d = absurd (cc)
 
   -- the normal form by the least right descent of the inverse
   pub form-least : (v : List ℕ) (s : ℕ) (rest : List ℕ) → IsRightDescent A v s → ((t : ℕ) → 1 ≤ t → t < s → IsRightDescent A v t → ⊥)

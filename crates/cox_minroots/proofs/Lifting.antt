@@ -1,7 +1,8 @@
 -- Bruhat order by lifting, with reduced words of the inverses.
 use Rattle.std.proofs.Common.{◌≡◌, ℕ, ◌+◌, ◌<◌, ◌≤◌, Bool, true, false, IsTrue, List, [], ◌∷◌, ◌++◌, length, reverse, ◌↔◌, refl, ap, sym, ◌∙◌, arith}
 use Rattle.std.specs.List.{remove}
-use Rattle.std.proofs.lemmas.List.{reverse-append, reverse-reverse, length-append}
+use Rattle.std.proofs.lemmas.Bool.{false≢true}
+use Rattle.std.proofs.lemmas.List.{length-append}
 use Rattle.std.proofs.lemmas.List.Elements.{All-head}
 use Rattle.cox_base.specs.Matrix.{IsLetter, IsWord}
 use Rattle.cox_base.specs.IntegerMatrix.{IntegerMatrix, IsAdmissible}
@@ -99,3 +100,8 @@ module _ (A : IntegerMatrix) (g : IsAdmissible A) where
 
       short : IsBelow A small [] → length small ≡ 0
       short b = omega (arith, below-length A g b, word_length-length A g [], h.reduced_small)
+
+-- a list that has no last element
+pub empty_list : (xs : List ℕ) → (0 < length xs → false ≡ true) → xs ≡ []
+empty_list [] h = refl
+empty_list (x ∷ xs) h = absurd (false≢true (h (omega arith)))

@@ -17,9 +17,9 @@ pub returns-then-next-clause-without : goal.returns-then-next-clause-without
 returns-then-next-clause-without c =
     let inside : c.self.inside.group.rank ≤ MAX_RANK = omega (arith, c.rank.ensures.rank, c.rank.ensures.limit)
     in let fits : c.args.self.now.rank ≤ MAX_RANK = rw c.self.view_is at inside
-    in rw c.as_slice-letters.ensures.value at (walk-negative (integer_matrix c.args.self.now)
+    in rw c.as_slice-letters.ensures.value (rw c.as_slice-letters.ensures.value at (walk-negative (integer_matrix c.args.self.now)
     (IsAdmissible-integer_matrix c.args.self.now (rw c.self.view_is at c.rank.ensures.matrix)) fits c.as_slice-moves.result.now
-    c.as_slice-letters.result.now c.args.s c.loop-done.done c.loop-done.root c.loop-done.invariant c.loop-done-test.true _ refl _ refl _ refl c.if-next.true)
+    c.as_slice-letters.result.now c.args.s c.loop-done.done c.loop-done.root c.loop-done.invariant c.loop-done-test.true _ refl _ refl _ refl c.if-next.true))
 
 pub returns-then-next-2-clause-longer : goal.returns-then-next-2-clause-longer
 returns-then-next-2-clause-longer c =
