@@ -1,26 +1,25 @@
 -- Lists of small roots: one more root, a short step by its product, and when the list has all of them.
-use Rattle.std.proofs.Common.{◌≡◌, ◌≢◌, ℕ, zero, suc, ◌+◌, ◌-◌, ◌*◌, ◌≤◌, ◌<◌, List, [], ◌∷◌, ◌++◌, length, get_or, set, Contains, ◌⊎◌, ℤ, pos, ◌-ℤ◌, ◌*ℤ◌, neg_ℤ, ◌≤ℤ◌, ◌<ℤ◌, refl, ap, ap₂, sym, ◌∙◌, ⊎_elim, inl, inr, arith, subst, get_or-set_same, get_or-set_other}
-use Rattle.std.proofs.Math.Path.{fun_ext}
+use Rattle.std.proofs.Common.{◌≡◌, ℕ, zero, suc, ◌+◌, ◌-◌, ◌*◌, ◌≤◌, ◌<◌, List, [], ◌∷◌, ◌++◌, length, get_or, set, Contains, ℤ, pos, ◌-ℤ◌, ◌*ℤ◌, neg_ℤ, ◌<ℤ◌, refl, ap, ap₂, sym, ◌∙◌, ⊎_elim, arith, get_or-set_same, get_or-set_other}
 use Rattle.std.proofs.Math.Seq.{get_or-append_seam}
 use Rattle.std.proofs.Math.Nat.{mul-le-mul_left, mul-le-mul_right}
 use Rattle.std.proofs.lemmas.List.{ext_get_or, get_or_append_left, get_or_default, length-append, length-set}
 use Rattle.std.proofs.lemmas.Bool.{cases_eq, cases_lt}
-use Rattle.std.proofs.lemmas.Int.{ints, by_lt_z}
+use Rattle.std.proofs.lemmas.Int.{ints}
 use Rattle.cox_base.specs.declared.coxeter.TheConstants.{MAX_RANK}
 use Rattle.cox_base.specs.Matrix.{IsLetter}
 use Rattle.cox_base.specs.IntegerMatrix.{IntegerMatrix, IsAdmissible}
-use Rattle.cox_reflect.specs.Action.{Vector, simple_root, pairing, reflect, act, IsNonnegative}
+use Rattle.cox_reflect.specs.Action.{Vector, pairing, reflect}
 use Rattle.cox_reflect.specs.Transpose.{transposed}
-use Rattle.cox_reflect.proofs.Ring.{linears, neg_mul, mul_neg}
+use Rattle.cox_reflect.proofs.Ring.{neg_mul, mul_neg}
 use Rattle.cox_reflect.proofs.Transposed.{IsAdmissible-transposed}
-use Rattle.cox_small.specs.SmallRoots.{IsShortStep, IsSmall, simple, step, IsSmallRoot, HasMoreThan, HasAtMost}
-use Rattle.cox_small.proofs.ElementaryRoots.{small-pair, small-positive, small-coroot, small-closed}
-use Rattle.cox_small.proofs.Signs.{negative-agrees, zero-agrees}
+use Rattle.cox_small.specs.SmallRoots.{IsShortStep, IsSmall, simple, step, HasMoreThan, HasAtMost}
+use Rattle.cox_small.proofs.ElementaryRoots.{small-pair, small-positive, small-coroot}
+use Rattle.cox_small.proofs.Signs.{negative-agrees}
 use Rattle.cox_minroots.specs.declared.root.Root.{Root}
 use Rattle.cox_minroots.specs.Coordinates.{vector_of, weight, rise, CanTurn}
 use Rattle.cox_minroots.specs.RootLists.{no_root, root_at, root_of, coroot_of, IsInserted, there, last}
 use Rattle.cox_minroots.specs.Closure.{IsRow, AreSmall, HasSimple, HasStep, IsLonger, IsClosed}
-use Rattle.cox_minroots.proofs.CoordinateLemmas.{vector_of-letter, vector_of-at, pairing-weight, turned-coordinates}
+use Rattle.cox_minroots.proofs.CoordinateLemmas.{vector_of-at, pairing-weight, turned-coordinates}
 
 -- ---- lists
 

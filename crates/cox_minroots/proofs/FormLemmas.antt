@@ -3,8 +3,8 @@ use Rattle.std.proofs.Common.{◌≡◌, ℕ, zero, suc, ◌+◌, ◌-◌, ◌�
 use Rattle.std.specs.List.{range_with_len, remove}
 use Rattle.std.proofs.Math.Path.{fun_ext}
 use Rattle.std.proofs.lemmas.Bool.{cases_lt}
-use Rattle.std.proofs.lemmas.List.{append-nil, append_assoc, length-append, length-reverse, reverse-append, reverse-reverse}
-use Rattle.std.proofs.lemmas.List.Elements.{All-filter, All-cons, All-nil, filter-append}
+use Rattle.std.proofs.lemmas.List.{append-nil, append_assoc, length-append, reverse-append, reverse-reverse}
+use Rattle.std.proofs.lemmas.List.Elements.{All-nil, filter-append}
 use Rattle.std.proofs.lemmas.List.Elements.{All-nil}
 use Rattle.cox_base.specs.declared.side.Side.TheVariants.{Right}
 use Rattle.cox_base.specs.Matrix.{IsLetter, IsWord}
@@ -16,7 +16,7 @@ use Rattle.cox_reflect.proofs.Sums.{letter_above}
 use Rattle.cox_reflect.proofs.Elements.{same-refl, same-trans, same-reverse, same-push, same-append}
 use Rattle.cox_reflect.proofs.FormLemmas.{left_descents-word_at}
 use Rattle.cox_reflect.proofs.Search.{normal_form-equal, word_length-equal, word_length-length}
-use Rattle.cox_reflect.proofs.Lengths.{word_length-reverse, word_length-cons_reverse}
+use Rattle.cox_reflect.proofs.Lengths.{word_length-reverse}
 use Rattle.cox_reflect.proofs.Roots.{reverse_left_descent, left_descent_reverse, left_descent-letter}
 use Rattle.cox_reflect.proofs.WordLemmas.{IsWord-append, IsWord-single}
 use Rattle.cox_reflect.proofs.NormalForm.{normal_form-descent, normal_form-no_descent}

@@ -1,5 +1,5 @@
 -- Bruhat order by lifting, with reduced words of the inverses.
-use Rattle.std.proofs.Common.{◌≡◌, ℕ, ◌+◌, ◌<◌, ◌≤◌, Bool, true, false, IsTrue, List, [], ◌∷◌, ◌++◌, length, reverse, ◌↔◌, refl, ap, sym, ◌∙◌, arith}
+use Rattle.std.proofs.Common.{◌≡◌, ℕ, ◌<◌, Bool, true, false, ◌==◌, IsTrue, List, [], ◌∷◌, ◌++◌, length, reverse, ◌↔◌, refl, sym, ◌∙◌, arith, eqb-true, eq-eqb}
 use Rattle.std.specs.List.{remove}
 use Rattle.std.proofs.lemmas.Bool.{false≢true}
 use Rattle.std.proofs.lemmas.List.{length-append}
@@ -7,9 +7,9 @@ use Rattle.std.proofs.lemmas.List.Elements.{All-head}
 use Rattle.cox_base.specs.Matrix.{IsLetter, IsWord}
 use Rattle.cox_base.specs.IntegerMatrix.{IntegerMatrix, IsAdmissible}
 use Rattle.cox_base.specs.Element.{SameElement}
-use Rattle.cox_base.specs.Length.{word_length, IsReduced, IsLeftDescent, IsRightDescent}
+use Rattle.cox_base.specs.Length.{IsReduced, IsRightDescent}
 use Rattle.cox_base.specs.Bruhat.{IsBelow}
-use Rattle.cox_reflect.proofs.Elements.{same-refl, same-sym, same-trans, same-reverse, same-equal, same-push_twice}
+use Rattle.cox_reflect.proofs.Elements.{same-refl, same-sym, same-push_twice}
 use Rattle.cox_reflect.proofs.Search.{word_length-equal, word_length-length}
 use Rattle.cox_reflect.proofs.Lengths.{IsReduced-front}
 use Rattle.cox_reflect.proofs.WordLemmas.{IsWord-front, IsWord-back}
@@ -90,9 +90,12 @@ module _ (A : IntegerMatrix) (g : IsAdmissible A) where
         lift = lift_up_right A g small (front ++ s ∷ []) s last_descent (put_in-no_descent A g small s h.reduced_small k)
 
   -- at the end only the identity is below
-  pub lifted-end : (y w small : List ℕ) → IsLifted A y w small [] → (answer : Bool) → (answer ≡ true) ↔ (length small ≡ 0)
+  pub lifted-end : (y w small : List ℕ) → IsLifted A y w small [] → (answer : Bool) → answer ≡ (length small == 0)
       → IsTrue answer ↔ IsBelow A y w
-  lifted-end y w small h answer e = (λ t. h.settles.1 (empty small (e.0 t)), λ b. e.1 (short (h.settles.0 b)))
+  lifted-end y w small h answer e = (
+    λ t. h.settles.1 (empty small (eqb-true (length small) 0 (sym e ∙ t))),
+    λ b. e ∙ eq-eqb (length small) 0 (short (h.settles.0 b)),
+  )
     where
       empty : (v : List ℕ) → length v ≡ 0 → IsBelow A v []
       empty [] k = below-refl A g (same-refl A g [])

@@ -1,16 +1,15 @@
 -- Products of reduced words by letters.
-use Rattle.std.proofs.Common.{◌≡◌, ℕ, suc, ◌+◌, ◌≤◌, ◌<◌, List, [], ◌∷◌, ◌++◌, length, take, drop, get_or, reverse, refl, ap, sym, ◌∙◌, arith, drop-cons}
+use Rattle.std.proofs.Common.{◌≡◌, ℕ, suc, ◌+◌, ◌≤◌, ◌<◌, List, [], ◌∷◌, ◌++◌, length, take, drop, get_or, ap, sym, arith, drop-cons}
 use Rattle.std.specs.List.{remove}
-use Rattle.std.proofs.lemmas.List.{append-nil, append_assoc, length-append, take-append-drop, reverse-append, reverse-reverse}
-use mathlib.Core.List.{reverse-cons}
-use Rattle.cox_base.specs.Matrix.{IsLetter, IsWord}
+use Rattle.std.proofs.lemmas.List.{append-nil, append_assoc, length-append, take-append-drop}
+use Rattle.cox_base.specs.Matrix.{IsWord}
 use Rattle.cox_base.specs.IntegerMatrix.{IntegerMatrix, IsAdmissible}
 use Rattle.cox_base.specs.Element.{SameElement}
-use Rattle.cox_base.specs.Length.{word_length, IsReduced, IsLeftDescent, IsRightDescent}
-use Rattle.cox_reflect.proofs.Elements.{same-refl, same-sym, same-trans, same-push, same-equal}
-use Rattle.cox_reflect.proofs.Search.{word_length-equal, word_length-least, word_length-length}
-use Rattle.cox_reflect.proofs.Lengths.{word_length-is, push-word_length, IsReduced-nil}
-use Rattle.cox_reflect.proofs.WordLemmas.{IsWord-append, IsWord-single, IsWord-front, IsWord-back}
+use Rattle.cox_base.specs.Length.{IsReduced}
+use Rattle.cox_reflect.proofs.Elements.{same-trans, same-push, same-equal}
+use Rattle.cox_reflect.proofs.Search.{word_length-equal, word_length-length}
+use Rattle.cox_reflect.proofs.Lengths.{push-word_length}
+use Rattle.cox_reflect.proofs.WordLemmas.{IsWord-append, IsWord-front, IsWord-back}
 
 -- new is a reduced word of old followed by the letters
 pub record IsMultiplied (A : IntegerMatrix) (old letters new : List ℕ) : Type 0 where

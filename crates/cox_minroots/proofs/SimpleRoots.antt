@@ -1,14 +1,14 @@
 -- The list of the simple roots, letter by letter.
 use Rattle.std.proofs.Common.{◌≡◌, ℕ, ◌+◌, ◌-◌, ◌*◌, ◌≤◌, ◌<◌, List, [], length, get_or, Contains, ⊎_elim, ap, sym, ◌∙◌, arith}
 use Rattle.std.proofs.lemmas.List.{get_or_default}
-use Rattle.std.proofs.lemmas.Bool.{cases_lt, cases_eq}
+use Rattle.std.proofs.lemmas.Bool.{cases_eq}
 use Rattle.std.proofs.lemmas.Int.{ints}
 use Rattle.cox_base.specs.declared.coxeter.TheConstants.{MAX_RANK}
 use Rattle.cox_base.specs.Matrix.{IsLetter}
 use Rattle.cox_base.specs.IntegerMatrix.{IntegerMatrix, IsAdmissible}
 use Rattle.cox_reflect.specs.Action.{Vector, simple_root}
 use Rattle.cox_reflect.proofs.Sums.{simple_root-self, simple_root-other}
-use Rattle.cox_small.specs.SmallRoots.{IsSmall, simple}
+use Rattle.cox_small.specs.SmallRoots.{simple}
 use Rattle.cox_minroots.specs.declared.root.Root.{Root}
 use Rattle.cox_minroots.specs.Coordinates.{vector_of}
 use Rattle.cox_minroots.specs.RootLists.{no_root, root_at, root_of, IsInserted, there, last}

@@ -1,5 +1,5 @@
 -- The table: from the list of all small roots and their moves, and what it tells of their number.
-use Rattle.std.proofs.Common.{◌≡◌, ℕ, ◌-◌, ◌*◌, ◌+◌, ◌≤◌, ◌<◌, List, length, get_or, sym, ◌∙◌, arith}
+use Rattle.std.proofs.Common.{◌≡◌, ℕ, ◌-◌, ◌*◌, ◌+◌, ◌≤◌, ◌<◌, List, length, get_or, arith}
 use Rattle.std.proofs.Math.Logic.{∥∥₁_elim}
 use Rattle.cox_base.specs.declared.coxeter.TheConstants.{MAX_RANK}
 use Rattle.cox_base.specs.Matrix.{IsLetter}

@@ -1,6 +1,6 @@
 -- The image of a small root under a letter, where the product of the pairings is at most 3 and the root is not that of the letter: it is small,
 -- so a list of all small roots has it.
-use Rattle.std.proofs.Common.{◌≡◌, ℕ, ◌+◌, ◌-◌, ◌*◌, ◌/◌, ◌%◌, ◌≤◌, ◌<◌, List, [], ◌∷◌, ◌++◌, length, get_or, set, Contains, Option, None, Some, MatchOption, pos, ◌-ℤ◌, ◌*ℤ◌, ◌≤ℤ◌, ◌<ℤ◌, ap, ap₂, sym, ◌∙◌, ⊎_elim, arith}
+use Rattle.std.proofs.Common.{◌≡◌, ℕ, ◌+◌, ◌-◌, ◌*◌, ◌/◌, ◌%◌, ◌≤◌, ◌<◌, List, [], ◌∷◌, ◌++◌, length, get_or, set, Contains, pos, ◌-ℤ◌, ◌*ℤ◌, ◌<ℤ◌, ap, sym, ◌∙◌, ⊎_elim, arith}
 use Rattle.std.proofs.lemmas.Bool.{cases_lt, cases_order}
 use Rattle.std.proofs.lemmas.Int.{ints, by_lt_z}
 use Rattle.std.proofs.Math.Nat.{mul-le-mul_left}
@@ -16,13 +16,13 @@ use Rattle.cox_reflect.proofs.Sums.{simple_root-self}
 use Rattle.cox_reflect.proofs.Action.{reflect-fixed}
 use Rattle.cox_reflect.proofs.Admissible.{IsAdmissible-integer_matrix}
 use Rattle.cox_reflect.proofs.Transposed.{IsAdmissible-transposed}
-use Rattle.cox_small.specs.SmallRoots.{IsShortStep, IsSmall, step}
+use Rattle.cox_small.specs.SmallRoots.{IsSmall, step}
 use Rattle.cox_small.proofs.Signs.{zero-agrees, negative-agrees}
 use Rattle.cox_small.proofs.ElementaryRoots.{small-pair, small-positive, small-coroot, small-closed}
 use Rattle.cox_minroots.specs.declared.root.Root.{Root}
 use Rattle.cox_minroots.specs.Coordinates.{vector_of, weight, rise, CanTurn}
 use Rattle.cox_minroots.specs.RootLists.{no_root, root_at, root_of, coroot_of}
-use Rattle.cox_minroots.specs.Closure.{IsRow, AreSmall, HasSimple, HasStep, IsClosed}
+use Rattle.cox_minroots.specs.Closure.{IsRow, IsClosed}
 use Rattle.cox_minroots.specs.declared.moves.TheConstants.{NEGATIVE, OUT}
 use Rattle.cox_minroots.specs.Moves.{IsMove}
 use Rattle.cox_minroots.proofs.CoordinateLemmas.{vector_of-letter, vector_of-at, pairing-weight}

@@ -1,5 +1,5 @@
 -- A walk over the table, from the last letter of a reduced word to the first: what it tells of a letter behind the word.
-use Rattle.std.proofs.Common.{◌≡◌, ℕ, zero, suc, ◌+◌, ◌-◌, ◌*◌, ◌≤◌, ◌<◌, List, [], ◌∷◌, ◌++◌, length, take, drop, get_or, pos, ◌*ℤ◌, ◌≤ℤ◌, ◌<ℤ◌, refl, ap, sym, ◌∙◌, arith, drop-cons}
+use Rattle.std.proofs.Common.{◌≡◌, ℕ, suc, ◌+◌, ◌-◌, ◌*◌, ◌≤◌, ◌<◌, List, [], ◌∷◌, ◌++◌, length, take, drop, get_or, refl, ap, sym, ◌∙◌, arith, drop-cons}
 use Rattle.std.specs.List.{remove}
 use Rattle.std.specs.Coded.{le_prop}
 use Rattle.std.proofs.Math.Logic.{∥∥₁_elim, ∥∥₁_map}
@@ -11,7 +11,7 @@ use Rattle.cox_base.specs.Matrix.{IsLetter, IsWord}
 use Rattle.cox_base.specs.IntegerMatrix.{IntegerMatrix, IsAdmissible}
 use Rattle.cox_base.specs.Element.{SameElement}
 use Rattle.cox_base.specs.Length.{IsReduced}
-use Rattle.cox_reflect.specs.Action.{Vector, simple_root, reflect, act}
+use Rattle.cox_reflect.specs.Action.{simple_root, reflect, act}
 use Rattle.cox_reflect.proofs.Action.{act-nil, act-cons}
 use Rattle.cox_reflect.proofs.Removal.{right_letter_goes}
 use Rattle.cox_small.specs.SmallRoots.{IsSmall}

@@ -1,5 +1,5 @@
 -- Coordinates of positive roots and coroots, as lists of numbers, and what a letter does to them.
-use Rattle.std.specs.Prelude.{◌≡◌, ℕ, zero, suc, ◌+◌, ◌-◌, ◌*◌, ◌^◌, ◌<◌, ◌≤◌, List, slice_index, nat_abs, pos}
+use Rattle.std.specs.Prelude.{ℕ, zero, suc, ◌+◌, ◌-◌, ◌*◌, ◌^◌, ◌<◌, ◌≤◌, List, slice_index, nat_abs, pos}
 use Rattle.cox_base.specs.IntegerMatrix.{IntegerMatrix}
 use Rattle.cox_reflect.specs.Action.{Vector}
 use Rattle.cox_reflect.specs.Transpose.{transposed}

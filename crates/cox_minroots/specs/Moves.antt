@@ -1,8 +1,8 @@
 -- The table of small roots: where each letter takes each of them.
 use Rattle.std.specs.Prelude.{◌≡◌, ℕ, ◌+◌, ◌-◌, ◌*◌, ◌<◌, ◌≤◌, List, length, slice_index, pos, ◌*ℤ◌, ◌≤ℤ◌, ◌<ℤ◌}
 use Rattle.cox_base.specs.declared.coxeter.TheConstants.{MAX_RANK}
-use Rattle.cox_base.specs.Matrix.{CoxeterMatrix, IsLetter}
-use Rattle.cox_base.specs.IntegerMatrix.{IntegerMatrix, integer_matrix}
+use Rattle.cox_base.specs.Matrix.{IsLetter}
+use Rattle.cox_base.specs.IntegerMatrix.{IntegerMatrix}
 use Rattle.cox_reflect.specs.Action.{Vector, simple_root, pairing, reflect}
 use Rattle.cox_reflect.specs.Transpose.{transposed}
 use Rattle.cox_small.specs.SmallRoots.{IsSmall, IsSmallRoot}
@@ -12,10 +12,8 @@ use Rattle.cox_minroots.specs.declared.moves.TheConstants.{NEGATIVE, OUT}
 pub record IsMove (A : IntegerMatrix) (n : ℕ) (root coroot : ℕ → Vector) (i s move : ℕ) : Type 0 where
   -- the root is e(s), so s makes it negative
   pub negative : move ≡ NEGATIVE → root i ≡ simple_root s
-
   -- the image is positive and not small: p is negative, and p r at least 4
   pub out : move ≡ OUT → (pairing A s (root i) <ℤ pos 0) × (pos 4 ≤ℤ (pairing A s (root i) *ℤ pairing (transposed A) s (coroot i)))
-
   -- else the image is the small root with this number
   pub goes : move < NEGATIVE → (move < n) × (root move ≡ reflect A s (root i))
 

@@ -14,6 +14,7 @@ impl RootTable {
     pub fn normal_form(&self, w: &Word) -> Word
         requires { IsWord self.now.rank w.now.items }
         ensures form { result.items ≡ normal_form (integer_matrix self.now) w.now.items }
+        ensures reduced { IsReduced (integer_matrix self.now) result.items }
         ensures word { IsWord self.now.rank result.items }
         ensures no_longer { length result.items ≤ length w.now.items }
     {
@@ -53,6 +54,7 @@ impl RootTable {
     pub fn inverse(&self, w: &Word) -> Word
         requires { IsWord self.now.rank w.now.items }
         ensures form { result.items ≡ normal_form (integer_matrix self.now) (reverse w.now.items) }
+        ensures reduced { IsReduced (integer_matrix self.now) result.items }
         ensures word { IsWord self.now.rank result.items }
         ensures no_longer { length result.items ≤ length w.now.items }
     {
@@ -65,6 +67,7 @@ impl RootTable {
         requires letters_y { IsWord self.now.rank y.now.items }
         requires room { length x.now.items + length y.now.items ≤ MAX_LETTERS }
         ensures form { result.items ≡ normal_form (integer_matrix self.now) (x.now.items ++ y.now.items) }
+        ensures reduced { IsReduced (integer_matrix self.now) result.items }
         ensures word { IsWord self.now.rank result.items }
         ensures no_longer { length result.items ≤ length x.now.items + length y.now.items }
     {

@@ -60,7 +60,8 @@ impl Root {
         requires { IsLetter g.now.rank s }
         ensures { result ≡ rise (integer_matrix g.now) s self.now.root * rise (transposed (integer_matrix g.now)) s self.now.coroot }
     {
-        u64::from(rise(g, Kind::OfRoot, &self.root, s)) * u64::from(rise(g, Kind::OfCoroot, &self.coroot, s))
+        u64::from(rise(g, Kind::OfRoot, &self.root, s))
+            * u64::from(rise(g, Kind::OfCoroot, &self.coroot, s))
     }
 }
 

@@ -5,9 +5,9 @@ ghost use Rattle.cox_base.specs.Matrix.{IsCoxeterMatrix};
 ghost use Rattle.cox_small.specs.SmallRoots.{HasMoreThan, HasAtMost};
 ghost use Rattle.cox_minroots.specs.Closure.{WhenTooMany};
 
+use crate::RootFault;
 use crate::closure::{MAX_SMALL_ROOTS, close};
 use crate::moves::moves;
-use crate::RootFault;
 use cox_base::Coxeter;
 use std::alloc::Global;
 use std::marker::Model;

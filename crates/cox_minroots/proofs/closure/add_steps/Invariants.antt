@@ -1,7 +1,4 @@
-use Rattle.std.proofs.Common.{ℕ, ◌≤◌, ◌<◌, ◌+◌, length}
-use Rattle.cox_base.specs.Matrix.{IsLetter}
 use Rattle.cox_base.specs.IntegerMatrix.{integer_matrix}
-use Rattle.cox_minroots.specs.Closure.{AreSmall, HasStep, IsLonger}
 use Rattle.cox_minroots.proofs.Stepping.{IsStepping}
 use Rattle.cox_minroots.proofs.closure.add_steps.Given as goal
 

@@ -1,8 +1,6 @@
-use Rattle.std.proofs.Common.{◌≡◌, ◌-◌, rules, length, arith}
-use Rattle.cox_base.specs.declared.coxeter.TheConstants.{MAX_RANK}
+use Rattle.std.proofs.Common.{◌≡◌, ◌-◌, rules, arith}
 use Rattle.cox_base.specs.IntegerMatrix.{integer_matrix}
 use Rattle.cox_reflect.proofs.Admissible.{IsAdmissible-integer_matrix}
-use Rattle.cox_minroots.specs.Closure.{HasSimple}
 use Rattle.cox_minroots.proofs.SimpleRoots.{starting, starting-next}
 use Rattle.cox_minroots.proofs.closure.simple_roots.Goals as goal
 

@@ -1,5 +1,4 @@
-use Rattle.std.proofs.Common.{◌≤◌, rules, arith}
-use Rattle.cox_base.specs.Matrix.{IsLetter}
+use Rattle.std.proofs.Common.{arith}
 use Rattle.cox_base.specs.IntegerMatrix.{integer_matrix}
 use Rattle.cox_reflect.proofs.Admissible.{IsAdmissible-integer_matrix}
 use Rattle.cox_minroots.proofs.Targets.{move-negative, read-out, read-turns, read-there, read-found}

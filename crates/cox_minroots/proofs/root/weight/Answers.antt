@@ -1,6 +1,6 @@
-use Rattle.std.proofs.Common.{rules, ◌≡◌, ℕ, ◌+◌, ◌-◌, ◌*◌, ◌≤◌, refl, ap, ap₂, ◌∙◌, arith}
+use Rattle.std.proofs.Common.{rules, ℕ, ◌-◌, ◌*◌, ◌≤◌, refl, ap₂, arith}
 use Rattle.cox_base.specs.IntegerMatrix.{integer_matrix}
-use Rattle.cox_minroots.specs.Coordinates.{matrix_of, sum_of}
+use Rattle.cox_minroots.specs.Coordinates.{sum_of}
 use Rattle.cox_minroots.proofs.CoordinateLemmas.{sum_of-next, sum_of-bound, sum_of-all}
 use Rattle.cox_minroots.proofs.root.weight.Goals as goal
 

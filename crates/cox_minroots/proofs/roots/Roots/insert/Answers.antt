@@ -1,4 +1,3 @@
-use Rattle.std.proofs.Common.{sym}
 use Rattle.cox_minroots.proofs.RootKeys.{inserted}
 use Rattle.cox_minroots.proofs.roots.Roots.insert.Goals as goal
 

@@ -1,7 +1,6 @@
-use Rattle.std.proofs.Common.{ℕ, ◌≡◌, ◌≤◌, ◌+◌, ◌-◌, List, length, ap, sym, ◌∙◌, arith, lit<}
+use Rattle.std.proofs.Common.{ℕ, ◌≡◌, ◌+◌, ◌-◌, List, length, ap, sym, ◌∙◌, arith, lit<}
 use Rattle.cox_base.specs.IntegerMatrix.{integer_matrix}
 use Rattle.cox_reflect.proofs.Admissible.{IsAdmissible-integer_matrix}
-use Rattle.cox_base.specs.Length.{IsRightDescent}
 use Rattle.cox_minroots.proofs.FormLemmas.{descents_to, descents-none, descents-yes, descents-no, descents-all, descents-letters, some-descent, none-no_descent}
 use Rattle.cox_minroots.proofs.table.RootTable.descents_of.Goals as goal
 use Rattle.cox_minroots.proofs.table.RootTable.descents_of.Goals.{then-is_some, else-is_some}
@@ -25,7 +24,7 @@ pub loop-s-preserved : goal.loop-s-preserved
 loop-s-preserved c =
     let next : c.loop-s.s + 1 - 1 ≡ c.loop-s.s = omega arith
     in elim c.if-is_some.branch [
-      then-is_some w ↦ rw (w.found-is, w.push.ensures.items, next, c.loop-s.invariant)
+      | then-is_some w ↦ rw (w.found-is, w.push.ensures.items, next, c.loop-s.invariant)
           (sym (descents-yes (integer_matrix c.args.self.now) c.args.v.now.items c.loop-s.s c.loop-s.auto.s
           (some-descent (integer_matrix c.args.self.now) (IsAdmissible-integer_matrix c.args.self.now (rw c.self.view_is at c.rank.ensures.matrix)) c.args.v.now.items c.loop-s.s c.exchanged.result c.requires.reduced
           (sym c.is_some.ensures ∙ w.if-is_some.true) c.exchanged.ensures.within c.exchanged.ensures.without)))

@@ -1,4 +1,4 @@
-use Rattle.std.proofs.Common.{reverse, map}
+use Rattle.std.proofs.Common.{map}
 use Rattle.cox_base.specs.IntegerMatrix.{integer_matrix}
 use Rattle.cox_minroots.proofs.ProductLemmas.{IsMultiplied}
 use Rattle.cox_minroots.proofs.table.RootTable.multiply_inverse.Given as goal

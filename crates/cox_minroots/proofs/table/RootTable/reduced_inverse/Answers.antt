@@ -1,4 +1,3 @@
-use Rattle.std.proofs.Common.{length, ◌+◌, ◌≤◌, arith}
 use Rattle.cox_base.specs.IntegerMatrix.{integer_matrix}
 use Rattle.cox_reflect.proofs.Admissible.{IsAdmissible-integer_matrix}
 use Rattle.cox_reflect.proofs.Lengths.{IsReduced-nil}
