@@ -68,7 +68,8 @@ row-within xs l h = record { full = h.full; small = λ k. omega (arith, l, h.sma
 
 module _ (A : IntegerMatrix) (g : IsAdmissible A) where
   -- a list with a root of this vector has this very root
-  same_pair : (roots : List Root) (r : Root) (m i : ℕ) → AreSmall A roots → IsSmall A (vector_of r.root) (vector_of r.coroot) → IsRow m r.root
+  same_pair : (roots : List Root) (r : Root) (m i : ℕ) → AreSmall A roots → IsSmall A (vector_of r.root) (vector_of r.coroot)
+      → IsRow m r.root
       → IsRow m r.coroot → i < length roots → root_of roots i ≡ vector_of r.root → root_at roots i ≡ r
   same_pair roots r m i h small row corow l e =
       let other : IsSmall A (vector_of r.root) (coroot_of roots i) = rw e at (h.small i l)
@@ -132,7 +133,8 @@ module _ (A : IntegerMatrix) (g : IsAdmissible A) where
   -- a row after its coordinate at s has risen
   pub risen-row : (s m : ℕ) (xs : List ℕ) → s - 1 < MAX_RANK → 1 ≤ rise A s xs → rise A s xs ≤ 3 → IsRow m xs
       → IsRow (m + 3) (set xs (s - 1) (weight A s xs - 3 * get_or xs (s - 1) 0))
-  risen-row s m xs within l h row = record { full = length-set xs (s - 1) (weight A s xs - 3 * get_or xs (s - 1) 0) ∙ row.full; small = below }
+  risen-row s m xs within l h row =
+      record { full = length-set xs (s - 1) (weight A s xs - 3 * get_or xs (s - 1) 0) ∙ row.full; small = below }
     where
       v : ℕ
       v = weight A s xs - 3 * get_or xs (s - 1) 0
@@ -162,7 +164,8 @@ small_factors x y l h =
     let f = factors x y l
     in (omega (arith, mul-le-mul_left x f.1, h), omega (arith, mul-le-mul_right y f.0, h))
 
-pub HasStep-longer : (A : IntegerMatrix) (old new : List Root) (i s : ℕ) → IsLonger old new → i < length old → HasStep A old i s → HasStep A new i s
+pub HasStep-longer : (A : IntegerMatrix) (old new : List Root) (i s : ℕ) → IsLonger old new → i < length old → HasStep A old i s
+    → HasStep A new i s
 HasStep-longer A old new i s k l h = record {
   image = λ q. let j = h.image (rw (k.same i l) at q) in (j.0, omega (arith, j.1, k.longer), rw (k.same i l, k.same j.0 j.1) j.2);
 }
@@ -175,7 +178,8 @@ HasSimple-longer old new n k h = record {
 
 -- ---- the root i of a list of small roots, and a letter s
 
-module _ (A : IntegerMatrix) (g : IsAdmissible A) (fits : A.rank ≤ MAX_RANK) (roots : List Root) (h : AreSmall A roots) (i : ℕ) (l : i < length roots)
+module _ (A : IntegerMatrix) (g : IsAdmissible A) (fits : A.rank ≤ MAX_RANK) (roots : List Root) (h : AreSmall A roots) (i : ℕ)
+    (l : i < length roots)
     (s : ℕ) (ls : IsLetter A.rank s) where
   gt : IsAdmissible (transposed A)
   gt = IsAdmissible-transposed A g
@@ -245,7 +249,8 @@ module _ (A : IntegerMatrix) (g : IsAdmissible A) (fits : A.rank ≤ MAX_RANK) (
     pub turned-root : CanTurn A s (root_at roots i).root → vector_of r.root ≡ reflect A s (root_of roots i)
     turned-root c = rw er (turned-coordinates A g s (root_at roots i).root ls (omega (arith, row.full, fits)) c)
 
-    pub turned-coroot : CanTurn (transposed A) s (root_at roots i).coroot → vector_of r.coroot ≡ reflect (transposed A) s (coroot_of roots i)
+    pub turned-coroot : CanTurn (transposed A) s (root_at roots i).coroot
+        → vector_of r.coroot ≡ reflect (transposed A) s (coroot_of roots i)
     turned-coroot c = rw ec (turned-coordinates (transposed A) gt s (root_at roots i).coroot ls (omega (arith, corow.full, fits)) c)
 
     -- the list with the image
@@ -281,7 +286,14 @@ module _ (A : IntegerMatrix) (g : IsAdmissible A) (fits : A.rank ≤ MAX_RANK) (
         has : HasStep A new i s
         has =
             let j = inserted-at put
-            in record { image = λ q. (j.0, j.1, ap (λ (x : Root). vector_of x.root) j.2 ∙ image ∙ ap (λ (x : Root). reflect A s (vector_of x.root)) (sym (longer.same i l))) }
+            in record {
+              image = λ q. (
+                j.0,
+                j.1,
+                ap (λ (x : Root). vector_of x.root) j.2 ∙ image
+                    ∙ ap (λ (x : Root). reflect A s (vector_of x.root)) (sym (longer.same i l)),
+              );
+            }
 
 -- ---- the count
 

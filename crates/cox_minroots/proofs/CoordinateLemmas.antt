@@ -201,7 +201,8 @@ module _ (A : IntegerMatrix) (g : IsAdmissible A) where
       → vector_of (set xs (s - 1) (weight A s xs - 3 * get_or xs (s - 1) 0)) ≡ reflect A s (vector_of xs)
   unfolding reflect minus
   turned-coordinates s xs ls h c =
-      vector_of-set xs s (weight A s xs - 3 * get_or xs (s - 1) 0) ls.from_one (omega (arith, ls.to_rank, h)) (reflect A s (vector_of xs)) own
+      vector_of-set xs s (weight A s xs - 3 * get_or xs (s - 1) 0) ls.from_one (omega (arith, ls.to_rank, h)) (reflect A s (vector_of xs))
+      own
       (λ i ne. reflect-other A s (vector_of xs) i ne)
     where
       own : reflect A s (vector_of xs) s ≡ pos (weight A s xs - 3 * get_or xs (s - 1) 0)

@@ -69,16 +69,19 @@ module _ (A : IntegerMatrix) (g : IsAdmissible A) where
       in right_descents-same e ∙ sym (rw (reverse-reverse w) at back)
 
   -- the inverse of a product
-  pub same-product : (x y v u : List ℕ) → SameElement A v (reverse y) → SameElement A u (v ++ reverse x) → SameElement A u (reverse (x ++ y))
+  pub same-product : (x y v u : List ℕ) → SameElement A v (reverse y) → SameElement A u (v ++ reverse x)
+      → SameElement A u (reverse (x ++ y))
   same-product x y v u e f = rw (reverse-append x y) (same-trans A g f (same-append A g e (same-refl A g (reverse x))))
 
   -- what the code knows where it asks for an exchange
-  pub some-descent : (v : List ℕ) (s : ℕ) (found : Option ℕ) → IsReduced A v → is_some found ≡ true → IfSome found (λ place. place < length v)
+  pub some-descent : (v : List ℕ) (s : ℕ) (found : Option ℕ) → IsReduced A v → is_some found ≡ true
+      → IfSome found (λ place. place < length v)
       → IfSome found (λ place. SameElement A (v ++ s ∷ []) (remove v place)) → IsRightDescent A v s
   some-descent v s None h e a b = absurd (cc)
   some-descent v s (Some place) h e a b = exchanged-descent v s place h a b
 
-  pub none-no_descent : (v : List ℕ) (s : ℕ) (found : Option ℕ) → IsReduced A v → is_some found ≡ false → IfNone found (IsReduced A (v ++ s ∷ []))
+  pub none-no_descent : (v : List ℕ) (s : ℕ) (found : Option ℕ) → IsReduced A v → is_some found ≡ false
+      → IfNone found (IsReduced A (v ++ s ∷ []))
       → IsRightDescent A v s → ⊥
   none-no_descent v s None h e a d = put_in-no_descent v s h a d
   none-no_descent v s (Some place) h e a d = absurd (cc)
@@ -97,7 +100,8 @@ module _ (A : IntegerMatrix) (g : IsAdmissible A) where
 
   pub form-none : (v : List ℕ) (n : ℕ) → A.rank ≤ n → ((t : ℕ) → 1 ≤ t → t ≤ n → IsRightDescent A v t → ⊥) → normal_form A (reverse v) ≡ []
   form-none v n l none =
-      normal_form-no_descent A g (reverse v) (λ t k. let there : IsRightDescent A v t = rw (reverse-reverse v) at (left_descent_reverse A g (reverse v) t k)
+      normal_form-no_descent A g (reverse v)
+      (λ t k. let there : IsRightDescent A v t = rw (reverse-reverse v) at (left_descent_reverse A g (reverse v) t k)
       in let letter = left_descent-letter A g (reverse v) t k
       in none t letter.from_one (omega (arith, letter.to_rank, l)) there)
 
@@ -115,7 +119,8 @@ module _ (A : IntegerMatrix) (g : IsAdmissible A) where
     size = omega (arith, size, h.size, length-append form (s ∷ []));
   }
 
-  pub begun-end : (all form rest : List ℕ) → IsBegun A all form rest → normal_form A (reverse rest) ≡ [] → form ≡ normal_form A (reverse all)
+  pub begun-end : (all form rest : List ℕ) → IsBegun A all form rest → normal_form A (reverse rest) ≡ []
+      → form ≡ normal_form A (reverse all)
   begun-end all form rest h e = sym (h.whole ∙ ap (λ (v : List ℕ). form ++ v) e ∙ append-nil form)
 
 -- ---- the list of the right descents
@@ -169,7 +174,9 @@ module _ (A : IntegerMatrix) (v : List ℕ) where
   -- letters up to n, at most n of them
   pub descents-letters : (n : ℕ) → (IsWord n (descents_to A v n)) × (length (descents_to A v n) ≤ n)
   descents-letters zero = (rw descents-none (All-nil (IsLetter 0)), rw descents-none (omega arith))
-  descents-letters (suc n) = ⊎_elim (yes (grown (descents-letters n))) (no (grown (descents-letters n))) (cases_lt (word_length A (v ++ suc n ∷ [])) (word_length A v))
+  descents-letters (suc n) =
+      ⊎_elim (yes (grown (descents-letters n))) (no (grown (descents-letters n)))
+      (cases_lt (word_length A (v ++ suc n ∷ [])) (word_length A v))
     where
       grown : (IsWord n (descents_to A v n)) × (length (descents_to A v n) ≤ n)
           → (IsWord (suc n) (descents_to A v n)) × (length (descents_to A v n) ≤ n)
@@ -183,12 +190,14 @@ module _ (A : IntegerMatrix) (v : List ℕ) where
       yes before d =
           let e : descents_to A v (suc n) ≡ descents_to A v n ++ suc n ∷ [] = rw place at (descents-yes (suc n) (omega arith) d)
           in (
-            rw e (IsWord-append (descents_to A v n) (suc n ∷ []) before.0 (IsWord-single (record { from_one = omega arith; to_rank = omega arith }))),
+            rw e (IsWord-append (descents_to A v n) (suc n ∷ []) before.0
+                (IsWord-single (record { from_one = omega arith; to_rank = omega arith }))),
             rw e (omega (arith, length-append (descents_to A v n) (suc n ∷ []), before.1)),
           )
 
       no : (IsWord (suc n) (descents_to A v n)) × (length (descents_to A v n) ≤ n)
-          → word_length A v ≤ word_length A (v ++ suc n ∷ []) → (IsWord (suc n) (descents_to A v (suc n))) × (length (descents_to A v (suc n)) ≤ suc n)
+          → word_length A v ≤ word_length A (v ++ suc n ∷ []) → (IsWord (suc n) (descents_to A v (suc n)))
+          × (length (descents_to A v (suc n)) ≤ suc n)
       no before l =
           let e : descents_to A v (suc n) ≡ descents_to A v n = rw place at (descents-no (suc n) (omega arith) (λ d. omega (arith, l, d)))
           in (rw e before.0, rw e (omega (arith, before.1)))

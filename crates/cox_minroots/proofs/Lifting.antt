@@ -26,7 +26,8 @@ pub record IsLifted (A : IntegerMatrix) (y w small large : List ℕ) : Type 0 wh
   pub word_large : IsWord A.rank large
 
 module _ (A : IntegerMatrix) (g : IsAdmissible A) where
-  pub lifted-start : (y w small large : List ℕ) → SameElement A small (reverse y) → SameElement A large (reverse w) → IsReduced A small → IsReduced A large
+  pub lifted-start : (y w small large : List ℕ) → SameElement A small (reverse y) → SameElement A large (reverse w) → IsReduced A small
+      → IsReduced A large
       → IsWord A.rank small → IsWord A.rank large → IsLifted A y w small large
   lifted-start y w small large e f h k m n = record {
     settles = (
@@ -55,7 +56,8 @@ module _ (A : IntegerMatrix) (g : IsAdmissible A) where
     lifted-letter = All-head (IsLetter A.rank) s [] (IsWord-back front (s ∷ []) h.word_large)
 
     -- s shortens small: it goes
-    pub lifted-down : (place : ℕ) → place < length small → SameElement A (small ++ s ∷ []) (remove small place) → IsLifted A y w (remove small place) front
+    pub lifted-down : (place : ℕ) → place < length small → SameElement A (small ++ s ∷ []) (remove small place)
+        → IsLifted A y w (remove small place) front
     lifted-down place l e = record {
       settles = (
         λ b. below-same A g e (same-push_twice A g front s) ((lift d).0 (h.settles.0 b)),

@@ -34,7 +34,8 @@ length-remove w place l =
 pub word-remove : {n : ℕ} (w : List ℕ) (place : ℕ) → place < length w → IsWord n w → IsWord n (remove w place)
 word-remove {n} w place l h =
     let whole : IsWord n (take place w ++ get_or w place 0 ∷ drop (suc place) w) = rw (← (place-split w place l)) h
-    in let rest : IsWord n (get_or w place 0 ∷ drop (suc place) w) = IsWord-back (take place w) (get_or w place 0 ∷ drop (suc place) w) whole
+    in let rest : IsWord n (get_or w place 0 ∷ drop (suc place) w)
+    = IsWord-back (take place w) (get_or w place 0 ∷ drop (suc place) w) whole
     in IsWord-append (take place w) (drop (suc place) w) (IsWord-front (take place w) (get_or w place 0 ∷ drop (suc place) w) whole)
     (IsWord-back (get_or w place 0 ∷ []) (drop (suc place) w) rest)
 

@@ -22,8 +22,10 @@ same_root r q = pointwise nat_eq r.root q.root && pointwise nat_eq r.coroot q.co
 
 pub same_root-equal : (r q : Root) → same_root r q ≡ true → r ≡ q
 same_root-equal r q e =
-    let a : r.root ≡ q.root = (bytes_decides r.root q.root).0 (both (pointwise nat_eq r.root q.root) (pointwise nat_eq r.coroot q.coroot) e).0
-    in let b : r.coroot ≡ q.coroot = (bytes_decides r.coroot q.coroot).0 (both (pointwise nat_eq r.root q.root) (pointwise nat_eq r.coroot q.coroot) e).1
+    let a : r.root ≡ q.root
+    = (bytes_decides r.root q.root).0 (both (pointwise nat_eq r.root q.root) (pointwise nat_eq r.coroot q.coroot) e).0
+    in let b : r.coroot ≡ q.coroot
+    = (bytes_decides r.coroot q.coroot).0 (both (pointwise nat_eq r.root q.root) (pointwise nat_eq r.coroot q.coroot) e).1
     in λ i. record { root = a i; coroot = b i }
 
 pub same_root-own : (r : Root) → same_root r r ≡ true
@@ -37,7 +39,8 @@ contains-found (x ∷ keys) r c = go c.0 c.1 c.2 (contains-found keys r)
     go : (i : ℕ) → i < suc (length keys) → get_or (x ∷ keys) i r ≡ r → (Contains keys r → list_any (same_root r) keys ≡ true)
         → (same_root r x || list_any (same_root r) keys) ≡ true
     go zero l e rest = let own : same_root r x ≡ true = rw e (same_root-own r) in rw own refl
-    go (suc i) l e rest = let later : list_any (same_root r) keys ≡ true = rest (i, omega (arith, l), e) in rw later (or-true (same_root r x))
+    go (suc i) l e rest = let later : list_any (same_root r) keys ≡ true = rest (i, omega (arith, l), e)
+        in rw later (or-true (same_root r x))
 
 pub inserted : (keys : List Root) (r : Root) (next : List Root) → next ≡ insert_key same_root keys r → IsInserted keys r next
 inserted keys r next e = go (list_any (same_root r) keys) refl

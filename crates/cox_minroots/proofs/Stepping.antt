@@ -38,7 +38,8 @@ module _ (x : CoxeterMatrix) (matrix : IsCoxeterMatrix x) (fits : x.rank ≤ MAX
   g = IsAdmissible-integer_matrix x matrix
 
   -- the next letter, if s is done too
-  next : (more : List Root) → IsLonger new more → length more ≤ length new + 1 → AreSmall A more → HasStep A more i s → IsStepping A old more i (s + 1)
+  next : (more : List Root) → IsLonger new more → length more ≤ length new + 1 → AreSmall A more → HasStep A more i s
+      → IsStepping A old more i (s + 1)
   next more k size small has = record {
     small = small;
     longer = longer-trans h.longer k;
@@ -53,15 +54,18 @@ module _ (x : CoxeterMatrix) (matrix : IsCoxeterMatrix x) (fits : x.rank ≤ MAX
     room : length new < 20000
     room = omega (arith, h.few, few, ls.to_rank, fits)
 
-    pub stepping-turns : 1 ≤ product → product ≤ 3 → CanTurn (integer_matrix x) s root.root × CanTurn (transposed (integer_matrix x)) s root.coroot
+    pub stepping-turns : 1 ≤ product → product ≤ 3 → CanTurn (integer_matrix x) s root.root
+        × CanTurn (transposed (integer_matrix x)) s root.coroot
     stepping-turns m n =
         rw at (can_turn A g fits new h.small i h.within s ls (rw (is, at) at m) (rw (is, at) at n) room)
 
     pub stepping-passed : (1 ≤ product → product ≤ 3 → ⊥) → IsStepping (integer_matrix x) old new i (s + 1)
     stepping-passed never =
-        next new (longer-refl new) (omega arith) h.small (passed A g fits new h.small i h.within s ls (λ m n. never (rw (is, at) m) (rw (is, at) n)))
+        next new (longer-refl new) (omega arith) h.small
+        (passed A g fits new h.small i h.within s ls (λ m n. never (rw (is, at) m) (rw (is, at) n)))
 
-    pub stepping-added : (r : Root) → r.root ≡ set root.root (s - 1) (weight (integer_matrix x) s root.root - 3 * get_or root.root (s - 1) 0)
+    pub stepping-added : (r : Root)
+        → r.root ≡ set root.root (s - 1) (weight (integer_matrix x) s root.root - 3 * get_or root.root (s - 1) 0)
         → r.coroot ≡ set root.coroot (s - 1) (weight (transposed (integer_matrix x)) s root.coroot - 3 * get_or root.coroot (s - 1) 0)
         → (more : List Root) → 1 ≤ product → product ≤ 3 → IsInserted new r more → IsStepping (integer_matrix x) old more i (s + 1)
     stepping-added r er ec more m n put =

@@ -12,7 +12,8 @@ use Rattle.cox_minroots.specs.Closure.{IsClosed}
 use Rattle.cox_minroots.specs.Moves.{IsMove, IsTable, IsRootTable}
 use Rattle.cox_minroots.proofs.ClosureLemmas.{closed-has}
 
-pub root-table : (A : IntegerMatrix) → IsAdmissible A → (roots : List Root) (count : ℕ) (moves : List ℕ) → IsClosed A roots → count ≡ length roots
+pub root-table : (A : IntegerMatrix) → IsAdmissible A → (roots : List Root) (count : ℕ) (moves : List ℕ) → IsClosed A roots
+    → count ≡ length roots
     → length roots ≤ 4096 → length moves ≡ MAX_RANK * length roots
     → ((i s : ℕ) → i < length roots → IsLetter A.rank s
     → IsMove A (length roots) (root_of roots) (coroot_of roots) i s (get_or moves (MAX_RANK * i + (s - 1)) 0))

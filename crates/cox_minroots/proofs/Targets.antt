@@ -1,4 +1,5 @@
--- The image of a small root under a letter, where the product of the pairings is at most 3 and the root is not that of the letter: it is small,
+-- The image of a small root under a letter, where the product of the pairings is at most 3 and the root is not that of the letter: it is
+-- small,
 -- so a list of all small roots has it.
 use Rattle.std.proofs.Common.{◌≡◌, ℕ, ◌+◌, ◌-◌, ◌*◌, ◌/◌, ◌%◌, ◌≤◌, ◌<◌, List, [], ◌∷◌, ◌++◌, length, get_or, set, Contains, pos, ◌-ℤ◌, ◌*ℤ◌, ◌<ℤ◌, ap, sym, ◌∙◌, ⊎_elim, arith}
 use Rattle.std.proofs.lemmas.Bool.{cases_lt, cases_order}
@@ -38,7 +39,8 @@ can_turn_to A g s m xs ys ls row small e = go at_s
     at_s = rw (vector_of-letter ys s ls.from_one, vector_of-letter xs s ls.from_one, pairing-weight A g s xs ls, simple_root-self s) at
         (ap (λ (v : Vector). v s) e)
 
-    go : pos (get_or ys (s - 1) 0) ≡ pos (get_or xs (s - 1) 0) -ℤ ((pos (4 * get_or xs (s - 1) 0) -ℤ pos (weight A s xs)) *ℤ pos 1) → CanTurn A s xs
+    go : pos (get_or ys (s - 1) 0) ≡ pos (get_or xs (s - 1) 0) -ℤ ((pos (4 * get_or xs (s - 1) 0) -ℤ pos (weight A s xs)) *ℤ pos 1)
+        → CanTurn A s xs
     go f =
         let linear : pos (get_or ys (s - 1) 0) ≡ pos (get_or xs (s - 1) 0) -ℤ (pos (4 * get_or xs (s - 1) 0) -ℤ pos (weight A s xs))
         = rw (times_one (pos (4 * get_or xs (s - 1) 0) -ℤ pos (weight A s xs))) at f
@@ -85,7 +87,8 @@ module _ (A : IntegerMatrix) (g : IsAdmissible A) (fits : A.rank ≤ MAX_RANK) (
       small : IsSmall A (root_of roots i) (coroot_of roots i)
       small = h.small.small i l
 
-      equal : pairing A s (root_of roots i) ≡ pos 0 → IsSmall A (reflect A s (root_of roots i)) (reflect (transposed A) s (coroot_of roots i))
+      equal : pairing A s (root_of roots i) ≡ pos 0
+          → IsSmall A (reflect A s (root_of roots i)) (reflect (transposed A) s (coroot_of roots i))
       equal e =
           rw (
             reflect-fixed A s (root_of roots i) e,
@@ -93,7 +96,8 @@ module _ (A : IntegerMatrix) (g : IsAdmissible A) (fits : A.rank ≤ MAX_RANK) (
           )
           small
 
-      below : pairing A s (root_of roots i) <ℤ pos 0 → IsSmall A (reflect A s (root_of roots i)) (reflect (transposed A) s (coroot_of roots i))
+      below : pairing A s (root_of roots i) <ℤ pos 0
+          → IsSmall A (reflect A s (root_of roots i)) (reflect (transposed A) s (coroot_of roots i))
       below n = step (short A g fits roots h.small i l s ls some few) small
         where
           r : pairing (transposed A) s (coroot_of roots i) <ℤ pos 0
@@ -136,7 +140,8 @@ module _ (A : IntegerMatrix) (g : IsAdmissible A) (fits : A.rank ≤ MAX_RANK) (
         turns = target-turns ne few short_list
 
         full : length r.root ≡ length (root_at roots i).root
-        full = rw er (length-set (root_at roots i).root (s - 1) (weight A s (root_at roots i).root - 3 * get_or (root_at roots i).root (s - 1) 0))
+        full = rw er (length-set (root_at roots i).root (s - 1)
+            (weight A s (root_at roots i).root - 3 * get_or (root_at roots i).root (s - 1) 0))
 
         cofull : length r.coroot ≡ length (root_at roots i).coroot
         cofull =
@@ -157,14 +162,16 @@ module _ (A : IntegerMatrix) (g : IsAdmissible A) (fits : A.rank ≤ MAX_RANK) (
             (λ k m. vector_of-at (root_at roots t.number).coroot r.coroot
             (t.coroot ∙ sym (turned-coroot A g fits roots h.small i l s ls r er ec turns.1)) k)
 
-    pub move-found : (i ≡ s - 1 → ⊥) → product ≤ 3 → length roots ≤ 4096 → (number : ℕ) → (number < length roots) × (root_at roots number ≡ r)
+    pub move-found : (i ≡ s - 1 → ⊥) → product ≤ 3 → length roots ≤ 4096 → (number : ℕ) → (number < length roots)
+        × (root_at roots number ≡ r)
         → IsMove A (length roots) (root_of roots) (coroot_of roots) i s number
     move-found ne few short_list number found = record {
       negative = λ e. absurd (omega (arith, e, found.0, short_list));
       out = λ e. absurd (omega (arith, e, found.0, short_list));
       goes = λ m. (
         found.0,
-        ap (λ (x : Root). vector_of x.root) found.1 ∙ turned-root A g fits roots h.small i l s ls r er ec (target-turns ne few short_list).0,
+        ap (λ (x : Root). vector_of x.root) found.1
+            ∙ turned-root A g fits roots h.small i l s ls r er ec (target-turns ne few short_list).0,
       );
     }
 
@@ -190,7 +197,8 @@ module _ (A : IntegerMatrix) (g : IsAdmissible A) (fits : A.rank ≤ MAX_RANK) (
 
 -- ---- the same of what the code reads: the root itself, and the product
 
-module _ (x : CoxeterMatrix) (matrix : IsCoxeterMatrix x) (fits : x.rank ≤ MAX_RANK) (roots : List Root) (h : IsClosed (integer_matrix x) roots)
+module _ (x : CoxeterMatrix) (matrix : IsCoxeterMatrix x) (fits : x.rank ≤ MAX_RANK) (roots : List Root)
+    (h : IsClosed (integer_matrix x) roots)
     (few : length roots ≤ 4096) (i : ℕ) (l : i < length roots) (s : ℕ) (ls : IsLetter x.rank s) (root : Root) (at : root ≡ root_at roots i)
     (product : ℕ) (is : product ≡ rise (integer_matrix x) s root.root * rise (transposed (integer_matrix x)) s root.coroot) where
   g : IsAdmissible (integer_matrix x)
@@ -199,19 +207,21 @@ module _ (x : CoxeterMatrix) (matrix : IsCoxeterMatrix x) (fits : x.rank ≤ MAX
   pub read-out : 3 < product → IsMove (integer_matrix x) (length roots) (root_of roots) (coroot_of roots) i s OUT
   read-out many = move-out (integer_matrix x) g fits roots h i l s ls (rw (is, at) at many)
 
-  pub read-turns : (i ≡ s - 1 → ⊥) → product ≤ 3 → CanTurn (integer_matrix x) s root.root × CanTurn (transposed (integer_matrix x)) s root.coroot
+  pub read-turns : (i ≡ s - 1 → ⊥) → product ≤ 3 → CanTurn (integer_matrix x) s root.root
+      × CanTurn (transposed (integer_matrix x)) s root.coroot
   read-turns ne small = rw at (target-turns (integer_matrix x) g fits roots h i l s ls ne (rw (is, at) at small) few)
 
   module _ (r : Root) (er : r.root ≡ set root.root (s - 1) (weight (integer_matrix x) s root.root - 3 * get_or root.root (s - 1) 0))
-      (ec : r.coroot ≡ set root.coroot (s - 1) (weight (transposed (integer_matrix x)) s root.coroot - 3 * get_or root.coroot (s - 1) 0)) where
-    pub read-there : (i ≡ s - 1 → ⊥) → product ≤ 3 → Contains roots r
-    read-there ne small =
-        target-there (integer_matrix x) g fits roots h i l s ls r (rw at at er) (rw at at ec) ne (rw (is, at) at small) few
+      (ec : r.coroot ≡ set root.coroot (s - 1) (weight (transposed (integer_matrix x)) s root.coroot - 3 * get_or root.coroot (s - 1) 0))
+    where
+      pub read-there : (i ≡ s - 1 → ⊥) → product ≤ 3 → Contains roots r
+      read-there ne small =
+          target-there (integer_matrix x) g fits roots h i l s ls r (rw at at er) (rw at at ec) ne (rw (is, at) at small) few
 
-    pub read-found : (i ≡ s - 1 → ⊥) → product ≤ 3 → (number : ℕ) → (number < length roots) × (root_at roots number ≡ r)
-        → IsMove (integer_matrix x) (length roots) (root_of roots) (coroot_of roots) i s number
-    read-found ne small number found =
-        move-found (integer_matrix x) g fits roots h i l s ls r (rw at at er) (rw at at ec) ne (rw (is, at) at small) few number found
+      pub read-found : (i ≡ s - 1 → ⊥) → product ≤ 3 → (number : ℕ) → (number < length roots) × (root_at roots number ≡ r)
+          → IsMove (integer_matrix x) (length roots) (root_of roots) (coroot_of roots) i s number
+      read-found ne small number found =
+          move-found (integer_matrix x) g fits roots h i l s ls r (rw at at er) (rw at at ec) ne (rw (is, at) at small) few number found
 
 -- ---- the moves of a list, one after the other
 

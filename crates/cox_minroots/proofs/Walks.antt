@@ -38,7 +38,8 @@ drop-all : (w : List ℕ) → drop (length w) w ≡ []
 drop-all [] = refl
 drop-all (s ∷ w) = drop-all w
 
-pub walk-start : (A : IntegerMatrix) (count : ℕ) (moves w : List ℕ) (s : ℕ) → IsRootTable A count moves → IsWord A.rank w → IsLetter A.rank s
+pub walk-start : (A : IntegerMatrix) (count : ℕ) (moves w : List ℕ) (s : ℕ) → IsRootTable A count moves → IsWord A.rank w
+    → IsLetter A.rank s
     → IsReduced A w → IsWalk A moves w s 0 (s - 1)
 walk-start A count moves w s t lw ls r = record {
   count = count;
@@ -129,7 +130,8 @@ module _ (A : IntegerMatrix) (g : IsAdmissible A) (fits : A.rank ≤ MAX_RANK) (
           is = rw longer (act-cons A q (drop (length w - k) w) (simple_root s) ∙ ap (reflect A q) x.is ∙ sym ((move_at x.table).goes l).1);
         }
 
-pub walk-end : (A : IntegerMatrix) → IsAdmissible A → (moves w : List ℕ) (s k i : ℕ) → IsWalk A moves w s k i → k ≡ length w → IsReduced A (w ++ s ∷ [])
+pub walk-end : (A : IntegerMatrix) → IsAdmissible A → (moves w : List ℕ) (s k i : ℕ) → IsWalk A moves w s k i → k ≡ length w
+    → IsReduced A (w ++ s ∷ [])
 walk-end A g moves w s k i h e =
     ∥∥₁_elim h.reads (hlevel ℕ_set) (λ (x : IsAt A h.count moves (drop (length w - k) w) s i).
     read-front A g w s {c = x.table.coroot i} h.letter h.reduced (at_end x))

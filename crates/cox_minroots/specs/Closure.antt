@@ -29,7 +29,8 @@ pub record HasSimple (roots : List Root) (n : ℕ) : Type 0 where
 
 -- if s makes a short step from the root i then the list has the image
 pub record HasStep (A : IntegerMatrix) (roots : List Root) (i s : ℕ) : Type 0 where
-  pub image : IsShortStep A s (root_of roots i) (coroot_of roots i) → (j : ℕ) × (j < length roots) × (root_of roots j ≡ reflect A s (root_of roots i))
+  pub image : IsShortStep A s (root_of roots i) (coroot_of roots i) → (j : ℕ) × (j < length roots)
+      × (root_of roots j ≡ reflect A s (root_of roots i))
 
 -- new begins with old
 pub record IsLonger (old new : List Root) : Type 0 where

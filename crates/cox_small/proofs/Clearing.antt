@@ -95,7 +95,8 @@ module _ (A : IntegerMatrix) (g : IsAdmissible A) where
   pub short-not_dominates : (s : ℕ) {b c : Vector} → IsRootPair A b c → IsNonnegative b → IsShortStep A s b c
       → Dominates A (reflect A s b) (simple_root s) → ⊥
   unfolding mix minus reflect
-  short-not_dominates s {b} {c} h up q d = go (clears (factors (pairing A s b) (pairing (transposed A) s c) q.negative q.at_least_one q.at_most_three))
+  short-not_dominates s {b} {c} h up q d =
+      go (clears (factors (pairing A s b) (pairing (transposed A) s c) q.negative q.at_least_one q.at_most_three))
     where
       go : Clears (neg_ℤ (pairing A s b)) (neg_ℤ (pairing (transposed A) s c)) → ⊥
       go k = root-one_sign A g (root-act A g w (root-simple A g s q.letter)) there (d.follows w sent)
@@ -125,9 +126,10 @@ module _ (A : IntegerMatrix) (g : IsAdmissible A) where
           there i =
               let e : simple_root s ≡ mix (pos 1) (simple_root s) (pos 0) b
               = fun_ext (λ j. simp multiply_out (omega (arith, linears)))
-              in let f : act A w (simple_root s) ≡ mix (turns P (neg_ℤ (pairing (transposed A) s c)) k.moves (pos 1, pos 0)).0 (simple_root s)
-              (turns P (neg_ℤ (pairing (transposed A) s c)) k.moves (pos 1, pos 0)).1 b
-              = ap (act A w) e ∙ act-word_of A g s q.letter b c h k.moves (pos 1, pos 0)
+              in let f : act A w (simple_root s) ≡ mix (turns P (neg_ℤ (pairing (transposed A) s c)) k.moves (pos 1, pos 0)).0
+              (simple_root s)
+              (turns P (neg_ℤ (pairing (transposed A) s c)) k.moves (pos 1, pos 0)).1 b =
+              ap (act A w) e ∙ act-word_of A g s q.letter b c h k.moves (pos 1, pos 0)
               in rw f (omega (
                 arith,
                 linears,

@@ -125,7 +125,8 @@ module _ (A : IntegerMatrix) (g : IsAdmissible A) where
     unfolding reflect
     turn_simple =
         act-reflection A g h.word h.letter (simple_root s)
-        ∙ act-minus A h.word (act A (reverse h.word) (simple_root s)) (pairing A h.letter (act A (reverse h.word) (simple_root s))) (simple_root h.letter)
+        ∙ act-minus A h.word (act A (reverse h.word) (simple_root s)) (pairing A h.letter (act A (reverse h.word) (simple_root s)))
+        (simple_root h.letter)
         ∙ rw (reverse-act A g h.word (simple_root s), ← (coroot-pairing h.word s h.letter), h.coimage, h.image) refl
 
     turn_own : act A (reflection h.word h.letter) b ≡ negated b

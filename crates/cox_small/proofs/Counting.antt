@@ -8,7 +8,9 @@ use Rattle.cox_small.specs.SmallRoots.{HasMoreThan, HasAtMost}
 search_value : (n : ℕ) (f : ℕ → ℕ) (v : ℕ) → ((i : ℕ) × (i ≤ n) × (f i ≡ v)) ⊎ ((i : ℕ) → i ≤ n → f i ≡ v → ⊥)
 search_value zero f v =
     ⊎_elim (λ e. inl (0, omega arith, e)) (λ ne. inr (λ i l e. let z : i ≡ 0 = omega (arith, l) in ne (rw z at e))) (cases_eq (f 0) v)
-search_value (suc n) f v = ⊎_elim (λ r. inl (r.0, omega (arith, r.1), r.2)) (λ none. ⊎_elim (λ e. inl (suc n, omega arith, e)) (λ ne. inr (never none ne)) (cases_eq (f (suc n)) v)) (search_value n f v)
+search_value (suc n) f v =
+    ⊎_elim (λ r. inl (r.0, omega (arith, r.1), r.2))
+    (λ none. ⊎_elim (λ e. inl (suc n, omega arith, e)) (λ ne. inr (never none ne)) (cases_eq (f (suc n)) v)) (search_value n f v)
   where
     never : ((i : ℕ) → i ≤ n → f i ≡ v → ⊥) → (f (suc n) ≡ v → ⊥) → (i : ℕ) → i ≤ suc n → f i ≡ v → ⊥
     never none ne i l e =
@@ -42,15 +44,20 @@ pigeons (suc n) f below different =
       where
         inside : (i : ℕ) → i ≤ n → replaced n (f (suc n)) f i < n
         inside i l =
-            ⊎_elim (λ h. let ne = other i l in ⊎_elim (λ (e : f (suc n) ≡ n). absurd (ne (h.0 ∙ sym e))) (λ o. omega (arith, h.1, o, below (suc n) (omega arith))) (cases_eq (f (suc n)) n))
-            (λ h. let b = below i (omega (arith, l)) in ⊎_elim (λ (e : f i ≡ n). absurd (h.0 e)) (λ o. omega (arith, h.1, o, b)) (cases_eq (f i) n))
+            ⊎_elim (λ h. let ne = other i l
+            in ⊎_elim (λ (e : f (suc n) ≡ n). absurd (ne (h.0 ∙ sym e))) (λ o. omega (arith, h.1, o, below (suc n) (omega arith)))
+            (cases_eq (f (suc n)) n))
+            (λ h. let b = below i (omega (arith, l))
+            in ⊎_elim (λ (e : f i ≡ n). absurd (h.0 e)) (λ o. omega (arith, h.1, o, b)) (cases_eq (f i) n))
             (replaced-cases n (f (suc n)) f i)
 
         apart : (i j : ℕ) → i < j → j ≤ n → replaced n (f (suc n)) f i ≡ replaced n (f (suc n)) f j → ⊥
         apart i j l k e =
             ⊎_elim
-            (λ h. ⊎_elim (λ m. different i j l (omega (arith, k)) (h.0 ∙ sym m.0)) (λ m. other j k (sym m.1 ∙ sym e ∙ h.1)) (replaced-cases n (f (suc n)) f j))
-            (λ h. ⊎_elim (λ m. other i (omega (arith, l, k)) (sym h.1 ∙ e ∙ m.1)) (λ m. different i j l (omega (arith, k)) (sym h.1 ∙ e ∙ m.1)) (replaced-cases n (f (suc n)) f j))
+            (λ h. ⊎_elim (λ m. different i j l (omega (arith, k)) (h.0 ∙ sym m.0)) (λ m. other j k (sym m.1 ∙ sym e ∙ h.1))
+            (replaced-cases n (f (suc n)) f j))
+            (λ h. ⊎_elim (λ m. other i (omega (arith, l, k)) (sym h.1 ∙ e ∙ m.1))
+            (λ m. different i j l (omega (arith, k)) (sym h.1 ∙ e ∙ m.1)) (replaced-cases n (f (suc n)) f j))
             (replaced-cases n (f (suc n)) f i)
 
 pub not_both : (A : IntegerMatrix) (max : ℕ) → HasAtMost A max → HasMoreThan A max → ⊥

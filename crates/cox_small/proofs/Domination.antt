@@ -142,7 +142,9 @@ module _ (A : IntegerMatrix) (g : IsAdmissible A) where
       → pos 4 ≤ℤ (pairing A s b *ℤ pairing (transposed A) s c)
       → Dominates A (reflect A s b) (simple_root s)
   out-dominates s {b} {c} h up n far = record {
-    follows = λ w sent. ⊎_elim (λ q. absurd (never s ls b c h up w sent (omega (arith, linears, n)) (omega (arith, linears, negative-agrees A g s h up n)) squares q))
+    follows = λ w sent. ⊎_elim
+        (λ q. absurd (never s ls b c h up w sent (omega (arith, linears, n)) (omega (arith, linears, negative-agrees A g s h up n))
+        squares q))
         (λ q. q) (root-sign A g (root-act A g w (root-simple A g s ls)));
   }
     where

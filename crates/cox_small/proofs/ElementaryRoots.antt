@@ -43,7 +43,12 @@ module _ (A : IntegerMatrix) (g : IsAdmissible A) where
 
   pub simple-elementary : (s : ℕ) → IsLetter A.rank s → IsElementary A (simple_root s)
   simple-elementary s l =
-      record { root = root-simple A g s l; positive = simple_root-nonnegative s; alone = λ d r p h. sym (root-sign_changes A g s r p (below d h)) }
+      record {
+        root = root-simple A g s l;
+        positive = simple_root-nonnegative s;
+        alone =
+            λ d r p h. sym (root-sign_changes A g s r p (below d h));
+      }
     where
       below : (d : Vector) → Dominates A (simple_root s) d → IsNonpositive (reflect A s d)
       below d h i =
@@ -53,7 +58,8 @@ module _ (A : IntegerMatrix) (g : IsAdmissible A) where
   -- where s b dominates d, b dominates s d
   dominates-reflect : (s : ℕ) (b d : Vector) → Dominates A (reflect A s b) d → Dominates A b (reflect A s d)
   dominates-reflect s b d h = record {
-    follows = λ w n i. rw (act-push A w s d) at (h.follows (w ++ s ∷ []) (λ j. rw (act-push A w s (reflect A s b), reflect-reflect A g s b) (n j)) i);
+    follows = λ w n i. rw (act-push A w s d) at
+        (h.follows (w ++ s ∷ []) (λ j. rw (act-push A w s (reflect A s b), reflect-reflect A g s b) (n j)) i);
   }
 
   -- s b is elementary with b, if it is positive and does not dominate e(s)
@@ -121,7 +127,15 @@ module _ (A : IntegerMatrix) (g : IsAdmissible A) where
   longer_word : {z w : List ℕ} {b : Vector} → length z < length w → IsSimple b ⊎ IsLowered z b → IsSimple b ⊎ IsLowered w b
   longer_word l (inl e) = inl e
   longer_word l (inr d) =
-      inr (record { letter = d.letter; positive = d.positive; stays = d.stays; word = d.word; shorter = omega (arith, l, d.shorter); sent = d.sent })
+      inr (record {
+        letter = d.letter;
+        positive = d.positive;
+        stays = d.stays;
+        word = d.word;
+        shorter = omega (arith, l, d.shorter);
+        sent =
+            d.sent;
+      })
 
   lowering : (n : ℕ) (w : List ℕ) (b : Vector) → length w < n → IsRoot A b → IsNonnegative b → IsNonpositive (act A w b)
       → IsSimple b ⊎ IsLowered w b
@@ -217,7 +231,8 @@ module _ (A : IntegerMatrix) (g : IsAdmissible A) where
       go (inr d) again =
           let other : b ≡ simple_root d.letter → ⊥ = simple_turns d.letter (positive-letter d.letter b d.positive) d.stays
           in let lower : IsSmall A (reflect A d.letter b) (reflect (transposed A) d.letter c)
-          = again d.word (reflect A d.letter b) (reflect (transposed A) d.letter c) (omega (arith, l, d.shorter)) (pair-reflect A g d.letter h)
+          = again d.word (reflect A d.letter b) (reflect (transposed A) d.letter c) (omega (arith, l, d.shorter))
+          (pair-reflect A g d.letter h)
           (lower-elementary d.letter k other d.positive) d.sent
           in rw (reflect-reflect A g d.letter b, reflect-reflect (transposed A) (IsAdmissible-transposed A g) d.letter c) at
           (step (short_back d.letter h k d.positive d.stays) lower)
@@ -233,7 +248,8 @@ module _ (A : IntegerMatrix) (g : IsAdmissible A) where
       elementary-small (pair-reflect A g s (small-pair h)) (lower-elementary s (small-elementary h) other up)
 
   pub small_as_elementary : (b : Vector) → IsSmallRoot A b ↔ IsElementary A b
-  small_as_elementary b = (λ h. small-elementary h.small, λ k. record { coroot = coroot_of k.root; small = elementary-small (pair_of k.root) k })
+  small_as_elementary b =
+      (λ h. small-elementary h.small, λ k. record { coroot = coroot_of k.root; small = elementary-small (pair_of k.root) k })
     where
       coroot_of : IsRoot A b → Vector
       coroot_of r = act (transposed A) r.word (simple_root r.letter)

@@ -1,5 +1,7 @@
--- Whether a letter put behind a reduced word makes it longer, read off the roots that e(s) goes through, from the last letter of the word to
--- the first: at the simple root of a letter it is exchanged for that letter; at a step with a product of at least 4, and where the word ends
+-- Whether a letter put behind a reduced word makes it longer, read off the roots that e(s) goes through, from the last letter of the word
+-- to
+-- the first: at the simple root of a letter it is exchanged for that letter; at a step with a product of at least 4, and where the word
+-- ends
 -- at a positive root, the longer word is reduced.
 use Rattle.std.proofs.Common.{ℕ, List, [], ◌∷◌, ◌++◌, pos, ◌*ℤ◌, ◌≤ℤ◌, ◌<ℤ◌, ⊎_elim, arith}
 use Rattle.std.proofs.lemmas.List.{length-append, append_assoc}
@@ -49,7 +51,8 @@ module _ (A : IntegerMatrix) (g : IsAdmissible A) where
       → pos 4 ≤ℤ (pairing A q (act A behind (simple_root s)) *ℤ pairing (transposed A) q c)
       → IsReduced A ((front ++ q ∷ behind) ++ s ∷ [])
   read-out front behind q s {c} l h small n far =
-      positive-reduced (front ++ q ∷ behind) s l h (⊎_elim (λ p. p) (λ m. absurd (never m)) (root-sign A g (root-act A g (front ++ q ∷ behind) (root-simple A g s l))))
+      positive-reduced (front ++ q ∷ behind) s l h
+      (⊎_elim (λ p. p) (λ m. absurd (never m)) (root-sign A g (root-act A g (front ++ q ∷ behind) (root-simple A g s l))))
     where
       lq : IsLetter A.rank q
       lq = pairing-letter A g q (act A behind (simple_root s)) (λ z. omega (arith, linears, z, n))
@@ -60,4 +63,5 @@ module _ (A : IntegerMatrix) (g : IsAdmissible A) where
       never : IsNonpositive (act A (front ++ q ∷ behind) (simple_root s)) → ⊥
       never m =
           let d = out-dominates A g q (small-pair A g small) (small-positive A g small) n far
-          in root-apart A g front q up (d.follows front (λ i. rw (act-append A front (q ∷ behind) (simple_root s), act-cons A q behind (simple_root s)) at (m i)))
+          in root-apart A g front q up
+          (d.follows front (λ i. rw (act-append A front (q ∷ behind) (simple_root s), act-cons A q behind (simple_root s)) at (m i)))

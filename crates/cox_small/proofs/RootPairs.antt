@@ -122,16 +122,19 @@ module _ (A : IntegerMatrix) (g : IsAdmissible A) where
   pair-nonnegative h p =
       let u : List ℕ = letters_of A.rank h.word
       in let there : IsNonnegative (act (transposed A) u (simple_root h.letter))
-      = coroot-nonnegative A g u h.letter (letters_of-word A.rank h.word) h.inside (λ i. rw (inside_act h.word (simple_root h.letter), h.image) (p i))
+      = coroot-nonnegative A g u h.letter (letters_of-word A.rank h.word) h.inside
+      (λ i. rw (inside_act h.word (simple_root h.letter), h.image) (p i))
       in let moved : act (transposed A) u (simple_root h.letter) ≡ act (transposed A) h.word (simple_root h.letter)
-      = sym (same-act (transposed A) (IsAdmissible-transposed A g) (letters_of-same (transposed A) (IsAdmissible-transposed A g) h.word) (simple_root h.letter))
+      = sym (same-act (transposed A) (IsAdmissible-transposed A g) (letters_of-same (transposed A) (IsAdmissible-transposed A g) h.word)
+      (simple_root h.letter))
       in λ i. rw (moved, h.coimage) at (there i)
 
   -- a root has one coroot
   pub pair-equal : {b c d : Vector} → IsRootPair A b c → IsRootPair A b d → c ≡ d
   pair-equal h k =
       let back : (u : List ℕ) (x : Vector) → act (transposed A) (letters_of A.rank u) x ≡ act (transposed A) u x
-      = λ u x. sym (same-act (transposed A) (IsAdmissible-transposed A g) (letters_of-same (transposed A) (IsAdmissible-transposed A g) u) x)
+      = λ u x. sym (same-act (transposed A) (IsAdmissible-transposed A g) (letters_of-same (transposed A) (IsAdmissible-transposed A g) u)
+      x)
       in sym h.coimage ∙ sym (back h.word (simple_root h.letter))
       ∙ equal_coroots A g (letters_of A.rank h.word) (letters_of A.rank k.word) h.letter k.letter (letters_of-word A.rank h.word)
       (letters_of-word A.rank k.word) h.inside k.inside
@@ -140,7 +143,10 @@ module _ (A : IntegerMatrix) (g : IsAdmissible A) where
 
 module _ (A : IntegerMatrix) (g : IsAdmissible A) where
   pub pair-nonpositive : {b c : Vector} → IsRootPair A b c → IsNonpositive b → IsNonpositive c
-  pair-nonpositive {b} {c} h n = ⊎_elim up (λ q. q) (root-sign (transposed A) (IsAdmissible-transposed A g) (pair-root (transposed A) (IsAdmissible-transposed A g) (pair-swap A g h)))
+  pair-nonpositive {b} {c} h n =
+      ⊎_elim up (λ q. q) (root-sign (transposed A) (IsAdmissible-transposed A g)
+      (pair-root (transposed A) (IsAdmissible-transposed A g) (pair-swap A g h)))
     where
       up : IsNonnegative c → IsNonpositive c
-      up q = absurd (root-one_sign A g (pair-root A g h) (pair-nonnegative (transposed A) (IsAdmissible-transposed A g) (pair-swap A g h) q) n)
+      up q = absurd (root-one_sign A g (pair-root A g h)
+          (pair-nonnegative (transposed A) (IsAdmissible-transposed A g) (pair-swap A g h) q) n)

@@ -34,7 +34,8 @@ bound A (q ∷ w) i = bound A w i + nat_abs (act A (reverse w) (simple_root q) i
 
 minus-zero : (v : Vector) (c : ℤ) (e : Vector) (s : ℕ) → e s ≡ pos 1 → minus v c e ≡ v → c ≡ pos 0
 unfolding minus
-minus-zero v c e s one h = let at_s = ap (λ (x : Vector). x s) h in let t : c *ℤ e s ≡ c = rw one (omega (arith, ints)) in omega (arith, linears, at_s, t)
+minus-zero v c e s one h = let at_s = ap (λ (x : Vector). x s) h in let t : c *ℤ e s ≡ c = rw one (omega (arith, ints))
+    in omega (arith, linears, at_s, t)
 
 module _ (A : IntegerMatrix) (g : IsAdmissible A) where
   reflect-negated : (q : ℕ) (v : Vector) → reflect A q (negated v) ≡ negated (reflect A q v)
@@ -54,8 +55,16 @@ module _ (A : IntegerMatrix) (g : IsAdmissible A) where
         where
           here : IsNonnegative (act A x b) → IsTurn A (q ∷ x) b
           here up = ⊎_elim
-              (λ l. record { letter = q; behind = x; inside = l; shorter = omega arith; simple = root-sign_changes A g q (root-act A g x r) up turned })
-              (λ foreign. absurd (root-one_sign A g (root-act A g x r) up (λ i. rw (reflect-outside A g q (act A x b) foreign) at (turned i))))
+              (λ l. record {
+                letter = q;
+                behind = x;
+                inside = l;
+                shorter = omega arith;
+                simple =
+                    root-sign_changes A g q (root-act A g x r) up turned;
+              })
+              (λ foreign. absurd (root-one_sign A g (root-act A g x r) up
+              (λ i. rw (reflect-outside A g q (act A x b) foreign) at (turned i))))
               (letter_cases A.rank q)
 
   -- the coordinates of a positive root that w makes negative are at most those of the bound
@@ -74,7 +83,8 @@ module _ (A : IntegerMatrix) (g : IsAdmissible A) where
       here : IsNonnegative (act A x b) → b i ≤ℤ pos (bound A x i + nat_abs (act A (reverse x) (simple_root q) i))
       here up =
           let e : b i ≡ act A (reverse x) (simple_root q) i
-          = ap (λ (v : Vector). v i) (sym (act-reverse A g x b) ∙ ap (act A (reverse x)) (root-sign_changes A g q (root-act A g x r) up turned))
+          = ap (λ (v : Vector). v i)
+          (sym (act-reverse A g x b) ∙ ap (act A (reverse x)) (root-sign_changes A g q (root-act A g x r) up turned))
           in omega (arith, ints, e)
 
   -- some word makes a positive root negative
@@ -127,16 +137,24 @@ module _ (A : IntegerMatrix) (g : IsAdmissible A) where
     unfolding reflect minus
     both_up m n = ⊎_elim (λ k. absurd (never k)) (λ k. k) (root-sign A g (root-act A g x (root-reflect A g s r)))
       where
-        turned : (i : ℕ) → reflect A q (act A x (reflect A s b)) i ≡ neg_ℤ (simple_root q i) -ℤ (pairing A s b *ℤ reflect A q (act A x (simple_root s)) i)
+        turned : (i : ℕ) → reflect A q (act A x (reflect A s b)) i ≡ neg_ℤ (simple_root q i) -ℤ
+            (pairing A s b *ℤ reflect A q (act A x (simple_root s)) i)
         turned i =
-            ap (λ (v : Vector). reflect A q v i) image ∙ ap (λ (v : Vector). v i) (reflect-minus A q (simple_root q) (pairing A s b) (act A x (simple_root s)))
+            ap (λ (v : Vector). reflect A q v i) image
+            ∙ ap (λ (v : Vector). v i) (reflect-minus A q (simple_root q) (pairing A s b) (act A x (simple_root s)))
             ∙ ap (λ (v : Vector). minus v (pairing A s b) (reflect A q (act A x (simple_root s))) i) (reflect-simple_root A g q lq)
 
         never : IsNonnegative (act A x (reflect A s b)) → ⊥
         never k =
             let e : act A x (reflect A s b) ≡ simple_root q
             = root-sign_changes A g q (root-act A g x (root-reflect A g s r)) k
-            (λ i. rw (turned i) (omega (arith, linears, simple_root-nonnegative q i, product_nonnegative (pairing A s b) (reflect A q (act A x (simple_root s)) i) (omega (arith, linears, up)) (n i))))
+            (λ i. rw (turned i) (omega (
+              arith,
+              linears,
+              simple_root-nonnegative q i,
+              product_nonnegative (pairing A s b)
+                  (reflect A q (act A x (simple_root s)) i) (omega (arith, linears, up)) (n i),
+            )))
             in let same : reflect A s b ≡ b = sym (act-reverse A g x (reflect A s b)) ∙ ap (act A (reverse x)) e ∙ sym back
             in let zero_there : pairing A s b ≡ pos 0 = minus-zero b (pairing A s b) (simple_root s) s (simple_root-self s) same
             in omega (arith, linears, zero_there, up)
@@ -158,7 +176,8 @@ module _ (A : IntegerMatrix) (g : IsAdmissible A) where
     shorter_at : (z : List ℕ) × (length z < suc (length x)) × IsNonpositive (act A z (reflect A s b))
     shorter_at =
         ⊎_elim
-        (λ n. ⊎_elim (λ m. (x, omega arith, both_up m n)) (λ m. absurd (crossing m n)) (root-sign A g (root-act A g x (root-simple A g s ls))))
+        (λ n. ⊎_elim (λ m. (x, omega arith, both_up m n)) (λ m. absurd (crossing m n))
+        (root-sign A g (root-act A g x (root-simple A g s ls))))
         descends (root-sign A g (root-reflect A g q (root-act A g x (root-simple A g s ls))))
 
   pub shorter-sends : (s : ℕ) {b : Vector} → IsRoot A b → IsNonnegative b → pos 0 <ℤ pairing A s b → (w : List ℕ)

@@ -64,7 +64,8 @@ module _ (A : IntegerMatrix) (g : IsAdmissible A) where
       below lt again =
           let turned : pos 0 <ℤ pairing (transposed A) s (reflect (transposed A) s c)
           = rw (pairing-reflect (transposed A) gt s c) (omega (arith, linears, lt))
-          in let v = shorter-sends (transposed A) gt s (root-reflect (transposed A) gt s (pair-root (transposed A) gt (pair-swap A g h))) (positive_there lt) turned z.0 over
+          in let v = shorter-sends (transposed A) gt s (root-reflect (transposed A) gt s (pair-root (transposed A) gt (pair-swap A g h)))
+          (positive_there lt) turned z.0 over
           in again v.0 (omega (arith, l, z.1, v.1)) (back v.0 (λ i. rw (reflect-reflect (transposed A) gt s c) at (v.2 i)))
 
   pub positive-agrees : (s : ℕ) {b c : Vector} → IsRootPair A b c → IsNonnegative b → pos 0 <ℤ pairing A s b
@@ -80,7 +81,8 @@ module _ (A : IntegerMatrix) (g : IsAdmissible A) where
   negative-agrees s {b} {c} h p n =
       let up : pos 0 <ℤ pairing A s (reflect A s b) = rw (pairing-reflect A g s b) (omega (arith, linears, n))
       in let there = positive-agrees A g s (pair-reflect A g s h) (negative-stays A g s (pair-root A g h) p n) up
-      in let back : pos 0 <ℤ neg_ℤ (pairing (transposed A) s c) = rw (pairing-reflect (transposed A) (IsAdmissible-transposed A g) s c) at there
+      in let back : pos 0 <ℤ neg_ℤ (pairing (transposed A) s c)
+      = rw (pairing-reflect (transposed A) (IsAdmissible-transposed A g) s c) at there
       in omega (arith, linears, back)
 
 module _ (A : IntegerMatrix) (g : IsAdmissible A) where

@@ -1,7 +1,8 @@
 -- Small roots (Brink and Howlett, "A finiteness property and an automatic structure for Coxeter groups", 1993), each with its coroot.
 -- The coroots are the roots of the transposed matrix. For a root b with the coroot c, let p = a(s,1) b(1) + .. + a(s,n) b(n) and
 -- r = a(1,s) c(1) + .. + a(n,s) c(n). The letter s takes b to b - p e(s) and c to c - r e(s), and p r is 4 times the square of the inner
--- product of b and e(s), both taken of length 1. So the last three clauses of IsShortStep say that this inner product is above -1 and below 0.
+-- product of b and e(s), both taken of length 1. So the last three clauses of IsShortStep say that this inner product is above -1 and
+-- below 0.
 use Rattle.std.specs.Prelude.{◌≡◌, ℕ, ◌<◌, ◌≤◌, pos, ◌*ℤ◌, ◌≤ℤ◌, ◌<ℤ◌}
 use Rattle.cox_base.specs.Matrix.{IsLetter}
 use Rattle.cox_base.specs.IntegerMatrix.{IntegerMatrix}

@@ -5,8 +5,11 @@ use Rattle.cox_minroots.proofs.Closing.{closing-next}
 use Rattle.cox_minroots.proofs.closure.close.Goals as goal
 
 pub returns-then-len-max-clause-fault : goal.returns-then-len-max-clause-fault
-returns-then-len-max-clause-fault c =
-    (refl, more-than (integer_matrix c.args.g.now) c.args.max c.loop-i.roots c.loop-i.invariant.small (rw c.len-in-loop-i.ensures at c.if-len-max.true))
+returns-then-len-max-clause-fault c = (
+  refl,
+  more-than (integer_matrix c.args.g.now) c.args.max c.loop-i.roots c.loop-i.invariant.small
+      (rw c.len-in-loop-i.ensures at c.if-len-max.true),
+)
 
 pub loop-i-preserved : goal.loop-i-preserved
 loop-i-preserved c =

@@ -13,4 +13,13 @@ loop-place-preserved c =
 pub returns-clause-moves : goal.returns-clause-moves
 returns-clause-moves c = λ i s l ls.
     c.loop-place.invariant.move i s
-    (omega (arith, l, ls.from_one, ls.to_rank, c.rank.ensures.rank, c.rank.ensures.limit, c.len-place-end.ensures, c.loop-place-test.false)) ls
+    (omega (
+      arith,
+      l,
+      ls.from_one,
+      ls.to_rank,
+      c.rank.ensures.rank,
+      c.rank.ensures.limit,
+      c.len-place-end.ensures,
+      c.loop-place-test.false,
+    )) ls

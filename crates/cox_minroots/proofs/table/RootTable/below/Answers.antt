@@ -13,15 +13,17 @@ loop-s-init c =
 
 pub exchanged-requires-clause-letter : goal.exchanged-requires-clause-letter
 exchanged-requires-clause-letter c =
-    let lifted : IsLifted (integer_matrix c.args.self.now) c.args.y.now.items c.args.w.now.items c.loop-s.small.items (c.pop.new.self.items ++ c.in-Some.s ∷ [])
-    = rw c.in-Some.ensures.items at c.loop-s.invariant
+    let lifted : IsLifted (integer_matrix c.args.self.now) c.args.y.now.items c.args.w.now.items c.loop-s.small.items
+    (c.pop.new.self.items ++ c.in-Some.s ∷ []) =
+    rw c.in-Some.ensures.items at c.loop-s.invariant
     in lifted-letter (integer_matrix c.args.self.now) (IsAdmissible-integer_matrix c.args.self.now c.reduced_inverse-small.ensures.matrix)
     c.args.y.now.items c.args.w.now.items c.loop-s.small.items c.pop.new.self.items c.in-Some.s lifted
 
 pub loop-s-preserved-in-Some-exchanged : goal.loop-s-preserved-in-Some-exchanged
 loop-s-preserved-in-Some-exchanged c =
-    let lifted : IsLifted (integer_matrix c.args.self.now) c.args.y.now.items c.args.w.now.items c.loop-s.small.items (c.pop.new.self.items ++ c.in-Some.s ∷ [])
-    = rw c.in-Some.ensures.items at c.loop-s.invariant
+    let lifted : IsLifted (integer_matrix c.args.self.now) c.args.y.now.items c.args.w.now.items c.loop-s.small.items
+    (c.pop.new.self.items ++ c.in-Some.s ∷ []) =
+    rw c.in-Some.ensures.items at c.loop-s.invariant
     in rw c.remove.ensures.items
     (lifted-down (integer_matrix c.args.self.now) (IsAdmissible-integer_matrix c.args.self.now c.reduced_inverse-small.ensures.matrix)
     c.args.y.now.items c.args.w.now.items c.loop-s.small.items c.pop.new.self.items c.in-Some.s lifted c.in-Some-exchanged.place
@@ -29,8 +31,9 @@ loop-s-preserved-in-Some-exchanged c =
 
 pub loop-s-preserved : goal.loop-s-preserved
 loop-s-preserved c =
-    let lifted : IsLifted (integer_matrix c.args.self.now) c.args.y.now.items c.args.w.now.items c.loop-s.small.items (c.pop.new.self.items ++ c.in-Some.s ∷ [])
-    = rw c.in-Some.ensures.items at c.loop-s.invariant
+    let lifted : IsLifted (integer_matrix c.args.self.now) c.args.y.now.items c.args.w.now.items c.loop-s.small.items
+    (c.pop.new.self.items ++ c.in-Some.s ∷ []) =
+    rw c.in-Some.ensures.items at c.loop-s.invariant
     in lifted-up (integer_matrix c.args.self.now) (IsAdmissible-integer_matrix c.args.self.now c.reduced_inverse-small.ensures.matrix)
     c.args.y.now.items c.args.w.now.items c.loop-s.small.items c.pop.new.self.items c.in-Some.s lifted c.in_default-exchanged.ensures.longer
 

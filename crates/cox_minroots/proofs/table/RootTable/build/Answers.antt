@@ -8,8 +8,10 @@ use Rattle.cox_minroots.proofs.table.RootTable.build.Goals as goal
 pub invariant_of-result : goal.invariant_of-result
 invariant_of-result c =
     rw c.copy.ensures
-    (root-table (integer_matrix c.args.g.now) (IsAdmissible-integer_matrix c.args.g.now c.rank-rank.ensures.matrix) c.in_ok-roots.roots c.len.result
-    c.in-Ok.moves.items c.in_ok-roots.ensures.closed c.len.ensures (omega (arith, c.in_ok-roots.ensures.few, c.requires.limit)) c.in-Ok.ensures.size
+    (root-table (integer_matrix c.args.g.now) (IsAdmissible-integer_matrix c.args.g.now c.rank-rank.ensures.matrix) c.in_ok-roots.roots
+    c.len.result
+    c.in-Ok.moves.items c.in_ok-roots.ensures.closed c.len.ensures (omega (arith, c.in_ok-roots.ensures.few, c.requires.limit))
+    c.in-Ok.ensures.size
     c.in-Ok.ensures.moves)
 
 pub returns-clause-few : goal.returns-clause-few

@@ -26,11 +26,15 @@ loop-s-preserved c =
     in elim c.if-is_some.branch [
       | then-is_some w ↦ rw (w.found-is, w.push.ensures.items, next, c.loop-s.invariant)
           (sym (descents-yes (integer_matrix c.args.self.now) c.args.v.now.items c.loop-s.s c.loop-s.auto.s
-          (some-descent (integer_matrix c.args.self.now) (IsAdmissible-integer_matrix c.args.self.now (rw c.self.view_is at c.rank.ensures.matrix)) c.args.v.now.items c.loop-s.s c.exchanged.result c.requires.reduced
+          (some-descent (integer_matrix c.args.self.now)
+          (IsAdmissible-integer_matrix c.args.self.now (rw c.self.view_is at c.rank.ensures.matrix)) c.args.v.now.items c.loop-s.s
+          c.exchanged.result c.requires.reduced
           (sym c.is_some.ensures ∙ w.if-is_some.true) c.exchanged.ensures.within c.exchanged.ensures.without)))
       | else-is_some w ↦ rw (w.found-is, next, c.loop-s.invariant)
           (sym (descents-no (integer_matrix c.args.self.now) c.args.v.now.items c.loop-s.s c.loop-s.auto.s
-          (none-no_descent (integer_matrix c.args.self.now) (IsAdmissible-integer_matrix c.args.self.now (rw c.self.view_is at c.rank.ensures.matrix)) c.args.v.now.items c.loop-s.s c.exchanged.result c.requires.reduced
+          (none-no_descent (integer_matrix c.args.self.now)
+          (IsAdmissible-integer_matrix c.args.self.now (rw c.self.view_is at c.rank.ensures.matrix)) c.args.v.now.items c.loop-s.s
+          c.exchanged.result c.requires.reduced
           (sym c.is_some.ensures ∙ w.if-is_some.false) c.exchanged.ensures.longer)))
     ]
 

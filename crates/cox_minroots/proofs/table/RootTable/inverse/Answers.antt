@@ -9,10 +9,15 @@ use Rattle.cox_minroots.proofs.table.RootTable.inverse.Goals as goal
 
 pub returns-clause-form : goal.returns-clause-form
 returns-clause-form c =
-    c.form_of_inverse.ensures.form ∙ normal_form-equal (integer_matrix c.args.self.now) (IsAdmissible-integer_matrix c.args.self.now c.reduced_inverse.ensures.matrix)
-    (same-reverse (integer_matrix c.args.self.now) (IsAdmissible-integer_matrix c.args.self.now c.reduced_inverse.ensures.matrix) (same-inverse_twice (integer_matrix c.args.self.now) (IsAdmissible-integer_matrix c.args.self.now c.reduced_inverse.ensures.matrix) c.args.w.now.items c.reduced_inverse.result.items
+    c.form_of_inverse.ensures.form
+    ∙ normal_form-equal (integer_matrix c.args.self.now) (IsAdmissible-integer_matrix c.args.self.now c.reduced_inverse.ensures.matrix)
+    (same-reverse (integer_matrix c.args.self.now) (IsAdmissible-integer_matrix c.args.self.now c.reduced_inverse.ensures.matrix)
+    (same-inverse_twice (integer_matrix c.args.self.now)
+    (IsAdmissible-integer_matrix c.args.self.now c.reduced_inverse.ensures.matrix) c.args.w.now.items c.reduced_inverse.result.items
     c.reduced_inverse-2.result.items c.reduced_inverse.ensures.same c.reduced_inverse-2.ensures.same))
 
 pub returns-clause-reduced : goal.returns-clause-reduced
 returns-clause-reduced c =
-    rw c.form_of_inverse.ensures.form (IsReduced-normal_form (integer_matrix c.args.self.now) (IsAdmissible-integer_matrix c.args.self.now c.reduced_inverse.ensures.matrix) (reverse c.reduced_inverse-2.result.items))
+    rw c.form_of_inverse.ensures.form
+    (IsReduced-normal_form (integer_matrix c.args.self.now)
+    (IsAdmissible-integer_matrix c.args.self.now c.reduced_inverse.ensures.matrix) (reverse c.reduced_inverse-2.result.items))

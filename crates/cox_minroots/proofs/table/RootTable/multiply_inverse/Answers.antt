@@ -7,12 +7,14 @@ use Rattle.cox_minroots.proofs.table.RootTable.multiply_inverse.Goals as goal
 
 pub loop-s-init : goal.loop-s-init
 loop-s-init c =
-    multiplied-start (integer_matrix c.args.self.now) (IsAdmissible-integer_matrix c.args.self.now (rw c.self.view_is at c.rank.ensures.matrix))
+    multiplied-start (integer_matrix c.args.self.now)
+    (IsAdmissible-integer_matrix c.args.self.now (rw c.self.view_is at c.rank.ensures.matrix))
     c.args.v.now.items c.requires.reduced c.requires.letters_v
 
 pub loop-s-preserved : goal.loop-s-preserved
 loop-s-preserved c =
     rw (map-append (λ x. x.now) c.loop-s.yielded (c.in-Some.field-0 ∷ []))
-    (multiplied-next (integer_matrix c.args.self.now) (IsAdmissible-integer_matrix c.args.self.now (rw c.self.view_is at c.rank.ensures.matrix))
+    (multiplied-next (integer_matrix c.args.self.now)
+    (IsAdmissible-integer_matrix c.args.self.now (rw c.self.view_is at c.rank.ensures.matrix))
     c.args.v.now.items (map (λ x. x.now) c.loop-s.yielded) c.loop-s.v.items c.in-Some.field-0.now c.multiply.new.w.items c.loop-s.invariant
     c.multiply.ensures.same c.multiply.ensures.reduced c.multiply.ensures.letters c.multiply.ensures.longer)
