@@ -1,0 +1,68 @@
+-- Products of reduced words by letters.
+use Rattle.std.proofs.Common.{◌≡◌, ℕ, suc, ◌+◌, ◌≤◌, ◌<◌, List, [], ◌∷◌, ◌++◌, length, take, drop, get_or, ap, sym, arith, drop-cons}
+use Rattle.std.specs.List.{remove}
+use Rattle.std.proofs.lemmas.List.{append-nil, append_assoc, length-append, take-append-drop}
+use Rattle.cox_base.specs.Matrix.{IsWord}
+use Rattle.cox_base.specs.IntegerMatrix.{IntegerMatrix, IsAdmissible}
+use Rattle.cox_base.specs.Element.{SameElement}
+use Rattle.cox_base.specs.Length.{IsReduced}
+use Rattle.cox_reflect.proofs.Elements.{same-trans, same-push, same-equal}
+use Rattle.cox_reflect.proofs.Search.{word_length-equal, word_length-length}
+use Rattle.cox_reflect.proofs.Lengths.{push-word_length}
+use Rattle.cox_reflect.proofs.WordLemmas.{IsWord-append, IsWord-front, IsWord-back}
+
+-- new is a reduced word of old followed by the letters
+pub record IsMultiplied (A : IntegerMatrix) (old letters new : List ℕ) : Type 0 where
+  pub same : SameElement A new (old ++ letters)
+  pub reduced : IsReduced A new
+  pub word : IsWord A.rank new
+  pub longer : length new ≤ length old + length letters
+
+-- what is left and right of a place
+place-split : (w : List ℕ) (place : ℕ) → place < length w → w ≡ take place w ++ get_or w place 0 ∷ drop (suc place) w
+place-split w place l = rw (← (drop-cons w place 0 l)) (sym (take-append-drop place w))
+
+pub length-remove : (w : List ℕ) (place : ℕ) → place < length w → length (remove w place) + 1 ≡ length w
+length-remove w place l =
+    omega (
+      arith,
+      ap length (place-split w place l),
+      length-append (take place w) (get_or w place 0 ∷ drop (suc place) w),
+      length-append (take place w) (drop (suc place) w),
+    )
+
+pub word-remove : {n : ℕ} (w : List ℕ) (place : ℕ) → place < length w → IsWord n w → IsWord n (remove w place)
+word-remove {n} w place l h =
+    let whole : IsWord n (take place w ++ get_or w place 0 ∷ drop (suc place) w) = rw (← (place-split w place l)) h
+    in let rest : IsWord n (get_or w place 0 ∷ drop (suc place) w)
+    = IsWord-back (take place w) (get_or w place 0 ∷ drop (suc place) w) whole
+    in IsWord-append (take place w) (drop (suc place) w) (IsWord-front (take place w) (get_or w place 0 ∷ drop (suc place) w) whole)
+    (IsWord-back (get_or w place 0 ∷ []) (drop (suc place) w) rest)
+
+module _ (A : IntegerMatrix) (g : IsAdmissible A) where
+  -- a reduced word without a letter, if that is the word and a letter
+  pub reduced-remove : (w : List ℕ) (s place : ℕ) → IsReduced A w → place < length w → SameElement A (w ++ s ∷ []) (remove w place)
+      → IsReduced A (remove w place)
+  reduced-remove w s place h l e =
+      omega (
+        arith,
+        h,
+        length-remove w place l,
+        word_length-equal A g e,
+        push-word_length A g w s,
+        word_length-length A g (remove w place),
+      )
+
+  pub multiplied-start : (old : List ℕ) → IsReduced A old → IsWord A.rank old → IsMultiplied A old [] old
+  multiplied-start old h k =
+      record { same = same-equal A g (sym (append-nil old)); reduced = h; word = k; longer = omega arith }
+
+  pub multiplied-next : (old letters v : List ℕ) (s : ℕ) (new : List ℕ) → IsMultiplied A old letters v
+      → SameElement A new (v ++ s ∷ []) → IsReduced A new → IsWord A.rank new → length new ≤ length v + 1
+      → IsMultiplied A old (letters ++ s ∷ []) new
+  multiplied-next old letters v s new h e r k l = record {
+    same = same-trans A g e (same-trans A g (same-push A g s h.same) (same-equal A g (append_assoc old letters (s ∷ []))));
+    reduced = r;
+    word = k;
+    longer = omega (arith, l, h.longer, length-append letters (s ∷ []));
+  }

@@ -1,0 +1,49 @@
+use Rattle.std.proofs.Common.{arith}
+use Rattle.cox_base.specs.Matrix.{IsLetter}
+use Rattle.cox_minroots.proofs.Stepping.{stepping-start, stepping-turns, stepping-passed, stepping-added}
+use Rattle.cox_minroots.proofs.closure.add_steps.Goals as goal
+use Rattle.cox_minroots.proofs.closure.add_steps.Goals.{then-product-ge1+then-product-le-LONGEST+in_ok-insert, else-product-ge1, else-product-ge1-via-then-product-ge1+else-product-le-LONGEST, else-product-ge1-via-else-product-ge1}
+
+pub loop-s-init : goal.loop-s-init
+loop-s-init c = stepping-start _ _ _ c.requires.small c.requires.within
+
+pub turned-requires-clause-root : goal.turned-requires-clause-root
+turned-requires-clause-root c =
+    let letter : IsLetter c.args.g.now.rank c.loop-s.s
+    = record { from_one = c.loop-s.auto.s; to_rank = omega (arith, c.loop-s-test.true, c.rank.ensures.rank) }
+    in (stepping-turns c.args.g.now c.rank.ensures.matrix (omega (arith, c.rank.ensures.rank, c.rank.ensures.limit)) c.args.roots.now
+    c.loop-s.roots c.args.i c.loop-s.s c.loop-s.invariant letter
+    c.at-root.result c.at-root.ensures c.product-product.result c.product-product.ensures c.requires.few c.if-product-ge1.true
+    c.if-product-le-LONGEST.true).0
+
+pub turned-requires-clause-coroot : goal.turned-requires-clause-coroot
+turned-requires-clause-coroot c =
+    let letter : IsLetter c.args.g.now.rank c.loop-s.s
+    = record { from_one = c.loop-s.auto.s; to_rank = omega (arith, c.loop-s-test.true, c.rank.ensures.rank) }
+    in (stepping-turns c.args.g.now c.rank.ensures.matrix (omega (arith, c.rank.ensures.rank, c.rank.ensures.limit)) c.args.roots.now
+    c.loop-s.roots c.args.i c.loop-s.s c.loop-s.invariant letter
+    c.at-root.result c.at-root.ensures c.product-product.result c.product-product.ensures c.requires.few c.if-product-ge1.true
+    c.if-product-le-LONGEST.true).1
+
+pub loop-s-preserved : goal.loop-s-preserved
+loop-s-preserved c =
+    let letter : IsLetter c.args.g.now.rank c.loop-s.s
+    = record { from_one = c.loop-s.auto.s; to_rank = omega (arith, c.loop-s-test.true, c.rank.ensures.rank) }
+    in elim c.if-product-ge1.branch [
+      | then-product-ge1+then-product-le-LONGEST+in_ok-insert w ↦
+          rw w.roots-is (stepping-added c.args.g.now c.rank.ensures.matrix (omega (arith, c.rank.ensures.rank, c.rank.ensures.limit))
+          c.args.roots.now
+          c.loop-s.roots c.args.i c.loop-s.s c.loop-s.invariant letter c.at-root.result c.at-root.ensures c.product-product.result
+          c.product-product.ensures c.requires.few w.turned.result w.turned.ensures.root w.turned.ensures.coroot
+          w.insert.new.self w.if-product-ge1.true w.if-product-le-LONGEST.true w.in_ok-insert.ensures)
+      | else-product-ge1 w ↦ rw w.roots-is (elim w.else-product-ge1.branch [
+        | else-product-ge1-via-then-product-ge1+else-product-le-LONGEST w' ↦
+            stepping-passed c.args.g.now c.rank.ensures.matrix (omega (arith, c.rank.ensures.rank, c.rank.ensures.limit)) c.args.roots.now
+            c.loop-s.roots c.args.i c.loop-s.s c.loop-s.invariant letter c.at-root.result c.at-root.ensures c.product-product.result
+            c.product-product.ensures c.requires.few (λ m n. omega (arith, n, w'.if-product-le-LONGEST.false))
+        | else-product-ge1-via-else-product-ge1 w' ↦ stepping-passed c.args.g.now c.rank.ensures.matrix
+            (omega (arith, c.rank.ensures.rank, c.rank.ensures.limit)) c.args.roots.now
+            c.loop-s.roots c.args.i c.loop-s.s c.loop-s.invariant letter c.at-root.result c.at-root.ensures c.product-product.result
+            c.product-product.ensures c.requires.few (λ m n. omega (arith, m, w'.if-product-ge1.false))
+      ])
+    ]

@@ -1,0 +1,10 @@
+use Rattle.std.proofs.Common.{◌+◌, ◌-◌}
+use Rattle.cox_base.specs.IntegerMatrix.{integer_matrix}
+use Rattle.cox_minroots.proofs.Closing.{IsClosing}
+use Rattle.cox_minroots.proofs.closure.close.Given as goal
+
+abbrev pub invariant-loop-i : goal.invariant-loop-i
+invariant-loop-i l = IsClosing (integer_matrix l.g) l.max l.roots l.i
+
+abbrev pub decreases-loop-i : goal.decreases-loop-i
+decreases-loop-i l = l.max + 1 - l.i

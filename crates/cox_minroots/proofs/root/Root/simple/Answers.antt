@@ -1,0 +1,9 @@
+use Rattle.cox_base.specs.declared.limits.TheConstants.{MAX_RANK}
+use Rattle.cox_minroots.proofs.CoordinateLemmas.{simple-coordinates}
+use Rattle.cox_minroots.proofs.root.Root.simple.Goals as goal
+
+pub returns-clause-root : goal.returns-clause-root
+returns-clause-root c = simple-coordinates MAX_RANK c.args.s c.requires.from_one c.requires.to_rank
+
+pub returns-clause-coroot : goal.returns-clause-coroot
+returns-clause-coroot c = simple-coordinates MAX_RANK c.args.s c.requires.from_one c.requires.to_rank

@@ -1,0 +1,38 @@
+-- Small roots (Brink and Howlett, "A finiteness property and an automatic structure for Coxeter groups", 1993), each with its coroot.
+-- The coroots are the roots of the transposed matrix. For a root b with the coroot c, let p = a(s,1) b(1) + .. + a(s,n) b(n) and
+-- r = a(1,s) c(1) + .. + a(n,s) c(n). The letter s takes b to b - p e(s) and c to c - r e(s), and p r is 4 times the square of the inner
+-- product of b and e(s), both taken of length 1. So the last three clauses of IsShortStep say that this inner product is above -1 and
+-- below 0.
+use Rattle.std.specs.Prelude.{◌≡◌, ℕ, ◌<◌, ◌≤◌, pos, ◌*ℤ◌, ◌≤ℤ◌, ◌<ℤ◌}
+use Rattle.cox_base.specs.Matrix.{IsLetter}
+use Rattle.cox_base.specs.IntegerMatrix.{IntegerMatrix}
+use Rattle.cox_reflect.specs.Action.{Vector, simple_root, pairing, reflect}
+use Rattle.cox_reflect.specs.Transpose.{transposed}
+
+-- p is negative, and p r is 1, 2 or 3
+pub record IsShortStep (A : IntegerMatrix) (s : ℕ) (b c : Vector) : Type 0 where
+  pub letter : IsLetter A.rank s
+  pub negative : pairing A s b <ℤ pos 0
+  pub at_least_one : pos 1 ≤ℤ (pairing A s b *ℤ pairing (transposed A) s c)
+  pub at_most_three : (pairing A s b *ℤ pairing (transposed A) s c) ≤ℤ pos 3
+
+-- b is small, with the coroot c: the simple roots are small, and so is what a short step makes of a small root; no other root is
+pub data IsSmall (A : IntegerMatrix) : Vector → Vector → Type 0 where
+  simple : {s : ℕ} → IsLetter A.rank s → IsSmall A (simple_root s) (simple_root s)
+  step : {s : ℕ} {b c : Vector} → IsShortStep A s b c → IsSmall A b c → IsSmall A (reflect A s b) (reflect (transposed A) s c)
+
+-- a small root, whatever its coroot
+pub record IsSmallRoot (A : IntegerMatrix) (b : Vector) : Type 0 where
+  pub coroot : Vector
+  pub small : IsSmall A b coroot
+
+-- there are more than max small roots: max + 1 different ones are given, root 0 to root max
+pub record HasMoreThan (A : IntegerMatrix) (max : ℕ) : Type 0 where
+  pub root : ℕ → Vector
+  pub small : (i : ℕ) → i ≤ max → IsSmallRoot A (root i)
+  pub different : (i j : ℕ) → i < j → j ≤ max → root i ≡ root j → ⊥
+
+-- there are at most max small roots: each is one of root 0 to root (max - 1)
+pub record HasAtMost (A : IntegerMatrix) (max : ℕ) : Type 0 where
+  pub root : ℕ → Vector
+  pub all : {b : Vector} → IsSmallRoot A b → (i : ℕ) × (i < max) × (root i ≡ b)
