@@ -11,7 +11,7 @@ use Rattle.cox_base.specs.Length.{IsReduced, IsRightDescent}
 use Rattle.cox_base.specs.Bruhat.{IsBelow}
 use Rattle.cox_reflect.proofs.Elements.{same-refl, same-sym, same-push_twice}
 use Rattle.cox_reflect.proofs.Search.{word_length-equal, word_length-length}
-use Rattle.cox_reflect.proofs.Lengths.{IsReduced-front}
+use Rattle.cox_reflect.proofs.Lengths.{IsReduced-prefix}
 use Rattle.cox_reflect.proofs.WordLemmas.{IsWord-front, IsWord-back}
 use Rattle.cox_reflect.proofs.Bruhat.{below-same, below-refl, below-length, lift_down_right, lift_up_right, below_reverse}
 use Rattle.cox_minroots.proofs.ProductLemmas.{reduced-remove, word-remove}
@@ -64,7 +64,7 @@ module _ (A : IntegerMatrix) (g : IsAdmissible A) where
         λ b. h.settles.1 ((lift d).1 (below-same A g (same-sym A g e) (same-sym A g (same-push_twice A g front s)) b)),
       );
       reduced_small = reduced-remove A g small s place h.reduced_small l e;
-      reduced_large = IsReduced-front A g front (s ∷ []) h.reduced_large;
+      reduced_large = IsReduced-prefix A g front (s ∷ []) h.reduced_large;
       word_small = word-remove small place l h.word_small;
       word_large = IsWord-front front (s ∷ []) h.word_large;
     }
@@ -83,7 +83,7 @@ module _ (A : IntegerMatrix) (g : IsAdmissible A) where
         λ b. h.settles.1 (lift.1 (below-same A g (same-refl A g small) (same-sym A g (same-push_twice A g front s)) b)),
       );
       reduced_small = h.reduced_small;
-      reduced_large = IsReduced-front A g front (s ∷ []) h.reduced_large;
+      reduced_large = IsReduced-prefix A g front (s ∷ []) h.reduced_large;
       word_small = h.word_small;
       word_large = IsWord-front front (s ∷ []) h.word_large;
     }

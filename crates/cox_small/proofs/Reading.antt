@@ -13,7 +13,7 @@ use Rattle.cox_reflect.specs.Transpose.{transposed}
 use Rattle.cox_reflect.proofs.Action.{act-cons, act-append}
 use Rattle.cox_lemmas.proofs.Ring.{linears}
 use Rattle.cox_reflect.proofs.Search.{word_length-length}
-use Rattle.cox_reflect.proofs.Lengths.{IsReduced-front}
+use Rattle.cox_reflect.proofs.Lengths.{IsReduced-prefix}
 use Rattle.cox_reflect.proofs.Roots.{SignOf, longer, shorter, sign_of, root-apart}
 use Rattle.cox_small.specs.SmallRoots.{IsSmall}
 use Rattle.cox_small.proofs.RootPairs.{root-sign, root-act, root-simple}
@@ -58,7 +58,7 @@ module _ (A : IntegerMatrix) (g : IsAdmissible A) where
       lq = pairing-letter A g q (act A behind (simple_root s)) (λ z. omega (arith, linears, z, n))
 
       up : IsNonnegative (act A front (simple_root q))
-      up = reduced-positive front q lq (IsReduced-front A g (front ++ q ∷ []) behind (rw (append_assoc front (q ∷ []) behind) h))
+      up = reduced-positive front q lq (IsReduced-prefix A g (front ++ q ∷ []) behind (rw (append_assoc front (q ∷ []) behind) h))
 
       never : IsNonpositive (act A (front ++ q ∷ behind) (simple_root s)) → ⊥
       never m =
