@@ -12,7 +12,7 @@ use Rattle.cox_base.specs.Bruhat.{IsBelow}
 use Rattle.cox_reflect.proofs.Elements.{same-refl, same-sym, same-push_twice}
 use Rattle.cox_reflect.proofs.Search.{word_length-equal, word_length-length}
 use Rattle.cox_reflect.proofs.Lengths.{IsReduced-prefix}
-use Rattle.cox_reflect.proofs.WordLemmas.{IsWord-front, IsWord-back}
+use Rattle.cox_reflect.proofs.WordLemmas.{IsWord-prefix, IsWord-back}
 use Rattle.cox_reflect.proofs.Bruhat.{below-same, below-refl, below-length, lift_down_right, lift_up_right, below_reverse}
 use Rattle.cox_minroots.proofs.ProductLemmas.{reduced-remove, word-remove}
 use Rattle.cox_minroots.proofs.FormLemmas.{exchanged-descent, put_in-no_descent}
@@ -66,7 +66,7 @@ module _ (A : IntegerMatrix) (g : IsAdmissible A) where
       reduced_small = reduced-remove A g small s place h.reduced_small l e;
       reduced_large = IsReduced-prefix A g front (s ∷ []) h.reduced_large;
       word_small = word-remove small place l h.word_small;
-      word_large = IsWord-front front (s ∷ []) h.word_large;
+      word_large = IsWord-prefix front (s ∷ []) h.word_large;
     }
       where
         d : IsRightDescent A small s
@@ -85,7 +85,7 @@ module _ (A : IntegerMatrix) (g : IsAdmissible A) where
       reduced_small = h.reduced_small;
       reduced_large = IsReduced-prefix A g front (s ∷ []) h.reduced_large;
       word_small = h.word_small;
-      word_large = IsWord-front front (s ∷ []) h.word_large;
+      word_large = IsWord-prefix front (s ∷ []) h.word_large;
     }
       where
         lift : IsBelow A small (front ++ s ∷ []) ↔ IsBelow A small ((front ++ s ∷ []) ++ s ∷ [])

@@ -9,7 +9,7 @@ use Rattle.cox_base.specs.Length.{IsReduced}
 use Rattle.cox_reflect.proofs.Elements.{same-trans, same-push, same-equal}
 use Rattle.cox_reflect.proofs.Search.{word_length-equal, word_length-length}
 use Rattle.cox_reflect.proofs.Lengths.{push-word_length}
-use Rattle.cox_reflect.proofs.WordLemmas.{IsWord-append, IsWord-front, IsWord-back}
+use Rattle.cox_reflect.proofs.WordLemmas.{IsWord-append, IsWord-prefix, IsWord-back}
 
 -- new is a reduced word of old followed by the letters
 pub record IsMultiplied (A : IntegerMatrix) (old letters new : List ℕ) : Type 0 where
@@ -36,7 +36,7 @@ word-remove {n} w place l h =
     let whole : IsWord n (take place w ++ get_or w place 0 ∷ drop (suc place) w) = rw (← (place-split w place l)) h
     in let rest : IsWord n (get_or w place 0 ∷ drop (suc place) w)
     = IsWord-back (take place w) (get_or w place 0 ∷ drop (suc place) w) whole
-    in IsWord-append (take place w) (drop (suc place) w) (IsWord-front (take place w) (get_or w place 0 ∷ drop (suc place) w) whole)
+    in IsWord-append (take place w) (drop (suc place) w) (IsWord-prefix (take place w) (get_or w place 0 ∷ drop (suc place) w) whole)
     (IsWord-back (get_or w place 0 ∷ []) (drop (suc place) w) rest)
 
 module _ (A : IntegerMatrix) (g : IsAdmissible A) where
