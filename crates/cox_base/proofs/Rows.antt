@@ -9,7 +9,8 @@ use Rattle.std.proofs.lemmas.Bool.{cases_eq}
 use Rattle.std.proofs.lemmas.Bool.Decides.{nat_tests}
 use Rattle.std.proofs.lemmas.List.{get_or_append_left, get_or-append_right, append-nil}
 use Rattle.cox_base.specs.declared.limits.TheConstants.{MAX_RANK}
-use Rattle.cox_base.specs.Matrix.{IsCoxeterMatrix, is_label, labels_before, place, label}
+use Rattle.cox_base.specs.Matrix.{is_label, labels_before, place, label}
+use Rattle.cox_base.specs.Admissible.{IsCoxeterMatrix}
 use Rattle.cox_base.specs.NamedType.{rows_above, is_type, type_rank, type_label, type_matrix}
 use Rattle.cox_base.proofs.Places.{labels_before-more, labels_before-all, place-row, place-next}
 use Rattle.cox_base.proofs.Entries.{label-above}

@@ -1,7 +1,7 @@
 -- The integer matrix a(s,t) of a Coxeter matrix: a generalized Cartan matrix, by which the group acts on integer vectors (compare
 -- Humphreys 5.3).
-use Rattle.std.specs.Prelude.{◌≡◌, ℕ, ◌<◌, ◌==◌, ◌&&◌, Bool, if◌then◌else◌, nat_lt, nat_le, ℤ, pos, negsuc}
-use Rattle.cox_base.specs.Matrix.{CoxeterMatrix, IsLetter, label}
+use Rattle.std.specs.Prelude.{ℕ, ◌==◌, ◌&&◌, Bool, if◌then◌else◌, nat_lt, nat_le, ℤ, pos, negsuc}
+use Rattle.cox_base.specs.Matrix.{CoxeterMatrix, label}
 
 -- a(s,t) is the entry at s and t, which are letters of the rank
 pub record IntegerMatrix : Type 0 where
@@ -27,30 +27,3 @@ entry_of g s t = if is_letter g.rank s && is_letter g.rank t
 
 abbrev pub integer_matrix : CoxeterMatrix → IntegerMatrix
 integer_matrix g = record { rank = g.rank; entry = entry_of g }
-
--- The pairs a(s,t), a(t,s) that are admitted, in either order. The last word of each name is the label.
-pub data IsAdmissiblePair : ℤ → ℤ → Type 0 where
-  two : IsAdmissiblePair (pos 0) (pos 0)
-  three : IsAdmissiblePair (negsuc 0) (negsuc 0)
-  four : IsAdmissiblePair (negsuc 0) (negsuc 1)
-  back_four : IsAdmissiblePair (negsuc 1) (negsuc 0)
-  six : IsAdmissiblePair (negsuc 0) (negsuc 2)
-  back_six : IsAdmissiblePair (negsuc 2) (negsuc 0)
-  infinity : IsAdmissiblePair (negsuc 1) (negsuc 1)
-
--- The order m of the product of the reflections s and t, by that pair, where it is finite.
-pub data HasOrder : ℤ → ℤ → ℕ → Type 0 where
-  order_two : HasOrder (pos 0) (pos 0) 2
-  order_three : HasOrder (negsuc 0) (negsuc 0) 3
-  order_four : HasOrder (negsuc 0) (negsuc 1) 4
-  order_back_four : HasOrder (negsuc 1) (negsuc 0) 4
-  order_six : HasOrder (negsuc 0) (negsuc 2) 6
-  order_back_six : HasOrder (negsuc 2) (negsuc 0) 6
-
--- Admissible integer matrices: 2 on the diagonal, an admitted pair for each two letters, and 0 outside the rank.
--- The integer matrix of each Coxeter matrix with admitted labels is one, and so is its transpose.
-pub record IsAdmissible (A : IntegerMatrix) : Type 0 where
-  pub diagonal : (s : ℕ) → IsLetter A.rank s → A.entry s s ≡ pos 2
-  pub pairs : (s t : ℕ) → IsLetter A.rank s → IsLetter A.rank t → s < t → IsAdmissiblePair (A.entry s t) (A.entry t s)
-  pub row_outside : (s t : ℕ) → (IsLetter A.rank s → ⊥) → A.entry s t ≡ pos 0
-  pub column_outside : (s t : ℕ) → (IsLetter A.rank t → ⊥) → A.entry s t ≡ pos 0

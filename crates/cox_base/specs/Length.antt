@@ -1,23 +1,11 @@
--- The length of an element, reduced words and descents (Humphreys 5.2, 5.4).
-use Rattle.std.specs.Prelude.{◌≡◌, ℕ, ◌<◌, nat_lt, List, [], ◌∷◌, ◌++◌, length, filter}
+-- The length of an element, and its descents (Humphreys 5.2, 5.4).
+use Rattle.std.specs.Prelude.{ℕ, nat_lt, List, [], ◌∷◌, ◌++◌, length, filter}
 use Rattle.cox_base.specs.IntegerMatrix.{IntegerMatrix}
 use Rattle.cox_base.specs.ShortLex.{letters, normal_form}
 
 -- l(u): the number of letters of the normal form
 unfoldable pub word_length : IntegerMatrix → List ℕ → ℕ
 word_length A u = length (normal_form A u)
-
--- no word of the element is shorter
-abbrev pub IsReduced : IntegerMatrix → List ℕ → Type 0
-IsReduced A u = word_length A u ≡ length u
-
--- l(su) < l(u)
-abbrev pub IsLeftDescent : IntegerMatrix → List ℕ → ℕ → Type 0
-IsLeftDescent A u s = word_length A (s ∷ u) < word_length A u
-
--- l(us) < l(u)
-abbrev pub IsRightDescent : IntegerMatrix → List ℕ → ℕ → Type 0
-IsRightDescent A u s = word_length A (u ++ s ∷ []) < word_length A u
 
 -- L(u): the letters s with l(su) < l(u), rising
 unfoldable pub left_descents : IntegerMatrix → List ℕ → List ℕ

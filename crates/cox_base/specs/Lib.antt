@@ -1,20 +1,22 @@
 -- Coxeter matrices and the labels that they may have
-pub mod Matrix
--- what the type of Coxeter matrices keeps
-pub mod Table
--- the table of types
-pub mod NamedType
--- the integer matrix of a Coxeter matrix
-pub mod IntegerMatrix
--- the matrix of a word, and when two words name one element
-pub mod Element
--- the ShortLex order of words, and the normal form
-pub mod ShortLex
--- the length of an element, and its descents
-pub mod Length
--- Bruhat order
+pub mod Admissible
 pub mod Bruhat
--- words as they are written
-pub mod WordText
--- what reading a word answers
+pub mod Element
+pub mod IntegerMatrix
+pub mod Length
+pub mod Matrix
+pub mod NamedType
+pub mod Reduced
+pub mod ShortLex
+pub mod Table
 pub mod WordReading
+pub mod WordText
+-- what the type of Coxeter matrices keeps
+-- the table of types
+-- the integer matrix of a Coxeter matrix
+-- the matrix of a word, and when two words name one element
+-- the ShortLex order of words, and the normal form
+-- the length of an element, and its descents
+-- Bruhat order
+-- words as they are written
+-- what reading a word answers

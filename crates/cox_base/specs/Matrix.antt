@@ -1,6 +1,5 @@
 -- Coxeter matrices (Humphreys, "Reflection Groups and Coxeter Groups", 5.1), with the labels 2, 3, 4, 6 and infinity.
-use Rattle.std.specs.Prelude.{◌≡◌, ℕ, zero, suc, ◌+◌, ◌-◌, ◌*◌, ◌/◌, ◌≤◌, ◌==◌, Bool, ◌||◌, IsTrue, if◌then◌else◌, nat_lt, List, length}
-use Rattle.std.specs.Prelude.{slice_index, All}
+use Rattle.std.specs.Prelude.{ℕ, zero, suc, ◌+◌, ◌-◌, ◌≤◌, ◌==◌, Bool, ◌||◌, if◌then◌else◌, nat_lt, List, slice_index, All}
 
 -- A Coxeter matrix is symmetric, with 1 on its diagonal. So it is given by its rank n and by the labels above the diagonal, row by row:
 -- m(1,2), m(1,3), .., m(1,n), m(2,3), .., m(n-1,n). Infinity is written 0.
@@ -33,9 +32,3 @@ place n s t = labels_before n (s - 1) + (t - s - 1)
 -- m(s,t)
 unfoldable pub label : CoxeterMatrix → ℕ → ℕ → ℕ
 label g s t = if s == t then 1 else if nat_lt s t then slice_index g.labels (place g.rank s t) else slice_index g.labels (place g.rank t s)
-
--- a Coxeter matrix of rank at least 1 with admitted labels, one for each pair of nodes
-pub record IsCoxeterMatrix (g : CoxeterMatrix) : Type 0 where
-  pub some : 1 ≤ g.rank
-  pub count : length g.labels ≡ g.rank * (g.rank - 1) / 2
-  pub admitted : All (λ m. IsTrue (is_label m)) g.labels

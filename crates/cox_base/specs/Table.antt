@@ -2,7 +2,8 @@
 use Rattle.std.specs.Prelude.{◌≡◌, ℕ, ◌+◌, ◌-◌, ◌*◌, ◌<◌, ◌≤◌, ◌/◌, ◌%◌, List, ℤ, pos, not, Some, slice_index, slice_index_or, position}
 use Rattle.std.specs.Prelude.{option_map}
 use Rattle.cox_base.specs.declared.limits.TheConstants.{MAX_RANK}
-use Rattle.cox_base.specs.Matrix.{CoxeterMatrix, IsCoxeterMatrix, is_label}
+use Rattle.cox_base.specs.Matrix.{CoxeterMatrix, is_label}
+use Rattle.cox_base.specs.Admissible.{IsCoxeterMatrix}
 use Rattle.cox_base.specs.IntegerMatrix.{entry_of}
 
 -- a Coxeter matrix of an admitted rank, with the table of its entries a(s,t), row by row of the greatest rank

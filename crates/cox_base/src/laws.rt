@@ -1,7 +1,8 @@
 //! Laws of the definitions: functions with an empty body, whose contracts state them.
 ghost use Rattle.std.specs.Prelude.{◌≡◌, ◌≢◌, ℕ, ◌<◌, ◌≤◌, IsTrue};
-ghost use Rattle.cox_base.specs.Matrix.{IsCoxeterMatrix, label};
-ghost use Rattle.cox_base.specs.IntegerMatrix.{IsAdmissible, HasOrder, entry_of, integer_matrix};
+ghost use Rattle.cox_base.specs.Matrix.{label};
+ghost use Rattle.cox_base.specs.Admissible.{IsCoxeterMatrix, IsAdmissible, HasOrder};
+ghost use Rattle.cox_base.specs.IntegerMatrix.{entry_of, integer_matrix};
 ghost use Rattle.cox_base.specs.NamedType.{is_type, type_rank, type_label, type_matrix};
 
 use crate::Coxeter;

@@ -3,10 +3,12 @@ use Rattle.std.proofs.Common.{◌≡◌, ℕ, ◌≤◌, Bool, true, nat_lt, Lis
 use Rattle.std.proofs.Common.{ap, ◌∙◌, ⊎_elim, arith, ltb-true}
 use Rattle.std.proofs.lemmas.List.Elements.{All-nil, All-head, All-tail, All-contains, filter_passes}
 use Rattle.arrayvec.specs.ArrayVec.{ArrayVec}
-use Rattle.cox_base.specs.Matrix.{CoxeterMatrix, IsCoxeterMatrix, IsLetter}
-use Rattle.cox_base.specs.IntegerMatrix.{IntegerMatrix, IsAdmissible, integer_matrix}
+use Rattle.cox_base.specs.Matrix.{CoxeterMatrix, IsLetter}
+use Rattle.cox_base.specs.Admissible.{IsCoxeterMatrix, IsAdmissible}
+use Rattle.cox_base.specs.IntegerMatrix.{IntegerMatrix, integer_matrix}
 use Rattle.cox_base.specs.ShortLex.{normal_form, letters}
-use Rattle.cox_base.specs.Length.{word_length, IsLeftDescent, left_descents}
+use Rattle.cox_base.specs.Length.{word_length, left_descents}
+use Rattle.cox_base.specs.Reduced.{IsLeftDescent}
 use Rattle.cox_base.specs.Bruhat.{IsBelow}
 use Rattle.cox_reflect.proofs.Admissible.{IsAdmissible-integer_matrix}
 use Rattle.cox_reflect.proofs.Elements.{same-cons, same-refl}

@@ -2,9 +2,11 @@
 use Rattle.std.proofs.Common.{◌≡◌, ℕ, ◌+◌, ◌≤◌, ◌<◌, ◌==◌, Bool, true, false, if◌then◌else◌, nat_lt, List, [], ◌∷◌, length}
 use Rattle.std.proofs.Common.{filter, map, ◌⊎◌, ◌↔◌, inl, inr, refl, sym, ◌∙◌, ⊎_elim, arith, subst, ltb-true, lt-ltb, true≢false}
 use Rattle.std.proofs.lemmas.Bool.{cases_lt, eqb-true, eq-eqb}
-use Rattle.cox_base.specs.IntegerMatrix.{IntegerMatrix, IsAdmissible}
+use Rattle.cox_base.specs.IntegerMatrix.{IntegerMatrix}
+use Rattle.cox_base.specs.Admissible.{IsAdmissible}
 use Rattle.cox_base.specs.ShortLex.{normal_form}
-use Rattle.cox_base.specs.Length.{word_length, IsReduced, IsLeftDescent}
+use Rattle.cox_base.specs.Length.{word_length}
+use Rattle.cox_base.specs.Reduced.{IsReduced, IsLeftDescent}
 use Rattle.cox_base.specs.Bruhat.{IsBelow}
 use Rattle.cox_reflect.proofs.Elements.{same-refl, same-sym}
 use Rattle.cox_reflect.proofs.Members.{In, Each-map, Each-weaker, In-map}

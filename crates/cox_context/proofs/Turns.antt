@@ -3,11 +3,13 @@ use Rattle.std.proofs.Common.{◌≡◌, ℕ, zero, suc, ◌+◌, ◌-◌, ◌*�
 use Rattle.std.proofs.Common.{slice_get, ap, inl, inr, refl, sym, ◌∙◌, ⊎_elim, arith}
 use Rattle.std.proofs.lemmas.Bool.{cases_lt}
 use Rattle.std.proofs.lemmas.List.Elements.{All-nil, All-cons}
-use Rattle.cox_base.specs.Matrix.{CoxeterMatrix, IsCoxeterMatrix, IsLetter, IsWord, label}
-use Rattle.cox_base.specs.IntegerMatrix.{IntegerMatrix, IsAdmissible, integer_matrix}
+use Rattle.cox_base.specs.Matrix.{CoxeterMatrix, IsLetter, IsWord, label}
+use Rattle.cox_base.specs.Admissible.{IsCoxeterMatrix, IsAdmissible}
+use Rattle.cox_base.specs.IntegerMatrix.{IntegerMatrix, integer_matrix}
 use Rattle.cox_base.specs.Element.{SameElement}
 use Rattle.cox_base.specs.ShortLex.{normal_form}
-use Rattle.cox_base.specs.Length.{word_length, IsReduced, IsLeftDescent}
+use Rattle.cox_base.specs.Length.{word_length}
+use Rattle.cox_base.specs.Reduced.{IsReduced, IsLeftDescent}
 use Rattle.cox_base.specs.Bruhat.{IsBelow}
 use Rattle.cox_reflect.proofs.Admissible.{IsAdmissible-integer_matrix}
 use Rattle.cox_reflect.proofs.Elements.{same-refl, same-sym, same-trans, same-equal, same-cons, same-drop_back}

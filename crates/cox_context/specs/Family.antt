@@ -3,7 +3,8 @@ use Rattle.std.specs.Prelude.{ℕ, ◌≤◌, List, [], length, Option, None, So
 use Rattle.arrayvec.specs.ArrayVec.{ArrayVec}
 use Rattle.cox_base.specs.Matrix.{IsWord}
 use Rattle.cox_base.specs.IntegerMatrix.{IntegerMatrix}
-use Rattle.cox_base.specs.Length.{IsReduced, left_descents}
+use Rattle.cox_base.specs.Length.{left_descents}
+use Rattle.cox_base.specs.Reduced.{IsReduced}
 use Rattle.cox_context.specs.Members.{IsElement, IsInInterval}
 
 -- an element of the group, or of the interval up to the top where there is one

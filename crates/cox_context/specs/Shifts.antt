@@ -3,9 +3,11 @@ use Rattle.std.specs.Prelude.{◌≡◌, ◌⊎◌, ℕ, ◌+◌, ◌-◌, ◌*�
 use Rattle.std.specs.Prelude.{Some, Bool, false, nat_lt, filter}
 use Rattle.arrayvec.specs.ArrayVec.{ArrayVec}
 use Rattle.cox_base.specs.Matrix.{IsLetter}
-use Rattle.cox_base.specs.IntegerMatrix.{IntegerMatrix, HasOrder}
+use Rattle.cox_base.specs.IntegerMatrix.{IntegerMatrix}
+use Rattle.cox_base.specs.Admissible.{HasOrder}
 use Rattle.cox_base.specs.ShortLex.{normal_form, letters}
-use Rattle.cox_base.specs.Length.{IsLeftDescent, left_descents, right_descents}
+use Rattle.cox_base.specs.Length.{left_descents, right_descents}
+use Rattle.cox_base.specs.Reduced.{IsLeftDescent}
 use Rattle.cox_context.specs.Closed.{IsClosed}
 use Rattle.cox_context.specs.Numbers.{word_at, IsNumberOf}
 

@@ -4,9 +4,10 @@
 //! left descent of s x. So each is found once, and they come in ShortLex order.
 ghost use Rattle.std.specs.Prelude.{◌≡◌, ℕ, List, ◌+◌, ◌<◌, ◌≤◌, ◌∷◌, ◌++◌, [], length, IfOk, IfErr, OnOk, IfSome, IfNone, OnSome, IsTrue, Option, Contains};
 ghost use Rattle.arrayvec.specs.ArrayVec.{ArrayVec};
-ghost use Rattle.cox_base.specs.Matrix.{IsCoxeterMatrix, IsLetter};
-ghost use Rattle.cox_base.specs.IntegerMatrix.{IntegerMatrix, IsAdmissible, integer_matrix};
-ghost use Rattle.cox_base.specs.Length.{IsLeftDescent};
+ghost use Rattle.cox_base.specs.Matrix.{IsLetter};
+ghost use Rattle.cox_base.specs.Admissible.{IsCoxeterMatrix, IsAdmissible};
+ghost use Rattle.cox_base.specs.IntegerMatrix.{IntegerMatrix, integer_matrix};
+ghost use Rattle.cox_base.specs.Reduced.{IsLeftDescent};
 ghost use Rattle.cox_reflect.specs.Height.{AreHeights};
 ghost use Rattle.cox_context.specs.Family.{IsMember, IsTop};
 ghost use Rattle.cox_context.specs.Numbers.{word_at};

@@ -1,6 +1,7 @@
 //! The group, or the interval, whose elements a context has as members.
 ghost use Rattle.std.specs.Prelude.{◌≡◌, ℕ, List, ◌≤◌, ◌↔◌, ◌∷◌, length, IsTrue, IfSome, IfNone, OnSome};
-ghost use Rattle.cox_base.specs.Matrix.{IsCoxeterMatrix, IsLetter};
+ghost use Rattle.cox_base.specs.Matrix.{IsLetter};
+ghost use Rattle.cox_base.specs.Admissible.{IsCoxeterMatrix};
 ghost use Rattle.cox_base.specs.IntegerMatrix.{integer_matrix};
 ghost use Rattle.cox_base.specs.ShortLex.{normal_form};
 ghost use Rattle.cox_reflect.specs.Height.{AreHeights};

@@ -3,7 +3,8 @@
 ghost use Rattle.std.specs.Prelude.{◌≡◌, ℕ, List};
 ghost use Rattle.cox_base.specs.Bruhat.{IsBelow};
 ghost use Rattle.cox_base.specs.IntegerMatrix.{integer_matrix};
-ghost use Rattle.cox_base.specs.Matrix.{CoxeterMatrix, IsCoxeterMatrix};
+ghost use Rattle.cox_base.specs.Matrix.{CoxeterMatrix};
+ghost use Rattle.cox_base.specs.Admissible.{IsCoxeterMatrix};
 ghost use Rattle.cox_context.specs.Members.{IsElement, IsInInterval};
 ghost use Rattle.cox_context.specs.SortedList.{IsListOf};
 

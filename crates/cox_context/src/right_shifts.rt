@@ -1,6 +1,7 @@
 //! The table of right shifts, from that of left shifts.
 ghost use Rattle.std.specs.Prelude.{◌≡◌, ◌+◌, ◌-◌, ◌*◌, ◌<◌, ◌≤◌, ◌∷◌, ◌++◌, [], length, IfOk, OnOk};
-ghost use Rattle.cox_base.specs.Matrix.{IsCoxeterMatrix, IsLetter};
+ghost use Rattle.cox_base.specs.Matrix.{IsLetter};
+ghost use Rattle.cox_base.specs.Admissible.{IsCoxeterMatrix};
 ghost use Rattle.cox_base.specs.IntegerMatrix.{integer_matrix};
 ghost use Rattle.cox_base.specs.ShortLex.{normal_form};
 ghost use Rattle.cox_context.specs.Closed.{IsClosed};

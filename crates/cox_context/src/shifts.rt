@@ -1,9 +1,10 @@
 //! The table of left shifts: for each member, in order, one entry for each letter.
 ghost use Rattle.std.specs.Prelude.{◌≡◌, ℕ, ◌+◌, ◌-◌, ◌*◌, ◌<◌, ◌≤◌, ◌⊎◌, ◌∷◌, length, Some, List, IfOk};
-ghost use Rattle.cox_base.specs.Matrix.{IsCoxeterMatrix, IsLetter, label};
+ghost use Rattle.cox_base.specs.Matrix.{IsLetter, label};
+ghost use Rattle.cox_base.specs.Admissible.{IsCoxeterMatrix};
 ghost use Rattle.cox_base.specs.IntegerMatrix.{integer_matrix};
 ghost use Rattle.cox_base.specs.ShortLex.{normal_form};
-ghost use Rattle.cox_base.specs.Length.{IsLeftDescent};
+ghost use Rattle.cox_base.specs.Reduced.{IsLeftDescent};
 ghost use Rattle.cox_reflect.specs.Height.{AreHeights};
 ghost use Rattle.cox_context.specs.Closed.{IsClosed};
 ghost use Rattle.cox_context.specs.Numbers.{word_at};

@@ -1,6 +1,6 @@
 -- The ring laws of ℤ that std lacks, and two sets of them. A polynomial identity over ℤ is proved by
 -- `simp multiply_out (omega (arith, linears))`.
-use Rattle.std.proofs.Common.{◌≡◌, ℕ, ◌*◌, ℤ, pos, negsuc, ◌+ℤ◌, ◌*ℤ◌, neg_ℤ, ap, sym, ◌∙◌, arith}
+use Rattle.std.proofs.Common.{◌≡◌, ℕ, ◌*◌, ℤ, pos, negsuc, ◌+ℤ◌, ◌*ℤ◌, neg_ℤ, ◌≤ℤ◌, ap, sym, ◌∙◌, arith}
 use Rattle.std.proofs.lemmas.Int.{ints}
 use lib.IntN.{*ℤ_comm}
 use borrow.Author.Differences.{up, down, sum_is_lem, product_is, neg_is, same_out, same_in, Apart-out, lt_out, le_out, below_in, at_most_in}
@@ -114,3 +114,8 @@ pub ruleset multiply_out = (
   *ℤ_comm,
   mul_left_comm,
 )
+
+pub product_nonnegative : (a b : ℤ) → pos 0 ≤ℤ a → pos 0 ≤ℤ b → pos 0 ≤ℤ (a *ℤ b)
+product_nonnegative (pos a) (pos b) h k = omega (arith, ints)
+product_nonnegative (pos a) (negsuc b) h k = absurd k.le
+product_nonnegative (negsuc a) b h k = absurd h.le

@@ -7,7 +7,8 @@ use Rattle.std.proofs.lemmas.Bool.{cases_eq, cases_lt}
 use Rattle.std.proofs.lemmas.Int.{ints}
 use Rattle.cox_base.specs.declared.limits.TheConstants.{MAX_RANK}
 use Rattle.cox_base.specs.Matrix.{IsLetter}
-use Rattle.cox_base.specs.IntegerMatrix.{IntegerMatrix, IsAdmissible}
+use Rattle.cox_base.specs.IntegerMatrix.{IntegerMatrix}
+use Rattle.cox_base.specs.Admissible.{IsAdmissible}
 use Rattle.cox_reflect.specs.Action.{Vector, pairing, reflect}
 use Rattle.cox_reflect.specs.Transpose.{transposed}
 use Rattle.cox_lemmas.proofs.Ring.{neg_mul, mul_neg}

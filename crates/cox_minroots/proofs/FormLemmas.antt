@@ -8,10 +8,12 @@ use Rattle.std.proofs.lemmas.List.Elements.{All-nil, filter-append}
 use Rattle.std.proofs.lemmas.List.Elements.{All-nil}
 use Rattle.cox_base.specs.declared.side.Side.TheVariants.{Right}
 use Rattle.cox_base.specs.Matrix.{IsLetter, IsWord}
-use Rattle.cox_base.specs.IntegerMatrix.{IntegerMatrix, IsAdmissible}
+use Rattle.cox_base.specs.IntegerMatrix.{IntegerMatrix}
+use Rattle.cox_base.specs.Admissible.{IsAdmissible}
 use Rattle.cox_base.specs.Element.{SameElement}
 use Rattle.cox_base.specs.ShortLex.{letters, normal_form}
-use Rattle.cox_base.specs.Length.{word_length, left_descents, right_descents, IsReduced, IsLeftDescent, IsRightDescent}
+use Rattle.cox_base.specs.Length.{word_length, left_descents, right_descents}
+use Rattle.cox_base.specs.Reduced.{IsReduced, IsLeftDescent, IsRightDescent}
 use Rattle.cox_reflect.proofs.Sums.{letter_above}
 use Rattle.cox_reflect.proofs.Elements.{same-refl, same-trans, same-reverse, same-push, same-append}
 use Rattle.cox_reflect.proofs.FormLemmas.{left_descents-word_at}

@@ -3,9 +3,10 @@ use Rattle.std.proofs.Common.{◌≡◌, ℕ, suc, ◌+◌, ◌≤◌, ◌<◌, 
 use Rattle.std.specs.List.{remove}
 use Rattle.std.proofs.lemmas.List.{append-nil, append_assoc, length-append, take-append-drop}
 use Rattle.cox_base.specs.Matrix.{IsWord}
-use Rattle.cox_base.specs.IntegerMatrix.{IntegerMatrix, IsAdmissible}
+use Rattle.cox_base.specs.IntegerMatrix.{IntegerMatrix}
+use Rattle.cox_base.specs.Admissible.{IsAdmissible}
 use Rattle.cox_base.specs.Element.{SameElement}
-use Rattle.cox_base.specs.Length.{IsReduced}
+use Rattle.cox_base.specs.Reduced.{IsReduced}
 use Rattle.cox_reflect.proofs.Elements.{same-trans, same-push, same-equal}
 use Rattle.cox_reflect.proofs.Search.{word_length-equal, word_length-length}
 use Rattle.cox_reflect.proofs.Lengths.{push-word_length}

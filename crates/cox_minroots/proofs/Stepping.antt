@@ -2,8 +2,10 @@
 use Rattle.std.proofs.Common.{◌≡◌, ℕ, ◌+◌, ◌-◌, ◌*◌, ◌≤◌, ◌<◌, List, length, get_or, set, ⊎_elim, arith}
 use Rattle.std.proofs.lemmas.Bool.{cases_lt}
 use Rattle.cox_base.specs.declared.limits.TheConstants.{MAX_RANK}
-use Rattle.cox_base.specs.Matrix.{CoxeterMatrix, IsCoxeterMatrix, IsLetter}
-use Rattle.cox_base.specs.IntegerMatrix.{IntegerMatrix, IsAdmissible, integer_matrix}
+use Rattle.cox_minroots.specs.declared.closure.TheConstants.{MAX_SMALL_ROOTS}
+use Rattle.cox_base.specs.Matrix.{CoxeterMatrix, IsLetter}
+use Rattle.cox_base.specs.Admissible.{IsCoxeterMatrix, IsAdmissible}
+use Rattle.cox_base.specs.IntegerMatrix.{IntegerMatrix, integer_matrix}
 use Rattle.cox_reflect.specs.Transpose.{transposed}
 use Rattle.cox_reflect.proofs.Admissible.{IsAdmissible-integer_matrix}
 use Rattle.cox_minroots.specs.declared.root.Root.{Root}
@@ -50,7 +52,7 @@ module _ (x : CoxeterMatrix) (matrix : IsCoxeterMatrix x) (fits : x.rank ≤ MAX
   }
 
   module _ (product : ℕ) (is : product ≡ rise (integer_matrix x) s root.root * rise (transposed (integer_matrix x)) s root.coroot)
-      (few : length old ≤ 4096) where
+      (few : length old ≤ MAX_SMALL_ROOTS) where
     room : length new < 20000
     room = omega (arith, h.few, few, ls.to_rank, fits)
 

@@ -2,8 +2,10 @@
 use Rattle.std.proofs.Common.{◌≡◌, ℕ, ◌-◌, ◌*◌, ◌+◌, ◌≤◌, ◌<◌, List, length, get_or, arith}
 use Rattle.std.proofs.Math.Logic.{∥∥₁_elim}
 use Rattle.cox_base.specs.declared.limits.TheConstants.{MAX_RANK}
+use Rattle.cox_minroots.specs.declared.closure.TheConstants.{MAX_SMALL_ROOTS}
 use Rattle.cox_base.specs.Matrix.{IsLetter}
-use Rattle.cox_base.specs.IntegerMatrix.{IntegerMatrix, IsAdmissible}
+use Rattle.cox_base.specs.IntegerMatrix.{IntegerMatrix}
+use Rattle.cox_base.specs.Admissible.{IsAdmissible}
 use Rattle.cox_small.specs.SmallRoots.{HasMoreThan, HasAtMost}
 use Rattle.cox_small.proofs.Counting.{not_both}
 use Rattle.cox_minroots.specs.declared.root.Root.{Root}
@@ -14,7 +16,7 @@ use Rattle.cox_minroots.proofs.ClosureLemmas.{closed-has}
 
 pub root-table : (A : IntegerMatrix) → IsAdmissible A → (roots : List Root) (count : ℕ) (moves : List ℕ) → IsClosed A roots
     → count ≡ length roots
-    → length roots ≤ 4096 → length moves ≡ MAX_RANK * length roots
+    → length roots ≤ MAX_SMALL_ROOTS → length moves ≡ MAX_RANK * length roots
     → ((i s : ℕ) → i < length roots → IsLetter A.rank s
     → IsMove A (length roots) (root_of roots) (coroot_of roots) i s (get_or moves (MAX_RANK * i + (s - 1)) 0))
     → IsRootTable A count moves

@@ -8,8 +8,10 @@ use Rattle.std.proofs.Math.Nat.{mul-le-mul_left}
 use Rattle.std.proofs.Math.Seq.{get_or-append_seam}
 use Rattle.std.proofs.lemmas.List.{ext_get_or, get_or_append_left, get_or_default, length-append, length-set}
 use Rattle.cox_base.specs.declared.limits.TheConstants.{MAX_RANK}
-use Rattle.cox_base.specs.Matrix.{CoxeterMatrix, IsCoxeterMatrix, IsLetter}
-use Rattle.cox_base.specs.IntegerMatrix.{IntegerMatrix, IsAdmissible, integer_matrix}
+use Rattle.cox_minroots.specs.declared.closure.TheConstants.{MAX_SMALL_ROOTS}
+use Rattle.cox_base.specs.Matrix.{CoxeterMatrix, IsLetter}
+use Rattle.cox_base.specs.Admissible.{IsCoxeterMatrix, IsAdmissible}
+use Rattle.cox_base.specs.IntegerMatrix.{IntegerMatrix, integer_matrix}
 use Rattle.cox_reflect.specs.Action.{Vector, simple_root, pairing, minus, reflect}
 use Rattle.cox_reflect.specs.Transpose.{transposed}
 use Rattle.cox_lemmas.proofs.Ring.{linears, times_one}
@@ -113,7 +115,7 @@ module _ (A : IntegerMatrix) (g : IsAdmissible A) (fits : A.rank ≤ MAX_RANK) (
           some = omega (arith, mul-le-mul_left (rise A s (root_at roots i).root) y, x)
 
   -- so the code can compute it
-  pub target-turns : (i ≡ s - 1 → ⊥) → product ≤ 3 → length roots ≤ 4096
+  pub target-turns : (i ≡ s - 1 → ⊥) → product ≤ 3 → length roots ≤ MAX_SMALL_ROOTS
       → CanTurn A s (root_at roots i).root × CanTurn (transposed A) s (root_at roots i).coroot
   target-turns ne few short_list =
       let t = target_of (small_image ne few)
@@ -129,7 +131,7 @@ module _ (A : IntegerMatrix) (g : IsAdmissible A) (fits : A.rank ≤ MAX_RANK) (
       (ec : r.coroot ≡ set (root_at roots i).coroot (s - 1)
       (weight (transposed A) s (root_at roots i).coroot - 3 * get_or (root_at roots i).coroot (s - 1) 0)) where
     -- and finds it in the list
-    pub target-there : (i ≡ s - 1 → ⊥) → product ≤ 3 → length roots ≤ 4096 → Contains roots r
+    pub target-there : (i ≡ s - 1 → ⊥) → product ≤ 3 → length roots ≤ MAX_SMALL_ROOTS → Contains roots r
     target-there ne few short_list =
         (t.number, t.within, get_or_default roots t.number r no_root t.within ∙ root-equal (root_at roots t.number) r root coroot)
       where
@@ -162,7 +164,7 @@ module _ (A : IntegerMatrix) (g : IsAdmissible A) (fits : A.rank ≤ MAX_RANK) (
             (λ k m. vector_of-at (root_at roots t.number).coroot r.coroot
             (t.coroot ∙ sym (turned-coroot A g fits roots h.small i l s ls r er ec turns.1)) k)
 
-    pub move-found : (i ≡ s - 1 → ⊥) → product ≤ 3 → length roots ≤ 4096 → (number : ℕ) → (number < length roots)
+    pub move-found : (i ≡ s - 1 → ⊥) → product ≤ 3 → length roots ≤ MAX_SMALL_ROOTS → (number : ℕ) → (number < length roots)
         × (root_at roots number ≡ r)
         → IsMove A (length roots) (root_of roots) (coroot_of roots) i s number
     move-found ne few short_list number found = record {
@@ -199,7 +201,7 @@ module _ (A : IntegerMatrix) (g : IsAdmissible A) (fits : A.rank ≤ MAX_RANK) (
 
 module _ (x : CoxeterMatrix) (matrix : IsCoxeterMatrix x) (fits : x.rank ≤ MAX_RANK) (roots : List Root)
     (h : IsClosed (integer_matrix x) roots)
-    (few : length roots ≤ 4096) (i : ℕ) (l : i < length roots) (s : ℕ) (ls : IsLetter x.rank s) (root : Root) (at : root ≡ root_at roots i)
+    (few : length roots ≤ MAX_SMALL_ROOTS) (i : ℕ) (l : i < length roots) (s : ℕ) (ls : IsLetter x.rank s) (root : Root) (at : root ≡ root_at roots i)
     (product : ℕ) (is : product ≡ rise (integer_matrix x) s root.root * rise (transposed (integer_matrix x)) s root.coroot) where
   g : IsAdmissible (integer_matrix x)
   g = IsAdmissible-integer_matrix x matrix

@@ -8,9 +8,10 @@ use native.Mathlib.Nat.{ℕ_set}
 use Rattle.std.proofs.lemmas.List.{take-append-drop}
 use Rattle.cox_base.specs.declared.limits.TheConstants.{MAX_RANK}
 use Rattle.cox_base.specs.Matrix.{IsLetter, IsWord}
-use Rattle.cox_base.specs.IntegerMatrix.{IntegerMatrix, IsAdmissible}
+use Rattle.cox_base.specs.IntegerMatrix.{IntegerMatrix}
+use Rattle.cox_base.specs.Admissible.{IsAdmissible}
 use Rattle.cox_base.specs.Element.{SameElement}
-use Rattle.cox_base.specs.Length.{IsReduced}
+use Rattle.cox_base.specs.Reduced.{IsReduced}
 use Rattle.cox_reflect.specs.Action.{simple_root, reflect, act}
 use Rattle.cox_reflect.proofs.Action.{act-nil, act-cons}
 use Rattle.cox_reflect.proofs.Removal.{right_letter_goes}

@@ -1,6 +1,7 @@
 -- The table of small roots: where each letter takes each of them.
 use Rattle.std.specs.Prelude.{◌≡◌, ℕ, ◌+◌, ◌-◌, ◌*◌, ◌<◌, ◌≤◌, List, length, slice_index, pos, ◌*ℤ◌, ◌≤ℤ◌, ◌<ℤ◌}
 use Rattle.cox_base.specs.declared.limits.TheConstants.{MAX_RANK}
+use Rattle.cox_minroots.specs.declared.closure.TheConstants.{MAX_SMALL_ROOTS}
 use Rattle.cox_base.specs.Matrix.{IsLetter}
 use Rattle.cox_base.specs.IntegerMatrix.{IntegerMatrix}
 use Rattle.cox_reflect.specs.Action.{Vector, simple_root, pairing, reflect}
@@ -30,6 +31,6 @@ pub record IsTable (A : IntegerMatrix) (n : ℕ) (moves : List ℕ) : Type 0 whe
 
 -- what the type of tables keeps
 pub record IsRootTable (A : IntegerMatrix) (count : ℕ) (moves : List ℕ) : Type 0 where
-  pub few : count ≤ 4096
+  pub few : count ≤ MAX_SMALL_ROOTS
   pub size : length moves ≡ MAX_RANK * count
   pub table : ∥ IsTable A count moves ∥₁

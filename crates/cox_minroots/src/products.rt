@@ -1,10 +1,11 @@
 //! Products by letters, by the table.
 ghost use Rattle.std.specs.Prelude.{◌≡◌, ◌+◌, ◌<◌, ◌≤◌, [], ◌∷◌, ◌++◌, length, reverse, IfSome, IfNone};
 ghost use Rattle.std.specs.List.{remove};
-ghost use Rattle.cox_base.specs.Matrix.{IsLetter, IsWord, IsCoxeterMatrix};
+ghost use Rattle.cox_base.specs.Matrix.{IsLetter, IsWord};
+ghost use Rattle.cox_base.specs.Admissible.{IsCoxeterMatrix};
 ghost use Rattle.cox_base.specs.IntegerMatrix.{integer_matrix};
 ghost use Rattle.cox_base.specs.Element.{SameElement};
-ghost use Rattle.cox_base.specs.Length.{IsReduced};
+ghost use Rattle.cox_base.specs.Reduced.{IsReduced};
 
 use crate::RootTable;
 use crate::moves::{NEGATIVE, OUT};

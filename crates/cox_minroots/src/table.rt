@@ -1,7 +1,7 @@
 //! The table of small roots.
 ghost use Rattle.std.specs.Prelude.{◌≡◌, ℕ, ◌+◌, ◌-◌, ◌*◌, ◌<◌, ◌≤◌, length, IfOk, IfErr, OnOk, IsOk};
 ghost use Rattle.cox_base.specs.IntegerMatrix.{integer_matrix};
-ghost use Rattle.cox_base.specs.Matrix.{IsCoxeterMatrix};
+ghost use Rattle.cox_base.specs.Admissible.{IsCoxeterMatrix};
 ghost use Rattle.cox_small.specs.SmallRoots.{HasMoreThan, HasAtMost};
 ghost use Rattle.cox_minroots.specs.Closure.{WhenTooMany};
 

@@ -12,7 +12,7 @@ use Rattle.cox_poly.specs.Puts.{PutsPrefix, Puts}
 -- a prefix of the first text is one of both
 pub PutsPrefix-first : (a b old new : List ℕ) → PutsPrefix a old new → PutsPrefix (a ++ b) old new
 PutsPrefix-first a b old new put = record {
-  front = put.front;
+  prefix = put.prefix;
   rest = put.rest ++ b;
   parts = rw (put.parts, append_assoc);
   behind = put.behind;
@@ -25,10 +25,10 @@ append-second a b old mid new first second = rw (second, first, append_assoc)
 -- the first text, and then a prefix of the second
 pub PutsPrefix-second : (a b old mid new : List ℕ) → mid ≡ old ++ a → PutsPrefix b mid new → PutsPrefix (a ++ b) old new
 PutsPrefix-second a b old mid new first put = record {
-  front = a ++ put.front;
+  prefix = a ++ put.prefix;
   rest = put.rest;
   parts = rw (put.parts, append_assoc);
-  behind = append-second a put.front old mid new first put.behind;
+  behind = append-second a put.prefix old mid new first put.behind;
 }
 
 -- the answer where memory ran out
@@ -51,7 +51,7 @@ Puts-second (Err fault) a b old mid new first put = PutsPrefix-second a b old mi
 -- the texts of the first elements are a prefix of the whole text
 pub PutsPrefix-take : (f : ℕ → ℕ) (xs : List ℕ) (i : ℕ) (old new : List ℕ) → new ≡ old ++ map f (take i xs) → PutsPrefix (map f xs) old new
 PutsPrefix-take f xs i old new put = record {
-  front = map f (take i xs);
+  prefix = map f (take i xs);
   rest = map f (drop i xs);
   parts = ap (map f) (sym (take-append-drop i xs)) ∙ map-append f (take i xs) (drop i xs);
   behind = put;
@@ -74,11 +74,11 @@ pub PutsPrefix-next : {X : Type 0} (f : X → List ℕ) (xs : List X) (i : ℕ) 
     ≡ get_or xs i d
     → mid ≡ old ++ flat_map f (take i xs) → PutsPrefix (f x) mid new → PutsPrefix (flat_map f xs) old new
 PutsPrefix-next f xs i x d old mid new below at first put = record {
-  front = flat_map f (take i xs) ++ put.front;
+  prefix = flat_map f (take i xs) ++ put.prefix;
   rest = put.rest ++ flat_map f (drop (i + 1) xs);
   parts =
       let next : x ∷ drop (i + 1) xs ≡ drop i xs = rw (add-one, at) (sym (drop-cons xs i d below)) in
       let whole : take i xs ++ x ∷ drop (i + 1) xs ≡ xs = ap (λ ys. take i xs ++ ys) next ∙ take-append-drop i xs in
       ap (flat_map f) (sym whole) ∙ flat_map-append f (take i xs) (x ∷ drop (i + 1) xs) ∙ rw put.parts (simp append_assoc);
-  behind = append-second (flat_map f (take i xs)) put.front old mid new first put.behind;
+  behind = append-second (flat_map f (take i xs)) put.prefix old mid new first put.behind;
 }

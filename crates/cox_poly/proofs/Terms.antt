@@ -9,7 +9,8 @@ use Rattle.std.proofs.lemmas.List.{drop_all}
 use Rattle.std.proofs.lemmas.Bool.Decides.{nat_tests}
 use Rattle.cox_poly.specs.Polynomial.{coefficient}
 use Rattle.cox_poly.specs.Puts.{PutsPrefix}
-use Rattle.cox_poly.specs.PolynomialText.{next_term_text, listed_term_text, terms_text}
+use Rattle.cox_poly.specs.PolynomialText.{next_term_text, terms_text}
+use Rattle.cox_poly.specs.ListedText.{listed_term_text}
 use Rattle.cox_poly.proofs.Behind.{PutsPrefix-first, PutsPrefix-second, append-second}
 
 -- the terms from degree k on
@@ -23,23 +24,23 @@ rest_text false ts = flat_map next_term_text ts
 
 -- a prefix of the text was put behind what was there: all but this rest
 pub record Written (old out text rest : List ℕ) : Type 0 where
-  pub front : List ℕ
+  pub prefix : List ℕ
   pub parts : text ≡ front ++ rest
   pub behind : out ≡ old ++ front
 
 -- and then a prefix of the next piece
-pub Written-front : {old out text rest : List ℕ} (new piece rest' : List ℕ)
+pub Written-prefix : {old out text rest : List ℕ} (new piece rest' : List ℕ)
     → Written old out text rest → PutsPrefix piece out new → rest ≡ piece ++ rest' → PutsPrefix text old new
-Written-front {old} {out} new piece rest' w put split =
-    rw (w.parts, split) (PutsPrefix-second w.front (piece ++ rest') old out new w.behind (PutsPrefix-first piece rest' out new put))
+Written-prefix {old} {out} new piece rest' w put split =
+    rw (w.parts, split) (PutsPrefix-second w.prefix (piece ++ rest') old out new w.behind (PutsPrefix-first piece rest' out new put))
 
 -- and then the next piece
 pub Written-more : {old out text rest : List ℕ} (new piece rest' : List ℕ)
     → Written old out text rest → new ≡ out ++ piece → rest ≡ piece ++ rest' → Written old new text rest'
 Written-more {old} {out} new piece rest' w put split = record {
-  front = w.front ++ piece;
-  parts = let e = w.parts in let f = append_assoc w.front piece rest' in cc;
-  behind = append-second w.front piece old out new w.behind put;
+  prefix = w.prefix ++ piece;
+  parts = let e = w.parts in let f = append_assoc w.prefix piece rest' in cc;
+  behind = append-second w.prefix piece old out new w.behind put;
 }
 
 -- the coefficients from k on are the one at k and those from k + 1 on

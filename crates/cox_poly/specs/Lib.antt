@@ -1,14 +1,15 @@
 -- polynomials as functions from degrees to coefficients
 pub mod Coefficients
--- their multiples and products
-pub mod Products
--- bounds of their degree and of the sum of their absolute coefficients
-pub mod Size
--- polynomials as lists of coefficients
-pub mod Polynomial
--- coefficients within a limit
 pub mod Limit
--- how a text is put behind others
-pub mod Puts
--- the text of a polynomial
+pub mod ListedText
+pub mod Polynomial
 pub mod PolynomialText
+pub mod Products
+pub mod Puts
+pub mod Size
+-- their multiples and products
+-- bounds of their degree and of the sum of their absolute coefficients
+-- polynomials as lists of coefficients
+-- coefficients within a limit
+-- how a text is put behind others
+-- the text of a polynomial

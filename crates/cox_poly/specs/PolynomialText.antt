@@ -27,10 +27,6 @@ plus_text c = if int_lt (pos 0) c then codes "+" else []
 abbrev pub next_term_text : ℕ × ℤ → List ℕ
 next_term_text t = plus_text t.1 ++ term_text t
 
--- a term, the first or one after it
-abbrev pub listed_term_text : Bool → ℕ × ℤ → List ℕ
-listed_term_text first t = if first then term_text t else next_term_text t
-
 -- the first term and the terms after it; `0` where there is none
 abbrev pub terms_text : List (ℕ × ℤ) → List ℕ
 terms_text [] = codes "0"

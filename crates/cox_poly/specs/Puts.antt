@@ -4,7 +4,7 @@ use Rattle.std.specs.declared.alloc.AllocError.{AllocError}
 
 -- a prefix of the text was put behind what was there
 pub record PutsPrefix (text old new : List ℕ) : Type 0 where
-  pub front : List ℕ
+  pub prefix : List ℕ
   pub rest : List ℕ
   pub parts : text ≡ front ++ rest
   pub behind : new ≡ old ++ front

@@ -1,6 +1,7 @@
 //! The text of a polynomial: its terms by rising degree.
 ghost use Rattle.cox_poly.specs.Puts.{Puts};
-ghost use Rattle.cox_poly.specs.PolynomialText.{power_text, factor_text, term_text, plus_text, next_term_text, listed_term_text, polynomial_text};
+ghost use Rattle.cox_poly.specs.PolynomialText.{power_text, factor_text, term_text, plus_text, next_term_text, polynomial_text};
+ghost use Rattle.cox_poly.specs.ListedText.{listed_term_text};
 
 use crate::NoMemory;
 use crate::append::{put_number, put_text};

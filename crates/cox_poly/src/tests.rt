@@ -1,3 +1,4 @@
+//! Polynomials, their text, and accumulators, by hand.
 use crate::append::put_number;
 use crate::{Acc, Poly, PolyFault};
 use std::alloc::Global;

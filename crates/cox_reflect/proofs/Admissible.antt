@@ -1,8 +1,9 @@
 -- The integer matrix of a Coxeter matrix is admissible, and its finite labels are the orders of the braid relations.
 use Rattle.std.proofs.Common.{◌≡◌, ℕ, ◌<◌, ◌↔◌, ℤ, negsuc, refl, sym, ◌∙◌, ⊎_elim}
 use Rattle.std.proofs.lemmas.Bool.{cases_eq, cases_order}
-use Rattle.cox_base.specs.Matrix.{CoxeterMatrix, IsCoxeterMatrix, IsLetter, label}
-use Rattle.cox_base.specs.IntegerMatrix.{entry_of, HasOrder, order_two, order_three, order_four, order_back_four, order_six, order_back_six}
+use Rattle.cox_base.specs.Matrix.{CoxeterMatrix, IsLetter, label}
+use Rattle.cox_base.specs.Admissible.{IsCoxeterMatrix, HasOrder}
+use Rattle.cox_base.specs.IntegerMatrix.{entry_of, order_two, order_three, order_four, order_back_four, order_six, order_back_six}
 use Rattle.cox_base.proofs.Entries.{label-above, label-symmetric, entry_of-above, entry_of-below}
 use Rattle.cox_base.proofs.Admissible.{HasOrder-integer_matrix}
 pub use Rattle.cox_base.proofs.Admissible.{IsAdmissible-integer_matrix}

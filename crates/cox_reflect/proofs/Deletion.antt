@@ -5,13 +5,15 @@ use Rattle.std.proofs.lemmas.Bool.{cases_lt}
 use Rattle.std.proofs.lemmas.List.{reverse-reverse}
 use Rattle.std.proofs.lemmas.List.Elements.{All-head, All-tail}
 use Rattle.cox_base.specs.Matrix.{IsLetter, IsWord}
-use Rattle.cox_base.specs.IntegerMatrix.{IntegerMatrix, IsAdmissible}
+use Rattle.cox_base.specs.IntegerMatrix.{IntegerMatrix}
+use Rattle.cox_base.specs.Admissible.{IsAdmissible}
 use Rattle.cox_base.specs.Element.{SameElement}
 use Rattle.cox_base.specs.ShortLex.{normal_form}
-use Rattle.cox_base.specs.Length.{word_length, IsReduced, IsLeftDescent, IsRightDescent}
+use Rattle.cox_base.specs.Length.{word_length}
+use Rattle.cox_base.specs.Reduced.{IsReduced, IsLeftDescent, IsRightDescent}
 use Rattle.cox_reflect.specs.Exchange.{LeavesOneOut, LeavesTwoOut}
 use Rattle.cox_reflect.specs.DerivedWords.{reflection, IsWithoutOne, this_one, later_one}
-use Rattle.cox_reflect.proofs.Elements.{act-same, same-sym, same-trans, same-cons, same-push, same-square, same-push_twice, same-drop_front}
+use Rattle.cox_reflect.proofs.Elements.{act-same, same-sym, same-trans, same-cons, same-push, same-square, same-push_twice, same-drop_prefix}
 use Rattle.cox_reflect.proofs.Action.{act-cons, act-append, reverse-act}
 use Rattle.cox_reflect.specs.Action.{reflect, act}
 use Rattle.cox_reflect.proofs.Search.{normal_form-same, word_length-least, word_length-equal, word_length-length}
@@ -120,7 +122,7 @@ module _ (A : IntegerMatrix) (g : IsAdmissible A) where
             inner,
             up,
             length-without_one w,
-            word_length-least A g (same-sym A g (same-drop_front A g (s ∷ []) {u = r ++ t ∷ []} {v = x} e)),
+            word_length-least A g (same-sym A g (same-drop_prefix A g (s ∷ []) {u = r ++ t ∷ []} {v = x} e)),
           ))
 
       go : LeavesOneOut A (s ∷ r) ((s ∷ r) ++ t ∷ []) → SameElement A (s ∷ r) (r ++ t ∷ [])
@@ -154,7 +156,7 @@ module _ (A : IntegerMatrix) (g : IsAdmissible A) where
           (same-push A g t (same-square A g s w))
           in let across : SameElement A (s ∷ s ∷ w) ((s ∷ w) ++ t ∷ [])
           = sides_longer s t (s ∷ w) (omega (arith, twice_t, inner)) (omega (arith, twice, outer)) (omega (arith, twice, e))
-          in same-drop_front A g (s ∷ []) {u = s ∷ w} {v = w ++ t ∷ []} across
+          in same-drop_prefix A g (s ∷ []) {u = s ∷ w} {v = w ++ t ∷ []} across
 
   pub parity_mod : (u : List ℕ) → IsWord A.rank u → length u % 2 ≡ word_length A u % 2
   parity_mod u h = let d = parity u h in omega (arith, d.1)

@@ -8,7 +8,8 @@ use lib.IntN.{*ℤ_comm}
 use Rattle.std.proofs.lemmas.Bool.{cases_eq}
 use Rattle.std.proofs.lemmas.List.{reverse-reverse}
 use Rattle.cox_base.specs.Matrix.{IsLetter}
-use Rattle.cox_base.specs.IntegerMatrix.{IntegerMatrix, IsAdmissible}
+use Rattle.cox_base.specs.IntegerMatrix.{IntegerMatrix}
+use Rattle.cox_base.specs.Admissible.{IsAdmissible}
 use Rattle.cox_base.specs.Element.{sum_to, identity, product, generator_matrix, matrix, SameElement}
 use Rattle.cox_reflect.specs.Action.{Vector, simple_root, pairing, minus, reflect, act}
 use Rattle.cox_lemmas.proofs.Ring.{linears, multiply_out}
@@ -170,8 +171,8 @@ module _ (A : IntegerMatrix) (g : IsAdmissible A) where
   same-unreverse {u} {v} e = rw (reverse-reverse u, reverse-reverse v) at (same-reverse e)
 
   -- a word before or after may be dropped
-  pub same-drop_front : (w : List ℕ) {u v : List ℕ} → SameElement A (w ++ u) (w ++ v) → SameElement A u v
-  same-drop_front w {u} {v} e =
+  pub same-drop_prefix : (w : List ℕ) {u v : List ℕ} → SameElement A (w ++ u) (w ++ v) → SameElement A u v
+  same-drop_prefix w {u} {v} e =
       act-same (λ x. sym (act-reverse A g w (act A u x))
       ∙ ap (act A (reverse w)) (sym (act-append A w u x) ∙ same-act e x ∙ act-append A w v x) ∙ act-reverse A g w (act A v x))
 

@@ -4,10 +4,12 @@ use Rattle.std.proofs.Math.Path.{fun_ext}
 use Rattle.std.proofs.lemmas.List.{append-nil, append_assoc, length-append, reverse-reverse}
 use Rattle.cox_base.specs.declared.side.Side.{Side}
 use Rattle.cox_base.specs.declared.side.Side.TheVariants.{Left, Right}
-use Rattle.cox_base.specs.Matrix.{CoxeterMatrix, IsCoxeterMatrix}
-use Rattle.cox_base.specs.IntegerMatrix.{IntegerMatrix, IsAdmissible, integer_matrix}
+use Rattle.cox_base.specs.Matrix.{CoxeterMatrix}
+use Rattle.cox_base.specs.Admissible.{IsCoxeterMatrix, IsAdmissible}
+use Rattle.cox_base.specs.IntegerMatrix.{IntegerMatrix, integer_matrix}
 use Rattle.cox_base.specs.ShortLex.{letters, normal_form}
-use Rattle.cox_base.specs.Length.{word_length, left_descents, right_descents, IsLeftDescent}
+use Rattle.cox_base.specs.Length.{word_length, left_descents, right_descents}
+use Rattle.cox_base.specs.Reduced.{IsLeftDescent}
 use Rattle.cox_reflect.specs.declared.heights.Heights.{Heights}
 use Rattle.cox_reflect.specs.Height.{AreHeights, CanPrepend, IsLeastLeftDescent}
 use Rattle.cox_reflect.specs.Side.{word_at, descents_at}

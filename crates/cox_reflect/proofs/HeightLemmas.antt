@@ -7,10 +7,12 @@ use Rattle.std.proofs.lemmas.Bool.{cases_eq, cases_lt}
 use Rattle.std.proofs.lemmas.Int.{ints, by_lt_z, unsigned_abs-mul}
 use mathlib.Core.List.{reverse-cons}
 use Rattle.cox_base.specs.Matrix.{IsLetter}
-use Rattle.cox_base.specs.IntegerMatrix.{IntegerMatrix, IsAdmissible}
+use Rattle.cox_base.specs.IntegerMatrix.{IntegerMatrix}
+use Rattle.cox_base.specs.Admissible.{IsAdmissible}
 use Rattle.cox_base.specs.Element.{sum_to, matrix, SameElement}
 use Rattle.cox_base.specs.ShortLex.{normal_form}
-use Rattle.cox_base.specs.Length.{word_length, IsLeftDescent}
+use Rattle.cox_base.specs.Length.{word_length}
+use Rattle.cox_base.specs.Reduced.{IsLeftDescent}
 use Rattle.cox_reflect.specs.Action.{Vector, simple_root, pairing, minus, reflect, act, IsNonpositive}
 use Rattle.cox_reflect.specs.declared.heights.Heights.{Heights}
 use Rattle.cox_reflect.specs.RootHeight.{at_letter, height}

@@ -7,7 +7,8 @@ use Rattle.std.proofs.lemmas.Bool.{cases_eq, false_from_ne_true}
 use Rattle.std.proofs.lemmas.List.Elements.{All-filter, All-cons, All-nil}
 use Rattle.cox_lemmas.proofs.RangeFilters.{filter_range-yes, filter_range-no, length-filter_range}
 use Rattle.cox_base.specs.Matrix.{IsLetter, IsWord}
-use Rattle.cox_base.specs.IntegerMatrix.{IntegerMatrix, IsAdmissible}
+use Rattle.cox_base.specs.IntegerMatrix.{IntegerMatrix}
+use Rattle.cox_base.specs.Admissible.{IsAdmissible}
 use Rattle.cox_base.specs.ShortLex.{letters}
 use Rattle.cox_base.specs.Length.{left_descents}
 use Rattle.cox_reflect.specs.declared.heights.Heights.{Heights}

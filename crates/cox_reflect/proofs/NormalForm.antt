@@ -1,10 +1,11 @@
 -- The normal form begins with the least left descent: nf(u) = s nf(s u); it is empty where there is no left descent.
 use Rattle.std.proofs.Common.{◌↔◌, ◌≡◌, ℕ, ◌+◌, ◌<◌, List, [], ◌∷◌, length, refl, ap, sym, ⊎_elim, arith}
 use Rattle.std.proofs.lemmas.Bool.{cases_order}
-use Rattle.cox_base.specs.IntegerMatrix.{IntegerMatrix, IsAdmissible}
+use Rattle.cox_base.specs.IntegerMatrix.{IntegerMatrix}
+use Rattle.cox_base.specs.Admissible.{IsAdmissible}
 use Rattle.cox_base.specs.Element.{SameElement}
 use Rattle.cox_base.specs.ShortLex.{normal_form}
-use Rattle.cox_base.specs.Length.{IsLeftDescent}
+use Rattle.cox_base.specs.Reduced.{IsLeftDescent}
 use Rattle.cox_reflect.proofs.Elements.{same-sym, same-trans, same-cons, same-equal, same-square}
 use Rattle.cox_reflect.proofs.Search.{normal_form-same, word_length-least}
 use Rattle.cox_reflect.proofs.Lengths.{word_length-is, cons-word_length}

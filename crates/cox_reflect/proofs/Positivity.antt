@@ -7,12 +7,14 @@ use Rattle.std.proofs.lemmas.Int.{ints}
 use Rattle.std.proofs.lemmas.List.{length-append, append_assoc}
 use Rattle.std.proofs.lemmas.List.Elements.{All-nil, All-cons, All-contains, Contains-push}
 use Rattle.cox_base.specs.Matrix.{IsLetter, IsWord}
-use Rattle.cox_base.specs.IntegerMatrix.{IntegerMatrix, IsAdmissible, HasOrder}
+use Rattle.cox_base.specs.IntegerMatrix.{IntegerMatrix}
+use Rattle.cox_base.specs.Admissible.{IsAdmissible, HasOrder}
 use Rattle.cox_base.specs.Element.{SameElement}
 use Rattle.cox_base.specs.ShortLex.{normal_form}
-use Rattle.cox_base.specs.Length.{word_length, IsReduced}
+use Rattle.cox_base.specs.Length.{word_length}
+use Rattle.cox_base.specs.Reduced.{IsReduced}
 use Rattle.cox_reflect.specs.Action.{Vector, simple_root, minus, act, IsNonnegative}
-use Rattle.cox_lemmas.proofs.Ring.{linears, multiply_out, neg_mul}
+use Rattle.cox_lemmas.proofs.Ring.{linears, multiply_out, neg_mul, product_nonnegative}
 use Rattle.cox_reflect.proofs.Sums.{letter_cases, simple_root-self, simple_root-other}
 use Rattle.cox_reflect.proofs.Action.{act-nil, act-append, act-minus}
 use Rattle.cox_reflect.proofs.Elements.{same-act, same-refl, same-sym, same-trans, same-equal, same-append, same-push}
@@ -22,11 +24,6 @@ use Rattle.cox_reflect.proofs.Lengths.{word_length-is, IsReduced-prefix, IsReduc
 use Rattle.cox_reflect.proofs.RankTwo.{is_even, alternating, alternating-suc, alternating-zero, alternating-last}
 use Rattle.cox_reflect.proofs.RankTwo.{alternating-ends, length-alternating, moved, shift, TwoLetters, spread, braids}
 use Rattle.cox_reflect.proofs.RankTwo.{two_letters, HasOrder-swap, pair_of, same-braid, act-alternating_root}
-
-product_nonnegative : (a b : ℤ) → pos 0 ≤ℤ a → pos 0 ≤ℤ b → pos 0 ≤ℤ (a *ℤ b)
-product_nonnegative (pos a) (pos b) h k = omega (arith, ints)
-product_nonnegative (pos a) (negsuc b) h k = absurd k.le
-product_nonnegative (negsuc a) b h k = absurd h.le
 
 -- a word is empty, or has a last letter
 pub data LastLetter : List ℕ → Type 0 where

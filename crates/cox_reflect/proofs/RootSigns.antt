@@ -6,9 +6,11 @@ use Rattle.std.proofs.lemmas.Bool.{cases_eq}
 use Rattle.std.proofs.lemmas.Int.{by_lt_z}
 use lib.Signed.{le_z_yes}
 use Rattle.cox_base.specs.Matrix.{IsLetter}
-use Rattle.cox_base.specs.IntegerMatrix.{IntegerMatrix, IsAdmissible}
+use Rattle.cox_base.specs.IntegerMatrix.{IntegerMatrix}
+use Rattle.cox_base.specs.Admissible.{IsAdmissible}
 use Rattle.cox_base.specs.Element.{matrix, SameElement}
-use Rattle.cox_base.specs.Length.{word_length, IsLeftDescent, IsRightDescent}
+use Rattle.cox_base.specs.Length.{word_length}
+use Rattle.cox_base.specs.Reduced.{IsLeftDescent, IsRightDescent}
 use Rattle.cox_reflect.specs.Action.{simple_root, act, IsNonnegative, IsNonpositive}
 use Rattle.cox_reflect.specs.Root.{IsNonnegativeRoot, IsNonpositiveRoot, IsZeroRoot}
 use Rattle.cox_lemmas.proofs.Ring.{linears}

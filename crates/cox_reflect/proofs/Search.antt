@@ -6,7 +6,8 @@ use Rattle.std.proofs.lemmas.Bool.{cases_eq, cases_lt, and_parts, and_from}
 use Rattle.std.proofs.lemmas.Bool.Decides.{Decides-int_eq}
 use Rattle.std.specs.Ordering.{int_eq}
 use Rattle.cox_base.specs.Matrix.{IsLetter, IsWord}
-use Rattle.cox_base.specs.IntegerMatrix.{IntegerMatrix, IsAdmissible}
+use Rattle.cox_base.specs.IntegerMatrix.{IntegerMatrix}
+use Rattle.cox_base.specs.Admissible.{IsAdmissible}
 use Rattle.cox_base.specs.Element.{matrix, SameElement}
 use Rattle.cox_base.specs.ShortLex.{letters, words_of_length, words_up_to, each_letter, same_matrix, normal_form}
 use Rattle.std.proofs.lemmas.List.{append-nil, append_assoc}

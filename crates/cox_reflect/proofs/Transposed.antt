@@ -2,10 +2,12 @@
 -- have the same relations.
 use Rattle.std.proofs.Common.{◌↔◌, ◌≡◌, ℕ, ◌≤◌, List, [], ◌∷◌, ◌++◌, reverse, ap, sym, ◌∙◌, arith}
 use Rattle.cox_base.specs.Matrix.{IsLetter, IsWord}
-use Rattle.cox_base.specs.IntegerMatrix.{IntegerMatrix, IsAdmissible}
+use Rattle.cox_base.specs.IntegerMatrix.{IntegerMatrix}
+use Rattle.cox_base.specs.Admissible.{IsAdmissible}
 use Rattle.cox_base.specs.Element.{SameElement, matrix}
 use Rattle.cox_base.specs.ShortLex.{normal_form}
-use Rattle.cox_base.specs.Length.{word_length, IsReduced}
+use Rattle.cox_base.specs.Length.{word_length}
+use Rattle.cox_base.specs.Reduced.{IsReduced}
 use Rattle.cox_reflect.specs.Transpose.{transposed}
 use Rattle.cox_reflect.specs.Relations.{AreRelated, itself, turned, chained, joined, square, braided}
 use Rattle.cox_reflect.specs.Action.{Vector, simple_root, reflect, act, IsNonnegative, IsNonpositive}

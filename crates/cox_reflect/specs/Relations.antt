@@ -2,7 +2,8 @@
 -- with a finite m.
 use Rattle.std.specs.Prelude.{ℕ, zero, suc, List, [], ◌∷◌, ◌++◌}
 use Rattle.cox_base.specs.Matrix.{IsLetter}
-use Rattle.cox_base.specs.IntegerMatrix.{IntegerMatrix, HasOrder}
+use Rattle.cox_base.specs.IntegerMatrix.{IntegerMatrix}
+use Rattle.cox_base.specs.Admissible.{HasOrder}
 
 -- s t s .., of k letters
 unfoldable pub alternating_from : ℕ → ℕ → ℕ → List ℕ

@@ -1,8 +1,10 @@
 //! Heights of roots, from which descents are read.
 ghost use Rattle.std.specs.Prelude.{◌≡◌, ℕ, ◌≤◌, ◌↔◌, List, [], ◌∷◌, reverse, length, IsTrue, IfSome, MatchOption, pos, ◌<ℤ◌};
 ghost use Rattle.cox_base.specs.Matrix.{IsLetter, IsWord};
-ghost use Rattle.cox_base.specs.IntegerMatrix.{IntegerMatrix, IsAdmissible, integer_matrix};
-ghost use Rattle.cox_base.specs.Length.{IsLeftDescent, left_descents};
+ghost use Rattle.cox_base.specs.IntegerMatrix.{IntegerMatrix, integer_matrix};
+ghost use Rattle.cox_base.specs.Admissible.{IsAdmissible};
+ghost use Rattle.cox_base.specs.Length.{left_descents};
+ghost use Rattle.cox_base.specs.Reduced.{IsLeftDescent};
 ghost use Rattle.cox_reflect.specs.RootHeight.{at_letter};
 ghost use Rattle.cox_reflect.specs.Height.{AreHeights, CanPrepend, IsLeastLeftDescent};
 

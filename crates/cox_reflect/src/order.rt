@@ -2,7 +2,7 @@
 ghost use Rattle.std.specs.Prelude.{ℕ, List, ◌≤◌, ◌↔◌, length, IsTrue};
 ghost use Rattle.cox_base.specs.Matrix.{IsWord};
 ghost use Rattle.cox_base.specs.IntegerMatrix.{integer_matrix};
-ghost use Rattle.cox_base.specs.Length.{IsReduced};
+ghost use Rattle.cox_base.specs.Reduced.{IsReduced};
 ghost use Rattle.cox_base.specs.Bruhat.{IsBelow};
 ghost use Rattle.cox_reflect.specs.Height.{AreHeights};
 ghost use Rattle.cox_reflect.specs.Order.{AreOfShortElement};

@@ -5,10 +5,12 @@ use Rattle.std.specs.Prelude.{nat_lt, ◌==◌}
 use Rattle.std.proofs.lemmas.Bool.{cases_lt, cases_eq}
 use Rattle.std.proofs.lemmas.Bool.Decides.{nat_tests}
 use Rattle.std.proofs.Math.Nat.{pow-le-pow_right}
-use Rattle.cox_base.specs.IntegerMatrix.{IntegerMatrix, IsAdmissible}
+use Rattle.cox_base.specs.IntegerMatrix.{IntegerMatrix}
+use Rattle.cox_base.specs.Admissible.{IsAdmissible}
 use Rattle.cox_base.specs.Element.{SameElement}
 use Rattle.cox_base.specs.ShortLex.{normal_form}
-use Rattle.cox_base.specs.Length.{word_length, IsReduced, IsLeftDescent}
+use Rattle.cox_base.specs.Length.{word_length}
+use Rattle.cox_base.specs.Reduced.{IsReduced, IsLeftDescent}
 use Rattle.cox_base.specs.Bruhat.{IsBelow}
 use Rattle.cox_reflect.proofs.Elements.{same-refl, same-sym, same-trans, same-cons, same-equal, same-square}
 use Rattle.cox_reflect.proofs.Search.{normal_form-same, word_length-equal, word_length-length}
@@ -182,13 +184,13 @@ module _ (A : IntegerMatrix) (g : IsAdmissible A) where
 
   -- ---- 1 for the element of a reduced word, and 0 unless below
 
-  front-descent : (s : ℕ) (v : List ℕ) → IsReduced A (s ∷ v) → IsLeftDescent A (s ∷ v) s
-  front-descent s v r = omega (arith, r, word_length-equal A g (same-square A g s v), word_length-length A g v)
+  first-descent : (s : ℕ) (v : List ℕ) → IsReduced A (s ∷ v) → IsLeftDescent A (s ∷ v) s
+  first-descent s v r = omega (arith, r, word_length-equal A g (same-square A g s v), word_length-length A g v)
 
   pub along-itself : (x v : List ℕ) → IsReduced A v → SameElement A x v → r_along A x v ≡ one_polynomial
   along-itself x [] r e = along-identity A x (omega (arith, word_length-equal A g e, r))
   along-itself x (s ∷ v) r e =
-      let d = front-descent s v r
+      let d = first-descent s v r
       in along-shorter A x s v (omega (arith, d, word_length-equal A g e, word_length-equal A g (same-cons A g s e)))
       ∙ along-itself (s ∷ x) v (IsReduced-tail A g s v r) (same-trans A g (same-cons A g s e) (same-square A g s v))
 
@@ -204,16 +206,16 @@ module _ (A : IntegerMatrix) (g : IsAdmissible A) where
 
   moved_not_below : (x : List ℕ) (s : ℕ) (v : List ℕ) → IsReduced A (s ∷ v) → IsLeftDescent A x s → (IsBelow A x (s ∷ v) → ⊥)
       → IsBelow A (s ∷ x) v → ⊥
-  moved_not_below x s v r c not_below b = not_below ((lift_down A g x (s ∷ v) s (front-descent s v r) c).1 (up s (s ∷ x) v b))
+  moved_not_below x s v r c not_below b = not_below ((lift_down A g x (s ∷ v) s (first-descent s v r) c).1 (up s (s ∷ x) v b))
 
   still_not_below : (x : List ℕ) (s : ℕ) (v : List ℕ) → IsReduced A (s ∷ v) → (IsLeftDescent A x s → ⊥) → (IsBelow A x (s ∷ v) → ⊥)
       → IsBelow A x v → ⊥
-  still_not_below x s v r n not_below b = not_below ((lift_up A g x (s ∷ v) s (front-descent s v r) n).1 (up s x v b))
+  still_not_below x s v r n not_below b = not_below ((lift_up A g x (s ∷ v) s (first-descent s v r) n).1 (up s x v b))
 
   longer_not_below : (x : List ℕ) (s : ℕ) (v : List ℕ) → IsReduced A (s ∷ v) → (IsLeftDescent A x s → ⊥) → (IsBelow A x (s ∷ v) → ⊥)
       → IsBelow A (s ∷ x) v → ⊥
   longer_not_below x s v r n not_below b =
-      let l = left_descent-letter A g (s ∷ v) s (front-descent s v r)
+      let l = left_descent-letter A g (s ∷ v) s (first-descent s v r)
       in let rising : word_length A x < word_length A (s ∷ x) = ⊎_elim (λ e. omega (arith, e)) (λ e. absurd (n (omega (arith, e))))
       (left_length A g s x l)
       in still_not_below x s v r n not_below (below-trans A g (below-ascent A g x s l rising) b)

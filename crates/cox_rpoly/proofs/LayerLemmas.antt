@@ -6,8 +6,10 @@ use Rattle.std.proofs.lemmas.Bool.{cases_lt}
 use Rattle.std.proofs.lemmas.List.{length-append, get_or_append_left, take_more}
 use Rattle.std.proofs.lemmas.List.Elements.{All-append, All-cons, All-nil}
 use Rattle.std.proofs.Math.Seq.{get_or-append_seam}
-use Rattle.cox_base.specs.IntegerMatrix.{IntegerMatrix, IsAdmissible}
-use Rattle.cox_base.specs.Length.{word_length, IsReduced, IsLeftDescent}
+use Rattle.cox_base.specs.IntegerMatrix.{IntegerMatrix}
+use Rattle.cox_base.specs.Admissible.{IsAdmissible}
+use Rattle.cox_base.specs.Length.{word_length}
+use Rattle.cox_base.specs.Reduced.{IsReduced, IsLeftDescent}
 use Rattle.cox_base.specs.Bruhat.{IsBelow}
 use Rattle.cox_reflect.proofs.Bruhat.{below-same, below-length, lift_down, lift_up}
 use Rattle.cox_reflect.proofs.Elements.{same-refl, same-square}
@@ -63,8 +65,8 @@ IsLink-extends A s v x old new (Longer i (Some j)) e l =
 module _ (A : IntegerMatrix) (g : IsAdmissible A) where
   -- ---- members, one letter less
 
-  front-descent : (s : ℕ) (v : List ℕ) → IsReduced A (s ∷ v) → IsLeftDescent A (s ∷ v) s
-  front-descent s v r = omega (arith, r, word_length-equal A g (same-square A g s v), word_length-length A g v)
+  first-descent : (s : ℕ) (v : List ℕ) → IsReduced A (s ∷ v) → IsLeftDescent A (s ∷ v) s
+  first-descent s v r = omega (arith, r, word_length-equal A g (same-square A g s v), word_length-length A g v)
 
   down : (s : ℕ) (x v : List ℕ) → IsBelow A x (s ∷ s ∷ v) → IsBelow A x v
   down s x v b = below-same A g (same-refl A g x) (same-square A g s v) b
@@ -75,7 +77,7 @@ module _ (A : IntegerMatrix) (g : IsAdmissible A) where
   IsMember-shorter s v x moved r m descent moves = record {
     word = s ∷ m.word;
     of_word = moves m.word m.of_word;
-    below = down s (s ∷ m.word) v ((lift_down A g m.word (s ∷ v) s (front-descent s v r) (descent m.word m.of_word)).0 m.below);
+    below = down s (s ∷ m.word) v ((lift_down A g m.word (s ∷ v) s (first-descent s v r) (descent m.word m.of_word)).0 m.below);
     near = omega (arith, m.near, cons-word_length A g s m.word);
   }
 
@@ -84,7 +86,7 @@ module _ (A : IntegerMatrix) (g : IsAdmissible A) where
   IsMember-still s v x r m ascent = record {
     word = m.word;
     of_word = m.of_word;
-    below = down s m.word v ((lift_up A g m.word (s ∷ v) s (front-descent s v r) (ascent m.word m.of_word)).0 m.below);
+    below = down s m.word v ((lift_up A g m.word (s ∷ v) s (first-descent s v r) (ascent m.word m.of_word)).0 m.below);
     near = omega (arith, m.near);
   }
 
@@ -110,7 +112,7 @@ module _ (A : IntegerMatrix) (g : IsAdmissible A) where
         times_short = ⊎_elim
             (λ (d : IsLeftDescent A m.word s). omega (arith, d, low, all))
             (λ (none : IsLeftDescent A m.word s → ⊥).
-            let b = down s m.word v ((lift_up A g m.word (s ∷ v) s (front-descent s v r) none).0 m.below)
+            let b = down s m.word v ((lift_up A g m.word (s ∷ v) s (first-descent s v r) none).0 m.below)
             in omega (arith, short, below-length A g b, word_length-length A g v, word_length-cons A g s m.word))
             (shortens A m.word s);
       }

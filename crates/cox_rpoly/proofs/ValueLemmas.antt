@@ -2,8 +2,11 @@
 use Rattle.std.proofs.Common.{◌≡◌, ℕ, ◌+◌, ◌^◌, ◌<◌, ◌≤◌, Some, None, List, [], ◌∷◌, length, get_or, ℤ, ap, sym, ◌∙◌, arith, lit≤}
 use Rattle.std.specs.Prelude.{All}
 use Rattle.std.proofs.Math.Path.{fun_ext}
-use Rattle.cox_base.specs.IntegerMatrix.{IntegerMatrix, IsAdmissible}
-use Rattle.cox_base.specs.Length.{word_length, IsReduced, IsLeftDescent}
+use Rattle.cox_rpoly.specs.declared.TheConstants.{MAX_DIFFERENCE}
+use Rattle.cox_base.specs.IntegerMatrix.{IntegerMatrix}
+use Rattle.cox_base.specs.Admissible.{IsAdmissible}
+use Rattle.cox_base.specs.Length.{word_length}
+use Rattle.cox_base.specs.Reduced.{IsReduced, IsLeftDescent}
 use Rattle.cox_poly.specs.Coefficients.{Coefficients, zero_polynomial, one_polynomial, plus, times_q, times_q_less_one}
 use Rattle.cox_poly.specs.Polynomial.{coefficient}
 use Rattle.cox_poly.proofs.Norms.{HasNormAtMost-coefficient}
@@ -47,7 +50,7 @@ module _ (A : IntegerMatrix) (g : IsAdmissible A) where
   IsSmall-value : (v : List ℕ) (x : Element) (p : List ℤ) (w : List ℕ) → IsValue A v x p → IsElementOf A w x
       → length v ≤ word_length A w + 38 → IsSmall p
   IsSmall-value v x p w value e near = record {
-    top = value.at w e 39 ∙ along-degree A g w v 38 near 39 (omega arith);
+    top = value.at w e MAX_DIFFERENCE ∙ along-degree A g w v 38 near MAX_DIFFERENCE (omega arith);
     small = λ k.
         let bound = HasNormAtMost-coefficient (r_along A w v) (3 ^ 38) (along-norm A g w v 38 near) k
         in let power : 3 ^ 38 ≤ 2 ^ 61 = lit≤ tt

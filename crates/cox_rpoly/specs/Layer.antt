@@ -1,7 +1,8 @@
 -- For code: layers of elements, their values, and the links of one to the next.
 use Rattle.std.specs.Prelude.{◌≡◌, ℕ, ◌+◌, ◌<◌, ◌≤◌, ◌⊎◌, Some, None, List, [], ◌∷◌, ◌++◌, length, slice_index_or, ℤ}
 use Rattle.cox_base.specs.IntegerMatrix.{IntegerMatrix}
-use Rattle.cox_base.specs.Length.{word_length, IsLeftDescent}
+use Rattle.cox_base.specs.Length.{word_length}
+use Rattle.cox_base.specs.Reduced.{IsLeftDescent}
 use Rattle.cox_base.specs.Bruhat.{IsBelow}
 use Rattle.cox_poly.specs.Polynomial.{coefficient}
 use Rattle.cox_rpoly.specs.declared.TheConstants.{MAX_DIFFERENCE}

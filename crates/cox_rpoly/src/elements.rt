@@ -2,7 +2,7 @@
 ghost use Rattle.std.specs.Prelude.{ℕ, List, ◌≤◌, ◌∷◌, ◌↔◌, length, IsTrue};
 ghost use Rattle.cox_base.specs.Matrix.{IsLetter, IsWord};
 ghost use Rattle.cox_base.specs.IntegerMatrix.{integer_matrix};
-ghost use Rattle.cox_base.specs.Length.{IsReduced, IsLeftDescent};
+ghost use Rattle.cox_base.specs.Reduced.{IsReduced, IsLeftDescent};
 ghost use Rattle.cox_base.specs.Bruhat.{IsBelow};
 ghost use Rattle.cox_rpoly.specs.Element.{IsElementOf, IsShort, IsShortWith};
 

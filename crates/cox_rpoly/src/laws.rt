@@ -3,8 +3,10 @@
 ghost use Rattle.std.specs.Prelude.{◌≡◌, ℕ, ◌+◌, ◌^◌, List, ◌∷◌};
 ghost use Rattle.cox_base.specs.Bruhat.{IsBelow};
 ghost use Rattle.cox_base.specs.Element.{SameElement};
-ghost use Rattle.cox_base.specs.IntegerMatrix.{IntegerMatrix, IsAdmissible};
-ghost use Rattle.cox_base.specs.Length.{word_length, IsLeftDescent};
+ghost use Rattle.cox_base.specs.IntegerMatrix.{IntegerMatrix};
+ghost use Rattle.cox_base.specs.Admissible.{IsAdmissible};
+ghost use Rattle.cox_base.specs.Length.{word_length};
+ghost use Rattle.cox_base.specs.Reduced.{IsLeftDescent};
 ghost use Rattle.cox_reflect.specs.Height.{IsLeastLeftDescent};
 ghost use Rattle.cox_poly.specs.Coefficients.{zero_polynomial, one_polynomial, plus, times_q, times_q_less_one};
 ghost use Rattle.cox_poly.specs.Size.{HasNormAtMost, HasDegreeAtMost};

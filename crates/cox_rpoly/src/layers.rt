@@ -6,7 +6,7 @@
 ghost use Rattle.std.specs.Prelude.{ℕ, List, ◌≡◌, ◌≤◌, ◌∷◌, length, IfOk, OnOk, All};
 ghost use Rattle.cox_base.specs.Matrix.{IsLetter, IsWord};
 ghost use Rattle.cox_base.specs.IntegerMatrix.{integer_matrix};
-ghost use Rattle.cox_base.specs.Length.{IsReduced};
+ghost use Rattle.cox_base.specs.Reduced.{IsReduced};
 ghost use Rattle.cox_rpoly.specs.Layer.{IsMember, AreValues, AreLinks, IsLink, IsAt, IsGrown, Extends};
 
 use crate::NoMemory;

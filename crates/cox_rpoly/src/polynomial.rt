@@ -2,7 +2,8 @@
 ghost use Rattle.std.specs.Prelude.{◌≡◌, ℕ, ◌+◌, ◌≤◌, ◌↔◌, length, Err, IfOk};
 ghost use Rattle.cox_base.specs.Bruhat.{IsBelow};
 ghost use Rattle.cox_base.specs.IntegerMatrix.{integer_matrix};
-ghost use Rattle.cox_base.specs.Length.{word_length, IsReduced};
+ghost use Rattle.cox_base.specs.Length.{word_length};
+ghost use Rattle.cox_base.specs.Reduced.{IsReduced};
 ghost use Rattle.cox_base.specs.Matrix.{IsWord};
 ghost use Rattle.cox_poly.specs.Polynomial.{coefficient, IsPolynomial};
 ghost use Rattle.cox_rpoly.specs.RPolynomial.{r_along, r_polynomial};

@@ -57,10 +57,10 @@ counts-more members counts i n more values below is within sum k bound = ⊎_eli
         rw (get_or-set_other counts n k more (pos 0) different, next, passed, none) (values k bound)
 
 -- the first counts
-pub counts-front : (members : List (List ℕ)) (counts : List ℤ) (n : ℕ) → length counts ≡ 64
+pub counts-prefix : (members : List (List ℕ)) (counts : List ℤ) (n : ℕ) → length counts ≡ 64
     → ((k : ℕ) → k < 64 → get_or counts k (pos 0) ≡ pos (count_of_length members k)) → n ≤ 63 → take (n + 1) counts
     ≡ counts_by_length members n
-counts-front members counts n size values few =
+counts-prefix members counts n size values few =
     fill_by_all (λ k. pos (count_of_length members k)) (take (n + 1) counts) (n + 1) (pos 0)
     (length-take-le (n + 1) counts (omega (arith, size, few)))
     (λ k below. get_or-take (n + 1) counts k (pos 0) below ∙ values k (omega (arith, below, few)))

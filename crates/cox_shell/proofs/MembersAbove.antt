@@ -3,7 +3,8 @@ use Rattle.std.proofs.Common.{◌≡◌, ℕ, zero, suc, ◌≤◌, ◌<◌, Boo
 use Rattle.std.proofs.Common.{refl, ap, sym, ◌∙◌, arith}
 use Rattle.std.proofs.lemmas.Bool.{false≢true, false_from_ne_true}
 use Rattle.std.proofs.lemmas.List.{take_all}
-use Rattle.cox_base.specs.IntegerMatrix.{IntegerMatrix, IsAdmissible}
+use Rattle.cox_base.specs.IntegerMatrix.{IntegerMatrix}
+use Rattle.cox_base.specs.Admissible.{IsAdmissible}
 use Rattle.cox_base.specs.ShortLex.{normal_form}
 use Rattle.cox_base.specs.Length.{word_length}
 use Rattle.cox_base.specs.Bruhat.{IsBelow}

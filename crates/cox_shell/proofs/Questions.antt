@@ -3,8 +3,10 @@ use Rattle.std.proofs.Common.{◌≡◌, ◌⊎◌, ℕ, ◌-◌, ◌<◌, ◌�
 use Rattle.std.proofs.Common.{⊎_elim, arith}
 use Rattle.std.proofs.Common.{true≢false}
 use Rattle.std.proofs.lemmas.Bool.{cases_lt}
+use Rattle.cox_rpoly.specs.declared.TheConstants.{MAX_DIFFERENCE}
 use Rattle.cox_base.specs.Matrix.{CoxeterMatrix}
-use Rattle.cox_base.specs.IntegerMatrix.{IntegerMatrix, IsAdmissible, integer_matrix}
+use Rattle.cox_base.specs.IntegerMatrix.{IntegerMatrix, integer_matrix}
+use Rattle.cox_base.specs.Admissible.{IsAdmissible}
 use Rattle.cox_base.specs.Length.{word_length}
 use Rattle.cox_base.specs.Bruhat.{IsBelow}
 use Rattle.cox_command.specs.declared.refusal.Refusal.{Refusal}
@@ -88,8 +90,8 @@ module _ (limits : Limits) (A : IntegerMatrix) (g : IsAdmissible A) where
 
       by_order : (b : Bool) → is_below A y w ≡ b → RefusesFar A y w FarApart ⊎ (RefusesFar A y w FarApart → ⊥)
       by_order true e = ⊎_elim
-          (λ (far : 39 < d). inl (d, record { below = (is_below-tells A g y w).0 e; difference = omega (arith, far); above = far }))
-          (λ (near : d ≤ 39). inr (λ refuses. absurd (omega (arith, near, refuses.1.difference, refuses.1.above)))) (cases_lt 39 d)
+          (λ (far : MAX_DIFFERENCE < d). inl (d, record { below = (is_below-tells A g y w).0 e; difference = omega (arith, far); above = far }))
+          (λ (near : d ≤ MAX_DIFFERENCE). inr (λ refuses. absurd (omega (arith, near, refuses.1.difference, refuses.1.above)))) (cases_lt MAX_DIFFERENCE d)
       by_order false e = inr (λ refuses. true≢false (sym ((is_below-tells A g y w).1 refuses.1.below) ∙ e))
 
   far-decided : (y w : List ℕ) (why : Refusal) → RefusesFar A y w why ⊎ (RefusesFar A y w why → ⊥)

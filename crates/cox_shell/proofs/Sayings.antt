@@ -61,12 +61,12 @@ module _ (state : State) (question : Question) where
   Concludes-breaks some (Err (unanswered.Refused why)) (Err error) before mid after put end =
       (refusal state why, (Some why, put.0, refl), rw put.1 at end.1)
   Concludes-breaks some (Err unanswered.NoMemory) (Err error) before mid after (inl same) end =
-      (some.0, some.1, record { puts_front = PutsPrefix-none some.0.text before after (end.1 ∙ same); same_state = refl })
+      (some.0, some.1, record { puts_prefix = PutsPrefix-none some.0.text before after (end.1 ∙ same); same_state = refl })
   Concludes-breaks some (Err unanswered.NoMemory) (Err error) before mid after (inr part) end =
       let line = part.2 in (
         answered state line.0,
         (None, part.0, (line.0, line.1, refl)),
-        record { puts_front = rw (end.1, ← line.2) part.3; same_state = refl },
+        record { puts_prefix = rw (end.1, ← line.2) part.3; same_state = refl },
       )
   Concludes-breaks some (Err why) (Ok said) before mid after put end = tt
 
@@ -104,4 +104,4 @@ pub SaysPrefix-broken : (result : Result Said AllocError) (reply : Reply) (state
     → PutsPrefix reply.text before after
     → OnErr result (SaysPrefix reply state state before after)
 SaysPrefix-broken (Ok said) reply state before after puts = tt
-SaysPrefix-broken (Err error) reply state before after puts = record { puts_front = puts; same_state = refl }
+SaysPrefix-broken (Err error) reply state before after puts = record { puts_prefix = puts; same_state = refl }

@@ -4,8 +4,9 @@ use Rattle.std.proofs.Common.{MatchOption}
 use Rattle.std.proofs.Common.{inr, refl, sym, true≢false}
 use Rattle.std.specs.Bool.{MatchBool}
 use Rattle.std.specs.Option.{option_map}
-use Rattle.cox_base.specs.Matrix.{CoxeterMatrix, IsCoxeterMatrix}
-use Rattle.cox_base.specs.IntegerMatrix.{IsAdmissible, integer_matrix}
+use Rattle.cox_base.specs.Matrix.{CoxeterMatrix}
+use Rattle.cox_base.specs.Admissible.{IsCoxeterMatrix, IsAdmissible}
+use Rattle.cox_base.specs.IntegerMatrix.{integer_matrix}
 use Rattle.cox_base.proofs.Admissible.{IsAdmissible-integer_matrix}
 use Rattle.cox_command.specs.declared.refusal.Refusal.{Refusal}
 use Rattle.cox_command.specs.declared.refusal.Refusal.TheVariants.{WrongCount, WrongNumber, NoGroup, ManyLetters}

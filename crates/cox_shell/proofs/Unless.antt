@@ -21,7 +21,7 @@ use Rattle.cox_shell.proofs.Refusing.{IsFirstRefusal-none}
 
 -- nothing was put of a text
 pub PutsPrefix-none : (text before after : List ℕ) → after ≡ before → PutsPrefix text before after
-PutsPrefix-none text before after same = record { front = []; rest = text; parts = refl; behind = same ∙ sym (append-nil before) }
+PutsPrefix-none text before after same = record { prefix = []; rest = text; parts = refl; behind = same ∙ sym (append-nil before) }
 
 -- an interval within the limit is not refused
 pub large-allowed : (limits : Limits) (A : IntegerMatrix) (w : List ℕ) → (HasMoreThan limits.context (IsInInterval A w) → ⊥)
@@ -64,9 +64,9 @@ module _ (Refuses : Refusal → Type 0) (IsText : List ℕ → Type 0) (before :
   -- where the text was put, and then a prefix of the end
   pub PutsUnless-broken : (result : Result Unit Unanswered) (mid after : List ℕ) → IsOk result → PutsUnless result Refuses IsText before mid
       → PutsPrefix (10 ∷ []) mid after → PutsUnless (Err NoMemory) Refuses (IsEnded IsText) before after
-  PutsUnless-broken (Ok done) mid after fine put front =
+  PutsUnless-broken (Ok done) mid after fine put prefix =
       inr (put.0, put.1 ++ 10 ∷ [], (put.1, put.2, refl), PutsPrefix-second put.1 (10 ∷ []) before mid after put.3 front)
-  PutsUnless-broken (Err why) mid after fine put front = absurd (cc fine)
+  PutsUnless-broken (Err why) mid after fine put prefix = absurd (cc fine)
 
   -- where both were put
   pub PutsUnless-ended : (result : Result Unit Unanswered) (mid after : List ℕ) → IsOk result → PutsUnless result Refuses IsText before mid

@@ -35,7 +35,7 @@ pub record Says (said : Said) (reply : Reply) (state : State) (before after : Li
 
 -- a reply was broken off: a prefix of its text was appended, and the state is as it was
 pub record SaysPrefix (reply : Reply) (old new : State) (before after : List ℕ) : Type 0 where
-  pub puts_front : PutsPrefix reply.text before after
+  pub puts_prefix : PutsPrefix reply.text before after
   pub same_state : new ≡ old
 
 -- the words of a command are over the letters of a group of this rank

@@ -4,7 +4,8 @@
 //! - `intervals`: Bruhat intervals
 //! - `polynomials`: polynomials of two elements
 ghost use Rattle.std.specs.Prelude.{◌≡◌, ◌≤◌, length, reverse, IsFalse};
-ghost use Rattle.cox_base.specs.Matrix.{IsWord, IsCoxeterMatrix};
+ghost use Rattle.cox_base.specs.Matrix.{IsWord};
+ghost use Rattle.cox_base.specs.Admissible.{IsCoxeterMatrix};
 ghost use Rattle.cox_base.specs.IntegerMatrix.{integer_matrix};
 ghost use Rattle.cox_base.specs.Length.{left_descents, right_descents};
 ghost use Rattle.cox_poly.specs.Puts.{Puts};

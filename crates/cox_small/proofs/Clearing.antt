@@ -5,16 +5,16 @@ use Rattle.std.proofs.Math.Path.{fun_ext}
 use Rattle.std.proofs.Math.Nat.{mul-le-mul_left}
 use Rattle.std.proofs.lemmas.Int.{ints}
 use lib.Signed.{le_z_yes}
-use Rattle.cox_base.specs.IntegerMatrix.{IntegerMatrix, IsAdmissible}
+use Rattle.cox_base.specs.IntegerMatrix.{IntegerMatrix}
+use Rattle.cox_base.specs.Admissible.{IsAdmissible}
 use Rattle.cox_reflect.specs.Action.{Vector, simple_root, pairing, minus, reflect, act, IsNonnegative, IsNonpositive}
 use Rattle.cox_reflect.specs.Transpose.{transposed}
-use Rattle.cox_lemmas.proofs.Ring.{linears, multiply_out, neg_mul}
+use Rattle.cox_lemmas.proofs.Ring.{linears, multiply_out, neg_mul, product_nonnegative}
 use Rattle.cox_reflect.proofs.Positivity.{simple_root-nonnegative}
 use Rattle.cox_small.specs.SmallRoots.{IsShortStep}
 use Rattle.cox_small.specs.Elementary.{Dominates}
 use Rattle.cox_small.proofs.RootPairs.{IsRootPair, root-act, root-simple, root-one_sign}
 use Rattle.cox_small.proofs.Combinations.{mix, turned, turns, word_of, act-word_of}
-use Rattle.cox_small.proofs.NonnegativeProducts.{product_nonnegative}
 
 data IsFinitePair : ℤ → ℤ → Type 0 where
   one_one : IsFinitePair (pos 1) (pos 1)

@@ -5,10 +5,11 @@ use Rattle.std.proofs.Math.Path.{fun_ext}
 use Rattle.std.proofs.lemmas.Int.{ints, by_lt_z}
 use lib.Signed.{le_z_yes}
 use Rattle.cox_base.specs.Matrix.{IsLetter}
-use Rattle.cox_base.specs.IntegerMatrix.{IntegerMatrix, IsAdmissible}
+use Rattle.cox_base.specs.IntegerMatrix.{IntegerMatrix}
+use Rattle.cox_base.specs.Admissible.{IsAdmissible}
 use Rattle.cox_reflect.specs.Action.{Vector, simple_root, pairing, minus, reflect, act, IsNonnegative, IsNonpositive}
 use Rattle.cox_reflect.specs.Transpose.{transposed}
-use Rattle.cox_lemmas.proofs.Ring.{linears, multiply_out, mul_neg, neg_mul, times_one}
+use Rattle.cox_lemmas.proofs.Ring.{linears, multiply_out, mul_neg, neg_mul, times_one, product_nonnegative}
 use Rattle.cox_reflect.proofs.Sums.{simple_root-self}
 use Rattle.cox_reflect.proofs.Action.{act-minus}
 use Rattle.cox_reflect.proofs.Positivity.{simple_root-nonnegative}
@@ -17,7 +18,6 @@ use Rattle.cox_small.proofs.RootPairs.{IsRootPair, root-sign, root-act, root-sim
 use Rattle.cox_small.proofs.SentRoots.{bound, sent-bound}
 use Rattle.cox_small.proofs.Signs.{pairing-letter, negative-agrees}
 use Rattle.cox_small.proofs.Combinations.{mix, turned, turns, act-mix, word_of, act-word_of}
-use Rattle.cox_small.proofs.NonnegativeProducts.{product_nonnegative}
 
 mix-own : (v w : Vector) → mix (pos 0) v (pos 1) w ≡ w
 unfolding mix

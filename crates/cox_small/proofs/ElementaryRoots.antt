@@ -4,10 +4,11 @@ use Rattle.std.proofs.Common.{◌≡◌, ℕ, zero, suc, ◌+◌, ◌<◌, List,
 use Rattle.std.proofs.lemmas.Int.{by_lt_z}
 use Rattle.std.proofs.lemmas.List.{length-append}
 use Rattle.cox_base.specs.Matrix.{IsLetter}
-use Rattle.cox_base.specs.IntegerMatrix.{IntegerMatrix, IsAdmissible}
+use Rattle.cox_base.specs.IntegerMatrix.{IntegerMatrix}
+use Rattle.cox_base.specs.Admissible.{IsAdmissible}
 use Rattle.cox_reflect.specs.Action.{Vector, simple_root, pairing, minus, reflect, act, IsNonnegative, IsNonpositive}
 use Rattle.cox_reflect.specs.Transpose.{transposed}
-use Rattle.cox_lemmas.proofs.Ring.{linears, multiply_out}
+use Rattle.cox_lemmas.proofs.Ring.{linears, multiply_out, product_nonnegative}
 use Rattle.cox_reflect.proofs.Action.{act-nil, act-push, act-single, act-minus, pairing-reflect, reflect-fixed, reflect-reflect, reflect-simple_root}
 use Rattle.cox_reflect.proofs.Positivity.{LastLetter, no_letter, last_letter, last_letter_of, simple_root-nonnegative}
 use Rattle.cox_reflect.proofs.Transposed.{IsAdmissible-transposed}
@@ -18,7 +19,6 @@ use Rattle.cox_small.proofs.SentRoots.{sending, shorter-sends}
 use Rattle.cox_small.proofs.Signs.{pairing-letter, negative-stays, positive-agrees}
 use Rattle.cox_small.proofs.Domination.{out-dominates}
 use Rattle.cox_small.proofs.Clearing.{short-not_dominates}
-use Rattle.cox_small.proofs.NonnegativeProducts.{product_nonnegative}
 
 product-positive : (p r : ℤ) → pos 0 <ℤ p → pos 0 <ℤ r → pos 1 ≤ℤ (p *ℤ r)
 product-positive p r hp hr =

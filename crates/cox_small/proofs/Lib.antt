@@ -1,5 +1,4 @@
 -- products of nonnegative integers
-pub mod NonnegativeProducts
 -- roots with their coroots, moved by words
 pub mod RootPairs
 -- a word that makes a root negative: a shorter one for a lower root, and a bound on the root

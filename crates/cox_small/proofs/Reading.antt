@@ -6,8 +6,9 @@
 use Rattle.std.proofs.Common.{ℕ, List, [], ◌∷◌, ◌++◌, pos, ◌*ℤ◌, ◌≤ℤ◌, ◌<ℤ◌, ⊎_elim, arith}
 use Rattle.std.proofs.lemmas.List.{length-append, append_assoc}
 use Rattle.cox_base.specs.Matrix.{IsLetter}
-use Rattle.cox_base.specs.IntegerMatrix.{IntegerMatrix, IsAdmissible}
-use Rattle.cox_base.specs.Length.{IsReduced}
+use Rattle.cox_base.specs.IntegerMatrix.{IntegerMatrix}
+use Rattle.cox_base.specs.Admissible.{IsAdmissible}
+use Rattle.cox_base.specs.Reduced.{IsReduced}
 use Rattle.cox_reflect.specs.Action.{Vector, simple_root, pairing, act, IsNonnegative, IsNonpositive}
 use Rattle.cox_reflect.specs.Transpose.{transposed}
 use Rattle.cox_reflect.proofs.Action.{act-cons, act-append}

@@ -4,10 +4,11 @@ use Rattle.std.proofs.Common.{◌≡◌, ℕ, suc, ◌+◌, ◌<◌, nat_abs, Li
 use Rattle.std.proofs.Math.Path.{fun_ext}
 use Rattle.std.proofs.lemmas.Int.{ints}
 use Rattle.cox_base.specs.Matrix.{IsLetter}
-use Rattle.cox_base.specs.IntegerMatrix.{IntegerMatrix, IsAdmissible}
+use Rattle.cox_base.specs.IntegerMatrix.{IntegerMatrix}
+use Rattle.cox_base.specs.Admissible.{IsAdmissible}
 use Rattle.cox_base.specs.ShortLex.{normal_form}
 use Rattle.cox_reflect.specs.Action.{Vector, simple_root, pairing, minus, reflect, act, IsNonnegative, IsNonpositive}
-use Rattle.cox_lemmas.proofs.Ring.{linears}
+use Rattle.cox_lemmas.proofs.Ring.{linears, product_nonnegative}
 use Rattle.cox_reflect.proofs.Sums.{letter_cases, simple_root-self}
 use Rattle.cox_reflect.proofs.Action.{act-nil, act-cons, act-push, act-single, act-minus, act-reverse, pairing-outside, reflect-minus, reflect-simple_root, reflect-outside, reflect-reflect}
 use Rattle.cox_reflect.proofs.Elements.{same-act}
@@ -17,7 +18,6 @@ use Rattle.cox_reflect.proofs.Positivity.{simple_root-nonnegative}
 use Rattle.cox_reflect.proofs.Roots.{negated, act-negated, SignOf, longer, shorter, sign_of, root-apart, act-push_root}
 use Rattle.cox_small.specs.Elementary.{IsRoot}
 use Rattle.cox_small.proofs.RootPairs.{root-sign, root-one_sign, root-act, root-reflect, root-simple, root-sign_changes}
-use Rattle.cox_small.proofs.NonnegativeProducts.{product_nonnegative}
 
 -- where the sign of the root b turns, as the letters of w are applied from the last to the first: at a letter, when the letters behind it
 -- have made b the simple root of the letter

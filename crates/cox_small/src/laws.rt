@@ -2,9 +2,10 @@
 
 ghost use Rattle.std.specs.Prelude.{◌≡◌, ◌≢◌, ℕ, ◌↔◌, List, [], ◌∷◌, ◌++◌, pos, ◌*ℤ◌, ◌≤ℤ◌, ◌<ℤ◌};
 ghost use Rattle.cox_base.specs.Matrix.{IsLetter};
-ghost use Rattle.cox_base.specs.IntegerMatrix.{IntegerMatrix, IsAdmissible};
+ghost use Rattle.cox_base.specs.IntegerMatrix.{IntegerMatrix};
+ghost use Rattle.cox_base.specs.Admissible.{IsAdmissible};
 ghost use Rattle.cox_base.specs.Element.{SameElement};
-ghost use Rattle.cox_base.specs.Length.{IsReduced};
+ghost use Rattle.cox_base.specs.Reduced.{IsReduced};
 ghost use Rattle.cox_reflect.specs.Action.{Vector, simple_root, pairing, reflect, act, IsNonnegative, IsNonpositive};
 ghost use Rattle.cox_reflect.specs.Transpose.{transposed};
 ghost use Rattle.cox_small.specs.SmallRoots.{IsSmall, IsSmallRoot, HasMoreThan, HasAtMost};

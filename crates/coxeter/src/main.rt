@@ -17,7 +17,7 @@ ghost use Rattle.std.specs.Prelude.{◌≡◌, ◌⊎◌, map};
 ghost use Rattle.std.specs.Process.{exit_status};
 ghost use Rattle.std.specs.String.{string_bytes};
 ghost use Rattle.cox_options.specs.Arguments.{IsUsage};
-ghost use Rattle.cox_shell.specs.Status.{code_of};
+ghost use Rattle.cox_shell.specs.ExitCode.{code_of};
 ghost use Rattle.cox_shell.specs.Top.{argument_texts};
 
 use arguments::{arguments_of, texts};

@@ -1,6 +1,7 @@
 //! The answers on Bruhat intervals.
 ghost use Rattle.std.specs.Prelude.{◌≡◌, ℕ, ◌+◌, ◌<◌, ◌≤◌, ◌==◌, List, pos, length, filter, slice_index_or, All, IfOk};
-ghost use Rattle.cox_base.specs.Matrix.{IsWord, IsCoxeterMatrix};
+ghost use Rattle.cox_base.specs.Matrix.{IsWord};
+ghost use Rattle.cox_base.specs.Admissible.{IsCoxeterMatrix};
 ghost use Rattle.cox_base.specs.IntegerMatrix.{integer_matrix};
 ghost use Rattle.cox_base.specs.Length.{word_length};
 ghost use Rattle.cox_context.specs.Members.{IsInInterval};

@@ -1,7 +1,8 @@
 -- Each letter before s is a left descent.
 use Rattle.std.proofs.Common.{◌≡◌, ℕ, ◌≤◌, ◌<◌, List}
-use Rattle.cox_base.specs.IntegerMatrix.{IntegerMatrix, IsAdmissible}
-use Rattle.cox_base.specs.Length.{IsLeftDescent}
+use Rattle.cox_base.specs.IntegerMatrix.{IntegerMatrix}
+use Rattle.cox_base.specs.Admissible.{IsAdmissible}
+use Rattle.cox_base.specs.Reduced.{IsLeftDescent}
 use Rattle.cox_reflect.specs.Height.{AreHeights}
 use Rattle.cox_context.proofs.builder.has_ascent.Given as goal
 

@@ -1,6 +1,7 @@
 -- For x = t x' the right shift x s is t (x' s), so it is the left shift by t of a right shift that is there.
 use Rattle.std.proofs.Common.{ℕ, List, slice_get, ap, ◌∙◌, arith}
-use Rattle.cox_base.specs.IntegerMatrix.{IntegerMatrix, IsAdmissible, integer_matrix}
+use Rattle.cox_base.specs.IntegerMatrix.{IntegerMatrix, integer_matrix}
+use Rattle.cox_base.specs.Admissible.{IsAdmissible}
 use Rattle.cox_reflect.proofs.Admissible.{IsAdmissible-integer_matrix}
 use Rattle.cox_context.specs.Numbers.{word_at}
 use Rattle.cox_context.proofs.Places.{place-within}

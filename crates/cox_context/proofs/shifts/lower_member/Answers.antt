@@ -1,6 +1,7 @@
 -- Where the first letter is s the rest is s y; where it is less, the walk finds s y.
 use Rattle.std.proofs.Common.{◌≡◌, ◌∷◌, ℕ, List, slice_get, ap, ◌∙◌}
-use Rattle.cox_base.specs.IntegerMatrix.{IntegerMatrix, IsAdmissible, integer_matrix}
+use Rattle.cox_base.specs.IntegerMatrix.{IntegerMatrix, integer_matrix}
+use Rattle.cox_base.specs.Admissible.{IsAdmissible}
 use Rattle.cox_base.specs.ShortLex.{normal_form}
 use Rattle.cox_reflect.proofs.Admissible.{IsAdmissible-integer_matrix}
 use Rattle.cox_context.specs.Numbers.{word_at}

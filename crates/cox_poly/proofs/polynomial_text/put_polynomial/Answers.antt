@@ -2,9 +2,9 @@
 use Rattle.std.proofs.Common.{[], ap, arith, codes, rules, FitsSigned, w64, of_z}
 use Rattle.std.proofs.lemmas.Int.{ints, to_z-of_z}
 use Rattle.cox_poly.specs.Polynomial.{coefficient}
-use Rattle.cox_poly.specs.PolynomialText.{listed_term_text}
+use Rattle.cox_poly.specs.ListedText.{listed_term_text}
 use Rattle.cox_poly.proofs.Behind.{Puts-failed}
-use Rattle.cox_poly.proofs.Terms.{Written-more, Written-front, Written-zero, rest_text-term, rest_text-zero}
+use Rattle.cox_poly.proofs.Terms.{Written-more, Written-prefix, Written-zero, rest_text-term, rest_text-zero}
 use Rattle.cox_poly.proofs.polynomial_text.put_polynomial.Goals as goal
 use Rattle.cox_poly.proofs.polynomial_text.put_polynomial.Goals.{then-c-ne0+in_ok-put_listed_term, else-c-ne0}
 
@@ -16,7 +16,7 @@ returns-in_err-put_listed_term c =
     let put = simp to_z-of_z at c.in_err-put_listed_term.ensures in
     let split = rest_text-term p k c.loop-k.first (omega arith) (λ e. c.if-c-ne0.true (ap (of_z w64) e)) in
     Puts-failed _ _ _ _ (search rules)
-    (Written-front _ (listed_term_text c.loop-k.first (k, coefficient p k)) _ c.loop-k.invariant put split)
+    (Written-prefix _ (listed_term_text c.loop-k.first (k, coefficient p k)) _ c.loop-k.invariant put split)
 
 pub loop-k-preserved : goal.loop-k-preserved
 loop-k-preserved c =
@@ -34,4 +34,4 @@ loop-k-preserved c =
 pub returns-in_err-put_text : goal.returns-in_err-put_text
 returns-in_err-put_text c =
     let split = rest_text-zero c.args.coefficients.now c.loop-k.k c.loop-k.first (search rules) (omega arith) in
-    Puts-failed _ _ _ _ (search rules) (Written-front _ (codes "0") [] c.loop-k.invariant c.in_err-put_text.ensures split)
+    Puts-failed _ _ _ _ (search rules) (Written-prefix _ (codes "0") [] c.loop-k.invariant c.in_err-put_text.ensures split)

@@ -26,7 +26,7 @@ pub returns-in_err-put_next_number : goal.returns-in_err-put_next_number
 returns-in_err-put_next_number c =
     let text = text-parts _ _ _ c.in-Some.first c.in-Some.ensures.cases.0 c.in-Some.first-is in
     let start : c.put_number.new.out.items ≡ c.args.out.now.items ++ signed_decimal c.in-Some.first = search rules in
-    let front = PutsPrefix-next next_text c.in-Some.others.now c.loop-n.n-index _ (pos 0) _ _ _ (omega arith) (search rules)
+    let prefix = PutsPrefix-next next_text c.in-Some.others.now c.loop-n.n-index _ (pos 0) _ _ _ (omega arith) (search rules)
     c.loop-n.invariant (c.in_err-put_next_number.ensures {u = tt}) in
     subst (λ t. Puts c.from_residual-in_err-put_next_number.result t c.args.out.now.items c.put_next_number.new.out.items) text
     (Puts-failed _ _ _ _ (search rules) (PutsPrefix-second (signed_decimal c.in-Some.first) _ _ _ _ start front))

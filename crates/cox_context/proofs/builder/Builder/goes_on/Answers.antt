@@ -3,7 +3,8 @@ use Rattle.std.proofs.Common.{ℕ, ◌≡◌, ◌≤◌, ◌<◌, length, arith,
 use Rattle.std.proofs.lemmas.Bool.{cases_lt, false≢true}
 use Rattle.cox_reflect.specs.Height.{AreHeights}
 use Rattle.cox_base.specs.Matrix.{IsLetter}
-use Rattle.cox_base.specs.IntegerMatrix.{IntegerMatrix, IsAdmissible, integer_matrix}
+use Rattle.cox_base.specs.IntegerMatrix.{IntegerMatrix, integer_matrix}
+use Rattle.cox_base.specs.Admissible.{IsAdmissible}
 use Rattle.cox_reflect.proofs.Admissible.{IsAdmissible-integer_matrix}
 use Rattle.cox_context.specs.Numbers.{word_at}
 use Rattle.cox_context.proofs.builder.Builder.goes_on.Goals as goal

@@ -1,6 +1,7 @@
 -- After the last letter the list has all members of the next length.
 use Rattle.std.proofs.Common.{ℕ, List, ◌+◌, ◌≡◌, arith}
-use Rattle.cox_base.specs.IntegerMatrix.{IntegerMatrix, IsAdmissible, integer_matrix}
+use Rattle.cox_base.specs.IntegerMatrix.{IntegerMatrix, integer_matrix}
+use Rattle.cox_base.specs.Admissible.{IsAdmissible}
 use Rattle.cox_reflect.proofs.Admissible.{IsAdmissible-integer_matrix}
 use Rattle.cox_context.specs.Family.{IsMember}
 use Rattle.cox_context.proofs.Ideals.{ideal-member, ideal-tailed}

@@ -1,7 +1,8 @@
 -- The members of at most 63 letters are the group where no letter makes one of 63 longer.
 use Rattle.std.proofs.Common.{rules, ◌≤◌, ℕ, List, None, length, arith, sym, ◌∙◌}
 use Rattle.std.proofs.lemmas.Bool.{false≢true}
-use Rattle.cox_base.specs.IntegerMatrix.{IntegerMatrix, IsAdmissible, integer_matrix}
+use Rattle.cox_base.specs.IntegerMatrix.{IntegerMatrix, integer_matrix}
+use Rattle.cox_base.specs.Admissible.{IsAdmissible}
 use Rattle.cox_reflect.proofs.Admissible.{IsAdmissible-integer_matrix}
 use Rattle.cox_context.specs.Members.{IsElement}
 use Rattle.cox_context.specs.SortedList.{IsListOf}

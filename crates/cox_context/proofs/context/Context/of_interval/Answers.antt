@@ -1,10 +1,11 @@
 -- The builder finds the interval up to the normal form of w, which is that up to w.
 use Rattle.std.proofs.Common.{rules, ◌≡◌, List, ℕ, length, IfErr, arith}
-use Rattle.cox_base.specs.Matrix.{CoxeterMatrix, IsCoxeterMatrix}
-use Rattle.cox_base.specs.IntegerMatrix.{IntegerMatrix, IsAdmissible, integer_matrix}
+use Rattle.cox_base.specs.Matrix.{CoxeterMatrix}
+use Rattle.cox_base.specs.Admissible.{IsCoxeterMatrix, IsAdmissible}
+use Rattle.cox_base.specs.IntegerMatrix.{IntegerMatrix, integer_matrix}
 use Rattle.cox_base.specs.Element.{SameElement}
 use Rattle.cox_base.specs.ShortLex.{normal_form}
-use Rattle.cox_base.specs.Length.{IsReduced}
+use Rattle.cox_base.specs.Reduced.{IsReduced}
 use Rattle.cox_reflect.proofs.Admissible.{IsAdmissible-integer_matrix}
 use Rattle.cox_reflect.proofs.Elements.{same-sym}
 use Rattle.cox_reflect.proofs.Search.{normal_form-same}

@@ -1,5 +1,6 @@
 -- The tables are those of the members, so they make a context.
-use Rattle.cox_base.specs.IntegerMatrix.{IntegerMatrix, IsAdmissible, integer_matrix}
+use Rattle.cox_base.specs.IntegerMatrix.{IntegerMatrix, integer_matrix}
+use Rattle.cox_base.specs.Admissible.{IsAdmissible}
 use Rattle.cox_reflect.proofs.Admissible.{IsAdmissible-integer_matrix}
 use Rattle.cox_context.proofs.BelowLemmas.{left-lowering, right-lowering}
 use Rattle.cox_context.proofs.context.Context.of_members.Goals as goal

@@ -1,6 +1,7 @@
 -- The proof of `interval_of`.
 use Rattle.std.proofs.Common.{◌≡◌, ◌≤◌, ℕ, List, length, inl, refl, arith}
-use Rattle.cox_base.specs.IntegerMatrix.{IntegerMatrix, IsAdmissible, integer_matrix}
+use Rattle.cox_base.specs.IntegerMatrix.{IntegerMatrix, integer_matrix}
+use Rattle.cox_base.specs.Admissible.{IsAdmissible}
 use Rattle.cox_reflect.proofs.Admissible.{IsAdmissible-integer_matrix}
 use Rattle.cox_reflect.proofs.Search.{word_length-length}
 use Rattle.cox_context.specs.Members.{IsInInterval}

@@ -26,7 +26,7 @@ returns-in_err-put_next_element c =
     let numbers = c.args.numbers.now in
     let line = member_line c.args.context.now.matrix.rank c.args.context.now.members in
     let start : c.put_count.new.out.items ≡ c.args.out.now.items ++ decimal (length numbers) = c.in_ok-put_count.ensures {u = tt} in
-    let front = PutsPrefix-next line numbers c.loop-i.i-index
+    let prefix = PutsPrefix-next line numbers c.loop-i.i-index
     (get_or numbers c.loop-i.i-index 0) 0 _ _ _ c.loop-i-test.true refl c.loop-i.invariant
     (rw (c.word.ensures, c.rank-rank.ensures.rank, c.matrix.ensures) at (c.in_err-put_next_element.ensures {u = tt})) in
     rw members-text (Puts-failed _ _ _ _ (search rules) (PutsPrefix-second (decimal (length numbers)) _ _ _ _ start front))
