@@ -11,6 +11,7 @@ pub mod ShortLex
 pub mod Table
 pub mod WordReading
 pub mod WordText
+
 -- what the type of Coxeter matrices keeps
 -- the table of types
 -- the integer matrix of a Coxeter matrix

@@ -5,8 +5,8 @@ use Rattle.std.proofs.Math.Path.{fun_ext}
 use Rattle.std.proofs.lemmas.Bool.{cases_eq, cases_lt, cases_order}
 use Rattle.std.proofs.lemmas.Int.{ints}
 use Rattle.cox_base.specs.Matrix.{IsLetter}
-use Rattle.cox_base.specs.IntegerMatrix.{IntegerMatrix, two, three, four, back_four, six, back_six, infinity}
-use Rattle.cox_base.specs.Admissible.{IsAdmissible, IsAdmissiblePair}
+use Rattle.cox_base.specs.IntegerMatrix.{IntegerMatrix}
+use Rattle.cox_base.specs.Admissible.{two, three, four, back_four, six, back_six, infinity, IsAdmissible, IsAdmissiblePair}
 use Rattle.cox_base.specs.Element.{sum_to}
 use Rattle.cox_reflect.specs.Action.{Vector, simple_root, pairing, minus, reflect}
 use Rattle.cox_lemmas.proofs.Ring.{neg_mul, times_one}

@@ -25,8 +25,8 @@ rest_text false ts = flat_map next_term_text ts
 -- a prefix of the text was put behind what was there: all but this rest
 pub record Written (old out text rest : List ℕ) : Type 0 where
   pub prefix : List ℕ
-  pub parts : text ≡ front ++ rest
-  pub behind : out ≡ old ++ front
+  pub parts : text ≡ prefix ++ rest
+  pub behind : out ≡ old ++ prefix
 
 -- and then a prefix of the next piece
 pub Written-prefix : {old out text rest : List ℕ} (new piece rest' : List ℕ)

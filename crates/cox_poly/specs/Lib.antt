@@ -7,6 +7,7 @@ pub mod PolynomialText
 pub mod Products
 pub mod Puts
 pub mod Size
+
 -- their multiples and products
 -- bounds of their degree and of the sum of their absolute coefficients
 -- polynomials as lists of coefficients

@@ -1,5 +1,5 @@
 -- The terms of a polynomial as they are written one after the other.
-use Rattle.std.specs.Prelude.{ℕ, ◌×◌, Bool, if◌then◌else◌, List, ℤ}
+use Rattle.std.specs.Prelude.{ℕ, Bool, if◌then◌else◌, List, ℤ}
 use Rattle.cox_poly.specs.PolynomialText.{term_text, next_term_text}
 
 -- a term, the first or one after it

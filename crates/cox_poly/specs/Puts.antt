@@ -6,8 +6,8 @@ use Rattle.std.specs.declared.alloc.AllocError.{AllocError}
 pub record PutsPrefix (text old new : List ℕ) : Type 0 where
   pub prefix : List ℕ
   pub rest : List ℕ
-  pub parts : text ≡ front ++ rest
-  pub behind : new ≡ old ++ front
+  pub parts : text ≡ prefix ++ rest
+  pub behind : new ≡ old ++ prefix
 
 -- the text was put behind what was there; where memory ran out only a prefix of it was
 abbrev pub Puts : Result Unit AllocError → List ℕ → List ℕ → List ℕ → Type 0

@@ -3,7 +3,8 @@ use Rattle.std.proofs.Common.{◌≡◌, ℕ, ◌<◌, ◌↔◌, ℤ, negsuc, r
 use Rattle.std.proofs.lemmas.Bool.{cases_eq, cases_order}
 use Rattle.cox_base.specs.Matrix.{CoxeterMatrix, IsLetter, label}
 use Rattle.cox_base.specs.Admissible.{IsCoxeterMatrix, HasOrder}
-use Rattle.cox_base.specs.IntegerMatrix.{entry_of, order_two, order_three, order_four, order_back_four, order_six, order_back_six}
+use Rattle.cox_base.specs.IntegerMatrix.{entry_of}
+use Rattle.cox_base.specs.Admissible.{order_two, order_three, order_four, order_back_four, order_six, order_back_six}
 use Rattle.cox_base.proofs.Entries.{label-above, label-symmetric, entry_of-above, entry_of-below}
 use Rattle.cox_base.proofs.Admissible.{HasOrder-integer_matrix}
 pub use Rattle.cox_base.proofs.Admissible.{IsAdmissible-integer_matrix}

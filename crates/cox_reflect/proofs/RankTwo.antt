@@ -10,10 +10,9 @@ use Rattle.std.proofs.lemmas.Bool.{cases_order}
 use lib.IntN.{+ℤ_comm}
 use lib.Signed.{le_z_yes}
 use Rattle.cox_base.specs.Matrix.{IsLetter}
-use Rattle.cox_base.specs.IntegerMatrix.{IntegerMatrix, two, three, four, back_four, six}
-use Rattle.cox_base.specs.Admissible.{IsAdmissible, IsAdmissiblePair, HasOrder}
-use Rattle.cox_base.specs.IntegerMatrix.{back_six, infinity, order_two, order_three, order_four, order_back_four}
-use Rattle.cox_base.specs.IntegerMatrix.{order_six, order_back_six}
+use Rattle.cox_base.specs.IntegerMatrix.{IntegerMatrix}
+use Rattle.cox_base.specs.Admissible.{two, three, four, back_four, six, IsAdmissible, IsAdmissiblePair, HasOrder, order_six, order_back_six}
+use Rattle.cox_base.specs.Admissible.{back_six, infinity, order_two, order_three, order_four, order_back_four}
 use Rattle.cox_base.specs.Element.{SameElement}
 use Rattle.cox_reflect.specs.Action.{Vector, simple_root, pairing, minus, reflect, act}
 use Rattle.cox_lemmas.proofs.Ring.{linears, multiply_out}

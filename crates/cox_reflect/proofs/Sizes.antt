@@ -6,9 +6,8 @@ use Rattle.std.proofs.Common.{lit<}
 use Rattle.std.proofs.lemmas.Bool.{cases_eq}
 use Rattle.std.proofs.lemmas.Int.{ints, unsigned_abs-mul}
 use Rattle.cox_base.specs.Matrix.{IsLetter}
-use Rattle.cox_base.specs.IntegerMatrix.{IntegerMatrix, two, three, four, back_four, six}
-use Rattle.cox_base.specs.Admissible.{IsAdmissible, IsAdmissiblePair}
-use Rattle.cox_base.specs.IntegerMatrix.{back_six, infinity}
+use Rattle.cox_base.specs.IntegerMatrix.{IntegerMatrix}
+use Rattle.cox_base.specs.Admissible.{two, three, four, back_four, six, IsAdmissible, IsAdmissiblePair, back_six, infinity}
 use Rattle.cox_base.specs.Element.{sum_to}
 use Rattle.cox_reflect.specs.Action.{Vector, simple_root, pairing, minus, reflect, act, size}
 use Rattle.cox_reflect.proofs.Sums.{letter_cases, simple_root-self, simple_root-other}

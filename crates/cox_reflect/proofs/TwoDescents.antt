@@ -5,9 +5,9 @@ use Rattle.std.proofs.Common.{sym, ◌∙◌, arith}
 use Rattle.std.proofs.lemmas.Int.{ints}
 use mathlib.Core.List.{reverse-cons}
 use Rattle.cox_base.specs.Matrix.{CoxeterMatrix, IsLetter, label}
-use Rattle.cox_base.specs.Admissible.{IsCoxeterMatrix, IsAdmissible, HasOrder}
-use Rattle.cox_base.specs.IntegerMatrix.{IntegerMatrix, integer_matrix, order_two, order_three}
-use Rattle.cox_base.specs.IntegerMatrix.{order_four, order_back_four, order_six, order_back_six}
+use Rattle.cox_base.specs.Admissible.{IsCoxeterMatrix, IsAdmissible, HasOrder, order_two, order_three}
+use Rattle.cox_base.specs.IntegerMatrix.{IntegerMatrix, integer_matrix}
+use Rattle.cox_base.specs.Admissible.{order_four, order_back_four, order_six, order_back_six}
 use Rattle.cox_base.specs.Element.{SameElement}
 use Rattle.cox_base.specs.Reduced.{IsReduced, IsLeftDescent, IsRightDescent}
 use Rattle.cox_reflect.specs.Action.{Vector, simple_root, minus}
