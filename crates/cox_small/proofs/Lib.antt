@@ -1,4 +1,3 @@
--- products of nonnegative integers
 -- roots with their coroots, moved by words
 pub mod RootPairs
 -- a word that makes a root negative: a shorter one for a lower root, and a bound on the root
@@ -17,3 +16,5 @@ pub mod ElementaryRoots
 pub mod Reading
 -- more than max, or at most max small roots
 pub mod Counting
+-- which of these holds is decided
+pub mod Deciding

@@ -1,6 +1,6 @@
 //! The laws of small roots. Each function does nothing: its clauses are theorems.
 
-ghost use Rattle.std.specs.Prelude.{◌≡◌, ◌≢◌, ℕ, ◌↔◌, List, [], ◌∷◌, ◌++◌, pos, ◌*ℤ◌, ◌≤ℤ◌, ◌<ℤ◌};
+ghost use Rattle.std.specs.Prelude.{◌≡◌, ◌≢◌, ◌⊎◌, ℕ, ◌↔◌, List, [], ◌∷◌, ◌++◌, pos, ◌*ℤ◌, ◌≤ℤ◌, ◌<ℤ◌};
 ghost use Rattle.cox_base.specs.Matrix.{IsLetter};
 ghost use Rattle.cox_base.specs.IntegerMatrix.{IntegerMatrix};
 ghost use Rattle.cox_base.specs.Admissible.{IsAdmissible};
@@ -44,7 +44,8 @@ pub fn reading()
         → IsReduced A w → IsSmall A (act A w (simple_root s)) c → IsReduced A (w ++ s ∷ []) }
 {}
 
-/// There are not both at most and more than `max` small roots.
+/// There are at most `max` small roots, or more than that, and not both.
 pub fn counts()
-    ensures { (A : IntegerMatrix) → (max : ℕ) → HasAtMost A max → ¬ HasMoreThan A max }
+    ensures one_of_both { (A : IntegerMatrix) → IsAdmissible A → (max : ℕ) → HasMoreThan A max ⊎ HasAtMost A max }
+    ensures not_both { (A : IntegerMatrix) → (max : ℕ) → HasAtMost A max → ¬ HasMoreThan A max }
 {}
