@@ -13,7 +13,7 @@ use Rattle.cox_reflect.specs.Action.{Vector, pairing, reflect}
 use Rattle.cox_reflect.specs.Transpose.{transposed}
 use Rattle.cox_lemmas.proofs.Ring.{neg_mul, mul_neg}
 use Rattle.cox_reflect.proofs.Transposed.{IsAdmissible-transposed}
-use Rattle.cox_small.specs.SmallRoots.{IsShortStep, IsSmall, simple, step, HasMoreThan, HasAtMost}
+use Rattle.cox_small.specs.SmallRoots.{IsShortStep, IsSmall, simple, step, HasMoreSmallRoots, HasFewSmallRoots}
 use Rattle.cox_small.proofs.ElementaryRoots.{small-pair, small-positive, small-coroot}
 use Rattle.cox_small.proofs.Signs.{negative-agrees}
 use Rattle.cox_minroots.specs.declared.root.Root.{Root}
@@ -299,7 +299,7 @@ module _ (A : IntegerMatrix) (g : IsAdmissible A) (fits : A.rank ≤ MAX_RANK) (
 -- ---- the count
 
 -- a list with more than max small roots
-pub more-than : (A : IntegerMatrix) (max : ℕ) (roots : List Root) → AreSmall A roots → max < length roots → HasMoreThan A max
+pub more-than : (A : IntegerMatrix) (max : ℕ) (roots : List Root) → AreSmall A roots → max < length roots → HasMoreSmallRoots A max
 more-than A max roots h l = record {
   root = root_of roots;
   small = λ i k. record { coroot = coroot_of roots i; small = h.small i (omega (arith, l, k)) };
@@ -318,7 +318,7 @@ module _ (A : IntegerMatrix) (g : IsAdmissible A) (roots : List Root) (h : IsClo
           in let j = (h.steps i.0 s i.1 q.letter).image (rw (i.2, same) q)
           in (j.0, j.1, j.2 ∙ ap (reflect A s) i.2)
 
-  pub at-most : (max : ℕ) → length roots ≤ max → HasAtMost A max
+  pub at-most : (max : ℕ) → length roots ≤ max → HasFewSmallRoots A max
   at-most max l = record {
     root = root_of roots;
     all = λ {b} k. let i = closed-has k.small in (i.0, omega (arith, i.1, l), i.2);

@@ -6,7 +6,7 @@ use Rattle.cox_minroots.specs.declared.closure.TheConstants.{MAX_SMALL_ROOTS}
 use Rattle.cox_base.specs.Matrix.{IsLetter}
 use Rattle.cox_base.specs.IntegerMatrix.{IntegerMatrix}
 use Rattle.cox_base.specs.Admissible.{IsAdmissible}
-use Rattle.cox_small.specs.SmallRoots.{HasMoreThan, HasAtMost}
+use Rattle.cox_small.specs.SmallRoots.{HasMoreSmallRoots, HasFewSmallRoots}
 use Rattle.cox_small.proofs.Counting.{not_both}
 use Rattle.cox_minroots.specs.declared.root.Root.{Root}
 use Rattle.cox_minroots.specs.RootLists.{root_of, coroot_of}
@@ -36,15 +36,15 @@ root-table A g roots count moves h e few size move =
     })
 
 module _ (A : IntegerMatrix) (count : ℕ) (moves : List ℕ) (h : IsRootTable A count moves) where
-  pub not-more : HasMoreThan A count → ⊥
+  pub not-more : HasMoreSmallRoots A count → ⊥
   not-more many =
       ∥∥₁_elim h.table (λ x y. absurd x)
       (λ (t : IsTable A count moves). not_both A count (record { root = t.root; all = λ {b} k. t.all k }) many)
 
-  pub not-fewer : (m : ℕ) → m < count → HasAtMost A m → ⊥
+  pub not-fewer : (m : ℕ) → m < count → HasFewSmallRoots A m → ⊥
   not-fewer m l few = ∥∥₁_elim h.table (λ x y. absurd x) (λ (t : IsTable A count moves). not_both A m few (more t))
     where
-      more : IsTable A count moves → HasMoreThan A m
+      more : IsTable A count moves → HasMoreSmallRoots A m
       more t = record {
         root = t.root;
         small = λ i k. record { coroot = t.coroot i; small = t.small i (omega (arith, k, l)) };

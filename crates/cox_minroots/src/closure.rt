@@ -2,7 +2,7 @@
 ghost use Rattle.std.specs.Prelude.{◌≡◌, ℕ, ◌+◌, ◌<◌, ◌≤◌, length, IfOk, IfErr, OnOk};
 ghost use Rattle.cox_base.specs.Matrix.{IsLetter};
 ghost use Rattle.cox_base.specs.IntegerMatrix.{integer_matrix};
-ghost use Rattle.cox_small.specs.SmallRoots.{HasMoreThan};
+ghost use Rattle.cox_small.specs.SmallRoots.{HasMoreSmallRoots};
 ghost use Rattle.cox_minroots.specs.Closure.{AreSmall, HasSimple, HasStep, IsLonger, IsClosed, WhenTooMany};
 
 use crate::RootFault;
@@ -22,7 +22,7 @@ pub(crate) fn close(alloc: Global, g: &Coxeter, max: u32) -> Result<Roots, RootF
     requires { max ≤ MAX_SMALL_ROOTS }
     ensures closed { IfOk result (λ roots. IsClosed (integer_matrix g.now) roots) }
     ensures few { IfOk result (λ roots. length roots ≤ max) }
-    ensures fault { IfErr result (WhenTooMany (λ seen. (seen ≡ max + 1) × HasMoreThan (integer_matrix g.now) max)) }
+    ensures fault { IfErr result (WhenTooMany (λ seen. (seen ≡ max + 1) × HasMoreSmallRoots (integer_matrix g.now) max)) }
 {
     let Ok(mut roots) = simple_roots(alloc, g) else {
         return Err(RootFault::NoMemory);

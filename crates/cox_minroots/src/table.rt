@@ -2,7 +2,7 @@
 ghost use Rattle.std.specs.Prelude.{◌≡◌, ℕ, ◌+◌, ◌-◌, ◌*◌, ◌<◌, ◌≤◌, length, IfOk, IfErr, OnOk, IsOk};
 ghost use Rattle.cox_base.specs.IntegerMatrix.{integer_matrix};
 ghost use Rattle.cox_base.specs.Admissible.{IsCoxeterMatrix};
-ghost use Rattle.cox_small.specs.SmallRoots.{HasMoreThan, HasAtMost};
+ghost use Rattle.cox_small.specs.SmallRoots.{HasMoreSmallRoots, HasFewSmallRoots};
 ghost use Rattle.cox_minroots.specs.Closure.{WhenTooMany};
 
 use crate::RootFault;
@@ -42,8 +42,8 @@ impl RootTable {
         requires some { 1 ≤ max }
         requires limit { max ≤ MAX_SMALL_ROOTS }
         ensures group { IfOk result (λ t. t ≡ g.now) }
-        ensures few { OnOk result (HasAtMost (integer_matrix g.now) max) }
-        ensures many { IfErr result (WhenTooMany (λ seen. (seen ≡ max + 1) × HasMoreThan (integer_matrix g.now) max)) }
+        ensures few { OnOk result (HasFewSmallRoots (integer_matrix g.now) max) }
+        ensures many { IfErr result (WhenTooMany (λ seen. (seen ≡ max + 1) × HasMoreSmallRoots (integer_matrix g.now) max)) }
     {
         let _rank = g.rank();
         let roots = close(alloc, g, max)?;
@@ -66,8 +66,8 @@ impl RootTable {
 
     /// How many small roots there are.
     pub fn len(&self) -> u32
-        ensures not_more { ¬ HasMoreThan (integer_matrix self.now) result }
-        ensures not_fewer { (m : ℕ) → m < result → ¬ HasAtMost (integer_matrix self.now) m }
+        ensures not_more { ¬ HasMoreSmallRoots (integer_matrix self.now) result }
+        ensures not_fewer { (m : ℕ) → m < result → ¬ HasFewSmallRoots (integer_matrix self.now) m }
         ensures limit { result ≤ MAX_SMALL_ROOTS }
     {
         self.count as u32

@@ -2,7 +2,7 @@
 use Rattle.std.proofs.Common.{◌≡◌, ℕ, zero, suc, ◌≤◌, ◌<◌, ◌⊎◌, refl, ap, sym, ◌∙◌, inl, inr, ⊎_elim, arith}
 use Rattle.std.proofs.lemmas.Bool.{cases_eq, cases_lt}
 use Rattle.cox_base.specs.IntegerMatrix.{IntegerMatrix}
-use Rattle.cox_small.specs.SmallRoots.{HasMoreThan, HasAtMost}
+use Rattle.cox_small.specs.SmallRoots.{HasMoreSmallRoots, HasFewSmallRoots}
 
 -- f is v at one of the numbers 0 to n, or at none
 search_value : (n : ℕ) (f : ℕ → ℕ) (v : ℕ) → ((i : ℕ) × (i ≤ n) × (f i ≡ v)) ⊎ ((i : ℕ) → i ≤ n → f i ≡ v → ⊥)
@@ -60,7 +60,7 @@ pigeons (suc n) f below different =
             (λ m. different i j l (omega (arith, k)) (sym h.1 ∙ e ∙ m.1)) (replaced-cases n (f (suc n)) f j))
             (replaced-cases n (f (suc n)) f i)
 
-pub not_both : (A : IntegerMatrix) (max : ℕ) → HasAtMost A max → HasMoreThan A max → ⊥
+pub not_both : (A : IntegerMatrix) (max : ℕ) → HasFewSmallRoots A max → HasMoreSmallRoots A max → ⊥
 not_both A max few many = pigeons max place (λ i l. (place-is i l).0) (λ i j l k e.
     many.different i j l k (sym (place-is i (omega (arith, l, k))).1 ∙ ap few.root e ∙ (place-is j k).1))
   where

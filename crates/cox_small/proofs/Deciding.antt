@@ -15,7 +15,7 @@ use Rattle.cox_reflect.specs.Action.{Vector, simple_root, pairing, reflect}
 use Rattle.cox_reflect.specs.Transpose.{transposed}
 use Rattle.cox_reflect.proofs.Sums.{letter_cases, simple_root-other}
 use Rattle.cox_reflect.proofs.Action.{reflect-other}
-use Rattle.cox_small.specs.SmallRoots.{IsShortStep, IsSmall, simple, step, IsSmallRoot, HasMoreThan, HasAtMost}
+use Rattle.cox_small.specs.SmallRoots.{IsShortStep, IsSmall, simple, step, IsSmallRoot, HasMoreSmallRoots, HasFewSmallRoots}
 use Rattle.cox_small.proofs.ElementaryRoots.{small-coroot}
 
 -- a property holds or not
@@ -70,7 +70,8 @@ equal_vectors A a b in_a in_b =
       where
         at : (i : ℕ) → IsDecidable (IsLetter A.rank i) → a i ≡ b i
         at zero (inl l) = absurd (omega (arith, l.from_one))
-        at (suc k) (inl l) = ⊎_elim (λ same. same) (λ other. absurd (none k (omega (arith, l.to_rank)) other)) (equal_integers (a (suc k)) (b (suc k)))
+        at (suc k) (inl l) =
+            ⊎_elim (λ same. same) (λ other. absurd (none k (omega (arith, l.to_rank)) other)) (equal_integers (a (suc k)) (b (suc k)))
         at i (inr foreign) = in_a i foreign ∙ sym (in_b i foreign)
 
 -- n different small roots with their coroots
@@ -120,7 +121,8 @@ module _ (A : IntegerMatrix) (g : IsAdmissible A) where
   short_step? : (s : ℕ) (b c : Vector) → IsDecidable (IsShortStep A s b c)
   short_step? s b c =
       ⊎_elim (λ l. by_lt_z (pairing A s b) (pos 0) (λ p.
-      by_lt_z (pos 3) (pairing A s b *ℤ pairing (transposed A) s c) (λ far. inr (λ h. absurd (omega (arith, linears, far, h.at_most_three))))
+      by_lt_z (pos 3) (pairing A s b *ℤ pairing (transposed A) s c)
+      (λ far. inr (λ h. absurd (omega (arith, linears, far, h.at_most_three))))
       (λ near. by_lt_z (pairing A s b *ℤ pairing (transposed A) s c) (pos 1)
       (λ low. inr (λ h. absurd (omega (arith, linears, low, h.at_least_one))))
       (λ high. inl (record { letter = l; negative = p; at_least_one = high; at_most_three = near }))))
@@ -163,7 +165,7 @@ module _ (A : IntegerMatrix) (g : IsAdmissible A) where
       in subst (λ x. IsHeld A n found (reflect A s x)) h.2 (steps h.0 s h.1 here)
 
   -- the missing letters and steps, one after the other, as long as there is room
-  collect : (room n max : ℕ) → n + room ≡ suc max → AreFound A n → HasMoreThan A max ⊎ HasAtMost A max
+  collect : (room n max : ℕ) → n + room ≡ suc max → AreFound A n → HasMoreSmallRoots A max ⊎ HasFewSmallRoots A max
   collect zero n max full found = inl (record {
     root = found.root;
     small = λ i l. record { coroot = found.coroot i; small = found.small i (omega (arith, l, full)) };
@@ -187,7 +189,7 @@ module _ (A : IntegerMatrix) (g : IsAdmissible A) where
       present b c small never = ⊎_elim (λ h. h) (λ none. absurd (never none)) (held? n found b c small)
 
       whole : ((s : ℕ) → s < suc A.rank → IsSimpleMissing n found s → ⊥)
-          → ((i : ℕ) → i < n → (i < n) × ((s : ℕ) × (s < suc A.rank) × IsStepMissing n found i s) → ⊥) → HasAtMost A max
+          → ((i : ℕ) → i < n → (i < n) × ((s : ℕ) × (s < suc A.rank) × IsStepMissing n found i s) → ⊥) → HasFewSmallRoots A max
       whole no_simple no_step = record {
         root = found.root;
         all = λ b. let h = all_held n found
@@ -197,8 +199,8 @@ module _ (A : IntegerMatrix) (g : IsAdmissible A) where
             in (h.0, omega (arith, h.1, full), h.2);
       }
 
-  pub HasMoreThan-decided : (max : ℕ) → HasMoreThan A max ⊎ HasAtMost A max
-  HasMoreThan-decided max = collect (suc max) 0 max (omega arith) (record {
+  pub HasMoreSmallRoots-decided : (max : ℕ) → HasMoreSmallRoots A max ⊎ HasFewSmallRoots A max
+  HasMoreSmallRoots-decided max = collect (suc max) 0 max (omega arith) (record {
     root = λ i. simple_root i;
     coroot = λ i. simple_root i;
     small = λ i l. absurd (omega (arith, l));

@@ -27,12 +27,12 @@ pub record IsSmallRoot (A : IntegerMatrix) (b : Vector) : Type 0 where
   pub small : IsSmall A b coroot
 
 -- there are more than max small roots: max + 1 different ones are given, root 0 to root max
-pub record HasMoreThan (A : IntegerMatrix) (max : ℕ) : Type 0 where
+pub record HasMoreSmallRoots (A : IntegerMatrix) (max : ℕ) : Type 0 where
   pub root : ℕ → Vector
   pub small : (i : ℕ) → i ≤ max → IsSmallRoot A (root i)
   pub different : (i j : ℕ) → i < j → j ≤ max → root i ≡ root j → ⊥
 
 -- there are at most max small roots: each is one of root 0 to root (max - 1)
-pub record HasAtMost (A : IntegerMatrix) (max : ℕ) : Type 0 where
+pub record HasFewSmallRoots (A : IntegerMatrix) (max : ℕ) : Type 0 where
   pub root : ℕ → Vector
   pub all : {b : Vector} → IsSmallRoot A b → (i : ℕ) × (i < max) × (root i ≡ b)

@@ -8,7 +8,7 @@ ghost use Rattle.cox_base.specs.Element.{SameElement};
 ghost use Rattle.cox_base.specs.Reduced.{IsReduced};
 ghost use Rattle.cox_reflect.specs.Action.{Vector, simple_root, pairing, reflect, act, IsNonnegative, IsNonpositive};
 ghost use Rattle.cox_reflect.specs.Transpose.{transposed};
-ghost use Rattle.cox_small.specs.SmallRoots.{IsSmall, IsSmallRoot, HasMoreThan, HasAtMost};
+ghost use Rattle.cox_small.specs.SmallRoots.{IsSmall, IsSmallRoot, HasMoreSmallRoots, HasFewSmallRoots};
 ghost use Rattle.cox_small.specs.Elementary.{IsElementary};
 
 /// Small roots are positive, with one coroot each, and they are the elementary roots: the positive roots that dominate no other positive root.
@@ -46,6 +46,6 @@ pub fn reading()
 
 /// There are at most `max` small roots, or more than that, and not both.
 pub fn counts()
-    ensures one_of_both { (A : IntegerMatrix) → IsAdmissible A → (max : ℕ) → HasMoreThan A max ⊎ HasAtMost A max }
-    ensures not_both { (A : IntegerMatrix) → (max : ℕ) → HasAtMost A max → ¬ HasMoreThan A max }
+    ensures one_of_both { (A : IntegerMatrix) → IsAdmissible A → (max : ℕ) → HasMoreSmallRoots A max ⊎ HasFewSmallRoots A max }
+    ensures not_both { (A : IntegerMatrix) → (max : ℕ) → HasFewSmallRoots A max → ¬ HasMoreSmallRoots A max }
 {}
