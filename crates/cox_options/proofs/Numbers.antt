@@ -1,8 +1,7 @@
 -- The options with a number have one after a parse, within their range.
 use Rattle.std.proofs.Common.{◌≡◌, ◌∙◌, ◌<◌, ap, ℕ, true, false, List, [], ◌∷◌, map, length, is_some, not, Option, Some, None, refl, sym}
-use Rattle.std.proofs.Common.{subst, inl, inr, arith, codes, slice_index, All}
+use Rattle.std.proofs.Common.{subst, inl, inr, arith, All}
 use Rattle.std.specs.List.{AllByRecursion, slice_index_or}
-use Rattle.std.specs.Str.{bytes_eq}
 use Rattle.std.proofs.lemmas.List.Elements.{recursion_from_All}
 use Rattle.std.proofs.lemmas.Slice.Eq.{bytes_eq-Decides}
 use Rattle.std.proofs.lemmas.List.{get_or-map, length-map}

@@ -1,13 +1,13 @@
 -- Words that are taken give each option of a table a number of its range: on the way through them a row that is found is always an option's,
 -- with one number of that option's range.
-use Rattle.std.proofs.Common.{◌≡◌, ◌∙◌, ◌≤◌, ◌<◌, ◌&&◌, ◌||◌, ◌==◌, ◌⊎◌, inl, inr, ℕ, Bool, true, false, zero, suc, not, cond, List, [], ◌∷◌, ◌++◌, drop, map}
+use Rattle.std.proofs.Common.{◌≡◌, ◌∙◌, ◌&&◌, ◌||◌, ◌==◌, ◌⊎◌, inl, inr, ℕ, Bool, true, false, zero, suc, not, cond, List, [], ◌∷◌, ◌++◌, drop, map}
 use Rattle.std.proofs.Common.{length, Option, Some, All, Contains, get_or, append-nil}
-use Rattle.std.proofs.Common.{None, is_some, refl, sym, ap, ap₂, subst, codes, arith}
+use Rattle.std.proofs.Common.{None, is_some, refl, sym, ap, ap₂, subst, arith}
 use Rattle.std.specs.Prelude.{IsSomeAnd, option_and_then, option_map, encode_utf8, slice_get}
 use Rattle.std.specs.Option.{option_map_or}
 use Rattle.std.specs.List.{find, fold, list_any}
 use Rattle.std.specs.Str.{bytes_eq, chars}
-use Rattle.std.proofs.lemmas.Bool.{cases_Bool, leb-true, ne_eqb}
+use Rattle.std.proofs.lemmas.Bool.{leb-true, ne_eqb}
 use Rattle.std.proofs.lemmas.List.Elements.{All-contains, All-contains_itself, All-cons, All-head, All-map, All-nil, All-push, All-tail}
 use Rattle.std.proofs.lemmas.List.{get_or_default}
 use Rattle.std.proofs.lemmas.List.Folds.{list_any-append}
@@ -18,7 +18,7 @@ use Rattle.clap.specs.Kinds.{Kinds, or_else}
 use Rattle.clap.specs.Lexer.{long_of, short_of}
 use Rattle.clap.specs.Simple.{Shape, built, filled, with_index}
 use Rattle.clap.specs.ValueTests.{is_unsigned_in}
-use Rattle.clap.specs.Walk.{Held, Outcome, Row, Rule, Step, Text, Waiting, Walk, after_flag, after_step, arg_by_id, arg_by_index, arg_by_long, arg_by_short}
+use Rattle.clap.specs.Walk.{Held, Outcome, Row, Rule, Step, Text, Waiting, Walk, after_flag, after_step, arg_by_id, arg_by_long, arg_by_short}
 use Rattle.clap.specs.Walk.{at_row, bundle, has_short, more_values, row_text, short_met, to_positional, with_values, without}
 use Rattle.clap.specs.Walk.{bundle_met, has_row}
 use Rattle.clap.specs.Walk.{bundle_step, done, has_long, idle, long_met, long_or_other, next, nothing_held, one_of, option, option_met}

@@ -22,7 +22,10 @@ fn reads_words(rt: HostRuntime) {
         (&["coxeter", "--context", "0023"], (23, MAX_ROOTS)),
         (&["coxeter", "--"], (MAX_CONTEXT, MAX_ROOTS)),
         (&["coxeter", "--context", "1"], (1, MAX_ROOTS)),
-        (&["coxeter", "--context", "1048576"], (MAX_CONTEXT, MAX_ROOTS)),
+        (
+            &["coxeter", "--context", "1048576"],
+            (MAX_CONTEXT, MAX_ROOTS),
+        ),
         (&["coxeter", "--context", "0"], (0, 0)),
         (&["coxeter", "--context", "1048577"], (0, 0)),
         (&["coxeter", "--context", "x"], (0, 0)),

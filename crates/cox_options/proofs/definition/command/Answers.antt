@@ -1,8 +1,8 @@
 -- The command that is built is the one of the definition: each call of `arg` adds the rule of the next option.
 use Rattle.std.proofs.Common.{◌≡◌, ◌∙◌, ap, ap₂, codes, ℕ}
 use Rattle.std.proofs.lemmas.Result.{IfOk-weaker}
-use Rattle.cox_options.specs.declared.options.TheConstants.{MAX_CONTEXT, MAX_CONTEXT_TEXT, MAX_ROOTS, MAX_ROOTS_TEXT}
-use Rattle.clap.specs.Words.{Text, app_of, new_app, rule_of, with_rule}
+use Rattle.cox_options.specs.declared.options.TheConstants.{MAX_CONTEXT_TEXT, MAX_ROOTS_TEXT}
+use Rattle.clap.specs.Words.{Text, app_of, new_app, with_rule}
 use Rattle.clap.specs.Simple.{app_of_fields}
 use Rattle.cox_options.specs.Command.{number_rule, without_help}
 use Rattle.cox_options.proofs.definition.command.Goals as goal
