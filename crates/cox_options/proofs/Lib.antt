@@ -1,8 +1,10 @@
+-- the table of options
+pub mod Table
 -- an argument with a default has a value after a parse
 pub mod DefaultValue
 -- and the options of the command have numbers
 pub mod Numbers
 -- what the words give where one option is named
 pub mod OneNumber
--- words that are taken give a context within its range
+-- words that are taken give each option a number of its range
 pub mod Taken

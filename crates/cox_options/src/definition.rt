@@ -3,14 +3,14 @@ ghost use Rattle.std.specs.Prelude.{◌≡◌, IfOk, false};
 ghost use Rattle.clap.specs.Words.{rule_of, app_of};
 ghost use Rattle.cox_options.specs.Command.{number_rule, coxeter_app};
 
-use crate::options::{MAX_CONTEXT, MAX_CONTEXT_TEXT};
+use crate::options::{MAX_CONTEXT, MAX_CONTEXT_TEXT, MAX_ROOTS, MAX_ROOTS_TEXT};
 use clap::builder::ValueParser;
 use clap::{Arg, ArgAction, Command};
 use std::alloc::{AllocError, Global};
 
 /// The option `--name` with one number from 1 to `most`, and the number that `default` writes where it is not given.
 fn number_option<'a>(alloc: Global, name: &'a str, most: u64, default: &'a str) -> Arg<'a>
-    ensures rule { rule_of result ≡ number_rule name.entry.now most default.entry.now }
+    ensures rule { rule_of result ≡ number_rule (record { name = name.entry.now; most = most; default = default.entry.now }) }
     ensures local { result.global ≡ false }
 {
     Arg::new(alloc, name)
@@ -25,7 +25,9 @@ pub fn command<'a>(alloc: Global) -> Result<Command<'a>, AllocError>
     ensures { IfOk result (λ command. app_of command ≡ coxeter_app) }
 {
     let context = number_option(alloc, "context", u64::from(MAX_CONTEXT), MAX_CONTEXT_TEXT);
+    let roots = number_option(alloc, "roots", u64::from(MAX_ROOTS), MAX_ROOTS_TEXT);
     Command::new(alloc, "coxeter")
         .disable_help_flag(true)
-        .arg(context)
+        .arg(context)?
+        .arg(roots)
 }

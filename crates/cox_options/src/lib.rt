@@ -20,5 +20,5 @@ mod reading;
 #[cfg(test)]
 mod tests;
 
-pub use options::{MAX_CONTEXT, Options};
+pub use options::{MAX_CONTEXT, MAX_ROOTS, Options};
 pub use reading::{OptionFault, read, wrong_arguments};

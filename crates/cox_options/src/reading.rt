@@ -4,7 +4,7 @@ ghost use Rattle.clap.specs.Words.{found_of, kind_of, one_text};
 ghost use Rattle.clap.specs.declared.error.kind.ErrorKind.TheVariants.{OutOfMemory};
 ghost use Rattle.cox_options.specs.Arguments.{IsTaken, IsUsage, decimal_value, given_number};
 ghost use Rattle.cox_options.specs.Found.{HasNumber};
-ghost use Rattle.cox_options.specs.declared.options.TheConstants.{MAX_CONTEXT};
+ghost use Rattle.cox_options.specs.declared.options.TheConstants.{MAX_CONTEXT, MAX_ROOTS};
 ghost use Rattle.cox_options.specs.declared.reading.OptionFault.TheVariants.{NoMemory, Usage};
 
 use crate::definition::command;
@@ -34,6 +34,7 @@ pub enum OptionFault {
 pub fn read(alloc: Global, words: &[&str]) -> Result<Options, OptionFault>
     ensures taken { OnOk result (IsTaken (map (λ word. word.now) words.now)) }
     ensures context { IfOk result (λ options. given_number (codes "context") (map (λ word. word.now) words.now) ≡ Some options.context) }
+    ensures roots { IfOk result (λ options. given_number (codes "roots") (map (λ word. word.now) words.now) ≡ Some options.roots) }
     ensures usage { result ≡ Err Usage → IsUsage (map (λ word. word.now) words.now) }
 {
     let Ok(command) = command(alloc) else {
@@ -55,10 +56,13 @@ pub fn wrong_arguments() -> [&'static str; 2]
 /// The options by what a parse of the command found.
 fn options_in(matches: &ArgMatches<'_>) -> Options
     requires context { HasNumber (found_of matches.now) (codes "context") MAX_CONTEXT }
+    requires roots { HasNumber (found_of matches.now) (codes "roots") MAX_ROOTS }
     ensures context { option_map decimal_value (one_text (found_of matches.now) (codes "context")) ≡ Some result.context }
+    ensures roots { option_map decimal_value (one_text (found_of matches.now) (codes "roots")) ≡ Some result.roots }
 {
     Options {
         context: matches.get_one::<u64>("context").unwrap() as u32,
+        roots: matches.get_one::<u64>("roots").unwrap() as u32,
     }
 }
 

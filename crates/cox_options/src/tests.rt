@@ -2,54 +2,68 @@
 use super::*;
 use std::alloc::Global;
 
-/// The context that the words after the program's name give, or 0 where they give no options.
-fn context(alloc: Global, words: &[&str]) -> u32 {
+/// The context and the number of roots that the words give, or zeros where they give no options.
+fn numbers(alloc: Global, words: &[&str]) -> (u32, u32) {
     match read(alloc, words) {
-        Ok(options) => options.context(),
-        Err(OptionFault::Usage) => 0,
-        Err(OptionFault::NoMemory) => u32::MAX,
+        Ok(options) => (options.context(), options.roots()),
+        Err(OptionFault::Usage) => (0, 0),
+        Err(OptionFault::NoMemory) => (u32::MAX, u32::MAX),
     }
 }
 
 #[test]
 fn reads_words(rt: HostRuntime) {
-    let rows: [(&[&str], u32); 29] = [
-        (&[], 65_536),
-        (&["coxeter"], 65_536),
-        (&["coxeter", "--context", "23"], 23),
-        (&["coxeter", "--context=23"], 23),
-        (&["coxeter", "--context", "+23"], 23),
-        (&["coxeter", "--context", "0023"], 23),
-        (&["coxeter", "--"], 65_536),
-        (&["coxeter", "--context", "1"], 1),
-        (&["coxeter", "--context", "65536"], 65_536),
-        (&["coxeter", "--context", "0"], 0),
-        (&["coxeter", "--context", "65537"], 0),
-        (&["coxeter", "--context", "x"], 0),
-        (&["coxeter", "--context", ""], 0),
-        (&["coxeter", "--context="], 0),
-        (&["coxeter", "--context", "18446744073709551617"], 0),
-        (&["coxeter", "--context", "-1"], 0),
-        (&["coxeter", "--context"], 0),
-        (&["coxeter", "--context", "23", "--context", "23"], 0),
-        (&["coxeter", "--context", "23", "24"], 0),
-        (&["coxeter", "--contexts", "23"], 0),
-        (&["coxeter", "--con", "23"], 0),
-        (&["coxeter", "-V"], 0),
-        (&["coxeter", "--context23"], 0),
-        (&["coxeter", "-c", "23"], 0),
-        (&["coxeter", "--help"], 0),
-        (&["coxeter", "-h"], 0),
-        (&["coxeter", "--version"], 0),
-        (&["coxeter", "help"], 0),
-        (&["coxeter", "script"], 0),
+    let rows: [(&[&str], (u32, u32)); 39] = [
+        (&[], (MAX_CONTEXT, MAX_ROOTS)),
+        (&["coxeter"], (MAX_CONTEXT, MAX_ROOTS)),
+        (&["coxeter", "--context", "23"], (23, MAX_ROOTS)),
+        (&["coxeter", "--context=23"], (23, MAX_ROOTS)),
+        (&["coxeter", "--context", "+23"], (23, MAX_ROOTS)),
+        (&["coxeter", "--context", "0023"], (23, MAX_ROOTS)),
+        (&["coxeter", "--"], (MAX_CONTEXT, MAX_ROOTS)),
+        (&["coxeter", "--context", "1"], (1, MAX_ROOTS)),
+        (
+            &["coxeter", "--context", "1048576"],
+            (MAX_CONTEXT, MAX_ROOTS),
+        ),
+        (&["coxeter", "--context", "0"], (0, 0)),
+        (&["coxeter", "--context", "1048577"], (0, 0)),
+        (&["coxeter", "--context", "x"], (0, 0)),
+        (&["coxeter", "--context", ""], (0, 0)),
+        (&["coxeter", "--context="], (0, 0)),
+        (&["coxeter", "--context", "18446744073709551617"], (0, 0)),
+        (&["coxeter", "--context", "-1"], (0, 0)),
+        (&["coxeter", "--context"], (0, 0)),
+        (&["coxeter", "--context", "23", "--context", "23"], (0, 0)),
+        (&["coxeter", "--context", "23", "24"], (0, 0)),
+        (&["coxeter", "--contexts", "23"], (0, 0)),
+        (&["coxeter", "--con", "23"], (0, 0)),
+        (&["coxeter", "-V"], (0, 0)),
+        (&["coxeter", "--context23"], (0, 0)),
+        (&["coxeter", "-c", "23"], (0, 0)),
+        (&["coxeter", "--help"], (0, 0)),
+        (&["coxeter", "-h"], (0, 0)),
+        (&["coxeter", "--version"], (0, 0)),
+        (&["coxeter", "help"], (0, 0)),
+        (&["coxeter", "script"], (0, 0)),
+        (&["coxeter", "--roots", "2"], (MAX_CONTEXT, 2)),
+        (&["coxeter", "--roots=2"], (MAX_CONTEXT, 2)),
+        (&["coxeter", "--roots", "4096"], (MAX_CONTEXT, MAX_ROOTS)),
+        (&["coxeter", "--roots", "0"], (0, 0)),
+        (&["coxeter", "--roots", "4097"], (0, 0)),
+        (&["coxeter", "--context", "23", "--roots", "2"], (23, 2)),
+        (&["coxeter", "--roots", "2", "--context=23"], (23, 2)),
+        (&["coxeter", "--roots", "2", "--roots", "3"], (0, 0)),
+        (&["coxeter", "--roots", "--context", "23"], (0, 0)),
+        (&["coxeter", "--context", "23", "--roots"], (0, 0)),
     ];
     for (words, wanted) in rows {
-        assert_eq!(rt; context(rt.alloc(), words), wanted, "at {words:?}");
+        assert_eq!(rt; numbers(rt.alloc(), words), wanted, "at {words:?}");
     }
 }
 
 #[test]
 fn has_defaults(rt: HostRuntime) {
-    assert_eq!(rt; Options::default().context(), 65_536);
+    assert_eq!(rt; Options::default().context(), MAX_CONTEXT);
+    assert_eq!(rt; Options::default().roots(), MAX_ROOTS);
 }

@@ -3,11 +3,13 @@ use Rattle.std.proofs.Common.{◌∙◌, ap, sym, not, map, codes}
 use Rattle.clap.specs.Simple.{App}
 use Rattle.clap.specs.Walk.{is_empty}
 use Rattle.clap.specs.Words.{Kinds, fault_of, found_of, is_simple, is_simple_and_free}
-use Rattle.cox_options.proofs.Numbers.{context_read, given_read}
+use Rattle.cox_options.proofs.Numbers.{options_read, given_read}
 use Rattle.cox_options.proofs.reading.read.Goals as goal
 
 pub options_in-requires : goal.options_in-requires
-options_in-requires c = record { context = context_read _ _ c.in-Ok-try_get_matches_from.ensures.parsed c.in-Ok.ensures }
+options_in-requires c =
+    let numbers = options_read _ _ c.in-Ok-try_get_matches_from.ensures.parsed c.in-Ok.ensures in
+    record { context = numbers.0; roots = numbers.1.0 }
 
 pub returns-in-Ok-try_get_matches_from-clause-taken :
     goal.returns-in-Ok-try_get_matches_from-clause-taken
@@ -24,3 +26,11 @@ returns-in-Ok-try_get_matches_from-clause-context c =
     given_read _ (map (λ word. word.now) c.args.words.now) (found_of c.in-Ok-try_get_matches_from.matches)
     (codes "context") c.in-Ok.ensures found.0
     ∙ c.options_in.ensures.context
+
+pub returns-in-Ok-try_get_matches_from-clause-roots :
+    goal.returns-in-Ok-try_get_matches_from-clause-roots
+returns-in-Ok-try_get_matches_from-clause-roots c =
+    let found = c.in-Ok-try_get_matches_from.ensures.matches (ap is_simple c.in-Ok.ensures) in
+    given_read _ (map (λ word. word.now) c.args.words.now) (found_of c.in-Ok-try_get_matches_from.matches)
+    (codes "roots") c.in-Ok.ensures found.0
+    ∙ c.options_in.ensures.roots
