@@ -87,28 +87,28 @@ fn entries(rt: HostRuntime) -> Result<(), Fail> {
 fn limits_of_types(rt: HostRuntime) -> Result<(), Fail> {
     let ranks = [
         (b'A', 1, 1),
-        (b'A', 9, 9),
+        (b'A', 16, 16),
         (b'B', 2, 2),
-        (b'B', 9, 9),
+        (b'B', 16, 16),
         (b'D', 4, 4),
-        (b'D', 9, 9),
+        (b'D', 16, 16),
         (b'E', 6, 6),
         (b'E', 8, 8),
         (b'F', 4, 4),
         (b'G', 2, 2),
         (b'a', 1, 2),
-        (b'a', 8, 9),
+        (b'a', 15, 16),
     ];
     for (letter, n, rank) in ranks {
         assert_eq!(rt; Coxeter::named(letter, n)?.rank(), rank, "at {letter} {n}");
     }
     let refused = [
         (b'A', 0),
-        (b'A', 10),
+        (b'A', 17),
         (b'B', 1),
-        (b'B', 10),
+        (b'B', 17),
         (b'D', 3),
-        (b'D', 10),
+        (b'D', 17),
         (b'E', 5),
         (b'E', 9),
         (b'F', 3),
@@ -116,7 +116,7 @@ fn limits_of_types(rt: HostRuntime) -> Result<(), Fail> {
         (b'G', 1),
         (b'G', 3),
         (b'a', 0),
-        (b'a', 9),
+        (b'a', 16),
         (b'C', 3),
         (b'H', 3),
         (b'b', 3),
