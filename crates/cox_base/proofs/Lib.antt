@@ -12,5 +12,7 @@ pub mod Positions
 pub mod Numerals
 -- the pieces of a text, and the letters that they name
 pub mod PieceLemmas
+-- the text of a word, and its pieces
+pub mod WordTexts
 -- labels that are not admitted
 pub mod LabelLemmas

@@ -182,6 +182,54 @@ fn words(rt: HostRuntime) -> Result<(), Fail> {
     Ok(())
 }
 
+/// Pieces `1`, separated by dots.
+fn ones<const N: usize>() -> [u8; N] {
+    let mut text = [b'1'; N];
+    for (place, byte) in text.iter_mut().enumerate() {
+        if place % 2 == 1 {
+            *byte = b'.';
+        }
+    }
+    text
+}
+
+/// In rank 10 to 16 letters are separated by dots.
+#[test]
+fn words_with_dots(rt: HostRuntime) -> Result<(), Fail> {
+    let table: [(&[u8], &[u8]); 4] = [
+        (b"e", &[]),
+        (b"9.10.9", &[9, 10, 9]),
+        (b"16", &[16]),
+        (&ones::<509>(), &[1; 255]),
+    ];
+    for (text, word) in table {
+        assert_eq!(rt; read_word(text, 16)?.as_slice(), word, "{word:?}");
+    }
+    let refused: [(&[u8], WordFault); 10] = [
+        (b"", WordFault::Letter(1)),
+        (b"01", WordFault::Letter(1)),
+        (b"1..2", WordFault::Letter(3)),
+        (b"9.10.", WordFault::Letter(6)),
+        (b"10.9.17", WordFault::Letter(6)),
+        (b"9.9.100", WordFault::Letter(5)),
+        (b"e.1", WordFault::Letter(1)),
+        (&[b'1'; 300], WordFault::Letter(1)),
+        (&ones::<511>(), WordFault::Long(256)),
+        (&[b'.'; 300], WordFault::Long(301)),
+    ];
+    for (text, fault) in refused {
+        match read_word(text, 16) {
+            Ok(_) => assert!(rt; false, "{fault}"),
+            Err(other) => assert_eq!(rt; other, fault),
+        }
+    }
+    match read_word(b"10.11", 10) {
+        Ok(_) => assert!(rt; false),
+        Err(fault) => assert_eq!(rt; fault, WordFault::Letter(4)),
+    }
+    Ok(())
+}
+
 #[test]
 fn shortlex_order(rt: HostRuntime) -> Result<(), Fail> {
     let rising: [&[u8]; 7] = [b"e", b"1", b"3", b"12", b"21", b"211", b"1111"];

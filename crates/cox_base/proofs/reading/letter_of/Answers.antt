@@ -15,8 +15,8 @@ returns-then-value-eq0-clause-letter c =
     let numeral = c.in-Some.ensures {u = tt} in
     sym (letter_of-outside c.args.rank c.in-Some.value c.args.piece.now c.requires numeral.0 numeral.1
     (elim c.then-value-eq0.branch [
-      then-value-eq0-via-then-value-eq0 w ↦ inl w.if-value-eq0.true
-    | then-value-eq0-via-else-value-eq0+then-from-rank w ↦ inr (omega arith)
+      | then-value-eq0-via-then-value-eq0 w ↦ inl w.if-value-eq0.true
+      | then-value-eq0-via-else-value-eq0+then-from-rank w ↦ inr (omega arith)
     ]))
 
 pub returns-clause-letter : goal.returns-clause-letter

@@ -1,5 +1,5 @@
 -- The proof of `two_digits`.
-use Rattle.std.proofs.Common.{arith, inl, inr, ⊎_elim}
+use Rattle.std.proofs.Common.{arith, inl, inr}
 use Rattle.cox_base.proofs.Numerals.{two_numeral, no_two_digits}
 use Rattle.cox_base.proofs.reading.two_digits.Goals as goal
 
@@ -17,6 +17,7 @@ returns-then-high-eq0 c =
 pub returns : goal.returns
 returns c =
     let high = c.in-Some.ensures {u = tt} in
-    let low = c.in-Some-digit.ensures {u = tt} in
-    (omega (arith, high.0, low.0),
-    two_numeral c.args.tens c.args.ones c.in-Some.high c.in-Some-digit.low (omega arith) high.0 low.0 high.1 low.1)
+    let low = c.in-Some-digit.ensures {u = tt} in (
+      omega (arith, high.0, low.0),
+      two_numeral c.args.tens c.args.ones c.in-Some.high c.in-Some-digit.low (omega arith) high.0 low.0 high.1 low.1,
+    )
