@@ -8,7 +8,11 @@ pub mod Admissible
 pub mod Rows
 -- the first element that passes a test
 pub mod Positions
--- words as they are written
-pub mod WordLemmas
+-- numerals of one and two digits
+pub mod Numerals
+-- the pieces of a text, and the letters that they name
+pub mod PieceLemmas
+-- the text of a word, and its pieces
+pub mod WordTexts
 -- labels that are not admitted
 pub mod LabelLemmas

@@ -9,7 +9,8 @@
 //! - `limits`: the greatest rank and the longest word
 //! - `coxeter`: the matrix, its labels and entries, and how it is made of labels
 //! - `named_type`: the matrices of the named types
-//! - `word`: words, how they are read, and their ShortLex order
+//! - `word`: words, and their ShortLex order
+//! - `reading`, `pieces`: how words are read
 //! - `side`: left and right
 //! - `laws`: what holds of the definitions
 //! - `copy`: copies of vectors
@@ -20,13 +21,16 @@ mod coxeter;
 pub mod laws;
 mod limits;
 mod named_type;
+mod pieces;
+mod reading;
 mod side;
 #[cfg(test)]
 mod tests;
 mod word;
 
 pub use coxeter::{Coxeter, Label};
-pub use limits::{MAX_LABELS, MAX_LETTERS, MAX_RANK};
+pub use limits::{MAX_DIGIT_RANK, MAX_LABELS, MAX_LETTERS, MAX_RANK};
 pub use named_type::NotAType;
+pub use reading::read_word;
 pub use side::Side;
-pub use word::{Word, WordFault, copy_word, read_word, shortlex};
+pub use word::{Word, WordFault, copy_word, shortlex};

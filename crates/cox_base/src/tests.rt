@@ -87,28 +87,28 @@ fn entries(rt: HostRuntime) -> Result<(), Fail> {
 fn limits_of_types(rt: HostRuntime) -> Result<(), Fail> {
     let ranks = [
         (b'A', 1, 1),
-        (b'A', 9, 9),
+        (b'A', 16, 16),
         (b'B', 2, 2),
-        (b'B', 9, 9),
+        (b'B', 16, 16),
         (b'D', 4, 4),
-        (b'D', 9, 9),
+        (b'D', 16, 16),
         (b'E', 6, 6),
         (b'E', 8, 8),
         (b'F', 4, 4),
         (b'G', 2, 2),
         (b'a', 1, 2),
-        (b'a', 8, 9),
+        (b'a', 15, 16),
     ];
     for (letter, n, rank) in ranks {
         assert_eq!(rt; Coxeter::named(letter, n)?.rank(), rank, "at {letter} {n}");
     }
     let refused = [
         (b'A', 0),
-        (b'A', 10),
+        (b'A', 17),
         (b'B', 1),
-        (b'B', 10),
+        (b'B', 17),
         (b'D', 3),
-        (b'D', 10),
+        (b'D', 17),
         (b'E', 5),
         (b'E', 9),
         (b'F', 3),
@@ -116,7 +116,7 @@ fn limits_of_types(rt: HostRuntime) -> Result<(), Fail> {
         (b'G', 1),
         (b'G', 3),
         (b'a', 0),
-        (b'a', 9),
+        (b'a', 16),
         (b'C', 3),
         (b'H', 3),
         (b'b', 3),
@@ -178,6 +178,54 @@ fn words(rt: HostRuntime) -> Result<(), Fail> {
             Ok(_) => assert!(rt; false, "{fault}"),
             Err(other) => assert_eq!(rt; other, fault),
         }
+    }
+    Ok(())
+}
+
+/// Pieces `1`, separated by dots.
+fn ones<const N: usize>() -> [u8; N] {
+    let mut text = [b'1'; N];
+    for (place, byte) in text.iter_mut().enumerate() {
+        if place % 2 == 1 {
+            *byte = b'.';
+        }
+    }
+    text
+}
+
+/// In rank 10 to 16 letters are separated by dots.
+#[test]
+fn words_with_dots(rt: HostRuntime) -> Result<(), Fail> {
+    let table: [(&[u8], &[u8]); 4] = [
+        (b"e", &[]),
+        (b"9.10.9", &[9, 10, 9]),
+        (b"16", &[16]),
+        (&ones::<509>(), &[1; 255]),
+    ];
+    for (text, word) in table {
+        assert_eq!(rt; read_word(text, 16)?.as_slice(), word, "{word:?}");
+    }
+    let refused: [(&[u8], WordFault); 10] = [
+        (b"", WordFault::Letter(1)),
+        (b"01", WordFault::Letter(1)),
+        (b"1..2", WordFault::Letter(3)),
+        (b"9.10.", WordFault::Letter(6)),
+        (b"10.9.17", WordFault::Letter(6)),
+        (b"9.9.100", WordFault::Letter(5)),
+        (b"e.1", WordFault::Letter(1)),
+        (&[b'1'; 300], WordFault::Letter(1)),
+        (&ones::<511>(), WordFault::Long(256)),
+        (&[b'.'; 300], WordFault::Long(301)),
+    ];
+    for (text, fault) in refused {
+        match read_word(text, 16) {
+            Ok(_) => assert!(rt; false, "{fault}"),
+            Err(other) => assert_eq!(rt; other, fault),
+        }
+    }
+    match read_word(b"10.11", 10) {
+        Ok(_) => assert!(rt; false),
+        Err(fault) => assert_eq!(rt; fault, WordFault::Letter(4)),
     }
     Ok(())
 }
