@@ -4,7 +4,7 @@ use Rattle.cox_base.specs.declared.limits.TheConstants.{MAX_RANK}
 use Rattle.cox_base.specs.Matrix.{IsLetter}
 use Rattle.cox_base.specs.IntegerMatrix.{entry_of}
 use Rattle.cox_reflect.specs.RootHeight.{at_letter}
-use Rattle.cox_reflect.proofs.heights.Heights.prepend.Given as goal
+use Rattle.cox_reflect.proofs.wide_heights.WideHeightsHeightRow.put_first.Given as goal
 
 -- the letters before t have their new heights, the others their old ones
 abbrev pub invariant-loop-t : goal.invariant-loop-t
