@@ -3,10 +3,8 @@ use Rattle.std.proofs.Common.{◌≡◌, ◌∙◌}
 use Rattle.cox_base.specs.IntegerMatrix.{integer_matrix}
 use Rattle.cox_base.specs.ShortLex.{normal_form}
 use Rattle.cox_reflect.proofs.Admissible.{IsAdmissible-integer_matrix}
-use Rattle.cox_reflect.proofs.Bruhat.{below-same}
-use Rattle.cox_reflect.proofs.Elements.{same-refl, same-sym}
+use Rattle.cox_reflect.proofs.Bruhat.{below-form}
 use Rattle.cox_reflect.proofs.Lengths.{IsReduced-normal_form}
-use Rattle.cox_reflect.proofs.Search.{normal_form-same}
 use Rattle.cox_reflect.proofs.HeightLemmas.{AreOfShortElement-word}
 use Rattle.std.proofs.lemmas.Bool.{false≢true}
 use Rattle.cox_reflect.proofs.order.below.Goals as goal
@@ -25,11 +23,9 @@ unreachable-requires c =
 
 pub returns : goal.returns
 returns c =
-    let A = integer_matrix c.args.g.now
-    in let g = IsAdmissible-integer_matrix c.args.g.now c.rank-rank.ensures.matrix
-    in let y = c.args.y.now.items
-    in let w = c.args.w.now.items
-    in let same = normal_form-same A g w
-    in let form : c.as_slice.result.now ≡ normal_form A w = c.as_slice.ensures.value ∙ c.normal_form-form.ensures.form
-    in let h = rw form at (c.in-Some.ensures.below y c.heights_at.ensures)
-    in (λ t. below-same A g (same-refl A g y) same (h.0 t), λ b. h.1 (below-same A g (same-refl A g y) (same-sym A g same) b))
+    let form : c.as_slice.result.now ≡ normal_form (integer_matrix c.args.g.now) c.args.w.now.items
+    = c.as_slice.ensures.value ∙ c.normal_form-form.ensures.form
+    in let same = below-form (integer_matrix c.args.g.now) (IsAdmissible-integer_matrix c.args.g.now c.rank-rank.ensures.matrix)
+    c.args.y.now.items c.args.w.now.items c.as_slice.result.now form
+    in let tells = c.in-Some.ensures.below c.args.y.now.items c.heights_at.ensures
+    in (λ t. same.0 (tells.0 t), λ b. tells.1 (same.1 b))

@@ -2,7 +2,7 @@ use Rattle.std.proofs.Common.{◌∷◌, [], ◌++◌}
 use Rattle.cox_base.specs.IntegerMatrix.{integer_matrix}
 use Rattle.cox_reflect.proofs.Admissible.{IsAdmissible-integer_matrix}
 use Rattle.cox_minroots.proofs.Lifting.{IsLifted, lifted-start, lifted-letter, lifted-down, lifted-up, lifted-end, empty_list}
-use Rattle.cox_minroots.proofs.table.RootTable.below.Goals as goal
+use Rattle.cox_minroots.proofs.table.RootTable.below_by_table.Goals as goal
 
 pub loop-s-init : goal.loop-s-init
 loop-s-init c =

@@ -1,7 +1,7 @@
 use Rattle.std.proofs.Common.{length}
 use Rattle.cox_base.specs.IntegerMatrix.{integer_matrix}
 use Rattle.cox_minroots.proofs.Lifting.{IsLifted}
-use Rattle.cox_minroots.proofs.table.RootTable.below.Given as goal
+use Rattle.cox_minroots.proofs.table.RootTable.below_by_table.Given as goal
 
 abbrev pub invariant-loop-s : goal.invariant-loop-s
 invariant-loop-s l = IsLifted (integer_matrix l.fn.self) l.fn.y.items l.fn.w.items l.small.items l.large.items
