@@ -22,3 +22,5 @@ pub mod ProductLemmas
 pub mod FormLemmas
 -- Bruhat order by lifting
 pub mod Lifting
+-- words by the side
+pub mod Sides

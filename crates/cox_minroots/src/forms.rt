@@ -7,8 +7,8 @@ ghost use Rattle.cox_base.specs.Length.{word_length, left_descents, right_descen
 ghost use Rattle.cox_base.specs.Reduced.{IsReduced};
 ghost use Rattle.cox_base.specs.ShortLex.{normal_form};
 
-use crate::RootTable;
-use cox_base::{MAX_LETTERS, MAX_RANK, Word};
+use crate::{RootTable, by_heights};
+use cox_base::{MAX_LETTERS, MAX_RANK, Side, Word, copy_word};
 
 impl RootTable {
     /// The normal form of the element that w names: its ShortLex-first word. For example in A 2 that of `212` is `121`.
@@ -19,6 +19,9 @@ impl RootTable {
         ensures word { IsWord self.now.rank result.items }
         ensures no_longer { length result.items ≤ length w.now.items }
     {
+        if let Some(form) = by_heights::normal_form(&self.group, w, Side::Left) {
+            return form;
+        }
         self.form_of_inverse(self.reduced_inverse(w))
     }
 
@@ -28,7 +31,7 @@ impl RootTable {
         ensures length { result ≡ word_length (integer_matrix self.now) w.now.items }
         ensures no_longer { result ≤ length w.now.items }
     {
-        self.reduced_inverse(w).len() as u32
+        self.normal_form(w).len() as u32
     }
 
     /// The letters s with l(sw) < l(w), rising. For example in A 3 the word `12` has the left descents 1.
@@ -38,6 +41,9 @@ impl RootTable {
         ensures word { IsWord self.now.rank result.items }
         ensures few { length result.items ≤ self.now.rank }
     {
+        if let Some(found) = by_heights::descents(&self.group, w, Side::Left) {
+            return found;
+        }
         self.descents_of(&self.reduced_inverse(w))
     }
 
@@ -48,6 +54,9 @@ impl RootTable {
         ensures word { IsWord self.now.rank result.items }
         ensures few { length result.items ≤ self.now.rank }
     {
+        if let Some(found) = by_heights::descents(&self.group, w, Side::Right) {
+            return found;
+        }
         self.descents_of(&self.reduced_inverse(&self.reduced_inverse(w)))
     }
 
@@ -59,6 +68,9 @@ impl RootTable {
         ensures word { IsWord self.now.rank result.items }
         ensures no_longer { length result.items ≤ length w.now.items }
     {
+        if let Some(form) = by_heights::normal_form(&self.group, w, Side::Right) {
+            return form;
+        }
         self.form_of_inverse(self.reduced_inverse(&self.reduced_inverse(w)))
     }
 
@@ -72,9 +84,7 @@ impl RootTable {
         ensures word { IsWord self.now.rank result.items }
         ensures no_longer { length result.items ≤ length x.now.items + length y.now.items }
     {
-        let mut inverse = self.reduced_inverse(y);
-        self.multiply_inverse(&mut inverse, x);
-        self.form_of_inverse(inverse)
+        self.normal_form(&joined(x, y))
     }
 
     /// The normal form of the inverse of the element of a reduced word.
@@ -128,5 +138,17 @@ impl RootTable {
             }
         }
         found
+    }
+}
+
+/// One word and then the other.
+fn joined(x: &Word, y: &Word) -> Word
+    requires { length x.now.items + length y.now.items ≤ MAX_LETTERS }
+    ensures { result.items ≡ x.now.items ++ y.now.items }
+{
+    let mut word = copy_word(x);
+    match word.try_extend_from_slice(y.as_slice()) {
+        Ok(()) => word,
+        Err(_) => unreachable!(),
     }
 }

@@ -16,6 +16,7 @@
 //! - `fault`: why there is no table
 #![tactic(auto)]
 
+mod by_heights;
 mod closure;
 mod fault;
 mod forms;
@@ -27,6 +28,7 @@ mod roots;
 mod table;
 #[cfg(test)]
 mod tests;
+mod words;
 
 pub use closure::MAX_SMALL_ROOTS;
 pub use fault::RootFault;

@@ -13,6 +13,6 @@ pub turn-letter : (n k s : ℕ) (w : List ℕ) → IsWord n w → (k < length (r
 turn-letter n k s w h turn = rw turn.1 (IsWord-reverse w h k s turn.0)
 
 -- there is a letter to come
-pub turn-length : {X : Type 0} (f : X → ℕ) (xs : List X) (w : List ℕ) → length xs < length (reverse w) → length w ≤ 63
-    → length (reverse (map f xs)) ≤ 62
-turn-length f xs w before short = omega (arith, before, short, length-reverse w, length-reverse (map f xs), length-map xs f)
+pub turn-length : {X : Type 0} (f : X → ℕ) (xs : List X) (w : List ℕ) → length xs < length (reverse w)
+    → length (reverse (map f xs)) < length w
+turn-length f xs w before = omega (arith, before, length-reverse w, length-reverse (map f xs), length-map xs f)

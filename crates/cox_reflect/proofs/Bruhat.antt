@@ -178,3 +178,10 @@ module _ (A : IntegerMatrix) (g : IsAdmissible A) where
   below-push y w s d b =
       (below_reverse (y ++ s ∷ []) w).1 (rw (reverse-push y s) (below-cons (reverse y) (reverse w) s (descent-reverse w s d)
       ((below_reverse y w).0 b)))
+
+  -- the normal form of w has the same elements below it
+  pub below-form : (y w form : List ℕ) → form ≡ normal_form A w → IsBelow A y form ↔ IsBelow A y w
+  below-form y w form e = (
+    λ b. below-same (same-refl A g y) (normal_form-same A g w) (rw e at b),
+    λ b. rw e (below-same (same-refl A g y) (same-sym A g (normal_form-same A g w)) b),
+  )

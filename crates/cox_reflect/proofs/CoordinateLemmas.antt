@@ -156,7 +156,7 @@ module _ (x : CoxeterMatrix) (matrix : IsCoxeterMatrix x) (w : List ℕ) (word :
   image-letter = turn-letter x.rank (length xs) (f item) w word turn
 
   pub image-room : size x.rank (at_letter list) ≤ 4 ^ 62
-  image-room = size-word (integer_matrix x) g list _ are (reverse (map f xs)) s refl (turn-length f xs w turn.0 short)
+  image-room = size-word (integer_matrix x) g list _ are (reverse (map f xs)) s refl (omega (arith, short, turn-length f xs w turn.0))
 
   pub image-fits : (p : ℤ) → nat_abs p ≤ 3 * size x.rank (at_letter list) → SFits w128 (at_letter list (f item) -ℤ p)
   image-fits p small = reflected-fits (integer_matrix x) list (f item) p image-letter small image-room

@@ -14,9 +14,8 @@ use Rattle.cox_base.specs.ShortLex.{normal_form}
 use Rattle.cox_base.specs.Length.{word_length}
 use Rattle.cox_base.specs.Reduced.{IsLeftDescent}
 use Rattle.cox_reflect.specs.Action.{Vector, simple_root, pairing, minus, reflect, act, IsNonpositive}
-use Rattle.cox_reflect.specs.declared.heights.Heights.{Heights}
 use Rattle.cox_reflect.specs.RootHeight.{at_letter, height}
-use Rattle.cox_reflect.specs.Height.{AreHeights, CanPrepend}
+use Rattle.cox_reflect.specs.Height.{AreHeights, AreOfShortElement, AreShortWith}
 use Rattle.cox_lemmas.proofs.Ring.{linears, multiply_out, one_times}
 use Rattle.cox_reflect.proofs.Sums.{letter_above, last_letter, letter_cases, sum_to-same, sum_to-simple_root, sum_to-other_root}
 use Rattle.cox_reflect.proofs.Sums.{simple_root-other}
@@ -114,23 +113,11 @@ nat_abs-step a e b small =
 power : (k : ℕ) → 4 ^ suc k ≡ 4 * 4 ^ k
 power k = omega arith
 
--- 4^63 + 4^62 < 2^127
-two_bounds : (x y i j : ℕ) → x ≤ 4 ^ i → y ≤ 4 ^ j → i ≤ 63 → j ≤ 62 → x + y < 2 ^ 127
-two_bounds x y i j h k l m =
-    let first : 4 ^ i ≤ 4 ^ 63 = pow-le-pow_right (lit< tt) l
-    in let second : 4 ^ j ≤ 4 ^ 62 = pow-le-pow_right (lit< tt) m
-    in let room : 4 ^ 63 + 4 ^ 62 < 2 ^ 127 = lit< tt
-    in omega (arith, first, second, room, h, k)
-
-either_bound : (x y i j : ℕ) → x ≤ 4 ^ i → y ≤ 4 ^ j → i ≤ 63 → j ≤ 63 → i + j ≤ 125 → x + y < 2 ^ 127
-either_bound x y i j h k l m n =
-    ⊎_elim (λ (low : i < 63). let swapped : y + x < 2 ^ 127 = two_bounds y x j i k h m (omega (arith, low)) in omega (arith, swapped))
-    (λ (high : 63 ≤ i). two_bounds x y i j h k l (omega (arith, high, n))) (cases_lt i 63)
-
--- From u to su each height h(t) becomes h(t) - a(s,t) h(s): no number on the way there needs more than 128 bits.
-record HasRoom (A : IntegerMatrix) (s : ℕ) (heights : Heights) : Type 0 where
-  pub room : (t : ℕ) → IsLetter A.rank t → nat_abs (at_letter heights.values t) + nat_abs
-      (at_letter heights.values t -ℤ (A.entry s t *ℤ at_letter heights.values s)) < 2 ^ 127
+-- From u to su each height h(t) becomes h(t) - a(s,t) h(s): no number on the way there needs more than h bits and a sign.
+pub record HasRoom (A : IntegerMatrix) (h s : ℕ) (heights : List ℤ) : Type 0 where
+  pub own : 3 * nat_abs (at_letter heights s) < 2 ^ h
+  pub each : (t : ℕ) → IsLetter A.rank t
+      → nat_abs (at_letter heights t -ℤ (A.entry s t *ℤ at_letter heights s)) < 2 ^ h
 
 module _ (A : IntegerMatrix) (g : IsAdmissible A) where
   pub height-bound : (u : List ℕ) (t : ℕ) → nat_abs (height A u t) ≤ 4 ^ length u
@@ -145,46 +132,67 @@ module _ (A : IntegerMatrix) (g : IsAdmissible A) where
   height-bound_reduced u t =
       rw (height-equal A g {u = u} (same-sym A g (normal_form-same A g u)) t, word_length-is A u) (height-bound (normal_form A u) t)
 
-  -- From u to su there is room, where both elements have at most 63 letters.
-  CanPrepend-room : (s : ℕ) (heights : Heights) → IsLetter A.rank s → CanPrepend A s heights → HasRoom A s heights
-  CanPrepend-room s heights ls c = record { room = room }
+  -- From u to su there is room, where both elements have few letters: one of them has fewer than the other.
+  pub AreShortWith-room : (n h s : ℕ) (heights : List ℤ) → 1 ≤ n → 4 ^ n < 2 ^ h → IsLetter A.rank s → AreShortWith A n s heights
+      → HasRoom A h s heights
+  AreShortWith-room n h s heights some small ls c = record { own = own; each = each }
     where
-      both : word_length A c.word + word_length A (s ∷ c.word) ≤ 125
-      both = ⊎_elim (λ longer. omega (arith, longer, c.short, c.next_short)) (λ shorter. omega (arith, shorter, c.short, c.next_short))
-          (left_length A g s c.word ls)
+      bound : (k : ℕ) → k ≤ n → 4 ^ k ≤ 4 ^ n
+      bound k l = pow-le-pow_right (lit< tt) l
 
-      room : (t : ℕ) → IsLetter A.rank t → nat_abs (at_letter heights.values t) + nat_abs
-          (at_letter heights.values t -ℤ (A.entry s t *ℤ at_letter heights.values s)) < 2 ^ 127
-      room t l =
+      before : nat_abs (height A c.word s) ≤ 4 ^ word_length A c.word
+      before = height-bound_reduced c.word s
+
+      turned : height A (s ∷ c.word) s ≡ height A c.word s -ℤ (pos 2 *ℤ height A c.word s)
+      turned = rw (← g.diagonal s ls) (height-cons A g s c.word s)
+
+      after : nat_abs (height A c.word s) ≤ 4 ^ word_length A (s ∷ c.word)
+      after =
+          let next : nat_abs (height A c.word s -ℤ (pos 2 *ℤ height A c.word s)) ≤ 4 ^ word_length A (s ∷ c.word)
+          = rw turned at (height-bound_reduced (s ∷ c.word) s)
+          in omega (arith, ints, next)
+
+      fewer : (k : ℕ) → nat_abs (height A c.word s) ≤ 4 ^ k → suc k ≤ n → 3 * nat_abs (height A c.word s) < 2 ^ h
+      fewer k l m = omega (arith, l, bound (suc k) m, power k, small)
+
+      own : 3 * nat_abs (at_letter heights s) < 2 ^ h
+      own =
+          rw (c.heights_of.each s ls)
+          (⊎_elim (λ longer. fewer (word_length A c.word) before (omega (arith, longer, c.next_short)))
+          (λ shorter. fewer (word_length A (s ∷ c.word)) after (omega (arith, shorter, c.short))) (left_length A g s c.word ls))
+
+      each : (t : ℕ) → IsLetter A.rank t → nat_abs (at_letter heights t -ℤ (A.entry s t *ℤ at_letter heights s)) < 2 ^ h
+      each t l =
           let next : nat_abs (height A c.word t -ℤ (A.entry s t *ℤ height A c.word s)) ≤ 4 ^ word_length A (s ∷ c.word)
           = rw (height-cons A g s c.word t) at (height-bound_reduced (s ∷ c.word) t)
           in rw (c.heights_of.each t l, c.heights_of.each s ls)
-          (either_bound (nat_abs (height A c.word t)) (nat_abs (height A c.word t -ℤ (A.entry s t *ℤ height A c.word s)))
-          (word_length A c.word) (word_length A (s ∷ c.word)) (height-bound_reduced c.word t) next c.short c.next_short both)
+          (omega (arith, next, bound (word_length A (s ∷ c.word)) c.next_short, small))
 
-  -- the room for one number, which is the old one until its turn comes
-  pub room_at : (s t : ℕ) (heights : Heights) (x : ℤ) → IsLetter A.rank s → CanPrepend A s heights → x ≡ at_letter heights.values t
-      → IsLetter A.rank t → nat_abs x + nat_abs (x -ℤ (A.entry s t *ℤ at_letter heights.values s)) < 2 ^ 127
-  room_at s t heights x ls c is l = rw is ((CanPrepend-room s heights ls c).room t l)
+  -- the element of a short word is short,
+  pub AreOfShortElement-word : (n : ℕ) (u : List ℕ) (heights : List ℤ) → length u ≤ n → AreHeights A u heights
+      → AreOfShortElement A n heights
+  AreOfShortElement-word n u heights short a =
+      record { word = u; heights_of = a; short = omega (arith, word_length-length A g u, short) }
 
-  -- a letter may come before a word of at most 62 letters,
-  pub CanPrepend-word : (u : List ℕ) (s : ℕ) (heights : Heights) → length u ≤ 62 → AreHeights A u heights → CanPrepend A s heights
-  CanPrepend-word u s heights short a = record {
+  -- a letter may come before a word of fewer letters,
+  pub AreShortWith-word : (n : ℕ) (u : List ℕ) (s : ℕ) (heights : List ℤ) → length u < n → AreHeights A u heights
+      → AreShortWith A n s heights
+  AreShortWith-word n u s heights short a = record {
     word = u;
     heights_of = a;
     short = omega (arith, word_length-length A g u, short);
     next_short = omega (arith, word_length-length A g u, word_length-cons A g s u, short);
   }
 
-  -- and a left descent before a word of an element of at most 63
-  pub CanPrepend-descent : (u : List ℕ) (s : ℕ) (heights : Heights) → IsLeftDescent A u s → word_length A u ≤ 63 → AreHeights A u heights
-      → CanPrepend A s heights
-  CanPrepend-descent u s heights d short a = record { word = u; heights_of = a; short = short; next_short = omega (arith, d, short) }
+  -- and a left descent before a word
+  pub AreShortWith-descent : (n : ℕ) (u : List ℕ) (s : ℕ) (heights : List ℤ) → IsLeftDescent A u s → word_length A u ≤ n
+      → AreHeights A u heights → AreShortWith A n s heights
+  AreShortWith-descent n u s heights d short a = record { word = u; heights_of = a; short = short; next_short = omega (arith, d, short) }
 
 -- the new numbers are the heights of s u
-pub AreHeights-cons : (A : IntegerMatrix) (g : IsAdmissible A) (s : ℕ) (u : List ℕ) (old new : Heights)
+pub AreHeights-cons : (A : IntegerMatrix) (g : IsAdmissible A) (s : ℕ) (u : List ℕ) (old new : List ℤ)
     → IsLetter A.rank s → AreHeights A u old
-    → ((t : ℕ) → IsLetter A.rank t → at_letter new.values t ≡ at_letter old.values t -ℤ (A.entry s t *ℤ at_letter old.values s))
+    → ((t : ℕ) → IsLetter A.rank t → at_letter new t ≡ at_letter old t -ℤ (A.entry s t *ℤ at_letter old s))
     → AreHeights A (s ∷ u) new
 AreHeights-cons A g s u old new ls a h = record {
   each = λ t l. h t l ∙ rw (a.each t l, a.each s ls) (sym (height-cons A g s u t));
@@ -226,17 +234,17 @@ module _ (A : IntegerMatrix) (g : IsAdmissible A) where
       go (shorter e n) = reverse_left_descent A g u t (omega (arith, e))
 
   -- .. so a list of heights tells the descents
-  pub descent_from_heights : (u : List ℕ) (heights : Heights) (t : ℕ) → AreHeights A u heights → IsLetter A.rank t
-      → at_letter heights.values t <ℤ pos 0 → IsLeftDescent A u t
+  pub descent_from_heights : (u : List ℕ) (heights : List ℤ) (t : ℕ) → AreHeights A u heights → IsLetter A.rank t
+      → at_letter heights t <ℤ pos 0 → IsLeftDescent A u t
   descent_from_heights u heights t a l h = height-descent u t l (rw (a.each t l) at h)
 
-  pub heights_at_descent : (u : List ℕ) (heights : Heights) (t : ℕ) → AreHeights A u heights → IsLeftDescent A u t
-      → at_letter heights.values t <ℤ pos 0
+  pub heights_at_descent : (u : List ℕ) (heights : List ℤ) (t : ℕ) → AreHeights A u heights → IsLeftDescent A u t
+      → at_letter heights t <ℤ pos 0
   heights_at_descent u heights t a d = rw (a.each t (left_descent-letter A g u t d)) (descent-height u t d)
 
   -- where no letter below s has a negative height, no descent is below s
-  pub descents_from : (u : List ℕ) (heights : Heights) (s : ℕ) → AreHeights A u heights
-      → ((t : ℕ) → 1 ≤ t → t < s → pos 0 ≤ℤ at_letter heights.values t)
+  pub descents_from : (u : List ℕ) (heights : List ℤ) (s : ℕ) → AreHeights A u heights
+      → ((t : ℕ) → 1 ≤ t → t < s → pos 0 ≤ℤ at_letter heights t)
       → (t : ℕ) → IsLeftDescent A u t → s ≤ t
   descents_from u heights s a none t d =
       ⊎_elim (λ (below : t < s). absurd (omega (

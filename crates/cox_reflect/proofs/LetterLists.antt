@@ -11,7 +11,6 @@ use Rattle.cox_base.specs.IntegerMatrix.{IntegerMatrix}
 use Rattle.cox_base.specs.Admissible.{IsAdmissible}
 use Rattle.cox_base.specs.ShortLex.{letters}
 use Rattle.cox_base.specs.Length.{left_descents}
-use Rattle.cox_reflect.specs.declared.heights.Heights.{Heights}
 use Rattle.cox_reflect.specs.RootHeight.{at_letter}
 use Rattle.cox_reflect.specs.Height.{AreHeights}
 use Rattle.cox_reflect.proofs.DescentLists.{left_descents-by}
@@ -84,11 +83,11 @@ unfolding negative_letters
 length-negative_letters xs k = length-filter_range (λ t. int_lt (at_letter xs t) (pos 0)) k
 
 -- the letters whose heights are negative are the left descents
-pub negative_letters-descents : (A : IntegerMatrix) (g : IsAdmissible A) (u : List ℕ) (heights : Heights) → AreHeights A u heights
-    → negative_letters heights.values A.rank ≡ left_descents A u
+pub negative_letters-descents : (A : IntegerMatrix) (g : IsAdmissible A) (u : List ℕ) (heights : List ℤ) → AreHeights A u heights
+    → negative_letters heights A.rank ≡ left_descents A u
 unfolding negative_letters letters
 negative_letters-descents A g u heights a =
-    sym (left_descents-by A u (λ t. int_lt (at_letter heights.values t) (pos 0)) (λ t l. (
-      λ h. descent_from_heights A g u heights t a l ((Decides-int_lt (at_letter heights.values t) (pos 0)).0 h),
-      λ d. (Decides-int_lt (at_letter heights.values t) (pos 0)).1 (heights_at_descent A g u heights t a d),
+    sym (left_descents-by A u (λ t. int_lt (at_letter heights t) (pos 0)) (λ t l. (
+      λ h. descent_from_heights A g u heights t a l ((Decides-int_lt (at_letter heights t) (pos 0)).0 h),
+      λ d. (Decides-int_lt (at_letter heights t) (pos 0)).1 (heights_at_descent A g u heights t a d),
     )))

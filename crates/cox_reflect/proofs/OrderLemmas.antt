@@ -1,6 +1,6 @@
 -- Bruhat order by lifting, letter by letter of a reduced word.
 use Rattle.std.proofs.Common.{◌≡◌, ℕ, Bool, true, false, not, IsTrue, Option, Some, None, is_some, MatchOption, List, [], ◌∷◌}
-use Rattle.std.proofs.Common.{◌++◌, length, take, drop, ◌↔◌, refl, arith, slice_index, add-one, drop-cons, sym, ◌∙◌, ◌<◌, ◌+◌}
+use Rattle.std.proofs.Common.{◌++◌, length, take, drop, ◌↔◌, refl, arith, slice_index, add-one, drop-cons, sym, ◌∙◌, ◌<◌, ◌+◌, ℤ, pos, ◌<ℤ◌}
 use Rattle.std.proofs.lemmas.Bool.{false≢true}
 use Rattle.std.proofs.lemmas.List.{take-append-drop}
 use Rattle.cox_base.specs.Matrix.{CoxeterMatrix, IsLetter, IsWord}
@@ -8,28 +8,27 @@ use Rattle.cox_base.specs.Admissible.{IsCoxeterMatrix, IsAdmissible}
 use Rattle.cox_base.specs.IntegerMatrix.{IntegerMatrix, integer_matrix}
 use Rattle.cox_base.specs.Reduced.{IsReduced, IsLeftDescent}
 use Rattle.cox_base.specs.Bruhat.{IsBelow}
-use Rattle.cox_reflect.specs.declared.heights.Heights.{Heights}
-use Rattle.cox_reflect.specs.Height.{AreHeights, CanPrepend, IsLeastLeftDescent}
-use Rattle.cox_reflect.specs.Order.{AreOfShortElement}
+use Rattle.cox_reflect.specs.RootHeight.{at_letter}
+use Rattle.cox_reflect.specs.Height.{AreHeights, AreOfShortElement, AreShortWith, IsLeastLeftDescent}
 use Rattle.cox_reflect.proofs.Elements.{same-refl, same-sym, same-trans, same-equal, same-square}
 use Rattle.cox_reflect.proofs.Search.{normal_form-same, word_length-equal, word_length-length}
 use Rattle.cox_reflect.proofs.Lengths.{IsReduced-back}
 use Rattle.cox_reflect.proofs.NormalForm.{normal_form-no_descent}
 use Rattle.cox_reflect.proofs.Admissible.{IsAdmissible-integer_matrix}
-use Rattle.cox_reflect.proofs.HeightLemmas.{CanPrepend-descent}
+use Rattle.cox_reflect.proofs.HeightLemmas.{AreShortWith-descent, descent_from_heights, heights_at_descent}
 use Rattle.cox_reflect.proofs.FormLemmas.{Prepends}
 use Rattle.cox_reflect.proofs.Bruhat.{below-same, below-refl, below-length, lift_down, lift_up}
 
 -- y <= w is settled by the order of what is left of y and of w, and the heights are those of what is left of y
-pub record IsLifted (A : IntegerMatrix) (y w rest : List ℕ) (heights : Heights) : Type 0 where
+pub record IsLifted (A : IntegerMatrix) (y w rest : List ℕ) (heights : List ℤ) : Type 0 where
   pub left : List ℕ
   pub heights_of : AreHeights A left heights
   pub settles : IsBelow A y w ↔ IsBelow A left rest
 
--- so it is for each y with the first heights, and what is left has at most 63 letters
-pub record AreLifted (A : IntegerMatrix) (w rest : List ℕ) (first heights : Heights) : Type 0 where
+-- so it is for each y with the first heights, and what is left of a short element is short
+pub record AreLifted (A : IntegerMatrix) (w rest : List ℕ) (first heights : List ℤ) : Type 0 where
   pub each : (y : List ℕ) → AreHeights A y first → IsLifted A y w rest heights
-  pub element : AreOfShortElement A heights
+  pub short : (n : ℕ) → AreOfShortElement A n first → AreOfShortElement A n heights
 
 module _ (A : IntegerMatrix) (g : IsAdmissible A) where
   -- the first letter of a reduced word is a left descent
@@ -44,9 +43,9 @@ module _ (A : IntegerMatrix) (g : IsAdmissible A) where
   )
 
   -- s shortens what is left of y: it goes
-  IsLifted-down : (y w prefix : List ℕ) (s : ℕ) (v : List ℕ) (heights : Heights) (c : IsLifted A y w prefix heights) → prefix ≡ s ∷ v
+  IsLifted-down : (y w prefix : List ℕ) (s : ℕ) (v : List ℕ) (heights : List ℤ) (c : IsLifted A y w prefix heights) → prefix ≡ s ∷ v
       → IsReduced A prefix → IsLeftDescent A c.left s
-      → (next : Heights) → AreHeights A (s ∷ c.left) next → IsLifted A y w v next
+      → (next : List ℤ) → AreHeights A (s ∷ c.left) next → IsLifted A y w v next
   IsLifted-down y w prefix s v heights c e r d next a =
       let before : IsBelow A y w ↔ IsBelow A c.left (s ∷ v) = rw e at c.settles
       in let step = lift_down A g c.left (s ∷ v) s (first-descent s v (rw e at r)) d
@@ -57,7 +56,7 @@ module _ (A : IntegerMatrix) (g : IsAdmissible A) where
       }
 
   -- it does not: it stays
-  IsLifted-up : (y w prefix : List ℕ) (s : ℕ) (v : List ℕ) (heights : Heights) (c : IsLifted A y w prefix heights) → prefix ≡ s ∷ v
+  IsLifted-up : (y w prefix : List ℕ) (s : ℕ) (v : List ℕ) (heights : List ℤ) (c : IsLifted A y w prefix heights) → prefix ≡ s ∷ v
       → IsReduced A prefix → (IsLeftDescent A c.left s → ⊥)
       → IsLifted A y w v heights
   IsLifted-up y w prefix s v heights c e r none =
@@ -70,17 +69,17 @@ module _ (A : IntegerMatrix) (g : IsAdmissible A) where
       }
 
   -- at the end the identity alone is below
-  IsLifted-yes : (y w : List ℕ) (heights : Heights) (c : IsLifted A y w [] heights) → ((t : ℕ) → IsLeftDescent A c.left t → ⊥)
+  IsLifted-yes : (y w : List ℕ) (heights : List ℤ) (c : IsLifted A y w [] heights) → ((t : ℕ) → IsLeftDescent A c.left t → ⊥)
       → IsBelow A y w
   IsLifted-yes y w heights c none =
       c.settles.1 (below-refl A g (same-trans A g (same-sym A g (normal_form-same A g c.left))
       (same-equal A g (normal_form-no_descent A g c.left none))))
 
-  IsLifted-no : (y w : List ℕ) (heights : Heights) (c : IsLifted A y w [] heights) (s : ℕ) → IsLeftDescent A c.left s → IsBelow A y w → ⊥
+  IsLifted-no : (y w : List ℕ) (heights : List ℤ) (c : IsLifted A y w [] heights) (s : ℕ) → IsLeftDescent A c.left s → IsBelow A y w → ⊥
   IsLifted-no y w heights c s d b = omega (arith, d, below-length A g (c.settles.0 b), word_length-length A g [])
 
   -- where no letter of w is to come, the answer is whether nothing is left of y
-  pub IsLifted-answer : (y w rest : List ℕ) (heights : Heights) (c : IsLifted A y w rest heights) → rest ≡ []
+  pub IsLifted-answer : (y w rest : List ℕ) (heights : List ℤ) (c : IsLifted A y w rest heights) → rest ≡ []
       → (found : Option ℕ) (answer : Bool)
       → MatchOption found ((t : ℕ) → IsLeftDescent A c.left t → ⊥) (IsLeastLeftDescent A c.left) → is_some found ≡ not answer
       → IsTrue answer ↔ IsBelow A y w
@@ -103,11 +102,6 @@ module _ (A : IntegerMatrix) (g : IsAdmissible A) where
 
 -- ---- a turn of the loop over the letters of a reduced word
 
--- what the code knows of its test of a letter
-abbrev pub TellsDescent : Heights → ℕ → Bool → Type 0
-TellsDescent heights s answer =
-    (A : IntegerMatrix) → (u : List ℕ) → IsAdmissible A → IsLetter A.rank s → AreHeights A u heights → (IsTrue answer ↔ IsLeftDescent A u s)
-
 module _ (x : CoxeterMatrix) (matrix : IsCoxeterMatrix x) (form : List ℕ) (word : IsWord x.rank form)
     (is_reduced : IsReduced (integer_matrix x) form) (k : ℕ) (more : k < length form) where
   g : IsAdmissible (integer_matrix x)
@@ -122,31 +116,34 @@ module _ (x : CoxeterMatrix) (matrix : IsCoxeterMatrix x) (form : List ℕ) (wor
   reduced : IsReduced (integer_matrix x) (drop k form)
   reduced = IsReduced-drop (integer_matrix x) g k form is_reduced
 
-  module _ (first heights : Heights) (c : AreLifted (integer_matrix x) form (drop k form) first heights) (answer : Bool)
-      (tells : TellsDescent heights (slice_index form k) answer) where
+  module _ (first heights : List ℤ) (c : AreLifted (integer_matrix x) form (drop k form) first heights) (answer : Bool)
+      (tells : IsTrue answer ↔ (at_letter heights (slice_index form k) <ℤ pos 0)) where
     descent : (u : List ℕ) → AreHeights (integer_matrix x) u heights
         → IsTrue answer ↔ IsLeftDescent (integer_matrix x) u (slice_index form k)
-    descent u a = tells (integer_matrix x) u g turn-letter a
+    descent u a = (
+      λ t. descent_from_heights (integer_matrix x) g u heights (slice_index form k) a turn-letter (tells.0 t),
+      λ d. tells.1 (heights_at_descent (integer_matrix x) g u heights (slice_index form k) a d),
+    )
 
-    pub turn-room : IsTrue answer → CanPrepend (integer_matrix x) (slice_index form k) heights
-    turn-room taken =
-        let e = c.element
-        in CanPrepend-descent (integer_matrix x) g e.word (slice_index form k) heights
+    pub turn-room : IsTrue answer → (n : ℕ) → AreOfShortElement (integer_matrix x) n first
+        → AreShortWith (integer_matrix x) n (slice_index form k) heights
+    turn-room taken n short =
+        let e = c.short n short
+        in AreShortWith-descent (integer_matrix x) g n e.word (slice_index form k) heights
         ((descent e.word e.heights_of).0 taken) e.short e.heights_of
 
-    pub turn-down : IsTrue answer → (next : Heights) → Prepends (integer_matrix x) (slice_index form k) heights next
+    pub turn-down : IsTrue answer → (next : List ℤ) → Prepends (integer_matrix x) (slice_index form k) heights next
         → AreLifted (integer_matrix x) form (drop (k + 1) form) first next
-    turn-down taken next moves =
-        let e = c.element
-        in let d = (descent e.word e.heights_of).0 taken
-        in record {
-          each = λ y a.
-              let l = c.each y a
-              in IsLifted-down (integer_matrix x) g y form (drop k form) (slice_index form k) (drop (k + 1) form) heights l prefix reduced
-              ((descent l.left l.heights_of).0 taken) next (moves l.left l.heights_of);
-          element =
-              record { word = slice_index form k ∷ e.word; heights_of = moves e.word e.heights_of; short = omega (arith, d, e.short) };
-        }
+    turn-down taken next moves = record {
+      each = λ y a.
+          let l = c.each y a
+          in IsLifted-down (integer_matrix x) g y form (drop k form) (slice_index form k) (drop (k + 1) form) heights l prefix reduced
+          ((descent l.left l.heights_of).0 taken) next (moves l.left l.heights_of);
+      short = λ n short.
+          let e = c.short n short
+          in let d = (descent e.word e.heights_of).0 taken
+          in record { word = slice_index form k ∷ e.word; heights_of = moves e.word e.heights_of; short = omega (arith, d, e.short) };
+    }
 
     pub turn-up : answer ≡ false → AreLifted (integer_matrix x) form (drop (k + 1) form) first heights
     turn-up other = record {
@@ -154,5 +151,5 @@ module _ (x : CoxeterMatrix) (matrix : IsCoxeterMatrix x) (form : List ℕ) (wor
           let l = c.each y a
           in IsLifted-up (integer_matrix x) g y form (drop k form) (slice_index form k) (drop (k + 1) form) heights l prefix reduced
           (λ d. absurd (false≢true (sym other ∙ (descent l.left l.heights_of).1 d)));
-      element = c.element;
+      short = c.short;
     }

@@ -20,5 +20,3 @@ pub mod RootHeight
 pub mod Height
 -- descents by the side
 pub mod Side
--- what the test of Bruhat order asks of heights
-pub mod Order

@@ -6,6 +6,7 @@ ghost use Rattle.cox_base.specs.Element.{sum_to, matrix};
 ghost use Rattle.cox_reflect.specs.Action.{size};
 ghost use Rattle.cox_reflect.specs.RootHeight.{at_letter};
 
+use crate::wide_heights::LETTERS_OF_128_BITS;
 use cox_base::{Coxeter, MAX_RANK, Word};
 
 /// The coordinates of M(w) e(s), that of e(i) at i - 1; 0 past the rank.
@@ -13,7 +14,7 @@ use cox_base::{Coxeter, MAX_RANK, Word};
 /// For example in A 2 the image of e(1) under `21` is -e(1) - e(2): the numbers -1, -1, 0, 0, 0, 0, 0, 0, 0.
 pub fn image(g: &Coxeter, w: &Word, s: u8) -> [i128; MAX_RANK]
     requires letters { IsWord g.now.rank w.now.items }
-    requires short { length w.now.items ≤ 63 }
+    requires short { length w.now.items ≤ LETTERS_OF_128_BITS }
     requires letter { IsLetter g.now.rank s }
     ensures coordinates { (i : ℕ) → IsLetter g.now.rank i
         → slice_index_or result (i - 1) (pos 0) ≡ matrix (integer_matrix g.now) w.now.items i s }

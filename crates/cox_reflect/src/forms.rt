@@ -7,7 +7,8 @@ ghost use Rattle.cox_base.specs.Length.{word_length};
 ghost use Rattle.cox_reflect.specs.Height.{AreHeights};
 ghost use Rattle.cox_reflect.specs.Side.{word_at, descents_at};
 
-use crate::Heights;
+use crate::height_row::{descents_of, normal_form_of, of_reversed, of_word};
+use crate::wide_heights::{LETTERS_OF_128_BITS, WideHeights};
 use cox_base::{Coxeter, MAX_RANK, Side, Word};
 
 /// The letters s with l(sw) < l(w), or on the right with l(ws) < l(w), rising.
@@ -15,60 +16,54 @@ use cox_base::{Coxeter, MAX_RANK, Side, Word};
 /// For example in A 3 the word `12` has the left descents 1 and the right descents 2.
 pub fn descents(g: &Coxeter, w: &Word, side: Side) -> Word
     requires letters { IsWord g.now.rank w.now.items }
-    requires short { length w.now.items ≤ 63 }
+    requires short { length w.now.items ≤ LETTERS_OF_128_BITS }
     ensures descents { result.items ≡ descents_at side (integer_matrix g.now) w.now.items }
     ensures word { IsWord g.now.rank result.items }
     ensures few { length result.items ≤ g.now.rank }
     ensures limit { g.now.rank ≤ MAX_RANK }
 {
-    heights_at(g, w, side).descents(g.rank())
+    descents_of(&heights_at(g, w, side), g.rank())
 }
 
 /// The heights whose left descents are the descents of w on that side.
-fn heights_at(g: &Coxeter, w: &Word, side: Side) -> Heights
+pub(crate) fn heights_at(g: &Coxeter, w: &Word, side: Side) -> WideHeights
     requires letters { IsWord g.now.rank w.now.items }
-    requires short { length w.now.items ≤ 63 }
-    ensures { AreHeights (integer_matrix g.now) (word_at side w.now.items) result }
+    requires short { length w.now.items ≤ LETTERS_OF_128_BITS }
+    ensures { AreHeights (integer_matrix g.now) (word_at side w.now.items) result.values }
 {
-    match side {
-        Side::Left => Heights::of_word(g, w),
-        Side::Right => Heights::of_reversed(g, w),
+    let heights = match side {
+        Side::Left => of_word(g, w.as_slice()),
+        Side::Right => of_reversed(g, w.as_slice()),
+    };
+    match heights {
+        Some(heights) => heights,
+        None => unreachable!(),
     }
 }
 
 /// The length of the element that w names.
 pub fn length(g: &Coxeter, w: &Word) -> u32
     requires letters { IsWord g.now.rank w.now.items }
-    requires short { length w.now.items ≤ 63 }
+    requires short { length w.now.items ≤ LETTERS_OF_128_BITS }
     ensures length { result ≡ word_length (integer_matrix g.now) w.now.items }
     ensures no_longer { result ≤ length w.now.items }
     ensures limit { g.now.rank ≤ MAX_RANK }
 {
-    let mut heights = Heights::of_word(g, w);
-    let mut count = 0;
-    while let Some(s) = heights.least_descent(g.rank()) {
-        heights.prepend(g, s);
-        count += 1;
-    }
-    count
+    normal_form(g, w).len() as u32
 }
 
-/// The normal form of the element that w names: its ShortLex-first word.
-///
-/// It is read off letter by letter: nf(w) = s nf(sw) for the least left descent s of w. For example in A 2 that of `212` is `121`.
+/// The normal form of the element that w names: its ShortLex-first word. For example in A 2 that of `212` is `121`.
 pub fn normal_form(g: &Coxeter, w: &Word) -> Word
     requires letters { IsWord g.now.rank w.now.items }
-    requires short { length w.now.items ≤ 63 }
+    requires short { length w.now.items ≤ LETTERS_OF_128_BITS }
     ensures form { result.items ≡ normal_form (integer_matrix g.now) w.now.items }
     ensures word { IsWord g.now.rank result.items }
     ensures no_longer { length result.items ≤ length w.now.items }
     ensures limit { g.now.rank ≤ MAX_RANK }
 {
-    let mut heights = Heights::of_word(g, w);
-    let mut form = Word::new();
-    while let Some(s) = heights.least_descent(g.rank()) {
-        heights.prepend(g, s);
-        form.push(s);
+    let _rank = g.rank();
+    match normal_form_of(g, heights_at(g, w, Side::Left)) {
+        Some(form) => form,
+        None => unreachable!(),
     }
-    form
 }

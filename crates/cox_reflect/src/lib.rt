@@ -15,13 +15,18 @@
 
 mod coordinates;
 mod forms;
+mod height_row;
 mod heights;
 pub mod laws;
 mod order;
 #[cfg(test)]
 mod tests;
+mod wide_heights;
+mod words;
 
 pub use coordinates::image;
 pub use forms::{descents, length, normal_form};
-pub use heights::Heights;
-pub use order::{below, below_reduced};
+pub use heights::{Heights, LETTERS_OF_64_BITS, below_reduced};
+pub use order::below;
+pub use wide_heights::LETTERS_OF_128_BITS;
+pub use words::Words;

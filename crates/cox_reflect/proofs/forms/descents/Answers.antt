@@ -9,6 +9,6 @@ use Rattle.cox_reflect.proofs.forms.descents.Goals as goal
 pub returns-clause-descents : goal.returns-clause-descents
 returns-clause-descents c =
     let g = IsAdmissible-integer_matrix c.args.g.now c.rank.ensures.matrix
-    in c.descents.ensures.descents (integer_matrix c.args.g.now) (word_at c.args.side c.args.w.now.items) g
+    in c.descents_of.ensures.descents (integer_matrix c.args.g.now) (word_at c.args.side c.args.w.now.items) g
     (sym c.rank.ensures.rank) c.heights_at.ensures
     ∙ left_descents-word_at (integer_matrix c.args.g.now) g c.args.side c.args.w.now.items

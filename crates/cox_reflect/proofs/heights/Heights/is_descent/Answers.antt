@@ -4,6 +4,6 @@ use Rattle.cox_reflect.proofs.heights.Heights.is_descent.Goals as goal
 
 pub returns : goal.returns
 returns c = λ A u g l a. (
-  λ h. descent_from_heights A g u c.args.self.now c.args.s a l (c.is_negative.ensures.0 h),
-  λ d. c.is_negative.ensures.1 (heights_at_descent A g u c.args.self.now c.args.s a d),
+  λ h. descent_from_heights A g u c.args.self.now.values c.args.s a l (c.is_negative.ensures.0 h),
+  λ d. c.is_negative.ensures.1 (heights_at_descent A g u c.args.self.now.values c.args.s a d),
 )

@@ -1,9 +1,0 @@
--- What is kept over the letters of the reduced word.
-use Rattle.std.proofs.Common.{drop}
-use Rattle.cox_base.specs.IntegerMatrix.{integer_matrix}
-use Rattle.cox_reflect.proofs.OrderLemmas.{AreLifted}
-use Rattle.cox_reflect.proofs.order.below_reduced.Given as goal
-
--- what is left of each element is below the rest exactly where the element is below the word
-abbrev pub invariant-loop-s : goal.invariant-loop-s
-invariant-loop-s l = AreLifted (integer_matrix l.g) l.form (drop l.s-index l.form) l.initial.heights l.heights
