@@ -75,6 +75,14 @@ simple-coordinates n s l h =
     other : (i : ℕ) → (i ≡ s → ⊥) → simple_root s i ≡ vector_of (zeros n) i
     other i ne = simple_root-other s i ne ∙ sym (all_zero i)
 
+-- which are 0 and 1
+pub simple-coordinates_small : (xs : List ℕ) (s k : ℕ) → vector_of xs ≡ simple_root s → get_or xs k 0 ≤ 1
+unfolding vector_of
+simple-coordinates_small xs s k e =
+    let there : pos (get_or xs k 0) ≡ simple_root s (suc k) = ap (λ (v : Vector). v (suc k)) e
+    in ⊎_elim (λ (own : suc k ≡ s). omega (arith, ints, there, simple_root-self s, ap (simple_root s) own))
+    (λ (other : suc k ≡ s → ⊥). omega (arith, ints, there, simple_root-other s (suc k) other)) (cases_eq (suc k) s)
+
 -- one more term of the sum of a loop over the letters
 pub sum_of-next : (t sum size x : ℕ) (f : ℕ → ℕ) → 1 ≤ t → sum ≡ sum_of (t - 1) f → size * x ≡ f t
     → sum + size * x ≡ sum_of (t + 1 - 1) f
