@@ -52,7 +52,8 @@ some_arg [] k lt = absurd (omega arith)
 some_arg (x ∷ xs) k lt = x
 
 -- where the rules of a command are those of a table, each option has a number of its range
-pub numbers_read : (options : List NumberOption) → IsTable options → (app : App) (c : Command) (m : ArgMatches) → IsParsedFrom c m → app_of c ≡ app
+pub numbers_read : (options : List NumberOption) → IsTable options → (app : App) (c : Command) (m : ArgMatches)
+    → IsParsedFrom c m → app_of c ≡ app
     → app.top.is_plain ≡ true → app.top.rules ≡ map number_rule options
     → All (λ option. HasNumber (found_of m) option.name option.most) options
 numbers_read options table app c m p is plain table_rules k o below =

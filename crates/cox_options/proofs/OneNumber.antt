@@ -62,8 +62,8 @@ NextTaken option name text = is_refused (name ∷ named option ∷ text ∷ []) 
 pub next_taken : All (λ option. (name text : List ℕ) → slice_index text 0 ≢ 45 → NextTaken option name text) number_options
 unfolding clap_on_literals
 next_taken = each_plain NextTaken (
-  λ name. (refl, λ x xs plain. by_range MAX_CONTEXT (x ∷ xs) _ (λ e. rw (plain.0, plain.1, e) refl) (λ e. rw (plain.0, plain.1, e) refl)),
-  (λ name. (refl, λ x xs plain. by_range MAX_ROOTS (x ∷ xs) _ (λ e. rw (plain.0, plain.1, e) refl) (λ e. rw (plain.0, plain.1, e) refl)), tt),
+  λ name. (refl, λ x xs p. by_range MAX_CONTEXT (x ∷ xs) _ (λ e. rw (p.0, p.1, e) refl) (λ e. rw (p.0, p.1, e) refl)),
+  (λ name. (refl, λ x xs p. by_range MAX_ROOTS (x ∷ xs) _ (λ e. rw (p.0, p.1, e) refl) (λ e. rw (p.0, p.1, e) refl)), tt),
 )
 
 -- and gives that number
@@ -73,6 +73,6 @@ NextNumber option name text = given_number option.name (name ∷ named option �
 pub next_number : All (λ option. (name text : List ℕ) → slice_index text 0 ≢ 45 → NextNumber option name text) number_options
 unfolding clap_on_literals
 next_number = each_plain NextNumber (
-  λ name. (refl, λ x xs plain. rw (plain.0, plain.1) refl),
-  (λ name. (refl, λ x xs plain. rw (plain.0, plain.1) refl), tt),
+  λ name. (refl, λ x xs p. rw (p.0, p.1) refl),
+  (λ name. (refl, λ x xs p. rw (p.0, p.1) refl), tt),
 )

@@ -1,6 +1,6 @@
 -- Tables of options: no two options of a table have one name, and none has that of an argument which clap adds.
-use Rattle.std.proofs.Common.{◌≡◌, ◌≢◌, ◌∙◌, ◌<◌, ℕ, Bool, true, false, not, List, [], ◌∷◌, All, map, length, inl, inr, refl, sym, ap, arith}
-use Rattle.std.proofs.Common.{bytes_eq, codes, get_or}
+use Rattle.std.proofs.Common.{◌≡◌, ◌≢◌, ◌∙◌, ◌<◌, ℕ, Bool, true, false, not, List, [], ◌∷◌, All, map, length, inl, inr, refl, sym, ap}
+use Rattle.std.proofs.Common.{arith, bytes_eq, codes, get_or}
 use Rattle.std.specs.Cmp.Lexicographic.{nat_list_eq_equiv}
 use Rattle.std.specs.List.{IsDistinct, list_any}
 use Rattle.std.proofs.lemmas.Bool.{cases_order}

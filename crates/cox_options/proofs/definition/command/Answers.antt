@@ -2,22 +2,21 @@
 use Rattle.std.proofs.Common.{◌≡◌, ◌∙◌, ap, ap₂, codes, ℕ}
 use Rattle.std.proofs.lemmas.Result.{IfOk-weaker}
 use Rattle.cox_options.specs.declared.options.TheConstants.{MAX_CONTEXT_TEXT, MAX_ROOTS_TEXT}
-use Rattle.clap.specs.Words.{Text, app_of, new_app, with_rule}
+use Rattle.clap.specs.Words.{Rule, Text, app_of, new_app, with_rule}
 use Rattle.clap.specs.Simple.{app_of_fields}
 use Rattle.cox_options.specs.Command.{number_rule, without_help}
 use Rattle.cox_options.proofs.definition.command.Goals as goal
 
--- an option's rule depends on the value of its greatest number alone
-same_most : (name default : Text) (wide most : ℕ) → wide ≡ most
-    → number_rule (record { name = name; most = wide; default = default }) ≡ number_rule (record { name = name; most = most; default = default })
-same_most name default wide most e = ap (λ n. number_rule (record { name = name; most = n; default = default })) e
+-- the rule of an option, by its parts
+abbrev rule : Text → Text → ℕ → Rule
+rule name default most = number_rule (record { name = name; most = most; default = default })
 
 pub returns : goal.returns
 returns c =
     let bare : app_of c.disable_help_flag.result ≡ without_help (app_of c.new.result) = ap app_of_fields c.disable_help_flag.ensures in
     let start : app_of c.disable_help_flag.result ≡ without_help (new_app (codes "coxeter")) = bare ∙ ap without_help c.new.ensures.app in
-    let context = c.number_option-context.ensures.rule ∙ same_most (codes "context") MAX_CONTEXT_TEXT.now _ _ c.from.ensures in
-    let roots = c.number_option-roots.ensures.rule ∙ same_most (codes "roots") MAX_ROOTS_TEXT.now _ _ c.from-2.ensures in
+    let context = c.number_option-context.ensures.rule ∙ ap (rule (codes "context") MAX_CONTEXT_TEXT.now) c.from.ensures in
+    let roots = c.number_option-roots.ensures.rule ∙ ap (rule (codes "roots") MAX_ROOTS_TEXT.now) c.from-2.ensures in
     let one = c.in_ok-arg.ensures.shape c.number_option-context.ensures.local ∙ ap₂ with_rule start context in
     IfOk-weaker c.arg-2.result _ _
     (λ command added. added.shape c.number_option-roots.ensures.local ∙ ap₂ with_rule one roots) c.arg-2.ensures
