@@ -1,6 +1,6 @@
 -- The pieces of a text, and the letters that they name.
-use Rattle.std.proofs.Common.{◌≡◌, ℕ, suc, ◌+◌, ◌<◌, ◌≤◌, ◌⊎◌, Bool, true, false, Some, None, Option, List, [], ◌∷◌, ◌++◌, length, take, drop}
-use Rattle.std.proofs.Common.{decimal, refl, sym, ap, ◌∙◌, arith, ⊎_elim, append_assoc, length-drop, drop-cons}
+use Rattle.std.proofs.Common.{◌≡◌, ℕ, suc, ◌+◌, ◌<◌, ◌≤◌, ◌⊎◌, Bool, true, false, Some, None, Option, List, [], ◌∷◌, ◌++◌, length}
+use Rattle.std.proofs.Common.{take, drop, decimal, refl, sym, ap, ◌∙◌, arith, ⊎_elim, append_assoc, length-drop, drop-cons}
 use Rattle.std.specs.Bool.{Decides}
 use Rattle.std.specs.Option.{option_map, is_none}
 use Rattle.std.specs.Str.{bytes_eq}

@@ -29,7 +29,8 @@ pub position-cons_no : {X : Type 0} (p : X → Bool) (x : X) (xs : List X) → p
 position-cons_no p x xs h =
     let n = position_or_len p xs in
     ⊎_elim
-    (λ (within : n < length xs). rw (h, lt-ltb n (length xs) within, lt-ltb (1 + n) (suc (length xs)) (omega arith)) (ap Some (omega arith)))
+    (λ (within : n < length xs).
+    rw (h, lt-ltb n (length xs) within, lt-ltb (1 + n) (suc (length xs)) (omega arith)) (ap Some (omega arith)))
     (λ (beyond : length xs ≤ n). rw (h, le-ltb n (length xs) beyond, le-ltb (1 + n) (suc (length xs)) (omega arith)))
     (cases_lt n (length xs))
 

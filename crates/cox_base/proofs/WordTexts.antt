@@ -13,7 +13,8 @@ use Rattle.cox_base.specs.declared.limits.TheConstants.{MAX_RANK, MAX_DIGIT_RANK
 use Rattle.cox_base.specs.declared.word.WordFault.{WordFault}
 use Rattle.cox_base.specs.declared.word.WordFault.TheVariants.{Long, Letter}
 use Rattle.cox_base.specs.Matrix.{IsLetter, IsWord}
-use Rattle.cox_base.specs.WordText.{has_digits, separator, word_text, is_e, is_dot, pieces_of, letter_of, word_of, foreign_piece, first_foreign}
+use Rattle.cox_base.specs.WordText.{has_digits, separator, word_text, is_e, is_dot, pieces_of, letter_of, word_of}
+use Rattle.cox_base.specs.WordText.{foreign_piece, first_foreign}
 use Rattle.cox_base.specs.WordReading.{ReadsWord}
 use Rattle.cox_base.proofs.Numerals.{decimal-two}
 use Rattle.cox_base.proofs.PieceLemmas.{letter_of-some, foreign_from, foreign_from-next}
@@ -33,7 +34,8 @@ digits-pieces (s ∷ letters) small =
 no_dot : (n : ℕ) → n < 100 → All (λ byte. is_dot byte ≡ false) (decimal n)
 no_dot n small =
     ⊎_elim (λ (one : n < 10). rw (decimal_digit n one) (byte (48 + n) [] (omega arith) (All-nil _)))
-    (λ (two : 10 ≤ n). rw (decimal-two n two small) (byte (48 + n / 10) ((48 + n % 10) ∷ []) (omega arith) (byte (48 + n % 10) [] (omega arith) (All-nil _))))
+    (λ (two : 10 ≤ n). rw (decimal-two n two small)
+    (byte (48 + n / 10) ((48 + n % 10) ∷ []) (omega arith) (byte (48 + n % 10) [] (omega arith) (All-nil _))))
     (cases_lt n 10)
   where
     byte : (b : ℕ) (rest : List ℕ) → 46 < b → All (λ byte. is_dot byte ≡ false) rest → All (λ byte. is_dot byte ≡ false) (b ∷ rest)
@@ -44,7 +46,8 @@ dotted-pieces : (s : ℕ) (letters : List ℕ) → All (λ t. t < 100) (s ∷ le
     → slice_split is_dot (decimal s ++ others_text (codes ".") letters) ≡ map decimal (s ∷ letters)
 dotted-pieces s [] small = rw append-nil (slice_split_none is_dot (decimal s) (no_dot s (All-head (λ t. t < 100) s [] small)))
 dotted-pieces s (t ∷ letters) small =
-    slice_split_at is_dot (decimal s) 46 (decimal t ++ others_text (codes ".") letters) (no_dot s (All-head (λ t. t < 100) s (t ∷ letters) small)) refl
+    slice_split_at is_dot (decimal s) 46 (decimal t ++ others_text (codes ".") letters)
+    (no_dot s (All-head (λ t. t < 100) s (t ∷ letters) small)) refl
     ∙ ap (λ pieces. decimal s ∷ pieces) (dotted-pieces t letters (All-tail (λ t. t < 100) s (t ∷ letters) small))
 
 -- the pieces of the text of letters are their numerals
@@ -61,13 +64,15 @@ pieces_of-letters rank s letters limit word =
     (cases_Bool (has_digits rank))
 
 -- which are letters, the same ones
-filter_map-numerals : (rank : ℕ) (word : List ℕ) → rank ≤ MAX_RANK → IsWord rank word → filter_map (letter_of rank) (map decimal word) ≡ word
+filter_map-numerals : (rank : ℕ) (word : List ℕ) → rank ≤ MAX_RANK → IsWord rank word
+    → filter_map (letter_of rank) (map decimal word) ≡ word
 filter_map-numerals rank [] limit letters = refl
 filter_map-numerals rank (s ∷ word) limit letters =
     rw (letter_of-some rank s (decimal s) limit (All-head (IsLetter rank) s word letters) refl)
     (ap (λ rest. s ∷ rest) (filter_map-numerals rank word limit (All-tail (IsLetter rank) s word letters)))
 
-foreign_from-numerals : (rank : ℕ) (word : List ℕ) (at : ℕ) → rank ≤ MAX_RANK → IsWord rank word → foreign_from rank at (map decimal word) ≡ None
+foreign_from-numerals : (rank : ℕ) (word : List ℕ) (at : ℕ) → rank ≤ MAX_RANK → IsWord rank word
+    → foreign_from rank at (map decimal word) ≡ None
 foreign_from-numerals rank [] at limit letters = refl
 foreign_from-numerals rank (s ∷ word) at limit letters =
     let next = at + (length (decimal s) + length (separator rank)) in
@@ -93,8 +98,8 @@ read-whole rank text word (Err (Long count)) short none is reads = absurd (omega
 read-whole rank text word (Err (Letter at)) short none is reads = absurd (cc (reads.1, none))
 
 -- reading the text of a word gives the word
-pub text-read : (rank : ℕ) (word : List ℕ) (read : Result (ArrayVec ℕ) WordFault) → rank ≤ MAX_RANK → IsWord rank word → length word ≤ MAX_LETTERS
-    → ReadsWord read (word_text rank word) rank → IsOkAnd read (λ again. again.items ≡ word)
+pub text-read : (rank : ℕ) (word : List ℕ) (read : Result (ArrayVec ℕ) WordFault) → rank ≤ MAX_RANK → IsWord rank word
+    → length word ≤ MAX_LETTERS → ReadsWord read (word_text rank word) rank → IsOkAnd read (λ again. again.items ≡ word)
 text-read rank [] read limit letters short reads = read-whole rank (codes "e") [] read (pieces-e rank) refl refl reads
   where
     pieces-e : (rank : ℕ) → length (pieces_of rank (codes "e")) ≤ MAX_LETTERS

@@ -11,7 +11,8 @@ use Rattle.cox_base.specs.declared.word.WordFault.TheVariants.{Long, Letter}
 -- the number of pieces of a text that has too many for a word; else where its first piece begins that is no letter; else the word
 abbrev pub ReadsWord : Result (ArrayVec ℕ) WordFault → List ℕ → ℕ → Type 0
 ReadsWord (Ok word) text rank =
-    (length (pieces_of rank text) ≤ MAX_LETTERS) × (first_foreign rank text ≡ None) × (word.items ≡ word_of rank text) × IsWord rank word.items
+    (length (pieces_of rank text) ≤ MAX_LETTERS) × (first_foreign rank text ≡ None) × (word.items ≡ word_of rank text)
+    × IsWord rank word.items
 ReadsWord (Err (Long count)) text rank = (MAX_LETTERS < count) × (count ≡ length (pieces_of rank text))
 ReadsWord (Err (Letter at)) text rank = (length (pieces_of rank text) ≤ MAX_LETTERS) × (first_foreign rank text ≡ Some at)
 

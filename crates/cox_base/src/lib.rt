@@ -10,7 +10,7 @@
 //! - `coxeter`: the matrix, its labels and entries, and how it is made of labels
 //! - `named_type`: the matrices of the named types
 //! - `word`: words, and their ShortLex order
-//! - `reading`, `pieces`: how words are read
+//! - `reading`, `pieces`, `spelling`: how words are read and written
 //! - `side`: left and right
 //! - `laws`: what holds of the definitions
 //! - `copy`: copies of vectors
@@ -24,6 +24,7 @@ mod named_type;
 mod pieces;
 mod reading;
 mod side;
+mod spelling;
 #[cfg(test)]
 mod tests;
 mod word;
@@ -33,4 +34,5 @@ pub use limits::{MAX_DIGIT_RANK, MAX_LABELS, MAX_LETTERS, MAX_RANK};
 pub use named_type::NotAType;
 pub use reading::read_word;
 pub use side::Side;
+pub use spelling::separator;
 pub use word::{Word, WordFault, copy_word, shortlex};

@@ -1,10 +1,10 @@
 //! The pieces of a text, one for each letter of a word.
-ghost use Rattle.std.specs.Prelude.{◌≡◌, ℕ, ◌+◌, ◌<◌, ◌≤◌, ◌^◌, [], ◌∷◌, length, count_by, MatchOption};
+ghost use Rattle.std.specs.Prelude.{◌≡◌, ℕ, ◌+◌, ◌≤◌, [], ◌∷◌, length, count_by, MatchOption};
 ghost use Rattle.std.specs.List.{position_or_len, slice_split};
 ghost use Rattle.std.specs.Option.{option_map_or};
-ghost use Rattle.cox_base.specs.WordText.{has_digits, is_dot, pieces_of};
+ghost use Rattle.cox_base.specs.WordText.{is_dot, pieces_of};
 
-use crate::limits::MAX_DIGIT_RANK;
+use crate::spelling::has_digits;
 use std::marker::Model;
 
 /// The pieces of a text that are not taken yet. Contracts see the list of them.
@@ -23,8 +23,6 @@ impl<'a> Model for Pieces<'a> {
     ghost Value = { List (List ℕ) };
 
     ghost view = { λ pieces. option_map_or (λ rest. pieces_of pieces.rank rest.now) pieces.rest [] };
-
-    ghost invariant = { λ _. Unit {0} };
 }
 
 /// The pieces of a text.
@@ -56,7 +54,6 @@ impl<'a> Pieces<'a> {
 
 /// How many pieces a text has.
 pub fn piece_count(text: &[u8], rank: u32) -> usize
-    requires { length text.now + 1 < 2 ^ 32 }
     ensures count { result ≡ length (pieces_of rank text.now) }
     ensures small { result ≤ length text.now + 1 }
 {
@@ -71,13 +68,6 @@ fn dot_count(bytes: &[u8]) -> usize
     ensures { result ≡ count_by is_dot bytes.now }
 {
     bytes.iter().filter(|&&byte| byte == b'.').count()
-}
-
-/// Whether each letter of a group of this rank is one digit.
-fn has_digits(rank: u32) -> bool
-    ensures { result ≡ has_digits rank }
-{
-    rank <= MAX_DIGIT_RANK as u32
 }
 
 /// How many bytes stand before the first dot.

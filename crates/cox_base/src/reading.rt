@@ -1,10 +1,11 @@
 //! How words are read.
 ghost use Rattle.std.specs.Prelude.{◌≡◌, ◌≢◌, ◌+◌, ◌<◌, ◌≤◌, ◌^◌, ◌⊎◌, ℕ, [], ◌∷◌, length, MatchOption, IfSome, decimal};
-ghost use Rattle.cox_base.specs.WordText.{is_e, letter_of, separator};
+ghost use Rattle.cox_base.specs.WordText.{is_e, letter_of};
 ghost use Rattle.cox_base.specs.WordReading.{ReadsWord, ReadsPieces};
 
-use crate::limits::{MAX_DIGIT_RANK, MAX_LETTERS, MAX_RANK};
+use crate::limits::{MAX_LETTERS, MAX_RANK};
 use crate::pieces::{Pieces, piece_count, pieces_in};
+use crate::spelling::separator;
 use crate::word::{Word, WordFault};
 
 /// Reads a word: `e` alone is the empty word, else each piece of the text is a letter in decimal, 1 to the rank. In a group of rank 1 to 9 the pieces are
@@ -35,7 +36,7 @@ fn read_pieces(mut pieces: Pieces, rank: u32) -> Result<Word, WordFault>
     requires room { length pieces ≤ MAX_LETTERS }
     ensures { ReadsPieces result pieces.entry rank }
 {
-    let gap = separator_len(rank);
+    let gap = separator(rank).len() as u32;
     let mut word = Word::new();
     let mut place = 1;
     'pieces: while let Some(piece) = pieces.take_next() {
@@ -112,12 +113,4 @@ fn digit(byte: u8) -> Option<u8>
         b'0'..=b'9' => Some(byte - b'0'),
         _ => None,
     }
-}
-
-/// How many bytes stand between two letters.
-fn separator_len(rank: u32) -> u32
-    ensures value { result ≡ length (separator rank) }
-    ensures small { result ≤ 1 }
-{
-    if rank <= MAX_DIGIT_RANK as u32 { 0 } else { 1 }
 }

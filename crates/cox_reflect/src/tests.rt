@@ -3,7 +3,7 @@ ghost use Rattle.std.specs.Prelude.{◌≤◌, ◌^◌, ◌<◌, length, IfSome}
 ghost use Rattle.cox_base.specs.Matrix.{IsWord};
 
 use crate::{below, descents, image, length, normal_form};
-use cox_base::{Coxeter, Side, Word, read_word};
+use cox_base::{Coxeter, MAX_RANK, Side, Word, read_word};
 use std::alloc::{AllocError, Global};
 use std::test::Fail;
 
@@ -198,11 +198,10 @@ fn moves_roots(rt: HostRuntime) -> Result<(), Fail> {
         let g = Coxeter::named(letter, n)?;
         let word = short_word(&g, word).ok_or("a word")?;
         assert!(rt; 1 <= s && u32::from(s) <= g.rank());
-        assert_eq!(rt;
-            image(&g, &word, s),
-            [first, second, 0, 0, 0, 0, 0, 0, 0],
-            "{letter} {n}"
-        );
+        let mut root = [0; MAX_RANK];
+        root[0] = first;
+        root[1] = second;
+        assert_eq!(rt; image(&g, &word, s), root, "{letter} {n}");
     }
     Ok(())
 }

@@ -1,5 +1,6 @@
 -- The proof of `letter_of`.
 use Rattle.std.proofs.Common.{arith, ap, length, sym, inl, inr}
+use Rattle.cox_base.specs.Matrix.{IsLetter}
 use Rattle.cox_base.proofs.Numerals.{length-decimal-small}
 use Rattle.cox_base.proofs.PieceLemmas.{letter_of-some, letter_of-none, letter_of-outside}
 use Rattle.cox_base.proofs.reading.letter_of.Goals as goal
@@ -22,7 +23,8 @@ returns-then-value-eq0-clause-letter c =
 pub returns-clause-letter : goal.returns-clause-letter
 returns-clause-letter c =
     let numeral = c.in-Some.ensures {u = tt} in
-    sym (letter_of-some c.args.rank c.in-Some.value c.args.piece.now c.requires (record { from_one = omega arith; to_rank = omega arith }) numeral.1)
+    let letter : IsLetter c.args.rank c.in-Some.value = record { from_one = omega arith; to_rank = omega arith } in
+    sym (letter_of-some c.args.rank c.in-Some.value c.args.piece.now c.requires letter numeral.1)
 
 pub returns-clause-short : goal.returns-clause-short
 returns-clause-short c =

@@ -1,6 +1,7 @@
 -- The proof of `read_pieces`.
 use Rattle.std.proofs.Common.{◌+◌, ◌≤◌, arith, sym, ap, ◌∙◌, length}
-use Rattle.cox_base.proofs.PieceLemmas.{foreign_from, foreign_from-here, foreign_from-next, filter_map-next, filter_map-end, IsWord-filter_map}
+use Rattle.cox_base.proofs.PieceLemmas.{foreign_from, foreign_from-here, foreign_from-next}
+use Rattle.cox_base.proofs.PieceLemmas.{filter_map-next, filter_map-end, IsWord-filter_map}
 use Rattle.cox_base.proofs.reading.read_pieces.Goals as goal
 
 pub returns-in_default-letter_of : goal.returns-in_default-letter_of
@@ -16,13 +17,14 @@ pieces-preserved c =
     let letter = c.in-Some-letter_of.ensures {u = tt} in
     let short : length c.in-Some.piece.now ≤ 2 = letter.short in
     record {
-      read = filter_map-next c.args.rank _ c.in-Some-letter_of.letter _ _ _ _ _ taken (sym letter.letter) c.push.ensures.items invariant.read;
+      read = filter_map-next c.args.rank _ c.in-Some-letter_of.letter _ _ _ _ _ taken (sym letter.letter) c.push.ensures.items
+          invariant.read;
       foreign =
           let step = foreign_from-next c.args.rank c.pieces.place _ c.in-Some-letter_of.letter c.in-Some.piece.now c.take_next.new.self
           (sym letter.letter) (ap (λ gap. c.pieces.place + (length c.in-Some.piece.now + gap)) invariant.gap) in
           sym step ∙ ap (foreign_from c.args.rank c.pieces.place) (sym taken) ∙ invariant.foreign;
       room = omega (arith, invariant.room, ap length taken, c.push.ensures.len);
-      near = omega (arith, invariant.near, short, c.push.ensures.len, c.separator_len-gap.ensures.small);
+      near = omega (arith, invariant.near, short, c.push.ensures.len, c.separator.ensures.short);
       gap = invariant.gap;
     }
 
@@ -30,4 +32,5 @@ pub returns : goal.returns
 returns c =
     let end = c.in_default.ensures {u = tt} in
     let whole = filter_map-end c.args.rank _ _ _ end c.pieces.invariant.read in
-    (sym c.pieces.invariant.foreign ∙ ap (foreign_from c.args.rank c.pieces.place) end, whole, rw whole (IsWord-filter_map c.args.rank c.args.pieces))
+    let none = sym c.pieces.invariant.foreign ∙ ap (foreign_from c.args.rank c.pieces.place) end in
+    (none, whole, rw whole (IsWord-filter_map c.args.rank c.args.pieces))
