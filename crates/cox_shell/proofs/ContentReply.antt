@@ -1,8 +1,6 @@
 -- The reply to a line by its content is one.
-use Rattle.std.proofs.Common.{◌≡◌, ℕ, Bool, true, false, List, Option, Some, None, IsSomeAnd, MatchOption, sym, ◌∙◌}
-use Rattle.std.specs.Bool.{MatchBool}
+use Rattle.std.proofs.Common.{◌≡◌, ℕ, List, Option, Some, None, IsSomeAnd, MatchOption, sym, ◌∙◌}
 use Rattle.cox_command.specs.declared.refusal.Refusal.{Refusal}
-use Rattle.cox_command.specs.declared.refusal.Refusal.TheVariants.{ManyLetters}
 use Rattle.cox_command.specs.declared.command.Command.{Command}
 use Rattle.cox_command.specs.declared.command.Command.TheVariants as asks
 use Rattle.cox_command.specs.Tokens.{tokens_of}
@@ -14,8 +12,7 @@ use Rattle.cox_base.specs.Matrix.{CoxeterMatrix}
 use Rattle.cox_shell.specs.declared.inquiry.Inquiry.{Inquiry}
 use Rattle.cox_shell.specs.declared.inquiry.Inquiry.TheVariants.{One, Two}
 use Rattle.cox_shell.specs.Reply.{State, Reply, rank_of, with_group, refusal, silence}
-use Rattle.cox_shell.specs.Question.{IsDecided}
-use Rattle.cox_shell.specs.CommandReply.{question_of, has_many_letters, Answers, IsInquiryReply, RefusesGroup, IsCommandReply}
+use Rattle.cox_shell.specs.CommandReply.{question_of, IsInquiryReply, RefusesGroup, IsCommandReply}
 use Rattle.cox_shell.specs.ContentReply.{IsContentReply}
 use Rattle.cox_shell.proofs.Refusing.{IsDecided-unique, IsReply-unique}
 use Rattle.cox_shell.proofs.Questions.{question-one}
@@ -27,21 +24,11 @@ by_group : (group : Option CoxeterMatrix) (Is : CoxeterMatrix → Reply → Type
 by_group None Is unique one other p q = absurd p
 by_group (Some g) Is unique one other p q = unique g one other p q
 
--- a reply that depends on a test is one where both are
-by_test : (test : Bool) (Is Other : Reply → Type 0) → ((one other : Reply) → Is one → Is other → one ≡ other)
-    → ((one other : Reply) → Other one → Other other → one ≡ other) → (one other : Reply)
-    → MatchBool test (Is one) (Other one) → MatchBool test (Is other) (Other other) → one ≡ other
-by_test true Is Other unique unique_other one other p q = unique one other p q
-by_test false Is Other unique unique_other one other p q = unique_other one other p q
-
 -- the reply to a command on elements is one
 IsInquiryReply-unique : (inquiry : Inquiry) (state : State) (one other : Reply) → IsInquiryReply inquiry state one
     → IsInquiryReply inquiry state other → one ≡ other
 IsInquiryReply-unique inquiry state = by_group state.group _ (λ g.
-    let question = question_of inquiry state.limits g in
-    by_test (has_many_letters inquiry) (λ reply. reply ≡ refusal state ManyLetters)
-    (IsDecided state question.Refuses (Answers state question))
-    (λ one other p q. p ∙ sym q) (IsReply-unique state question (question-one inquiry state.limits g)))
+    let question = question_of inquiry state.limits g in IsReply-unique state question (question-one inquiry state.limits g))
 
 -- the same command has one reply
 IsCommandReply-unique : (first second : Command) → SameCommand first second → (state : State) (one other : Reply)
@@ -49,7 +36,7 @@ IsCommandReply-unique : (first second : Command) → SameCommand first second �
 IsCommandReply-unique asks.Nothing asks.Nothing same state one other p q = p ∙ sym q
 IsCommandReply-unique asks.Quit asks.Quit same state one other p q = p ∙ sym q
 IsCommandReply-unique (asks.Group g) (asks.Group h) same state one other p q =
-    IsDecided-unique (RefusesGroup state g) state (λ answer. answer ≡ silence (with_group state g)) (λ a b e f. e ∙ sym f) one other p
+    IsDecided-unique (RefusesGroup state.limits g) state (λ answer. answer ≡ silence (with_group state g)) (λ a b e f. e ∙ sym f) one other p
     (rw (← same) at q)
 IsCommandReply-unique (asks.One kind w) (asks.One other_kind v) same state one other p q =
     IsInquiryReply-unique (One kind w) state one other p (rw (← same.0, ← same.1) at q)

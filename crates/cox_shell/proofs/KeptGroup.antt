@@ -12,7 +12,6 @@ use Rattle.cox_base.specs.Admissible.{IsCoxeterMatrix}
 use Rattle.cox_base.specs.NamedType.{type_matrix}
 use Rattle.cox_base.proofs.Rows.{type_matrix-IsCoxeterMatrix}
 use Rattle.cox_command.specs.declared.refusal.Refusal.{Refusal}
-use Rattle.cox_command.specs.declared.refusal.Refusal.TheVariants.{WrongCount, WrongNumber, NoGroup, UnknownType, WrongLabel, ManyLetters}
 use Rattle.cox_command.specs.declared.command.Command.{Command}
 use Rattle.cox_command.specs.declared.command.Command.TheVariants.{Nothing, Group}
 use Rattle.cox_command.specs.declared.command.Command.TheVariants as asks
@@ -28,66 +27,16 @@ use Rattle.cox_shell.specs.Reply.{State, Reply, rank_of, with_group, refusal, si
 use Rattle.cox_shell.specs.declared.inquiry.Inquiry.{Inquiry}
 use Rattle.cox_shell.specs.declared.inquiry.Inquiry.TheVariants.{One, Two}
 use Rattle.cox_shell.specs.Question.{IsDecided}
-use Rattle.cox_shell.specs.CommandReply.{question_of, has_many_letters, Answers, IsInquiryReply, RefusesGroup, IsCommandReply}
+use Rattle.cox_shell.specs.CommandReply.{question_of, Answers, IsInquiryReply, RefusesGroup, IsCommandReply}
 use Rattle.cox_shell.proofs.Refusing.{IsDecided-all}
 use Rattle.cox_shell.specs.ContentReply.{IsContentReply}
-use Rattle.cox_shell.proofs.SomeReply.{passed_over}
-
--- the matrix of a type that there is
-named_matrix-is : (arguments : List (List ℕ)) → has_no_type Named arguments ≡ false → IsCoxeterMatrix (named_matrix arguments)
-named_matrix-is arguments typed = by_name (argument arguments 0) (not-false _ typed)
-  where
-    n : ℕ
-    n = value_of (argument arguments 1)
-
-    by_name : (name : List ℕ) → names_type name n ≡ true → IsCoxeterMatrix (type_matrix (slice_index name 0) n)
-    by_name [] typed = absurd (cc typed)
-    by_name (letter ∷ []) typed = type_matrix-IsCoxeterMatrix letter n typed
-    by_name (letter ∷ next ∷ name) typed = absurd (cc typed)
-
--- the matrix of labels that are admitted, as many as there have to be
-matrix_of-is : (arguments : List (List ℕ)) → has_wrong_count Matrix arguments ≡ false → has_wrong_number Matrix arguments ≡ false
-    → has_wrong_label Matrix arguments ≡ false → IsCoxeterMatrix (matrix_of arguments)
-matrix_of-is arguments counted numbers labelled =
-    let n = value_of (argument arguments 0) in
-    let ranked : is_rank (argument arguments 0) ≡ true = (and_parts _ _ (not-false _ numbers)).0 in
-    let count = eqb-true (length arguments) (1 + n * (n - 1) / 2) (not-false _ (rw ranked at counted)) in
-    record {
-      some = leb-true 1 n (and_parts _ _ (and_parts _ _ ranked).0).1;
-      count = length-map (drop 1 arguments) value_of ∙ omega (arith, count, length-drop 1 arguments);
-      admitted = AllPass-from_list_all is_label (map value_of (drop 1 arguments))
-          (list_all-map is_label value_of (drop 1 arguments) ∙ not-false _ labelled);
-    }
-
--- the matrix that a command sets which no test refuses
-tested-is : (word : CommandWord) (arguments : List (List ℕ)) (g : CoxeterMatrix) → has_wrong_count word arguments ≡ false
-    → has_wrong_number word arguments ≡ false → has_no_type word arguments ≡ false → has_wrong_label word arguments ≡ false
-    → matrix_set word arguments ≡ Some g → IsCoxeterMatrix g
-tested-is Named arguments g counted numbers typed labelled set =
-    let same : named_matrix arguments ≡ g = cc set in subst IsCoxeterMatrix same (named_matrix-is arguments typed)
-tested-is Matrix arguments g counted numbers typed labelled set =
-    let same : matrix_of arguments ≡ g = cc set in subst IsCoxeterMatrix same (matrix_of-is arguments counted numbers labelled)
-tested-is word arguments g counted numbers typed labelled set = absurd (cc set)
-
--- the matrix that an accepted command sets
-matrix_set-is : (word : CommandWord) (arguments : List (List ℕ)) (rank : Option ℕ) (g : CoxeterMatrix)
-    → command_refusal (Some word) arguments rank ≡ None
-    → matrix_set word arguments ≡ Some g → IsCoxeterMatrix g
-matrix_set-is word arguments rank g accepted set =
-    let counted = passed_over (has_wrong_count word arguments) WrongCount _ accepted in
-    let numbered = passed_over (has_wrong_number word arguments) WrongNumber _ counted.1 in
-    let grouped = passed_over (lacks_group word rank) NoGroup _ numbered.1 in
-    let typed = passed_over (has_no_type word arguments) UnknownType _ grouped.1 in
-    let labelled = passed_over (has_wrong_label word arguments) WrongLabel _ typed.1 in
-    tested-is word arguments g counted.0 numbered.0 typed.0 labelled.0 set
+use Rattle.cox_shell.proofs.SetMatrices.{matrix_set-is}
 
 -- a command on elements leaves the state
-inquiry-state : (test : Bool) (inquiry : Inquiry) (state : State) (g : CoxeterMatrix) (reply : Reply)
-    → (let question = question_of inquiry state.limits g in
-    MatchBool test (reply ≡ refusal state ManyLetters) (IsDecided state question.Refuses (Answers state question) reply)) → reply.after
-    ≡ state
-inquiry-state true inquiry state g reply is = ap (λ (r : Reply). r.after) is
-inquiry-state false inquiry state g reply is =
+inquiry-state : (inquiry : Inquiry) (state : State) (g : CoxeterMatrix) (reply : Reply)
+    → (let question = question_of inquiry state.limits g in IsDecided state question.Refuses (Answers state question) reply)
+    → reply.after ≡ state
+inquiry-state inquiry state g reply is =
     let question = question_of inquiry state.limits g in
     IsDecided-all question.Refuses state (Answers state question) (λ r. r.after ≡ state) (λ why. refl)
     (λ r answer. ap (λ (s : Reply). s.after) answer.2) reply is
@@ -107,7 +56,7 @@ module _ (state : State) (matrix : HasMatrix state) (reply : Reply) where
 
   by_inquiry : (inquiry : Inquiry) → IsInquiryReply inquiry state reply → reply.after ≡ state
   by_inquiry inquiry is = of_some state.group _ (reply.after ≡ state)
-      (λ g. inquiry-state (has_many_letters inquiry) inquiry state g reply) is
+      (λ g. inquiry-state inquiry state g reply) is
 
   -- so it stays by a command that is given and accepted
   by_command : (command : Command) (tokens : List (List ℕ)) → tokens_refusal tokens (rank_of state) ≡ None
@@ -118,7 +67,7 @@ module _ (state : State) (matrix : HasMatrix state) (reply : Reply) where
   by_command (asks.One kind w) tokens accepted given is = unchanged (by_inquiry (One kind w) is)
   by_command (asks.Two kind y w) tokens accepted given is = unchanged (by_inquiry (Two kind y w) is)
   by_command (asks.Group g) tokens accepted given is =
-      IsDecided-all (RefusesGroup state g) state (λ answer. answer ≡ silence (with_group state g)) (λ r. HasMatrix r.after) (λ why. matrix)
+      IsDecided-all (RefusesGroup state.limits g) state (λ answer. answer ≡ silence (with_group state g)) (λ r. HasMatrix r.after) (λ why. matrix)
       (λ r answer. rw answer (of_tokens tokens accepted given)) reply is
     where
       by_name : (o : Option CommandWord) (arguments : List (List ℕ)) → command_refusal o arguments (rank_of state) ≡ None

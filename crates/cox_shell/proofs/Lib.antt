@@ -38,6 +38,10 @@ pub mod LengthCounts
 pub mod MemberTexts
 -- the texts on Bruhat intervals
 pub mod IntervalTexts
+-- the matrix that a command sets is a Coxeter matrix
+pub mod SetMatrices
+-- the reply to a command that sets a group
+pub mod GroupReplies
 -- each line has a reply
 pub mod SomeReply
 -- the group that is set stays a Coxeter matrix

@@ -2,7 +2,7 @@
 use Rattle.std.proofs.Common.{◌≡◌, ◌⊎◌, ℕ, List, [], ◌∷◌, Option, None, Some, MatchOption, inl, inr, refl, sym, ap, ◌∙◌, subst}
 use Rattle.cox_command.specs.declared.refusal.Refusal.{Refusal}
 use Rattle.cox_shell.specs.Reply.{State, Reply, refusal, answered}
-use Rattle.cox_shell.specs.Question.{Question, element_refusals, IsFirstRefusal, IsRefused, IsDecided}
+use Rattle.cox_shell.specs.Question.{Question, command_refusals, IsFirstRefusal, IsRefused, IsDecided}
 use Rattle.cox_shell.specs.CommandReply.{Answers}
 
 module _ (Refuses : Refusal → Type 0) where
@@ -37,7 +37,7 @@ module _ (Refuses : Refusal → Type 0) where
         → IsDecided state Refuses Is one → IsDecided state Refuses Is other → one ≡ other
     IsDecided-unique unique one other p q =
         by_found p.0 p.2 (subst (λ found. MatchOption found (Is other) (λ why. other ≡ refusal state why))
-        (IsFirstRefusal-unique element_refusals q.0 p.0 q.1 p.1) q.2)
+        (IsFirstRefusal-unique command_refusals q.0 p.0 q.1 p.1) q.2)
       where
         by_found : (found : Option Refusal) → MatchOption found (Is one) (λ why. one ≡ refusal state why)
             → MatchOption found (Is other) (λ why. other ≡ refusal state why) → one ≡ other
@@ -48,7 +48,7 @@ module _ (Refuses : Refusal → Type 0) where
     pub IsDecided-exists : ((why : Refusal) → Refuses why ⊎ (Refuses why → ⊥)) → (reply : Reply) × Is reply
         → (reply : Reply) × IsDecided state Refuses Is reply
     IsDecided-exists decided answer =
-        let first = IsFirstRefusal-exists decided element_refusals in by_found first.0 first.1
+        let first = IsFirstRefusal-exists decided command_refusals in by_found first.0 first.1
       where
         by_found : (found : Option Refusal) → IsRefused Refuses found → (reply : Reply) × IsDecided state Refuses Is reply
         by_found None is = (answer.0, (None, is, answer.1))

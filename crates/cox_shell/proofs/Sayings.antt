@@ -12,7 +12,7 @@ use Rattle.cox_shell.specs.declared.session.Said.{Said}
 use Rattle.cox_shell.specs.declared.session.Said.TheVariants.{Answered, Quit}
 use Rattle.cox_shell.specs.Reply.{State, Reply, refusal, silence, farewell, answered}
 use Rattle.cox_shell.specs.Question.{Question, IsDecided}
-use Rattle.cox_shell.specs.CommandReply.{question_of, has_many_letters, Answers, IsInquiryReply}
+use Rattle.cox_shell.specs.CommandReply.{question_of, Answers, IsInquiryReply}
 use Rattle.cox_shell.proofs.Unless.{PutsPrefix-none}
 use Rattle.cox_shell.specs.Saying.{Says, SaysPrefix, PutsUnless, IsEnded, Concludes}
 
@@ -23,12 +23,11 @@ Says-silence state new out same = record { tells = (refl, refl); text = sym (app
 pub Says-farewell : (state : State) (out : List ℕ) → Says Quit (farewell state) state out out
 Says-farewell state out = record { tells = (refl, refl); text = sym (append-nil out); state_after = refl }
 
--- the reply to a command on elements whose words are short enough
+-- the reply to a command on elements, where a group is set
 pub IsInquiryReply-decided : (inquiry : Inquiry) (state : State) (g : CoxeterMatrix) (reply : Reply) → state.group ≡ Some g
-    → has_many_letters inquiry ≡ false
     → (let question = question_of inquiry state.limits g in IsDecided state question.Refuses (Answers state question) reply)
     → IsInquiryReply inquiry state reply
-IsInquiryReply-decided inquiry state g reply set short decided = of_group state.group _ set (rw short decided)
+IsInquiryReply-decided inquiry state g reply set decided = of_group state.group _ set decided
   where
     of_group : (group : Option CoxeterMatrix) (Is : CoxeterMatrix → Type 0) → group ≡ Some g → Is g → IsSomeAnd group Is
     of_group group Is set is = rw set is

@@ -1,15 +1,14 @@
 -- Each line has a reply.
 use Rattle.std.proofs.Common.{◌≡◌, ℕ, Bool, ◌&&◌, true, false, if◌then◌else◌, List, [], ◌∷◌, Option, Some, None, IfSome, IsSomeAnd}
 use Rattle.std.proofs.Common.{MatchOption}
-use Rattle.std.proofs.Common.{inr, refl, sym, true≢false}
-use Rattle.std.specs.Bool.{MatchBool}
+use Rattle.std.proofs.Common.{◌⊎◌, inl, inr, ⊎_elim, refl, sym, true≢false}
 use Rattle.std.specs.Option.{option_map}
 use Rattle.cox_base.specs.Matrix.{CoxeterMatrix}
 use Rattle.cox_base.specs.Admissible.{IsCoxeterMatrix, IsAdmissible}
 use Rattle.cox_base.specs.IntegerMatrix.{integer_matrix}
 use Rattle.cox_base.proofs.Admissible.{IsAdmissible-integer_matrix}
 use Rattle.cox_command.specs.declared.refusal.Refusal.{Refusal}
-use Rattle.cox_command.specs.declared.refusal.Refusal.TheVariants.{WrongCount, WrongNumber, NoGroup, ManyLetters}
+use Rattle.cox_command.specs.declared.refusal.Refusal.TheVariants.{WrongCount, WrongNumber, NoGroup, ManyRoots}
 use Rattle.cox_command.specs.declared.command.Command.{Command}
 use Rattle.cox_command.specs.declared.command.Command.TheVariants as asks
 use Rattle.cox_command.specs.declared.command_word.CommandWord.{CommandWord}
@@ -21,25 +20,37 @@ use Rattle.cox_command.specs.LineRefusal.{line_refusal}
 use Rattle.cox_command.specs.CommandReading.{IsGivenBy, IsGiven, named_matrix, matrix_of, word_argument}
 use Rattle.cox_shell.specs.declared.inquiry.Inquiry.{Inquiry}
 use Rattle.cox_shell.specs.declared.inquiry.Inquiry.TheVariants as inquiry
-use Rattle.cox_shell.specs.Reply.{State, Reply, rank_of, with_group, refusal, silence, farewell}
+use Rattle.cox_small.proofs.Counting.{not_both}
+use Rattle.cox_small.proofs.Deciding.{HasMoreSmallRoots-decided}
+use Rattle.cox_shell.specs.Reply.{Limits, State, Reply, rank_of, with_group, refusal, silence, farewell}
 use Rattle.cox_shell.specs.Question.{IsDecided}
-use Rattle.cox_shell.specs.CommandReply.{question_of, has_many_letters, Answers, IsInquiryReply, RefusesGroup, IsCommandReply}
+use Rattle.cox_shell.specs.CommandReply.{question_of, Answers, IsInquiryReply, RefusesGroup, IsCommandReply}
 use Rattle.cox_shell.specs.ContentReply.{IsContentReply}
 use Rattle.cox_shell.proofs.Refusing.{IsDecided-exists, IsReply-exists}
 use Rattle.cox_shell.proofs.Questions.{question-answerable}
+use Rattle.cox_shell.proofs.SetMatrices.{passed_over, matrix_set-is}
 
 -- a command on elements has a reply in a group
 pub inquiry-reply : (inquiry : Inquiry) (state : State) (g : CoxeterMatrix) → IsAdmissible (integer_matrix g)
     → let question = question_of inquiry state.limits g in
-    (reply : Reply) × MatchBool (has_many_letters inquiry) (reply ≡ refusal state ManyLetters)
-    (IsDecided state question.Refuses (Answers state question) reply)
-inquiry-reply inquiry state g admissible = by_test (has_many_letters inquiry)
-  where
-    by_test : (test : Bool) → let question = question_of inquiry state.limits g in
-        (reply : Reply) × MatchBool test (reply ≡ refusal state ManyLetters)
-        (IsDecided state question.Refuses (Answers state question) reply)
-    by_test true = (refusal state ManyLetters, refl)
-    by_test false = IsReply-exists state (question_of inquiry state.limits g) (question-answerable inquiry state.limits g admissible)
+    (reply : Reply) × IsDecided state question.Refuses (Answers state question) reply
+inquiry-reply inquiry state g admissible =
+    IsReply-exists state (question_of inquiry state.limits g) (question-answerable inquiry state.limits g admissible)
+
+-- whether a group is refused is decided
+group-decided : (limits : Limits) (g : CoxeterMatrix) → IsAdmissible (integer_matrix g) → (why : Refusal)
+    → RefusesGroup limits g why ⊎ (RefusesGroup limits g why → ⊥)
+group-decided limits g admissible ManyRoots =
+    ⊎_elim (λ many. inl many) (λ few. inr (not_both (integer_matrix g) limits.roots few))
+    (HasMoreSmallRoots-decided (integer_matrix g) admissible limits.roots)
+group-decided limits g admissible _ = inr (λ none. none)
+
+-- a command that sets a group has a reply
+pub group-reply : (state : State) (g : CoxeterMatrix) → IsAdmissible (integer_matrix g)
+    → (reply : Reply) × IsCommandReply (asks.Group g) state reply
+group-reply state g admissible =
+    IsDecided-exists (RefusesGroup state.limits g) state (λ answer. answer ≡ silence (with_group state g))
+    (group-decided state.limits g admissible) (silence (with_group state g), refl)
 
 -- the reply where a group is set
 in_group : (group : Option CoxeterMatrix) (Is : CoxeterMatrix → Reply → Type 0) → IfSome group IsCoxeterMatrix → (group ≡ None → ⊥)
@@ -47,11 +58,6 @@ in_group : (group : Option CoxeterMatrix) (Is : CoxeterMatrix → Reply → Type
     × IsSomeAnd group (λ g. Is g reply)
 in_group None Is matrix set each = absurd (set refl)
 in_group (Some g) Is matrix set each = each g (IsAdmissible-integer_matrix g matrix)
-
--- what is known where no refusal of a list applies
-pub passed_over : (b : Bool) (why : Refusal) (rest : Option Refusal) → (if b then Some why else rest) ≡ None → (b ≡ false) × (rest ≡ None)
-passed_over true why rest none = absurd (cc none)
-passed_over false why rest none = (refl, none)
 
 -- a command that is accepted has the group that it needs
 needed : (word : CommandWord) (arguments : List (List ℕ)) (group : Option CoxeterMatrix) → needs_group word ≡ true
@@ -75,20 +81,18 @@ module _ (state : State) (matrix : IfSome state.group IsCoxeterMatrix) where
   some_reply : (inquiry : Inquiry) → (state.group ≡ None → ⊥) → (reply : Reply) × IsInquiryReply inquiry state reply
   some_reply inquiry set = in_group state.group _ matrix set (λ g admissible. inquiry-reply inquiry state g admissible)
 
-  -- the reply to a command that sets a group
-  group_reply : (g : CoxeterMatrix) → (reply : Reply) × IsCommandReply (asks.Group g) state reply
-  group_reply g = IsDecided-exists (RefusesGroup state g) state (λ answer. answer ≡ silence (with_group state g))
-      (λ why. inr (λ none. none))
-      (silence (with_group state g), refl)
-
   -- an accepted command has a reply
   by_word : (o : Option CommandWord) (arguments : List (List ℕ)) → command_refusal o arguments (rank_of state) ≡ None
       → (reply : Reply) × IsReplied (λ command. IsSomeAnd o (λ word. IsGivenBy command word arguments (rank_of state))) state reply
   by_word None arguments accepted = absurd (cc accepted)
   by_word (Some Named) arguments accepted =
-      let g = named_matrix arguments in let found = group_reply g in (found.0, (asks.Group g, refl, found.1))
+      let g = named_matrix arguments in
+      let found = group-reply state g (IsAdmissible-integer_matrix g (matrix_set-is Named arguments (rank_of state) g accepted refl)) in
+      (found.0, (asks.Group g, refl, found.1))
   by_word (Some Matrix) arguments accepted =
-      let g = matrix_of arguments in let found = group_reply g in (found.0, (asks.Group g, refl, found.1))
+      let g = matrix_of arguments in
+      let found = group-reply state g (IsAdmissible-integer_matrix g (matrix_set-is Matrix arguments (rank_of state) g accepted refl)) in
+      (found.0, (asks.Group g, refl, found.1))
   by_word (Some Quit) arguments accepted = (farewell state, (asks.Quit, refl, refl))
   by_word (Some (One kind)) arguments accepted =
       let w = word_argument (rank_of state) arguments 0 in

@@ -14,7 +14,7 @@ use Rattle.cox_poly.proofs.Behind.{PutsPrefix-first, PutsPrefix-second}
 use Rattle.cox_shell.specs.declared.answers.unanswered.Unanswered.{Unanswered}
 use Rattle.cox_shell.specs.declared.answers.unanswered.Unanswered.TheVariants.{Refused, NoMemory}
 use Rattle.cox_shell.specs.Reply.{Limits}
-use Rattle.cox_shell.specs.Question.{element_refusals, IsRefused}
+use Rattle.cox_shell.specs.Question.{command_refusals, IsRefused}
 use Rattle.cox_shell.specs.CommandReply.{RefusesNone, RefusesLarge, RefusesFar}
 use Rattle.cox_shell.specs.Saying.{PutsSome, PutsUnless, IsEnded, unrefused}
 use Rattle.cox_shell.proofs.Refusing.{IsFirstRefusal-none}
@@ -26,14 +26,14 @@ PutsPrefix-none text before after same = record { prefix = []; rest = text; part
 -- an interval within the limit is not refused
 pub large-allowed : (limits : Limits) (A : IntegerMatrix) (w : List ℕ) → (HasMoreThan limits.context (IsInInterval A w) → ⊥)
     → IsRefused (RefusesLarge limits A w) None
-large-allowed limits A w few = inr (few, inr (λ none. none, refl))
+large-allowed limits A w few = inr (λ none. none, inr (few, inr (λ none. none, refl)))
 
 -- two elements are refused exactly where their R-polynomial is of too high a degree
 pub far-refused : (A : IntegerMatrix) (y w : List ℕ) (d : ℕ) → IsDeep A y w d → IsRefused (RefusesFar A y w) (Some FarApart)
-far-refused A y w d deep = inr (λ none. none, inl ((d, deep), refl))
+far-refused A y w d deep = inr (λ none. none, inr (λ none. none, inl ((d, deep), refl)))
 
 pub far-allowed : (A : IntegerMatrix) (y w : List ℕ) → ((d : ℕ) → IsDeep A y w d → ⊥) → IsRefused (RefusesFar A y w) None
-far-allowed A y w near = inr (λ none. none, inr (λ deep. near deep.0 deep.1, refl))
+far-allowed A y w near = inr (λ none. none, inr (λ none. none, inr (λ deep. near deep.0 deep.1, refl)))
 
 -- a text that was put where nothing refuses
 pub PutsUnless-put : (put : Result Unit AllocError) (Refuses : Refusal → Type 0) (IsText : List ℕ → Type 0) (before after : List ℕ)
@@ -45,7 +45,7 @@ PutsUnless-put (Err error) Refuses IsText before after free some = inr (free, so
 pub PutsUnless-free : (put : Result Unit AllocError) (IsText : List ℕ → Type 0) (text before after : List ℕ) → IsText text
     → Puts put text before after → PutsUnless (unrefused put) RefusesNone IsText before after
 PutsUnless-free put IsText text before after is puts =
-    PutsUnless-put put RefusesNone IsText before after (IsFirstRefusal-none RefusesNone (λ why none. none) element_refusals)
+    PutsUnless-put put RefusesNone IsText before after (IsFirstRefusal-none RefusesNone (λ why none. none) command_refusals)
     (text, is, puts)
 
 -- the same text, with the end of its last line

@@ -25,8 +25,8 @@ use Rattle.cox_shell.proofs.KnownValues.{IfSome-unmade, IfSome-follows}
 
 -- the limits of the options that arguments give are those that the arguments give
 pub limits-given : (options : Options) (arguments : List (List ℕ)) → given_number (codes "context") arguments ≡ Some options.context
-    → limits_of options ≡ given_limits arguments
-limits-given options arguments given = rw given refl
+    → given_number (codes "roots") arguments ≡ Some options.roots → limits_of options ≡ given_limits arguments
+limits-given options arguments context roots = rw (context, roots) refl
 
 -- where a run begins
 abbrev pub beginning : Limits → Option (List ℕ) → Outlet → Stand

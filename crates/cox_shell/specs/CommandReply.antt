@@ -1,6 +1,5 @@
 -- The replies to commands, in the terms of Coxeter groups.
-use Rattle.std.specs.Prelude.{◌+◌, ℤ, map, ◌≡◌, ℕ, ◌↔◌, Bool, ◌||◌, IsTrue, nat_lt, List, length, reverse, IsSomeAnd, decimal}
-use Rattle.std.specs.Bool.{MatchBool}
+use Rattle.std.specs.Prelude.{◌+◌, ℤ, map, ◌≡◌, ℕ, ◌↔◌, Bool, IsTrue, List, reverse, IsSomeAnd, decimal}
 use Rattle.std.specs.List.{range_with_len}
 use Rattle.cox_base.specs.Matrix.{CoxeterMatrix}
 use Rattle.cox_base.specs.IntegerMatrix.{IntegerMatrix, integer_matrix}
@@ -8,7 +7,7 @@ use Rattle.cox_base.specs.ShortLex.{normal_form}
 use Rattle.cox_base.specs.Length.{word_length, left_descents, right_descents}
 use Rattle.cox_base.specs.Bruhat.{IsBelow}
 use Rattle.cox_command.specs.declared.refusal.Refusal.{Refusal}
-use Rattle.cox_command.specs.declared.refusal.Refusal.TheVariants.{LargeInterval, ManyLetters, FarApart}
+use Rattle.cox_command.specs.declared.refusal.Refusal.TheVariants.{ManyRoots, LargeInterval, FarApart}
 use Rattle.cox_command.specs.declared.command.OneWord.{OneWord}
 use Rattle.cox_command.specs.declared.command.OneWord.TheVariants.{Compute, Length, Inverse, Descent, Coatoms, Betti}
 use Rattle.cox_command.specs.declared.command.TwoWord.{TwoWord}
@@ -18,6 +17,7 @@ use Rattle.cox_command.specs.declared.command.Command.TheVariants as asks
 use Rattle.cox_poly.specs.PolynomialText.{polynomial_text}
 use Rattle.cox_rpoly.specs.RPolynomial.{r_polynomial}
 use Rattle.cox_rpoly.specs.Depth.{IsDeep}
+use Rattle.cox_small.specs.SmallRoots.{HasMoreSmallRoots}
 use Rattle.cox_context.specs.Members.{IsInInterval}
 use Rattle.cox_context.specs.SortedList.{IsListOf, HasMoreThan}
 use Rattle.cox_context.specs.Interval.{IsBetween, IsCoatom, counts_by_length}
@@ -86,15 +86,6 @@ abbrev pub question_of : Inquiry → Limits → CoxeterMatrix → Question
 question_of (One kind w) limits g = one_question kind limits g.rank (integer_matrix g) w.items
 question_of (Two kind y w) limits g = two_question kind limits g.rank (integer_matrix g) y.items w.items
 
--- whether a word has more letters than are worked with
-abbrev pub is_over_limit : List ℕ → Bool
-is_over_limit word = nat_lt 63 (length word)
-
--- whether a word of a command is so
-abbrev pub has_many_letters : Inquiry → Bool
-has_many_letters (One kind w) = is_over_limit w.items
-has_many_letters (Two kind y w) = is_over_limit y.items || is_over_limit w.items
-
 -- an answer to a question, which leaves the state
 abbrev pub Answers : State → Question → Reply → Type 0
 Answers state question reply = (text : List ℕ) × question.IsText text × (reply ≡ answered state text)
@@ -102,18 +93,17 @@ Answers state question reply = (text : List ℕ) × question.IsText text × (rep
 -- the reply to a command on elements, where a group is set
 abbrev pub IsInquiryReply : Inquiry → State → Reply → Type 0
 IsInquiryReply inquiry state reply = IsSomeAnd state.group (λ g.
-    let question = question_of inquiry state.limits g in
-    MatchBool (has_many_letters inquiry) (reply ≡ refusal state ManyLetters)
-    (IsDecided state question.Refuses (Answers state question) reply))
+    let question = question_of inquiry state.limits g in IsDecided state question.Refuses (Answers state question) reply)
 
--- a refusal by the group that is to be set has a cause: none has
-abbrev pub RefusesGroup : State → CoxeterMatrix → Refusal → Type 0
-RefusesGroup state g why = ⊥
+-- the group that is to be set has more small roots than the limit
+abbrev pub RefusesGroup : Limits → CoxeterMatrix → Refusal → Type 0
+RefusesGroup limits g ManyRoots = HasMoreSmallRoots (integer_matrix g) limits.roots
+RefusesGroup limits g _ = ⊥
 
 -- the reply to a command
 abbrev pub IsCommandReply : Command → State → Reply → Type 0
 IsCommandReply asks.Nothing state reply = reply ≡ silence state
 IsCommandReply asks.Quit state reply = reply ≡ farewell state
-IsCommandReply (asks.Group g) state reply = IsDecided state (RefusesGroup state g) (λ answer. answer ≡ silence (with_group state g)) reply
+IsCommandReply (asks.Group g) state reply = IsDecided state (RefusesGroup state.limits g) (λ answer. answer ≡ silence (with_group state g)) reply
 IsCommandReply (asks.One kind w) state reply = IsInquiryReply (One kind w) state reply
 IsCommandReply (asks.Two kind y w) state reply = IsInquiryReply (Two kind y w) state reply

@@ -1,7 +1,7 @@
 -- What a command asks: which refusals have a cause, and which texts are right where none has.
 use Rattle.std.specs.Prelude.{◌≡◌, ◌⊎◌, ℕ, List, [], ◌∷◌, Option, None, Some, MatchOption}
 use Rattle.cox_command.specs.declared.refusal.Refusal.{Refusal}
-use Rattle.cox_command.specs.declared.refusal.Refusal.TheVariants.{LargeInterval, FarApart}
+use Rattle.cox_command.specs.declared.refusal.Refusal.TheVariants.{ManyRoots, LargeInterval, FarApart}
 use Rattle.cox_shell.specs.Reply.{State, Reply, refusal}
 
 -- a command on elements, as what it asks of them
@@ -11,9 +11,9 @@ pub record Question : Type 1 where
   -- this text is right; the end of its last line is not part of it
   pub IsText : List ℕ → Type 0
 
--- the order in which refusals by elements are tried
-abbrev pub element_refusals : List Refusal
-element_refusals = LargeInterval ∷ FarApart ∷ []
+-- the order in which the refusals by the group and by elements are tried
+abbrev pub command_refusals : List Refusal
+command_refusals = ManyRoots ∷ LargeInterval ∷ FarApart ∷ []
 
 -- the first of these refusals that has a cause, if one has
 abbrev pub IsFirstRefusal : (Refusal → Type 0) → List Refusal → Option Refusal → Type 0
@@ -22,7 +22,7 @@ IsFirstRefusal Refuses (why ∷ later) found = (Refuses why × (found ≡ Some w
 
 -- the refusal of a command, if it is refused
 abbrev pub IsRefused : (Refusal → Type 0) → Option Refusal → Type 0
-IsRefused Refuses found = IsFirstRefusal Refuses element_refusals found
+IsRefused Refuses found = IsFirstRefusal Refuses command_refusals found
 
 -- the reply of a command: its refusal, or one of these where it is not refused
 abbrev pub IsDecided : State → (Refusal → Type 0) → (Reply → Type 0) → Reply → Type 0

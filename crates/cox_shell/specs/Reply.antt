@@ -10,6 +10,8 @@ use Rattle.cox_print.specs.AnswerText.{refusal_text}
 pub record Limits : Type 0 where
   -- how many members an interval may have
   pub context : ℕ
+  -- how many small roots a group may have
+  pub roots : ℕ
 
 -- the state of a session: its limits, and the Coxeter matrix of the group that is set, if one is
 pub record State : Type 0 where

@@ -4,4 +4,4 @@ use Rattle.cox_shell.specs.Reply.{Limits}
 
 -- the limits that options give
 abbrev pub limits_of : Options → Limits
-limits_of options = record { context = options.context }
+limits_of options = record { context = options.context; roots = options.roots }

@@ -20,7 +20,10 @@ argument_texts arguments = map (λ argument. argument.now) arguments
 
 -- the limits that arguments give
 abbrev pub given_limits : List (List ℕ) → Limits
-given_limits arguments = record { context = unwrap_or (given_number (codes "context") arguments) 0 }
+given_limits arguments = record {
+  context = unwrap_or (given_number (codes "context") arguments) 0;
+  roots = unwrap_or (given_number (codes "roots") arguments) 0;
+}
 
 -- the replies to the script were written, all and nothing else
 pub record WritesAnswer (limits : Limits) (script : Option (List ℕ)) (old new : Outlet) : Type 0 where

@@ -3,7 +3,6 @@
 //! - `unanswered`: why a command gets no answer
 //! - `intervals`: Bruhat intervals
 //! - `polynomials`: polynomials of two elements
-ghost use Rattle.std.specs.Prelude.{◌≡◌, ◌≤◌, length, reverse, IsFalse};
 ghost use Rattle.cox_base.specs.Matrix.{IsWord};
 ghost use Rattle.cox_base.specs.Admissible.{IsCoxeterMatrix};
 ghost use Rattle.cox_base.specs.IntegerMatrix.{integer_matrix};
@@ -11,7 +10,7 @@ ghost use Rattle.cox_base.specs.Length.{left_descents, right_descents};
 ghost use Rattle.cox_poly.specs.Puts.{Puts};
 ghost use Rattle.cox_print.specs.AnswerText.{descent_text};
 ghost use Rattle.cox_shell.specs.SessionLimits.{limits_of};
-ghost use Rattle.cox_shell.specs.CommandReply.{RefusesNone, IsOrderText, question_of, has_many_letters};
+ghost use Rattle.cox_shell.specs.CommandReply.{RefusesNone, IsOrderText, question_of};
 ghost use Rattle.cox_shell.specs.Saying.{HasLetters, PutsUnless, IsEnded};
 
 mod intervals;
@@ -20,10 +19,10 @@ mod unanswered;
 
 use crate::inquiry::Inquiry;
 use crate::workspace::Workspace;
-use cox_base::{Coxeter, MAX_LETTERS, MAX_RANK, Side, Word};
+use cox_base::{MAX_RANK, Word};
 use cox_command::{OneWord, TwoWord};
 use cox_print::{NoMemory, put_count, put_descent, put_element, put_end, put_truth};
-use cox_reflect::{below, descents, length, normal_form};
+use cox_minroots::RootTable;
 use intervals::{put_betti, put_coatoms, put_interval};
 use polynomials::put_rpol;
 pub use unanswered::Unanswered;
@@ -31,13 +30,12 @@ use unanswered::unrefused;
 
 /// Puts the text that answers a command on elements, with the end of its last line. A refusal puts nothing.
 pub fn put_answer(out: &mut Vec<u8>, work: &Workspace, inquiry: &Inquiry) -> Result<(), Unanswered>
-    requires words { HasLetters work.now.group.rank inquiry.now }
-    requires short { IsFalse (has_many_letters inquiry.now) }
-    ensures puts { PutsUnless result (question_of inquiry.now (limits_of work.now.options) work.now.group).Refuses
-        (IsEnded (question_of inquiry.now (limits_of work.now.options) work.now.group).IsText) out.old.items out.new.items }
-    ensures group { IsCoxeterMatrix work.now.group }
+    requires words { HasLetters work.now.table.rank inquiry.now }
+    ensures puts { PutsUnless result (question_of inquiry.now (limits_of work.now.options) work.now.table).Refuses
+        (IsEnded (question_of inquiry.now (limits_of work.now.options) work.now.table).IsText) out.old.items out.new.items }
+    ensures group { IsCoxeterMatrix work.now.table }
 {
-    prove!(work.group.rank() as usize <= MAX_RANK);
+    prove!(work.table.group().rank() as usize <= MAX_RANK);
     put_text_of(out, work, inquiry)?;
     put_end(out)?;
     Ok(())
@@ -45,21 +43,19 @@ pub fn put_answer(out: &mut Vec<u8>, work: &Workspace, inquiry: &Inquiry) -> Res
 
 /// Puts that text without the end of its last line.
 fn put_text_of(out: &mut Vec<u8>, work: &Workspace, inquiry: &Inquiry) -> Result<(), Unanswered>
-    requires words { HasLetters work.now.group.rank inquiry.now }
-    requires short { IsFalse (has_many_letters inquiry.now) }
-    ensures { PutsUnless result (question_of inquiry.now (limits_of work.now.options) work.now.group).Refuses
-        (question_of inquiry.now (limits_of work.now.options) work.now.group).IsText out.old.items out.new.items }
+    requires words { HasLetters work.now.table.rank inquiry.now }
+    ensures { PutsUnless result (question_of inquiry.now (limits_of work.now.options) work.now.table).Refuses
+        (question_of inquiry.now (limits_of work.now.options) work.now.table).IsText out.old.items out.new.items }
 {
-    let g = &work.group;
+    let table = &work.table;
+    let rank = table.group().rank();
     match inquiry {
         Inquiry::One(OneWord::Compute, w) => {
-            unrefused(put_element(out, g.rank(), &normal_form(g, w)))
+            unrefused(put_element(out, rank, &table.normal_form(w)))
         }
-        Inquiry::One(OneWord::Length, w) => unrefused(put_count(out, length(g, w) as usize)),
-        Inquiry::One(OneWord::Inverse, w) => {
-            unrefused(put_element(out, g.rank(), &normal_form(g, &reversed(w))))
-        }
-        Inquiry::One(OneWord::Descent, w) => unrefused(put_both_descents(out, g, w)),
+        Inquiry::One(OneWord::Length, w) => unrefused(put_count(out, table.length(w) as usize)),
+        Inquiry::One(OneWord::Inverse, w) => unrefused(put_element(out, rank, &table.inverse(w))),
+        Inquiry::One(OneWord::Descent, w) => unrefused(put_both_descents(out, table, w)),
         Inquiry::One(OneWord::Coatoms, w) => put_coatoms(out, work, w),
         Inquiry::One(OneWord::Betti, w) => put_betti(out, work, w),
         Inquiry::Two(TwoWord::Inorder, y, w) => put_inorder(out, work, y, w),
@@ -70,34 +66,23 @@ fn put_text_of(out: &mut Vec<u8>, work: &Workspace, inquiry: &Inquiry) -> Result
 
 /// Puts whether y <= w.
 fn put_inorder(out: &mut Vec<u8>, work: &Workspace, y: &Word, w: &Word) -> Result<(), Unanswered>
-    requires first { IsWord work.now.group.rank y.now.items }
-    requires second { IsWord work.now.group.rank w.now.items }
-    requires first_short { length y.now.items ≤ 63 }
-    requires second_short { length w.now.items ≤ 63 }
-    ensures { PutsUnless result RefusesNone (IsOrderText (integer_matrix work.now.group) y.now.items w.now.items) out.old.items out.new.items }
+    requires first { IsWord work.now.table.rank y.now.items }
+    requires second { IsWord work.now.table.rank w.now.items }
+    ensures { PutsUnless result RefusesNone (IsOrderText (integer_matrix work.now.table) y.now.items w.now.items) out.old.items out.new.items }
 {
-    unrefused(put_truth(out, below(&work.group, y, w)))
+    unrefused(put_truth(out, work.table.below(y, w)))
 }
 
 /// Puts the left and the right descents of w.
-fn put_both_descents(out: &mut Vec<u8>, g: &Coxeter, w: &Word) -> Result<(), NoMemory>
-    requires word { IsWord g.now.rank w.now.items }
-    requires short { length w.now.items ≤ 63 }
-    ensures { Puts result (descent_text g.now.rank (left_descents (integer_matrix g.now) w.now.items) (right_descents (integer_matrix g.now) w.now.items))
+fn put_both_descents(out: &mut Vec<u8>, table: &RootTable, w: &Word) -> Result<(), NoMemory>
+    requires { IsWord table.now.rank w.now.items }
+    ensures { Puts result (descent_text table.now.rank (left_descents (integer_matrix table.now) w.now.items) (right_descents (integer_matrix table.now) w.now.items))
         out.old.items out.new.items }
 {
-    let (left, right) = (descents(g, w, Side::Left), descents(g, w, Side::Right));
-    put_descent(out, g.rank(), &left, &right)
-}
-
-/// The reversed word, which names the inverse element.
-fn reversed(word: &Word) -> Word
-    requires { length word.now.items ≤ MAX_LETTERS }
-    ensures { result.items ≡ reverse word.now.items }
-{
-    let mut reversed = Word::new();
-    for k in 0..word.len() {
-        reversed.push(word.as_slice()[word.len() - 1 - k]);
-    }
-    reversed
+    put_descent(
+        out,
+        table.group().rank(),
+        &table.left_descents(w),
+        &table.right_descents(w),
+    )
 }

@@ -5,6 +5,7 @@ use crate::inquiry::Inquiry;
 use crate::workspace::Workspace;
 use cox_base::{Coxeter, MAX_RANK};
 use cox_command::{Command, Refusal, parse};
+use cox_minroots::{RootFault, RootTable};
 use cox_options::Options;
 use cox_print::{put_end, put_refusal};
 use std::alloc::AllocError;
@@ -38,13 +39,14 @@ impl Model for Session {
 
     ghost Value = { State };
 
-    ghost view = { λ s. record { limits = limits_of s.options; group = option_map (λ work. work.group) s.workspace } };
+    ghost view = { λ s. record { limits = limits_of s.options; group = option_map (λ work. work.table) s.workspace } };
 
     ghost invariant = { λ s. IfSome s.workspace (λ work. limits_of work.options ≡ limits_of s.options) };
 }
 
 impl Session {
     ghost use Rattle.std.specs.Prelude.{◌≡◌, ◌<◌, ◌≤◌, ◌^◌, length, IfOk, OnErr, IfSome, IsSomeAnd};
+    ghost use Rattle.cox_command.specs.declared.command.Command.TheVariants.{Group};
     ghost use Rattle.cox_command.specs.ParseContract.{HasWordsOf};
     ghost use Rattle.cox_shell.specs.Reply.{Reply, opening, with_group, refusal, rank_of};
     ghost use Rattle.cox_shell.specs.SessionLimits.{limits_of};
@@ -82,7 +84,7 @@ impl Session {
         ensures rank { result ≡ rank_of self.now }
         ensures limit { IfSome result (λ n. n ≤ MAX_RANK) }
     {
-        self.workspace.as_ref().map(|work| work.group.rank())
+        self.workspace.as_ref().map(|work| work.table.group().rank())
     }
 
     /// Answers a command, whose words are over the letters of the group.
@@ -96,23 +98,31 @@ impl Session {
         match command {
             Command::Nothing => Ok(Said::Answered),
             Command::Quit => Ok(Said::Quit),
-            Command::Group(group) => {
-                self.set_group(group);
-                Ok(Said::Answered)
-            }
+            Command::Group(group) => self.set_group(&group, out),
             Command::One(kind, w) => self.answer_inquiry(&Inquiry::One(kind, w), out),
             Command::Two(kind, y, w) => self.answer_inquiry(&Inquiry::Two(kind, y, w), out),
         }
     }
 
-    /// Sets the group.
-    fn set_group(&mut self, group: Coxeter)
-        ensures { self.new ≡ with_group self.old group }
+    /// Sets the group, unless it has more small roots than the options admit.
+    fn set_group(&mut self, group: &Coxeter, out: &mut Vec<u8>) -> Result<Said, AllocError>
+        ensures ok { IfOk result (λ said. (reply : Reply) × IsCommandReply (Group group.now) self.old reply
+            × Says said reply self.new out.old.items out.new.items) }
+        ensures err { OnErr result ((reply : Reply) × IsCommandReply (Group group.now) self.old reply
+            × SaysPrefix reply self.old self.new out.old.items out.new.items) }
     {
-        self.workspace = Some(Workspace {
-            group,
-            options: self.options,
-        });
+        prove!(group.rank() as usize <= MAX_RANK);
+        match RootTable::build(*out.allocator(), group, self.options.roots()) {
+            Ok(table) => {
+                self.workspace = Some(Workspace {
+                    table,
+                    options: self.options,
+                });
+                Ok(Said::Answered)
+            }
+            Err(RootFault::TooMany { .. }) => self.refuse(Refusal::ManyRoots, out),
+            Err(RootFault::NoMemory) => Err(AllocError),
+        }
     }
 
     /// Answers a command on elements.
@@ -124,11 +134,11 @@ impl Session {
             × SaysPrefix reply self.now self.now out.old.items out.new.items) }
     {
         match &self.workspace {
-            Some(work) if !inquiry.has_many_letters() => {
+            Some(work) => {
                 let put = put_answer(out, work, inquiry);
                 self.conclude(put, out)
             }
-            _ => self.refuse(Refusal::ManyLetters, out),
+            None => unreachable!(),
         }
     }
 

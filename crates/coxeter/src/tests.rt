@@ -48,12 +48,22 @@ const ANSWERS: &[(&str, &str, Status)] = &[
     ("matrix 3 3 2 3\ncompute 212\n", "121\n", Status::Done),
     (
         "compute 1\nmatrix 2 5\ntype H 3\nfoo\ncompute\nmatrix 10\nmatrix 2\ntype A x\n",
-        "error 15\nerror 14\nerror 13\nerror 10\nerror 11\nerror 12\nerror 11\nerror 12\n",
+        "error 15\nerror 14\nerror 13\nerror 10\nerror 11\nerror 11\nerror 11\nerror 12\n",
         Status::Refused,
     ),
     (
         "type A 2\ncompute 13\ncompute 1x\ninverse 12\ninorder 1 21\ninorder 12 21\n",
         "error 16\nerror 16\n21\ntrue\nfalse\n",
+        Status::Refused,
+    ),
+    (
+        "type A 10\ncompute 10.9.10\ndescent 9.10.9\ncompute 1.2\ncompute 12\ncompute 01\ncompute 1..2\n",
+        "9.10.9\nL 9.10 R 9.10\n1.2\nerror 16\nerror 16\nerror 16\n",
+        Status::Refused,
+    ),
+    (
+        "type a 15\ncompute 16.1.16\ntype A 17\n",
+        "1.16.1\nerror 13\n",
         Status::Refused,
     ),
     (
@@ -122,6 +132,24 @@ const OPTIONS: &[WithOptions] = &[
         Status::Done,
     ),
     (
+        &["coxeter", "--roots", "9"],
+        "type A 4\ncompute 11\n",
+        "error 21\nerror 15\n",
+        Status::Refused,
+    ),
+    (
+        &["coxeter", "--roots", "10"],
+        "type A 4\ncompute 11\n",
+        "e\n",
+        Status::Done,
+    ),
+    (
+        &["coxeter", "--roots=2"],
+        "type A 1\ntype A 2\ncompute 1\nmatrix 2 0\ncompute 12\n",
+        "error 21\n1\n12\n",
+        Status::Refused,
+    ),
+    (
         &["coxeter", "--context", "1"],
         "type A 1\ninterval e e\ninterval e 1\nbetti e\n",
         "1\ne\nerror 31\n1\n",
@@ -136,23 +164,31 @@ const WRONG_ARGUMENTS: &[&[&str]] = &[
     &["coxeter", "script"],
     &["coxeter", "--context"],
     &["coxeter", "--context", "0"],
-    &["coxeter", "--context", "65537"],
+    &["coxeter", "--context", "1048577"],
+    &["coxeter", "--roots", "0"],
+    &["coxeter", "--roots", "4097"],
     &["coxeter", "--context", "1", "--context", "2"],
 ];
 
-/// Scripts by their beginning, letters, and how often these are repeated behind it; and what has to
-/// be written.
-const LONG_WORDS: &[(&str, &str, usize, &str)] = &[
-    ("matrix 2 0\ncompute 1", "21", 127, "error 33\n"),
-    ("matrix 2 0\ncompute ", "12", 128, "error 17\n"),
-    ("matrix 3 0 0 0\ncompute ", "123", 85, "error 33\n"),
-    ("type A 2\nlength 1", "21", 31, "3\n"),
-    ("type A 2\nlength ", "12", 32, "error 33\n"),
-    ("matrix 2 0\nlength 1", "21", 31, "63\n"),
-    ("matrix 2 0\nlength 1", "21", 127, "error 33\n"),
-    ("matrix 2 0\nlength ", "12", 128, "error 17\n"),
-    ("matrix 2 0\nrpol e 1", "21", 1, "-1+2q-2q^2+q^3\n"),
-    ("matrix 2 0\nrpol e ", "12", 20, "error 34\n"),
+/// Scripts by their beginning, letters, and how often these are repeated behind it; what follows; and what has to be written.
+const LONG_WORDS: &[(&str, &str, usize, &str, &str)] = &[
+    ("matrix 2 0\nlength 1", "21", 127, "\n", "255\n"),
+    ("matrix 2 0\ncompute ", "12", 128, "\n", "error 17\n"),
+    ("matrix 3 0 0 0\nlength ", "123", 85, "\n", "255\n"),
+    ("matrix 3 0 0 0\nbetti 1", "21", 5, "\n", "1 2 2 2 2 2 2 2 2 2 2 1\n"),
+    ("type A 2\nlength ", "12", 127, "\n", "2\n"),
+    ("type A 2\nlength ", "12", 128, "\n", "error 17\n"),
+    ("type A 10\ncompute 1", ".1", 254, "\n", "1\n"),
+    ("type A 10\ncompute 1", ".1", 255, "\n", "error 17\n"),
+    ("matrix 2 0\nrpol e 1", "21", 1, "\n", "-1+2q-2q^2+q^3\n"),
+    ("matrix 2 0\nrpol e ", "12", 20, "\n", "error 34\n"),
+    ("matrix 2 0\ninorder 121 ", "12", 127, "\n", "true\n"),
+];
+
+/// Words of 255 letters that are their own normal forms: the group, letters, how often these are repeated, and the letter behind them.
+const LONGEST: &[(&str, &str, usize, &str)] = &[
+    ("matrix 2 0\n", "12", 127, "1"),
+    ("matrix 3 0 0 0\n", "123", 85, ""),
 ];
 
 /// Scripts by their first bytes, the size that they are filled up to, the byte for that, and their
@@ -241,13 +277,32 @@ fn answers(rt: HostRuntime) -> Result<(), Fail> {
 
 #[test]
 fn long_words(rt: HostRuntime) -> Result<(), Fail> {
-    for (begin, letters, count, written) in LONG_WORDS {
+    for (begin, letters, count, end, written) in LONG_WORDS {
         let mut script = begin.as_bytes().to_vec(rt.alloc())?;
         for _ in 0..*count {
             script.extend_from_slice(letters.as_bytes())?;
         }
+        script.extend_from_slice(end.as_bytes())?;
         let (_, sink) = end_of(rt.alloc(), plain(&script))?;
-        assert_eq!(rt; sink.bytes(), written.as_bytes(), "{count} times {letters}");
+        assert_eq!(rt; sink.bytes(), written.as_bytes(), "{begin} {count} times {letters}");
+    }
+    Ok(())
+}
+
+#[test]
+fn longest_words(rt: HostRuntime) -> Result<(), Fail> {
+    for (group, letters, count, last) in LONGEST {
+        let mut word = Vec::new(rt.alloc());
+        for _ in 0..*count {
+            word.extend_from_slice(letters.as_bytes())?;
+        }
+        word.extend_from_slice(last.as_bytes())?;
+        let mut script = group.as_bytes().to_vec(rt.alloc())?;
+        script.extend_from_slice(b"compute ")?;
+        script.extend_from_slice(&word)?;
+        word.push(b'\n')?;
+        let (_, sink) = end_of(rt.alloc(), Run { room: 300, ..plain(&script) })?;
+        assert_eq!(rt; sink.bytes(), word.as_slice(), "{count} times {letters}");
     }
     Ok(())
 }

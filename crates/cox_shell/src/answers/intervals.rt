@@ -15,12 +15,15 @@ ghost use Rattle.cox_shell.specs.Saying.{PutsSome, PutsUnless, GivesInterval, wo
 
 use crate::answers::unanswered::{Unanswered, unrefused};
 use crate::workspace::Workspace;
-use cox_base::{MAX_RANK, Word};
+use cox_base::{MAX_LETTERS, MAX_RANK, Word};
 use cox_command::Refusal;
 use cox_context::{Context, ContextFault};
+use cox_minroots::RootTable;
 use cox_print::{NoMemory, put_count, put_next_element, put_numbers};
-use cox_reflect::{length, normal_form};
 use std::alloc::Global;
+
+/// How many lengths a member may have.
+const LENGTHS: usize = MAX_LETTERS + 1;
 
 /// Puts the list of the elements x with y <= x <= w.
 pub fn put_interval(
@@ -29,50 +32,46 @@ pub fn put_interval(
     y: &Word,
     w: &Word,
 ) -> Result<(), Unanswered>
-    requires first { IsWord work.now.group.rank y.now.items }
-    requires second { IsWord work.now.group.rank w.now.items }
-    requires first_short { length y.now.items ≤ 63 }
-    requires second_short { length w.now.items ≤ 63 }
-    ensures { PutsUnless result (RefusesLarge (limits_of work.now.options) (integer_matrix work.now.group) w.now.items)
-        (IsElementsText work.now.group.rank (IsBetween (integer_matrix work.now.group) y.now.items w.now.items)) out.old.items out.new.items }
+    requires first { IsWord work.now.table.rank y.now.items }
+    requires second { IsWord work.now.table.rank w.now.items }
+    ensures { PutsUnless result (RefusesLarge (limits_of work.now.options) (integer_matrix work.now.table) w.now.items)
+        (IsElementsText work.now.table.rank (IsBetween (integer_matrix work.now.table) y.now.items w.now.items)) out.old.items out.new.items }
 {
     let context = interval_of(*out.allocator(), work, w)?;
-    unrefused(put_between(out, &context, y))
+    unrefused(put_between(out, &work.table, &context, y))
 }
 
 /// Puts the list of the elements x < w with l(x) = l(w) - 1.
 pub fn put_coatoms(out: &mut Vec<u8>, work: &Workspace, w: &Word) -> Result<(), Unanswered>
-    requires word { IsWord work.now.group.rank w.now.items }
-    requires short { length w.now.items ≤ 63 }
-    ensures { PutsUnless result (RefusesLarge (limits_of work.now.options) (integer_matrix work.now.group) w.now.items)
-        (IsElementsText work.now.group.rank (IsCoatom (integer_matrix work.now.group) w.now.items)) out.old.items out.new.items }
+    requires word { IsWord work.now.table.rank w.now.items }
+    ensures { PutsUnless result (RefusesLarge (limits_of work.now.options) (integer_matrix work.now.table) w.now.items)
+        (IsElementsText work.now.table.rank (IsCoatom (integer_matrix work.now.table) w.now.items)) out.old.items out.new.items }
 {
     let context = interval_of(*out.allocator(), work, w)?;
-    unrefused(put_shorter(out, &context, length(&work.group, w)))
+    unrefused(put_shorter(out, &context, work.table.length(w)))
 }
 
 /// Puts how many x <= w there are of each length.
 pub fn put_betti(out: &mut Vec<u8>, work: &Workspace, w: &Word) -> Result<(), Unanswered>
-    requires word { IsWord work.now.group.rank w.now.items }
-    requires short { length w.now.items ≤ 63 }
-    ensures { PutsUnless result (RefusesLarge (limits_of work.now.options) (integer_matrix work.now.group) w.now.items)
-        (IsCountsText (integer_matrix work.now.group) w.now.items) out.old.items out.new.items }
+    requires word { IsWord work.now.table.rank w.now.items }
+    ensures { PutsUnless result (RefusesLarge (limits_of work.now.options) (integer_matrix work.now.table) w.now.items)
+        (IsCountsText (integer_matrix work.now.table) w.now.items) out.old.items out.new.items }
 {
+    prove!(w.len() <= MAX_LETTERS);
     let context = interval_of(*out.allocator(), work, w)?;
-    unrefused(put_counts(out, &context, length(&work.group, w)))
+    unrefused(put_counts(out, &context, work.table.length(w)))
 }
 
 /// The interval from the identity to w. It is refused where it has more members than the options admit.
 fn interval_of(alloc: Global, work: &Workspace, w: &Word) -> Result<Context, Unanswered>
-    requires word { IsWord work.now.group.rank w.now.items }
-    requires short { length w.now.items ≤ 63 }
-    ensures matrix { IfOk result (λ context. context.matrix ≡ work.now.group) }
-    ensures members { GivesInterval result (limits_of work.now.options) (integer_matrix work.now.group) w.now.items }
-    ensures group { IsCoxeterMatrix work.now.group }
+    requires word { IsWord work.now.table.rank w.now.items }
+    ensures matrix { IfOk result (λ context. context.matrix ≡ work.now.table) }
+    ensures members { GivesInterval result (limits_of work.now.options) (integer_matrix work.now.table) w.now.items }
+    ensures group { IsCoxeterMatrix work.now.table }
 {
-    let g = &work.group;
-    prove!(g.rank() as usize <= MAX_RANK);
-    match Context::of_interval(alloc, g, w, work.options.context()) {
+    prove!(work.table.group().rank() as usize <= MAX_RANK);
+    prove!(w.len() <= MAX_LETTERS);
+    match Context::of_interval(alloc, &work.table, w, work.options.context()) {
         Ok(context) => Ok(context),
         Err(ContextFault::NoMemory) => Err(Unanswered::NoMemory),
         Err(ContextFault::Size { .. }) => Err(Unanswered::Refused(Refusal::LargeInterval)),
@@ -82,15 +81,20 @@ fn interval_of(alloc: Global, work: &Workspace, w: &Word) -> Result<Context, Una
 }
 
 /// Puts the list of the members x of an interval with y <= x.
-fn put_between(out: &mut Vec<u8>, context: &Context, y: &Word) -> Result<(), NoMemory>
+fn put_between(
+    out: &mut Vec<u8>,
+    table: &RootTable,
+    context: &Context,
+    y: &Word,
+) -> Result<(), NoMemory>
     requires group { IsCoxeterMatrix context.now.matrix }
+    requires table { table.now ≡ context.now.matrix }
     requires word { IsWord context.now.matrix.rank y.now.items }
-    requires short { length y.now.items ≤ 63 }
     ensures { (w : List ℕ) → IsListOf (IsInInterval (integer_matrix context.now.matrix) w) context.now.members
         → PutsSome result (IsElementsText context.now.matrix.rank (IsBetween (integer_matrix context.now.matrix) y.now.items w))
         out.old.items out.new.items }
 {
-    let between = members_above(*out.allocator(), context, y)?;
+    let between = members_above(*out.allocator(), table, context, y)?;
     put_members(out, context, between.as_slice())
 }
 
@@ -107,7 +111,7 @@ fn put_shorter(out: &mut Vec<u8>, context: &Context, letters: u32) -> Result<(),
 
 /// Puts how many members of an interval there are of each length up to that of its top.
 fn put_counts(out: &mut Vec<u8>, context: &Context, letters: u32) -> Result<(), NoMemory>
-    requires short { letters ≤ 63 }
+    requires short { letters ≤ MAX_LETTERS }
     ensures { (w : List ℕ) → IsListOf (IsInInterval (integer_matrix context.now.matrix) w) context.now.members
         → letters ≡ word_length (integer_matrix context.now.matrix) w
         → PutsSome result (IsCountsText (integer_matrix context.now.matrix) w) out.old.items out.new.items }
@@ -117,10 +121,15 @@ fn put_counts(out: &mut Vec<u8>, context: &Context, letters: u32) -> Result<(), 
 }
 
 /// The numbers of the members x with y <= x, rising.
-fn members_above(alloc: Global, context: &Context, y: &Word) -> Result<Vec<u32>, NoMemory>
+fn members_above(
+    alloc: Global,
+    table: &RootTable,
+    context: &Context,
+    y: &Word,
+) -> Result<Vec<u32>, NoMemory>
     requires group { IsCoxeterMatrix context.now.matrix }
+    requires table { table.now ≡ context.now.matrix }
     requires word { IsWord context.now.matrix.rank y.now.items }
-    requires short { length y.now.items ≤ 63 }
     ensures within { IfOk result (λ numbers. All (λ i. i < length context.now.members) numbers.items) }
     ensures between { (w : List ℕ) → IsListOf (IsInInterval (integer_matrix context.now.matrix) w) context.now.members
         → IfOk result (λ numbers. IsListOf (IsBetween (integer_matrix context.now.matrix) y.now.items w)
@@ -128,7 +137,7 @@ fn members_above(alloc: Global, context: &Context, y: &Word) -> Result<Vec<u32>,
 {
     let count = context.len();
     let mut above = Vec::new(alloc);
-    let Some(low) = context.number(&normal_form(context.matrix(), y)) else {
+    let Some(low) = context.number(&table.normal_form(y)) else {
         return Ok(above);
     };
     for i in low..count {
@@ -157,11 +166,11 @@ fn members_below_length(
     Ok(found)
 }
 
-/// How many members there are of each length, from 0 to 63.
-fn counts(context: &Context) -> [i128; 64]
-    ensures { (k : ℕ) → k < 64 → slice_index_or result k (pos 0) ≡ pos (count_of_length context.now.members k) }
+/// How many members there are of each length, from 0 to `MAX_LETTERS`.
+fn counts(context: &Context) -> [i128; LENGTHS]
+    ensures { (k : ℕ) → k < LENGTHS → slice_index_or result k (pos 0) ≡ pos (count_of_length context.now.members k) }
 {
-    let mut counts = [0; 64];
+    let mut counts = [0; LENGTHS];
     for i in 0..context.len() {
         counts[context.length(i) as usize] += 1;
     }
@@ -177,7 +186,7 @@ fn put_members(out: &mut Vec<u8>, context: &Context, numbers: &[u32]) -> Result<
     prove!(context.len() > 0);
     put_count(out, numbers.len())?;
     for &i in numbers {
-        put_next_element(out, rank, context.word(i))?;
+        put_next_element(out, rank, &context.word(i))?;
     }
     Ok(())
 }

@@ -1,5 +1,4 @@
 //! The answers on polynomials of two elements.
-ghost use Rattle.std.specs.Prelude.{◌≤◌, length};
 ghost use Rattle.cox_base.specs.Matrix.{IsWord};
 ghost use Rattle.cox_base.specs.IntegerMatrix.{integer_matrix};
 ghost use Rattle.cox_shell.specs.CommandReply.{RefusesFar, IsRText};
@@ -13,14 +12,12 @@ use cox_rpoly::{RFault, r};
 
 /// Puts the R-polynomial of y and w. It is refused where y ≤ w and their lengths differ by too much, whatever the options.
 pub fn put_rpol(out: &mut Vec<u8>, work: &Workspace, y: &Word, w: &Word) -> Result<(), Unanswered>
-    requires first { IsWord work.now.group.rank y.now.items }
-    requires second { IsWord work.now.group.rank w.now.items }
-    requires first_short { length y.now.items ≤ 63 }
-    requires second_short { length w.now.items ≤ 63 }
-    ensures { PutsUnless result (RefusesFar (integer_matrix work.now.group) y.now.items w.now.items)
-        (IsRText (integer_matrix work.now.group) y.now.items w.now.items) out.old.items out.new.items }
+    requires first { IsWord work.now.table.rank y.now.items }
+    requires second { IsWord work.now.table.rank w.now.items }
+    ensures { PutsUnless result (RefusesFar (integer_matrix work.now.table) y.now.items w.now.items)
+        (IsRText (integer_matrix work.now.table) y.now.items w.now.items) out.old.items out.new.items }
 {
-    match r(*out.allocator(), &work.group, y, w) {
+    match r(*out.allocator(), work.table.group(), y, w) {
         Ok(p) => unrefused(p.put_text(out)),
         Err(RFault::Deep(_)) => Err(Unanswered::Refused(Refusal::FarApart)),
         Err(RFault::NoMemory) => Err(Unanswered::NoMemory),

@@ -49,7 +49,7 @@ runs : (g : given.Over) (c : goal.After-drop-reader-inside-2 g)
     (stand c.run_lines.new.session c.run_lines.new.reader (g.S.Source.seen c.run_lines.new.source) (g.K.Sink.seen c.run_lines.new.sink))
 runs g c = Runs-beginning c.run_lines.result (given_limits (argument_texts c.args.words.now)) _ _ (g.S.Source.seen c.args.source.now) _ _
     (c.new-session.ensures
-    ∙ ap opening (limits-given c.in-Ok.options (argument_texts c.args.words.now) c.in-Ok.ensures.context)) c.in-Ok-new.ensures
+    ∙ ap opening (limits-given c.in-Ok.options (argument_texts c.args.words.now) c.in-Ok.ensures.context c.in-Ok.ensures.roots)) c.in-Ok-new.ensures
     c.run_lines.ensures.runs
 
 pub returns-clause-done : goal.returns-clause-done

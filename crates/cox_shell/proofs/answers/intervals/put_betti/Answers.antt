@@ -6,7 +6,7 @@ use Rattle.cox_shell.proofs.answers.intervals.put_betti.Goals as goal
 
 pub returns : goal.returns
 returns c =
-    let A = integer_matrix c.args.work.now.group in
+    let A = integer_matrix c.args.work.now.table in
     let context = c.in_ok-context.context in
     let told = c.in_ok-context.ensures {u = tt} in
     let some = rw told.matrix at

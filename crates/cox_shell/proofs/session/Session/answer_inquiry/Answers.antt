@@ -1,34 +1,33 @@
 -- The proof of `Session::answer_inquiry`.
-use Rattle.std.proofs.Common.{◌≡◌, false, Some, sym, ap, ◌∙◌}
+use Rattle.std.proofs.Common.{◌≡◌, Some, sym, ap, ◌∙◌}
 use Rattle.std.specs.Option.{option_map}
 use Rattle.cox_base.proofs.Admissible.{IsAdmissible-integer_matrix}
 use Rattle.cox_shell.specs.Reply.{State, Reply}
 use Rattle.cox_shell.specs.SessionLimits.{limits_of}
 use Rattle.cox_shell.specs.Question.{Question, IsDecided}
-use Rattle.cox_shell.specs.CommandReply.{question_of, has_many_letters, Answers, IsInquiryReply}
+use Rattle.cox_shell.specs.CommandReply.{question_of, Answers, IsInquiryReply}
 use Rattle.cox_shell.proofs.Refusing.{IsReply-exists}
 use Rattle.cox_shell.proofs.Questions.{question-answerable}
 use Rattle.cox_shell.proofs.Sayings.{IsInquiryReply-decided, Concludes-says, Concludes-breaks, Says-follows, SaysPrefix-follows}
 use Rattle.cox_shell.proofs.session.Session.answer_inquiry.Goals as goal
 
-pub returns-in-Some : goal.returns-in-Some
-returns-in-Some c =
+pub returns : goal.returns
+returns c =
     let state = c.args.self.now in
     let inquiry = c.args.inquiry.now in
     let work = c.in-Some.work in
-    let question : Question = question_of inquiry state.limits work.group in
+    let question : Question = question_of inquiry state.limits work.table in
     let Was : Reply → Type 0 = IsDecided state question.Refuses (Answers state question) in
     let Is : Reply → Type 0 = IsInquiryReply inquiry state in
-    let short : has_many_letters inquiry ≡ false = sym c.has_many_letters.ensures ∙ c.if-not-has_many_letters.true in
-    let set : state.group ≡ Some work.group =
-    ap (λ (s : State). s.group) (sym c.self.view_is) ∙ ap (option_map (λ w. w.group)) c.in-Some.is in
+    let set : state.group ≡ Some work.table =
+    ap (λ (s : State). s.group) (sym c.self.view_is) ∙ ap (option_map (λ w. w.table)) c.in-Some.is in
     let limits : limits_of work.options ≡ state.limits = (rw c.in-Some.is at c.self.invariant)
     ∙ ap (λ (s : State). s.limits) c.self.view_is in
     let put = rw limits at c.put_answer-put.ensures.puts in
     let some = IsReply-exists state question
-    (question-answerable inquiry state.limits work.group (IsAdmissible-integer_matrix work.group c.put_answer-put.ensures.group)) in
+    (question-answerable inquiry state.limits work.table (IsAdmissible-integer_matrix work.table c.put_answer-put.ensures.group)) in
     let is : (reply : Reply) → Was reply
-    → Is reply = λ reply decided. IsInquiryReply-decided inquiry state work.group reply set short decided in
+    → Is reply = λ reply decided. IsInquiryReply-decided inquiry state work.table reply set decided in
     record {
       ok = Says-follows _ Was Is _ _ _ is (Concludes-says state question _ _ _ _ _ put c.conclude.ensures);
       err = SaysPrefix-follows _ Was Is _ _ _ _ is (Concludes-breaks state question some _ _ _ _ _ put c.conclude.ensures);
