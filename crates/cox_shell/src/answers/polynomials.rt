@@ -17,7 +17,7 @@ pub fn put_rpol(out: &mut Vec<u8>, work: &Workspace, y: &Word, w: &Word) -> Resu
     ensures { PutsUnless result (RefusesFar (integer_matrix work.now.table) y.now.items w.now.items)
         (IsRText (integer_matrix work.now.table) y.now.items w.now.items) out.old.items out.new.items }
 {
-    match r(*out.allocator(), work.table.group(), y, w) {
+    match r(*out.allocator(), &work.table, y, w) {
         Ok(p) => unrefused(p.put_text(out)),
         Err(RFault::Deep(_)) => Err(Unanswered::Refused(Refusal::FarApart)),
         Err(RFault::NoMemory) => Err(Unanswered::NoMemory),
