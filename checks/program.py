@@ -61,23 +61,25 @@ OVER = (REFUSED, b"error 31\n", b"")
 WRONG = (BAD_USAGE, USAGE, b"")
 
 ARGUMENTS = [
-    (ANSWERED, [[], ["--context", "24"], ["--context=24"], ["--context=65536"], ["--context", "65536"]]),
+    (ANSWERED, [[], ["--context", "24"], ["--context=24"], ["--context=1048576"], ["--context", "1048576"]]),
     (ANSWERED, [["--context=+24"], ["--context", "+24"], ["--context=0024"], ["--context", "+0024"]]),
     (ANSWERED, [["--"], ["--context=24", "--"], ["--context", "0" * 5000 + "24"]]),
+    (ANSWERED, [["--roots", "6"], ["--roots=4096"], ["--roots=+6", "--context", "24"], ["--context=24", "--roots=06"]]),
     (OVER, [["--context", "23"], ["--context=23"], ["--context=1"], ["--context", "1"], ["--context=23", "--"]]),
     (OVER, [["--context=+23"], ["--context", "+23"], ["--context=0023"], ["--context", "0023"]]),
     # twice, with the same number or another, or without its number
     (WRONG, [["--context", "23", "--context", "23"], ["--context=23", "--context=24"]]),
     (WRONG, [["--context"], ["--context="], ["--context", ""], ["--context", "--"], ["--context", "--context", "23"]]),
     # out of range, or no number
-    (WRONG, [["--context=0"], ["--context", "0"], ["--context=65537"], ["--context", "65537"], ["--context=-1"]]),
+    (WRONG, [["--context=0"], ["--context", "0"], ["--context=1048577"], ["--context", "1048577"], ["--context=-1"]]),
     (WRONG, [["--context", "-1"], ["--context=18446744073709551617"], ["--context=18446744073709551639"]]),
     (WRONG, [["--context", "x"], ["--context=2x"], ["--context= 23"], ["--context=23 "], ["--context=23\n"]]),
     (WRONG, [["--context=0x17"], ["--context=2e1"], ["--context=23.0"], ["--context=++23"], ["--context=2_3"]]),
     (WRONG, [["--context=２３"], ["--context", "٢٣"], ["--context=+"], ["--context==23"], ["--context", "=23"]]),
+    (WRONG, [["--roots=0"], ["--roots", "4097"], ["--roots"], ["--roots=x"], ["--roots=6", "--roots=6"], ["--root", "6"]]),
     # no option of the program, or no option at all
     (WRONG, [["--foo"], ["--contexts", "23"], ["--con", "23"], ["--Context", "23"], ["-context", "23"]]),
-    (WRONG, [["-c", "23"], ["--context23"], ["--workers", "2"], ["--coef", "5"], ["--roots=3"], ["-x"], ["--="]]),
+    (WRONG, [["-c", "23"], ["--context23"], ["--workers", "2"], ["--coef", "5"], ["-x"], ["--="]]),
     (WRONG, [["--help"], ["-h"], ["--version"], ["-V"], ["help"], ["script"], ["-"], [""], [" "], ["é"]]),
     (WRONG, [["--", "script"], ["--", "--"], ["--", "--context", "23"], ["--context", "23", "24"], ["x" * 100_000]]),
     # bytes that are no UTF-8

@@ -20,7 +20,8 @@ use Rattle.clap.specs.Walk.{with_values}
 use Rattle.clap.specs.declared.builder.value_parser.Reading.TheVariants.{AsWritten}
 use Rattle.clap.specs.declared.parser.matches.ValueSource.TheVariants.{DefaultValue}
 use Rattle.clap.proofs.WalkLemmas.{both}
-use Rattle.cox_options.specs.Command.{IsInRange, NumberOption}
+use Rattle.cox_options.specs.Command.{NumberOption}
+use Rattle.cox_options.specs.OneOption.{IsInRange}
 use Rattle.cox_options.specs.Arguments.{decimal_value}
 use Rattle.cox_options.proofs.Table.{IsTable, one_place}
 use Rattle.cox_options.proofs.Rows.{AreGiven, Finds-find, IsGiven, more_given, new_row, rule}

@@ -7,8 +7,9 @@ use Rattle.clap.specs.Lexer.{strip_byte}
 use Rattle.clap.specs.ValueTests.{is_unsigned_in}
 use Rattle.clap.proofs.OnLiterals.{clap_on_literals}
 use Rattle.cox_options.specs.declared.options.TheConstants.{MAX_CONTEXT, MAX_ROOTS}
-use Rattle.cox_options.specs.Arguments.{given_number, is_refused, decimal_value, named, joined}
+use Rattle.cox_options.specs.Arguments.{given_number, is_refused, decimal_value}
 use Rattle.cox_options.specs.Command.{NumberOption, number_options}
+use Rattle.cox_options.specs.OneOption.{joined, named}
 
 -- what follows from either answer to the test of a range
 by_range : (most : ℕ) (text : List ℕ) (P : Type 0) → (is_unsigned_in 1 most text ≡ true → P) → (is_unsigned_in 1 most text ≡ false → P) → P

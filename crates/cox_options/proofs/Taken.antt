@@ -9,7 +9,8 @@ use Rattle.clap.specs.Walk.{nothing_held}
 use Rattle.clap.specs.Walk.{settled}
 use Rattle.clap.specs.Walk.{walk, walk_from}
 use Rattle.clap.proofs.SimpleLemmas.{is_nil}
-use Rattle.cox_options.specs.Command.{IsInRange, number_options}
+use Rattle.cox_options.specs.Command.{number_options}
+use Rattle.cox_options.specs.OneOption.{IsInRange}
 use Rattle.cox_options.specs.Arguments.{IsTaken, given_number}
 use Rattle.cox_options.proofs.Table.{IsTable-options}
 use Rattle.cox_options.proofs.Finished.{defaults_given, number_given, own_rows}

@@ -1,5 +1,5 @@
 -- The command `coxeter`, by the definitions of `clap`.
-use Rattle.std.specs.Prelude.{◌≤◌, ℕ, List, true, [], ◌∷◌, Some, codes, map, fold}
+use Rattle.std.specs.Prelude.{ℕ, List, true, [], ◌∷◌, Some, codes, map, fold}
 use Rattle.cox_options.specs.declared.options.TheConstants.{MAX_CONTEXT, MAX_CONTEXT_TEXT, MAX_ROOTS, MAX_ROOTS_TEXT}
 use Rattle.clap.specs.Words.{App, Rule, Text, new_app, new_rule, with_rule}
 use Rattle.clap.specs.Simple.{on_top}
@@ -18,10 +18,6 @@ number_options =
     record { name = codes "context"; most = MAX_CONTEXT; default = MAX_CONTEXT_TEXT.now }
     ∷ record { name = codes "roots"; most = MAX_ROOTS; default = MAX_ROOTS_TEXT.now }
     ∷ []
-
--- a number of the option's range
-abbrev pub IsInRange : NumberOption → ℕ → Type 0
-IsInRange option n = (1 ≤ n) × (n ≤ option.most)
 
 -- the option as clap reads it, with a number of 64 bits
 abbrev pub number_rule : NumberOption → Rule

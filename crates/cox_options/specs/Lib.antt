@@ -4,3 +4,5 @@ pub mod Command
 pub mod Arguments
 -- what a parse found for an option
 pub mod Found
+-- words of the laws on one option
+pub mod OneOption

@@ -2,8 +2,9 @@
 ghost use Rattle.std.specs.Prelude.{◌≡◌, ◌≢◌, ◌∷◌, [], ℕ, List, Some, All, IsSomeAnd, codes, not, slice_index};
 ghost use Rattle.clap.specs.ValueTests.{is_unsigned_in};
 ghost use Rattle.cox_options.specs.declared.options.TheConstants.{MAX_CONTEXT, MAX_ROOTS};
-ghost use Rattle.cox_options.specs.Arguments.{IsTaken, is_refused, decimal_value, given_number, named, joined};
-ghost use Rattle.cox_options.specs.Command.{IsInRange, number_options};
+ghost use Rattle.cox_options.specs.Arguments.{IsTaken, is_refused, decimal_value, given_number};
+ghost use Rattle.cox_options.specs.Command.{number_options};
+ghost use Rattle.cox_options.specs.OneOption.{IsInRange, joined, named};
 
 /// The program's name alone is taken, and gives each option its default.
 pub fn name_alone_gives_defaults()

@@ -13,7 +13,8 @@
 //! - in proofs, a line at each step of `definition::command`, an answer to its clause of `reading::read`, and a line in
 //!   each of the four lemmas of `OneNumber`, where the definition is computed for each option in turn
 //!
-//! The other laws and lemmas are of all options of the table. They ask that no two have one name.
+//! The other laws and lemmas are of all options of the table. `proofs/Table.antt` computes what they ask of it: no two
+//! options have one name, none is called `help` or `version`, and each default is in its range.
 //!
 //! - `options`: the options as values, each within its range
 //! - `definition`: the command as `clap` is told it
