@@ -15,143 +15,142 @@ use Rattle.cox_reflect.proofs.Bruhat.{below-same, below-length, lift_down, lift_
 use Rattle.cox_reflect.proofs.Elements.{same-refl, same-square}
 use Rattle.cox_reflect.proofs.Lengths.{word_length-cons, cons-word_length}
 use Rattle.cox_reflect.proofs.Search.{word_length-equal, word_length-length}
-use Rattle.cox_rpoly.specs.declared.elements.Element.{Element}
 use Rattle.cox_rpoly.specs.declared.terms.Link.{Link}
 use Rattle.cox_rpoly.specs.declared.terms.Link.TheVariants.{Shorter, Longer}
-use Rattle.cox_rpoly.specs.Element.{IsElementOf, IsShort, IsShortWith}
+use Rattle.cox_rpoly.specs.Element.{Naming, IsShortElement}
 use Rattle.cox_rpoly.specs.Layer.{IsMember, IsGrown, Extends, IsTimesAt, IsLongerLink, IsLink, AreLinks}
 use Rattle.cox_rpoly.proofs.AlongLemmas.{shortens}
 
--- ---- one element more
+module _ {X : Type 0} where
+  -- ---- one element more
 
-pub IsGrown-All : (P : Element → Type 0) (old new : List Element) (x : Element) → IsGrown old x new → All P old → P x → All P new
-IsGrown-All P old new x (inl e) all here = rw e all
-IsGrown-All P old new x (inr e) all here = rw e (All-append P old (x ∷ []) all (All-cons P x [] here (All-nil P)))
+  pub IsGrown-All : (P : X → Type 0) (old new : List X) (x : X) → IsGrown old x new → All P old → P x → All P new
+  IsGrown-All P old new x (inl e) all here = rw e all
+  IsGrown-All P old new x (inr e) all here = rw e (All-append P old (x ∷ []) all (All-cons P x [] here (All-nil P)))
 
-pub IsGrown-Extends : (old new : List Element) (x : Element) → IsGrown old x new → Extends old new
-IsGrown-Extends old new x (inl e) = record { kept = λ i y a. rw e a }
-IsGrown-Extends old new x (inr e) = record {
-  kept = λ i y a.
-      rw e (record {
-        within = omega (arith, a.within, length-append old (x ∷ []));
-        is = λ d. get_or_append_left old (x ∷ []) d i a.within ∙ a.is d;
-      });
-}
-
-pub Extends-refl : (layer : List Element) → Extends layer layer
-Extends-refl layer = record { kept = λ i x a. a }
-
-pub Extends-trans : (a b c : List Element) → Extends a b → Extends b c → Extends a c
-Extends-trans a b c e f = record { kept = λ i x h. f.kept i x (e.kept i x h) }
-
--- a link holds on
-IsTimesAt-extends : (A : IntegerMatrix) (s : ℕ) (x : Element) (old new : List Element) (i : ℕ) → Extends old new → IsTimesAt A s x old i
-    → IsTimesAt A s x new i
-IsTimesAt-extends A s x old new i e t = record { moved = t.moved; moves = t.moves; at = e.kept i t.moved t.at }
-
-IsLongerLink-extends : (A : IntegerMatrix) (s : ℕ) (x : Element) (old new : List Element) (i : ℕ) → Extends old new
-    → IsLongerLink A s x old i
-    → IsLongerLink A s x new i
-IsLongerLink-extends A s x old new i e l = record { ascent = l.ascent; at = e.kept i x l.at }
-
-pub IsLink-extends : (A : IntegerMatrix) (s : ℕ) (v : List ℕ) (x : Element) (old new : List Element) (l : Link) → Extends old new
-    → IsLink A s v x old l
-    → IsLink A s v x new l
-IsLink-extends A s v x old new (Shorter i) e l = record { descent = l.descent; times = IsTimesAt-extends A s x old new i e l.times }
-IsLink-extends A s v x old new (Longer i None) e l = (IsLongerLink-extends A s x old new i e l.0, l.1)
-IsLink-extends A s v x old new (Longer i (Some j)) e l =
-    (IsLongerLink-extends A s x old new i e l.0, IsTimesAt-extends A s x old new j e l.1)
-
-module _ (A : IntegerMatrix) (g : IsAdmissible A) where
-  -- ---- members, one letter less
-
-  first-descent : (s : ℕ) (v : List ℕ) → IsReduced A (s ∷ v) → IsLeftDescent A (s ∷ v) s
-  first-descent s v r = omega (arith, r, word_length-equal A g (same-square A g s v), word_length-length A g v)
-
-  down : (s : ℕ) (x v : List ℕ) → IsBelow A x (s ∷ s ∷ v) → IsBelow A x v
-  down s x v b = below-same A g (same-refl A g x) (same-square A g s v) b
-
-  pub IsMember-shorter : (s : ℕ) (v : List ℕ) (x moved : Element) → IsReduced A (s ∷ v) → IsMember A (s ∷ v) x
-      → ((u : List ℕ) → IsElementOf A u x → IsLeftDescent A u s) → ((u : List ℕ) → IsElementOf A u x → IsElementOf A (s ∷ u) moved)
-      → IsMember A v moved
-  IsMember-shorter s v x moved r m descent moves = record {
-    word = s ∷ m.word;
-    of_word = moves m.word m.of_word;
-    below = down s (s ∷ m.word) v ((lift_down A g m.word (s ∷ v) s (first-descent s v r) (descent m.word m.of_word)).0 m.below);
-    near = omega (arith, m.near, cons-word_length A g s m.word);
+  pub IsGrown-Extends : (old new : List X) (x : X) → IsGrown old x new → Extends old new
+  IsGrown-Extends old new x (inl e) = record { kept = λ i y a. rw e a }
+  IsGrown-Extends old new x (inr e) = record {
+    kept = λ i y a.
+        rw e (record {
+          within = omega (arith, a.within, length-append old (x ∷ []));
+          is = λ d. get_or_append_left old (x ∷ []) d i a.within ∙ a.is d;
+        });
   }
 
-  pub IsMember-still : (s : ℕ) (v : List ℕ) (x : Element) → IsReduced A (s ∷ v) → IsMember A (s ∷ v) x
-      → ((u : List ℕ) → IsElementOf A u x → IsLeftDescent A u s → ⊥) → IsMember A v x
-  IsMember-still s v x r m ascent = record {
-    word = m.word;
-    of_word = m.of_word;
-    below = down s m.word v ((lift_up A g m.word (s ∷ v) s (first-descent s v r) (ascent m.word m.of_word)).0 m.below);
-    near = omega (arith, m.near);
+  pub Extends-refl : (layer : List X) → Extends layer layer
+  Extends-refl layer = record { kept = λ i x a. a }
+
+  pub Extends-trans : (a b c : List X) → Extends a b → Extends b c → Extends a c
+  Extends-trans a b c e f = record { kept = λ i x h. f.kept i x (e.kept i x h) }
+
+module _ {X : Type 0} (of : Naming X) where
+  -- a link holds on
+  IsTimesAt-extends : (A : IntegerMatrix) (s : ℕ) (x : X) (old new : List X) (i : ℕ) → Extends old new → IsTimesAt of A s x old i
+      → IsTimesAt of A s x new i
+  IsTimesAt-extends A s x old new i e t = record { moved = t.moved; moves = t.moves; at = e.kept i t.moved t.at }
+
+  IsLongerLink-extends : (A : IntegerMatrix) (s : ℕ) (x : X) (old new : List X) (i : ℕ) → Extends old new
+      → IsLongerLink of A s x old i
+      → IsLongerLink of A s x new i
+  IsLongerLink-extends A s x old new i e l = record { ascent = l.ascent; at = e.kept i x l.at }
+
+  pub IsLink-extends : (A : IntegerMatrix) (s : ℕ) (v : List ℕ) (x : X) (old new : List X) (l : Link) → Extends old new
+      → IsLink of A s v x old l
+      → IsLink of A s v x new l
+  IsLink-extends A s v x old new (Shorter i) e l = record { descent = l.descent; times = IsTimesAt-extends A s x old new i e l.times }
+  IsLink-extends A s v x old new (Longer i None) e l = (IsLongerLink-extends A s x old new i e l.0, l.1)
+  IsLink-extends A s v x old new (Longer i (Some j)) e l =
+      (IsLongerLink-extends A s x old new i e l.0, IsTimesAt-extends A s x old new j e l.1)
+
+  module _ (A : IntegerMatrix) (g : IsAdmissible A) where
+    -- ---- members, one letter less
+
+    first-descent : (s : ℕ) (v : List ℕ) → IsReduced A (s ∷ v) → IsLeftDescent A (s ∷ v) s
+    first-descent s v r = omega (arith, r, word_length-equal A g (same-square A g s v), word_length-length A g v)
+
+    down : (s : ℕ) (x v : List ℕ) → IsBelow A x (s ∷ s ∷ v) → IsBelow A x v
+    down s x v b = below-same A g (same-refl A g x) (same-square A g s v) b
+
+    pub IsMember-shorter : (s : ℕ) (v : List ℕ) (x moved : X) → IsReduced A (s ∷ v) → IsMember of A (s ∷ v) x
+        → ((u : List ℕ) → of A u x → IsLeftDescent A u s) → ((u : List ℕ) → of A u x → of A (s ∷ u) moved)
+        → IsMember of A v moved
+    IsMember-shorter s v x moved r m descent moves = record {
+      word = s ∷ m.word;
+      of_word = moves m.word m.of_word;
+      below = down s (s ∷ m.word) v ((lift_down A g m.word (s ∷ v) s (first-descent s v r) (descent m.word m.of_word)).0 m.below);
+      near = omega (arith, m.near, cons-word_length A g s m.word);
+    }
+
+    pub IsMember-still : (s : ℕ) (v : List ℕ) (x : X) → IsReduced A (s ∷ v) → IsMember of A (s ∷ v) x
+        → ((u : List ℕ) → of A u x → IsLeftDescent A u s → ⊥) → IsMember of A v x
+    IsMember-still s v x r m ascent = record {
+      word = m.word;
+      of_word = m.of_word;
+      below = down s m.word v ((lift_up A g m.word (s ∷ v) s (first-descent s v r) (ascent m.word m.of_word)).0 m.below);
+      near = omega (arith, m.near);
+    }
+
+    pub IsMember-times : (s : ℕ) (v : List ℕ) (x moved : X) → IsMember of A (s ∷ v) x
+        → ((u : List ℕ) → of A u x → IsLeftDescent A u s → ⊥) → ((u : List ℕ) → of A u x → of A (s ∷ u) moved)
+        → ((u : List ℕ) → of A u moved → IsBelow A u v) → IsMember of A v moved
+    IsMember-times s v x moved m ascent moves below = record {
+      word = s ∷ m.word;
+      of_word = moves m.word m.of_word;
+      below = below (s ∷ m.word) (moves m.word m.of_word);
+      near = omega (arith, m.near, cons-word_length A g s m.word, word_length-cons A g s m.word);
+    }
+
+    -- x is short, and so is s x where s does not shorten x
+    pub IsShortElement-member : (s : ℕ) (v : List ℕ) (x : X) (limit : ℕ) → IsReduced A (s ∷ v) → length v + 1 ≤ limit → IsMember of A (s ∷ v) x
+        → IsShortElement of A limit x
+    IsShortElement-member s v x limit r short m = record {
+      word = m.word;
+      of_word = m.of_word;
+      short = omega (arith, below-length A g m.below, r, short);
+    }
+
+    pub IsShortElement-times : (s : ℕ) (v : List ℕ) (x moved : X) (limit : ℕ) → IsReduced A (s ∷ v) → length v + 1 ≤ limit → IsMember of A (s ∷ v) x
+        → ((u : List ℕ) → of A u x → IsLeftDescent A u s → ⊥) → ((u : List ℕ) → of A u x → of A (s ∷ u) moved)
+        → IsShortElement of A limit moved
+    IsShortElement-times s v x moved limit r short m ascent moves =
+        let still = IsMember-still s v x r m ascent
+        in record {
+          word = s ∷ still.word;
+          of_word = moves still.word still.of_word;
+          short = omega (arith, below-length A g still.below, word_length-length A g v, word_length-cons A g s still.word, short);
+        }
+
+  -- ---- links, one element more
+
+  AreLinks-push : (A : IntegerMatrix) (s : ℕ) (v : List ℕ) (layer old new : List X) (links : List Link) (x : X) (l : Link)
+      → AreLinks of A s v layer old links
+      → Extends old new → IsLink of A s v x new l → AreLinks of A s v (layer ++ x ∷ []) new (links ++ l ∷ [])
+  AreLinks-push A s v layer old new links x l are e here = record {
+    count = omega (arith, are.count, length-append layer (x ∷ []), length-append links (l ∷ []));
+    each = λ i y m below. ⊎_elim (before i y m)
+        (λ (le : length layer ≤ i). last i y m (omega (arith, le, below, length-append layer (x ∷ [])))) (cases_lt i (length layer));
   }
+    where
+      before : (i : ℕ) (y : X) (m : Link) → i < length layer
+          → IsLink of A s v (get_or (layer ++ x ∷ []) i y) new (get_or (links ++ l ∷ []) i m)
+      before i y m less =
+          let inside : i < length links = omega (arith, less, are.count)
+          in rw (get_or_append_left layer (x ∷ []) y i less, get_or_append_left links (l ∷ []) m i inside)
+          (IsLink-extends A s v (get_or layer i y) old new (get_or links i m) e (are.each i y m less))
 
-  pub IsMember-times : (s : ℕ) (v : List ℕ) (x moved : Element) → IsMember A (s ∷ v) x
-      → ((u : List ℕ) → IsElementOf A u x → IsLeftDescent A u s → ⊥) → ((u : List ℕ) → IsElementOf A u x → IsElementOf A (s ∷ u) moved)
-      → ((u : List ℕ) → IsElementOf A u moved → IsBelow A u v) → IsMember A v moved
-  IsMember-times s v x moved m ascent moves below = record {
-    word = s ∷ m.word;
-    of_word = moves m.word m.of_word;
-    below = below (s ∷ m.word) (moves m.word m.of_word);
-    near = omega (arith, m.near, cons-word_length A g s m.word, word_length-cons A g s m.word);
-  }
+      last : (i : ℕ) (y : X) (m : Link) → i ≡ length layer
+          → IsLink of A s v (get_or (layer ++ x ∷ []) i y) new (get_or (links ++ l ∷ []) i m)
+      last i y m is =
+          let also : i ≡ length links = is ∙ sym are.count
+          in let first = ap (λ (k : ℕ). get_or (layer ++ x ∷ []) k y) is ∙ get_or-append_seam layer x [] y
+          in let second = ap (λ (k : ℕ). get_or (links ++ l ∷ []) k m) also ∙ get_or-append_seam links l [] m
+          in rw (first, second) here
 
-  pub IsShortWith-member : (s : ℕ) (v : List ℕ) (x : Element) → IsReduced A (s ∷ v) → length v ≤ 62 → IsMember A (s ∷ v) x
-      → IsShortWith A s x
-  IsShortWith-member s v x r short m =
-      let low : word_length A m.word ≤ length (s ∷ v) = omega (arith, below-length A g m.below, r)
-      in let all : length (s ∷ v) ≤ 63 = omega (arith, short)
-      in record {
-        word = m.word;
-        of_word = m.of_word;
-        short = omega (arith, low, all);
-        times_short = ⊎_elim
-            (λ (d : IsLeftDescent A m.word s). omega (arith, d, low, all))
-            (λ (none : IsLeftDescent A m.word s → ⊥).
-            let b = down s m.word v ((lift_up A g m.word (s ∷ v) s (first-descent s v r) none).0 m.below)
-            in omega (arith, short, below-length A g b, word_length-length A g v, word_length-cons A g s m.word))
-            (shortens A m.word s);
-      }
-
-  -- s x has few letters, where x and s x have
-  pub IsShort-times : (s : ℕ) (x moved : Element) → IsShortWith A s x → ((u : List ℕ) → IsElementOf A u x → IsElementOf A (s ∷ u) moved)
-      → IsShort A moved
-  IsShort-times s x moved m moves = record { word = s ∷ m.word; of_word = moves m.word m.of_word; short = m.times_short }
-
--- ---- links, one element more
-
-AreLinks-push : (A : IntegerMatrix) (s : ℕ) (v : List ℕ) (layer old new : List Element) (links : List Link) (x : Element) (l : Link)
-    → AreLinks A s v layer old links
-    → Extends old new → IsLink A s v x new l → AreLinks A s v (layer ++ x ∷ []) new (links ++ l ∷ [])
-AreLinks-push A s v layer old new links x l are e here = record {
-  count = omega (arith, are.count, length-append layer (x ∷ []), length-append links (l ∷ []));
-  each = λ i y m below. ⊎_elim (before i y m)
-      (λ (le : length layer ≤ i). last i y m (omega (arith, le, below, length-append layer (x ∷ [])))) (cases_lt i (length layer));
-}
-  where
-    before : (i : ℕ) (y : Element) (m : Link) → i < length layer
-        → IsLink A s v (get_or (layer ++ x ∷ []) i y) new (get_or (links ++ l ∷ []) i m)
-    before i y m less =
-        let inside : i < length links = omega (arith, less, are.count)
-        in rw (get_or_append_left layer (x ∷ []) y i less, get_or_append_left links (l ∷ []) m i inside)
-        (IsLink-extends A s v (get_or layer i y) old new (get_or links i m) e (are.each i y m less))
-
-    last : (i : ℕ) (y : Element) (m : Link) → i ≡ length layer
-        → IsLink A s v (get_or (layer ++ x ∷ []) i y) new (get_or (links ++ l ∷ []) i m)
-    last i y m is =
-        let also : i ≡ length links = is ∙ sym are.count
-        in let first = ap (λ (k : ℕ). get_or (layer ++ x ∷ []) k y) is ∙ get_or-append_seam layer x [] y
-        in let second = ap (λ (k : ℕ). get_or (links ++ l ∷ []) k m) also ∙ get_or-append_seam links l [] m
-        in rw (first, second) here
-
--- a turn of the loop over a layer
-pub AreLinks-more : (A : IntegerMatrix) (s : ℕ) (v : List ℕ) (layer old new : List Element) (links : List Link) (k : ℕ) (x : Element)
-    (l : Link) → k < length layer
-    → x ≡ get_or layer k x → AreLinks A s v (take k layer) old links → Extends old new → IsLink A s v x new l
-    → AreLinks A s v (take (k + 1) layer) new (links ++ l ∷ [])
-AreLinks-more A s v layer old new links k x l inside is are e here =
-    rw (take_more layer k x inside, ← is) (AreLinks-push A s v (take k layer) old new links x l are e here)
+  -- a turn of the loop over a layer
+  pub AreLinks-more : (A : IntegerMatrix) (s : ℕ) (v : List ℕ) (layer old new : List X) (links : List Link) (k : ℕ) (x : X)
+      (l : Link) → k < length layer
+      → x ≡ get_or layer k x → AreLinks of A s v (take k layer) old links → Extends old new → IsLink of A s v x new l
+      → AreLinks of A s v (take (k + 1) layer) new (links ++ l ∷ [])
+  AreLinks-more A s v layer old new links k x l inside is are e here =
+      rw (take_more layer k x inside, ← is) (AreLinks-push A s v (take k layer) old new links x l are e here)

@@ -12,3 +12,5 @@ pub mod ElementLemmas
 pub mod LayerLemmas
 -- for code: the values of a layer
 pub mod ValueLemmas
+-- elements told by their normal forms
+pub mod FormElements

@@ -75,6 +75,3 @@ module _ (A : IntegerMatrix) (g : IsAdmissible A) where
   -- along the normal form of w
   pub r_polynomial-form : (x w form : List ℕ) → form ≡ normal_form A w → r_along A x form ≡ r_polynomial A x w
   r_polynomial-form x w form e = rw e (sym (r_polynomial-is A x w))
-
-  pub below-form : (x w form : List ℕ) → form ≡ normal_form A w → IsBelow A x w → IsBelow A x form
-  below-form x w form e b = rw e (below-same A g (same-refl A g x) (same-sym A g (normal_form-same A g w)) b)

@@ -1,23 +1,41 @@
--- For code: elements and their words.
-use Rattle.std.specs.Prelude.{ℕ, ◌≤◌, List, ◌∷◌}
+-- For code: elements of a group as values of some type X.
+use Rattle.std.specs.Prelude.{◌≡◌, ℕ, ◌≤◌, List, IfOk, IfSome, IsSome, IsTrue, Bool, Option, Result}
+use Rattle.arrayvec.specs.ArrayVec.{ArrayVec}
 use Rattle.cox_base.specs.IntegerMatrix.{IntegerMatrix}
+use Rattle.cox_base.specs.Bruhat.{IsBelow}
 use Rattle.cox_base.specs.Length.{word_length}
+use Rattle.cox_base.specs.ShortLex.{normal_form}
+use Rattle.cox_reflect.specs.declared.heights.Heights.{Heights}
 use Rattle.cox_reflect.specs.Height.{AreHeights}
-use Rattle.cox_rpoly.specs.declared.elements.Element.{Element}
 
--- x is the element of the word u
-pub record IsElementOf (A : IntegerMatrix) (u : List ℕ) (x : Element) : Type 0 where
-  pub heights_of : AreHeights A u x.heights
+-- which words name an element: `of A u x` says that x is the element of the word u
+abbrev pub Naming : Type 0 → Type 1
+Naming X = IntegerMatrix → List ℕ → X → Type 0
 
--- x is the element of some word, and has at most 63 letters
-pub record IsShort (A : IntegerMatrix) (x : Element) : Type 0 where
+-- x is an element below v
+pub record IsElementBelow {X : Type 0} (of : Naming X) (A : IntegerMatrix) (v : List ℕ) (x : X) : Type 0 where
   pub word : List ℕ
-  pub of_word : IsElementOf A word x
-  pub short : word_length A word ≤ 63
+  pub of_word : of A word x
+  pub below : IsBelow A word v
 
--- so has s x
-pub record IsShortWith (A : IntegerMatrix) (s : ℕ) (x : Element) : Type 0 where
+-- x is an element of at most so many letters
+pub record IsShortElement {X : Type 0} (of : Naming X) (A : IntegerMatrix) (limit : ℕ) (x : X) : Type 0 where
   pub word : List ℕ
-  pub of_word : IsElementOf A word x
-  pub short : word_length A word ≤ 63
-  pub times_short : word_length A (s ∷ word) ≤ 63
+  pub of_word : of A word x
+  pub short : word_length A word ≤ limit
+
+-- an element told by its heights
+abbrev pub is_of_heights : IntegerMatrix → List ℕ → Heights → Type 0
+is_of_heights A u x = AreHeights A u x.values
+
+-- an element told by its normal form
+abbrev pub is_of_form : IntegerMatrix → List ℕ → ArrayVec ℕ → Type 0
+is_of_form A u x = x.items ≡ normal_form A u
+
+-- what holds of the value that was made, where memory was enough and no number overflowed
+abbrev pub IfMade : {T E : Type 0} → Result (Option T) E → (T → Type 0) → Type 0
+IfMade r P = IfOk r (λ o. IfSome o P)
+
+-- where memory is enough the value is made
+abbrev pub IsMade : {T E : Type 0} → Result (Option T) E → Type 0
+IsMade r = IfOk r (λ o. IsSome o)

@@ -4,6 +4,8 @@ pub mod RPolynomial
 pub mod Depth
 -- for code: elements and their words
 pub mod Element
+-- for code: laws of elements
+pub mod ElementLaws
 -- for code: values by links
 pub mod Terms
 -- for code: layers, their values and links

@@ -3,99 +3,117 @@
 //! A layer has the elements x that are met when so many letters are left, each of them below v. With v = s u, where s shortens x the value
 //! is R(sx,u), and else it is (q-1) R(x,u) + q R(sx,u), where R(sx,u) is 0 unless sx <= u. So a layer leads to the next by links, which
 //! stay while the elements go, and the values come back by them from the end of the word, where the identity alone is left.
-ghost use Rattle.std.specs.Prelude.{ℕ, List, ◌≡◌, ◌≤◌, ◌∷◌, length, IfOk, OnOk, All};
+//! There is no value where a number of an element overflows.
+ghost use Rattle.std.specs.Prelude.{ℕ, List, ◌≡◌, ◌+◌, ◌≤◌, ◌∷◌, length, IfOk, OnOk, IsTrue, All};
 ghost use Rattle.cox_base.specs.Matrix.{IsLetter, IsWord};
 ghost use Rattle.cox_base.specs.IntegerMatrix.{integer_matrix};
 ghost use Rattle.cox_base.specs.Reduced.{IsReduced};
+ghost use Rattle.cox_rpoly.specs.Element.{IfMade, IsMade};
 ghost use Rattle.cox_rpoly.specs.Layer.{IsMember, AreValues, AreLinks, IsLink, IsAt, IsGrown, Extends};
 
 use crate::NoMemory;
 use crate::elements::Element;
 use crate::terms::{Link, Terms, ones, terms_of_links};
-use cox_base::Coxeter;
+use cox_reflect::Words;
 use indexmap::IndexSet;
 use std::alloc::Global;
 
 /// The values R(x,v) for each element x of a layer, v being a reduced word.
-pub(crate) fn values(
+pub(crate) fn values<W: Words, E: Element>(
     alloc: Global,
-    g: &Coxeter,
+    words: &W,
     form: &[u8],
-    layer: IndexSet<Element>,
-) -> Result<Vec<Terms>, NoMemory>
-    requires letters { IsWord g.now.rank form.now }
-    requires reduced { IsReduced (integer_matrix g.now) form.now }
-    requires short { length form.now ≤ 63 }
-    requires members { All (IsMember (integer_matrix g.now) form.now) layer.keys }
-    ensures { IfOk result (λ values. AreValues (integer_matrix g.now) form.now layer.keys values.items) }
+    layer: IndexSet<E>,
+) -> Result<Option<Vec<Terms>>, NoMemory>
+    requires letters { IsWord (W.matrix words.now).rank form.now }
+    requires reduced { IsReduced (integer_matrix (W.matrix words.now)) form.now }
+    requires short { length form.now ≤ W.longest words.now }
+    requires members { All (IsMember E.is_of (integer_matrix (W.matrix words.now)) form.now) layer.keys }
+    ensures values { IfMade result (λ values. AreValues E.is_of (integer_matrix (W.matrix words.now)) form.now layer.keys values.items) }
+    ensures sure { IsTrue E.is_sure → IsMade result }
 {
-    let _rank = g.rank();
+    let _rank = words.matrix().rank();
     let Some((&s, rest)) = form.split_first() else {
-        return ones(alloc, layer.len());
+        return Ok(Some(ones(alloc, layer.len())?));
     };
-    let (next, links) = next_layer(alloc, g, s, rest, layer.as_slice())?;
+    let Some((next, links)) = next_layer(alloc, words, s, rest, layer.as_slice())? else {
+        return Ok(None);
+    };
     drop(layer);
-    let values = values(alloc, g, rest, next)?;
-    terms_of_links(alloc, links.as_slice(), values.as_slice())
+    let Some(values) = values(alloc, words, rest, next)? else {
+        return Ok(None);
+    };
+    Ok(Some(terms_of_links(
+        alloc,
+        links.as_slice(),
+        values.as_slice(),
+    )?))
 }
 
 /// The elements for one letter less, and the links of a layer to them.
-fn next_layer(
+fn next_layer<W: Words, E: Element>(
     alloc: Global,
-    g: &Coxeter,
+    words: &W,
     s: u8,
     rest: &[u8],
-    layer: &[Element],
-) -> Result<(IndexSet<Element>, Vec<Link>), NoMemory>
-    requires letter { IsLetter g.now.rank s }
-    requires letters { IsWord g.now.rank rest.now }
-    requires reduced { IsReduced (integer_matrix g.now) (s ∷ rest.now) }
-    requires short { length rest.now ≤ 62 }
-    requires members { All (IsMember (integer_matrix g.now) (s ∷ rest.now)) layer.now }
-    ensures members { IfOk result (λ r. All (IsMember (integer_matrix g.now) rest.now) r.0.keys) }
-    ensures links { IfOk result (λ r. AreLinks (integer_matrix g.now) s rest.now layer.now r.0.keys r.1.items) }
+    layer: &[E],
+) -> Result<Option<(IndexSet<E>, Vec<Link>)>, NoMemory>
+    requires letter { IsLetter (W.matrix words.now).rank s }
+    requires letters { IsWord (W.matrix words.now).rank rest.now }
+    requires reduced { IsReduced (integer_matrix (W.matrix words.now)) (s ∷ rest.now) }
+    requires short { length rest.now + 1 ≤ W.longest words.now }
+    requires members { All (IsMember E.is_of (integer_matrix (W.matrix words.now)) (s ∷ rest.now)) layer.now }
+    ensures members { IfMade result (λ r. All (IsMember E.is_of (integer_matrix (W.matrix words.now)) rest.now) r.0.keys) }
+    ensures links { IfMade result (λ r. AreLinks E.is_of (integer_matrix (W.matrix words.now)) s rest.now layer.now r.0.keys r.1.items) }
+    ensures sure { IsTrue E.is_sure → IsMade result }
 {
     let mut next = IndexSet::new(alloc);
     let mut links = Vec::new(alloc);
     for x in layer {
-        let link = link(g, s, rest, x, &mut next)?;
+        let Some(link) = link(words, s, rest, x, &mut next)? else {
+            return Ok(None);
+        };
         links.push(link)?;
     }
-    Ok((next, links))
+    Ok(Some((next, links)))
 }
 
 /// The link of an element to the next layer, which takes up what the value at x needs.
-fn link(
-    g: &Coxeter,
+fn link<W: Words, E: Element>(
+    words: &W,
     s: u8,
     rest: &[u8],
-    x: &Element,
-    next: &mut IndexSet<Element>,
-) -> Result<Link, NoMemory>
-    requires letter { IsLetter g.now.rank s }
-    requires letters { IsWord g.now.rank rest.now }
-    requires reduced { IsReduced (integer_matrix g.now) (s ∷ rest.now) }
-    requires short { length rest.now ≤ 62 }
-    requires member { IsMember (integer_matrix g.now) (s ∷ rest.now) x.now }
-    requires members { All (IsMember (integer_matrix g.now) rest.now) next.old.keys }
-    ensures members { OnOk result (All (IsMember (integer_matrix g.now) rest.now) next.new.keys) }
-    ensures extends { OnOk result (Extends next.old.keys next.new.keys) }
-    ensures link { IfOk result (IsLink (integer_matrix g.now) s rest.now x.now next.new.keys) }
+    x: &E,
+    next: &mut IndexSet<E>,
+) -> Result<Option<Link>, NoMemory>
+    requires letter { IsLetter (W.matrix words.now).rank s }
+    requires letters { IsWord (W.matrix words.now).rank rest.now }
+    requires reduced { IsReduced (integer_matrix (W.matrix words.now)) (s ∷ rest.now) }
+    requires short { length rest.now + 1 ≤ W.longest words.now }
+    requires member { IsMember E.is_of (integer_matrix (W.matrix words.now)) (s ∷ rest.now) x.now }
+    requires members { All (IsMember E.is_of (integer_matrix (W.matrix words.now)) rest.now) next.old.keys }
+    ensures members { IfMade result (λ _. All (IsMember E.is_of (integer_matrix (W.matrix words.now)) rest.now) next.new.keys) }
+    ensures extends { IfMade result (λ _. Extends next.old.keys next.new.keys) }
+    ensures link { IfMade result (IsLink E.is_of (integer_matrix (W.matrix words.now)) s rest.now x.now next.new.keys) }
+    ensures sure { IsTrue E.is_sure → IsMade result }
 {
-    let _rank = g.rank();
-    let moved = x.times(g, s);
-    if x.is_shortened(g, s) {
-        return Ok(Link::Shorter(number(next, moved)?));
+    let _rank = words.matrix().rank();
+    let Some(moved) = x.times(words, s, rest) else {
+        return Ok(None);
+    };
+    if x.is_shortened(words, s) {
+        return Ok(Some(Link::Shorter(number(next, moved)?)));
     }
-    let still = number(next, *x)?;
-    if !moved.is_below(g, rest) {
-        return Ok(Link::Longer(still, None));
+    let still = number(next, x.copied())?;
+    match moved.is_below(words, rest) {
+        None => Ok(None),
+        Some(false) => Ok(Some(Link::Longer(still, None))),
+        Some(true) => Ok(Some(Link::Longer(still, Some(number(next, moved)?)))),
     }
-    Ok(Link::Longer(still, Some(number(next, moved)?)))
 }
 
 /// The number of an element in a layer, which takes it up if it is not there.
-fn number(layer: &mut IndexSet<Element>, x: Element) -> Result<usize, NoMemory>
+fn number<E: Element>(layer: &mut IndexSet<E>, x: E) -> Result<usize, NoMemory>
     ensures at { IfOk result (λ i. IsAt layer.new.keys i x) }
     ensures grown { OnOk result (IsGrown layer.old.keys x layer.new.keys) }
 {

@@ -1,5 +1,5 @@
 //! R-polynomials of two words.
-ghost use Rattle.std.specs.Prelude.{◌≡◌, ℕ, ◌+◌, ◌≤◌, ◌↔◌, length, Err, IfOk};
+ghost use Rattle.std.specs.Prelude.{◌≡◌, ℕ, ◌+◌, ◌≤◌, ◌↔◌, length, Err, IfOk, IsTrue};
 ghost use Rattle.cox_base.specs.Bruhat.{IsBelow};
 ghost use Rattle.cox_base.specs.IntegerMatrix.{integer_matrix};
 ghost use Rattle.cox_base.specs.Length.{word_length};
@@ -7,57 +7,95 @@ ghost use Rattle.cox_base.specs.Reduced.{IsReduced};
 ghost use Rattle.cox_base.specs.Matrix.{IsWord};
 ghost use Rattle.cox_poly.specs.Polynomial.{coefficient, IsPolynomial};
 ghost use Rattle.cox_rpoly.specs.RPolynomial.{r_along, r_polynomial};
+ghost use Rattle.cox_rpoly.specs.Element.{IfMade, IsMade};
 ghost use Rattle.cox_rpoly.specs.Depth.{IsDeep};
 
 use crate::elements::Element;
 use crate::layers::values;
 use crate::r_fault::RFault;
 use crate::{MAX_DIFFERENCE, NoMemory};
-use cox_base::{Coxeter, Word};
+use cox_base::Word;
 use cox_poly::Poly;
-use cox_reflect::{below, length, normal_form};
+use cox_reflect::{Heights, Words};
 use indexmap::IndexSet;
 use std::alloc::Global;
 
-/// R(y,w), for words of at most 63 letters; it is 0 unless y <= w.
+/// R(y,w), for words of at most `words.longest()` letters; it is 0 unless y <= w.
 ///
 /// `Deep(d)` comes exactly where y <= w and the lengths differ by d, which is more than [`MAX_DIFFERENCE`]. `NoMemory` comes where there is
 /// no memory for the values on the way. In A 2, R of the empty word and 121 is `-1+2q-2q^2+q^3`.
-pub fn r(alloc: Global, g: &Coxeter, y: &Word, w: &Word) -> Result<Poly, RFault>
-    requires letters_y { IsWord g.now.rank y.now.items }
-    requires letters_w { IsWord g.now.rank w.now.items }
-    requires short_y { length y.now.items ≤ 63 }
-    requires short_w { length w.now.items ≤ 63 }
-    ensures value { IfOk result (λ p. (k : ℕ) → coefficient p k ≡ r_polynomial (integer_matrix g.now) y.now.items w.now.items k) }
+pub fn r<W: Words>(alloc: Global, words: &W, y: &Word, w: &Word) -> Result<Poly, RFault>
+    requires letters_y { IsWord (W.matrix words.now).rank y.now.items }
+    requires letters_w { IsWord (W.matrix words.now).rank w.now.items }
+    requires short_y { length y.now.items ≤ W.longest words.now }
+    requires short_w { length w.now.items ≤ W.longest words.now }
+    ensures value { IfOk result (λ p. (k : ℕ) → coefficient p k ≡ r_polynomial (integer_matrix (W.matrix words.now)) y.now.items w.now.items k) }
     ensures normal { IfOk result IsPolynomial }
-    ensures deep { (d : ℕ) → (result ≡ Err (RFault.Deep d)) ↔ IsDeep (integer_matrix g.now) y.now.items w.now.items d }
+    ensures deep { (d : ℕ) → (result ≡ Err (RFault.Deep d)) ↔ IsDeep (integer_matrix (W.matrix words.now)) y.now.items w.now.items d }
 {
-    let _rank = g.rank();
-    if !below(g, y, w) {
+    let _rank = words.matrix().rank();
+    if !words.below(y, w) {
         return Ok(Poly::zero(alloc)?);
     }
-    let form = normal_form(g, w);
-    let difference = form.len() - length(g, y) as usize;
+    let form = words.normal_form(w);
+    let difference = form.len() - words.normal_form(y).len();
     if difference > MAX_DIFFERENCE {
         return Err(RFault::Deep(difference as u32));
     }
-    Ok(along(alloc, g, y, form.as_slice())?)
+    Ok(along_any(alloc, words, y, form.as_slice())?)
 }
 
-/// R of an element and that of a reduced word, which is above it.
-fn along(alloc: Global, g: &Coxeter, y: &Word, form: &[u8]) -> Result<Poly, NoMemory>
-    requires letters_y { IsWord g.now.rank y.now.items }
-    requires letters { IsWord g.now.rank form.now }
-    requires short_y { length y.now.items ≤ 63 }
-    requires short { length form.now ≤ 63 }
-    requires reduced { IsReduced (integer_matrix g.now) form.now }
-    requires below { IsBelow (integer_matrix g.now) y.now.items form.now }
-    requires near { length form.now ≤ word_length (integer_matrix g.now) y.now.items + MAX_DIFFERENCE }
-    ensures value { IfOk result (λ p. (k : ℕ) → coefficient p k ≡ r_along (integer_matrix g.now) y.now.items form.now k) }
+/// R of an element and that of a reduced word, which is above it: by heights, and where a number overflows by normal forms.
+fn along_any<W: Words>(
+    alloc: Global,
+    words: &W,
+    y: &Word,
+    form: &[u8],
+) -> Result<Poly, NoMemory>
+    requires letters_y { IsWord (W.matrix words.now).rank y.now.items }
+    requires letters { IsWord (W.matrix words.now).rank form.now }
+    requires short_y { length y.now.items ≤ W.longest words.now }
+    requires short { length form.now ≤ W.longest words.now }
+    requires reduced { IsReduced (integer_matrix (W.matrix words.now)) form.now }
+    requires below { IsBelow (integer_matrix (W.matrix words.now)) y.now.items form.now }
+    requires near { length form.now ≤ word_length (integer_matrix (W.matrix words.now)) y.now.items + MAX_DIFFERENCE }
+    ensures value { IfOk result (λ p. (k : ℕ) → coefficient p k ≡ r_along (integer_matrix (W.matrix words.now)) y.now.items form.now k) }
     ensures normal { IfOk result IsPolynomial }
 {
+    if let Some(p) = along::<W, Heights>(alloc, words, y, form)? {
+        return Ok(p);
+    }
+    match along::<W, Word>(alloc, words, y, form)? {
+        Some(p) => Ok(p),
+        None => unreachable!(),
+    }
+}
+
+/// R of an element and that of a reduced word, which is above it, by elements of one kind.
+fn along<W: Words, E: Element>(
+    alloc: Global,
+    words: &W,
+    y: &Word,
+    form: &[u8],
+) -> Result<Option<Poly>, NoMemory>
+    requires letters_y { IsWord (W.matrix words.now).rank y.now.items }
+    requires letters { IsWord (W.matrix words.now).rank form.now }
+    requires short_y { length y.now.items ≤ W.longest words.now }
+    requires short { length form.now ≤ W.longest words.now }
+    requires reduced { IsReduced (integer_matrix (W.matrix words.now)) form.now }
+    requires below { IsBelow (integer_matrix (W.matrix words.now)) y.now.items form.now }
+    requires near { length form.now ≤ word_length (integer_matrix (W.matrix words.now)) y.now.items + MAX_DIFFERENCE }
+    ensures value { IfMade result (λ p. (k : ℕ) → coefficient p k ≡ r_along (integer_matrix (W.matrix words.now)) y.now.items form.now k) }
+    ensures normal { IfMade result IsPolynomial }
+    ensures sure { IsTrue E.is_sure → IsMade result }
+{
+    let Some(x) = E::of_word(words, y) else {
+        return Ok(None);
+    };
     let mut layer = IndexSet::new(alloc);
-    layer.insert(Element::of_word(g, y))?;
-    let values = values(alloc, g, form, layer)?;
-    Poly::of(alloc, &values[0])
+    layer.insert(x)?;
+    let Some(values) = values(alloc, words, form, layer)? else {
+        return Ok(None);
+    };
+    Ok(Some(Poly::of(alloc, &values[0])?))
 }

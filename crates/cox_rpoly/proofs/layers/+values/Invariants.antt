@@ -3,4 +3,4 @@ use Rattle.std.proofs.Common.{length}
 use Rattle.cox_rpoly.proofs.layers.+values.Given as goal
 
 abbrev pub decreases-values : goal.decreases-values
-decreases-values l = length l.form.now
+decreases-values g l = length l.form.now

@@ -6,7 +6,7 @@ use Rattle.cox_rpoly.specs.Layer.{IsMember, AreLinks}
 use Rattle.cox_rpoly.proofs.layers.next_layer.Given as goal
 
 abbrev pub invariant-loop-x : goal.invariant-loop-x
-invariant-loop-x l = record {
-  members : All (IsMember (integer_matrix l.g) l.rest) l.next.keys;
-  links : AreLinks (integer_matrix l.g) l.s l.rest (take l.x-index l.layer) l.next.keys l.links.items;
+invariant-loop-x g l = record {
+  members : All (IsMember g.E.Element.is_of (integer_matrix (g.W.Words.matrix l.words)) l.rest) l.next.keys;
+  links : AreLinks g.E.Element.is_of (integer_matrix (g.W.Words.matrix l.words)) l.s l.rest (take l.x-index l.layer) l.next.keys l.links.items;
 }

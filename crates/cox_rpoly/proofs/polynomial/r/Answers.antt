@@ -1,75 +1,69 @@
 -- R is 0 unless y is below w; what is said of the fault is said of the lengths.
-use Rattle.std.proofs.Common.{◌≡◌, ◌-◌, ap, sym, ◌∙◌, refl, arith}
+use Rattle.std.proofs.Common.{◌≡◌, ◌-◌, ap, sym, ◌∙◌, refl, arith, length}
 use Rattle.std.proofs.lemmas.Bool.{false≢true}
+use Rattle.cox_base.specs.Matrix.{IsWord}
 use Rattle.cox_base.specs.IntegerMatrix.{integer_matrix}
+use Rattle.cox_base.specs.ShortLex.{normal_form}
 use Rattle.cox_poly.specs.Coefficients.{Coefficients}
 use Rattle.cox_reflect.proofs.Admissible.{IsAdmissible-integer_matrix}
+use Rattle.cox_reflect.proofs.Bruhat.{below-form}
 use Rattle.cox_reflect.proofs.Lengths.{IsReduced-normal_form}
-use Rattle.cox_rpoly.proofs.DepthLemmas.{lengths-rise, IsDeep-difference, difference-is, not_deep}
-use Rattle.cox_rpoly.proofs.PolynomialLemmas.{r_polynomial-not_below, r_polynomial-form, below-form}
+use Rattle.cox_reflect.proofs.Search.{length-normal_form, IsWord-normal_form}
+use Rattle.cox_rpoly.proofs.DepthLemmas.{lengths-rise, IsDeep-difference, difference-is, not_deep, near}
+use Rattle.cox_rpoly.proofs.PolynomialLemmas.{r_polynomial-not_below, r_polynomial-form}
 use Rattle.cox_rpoly.proofs.polynomial.r.Goals as goal
 
 pub returns-then-not-below-clause-value : goal.returns-then-not-below-clause-value
-returns-then-not-below-clause-value c = λ k.
+returns-then-not-below-clause-value g c = λ k.
     rw c.in_ok-zero.ensures
-    (sym (r_polynomial-not_below (integer_matrix c.args.g.now)
-    (IsAdmissible-integer_matrix c.args.g.now c.rank-rank.ensures.matrix) c.args.y.now.items c.args.w.now.items
-    (λ b. false≢true (c.if-not-below.ensures.1 b)) k))
+    (sym (r_polynomial-not_below (integer_matrix (g.W.Words.matrix c.args.words.now)) (IsAdmissible-integer_matrix (g.W.Words.matrix c.args.words.now) (rw c.matrix.ensures at c.rank-rank.ensures.matrix)) c.args.y.now.items c.args.w.now.items (λ b. false≢true (c.if-not-below.ensures.1 b)) k))
 
 pub overflow_sub-difference : goal.overflow_sub-difference
-overflow_sub-difference c =
-    let g = IsAdmissible-integer_matrix c.args.g.now c.rank-rank.ensures.matrix
-    in lengths-rise (integer_matrix c.args.g.now) g c.length.ensures.length c.normal_form-form.ensures.form c.len.ensures.value
-    (c.if-not-below.ensures.0 refl)
+overflow_sub-difference g c = lengths-rise (integer_matrix (g.W.Words.matrix c.args.words.now)) (IsAdmissible-integer_matrix (g.W.Words.matrix c.args.words.now) (rw c.matrix.ensures at c.rank-rank.ensures.matrix)) c.normal_form.ensures c.normal_form-form.ensures c.len-2.ensures.value c.len.ensures.value (c.if-not-below.ensures.0 refl)
 
 pub returns-then-difference-gt-MAX_DIFFERENCE-clause-deep : goal.returns-then-difference-gt-MAX_DIFFERENCE-clause-deep
-returns-then-difference-gt-MAX_DIFFERENCE-clause-deep c = λ d.
-    let A = integer_matrix c.args.g.now
-    in let g = IsAdmissible-integer_matrix c.args.g.now c.rank-rank.ensures.matrix
-    in let below = c.if-not-below.ensures.0 refl
-    in (
-      λ e.
-          let same : c.len.result - c.length.result ≡ d = cc
-          in IsDeep-difference A g c.length.ensures.length c.normal_form-form.ensures.form c.len.ensures.value below d same (omega arith),
-      λ deep. rw (difference-is A g c.length.ensures.length c.normal_form-form.ensures.form c.len.ensures.value below d deep) refl,
-    )
+returns-then-difference-gt-MAX_DIFFERENCE-clause-deep g c = λ d. (
+  λ e. let same : c.len.result - c.len-2.result ≡ d = cc in IsDeep-difference (integer_matrix (g.W.Words.matrix c.args.words.now)) (IsAdmissible-integer_matrix (g.W.Words.matrix c.args.words.now) (rw c.matrix.ensures at c.rank-rank.ensures.matrix)) c.normal_form.ensures c.normal_form-form.ensures c.len-2.ensures.value c.len.ensures.value (c.if-not-below.ensures.0 refl) d same (omega arith),
+  λ deep. rw (difference-is (integer_matrix (g.W.Words.matrix c.args.words.now)) (IsAdmissible-integer_matrix (g.W.Words.matrix c.args.words.now) (rw c.matrix.ensures at c.rank-rank.ensures.matrix)) c.normal_form.ensures c.normal_form-form.ensures c.len-2.ensures.value c.len.ensures.value (c.if-not-below.ensures.0 refl) d deep) refl,
+)
 
-pub along-requires-clause-reduced : goal.along-requires-clause-reduced
-along-requires-clause-reduced c =
-    let g = IsAdmissible-integer_matrix c.args.g.now c.rank-rank.ensures.matrix
-    in rw (c.as_slice.ensures.value, c.normal_form-form.ensures.form)
-    (IsReduced-normal_form (integer_matrix c.args.g.now) g c.args.w.now.items)
+pub along_any-requires-clause-letters : goal.along_any-requires-clause-letters
+along_any-requires-clause-letters g c =
+    let word : IsWord (g.W.Words.matrix c.args.words.now).rank c.as_slice.result.now
+    = rw (c.as_slice.ensures.value, c.normal_form-form.ensures) (IsWord-normal_form (integer_matrix (g.W.Words.matrix c.args.words.now)) (IsAdmissible-integer_matrix (g.W.Words.matrix c.args.words.now) (rw c.matrix.ensures at c.rank-rank.ensures.matrix)) c.args.w.now.items)
+    in word
 
-pub along-requires-clause-below : goal.along-requires-clause-below
-along-requires-clause-below c =
-    let g = IsAdmissible-integer_matrix c.args.g.now c.rank-rank.ensures.matrix
-    in below-form (integer_matrix c.args.g.now) g c.args.y.now.items c.args.w.now.items c.as_slice.result.now
-    (c.as_slice.ensures.value ∙ c.normal_form-form.ensures.form) (c.if-not-below.ensures.0 refl)
+pub along_any-requires-clause-short : goal.along_any-requires-clause-short
+along_any-requires-clause-short g c =
+    rw (c.as_slice.ensures.value, c.normal_form-form.ensures)
+    (omega (arith, length-normal_form (integer_matrix (g.W.Words.matrix c.args.words.now)) (IsAdmissible-integer_matrix (g.W.Words.matrix c.args.words.now) (rw c.matrix.ensures at c.rank-rank.ensures.matrix)) c.args.w.now.items, c.requires.short_w))
 
-pub returns-in_err-along-clause-deep : goal.returns-in_err-along-clause-deep
-returns-in_err-along-clause-deep c = λ d.
-    let g = IsAdmissible-integer_matrix c.args.g.now c.rank-rank.ensures.matrix
-    in (
-      λ e. let h = rw e at c.from_residual-in_err-along.ensures.1 in absurd (cc),
-      λ deep. absurd (not_deep (integer_matrix c.args.g.now) g c.length.ensures.length c.normal_form-form.ensures.form c.len.ensures.value
-          (c.if-not-below.ensures.0 refl)
-          (omega arith) d deep),
-    )
+pub along_any-requires-clause-reduced : goal.along_any-requires-clause-reduced
+along_any-requires-clause-reduced g c =
+    rw (c.as_slice.ensures.value, c.normal_form-form.ensures) (IsReduced-normal_form (integer_matrix (g.W.Words.matrix c.args.words.now)) (IsAdmissible-integer_matrix (g.W.Words.matrix c.args.words.now) (rw c.matrix.ensures at c.rank-rank.ensures.matrix)) c.args.w.now.items)
+
+pub along_any-requires-clause-below : goal.along_any-requires-clause-below
+along_any-requires-clause-below g c =
+    (below-form (integer_matrix (g.W.Words.matrix c.args.words.now)) (IsAdmissible-integer_matrix (g.W.Words.matrix c.args.words.now) (rw c.matrix.ensures at c.rank-rank.ensures.matrix)) c.args.y.now.items c.args.w.now.items c.as_slice.result.now (c.as_slice.ensures.value ∙ c.normal_form-form.ensures)).1
+    (c.if-not-below.ensures.0 refl)
+
+pub along_any-requires-clause-near : goal.along_any-requires-clause-near
+along_any-requires-clause-near g c =
+    let h = near (integer_matrix (g.W.Words.matrix c.args.words.now)) (IsAdmissible-integer_matrix (g.W.Words.matrix c.args.words.now) (rw c.matrix.ensures at c.rank-rank.ensures.matrix)) c.normal_form.ensures c.normal_form-form.ensures c.len-2.ensures.value c.len.ensures.value (c.if-not-below.ensures.0 refl) (omega arith)
+    in rw (c.as_slice.ensures.value) h
+
+pub returns-in_err-along_any-clause-deep : goal.returns-in_err-along_any-clause-deep
+returns-in_err-along_any-clause-deep g c = λ d. (
+  λ e. let h = rw e at c.from_residual-in_err-along_any.ensures.1 in absurd (cc),
+  λ deep. absurd (not_deep (integer_matrix (g.W.Words.matrix c.args.words.now)) (IsAdmissible-integer_matrix (g.W.Words.matrix c.args.words.now) (rw c.matrix.ensures at c.rank-rank.ensures.matrix)) c.normal_form.ensures c.normal_form-form.ensures c.len-2.ensures.value c.len.ensures.value (c.if-not-below.ensures.0 refl) (omega arith) d deep),
+)
 
 pub returns-clause-value : goal.returns-clause-value
-returns-clause-value c = λ k.
-    let g = IsAdmissible-integer_matrix c.args.g.now c.rank-rank.ensures.matrix
-    in c.in_ok-along.ensures.value k
+returns-clause-value g c = λ k.
+    c.in_ok-along_any.ensures.value k
     ∙ ap (λ (f : Coefficients). f k)
-    (r_polynomial-form (integer_matrix c.args.g.now) g c.args.y.now.items c.args.w.now.items c.as_slice.result.now
-    (c.as_slice.ensures.value ∙ c.normal_form-form.ensures.form))
+    (r_polynomial-form (integer_matrix (g.W.Words.matrix c.args.words.now)) (IsAdmissible-integer_matrix (g.W.Words.matrix c.args.words.now) (rw c.matrix.ensures at c.rank-rank.ensures.matrix)) c.args.y.now.items c.args.w.now.items c.as_slice.result.now
+    (c.as_slice.ensures.value ∙ c.normal_form-form.ensures))
 
 pub returns-clause-deep : goal.returns-clause-deep
-returns-clause-deep c = λ d.
-    let g = IsAdmissible-integer_matrix c.args.g.now c.rank-rank.ensures.matrix
-    in (
-      λ e. absurd (cc),
-      λ deep. absurd (not_deep (integer_matrix c.args.g.now) g c.length.ensures.length c.normal_form-form.ensures.form c.len.ensures.value
-          (c.if-not-below.ensures.0 refl)
-          (omega arith) d deep),
-    )
+returns-clause-deep g c = λ d. (λ e. absurd (cc), λ deep. absurd (not_deep (integer_matrix (g.W.Words.matrix c.args.words.now)) (IsAdmissible-integer_matrix (g.W.Words.matrix c.args.words.now) (rw c.matrix.ensures at c.rank-rank.ensures.matrix)) c.normal_form.ensures c.normal_form-form.ensures c.len-2.ensures.value c.len.ensures.value (c.if-not-below.ensures.0 refl) (omega arith) d deep))
