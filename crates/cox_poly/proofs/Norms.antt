@@ -26,7 +26,7 @@ pub absolute_sum-scaled : (n : ℕ) (c : ℤ) (f : Coefficients) → absolute_su
 absolute_sum-scaled zero c f = omega arith
 absolute_sum-scaled (suc n) c f = omega (arith, unsigned_abs-mul c (f zero), absolute_sum-scaled n c (without_constant f))
 
--- a longer front has no smaller sum
+-- a longer prefix has no smaller sum
 pub absolute_sum-more : (n : ℕ) (f : Coefficients) → absolute_sum n f ≤ absolute_sum (suc n) f
 absolute_sum-more zero f = omega arith
 absolute_sum-more (suc n) f = omega (arith, absolute_sum-more n (without_constant f))

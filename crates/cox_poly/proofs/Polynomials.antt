@@ -16,19 +16,19 @@ coefficient_past p k h = get_or_past p k (pos 0) h
 pub coefficient-zeros : (n k : ℕ) → coefficient (replicate n (pos 0)) k ≡ pos 0
 coefficient-zeros n k = grind (arith, common_steps)
 
--- a front that leaves out no term is the same polynomial
+-- a prefix that leaves out no term is the same polynomial
 pub coefficient-take : (p : List ℤ) (n : ℕ) → HasDegreeBelow p n → SameCoefficients (take n p) p
 coefficient-take p n below k = elim (cases_lt k n) [
   | inl within ↦ grind (arith, common_steps)
   | inr past ↦ coefficient_past (take n p) k (omega (arith, length-take n p)) ∙ sym (below k past)
 ]
 
--- the same holds of a prefix of a front
+-- the same holds of a prefix of a prefix
 pub coefficient-take_twice : (p : List ℤ) (used n : ℕ) → HasDegreeBelow p used → IsTrimmedLength (take used p) n
     → SameCoefficients (take n (take used p)) p
 coefficient-take_twice p used n below trimmed k = coefficient-take (take used p) n trimmed.zeros k ∙ coefficient-take p used below k
 
--- the front without trailing zeros is a polynomial
+-- the prefix without trailing zeros is a polynomial
 pub IsPolynomial-take : (p : List ℤ) (n : ℕ) → IsTrimmedLength p n → IsPolynomial (take n p)
 IsPolynomial-take p n trimmed some = grind (arith, common_steps, trimmed.within, trimmed.last)
 
@@ -36,7 +36,7 @@ IsPolynomial-take p n trimmed some = grind (arith, common_steps, trimmed.within,
 pub AllWithin-same : (limit : ℤ) (p r : List ℤ) → SameCoefficients p r → AllWithin limit p → AllWithin limit r
 AllWithin-same limit p r same within k = rw (same k) at (within k)
 
--- a bound on each holds of a front, whose coefficients past it are 0
+-- a bound on each holds of a prefix, whose coefficients past it are 0
 pub AllWithin-take : (limit : ℤ) (p : List ℤ) (n : ℕ) → AllWithin limit p → pos 0 ≤ℤ limit → AllWithin limit (take n p)
 AllWithin-take limit p n within up k = elim (cases_lt k n) [
   | inl low ↦ rw (get_or-take n p k (pos 0) low) (within k)

@@ -65,7 +65,7 @@ module _ (Refuses : Refusal → Type 0) (IsText : List ℕ → Type 0) (before :
   pub PutsUnless-broken : (result : Result Unit Unanswered) (mid after : List ℕ) → IsOk result → PutsUnless result Refuses IsText before mid
       → PutsPrefix (10 ∷ []) mid after → PutsUnless (Err NoMemory) Refuses (IsEnded IsText) before after
   PutsUnless-broken (Ok done) mid after fine put prefix =
-      inr (put.0, put.1 ++ 10 ∷ [], (put.1, put.2, refl), PutsPrefix-second put.1 (10 ∷ []) before mid after put.3 front)
+      inr (put.0, put.1 ++ 10 ∷ [], (put.1, put.2, refl), PutsPrefix-second put.1 (10 ∷ []) before mid after put.3 prefix)
   PutsUnless-broken (Err why) mid after fine put prefix = absurd (cc fine)
 
   -- where both were put

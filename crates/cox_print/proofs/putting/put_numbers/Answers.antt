@@ -29,7 +29,7 @@ returns-in_err-put_next_number c =
     let prefix = PutsPrefix-next next_text c.in-Some.others.now c.loop-n.n-index _ (pos 0) _ _ _ (omega arith) (search rules)
     c.loop-n.invariant (c.in_err-put_next_number.ensures {u = tt}) in
     subst (λ t. Puts c.from_residual-in_err-put_next_number.result t c.args.out.now.items c.put_next_number.new.out.items) text
-    (Puts-failed _ _ _ _ (search rules) (PutsPrefix-second (signed_decimal c.in-Some.first) _ _ _ _ start front))
+    (Puts-failed _ _ _ _ (search rules) (PutsPrefix-second (signed_decimal c.in-Some.first) _ _ _ _ start prefix))
 
 pub loop-n-preserved : goal.loop-n-preserved
 loop-n-preserved c =

@@ -29,7 +29,7 @@ returns-in_err-put_next_element c =
     let prefix = PutsPrefix-next line numbers c.loop-i.i-index
     (get_or numbers c.loop-i.i-index 0) 0 _ _ _ c.loop-i-test.true refl c.loop-i.invariant
     (rw (c.word.ensures, c.rank-rank.ensures.rank, c.matrix.ensures) at (c.in_err-put_next_element.ensures {u = tt})) in
-    rw members-text (Puts-failed _ _ _ _ (search rules) (PutsPrefix-second (decimal (length numbers)) _ _ _ _ start front))
+    rw members-text (Puts-failed _ _ _ _ (search rules) (PutsPrefix-second (decimal (length numbers)) _ _ _ _ start prefix))
 
 pub returns : goal.returns
 returns c =
