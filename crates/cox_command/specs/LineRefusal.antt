@@ -5,7 +5,7 @@ use Rattle.std.specs.List.{list_any, list_all}
 use Rattle.cox_base.specs.declared.limits.TheConstants.{MAX_RANK, MAX_LETTERS}
 use Rattle.cox_base.specs.Matrix.{is_label}
 use Rattle.cox_base.specs.NamedType.{is_type}
-use Rattle.cox_base.specs.WordText.{first_foreign}
+use Rattle.cox_base.specs.WordText.{pieces_of, first_foreign}
 use Rattle.cox_command.specs.Number.{is_number, value_of}
 use Rattle.cox_command.specs.Tokens.{tokens_of}
 use Rattle.cox_command.specs.CommandWord.{command_word_of}
@@ -75,11 +75,12 @@ takes_words (One word) = true
 takes_words (Two word) = true
 takes_words _ = false
 
--- whether LongWord applies: a word argument has more bytes than a word may have letters
-abbrev pub has_long_word : CommandWord → List (List ℕ) → Bool
-has_long_word word arguments = takes_words word && list_any (λ token. nat_lt MAX_LETTERS (length token)) arguments
+-- whether LongWord applies: a word argument has more pieces than a word may have letters
+abbrev pub has_long_word : CommandWord → List (List ℕ) → Option ℕ → Bool
+has_long_word word arguments rank =
+    takes_words word && list_any (λ token. nat_lt MAX_LETTERS (length (pieces_of (rank_or_zero rank) token))) arguments
 
--- whether ForeignLetter applies: a word argument is not `e` and has a byte that is no letter of the group
+-- whether ForeignLetter applies: a word argument is not `e` and has a piece that is no letter of the group
 abbrev pub has_foreign_letter : CommandWord → List (List ℕ) → Option ℕ → Bool
 has_foreign_letter word arguments rank = takes_words word && list_any (λ token. is_some (first_foreign (rank_or_zero rank) token)) arguments
 
@@ -90,7 +91,7 @@ applies word arguments rank WrongNumber = has_wrong_number word arguments
 applies word arguments rank NoGroup = lacks_group word rank
 applies word arguments rank UnknownType = has_no_type word arguments
 applies word arguments rank WrongLabel = has_wrong_label word arguments
-applies word arguments rank LongWord = has_long_word word arguments
+applies word arguments rank LongWord = has_long_word word arguments rank
 applies word arguments rank ForeignLetter = has_foreign_letter word arguments rank
 applies word arguments rank _ = false
 

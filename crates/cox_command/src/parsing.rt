@@ -1,5 +1,5 @@
 //! Lines.
-ghost use Rattle.std.specs.Prelude.{◌<◌, ◌≤◌, ◌^◌, ℕ, Option, length, IfSome};
+ghost use Rattle.std.specs.Prelude.{◌+◌, ◌<◌, ◌≤◌, ◌^◌, ℕ, Option, length, IfSome};
 ghost use Rattle.cox_command.specs.ParseContract.{ParsesAs, ReadsTokens, ReadsArguments};
 ghost use Rattle.cox_command.specs.declared.command_word.CommandWord.TheVariants.{Quit};
 
@@ -16,7 +16,7 @@ use cox_base::MAX_RANK;
 /// `LongWord`, `ForeignLetter`; a blank line is never refused. For example `type A 2` gives the group A 2, and `length 13` is refused with `ForeignLetter`
 /// where the rank is 2, with `NoGroup` where no group is set.
 pub fn parse(line: &[u8], rank: Option<u32>) -> Result<Command, LineFault>
-    requires size { length line.now < 2 ^ 32 }
+    requires size { length line.now + 1 < 2 ^ 32 }
     requires rank { IfSome rank (λ n. n ≤ MAX_RANK) }
     ensures { ParsesAs result line.now rank }
 {

@@ -17,18 +17,18 @@ pub enum Refusal {
     WrongLabel,
     /// The command needs a group, and none is set.
     NoGroup,
-    /// A word has a byte that is no letter of the group.
+    /// A word has a piece that is no letter of the group.
     ForeignLetter,
-    /// A word is longer than words may be.
+    /// A word has more pieces than words may have letters.
     LongWord,
     /// The line is longer than lines may be.
     LongLine,
     /// The line has a byte that no line may have.
     ForeignByte,
+    /// The group has more small roots than the session's limit.
+    ManyRoots,
     /// The interval from the identity to w has more elements than the session's limit.
     LargeInterval,
-    /// A word has more letters than are worked with.
-    ManyLetters,
     /// y is below w, and their lengths differ by more than is worked with.
     FarApart,
 }
@@ -49,8 +49,8 @@ impl Refusal {
             Refusal::LongWord => 17,
             Refusal::LongLine => 18,
             Refusal::ForeignByte => 19,
+            Refusal::ManyRoots => 21,
             Refusal::LargeInterval => 31,
-            Refusal::ManyLetters => 33,
             Refusal::FarApart => 34,
         }
     }

@@ -31,13 +31,16 @@ fn refuses_lines_in_order(rt: HostRuntime) {
         ("type A 0000000001", None, 12),
         ("type A 000000001", None, 0),
         ("type A 0", None, 13),
-        ("type A 10", None, 13),
+        ("type A 16", None, 0),
+        ("type A 17", None, 13),
         ("type AA 1", None, 13),
         ("type H 3", None, 13),
-        ("type a 8", None, 0),
+        ("type a 15", None, 0),
+        ("type a 16", None, 13),
         ("matrix", None, 11),
         ("matrix 0", None, 12),
-        ("matrix 10", None, 12),
+        ("matrix 16", None, 11),
+        ("matrix 17", None, 12),
         ("matrix x 3 3 3 3", None, 12),
         ("matrix 1", None, 0),
         ("matrix 2", None, 11),
@@ -54,6 +57,13 @@ fn refuses_lines_in_order(rt: HostRuntime) {
         ("length ee", Some(2), 16),
         ("compute 13", Some(2), 16),
         ("descent 1x", Some(2), 16),
+        ("descent 9.10.9", Some(10), 0),
+        ("compute e", Some(10), 0),
+        ("compute 12", Some(10), 16),
+        ("compute 01", Some(10), 16),
+        ("compute 1..2", Some(10), 16),
+        ("inorder 1 2.", Some(10), 16),
+        ("compute 1.2", Some(9), 16),
     ];
     for (line, rank, number) in lines {
         assert_eq!(rt; refusal(&rt, line.as_bytes(), rank), number, "at {line:?}");
@@ -70,11 +80,31 @@ fn counts_letters_first(rt: HostRuntime) {
 }
 
 #[test]
+fn counts_pieces_first(rt: HostRuntime) {
+    let mut line = [b'.'; 519];
+    line[..8].copy_from_slice(b"compute ");
+    assert_eq!(rt; refusal(&rt, &line[..262], Some(10)), 16);
+    assert_eq!(rt; refusal(&rt, &line[..263], Some(10)), 17);
+    for place in 8..519 {
+        if place % 2 == 0 {
+            line[place] = b'1';
+        }
+    }
+    assert_eq!(rt; refusal(&rt, &line[..517], Some(10)), 0);
+    assert_eq!(rt; refusal(&rt, &line, Some(10)), 17);
+    assert_eq!(rt; refusal(&rt, &[b'1'; 300], Some(10)), 10);
+}
+
+#[test]
 fn gives_commands(rt: HostRuntime) -> Result<(), Fail> {
     let Command::Two(TwoWord::Inorder, y, w) = parse(b"inorder e  212", Some(2))? else {
         panic!(rt; "two words");
     };
     assert!(rt; y.is_empty() && w.as_slice() == [2, 1, 2].as_slice());
+    let Command::One(OneWord::Compute, w) = parse(b"compute 9.10.9", Some(10))? else {
+        panic!(rt; "a word");
+    };
+    assert!(rt; w.as_slice() == [9, 10, 9].as_slice());
     let Command::Group(group) = parse(b"matrix 3 3 2 04", None)? else {
         panic!(rt; "a group");
     };

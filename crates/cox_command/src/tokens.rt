@@ -1,5 +1,5 @@
 //! The tokens of a line.
-ghost use Rattle.std.specs.Prelude.{◌≡◌, ◌≢◌, ◌==◌, ◌∷◌, [], ◌<◌, ◌≤◌, ◌^◌, length, MatchOption, IfSome};
+ghost use Rattle.std.specs.Prelude.{◌≡◌, ◌≢◌, ◌==◌, ◌+◌, ◌∷◌, [], ◌<◌, ◌≤◌, ◌^◌, length, MatchOption, IfSome};
 ghost use Rattle.std.specs.List.{prefix_len, position_or_len};
 ghost use Rattle.cox_command.specs.Tokens.{is_space, tokens_of};
 
@@ -12,19 +12,19 @@ pub struct Tokens<'a> {
 }
 
 impl<'a> Model for Tokens<'a> {
-    ghost use Rattle.std.specs.Prelude.{ℕ, ◌<◌, ◌^◌, List, length};
+    ghost use Rattle.std.specs.Prelude.{ℕ, ◌+◌, ◌<◌, ◌^◌, List, length};
     ghost use Rattle.cox_command.specs.Tokens.{tokens_of};
 
     ghost Value = { List (List ℕ) };
 
     ghost view = { λ tokens. tokens_of tokens.rest.now };
 
-    ghost invariant = { λ tokens. length tokens.rest.now < 2 ^ 32 };
+    ghost invariant = { λ tokens. length tokens.rest.now + 1 < 2 ^ 32 };
 }
 
 /// The tokens of a line.
 pub fn tokens_in(line: &[u8]) -> Tokens<'_>
-    requires { length line.now < 2 ^ 32 }
+    requires { length line.now + 1 < 2 ^ 32 }
     ensures { result ≡ tokens_of line.now }
 {
     Tokens { rest: line }
@@ -34,7 +34,7 @@ impl<'a> Tokens<'a> {
     /// Takes the next token.
     pub fn take_next(&mut self) -> Option<&'a [u8]>
         ensures taken { MatchOption result (self.old ≡ []) (λ token. self.old ≡ token.now ∷ self.new) }
-        ensures small { IfSome result (λ token. length token.now < 2 ^ 32) }
+        ensures small { IfSome result (λ token. length token.now + 1 < 2 ^ 32) }
     {
         let (_, rest) = self.rest.split_at(spaces_before(self.rest));
         if rest.is_empty() {
@@ -48,7 +48,7 @@ impl<'a> Tokens<'a> {
     /// The only token, if there is exactly one.
     pub fn only(mut self) -> Option<&'a [u8]>
         ensures token { MatchOption result (length self.entry ≢ 1) (λ token. self.entry ≡ token.now ∷ []) }
-        ensures small { IfSome result (λ token. length token.now < 2 ^ 32) }
+        ensures small { IfSome result (λ token. length token.now + 1 < 2 ^ 32) }
     {
         let token = self.take_next()?;
         match self.take_next() {
@@ -60,7 +60,7 @@ impl<'a> Tokens<'a> {
     /// Both tokens, if there are exactly two.
     pub fn both(mut self) -> Option<(&'a [u8], &'a [u8])>
         ensures tokens { MatchOption result (length self.entry ≢ 2) (λ tokens. self.entry ≡ tokens.0.now ∷ tokens.1.now ∷ []) }
-        ensures small { IfSome result (λ tokens. (length tokens.0.now < 2 ^ 32) × (length tokens.1.now < 2 ^ 32)) }
+        ensures small { IfSome result (λ tokens. (length tokens.0.now + 1 < 2 ^ 32) × (length tokens.1.now + 1 < 2 ^ 32)) }
     {
         let first = self.take_next()?;
         let second = self.only()?;

@@ -1,26 +1,14 @@
 -- The texts of answers, as lists of bytes. The rank is that of the group.
-use Rattle.std.specs.Prelude.{ℕ, ℤ, ◌+◌, ◌++◌, Bool, if◌then◌else◌, List, [], ◌∷◌, length, map, codes, decimal}
+use Rattle.std.specs.Prelude.{ℕ, ℤ, ◌++◌, Bool, if◌then◌else◌, List, [], ◌∷◌, length, map, codes, decimal}
 use Rattle.std.specs.Fmt.{signed_decimal}
 use Rattle.std.specs.List.{flat_map}
+use Rattle.cox_base.specs.WordText.{letters_or, word_text}
 
--- the digit of a letter (48 is the code of 0)
-abbrev pub letter_digit : ℕ → ℕ
-letter_digit letter = 48 + letter
-
--- letters, one after the other
-abbrev pub letters_text : ℕ → List ℕ → List ℕ
-letters_text rank letters = map letter_digit letters
-
--- the same, or this text where there are none
-abbrev pub letters_or : List ℕ → ℕ → List ℕ → List ℕ
-letters_or none rank [] = none
-letters_or none rank (letter ∷ letters) = letters_text rank (letter ∷ letters)
-
--- an element: `e` for the identity, else its word
+-- an element: its normal form as it is written, `e` for the identity
 abbrev pub element_text : ℕ → List ℕ → List ℕ
-element_text rank word = letters_or (codes "e") rank word
+element_text rank word = word_text rank word
 
--- a set of letters: the letters, which rise; `-` for the empty set
+-- a set of letters: the letters, which rise, as they are written; `-` for the empty set
 abbrev pub set_text : ℕ → List ℕ → List ℕ
 set_text rank letters = letters_or (codes "-") rank letters
 

@@ -29,6 +29,26 @@ fn puts_elements_and_sets(rt: HostRuntime) -> Result<(), Fail> {
     Ok(())
 }
 
+/// In rank 10 to 16 letters are separated by dots.
+#[test]
+fn puts_dots(rt: HostRuntime) -> Result<(), Fail> {
+    let mut out = Vec::new(rt.alloc());
+    let (word, empty) = (read_word(b"9.10.9", 10)?, read_word(b"e", 10)?);
+    let (letter, set) = (read_word(b"16", 16)?, read_word(b"9.10", 10)?);
+    put_element(&mut out, 10, &word)?;
+    put_next_element(&mut out, 10, &empty)?;
+    put_next_element(&mut out, 16, &letter)?;
+    put_end(&mut out)?;
+    put_set(&mut out, 10, &empty)?;
+    put_end(&mut out)?;
+    put_descent(&mut out, 10, &set, &set)?;
+    assert_eq!(rt;
+        out.as_slice(),
+        b"9.10.9\ne\n16\n-\nL 9.10 R 9.10".as_slice()
+    );
+    Ok(())
+}
+
 #[test]
 fn puts_numbers_and_words(rt: HostRuntime) -> Result<(), Fail> {
     let mut out = Vec::new(rt.alloc());

@@ -15,7 +15,11 @@ fn short_word(g: &Coxeter, text: &[u8]) -> Option<Word>
     if text.len() > 63 {
         return None;
     }
-    read_word(text, g.rank()).ok()
+    let word = read_word(text, g.rank()).ok()?;
+    if word.len() > 63 {
+        return None;
+    }
+    Some(word)
 }
 
 /// Whether a text is the normal form of the element that it names.
