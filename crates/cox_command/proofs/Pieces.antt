@@ -76,6 +76,14 @@ tokens_of-next xs from spaces n token rest before behind some place front back =
     let begins = token-begins from some (rw start (after_spaces xs (rw start at some))) in
     tokens_of-spaces xs ∙ ap tokens_of (sym start) ∙ token-first from n place (omega (arith, place, begins)) ∙ rw (front, back)
 
+-- it is not empty
+pub token-some : (xs from : List ℕ) (spaces n : ℕ) → spaces ≡ prefix_len is_space xs → from ≡ drop spaces xs → 0 < length from
+    → n ≡ position_or_len is_space from → 1 ≤ n
+token-some xs from spaces n before behind some place =
+    let start : from ≡ drop (prefix_len is_space xs) xs = behind ∙ ap (λ k. drop k xs) before in
+    let begins = token-begins from some (rw start (after_spaces xs (rw start at some))) in
+    omega (arith, place, begins)
+
 -- there is none
 pub tokens_of-none : (xs from : List ℕ) (spaces : ℕ) → spaces ≡ prefix_len is_space xs → from ≡ drop spaces xs → length from ≤ 0
     → tokens_of xs ≡ []

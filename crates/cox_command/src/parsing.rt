@@ -1,11 +1,12 @@
 //! Lines.
-ghost use Rattle.std.specs.Prelude.{◌+◌, ◌<◌, ◌≤◌, ◌^◌, ℕ, Option, length, IfSome};
+ghost use Rattle.std.specs.Prelude.{◌<◌, ◌≤◌, ◌^◌, ℕ, Option, length, IfSome};
 ghost use Rattle.cox_command.specs.ParseContract.{ParsesAs, ReadsTokens, ReadsArguments};
+ghost use Rattle.cox_command.specs.Tokens.{tokens_of};
 ghost use Rattle.cox_command.specs.declared.command_word.CommandWord.TheVariants.{Quit};
 
 use crate::command_word::{CommandWord, command_word};
 use crate::group_arguments::{parse_matrix, parse_type};
-use crate::tokens::{Tokens, tokens_in};
+use crate::tokens::{Tokens, first_token, tokens_in};
 use crate::word_arguments::{parse_one, parse_two};
 use crate::{Command, LineFault, Refusal};
 use cox_base::MAX_RANK;
@@ -16,28 +17,29 @@ use cox_base::MAX_RANK;
 /// `LongWord`, `ForeignLetter`; a blank line is never refused. For example `type A 2` gives the group A 2, and `length 13` is refused with `ForeignLetter`
 /// where the rank is 2, with `NoGroup` where no group is set.
 pub fn parse(line: &[u8], rank: Option<u32>) -> Result<Command, LineFault>
-    requires size { length line.now + 1 < 2 ^ 32 }
+    requires size { length line.now < 2 ^ 32 }
     requires rank { IfSome rank (λ n. n ≤ MAX_RANK) }
     ensures { ParsesAs result line.now rank }
 {
-    match parse_tokens(tokens_in(line), rank) {
+    match parse_tokens(line, rank) {
         Ok(command) => Ok(command),
         Err(refusal) => Err(LineFault::of(refusal)),
     }
 }
 
 /// Reads the tokens of a line.
-fn parse_tokens(mut tokens: Tokens, rank: Option<u32>) -> Result<Command, Refusal>
-    requires { IfSome rank (λ n. n ≤ MAX_RANK) }
-    ensures { ReadsTokens result tokens.entry rank }
+fn parse_tokens(line: &[u8], rank: Option<u32>) -> Result<Command, Refusal>
+    requires size { length line.now < 2 ^ 32 }
+    requires rank { IfSome rank (λ n. n ≤ MAX_RANK) }
+    ensures { ReadsTokens result (tokens_of line.now) rank }
 {
-    let Some(name) = tokens.take_next() else {
+    let Some((name, arguments)) = first_token(line) else {
         return Ok(Command::Nothing);
     };
     let Some(word) = command_word(name) else {
         return Err(Refusal::UnknownCommand);
     };
-    parse_arguments(word, tokens, rank)
+    parse_arguments(word, tokens_in(arguments), rank)
 }
 
 /// Reads the arguments of a command.

@@ -79,20 +79,27 @@ fn counts_letters_first(rt: HostRuntime) {
     assert_eq!(rt; refusal(&rt, &[b' '; 4096], None), 0);
 }
 
-#[test]
-fn counts_pieces_first(rt: HostRuntime) {
-    let mut line = [b'.'; 519];
-    line[..8].copy_from_slice(b"compute ");
-    assert_eq!(rt; refusal(&rt, &line[..262], Some(10)), 16);
-    assert_eq!(rt; refusal(&rt, &line[..263], Some(10)), 17);
-    for place in 8..519 {
-        if place % 2 == 0 {
-            line[place] = b'1';
+/// The command `compute` with pieces `1`, separated by dots.
+fn compute_ones<const N: usize>() -> [u8; N] {
+    let mut line = [b'1'; N];
+    for (place, byte) in line.iter_mut().enumerate() {
+        if place < 8 {
+            *byte = b"compute "[place];
+        } else if place % 2 == 1 {
+            *byte = b'.';
         }
     }
-    assert_eq!(rt; refusal(&rt, &line[..517], Some(10)), 0);
-    assert_eq!(rt; refusal(&rt, &line, Some(10)), 17);
-    assert_eq!(rt; refusal(&rt, &[b'1'; 300], Some(10)), 10);
+    line
+}
+
+#[test]
+fn counts_pieces_first(rt: HostRuntime) {
+    let mut dots = [b'.'; 263];
+    dots[..8].copy_from_slice(b"compute ");
+    assert_eq!(rt; refusal(&rt, &dots[..262], Some(10)), 16);
+    assert_eq!(rt; refusal(&rt, &dots, Some(10)), 17);
+    assert_eq!(rt; refusal(&rt, &compute_ones::<517>(), Some(10)), 0);
+    assert_eq!(rt; refusal(&rt, &compute_ones::<519>(), Some(10)), 17);
 }
 
 #[test]

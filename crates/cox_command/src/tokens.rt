@@ -5,7 +5,7 @@ ghost use Rattle.cox_command.specs.Tokens.{is_space, tokens_of};
 
 use std::marker::Model;
 
-/// The tokens of a line that are not taken yet. Contracts see the list of them.
+/// The tokens of a part of a line that are not taken yet. Contracts see the list of them.
 #[derive(Drop)]
 pub struct Tokens<'a> {
     rest: &'a [u8],
@@ -22,12 +22,24 @@ impl<'a> Model for Tokens<'a> {
     ghost invariant = { λ tokens. length tokens.rest.now + 1 < 2 ^ 32 };
 }
 
-/// The tokens of a line.
-pub fn tokens_in(line: &[u8]) -> Tokens<'_>
-    requires { length line.now + 1 < 2 ^ 32 }
-    ensures { result ≡ tokens_of line.now }
+/// The tokens of a part of a line.
+pub fn tokens_in(part: &[u8]) -> Tokens<'_>
+    requires { length part.now + 1 < 2 ^ 32 }
+    ensures { result ≡ tokens_of part.now }
 {
-    Tokens { rest: line }
+    Tokens { rest: part }
+}
+
+/// The first token of a line, and what stands behind it.
+pub fn first_token(line: &[u8]) -> Option<(&[u8], &[u8])>
+    ensures tokens { MatchOption result (tokens_of line.now ≡ []) (λ parts. tokens_of line.now ≡ parts.0.now ∷ tokens_of parts.1.now) }
+    ensures sizes { IfSome result (λ parts. (1 ≤ length parts.0.now) × (length parts.0.now + length parts.1.now ≤ length line.now)) }
+{
+    let (_, rest) = line.split_at(spaces_before(line));
+    if rest.is_empty() {
+        return None;
+    }
+    Some(rest.split_at(token_len(rest)))
 }
 
 impl<'a> Tokens<'a> {
@@ -36,11 +48,7 @@ impl<'a> Tokens<'a> {
         ensures taken { MatchOption result (self.old ≡ []) (λ token. self.old ≡ token.now ∷ self.new) }
         ensures small { IfSome result (λ token. length token.now + 1 < 2 ^ 32) }
     {
-        let (_, rest) = self.rest.split_at(spaces_before(self.rest));
-        if rest.is_empty() {
-            return None;
-        }
-        let (token, rest) = rest.split_at(token_len(rest));
+        let (token, rest) = first_token(self.rest)?;
         self.rest = rest;
         Some(token)
     }
