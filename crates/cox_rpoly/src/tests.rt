@@ -5,7 +5,7 @@ ghost use Rattle.cox_base.specs.Matrix.{IsWord};
 use crate::{RFault, r};
 use cox_base::{Coxeter, Word, read_word};
 use cox_poly::Poly;
-use cox_reflect::below;
+use cox_reflect::{LETTERS_OF_128_BITS, below};
 use std::alloc::Global;
 use std::test::Fail;
 
@@ -19,9 +19,9 @@ const A3: [&[u8]; 24] = [
 /// A word of at most 63 letters.
 fn short_word(g: &Coxeter, text: &[u8]) -> Option<Word>
     ensures letters { IfSome result (λ w. IsWord g.now.rank w.items) }
-    ensures short { IfSome result (λ w. length w.items ≤ 63) }
+    ensures short { IfSome result (λ w. length w.items ≤ LETTERS_OF_128_BITS) }
 {
-    if text.len() > 63 {
+    if text.len() > LETTERS_OF_128_BITS {
         return None;
     }
     read_word(text, g.rank()).ok()
