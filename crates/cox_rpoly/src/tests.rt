@@ -5,7 +5,7 @@ ghost use Rattle.cox_base.specs.Matrix.{IsWord};
 use crate::{RFault, r};
 use cox_base::{Coxeter, Word, read_word};
 use cox_poly::Poly;
-use cox_reflect::{LETTERS_OF_128_BITS, below};
+use cox_reflect::{Heights, LETTERS_OF_128_BITS, below};
 use std::alloc::Global;
 use std::test::Fail;
 
@@ -143,6 +143,20 @@ fn longest_elements(rt: HostRuntime) -> Result<(), Fail> {
             };
             assert_eq!(rt; p.coefficient(k), signed);
         }
+    }
+    Ok(())
+}
+
+/// R is (q-1)^d for differences d of 0, 1 and 2 (Humphreys 7.5). Here heights pass 64 bits, so elements are told by their normal forms.
+#[test]
+fn heights_that_overflow(rt: HostRuntime) -> Result<(), Fail> {
+    let g = Coxeter::of_labels(3, &[0, 0, 0])?;
+    let w = b"123123123123123123123123123123123123123123123123123123123123123";
+    let word = short_word(&g, w).ok_or("no word")?;
+    assert!(rt; Heights::of_word(&g, &word).is_none());
+    let powers: [(usize, &str); 3] = [(63, "1"), (62, "-1+q"), (61, "1-2q+q^2")];
+    for (letters, text) in powers {
+        assert_eq!(rt; text_of(rt.alloc(), &g, &w[..letters], w)?.as_str(), text);
     }
     Ok(())
 }
