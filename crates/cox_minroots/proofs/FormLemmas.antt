@@ -46,10 +46,6 @@ module _ (A : IntegerMatrix) (g : IsAdmissible A) where
   pub put_in-no_descent : (v : List ℕ) (s : ℕ) → IsReduced A v → IsReduced A (v ++ s ∷ []) → IsRightDescent A v s → ⊥
   put_in-no_descent v s h k d = omega (arith, h, k, d, length-append v (s ∷ []))
 
-  -- a reduced word of the inverse has the length of the element
-  pub length-inverse : (w v : List ℕ) → SameElement A v (reverse w) → IsReduced A v → length v ≡ word_length A w
-  length-inverse w v e h = sym h ∙ word_length-equal A g e ∙ word_length-reverse A g w
-
   -- the normal form of w, by a word of its inverse
   pub form-inverse : (w v : List ℕ) → SameElement A v (reverse w) → normal_form A (reverse v) ≡ normal_form A w
   form-inverse w v e = normal_form-equal A g (rw (reverse-reverse w) at (same-reverse A g e))
@@ -69,11 +65,6 @@ module _ (A : IntegerMatrix) (g : IsAdmissible A) where
   left_descents-inverse w v e =
       let back : left_descents A (reverse (reverse w)) ≡ right_descents A (reverse w) = left_descents-word_at A g Right (reverse w)
       in right_descents-same e ∙ sym (rw (reverse-reverse w) at back)
-
-  -- the inverse of a product
-  pub same-product : (x y v u : List ℕ) → SameElement A v (reverse y) → SameElement A u (v ++ reverse x)
-      → SameElement A u (reverse (x ++ y))
-  same-product x y v u e f = rw (reverse-append x y) (same-trans A g f (same-append A g e (same-refl A g (reverse x))))
 
   -- what the code knows where it asks for an exchange
   pub some-descent : (v : List ℕ) (s : ℕ) (found : Option ℕ) → IsReduced A v → is_some found ≡ true

@@ -1,23 +1,24 @@
 -- Products of reduced words by letters.
 use Rattle.std.proofs.Common.{◌≡◌, ℕ, suc, ◌+◌, ◌≤◌, ◌<◌, List, [], ◌∷◌, ◌++◌, length, take, drop, get_or, ap, sym, arith, drop-cons}
 use Rattle.std.specs.List.{remove}
-use Rattle.std.proofs.lemmas.List.{append-nil, append_assoc, length-append, take-append-drop}
-use Rattle.cox_base.specs.Matrix.{IsWord}
+use Rattle.std.proofs.lemmas.List.{length-append, take-append-drop}
+use Rattle.std.proofs.lemmas.List.Elements.{All-nil}
+use Rattle.cox_base.specs.Matrix.{IsLetter, IsWord}
 use Rattle.cox_base.specs.IntegerMatrix.{IntegerMatrix}
 use Rattle.cox_base.specs.Admissible.{IsAdmissible}
 use Rattle.cox_base.specs.Element.{SameElement}
 use Rattle.cox_base.specs.Reduced.{IsReduced}
-use Rattle.cox_reflect.proofs.Elements.{same-trans, same-push, same-equal}
+use Rattle.cox_reflect.proofs.Elements.{same-refl, same-trans, same-push}
 use Rattle.cox_reflect.proofs.Search.{word_length-equal, word_length-length}
-use Rattle.cox_reflect.proofs.Lengths.{push-word_length}
+use Rattle.cox_reflect.proofs.Lengths.{push-word_length, IsReduced-nil}
 use Rattle.cox_reflect.proofs.WordLemmas.{IsWord-append, IsWord-prefix, IsWord-back}
 
--- new is a reduced word of old followed by the letters
-pub record IsMultiplied (A : IntegerMatrix) (old letters new : List ℕ) : Type 0 where
-  pub same : SameElement A new (old ++ letters)
-  pub reduced : IsReduced A new
-  pub word : IsWord A.rank new
-  pub longer : length new ≤ length old + length letters
+-- v is a reduced word of the element of the letters
+pub record IsMultiplied (A : IntegerMatrix) (letters v : List ℕ) : Type 0 where
+  pub same : SameElement A v letters
+  pub reduced : IsReduced A v
+  pub word : IsWord A.rank v
+  pub no_longer : length v ≤ length letters
 
 -- what is left and right of a place
 place-split : (w : List ℕ) (place : ℕ) → place < length w → w ≡ take place w ++ get_or w place 0 ∷ drop (suc place) w
@@ -54,16 +55,16 @@ module _ (A : IntegerMatrix) (g : IsAdmissible A) where
         word_length-length A g (remove w place),
       )
 
-  pub multiplied-start : (old : List ℕ) → IsReduced A old → IsWord A.rank old → IsMultiplied A old [] old
-  multiplied-start old h k =
-      record { same = same-equal A g (sym (append-nil old)); reduced = h; word = k; longer = omega arith }
+  pub multiplied-start : IsMultiplied A [] []
+  multiplied-start =
+      record { same = same-refl A g []; reduced = IsReduced-nil A g; word = All-nil (IsLetter A.rank); no_longer = omega arith }
 
-  pub multiplied-next : (old letters v : List ℕ) (s : ℕ) (new : List ℕ) → IsMultiplied A old letters v
+  pub multiplied-next : (letters v : List ℕ) (s : ℕ) (new : List ℕ) → IsMultiplied A letters v
       → SameElement A new (v ++ s ∷ []) → IsReduced A new → IsWord A.rank new → length new ≤ length v + 1
-      → IsMultiplied A old (letters ++ s ∷ []) new
-  multiplied-next old letters v s new h e r k l = record {
-    same = same-trans A g e (same-trans A g (same-push A g s h.same) (same-equal A g (append_assoc old letters (s ∷ []))));
+      → IsMultiplied A (letters ++ s ∷ []) new
+  multiplied-next letters v s new h e r k l = record {
+    same = same-trans A g e (same-push A g s h.same);
     reduced = r;
     word = k;
-    longer = omega (arith, l, h.longer, length-append letters (s ∷ []));
+    no_longer = omega (arith, l, h.no_longer, length-append letters (s ∷ []));
   }

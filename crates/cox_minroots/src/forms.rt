@@ -1,4 +1,4 @@
-//! Normal forms, lengths, descents, inverses and products of words, by the table.
+//! Normal forms, lengths, descents, inverses and products of words: by heights, and where a sum overflows by the table.
 ghost use Rattle.std.specs.Prelude.{◌≡◌, ℕ, ◌+◌, ◌≤◌, ◌<◌, [], ◌∷◌, ◌++◌, length, reverse, IfSome, MatchOption};
 ghost use Rattle.cox_base.specs.Matrix.{IsLetter, IsWord};
 ghost use Rattle.cox_base.specs.IntegerMatrix.{integer_matrix};

@@ -1,4 +1,4 @@
-//! Bruhat order, by the table.
+//! Bruhat order: by heights, and where a sum overflows by the table.
 ghost use Rattle.std.specs.Prelude.{◌↔◌, IsTrue};
 ghost use Rattle.cox_base.specs.Matrix.{IsWord};
 ghost use Rattle.cox_base.specs.IntegerMatrix.{integer_matrix};

@@ -62,24 +62,6 @@ impl RootTable {
         }
     }
 
-    /// Multiplies the element of the reduced word v by the inverse of w from the right; the new word is reduced.
-    pub(crate) fn multiply_inverse(&self, v: &mut Word, w: &Word)
-        requires letters_v { IsWord self.now.rank v.old.items }
-        requires letters_w { IsWord self.now.rank w.now.items }
-        requires reduced { IsReduced (integer_matrix self.now) v.old.items }
-        requires room { length v.old.items + length w.now.items ≤ MAX_LETTERS }
-        ensures same { SameElement (integer_matrix self.now) v.new.items (v.old.items ++ reverse w.now.items) }
-        ensures reduced { IsReduced (integer_matrix self.now) v.new.items }
-        ensures letters { IsWord self.now.rank v.new.items }
-        ensures longer { length v.new.items ≤ length v.old.items + length w.now.items }
-        ensures matrix { IsCoxeterMatrix self.now }
-    {
-        prove!(self.group.rank() as usize <= MAX_RANK);
-        for &s in w.as_slice().iter().rev() {
-            self.multiply(v, s);
-        }
-    }
-
     /// A reduced word of the inverse of the element that w names.
     pub(crate) fn reduced_inverse(&self, w: &Word) -> Word
         requires { IsWord self.now.rank w.now.items }
@@ -92,7 +74,9 @@ impl RootTable {
         prove!(self.group.rank() as usize <= MAX_RANK);
         prove!(w.len() <= MAX_LETTERS);
         let mut v = Word::new();
-        self.multiply_inverse(&mut v, w);
+        for &s in w.as_slice().iter().rev() {
+            self.multiply(&mut v, s);
+        }
         v
     }
 }

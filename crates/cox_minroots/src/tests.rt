@@ -4,6 +4,7 @@ ghost use Rattle.cox_base.specs.Matrix.{IsWord};
 
 use crate::{MAX_SMALL_ROOTS, RootFault, RootTable};
 use cox_base::{Coxeter, MAX_LETTERS, Word, read_word};
+use cox_reflect::{Heights, Words};
 use std::test::Fail;
 
 /// The word of a text.
@@ -87,5 +88,41 @@ fn words_of_a_3(rt: HostRuntime) -> Result<(), Fail> {
     );
     assert!(rt; table.below(&right, &table.product(&left, &right)));
     assert!(rt; !table.below(&right, &left));
+    Ok(())
+}
+
+/// In the free product of three groups of order 2 the reduced words are those with no letter twice in a row, and no two of them name one
+/// element. Along such words heights pass 64 bits.
+#[test]
+fn heights_that_overflow(rt: HostRuntime) -> Result<(), Fail> {
+    let g = Coxeter::of_labels(3, &[0, 0, 0])?;
+    let table = RootTable::build(rt.alloc(), &g, MAX_SMALL_ROOTS)?;
+    assert_eq!(rt; table.len(), 3);
+    let mut text = [b'1'; MAX_LETTERS];
+    for k in 0..MAX_LETTERS / 3 {
+        text[3 * k + 1] = b'2';
+        text[3 * k + 2] = b'3';
+    }
+    let word = word_of(&g, &text).ok_or("a word")?;
+    let prefix = word_of(&g, &text[..200]).ok_or("a word")?;
+    let short = word_of(&g, &text[..145]).ok_or("a word")?;
+    text.reverse();
+    let back = word_of(&g, &text).ok_or("a word")?;
+    assert!(rt; Heights::of_word(&g, &word).is_none());
+    assert_eq!(rt; table.normal_form(&word).as_slice(), word.as_slice());
+    assert_eq!(rt; table.length(&word), 255);
+    assert_eq!(rt; table.left_descents(&word).as_slice(), [1].as_slice());
+    assert_eq!(rt; table.right_descents(&word).as_slice(), [3].as_slice());
+    assert_eq!(rt; table.inverse(&word).as_slice(), back.as_slice());
+    assert!(rt; table.below(&prefix, &word));
+    assert!(rt; !table.below(&back, &word));
+    assert_eq!(rt; Words::longest(&table), 255);
+    // the prefix of 200 letters without its last 55
+    let end = word_of(&g, &text[55..110]).ok_or("a word")?;
+    assert!(rt; prefix.len() + end.len() <= MAX_LETTERS);
+    assert_eq!(rt;
+        table.product(&prefix, &end).as_slice(),
+        short.as_slice()
+    );
     Ok(())
 }

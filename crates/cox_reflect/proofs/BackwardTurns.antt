@@ -1,5 +1,5 @@
 -- A loop over the letters of a word from the last to the first: xs are the items so far, whose letters f gives.
-use Rattle.std.proofs.Common.{◌≡◌, ℕ, ◌≤◌, ◌<◌, List, [], ◌∷◌, ◌++◌, length, reverse, map, get_or, arith}
+use Rattle.std.proofs.Common.{◌≡◌, ℕ, ◌<◌, List, [], ◌∷◌, ◌++◌, length, reverse, map, get_or, arith}
 use Rattle.std.proofs.lemmas.List.{map-append, reverse-append, length-map, length-reverse}
 use Rattle.cox_base.specs.Matrix.{IsLetter, IsWord}
 use Rattle.cox_reflect.proofs.WordLemmas.{IsWord-reverse}

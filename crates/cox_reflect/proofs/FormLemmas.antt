@@ -1,5 +1,5 @@
 -- Reading an element off by descents: its length, and its normal form by the least ones.
-use Rattle.std.proofs.Common.{◌≡◌, ℕ, ◌+◌, ◌≤◌, ◌<◌, Bool, List, [], ◌∷◌, ◌++◌, length, reverse, filter, ℤ, refl, ap, sym, ◌∙◌, arith}
+use Rattle.std.proofs.Common.{◌≡◌, ℕ, ◌+◌, ◌<◌, Bool, List, [], ◌∷◌, ◌++◌, length, reverse, filter, ℤ, refl, ap, sym, ◌∙◌, arith}
 use Rattle.std.proofs.Math.Path.{fun_ext}
 use Rattle.std.proofs.lemmas.List.{append-nil, append_assoc, length-append, reverse-reverse}
 use Rattle.cox_base.specs.declared.side.Side.{Side}
@@ -13,8 +13,7 @@ use Rattle.cox_base.specs.Reduced.{IsLeftDescent}
 use Rattle.cox_reflect.specs.Height.{AreHeights, AreOfShortElement, AreShortWith, IsLeastLeftDescent}
 use Rattle.cox_reflect.specs.Side.{word_at, descents_at}
 use Rattle.cox_reflect.proofs.Admissible.{IsAdmissible-integer_matrix}
-use Rattle.cox_reflect.proofs.Search.{word_length-length}
-use Rattle.cox_reflect.proofs.Lengths.{word_length-is, cons-word_length, word_length-cons_reverse, word_length-reverse}
+use Rattle.cox_reflect.proofs.Lengths.{word_length-is, word_length-cons_reverse, word_length-reverse}
 use Rattle.cox_reflect.proofs.NormalForm.{normal_form-descent, normal_form-no_descent}
 use Rattle.cox_reflect.proofs.HeightLemmas.{AreShortWith-descent}
 

@@ -2,7 +2,7 @@
 ghost use Rattle.std.specs.Prelude.{◌≤◌, ◌^◌, ◌<◌, length, IfSome};
 ghost use Rattle.cox_base.specs.Matrix.{IsWord};
 
-use crate::{below, descents, image, length, normal_form};
+use crate::{LETTERS_OF_128_BITS, below, descents, image, length, normal_form};
 use cox_base::{Coxeter, MAX_RANK, Side, Word, read_word};
 use std::alloc::{AllocError, Global};
 use std::test::Fail;
@@ -10,13 +10,13 @@ use std::test::Fail;
 /// A word of at most 63 letters.
 fn short_word(g: &Coxeter, text: &[u8]) -> Option<Word>
     ensures letters { IfSome result (λ w. IsWord g.now.rank w.items) }
-    ensures short { IfSome result (λ w. length w.items ≤ 63) }
+    ensures short { IfSome result (λ w. length w.items ≤ LETTERS_OF_128_BITS) }
 {
-    if text.len() > 63 {
+    if text.len() > LETTERS_OF_128_BITS {
         return None;
     }
     let word = read_word(text, g.rank()).ok()?;
-    if word.len() > 63 {
+    if word.len() > LETTERS_OF_128_BITS {
         return None;
     }
     Some(word)

@@ -8,7 +8,6 @@ use Rattle.std.proofs.lemmas.List.Elements.{All-append, All-cons, All-nil}
 use Rattle.std.proofs.Math.Seq.{get_or-append_seam}
 use Rattle.cox_base.specs.IntegerMatrix.{IntegerMatrix}
 use Rattle.cox_base.specs.Admissible.{IsAdmissible}
-use Rattle.cox_base.specs.Length.{word_length}
 use Rattle.cox_base.specs.Reduced.{IsReduced, IsLeftDescent}
 use Rattle.cox_base.specs.Bruhat.{IsBelow}
 use Rattle.cox_reflect.proofs.Bruhat.{below-same, below-length, lift_down, lift_up}
@@ -19,7 +18,6 @@ use Rattle.cox_rpoly.specs.declared.terms.Link.{Link}
 use Rattle.cox_rpoly.specs.declared.terms.Link.TheVariants.{Shorter, Longer}
 use Rattle.cox_rpoly.specs.Element.{Naming, IsShortElement}
 use Rattle.cox_rpoly.specs.Layer.{IsMember, IsGrown, Extends, IsTimesAt, IsLongerLink, IsLink, AreLinks}
-use Rattle.cox_rpoly.proofs.AlongLemmas.{shortens}
 
 module _ {X : Type 0} where
   -- ---- one element more

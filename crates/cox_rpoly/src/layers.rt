@@ -43,11 +43,7 @@ pub(crate) fn values<W: Words, E: Element>(
     let Some(values) = values(alloc, words, rest, next)? else {
         return Ok(None);
     };
-    Ok(Some(terms_of_links(
-        alloc,
-        links.as_slice(),
-        values.as_slice(),
-    )?))
+    Ok(Some(terms_of_links(alloc, links.as_slice(), values.as_slice())?))
 }
 
 /// The elements for one letter less, and the links of a layer to them.

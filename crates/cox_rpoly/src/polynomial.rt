@@ -46,12 +46,7 @@ pub fn r<W: Words>(alloc: Global, words: &W, y: &Word, w: &Word) -> Result<Poly,
 }
 
 /// R of an element and that of a reduced word, which is above it: by heights, and where a number overflows by normal forms.
-fn along_any<W: Words>(
-    alloc: Global,
-    words: &W,
-    y: &Word,
-    form: &[u8],
-) -> Result<Poly, NoMemory>
+fn along_any<W: Words>(alloc: Global, words: &W, y: &Word, form: &[u8]) -> Result<Poly, NoMemory>
     requires letters_y { IsWord (W.matrix words.now).rank y.now.items }
     requires letters { IsWord (W.matrix words.now).rank form.now }
     requires short_y { length y.now.items ≤ W.longest words.now }

@@ -5,7 +5,7 @@ ghost use Rattle.cox_base.specs.Matrix.{IsWord};
 use crate::{RFault, r};
 use cox_base::{Coxeter, Word, read_word};
 use cox_poly::Poly;
-use cox_reflect::below;
+use cox_reflect::{Heights, LETTERS_OF_128_BITS, below};
 use std::alloc::Global;
 use std::test::Fail;
 
@@ -19,9 +19,9 @@ const A3: [&[u8]; 24] = [
 /// A word of at most 63 letters.
 fn short_word(g: &Coxeter, text: &[u8]) -> Option<Word>
     ensures letters { IfSome result (λ w. IsWord g.now.rank w.items) }
-    ensures short { IfSome result (λ w. length w.items ≤ 63) }
+    ensures short { IfSome result (λ w. length w.items ≤ LETTERS_OF_128_BITS) }
 {
-    if text.len() > 63 {
+    if text.len() > LETTERS_OF_128_BITS {
         return None;
     }
     read_word(text, g.rank()).ok()
@@ -143,6 +143,20 @@ fn longest_elements(rt: HostRuntime) -> Result<(), Fail> {
             };
             assert_eq!(rt; p.coefficient(k), signed);
         }
+    }
+    Ok(())
+}
+
+/// R is (q-1)^d for differences d of 0, 1 and 2 (Humphreys 7.5). Here heights pass 64 bits, so elements are told by their normal forms.
+#[test]
+fn heights_that_overflow(rt: HostRuntime) -> Result<(), Fail> {
+    let g = Coxeter::of_labels(3, &[0, 0, 0])?;
+    let w = b"123123123123123123123123123123123123123123123123123123123123123";
+    let word = short_word(&g, w).ok_or("no word")?;
+    assert!(rt; Heights::of_word(&g, &word).is_none());
+    let powers: [(usize, &str); 3] = [(63, "1"), (62, "-1+q"), (61, "1-2q+q^2")];
+    for (letters, text) in powers {
+        assert_eq!(rt; text_of(rt.alloc(), &g, &w[..letters], w)?.as_str(), text);
     }
     Ok(())
 }

@@ -2,7 +2,6 @@
 use Rattle.std.proofs.Common.{◌≤◌, length, arith}
 use Rattle.std.proofs.lemmas.Option.{IfSome_then}
 use Rattle.cox_base.specs.Matrix.{IsWord}
-use Rattle.cox_base.specs.Reduced.{IsReduced}
 use Rattle.cox_base.specs.declared.limits.TheConstants.{MAX_LETTERS}
 use Rattle.cox_base.specs.IntegerMatrix.{integer_matrix}
 use Rattle.cox_reflect.specs.Side.{word_at}

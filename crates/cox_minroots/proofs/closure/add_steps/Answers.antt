@@ -1,3 +1,4 @@
+-- The steps by one letter more are added.
 use Rattle.std.proofs.Common.{arith}
 use Rattle.cox_base.specs.Matrix.{IsLetter}
 use Rattle.cox_minroots.proofs.Stepping.{stepping-start, stepping-turns, stepping-passed, stepping-added}

@@ -1,3 +1,4 @@
+-- The steps by the letters before s are in the set.
 use Rattle.cox_base.specs.IntegerMatrix.{integer_matrix}
 use Rattle.cox_minroots.proofs.Stepping.{IsStepping}
 use Rattle.cox_minroots.proofs.closure.add_steps.Given as goal

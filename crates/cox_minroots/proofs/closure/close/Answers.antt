@@ -1,3 +1,4 @@
+-- The steps of one root more are in the set.
 use Rattle.std.proofs.Common.{refl}
 use Rattle.cox_base.specs.IntegerMatrix.{integer_matrix}
 use Rattle.cox_minroots.proofs.ClosureLemmas.{more-than}

@@ -1,3 +1,4 @@
+-- The steps of the roots so far are in the set.
 use Rattle.std.proofs.Common.{◌+◌, ◌-◌}
 use Rattle.cox_base.specs.IntegerMatrix.{integer_matrix}
 use Rattle.cox_minroots.proofs.Closing.{IsClosing}

@@ -1,3 +1,4 @@
+-- One simple root more.
 use Rattle.std.proofs.Common.{◌≡◌, ◌-◌, rules, arith}
 use Rattle.cox_base.specs.IntegerMatrix.{integer_matrix}
 use Rattle.cox_reflect.proofs.Admissible.{IsAdmissible-integer_matrix}

@@ -1,3 +1,4 @@
+-- The set has the simple roots so far.
 use Rattle.cox_base.specs.IntegerMatrix.{integer_matrix}
 use Rattle.cox_minroots.proofs.SimpleRoots.{IsStarting}
 use Rattle.cox_minroots.proofs.closure.simple_roots.Given as goal

@@ -1,3 +1,4 @@
+-- The image of a small root is negative, out, or in the set.
 use Rattle.std.proofs.Common.{arith}
 use Rattle.cox_base.specs.IntegerMatrix.{integer_matrix}
 use Rattle.cox_reflect.proofs.Admissible.{IsAdmissible-integer_matrix}

@@ -1,3 +1,4 @@
+-- One move more.
 use Rattle.std.proofs.Common.{arith}
 use Rattle.cox_minroots.proofs.Targets.{filling-start, filling-next}
 use Rattle.cox_minroots.proofs.moves.moves.Goals as goal

@@ -1,3 +1,4 @@
+-- The moves so far.
 use Rattle.cox_base.specs.IntegerMatrix.{integer_matrix}
 use Rattle.cox_minroots.proofs.Targets.{IsFilling}
 use Rattle.cox_minroots.proofs.moves.moves.Given as goal

@@ -1,3 +1,4 @@
+-- One coordinate more.
 use Rattle.std.proofs.Common.{rules, ℕ, ◌-◌, ◌*◌, ◌≤◌, refl, ap₂, arith}
 use Rattle.cox_base.specs.IntegerMatrix.{integer_matrix}
 use Rattle.cox_minroots.specs.Coordinates.{sum_of}

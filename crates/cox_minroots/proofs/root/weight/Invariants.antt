@@ -1,3 +1,4 @@
+-- The weight of the coordinates so far.
 use Rattle.std.proofs.Common.{◌≡◌, ◌-◌, ◌*◌, ◌≤◌, slice_index, nat_abs}
 use Rattle.cox_base.specs.IntegerMatrix.{integer_matrix}
 use Rattle.cox_minroots.specs.Coordinates.{matrix_of, sum_of}

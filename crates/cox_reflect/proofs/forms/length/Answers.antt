@@ -1,5 +1,5 @@
 -- The length is that of the normal form.
-use Rattle.std.proofs.Common.{List, ℕ, length, ap, sym, ◌∙◌, arith}
+use Rattle.std.proofs.Common.{List, ℕ, length, ap, arith}
 use Rattle.cox_base.specs.IntegerMatrix.{integer_matrix}
 use Rattle.cox_reflect.proofs.Lengths.{word_length-is}
 use Rattle.cox_reflect.proofs.forms.length.Goals as goal

@@ -1,5 +1,5 @@
 -- Each turn of the loop is a lemma of OrderLemmas; at the end the identity alone is below.
-use Rattle.std.proofs.Common.{sym, refl, arith}
+use Rattle.std.proofs.Common.{sym, arith}
 use Rattle.std.proofs.lemmas.Bool.{false≢true}
 use Rattle.std.proofs.lemmas.List.{drop_all}
 use Rattle.cox_base.specs.IntegerMatrix.{integer_matrix}

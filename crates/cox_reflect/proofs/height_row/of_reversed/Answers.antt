@@ -1,5 +1,5 @@
 -- A letter is put before a word of fewer letters.
-use Rattle.std.proofs.Common.{◌<◌, reverse, take, length, arith, rules}
+use Rattle.std.proofs.Common.{◌<◌, reverse, take, length, arith}
 use Rattle.std.proofs.lemmas.Bool.{false≢true}
 use Rattle.std.proofs.lemmas.List.{length-take, length-reverse}
 use Rattle.cox_base.specs.IntegerMatrix.{integer_matrix}

@@ -2,11 +2,9 @@
 use Rattle.std.proofs.Common.{sym, ◌∙◌}
 use Rattle.std.proofs.lemmas.Bool.{false≢true}
 use Rattle.cox_base.specs.IntegerMatrix.{integer_matrix}
-use Rattle.cox_base.specs.Reduced.{IsLeftDescent}
-use Rattle.std.proofs.Common.{List, ℕ, refl}
 use Rattle.cox_reflect.proofs.Admissible.{IsAdmissible-integer_matrix}
 use Rattle.cox_reflect.proofs.Lengths.{IsReduced-tail}
-use Rattle.cox_rpoly.specs.Layer.{IsMember, IsGrown}
+use Rattle.cox_rpoly.specs.Layer.{IsMember}
 use Rattle.cox_rpoly.proofs.LayerLemmas.{IsGrown-All, IsGrown-Extends, Extends-trans, IsMember-shorter, IsMember-still, IsMember-times}
 use Rattle.cox_rpoly.proofs.LayerLemmas.{IsShortElement-member, IsShortElement-times}
 use Rattle.cox_rpoly.proofs.layers.link.Goals as goal

@@ -1,9 +1,8 @@
 -- R is 0 unless y is below w; what is said of the fault is said of the lengths.
-use Rattle.std.proofs.Common.{◌≡◌, ◌-◌, ap, sym, ◌∙◌, refl, arith, length}
+use Rattle.std.proofs.Common.{◌≡◌, ◌-◌, ap, sym, ◌∙◌, refl, arith}
 use Rattle.std.proofs.lemmas.Bool.{false≢true}
 use Rattle.cox_base.specs.Matrix.{IsWord}
 use Rattle.cox_base.specs.IntegerMatrix.{integer_matrix}
-use Rattle.cox_base.specs.ShortLex.{normal_form}
 use Rattle.cox_poly.specs.Coefficients.{Coefficients}
 use Rattle.cox_reflect.proofs.Admissible.{IsAdmissible-integer_matrix}
 use Rattle.cox_reflect.proofs.Bruhat.{below-form}

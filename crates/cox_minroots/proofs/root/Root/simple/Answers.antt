@@ -1,3 +1,4 @@
+-- A simple root has 1 at its letter, and 0 elsewhere.
 use Rattle.cox_base.specs.declared.limits.TheConstants.{MAX_RANK}
 use Rattle.cox_minroots.proofs.CoordinateLemmas.{simple-coordinates, simple-coordinates_small}
 use Rattle.cox_minroots.proofs.root.Root.simple.Goals as goal

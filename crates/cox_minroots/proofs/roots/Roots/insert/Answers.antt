@@ -1,3 +1,4 @@
+-- A root that is new stands last.
 use Rattle.cox_minroots.proofs.RootKeys.{inserted}
 use Rattle.cox_minroots.proofs.roots.Roots.insert.Goals as goal
 

@@ -1,3 +1,4 @@
+-- The number of a root is its place in the list.
 use Rattle.cox_minroots.proofs.RootKeys.{number-is}
 use Rattle.cox_minroots.proofs.roots.Roots.number.Goals as goal
 

@@ -1,3 +1,4 @@
+-- What is left of y is below what is left of w exactly where y is below w.
 use Rattle.std.proofs.Common.{length}
 use Rattle.cox_base.specs.IntegerMatrix.{integer_matrix}
 use Rattle.cox_minroots.proofs.Lifting.{IsLifted}

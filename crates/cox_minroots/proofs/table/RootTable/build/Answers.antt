@@ -1,3 +1,4 @@
+-- The roots that were found are all small roots, and the moves are those of the table.
 use Rattle.std.proofs.Common.{arith}
 use Rattle.cox_base.specs.IntegerMatrix.{integer_matrix}
 use Rattle.cox_reflect.proofs.Admissible.{IsAdmissible-integer_matrix}

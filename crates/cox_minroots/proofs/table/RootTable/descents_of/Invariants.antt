@@ -1,3 +1,4 @@
+-- The right descents before s are found.
 use Rattle.std.proofs.Common.{◌≡◌, ◌-◌}
 use Rattle.cox_base.specs.IntegerMatrix.{integer_matrix}
 use Rattle.cox_minroots.proofs.FormLemmas.{descents_to}

@@ -1,3 +1,4 @@
+-- The walk over the table follows the root of s through the word, from its last letter.
 use Rattle.std.proofs.Common.{ℕ, ◌-◌, ◌+◌, ◌*◌, ◌≤◌, ◌<◌, rules, refl, arith, length, get_or}
 use Rattle.cox_base.specs.declared.limits.TheConstants.{MAX_RANK}
 use Rattle.cox_base.specs.IntegerMatrix.{integer_matrix}

@@ -1,3 +1,4 @@
+-- The walk so far.
 use Rattle.cox_base.specs.IntegerMatrix.{integer_matrix}
 use Rattle.cox_minroots.proofs.Walks.{IsWalk}
 use Rattle.cox_minroots.proofs.table.RootTable.exchanged.Given as goal

@@ -1,3 +1,4 @@
+-- The normal form begins with the letters so far.
 use Rattle.std.proofs.Common.{length}
 use Rattle.cox_base.specs.IntegerMatrix.{integer_matrix}
 use Rattle.cox_minroots.proofs.FormLemmas.{IsBegun}

@@ -1,3 +1,4 @@
+-- The word is read backward, or its inverse is taken twice.
 use Rattle.std.proofs.Common.{reverse, ◌∙◌}
 use Rattle.cox_base.specs.IntegerMatrix.{integer_matrix}
 use Rattle.cox_reflect.proofs.Admissible.{IsAdmissible-integer_matrix}

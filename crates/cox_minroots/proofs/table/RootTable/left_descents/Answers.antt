@@ -1,3 +1,4 @@
+-- The right descents of the inverse.
 use Rattle.std.proofs.Common.{◌∙◌}
 use Rattle.cox_base.specs.IntegerMatrix.{integer_matrix}
 use Rattle.cox_reflect.proofs.Admissible.{IsAdmissible-integer_matrix}

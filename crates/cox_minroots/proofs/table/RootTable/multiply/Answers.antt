@@ -1,3 +1,4 @@
+-- The letter is exchanged or put in.
 use Rattle.cox_base.specs.IntegerMatrix.{integer_matrix}
 use Rattle.cox_reflect.proofs.Admissible.{IsAdmissible-integer_matrix}
 use Rattle.cox_minroots.proofs.ProductLemmas.{reduced-remove, word-remove}

@@ -1,3 +1,4 @@
+-- A reduced word of the inverse gives the normal form, letter by letter.
 use Rattle.std.proofs.Common.{reverse, ◌∙◌}
 use Rattle.cox_base.specs.IntegerMatrix.{integer_matrix}
 use Rattle.cox_reflect.proofs.Admissible.{IsAdmissible-integer_matrix}

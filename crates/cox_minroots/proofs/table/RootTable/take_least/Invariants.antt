@@ -1,3 +1,4 @@
+-- No letter before s is a right descent.
 use Rattle.std.proofs.Common.{ℕ, ◌≡◌, ◌<◌, ◌≤◌}
 use Rattle.cox_base.specs.IntegerMatrix.{integer_matrix}
 use Rattle.cox_base.specs.Reduced.{IsRightDescent}

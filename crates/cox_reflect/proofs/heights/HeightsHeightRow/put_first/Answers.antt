@@ -1,5 +1,5 @@
 -- Each turn replaces one height; after the last one all are those of s u. A test fails only where a number does not fit.
-use Rattle.std.proofs.Common.{ℤ, ◌*◌, ◌^◌, ◌<◌, ◌≤◌, ◌-ℤ◌, ◌*ℤ◌, nat_abs, ap, ◌∙◌, ◌-◌, arith, rules, lit<, lit≤}
+use Rattle.std.proofs.Common.{ℤ, ◌*◌, ◌^◌, ◌<◌, ◌-ℤ◌, ◌*ℤ◌, nat_abs, ap, ◌∙◌, ◌-◌, arith, rules, lit<, lit≤}
 use Rattle.std.proofs.lemmas.Int.{to_z-of_z}
 use Rattle.std.proofs.lemmas.List.{length-set}
 use mir.Syntax.{w64}

@@ -1,5 +1,4 @@
 -- The heights tell descents.
-use Rattle.std.proofs.Common.{◌∷◌}
 use Rattle.cox_base.specs.IntegerMatrix.{integer_matrix}
 use Rattle.cox_reflect.proofs.Admissible.{IsAdmissible-integer_matrix}
 use Rattle.cox_rpoly.proofs.elements.HeightsElement.is_shortened.Goals as goal

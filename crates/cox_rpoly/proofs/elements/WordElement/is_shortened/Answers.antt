@@ -1,9 +1,7 @@
 -- The letter is in the list of descents exactly where it is one.
-use Rattle.std.proofs.Common.{arith, ◌∙◌}
+use Rattle.std.proofs.Common.{arith}
 use Rattle.cox_base.specs.IntegerMatrix.{integer_matrix}
 use Rattle.cox_reflect.proofs.Admissible.{IsAdmissible-integer_matrix}
-use Rattle.cox_reflect.proofs.Elements.{same-sym}
-use Rattle.cox_rpoly.specs.ElementLaws.{same_descents_by_form}
 use Rattle.cox_rpoly.proofs.FormElements.{found-descent, form-word, form-length, form-descents}
 use Rattle.cox_rpoly.proofs.elements.WordElement.is_shortened.Goals as goal
 

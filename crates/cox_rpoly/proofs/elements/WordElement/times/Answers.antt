@@ -1,9 +1,8 @@
 -- An element as long as the word above it is that word's; any other leaves room for one letter more.
-use Rattle.std.proofs.Common.{arith, ◌∙◌, ◌≡◌, length}
+use Rattle.std.proofs.Common.{arith}
 use Rattle.std.proofs.lemmas.List.Elements.{All-cons}
 use Rattle.cox_base.specs.Matrix.{IsLetter, IsWord}
 use Rattle.cox_base.specs.IntegerMatrix.{integer_matrix}
-use Rattle.cox_base.specs.ShortLex.{normal_form}
 use Rattle.cox_reflect.proofs.Admissible.{IsAdmissible-integer_matrix}
 use Rattle.cox_rpoly.proofs.FormElements.{form-word, form-times, form-top}
 use Rattle.cox_rpoly.proofs.elements.WordElement.times.Goals as goal

@@ -1,7 +1,0 @@
-use Rattle.std.proofs.Common.{map}
-use Rattle.cox_base.specs.IntegerMatrix.{integer_matrix}
-use Rattle.cox_minroots.proofs.ProductLemmas.{IsMultiplied}
-use Rattle.cox_minroots.proofs.table.RootTable.multiply_inverse.Given as goal
-
-abbrev pub invariant-loop-s : goal.invariant-loop-s
-invariant-loop-s l = IsMultiplied (integer_matrix l.fn.self) l.fn.v.items (map (λ x. x.now) l.yielded) l.v.items
