@@ -13,7 +13,7 @@ use Rattle.cox_reflect.proofs.Search.{normal_form-same, normal_form-equal}
 use Rattle.cox_context.specs.Members.{IsElement}
 use Rattle.cox_context.specs.Closed.{IsClosed}
 use Rattle.cox_context.specs.Numbers.{word_at, IsNumberOf}
-use Rattle.cox_context.specs.Shifts.{entry, AreRightShifts}
+use Rattle.cox_context.specs.Shifts.{entry, number_of, AreRightShifts}
 use Rattle.cox_context.proofs.ListLemmas.{contains-at, rising-length}
 use Rattle.cox_context.proofs.Ideals.{element-tail, below-tail}
 use Rattle.cox_context.proofs.Places.{place-one, entry-old, entry-new}
@@ -105,9 +105,9 @@ module _ (A : IntegerMatrix) (g : IsAdmissible A) (words : List (List ℕ)) (clo
   right-start = record { shift = λ s i l m k. absurd (omega (arith, k)) }
 
   -- one more entry
-  pub right-push : (table : List (Option ℕ)) (s i : ℕ) (x : Option ℕ) → AreRightShifts A words table → IsLetter A.rank s
+  pub right-push : (table : List ℕ) (s i : ℕ) (x : ℕ) → AreRightShifts A words table → IsLetter A.rank s
       → length table ≡ i * A.rank + (s - 1)
-      → IsNumberOf words (normal_form A (word_at words i ++ s ∷ [])) x → AreRightShifts A words (table ++ x ∷ [])
+      → IsNumberOf words (normal_form A (word_at words i ++ s ∷ [])) (number_of x) → AreRightShifts A words (table ++ x ∷ [])
   right-push table s i x h letter size n = record { shift = λ t j l m k. go t j l m k (cases_lt (j * A.rank + (t - 1)) (length table)) }
     where
       go : (t j : ℕ) → IsLetter A.rank t → j < length words → j * A.rank + (t - 1) < length (table ++ x ∷ [])
