@@ -20,8 +20,16 @@ pub mod Places
 pub mod Shifting
 -- two letters in turn behind an element
 pub mod Rounds
+-- the row of a new member
+pub mod RowLemmas
 -- walks of members by two letters in turn
 pub mod LowerLemmas
+-- new elements below the top
+pub mod LiftingLemmas
+-- sets of letters
+pub mod SetLemmas
+-- Bruhat order and descents of members, by their left shifts
+pub mod BelowLemmas
 -- the table of right shifts
 pub mod RightShifts
 -- lists in ShortLex order

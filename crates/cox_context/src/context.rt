@@ -160,8 +160,10 @@ impl Context {
         ensures { IsNumberOf self.now.members word.now.items result }
     {
         let rank = self.group.rank();
+        let letters = word.as_slice();
         let mut at = 0;
-        for &s in word.as_slice().iter().rev() {
+        for done in 0..letters.len() {
+            let s = letters[letters.len() - 1 - done];
             if s == 0 || s as u32 > rank {
                 return None;
             }

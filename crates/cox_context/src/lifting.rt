@@ -1,7 +1,7 @@
 //! Whether an element y that is not among the members yet is below the top of an interval, by the shorter elements t y.
-ghost use Rattle.std.specs.Prelude.{◌≡◌, ℕ, List, ◌≤◌, ◌↔◌, IsTrue, length, Contains};
+ghost use Rattle.std.specs.Prelude.{◌≡◌, ℕ, List, ◌<◌, ◌≤◌, ◌↔◌, IsTrue, length, Contains};
 ghost use Rattle.arrayvec.specs.ArrayVec.{ArrayVec};
-ghost use Rattle.cox_base.specs.Matrix.{IsWord};
+ghost use Rattle.cox_base.specs.Matrix.{IsLetter, IsWord};
 ghost use Rattle.cox_base.specs.Admissible.{IsCoxeterMatrix};
 ghost use Rattle.cox_base.specs.IntegerMatrix.{integer_matrix};
 ghost use Rattle.cox_base.specs.Reduced.{IsReduced, IsLeftDescent};
@@ -24,6 +24,7 @@ pub(crate) fn is_below_top(family: &Family, members: &Members, left: &[u32], low
     requires left { AreLeftShifts (integer_matrix family.now.group) members.now left.now }
     requires below { AreBelowTop (integer_matrix family.now.group) family.now.top members.now }
     requires size { family.now.group.rank ≤ length lower.now }
+    requires inside { (t k : ℕ) → IsLetter family.now.group.rank t → entry family.now.group.rank lower.now t 0 ≡ Some k → k < length members.now }
     ensures { (y : List ℕ) (s : ℕ) → IsLeftDescent (integer_matrix family.now.group) y s → AreLower (integer_matrix family.now.group) members.now y lower.now
         → (IsTrue result ↔ IsBelowTop (integer_matrix family.now.group) family.now.top y) }
 {
@@ -57,6 +58,7 @@ fn lifts(g: &Coxeter, members: &Members, left: &[u32], lower: &[u32], top: &Word
     requires closed { IsClosed (integer_matrix g.now) members.now }
     requires left { AreLeftShifts (integer_matrix g.now) members.now left.now }
     requires size { g.now.rank ≤ length lower.now }
+    requires inside { (t k : ℕ) → IsLetter g.now.rank t → entry g.now.rank lower.now t 0 ≡ Some k → k < length members.now }
     requires letters { IsWord g.now.rank top.now.items }
     requires reduced { IsReduced (integer_matrix g.now) top.now.items }
     ensures { (y : List ℕ) (s : ℕ) → IsLeftDescent (integer_matrix g.now) y s → AreLower (integer_matrix g.now) members.now y lower.now
