@@ -153,23 +153,23 @@ module _ (A : IntegerMatrix) (g : IsAdmissible A) (words : List (List ℕ)) (clo
           in lower-right_descent (b + 1) i (entry A.rank table (b + 1) i) letter l
           (h.shift (b + 1) i letter l (rw size (place-within A.rank (length words) i (b + 1) letter l)))
 
-  -- the letters of a set that has the descents
-  pub left-letters : (w : List ℕ) (set : ℕ) → ((k : ℕ) → IsBitSet set k ↔ IsLeftDescent A w (k + 1))
-      → filter (has_letter set) (letters A.rank) ≡ left_descents A w
-  left-letters w set h = sym (left_descents-by A w (has_letter set) (λ s m. at s m))
-    where
-      at : (s : ℕ) → IsLetter A.rank s → (has_letter set s ≡ true) ↔ IsLeftDescent A w s
-      at s m =
-          let e : s - 1 + 1 ≡ s = omega (arith, m.from_one)
-          in let b : IsBitSet set (s - 1) ↔ IsLeftDescent A w s = rw e at (h (s - 1))
-          in (λ t. b.0 ((has_letter-bit set s).0 t), λ d. (has_letter-bit set s).1 (b.1 d))
+-- the letters of a set that has the descents
+pub left-letters : (A : IntegerMatrix) (w : List ℕ) (set : ℕ) → ((k : ℕ) → IsBitSet set k ↔ IsLeftDescent A w (k + 1))
+    → filter (has_letter set) (letters A.rank) ≡ left_descents A w
+left-letters A w set h = sym (left_descents-by A w (has_letter set) (λ s m. at s m))
+  where
+    at : (s : ℕ) → IsLetter A.rank s → (has_letter set s ≡ true) ↔ IsLeftDescent A w s
+    at s m =
+        let e : s - 1 + 1 ≡ s = omega (arith, m.from_one)
+        in let b : IsBitSet set (s - 1) ↔ IsLeftDescent A w s = rw e at (h (s - 1))
+        in (λ t. b.0 ((has_letter-bit set s).0 t), λ d. (has_letter-bit set s).1 (b.1 d))
 
-  pub right-letters : (w : List ℕ) (set : ℕ) → ((k : ℕ) → IsBitSet set k ↔ IsRightDescent A w (k + 1))
-      → filter (has_letter set) (letters A.rank) ≡ right_descents A w
-  right-letters w set h = sym (right_descents-by A w (has_letter set) (λ s m. at s m))
-    where
-      at : (s : ℕ) → IsLetter A.rank s → (has_letter set s ≡ true) ↔ IsRightDescent A w s
-      at s m =
-          let e : s - 1 + 1 ≡ s = omega (arith, m.from_one)
-          in let b : IsBitSet set (s - 1) ↔ IsRightDescent A w s = rw e at (h (s - 1))
-          in (λ t. b.0 ((has_letter-bit set s).0 t), λ d. (has_letter-bit set s).1 (b.1 d))
+pub right-letters : (A : IntegerMatrix) (w : List ℕ) (set : ℕ) → ((k : ℕ) → IsBitSet set k ↔ IsRightDescent A w (k + 1))
+    → filter (has_letter set) (letters A.rank) ≡ right_descents A w
+right-letters A w set h = sym (right_descents-by A w (has_letter set) (λ s m. at s m))
+  where
+    at : (s : ℕ) → IsLetter A.rank s → (has_letter set s ≡ true) ↔ IsRightDescent A w s
+    at s m =
+        let e : s - 1 + 1 ≡ s = omega (arith, m.from_one)
+        in let b : IsBitSet set (s - 1) ↔ IsRightDescent A w s = rw e at (h (s - 1))
+        in (λ t. b.0 ((has_letter-bit set s).0 t), λ d. (has_letter-bit set s).1 (b.1 d))

@@ -1,22 +1,28 @@
 -- Whether a new element is below the top: by a letter that shortens both, or along the word of the top.
 use Rattle.std.proofs.Common.{◌≡◌, ℕ, ◌<◌, ◌≤◌, Bool, true, List, [], ◌∷◌, length, Contains, Option, None, Some, ◌↔◌, IsTrue, refl, ap, sym, ◌∙◌, arith}
-use Rattle.std.proofs.Common.{is_some}
+use Rattle.std.proofs.Common.{get_or, eqb-true, eqb}
+use Rattle.std.specs.Option.{option_eq, option_or}
+use Rattle.std.proofs.lemmas.Bool.{eq-eqb}
+use Rattle.std.proofs.lemmas.List.{get_or_default}
 use Rattle.arrayvec.specs.ArrayVec.{ArrayVec}
-use Rattle.cox_base.specs.Matrix.{IsLetter}
+use Rattle.cox_base.specs.Matrix.{IsWord}
 use Rattle.cox_base.specs.IntegerMatrix.{IntegerMatrix}
 use Rattle.cox_base.specs.Admissible.{IsAdmissible}
 use Rattle.cox_base.specs.ShortLex.{normal_form}
+use Rattle.cox_base.specs.Length.{left_descents}
 use Rattle.cox_base.specs.Reduced.{IsReduced, IsLeftDescent}
 use Rattle.cox_base.specs.Bruhat.{IsBelow}
 use Rattle.cox_reflect.proofs.Elements.{same-refl, same-sym, same-trans, same-cons, same-square, same-equal}
 use Rattle.cox_reflect.proofs.Search.{normal_form-same, word_length-length}
 use Rattle.cox_reflect.proofs.Bruhat.{below-same, below-refl, below-cons, below-length, lift_down, lift_up}
+use Rattle.cox_reflect.proofs.Roots.{left_descent-letter}
 use Rattle.cox_reflect.proofs.OrderLemmas.{first-descent, below-drop}
 use Rattle.cox_context.specs.Closed.{IsClosed}
 use Rattle.cox_context.specs.Numbers.{word_at}
 use Rattle.cox_context.specs.Shifts.{entry, IsLower}
-use Rattle.cox_context.specs.Growth.{AreLower}
+use Rattle.cox_context.specs.Growth.{AreLower, AreBelowTop, left_word}
 use Rattle.cox_context.proofs.ListLemmas.{rising-place}
+use Rattle.cox_context.proofs.Ideals.{contained-descent}
 use Rattle.cox_context.proofs.Shifting.{length-at, first-member}
 
 -- y ≤ w is settled by what is left of y, which is y itself or a member, and by what is left of the word of w
@@ -24,15 +30,11 @@ abbrev pub IsLeft : IntegerMatrix → List (List ℕ) → List ℕ → List ℕ 
 IsLeft A words y w rest None = IsBelow A y w ↔ IsBelow A y rest
 IsLeft A words y w rest (Some i) = (i < length words) × (IsBelow A y w ↔ IsBelow A (word_at words i) rest)
 
--- what is left of y
-abbrev pub left_word : List (List ℕ) → List ℕ → Option ℕ → List ℕ
-left_word words y None = y
-left_word words y (Some i) = word_at words i
-
--- what is left next: the shift, if there is one
-abbrev pub later : Option ℕ → Option ℕ → Option ℕ
-later at None = at
-later at (Some k) = Some k
+-- a comparison with Some n
+option_tells : (at : Option ℕ) (n : ℕ) → (option_eq eqb at (Some n) ≡ true) ↔ (at ≡ Some n)
+option_tells None n = (λ e. absurd (cc), λ e. absurd (cc))
+option_tells (Some i) n =
+    (λ e. ap (λ (k : ℕ). Some k) (eqb-true i n e), λ e. let q : i ≡ n = cc in eq-eqb i n q)
 
 module _ (A : IntegerMatrix) (g : IsAdmissible A) (words : List (List ℕ)) where
   -- t shortens x: it is taken off both
@@ -57,7 +59,7 @@ module _ (A : IntegerMatrix) (g : IsAdmissible A) (words : List (List ℕ)) wher
 
   -- the letter t of the word of w, and the shift by it
   pub left-next : (y w rest v : List ℕ) (t : ℕ) (at shorter : Option ℕ) → rest ≡ t ∷ v → IsReduced A rest → IsLeft A words y w rest at
-      → IsLower A words (left_word words y at) t shorter → IsLeft A words y w v (later at shorter)
+      → IsLower A words (left_word words y at) t shorter → IsLeft A words y w v (option_or shorter at)
   left-next y w rest v t None None e r h none =
       let step = lift-by y t v (rw e at r) none in let old = rw e at h in (λ b. step.0 (old.0 b), λ b. old.1 (step.1 b))
   left-next y w rest v t None (Some k) e r h some =
@@ -99,3 +101,24 @@ module _ (A : IntegerMatrix) (g : IsAdmissible A) (words : List (List ℕ)) wher
   shared-below y w t k d (e, inside, is) b =
       below-same A g (same-trans A g (same-cons A g t (same-trans A g (same-equal A g is) (normal_form-same A g (t ∷ y)))) (same-square A g t y))
       (same-refl A g w) (below-cons A g (word_at words k) w t d b)
+
+  -- a letter of the top's descents with an entry
+  pub shared : (y descents lower : List ℕ) (top : ArrayVec ℕ) → IsAdmissible A → AreLower A words y lower → descents ≡ left_descents A top.items
+      → AreBelowTop A (Some top) words → (t : ℕ) × (k : ℕ) × Contains descents t × (entry A.rank lower t 0 ≡ Some k) → IsBelow A y top.items
+  shared y descents lower top g h e below (t, k, c, some) =
+      let d : IsLeftDescent A top.items t = contained-descent A g top.items t (rw e at c)
+      in let found : IsLower A words y t (Some k) = rw some at (h.each t (left_descent-letter A g top.items t d))
+      in shared-below y top.items t k d found (below k found.1)
+
+  -- the comparison at the end
+  pub left-answer : (y w rest : List ℕ) (s : ℕ) (at : Option ℕ) (answer : Bool) → answer ≡ option_eq eqb at (Some 0) → IsClosed A words
+      → IsLeftDescent A y s → rest ≡ [] → IsLeft A words y w rest at → IsTrue answer ↔ IsBelow A y w
+  left-answer y w rest s at answer q closed d e h =
+      let end = left-end y w rest s at closed d e h
+      in (λ yes. end.0 ((option_tells at 0).0 (sym q ∙ yes)), λ b. q ∙ (option_tells at 0).1 (end.1 b))
+
+-- descents are letters
+pub descents-word : (A : IntegerMatrix) → IsAdmissible A → (w : List ℕ) → IsWord A.rank (left_descents A w)
+descents-word A g w k d l =
+    left_descent-letter A g w (get_or (left_descents A w) k d)
+    (contained-descent A g w (get_or (left_descents A w) k d) (k, l, get_or_default (left_descents A w) k _ d l))

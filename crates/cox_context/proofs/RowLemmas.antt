@@ -22,7 +22,7 @@ use Rattle.cox_context.proofs.Shifting.{element-at}
 use Rattle.cox_context.proofs.Ideals.{element-length}
 use Rattle.cox_base.specs.Length.{word_length}
 use Rattle.cox_reflect.proofs.Elements.{same-sym, same-trans, same-equal, same-cons, same-square}
-use Rattle.cox_reflect.proofs.Search.{normal_form-same, normal_form-equal}
+use Rattle.cox_reflect.proofs.Search.{normal_form-same, normal_form-equal, word_length-length}
 use Rattle.cox_reflect.proofs.Lengths.{word_length-is}
 use Rattle.cox_reflect.proofs.Deletion.{left_length}
 use Rattle.cox_context.proofs.Places.{place-within, place-one, entry-is, entry-set_same, entry-set_other, entry-old, entry-new, number_of-some}
@@ -78,6 +78,10 @@ module _ (A : IntegerMatrix) (words : List (List ℕ)) (y : List ℕ) where
 
   pub lower-end : (t : ℕ) (lower : List ℕ) → A.rank < t → AreLowerBefore A words y t lower → AreLower A words y lower
   lower-end t lower all h = record { size = h.size; each = λ q l. h.each q l (omega (arith, l.to_rank, all)) }
+
+-- the entry of a row alone, as a number
+pub row-entry : (rank : ℕ) (lower : List ℕ) (t : ℕ) → number_of (get_or lower (t - 1) 0) ≡ entry rank lower t 0
+row-entry rank lower t = let e : 0 * rank + (t - 1) ≡ t - 1 = omega arith in rw e at (entry-is rank lower t 0)
 
 -- ---- the row of the member n, letter by letter
 
@@ -258,3 +262,23 @@ module _ (A : IntegerMatrix) (g : IsAdmissible A) (words : List (List ℕ)) (y :
       shift = λ t j l m. ⊎_elim (λ (below : j < length words). at_old t j (entry A.rank lower t 0) refl l below)
           (λ (above : length words ≤ j). at_new t j l (omega (arith, above, m, more))) (cases_lt j (length words));
     }
+
+-- ---- the identity alone
+
+pub shifts-start : (A : IntegerMatrix) → IsAdmissible A → AreLeftShifts A ([] ∷ []) (replicate A.rank NO_MEMBER)
+shifts-start A g = record {
+  size = omega (arith, length-replicate {A = ℕ} A.rank NO_MEMBER);
+  shift = λ s i l m. let e : i ≡ 0 = omega (arith, m) in rw (e, none s l) (λ c. absent s l c);
+}
+  where
+    none : (s : ℕ) → IsLetter A.rank s → entry A.rank (replicate A.rank NO_MEMBER) s 0 ≡ None
+    none s l = sym (entry-is A.rank (replicate A.rank NO_MEMBER) s 0)
+        ∙ number_of-none _ (get_or-replicate A.rank (0 * A.rank + (s - 1)) NO_MEMBER 0 (omega (arith, l.from_one, l.to_rank)))
+
+    absent : (s : ℕ) → IsLetter A.rank s → Contains ([] ∷ []) (normal_form A (s ∷ [])) → ⊥
+    absent s l c =
+        let p = contains-placed ([] ∷ []) (normal_form A (s ∷ [])) c
+        in let first : p.i ≡ 0 = omega (arith, p.within)
+        in let is : [] ≡ normal_form A (s ∷ []) = rw first at p.is
+        in ⊎_elim (λ longer. omega (arith, longer, word_length-is A (s ∷ []), ap length is))
+        (λ shorter. omega (arith, shorter, word_length-length A g [])) (left_length A g s [] l)

@@ -1,10 +1,11 @@
 -- Sets of letters by bits.
-use Rattle.std.proofs.Common.{◌≡◌, ℕ, ◌+◌, ◌-◌, ◌≤◌, ◌<◌, ◌^◌, ◌⊎◌, Bool, true, false, List, [], ◌∷◌, ◌++◌, length, filter, refl, sym, ◌∙◌, ap, arith}
+use Rattle.std.proofs.Common.{◌≡◌, ℕ, ◌+◌, ◌-◌, ◌≤◌, ◌<◌, ◌^◌, ◌*◌, ◌%◌, ◌⊎◌, Bool, true, false, List, [], ◌∷◌, ◌++◌, length, filter, refl, sym, ◌∙◌, ap, arith}
 use Rattle.std.proofs.Common.{if◌then◌else◌, ◌↔◌, bit_and, bit_or, IsBitSet, ⊎_elim, inl, inr, ◌/◌, get_or, length-append}
 use Rattle.std.specs.List.{range_with_len}
-use Rattle.std.proofs.lemmas.Bool.{cases_lt, cases_eq, eqb-true, eq-eqb}
+use Rattle.std.proofs.lemmas.Bool.{cases_lt, cases_eq, eqb-true, eq-eqb, ne_eqb}
 use Rattle.std.proofs.lemmas.Nat.{and_or_self, and_or_apart, pow_apart, bit_set_by_shift}
 use Rattle.std.proofs.lemmas.Nat.{pow_pos}
+use Rattle.std.proofs.Math.Pow.{pow-lt}
 use Rattle.std.proofs.lemmas.List.{get_or_append_left}
 use Rattle.std.proofs.Math.Seq.{get_or-append_seam}
 use Rattle.cox_lemmas.proofs.RangeFilters.{filter_range-yes, filter_range-no, length-filter_range}
@@ -24,6 +25,10 @@ bit-other : (n k j : ℕ) → (j ≡ k → ⊥) → IsBitSet (bit_or n (2 ^ k)) 
 bit-other n k j ne =
     let e = and_or_apart (2 ^ j) n (2 ^ k) (pow_apart k j (λ q. ne (sym q)))
     in (λ b z. b (e ∙ z), λ b z. b (sym e ∙ z))
+
+-- a bit that is written, as the machine shifts it
+pub bit-shifted : (k : ℕ) → k < 16 → (1 * 2 ^ k) % 65536 ≡ 2 ^ k
+bit-shifted k l = let less : 2 ^ k < 65536 = pow-lt {i = k} {j = 16} l in omega (arith, less)
 
 pub set-start : (rank : ℕ) (table : List ℕ) (i : ℕ) → IsLoweringSet rank table i 1 0
 set-start rank table i = record { bit = λ k. (λ b. absurd (bit-empty k b), λ p. absurd (omega (arith, p.0))) }
@@ -109,3 +114,11 @@ pub has_letter-bit : (set s : ℕ) → (has_letter set s ≡ true) ↔ IsBitSet 
 unfolding has_letter
 has_letter-bit set s =
     let b = bit_set_by_shift set (s - 1) in (λ e. b.0 (eqb-true _ _ e), λ e. eq-eqb _ _ (b.1 e))
+
+pub has_letter-read : (set s : ℕ) → bit_and (set / 2 ^ (s - 1)) 1 ≡ 1 → has_letter set s ≡ true
+unfolding has_letter
+has_letter-read set s e = eq-eqb _ _ e
+
+pub has_letter-unread : (set s : ℕ) → (bit_and (set / 2 ^ (s - 1)) 1 ≡ 1 → ⊥) → has_letter set s ≡ false
+unfolding has_letter
+has_letter-unread set s ne = ne_eqb _ _ ne

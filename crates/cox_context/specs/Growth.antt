@@ -1,6 +1,6 @@
 -- A list of members as it grows by length: the members of the next length are the s x for s = 1, 2, .. and for each s the members
 -- x of this length, in order.
-use Rattle.std.specs.Prelude.{◌≡◌, ◌⊎◌, ℕ, ◌+◌, ◌<◌, ◌≤◌, List, ◌∷◌, length, Contains, Option}
+use Rattle.std.specs.Prelude.{◌≡◌, ◌⊎◌, ℕ, ◌+◌, ◌<◌, ◌≤◌, List, ◌∷◌, length, Contains, Option, None, Some}
 use Rattle.arrayvec.specs.ArrayVec.{ArrayVec}
 use Rattle.cox_base.specs.Matrix.{IsLetter}
 use Rattle.cox_base.specs.IntegerMatrix.{IntegerMatrix}
@@ -76,3 +76,8 @@ pub data IsNoNext (A : IntegerMatrix) (words : List (List ℕ)) (top : Option (A
 -- the words of a list are below the top
 abbrev pub AreBelowTop : IntegerMatrix → Option (ArrayVec ℕ) → List (List ℕ) → Type 0
 AreBelowTop A top words = (i : ℕ) → i < length words → IsBelowTop A top (word_at words i)
+
+-- what is left of y: y itself, or the member with a number
+abbrev pub left_word : List (List ℕ) → List ℕ → Option ℕ → List ℕ
+left_word words y None = y
+left_word words y (Some i) = word_at words i

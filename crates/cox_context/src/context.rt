@@ -18,7 +18,7 @@ use crate::ContextFault;
 use crate::builder::Builder;
 use crate::descents::{letters_of, lowering_sets};
 use crate::family::Family;
-use crate::members::{MAX_MEMBERS, Members};
+use crate::members::{Link, MAX_MEMBERS, Members};
 use crate::right_shifts::right_shifts;
 use crate::shifts::entry;
 use cox_base::{Coxeter, MAX_LETTERS, Word};
@@ -159,7 +159,8 @@ impl Context {
     pub fn number(&self, word: &Word) -> Option<u32>
         ensures { IsNumberOf self.now.members word.now.items result }
     {
-        let rank = self.group.rank();
+        prove!(self.len() > 0);
+        let rank = self.matrix().rank();
         let letters = word.as_slice();
         let mut at = 0;
         for done in 0..letters.len() {
@@ -171,8 +172,7 @@ impl Context {
             if longer <= at {
                 return None;
             }
-            let link = self.members.link(longer);
-            if link.first != s {
+            if self.link(longer).first != s {
                 return None;
             }
             at = longer;
@@ -186,6 +186,16 @@ impl Context {
         ensures { result.items ≡ word_at self.now.members i }
     {
         self.members.word(i)
+    }
+
+    /// The first letter of a member other than the identity, and the number of the rest.
+    fn link(&self, i: u32) -> Link
+        requires some { 0 < i }
+        requires member { i < length self.now.members }
+        ensures word { word_at self.now.members i ≡ result.first ∷ word_at self.now.members result.rest }
+        ensures inward { result.rest < i }
+    {
+        self.members.link(i)
     }
 
     /// The number of s x for the member x with the number i; `None` exactly where s x is no member.
@@ -222,10 +232,11 @@ impl Context {
         requires j { j < length self.now.members }
         ensures { IsTrue result ↔ IsBelow (integer_matrix self.now.matrix) (word_at self.now.members i) (word_at self.now.members j) }
     {
+        prove!(self.len() > 0);
         let mut rest = i;
         let mut upper = j;
         while upper > 0 {
-            let link = self.members.link(upper);
+            let link = self.link(upper);
             if let Some(k) = self.left(link.first, rest) {
                 rest = rest.min(k);
             }

@@ -1,5 +1,5 @@
 //! Whether an element y that is not among the members yet is below the top of an interval, by the shorter elements t y.
-ghost use Rattle.std.specs.Prelude.{◌≡◌, ℕ, List, ◌<◌, ◌≤◌, ◌↔◌, IsTrue, length, Contains};
+ghost use Rattle.std.specs.Prelude.{◌≡◌, ℕ, List, ◌<◌, ◌≤◌, ◌↔◌, IsTrue, IfSome, length, Contains};
 ghost use Rattle.arrayvec.specs.ArrayVec.{ArrayVec};
 ghost use Rattle.cox_base.specs.Matrix.{IsLetter, IsWord};
 ghost use Rattle.cox_base.specs.Admissible.{IsCoxeterMatrix};
@@ -7,8 +7,8 @@ ghost use Rattle.cox_base.specs.IntegerMatrix.{integer_matrix};
 ghost use Rattle.cox_base.specs.Reduced.{IsReduced, IsLeftDescent};
 ghost use Rattle.cox_base.specs.Bruhat.{IsBelow};
 ghost use Rattle.cox_context.specs.Closed.{IsClosed};
-ghost use Rattle.cox_context.specs.Shifts.{entry, AreLeftShifts};
-ghost use Rattle.cox_context.specs.Growth.{AreLower, AreBelowTop};
+ghost use Rattle.cox_context.specs.Shifts.{entry, AreLeftShifts, IsLower};
+ghost use Rattle.cox_context.specs.Growth.{AreLower, AreBelowTop, left_word};
 ghost use Rattle.cox_context.specs.Family.{IsTop, IsBelowTop};
 
 use crate::family::Family;
@@ -64,16 +64,35 @@ fn lifts(g: &Coxeter, members: &Members, left: &[u32], lower: &[u32], top: &Word
     ensures { (y : List ℕ) (s : ℕ) → IsLeftDescent (integer_matrix g.now) y s → AreLower (integer_matrix g.now) members.now y lower.now
         → (IsTrue result ↔ IsBelow (integer_matrix g.now) y top.now.items) }
 {
-    let rank = g.rank();
     let mut at = None;
     for &t in top.as_slice() {
-        let shorter = match at {
-            None => entry(lower, rank, t, 0),
-            Some(i) => lower_shift(g, members, left, t, i),
-        };
-        if shorter.is_some() {
-            at = shorter;
-        }
+        at = shorter_left(g, members, left, lower, at, t).or(at);
     }
     at == Some(0)
+}
+
+/// The number of what is left of y after t is taken off, where t shortens it; y itself is left where no member is given.
+fn shorter_left(
+    g: &Coxeter,
+    members: &Members,
+    left: &[u32],
+    lower: &[u32],
+    at: Option<u32>,
+    t: u8,
+) -> Option<u32>
+    requires matrix { IsCoxeterMatrix g.now }
+    requires closed { IsClosed (integer_matrix g.now) members.now }
+    requires left { AreLeftShifts (integer_matrix g.now) members.now left.now }
+    requires size { g.now.rank ≤ length lower.now }
+    requires inside { (t k : ℕ) → IsLetter g.now.rank t → entry g.now.rank lower.now t 0 ≡ Some k → k < length members.now }
+    requires member { IfSome at (λ i. i < length members.now) }
+    requires letter { IsLetter g.now.rank t }
+    ensures lower { (y : List ℕ) → AreLower (integer_matrix g.now) members.now y lower.now
+        → IsLower (integer_matrix g.now) members.now (left_word members.now y at) t result }
+    ensures member { IfSome result (λ k. k < length members.now) }
+{
+    match at {
+        None => entry(lower, g.rank(), t, 0),
+        Some(i) => lower_shift(g, members, left, t, i),
+    }
 }

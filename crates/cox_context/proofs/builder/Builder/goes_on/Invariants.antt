@@ -1,0 +1,11 @@
+-- Each letter is a left descent of the members from low to i.
+use Rattle.std.proofs.Common.{ℕ, ◌≤◌, ◌<◌}
+use Rattle.cox_base.specs.Matrix.{IsLetter}
+use Rattle.cox_base.specs.IntegerMatrix.{integer_matrix}
+use Rattle.cox_base.specs.Reduced.{IsLeftDescent}
+use Rattle.cox_context.specs.Numbers.{word_at}
+use Rattle.cox_context.proofs.builder.Builder.goes_on.Given as goal
+
+abbrev pub invariant-loop-i : goal.invariant-loop-i
+invariant-loop-i l = (i s : ℕ) → l.low ≤ i → i < l.i → IsLetter l.family.group.rank s
+    → IsLeftDescent (integer_matrix l.family.group) (word_at l.self.members i) s

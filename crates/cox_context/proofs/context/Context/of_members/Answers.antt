@@ -1,0 +1,25 @@
+-- The tables are those of the members, so they make a context.
+use Rattle.cox_base.specs.IntegerMatrix.{IntegerMatrix, integer_matrix}
+use Rattle.cox_base.specs.Admissible.{IsAdmissible}
+use Rattle.cox_reflect.proofs.Admissible.{IsAdmissible-integer_matrix}
+use Rattle.cox_context.proofs.BelowLemmas.{left-sets, right-sets}
+use Rattle.cox_context.proofs.context.Context.of_members.Goals as goal
+
+pub invariant_of-result : goal.invariant_of-result
+invariant_of-result c =
+    let A : IntegerMatrix = integer_matrix c.args.group
+    in let g : IsAdmissible A = IsAdmissible-integer_matrix c.args.group c.rank-rank.ensures.matrix
+    in record {
+      closed = c.requires.closed;
+      left_shifts = c.requires.left;
+      right_size = c.in-Ok.ensures.size;
+      right_shifts = c.in-Ok.ensures.shifts;
+      left_bits =
+          left-sets A g c.args.builder.members c.requires.closed c.args.builder.left.items c.in-Ok-lowering_sets.left_descents.items
+          c.requires.left
+          (rw (c.rank-rank.ensures.rank, c.len-count.ensures.len, c.as_slice-2.ensures.value) at c.in-Ok-lowering_sets.ensures);
+      right_bits =
+          right-sets A g c.args.builder.members c.requires.closed c.in-Ok.right.items
+          c.in-Ok-lowering_sets-2.right_descents.items c.in-Ok.ensures.size c.in-Ok.ensures.shifts
+          (rw (c.rank-rank.ensures.rank, c.len-count.ensures.len, c.as_slice-3.ensures.value) at c.in-Ok-lowering_sets-2.ensures);
+    }
