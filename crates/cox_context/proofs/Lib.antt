@@ -30,6 +30,8 @@ pub mod LiftingLemmas
 pub mod SetLemmas
 -- Bruhat order and descents of members, by their left shifts
 pub mod BelowLemmas
+-- the next member
+pub mod ChildLemmas
 -- the number of a word
 pub mod NumberLemmas
 -- the table of right shifts

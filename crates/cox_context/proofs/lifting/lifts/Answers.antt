@@ -28,6 +28,7 @@ loop-t-preserved c = record {
   settled = λ y lower.
       let A : IntegerMatrix = integer_matrix c.args.g.now
       in let g : IsAdmissible A = IsAdmissible-integer_matrix c.args.g.now c.requires.matrix
+      in let more : c.loop-t.t-index < length c.as_slice-t-items.result.now = c.loop-t-test.true
       in let t : ℕ = slice_index c.as_slice-t-items.result.now c.loop-t.t-index
       in let rest : drop c.loop-t.t-index c.as_slice-t-items.result.now ≡ t ∷ drop (c.loop-t.t-index + 1) c.as_slice-t-items.result.now
       = rw (add-one, drop-cons c.as_slice-t-items.result.now c.loop-t.t-index 0)
