@@ -1,5 +1,5 @@
 -- Contexts of intervals and of groups: their members are closed downwards, and what a group that goes on has.
-use Rattle.std.proofs.Common.{◌≡◌, ℕ, ◌+◌, ◌≤◌, ◌<◌, List, [], ◌∷◌, length, None, Some, Result, Ok, Err, IfErr, ap, sym, ◌∙◌, ⊎_elim}
+use Rattle.std.proofs.Common.{◌≡◌, ℕ, ◌+◌, ◌≤◌, ◌<◌, List, [], ◌∷◌, length, Contains, None, Some, Result, Ok, Err, IfErr, ap, sym, ◌∙◌, ⊎_elim}
 use Rattle.std.proofs.Common.{arith, subst}
 use Rattle.std.proofs.lemmas.Bool.{cases_lt}
 use Rattle.std.proofs.lemmas.List.Elements.{All-head}
@@ -83,6 +83,36 @@ module _ (A : IntegerMatrix) (g : IsAdmissible A) where
     some = let c = are.whole [] ideal.least in omega (arith, c.1);
     few = few;
   }
+
+  -- so are those of at most so many letters
+  pub grown-closed : (P : List ℕ → Type 0) (k low : ℕ) (words : List (List ℕ)) → IsIdeal A P → IsGrown A.rank P k low words
+      → k ≤ MAX_LETTERS → length words ≤ MAX_MEMBERS → IsClosed A words
+  grown-closed P k low words ideal h short few = record {
+    rising = h.rising;
+    element = λ word c. ideal.element word (member word c);
+    down = λ y w c e b. there y (ideal.down y w (member w c) e b) (omega (
+      arith,
+      below-length A g b,
+      element-length A g y e,
+      element-length A g w (ideal.element w (member w c)),
+      long w c,
+    ));
+    short = λ word c. omega (arith, long word c, short);
+    some = let c = there [] ideal.least (omega arith) in omega (arith, c.1);
+    few = few;
+  }
+    where
+      member : (word : List ℕ) → Contains words word → P word
+      member word c = let p = contains-placed words word c in subst P p.is (h.sound p.i p.within)
+
+      long : (word : List ℕ) → Contains words word → length word ≤ k
+      long word c =
+          let p = contains-placed words word c
+          in subst (λ (x : List ℕ). length x ≤ k) p.is
+          (grown-length A.rank P (ideal-tailed A g P ideal) k low words h p.i p.within)
+
+      there : (y : List ℕ) → P y → length y ≤ k → Contains words y
+      there y p l = let w = h.whole y p l in placed-contains words y (record { i = w.0; within = w.1; is = w.2 })
 
   interval-ideal : (top : List ℕ) → IsIdeal A (IsInInterval A top)
   interval-ideal top = ideal-member A g (Some (record { items = top }))
