@@ -1,8 +1,7 @@
 -- Bruhat order and descents of members, by their left shifts.
 use Rattle.std.proofs.Common.{◌≡◌, ℕ, ◌≤◌, ◌<◌, Bool, true, min, List, [], ◌∷◌, ◌++◌, length, ◌*◌, Option, None, Some, ◌↔◌}
-use Rattle.std.proofs.Common.{IsTrue, refl, sym, ◌∙◌, ⊎_elim, arith, ltb-true, lt-ltb}
+use Rattle.std.proofs.Common.{IsTrue, ◌+◌, ◌-◌, IsBitSet, filter, refl, sym, ◌∙◌, ⊎_elim, arith, ltb-true, lt-ltb}
 use Rattle.std.proofs.lemmas.Bool.{cases_lt}
-use Rattle.arrayvec.specs.ArrayVec.{ArrayVec}
 use Rattle.cox_base.specs.Matrix.{IsLetter}
 use Rattle.cox_base.specs.IntegerMatrix.{IntegerMatrix}
 use Rattle.cox_base.specs.Admissible.{IsAdmissible}
@@ -18,7 +17,11 @@ use Rattle.cox_reflect.proofs.OrderLemmas.{first-descent, below-drop}
 use Rattle.cox_reflect.proofs.DescentLists.{left_descents-by, right_descents-by}
 use Rattle.cox_context.specs.Closed.{IsClosed}
 use Rattle.cox_context.specs.Numbers.{word_at, IsNumberOf}
-use Rattle.cox_context.specs.Shifts.{entry, is_lower, AreLeftShifts, AreRightShifts, lowering_letters, AreLoweringLetters, AreDescents}
+use Rattle.cox_context.specs.Shifts.{entry, AreLeftShifts, AreRightShifts, AreSets}
+use Rattle.cox_context.specs.Sets.{is_lower, has_letter, AreLoweringSets}
+use Rattle.cox_context.proofs.SetLemmas.{has_letter-bit}
+use Rattle.cox_reflect.proofs.Roots.{left_descent-letter, descent-letter}
+use Rattle.cox_base.specs.ShortLex.{letters}
 use Rattle.cox_context.proofs.ListLemmas.{rising-place}
 use Rattle.cox_context.proofs.Places.{place-within}
 use Rattle.cox_context.proofs.Shifting.{length-at, first-member, shift-less, right_shift-less, descent-member, right_descent-member}
@@ -115,24 +118,58 @@ module _ (A : IntegerMatrix) (g : IsAdmissible A) (words : List (List ℕ)) (clo
       let less = right_shift-less A g words closed s i k l m within shift in (λ f. less.0 (ltb-true k i f), λ d. lt-ltb k i (less.1 d))
 
   -- the descents of the members, read off their shifts
-  pub left-lowering : (table : List (Option ℕ)) (kept : List (ArrayVec ℕ)) → AreLeftShifts A words table
-      → AreLoweringLetters A.rank table (length words) kept → AreDescents (left_descents A) words kept
-  unfolding lowering_letters
-  left-lowering table kept h k = record {
+  pub left-sets : (table sets : List ℕ) → AreLeftShifts A words table → AreLoweringSets A.rank table (length words) sets
+      → AreSets (IsLeftDescent A) words sets
+  left-sets table sets h k = record {
     size = k.size;
-    letters = λ i l. k.letters i l
-        ∙ sym (left_descents-by A (word_at words i) (λ s. is_lower i (entry A.rank table s i))
-        (λ s m. lower-descent s i (entry A.rank table s i) m l (h.shift s i m l)));
+    bit = λ i b l. (
+      λ one. let p = ((k.each i l).bit b).0 one in (left i b l (omega (arith, p.0))).0 p.1,
+      λ d. let m = left_descent-letter A g (word_at words i) (b + 1) d in ((k.each i l).bit b).1
+          (omega (arith, m.to_rank), (left i b l m.to_rank).1 d),
+    );
   }
+    where
+      left : (i b : ℕ) → i < length words → b + 1 ≤ A.rank
+          → (is_lower i (entry A.rank table (b + 1) i) ≡ true) ↔ IsLeftDescent A (word_at words i) (b + 1)
+      left i b l m =
+          let letter : IsLetter A.rank (b + 1) = record { from_one = omega arith; to_rank = m }
+          in lower-descent (b + 1) i (entry A.rank table (b + 1) i) letter l (h.shift (b + 1) i letter l)
 
-  pub right-lowering : (table : List (Option ℕ)) (kept : List (ArrayVec ℕ)) → length table ≡ length words * A.rank
-      → AreRightShifts A words table → AreLoweringLetters A.rank table (length words) kept
-      → AreDescents (right_descents A) words kept
-  unfolding lowering_letters
-  right-lowering table kept size h k = record {
+  pub right-sets : (table sets : List ℕ) → length table ≡ length words * A.rank → AreRightShifts A words table
+      → AreLoweringSets A.rank table (length words) sets → AreSets (IsRightDescent A) words sets
+  right-sets table sets size h k = record {
     size = k.size;
-    letters = λ i l. k.letters i l
-        ∙ sym (right_descents-by A (word_at words i) (λ s. is_lower i (entry A.rank table s i))
-        (λ s m. lower-right_descent s i (entry A.rank table s i) m l
-        (h.shift s i m l (rw size (place-within A.rank (length words) i s m l)))));
+    bit = λ i b l. (
+      λ one. let p = ((k.each i l).bit b).0 one in (right i b l (omega (arith, p.0))).0 p.1,
+      λ d. let m = descent-letter A g (word_at words i) (b + 1) d in ((k.each i l).bit b).1
+          (omega (arith, m.to_rank), (right i b l m.to_rank).1 d),
+    );
   }
+    where
+      right : (i b : ℕ) → i < length words → b + 1 ≤ A.rank
+          → (is_lower i (entry A.rank table (b + 1) i) ≡ true) ↔ IsRightDescent A (word_at words i) (b + 1)
+      right i b l m =
+          let letter : IsLetter A.rank (b + 1) = record { from_one = omega arith; to_rank = m }
+          in lower-right_descent (b + 1) i (entry A.rank table (b + 1) i) letter l
+          (h.shift (b + 1) i letter l (rw size (place-within A.rank (length words) i (b + 1) letter l)))
+
+-- the letters of a set that has the descents
+pub left-letters : (A : IntegerMatrix) (w : List ℕ) (set : ℕ) → ((k : ℕ) → IsBitSet set k ↔ IsLeftDescent A w (k + 1))
+    → filter (has_letter set) (letters A.rank) ≡ left_descents A w
+left-letters A w set h = sym (left_descents-by A w (has_letter set) (λ s m. at s m))
+  where
+    at : (s : ℕ) → IsLetter A.rank s → (has_letter set s ≡ true) ↔ IsLeftDescent A w s
+    at s m =
+        let e : s - 1 + 1 ≡ s = omega (arith, m.from_one)
+        in let b : IsBitSet set (s - 1) ↔ IsLeftDescent A w s = rw e at (h (s - 1))
+        in (λ t. b.0 ((has_letter-bit set s).0 t), λ d. (has_letter-bit set s).1 (b.1 d))
+
+pub right-letters : (A : IntegerMatrix) (w : List ℕ) (set : ℕ) → ((k : ℕ) → IsBitSet set k ↔ IsRightDescent A w (k + 1))
+    → filter (has_letter set) (letters A.rank) ≡ right_descents A w
+right-letters A w set h = sym (right_descents-by A w (has_letter set) (λ s m. at s m))
+  where
+    at : (s : ℕ) → IsLetter A.rank s → (has_letter set s ≡ true) ↔ IsRightDescent A w s
+    at s m =
+        let e : s - 1 + 1 ≡ s = omega (arith, m.from_one)
+        in let b : IsBitSet set (s - 1) ↔ IsRightDescent A w s = rw e at (h (s - 1))
+        in (λ t. b.0 ((has_letter-bit set s).0 t), λ d. (has_letter-bit set s).1 (b.1 d))

@@ -1,9 +1,10 @@
 -- Contexts of intervals and of groups: their members are closed downwards, and what a group that goes on has.
-use Rattle.std.proofs.Common.{◌≡◌, ℕ, ◌≤◌, ◌<◌, List, [], ◌∷◌, length, None, Some, Result, Ok, Err, IfErr, ap, sym, ◌∙◌, ⊎_elim}
+use Rattle.std.proofs.Common.{◌≡◌, ℕ, ◌+◌, ◌≤◌, ◌<◌, List, [], ◌∷◌, length, Contains, None, Some, Result, Ok, Err, IfErr, ap, sym, ◌∙◌, ⊎_elim}
 use Rattle.std.proofs.Common.{arith, subst}
 use Rattle.std.proofs.lemmas.Bool.{cases_lt}
 use Rattle.std.proofs.lemmas.List.Elements.{All-head}
 use Rattle.cox_base.specs.Matrix.{IsLetter}
+use Rattle.cox_base.specs.declared.limits.TheConstants.{MAX_LETTERS}
 use Rattle.cox_base.specs.IntegerMatrix.{IntegerMatrix}
 use Rattle.cox_base.specs.Admissible.{IsAdmissible}
 use Rattle.cox_base.specs.Element.{SameElement}
@@ -55,7 +56,7 @@ refusal-along P Q to from limit (Size bound seen) (is, one_more, over) = (
 )
 refusal-along P Q to from limit Long l = record {
   words = l.words;
-  are = list-along (λ word. P word × (length word ≤ 63)) (λ word. Q word × (length word ≤ 63)) (λ word p. (to word p.0, p.1))
+  are = list-along (λ word. P word × (length word ≤ MAX_LETTERS)) (λ word. Q word × (length word ≤ MAX_LETTERS)) (λ word p. (to word p.0, p.1))
       (λ word q. (from word q.0, q.1)) l.words l.are;
   count = l.count;
   long = l.long;
@@ -73,7 +74,7 @@ result-along P Q to from limit (Err fault) h = refusal-along P Q to from limit f
 
 module _ (A : IntegerMatrix) (g : IsAdmissible A) where
   pub list-closed : (P : List ℕ → Type 0) (words : List (List ℕ)) → IsIdeal A P → IsListOf P words
-      → ((word : List ℕ) → P word → length word ≤ 63) → length words ≤ MAX_MEMBERS → IsClosed A words
+      → ((word : List ℕ) → P word → length word ≤ MAX_LETTERS) → length words ≤ MAX_MEMBERS → IsClosed A words
   list-closed P words ideal are short few = record {
     rising = are.rising;
     element = λ word c. ideal.element word (are.sound word c);
@@ -82,6 +83,36 @@ module _ (A : IntegerMatrix) (g : IsAdmissible A) where
     some = let c = are.whole [] ideal.least in omega (arith, c.1);
     few = few;
   }
+
+  -- so are those of at most so many letters
+  pub grown-closed : (P : List ℕ → Type 0) (k low : ℕ) (words : List (List ℕ)) → IsIdeal A P → IsGrown A.rank P k low words
+      → k ≤ MAX_LETTERS → length words ≤ MAX_MEMBERS → IsClosed A words
+  grown-closed P k low words ideal h short few = record {
+    rising = h.rising;
+    element = λ word c. ideal.element word (member word c);
+    down = λ y w c e b. there y (ideal.down y w (member w c) e b) (omega (
+      arith,
+      below-length A g b,
+      element-length A g y e,
+      element-length A g w (ideal.element w (member w c)),
+      long w c,
+    ));
+    short = λ word c. omega (arith, long word c, short);
+    some = let c = there [] ideal.least (omega arith) in omega (arith, c.1);
+    few = few;
+  }
+    where
+      member : (word : List ℕ) → Contains words word → P word
+      member word c = let p = contains-placed words word c in subst P p.is (h.sound p.i p.within)
+
+      long : (word : List ℕ) → Contains words word → length word ≤ k
+      long word c =
+          let p = contains-placed words word c
+          in subst (λ (x : List ℕ). length x ≤ k) p.is
+          (grown-length A.rank P (ideal-tailed A g P ideal) k low words h p.i p.within)
+
+      there : (y : List ℕ) → P y → length y ≤ k → Contains words y
+      there y p l = let w = h.whole y p l in placed-contains words y (record { i = w.0; within = w.1; is = w.2 })
 
   interval-ideal : (top : List ℕ) → IsIdeal A (IsInInterval A top)
   interval-ideal top = ideal-member A g (Some (record { items = top }))
@@ -97,7 +128,7 @@ module _ (A : IntegerMatrix) (g : IsAdmissible A) where
       grown-list A.rank (IsInInterval A top) (ideal-tailed A g (IsInInterval A top) (interval-ideal top)) (length top) low words h
       (λ word p. omega (arith, interval-length top word p, reduced))
 
-  pub interval-closed : (top : List ℕ) (words : List (List ℕ)) → IsReduced A top → length top ≤ 63 → length words ≤ MAX_MEMBERS
+  pub interval-closed : (top : List ℕ) (words : List (List ℕ)) → IsReduced A top → length top ≤ MAX_LETTERS → length words ≤ MAX_MEMBERS
       → IsListOf (IsInInterval A top) words → IsClosed A words
   interval-closed top words reduced short few are =
       list-closed (IsInInterval A top) words (interval-ideal top) are
@@ -107,26 +138,26 @@ module _ (A : IntegerMatrix) (g : IsAdmissible A) where
   pub interval-from : (w top : List ℕ) → SameElement A top w → (word : List ℕ) → IsInInterval A top word → IsInInterval A w word
   interval-from w top same word p = record { element = p.element; below = below-same A g (same-refl A g word) same p.below }
 
-  -- where each member of 63 letters is shortened by each letter, no element is longer
-  pub group-length : (low : ℕ) (words : List (List ℕ)) → IsGrown A.rank (IsElement A) 63 low words
+  -- where each member of MAX_LETTERS letters is shortened by each letter, no element is longer
+  pub group-length : (low : ℕ) (words : List (List ℕ)) → IsGrown A.rank (IsElement A) MAX_LETTERS low words
       → ((i s : ℕ) → low ≤ i → i < length words → IsLetter A.rank s → IsLeftDescent A (word_at words i) s) → (word : List ℕ)
-      → IsElement A word → length word ≤ 63
+      → IsElement A word → length word ≤ MAX_LETTERS
   group-length low words h all [] e = omega arith
   group-length low words h all (t ∷ x) e = go (group-length low words h all x (element-tail A g t x e))
     where
-      long : (i : ℕ) × (i < length words) × (word_at words i ≡ x) → 63 ≤ length x → ⊥
+      long : (i : ℕ) × (i < length words) × (word_at words i ≡ x) → MAX_LETTERS ≤ length x → ⊥
       long (i, l, q) m =
           let from : low ≤ i = ⊎_elim (λ (less : i < low). absurd (omega (arith, h.shorter i less, ap length q, m)))
           (λ (more : low ≤ i). more) (cases_lt i low)
           in let d : IsLeftDescent A x t = rw q at (all i t from l (All-head (IsLetter A.rank) t x e.letters))
           in omega (arith, d, element-length A g (t ∷ x) e, element-length A g x (element-tail A g t x e))
 
-      go : length x ≤ 63 → length (t ∷ x) ≤ 63
-      go l = ⊎_elim (λ (less : length x < 63). omega (arith, less))
-          (λ (more : 63 ≤ length x). absurd (long (h.whole x (element-tail A g t x e) l) more)) (cases_lt (length x) 63)
+      go : length x ≤ MAX_LETTERS → length (t ∷ x) ≤ MAX_LETTERS
+      go l = ⊎_elim (λ (less : length x < MAX_LETTERS). omega (arith, less))
+          (λ (more : MAX_LETTERS ≤ length x). absurd (long (h.whole x (element-tail A g t x e) l) more)) (cases_lt (length x) MAX_LETTERS)
 
-  -- where one is not, there is an element of 64 letters
-  pub group-long : (low limit : ℕ) (words : List (List ℕ)) → IsGrown A.rank (IsElement A) 63 low words → length words ≤ limit
+  -- where one is not, there is an element of one letter more
+  pub group-long : (low limit : ℕ) (words : List (List ℕ)) → IsGrown A.rank (IsElement A) MAX_LETTERS low words → length words ≤ limit
       → (i : ℕ) × (s : ℕ) × (low ≤ i) × (i < length words) × IsLetter A.rank s × (IsLeftDescent A (word_at words i) s → ⊥)
       → IsLong (IsElement A) limit
   group-long low limit words h few (i, s, from, l, letter, none) = record {
@@ -136,7 +167,7 @@ module _ (A : IntegerMatrix) (g : IsAdmissible A) where
       sound = λ word c. let p = contains-placed words word c in (
         subst (IsElement A) p.is (h.sound p.i p.within),
         rw (← p.is)
-            (grown-length A.rank (IsElement A) tailed 63 low words h p.i p.within),
+            (grown-length A.rank (IsElement A) tailed MAX_LETTERS low words h p.i p.within),
       );
       whole = λ word p. let w = h.whole word p.0 p.1 in placed-contains words word (record { i = w.0; within = w.1; is = w.2 });
     };
@@ -149,7 +180,7 @@ module _ (A : IntegerMatrix) (g : IsAdmissible A) where
       tailed : IsTailed A.rank (IsElement A)
       tailed = ideal-tailed A g (IsElement A) (ideal-member A g None)
 
-      up : word_length A (s ∷ word_at words i) ≡ 64
+      up : word_length A (s ∷ word_at words i) ≡ MAX_LETTERS + 1
       up =
           ⊎_elim (λ longer. omega (arith, longer, element-length A g (word_at words i) (h.sound i l), h.level i from l))
           (λ shorter. absurd (none (omega (arith, shorter))))

@@ -1,5 +1,6 @@
 -- Why a context is refused.
 use Rattle.std.proofs.Common.{◌≡◌, ℕ, ◌+◌, ◌≤◌, ◌<◌, List, [], ◌∷◌, ◌++◌, length, Contains, arith, refl}
+use Rattle.cox_base.specs.declared.limits.TheConstants.{MAX_LETTERS}
 use Rattle.cox_reflect.proofs.ShortLexFirst.{IsBefore, IsBefore-irrefl}
 use Rattle.cox_context.specs.SortedList.{IsRising}
 use Rattle.cox_context.specs.Refusal.{IsPrefixOf}
@@ -10,7 +11,7 @@ use Rattle.cox_context.proofs.ListLemmas.{contains-placed, word_at-old, word_at-
 -- a prefix with one word more than the limit
 pub over-prefix : (P : List ℕ → Type 0) (limit : ℕ) (words : List (List ℕ)) (word : List ℕ) → length words ≡ limit
     → IsPrefixOf P (words ++ word ∷ [])
-    → ((i : ℕ) → i < length words + 1 → length (word_at (words ++ word ∷ []) i) ≤ 63) → IsOver P limit
+    → ((i : ℕ) → i < length words + 1 → length (word_at (words ++ word ∷ []) i) ≤ MAX_LETTERS) → IsOver P limit
 over-prefix P limit words word count prefix short = record {
   prefix = words ++ word ∷ [];
   first = prefix;

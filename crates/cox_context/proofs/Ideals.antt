@@ -54,7 +54,7 @@ module _ (A : IntegerMatrix) (g : IsAdmissible A) where
   below-tail s x e =
       below-ascent A g x s (All-head (IsLetter A.rank) s x e.letters) (omega (arith, element-length (s ∷ x) e, word_length-length A g x))
 
-  contained-descent : (w : List ℕ) (s : ℕ) → Contains (left_descents A w) s → IsLeftDescent A w s
+  pub contained-descent : (w : List ℕ) (s : ℕ) → Contains (left_descents A w) s → IsLeftDescent A w s
   unfolding left_descents
   contained-descent w s c =
       let test : ℕ → Bool = λ t. nat_lt (word_length A (t ∷ w)) (word_length A w)
@@ -68,13 +68,6 @@ module _ (A : IntegerMatrix) (g : IsAdmissible A) where
     down = λ y w p e b. record { element = e; below = below-trans A g b p.below };
     least = record { element = element-nil; below = below-least A g top.items };
   }
-
-  -- with x a member is s x for each left descent s of the top
-  pub member-descent : (top : Option (ArrayVec ℕ)) (s : ℕ) (x y : List ℕ) → Contains (top_descents A top) s → IsMember A top x → y ≡ s ∷ x
-      → IsElement A y → IsMember A top y
-  member-descent None s x y c p e q = q
-  member-descent (Some top) s x y c p e q =
-      record { element = q; below = rw e (below-cons A g x top.items s (contained-descent top.items s c) p.below) }
 
   pub ideal-tailed : (P : List ℕ → Type 0) → IsIdeal A P → IsTailed A.rank P
   ideal-tailed P i = record {

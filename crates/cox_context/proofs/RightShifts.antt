@@ -1,6 +1,6 @@
 -- Right shifts, from those of the members without their first letters.
 use Rattle.std.proofs.Common.{◌≡◌, ℕ, ◌+◌, ◌-◌, ◌*◌, ◌≤◌, ◌<◌, List, [], ◌∷◌, ◌++◌, length, Contains, Option, None, Some, ◌⊎◌}
-use Rattle.std.proofs.Common.{inl, inr, refl, ap, sym, ◌∙◌, ⊎_elim, arith, subst, slice_get}
+use Rattle.std.proofs.Common.{inl, inr, refl, ap, sym, ◌∙◌, ⊎_elim, arith, subst, unwrap_or}
 use Rattle.std.proofs.lemmas.List.{length-append}
 use Rattle.std.proofs.lemmas.Bool.{cases_lt}
 use Rattle.std.proofs.lemmas.List.Elements.{All-head}
@@ -10,27 +10,15 @@ use Rattle.cox_base.specs.Admissible.{IsAdmissible}
 use Rattle.cox_base.specs.ShortLex.{normal_form}
 use Rattle.cox_reflect.proofs.Elements.{same-trans, same-equal, same-cons, same-square}
 use Rattle.cox_reflect.proofs.Search.{normal_form-same, normal_form-equal}
+use Rattle.cox_context.specs.declared.shifts.TheConstants.{NO_MEMBER}
 use Rattle.cox_context.specs.Members.{IsElement}
 use Rattle.cox_context.specs.Closed.{IsClosed}
 use Rattle.cox_context.specs.Numbers.{word_at, IsNumberOf}
-use Rattle.cox_context.specs.Shifts.{entry, AreRightShifts}
+use Rattle.cox_context.specs.Shifts.{entry, number_of, AreRightShifts}
 use Rattle.cox_context.proofs.ListLemmas.{contains-at, rising-length}
 use Rattle.cox_context.proofs.Ideals.{element-tail, below-tail}
-use Rattle.cox_context.proofs.Places.{place-one, entry-old, entry-new}
+use Rattle.cox_context.proofs.Places.{place-one, entry-old, entry-new, number_of-some}
 use Rattle.cox_context.proofs.Shifting.{element-at, right-parent}
-
--- a list with a first element
-pub record HasFirst (x : List ℕ) (t : ℕ) : Type 0 where
-  pub rest : List ℕ
-  pub is : x ≡ t ∷ rest
-
-pub first-of : (x : List ℕ) (t : ℕ) → Some t ≡ slice_get x 0 → HasFirst x t
-first-of [] t e = absurd (cc)
-first-of (s ∷ rest) t e = record { rest = rest; is = let q : s ≡ t = cc in ap (λ (r : ℕ). r ∷ rest) q }
-
-pub none-first : (x : List ℕ) → None ≡ slice_get x 0 → x ≡ []
-none-first [] e = refl
-none-first (s ∷ rest) e = absurd (cc)
 
 -- a word that is x' for the member t x' is the member before it that t leads to
 pub record IsParent (words : List (List ℕ)) (i : ℕ) (x : List ℕ) (found : Option ℕ) : Type 0 where
@@ -105,9 +93,9 @@ module _ (A : IntegerMatrix) (g : IsAdmissible A) (words : List (List ℕ)) (clo
   right-start = record { shift = λ s i l m k. absurd (omega (arith, k)) }
 
   -- one more entry
-  pub right-push : (table : List (Option ℕ)) (s i : ℕ) (x : Option ℕ) → AreRightShifts A words table → IsLetter A.rank s
+  pub right-push : (table : List ℕ) (s i : ℕ) (x : ℕ) → AreRightShifts A words table → IsLetter A.rank s
       → length table ≡ i * A.rank + (s - 1)
-      → IsNumberOf words (normal_form A (word_at words i ++ s ∷ [])) x → AreRightShifts A words (table ++ x ∷ [])
+      → IsNumberOf words (normal_form A (word_at words i ++ s ∷ [])) (number_of x) → AreRightShifts A words (table ++ x ∷ [])
   right-push table s i x h letter size n = record { shift = λ t j l m k. go t j l m k (cases_lt (j * A.rank + (t - 1)) (length table)) }
     where
       go : (t j : ℕ) → IsLetter A.rank t → j < length words → j * A.rank + (t - 1) < length (table ++ x ∷ [])
@@ -118,3 +106,11 @@ module _ (A : IntegerMatrix) (g : IsAdmissible A) (words : List (List ℕ)) (clo
           let place : j * A.rank + (t - 1) ≡ length table = omega (arith, above, k, length-append table (x ∷ []))
           in let one = place-one A.rank i j s t letter l (sym size ∙ sym place)
           in rw (entry-new A.rank table t j x place, ← one.0, ← one.1) n
+
+  -- what is found is written as its number, or as none
+  pub right-found : (table : List ℕ) (s i : ℕ) (x : Option ℕ) → AreRightShifts A words table → IsLetter A.rank s
+      → length table ≡ i * A.rank + (s - 1) → IsNumberOf words (normal_form A (word_at words i ++ s ∷ [])) x
+      → AreRightShifts A words (table ++ unwrap_or x NO_MEMBER ∷ [])
+  right-found table s i None h letter size n = right-push table s i NO_MEMBER h letter size n
+  right-found table s i (Some k) h letter size n =
+      right-push table s i k h letter size (rw (number_of-some k (omega (arith, n.0, closed.few))) n)

@@ -1,5 +1,5 @@
 -- Shifts of the members of a closed list.
-use Rattle.std.proofs.Common.{◌≡◌, ℕ, ◌+◌, ◌≤◌, ◌<◌, List, [], ◌∷◌, ◌++◌, length, Contains, ◌↔◌, refl, ap, sym, ◌∙◌, ⊎_elim, arith}
+use Rattle.std.proofs.Common.{◌≡◌, ℕ, ◌+◌, ◌≤◌, ◌<◌, List, [], ◌∷◌, ◌++◌, length, Contains, ◌↔◌, Option, None, Some, IsSome, refl, ap, sym, ◌∙◌, ⊎_elim, arith}
 use Rattle.std.proofs.lemmas.Bool.{cases_order}
 use Rattle.std.proofs.lemmas.List.Elements.{All-head}
 use Rattle.cox_base.specs.Matrix.{IsLetter}
@@ -17,7 +17,7 @@ use Rattle.cox_reflect.proofs.Deletion.{left_length, right_length, sides_same}
 use Rattle.cox_reflect.proofs.Bruhat.{below-same, below-refl, below-trans, below-least, below-descent, below-ascent, below-push}
 use Rattle.cox_context.specs.Members.{IsElement}
 use Rattle.cox_context.specs.Closed.{IsClosed}
-use Rattle.cox_context.specs.Numbers.{word_at}
+use Rattle.cox_context.specs.Numbers.{word_at, IsNumberOf}
 use Rattle.cox_context.proofs.ListLemmas.{IsPlaced, contains-placed, contains-at, rising-length}
 use Rattle.cox_context.proofs.Ideals.{element-normal_form, element-length, element-nil, element-tail, below-tail}
 
@@ -153,3 +153,26 @@ module _ (A : IntegerMatrix) (g : IsAdmissible A) (words : List (List ℕ)) (clo
               in let same : SameElement A (t ∷ x) z = sides_same A g t s x letter (omega (arith, h, k)) inner
               in let q : normal_form A z ≡ word_at words i = normal_form-equal A g (same-sym A g same) ∙ elem.normal ∙ sym e
               in rw q (contains-at words i within)
+
+  -- a letter that leads from a member to none does not shorten it
+  pub lacking-ascent : (s i : ℕ) (x : Option ℕ) → i < length words → IsNumberOf words (normal_form A (s ∷ word_at words i)) x → x ≡ None
+      → IsLeftDescent A (word_at words i) s → ⊥
+  lacking-ascent s i None l none e d = none (descent-member s i l d)
+  lacking-ascent s i (Some k) l found e d = absurd (cc)
+
+  -- one that leads from a longest member to a member shortens it
+  pub shifted-descent : (s i : ℕ) (x : Option ℕ) → IsLetter A.rank s → i < length words
+      → ((k : ℕ) → k < length words → length (word_at words k) ≤ length (word_at words i))
+      → IsNumberOf words (normal_form A (s ∷ word_at words i)) x → IsSome x → IsLeftDescent A (word_at words i) s
+  shifted-descent s i None letter l longest found some = absurd (cc)
+  shifted-descent s i (Some k) letter l longest (inside, is) some =
+      ⊎_elim
+      (λ longer. absurd (omega (
+        arith,
+        longer,
+        longest k inside,
+        word_length-is A (s ∷ word_at words i),
+        ap length is,
+        length-at i l,
+      )))
+      (λ shorter. omega (arith, shorter)) (left_length A g s (word_at words i) letter)

@@ -3,6 +3,7 @@ use Rattle.std.specs.Prelude.{ℕ, ◌≤◌, List, length, Contains}
 use Rattle.cox_base.specs.Matrix.{CoxeterMatrix}
 use Rattle.cox_base.specs.IntegerMatrix.{IntegerMatrix}
 use Rattle.cox_base.specs.Bruhat.{IsBelow}
+use Rattle.cox_base.specs.declared.limits.TheConstants.{MAX_LETTERS}
 use Rattle.cox_context.specs.declared.members.TheConstants.{MAX_MEMBERS}
 use Rattle.cox_context.specs.SortedList.{IsRising}
 use Rattle.cox_context.specs.Members.{IsElement}
@@ -12,11 +13,11 @@ pub record Elements : Type 0 where
   pub matrix : CoxeterMatrix
   pub members : List (List ℕ)
 
--- a list of elements in ShortLex order, closed downwards in Bruhat order, not too many, of at most 63 letters each
+-- a list of elements in ShortLex order, closed downwards in Bruhat order, not too many, of at most MAX_LETTERS letters each
 pub record IsClosed (A : IntegerMatrix) (members : List (List ℕ)) : Type 0 where
   pub rising : IsRising members
   pub element : (word : List ℕ) → Contains members word → IsElement A word
   pub down : (y w : List ℕ) → Contains members w → IsElement A y → IsBelow A y w → Contains members y
-  pub short : (word : List ℕ) → Contains members word → length word ≤ 63
+  pub short : (word : List ℕ) → Contains members word → length word ≤ MAX_LETTERS
   pub some : 1 ≤ length members
   pub few : length members ≤ MAX_MEMBERS

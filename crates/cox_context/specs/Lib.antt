@@ -10,9 +10,15 @@ pub mod Refusal
 pub mod Closed
 -- the elements that a context is to have
 pub mod Family
+-- members by links to those before them
+pub mod Links
 -- words by their numbers in a list
 pub mod Numbers
 -- the tables of shifts
 pub mod Shifts
+-- a row of the table of left shifts
+pub mod Rows
+-- sets of letters
+pub mod Sets
 -- a list of members as it grows
 pub mod Growth

@@ -1,31 +1,30 @@
 //! Contexts and their calls.
-ghost use Rattle.std.specs.Prelude.{◌≡◌, ◌<◌, ◌≤◌, ◌↔◌, ◌∷◌, ◌++◌, [], length, IfOk, IfErr, IsTrue};
+ghost use Rattle.std.specs.Prelude.{◌≡◌, ℕ, ◌+◌, ◌<◌, ◌≤◌, ◌↔◌, ◌∷◌, ◌++◌, [], length, IfOk, IfErr, IsTrue, IsBitSet};
 ghost use Rattle.cox_base.specs.Matrix.{IsLetter, IsWord};
+ghost use Rattle.cox_base.specs.Admissible.{IsAdmissible};
 ghost use Rattle.cox_base.specs.IntegerMatrix.{integer_matrix};
 ghost use Rattle.cox_base.specs.ShortLex.{normal_form};
 ghost use Rattle.cox_base.specs.Length.{left_descents, right_descents};
+ghost use Rattle.cox_base.specs.Reduced.{IsLeftDescent, IsRightDescent};
 ghost use Rattle.cox_base.specs.Bruhat.{IsBelow};
 ghost use Rattle.cox_context.specs.Members.{IsElement, IsInInterval};
 ghost use Rattle.cox_context.specs.Closed.{IsClosed};
 ghost use Rattle.cox_context.specs.SortedList.{IsListOf};
 ghost use Rattle.cox_context.specs.Numbers.{word_at, IsNumberOf};
-ghost use Rattle.cox_context.specs.Growth.{AreAllHeights};
 ghost use Rattle.cox_context.specs.Refusal.{IsRefusal};
+ghost use Rattle.cox_context.specs.Shifts.{AreLeftShifts};
 
 use crate::ContextFault;
 use crate::builder::Builder;
-use crate::descents::{Letters, all_lowering, kept_word};
+use crate::descents::{letters_of, lowering_sets};
 use crate::family::Family;
-use crate::members::{MAX_MEMBERS, Members};
+use crate::members::{Link, MAX_MEMBERS, Members};
 use crate::right_shifts::right_shifts;
-use crate::shifts::{entry, left_shifts};
-use cox_base::{Coxeter, Side, Word};
-use cox_reflect::{descents, normal_form};
+use crate::shifts::entry;
+use cox_base::{Coxeter, MAX_LETTERS, Word};
+use cox_minroots::RootTable;
 use std::alloc::Global;
 use std::marker::Model;
-
-/// The greatest number of letters of a member.
-const MAX_LENGTH: u32 = 63;
 
 /// The elements of a Bruhat interval from the identity, or of a whole finite group: distinct normal forms in ShortLex order, closed downwards.
 ///
@@ -35,10 +34,10 @@ const MAX_LENGTH: u32 = 63;
 pub struct Context {
     group: Coxeter,
     members: Members,
-    left: Vec<Option<u32>>,
-    right: Vec<Option<u32>>,
-    left_descents: Vec<Letters>,
-    right_descents: Vec<Letters>,
+    left: Vec<u32>,
+    right: Vec<u32>,
+    left_descents: Vec<u16>,
+    right_descents: Vec<u16>,
 }
 
 impl Model for Context {
@@ -59,12 +58,11 @@ impl Context {
     /// `Size` where there are more than `limit` of them. In A 3 the interval of `121321` is the whole group, of 24 elements.
     pub fn of_interval(
         alloc: Global,
-        group: &Coxeter,
+        group: &RootTable,
         w: &Word,
         limit: u32,
     ) -> Result<Context, ContextFault>
         requires letters { IsWord group.now.rank w.now.items }
-        requires short { length w.now.items ≤ 63 }
         requires some { 1 ≤ limit }
         requires limit { limit ≤ MAX_MEMBERS }
         ensures matrix { IfOk result (λ c. c.matrix ≡ group.now) }
@@ -72,11 +70,12 @@ impl Context {
         ensures few { IfOk result (λ c. length c.members ≤ limit) }
         ensures refused { IfErr result (IsRefusal (IsInInterval (integer_matrix group.now) w.now.items) limit) }
     {
-        let top = normal_form(group, w);
+        let top = group.normal_form(w);
+        prove!(top.len() <= MAX_LETTERS);
         let letters = top.len() as u32;
         let family = Family {
-            group: group.copy(),
-            descents: descents(group, &top, Side::Left),
+            group: group.group().copy(),
+            descents: group.left_descents(&top),
             top: Some(top),
         };
         let mut builder = Builder::new(alloc, &family)?;
@@ -86,9 +85,9 @@ impl Context {
 
     /// The elements of a group.
     ///
-    /// `Size` where there are more than `limit` of them, and the first `limit` + 1 have at most 63 letters each; `Long` where one of the first `limit` + 1
-    /// has 64 letters, as in each infinite group if `limit` is great enough.
-    pub fn of_group(alloc: Global, group: &Coxeter, limit: u32) -> Result<Context, ContextFault>
+    /// `Size` where there are more than `limit` of them, and the first `limit` + 1 have at most `MAX_LETTERS` letters each; `Long` where one of the first
+    /// `limit` + 1 has one letter more, as in each infinite group if `limit` is great enough.
+    pub fn of_group(alloc: Global, group: &RootTable, limit: u32) -> Result<Context, ContextFault>
         requires some { 1 ≤ limit }
         requires limit { limit ≤ MAX_MEMBERS }
         ensures matrix { IfOk result (λ c. c.matrix ≡ group.now) }
@@ -97,12 +96,12 @@ impl Context {
         ensures refused { IfErr result (IsRefusal (IsElement (integer_matrix group.now)) limit) }
     {
         let family = Family {
-            group: group.copy(),
+            group: group.group().copy(),
             top: None,
             descents: Word::new(),
         };
         let mut builder = Builder::new(alloc, &family)?;
-        let low = builder.grow(&family, MAX_LENGTH, limit)?;
+        let low = builder.grow(&family, MAX_LETTERS as u32, limit)?;
         if builder.goes_on(&family, low) {
             return Err(ContextFault::Long);
         }
@@ -112,22 +111,19 @@ impl Context {
     /// The context with the members that were found.
     fn of_members(alloc: Global, group: Coxeter, builder: Builder) -> Result<Context, ContextFault>
         requires closed { IsClosed (integer_matrix group) builder.members }
-        requires heights { AreAllHeights (integer_matrix group) builder.members builder.heights.items }
+        requires left { AreLeftShifts (integer_matrix group) builder.members builder.left.items }
         ensures made { IfOk result (λ c. c ≡ record { matrix = group; members = builder.members }) }
         ensures fault { IfErr result (λ fault. fault ≡ ContextFault.NoMemory) }
     {
-        let Builder { members, heights } = builder;
-        let Ok(left) = left_shifts(alloc, &group, &members, heights.as_slice()) else {
-            return Err(ContextFault::NoMemory);
-        };
+        let Builder { members, left } = builder;
         let Ok(right) = right_shifts(alloc, &group, &members, left.as_slice()) else {
             return Err(ContextFault::NoMemory);
         };
         let (rank, count) = (group.rank(), members.len());
-        let Ok(left_descents) = all_lowering(alloc, left.as_slice(), rank, count) else {
+        let Ok(left_descents) = lowering_sets(alloc, left.as_slice(), rank, count) else {
             return Err(ContextFault::NoMemory);
         };
-        let Ok(right_descents) = all_lowering(alloc, right.as_slice(), rank, count) else {
+        let Ok(right_descents) = lowering_sets(alloc, right.as_slice(), rank, count) else {
             return Err(ContextFault::NoMemory);
         };
         Ok(Context {
@@ -144,8 +140,9 @@ impl Context {
     pub fn len(&self) -> u32
         ensures len { result ≡ length self.now.members }
         ensures closed { IsClosed (integer_matrix self.now.matrix) self.now.members }
+        ensures admissible { IsAdmissible (integer_matrix self.now.matrix) }
     {
-        let _ = &self.group;
+        let _rank = self.group.rank();
         self.members.len()
     }
 
@@ -157,18 +154,48 @@ impl Context {
     }
 
     /// The number of a member; `None` exactly where the word is not the normal form of a member.
+    ///
+    /// By shifts from the last letter of the word to the first: each is to lead to the member that begins with that letter.
     pub fn number(&self, word: &Word) -> Option<u32>
         ensures { IsNumberOf self.now.members word.now.items result }
     {
-        self.members.number(word)
+        prove!(self.len() > 0);
+        let rank = self.matrix().rank();
+        let letters = word.as_slice();
+        let mut at = 0;
+        for done in 0..letters.len() {
+            let s = letters[letters.len() - 1 - done];
+            if s == 0 || s as u32 > rank {
+                return None;
+            }
+            let longer = self.left(s, at)?;
+            if longer <= at {
+                return None;
+            }
+            if self.link(longer).first != s {
+                return None;
+            }
+            at = longer;
+        }
+        Some(at)
     }
 
     /// The member with a number, as its normal form.
-    pub fn word(&self, i: u32) -> &Word
+    pub fn word(&self, i: u32) -> Word
         requires { i < length self.now.members }
-        ensures { result.now.items ≡ word_at self.now.members i }
+        ensures { result.items ≡ word_at self.now.members i }
     {
         self.members.word(i)
+    }
+
+    /// The first letter of a member other than the identity, and the number of the rest.
+    fn link(&self, i: u32) -> Link
+        requires some { 0 < i }
+        requires member { i < length self.now.members }
+        ensures word { word_at self.now.members i ≡ result.first ∷ word_at self.now.members result.rest }
+        ensures inward { result.rest < i }
+    {
+        self.members.link(i)
     }
 
     /// The number of s x for the member x with the number i; `None` exactly where s x is no member.
@@ -194,7 +221,7 @@ impl Context {
         requires { i < length self.now.members }
         ensures { result ≡ length (word_at self.now.members i) }
     {
-        self.members.word(i).len() as u32
+        self.members.length(i)
     }
 
     /// Whether x <= y in Bruhat order, for the members x and y with the numbers i and j.
@@ -205,12 +232,15 @@ impl Context {
         requires j { j < length self.now.members }
         ensures { IsTrue result ↔ IsBelow (integer_matrix self.now.matrix) (word_at self.now.members i) (word_at self.now.members j) }
     {
-        let _rank = self.group.rank();
+        prove!(self.len() > 0);
         let mut rest = i;
-        for &t in self.members.word(j).as_slice() {
-            if let Some(k) = self.left(t, rest) {
+        let mut upper = j;
+        while upper > 0 {
+            let link = self.link(upper);
+            if let Some(k) = self.left(link.first, rest) {
                 rest = rest.min(k);
             }
+            upper = link.rest;
         }
         rest == 0
     }
@@ -220,7 +250,7 @@ impl Context {
         requires { i < length self.now.members }
         ensures { result.items ≡ left_descents (integer_matrix self.now.matrix) (word_at self.now.members i) }
     {
-        kept_word(self.left_descents.as_slice(), i)
+        letters_of(self.left_descent_set(i), self.group.rank())
     }
 
     /// The letters s with l(x s) < l(x) for the member x with the number i, rising.
@@ -228,6 +258,22 @@ impl Context {
         requires { i < length self.now.members }
         ensures { result.items ≡ right_descents (integer_matrix self.now.matrix) (word_at self.now.members i) }
     {
-        kept_word(self.right_descents.as_slice(), i)
+        letters_of(self.right_descent_set(i), self.group.rank())
+    }
+
+    /// The same letters as a set: bit s - 1 is 1 exactly where l(s x) < l(x).
+    pub fn left_descent_set(&self, i: u32) -> u16
+        requires { i < length self.now.members }
+        ensures { (k : ℕ) → IsBitSet result k ↔ IsLeftDescent (integer_matrix self.now.matrix) (word_at self.now.members i) (k + 1) }
+    {
+        self.left_descents[i as usize]
+    }
+
+    /// The same letters as a set: bit s - 1 is 1 exactly where l(x s) < l(x).
+    pub fn right_descent_set(&self, i: u32) -> u16
+        requires { i < length self.now.members }
+        ensures { (k : ℕ) → IsBitSet result k ↔ IsRightDescent (integer_matrix self.now.matrix) (word_at self.now.members i) (k + 1) }
+    {
+        self.right_descents[i as usize]
     }
 }

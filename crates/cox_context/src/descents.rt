@@ -1,49 +1,47 @@
-//! The descents of each member, read off a table of shifts.
-ghost use Rattle.std.specs.Prelude.{◌≡◌, ℕ, ◌+◌, ◌*◌, ◌<◌, ◌≤◌, length, IfOk, OnOk};
-ghost use Rattle.cox_context.specs.Shifts.{entry, is_lower, letters_at, lowering_letters, AreLoweringLetters};
+//! The descents of each member as a set of bits, read off a table of shifts.
+ghost use Rattle.std.specs.Prelude.{◌≡◌, ℕ, ◌+◌, ◌-◌, ◌*◌, ◌<◌, ◌≤◌, ◌↔◌, length, IfOk, IsTrue, IsBitSet, filter};
+ghost use Rattle.cox_base.specs.ShortLex.{letters};
+ghost use Rattle.cox_context.specs.Shifts.{entry};
+ghost use Rattle.cox_context.specs.Sets.{is_lower, has_letter, IsLoweringSet, AreLoweringSets};
 
 use crate::members::MAX_MEMBERS;
 use crate::shifts::entry;
-use arrayvec::ArrayVec;
 use cox_base::{MAX_RANK, Word};
 use std::alloc::{AllocError, Global};
 
-/// Letters of a group, rising: as many as its rank at most.
-pub(crate) type Letters = ArrayVec<u8, MAX_RANK>;
-
-/// For each of so many members the letters, rising, that take it to a member before it.
-pub(crate) fn all_lowering(
+/// For each of so many members the set of the letters that take it to a member before it.
+pub(crate) fn lowering_sets(
     alloc: Global,
-    table: &[Option<u32>],
+    table: &[u32],
     rank: u32,
     count: u32,
-) -> Result<Vec<Letters>, AllocError>
+) -> Result<Vec<u16>, AllocError>
     requires limit { rank ≤ MAX_RANK }
     requires few { count ≤ MAX_MEMBERS }
     requires within { count * rank ≤ length table.now }
-    ensures { IfOk result (λ kept. AreLoweringLetters rank table.now count kept.items) }
+    ensures { IfOk result (λ sets. AreLoweringSets rank table.now count sets.items) }
 {
-    let mut kept = Vec::new(alloc);
+    let mut sets = Vec::new(alloc);
     for i in 0..count {
-        kept.push(lowering(table, rank, i))?;
+        sets.push(lowering_set(table, rank, i))?;
     }
-    Ok(kept)
+    Ok(sets)
 }
 
-/// The letters, rising, that take member i to a member before it.
-fn lowering(table: &[Option<u32>], rank: u32, i: u32) -> Letters
+/// The set of the letters that take member i to a member before it: bit s - 1 for the letter s.
+fn lowering_set(table: &[u32], rank: u32, i: u32) -> u16
     requires limit { rank ≤ MAX_RANK }
     requires few { i < MAX_MEMBERS }
     requires within { (i + 1) * rank ≤ length table.now }
-    ensures { result.items ≡ lowering_letters rank table.now i }
+    ensures { IsLoweringSet rank table.now i (rank + 1) result }
 {
-    let mut found = Letters::new();
+    let mut set = 0u16;
     for s in 1..rank as u8 + 1 {
         if is_lower(i, entry(table, rank, s, i)) {
-            found.push(s);
+            set |= 1u16 << (s - 1);
         }
     }
-    found
+    set
 }
 
 /// Whether a shift takes member i to a member before it.
@@ -56,14 +54,16 @@ fn is_lower(i: u32, shift: Option<u32>) -> bool
     }
 }
 
-/// The letters that are kept for member i, as a word.
-pub(crate) fn kept_word(kept: &[Letters], i: u32) -> Word
-    requires { i < length kept.now }
-    ensures { result.items ≡ letters_at kept.now i }
+/// The letters of a set, rising.
+pub(crate) fn letters_of(set: u16, rank: u32) -> Word
+    requires limit { rank ≤ MAX_RANK }
+    ensures { result.items ≡ filter (has_letter set) (letters rank) }
 {
-    let mut word = Word::new();
-    match word.try_extend_from_slice(kept[i as usize].as_slice()) {
-        Ok(()) => word,
-        Err(_) => unreachable!(),
+    let mut found = Word::new();
+    for s in 1..rank as u8 + 1 {
+        if (set >> (s - 1)) & 1 == 1 {
+            found.push(s);
+        }
     }
+    found
 }

@@ -3,14 +3,17 @@
 //! A `Context` is a table on which rows, graphs and cells are computed. Contracts see the Coxeter matrix and the list of the members: distinct normal
 //! forms in ShortLex order, closed downwards in Bruhat order. It is proved that the members are exactly the interval or the group, that a context is
 //! refused exactly where it has too many members or one with too many letters, and what each look-up answers. A look-up takes no memory.
-//! It stands on the heights and the lifting of `cox_reflect`, and keeps the members in an `indexmap` set.
+//! It stands on the words of `cox_minroots` and the exchange and the lifting of `cox_reflect`.
 //!
 //! - `context`: the type and its calls
 //! - `fault`: why a context is refused
 //! - `family`: the group or the interval that is meant
-//! - `members`: the members, by number and by word
-//! - `builder`: finds the members, length by length
-//! - `shifts`, `right_shifts`: the tables of left and right shifts
+//! - `members`: the members, each by its first letter and the rest of its word
+//! - `shifts`: tables of shifts
+//! - `builder`: finds the members, length by length, with their left shifts
+//! - `lower`: the shorter elements t y of a new element y
+//! - `lifting`: whether a new element is below the top
+//! - `right_shifts`: the table of right shifts
 //! - `descents`: the descents of each member, read off these tables
 //! - `laws`: each interval has one list in ShortLex order, closed downwards
 #![tactic(auto)]
@@ -21,6 +24,8 @@ mod descents;
 mod family;
 mod fault;
 pub mod laws;
+mod lifting;
+mod lower;
 mod members;
 mod right_shifts;
 mod shifts;

@@ -1,75 +1,111 @@
-//! The members of a context, by number and by word.
-ghost use Rattle.std.specs.Prelude.{◌≡◌, ◌<◌, ◌≤◌, [], ◌∷◌, ◌++◌, length, Contains, OnOk};
-ghost use Rattle.cox_context.specs.Numbers.{word_at, IsNumberOf};
+//! The members of a context, by number.
+ghost use Rattle.std.specs.Prelude.{◌≡◌, ◌<◌, ◌≤◌, [], ◌∷◌, ◌++◌, length, IfOk, OnOk};
+ghost use Rattle.cox_context.specs.Numbers.{word_at};
 
-use cox_base::Word;
-use indexmap::IndexSet;
+use cox_base::{MAX_LETTERS, Word};
 use std::alloc::{AllocError, Global};
 use std::marker::Model;
 
 /// The greatest number of members of a context.
-pub const MAX_MEMBERS: u32 = 65_536;
+pub const MAX_MEMBERS: u32 = 1_048_576;
 
-/// Distinct words in the order in which they came, no more than `MAX_MEMBERS`. Contracts see the list of the words.
+/// A member s x: its first letter s, the number of x, and how many letters it has. That of the identity has no letters.
+#[derive(Clone, Copy)]
+pub(crate) struct Link {
+    pub(crate) first: u8,
+    pub(crate) letters: u8,
+    pub(crate) rest: u32,
+}
+
+/// Members, no more than `MAX_MEMBERS`: the identity, and then each behind the rest of its word. Contracts see the list of their words.
 #[derive(Drop)]
 pub(crate) struct Members {
-    words: IndexSet<Word>,
+    links: Vec<Link>,
 }
 
 impl Model for Members {
-    ghost use Rattle.std.specs.Prelude.{◌≤◌, ℕ, List, map, length};
-    ghost use Rattle.cox_context.specs.declared.members.TheConstants.{MAX_MEMBERS};
+    ghost use Rattle.std.specs.Prelude.{ℕ, List};
+    ghost use Rattle.cox_context.specs.Links.{words_of, AreLinks};
 
     ghost Value = { List (List ℕ) };
 
-    ghost view = { λ m. map (λ w. w.items) m.words.keys };
+    ghost view = { λ m. words_of m.links.items };
 
-    ghost invariant = { λ m. length m.words.keys ≤ MAX_MEMBERS };
+    ghost invariant = { λ m. AreLinks m.links.items };
 }
 
 impl Members {
-    /// No words.
-    pub(crate) fn new(alloc: Global) -> Members
-        ensures { result ≡ [] }
+    /// The identity alone.
+    pub(crate) fn new(alloc: Global) -> Result<Members, AllocError>
+        ensures { IfOk result (λ m. m ≡ [] ∷ []) }
     {
-        Members {
-            words: IndexSet::new(alloc),
-        }
+        let mut links = Vec::new(alloc);
+        links.push(Link {
+            first: 0,
+            letters: 0,
+            rest: 0,
+        })?;
+        Ok(Members { links })
     }
 
-    /// How many words there are.
+    /// How many members there are.
     pub(crate) fn len(&self) -> u32
         ensures len { result ≡ length self.now }
+        ensures some { 1 ≤ result }
         ensures few { result ≤ MAX_MEMBERS }
+        ensures identity { word_at self.now 0 ≡ [] }
     {
-        self.words.len() as u32
+        self.links.len() as u32
     }
 
-    /// The word with this number.
-    pub(crate) fn word(&self, i: u32) -> &Word
+    /// The first letter of a member other than the identity, and the number of the rest.
+    pub(crate) fn link(&self, i: u32) -> Link
+        requires some { 0 < i }
+        requires member { i < length self.now }
+        ensures word { word_at self.now i ≡ result.first ∷ word_at self.now result.rest }
+        ensures inward { result.rest < i }
+    {
+        self.links[i as usize]
+    }
+
+    /// The number of letters of a member.
+    pub(crate) fn length(&self, i: u32) -> u32
         requires { i < length self.now }
-        ensures { result.now.items ≡ word_at self.now i }
+        ensures length { result ≡ length (word_at self.now i) }
+        ensures short { result ≤ MAX_LETTERS }
     {
-        &self.words.as_slice()[i as usize]
+        self.links[i as usize].letters as u32
     }
 
-    /// The number of a word, if it is here.
-    pub(crate) fn number(&self, word: &Word) -> Option<u32>
-        ensures { IsNumberOf self.now word.now.items result }
+    /// The word of a member.
+    pub(crate) fn word(&self, i: u32) -> Word
+        requires { i < length self.now }
+        ensures { result.items ≡ word_at self.now i }
     {
-        let place = self.words.get_index_of(word)?;
-        Some(place as u32)
+        prove!(i < self.len() && self.length(i) as usize <= MAX_LETTERS);
+        let mut word = Word::new();
+        let mut at = i;
+        while at > 0 {
+            let link = self.link(at);
+            word.push(link.first);
+            at = link.rest;
+        }
+        word
     }
 
-    /// Appends a word that is not here yet.
-    pub(crate) fn push(&mut self, word: Word) -> Result<(), AllocError>
+    /// Appends the member s x, for the member x with the number `rest`.
+    pub(crate) fn push(&mut self, s: u8, rest: u32) -> Result<(), AllocError>
         requires room { length self.old < MAX_MEMBERS }
-        requires new { ¬ (Contains self.old word.items) }
-        ensures { OnOk result (self.new ≡ self.old ++ word.items ∷ []) }
+        requires member { rest < length self.old }
+        requires short { length (word_at self.old rest) < MAX_LETTERS }
+        ensures { OnOk result (self.new ≡ self.old ++ (s ∷ word_at self.old rest) ∷ []) }
     {
-        let Ok(_) = self.words.insert(word) else {
-            return Err(AllocError);
-        };
+        let letters = self.links[rest as usize].letters + 1;
+        self.links.push(Link {
+            first: s,
+            letters,
+            rest,
+        })?;
         Ok(())
     }
 }

@@ -9,7 +9,7 @@ ghost use Rattle.cox_context.specs.Numbers.{word_at, IsNumberOf};
 ghost use Rattle.cox_context.specs.Shifts.{AreLeftShifts, AreRightShifts};
 
 use crate::members::{MAX_MEMBERS, Members};
-use crate::shifts::entry;
+use crate::shifts::{NO_MEMBER, entry, left_shift};
 use cox_base::Coxeter;
 use std::alloc::{AllocError, Global};
 
@@ -20,8 +20,8 @@ pub(crate) fn right_shifts(
     alloc: Global,
     g: &Coxeter,
     members: &Members,
-    left: &[Option<u32>],
-) -> Result<Vec<Option<u32>>, AllocError>
+    left: &[u32],
+) -> Result<Vec<u32>, AllocError>
     requires closed { IsClosed (integer_matrix g.now) members.now }
     requires left { AreLeftShifts (integer_matrix g.now) members.now left.now }
     ensures size { IfOk result (λ table. length table.items ≡ length members.now * g.now.rank) }
@@ -38,8 +38,8 @@ pub(crate) fn right_shifts(
 fn push_row(
     g: &Coxeter,
     members: &Members,
-    left: &[Option<u32>],
-    table: &mut Vec<Option<u32>>,
+    left: &[u32],
+    table: &mut Vec<u32>,
     i: u32,
 ) -> Result<(), AllocError>
     requires closed { IsClosed (integer_matrix g.now) members.now }
@@ -53,7 +53,7 @@ fn push_row(
     let rank = g.rank();
     for s in 1..rank as u8 + 1 {
         let shift = right_shift(g, members, left, table.as_slice(), s, i);
-        table.push(shift)?;
+        table.push(shift.unwrap_or(NO_MEMBER))?;
     }
     Ok(())
 }
@@ -62,8 +62,8 @@ fn push_row(
 fn right_shift(
     g: &Coxeter,
     members: &Members,
-    left: &[Option<u32>],
-    right: &[Option<u32>],
+    left: &[u32],
+    right: &[u32],
     s: u8,
     i: u32,
 ) -> Option<u32>
@@ -76,39 +76,28 @@ fn right_shift(
     requires right { AreRightShifts (integer_matrix g.now) members.now right.now }
     ensures { IsNumberOf members.now (normal_form (integer_matrix g.now) (word_at members.now i ++ s ∷ [])) result }
 {
-    let Some(&t) = members.word(i).as_slice().first() else {
+    if i == 0 {
         return left_shift(g, members, left, s, i);
-    };
-    let parent = left_shift(g, members, left, t, i)?;
-    let shifted = known_right_shift(g, members, right, s, parent)?;
-    left_shift(g, members, left, t, shifted)
-}
-
-/// The left shift of a member.
-fn left_shift(g: &Coxeter, members: &Members, left: &[Option<u32>], s: u8, i: u32) -> Option<u32>
-    requires few { length members.now ≤ MAX_MEMBERS }
-    requires left { AreLeftShifts (integer_matrix g.now) members.now left.now }
-    requires member { i < length members.now }
-    requires letter { IsLetter g.now.rank s }
-    ensures { IsNumberOf members.now (normal_form (integer_matrix g.now) (s ∷ word_at members.now i)) result }
-{
-    entry(left, g.rank(), s, i)
+    }
+    let link = members.link(i);
+    let shifted = known_right_shift(g, members, right, s, link.rest)?;
+    left_shift(g, members, left, link.first, shifted)
 }
 
 /// The right shift of a member whose entries are there.
 fn known_right_shift(
     g: &Coxeter,
     members: &Members,
-    right: &[Option<u32>],
+    right: &[u32],
     s: u8,
     i: u32,
 ) -> Option<u32>
-    requires few { length members.now ≤ MAX_MEMBERS }
     requires right { AreRightShifts (integer_matrix g.now) members.now right.now }
     requires member { i < length members.now }
     requires letter { IsLetter g.now.rank s }
     requires known { i * g.now.rank + (s - 1) < length right.now }
     ensures { IsNumberOf members.now (normal_form (integer_matrix g.now) (word_at members.now i ++ s ∷ [])) result }
 {
+    prove!(members.len() <= MAX_MEMBERS);
     entry(right, g.rank(), s, i)
 }

@@ -1,36 +1,30 @@
--- The heights of each member tell whether some letter is no left descent of it.
-use Rattle.std.proofs.Common.{ℕ, ◌≡◌, ◌≤◌, ◌<◌, length, arith, sym, ◌∙◌, get_or, ⊎_elim}
+-- A letter lengthens one of the longest members exactly where its shift is no member.
+use Rattle.std.proofs.Common.{ℕ, ◌≡◌, ◌≤◌, ◌<◌, length, arith, sym, ◌∙◌, ⊎_elim}
 use Rattle.std.proofs.lemmas.Bool.{cases_lt, false≢true}
-use Rattle.cox_reflect.specs.Height.{AreHeights}
 use Rattle.cox_base.specs.Matrix.{IsLetter}
 use Rattle.cox_base.specs.IntegerMatrix.{IntegerMatrix, integer_matrix}
 use Rattle.cox_base.specs.Admissible.{IsAdmissible}
+use Rattle.cox_base.specs.Reduced.{IsLeftDescent}
 use Rattle.cox_reflect.proofs.Admissible.{IsAdmissible-integer_matrix}
 use Rattle.cox_context.specs.Numbers.{word_at}
+use Rattle.cox_context.specs.Shifts.{entry}
+use Rattle.cox_context.proofs.Shifting.{lacking-ascent, shifted-descent}
 use Rattle.cox_context.proofs.builder.Builder.goes_on.Goals as goal
 
-letter_along : (m n s : ℕ) → m ≡ n → IsLetter m s → IsLetter n s
-letter_along m n s e l = rw (← e) l
-
-pub returns-then-has_ascent-clause-yes : goal.returns-then-has_ascent-clause-yes
-returns-then-has_ascent-clause-yes c =
+pub returns-then-lacks_shift-clause-yes : goal.returns-then-lacks_shift-clause-yes
+returns-then-lacks_shift-clause-yes c =
     let A : IntegerMatrix = integer_matrix c.args.family.now.group
     in let within : c.loop-i.i < length c.args.self.now.members = omega (arith, c.len-i-end.ensures.len)
     in let g : IsAdmissible A = IsAdmissible-integer_matrix c.args.family.now.group c.rank-rank.ensures.matrix
-    in let read : c.index-heights.result.now ≡ get_or c.args.self.now.heights.items c.loop-i.i c.index-heights.result.now =
-    c.index-heights.ensures
-    in let heights : AreHeights A (word_at c.args.self.now.members c.loop-i.i) c.index-heights.result.now =
-    rw read (c.requires.heights.each c.loop-i.i c.index-heights.result.now within)
-    in let found = c.has_ascent.ensures.yes A (word_at c.args.self.now.members c.loop-i.i) g
-    (sym c.rank-rank.ensures.rank) heights c.if-has_ascent.true
+    in let found = rw (c.rank-rank.ensures.rank, c.as_slice.ensures.value) at (c.lacks_shift.ensures.yes c.if-lacks_shift.true)
     in λ yes. (
       c.loop-i.i,
       found.0,
       c.loop-i.auto.i,
       within,
-      letter_along c.rank-rank.result c.args.family.now.group.rank found.0
-          c.rank-rank.ensures.rank found.1,
-      found.2,
+      found.1,
+      lacking-ascent A g c.args.self.now.members c.requires.closed found.0 c.loop-i.i _ within
+          (c.requires.left.shift found.0 c.loop-i.i found.1 within) found.2,
     )
 
 pub loop-i-preserved : goal.loop-i-preserved
@@ -38,12 +32,10 @@ loop-i-preserved c =
     let A : IntegerMatrix = integer_matrix c.args.family.now.group
     in let within : c.loop-i.i < length c.args.self.now.members = omega (arith, c.len-i-end.ensures.len)
     in let g : IsAdmissible A = IsAdmissible-integer_matrix c.args.family.now.group c.rank-rank.ensures.matrix
-    in let read : c.index-heights.result.now ≡ get_or c.args.self.now.heights.items c.loop-i.i c.index-heights.result.now =
-    c.index-heights.ensures
-    in let heights : AreHeights A (word_at c.args.self.now.members c.loop-i.i) c.index-heights.result.now =
-    rw read (c.requires.heights.each c.loop-i.i c.index-heights.result.now within)
-    in let none = c.has_ascent.ensures.no A (word_at c.args.self.now.members c.loop-i.i) g (sym c.rank-rank.ensures.rank) heights
-    (λ yes. absurd (false≢true (sym c.if-has_ascent.false ∙ yes)))
+    in let all = rw (c.rank-rank.ensures.rank, c.as_slice.ensures.value) at
+    (c.lacks_shift.ensures.no (λ yes. absurd (false≢true (sym c.if-lacks_shift.false ∙ yes))))
     in λ i s from to l. ⊎_elim (λ (below : i < c.loop-i.i). c.loop-i.invariant i s from below l)
-    (λ (above : c.loop-i.i ≤ i). let e : i ≡ c.loop-i.i = omega (arith, to, above) in rw e (none s (rw c.rank-rank.ensures.rank l)))
+    (λ (above : c.loop-i.i ≤ i). let e : i ≡ c.loop-i.i = omega (arith, to, above) in rw e (shifted-descent A g c.args.self.now.members
+    c.requires.closed s c.loop-i.i _ l within (λ k m. c.requires.longest c.loop-i.i k c.loop-i.auto.i within m)
+    (c.requires.left.shift s c.loop-i.i l within) (all s l)))
     (cases_lt i c.loop-i.i)

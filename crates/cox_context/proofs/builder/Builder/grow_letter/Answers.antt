@@ -1,51 +1,53 @@
--- A child is appended exactly where it is a member.
+-- A child is appended exactly where it is the next member.
 use Rattle.std.proofs.Common.{rules, ℕ, ◌≡◌, ◌≤◌, ◌<◌, ◌+◌, ◌∷◌, ◌++◌, [], List, length, arith}
 use Rattle.cox_base.specs.IntegerMatrix.{IntegerMatrix, integer_matrix}
+use Rattle.cox_base.specs.declared.limits.TheConstants.{MAX_LETTERS}
+use Rattle.cox_reflect.proofs.Admissible.{IsAdmissible-integer_matrix}
+use Rattle.cox_context.specs.Closed.{IsClosed}
 use Rattle.cox_context.specs.Family.{IsMember}
+use Rattle.cox_context.specs.Growth.{IsGrowing}
 use Rattle.cox_context.specs.Refusal.{IsPrefixOf}
 use Rattle.cox_context.specs.Numbers.{word_at}
 use Rattle.cox_context.proofs.Ideals.{member-tailed}
-use Rattle.cox_context.proofs.HeightLists.{heights-push}
-use Rattle.cox_context.proofs.FaultLemmas.{rising-new}
 use Rattle.cox_context.proofs.GrowthLemmas.{IsTailed, growing-skip, growing-push, growing-prefix, growing-letter, push-length}
+use Rattle.cox_context.proofs.ChildLemmas.{member-closed, members-below, next-member, no-next-none}
+use Rattle.cox_context.proofs.RowLemmas.{shifts-push}
 use Rattle.cox_context.proofs.builder.Builder.grow_letter.Goals as goal
 use Rattle.cox_context.proofs.builder.Builder.grow_letter.Goals.{in-Some+in_ok-add, in_default}
 
--- the word s x, with x the parent
-word-is : {s : ℕ} {word x parent : List ℕ} → word ≡ s ∷ x → x ≡ parent → word ≡ s ∷ parent
-word-is e f = rw (← f) e
+pub child-requires-clause-closed : goal.child-requires-clause-closed
+child-requires-clause-closed c =
+    member-closed c.args.family.now.group c.requires.matrix c.args.family.now.top c.args.letters c.args.low c.args.high c.args.s
+    c.loop-parent.parent c.loop-parent.self.members c.loop-parent.invariant.growing c.requires.short
+    (omega (arith, c.loop-parent.invariant.room, c.requires.limit))
 
-pub add-requires-clause-new : goal.add-requires-clause-new
-add-requires-clause-new c =
-    let A : IntegerMatrix = integer_matrix c.args.family.now.group
-    in let P : List ℕ → Type 0 = IsMember A c.args.family.now.top
-    in let tailed : IsTailed c.args.family.now.group.rank P = member-tailed c.args.family.now.group c.requires.matrix c.args.family.now.top
-    in let child : c.with_first-word.result.items ≡ c.args.s ∷ word_at c.loop-parent.self.members c.loop-parent.parent
-    = word-is c.with_first-word.ensures c.word.ensures
-    in let member : P (c.args.s ∷ word_at c.loop-parent.self.members c.loop-parent.parent) = c.in-Some.ensures.member
-    in rw child (rising-new c.loop-parent.self.members (c.args.s ∷ word_at c.loop-parent.self.members c.loop-parent.parent)
-    (growing-prefix c.args.family.now.group.rank P tailed c.args.letters c.args.low c.args.high c.args.s c.loop-parent.parent
-    c.loop-parent.self.members c.loop-parent.invariant.growing c.loop-parent-test.true member).rising)
+pub child-requires-clause-below : goal.child-requires-clause-below
+child-requires-clause-below c =
+    members-below c.args.family.now.group c.requires.matrix c.args.family.now.top c.args.letters c.args.low c.args.high c.args.s
+    c.loop-parent.parent c.loop-parent.self.members c.loop-parent.invariant.growing
 
 pub returns-in_err-add-clause-fault : goal.returns-in_err-add-clause-fault
 returns-in_err-add-clause-fault c =
     let A : IntegerMatrix = integer_matrix c.args.family.now.group
     in let P : List ℕ → Type 0 = IsMember A c.args.family.now.top
     in let tailed : IsTailed c.args.family.now.group.rank P = member-tailed c.args.family.now.group c.requires.matrix c.args.family.now.top
-    in let child : c.with_first-word.result.items ≡ c.args.s ∷ word_at c.loop-parent.self.members c.loop-parent.parent
-    = word-is c.with_first-word.ensures c.word.ensures
-    in let member : P (c.args.s ∷ word_at c.loop-parent.self.members c.loop-parent.parent) = c.in-Some.ensures.member
-    in let prefix : IsPrefixOf P (c.loop-parent.self.members ++ c.with_first-word.result.items ∷ [])
-    = rw child (growing-prefix c.args.family.now.group.rank P tailed c.args.letters c.args.low c.args.high c.args.s c.loop-parent.parent
-    c.loop-parent.self.members c.loop-parent.invariant.growing c.loop-parent-test.true member)
-    in let short : (i : ℕ) → i < length c.loop-parent.self.members + 1
-    → length (word_at (c.loop-parent.self.members ++ c.with_first-word.result.items ∷ []) i) ≤ 63
-    = rw child (λ i l. omega (
+    in let y : List ℕ = c.args.s ∷ word_at c.loop-parent.self.members c.loop-parent.parent
+    in let closed : IsClosed A c.loop-parent.self.members = member-closed c.args.family.now.group c.requires.matrix c.args.family.now.top
+    c.args.letters c.args.low c.args.high c.args.s c.loop-parent.parent c.loop-parent.self.members c.loop-parent.invariant.growing
+    c.requires.short (omega (arith, c.loop-parent.invariant.room, c.requires.limit))
+    in let member : P y = next-member c.args.family.now.group c.requires.matrix c.args.family.now.top
+    c.args.letters c.args.low c.args.high c.args.s c.loop-parent.parent c.loop-parent.self.members c.loop-parent.invariant.growing
+    c.in-Some.lower c.requires.letter closed c.loop-parent-test.true c.in-Some.ensures.next
+    in let prefix : IsPrefixOf P (c.loop-parent.self.members ++ y ∷ [])
+    = growing-prefix c.args.family.now.group.rank P tailed c.args.letters c.args.low c.args.high c.args.s c.loop-parent.parent
+    c.loop-parent.self.members c.loop-parent.invariant.growing c.loop-parent-test.true member
+    in let short : (i : ℕ) → i < length c.loop-parent.self.members + 1 → length (word_at (c.loop-parent.self.members ++ y ∷ []) i) ≤ MAX_LETTERS
+    = λ i l. omega (
       arith,
       push-length c.args.family.now.group.rank P tailed c.args.letters c.args.low c.args.high c.args.s
           c.loop-parent.parent c.loop-parent.self.members c.loop-parent.invariant.growing c.loop-parent-test.true i l,
       c.requires.short,
-    ))
+    )
     in search (rules, c.in_err-add.ensures.fault A c.args.family.now.top prefix short)
 
 pub loop-parent-preserved : goal.loop-parent-preserved
@@ -53,26 +55,39 @@ loop-parent-preserved c =
     let A : IntegerMatrix = integer_matrix c.args.family.now.group
     in let P : List ℕ → Type 0 = IsMember A c.args.family.now.top
     in let tailed : IsTailed c.args.family.now.group.rank P = member-tailed c.args.family.now.group c.requires.matrix c.args.family.now.top
+    in let y : List ℕ = c.args.s ∷ word_at c.loop-parent.self.members c.loop-parent.parent
+    in let closed : IsClosed A c.loop-parent.self.members = member-closed c.args.family.now.group c.requires.matrix c.args.family.now.top
+    c.args.letters c.args.low c.args.high c.args.s c.loop-parent.parent c.loop-parent.self.members c.loop-parent.invariant.growing
+    c.requires.short (omega (arith, c.loop-parent.invariant.room, c.requires.limit))
     in elim c.match-child.branch [
       | in-Some+in_ok-add w ↦
-          let child : w.with_first-word.result.items ≡ c.args.s ∷ word_at c.loop-parent.self.members c.loop-parent.parent
-          = word-is w.with_first-word.ensures w.word.ensures
-          in let member : P (c.args.s ∷ word_at c.loop-parent.self.members c.loop-parent.parent) = w.in-Some.ensures.member
+          let next = w.in-Some.ensures.next
+          in let member : P y = next-member c.args.family.now.group c.requires.matrix c.args.family.now.top
+          c.args.letters c.args.low c.args.high c.args.s c.loop-parent.parent c.loop-parent.self.members c.loop-parent.invariant.growing
+          w.in-Some.lower c.requires.letter closed c.loop-parent-test.true next
+          in let growing : IsGrowing c.args.family.now.group.rank P c.args.letters c.args.low c.args.high c.args.s (c.loop-parent.parent + 1)
+          (c.loop-parent.self.members ++ y ∷ [])
+          = growing-push c.args.family.now.group.rank P tailed c.args.letters c.args.low c.args.high c.args.s c.loop-parent.parent
+          c.loop-parent.self.members c.loop-parent.invariant.growing c.loop-parent-test.true member
+          in let room : length (c.loop-parent.self.members ++ y ∷ []) ≤ c.args.limit = rw w.in_ok-add.ensures.added at w.in_ok-add.ensures.room
+          in let more : IsClosed A (c.loop-parent.self.members ++ y ∷ []) = member-closed c.args.family.now.group c.requires.matrix
+          c.args.family.now.top c.args.letters c.args.low c.args.high c.args.s (c.loop-parent.parent + 1)
+          (c.loop-parent.self.members ++ y ∷ []) growing c.requires.short (omega (arith, room, c.requires.limit))
           in rw w.self-is (record {
-            growing = rw (w.in_ok-add.ensures.added, child)
-                (growing-push c.args.family.now.group.rank P tailed c.args.letters c.args.low c.args.high c.args.s c.loop-parent.parent
-                c.loop-parent.self.members c.loop-parent.invariant.growing c.loop-parent-test.true member);
-            heights = rw (w.in_ok-add.ensures.added, w.in_ok-add.ensures.heights)
-                (heights-push A c.loop-parent.self.members c.loop-parent.self.heights.items w.with_first-word.result.items
-                w.in-Some.heights c.loop-parent.invariant.heights (rw child w.in-Some.ensures.heights));
+            growing = rw w.in_ok-add.ensures.added growing;
+            left = rw w.in_ok-add.ensures.added (shifts-push A (IsAdmissible-integer_matrix c.args.family.now.group c.requires.matrix)
+                c.loop-parent.self.members y more w.in-Some.lower c.loop-parent.self.left.items _ c.loop-parent.invariant.left next.numbers
+                (rw w.rank.ensures.rank at w.in_ok-add.ensures.left));
             room = w.in_ok-add.ensures.room;
           })
       | in_default w ↦
           rw w.self-is (record {
             growing =
                 growing-skip c.args.family.now.group.rank P tailed c.args.letters c.args.low c.args.high c.args.s c.loop-parent.parent
-                c.loop-parent.self.members c.loop-parent.invariant.growing c.loop-parent-test.true w.in_default.ensures.none;
-            heights = c.loop-parent.invariant.heights;
+                c.loop-parent.self.members c.loop-parent.invariant.growing c.loop-parent-test.true (no-next-none c.args.family.now.group
+                c.requires.matrix c.args.family.now.top c.args.letters c.args.low c.args.high c.args.s c.loop-parent.parent
+                c.loop-parent.self.members c.loop-parent.invariant.growing c.loop-parent-test.true w.in_default.ensures.none);
+            left = c.loop-parent.invariant.left;
             room = c.loop-parent.invariant.room;
           })
     ]

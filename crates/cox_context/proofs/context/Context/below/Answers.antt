@@ -1,81 +1,66 @@
 -- Each letter is a step of lifting, by the left shift that is kept.
-use Rattle.std.proofs.Common.{◌≡◌, ℕ, ◌+◌, ◌∷◌, ◌<◌, drop, slice_index, length, ap, subst, ◌∙◌, arith, add-one, drop-cons}
+use Rattle.std.proofs.Common.{◌≡◌, ℕ, [], arith}
 use Rattle.std.proofs.lemmas.Bool.{eqb-true, eq-eqb}
-use Rattle.std.proofs.lemmas.List.{drop_all}
-use Rattle.cox_base.specs.Admissible.{IsCoxeterMatrix, IsAdmissible}
 use Rattle.cox_base.specs.IntegerMatrix.{IntegerMatrix, integer_matrix}
-use Rattle.cox_base.specs.Reduced.{IsReduced}
-use Rattle.cox_reflect.proofs.Admissible.{IsAdmissible-integer_matrix}
-use Rattle.cox_context.specs.Closed.{Elements, IsClosed}
-use Rattle.cox_context.specs.Members.{IsElement}
 use Rattle.cox_context.specs.Numbers.{word_at}
-use Rattle.cox_context.proofs.Ideals.{element-length}
-use Rattle.cox_context.proofs.Shifting.{element-at}
-use Rattle.cox_reflect.proofs.OrderLemmas.{IsReduced-drop}
+use Rattle.cox_context.proofs.Shifting.{length-at, first-member}
+use Rattle.cox_context.proofs.RightShifts.{first-letter}
 use Rattle.cox_context.proofs.BelowLemmas.{settled-start, settled-next, settled-end}
 use Rattle.cox_context.proofs.context.Context.below.Goals as goal
-use Rattle.cox_context.proofs.context.Context.below.Goals.{in-Some, in_default}
 
 pub left-requires-clause-letter : goal.left-requires-clause-letter
 left-requires-clause-letter c =
-    let closed : IsClosed (integer_matrix c.args.self.now.matrix) c.args.self.now.members =
-    (let P : Elements → Type 0 = λ e. IsClosed (integer_matrix e.matrix) e.members in subst P c.self.view_is c.self.invariant.closed)
-    in let g : IsAdmissible (integer_matrix c.args.self.now.matrix)
-    = IsAdmissible-integer_matrix c.args.self.now.matrix
-    (let P : Elements → Type 0 = λ e. IsCoxeterMatrix e.matrix in subst P c.self.view_is c.rank-rank.ensures.matrix)
-    in let items : c.as_slice-t-items.result.now ≡ word_at c.args.self.now.members c.args.j
-    = c.as_slice-t-items.ensures.value ∙ c.word.ensures ∙ ap (λ (e : Elements). word_at e.members c.args.j) c.self.view_is
-    in let e : IsElement (integer_matrix c.args.self.now.matrix) c.as_slice-t-items.result.now =
-    rw items (element-at (integer_matrix c.args.self.now.matrix) g c.args.self.now.members closed c.args.j c.requires.j)
-    in e.letters c.loop-t.t-index 0 c.loop-t-test.true
+    first-letter (integer_matrix c.args.self.now.matrix) c.len.ensures.admissible c.args.self.now.members c.len.ensures.closed
+    c.link-link.result.first (word_at c.args.self.now.members c.link-link.result.rest) c.loop-upper.upper c.loop-upper.invariant.inside
+    c.link-link.ensures.word
 
-pub loop-t-init : goal.loop-t-init
-loop-t-init c =
-    let closed : IsClosed (integer_matrix c.args.self.now.matrix) c.args.self.now.members =
-    (let P : Elements → Type 0 = λ e. IsClosed (integer_matrix e.matrix) e.members in subst P c.self.view_is c.self.invariant.closed)
-    in let g : IsAdmissible (integer_matrix c.args.self.now.matrix)
-    = IsAdmissible-integer_matrix c.args.self.now.matrix
-    (let P : Elements → Type 0 = λ e. IsCoxeterMatrix e.matrix in subst P c.self.view_is c.rank-rank.ensures.matrix)
-    in let items : c.as_slice-t-items.result.now ≡ word_at c.args.self.now.members c.args.j
-    = c.as_slice-t-items.ensures.value ∙ c.word.ensures ∙ ap (λ (e : Elements). word_at e.members c.args.j) c.self.view_is
-    in rw items (settled-start (integer_matrix c.args.self.now.matrix) g c.args.self.now.members closed c.args.i c.args.j c.requires.i)
+pub loop-upper-init : goal.loop-upper-init
+loop-upper-init c = record {
+  inside = c.requires.j;
+  settled = settled-start (integer_matrix c.args.self.now.matrix) c.len.ensures.admissible c.args.self.now.members c.len.ensures.closed
+      c.args.i c.args.j c.requires.i;
+}
 
-pub loop-t-preserved : goal.loop-t-preserved
-loop-t-preserved c =
-    let closed : IsClosed (integer_matrix c.args.self.now.matrix) c.args.self.now.members =
-    (let P : Elements → Type 0 = λ e. IsClosed (integer_matrix e.matrix) e.members in subst P c.self.view_is c.self.invariant.closed)
-    in let g : IsAdmissible (integer_matrix c.args.self.now.matrix)
-    = IsAdmissible-integer_matrix c.args.self.now.matrix
-    (let P : Elements → Type 0 = λ e. IsCoxeterMatrix e.matrix in subst P c.self.view_is c.rank-rank.ensures.matrix)
-    in let items : c.as_slice-t-items.result.now ≡ word_at c.args.self.now.members c.args.j
-    = c.as_slice-t-items.ensures.value ∙ c.word.ensures ∙ ap (λ (e : Elements). word_at e.members c.args.j) c.self.view_is
-    in let A : IntegerMatrix = integer_matrix c.args.self.now.matrix
-    in let e : IsElement A c.as_slice-t-items.result.now = rw items (element-at A g c.args.self.now.members closed c.args.j c.requires.j)
-    in let more : c.loop-t.t-index < length c.as_slice-t-items.result.now = c.loop-t-test.true
-    in let t : ℕ = slice_index c.as_slice-t-items.result.now c.loop-t.t-index
-    in let prefix : drop c.loop-t.t-index c.as_slice-t-items.result.now ≡ t ∷ drop (c.loop-t.t-index + 1) c.as_slice-t-items.result.now
-    = rw (add-one, drop-cons c.as_slice-t-items.result.now c.loop-t.t-index 0)
-    in let reduced : IsReduced A (drop c.loop-t.t-index c.as_slice-t-items.result.now) =
-    IsReduced-drop A g c.loop-t.t-index c.as_slice-t-items.result.now (element-length A g c.as_slice-t-items.result.now e)
-    in let next = settled-next A g c.args.self.now.members closed (word_at c.args.self.now.members c.args.i)
-    (word_at c.args.self.now.members c.args.j) (drop c.loop-t.t-index c.as_slice-t-items.result.now)
-    (drop (c.loop-t.t-index + 1) c.as_slice-t-items.result.now) t c.loop-t.rest c.left.result
-    (e.letters c.loop-t.t-index 0 more) c.loop-t.invariant prefix reduced c.left.ensures
-    in elim c.match-left.branch [
-      | in-Some w ↦ let lower = rw w.in-Some.is at next in rw (w.rest-is, w.min-rest.ensures) lower
-      | in_default w ↦ let same = rw w.in_default.is at next in rw w.rest-is same
-    ]
+pub loop-upper-preserved-in-Some : goal.loop-upper-preserved-in-Some
+loop-upper-preserved-in-Some c =
+    let A : IntegerMatrix = integer_matrix c.args.self.now.matrix
+    in let letter = first-letter A c.len.ensures.admissible c.args.self.now.members c.len.ensures.closed
+    c.link-link.result.first (word_at c.args.self.now.members c.link-link.result.rest) c.loop-upper.upper c.loop-upper.invariant.inside
+    c.link-link.ensures.word
+    in let next = settled-next A c.len.ensures.admissible c.args.self.now.members c.len.ensures.closed
+    (word_at c.args.self.now.members c.args.i) (word_at c.args.self.now.members c.args.j) (word_at c.args.self.now.members c.loop-upper.upper)
+    (word_at c.args.self.now.members c.link-link.result.rest) c.link-link.result.first c.loop-upper.rest c.left.result letter
+    c.loop-upper.invariant.settled c.link-link.ensures.word
+    (length-at A c.len.ensures.admissible c.args.self.now.members c.len.ensures.closed c.loop-upper.upper c.loop-upper.invariant.inside)
+    c.left.ensures
+    in record {
+      inside = omega (arith, c.link-link.ensures.inward, c.loop-upper.invariant.inside);
+      settled = rw c.min-rest.ensures (rw c.in-Some.is at next);
+    }
+
+pub loop-upper-preserved : goal.loop-upper-preserved
+loop-upper-preserved c =
+    let A : IntegerMatrix = integer_matrix c.args.self.now.matrix
+    in let letter = first-letter A c.len.ensures.admissible c.args.self.now.members c.len.ensures.closed
+    c.link-link.result.first (word_at c.args.self.now.members c.link-link.result.rest) c.loop-upper.upper c.loop-upper.invariant.inside
+    c.link-link.ensures.word
+    in let next = settled-next A c.len.ensures.admissible c.args.self.now.members c.len.ensures.closed
+    (word_at c.args.self.now.members c.args.i) (word_at c.args.self.now.members c.args.j) (word_at c.args.self.now.members c.loop-upper.upper)
+    (word_at c.args.self.now.members c.link-link.result.rest) c.link-link.result.first c.loop-upper.rest c.left.result letter
+    c.loop-upper.invariant.settled c.link-link.ensures.word
+    (length-at A c.len.ensures.admissible c.args.self.now.members c.len.ensures.closed c.loop-upper.upper c.loop-upper.invariant.inside)
+    c.left.ensures
+    in record {
+      inside = omega (arith, c.link-link.ensures.inward, c.loop-upper.invariant.inside);
+      settled = rw c.in_default.is at next;
+    }
 
 pub returns : goal.returns
 returns c =
-    let closed : IsClosed (integer_matrix c.args.self.now.matrix) c.args.self.now.members =
-    (let P : Elements → Type 0 = λ e. IsClosed (integer_matrix e.matrix) e.members in subst P c.self.view_is c.self.invariant.closed)
-    in let g : IsAdmissible (integer_matrix c.args.self.now.matrix)
-    = IsAdmissible-integer_matrix c.args.self.now.matrix
-    (let P : Elements → Type 0 = λ e. IsCoxeterMatrix e.matrix in subst P c.self.view_is c.rank-rank.ensures.matrix)
-    in let items : c.as_slice-t-items.result.now ≡ word_at c.args.self.now.members c.args.j
-    = c.as_slice-t-items.ensures.value ∙ c.word.ensures ∙ ap (λ (e : Elements). word_at e.members c.args.j) c.self.view_is
-    in settled-end (integer_matrix c.args.self.now.matrix) g c.args.self.now.members closed (word_at c.args.self.now.members c.args.i)
-    (word_at c.args.self.now.members c.args.j) _ c.loop-t.rest _
-    (drop_all c.loop-t.t-index c.as_slice-t-items.result.now (omega arith)) c.loop-t.invariant
-    (eqb-true c.loop-t.rest 0, eq-eqb c.loop-t.rest 0)
+    let A : IntegerMatrix = integer_matrix c.args.self.now.matrix
+    in let zero : c.loop-upper.upper ≡ 0 = omega arith
+    in let none : word_at c.args.self.now.members c.loop-upper.upper ≡ [] =
+    rw zero (first-member A c.len.ensures.admissible c.args.self.now.members c.len.ensures.closed)
+    in settled-end A c.len.ensures.admissible c.args.self.now.members c.len.ensures.closed (word_at c.args.self.now.members c.args.i)
+    (word_at c.args.self.now.members c.args.j) (word_at c.args.self.now.members c.loop-upper.upper) c.loop-upper.rest _ none
+    c.loop-upper.invariant.settled (eqb-true c.loop-upper.rest 0, eq-eqb c.loop-upper.rest 0)

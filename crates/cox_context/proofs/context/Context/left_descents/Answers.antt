@@ -1,13 +1,14 @@
--- The letters that are kept for a member are its left descents.
-use Rattle.std.proofs.Common.{◌<◌, ℕ, List, length, ap, subst, sym, ◌∙◌}
-use Rattle.arrayvec.specs.ArrayVec.{ArrayVec}
+-- The letters of the set are the left descents.
+use Rattle.std.proofs.Common.{ap, sym, ◌∙◌, ℕ, List, filter}
+use Rattle.cox_base.specs.ShortLex.{letters}
+use Rattle.cox_base.specs.IntegerMatrix.{integer_matrix}
 use Rattle.cox_context.specs.Closed.{Elements}
-use Rattle.cox_context.specs.Shifts.{letters_at}
+use Rattle.cox_context.specs.Numbers.{word_at}
+use Rattle.cox_context.specs.Sets.{has_letter}
+use Rattle.cox_context.proofs.BelowLemmas.{left-letters}
 use Rattle.cox_context.proofs.context.Context.left_descents.Goals as goal
 
 pub returns : goal.returns
-returns c =
-    let member : c.args.i < length c.self.inside.members =
-    (let P : Elements → Type 0 = λ e. c.args.i < length e.members in subst P (sym c.self.view_is) c.requires)
-    in rw (← c.self.view_is) (c.kept_word.ensures ∙ ap (λ (kept : List (ArrayVec ℕ)). letters_at kept c.args.i) c.as_slice.ensures.value
-    ∙ c.self.invariant.left_letters.letters c.args.i member)
+returns c = c.letters_of.ensures
+    ∙ ap (λ (n : ℕ). filter (has_letter c.left_descent_set.result) (letters n)) (c.rank.ensures.rank ∙ ap (λ (e : Elements). e.matrix.rank) c.self.view_is)
+    ∙ left-letters (integer_matrix c.args.self.now.matrix) (word_at c.args.self.now.members c.args.i) c.left_descent_set.result c.left_descent_set.ensures

@@ -1,5 +1,5 @@
 -- The builder finds the interval up to the normal form of w, which is that up to w.
-use Rattle.std.proofs.Common.{rules, ◌≡◌, List, ℕ, length, IfErr, arith}
+use Rattle.std.proofs.Common.{rules, ◌≡◌, ◌∙◌, List, ℕ, length, IfErr, arith}
 use Rattle.cox_base.specs.Matrix.{CoxeterMatrix}
 use Rattle.cox_base.specs.Admissible.{IsCoxeterMatrix, IsAdmissible}
 use Rattle.cox_base.specs.IntegerMatrix.{IntegerMatrix, integer_matrix}
@@ -27,10 +27,9 @@ form-same x y e matrix w top f =
 
 pub grow-requires-clause-top : goal.grow-requires-clause-top
 grow-requires-clause-top c = (
-  rw c.copy.ensures c.normal_form-top.ensures.word,
-  (form-same c.args.group.now c.copy.result c.copy.ensures c.in_ok-builder.ensures.matrix c.args.w.now.items c.normal_form-top.result.items
+  rw (c.copy.ensures ∙ c.group.ensures) c.normal_form-top.ensures.word,
+  (form-same c.args.group.now c.copy.result (c.copy.ensures ∙ c.group.ensures) c.in_ok-builder.ensures.matrix c.args.w.now.items c.normal_form-top.result.items
       c.normal_form-top.ensures.form).0,
-  omega (arith, c.normal_form-top.ensures.no_longer, c.requires.short),
 )
 
 pub returns-in_err-grow-clause-refused : goal.returns-in_err-grow-clause-refused
@@ -40,9 +39,9 @@ returns-in_err-grow-clause-refused c =
     in let top : List ℕ = c.normal_form-top.result.items
     in let w : List ℕ = c.args.w.now.items
     in let form =
-    form-same c.args.group.now c.copy.result c.copy.ensures c.in_ok-builder.ensures.matrix w top c.normal_form-top.ensures.form
+    form-same c.args.group.now c.copy.result (c.copy.ensures ∙ c.group.ensures) c.in_ok-builder.ensures.matrix w top c.normal_form-top.ensures.form
     in let refused : IfErr c.from_residual-in_err-grow.result (IsRefusal (IsInInterval A top) c.args.limit) = search rules
-    in rw (← c.copy.ensures) (result-along (IsInInterval A top) (IsInInterval A w) (interval-from A g w top form.1)
+    in rw (← (c.copy.ensures ∙ c.group.ensures)) (result-along (IsInInterval A top) (IsInInterval A w) (interval-from A g w top form.1)
     (interval-from A g top w (same-sym A g form.1)) c.args.limit c.from_residual-in_err-grow.result refused)
 
 -- the members that were found are the interval up to the normal form
@@ -52,17 +51,17 @@ members c =
     let A : IntegerMatrix = integer_matrix c.copy.result
     in let g : IsAdmissible A = IsAdmissible-integer_matrix c.copy.result c.in_ok-builder.ensures.matrix
     in let top : List ℕ = c.normal_form-top.result.items
-    in let form = form-same c.args.group.now c.copy.result c.copy.ensures c.in_ok-builder.ensures.matrix c.args.w.now.items top
+    in let form = form-same c.args.group.now c.copy.result (c.copy.ensures ∙ c.group.ensures) c.in_ok-builder.ensures.matrix c.args.w.now.items top
     c.normal_form-top.ensures.form
     in let letters : c.len-letters.result ≡ length top = search rules
     in interval-list A g top c.in_ok-grow.field-0 c.grow.new.self.members form.0 (rw (← letters) c.in_ok-grow.ensures.grown)
 
 pub of_members-requires-clause-closed : goal.of_members-requires-clause-closed
 of_members-requires-clause-closed c =
-    let form = form-same c.args.group.now c.copy.result c.copy.ensures c.in_ok-builder.ensures.matrix c.args.w.now.items
+    let form = form-same c.args.group.now c.copy.result (c.copy.ensures ∙ c.group.ensures) c.in_ok-builder.ensures.matrix c.args.w.now.items
     c.normal_form-top.result.items c.normal_form-top.ensures.form
     in interval-closed (integer_matrix c.copy.result) (IsAdmissible-integer_matrix c.copy.result c.in_ok-builder.ensures.matrix)
-    c.normal_form-top.result.items c.grow.new.self.members form.0 (omega (arith, c.normal_form-top.ensures.no_longer, c.requires.short))
+    c.normal_form-top.result.items c.grow.new.self.members form.0 (omega arith)
     (omega (arith, c.in_ok-grow.ensures.room, c.requires.limit)) (members c)
 
 pub returns-clause-members : goal.returns-clause-members
@@ -72,8 +71,8 @@ returns-clause-members c =
     in let top : List ℕ = c.normal_form-top.result.items
     in let w : List ℕ = c.args.w.now.items
     in let form =
-    form-same c.args.group.now c.copy.result c.copy.ensures c.in_ok-builder.ensures.matrix w top c.normal_form-top.ensures.form
+    form-same c.args.group.now c.copy.result (c.copy.ensures ∙ c.group.ensures) c.in_ok-builder.ensures.matrix w top c.normal_form-top.ensures.form
     in let list : IsListOf (IsInInterval A w) c.grow.new.self.members = list-along (IsInInterval A top) (IsInInterval A w)
     (interval-from A g w top form.1) (interval-from A g top w (same-sym A g form.1)) c.grow.new.self.members (members c.before)
-    in rw (← c.copy.ensures) (made_members c.of_members.result c.copy.result c.grow.new.self.members (IsListOf (IsInInterval A w))
+    in rw (← (c.copy.ensures ∙ c.group.ensures)) (made_members c.of_members.result c.copy.result c.grow.new.self.members (IsListOf (IsInInterval A w))
     c.of_members.ensures.made list)

@@ -2,7 +2,7 @@
 use Rattle.cox_base.specs.IntegerMatrix.{IntegerMatrix, integer_matrix}
 use Rattle.cox_base.specs.Admissible.{IsAdmissible}
 use Rattle.cox_reflect.proofs.Admissible.{IsAdmissible-integer_matrix}
-use Rattle.cox_context.proofs.BelowLemmas.{left-lowering, right-lowering}
+use Rattle.cox_context.proofs.BelowLemmas.{left-sets, right-sets}
 use Rattle.cox_context.proofs.context.Context.of_members.Goals as goal
 
 pub invariant_of-result : goal.invariant_of-result
@@ -11,15 +11,15 @@ invariant_of-result c =
     in let g : IsAdmissible A = IsAdmissible-integer_matrix c.args.group c.rank-rank.ensures.matrix
     in record {
       closed = c.requires.closed;
-      left_shifts = c.in-Ok.ensures;
-      right_size = c.in-Ok-right_shifts.ensures.size;
-      right_shifts = c.in-Ok-right_shifts.ensures.shifts;
-      left_letters =
-          left-lowering A g c.args.builder.members c.requires.closed c.in-Ok.left.items c.in-Ok-all_lowering.left_descents.items
-          c.in-Ok.ensures
-          (rw (c.rank-rank.ensures.rank, c.len-count.ensures.len, c.as_slice-3.ensures.value) at c.in-Ok-all_lowering.ensures);
-      right_letters =
-          right-lowering A g c.args.builder.members c.requires.closed c.in-Ok-right_shifts.right.items
-          c.in-Ok-all_lowering-2.right_descents.items c.in-Ok-right_shifts.ensures.size c.in-Ok-right_shifts.ensures.shifts
-          (rw (c.rank-rank.ensures.rank, c.len-count.ensures.len, c.as_slice-4.ensures.value) at c.in-Ok-all_lowering-2.ensures);
+      left_shifts = c.requires.left;
+      right_size = c.in-Ok.ensures.size;
+      right_shifts = c.in-Ok.ensures.shifts;
+      left_bits =
+          left-sets A g c.args.builder.members c.requires.closed c.args.builder.left.items c.in-Ok-lowering_sets.left_descents.items
+          c.requires.left
+          (rw (c.rank-rank.ensures.rank, c.len-count.ensures.len, c.as_slice-2.ensures.value) at c.in-Ok-lowering_sets.ensures);
+      right_bits =
+          right-sets A g c.args.builder.members c.requires.closed c.in-Ok.right.items
+          c.in-Ok-lowering_sets-2.right_descents.items c.in-Ok.ensures.size c.in-Ok.ensures.shifts
+          (rw (c.rank-rank.ensures.rank, c.len-count.ensures.len, c.as_slice-3.ensures.value) at c.in-Ok-lowering_sets-2.ensures);
     }

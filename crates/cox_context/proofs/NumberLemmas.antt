@@ -1,0 +1,72 @@
+-- The number of a word, by shifts from its last letter to its first.
+use Rattle.std.proofs.Common.{◌≡◌, ℕ, zero, suc, ◌+◌, ◌-◌, ◌≤◌, ◌<◌, List, [], ◌∷◌, length, drop, get_or, drop-cons, Contains, Option, None, Some, refl, ap, sym, ◌∙◌, ⊎_elim, arith}
+use Rattle.std.proofs.lemmas.Bool.{cases_lt}
+use Rattle.std.proofs.lemmas.List.Elements.{All-head}
+use Rattle.cox_base.specs.Matrix.{IsLetter}
+use Rattle.cox_base.specs.IntegerMatrix.{IntegerMatrix}
+use Rattle.cox_base.specs.Admissible.{IsAdmissible}
+use Rattle.cox_base.specs.ShortLex.{normal_form}
+use Rattle.cox_context.specs.Closed.{IsClosed}
+use Rattle.cox_context.specs.Members.{IsElement}
+use Rattle.cox_context.specs.Numbers.{word_at, IsNumberOf}
+use Rattle.cox_context.proofs.ListLemmas.{rising-length}
+use Rattle.cox_context.proofs.Ideals.{element-tail, below-tail}
+use Rattle.cox_context.proofs.Shifting.{shift-back}
+use Rattle.cox_context.proofs.RightShifts.{first-off}
+
+module _ (A : IntegerMatrix) (g : IsAdmissible A) (words : List (List ℕ)) (closed : IsClosed A words) where
+  -- the end of a member is a member
+  pub contains-drop : (k : ℕ) (word : List ℕ) → Contains words word → Contains words (drop k word)
+  contains-drop zero word c = c
+  contains-drop (suc k) [] c = c
+  contains-drop (suc k) (s ∷ x) c =
+      let e = closed.element (s ∷ x) c
+      in contains-drop k x (closed.down x (s ∷ x) c (element-tail A g s x e) (below-tail A g s x e))
+
+  pub contained-letter : (s : ℕ) (x : List ℕ) → Contains words (s ∷ x) → IsLetter A.rank s
+  contained-letter s x c = All-head (IsLetter A.rank) s x (closed.element (s ∷ x) c).letters
+
+  contained-normal : (s : ℕ) (x : List ℕ) → Contains words (s ∷ x) → normal_form A (s ∷ x) ≡ s ∷ x
+  contained-normal s x c = (closed.element (s ∷ x) c).normal
+
+  -- where s x is a member with that word, the shift of x by s leads to it
+  pub shift-contained : (s : ℕ) (x : List ℕ) → Contains words (s ∷ x) → (Contains words (normal_form A (s ∷ x)) → ⊥) → ⊥
+  shift-contained s x c none = none (rw (contained-normal s x c) c)
+
+  pub shift-word : (s at k : ℕ) → Contains words (s ∷ word_at words at) → word_at words k ≡ normal_form A (s ∷ word_at words at)
+      → word_at words k ≡ s ∷ word_at words at
+  shift-word s at k c e = e ∙ contained-normal s (word_at words at) c
+
+  pub shift-later : (s at k : ℕ) → Contains words (s ∷ word_at words at) → at < length words
+      → word_at words k ≡ normal_form A (s ∷ word_at words at) → at < k
+  shift-later s at k c l e =
+      ⊎_elim (λ (less : at < k). less)
+      (λ (more : k ≤ at). absurd (omega (arith, rising-length words k at closed.rising more l, ap length (shift-word s at k c e))))
+      (cases_lt at k)
+
+  -- a shift to a member that begins with s is that member without s
+  pub shift-is : (s at k rest : ℕ) → at < length words → k < length words → word_at words k ≡ normal_form A (s ∷ word_at words at)
+      → word_at words k ≡ s ∷ word_at words rest → word_at words k ≡ s ∷ word_at words at
+  shift-is s at k rest l m e f =
+      let back : word_at words at ≡ word_at words rest = shift-back A g words closed s at k l e ∙ first-off A g words closed s (word_at words rest) k m f
+      in f ∙ ap (λ (x : List ℕ). s ∷ x) (sym back)
+
+  -- the next letter of a member's word, from behind, with the rest
+  next-drop : (letters : List ℕ) (done : ℕ) → done < length letters
+      → drop (length letters - (done + 1)) letters ≡ get_or letters (length letters - 1 - done) 0 ∷ drop (length letters - done) letters
+  next-drop letters done l =
+      let e : length letters - (done + 1) ≡ length letters - 1 - done = omega arith
+      in let f : suc (length letters - 1 - done) ≡ length letters - done = omega (arith, l)
+      in rw (e, ← f) (drop-cons letters (length letters - 1 - done) 0 (omega (arith, l)))
+
+  pub next-contained : (letters word : List ℕ) (done at : ℕ) → done < length letters → letters ≡ word
+      → word_at words at ≡ drop (length letters - done) letters
+      → Contains words word → Contains words (get_or letters (length letters - 1 - done) 0 ∷ word_at words at)
+  next-contained letters word done at l q e c =
+      rw (e, ← next-drop letters done l) (contains-drop (length letters - (done + 1)) letters (rw q c))
+
+  pub next-word : (letters : List ℕ) (done at k : ℕ) → done < length letters → word_at words at ≡ drop (length letters - done) letters
+      → word_at words k ≡ get_or letters (length letters - 1 - done) 0 ∷ word_at words at
+      → word_at words k ≡ drop (length letters - (done + 1)) letters
+  next-word letters done at k l e f =
+      f ∙ ap (λ (x : List ℕ). get_or letters (length letters - 1 - done) 0 ∷ x) e ∙ sym (next-drop letters done l)

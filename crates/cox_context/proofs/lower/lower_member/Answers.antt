@@ -1,0 +1,8 @@
+-- Where t is s, t y is the member x itself.
+use Rattle.cox_context.proofs.LowerLemmas.{own-lower}
+use Rattle.cox_context.proofs.lower.lower_member.Goals as goal
+
+pub returns-then-t-s-clause-lower : goal.returns-then-t-s-clause-lower
+returns-then-t-s-clause-lower c =
+    rw c.if-t-s.true (own-lower c.args.g.now c.requires.matrix c.args.members.now c.requires.closed c.args.s c.args.i c.requires.letter_s
+    c.requires.member c.requires.new)

@@ -1,0 +1,10 @@
+-- The entries of the letters before t.
+use Rattle.std.proofs.Common.{◌≡◌, ◌<◌, ◌∷◌, ℕ, length}
+use Rattle.cox_base.specs.Matrix.{IsLetter}
+use Rattle.cox_base.specs.IntegerMatrix.{integer_matrix}
+use Rattle.cox_context.specs.Numbers.{word_at}
+use Rattle.cox_context.proofs.RowLemmas.{AreLowerBefore}
+use Rattle.cox_context.proofs.lower.lower_members.Given as goal
+
+abbrev pub invariant-loop-t : goal.invariant-loop-t
+invariant-loop-t l = AreLowerBefore (integer_matrix l.g) l.members (l.s ∷ word_at l.members l.i) l.t l.lower

@@ -1,0 +1,98 @@
+//! Whether an element y that is not among the members yet is below the top of an interval, by the shorter elements t y.
+ghost use Rattle.std.specs.Prelude.{◌≡◌, ℕ, List, ◌<◌, ◌≤◌, ◌↔◌, IsTrue, IfSome, length, Contains};
+ghost use Rattle.arrayvec.specs.ArrayVec.{ArrayVec};
+ghost use Rattle.cox_base.specs.Matrix.{IsLetter, IsWord};
+ghost use Rattle.cox_base.specs.Admissible.{IsCoxeterMatrix};
+ghost use Rattle.cox_base.specs.IntegerMatrix.{integer_matrix};
+ghost use Rattle.cox_base.specs.Reduced.{IsReduced, IsLeftDescent};
+ghost use Rattle.cox_base.specs.Bruhat.{IsBelow};
+ghost use Rattle.cox_context.specs.Closed.{IsClosed};
+ghost use Rattle.cox_context.specs.Shifts.{entry, AreLeftShifts, IsLower};
+ghost use Rattle.cox_context.specs.Growth.{AreLower, AreBelowTop, left_word};
+ghost use Rattle.cox_context.specs.Family.{IsTop, IsBelowTop};
+
+use crate::family::Family;
+use crate::members::Members;
+use crate::shifts::{entry, lower_shift};
+use cox_base::{Coxeter, MAX_RANK, Word};
+
+/// Whether y is below the top, where there is one, for an element y other than the identity with these elements t y.
+pub(crate) fn is_below_top(family: &Family, members: &Members, left: &[u32], lower: &[u32]) -> bool
+    requires matrix { IsCoxeterMatrix family.now.group }
+    requires top { IsTop (integer_matrix family.now.group) family.now.top }
+    requires closed { IsClosed (integer_matrix family.now.group) members.now }
+    requires left { AreLeftShifts (integer_matrix family.now.group) members.now left.now }
+    requires below { AreBelowTop (integer_matrix family.now.group) family.now.top members.now }
+    requires size { family.now.group.rank ≤ length lower.now }
+    requires inside { (t k : ℕ) → IsLetter family.now.group.rank t → entry family.now.group.rank lower.now t 0 ≡ Some k → k < length members.now }
+    ensures { (y : List ℕ) (s : ℕ) → IsLeftDescent (integer_matrix family.now.group) y s → AreLower (integer_matrix family.now.group) members.now y lower.now
+        → (IsTrue result ↔ IsBelowTop (integer_matrix family.now.group) family.now.top y) }
+{
+    match &family.top {
+        None => true,
+        Some(top) => {
+            shares_descent(family.group.rank(), family.descents.as_slice(), lower)
+                || lifts(&family.group, members, left, lower, top)
+        }
+    }
+}
+
+/// Whether one of these letters shortens y.
+fn shares_descent(rank: u32, descents: &[u8], lower: &[u32]) -> bool
+    requires limit { rank ≤ MAX_RANK }
+    requires letters { IsWord rank descents.now }
+    requires size { rank ≤ length lower.now }
+    ensures { IsTrue result → (t k : ℕ) × Contains descents.now t × (entry rank lower.now t 0 ≡ Some k) }
+{
+    for &t in descents {
+        if entry(lower, rank, t, 0).is_some() {
+            return true;
+        }
+    }
+    false
+}
+
+/// Whether y is below the element of a reduced word: by lifting (Humphreys 5.9), each letter of it that shortens what is left of y is taken off.
+fn lifts(g: &Coxeter, members: &Members, left: &[u32], lower: &[u32], top: &Word) -> bool
+    requires matrix { IsCoxeterMatrix g.now }
+    requires closed { IsClosed (integer_matrix g.now) members.now }
+    requires left { AreLeftShifts (integer_matrix g.now) members.now left.now }
+    requires size { g.now.rank ≤ length lower.now }
+    requires inside { (t k : ℕ) → IsLetter g.now.rank t → entry g.now.rank lower.now t 0 ≡ Some k → k < length members.now }
+    requires letters { IsWord g.now.rank top.now.items }
+    requires reduced { IsReduced (integer_matrix g.now) top.now.items }
+    ensures { (y : List ℕ) (s : ℕ) → IsLeftDescent (integer_matrix g.now) y s → AreLower (integer_matrix g.now) members.now y lower.now
+        → (IsTrue result ↔ IsBelow (integer_matrix g.now) y top.now.items) }
+{
+    let mut at = None;
+    for &t in top.as_slice() {
+        at = shorter_left(g, members, left, lower, at, t).or(at);
+    }
+    at == Some(0)
+}
+
+/// The number of what is left of y after t is taken off, where t shortens it; y itself is left where no member is given.
+fn shorter_left(
+    g: &Coxeter,
+    members: &Members,
+    left: &[u32],
+    lower: &[u32],
+    at: Option<u32>,
+    t: u8,
+) -> Option<u32>
+    requires matrix { IsCoxeterMatrix g.now }
+    requires closed { IsClosed (integer_matrix g.now) members.now }
+    requires left { AreLeftShifts (integer_matrix g.now) members.now left.now }
+    requires size { g.now.rank ≤ length lower.now }
+    requires inside { (t k : ℕ) → IsLetter g.now.rank t → entry g.now.rank lower.now t 0 ≡ Some k → k < length members.now }
+    requires member { IfSome at (λ i. i < length members.now) }
+    requires letter { IsLetter g.now.rank t }
+    ensures lower { (y : List ℕ) → AreLower (integer_matrix g.now) members.now y lower.now
+        → IsLower (integer_matrix g.now) members.now (left_word members.now y at) t result }
+    ensures member { IfSome result (λ k. k < length members.now) }
+{
+    match at {
+        None => entry(lower, g.rank(), t, 0),
+        Some(i) => lower_shift(g, members, left, t, i),
+    }
+}

@@ -1,0 +1,120 @@
+//! The shorter elements t y of an element y = s x that is one letter longer than the member x, for each letter t that shortens y.
+//!
+//! Let t be another letter than s, and m the order of s t. Then t shortens y exactly where m is finite and the first m - 1 steps from x by t, s, t, ..
+//! all shorten. The next m - 1 steps lead back up on the other side, to t y. So all is read off the shifts of members.
+ghost use Rattle.std.specs.Prelude.{◌≡◌, ◌<◌, ◌≤◌, ◌∷◌, length, Contains, IfOk, OnErr};
+ghost use Rattle.cox_base.specs.Matrix.{IsLetter};
+ghost use Rattle.cox_base.specs.IntegerMatrix.{integer_matrix};
+ghost use Rattle.cox_base.specs.Admissible.{IsCoxeterMatrix};
+ghost use Rattle.cox_base.specs.ShortLex.{normal_form};
+ghost use Rattle.cox_context.specs.Closed.{IsClosed};
+ghost use Rattle.cox_context.specs.Numbers.{word_at};
+ghost use Rattle.cox_context.specs.Shifts.{AreLeftShifts, IsLower};
+ghost use Rattle.cox_context.specs.Growth.{AreLower, IsOutside};
+
+use crate::members::Members;
+use crate::shifts::{NO_MEMBER, left_shift, lower_shift};
+use cox_base::{Coxeter, MAX_RANK};
+
+/// An element below y is not among the members.
+#[derive(Clone, Copy)]
+pub(crate) struct Outside;
+
+/// The numbers of the t y, in the order of the letters, for y = s x with the member x of the number i.
+pub(crate) fn lower_members(
+    g: &Coxeter,
+    members: &Members,
+    left: &[u32],
+    s: u8,
+    i: u32,
+) -> Result<[u32; MAX_RANK], Outside>
+    requires matrix { IsCoxeterMatrix g.now }
+    requires closed { IsClosed (integer_matrix g.now) members.now }
+    requires left { AreLeftShifts (integer_matrix g.now) members.now left.now }
+    requires letter { IsLetter g.now.rank s }
+    requires member { i < length members.now }
+    requires new { ¬ (Contains members.now (normal_form (integer_matrix g.now) (s ∷ word_at members.now i))) }
+    ensures lower { IfOk result (AreLower (integer_matrix g.now) members.now (s ∷ word_at members.now i)) }
+    ensures outside { OnErr result (IsOutside (integer_matrix g.now) members.now (s ∷ word_at members.now i) (length (word_at members.now i))) }
+{
+    let mut lower = [NO_MEMBER; MAX_RANK];
+    for t in 1..g.rank() as u8 + 1 {
+        if let Some(k) = lower_member(g, members, left, s, t, i)? {
+            lower[t as usize - 1] = k;
+        }
+    }
+    Ok(lower)
+}
+
+/// The number of t y, where t shortens y.
+fn lower_member(
+    g: &Coxeter,
+    members: &Members,
+    left: &[u32],
+    s: u8,
+    t: u8,
+    i: u32,
+) -> Result<Option<u32>, Outside>
+    requires matrix { IsCoxeterMatrix g.now }
+    requires closed { IsClosed (integer_matrix g.now) members.now }
+    requires left { AreLeftShifts (integer_matrix g.now) members.now left.now }
+    requires letter_s { IsLetter g.now.rank s }
+    requires letter_t { IsLetter g.now.rank t }
+    requires member { i < length members.now }
+    requires new { ¬ (Contains members.now (normal_form (integer_matrix g.now) (s ∷ word_at members.now i))) }
+    ensures lower { IfOk result (IsLower (integer_matrix g.now) members.now (s ∷ word_at members.now i) t) }
+    ensures outside { OnErr result (IsOutside (integer_matrix g.now) members.now (s ∷ word_at members.now i) (length (word_at members.now i))) }
+{
+    if t == s {
+        return Ok(Some(i));
+    }
+    walk(g, members, left, s, t, i)
+}
+
+/// The number of t y, where t shortens y and is not s.
+fn walk(
+    g: &Coxeter,
+    members: &Members,
+    left: &[u32],
+    s: u8,
+    t: u8,
+    i: u32,
+) -> Result<Option<u32>, Outside>
+    requires matrix { IsCoxeterMatrix g.now }
+    requires closed { IsClosed (integer_matrix g.now) members.now }
+    requires left { AreLeftShifts (integer_matrix g.now) members.now left.now }
+    requires letter_s { IsLetter g.now.rank s }
+    requires letter_t { IsLetter g.now.rank t }
+    requires apart { ¬ (t ≡ s) }
+    requires member { i < length members.now }
+    requires new { ¬ (Contains members.now (normal_form (integer_matrix g.now) (s ∷ word_at members.now i))) }
+    ensures lower { IfOk result (IsLower (integer_matrix g.now) members.now (s ∷ word_at members.now i) t) }
+    ensures outside { OnErr result (IsOutside (integer_matrix g.now) members.now (s ∷ word_at members.now i) (length (word_at members.now i))) }
+{
+    let order = g.label(t, s);
+    if order == 0 {
+        return Ok(None);
+    }
+    let mut at = i;
+    let mut letter = t;
+    let mut other = s;
+    'down: for _down in 1..order {
+        let Some(lower) = lower_shift(g, members, left, letter, at) else {
+            return Ok(None);
+        };
+        at = lower;
+        let next = other;
+        other = letter;
+        letter = next;
+    }
+    'up: for _up in 1..order {
+        let Some(higher) = left_shift(g, members, left, letter, at) else {
+            return Err(Outside);
+        };
+        at = higher;
+        let next = other;
+        other = letter;
+        letter = next;
+    }
+    Ok(Some(at))
+}
