@@ -12,6 +12,9 @@ fn short_word(g: &Coxeter, text: &[u8]) -> Option<Word>
     ensures letters { IfSome result (λ w. IsWord g.now.rank w.items) }
     ensures short { IfSome result (λ w. length w.items ≤ LETTERS_OF_128_BITS) }
 {
+    if text.len() > LETTERS_OF_128_BITS {
+        return None;
+    }
     let word = read_word(text, g.rank()).ok()?;
     if word.len() > LETTERS_OF_128_BITS {
         return None;

@@ -6,7 +6,7 @@ ghost use Rattle.cox_shell.specs.Saying.{PutsUnless};
 
 use crate::answers::unanswered::{Unanswered, unrefused};
 use crate::workspace::Workspace;
-use cox_base::Word;
+use cox_base::{MAX_LETTERS, Word};
 use cox_command::Refusal;
 use cox_rpoly::{RFault, r};
 
@@ -17,6 +17,7 @@ pub fn put_rpol(out: &mut Vec<u8>, work: &Workspace, y: &Word, w: &Word) -> Resu
     ensures { PutsUnless result (RefusesFar (integer_matrix work.now.table) y.now.items w.now.items)
         (IsRText (integer_matrix work.now.table) y.now.items w.now.items) out.old.items out.new.items }
 {
+    prove!(y.len() <= MAX_LETTERS && w.len() <= MAX_LETTERS);
     match r(*out.allocator(), &work.table, y, w) {
         Ok(p) => unrefused(p.put_text(out)),
         Err(RFault::Deep(_)) => Err(Unanswered::Refused(Refusal::FarApart)),
