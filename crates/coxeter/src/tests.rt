@@ -307,6 +307,36 @@ fn longest_words(rt: HostRuntime) -> Result<(), Fail> {
     Ok(())
 }
 
+/// `rpol` of a word of 255 letters and so many of its first ones.
+#[test]
+fn r_of_long_words(rt: HostRuntime) -> Result<(), Fail> {
+    let rows: [(&str, &str, usize, &str); 4] = [
+        ("matrix 2 0\n", "12", 216, "-1+2q-2q^2+2q^3-2q^4+2q^5-2q^6+2q^7-2q^8+2q^9-2q^10+2q^11-2q^12+2q^13-2q^14+2q^15-2q^16+2q^17-2q^18+2q^19-2q^20+2q^21-2q^22+2q^23-2q^24+2q^25-2q^26+2q^27-2q^28+2q^29-2q^30+2q^31-2q^32+2q^33-2q^34+2q^35-2q^36+2q^37-2q^38+q^39\n"),
+        ("matrix 2 0\n", "12", 215, "error 34\n"),
+        ("matrix 3 0 0 0\n", "123", 254, "-1+q\n"),
+        ("matrix 3 0 0 0\n", "123", 253, "1-2q+q^2\n"),
+    ];
+    for (group, letters, count, written) in rows {
+        let mut word = Vec::new(rt.alloc());
+        while word.len() < 255 {
+            word.extend_from_slice(letters.as_bytes())?;
+        }
+        word.truncate(255);
+        let mut script = group.as_bytes().to_vec(rt.alloc())?;
+        script.extend_from_slice(b"rpol ")?;
+        script.extend_from_slice(&word[..count])?;
+        script.push(b' ')?;
+        script.extend_from_slice(&word)?;
+        let run = Run {
+            room: 400,
+            ..plain(&script)
+        };
+        let (_, sink) = end_of(rt.alloc(), run)?;
+        assert_eq!(rt; sink.bytes(), written.as_bytes(), "{count} letters in {group}");
+    }
+    Ok(())
+}
+
 /// Runs each of these scripts.
 fn run_filled(rt: &impl Abort, alloc: Global, scripts: &[Filled]) -> Result<(), Fail> {
     for (first, size, byte, last, written, status) in scripts {
