@@ -1,0 +1,3 @@
+//! The laws.
+pub fn nothing()
+{}
