@@ -147,3 +147,11 @@ module _ (A : IntegerMatrix) (g : IsAdmissible A) where
   some_right_descent x some =
       let d = some_left_descent (reverse x) (omega (arith, some, word_length-reverse A g x))
       in (d.0, rw (reverse-reverse x) at (left_descent_reverse A g (reverse x) d.0 d.1))
+
+  -- the identity is the element of length 0
+  pub empty_same : (x : List ℕ) → word_length A x ≡ 0 → SameElement A x []
+  empty_same x z = go (normal_form A x) refl
+    where
+      go : (n : List ℕ) → normal_form A x ≡ n → SameElement A x []
+      go [] e = same-trans A g (same-sym A g (normal_form-same A g x)) (same-equal A g e)
+      go (t ∷ n) e = absurd (omega (arith, z, word_length-is A x, ap length e))

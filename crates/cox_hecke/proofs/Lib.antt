@@ -2,3 +2,7 @@
 pub mod Descents
 -- the operators with a sign, so that the recursion of R is one of them
 pub mod Signed
+-- words of operators: they depend on the element alone
+pub mod WordOperators
+-- R by these operators: its recursion for every left and every right descent, and at inverses
+pub mod RPolynomials

@@ -2,8 +2,7 @@
 -- is the recursion of R-polynomials. Left and right operators commute, and one of each kind undoes the other but for a factor q.
 use Rattle.std.proofs.Common.{◌≡◌, ℕ, zero, suc, ◌+◌, Bool, true, false, not, if◌then◌else◌, List, [], ◌∷◌, ◌++◌, reverse, refl, ap, sym, ◌∙◌, arith}
 use Rattle.std.proofs.lemmas.Int.{ints}
-use Rattle.std.proofs.lemmas.List.{reverse-reverse}
-use mathlib.Core.List.{reverse-cons}
+use Rattle.std.proofs.lemmas.List.{reverse-append}
 use Rattle.cox_base.specs.Matrix.{IsLetter}
 use Rattle.cox_base.specs.IntegerMatrix.{IntegerMatrix}
 use Rattle.cox_base.specs.Admissible.{IsAdmissible}
@@ -207,3 +206,28 @@ module _ (A : IntegerMatrix) (g : IsAdmissible A) where
         at x k (apart p q) =
             rw (p, q) (commute_core b (shortens_left A s x) (shortens_right A t x) (h x) (h (s ∷ x)) (h (x ++ t ∷ [])) (h (s ∷ x ++ t ∷ [])) k)
         at x k (together e p) = far x (shortens_left A s x) e refl (sym p) k
+
+    far_back : (x : List ℕ) (p : Bool) → SameElement A (s ∷ x) (x ++ t ∷ []) → shortens_left A s x ≡ p → shortens_right A t x ≡ p
+        → (k : ℕ) → left_back A b s (right_back A b t h) x k ≡ right_back A b t (left_back A b s h) x k
+    far_back x true e p q k =
+        rw (sym (shortens_left-same A g s e), shortens_right-same A g t e, shortens_left-back A g s x l, shortens_right-back A g t x m, p, q,
+        respected r (around x e), respected r e) refl
+    far_back x false e p q k =
+        rw (sym (shortens_left-same A g s e), shortens_right-same A g t e, shortens_left-back A g s x l, shortens_right-back A g t x m, p, q,
+        respected r (around x e), respected r e) refl
+
+    pub left_back-right_back : left_back A b s (right_back A b t h) ≡ right_back A b t (left_back A b s h)
+    left_back-right_back = λ i x k. at x k (sides_of A g s t x l m) i
+      where
+        at : (x : List ℕ) (k : ℕ) → SidesOf A g s t x → left_back A b s (right_back A b t h) x k ≡ right_back A b t (left_back A b s h) x k
+        at x k (apart p q) =
+            rw (p, q) (commute_back_core b (shortens_left A s x) (shortens_right A t x) (h x) (h (s ∷ x)) (h (x ++ t ∷ [])) (h (s ∷ x ++ t ∷ [])) k)
+        at x k (together e p) = far_back x (shortens_left A s x) e refl (sym p) k
+
+  -- ---- inverses turn left into right
+
+  pub at_inverses-left_back : (b : Bool) (s : ℕ) (h : Family) → at_inverses (left_back A b s h) ≡ right_back A b s (at_inverses h)
+  at_inverses-left_back b s h = λ i x. at x i
+    where
+      at : (x : List ℕ) → left_back A b s h (reverse x) ≡ right_back A b s (at_inverses h) x
+      at x = rw (shortens-reverse A g s x, reverse-append x (s ∷ [])) refl
