@@ -15,7 +15,7 @@ use Rattle.cox_base.specs.Reduced.{IsReduced, IsLeftDescent, IsRightDescent}
 use Rattle.cox_reflect.proofs.Elements.{same-refl, same-sym, same-trans, same-cons, same-push, same-square, same-push_twice, same-equal}
 use Rattle.cox_reflect.proofs.Search.{normal_form-same, word_length-equal, word_length-length}
 use Rattle.cox_reflect.proofs.Lengths.{word_length-is, word_length-cons_reverse, word_length-reverse, IsReduced-normal_form, IsReduced-tail}
-use Rattle.cox_reflect.proofs.Roots.{left_descent-letter, descent-letter, left_descent_reverse}
+use Rattle.cox_reflect.proofs.Roots.{left_descent-letter, descent-letter, left_descent_reverse, reverse_left_descent}
 use Rattle.cox_reflect.proofs.Deletion.{left_length, right_length, sides_same}
 use Rattle.cox_hecke.specs.Operators.{shortens_left, shortens_right}
 
@@ -155,3 +155,11 @@ module _ (A : IntegerMatrix) (g : IsAdmissible A) where
       go : (n : List ℕ) → normal_form A x ≡ n → SameElement A x []
       go [] e = same-trans A g (same-sym A g (normal_form-same A g x)) (same-equal A g e)
       go (t ∷ n) e = absurd (omega (arith, z, word_length-is A x, ap length e))
+
+  -- ---- inverses
+
+  pub descent-reverse : (u : List ℕ) (s : ℕ) → IsRightDescent A u s → IsLeftDescent A (reverse u) s
+  descent-reverse u s d = reverse_left_descent A g (reverse u) s (rw (reverse-reverse u) d)
+
+  pub reverse-descent : (u : List ℕ) (s : ℕ) → IsLeftDescent A (reverse u) s → IsRightDescent A u s
+  reverse-descent u s d = rw (reverse-reverse u) at (left_descent_reverse A g (reverse u) s d)

@@ -4,19 +4,23 @@ use Rattle.std.proofs.Common.{◌≡◌, ℕ, zero, suc, ◌+◌, ◌-◌, ◌<�
 use Rattle.std.proofs.Common.{pos, refl, ap, sym, ◌∙◌, ⊎_elim, arith}
 use Rattle.std.specs.Prelude.{nat_lt, ◌==◌}
 use Rattle.std.proofs.lemmas.Int.{ints}
+use Rattle.std.proofs.lemmas.Bool.{cases_eq}
+use Rattle.std.proofs.lemmas.Bool.Decides.{nat_tests}
+use Rattle.std.proofs.lemmas.List.Elements.{All-head, All-tail}
 use Rattle.std.proofs.lemmas.List.{reverse-reverse, reverse-append}
 use mathlib.Core.List.{reverse-cons}
-use Rattle.cox_base.specs.Matrix.{IsLetter}
+use Rattle.cox_base.specs.Matrix.{IsLetter, IsWord}
 use Rattle.cox_base.specs.IntegerMatrix.{IntegerMatrix}
 use Rattle.cox_base.specs.Admissible.{IsAdmissible}
 use Rattle.cox_base.specs.Element.{SameElement}
 use Rattle.cox_base.specs.ShortLex.{normal_form}
 use Rattle.cox_base.specs.Length.{word_length}
 use Rattle.cox_base.specs.Reduced.{IsReduced, IsLeftDescent, IsRightDescent}
-use Rattle.cox_reflect.proofs.Elements.{same-refl, same-sym, same-trans, same-cons, same-square, same-push_twice, same-reverse}
-use Rattle.cox_reflect.proofs.Search.{normal_form-same, word_length-equal}
+use Rattle.cox_reflect.proofs.Elements.{same-refl, same-sym, same-trans, same-cons, same-push, same-square, same-push_twice, same-reverse}
+use Rattle.cox_reflect.proofs.Search.{normal_form-same, word_length-equal, word_length-length, IsWord-normal_form}
 use Rattle.cox_reflect.proofs.Lengths.{word_length-is, word_length-reverse, IsReduced-normal_form, IsReduced-reverse, IsReduced-tail, cons-word_length}
-use Rattle.cox_reflect.proofs.Roots.{left_descent-letter, reverse_left_descent}
+use Rattle.cox_reflect.proofs.WordLemmas.{IsWord-reverse}
+use Rattle.cox_reflect.proofs.Roots.{left_descent-letter}
 use Rattle.cox_poly.specs.Coefficients.{Coefficients, zero_polynomial, one_polynomial, plus, times_q, times_q_less_one}
 use Rattle.cox_poly.specs.Products.{minus, negated}
 use Rattle.cox_rpoly.specs.RPolynomial.{r_along, r_polynomial}
@@ -24,7 +28,7 @@ use Rattle.cox_rpoly.proofs.AlongLemmas.{along-shorter, along-longer}
 use Rattle.cox_rpoly.proofs.PolynomialLemmas.{r_polynomial-is, r_polynomial-same}
 use Rattle.cox_hecke.specs.Family.{Family, RespectsElements, unit}
 use Rattle.cox_hecke.specs.Operators.{shortens_left, shortens_right}
-use Rattle.cox_hecke.proofs.Descents.{nat_lt-yes, nat_lt-no, yes-nat_lt, no-nat_lt, shortens_left-back, reduced-letter}
+use Rattle.cox_hecke.proofs.Descents.{nat_lt-yes, nat_lt-no, yes-nat_lt, no-nat_lt, shortens_left-back, empty_same, descent-reverse, reverse-descent}
 use Rattle.cox_hecke.proofs.Signed.{signed, left_back, right_back, at_inverses, at_inverses-left_back, left_back-right_back, right_back-respects}
 use Rattle.cox_hecke.proofs.Signed.{at_inverses-respects}
 use Rattle.cox_hecke.proofs.WordOperators.{back_along, back_along-respects, back_along-same}
@@ -38,15 +42,37 @@ longer_core f h (suc k) = omega (arith, ints)
 pub along-operators : (A : IntegerMatrix) (u : List ℕ) (x : List ℕ) → r_along A x u ≡ back_along A false u (unit A) x
 unfolding r_along
 along-operators A [] x = refl
-along-operators A (s ∷ u) x = go (shortens_left A s x) refl
+along-operators A (s ∷ u) x = go (shortens_left A s x) refl (along-operators A u x) (along-operators A u (s ∷ x))
   where
-    go : (b : Bool) → shortens_left A s x ≡ b → r_along A x (s ∷ u) ≡ back_along A false (s ∷ u) (unit A) x
-    go true e = along-shorter A x s u (yes-nat_lt (word_length A (s ∷ x)) (word_length A x) e) ∙ along-operators A u (s ∷ x) ∙ rw e refl
-    go false e =
+    go : (b : Bool) → shortens_left A s x ≡ b → r_along A x u ≡ back_along A false u (unit A) x
+        → r_along A (s ∷ x) u ≡ back_along A false u (unit A) (s ∷ x) → r_along A x (s ∷ u) ≡ back_along A false (s ∷ u) (unit A) x
+    go true e same moved = along-shorter A x s u (yes-nat_lt (word_length A (s ∷ x)) (word_length A x) e) ∙ moved ∙ rw e refl
+    go false e same moved =
         along-longer A x s u (no-nat_lt (word_length A (s ∷ x)) (word_length A x) e)
-        ∙ ap (λ (f : Coefficients). plus (times_q_less_one f) (times_q (r_along A (s ∷ x) u))) (along-operators A u x)
-        ∙ ap (λ (h : Coefficients). plus (times_q_less_one (back_along A false u (unit A) x)) (times_q h)) (along-operators A u (s ∷ x))
+        ∙ ap (λ (f : Coefficients). plus (times_q_less_one f) (times_q (r_along A (s ∷ x) u))) same
+        ∙ ap (λ (h : Coefficients). plus (times_q_less_one (back_along A false u (unit A) x)) (times_q h)) moved
         ∙ (λ i k. longer_core (back_along A false u (unit A) x) (back_along A false u (unit A) (s ∷ x)) k i) ∙ rw e refl
+
+sides_core : (b p r : Bool) (k : ℕ)
+    → (if p then zero_polynomial else minus (times_q zero_polynomial) (signed b zero_polynomial)) k
+    ≡ (if r then zero_polynomial else minus (times_q zero_polynomial) (signed b zero_polynomial)) k
+sides_core b true true k = refl
+sides_core true true false zero = refl
+sides_core true true false (suc k) = refl
+sides_core false true false zero = refl
+sides_core false true false (suc k) = refl
+sides_core true false true zero = refl
+sides_core true false true (suc k) = refl
+sides_core false false true zero = refl
+sides_core false false true (suc k) = refl
+sides_core b false false k = refl
+
+unit-other : (A : IntegerMatrix) (x : List ℕ) → (word_length A x ≡ 0 → ⊥) → unit A x ≡ zero_polynomial
+unit-other A x n = let e : (word_length A x == 0) ≡ false = grind (arith, nat_tests) in rw e refl
+
+back_along-append : (A : IntegerMatrix) (b : Bool) (u v : List ℕ) (h : Family) → back_along A b (u ++ v) h ≡ back_along A b u (back_along A b v h)
+back_along-append A b [] v h = refl
+back_along-append A b (s ∷ u) v h = ap (left_back A b s) (back_along-append A b u v h)
 
 module _ (A : IntegerMatrix) (g : IsAdmissible A) where
   pub unit-respects : RespectsElements A (unit A)
@@ -97,7 +123,7 @@ module _ (A : IntegerMatrix) (g : IsAdmissible A) where
       → r_polynomial A x w ≡ plus (times_q_less_one (r_polynomial A (s ∷ x) w)) (times_q (r_polynomial A (s ∷ x) (s ∷ w)))
   r-left_longer x w s d n =
       r-left x w s d ∙ rw (nat_lt-no (word_length A (s ∷ x)) (word_length A x) n) refl
-      ∙ (λ i k. longer_core (r_polynomial A x (s ∷ w)) (r_polynomial A (s ∷ x) (s ∷ w)) k (~ i))
+      ∙ sym (λ i k. longer_core (r_polynomial A x (s ∷ w)) (r_polynomial A (s ∷ x) (s ∷ w)) k i)
       ∙ ap (λ (f : Coefficients). plus (times_q_less_one f) (times_q (r_polynomial A (s ∷ x) (s ∷ w)))) (sym (r-left_moved x w s d n))
 
   -- ---- inverses
@@ -106,11 +132,102 @@ module _ (A : IntegerMatrix) (g : IsAdmissible A) where
   unit-sides : (b : Bool) (s : ℕ) → left_back A b s (unit A) ≡ right_back A b s (unit A)
   unit-sides b s = λ i x. at x i
     where
+      -- sx = e exactly where xs = e
+      left_then_right : (x : List ℕ) → word_length A (s ∷ x) ≡ 0 → word_length A (x ++ s ∷ []) ≡ 0
+      left_then_right x z =
+          let single : SameElement A x (s ∷ [])
+          = same-trans A g (same-sym A g (same-square A g s x)) (same-cons A g s (empty_same A g (s ∷ x) z))
+          in omega (arith, word_length-equal A g (same-trans A g (same-push A g s single) (same-square A g s [])), word_length-length A g [])
+
+      right_then_left : (x : List ℕ) → word_length A (x ++ s ∷ []) ≡ 0 → word_length A (s ∷ x) ≡ 0
+      right_then_left x z =
+          let single : SameElement A x (s ∷ [])
+          = same-trans A g (same-sym A g (same-push_twice A g x s)) (same-push A g s (empty_same A g (x ++ s ∷ []) z))
+          in omega (arith, word_length-equal A g (same-trans A g (same-cons A g s single) (same-square A g s [])), word_length-length A g [])
+
+      none_core : (p r : Bool) (k : ℕ)
+          → (if p then zero_polynomial else minus (times_q zero_polynomial) (signed b zero_polynomial)) k
+          ≡ (if r then zero_polynomial else minus (times_q zero_polynomial) (signed b zero_polynomial)) k
+      none_core p r k = sides_core b p r k
+
       at : (x : List ℕ) → left_back A b s (unit A) x ≡ right_back A b s (unit A) x
-      at x = ?
+      at x = ⊎_elim (λ (z : word_length A (s ∷ x) ≡ 0). meet z) (λ (n : word_length A (s ∷ x) ≡ 0 → ⊥).
+          miss n (λ e. n (right_then_left x e))) (cases_eq (word_length A (s ∷ x)) 0)
+        where
+          meet : word_length A (s ∷ x) ≡ 0 → left_back A b s (unit A) x ≡ right_back A b s (unit A) x
+          meet z = rw (z, left_then_right x z) refl
+
+          miss : (word_length A (s ∷ x) ≡ 0 → ⊥) → (word_length A (x ++ s ∷ []) ≡ 0 → ⊥)
+              → left_back A b s (unit A) x ≡ right_back A b s (unit A) x
+          miss n m =
+              ⊎_elim
+              (λ (z : word_length A x ≡ 0).
+                  rw (nat_lt-no (word_length A (s ∷ x)) (word_length A x) (λ l. omega (arith, l, z)),
+                  nat_lt-no (word_length A (x ++ s ∷ [])) (word_length A x) (λ l. omega (arith, l, z)), unit-other A (s ∷ x) n,
+                  unit-other A (x ++ s ∷ []) m) refl)
+              (λ (c : word_length A x ≡ 0 → ⊥).
+                  rw (unit-other A (s ∷ x) n, unit-other A (x ++ s ∷ []) m, unit-other A x c)
+                  (λ i k. none_core (shortens_left A s x) (shortens_right A s x) k i))
+              (cases_eq (word_length A x) 0)
 
   unit-inverses : at_inverses (unit A) ≡ unit A
   unit-inverses = λ i x. at x i
     where
       at : (x : List ℕ) → unit A (reverse x) ≡ unit A x
       at x = rw (word_length-reverse A g x) refl
+
+  back_along-right : (b : Bool) (u : List ℕ) (t : ℕ) (h : Family) → IsWord A.rank u → IsLetter A.rank t → RespectsElements A h
+      → back_along A b u (right_back A b t h) ≡ right_back A b t (back_along A b u h)
+  back_along-right b [] t h c l r = refl
+  back_along-right b (s ∷ u) t h c l r =
+      ap (left_back A b s) (back_along-right b u t h (All-tail (IsLetter A.rank) s u c) l r)
+      ∙ left_back-right_back A g b s t (back_along A b u h) (All-head (IsLetter A.rank) s u c) l (back_along-respects A g b u h r)
+
+  back_along-reverse : (b : Bool) (u : List ℕ) → IsWord A.rank u → at_inverses (back_along A b u (unit A)) ≡ back_along A b (reverse u) (unit A)
+  back_along-reverse b [] c = unit-inverses
+  back_along-reverse b (s ∷ u) c =
+      at_inverses-left_back A g b s (back_along A b u (unit A))
+      ∙ ap (right_back A b s) (back_along-reverse b u (All-tail (IsLetter A.rank) s u c))
+      ∙ sym (back_along-right b (reverse u) s (unit A) (IsWord-reverse u (All-tail (IsLetter A.rank) s u c)) (All-head (IsLetter A.rank) s u c)
+      unit-respects)
+      ∙ ap (back_along A b (reverse u)) (sym (unit-sides b s))
+      ∙ sym (back_along-append A b (reverse u) (s ∷ []) (unit A))
+      ∙ ap (λ (v : List ℕ). back_along A b v (unit A)) (sym (reverse-cons s u))
+
+  pub r-inverse : (x w : List ℕ) → r_polynomial A (reverse x) (reverse w) ≡ r_polynomial A x w
+  r-inverse x w =
+      r-word (reverse x) (reverse w) (reverse (normal_form A w)) (IsReduced-reverse A g (normal_form A w) (IsReduced-normal_form A g w))
+      (same-reverse A g (normal_form-same A g w))
+      ∙ ap (λ (h : Family). h (reverse x)) (sym (back_along-reverse false (normal_form A w) (IsWord-normal_form A g w)))
+      ∙ ap (back_along A false (normal_form A w) (unit A)) (reverse-reverse x)
+      ∙ sym (r-word x w (normal_form A w) (IsReduced-normal_form A g w) (normal_form-same A g w))
+
+  -- ---- a right descent, any
+
+  r-push : (x w : List ℕ) (s t : ℕ) → r_polynomial A (s ∷ reverse x) (t ∷ reverse w) ≡ r_polynomial A (x ++ s ∷ []) (w ++ t ∷ [])
+  r-push x w s t =
+      ap (λ (y : List ℕ). r_polynomial A y (t ∷ reverse w)) (sym (reverse-append x (s ∷ [])))
+      ∙ ap (r_polynomial A (reverse (x ++ s ∷ []))) (sym (reverse-append w (t ∷ []))) ∙ r-inverse (x ++ s ∷ []) (w ++ t ∷ [])
+
+  r-push_one : (x w : List ℕ) (s : ℕ) → r_polynomial A (s ∷ reverse x) (reverse w) ≡ r_polynomial A (x ++ s ∷ []) w
+  r-push_one x w s = ap (λ (y : List ℕ). r_polynomial A y (reverse w)) (sym (reverse-append x (s ∷ []))) ∙ r-inverse (x ++ s ∷ []) w
+
+  pub r-right_shorter : (x w : List ℕ) (s : ℕ) → IsRightDescent A w s → IsRightDescent A x s
+      → r_polynomial A x w ≡ r_polynomial A (x ++ s ∷ []) (w ++ s ∷ [])
+  r-right_shorter x w s d c =
+      sym (r-inverse x w) ∙ r-left_shorter (reverse x) (reverse w) s (descent-reverse A g w s d) (descent-reverse A g x s c) ∙ r-push x w s s
+
+  pub r-right_longer : (x w : List ℕ) (s : ℕ) → IsRightDescent A w s → (IsRightDescent A x s → ⊥)
+      → r_polynomial A x w ≡ plus (times_q_less_one (r_polynomial A (x ++ s ∷ []) w)) (times_q (r_polynomial A (x ++ s ∷ []) (w ++ s ∷ [])))
+  r-right_longer x w s d n =
+      sym (r-inverse x w)
+      ∙ r-left_longer (reverse x) (reverse w) s (descent-reverse A g w s d) (λ c. n (reverse-descent A g x s c))
+      ∙ ap (λ (f : Coefficients). plus (times_q_less_one f) (times_q (r_polynomial A (s ∷ reverse x) (s ∷ reverse w)))) (r-push_one x w s)
+      ∙ ap (λ (f : Coefficients). plus (times_q_less_one (r_polynomial A (x ++ s ∷ []) w)) (times_q f)) (r-push x w s s)
+
+  pub r-right_moved : (x w : List ℕ) (s : ℕ) → IsRightDescent A w s → (IsRightDescent A x s → ⊥)
+      → r_polynomial A (x ++ s ∷ []) w ≡ r_polynomial A x (w ++ s ∷ [])
+  r-right_moved x w s d n =
+      sym (r-push_one x w s)
+      ∙ r-left_moved (reverse x) (reverse w) s (descent-reverse A g w s d) (λ c. n (reverse-descent A g x s c))
+      ∙ ap (r_polynomial A (reverse x)) (sym (reverse-append w (s ∷ []))) ∙ r-inverse x (w ++ s ∷ [])
