@@ -6,3 +6,9 @@ pub mod Signed
 pub mod WordOperators
 -- R by these operators: its recursion for every left and every right descent, and at inverses
 pub mod RPolynomials
+-- sums over lists of elements
+pub mod SumLemmas
+-- lists of the elements below one, and between two
+pub mod ElementLists
+-- bar respects 1 + T(s)
+pub mod BarSums
