@@ -12,3 +12,5 @@ pub mod SumLemmas
 pub mod ElementLists
 -- bar respects 1 + T(s)
 pub mod BarSums
+-- families that another one is turned round
+pub mod Balance
