@@ -14,3 +14,5 @@ pub mod ElementLists
 pub mod BarSums
 -- families that another one is turned round
 pub mod Balance
+-- rows: their last condition over any list; each element has at most one
+pub mod RowLemmas
