@@ -16,3 +16,5 @@ pub mod BarSums
 pub mod Balance
 -- rows: their last condition over any list; each element has at most one
 pub mod RowLemmas
+-- the step from the row of v to the row of sv
+pub mod StepRow

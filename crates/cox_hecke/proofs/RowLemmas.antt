@@ -34,7 +34,7 @@ flip_low n f low same k = ⊎_elim
     (λ (l : n ≤ 2 * k). low k l)
     (cases_lt (2 * k) n)
 
-one_above : (k : ℕ) → 0 < k → one_polynomial k ≡ pos 0
+pub one_above : (k : ℕ) → 0 < k → one_polynomial k ≡ pos 0
 one_above zero l = absurd (omega arith)
 one_above (suc k) l = refl
 
