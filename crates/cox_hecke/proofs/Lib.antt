@@ -18,3 +18,5 @@ pub mod Balance
 pub mod RowLemmas
 -- the step from the row of v to the row of sv
 pub mod StepRow
+-- the step family is the row
+pub mod StepIsRow

@@ -111,19 +111,19 @@ module _ (A : IntegerMatrix) (v : List ℕ) (s : ℕ) (p : Family) (P : List ℕ
 
   module _ (g : IsAdmissible A) (l : IsLetter A.rank s) (rising : shortens_left A s v ≡ false) (row : IsRow A v p)
       (rows : (z : List ℕ) → IsBelow A z v → IsRow A z (P z)) (same_rows : (y z : List ℕ) → SameElement A y z → P y ≡ P z) where
-    size : word_length A (s ∷ v) ≡ suc (word_length A v)
+    pub size : word_length A (s ∷ v) ≡ suc (word_length A v)
     size = subst (λ (b : Bool). Moves b (word_length A v) (word_length A (s ∷ v))) rising (left_moves A g s v l)
 
-    upper : shortens_left A s (s ∷ v) ≡ true
+    pub upper : shortens_left A s (s ∷ v) ≡ true
     upper = shortens_left-back A g s v l ∙ ap not rising
 
-    descent : IsLeftDescent A (s ∷ v) s
+    pub descent : IsLeftDescent A (s ∷ v) s
     descent = yes-nat_lt (word_length A (s ∷ s ∷ v)) (word_length A (s ∷ v)) upper
 
-    lower_below : IsBelow A v (s ∷ v)
+    pub lower_below : IsBelow A v (s ∷ v)
     lower_below = below-same A g (same-square A g s v) (same-refl A g (s ∷ v)) (below-descent A g (s ∷ v) s descent)
 
-    corrects_or_not : (z : List ℕ) → Corrects z ⊎ (scale z ≡ pos 0)
+    pub corrects_or_not : (z : List ℕ) → Corrects z ⊎ (scale z ≡ pos 0)
     corrects_or_not z = go (shortens_left A s z) ((word_length A v - word_length A z) % 2 == 1) refl refl
       where
         go : (a b : Bool) → shortens_left A s z ≡ a → ((word_length A v - word_length A z) % 2 == 1) ≡ b → Corrects z ⊎ (scale z ≡ pos 0)
@@ -137,7 +137,7 @@ module _ (A : IntegerMatrix) (v : List ℕ) (s : ℕ) (p : Family) (P : List ℕ
         go true false e f = inr (scale-even z f)
         go false b e f = inr (scale-long z e)
 
-    half-is : (z : List ℕ) (c : Corrects z) → half z ≡ suc c.degree
+    pub half-is : (z : List ℕ) (c : Corrects z) → half z ≡ suc c.degree
     unfolding half
     half-is z c = omega (arith, size, c.odd)
 
@@ -151,7 +151,7 @@ module _ (A : IntegerMatrix) (v : List ℕ) (s : ℕ) (p : Family) (P : List ℕ
     unfolding half
     half-same e = rw (word_length-equal A g e) refl
 
-    correction-same : (x : List ℕ) → RespectsElements A (λ z. correction z x)
+    pub correction-same : (x : List ℕ) → RespectsElements A (λ z. correction z x)
     correction-same x y z e k =
         correction-at y x k ∙ rw (scale-same e, half-same e, same_rows y z e) refl ∙ sym (correction-at z x k)
 
@@ -161,7 +161,7 @@ module _ (A : IntegerMatrix) (v : List ℕ) (s : ℕ) (p : Family) (P : List ℕ
         (λ (n : scale z ≡ pos 0). ap (λ (f : Coefficients). f k) (correction-none z n x ∙ sym (correction-none z n y)))
         (corrects_or_not z)
 
-    corrections-respects : (words : List (List ℕ)) → RespectsElements A (corrections words)
+    pub corrections-respects : (words : List (List ℕ)) → RespectsElements A (corrections words)
     unfolding corrections
     corrections-respects words x y e k = sum_over-equal words (λ z. correction z x) (λ z. correction z y) k (λ z. correction-respects z x y e k)
 
