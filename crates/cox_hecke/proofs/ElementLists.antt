@@ -132,7 +132,7 @@ module _ (A : IntegerMatrix) (g : IsAdmissible A) where
       (λ (n : IsBelow A x y → ⊥). above-no x y n ∙ sym (above-no x z (λ b. n (below-same A g (same-refl A g x) (same-sym A g e) b))))
       (below_or_not x y)
 
-  occurrences-filter : (t : List ℕ → Bool) → ((y z : List ℕ) → SameElement A y z → t y ≡ t z) → (words : List (List ℕ)) (x : List ℕ)
+  pub occurrences-filter : (t : List ℕ → Bool) → ((y z : List ℕ) → SameElement A y z → t y ≡ t z) → (words : List (List ℕ)) (x : List ℕ)
       → occurrences A x (filter t words) ≡ (if t x then occurrences A x words else 0)
   occurrences-filter t r [] x = go (t x)
     where

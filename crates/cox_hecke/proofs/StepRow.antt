@@ -69,6 +69,14 @@ module _ (A : IntegerMatrix) (v : List ℕ) (s : ℕ) (p : Family) (P : List ℕ
       in let middle : (word_length A v - word_length A z) / 2 ≡ j = omega (arith, e)
       in rw (c.shortens, odd, middle) refl
 
+  pub scale-shortens : (z : List ℕ) → shortens_left A s z ≡ true → scale z ≡ middle_coefficient (word_length A v - word_length A z) (p z)
+  unfolding scale
+  scale-shortens z e = rw e refl
+
+  pub half-at : (z : List ℕ) → half z ≡ (word_length A (s ∷ v) - word_length A z) / 2
+  unfolding half
+  half-at z = refl
+
   scale-long : (z : List ℕ) → shortens_left A s z ≡ false → scale z ≡ pos 0
   unfolding scale
   scale-long z e = rw e refl
@@ -143,7 +151,7 @@ module _ (A : IntegerMatrix) (v : List ℕ) (s : ℕ) (p : Family) (P : List ℕ
 
     -- ---- the corrections respect elements, on either side
 
-    scale-same : {y z : List ℕ} → SameElement A y z → scale y ≡ scale z
+    pub scale-same : {y z : List ℕ} → SameElement A y z → scale y ≡ scale z
     unfolding scale
     scale-same {y} {z} e = rw (shortens_left-same A g s e, word_length-equal A g e, respected A g row.element e) refl
 
