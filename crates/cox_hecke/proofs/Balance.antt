@@ -49,7 +49,7 @@ flip-none d = λ i k. at k (nat_le k d) i
     at k true = refl
     at k false = refl
 
-flip-plus : (d : ℕ) (f h : Coefficients) → flip d (plus f h) ≡ plus (flip d f) (flip d h)
+pub flip-plus : (d : ℕ) (f h : Coefficients) → flip d (plus f h) ≡ plus (flip d f) (flip d h)
 flip-plus d f h = λ i k. at k (nat_le k d) i
   where
     at : (k : ℕ) (b : Bool) → (if b then f (d - k) +ℤ h (d - k) else pos 0) ≡ (if b then f (d - k) else pos 0) +ℤ (if b then h (d - k) else pos 0)

@@ -7,7 +7,7 @@ use Rattle.std.proofs.lemmas.Int.{ints}
 use Rattle.std.proofs.lemmas.Bool.{cases_lt}
 use Rattle.std.proofs.lemmas.Bool.Decides.{nat_tests}
 use Rattle.std.proofs.lemmas.List.{reverse-reverse, reverse-append}
-use Rattle.std.proofs.lemmas.List.Elements.{All-head, All-tail}
+use Rattle.std.proofs.lemmas.List.Elements.{All-head, All-tail, All-weaker}
 use mathlib.Core.List.{reverse-cons}
 use Rattle.cox_base.specs.declared.side.Side.TheVariants.{Left}
 use Rattle.cox_base.specs.IntegerMatrix.{IntegerMatrix}
@@ -42,6 +42,10 @@ middle_coefficient-none d f none = go (d % 2 == 1)
     go : (b : Bool) → (if b then f (d / 2) else pos 0) ≡ pos 0
     go true = none (d / 2)
     go false = refl
+
+-- what holds of all holds of each of a list
+pub All-from : {X : Type 0} (P : X → Type 0) → ((x : X) → P x) → (xs : List X) → All P xs
+All-from P all xs = λ i d l. all _
 
 module _ (A : IntegerMatrix) (g : IsAdmissible A) where
   -- where mu(u,w) is not 0, u ≤ w, and the difference of the lengths is odd
@@ -114,10 +118,12 @@ module _ (A : IntegerMatrix) (g : IsAdmissible A) where
       → (x : List ℕ) (k : ℕ) → p (s ∷ x) k ≡ p x k
   row-left_below zero w l s p row d x k = absurd (omega (arith, l))
   row-left_below (suc n) w l s p row d x k =
-      left-recursion A g w s d v v_row list.0 list.1 (row_of A g) (λ i c m. row_of-is A g _) p row (s ∷ x) k
+      left-recursion A g w s d v v_row list.0 list.1 (row_of A g) are_rows p row (s ∷ x) k
       ∙ both (step-same s v x v_row.element (shortens_left-back A g s x (left_descent-letter A g w s d)) k)
-      (corrections-same w s list.0 x (λ i c m j. lower (λ z q a b. row-left_below n z q s (row_of A g z) a b) _ (list.1.each i c m) j) k)
-      ∙ sym (left-recursion A g w s d v v_row list.0 list.1 (row_of A g) (λ i c m. row_of-is A g _) p row x k)
+      (corrections-same w s list.0 x
+      (All-weaker (λ c. IsCorrection Left A s (s ∷ w) c) (λ c. (k : ℕ) → row_of A g c.element (s ∷ x) k ≡ row_of A g c.element x k)
+      (lower (λ z q a b. row-left_below n z q s (row_of A g z) a b)) list.0 list.1.each) k)
+      ∙ sym (left-recursion A g w s d v v_row list.0 list.1 (row_of A g) are_rows p row x k)
     where
       v : Family
       v = row_of A g (s ∷ w)
@@ -127,6 +133,9 @@ module _ (A : IntegerMatrix) (g : IsAdmissible A) where
 
       list : (list : List Correction) × AreCorrections Left A s (s ∷ w) list
       list = left-corrections_exist A g w s d v v_row
+
+      are_rows : All (λ c. IsRow A c.element (row_of A g c.element)) list.0
+      are_rows = All-from (λ c. IsRow A c.element (row_of A g c.element)) (λ c. row_of-is A g c.element) list.0
 
       both : {a b c e : ℤ} → a ≡ c → b ≡ e → a -ℤ b ≡ c -ℤ e
       both f h = λ i. f i -ℤ h i

@@ -16,8 +16,9 @@ use Rattle.cox_reflect.proofs.Elements.{same-refl, same-sym, same-trans, same-co
 use Rattle.cox_reflect.proofs.Lengths.{cons-word_length}
 use Rattle.cox_reflect.proofs.Roots.{left_descent-letter}
 use Rattle.cox_reflect.proofs.Bruhat.{below-same, below-refl, below_identity, lift_down, lift_up}
+use Rattle.cox_hecke.specs.Family.{is_same}
 use Rattle.cox_hecke.specs.Operators.{shortens_left}
-use Rattle.cox_hecke.specs.Sums.{is_same, occurrences, ListsEach, IsClosedUnder}
+use Rattle.cox_hecke.specs.Sums.{occurrences, ListsEach, IsClosedUnder}
 use Rattle.cox_hecke.specs.Row.{IsBetween}
 use Rattle.cox_hecke.proofs.Descents.{Moves, nat_lt-yes, yes-nat_lt, no-nat_lt, shortens_left-same, shortens_left-back, left_moves, some_left_descent, empty_same}
 use Rattle.cox_hecke.proofs.SumLemmas.{same-is_same, is_same-same, not_same-is_same, same_or_not, occurrences-same}

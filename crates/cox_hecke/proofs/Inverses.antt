@@ -14,8 +14,8 @@ use Rattle.cox_reflect.proofs.Bruhat.{below_reverse}
 use Rattle.cox_poly.specs.Coefficients.{Coefficients}
 use Rattle.cox_poly.specs.Products.{flip, product}
 use Rattle.cox_rpoly.specs.RPolynomial.{r_polynomial}
-use Rattle.cox_hecke.specs.Family.{Family, RespectsElements}
-use Rattle.cox_hecke.specs.Sums.{is_same, occurrences, ListsEach, sum_over, bar_sum}
+use Rattle.cox_hecke.specs.Family.{Family, RespectsElements, is_same}
+use Rattle.cox_hecke.specs.Sums.{occurrences, ListsEach, sum_over, bar_sum}
 use Rattle.cox_hecke.specs.Row.{IsBetween, IsRow}
 use Rattle.cox_hecke.proofs.Signed.{at_inverses, at_inverses-respects}
 use Rattle.cox_hecke.proofs.SumLemmas.{same_or_not, same-is_same, not_same-is_same}

@@ -21,9 +21,9 @@ use Rattle.cox_reflect.proofs.Roots.{left_descent-letter}
 use Rattle.cox_reflect.proofs.Bruhat.{below-length}
 use Rattle.cox_poly.specs.Coefficients.{Coefficients}
 use Rattle.cox_poly.specs.Products.{minus, scaled, times_q_power}
-use Rattle.cox_hecke.specs.Family.{Family, RespectsElements}
+use Rattle.cox_hecke.specs.Family.{Family, RespectsElements, is_same}
 use Rattle.cox_hecke.specs.Operators.{shortens_left}
-use Rattle.cox_hecke.specs.Sums.{is_same, occurrences, sum_over}
+use Rattle.cox_hecke.specs.Sums.{occurrences, sum_over}
 use Rattle.cox_hecke.specs.Row.{IsRow, IsMu, middle_coefficient}
 use Rattle.cox_hecke.specs.Step.{step, Correction, IsCorrection, AreCorrections, correction_sum, IsStepFamily}
 use Rattle.cox_hecke.proofs.Descents.{nat_lt-yes, yes-nat_lt, shortens_left-back}

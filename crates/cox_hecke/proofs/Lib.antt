@@ -32,3 +32,13 @@ pub mod LeftSteps
 pub mod RightSteps
 -- P(sx,w) = P(x,w), and where mu is not 0
 pub mod Descended
+-- R turned round
+pub mod TurnedR
+-- the operators of the Hecke algebra, without the sign
+pub mod OperatorLaws
+-- P(x,w) as a value
+pub mod Polynomials
+-- step families
+pub mod StepFamilies
+-- which rows are needed
+pub mod NeedLemmas

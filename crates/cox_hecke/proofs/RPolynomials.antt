@@ -26,12 +26,16 @@ use Rattle.cox_poly.specs.Products.{minus, negated}
 use Rattle.cox_rpoly.specs.RPolynomial.{r_along, r_polynomial}
 use Rattle.cox_rpoly.proofs.AlongLemmas.{along-shorter, along-longer}
 use Rattle.cox_rpoly.proofs.PolynomialLemmas.{r_polynomial-is, r_polynomial-same}
-use Rattle.cox_hecke.specs.Family.{Family, RespectsElements, unit}
+use Rattle.cox_hecke.specs.Family.{Family, RespectsElements}
 use Rattle.cox_hecke.specs.Operators.{shortens_left, shortens_right}
 use Rattle.cox_hecke.proofs.Descents.{nat_lt-yes, nat_lt-no, yes-nat_lt, no-nat_lt, shortens_left-back, empty_same, descent-reverse, reverse-descent}
 use Rattle.cox_hecke.proofs.Signed.{signed, left_back, right_back, at_inverses, at_inverses-left_back, left_back-right_back, right_back-respects}
 use Rattle.cox_hecke.proofs.Signed.{at_inverses-respects}
 use Rattle.cox_hecke.proofs.WordOperators.{back_along, back_along-respects, back_along-same}
+
+-- T(e)
+abbrev pub unit : IntegerMatrix → Family
+unit A x = if word_length A x == 0 then one_polynomial else zero_polynomial
 
 -- ---- along a word, by these operators
 

@@ -1,9 +1,9 @@
 -- The step family of w by any right descent is its row: at inverses it is that of w^-1 by a left descent.
-use Rattle.std.proofs.Common.{◌≡◌, ℕ, ◌-◌, ◌/◌, Bool, if◌then◌else◌, List, [], ◌∷◌, ◌++◌, reverse, map, get_or, ℤ, pos, ◌+ℤ◌, ◌-ℤ◌, refl, ap, sym, ◌∙◌, subst, arith}
+use Rattle.std.proofs.Common.{◌≡◌, ℕ, ◌-◌, ◌/◌, Bool, if◌then◌else◌, List, [], ◌∷◌, ◌++◌, reverse, map, ℤ, pos, ◌+ℤ◌, ◌-ℤ◌, refl, ap, sym, ◌∙◌, subst, arith}
 use Rattle.std.specs.Prelude.{All}
 use Rattle.std.proofs.lemmas.Int.{ints}
 use Rattle.std.proofs.lemmas.List.{reverse-reverse, reverse-append}
-use Rattle.std.proofs.lemmas.List.Elements.{All-map}
+use Rattle.std.proofs.lemmas.List.Elements.{All-map, All-weaker}
 use mathlib.Core.List.{reverse-cons}
 use Rattle.cox_base.specs.declared.side.Side.{Side}
 use Rattle.cox_base.specs.declared.side.Side.TheVariants.{Left, Right}
@@ -68,7 +68,8 @@ module _ (A : IntegerMatrix) (g : IsAdmissible A) where
       → ((c : Correction) → IsCorrection other A s v' c → IsCorrection side A s v (mirrored c))
       → (list : List Correction) → AreCorrections side A s v list → AreCorrections other A s v' (map mirrored list)
   are-mirrored side other s v v' there back list are = record {
-    each = All-map (λ c. IsCorrection other A s v' c) mirrored list (λ i d l. there _ (are.each i d l));
+    each = All-map (λ c. IsCorrection other A s v' c) mirrored list
+        (All-weaker (λ c. IsCorrection side A s v c) (λ c. IsCorrection other A s v' (mirrored c)) there list are.each);
     once = λ c is. ap (occurrences A c.element) (elements-mirrored list) ∙ occurrences-reverse A g c.element (elements list)
         ∙ are.once (mirrored c) (back c is);
   }
@@ -104,7 +105,8 @@ module _ (A : IntegerMatrix) (g : IsAdmissible A) where
       (are-mirrored Right Left s (w ++ s ∷ []) (s ∷ reverse w) (right_to_left w s) (left_to_right w s) list are)
       (λ u. at_inverses (rows (reverse u)))
       (All-map (λ c. IsRow A c.element (at_inverses (rows (reverse c.element)))) mirrored list
-      (λ i d l. mirrored_row (get_or list i d) (are_rows i d l)))
+      (All-weaker (λ c. IsRow A c.element (rows c.element))
+      (λ c. IsRow A (reverse c.element) (at_inverses (rows (reverse (reverse c.element))))) mirrored_row list are_rows))
       (at_inverses r) (row-reverse A g w r is_row) (reverse x) k
       ∙ ap (λ (f : Coefficients). f k -ℤ correction_sum A (reverse w) (λ u. at_inverses (rows (reverse u))) (map mirrored list) (reverse x) k)
       (step-mirrored s p x)

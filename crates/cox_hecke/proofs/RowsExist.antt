@@ -22,12 +22,12 @@ use Rattle.cox_poly.proofs.Coefficients.{flip_at, flip_above}
 use Rattle.cox_poly.proofs.Products.{one-product}
 use Rattle.cox_rpoly.specs.RPolynomial.{r_polynomial}
 use Rattle.cox_rpoly.proofs.PolynomialLemmas.{r_polynomial-equal}
-use Rattle.cox_hecke.specs.Family.{Family, RespectsElements, unit}
+use Rattle.cox_hecke.specs.Family.{Family, RespectsElements, is_same}
 use Rattle.cox_hecke.specs.Operators.{shortens_left}
-use Rattle.cox_hecke.specs.Sums.{is_same, occurrences, bar_sum}
+use Rattle.cox_hecke.specs.Sums.{occurrences, bar_sum}
 use Rattle.cox_hecke.specs.Row.{IsRow}
 use Rattle.cox_hecke.proofs.Descents.{nat_lt-yes, shortens_left-back, some_left_descent, empty_same}
-use Rattle.cox_hecke.proofs.RPolynomials.{unit-respects, unit-other}
+use Rattle.cox_hecke.proofs.RPolynomials.{unit, unit-respects, unit-other}
 use Rattle.cox_hecke.proofs.SumLemmas.{same-is_same}
 use Rattle.cox_hecke.proofs.ElementLists.{below_list}
 use Rattle.cox_hecke.proofs.Balance.{Balanced}

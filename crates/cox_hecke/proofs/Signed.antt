@@ -231,3 +231,9 @@ module _ (A : IntegerMatrix) (g : IsAdmissible A) where
     where
       at : (x : List ℕ) → left_back A b s h (reverse x) ≡ right_back A b s (at_inverses h) x
       at x = rw (shortens-reverse A g s x, reverse-append x (s ∷ [])) refl
+
+  pub at_inverses-left_signed : (b : Bool) (s : ℕ) (h : Family) → at_inverses (left_signed A b s h) ≡ right_signed A b s (at_inverses h)
+  at_inverses-left_signed b s h = λ i x. at x i
+    where
+      at : (x : List ℕ) → left_signed A b s h (reverse x) ≡ right_signed A b s (at_inverses h) x
+      at x = rw (shortens-reverse A g s x, reverse-append x (s ∷ [])) refl

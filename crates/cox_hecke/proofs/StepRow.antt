@@ -23,9 +23,9 @@ use Rattle.cox_poly.specs.Products.{minus, scaled, times_q_power, product}
 use Rattle.cox_poly.proofs.Products.{product-zero}
 use Rattle.cox_rpoly.specs.RPolynomial.{r_polynomial}
 use Rattle.cox_poly.proofs.Coefficients.{times_q_power_at, times_q_power_below}
-use Rattle.cox_hecke.specs.Family.{Family, RespectsElements}
+use Rattle.cox_hecke.specs.Family.{Family, RespectsElements, is_same}
 use Rattle.cox_hecke.specs.Operators.{shortens_left}
-use Rattle.cox_hecke.specs.Sums.{is_same, occurrences, ListsEach, IsClosedUnder, sum_over, bar_sum}
+use Rattle.cox_hecke.specs.Sums.{occurrences, ListsEach, IsClosedUnder, sum_over, bar_sum}
 use Rattle.cox_hecke.specs.Row.{IsRow, middle_coefficient}
 use Rattle.cox_hecke.specs.Step.{step}
 use Rattle.cox_hecke.proofs.Descents.{Moves, left_moves, nat_lt-yes, yes-nat_lt, shortens_left-same, shortens_left-back}

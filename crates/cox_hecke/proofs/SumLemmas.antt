@@ -16,8 +16,8 @@ use Rattle.cox_reflect.proofs.Search.{normal_form-same, normal_form-equal}
 use Rattle.cox_poly.specs.Coefficients.{Coefficients, zero_polynomial, plus, times_q}
 use Rattle.cox_poly.specs.Products.{minus, scaled}
 use Rattle.cox_lemmas.proofs.Ring.{mul_add}
-use Rattle.cox_hecke.specs.Family.{Family, RespectsElements}
-use Rattle.cox_hecke.specs.Sums.{is_same, occurrences, sum_over}
+use Rattle.cox_hecke.specs.Family.{Family, RespectsElements, is_same}
+use Rattle.cox_hecke.specs.Sums.{occurrences, sum_over}
 
 -- ---- linear
 
