@@ -5,10 +5,11 @@ use Rattle.cox_base.specs.Admissible.{IsAdmissible}
 use Rattle.cox_base.specs.Element.{SameElement}
 use Rattle.cox_base.specs.ShortLex.{normal_form}
 use Rattle.cox_base.specs.Length.{word_length}
-use Rattle.cox_reflect.proofs.Search.{normal_form-same, normal_form-equal}
+use Rattle.cox_reflect.proofs.Search.{normal_form-same, normal_form-equal, word_length-equal}
 use Rattle.cox_poly.specs.Coefficients.{Coefficients}
 use Rattle.cox_hecke.specs.Family.{Family}
 use Rattle.cox_hecke.specs.Row.{IsRow, IsKazhdanLusztig, IsMu, middle_coefficient}
+use Rattle.cox_hecke.proofs.Signed.{respected}
 use Rattle.cox_hecke.proofs.RowLemmas.{row-same, row-unique}
 use Rattle.cox_hecke.proofs.RowsExist.{row-exists}
 
@@ -52,3 +53,9 @@ module _ (A : IntegerMatrix) (g : IsAdmissible A) where
   mu-exists x w =
       (middle_coefficient (word_length A w - word_length A x) (row_of w x),
       mu-by_row x w (middle_coefficient (word_length A w - word_length A x) (row_of w x)) (row_of w) (row_of-is w) refl)
+
+  -- by any word of x
+  pub mu-same : (x y w : List ℕ) (m : ℤ) → SameElement A x y → IsMu A x w m → IsMu A y w m
+  mu-same x y w m e c =
+      mu-by_row y w m (row_of w) (row_of-is w)
+      (mu-value x w m (row_of w) c (row_of-is w) ∙ rw (word_length-equal A g e, respected A g (row_of-is w).element e) refl)

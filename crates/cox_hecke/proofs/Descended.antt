@@ -121,7 +121,7 @@ module _ (A : IntegerMatrix) (g : IsAdmissible A) where
       left-recursion A g w s d v v_row list.0 list.1 (row_of A g) are_rows p row (s ∷ x) k
       ∙ both (step-same s v x v_row.element (shortens_left-back A g s x (left_descent-letter A g w s d)) k)
       (corrections-same w s list.0 x
-      (All-weaker (λ c. IsCorrection Left A s (s ∷ w) c) (λ c. (k : ℕ) → row_of A g c.element (s ∷ x) k ≡ row_of A g c.element x k)
+      (All-weaker (λ c. IsCorrection Left A s (s ∷ w) c.element c.mu) (λ c. (k : ℕ) → row_of A g c.element (s ∷ x) k ≡ row_of A g c.element x k)
       (lower (λ z q a b. row-left_below n z q s (row_of A g z) a b)) list.0 list.1.each) k)
       ∙ sym (left-recursion A g w s d v v_row list.0 list.1 (row_of A g) are_rows p row x k)
     where
@@ -142,7 +142,7 @@ module _ (A : IntegerMatrix) (g : IsAdmissible A) where
 
       lower : ((z : List ℕ) → word_length A z < n → IsRow A z (row_of A g z) → IsLeftDescent A z s
           → (x : List ℕ) (k : ℕ) → row_of A g z (s ∷ x) k ≡ row_of A g z x k)
-          → (c : Correction) → IsCorrection Left A s (s ∷ w) c → (k : ℕ) → row_of A g c.element (s ∷ x) k ≡ row_of A g c.element x k
+          → (c : Correction) → IsCorrection Left A s (s ∷ w) c.element c.mu → (k : ℕ) → row_of A g c.element (s ∷ x) k ≡ row_of A g c.element x k
       lower below c is =
           below c.element (omega (arith, l, d, below-length A g (mu-below c.element (s ∷ w) c.mu is.is_mu is.some)))
           (row_of-is A g c.element) is.shortens x

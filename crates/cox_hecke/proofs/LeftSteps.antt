@@ -25,7 +25,7 @@ use Rattle.cox_hecke.specs.Family.{Family, RespectsElements, is_same}
 use Rattle.cox_hecke.specs.Operators.{shortens_left}
 use Rattle.cox_hecke.specs.Sums.{occurrences, sum_over}
 use Rattle.cox_hecke.specs.Row.{IsRow, IsMu, middle_coefficient}
-use Rattle.cox_hecke.specs.Step.{step, Correction, IsCorrection, AreCorrections, correction_sum, IsStepFamily}
+use Rattle.cox_hecke.specs.Step.{step, IsCorrection, Correction, corrected_elements, AreCorrections, correction_sum}
 use Rattle.cox_hecke.proofs.Descents.{nat_lt-yes, yes-nat_lt, shortens_left-back}
 use Rattle.cox_hecke.proofs.SumLemmas.{sum_over-lists}
 use Rattle.cox_hecke.proofs.ElementLists.{Tells, below_list, occurrences-filter}
@@ -77,12 +77,11 @@ module _ (A : IntegerMatrix) (g : IsAdmissible A) (w : List ℕ) (s : ℕ) (d : 
   term-none z x k e = ap (λ (f : Coefficients). f k) (correction-none A (s ∷ w) s p (row_of A g) z e x)
 
   -- a correction by its definition
-  number-mu : (c : Correction) → IsCorrection Left A s (s ∷ w) c → number c.element ≡ c.mu
+  number-mu : (u : List ℕ) (m : ℤ) → IsCorrection Left A s (s ∷ w) u m → number u ≡ m
   unfolding number
-  number-mu c is =
-      scale-shortens A (s ∷ w) s p (row_of A g) c.element (nat_lt-yes is.shortens) ∙ sym (mu-value A g c.element (s ∷ w) c.mu p is.is_mu row)
+  number-mu u m is = scale-shortens A (s ∷ w) s p (row_of A g) u (nat_lt-yes is.shortens) ∙ sym (mu-value A g u (s ∷ w) m p is.is_mu row)
 
-  is-correction : (z : List ℕ) → (number z ≡ pos 0 → ⊥) → IsCorrection Left A s (s ∷ w) (record { element = z; mu = number z })
+  is-correction : (z : List ℕ) → (number z ≡ pos 0 → ⊥) → IsCorrection Left A s (s ∷ w) z (number z)
   unfolding number
   is-correction z some = ⊎_elim
       (λ (c : Corrects A (s ∷ w) s p (row_of A g) z). record {
@@ -93,47 +92,44 @@ module _ (A : IntegerMatrix) (g : IsAdmissible A) (w : List ℕ) (s : ℕ) (d : 
       (λ (n : number z ≡ pos 0). absurd (some n))
       (corrects_or_none z)
 
-  term-is : (c : Correction) → IsCorrection Left A s (s ∷ w) c → (rows : List ℕ → Family) → IsRow A c.element (rows c.element)
+  term-is : (c : Correction) → IsCorrection Left A s (s ∷ w) c.element c.mu → (rows : List ℕ → Family) → IsRow A c.element (rows c.element)
       → (x : List ℕ) (k : ℕ) → scaled c.mu (times_q_power ((word_length A w - word_length A c.element) / 2) (rows c.element x)) k ≡ term c.element x k
   unfolding term number
   term-is c is rows is_row x k =
-      rw (sym (row_of-value A g c.element (rows c.element) is_row x), sym (number-mu c is), sym same) refl
+      rw (sym (row_of-value A g c.element (rows c.element) is_row x), sym (number-mu c.element c.mu is), sym same) refl
       ∙ sym (correction-at A (s ∷ w) s p (row_of A g) c.element x k)
     where
       same : half A (s ∷ w) s p (row_of A g) c.element ≡ (word_length A w - word_length A c.element) / 2
       same = half-at A (s ∷ w) s p (row_of A g) c.element ∙ ap (λ (n : ℕ). (n - word_length A c.element) / 2) (word_length-equal A g (same-square A g s w))
 
-  abbrev elements : List Correction → List (List ℕ)
-  elements list = map (λ c. c.element) list
-
-  sum-is : (list : List Correction) → All (λ c. IsCorrection Left A s (s ∷ w) c) list → (rows : List ℕ → Family)
+  sum-is : (list : List Correction) → All (λ c. IsCorrection Left A s (s ∷ w) c.element c.mu) list → (rows : List ℕ → Family)
       → All (λ c. IsRow A c.element (rows c.element)) list → (x : List ℕ) (k : ℕ)
-      → correction_sum A w rows list x k ≡ sum_over (elements list) (λ z. term z x) k
+      → correction_sum A w rows list x k ≡ sum_over (corrected_elements list) (λ z. term z x) k
   sum-is [] are rows are_rows x k = refl
   sum-is (c ∷ list) are rows are_rows x k =
       omega (
         arith,
         ints,
-        term-is c (All-head (λ c. IsCorrection Left A s (s ∷ w) c) c list are) rows
+        term-is c (All-head (λ c. IsCorrection Left A s (s ∷ w) c.element c.mu) c list are) rows
             (All-head (λ c. IsRow A c.element (rows c.element)) c list are_rows) x k,
-        sum-is list (All-tail (λ c. IsCorrection Left A s (s ∷ w) c) c list are) rows
+        sum-is list (All-tail (λ c. IsCorrection Left A s (s ∷ w) c.element c.mu) c list are) rows
             (All-tail (λ c. IsRow A c.element (rows c.element)) c list are_rows) x k,
       )
 
   -- the same sum over all elements below sw
   sum-all : (list : List Correction) → AreCorrections Left A s (s ∷ w) list → (x : List ℕ) (k : ℕ)
-      → sum_over (elements list) (λ z. term z x) k ≡ sum_over words (λ z. term z x) k
+      → sum_over (corrected_elements list) (λ z. term z x) k ≡ sum_over words (λ z. term z x) k
   sum-all list are x k =
-      sum_over-lists A g (elements list) words (λ z. term z x) k (term-respects x)
+      sum_over-lists A g (corrected_elements list) words (λ z. term z x) k (term-respects x)
       (λ z. go z (int_eq (number z) (pos 0)) refl)
     where
       go : (z : List ℕ) (b : Bool) → int_eq (number z) (pos 0) ≡ b
-          → (term z x k ≡ pos 0) ⊎ ((occurrences A z (elements list) ≡ occurrences A z words) × (occurrences A z words ≤ 1))
+          → (term z x k ≡ pos 0) ⊎ ((occurrences A z (corrected_elements list) ≡ occurrences A z words) × (occurrences A z words ≤ 1))
       go z true e = inl (term-none z x k ((Decides-int_eq (number z) (pos 0)).0 e))
       go z false e = ⊎_elim
           (λ (c : Corrects A (s ∷ w) s p (row_of A g) z).
               let here : occurrences A z words ≡ 1 = ⊎_elim (λ y. y.0) (λ n. absurd (n.1 c.below)) (tells z)
-              in let there : occurrences A z (elements list) ≡ 1 = are.once (record { element = z; mu = number z })
+              in let there : occurrences A z (corrected_elements list) ≡ 1 = are.once z (number z)
               (is-correction z (λ n. false≢true (sym e ∙ (Decides-int_eq (number z) (pos 0)).1 n)))
               in inr (there ∙ sym here, omega (arith, here)))
           (λ n. inl (term-none z x k n))
@@ -162,35 +158,32 @@ module _ (A : IntegerMatrix) (g : IsAdmissible A) (w : List ℕ) (s : ℕ) (d : 
   list_of : List (List ℕ) → List Correction
   list_of zs = map with_number (filter kept zs)
 
-  elements-list_of : (zs : List (List ℕ)) → elements (map with_number zs) ≡ zs
+  elements-list_of : (zs : List (List ℕ)) → corrected_elements (map with_number zs) ≡ zs
   unfolding with_number
   elements-list_of [] = refl
   elements-list_of (z ∷ zs) = ap (λ (ys : List (List ℕ)). z ∷ ys) (elements-list_of zs)
 
-  each : (zs : List (List ℕ)) → All (λ c. IsCorrection Left A s (s ∷ w) c) (list_of zs)
+  each : (zs : List (List ℕ)) → All (λ c. IsCorrection Left A s (s ∷ w) c.element c.mu) (list_of zs)
   unfolding list_of kept with_number
-  each [] = All-nil (λ c. IsCorrection Left A s (s ∷ w) c)
+  each [] = All-nil (λ c. IsCorrection Left A s (s ∷ w) c.element c.mu)
   each (z ∷ zs) = go (int_eq (number z) (pos 0)) refl (each zs)
     where
-      go : (b : Bool) → int_eq (number z) (pos 0) ≡ b → All (λ c. IsCorrection Left A s (s ∷ w) c) (list_of zs)
-          → All (λ c. IsCorrection Left A s (s ∷ w) c) (list_of (z ∷ zs))
+      go : (b : Bool) → int_eq (number z) (pos 0) ≡ b → All (λ c. IsCorrection Left A s (s ∷ w) c.element c.mu) (list_of zs)
+          → All (λ c. IsCorrection Left A s (s ∷ w) c.element c.mu) (list_of (z ∷ zs))
       go true e rest = rw e rest
-      go false e rest = rw e (All-cons (λ c. IsCorrection Left A s (s ∷ w) c) (with_number z) (list_of zs)
+      go false e rest = rw e (All-cons (λ c. IsCorrection Left A s (s ∷ w) c.element c.mu) (with_number z) (list_of zs)
           (is-correction z (λ n. false≢true (sym e ∙ (Decides-int_eq (number z) (pos 0)).1 n))) rest)
 
   pub left-corrections_exist : (list : List Correction) × AreCorrections Left A s (s ∷ w) list
   unfolding list_of kept
-  left-corrections_exist = (list_of words, record { each = each words; once = λ c is. once c is })
+  left-corrections_exist = (list_of words, record { each = each words; once = λ u m is. once u m is })
     where
-      once : (c : Correction) → IsCorrection Left A s (s ∷ w) c → occurrences A c.element (elements (list_of words)) ≡ 1
-      once c is =
-          ap (occurrences A c.element) (elements-list_of (filter kept words))
-          ∙ occurrences-filter A g kept (λ y z e. rw (number-same e) refl) words c.element
-          ∙ go (int_eq (number c.element) (pos 0)) refl
+      once : (u : List ℕ) (m : ℤ) → IsCorrection Left A s (s ∷ w) u m → occurrences A u (corrected_elements (list_of words)) ≡ 1
+      once u m is =
+          ap (occurrences A u) (elements-list_of (filter kept words)) ∙ occurrences-filter A g kept (λ y z e. rw (number-same e) refl) words u
+          ∙ go (int_eq (number u) (pos 0)) refl
         where
-          go : (b : Bool) → int_eq (number c.element) (pos 0) ≡ b
-              → (if not (int_eq (number c.element) (pos 0)) then occurrences A c.element words else 0) ≡ 1
-          go true e = absurd (is.some (sym (number-mu c is) ∙ (Decides-int_eq (number c.element) (pos 0)).0 e))
-          go false e = rw e (⊎_elim (λ (k : Corrects A (s ∷ w) s p (row_of A g) c.element).
-              ⊎_elim (λ y. y.0) (λ n. absurd (n.1 k.below)) (tells c.element))
-              (λ n. absurd (is.some (sym (number-mu c is) ∙ n))) (corrects_or_none c.element))
+          go : (b : Bool) → int_eq (number u) (pos 0) ≡ b → (if not (int_eq (number u) (pos 0)) then occurrences A u words else 0) ≡ 1
+          go true e = absurd (is.some (sym (number-mu u m is) ∙ (Decides-int_eq (number u) (pos 0)).0 e))
+          go false e = rw e (⊎_elim (λ (k : Corrects A (s ∷ w) s p (row_of A g) u). ⊎_elim (λ y. y.0) (λ n. absurd (n.1 k.below)) (tells u))
+              (λ n. absurd (is.some (sym (number-mu u m is) ∙ n))) (corrects_or_none u))

@@ -18,7 +18,7 @@ use Rattle.cox_hecke.specs.Family.{Family}
 use Rattle.cox_hecke.specs.Operators.{shortens_left, shortens_right}
 use Rattle.cox_hecke.specs.Sums.{occurrences}
 use Rattle.cox_hecke.specs.Row.{IsRow, IsMu, middle_coefficient}
-use Rattle.cox_hecke.specs.Step.{step, IsDescent, Correction, IsCorrection, AreCorrections, correction_sum}
+use Rattle.cox_hecke.specs.Step.{step, IsCorrection, Correction, corrected_elements, AreCorrections, correction_sum}
 use Rattle.cox_hecke.proofs.Descents.{shortens-reverse, descent-reverse, reverse-descent}
 use Rattle.cox_hecke.proofs.Signed.{at_inverses}
 use Rattle.cox_hecke.proofs.Inverses.{occurrences-reverse, row-reverse}
@@ -29,10 +29,7 @@ use Rattle.cox_hecke.proofs.LeftSteps.{left-recursion, left-corrections_exist}
 abbrev mirrored : Correction → Correction
 mirrored c = record { element = reverse c.element; mu = c.mu }
 
-abbrev elements : List Correction → List (List ℕ)
-elements list = map (λ c. c.element) list
-
-elements-mirrored : (list : List Correction) → elements (map mirrored list) ≡ map reverse (elements list)
+elements-mirrored : (list : List Correction) → corrected_elements (map mirrored list) ≡ map reverse (corrected_elements list)
 elements-mirrored [] = refl
 elements-mirrored (c ∷ list) = ap (λ (ys : List (List ℕ)). reverse c.element ∷ ys) (elements-mirrored list)
 
@@ -49,29 +46,30 @@ module _ (A : IntegerMatrix) (g : IsAdmissible A) where
   reverse-back w s = reverse-cons s (reverse w) ∙ ap (λ (u : List ℕ). u ++ s ∷ []) (reverse-reverse w)
 
   module _ (w : List ℕ) (s : ℕ) where
-    right_to_left : (c : Correction) → IsCorrection Right A s (w ++ s ∷ []) c → IsCorrection Left A s (s ∷ reverse w) (mirrored c)
-    right_to_left c is = record {
-      shortens = descent-reverse A g c.element s is.shortens;
-      is_mu = subst (λ (v : List ℕ). IsMu A (reverse c.element) v c.mu) (reverse-push w s) (mu-reverse c.element (w ++ s ∷ []) c.mu is.is_mu);
+    right_to_left : (u : List ℕ) (m : ℤ) → IsCorrection Right A s (w ++ s ∷ []) u m → IsCorrection Left A s (s ∷ reverse w) (reverse u) m
+    right_to_left u m is = record {
+      shortens = descent-reverse A g u s is.shortens;
+      is_mu = subst (λ (v : List ℕ). IsMu A (reverse u) v m) (reverse-push w s) (mu-reverse u (w ++ s ∷ []) m is.is_mu);
       some = is.some;
     }
 
-    left_to_right : (c : Correction) → IsCorrection Left A s (s ∷ reverse w) c → IsCorrection Right A s (w ++ s ∷ []) (mirrored c)
-    left_to_right c is = record {
-      shortens = reverse-descent A g (reverse c.element) s (rw (reverse-reverse c.element) is.shortens);
-      is_mu = subst (λ (v : List ℕ). IsMu A (reverse c.element) v c.mu) (reverse-back w s) (mu-reverse c.element (s ∷ reverse w) c.mu is.is_mu);
+    left_to_right : (u : List ℕ) (m : ℤ) → IsCorrection Left A s (s ∷ reverse w) u m → IsCorrection Right A s (w ++ s ∷ []) (reverse u) m
+    left_to_right u m is = record {
+      shortens = reverse-descent A g (reverse u) s (rw (reverse-reverse u) is.shortens);
+      is_mu = subst (λ (v : List ℕ). IsMu A (reverse u) v m) (reverse-back w s) (mu-reverse u (s ∷ reverse w) m is.is_mu);
       some = is.some;
     }
 
   are-mirrored : (side other : Side) (s : ℕ) (v v' : List ℕ)
-      → ((c : Correction) → IsCorrection side A s v c → IsCorrection other A s v' (mirrored c))
-      → ((c : Correction) → IsCorrection other A s v' c → IsCorrection side A s v (mirrored c))
+      → ((u : List ℕ) (m : ℤ) → IsCorrection side A s v u m → IsCorrection other A s v' (reverse u) m)
+      → ((u : List ℕ) (m : ℤ) → IsCorrection other A s v' u m → IsCorrection side A s v (reverse u) m)
       → (list : List Correction) → AreCorrections side A s v list → AreCorrections other A s v' (map mirrored list)
   are-mirrored side other s v v' there back list are = record {
-    each = All-map (λ c. IsCorrection other A s v' c) mirrored list
-        (All-weaker (λ c. IsCorrection side A s v c) (λ c. IsCorrection other A s v' (mirrored c)) there list are.each);
-    once = λ c is. ap (occurrences A c.element) (elements-mirrored list) ∙ occurrences-reverse A g c.element (elements list)
-        ∙ are.once (mirrored c) (back c is);
+    each = All-map (λ c. IsCorrection other A s v' c.element c.mu) mirrored list
+        (All-weaker (λ c. IsCorrection side A s v c.element c.mu) (λ c. IsCorrection other A s v' (reverse c.element) c.mu)
+        (λ c is. there c.element c.mu is) list are.each);
+    once = λ u m is. ap (occurrences A u) (elements-mirrored list) ∙ occurrences-reverse A g u (corrected_elements list)
+        ∙ are.once (reverse u) m (back u m is);
   }
 
   -- ---- the recursion
