@@ -50,9 +50,10 @@ module _ (A : IntegerMatrix) (g : IsAdmissible A) where
   mu-unique x w m n c d = mu-value x w m (row_of w) c (row_of-is w) ∙ sym (mu-value x w n (row_of w) d (row_of-is w))
 
   pub mu-exists : (x w : List ℕ) → (m : ℤ) × IsMu A x w m
-  mu-exists x w =
-      (middle_coefficient (word_length A w - word_length A x) (row_of w x),
-      mu-by_row x w (middle_coefficient (word_length A w - word_length A x) (row_of w x)) (row_of w) (row_of-is w) refl)
+  mu-exists x w = (
+    middle_coefficient (word_length A w - word_length A x) (row_of w x),
+    mu-by_row x w (middle_coefficient (word_length A w - word_length A x) (row_of w x)) (row_of w) (row_of-is w) refl,
+  )
 
   -- by any word of x
   pub mu-same : (x y w : List ℕ) (m : ℤ) → SameElement A x y → IsMu A x w m → IsMu A y w m

@@ -1,7 +1,7 @@
 -- P(sx,w) = P(x,w) for a left descent s of w, by induction on the length of w: (1 + T(s)) p has the same value at x and at sx, and s is a left descent of
 -- each correction. So mu(u,w) is not 0, with s a left descent of w and not of u, only for u = sw: else P(u,w) = P(su,w) has too low a degree.
 use Rattle.std.proofs.Common.{◌≡◌, ◌≢◌, ℕ, zero, suc, ◌+◌, ◌-◌, ◌*◌, ◌/◌, ◌%◌, ◌≤◌, ◌<◌, Bool, true, false, not, if◌then◌else◌, List, [], ◌∷◌, ◌++◌}
-use Rattle.std.proofs.Common.{reverse, ◌⊎◌, inl, inr, ⊎_elim, ℤ, pos, ◌+ℤ◌, ◌-ℤ◌, refl, ap, sym, ◌∙◌, subst, arith}
+use Rattle.std.proofs.Common.{reverse, ◌⊎◌, inl, inr, ⊎_elim, ℤ, pos, ◌-ℤ◌, refl, ap, sym, ◌∙◌, arith}
 use Rattle.std.specs.Prelude.{All, ◌==◌}
 use Rattle.std.proofs.lemmas.Int.{ints}
 use Rattle.std.proofs.lemmas.Bool.{cases_lt}
@@ -16,13 +16,13 @@ use Rattle.cox_base.specs.Element.{SameElement}
 use Rattle.cox_base.specs.Length.{word_length}
 use Rattle.cox_base.specs.Reduced.{IsLeftDescent, IsRightDescent}
 use Rattle.cox_base.specs.Bruhat.{IsBelow}
-use Rattle.cox_reflect.proofs.Elements.{same-refl, same-sym, same-trans, same-cons, same-square, same-unreverse}
+use Rattle.cox_reflect.proofs.Elements.{same-sym, same-trans, same-cons, same-square, same-unreverse}
 use Rattle.cox_reflect.proofs.Roots.{left_descent-letter}
 use Rattle.cox_reflect.proofs.Lengths.{cons-word_length}
 use Rattle.cox_reflect.proofs.Deletion.{left_length}
 use Rattle.cox_reflect.proofs.Bruhat.{below-length, below-equal_length}
-use Rattle.cox_poly.specs.Coefficients.{Coefficients, zero_polynomial, one_polynomial, plus, times_q}
-use Rattle.cox_poly.specs.Products.{minus, scaled, times_q_power}
+use Rattle.cox_poly.specs.Coefficients.{Coefficients, times_q}
+use Rattle.cox_poly.specs.Products.{scaled, times_q_power}
 use Rattle.cox_hecke.specs.Family.{Family, RespectsElements}
 use Rattle.cox_hecke.specs.Operators.{shortens_left}
 use Rattle.cox_hecke.specs.Row.{IsRow, IsMu, middle_coefficient}
@@ -173,14 +173,14 @@ module _ (A : IntegerMatrix) (g : IsAdmissible A) where
 
       go : (j : ℕ) × (word_length A w ≡ word_length A u + suc (2 * j)) × (m ≡ p u j)
           → IsBelow A (s ∷ u) w ⊎ (IsBelow A (s ∷ u) w → ⊥) → SameElement A u (s ∷ w)
-      go (j , odd , value) (inr not_below) =
+      go (j, odd, value) (inr not_below) =
           absurd (some (value ∙ sym (row-left w u s p row d j) ∙ row.outside (s ∷ u) not_below j))
-      go (j , odd , value) (inl below) = ⊎_elim
+      go (j, odd, value) (inl below) = ⊎_elim
           (λ (less : word_length A (s ∷ u) < word_length A w).
-              absurd (some (value ∙ sym (row-left w u s p row d j) ∙ row.degree (s ∷ u) j less (omega (arith, odd, longer)))))
+          absurd (some (value ∙ sym (row-left w u s p row d j) ∙ row.degree (s ∷ u) j less (omega (arith, odd, longer)))))
           (λ (more : word_length A w ≤ word_length A (s ∷ u)).
-              let same : SameElement A (s ∷ u) w = below-equal_length A g below (omega (arith, more, below-length A g below))
-              in same-trans A g (same-sym A g (same-square A g s u)) (same-cons A g s same))
+          let same : SameElement A (s ∷ u) w = below-equal_length A g below (omega (arith, more, below-length A g below))
+          in same-trans A g (same-sym A g (same-square A g s u)) (same-cons A g s same))
           (cases_lt (word_length A (s ∷ u)) (word_length A w))
 
   pub mu-shift_left : (w : List ℕ) (s : ℕ) → IsLeftDescent A w s → IsMu A (s ∷ w) w (pos 1)

@@ -1,14 +1,12 @@
 -- Lists of the elements below w, each once, by a descent s of w: x and sx for each x below sw with sx > x. And of those between two elements.
-use Rattle.std.proofs.Common.{◌≡◌, ℕ, zero, suc, ◌+◌, ◌≤◌, ◌<◌, Bool, true, false, not, if◌then◌else◌, List, [], ◌∷◌, ◌⊎◌, inl, inr, ⊎_elim, filter}
+use Rattle.std.proofs.Common.{◌≡◌, ℕ, zero, suc, Bool, true, false, not, if◌then◌else◌, List, [], ◌∷◌, ◌⊎◌, inl, inr, ⊎_elim, filter}
 use Rattle.std.proofs.Common.{refl, ap, sym, ◌∙◌, arith}
-use Rattle.std.specs.Prelude.{nat_eq, ◌==◌}
-use Rattle.std.specs.Cmp.Lexicographic.{pointwise}
+use Rattle.std.specs.Prelude.{◌==◌}
 use Rattle.std.proofs.lemmas.Bool.{false≢true}
 use Rattle.cox_base.specs.Matrix.{IsLetter}
 use Rattle.cox_base.specs.IntegerMatrix.{IntegerMatrix}
 use Rattle.cox_base.specs.Admissible.{IsAdmissible}
 use Rattle.cox_base.specs.Element.{SameElement}
-use Rattle.cox_base.specs.ShortLex.{normal_form}
 use Rattle.cox_base.specs.Length.{word_length}
 use Rattle.cox_base.specs.Reduced.{IsLeftDescent}
 use Rattle.cox_base.specs.Bruhat.{IsBelow}
@@ -18,10 +16,10 @@ use Rattle.cox_reflect.proofs.Roots.{left_descent-letter}
 use Rattle.cox_reflect.proofs.Bruhat.{below-same, below-refl, below_identity, lift_down, lift_up}
 use Rattle.cox_hecke.specs.Family.{is_same}
 use Rattle.cox_hecke.specs.Operators.{shortens_left}
-use Rattle.cox_hecke.specs.Sums.{occurrences, ListsEach, IsClosedUnder}
+use Rattle.cox_hecke.specs.Sums.{occurrences, ListsEach}
 use Rattle.cox_hecke.specs.Row.{IsBetween}
-use Rattle.cox_hecke.proofs.Descents.{Moves, nat_lt-yes, yes-nat_lt, no-nat_lt, shortens_left-same, shortens_left-back, left_moves, some_left_descent, empty_same}
-use Rattle.cox_hecke.proofs.SumLemmas.{same-is_same, is_same-same, not_same-is_same, same_or_not, occurrences-same}
+use Rattle.cox_hecke.proofs.Descents.{yes-nat_lt, no-nat_lt, shortens_left-same, shortens_left-back, some_left_descent, empty_same}
+use Rattle.cox_hecke.proofs.SumLemmas.{same-is_same, is_same-same, not_same-is_same, same_or_not}
 
 -- x and sx for each x of the list with sx > x
 abbrev pub paired : IntegerMatrix → ℕ → List (List ℕ) → List (List ℕ)
@@ -75,20 +73,25 @@ module _ (A : IntegerMatrix) (g : IsAdmissible A) where
   -- ---- the elements below w
 
   pub below_lists : (n : ℕ) (w : List ℕ) → word_length A w ≡ n → (words : List (List ℕ)) × Tells A (λ x. IsBelow A x w) words
-  below_lists zero w z = ([] ∷ [], λ x. ⊎_elim
-      (λ (e : SameElement A x []). inl (rw (same-is_same A g e) refl, below-refl A g (same-trans A g e (same-sym A g (empty_same A g w z)))))
-      (λ (n : SameElement A x [] → ⊥). inr (rw (not_same-is_same A g x [] n) refl,
-      λ b. n ((below_identity A g x).0 (below-same A g (same-refl A g x) (empty_same A g w z) b))))
-      (same_or_not A g x []))
+  below_lists zero w z = (
+    [] ∷ [],
+    λ x. ⊎_elim
+        (λ (e : SameElement A x []). inl (rw (same-is_same A g e) refl, below-refl A g (same-trans A g e (same-sym A g (empty_same A g w z)))))
+        (λ (n : SameElement A x [] → ⊥). inr (
+          rw (not_same-is_same A g x [] n) refl,
+          λ b. n ((below_identity A g x).0 (below-same A g (same-refl A g x) (empty_same A g w z) b)),
+        ))
+        (same_or_not A g x []),
+  )
   below_lists (suc n) w z = step (some_left_descent A g w (omega (arith, z))) (λ v e. below_lists n v e)
     where
       step : (s : ℕ) × IsLeftDescent A w s
           → ((v : List ℕ) → word_length A v ≡ n → (words : List (List ℕ)) × Tells A (λ x. IsBelow A x v) words)
           → (words : List (List ℕ)) × Tells A (λ x. IsBelow A x w) words
-      step (s , d) lists = pairs (lists (s ∷ w) (omega (arith, z, d, cons-word_length A g s w)))
+      step (s, d) lists = pairs (lists (s ∷ w) (omega (arith, z, d, cons-word_length A g s w)))
         where
           pairs : (words : List (List ℕ)) × Tells A (λ x. IsBelow A x (s ∷ w)) words → (words : List (List ℕ)) × Tells A (λ x. IsBelow A x w) words
-          pairs (words , tells) = (paired A s words, λ x. go x (shortens_left A s x) refl)
+          pairs (words, tells) = (paired A s words, λ x. go x (shortens_left A s x) refl)
             where
               l : IsLetter A.rank s
               l = left_descent-letter A g w s d

@@ -1,6 +1,6 @@
 -- The step family of w by any left descent is its row: a list of corrections has the same sum as the sum over all elements below v = sw.
-use Rattle.std.proofs.Common.{◌≡◌, ℕ, zero, suc, ◌+◌, ◌-◌, ◌/◌, ◌≤◌, ◌<◌, Bool, true, false, not, if◌then◌else◌, List, [], ◌∷◌, map, filter, ◌⊎◌, inl, inr, ⊎_elim}
-use Rattle.std.proofs.Common.{ℤ, pos, ◌+ℤ◌, ◌-ℤ◌, ◌*ℤ◌, refl, ap, sym, ◌∙◌, subst, arith}
+use Rattle.std.proofs.Common.{◌≡◌, ℕ, ◌-◌, ◌/◌, ◌≤◌, Bool, true, false, not, if◌then◌else◌, List, [], ◌∷◌, map, filter, ◌⊎◌, inl, inr, ⊎_elim}
+use Rattle.std.proofs.Common.{ℤ, pos, ◌-ℤ◌, refl, ap, sym, ◌∙◌, arith}
 use Rattle.std.specs.Prelude.{All}
 use Rattle.std.specs.Ordering.{int_eq}
 use Rattle.std.proofs.lemmas.Int.{ints}
@@ -15,22 +15,21 @@ use Rattle.cox_base.specs.Element.{SameElement}
 use Rattle.cox_base.specs.Length.{word_length}
 use Rattle.cox_base.specs.Reduced.{IsLeftDescent}
 use Rattle.cox_base.specs.Bruhat.{IsBelow}
-use Rattle.cox_reflect.proofs.Elements.{same-refl, same-sym, same-square}
+use Rattle.cox_reflect.proofs.Elements.{same-square}
 use Rattle.cox_reflect.proofs.Search.{word_length-equal}
 use Rattle.cox_reflect.proofs.Roots.{left_descent-letter}
-use Rattle.cox_reflect.proofs.Bruhat.{below-length}
 use Rattle.cox_poly.specs.Coefficients.{Coefficients}
 use Rattle.cox_poly.specs.Products.{minus, scaled, times_q_power}
-use Rattle.cox_hecke.specs.Family.{Family, RespectsElements, is_same}
+use Rattle.cox_hecke.specs.Family.{Family, RespectsElements}
 use Rattle.cox_hecke.specs.Operators.{shortens_left}
 use Rattle.cox_hecke.specs.Sums.{occurrences, sum_over}
-use Rattle.cox_hecke.specs.Row.{IsRow, IsMu, middle_coefficient}
+use Rattle.cox_hecke.specs.Row.{IsRow}
 use Rattle.cox_hecke.specs.Step.{step, IsCorrection, Correction, corrected_elements, AreCorrections, correction_sum}
 use Rattle.cox_hecke.proofs.Descents.{nat_lt-yes, yes-nat_lt, shortens_left-back}
 use Rattle.cox_hecke.proofs.SumLemmas.{sum_over-lists}
 use Rattle.cox_hecke.proofs.ElementLists.{Tells, below_list, occurrences-filter}
 use Rattle.cox_hecke.proofs.RowLemmas.{row-same, row-unique}
-use Rattle.cox_hecke.proofs.StepRow.{scale, half, correction, corrections, step_row, Corrects, correction-none, correction-at, step_row-at, corrections-is}
+use Rattle.cox_hecke.proofs.StepRow.{scale, half, correction, step_row, Corrects, correction-none, correction-at, step_row-at, corrections-is}
 use Rattle.cox_hecke.proofs.StepRow.{scale-shortens, half-at, corrects_or_not, correction-same, scale-same}
 use Rattle.cox_hecke.proofs.StepIsRow.{step_row-is}
 use Rattle.cox_hecke.proofs.AllRows.{row_of, row_of-is, row_of-same, row_of-value, mu-value, mu-by_row}
@@ -85,9 +84,9 @@ module _ (A : IntegerMatrix) (g : IsAdmissible A) (w : List ℕ) (s : ℕ) (d : 
   unfolding number
   is-correction z some = ⊎_elim
       (λ (c : Corrects A (s ∷ w) s p (row_of A g) z). record {
-          shortens = yes-nat_lt (word_length A (s ∷ z)) (word_length A z) c.shortens;
-          is_mu = mu-by_row A g z (s ∷ w) (number z) p row (scale-shortens A (s ∷ w) s p (row_of A g) z c.shortens);
-          some = some;
+        shortens = yes-nat_lt (word_length A (s ∷ z)) (word_length A z) c.shortens;
+        is_mu = mu-by_row A g z (s ∷ w) (number z) p row (scale-shortens A (s ∷ w) s p (row_of A g) z c.shortens);
+        some = some;
       })
       (λ (n : number z ≡ pos 0). absurd (some n))
       (corrects_or_none z)
@@ -128,10 +127,10 @@ module _ (A : IntegerMatrix) (g : IsAdmissible A) (w : List ℕ) (s : ℕ) (d : 
       go z true e = inl (term-none z x k ((Decides-int_eq (number z) (pos 0)).0 e))
       go z false e = ⊎_elim
           (λ (c : Corrects A (s ∷ w) s p (row_of A g) z).
-              let here : occurrences A z words ≡ 1 = ⊎_elim (λ y. y.0) (λ n. absurd (n.1 c.below)) (tells z)
-              in let there : occurrences A z (corrected_elements list) ≡ 1 = are.once z (number z)
-              (is-correction z (λ n. false≢true (sym e ∙ (Decides-int_eq (number z) (pos 0)).1 n)))
-              in inr (there ∙ sym here, omega (arith, here)))
+          let here : occurrences A z words ≡ 1 = ⊎_elim (λ y. y.0) (λ n. absurd (n.1 c.below)) (tells z)
+          in let there : occurrences A z (corrected_elements list) ≡ 1 = are.once z (number z)
+          (is-correction z (λ n. false≢true (sym e ∙ (Decides-int_eq (number z) (pos 0)).1 n)))
+          in inr (there ∙ sym here, omega (arith, here)))
           (λ n. inl (term-none z x k n))
           (corrects_or_none z)
 

@@ -1,5 +1,5 @@
 -- The operators of the Hecke algebra, which are those with the sign `true`. For a reduced word of w the product of the T(s) is T(w).
-use Rattle.std.proofs.Common.{◌≡◌, ℕ, zero, suc, Bool, true, false, not, if◌then◌else◌, List, [], ◌∷◌, ◌++◌, reverse, ◌⊎◌, ⊎_elim, pos, refl, ap, sym, ◌∙◌, arith}
+use Rattle.std.proofs.Common.{◌≡◌, ℕ, zero, suc, Bool, true, false, not, if◌then◌else◌, List, [], ◌∷◌, ◌++◌, reverse, ⊎_elim, refl, ap, sym, ◌∙◌, arith}
 use Rattle.std.proofs.lemmas.Int.{ints}
 use Rattle.std.proofs.lemmas.Bool.{false≢true}
 use Rattle.std.proofs.lemmas.List.{reverse-reverse}
@@ -9,19 +9,17 @@ use Rattle.cox_base.specs.Matrix.{IsLetter}
 use Rattle.cox_base.specs.IntegerMatrix.{IntegerMatrix}
 use Rattle.cox_base.specs.Admissible.{IsAdmissible}
 use Rattle.cox_base.specs.Element.{SameElement}
-use Rattle.cox_base.specs.Length.{word_length}
 use Rattle.cox_base.specs.Reduced.{IsReduced}
-use Rattle.cox_reflect.proofs.Elements.{same-refl, same-sym, same-trans, same-cons, same-square, same-reverse}
+use Rattle.cox_reflect.proofs.Elements.{same-sym, same-trans, same-cons, same-square, same-reverse}
 use Rattle.cox_reflect.proofs.Lengths.{IsReduced-reverse, IsReduced-tail}
-use Rattle.cox_poly.specs.Coefficients.{Coefficients, zero_polynomial, one_polynomial, plus, times_q, times_q_less_one}
+use Rattle.cox_poly.specs.Coefficients.{Coefficients, zero_polynomial, plus, times_q, times_q_less_one}
 use Rattle.cox_hecke.specs.Family.{Family, RespectsElements, basis, is_same}
-use Rattle.cox_hecke.specs.Operators.{shortens_left, left, right, left_inverse, left_word, right_word, left_inverse_word}
-
+use Rattle.cox_hecke.specs.Operators.{shortens_left, left, left_inverse, left_word, right_word, left_inverse_word}
 use Rattle.cox_hecke.specs.Step.{step}
 use Rattle.cox_hecke.proofs.Descents.{shortens_left-same, shortens_left-back, reduced-letter, reduced-rises}
-use Rattle.cox_hecke.proofs.Signed.{left_signed, at_inverses, at_inverses-respects, at_inverses-left_signed}
+use Rattle.cox_hecke.proofs.Signed.{at_inverses, at_inverses-respects, at_inverses-left_signed}
 use Rattle.cox_hecke.proofs.WordOperators.{left_along, back_along, left_along-same, back_along-same}
-use Rattle.cox_hecke.proofs.SumLemmas.{same_or_not, same-is_same, not_same-is_same, is_same-same}
+use Rattle.cox_hecke.proofs.SumLemmas.{same_or_not, same-is_same, not_same-is_same}
 use Rattle.cox_hecke.proofs.Balance.{times_q-none}
 
 left_word-append : (A : IntegerMatrix) (u v : List ℕ) (h : Family) → left_word A (u ++ v) h ≡ left_word A u (left_word A v h)

@@ -1,8 +1,8 @@
 -- R-polynomials by operators: R(x,w) is the coefficient at x of the second operators with the sign `false`, along any reduced word of w, at T(e).
 -- So it obeys its recursion for every left descent; it is the same at inverses; and so it obeys the recursion for every right descent.
-use Rattle.std.proofs.Common.{◌≡◌, ℕ, zero, suc, ◌+◌, ◌-◌, ◌<◌, ◌≤◌, Bool, true, false, not, if◌then◌else◌, List, [], ◌∷◌, ◌++◌, reverse, length}
-use Rattle.std.proofs.Common.{pos, refl, ap, sym, ◌∙◌, ⊎_elim, arith}
-use Rattle.std.specs.Prelude.{nat_lt, ◌==◌}
+use Rattle.std.proofs.Common.{◌≡◌, ℕ, zero, suc, Bool, true, false, not, if◌then◌else◌, List, [], ◌∷◌, ◌++◌, reverse}
+use Rattle.std.proofs.Common.{refl, ap, sym, ◌∙◌, ⊎_elim, arith}
+use Rattle.std.specs.Prelude.{◌==◌}
 use Rattle.std.proofs.lemmas.Int.{ints}
 use Rattle.std.proofs.lemmas.Bool.{cases_eq}
 use Rattle.std.proofs.lemmas.Bool.Decides.{nat_tests}
@@ -18,19 +18,18 @@ use Rattle.cox_base.specs.Length.{word_length}
 use Rattle.cox_base.specs.Reduced.{IsReduced, IsLeftDescent, IsRightDescent}
 use Rattle.cox_reflect.proofs.Elements.{same-refl, same-sym, same-trans, same-cons, same-push, same-square, same-push_twice, same-reverse}
 use Rattle.cox_reflect.proofs.Search.{normal_form-same, word_length-equal, word_length-length, IsWord-normal_form}
-use Rattle.cox_reflect.proofs.Lengths.{word_length-is, word_length-reverse, IsReduced-normal_form, IsReduced-reverse, IsReduced-tail, cons-word_length}
+use Rattle.cox_reflect.proofs.Lengths.{word_length-is, word_length-reverse, IsReduced-normal_form, IsReduced-reverse, cons-word_length}
 use Rattle.cox_reflect.proofs.WordLemmas.{IsWord-reverse}
 use Rattle.cox_reflect.proofs.Roots.{left_descent-letter}
 use Rattle.cox_poly.specs.Coefficients.{Coefficients, zero_polynomial, one_polynomial, plus, times_q, times_q_less_one}
-use Rattle.cox_poly.specs.Products.{minus, negated}
+use Rattle.cox_poly.specs.Products.{minus}
 use Rattle.cox_rpoly.specs.RPolynomial.{r_along, r_polynomial}
 use Rattle.cox_rpoly.proofs.AlongLemmas.{along-shorter, along-longer}
 use Rattle.cox_rpoly.proofs.PolynomialLemmas.{r_polynomial-is, r_polynomial-same}
 use Rattle.cox_hecke.specs.Family.{Family, RespectsElements}
 use Rattle.cox_hecke.specs.Operators.{shortens_left, shortens_right}
 use Rattle.cox_hecke.proofs.Descents.{nat_lt-yes, nat_lt-no, yes-nat_lt, no-nat_lt, shortens_left-back, empty_same, descent-reverse, reverse-descent}
-use Rattle.cox_hecke.proofs.Signed.{signed, left_back, right_back, at_inverses, at_inverses-left_back, left_back-right_back, right_back-respects}
-use Rattle.cox_hecke.proofs.Signed.{at_inverses-respects}
+use Rattle.cox_hecke.proofs.Signed.{signed, left_back, right_back, at_inverses, at_inverses-left_back, left_back-right_back}
 use Rattle.cox_hecke.proofs.WordOperators.{back_along, back_along-respects, back_along-same}
 
 -- T(e)
@@ -166,12 +165,15 @@ module _ (A : IntegerMatrix) (g : IsAdmissible A) where
           miss n m =
               ⊎_elim
               (λ (z : word_length A x ≡ 0).
-                  rw (nat_lt-no (word_length A (s ∷ x)) (word_length A x) (λ l. omega (arith, l, z)),
-                  nat_lt-no (word_length A (x ++ s ∷ [])) (word_length A x) (λ l. omega (arith, l, z)), unit-other A (s ∷ x) n,
-                  unit-other A (x ++ s ∷ []) m) refl)
+              rw (
+                nat_lt-no (word_length A (s ∷ x)) (word_length A x) (λ l. omega (arith, l, z)),
+                nat_lt-no (word_length A (x ++ s ∷ [])) (word_length A x) (λ l. omega (arith, l, z)),
+                unit-other A (s ∷ x) n,
+                unit-other A (x ++ s ∷ []) m,
+              ) refl)
               (λ (c : word_length A x ≡ 0 → ⊥).
-                  rw (unit-other A (s ∷ x) n, unit-other A (x ++ s ∷ []) m, unit-other A x c)
-                  (λ i k. none_core (shortens_left A s x) (shortens_right A s x) k i))
+              rw (unit-other A (s ∷ x) n, unit-other A (x ++ s ∷ []) m, unit-other A x c)
+              (λ i k. none_core (shortens_left A s x) (shortens_right A s x) k i))
               (cases_eq (word_length A x) 0)
 
   unit-inverses : at_inverses (unit A) ≡ unit A

@@ -1,5 +1,5 @@
 -- The step family of w by any right descent is its row: at inverses it is that of w^-1 by a left descent.
-use Rattle.std.proofs.Common.{◌≡◌, ℕ, ◌-◌, ◌/◌, Bool, if◌then◌else◌, List, [], ◌∷◌, ◌++◌, reverse, map, ℤ, pos, ◌+ℤ◌, ◌-ℤ◌, refl, ap, sym, ◌∙◌, subst, arith}
+use Rattle.std.proofs.Common.{◌≡◌, ℕ, ◌-◌, ◌/◌, Bool, if◌then◌else◌, List, [], ◌∷◌, ◌++◌, reverse, map, ℤ, ◌-ℤ◌, refl, ap, sym, ◌∙◌, subst, arith}
 use Rattle.std.specs.Prelude.{All}
 use Rattle.std.proofs.lemmas.Int.{ints}
 use Rattle.std.proofs.lemmas.List.{reverse-reverse, reverse-append}
@@ -10,14 +10,14 @@ use Rattle.cox_base.specs.declared.side.Side.TheVariants.{Left, Right}
 use Rattle.cox_base.specs.IntegerMatrix.{IntegerMatrix}
 use Rattle.cox_base.specs.Admissible.{IsAdmissible}
 use Rattle.cox_base.specs.Length.{word_length}
-use Rattle.cox_base.specs.Reduced.{IsLeftDescent, IsRightDescent}
+use Rattle.cox_base.specs.Reduced.{IsRightDescent}
 use Rattle.cox_reflect.proofs.Lengths.{word_length-reverse}
 use Rattle.cox_poly.specs.Coefficients.{Coefficients, plus, times_q}
 use Rattle.cox_poly.specs.Products.{minus, scaled, times_q_power}
 use Rattle.cox_hecke.specs.Family.{Family}
 use Rattle.cox_hecke.specs.Operators.{shortens_left, shortens_right}
 use Rattle.cox_hecke.specs.Sums.{occurrences}
-use Rattle.cox_hecke.specs.Row.{IsRow, IsMu, middle_coefficient}
+use Rattle.cox_hecke.specs.Row.{IsRow, IsMu}
 use Rattle.cox_hecke.specs.Step.{step, IsCorrection, Correction, corrected_elements, AreCorrections, correction_sum}
 use Rattle.cox_hecke.proofs.Descents.{shortens-reverse, descent-reverse, reverse-descent}
 use Rattle.cox_hecke.proofs.Signed.{at_inverses}

@@ -1,7 +1,7 @@
 -- Rows: their last condition over any list that names the elements between x and w once, and that no element has two. For the difference of two
 -- rows of w at a longest x where it is not 0 the condition says that it is itself turned round, against the bound on its degree.
-use Rattle.std.proofs.Common.{◌≡◌, ℕ, zero, suc, ◌+◌, ◌-◌, ◌*◌, ◌≤◌, ◌<◌, Bool, true, false, if◌then◌else◌, List, [], ◌∷◌, ◌⊎◌, inl, inr, ⊎_elim}
-use Rattle.std.proofs.Common.{ℤ, pos, ◌+ℤ◌, ◌-ℤ◌, ◌*ℤ◌, refl, ap, sym, ◌∙◌, subst, arith}
+use Rattle.std.proofs.Common.{◌≡◌, ℕ, zero, suc, ◌+◌, ◌-◌, ◌*◌, ◌≤◌, ◌<◌, Bool, true, false, if◌then◌else◌, List, ◌⊎◌, inl, inr, ⊎_elim}
+use Rattle.std.proofs.Common.{pos, ◌-ℤ◌, refl, ap, sym, ◌∙◌, subst, arith}
 use Rattle.std.proofs.lemmas.Int.{ints}
 use Rattle.std.proofs.lemmas.Bool.{cases_lt, false≢true}
 use Rattle.cox_base.specs.IntegerMatrix.{IntegerMatrix}
@@ -9,21 +9,20 @@ use Rattle.cox_base.specs.Admissible.{IsAdmissible}
 use Rattle.cox_base.specs.Element.{SameElement}
 use Rattle.cox_base.specs.Length.{word_length}
 use Rattle.cox_base.specs.Bruhat.{IsBelow}
-use Rattle.cox_reflect.proofs.Elements.{same-refl, same-sym, same-trans}
+use Rattle.cox_reflect.proofs.Elements.{same-refl, same-sym}
 use Rattle.cox_reflect.proofs.Search.{word_length-equal}
-use Rattle.cox_reflect.proofs.Bruhat.{below-same, below-refl, below-trans, below-length, below-equal_length}
+use Rattle.cox_reflect.proofs.Bruhat.{below-same, below-trans, below-length, below-equal_length}
 use Rattle.cox_poly.specs.Coefficients.{Coefficients, zero_polynomial, one_polynomial}
 use Rattle.cox_poly.specs.Products.{minus, flip, product}
-use Rattle.cox_poly.specs.Size.{HasDegreeAtMost}
 use Rattle.cox_poly.proofs.Coefficients.{flip_at}
 use Rattle.cox_poly.proofs.Products.{product_of_none, product-zero, one-product}
 use Rattle.cox_rpoly.specs.RPolynomial.{r_polynomial}
 use Rattle.cox_rpoly.proofs.PolynomialLemmas.{r_polynomial-not_below, r_polynomial-equal}
 use Rattle.cox_hecke.specs.Family.{Family, RespectsElements, is_same}
-use Rattle.cox_hecke.specs.Sums.{occurrences, ListsEach, sum_over, bar_sum}
+use Rattle.cox_hecke.specs.Sums.{occurrences, bar_sum}
 use Rattle.cox_hecke.specs.Row.{IsBetween, IsRow}
 use Rattle.cox_hecke.proofs.SumLemmas.{sum_over-equal, sum_over-none, sum_over-one, sum_over-lists, same-is_same}
-use Rattle.cox_hecke.proofs.ElementLists.{Tells, Tells-ListsEach, below_list, below_or_not, between_list}
+use Rattle.cox_hecke.proofs.ElementLists.{Tells-ListsEach, below_list, below_or_not, between_list}
 use Rattle.cox_hecke.proofs.BarSums.{bar_term-respects}
 use Rattle.cox_hecke.proofs.Balance.{Balanced, Balanced-minus, bar_sum-minus, flip-none}
 
@@ -185,12 +184,12 @@ module _ (A : IntegerMatrix) (g : IsAdmissible A) where
             nothing : (SameElement A x y → ⊥) → product (r_polynomial A x y) (difference y) k ≡ pos 0
             nothing n = ⊎_elim
                 (λ (b : IsBelow A x y).
-                    let l : word_length A x < word_length A y
-                    = ⊎_elim (λ l. l) (λ (m : word_length A y ≤ word_length A x).
-                        absurd (n (below-equal_length A g b (omega (arith, m, below-length A g b)))))
-                    (cases_lt (word_length A x) (word_length A y))
-                    in let none : difference y ≡ zero_polynomial = λ i k. longer y l k i
-                    in rw none (product-zero (r_polynomial A x y) k))
+                let l : word_length A x < word_length A y
+                = ⊎_elim (λ l. l) (λ (m : word_length A y ≤ word_length A x).
+                absurd (n (below-equal_length A g b (omega (arith, m, below-length A g b)))))
+                (cases_lt (word_length A x) (word_length A y))
+                in let none : difference y ≡ zero_polynomial = λ i k. longer y l k i
+                in rw none (product-zero (r_polynomial A x y) k))
                 (λ (n : IsBelow A x y → ⊥). term-none w difference outside x y k (inl n))
                 (below_or_not A g x y)
 

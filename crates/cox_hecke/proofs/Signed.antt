@@ -1,14 +1,13 @@
 -- The operators with a sign: `true` for those of the Hecke algebra, with q - 1; `false` for those with 1 - q in its place, of which the second
 -- is the recursion of R-polynomials. Left and right operators commute, and one of each kind undoes the other but for a factor q.
-use Rattle.std.proofs.Common.{◌≡◌, ℕ, zero, suc, ◌+◌, Bool, true, false, not, if◌then◌else◌, List, [], ◌∷◌, ◌++◌, reverse, refl, ap, sym, ◌∙◌, arith}
+use Rattle.std.proofs.Common.{◌≡◌, ℕ, zero, suc, Bool, true, false, not, if◌then◌else◌, List, [], ◌∷◌, ◌++◌, reverse, refl, sym, arith}
 use Rattle.std.proofs.lemmas.Int.{ints}
 use Rattle.std.proofs.lemmas.List.{reverse-append}
 use Rattle.cox_base.specs.Matrix.{IsLetter}
 use Rattle.cox_base.specs.IntegerMatrix.{IntegerMatrix}
 use Rattle.cox_base.specs.Admissible.{IsAdmissible}
 use Rattle.cox_base.specs.Element.{SameElement}
-use Rattle.cox_base.specs.Length.{word_length}
-use Rattle.cox_reflect.proofs.Elements.{same-refl, same-sym, same-trans, same-cons, same-push, same-square, same-push_twice, same-reverse}
+use Rattle.cox_reflect.proofs.Elements.{same-trans, same-cons, same-push, same-square, same-push_twice, same-reverse}
 use Rattle.cox_poly.specs.Coefficients.{Coefficients, plus, times_q, times_q_less_one}
 use Rattle.cox_poly.specs.Products.{minus, negated}
 use Rattle.cox_hecke.specs.Family.{Family, RespectsElements}
@@ -193,11 +192,27 @@ module _ (A : IntegerMatrix) (g : IsAdmissible A) where
     far : (x : List ℕ) (p : Bool) → SameElement A (s ∷ x) (x ++ t ∷ []) → shortens_left A s x ≡ p → shortens_right A t x ≡ p
         → (k : ℕ) → left_signed A b s (right_signed A b t h) x k ≡ right_signed A b t (left_signed A b s h) x k
     far x true e p q k =
-        rw (sym (shortens_left-same A g s e), shortens_right-same A g t e, shortens_left-back A g s x l, shortens_right-back A g t x m, p, q,
-        respected r (around x e), respected r e) refl
+        rw (
+          sym (shortens_left-same A g s e),
+          shortens_right-same A g t e,
+          shortens_left-back A g s x l,
+          shortens_right-back A g t x m,
+          p,
+          q,
+          respected r (around x e),
+          respected r e,
+        ) refl
     far x false e p q k =
-        rw (sym (shortens_left-same A g s e), shortens_right-same A g t e, shortens_left-back A g s x l, shortens_right-back A g t x m, p, q,
-        respected r (around x e), respected r e) refl
+        rw (
+          sym (shortens_left-same A g s e),
+          shortens_right-same A g t e,
+          shortens_left-back A g s x l,
+          shortens_right-back A g t x m,
+          p,
+          q,
+          respected r (around x e),
+          respected r e,
+        ) refl
 
     pub left-right : left_signed A b s (right_signed A b t h) ≡ right_signed A b t (left_signed A b s h)
     left-right = λ i x k. at x k (sides_of A g s t x l m) i
@@ -210,11 +225,27 @@ module _ (A : IntegerMatrix) (g : IsAdmissible A) where
     far_back : (x : List ℕ) (p : Bool) → SameElement A (s ∷ x) (x ++ t ∷ []) → shortens_left A s x ≡ p → shortens_right A t x ≡ p
         → (k : ℕ) → left_back A b s (right_back A b t h) x k ≡ right_back A b t (left_back A b s h) x k
     far_back x true e p q k =
-        rw (sym (shortens_left-same A g s e), shortens_right-same A g t e, shortens_left-back A g s x l, shortens_right-back A g t x m, p, q,
-        respected r (around x e), respected r e) refl
+        rw (
+          sym (shortens_left-same A g s e),
+          shortens_right-same A g t e,
+          shortens_left-back A g s x l,
+          shortens_right-back A g t x m,
+          p,
+          q,
+          respected r (around x e),
+          respected r e,
+        ) refl
     far_back x false e p q k =
-        rw (sym (shortens_left-same A g s e), shortens_right-same A g t e, shortens_left-back A g s x l, shortens_right-back A g t x m, p, q,
-        respected r (around x e), respected r e) refl
+        rw (
+          sym (shortens_left-same A g s e),
+          shortens_right-same A g t e,
+          shortens_left-back A g s x l,
+          shortens_right-back A g t x m,
+          p,
+          q,
+          respected r (around x e),
+          respected r e,
+        ) refl
 
     pub left_back-right_back : left_back A b s (right_back A b t h) ≡ right_back A b t (left_back A b s h)
     left_back-right_back = λ i x k. at x k (sides_of A g s t x l m) i

@@ -1,11 +1,10 @@
 -- The step from the row p of v to that of w = sv > v: (1 + T(s)) p, less mu(z,v) q^((l(w)-l(z))/2) times the row of z for each z below v with
 -- sz < z. Bar respects each part. The degree bound can fail for (1 + T(s)) p at an x with sx < x alone, by one coefficient, mu(x,v); the
 -- correction by z = x takes that away, and the others meet the bound.
-use Rattle.std.proofs.Common.{◌≡◌, ℕ, zero, suc, ◌+◌, ◌-◌, ◌*◌, ◌/◌, ◌%◌, ◌≤◌, ◌<◌, Bool, true, false, not, if◌then◌else◌, List, [], ◌∷◌, ◌⊎◌, inl, inr, ⊎_elim}
-use Rattle.std.proofs.Common.{ℤ, pos, ◌+ℤ◌, ◌-ℤ◌, ◌*ℤ◌, refl, ap, sym, ◌∙◌, subst, arith}
+use Rattle.std.proofs.Common.{◌≡◌, ℕ, suc, ◌+◌, ◌-◌, ◌*◌, ◌/◌, ◌%◌, Bool, true, false, not, if◌then◌else◌, List, [], ◌∷◌, ◌⊎◌, inl, inr, ⊎_elim}
+use Rattle.std.proofs.Common.{ℤ, pos, ◌-ℤ◌, ◌*ℤ◌, refl, ap, sym, ◌∙◌, subst, arith}
 use Rattle.std.specs.Prelude.{◌==◌}
 use Rattle.std.proofs.lemmas.Int.{ints}
-use Rattle.std.proofs.lemmas.Bool.{cases_lt, cases_eq, false≢true}
 use Rattle.std.proofs.lemmas.Bool.Decides.{nat_tests}
 use Rattle.cox_base.specs.declared.side.Side.TheVariants.{Left}
 use Rattle.cox_base.specs.Matrix.{IsLetter}
@@ -15,27 +14,26 @@ use Rattle.cox_base.specs.Element.{SameElement}
 use Rattle.cox_base.specs.Length.{word_length}
 use Rattle.cox_base.specs.Reduced.{IsLeftDescent}
 use Rattle.cox_base.specs.Bruhat.{IsBelow}
-use Rattle.cox_reflect.proofs.Elements.{same-refl, same-sym, same-trans, same-cons, same-square}
+use Rattle.cox_reflect.proofs.Elements.{same-refl, same-square}
 use Rattle.cox_reflect.proofs.Search.{word_length-equal}
-use Rattle.cox_reflect.proofs.Bruhat.{below-same, below-refl, below-trans, below-length, below-equal_length, below-descent, below-cons}
-use Rattle.cox_poly.specs.Coefficients.{Coefficients, zero_polynomial, one_polynomial, plus, times_q}
+use Rattle.cox_reflect.proofs.Bruhat.{below-same, below-trans, below-descent, below-cons}
+use Rattle.cox_poly.specs.Coefficients.{Coefficients, zero_polynomial}
 use Rattle.cox_poly.specs.Products.{minus, scaled, times_q_power, product}
 use Rattle.cox_poly.proofs.Products.{product-zero}
 use Rattle.cox_rpoly.specs.RPolynomial.{r_polynomial}
-use Rattle.cox_poly.proofs.Coefficients.{times_q_power_at, times_q_power_below}
-use Rattle.cox_hecke.specs.Family.{Family, RespectsElements, is_same}
+use Rattle.cox_hecke.specs.Family.{Family, RespectsElements}
 use Rattle.cox_hecke.specs.Operators.{shortens_left}
-use Rattle.cox_hecke.specs.Sums.{occurrences, ListsEach, IsClosedUnder, sum_over, bar_sum}
+use Rattle.cox_hecke.specs.Sums.{occurrences, IsClosedUnder, sum_over, bar_sum}
 use Rattle.cox_hecke.specs.Row.{IsRow, middle_coefficient}
 use Rattle.cox_hecke.specs.Step.{step}
-use Rattle.cox_hecke.proofs.Descents.{Moves, left_moves, nat_lt-yes, yes-nat_lt, shortens_left-same, shortens_left-back}
+use Rattle.cox_hecke.proofs.Descents.{Moves, left_moves, yes-nat_lt, shortens_left-same, shortens_left-back}
 use Rattle.cox_hecke.proofs.Signed.{respected}
-use Rattle.cox_hecke.proofs.SumLemmas.{sum_over-equal, sum_over-none, sum_over-one, same-is_same, not_same-is_same, is_same-same}
-use Rattle.cox_hecke.proofs.ElementLists.{Tells, Tells-ListsEach, below_list, below_or_not}
-use Rattle.cox_hecke.proofs.BarSums.{step-shorter, step-longer, step-respects, bar-shorter, bar-longer}
+use Rattle.cox_hecke.proofs.SumLemmas.{sum_over-equal, sum_over-none}
+use Rattle.cox_hecke.proofs.ElementLists.{Tells, Tells-ListsEach, below_or_not}
+use Rattle.cox_hecke.proofs.BarSums.{bar-shorter, bar-longer}
 use Rattle.cox_hecke.proofs.Balance.{Balanced, Balanced-none, Balanced-plus, Balanced-minus, Balanced-scaled, Balanced-times_q_power, Balanced-step}
-use Rattle.cox_hecke.proofs.Balance.{step_sums, bar_sum-plus, bar_sum-minus, bar_sum-scaled, bar_sum-times_q_power, plus_paths, times_q-none}
-use Rattle.cox_hecke.proofs.RowLemmas.{row-balanced, row-from, row-long, row-longer, row-other, outside_path, bar_sum-none, one_above}
+use Rattle.cox_hecke.proofs.Balance.{step_sums, bar_sum-plus, bar_sum-minus, bar_sum-scaled, bar_sum-times_q_power}
+use Rattle.cox_hecke.proofs.RowLemmas.{row-balanced}
 
 module _ (A : IntegerMatrix) (v : List ℕ) (s : ℕ) (p : Family) (P : List ℕ → Family) where
   -- mu(z,v) where s shortens z, else 0
@@ -185,8 +183,8 @@ module _ (A : IntegerMatrix) (v : List ℕ) (s : ℕ) (p : Family) (P : List ℕ
         closed = λ x. ⊎_elim
             (λ (b : IsBelow A x (s ∷ v)). once (s ∷ x) (below-cons A g x (s ∷ v) s descent b) ∙ sym (once x b))
             (λ (n : IsBelow A x (s ∷ v) → ⊥). no_other (s ∷ x)
-                (λ b. n (below-same A g (same-square A g s x) (same-refl A g (s ∷ v)) (below-cons A g (s ∷ x) (s ∷ v) s descent b)))
-                ∙ sym (no_other x n))
+            (λ b. n (below-same A g (same-square A g s x) (same-refl A g (s ∷ v)) (below-cons A g (s ∷ x) (s ∷ v) s descent b)))
+            ∙ sym (no_other x n))
             (below_or_not A g x (s ∷ v));
       }
         where

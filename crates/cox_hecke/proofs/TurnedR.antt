@@ -1,5 +1,5 @@
 -- R(x,w) turned round in degree d = l(w) - l(x) is (-1)^d R(x,w): by induction along a word of w.
-use Rattle.std.proofs.Common.{◌≡◌, ℕ, zero, suc, ◌+◌, ◌≤◌, ◌<◌, List, [], ◌∷◌, length, ◌⊎◌, ⊎_elim, pos, ◌+ℤ◌, ◌-ℤ◌, refl, ap, sym, ◌∙◌, arith}
+use Rattle.std.proofs.Common.{◌≡◌, ℕ, zero, suc, ◌+◌, List, [], ◌∷◌, length, ⊎_elim, pos, ◌+ℤ◌, ◌-ℤ◌, refl, ap, ◌∙◌, arith}
 use Rattle.std.proofs.lemmas.Int.{ints}
 use Rattle.std.proofs.lemmas.List.Elements.{All-head, All-tail}
 use Rattle.cox_base.specs.Matrix.{IsLetter, IsWord}
@@ -19,7 +19,7 @@ use Rattle.cox_rpoly.specs.RPolynomial.{r_along, r_polynomial}
 use Rattle.cox_rpoly.proofs.AlongLemmas.{along-identity, along-shorter, along-longer, along-long, along-degree, shortens}
 use Rattle.cox_rpoly.proofs.PolynomialLemmas.{r_polynomial-is}
 use Rattle.cox_hecke.specs.Sums.{times_sign}
-use Rattle.cox_hecke.proofs.Balance.{flip-none, flip-plus, flip-minus, times_q-none}
+use Rattle.cox_hecke.proofs.Balance.{flip-none, flip-plus, flip-minus}
 
 times_sign-plus : (d : ℕ) (f h : Coefficients) (k : ℕ) → times_sign d (plus f h) k ≡ times_sign d f k +ℤ times_sign d h k
 times_sign-plus zero f h k = refl
@@ -73,12 +73,12 @@ module _ (A : IntegerMatrix) (g : IsAdmissible A) where
   along-turned x [] (suc d) c e k = absurd (omega (arith, e))
   along-turned x (s ∷ v) d c e k = ⊎_elim
       (λ (down : IsLeftDescent A x s).
-          rw (along-shorter A x s v down)
-          (along-turned (s ∷ x) v d (All-tail (IsLetter A.rank) s v c) (omega (arith, e, down, cons-word_length A g s x)) k))
+      rw (along-shorter A x s v down)
+      (along-turned (s ∷ x) v d (All-tail (IsLetter A.rank) s v c) (omega (arith, e, down, cons-word_length A g s x)) k))
       (λ (none : IsLeftDescent A x s → ⊥).
-          rw (along-longer A x s v none)
-          (longer d e (rises none) (λ m f. along-turned x v m (All-tail (IsLetter A.rank) s v c) f)
-          (λ m f. along-turned (s ∷ x) v m (All-tail (IsLetter A.rank) s v c) f) k))
+      rw (along-longer A x s v none)
+      (longer d e (rises none) (λ m f. along-turned x v m (All-tail (IsLetter A.rank) s v c) f)
+      (λ m f. along-turned (s ∷ x) v m (All-tail (IsLetter A.rank) s v c) f) k))
       (shortens A x s)
     where
       rises : (IsLeftDescent A x s → ⊥) → word_length A (s ∷ x) ≡ word_length A x + 1

@@ -1,25 +1,22 @@
 -- Operators of words: those of two reduced words of one element are the same. Since left operators commute with right ones, it is enough to
 -- look at the coefficient of T(e), where a word u of k letters gives q^k times the coefficient at u.
-use Rattle.std.proofs.Common.{◌≡◌, ℕ, zero, suc, ◌+◌, ◌<◌, ◌≤◌, Bool, true, false, not, if◌then◌else◌, List, [], ◌∷◌, ◌++◌, reverse, length}
+use Rattle.std.proofs.Common.{◌≡◌, ℕ, zero, suc, Bool, true, false, not, List, [], ◌∷◌, ◌++◌, length}
 use Rattle.std.proofs.Common.{refl, ap, sym, ◌∙◌, subst, arith}
-use Rattle.std.proofs.lemmas.List.{length-reverse, reverse-reverse, append_assoc}
-use mathlib.Core.List.{reverse-cons}
 use Rattle.cox_base.specs.Matrix.{IsLetter}
 use Rattle.cox_base.specs.IntegerMatrix.{IntegerMatrix}
 use Rattle.cox_base.specs.Admissible.{IsAdmissible}
 use Rattle.cox_base.specs.Element.{SameElement}
-use Rattle.cox_base.specs.ShortLex.{normal_form}
 use Rattle.cox_base.specs.Length.{word_length}
 use Rattle.cox_base.specs.Reduced.{IsReduced, IsRightDescent}
-use Rattle.cox_reflect.proofs.Elements.{same-refl, same-sym, same-trans, same-push_twice, same-equal}
-use Rattle.cox_reflect.proofs.Search.{normal_form-same, word_length-equal}
-use Rattle.cox_reflect.proofs.Lengths.{word_length-is, IsReduced-tail}
+use Rattle.cox_reflect.proofs.Elements.{same-push_twice}
+use Rattle.cox_reflect.proofs.Search.{word_length-equal}
+use Rattle.cox_reflect.proofs.Lengths.{IsReduced-tail}
 use Rattle.cox_reflect.proofs.Roots.{descent-letter}
-use Rattle.cox_poly.specs.Coefficients.{Coefficients, plus, times_q, times_q_less_one}
+use Rattle.cox_poly.specs.Coefficients.{Coefficients, times_q}
 use Rattle.cox_hecke.specs.Family.{Family, RespectsElements}
 use Rattle.cox_hecke.specs.Operators.{shortens_left, shortens_right}
 use Rattle.cox_hecke.proofs.Descents.{nat_lt-yes, Moves, right_moves, shortens_right-back, reduced-letter, reduced-rises, some_right_descent, empty_same}
-use Rattle.cox_hecke.proofs.Signed.{left_signed, right_signed, left_back, right_back, family_times_q, respected}
+use Rattle.cox_hecke.proofs.Signed.{left_signed, right_signed, left_back, family_times_q}
 use Rattle.cox_hecke.proofs.Signed.{left_signed-times_q, left_back-times_q, left_signed-respects, right_signed-respects, left_back-respects}
 use Rattle.cox_hecke.proofs.Signed.{family_times_q-respects, left-back, back-left, left-right}
 
@@ -123,7 +120,7 @@ module _ (A : IntegerMatrix) (g : IsAdmissible A) where
           → ((t : ℕ) → IsLetter A.rank t → (y : List ℕ) → word_length A y ≡ n
           → left_along A b u (right_signed A b t h) y (suc k) ≡ left_along A b v (right_signed A b t h) y (suc k))
           → left_along A b u h x k ≡ left_along A b v h x k
-      step (t , down) below =
+      step (t, down) below =
           let l = descent-letter A g x t down
           in let q : shortens_right A t (x ++ t ∷ []) ≡ false
           = shortens_right-back A g t x l ∙ ap not (nat_lt-yes down)
