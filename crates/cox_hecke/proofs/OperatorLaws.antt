@@ -17,7 +17,7 @@ use Rattle.cox_hecke.specs.Family.{Family, RespectsElements, basis, is_same}
 use Rattle.cox_hecke.specs.Operators.{shortens_left, left, left_inverse, left_word, right_word, left_inverse_word}
 use Rattle.cox_hecke.specs.Step.{step}
 use Rattle.cox_hecke.proofs.Descents.{shortens_left-same, shortens_left-back, reduced-letter, reduced-rises}
-use Rattle.cox_hecke.proofs.Signed.{at_inverses, at_inverses-respects, at_inverses-left_signed}
+use Rattle.cox_hecke.proofs.Signed.{at_inverses, at_inverses-respects, at_inverses-by_left, plus_signed, first_times_q}
 use Rattle.cox_hecke.proofs.WordOperators.{left_along, back_along, left_along-same, back_along-same}
 use Rattle.cox_hecke.proofs.SumLemmas.{same_or_not, same-is_same, not_same-is_same}
 use Rattle.cox_hecke.proofs.Balance.{times_q-none}
@@ -60,7 +60,7 @@ module _ (A : IntegerMatrix) (g : IsAdmissible A) where
 
   right_along : (u : List ℕ) (h : Family) → at_inverses (left_along A true u h) ≡ right_word A u (at_inverses h)
   right_along [] h = refl
-  right_along (s ∷ u) h = right_along u (left A s h) ∙ ap (right_word A u) (at_inverses-left_signed A g true s h)
+  right_along (s ∷ u) h = right_along u (left A s h) ∙ ap (right_word A u) (at_inverses-by_left A g (plus_signed true) first_times_q s h)
 
   twice : (h : Family) → at_inverses (at_inverses h) ≡ h
   twice h = λ i x. h (reverse-reverse x i)

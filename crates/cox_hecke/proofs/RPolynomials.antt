@@ -29,7 +29,7 @@ use Rattle.cox_rpoly.proofs.PolynomialLemmas.{r_polynomial-is, r_polynomial-same
 use Rattle.cox_hecke.specs.Family.{Family, RespectsElements}
 use Rattle.cox_hecke.specs.Operators.{shortens_left, shortens_right}
 use Rattle.cox_hecke.proofs.Descents.{nat_lt-yes, nat_lt-no, yes-nat_lt, no-nat_lt, shortens_left-back, empty_same, descent-reverse, reverse-descent}
-use Rattle.cox_hecke.proofs.Signed.{signed, left_back, right_back, at_inverses, at_inverses-left_back, left_back-right_back}
+use Rattle.cox_hecke.proofs.Signed.{signed, left_back, right_back, at_inverses, at_inverses-by_left, first_alone, minus_signed, left_back-right_back}
 use Rattle.cox_hecke.proofs.WordOperators.{back_along, back_along-respects, back_along-same}
 
 -- T(e)
@@ -192,7 +192,7 @@ module _ (A : IntegerMatrix) (g : IsAdmissible A) where
   back_along-reverse : (b : Bool) (u : List ℕ) → IsWord A.rank u → at_inverses (back_along A b u (unit A)) ≡ back_along A b (reverse u) (unit A)
   back_along-reverse b [] c = unit-inverses
   back_along-reverse b (s ∷ u) c =
-      at_inverses-left_back A g b s (back_along A b u (unit A))
+      at_inverses-by_left A g first_alone (minus_signed b) s (back_along A b u (unit A))
       ∙ ap (right_back A b s) (back_along-reverse b u (All-tail (IsLetter A.rank) s u c))
       ∙ sym (back_along-right b (reverse u) s (unit A) (IsWord-reverse u (All-tail (IsLetter A.rank) s u c)) (All-head (IsLetter A.rank) s u c)
       unit-respects)

@@ -17,7 +17,7 @@ use Rattle.cox_hecke.specs.Family.{Family, RespectsElements}
 use Rattle.cox_hecke.specs.Operators.{shortens_left, shortens_right}
 use Rattle.cox_hecke.proofs.Descents.{nat_lt-yes, Moves, right_moves, shortens_right-back, reduced-letter, reduced-rises, some_right_descent, empty_same}
 use Rattle.cox_hecke.proofs.Signed.{left_signed, right_signed, left_back, family_times_q}
-use Rattle.cox_hecke.proofs.Signed.{left_signed-times_q, left_back-times_q, left_signed-respects, right_signed-respects, left_back-respects}
+use Rattle.cox_hecke.proofs.Signed.{left_signed-times_q, left_back-times_q, by_left-respects, by_right-respects, plus_signed, first_times_q, first_alone, minus_signed}
 use Rattle.cox_hecke.proofs.Signed.{family_times_q-respects, left-back, back-left, left-right}
 
 -- q^n h
@@ -51,11 +51,11 @@ module _ (A : IntegerMatrix) (g : IsAdmissible A) where
 
   pub left_along-respects : (b : Bool) (u : List ℕ) (h : Family) → RespectsElements A h → RespectsElements A (left_along A b u h)
   left_along-respects b [] h r = r
-  left_along-respects b (s ∷ u) h r = left_along-respects b u (left_signed A b s h) (left_signed-respects A g b s h r)
+  left_along-respects b (s ∷ u) h r = left_along-respects b u (left_signed A b s h) (by_left-respects A g (plus_signed b) first_times_q s h r)
 
   pub back_along-respects : (b : Bool) (u : List ℕ) (h : Family) → RespectsElements A h → RespectsElements A (back_along A b u h)
   back_along-respects b [] h r = r
-  back_along-respects b (s ∷ u) h r = left_back-respects A g b s (back_along A b u h) (back_along-respects b u h r)
+  back_along-respects b (s ∷ u) h r = by_left-respects A g first_alone (minus_signed b) s (back_along A b u h) (back_along-respects b u h r)
 
   -- ---- q passes
 
@@ -89,7 +89,7 @@ module _ (A : IntegerMatrix) (g : IsAdmissible A) where
   left_along-right b [] t h c l r = refl
   left_along-right b (s ∷ u) t h c l r =
       ap (left_along A b u) (left-right A g b s t h (reduced-letter A g s u c) l r)
-      ∙ left_along-right b u t (left_signed A b s h) (IsReduced-tail A g s u c) l (left_signed-respects A g b s h r)
+      ∙ left_along-right b u t (left_signed A b s h) (IsReduced-tail A g s u c) l (by_left-respects A g (plus_signed b) first_times_q s h r)
 
   -- ---- the word does not matter: at x, by a right descent of x down to e
 
@@ -107,7 +107,7 @@ module _ (A : IntegerMatrix) (g : IsAdmissible A) where
       identity = empty_same A g x z
   left_along-at b (suc n) u v h c d e r x z k =
       step (some_right_descent A g x (omega (arith, z)))
-      (λ t l y size. left_along-at b n u v (right_signed A b t h) c d e (right_signed-respects A g b t h r) y size (suc k))
+      (λ t l y size. left_along-at b n u v (right_signed A b t h) c d e (by_right-respects A g (plus_signed b) first_times_q t h r) y size (suc k))
     where
       -- the coefficient at x is, a degree higher, that of the product with T(t) at xt
       raised : (t : ℕ) (w : List ℕ) → IsReduced A w → IsLetter A.rank t → shortens_right A t (x ++ t ∷ []) ≡ false
@@ -141,7 +141,7 @@ module _ (A : IntegerMatrix) (g : IsAdmissible A) where
       → back_along A b u (left_along A b u h) ≡ family_power (length u) h
   back_along-left b [] h c r = refl
   back_along-left b (s ∷ u) h c r =
-      ap (left_back A b s) (back_along-left b u (left_signed A b s h) (IsReduced-tail A g s u c) (left_signed-respects A g b s h r))
+      ap (left_back A b s) (back_along-left b u (left_signed A b s h) (IsReduced-tail A g s u c) (by_left-respects A g (plus_signed b) first_times_q s h r))
       ∙ left_back-power b s (length u) (left_signed A b s h)
       ∙ ap (family_power (length u)) (back-left A g b s h (reduced-letter A g s u c) r) ∙ family_power-inside (length u) h
 
