@@ -19,7 +19,8 @@ module _ (A : IntegerMatrix) (g : IsAdmissible A) where
 
   pub row_of-is : (w : List ℕ) → IsRow A w (row_of w)
   unfolding row_of
-  row_of-is w = row-same A g (normal_form A w) w (row-exists A g (normal_form A w)).0 (normal_form-same A g w) (row-exists A g (normal_form A w)).1
+  row_of-is w = row-same A g (normal_form A w) w (row-exists A g (normal_form A w)).0 (normal_form-same A g w)
+      (row-exists A g (normal_form A w)).1
 
   pub row_of-same : (v w : List ℕ) → SameElement A v w → row_of v ≡ row_of w
   unfolding row_of

@@ -1,5 +1,5 @@
--- Families F that turned round in the degrees n - l(x) are G: they are closed under 1 + T(s), multiples by powers of q, sums and differences.
--- The last condition of a row of w says that of n = l(w), with the sums of R(x,y) p(y) for G.
+-- Families F that turned round in the degrees n - l(x) are G: they are closed under 1 + T(s), multiples by powers of q, sums and
+-- differences. The last condition of a row of w says that of n = l(w), with the sums of R(x,y) p(y) for G.
 use Rattle.std.proofs.Common.{◌≡◌, ℕ, zero, suc, ◌+◌, ◌-◌, ◌*◌, ◌≤◌, ◌<◌, Bool, true, false, if◌then◌else◌, List, ◌∷◌}
 use Rattle.std.proofs.Common.{ℤ, pos, ◌+ℤ◌, ◌-ℤ◌, ◌*ℤ◌, neg_ℤ, refl, ap, sym, ◌∙◌, subst, arith}
 use Rattle.std.specs.Prelude.{nat_le}
@@ -52,14 +52,16 @@ flip-none d = λ i k. at k (nat_le k d) i
 pub flip-plus : (d : ℕ) (f h : Coefficients) → flip d (plus f h) ≡ plus (flip d f) (flip d h)
 flip-plus d f h = λ i k. at k (nat_le k d) i
   where
-    at : (k : ℕ) (b : Bool) → (if b then f (d - k) +ℤ h (d - k) else pos 0) ≡ (if b then f (d - k) else pos 0) +ℤ (if b then h (d - k) else pos 0)
+    at : (k : ℕ) (b : Bool) → (if b then f (d - k) +ℤ h (d - k) else pos 0)
+        ≡ (if b then f (d - k) else pos 0) +ℤ (if b then h (d - k) else pos 0)
     at k true = refl
     at k false = refl
 
 pub flip-minus : (d : ℕ) (f h : Coefficients) → flip d (minus f h) ≡ minus (flip d f) (flip d h)
 flip-minus d f h = λ i k. at k (nat_le k d) i
   where
-    at : (k : ℕ) (b : Bool) → (if b then f (d - k) -ℤ h (d - k) else pos 0) ≡ (if b then f (d - k) else pos 0) -ℤ (if b then h (d - k) else pos 0)
+    at : (k : ℕ) (b : Bool) → (if b then f (d - k) -ℤ h (d - k) else pos 0)
+        ≡ (if b then f (d - k) else pos 0) -ℤ (if b then h (d - k) else pos 0)
     at k true = refl
     at k false = refl
 

@@ -175,7 +175,8 @@ module _ (A : IntegerMatrix) (g : IsAdmissible A) where
             (product (r_polynomial A (s ∷ x) y) (h y)) (product (r_polynomial A x y) (h (s ∷ y)))
             (bar_sum A (paired A s words) h x) (bar_sum A (paired A s words) h (s ∷ x))
             (product (r_polynomial A x y) (plus (times_q (h (s ∷ y))) (h y)) k)
-            (product (plus (times_q_less_one (r_polynomial A x y)) (times_q (r_polynomial A (s ∷ x) y))) (plus (h y) (times_q (h (s ∷ y)))) k)
+            (product (plus (times_q_less_one (r_polynomial A x y)) (times_q (r_polynomial A (s ∷ x) y)))
+            (plus (h y) (times_q (h (s ∷ y)))) k)
             (bar_sum A (paired A s words) (step Left A s h) x k)
             (pair-longer (r_polynomial A x y) (r_polynomial A (s ∷ x) y) (h y) (h (s ∷ y)) k) rest)
 

@@ -1,6 +1,8 @@
--- P(sx,w) = P(x,w) for a left descent s of w, by induction on the length of w: (1 + T(s)) p has the same value at x and at sx, and s is a left descent of
--- each correction. So mu(u,w) is not 0, with s a left descent of w and not of u, only for u = sw: else P(u,w) = P(su,w) has too low a degree.
-use Rattle.std.proofs.Common.{◌≡◌, ◌≢◌, ℕ, zero, suc, ◌+◌, ◌-◌, ◌*◌, ◌/◌, ◌%◌, ◌≤◌, ◌<◌, Bool, true, false, not, if◌then◌else◌, List, [], ◌∷◌, ◌++◌}
+-- P(sx,w) = P(x,w) for a left descent s of w, by induction on the length of w: (1 + T(s)) p has the same value at x and at sx, and s is a
+-- left descent of each correction. So mu(u,w) is not 0, with s a left descent of w and not of u, only for u = sw: else P(u,w) = P(su,w) has
+-- too low a degree.
+use Rattle.std.proofs.Common.{◌≡◌, ◌≢◌, ℕ, zero, suc, ◌+◌, ◌-◌, ◌*◌, ◌/◌, ◌%◌, ◌≤◌, ◌<◌, Bool, true, false, not, if◌then◌else◌, List, []}
+use Rattle.std.proofs.Common.{◌∷◌, ◌++◌}
 use Rattle.std.proofs.Common.{reverse, ◌⊎◌, inl, inr, ⊎_elim, ℤ, pos, ◌-ℤ◌, refl, ap, sym, ◌∙◌, arith}
 use Rattle.std.specs.Prelude.{All, ◌==◌}
 use Rattle.std.proofs.lemmas.Int.{ints}
@@ -121,7 +123,8 @@ module _ (A : IntegerMatrix) (g : IsAdmissible A) where
       left-recursion A g w s d v v_row list.0 list.1 (row_of A g) are_rows p row (s ∷ x) k
       ∙ both (step-same s v x v_row.element (shortens_left-back A g s x (left_descent-letter A g w s d)) k)
       (corrections-same w s list.0 x
-      (All-weaker (λ c. IsCorrection Left A s (s ∷ w) c.element c.mu) (λ c. (k : ℕ) → row_of A g c.element (s ∷ x) k ≡ row_of A g c.element x k)
+      (All-weaker (λ c. IsCorrection Left A s (s ∷ w) c.element c.mu) (λ c. (k : ℕ)
+      → row_of A g c.element (s ∷ x) k ≡ row_of A g c.element x k)
       (lower (λ z q a b. row-left_below n z q s (row_of A g z) a b)) list.0 list.1.each) k)
       ∙ sym (left-recursion A g w s d v v_row list.0 list.1 (row_of A g) are_rows p row x k)
     where
@@ -142,7 +145,8 @@ module _ (A : IntegerMatrix) (g : IsAdmissible A) where
 
       lower : ((z : List ℕ) → word_length A z < n → IsRow A z (row_of A g z) → IsLeftDescent A z s
           → (x : List ℕ) (k : ℕ) → row_of A g z (s ∷ x) k ≡ row_of A g z x k)
-          → (c : Correction) → IsCorrection Left A s (s ∷ w) c.element c.mu → (k : ℕ) → row_of A g c.element (s ∷ x) k ≡ row_of A g c.element x k
+          → (c : Correction) → IsCorrection Left A s (s ∷ w) c.element c.mu → (k : ℕ)
+          → row_of A g c.element (s ∷ x) k ≡ row_of A g c.element x k
       lower below c is =
           below c.element (omega (arith, l, d, below-length A g (mu-below c.element (s ∷ w) c.mu is.is_mu is.some)))
           (row_of-is A g c.element) is.shortens x

@@ -1,4 +1,5 @@
--- Lists of the elements below w, each once, by a descent s of w: x and sx for each x below sw with sx > x. And of those between two elements.
+-- Lists of the elements below w, each once, by a descent s of w: x and sx for each x below sw with sx > x. And of those between two
+-- elements.
 use Rattle.std.proofs.Common.{◌≡◌, ℕ, zero, suc, Bool, true, false, not, if◌then◌else◌, List, [], ◌∷◌, ◌⊎◌, inl, inr, ⊎_elim, filter}
 use Rattle.std.proofs.Common.{refl, ap, sym, ◌∙◌, arith}
 use Rattle.std.specs.Prelude.{◌==◌}
@@ -43,7 +44,8 @@ module _ (A : IntegerMatrix) (g : IsAdmissible A) where
 
   moved : (s : ℕ) (x y : List ℕ) → is_same A x (s ∷ y) ≡ is_same A (s ∷ x) y
   moved s x y = ⊎_elim
-      (λ (e : SameElement A x (s ∷ y)). same-is_same A g e ∙ sym (same-is_same A g (same-trans A g (same-cons A g s e) (same-square A g s y))))
+      (λ (e : SameElement A x (s ∷ y)). same-is_same A g e
+      ∙ sym (same-is_same A g (same-trans A g (same-cons A g s e) (same-square A g s y))))
       (λ (n : SameElement A x (s ∷ y) → ⊥). not_same-is_same A g x (s ∷ y) n
       ∙ sym (not_same-is_same A g (s ∷ x) y (λ e. n (same-trans A g (same-sym A g (same-square A g s x)) (same-cons A g s e)))))
       (same_or_not A g x (s ∷ y))
@@ -63,10 +65,12 @@ module _ (A : IntegerMatrix) (g : IsAdmissible A) where
 
       go : (p q : Bool) → shortens_left A s y ≡ p → shortens_left A s x ≡ q
           → occurrences A x (paired A s words) ≡ (if shortens_left A s x then occurrences A (s ∷ x) words else occurrences A x words)
-          → occurrences A x (paired A s (y ∷ words)) ≡ (if shortens_left A s x then occurrences A (s ∷ x) (y ∷ words) else occurrences A x (y ∷ words))
+          → occurrences A x (paired A s (y ∷ words))
+          ≡ (if shortens_left A s x then occurrences A (s ∷ x) (y ∷ words) else occurrences A x (y ∷ words))
       go true true e f rest = rw (e, differ s (s ∷ x) y false (there x true f) e, f) (rw f at rest)
       go true false e f rest = rw (e, differ s x y false f e, f) (rw f at rest)
-      go false true e f rest = rw (e, differ s x y true f e, moved s x y, f) (ap (λ (n : ℕ). if is_same A (s ∷ x) y then suc n else n) (rw f at rest))
+      go false true e f rest = rw (e, differ s x y true f e, moved s x y, f)
+          (ap (λ (n : ℕ). if is_same A (s ∷ x) y then suc n else n) (rw f at rest))
       go false false e f rest =
           rw (e, differ s x (s ∷ y) false f (there y false e), f) (ap (λ (n : ℕ). if is_same A x y then suc n else n) (rw f at rest))
 
@@ -76,7 +80,8 @@ module _ (A : IntegerMatrix) (g : IsAdmissible A) where
   below_lists zero w z = (
     [] ∷ [],
     λ x. ⊎_elim
-        (λ (e : SameElement A x []). inl (rw (same-is_same A g e) refl, below-refl A g (same-trans A g e (same-sym A g (empty_same A g w z)))))
+        (λ (e : SameElement A x []). inl
+        (rw (same-is_same A g e) refl, below-refl A g (same-trans A g e (same-sym A g (empty_same A g w z)))))
         (λ (n : SameElement A x [] → ⊥). inr (
           rw (not_same-is_same A g x [] n) refl,
           λ b. n ((below_identity A g x).0 (below-same A g (same-refl A g x) (empty_same A g w z) b)),
@@ -90,7 +95,8 @@ module _ (A : IntegerMatrix) (g : IsAdmissible A) where
           → (words : List (List ℕ)) × Tells A (λ x. IsBelow A x w) words
       step (s, d) lists = pairs (lists (s ∷ w) (omega (arith, z, d, cons-word_length A g s w)))
         where
-          pairs : (words : List (List ℕ)) × Tells A (λ x. IsBelow A x (s ∷ w)) words → (words : List (List ℕ)) × Tells A (λ x. IsBelow A x w) words
+          pairs : (words : List (List ℕ)) × Tells A (λ x. IsBelow A x (s ∷ w)) words
+              → (words : List (List ℕ)) × Tells A (λ x. IsBelow A x w) words
           pairs (words, tells) = (paired A s words, λ x. go x (shortens_left A s x) refl)
             where
               l : IsLetter A.rank s
@@ -101,7 +107,8 @@ module _ (A : IntegerMatrix) (g : IsAdmissible A) where
                   ⊎ ((occurrences A x (paired A s words) ≡ 0) × (IsBelow A x w → ⊥))
               go x true e =
                   let c : IsLeftDescent A x s = yes-nat_lt (word_length A (s ∷ x)) (word_length A x) e
-                  in let count : occurrences A x (paired A s words) ≡ occurrences A (s ∷ x) words = occurrences-paired s words x l ∙ rw e refl
+                  in let count : occurrences A x (paired A s words) ≡ occurrences A (s ∷ x) words = occurrences-paired s words x l
+                  ∙ rw e refl
                   in ⊎_elim (λ y. inl (count ∙ y.0, (lift_down A g x w s d c).1 y.1))
                   (λ n. inr (count ∙ n.0, λ b. n.1 ((lift_down A g x w s d c).0 b))) (tells (s ∷ x))
               go x false e =
@@ -155,7 +162,8 @@ module _ (A : IntegerMatrix) (g : IsAdmissible A) where
   pub between_list : (x w : List ℕ) → (words : List (List ℕ)) × Tells A (λ y. IsBetween A x w y) words
   between_list x w = (filter (above x) (below_list w).0, λ y. go y (below_or_not x y) ((below_list w).1 y))
     where
-      count : (y : List ℕ) → occurrences A y (filter (above x) (below_list w).0) ≡ (if above x y then occurrences A y (below_list w).0 else 0)
+      count : (y : List ℕ) → occurrences A y (filter (above x) (below_list w).0)
+          ≡ (if above x y then occurrences A y (below_list w).0 else 0)
       count y = occurrences-filter (above x) (λ y z e. above-same x e) (below_list w).0 y
 
       go : (y : List ℕ) → IsBelow A x y ⊎ (IsBelow A x y → ⊥)

@@ -52,7 +52,8 @@ module _ (A : IntegerMatrix) (g : IsAdmissible A) where
     bar = bar;
   }
     where
-      sums : (x : List ℕ) (words : List (List ℕ)) (k : ℕ) → bar_sum A (map reverse words) p (reverse x) k ≡ bar_sum A words (at_inverses p) x k
+      sums : (x : List ℕ) (words : List (List ℕ)) (k : ℕ)
+          → bar_sum A (map reverse words) p (reverse x) k ≡ bar_sum A words (at_inverses p) x k
       sums x [] k = refl
       sums x (y ∷ words) k =
           omega (arith, ints, sums x words k, ap (λ (f : Coefficients). product f (p (reverse y)) k) (r-inverse A g x y))

@@ -1,5 +1,6 @@
 -- The step family of w by any left descent is its row: a list of corrections has the same sum as the sum over all elements below v = sw.
-use Rattle.std.proofs.Common.{◌≡◌, ℕ, ◌-◌, ◌/◌, ◌≤◌, Bool, true, false, not, if◌then◌else◌, List, [], ◌∷◌, map, filter, ◌⊎◌, inl, inr, ⊎_elim}
+use Rattle.std.proofs.Common.{◌≡◌, ℕ, ◌-◌, ◌/◌, ◌≤◌, Bool, true, false, not, if◌then◌else◌, List, [], ◌∷◌, map, filter, ◌⊎◌, inl, inr}
+use Rattle.std.proofs.Common.{⊎_elim}
 use Rattle.std.proofs.Common.{ℤ, pos, ◌-ℤ◌, refl, ap, sym, ◌∙◌, arith}
 use Rattle.std.specs.Prelude.{All}
 use Rattle.std.specs.Ordering.{int_eq}
@@ -29,12 +30,14 @@ use Rattle.cox_hecke.proofs.Descents.{nat_lt-yes, yes-nat_lt, shortens_left-back
 use Rattle.cox_hecke.proofs.SumLemmas.{sum_over-lists}
 use Rattle.cox_hecke.proofs.ElementLists.{Tells, below_list, occurrences-filter}
 use Rattle.cox_hecke.proofs.RowLemmas.{row-same, row-unique}
-use Rattle.cox_hecke.proofs.StepRow.{scale, half, correction, step_row, Corrects, correction-none, correction-at, step_row-at, corrections-is}
+use Rattle.cox_hecke.proofs.StepRow.{scale, half, correction, step_row, Corrects, correction-none, correction-at, step_row-at}
+use Rattle.cox_hecke.proofs.StepRow.{corrections-is}
 use Rattle.cox_hecke.proofs.StepRow.{scale-shortens, half-at, corrects_or_not, correction-same, scale-same}
 use Rattle.cox_hecke.proofs.StepIsRow.{step_row-is}
 use Rattle.cox_hecke.proofs.AllRows.{row_of, row_of-is, row_of-same, row_of-value, mu-value, mu-by_row}
 
-module _ (A : IntegerMatrix) (g : IsAdmissible A) (w : List ℕ) (s : ℕ) (d : IsLeftDescent A w s) (p : Family) (row : IsRow A (s ∷ w) p) where
+module _ (A : IntegerMatrix) (g : IsAdmissible A) (w : List ℕ) (s : ℕ) (d : IsLeftDescent A w s) (p : Family)
+    (row : IsRow A (s ∷ w) p) where
   letter : IsLetter A.rank s
   letter = left_descent-letter A g w s d
 
@@ -92,14 +95,16 @@ module _ (A : IntegerMatrix) (g : IsAdmissible A) (w : List ℕ) (s : ℕ) (d : 
       (corrects_or_none z)
 
   term-is : (c : Correction) → IsCorrection Left A s (s ∷ w) c.element c.mu → (rows : List ℕ → Family) → IsRow A c.element (rows c.element)
-      → (x : List ℕ) (k : ℕ) → scaled c.mu (times_q_power ((word_length A w - word_length A c.element) / 2) (rows c.element x)) k ≡ term c.element x k
+      → (x : List ℕ) (k : ℕ) → scaled c.mu (times_q_power ((word_length A w - word_length A c.element) / 2) (rows c.element x)) k
+      ≡ term c.element x k
   unfolding term number
   term-is c is rows is_row x k =
       rw (sym (row_of-value A g c.element (rows c.element) is_row x), sym (number-mu c.element c.mu is), sym same) refl
       ∙ sym (correction-at A (s ∷ w) s p (row_of A g) c.element x k)
     where
       same : half A (s ∷ w) s p (row_of A g) c.element ≡ (word_length A w - word_length A c.element) / 2
-      same = half-at A (s ∷ w) s p (row_of A g) c.element ∙ ap (λ (n : ℕ). (n - word_length A c.element) / 2) (word_length-equal A g (same-square A g s w))
+      same = half-at A (s ∷ w) s p (row_of A g) c.element
+          ∙ ap (λ (n : ℕ). (n - word_length A c.element) / 2) (word_length-equal A g (same-square A g s w))
 
   sum-is : (list : List Correction) → All (λ c. IsCorrection Left A s (s ∷ w) c.element c.mu) list → (rows : List ℕ → Family)
       → All (λ c. IsRow A c.element (rows c.element)) list → (x : List ℕ) (k : ℕ)
@@ -179,7 +184,8 @@ module _ (A : IntegerMatrix) (g : IsAdmissible A) (w : List ℕ) (s : ℕ) (d : 
     where
       once : (u : List ℕ) (m : ℤ) → IsCorrection Left A s (s ∷ w) u m → occurrences A u (corrected_elements (list_of words)) ≡ 1
       once u m is =
-          ap (occurrences A u) (elements-list_of (filter kept words)) ∙ occurrences-filter A g kept (λ y z e. rw (number-same e) refl) words u
+          ap (occurrences A u) (elements-list_of (filter kept words))
+          ∙ occurrences-filter A g kept (λ y z e. rw (number-same e) refl) words u
           ∙ go (int_eq (number u) (pos 0)) refl
         where
           go : (b : Bool) → int_eq (number u) (pos 0) ≡ b → (if not (int_eq (number u) (pos 0)) then occurrences A u words else 0) ≡ 1

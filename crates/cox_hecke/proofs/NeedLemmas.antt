@@ -12,7 +12,8 @@ use Rattle.cox_hecke.proofs.AllRows.{mu-same}
 
 module _ (A : IntegerMatrix) (g : IsAdmissible A) where
   -- a correction is one by any of its words
-  correction-same : (s : ℕ) (v : List ℕ) {u u' : List ℕ} (m : ℤ) → SameElement A u u' → IsCorrection Left A s v u m → IsCorrection Left A s v u' m
+  correction-same : (s : ℕ) (v : List ℕ) {u u' : List ℕ} (m : ℤ) → SameElement A u u' → IsCorrection Left A s v u m
+      → IsCorrection Left A s v u' m
   correction-same s v {u} {u'} m e is = record {
     shortens = omega (arith, is.shortens, word_length-equal A g e, word_length-equal A g (same-cons A g s e));
     is_mu = mu-same A g u u' v m e is.is_mu;

@@ -1,5 +1,6 @@
 -- The operators of the Hecke algebra, which are those with the sign `true`. For a reduced word of w the product of the T(s) is T(w).
-use Rattle.std.proofs.Common.{◌≡◌, ℕ, zero, suc, Bool, true, false, not, if◌then◌else◌, List, [], ◌∷◌, ◌++◌, reverse, ⊎_elim, refl, ap, sym, ◌∙◌, arith}
+use Rattle.std.proofs.Common.{◌≡◌, ℕ, zero, suc, Bool, true, false, not, if◌then◌else◌, List, [], ◌∷◌, ◌++◌, reverse, ⊎_elim, refl, ap, sym}
+use Rattle.std.proofs.Common.{◌∙◌, arith}
 use Rattle.std.proofs.lemmas.Int.{ints}
 use Rattle.std.proofs.lemmas.Bool.{false≢true}
 use Rattle.std.proofs.lemmas.List.{reverse-reverse}
@@ -95,7 +96,8 @@ module _ (A : IntegerMatrix) (g : IsAdmissible A) where
 
       moved : (x : List ℕ) → is_same A u (s ∷ x) ≡ is_same A (s ∷ u) x
       moved x = ⊎_elim
-          (λ (e : SameElement A u (s ∷ x)). same-is_same A g e ∙ sym (same-is_same A g (same-trans A g (same-cons A g s e) (same-square A g s x))))
+          (λ (e : SameElement A u (s ∷ x)). same-is_same A g e
+          ∙ sym (same-is_same A g (same-trans A g (same-cons A g s e) (same-square A g s x))))
           (λ (n : SameElement A u (s ∷ x) → ⊥). not_same-is_same A g u (s ∷ x) n
           ∙ sym (not_same-is_same A g (s ∷ u) x (λ e. n (same-trans A g (same-sym A g (same-square A g s u)) (same-cons A g s e)))))
           (same_or_not A g u (s ∷ x))

@@ -88,7 +88,8 @@ module _ (A : IntegerMatrix) (g : IsAdmissible A) where
   pub kazhdan_lusztig-right : (x w : List ℕ) (s : ℕ) (f : Coefficients) → IsRightDescent A w s → IsKazhdanLusztig A x w f
       → IsKazhdanLusztig A (x ++ s ∷ []) w f
   kazhdan_lusztig-right x w s f d c =
-      kl_polynomial-by (x ++ s ∷ []) w f (λ k. ap (λ (h : Coefficients). h k) (kl_polynomial-value x w f c ∙ sym (kl_polynomial-right x w s d)))
+      kl_polynomial-by (x ++ s ∷ []) w f
+      (λ k. ap (λ (h : Coefficients). h k) (kl_polynomial-value x w f c ∙ sym (kl_polynomial-right x w s d)))
 
   pub kazhdan_lusztig-reverse : (x w : List ℕ) (f : Coefficients) → IsKazhdanLusztig A x w f → IsKazhdanLusztig A (reverse x) (reverse w) f
   kazhdan_lusztig-reverse x w f c = record {

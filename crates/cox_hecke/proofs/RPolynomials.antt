@@ -1,5 +1,6 @@
--- R-polynomials by operators: R(x,w) is the coefficient at x of the second operators with the sign `false`, along any reduced word of w, at T(e).
--- So it obeys its recursion for every left descent; it is the same at inverses; and so it obeys the recursion for every right descent.
+-- R-polynomials by operators: R(x,w) is the coefficient at x of the second operators with the sign `false`, along any reduced word of w, at
+-- T(e). So it obeys its recursion for every left descent; it is the same at inverses; and so it obeys the recursion for every right
+-- descent.
 use Rattle.std.proofs.Common.{◌≡◌, ℕ, zero, suc, Bool, true, false, not, if◌then◌else◌, List, [], ◌∷◌, ◌++◌, reverse}
 use Rattle.std.proofs.Common.{refl, ap, sym, ◌∙◌, ⊎_elim, arith}
 use Rattle.std.specs.Prelude.{◌==◌}
@@ -28,8 +29,10 @@ use Rattle.cox_rpoly.proofs.AlongLemmas.{along-shorter, along-longer}
 use Rattle.cox_rpoly.proofs.PolynomialLemmas.{r_polynomial-is, r_polynomial-same}
 use Rattle.cox_hecke.specs.Family.{Family, RespectsElements}
 use Rattle.cox_hecke.specs.Operators.{shortens_left, shortens_right}
-use Rattle.cox_hecke.proofs.Descents.{nat_lt-yes, nat_lt-no, yes-nat_lt, no-nat_lt, shortens_left-back, empty_same, descent-reverse, reverse-descent}
-use Rattle.cox_hecke.proofs.Signed.{signed, left_back, right_back, at_inverses, at_inverses-by_left, first_alone, minus_signed, left_back-right_back}
+use Rattle.cox_hecke.proofs.Descents.{nat_lt-yes, nat_lt-no, yes-nat_lt, no-nat_lt, shortens_left-back, empty_same, descent-reverse}
+use Rattle.cox_hecke.proofs.Descents.{reverse-descent}
+use Rattle.cox_hecke.proofs.Signed.{signed, left_back, right_back, at_inverses, at_inverses-by_left, first_alone, minus_signed}
+use Rattle.cox_hecke.proofs.Signed.{left_back-right_back}
 use Rattle.cox_hecke.proofs.WordOperators.{back_along, back_along-respects, back_along-same}
 
 -- T(e)
@@ -73,7 +76,8 @@ sides_core b false false k = refl
 pub unit-other : (A : IntegerMatrix) (x : List ℕ) → (word_length A x ≡ 0 → ⊥) → unit A x ≡ zero_polynomial
 unit-other A x n = let e : (word_length A x == 0) ≡ false = grind (arith, nat_tests) in rw e refl
 
-back_along-append : (A : IntegerMatrix) (b : Bool) (u v : List ℕ) (h : Family) → back_along A b (u ++ v) h ≡ back_along A b u (back_along A b v h)
+back_along-append : (A : IntegerMatrix) (b : Bool) (u v : List ℕ) (h : Family)
+    → back_along A b (u ++ v) h ≡ back_along A b u (back_along A b v h)
 back_along-append A b [] v h = refl
 back_along-append A b (s ∷ u) v h = ap (left_back A b s) (back_along-append A b u v h)
 
@@ -111,7 +115,8 @@ module _ (A : IntegerMatrix) (g : IsAdmissible A) where
       ∙ ap (λ (h : Family). left_back A false s h x)
       (λ i y. sym (r-word y (s ∷ w) (normal_form A (s ∷ w)) (IsReduced-normal_form A g (s ∷ w)) (normal_form-same A g (s ∷ w))) i)
 
-  pub r-left_shorter : (x w : List ℕ) (s : ℕ) → IsLeftDescent A w s → IsLeftDescent A x s → r_polynomial A x w ≡ r_polynomial A (s ∷ x) (s ∷ w)
+  pub r-left_shorter : (x w : List ℕ) (s : ℕ) → IsLeftDescent A w s → IsLeftDescent A x s
+      → r_polynomial A x w ≡ r_polynomial A (s ∷ x) (s ∷ w)
   r-left_shorter x w s d c = r-left x w s d ∙ rw (nat_lt-yes c) refl
 
   pub r-left_moved : (x w : List ℕ) (s : ℕ) → IsLeftDescent A w s → (IsLeftDescent A x s → ⊥)
@@ -140,13 +145,23 @@ module _ (A : IntegerMatrix) (g : IsAdmissible A) where
       left_then_right x z =
           let single : SameElement A x (s ∷ [])
           = same-trans A g (same-sym A g (same-square A g s x)) (same-cons A g s (empty_same A g (s ∷ x) z))
-          in omega (arith, word_length-equal A g (same-trans A g (same-push A g s single) (same-square A g s [])), word_length-length A g [])
+          in omega (
+            arith,
+            word_length-equal A g
+                (same-trans A g (same-push A g s single) (same-square A g s [])),
+            word_length-length A g [],
+          )
 
       right_then_left : (x : List ℕ) → word_length A (x ++ s ∷ []) ≡ 0 → word_length A (s ∷ x) ≡ 0
       right_then_left x z =
           let single : SameElement A x (s ∷ [])
           = same-trans A g (same-sym A g (same-push_twice A g x s)) (same-push A g s (empty_same A g (x ++ s ∷ []) z))
-          in omega (arith, word_length-equal A g (same-trans A g (same-cons A g s single) (same-square A g s [])), word_length-length A g [])
+          in omega (
+            arith,
+            word_length-equal A g
+                (same-trans A g (same-cons A g s single) (same-square A g s [])),
+            word_length-length A g [],
+          )
 
       none_core : (p r : Bool) (k : ℕ)
           → (if p then zero_polynomial else minus (times_q zero_polynomial) (signed b zero_polynomial)) k
@@ -189,12 +204,14 @@ module _ (A : IntegerMatrix) (g : IsAdmissible A) where
       ap (left_back A b s) (back_along-right b u t h (All-tail (IsLetter A.rank) s u c) l r)
       ∙ left_back-right_back A g b s t (back_along A b u h) (All-head (IsLetter A.rank) s u c) l (back_along-respects A g b u h r)
 
-  back_along-reverse : (b : Bool) (u : List ℕ) → IsWord A.rank u → at_inverses (back_along A b u (unit A)) ≡ back_along A b (reverse u) (unit A)
+  back_along-reverse : (b : Bool) (u : List ℕ) → IsWord A.rank u
+      → at_inverses (back_along A b u (unit A)) ≡ back_along A b (reverse u) (unit A)
   back_along-reverse b [] c = unit-inverses
   back_along-reverse b (s ∷ u) c =
       at_inverses-by_left A g first_alone (minus_signed b) s (back_along A b u (unit A))
       ∙ ap (right_back A b s) (back_along-reverse b u (All-tail (IsLetter A.rank) s u c))
-      ∙ sym (back_along-right b (reverse u) s (unit A) (IsWord-reverse u (All-tail (IsLetter A.rank) s u c)) (All-head (IsLetter A.rank) s u c)
+      ∙ sym (back_along-right b (reverse u) s (unit A) (IsWord-reverse u (All-tail (IsLetter A.rank) s u c))
+      (All-head (IsLetter A.rank) s u c)
       unit-respects)
       ∙ ap (back_along A b (reverse u)) (sym (unit-sides b s))
       ∙ sym (back_along-append A b (reverse u) (s ∷ []) (unit A))
@@ -221,7 +238,8 @@ module _ (A : IntegerMatrix) (g : IsAdmissible A) where
   pub r-right_shorter : (x w : List ℕ) (s : ℕ) → IsRightDescent A w s → IsRightDescent A x s
       → r_polynomial A x w ≡ r_polynomial A (x ++ s ∷ []) (w ++ s ∷ [])
   r-right_shorter x w s d c =
-      sym (r-inverse x w) ∙ r-left_shorter (reverse x) (reverse w) s (descent-reverse A g w s d) (descent-reverse A g x s c) ∙ r-push x w s s
+      sym (r-inverse x w) ∙ r-left_shorter (reverse x) (reverse w) s (descent-reverse A g w s d) (descent-reverse A g x s c)
+      ∙ r-push x w s s
 
   pub r-right_longer : (x w : List ℕ) (s : ℕ) → IsRightDescent A w s → (IsRightDescent A x s → ⊥)
       → r_polynomial A x w ≡ plus (times_q_less_one (r_polynomial A (x ++ s ∷ []) w)) (times_q (r_polynomial A (x ++ s ∷ []) (w ++ s ∷ [])))

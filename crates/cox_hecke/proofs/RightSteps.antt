@@ -1,5 +1,6 @@
 -- The step family of w by any right descent is its row: at inverses it is that of w^-1 by a left descent.
-use Rattle.std.proofs.Common.{◌≡◌, ℕ, ◌-◌, ◌/◌, Bool, if◌then◌else◌, List, [], ◌∷◌, ◌++◌, reverse, map, ℤ, ◌-ℤ◌, refl, ap, sym, ◌∙◌, subst, arith}
+use Rattle.std.proofs.Common.{◌≡◌, ℕ, ◌-◌, ◌/◌, Bool, if◌then◌else◌, List, [], ◌∷◌, ◌++◌, reverse, map, ℤ, ◌-ℤ◌, refl, ap, sym, ◌∙◌, subst}
+use Rattle.std.proofs.Common.{arith}
 use Rattle.std.specs.Prelude.{All}
 use Rattle.std.proofs.lemmas.Int.{ints}
 use Rattle.std.proofs.lemmas.List.{reverse-reverse, reverse-append}
@@ -37,7 +38,8 @@ module _ (A : IntegerMatrix) (g : IsAdmissible A) where
   pub mu-reverse : (x w : List ℕ) (m : ℤ) → IsMu A x w m → IsMu A (reverse x) (reverse w) m
   mu-reverse x w m c =
       mu-by_row A g (reverse x) (reverse w) m (at_inverses (row_of A g w)) (row-reverse A g w (row_of A g w) (row_of-is A g w))
-      (mu-value A g x w m (row_of A g w) c (row_of-is A g w) ∙ rw (word_length-reverse A g w, word_length-reverse A g x, reverse-reverse x) refl)
+      (mu-value A g x w m (row_of A g w) c (row_of-is A g w)
+      ∙ rw (word_length-reverse A g w, word_length-reverse A g x, reverse-reverse x) refl)
 
   reverse-push : (w : List ℕ) (s : ℕ) → reverse (w ++ s ∷ []) ≡ s ∷ reverse w
   reverse-push w s = reverse-append w (s ∷ [])
@@ -75,7 +77,8 @@ module _ (A : IntegerMatrix) (g : IsAdmissible A) where
   -- ---- the recursion
 
   correction_sum-mirrored : (w : List ℕ) (rows : List ℕ → Family) (list : List Correction) (x : List ℕ) (k : ℕ)
-      → correction_sum A (reverse w) (λ u. at_inverses (rows (reverse u))) (map mirrored list) (reverse x) k ≡ correction_sum A w rows list x k
+      → correction_sum A (reverse w) (λ u. at_inverses (rows (reverse u))) (map mirrored list) (reverse x) k
+      ≡ correction_sum A w rows list x k
   correction_sum-mirrored w rows [] x k = refl
   correction_sum-mirrored w rows (c ∷ list) x k = omega (arith, ints, one, correction_sum-mirrored w rows list x k)
     where
@@ -88,7 +91,8 @@ module _ (A : IntegerMatrix) (g : IsAdmissible A) where
   step-mirrored s p x = go (shortens_left A s (reverse x)) (shortens_right A s x) (shortens-reverse A g s x)
     where
       go : (a b : Bool) → a ≡ b
-          → (if a then plus (p (reverse (s ∷ reverse x))) (times_q (p (reverse (reverse x)))) else plus (times_q (p (reverse (s ∷ reverse x)))) (p (reverse (reverse x))))
+          → (if a then plus (p (reverse (s ∷ reverse x))) (times_q (p (reverse (reverse x)))) else plus
+          (times_q (p (reverse (s ∷ reverse x)))) (p (reverse (reverse x))))
           ≡ (if b then plus (p (x ++ s ∷ [])) (times_q (p x)) else plus (times_q (p (x ++ s ∷ []))) (p x))
       go a b e = rw (e, reverse-back x s, reverse-reverse x) refl
 
@@ -106,7 +110,8 @@ module _ (A : IntegerMatrix) (g : IsAdmissible A) where
       (All-weaker (λ c. IsRow A c.element (rows c.element))
       (λ c. IsRow A (reverse c.element) (at_inverses (rows (reverse (reverse c.element))))) mirrored_row list are_rows))
       (at_inverses r) (row-reverse A g w r is_row) (reverse x) k
-      ∙ ap (λ (f : Coefficients). f k -ℤ correction_sum A (reverse w) (λ u. at_inverses (rows (reverse u))) (map mirrored list) (reverse x) k)
+      ∙ ap (λ (f : Coefficients). f k -ℤ correction_sum A (reverse w) (λ u. at_inverses (rows (reverse u))) (map mirrored list)
+      (reverse x) k)
       (step-mirrored s p x)
       ∙ ap (λ (z : ℤ). step Right A s p x k -ℤ z) (correction_sum-mirrored w rows list x k)
     where
@@ -116,9 +121,11 @@ module _ (A : IntegerMatrix) (g : IsAdmissible A) where
           subst (λ (u : List ℕ). IsRow A (reverse c.element) (at_inverses (rows u))) (sym (reverse-reverse c.element))
           (row-reverse A g c.element (rows c.element) is)
 
-  pub right-corrections_exist : (w : List ℕ) (s : ℕ) → IsRightDescent A w s → (list : List Correction) × AreCorrections Right A s (w ++ s ∷ []) list
+  pub right-corrections_exist : (w : List ℕ) (s : ℕ) → IsRightDescent A w s
+      → (list : List Correction) × AreCorrections Right A s (w ++ s ∷ []) list
   right-corrections_exist w s d =
-      let left = left-corrections_exist A g (reverse w) s (descent-reverse A g w s d) (row_of A g (s ∷ reverse w)) (row_of-is A g (s ∷ reverse w))
+      let left = left-corrections_exist A g (reverse w) s (descent-reverse A g w s d) (row_of A g (s ∷ reverse w))
+      (row_of-is A g (s ∷ reverse w))
       in (
         map mirrored left.0,
         are-mirrored Left Right s (s ∷ reverse w) (w ++ s ∷ []) (left_to_right w s) (right_to_left w s) left.0 left.1,

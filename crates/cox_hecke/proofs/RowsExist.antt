@@ -105,7 +105,8 @@ module _ (A : IntegerMatrix) (g : IsAdmissible A) where
   chosen-row : (n : ℕ) (lower : Shorter n) (z : List ℕ) → word_length A z < n → IsRow A z (chosen n lower z)
   unfolding chosen
   chosen-row n lower z l =
-      row-same A g (normal_form A z) z (picked n lower (normal_form A z) (cases_lt (word_length A (normal_form A z)) n)) (normal_form-same A g z)
+      row-same A g (normal_form A z) z (picked n lower (normal_form A z) (cases_lt (word_length A (normal_form A z)) n))
+      (normal_form-same A g z)
       (picked-row n lower (normal_form A z) (cases_lt (word_length A (normal_form A z)) n)
       (omega (arith, l, word_length-equal A g (normal_form-same A g z))))
 

@@ -1,5 +1,5 @@
--- The operators with a sign: `true` for those of the Hecke algebra, with q - 1; `false` for those with 1 - q in its place, of which the second
--- is the recursion of R-polynomials. Left and right operators commute, and one of each kind undoes the other but for a factor q.
+-- The operators with a sign: `true` for those of the Hecke algebra, with q - 1; `false` for those with 1 - q in its place, of which the
+-- second is the recursion of R-polynomials. Left and right operators commute, and one of each kind undoes the other but for a factor q.
 use Rattle.std.proofs.Common.{◌≡◌, ℕ, zero, suc, Bool, true, false, not, if◌then◌else◌, List, [], ◌∷◌, ◌++◌, reverse, refl, sym, arith}
 use Rattle.std.proofs.lemmas.Int.{ints}
 use Rattle.std.proofs.lemmas.List.{reverse-append}
@@ -189,14 +189,16 @@ module _ (A : IntegerMatrix) (g : IsAdmissible A) where
   left-back b s h l r = λ i x k. at x k i
     where
       at : (x : List ℕ) (k : ℕ) → left_signed A b s (left_back A b s h) x k ≡ times_q (h x) k
-      at x k = rw (shortens_left-back A g s x l, respected r (same-square A g s x)) (left-back_core b (shortens_left A s x) (h x) (h (s ∷ x)) k)
+      at x k = rw (shortens_left-back A g s x l, respected r (same-square A g s x))
+          (left-back_core b (shortens_left A s x) (h x) (h (s ∷ x)) k)
 
   pub back-left : (b : Bool) (s : ℕ) (h : Family) → IsLetter A.rank s → RespectsElements A h
       → left_back A b s (left_signed A b s h) ≡ family_times_q h
   back-left b s h l r = λ i x k. at x k i
     where
       at : (x : List ℕ) (k : ℕ) → left_back A b s (left_signed A b s h) x k ≡ times_q (h x) k
-      at x k = rw (shortens_left-back A g s x l, respected r (same-square A g s x)) (back-left_core b (shortens_left A s x) (h x) (h (s ∷ x)) k)
+      at x k = rw (shortens_left-back A g s x l, respected r (same-square A g s x))
+          (back-left_core b (shortens_left A s x) (h x) (h (s ∷ x)) k)
 
   -- ---- left and right commute
 
@@ -207,19 +209,38 @@ module _ (A : IntegerMatrix) (g : IsAdmissible A) where
 
     -- where sx = xt both give the same combination of h(x) and h(sx)
     far : (x : List ℕ) (p : Bool) → SameElement A (s ∷ x) (x ++ t ∷ []) → shortens_left A s x ≡ p → shortens_right A t x ≡ p
-        → (k : ℕ) → by_left A shorter longer s (by_right A shorter longer t h) x k ≡ by_right A shorter longer t (by_left A shorter longer s h) x k
+        → (k : ℕ) → by_left A shorter longer s (by_right A shorter longer t h) x k
+        ≡ by_right A shorter longer t (by_left A shorter longer s h) x k
     far x true e p q k =
-        rw (sym (shortens_left-same A g s e), shortens_right-same A g t e, shortens_left-back A g s x l, shortens_right-back A g t x m, p, q,
-        respected r (around x e), respected r e) refl
+        rw (
+          sym (shortens_left-same A g s e),
+          shortens_right-same A g t e,
+          shortens_left-back A g s x l,
+          shortens_right-back A g t x m,
+          p,
+          q,
+          respected r (around x e),
+          respected r e,
+        ) refl
     far x false e p q k =
-        rw (sym (shortens_left-same A g s e), shortens_right-same A g t e, shortens_left-back A g s x l, shortens_right-back A g t x m, p, q,
-        respected r (around x e), respected r e) refl
+        rw (
+          sym (shortens_left-same A g s e),
+          shortens_right-same A g t e,
+          shortens_left-back A g s x l,
+          shortens_right-back A g t x m,
+          p,
+          q,
+          respected r (around x e),
+          respected r e,
+        ) refl
 
-    by_left-by_right : by_left A shorter longer s (by_right A shorter longer t h) ≡ by_right A shorter longer t (by_left A shorter longer s h)
+    by_left-by_right : by_left A shorter longer s (by_right A shorter longer t h)
+        ≡ by_right A shorter longer t (by_left A shorter longer s h)
     by_left-by_right = λ i x k. at x k (sides_of A g s t x l m) i
       where
         at : (x : List ℕ) (k : ℕ) → SidesOf A g s t x
-            → by_left A shorter longer s (by_right A shorter longer t h) x k ≡ by_right A shorter longer t (by_left A shorter longer s h) x k
+            → by_left A shorter longer s (by_right A shorter longer t h) x k
+            ≡ by_right A shorter longer t (by_left A shorter longer s h) x k
         at x k (apart p q) =
             rw (p, q) (core (shortens_left A s x) (shortens_right A t x) (h x) (h (s ∷ x)) (h (x ++ t ∷ [])) (h (s ∷ x ++ t ∷ [])) k)
         at x k (together e p) = far x (shortens_left A s x) e refl (sym p) k
@@ -234,7 +255,8 @@ module _ (A : IntegerMatrix) (g : IsAdmissible A) where
 
   -- ---- inverses turn left into right
 
-  pub at_inverses-by_left : (up down : Combination) (s : ℕ) (h : Family) → at_inverses (by_left A up down s h) ≡ by_right A up down s (at_inverses h)
+  pub at_inverses-by_left : (up down : Combination) (s : ℕ) (h : Family)
+      → at_inverses (by_left A up down s h) ≡ by_right A up down s (at_inverses h)
   at_inverses-by_left up down s h = λ i x. at x i
     where
       at : (x : List ℕ) → by_left A up down s h (reverse x) ≡ by_right A up down s (at_inverses h) x

@@ -24,7 +24,8 @@ module _ (A : IntegerMatrix) (g : IsAdmissible A) where
 
   pub corrections_exist : (side : Side) (w : List ℕ) (s : ℕ) → IsDescent side A w s
       → (list : List Correction) × AreCorrections side A s (times_letter side s w) list
-  corrections_exist Left w s d = left-corrections_exist A g w s d (row_of A g (times_letter Left s w)) (row_of-is A g (times_letter Left s w))
+  corrections_exist Left w s d = left-corrections_exist A g w s d (row_of A g (times_letter Left s w))
+      (row_of-is A g (times_letter Left s w))
   corrections_exist Right w s d = right-corrections_exist A g w s d
 
   pub step_family-is : (side : Side) (w : List ℕ) (s : ℕ) (f : Family) → IsDescent side A w s → IsStepFamily side A s w f → IsRow A w f

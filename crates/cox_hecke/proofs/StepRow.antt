@@ -1,7 +1,8 @@
--- The step from the row p of v to that of w = sv > v: (1 + T(s)) p, less mu(z,v) q^((l(w)-l(z))/2) times the row of z for each z below v with
--- sz < z. Bar respects each part. The degree bound can fail for (1 + T(s)) p at an x with sx < x alone, by one coefficient, mu(x,v); the
--- correction by z = x takes that away, and the others meet the bound.
-use Rattle.std.proofs.Common.{◌≡◌, ℕ, suc, ◌+◌, ◌-◌, ◌*◌, ◌/◌, ◌%◌, Bool, true, false, not, if◌then◌else◌, List, [], ◌∷◌, ◌⊎◌, inl, inr, ⊎_elim}
+-- The step from the row p of v to that of w = sv > v: (1 + T(s)) p, less mu(z,v) q^((l(w)-l(z))/2) times the row of z for each z below v
+-- with sz < z. Bar respects each part. The degree bound can fail for (1 + T(s)) p at an x with sx < x alone, by one coefficient, mu(x,v);
+-- the correction by z = x takes that away, and the others meet the bound.
+use Rattle.std.proofs.Common.{◌≡◌, ℕ, suc, ◌+◌, ◌-◌, ◌*◌, ◌/◌, ◌%◌, Bool, true, false, not, if◌then◌else◌, List, [], ◌∷◌, ◌⊎◌, inl, inr}
+use Rattle.std.proofs.Common.{⊎_elim}
 use Rattle.std.proofs.Common.{ℤ, pos, ◌-ℤ◌, ◌*ℤ◌, refl, ap, sym, ◌∙◌, subst, arith}
 use Rattle.std.specs.Prelude.{◌==◌}
 use Rattle.std.proofs.lemmas.Int.{ints}
@@ -31,7 +32,8 @@ use Rattle.cox_hecke.proofs.Signed.{respected}
 use Rattle.cox_hecke.proofs.SumLemmas.{sum_over-equal, sum_over-none}
 use Rattle.cox_hecke.proofs.ElementLists.{Tells, Tells-ListsEach, below_or_not}
 use Rattle.cox_hecke.proofs.BarSums.{bar-shorter, bar-longer}
-use Rattle.cox_hecke.proofs.Balance.{Balanced, Balanced-none, Balanced-plus, Balanced-minus, Balanced-scaled, Balanced-times_q_power, Balanced-step}
+use Rattle.cox_hecke.proofs.Balance.{Balanced, Balanced-none, Balanced-plus, Balanced-minus, Balanced-scaled, Balanced-times_q_power}
+use Rattle.cox_hecke.proofs.Balance.{Balanced-step}
 use Rattle.cox_hecke.proofs.Balance.{step_sums, bar_sum-plus, bar_sum-minus, bar_sum-scaled, bar_sum-times_q_power}
 use Rattle.cox_hecke.proofs.RowLemmas.{row-balanced}
 
@@ -63,7 +65,8 @@ module _ (A : IntegerMatrix) (v : List ℕ) (s : ℕ) (p : Family) (P : List ℕ
   pub scale-is : (z : List ℕ) → Corrects z → (j : ℕ) → word_length A v ≡ word_length A z + suc (2 * j) → scale z ≡ p z j
   unfolding scale
   scale-is z c j e =
-      let odd : ((word_length A v - word_length A z) % 2 == 1) ≡ true = (let m : (word_length A v - word_length A z) % 2 ≡ 1 = omega (arith, e) in rw m refl)
+      let odd : ((word_length A v - word_length A z) % 2 == 1)
+      ≡ true = (let m : (word_length A v - word_length A z) % 2 ≡ 1 = omega (arith, e) in rw m refl)
       in let middle : (word_length A v - word_length A z) / 2 ≡ j = omega (arith, e)
       in rw (c.shortens, odd, middle) refl
 
@@ -92,7 +95,8 @@ module _ (A : IntegerMatrix) (v : List ℕ) (s : ℕ) (p : Family) (P : List ℕ
   unfolding scale
   scale-even z e = go (shortens_left A s z)
     where
-      go : (a : Bool) → (if a then (if (word_length A v - word_length A z) % 2 == 1 then p z ((word_length A v - word_length A z) / 2) else pos 0) else pos 0) ≡ pos 0
+      go : (a : Bool) → (if a then (if (word_length A v - word_length A z) % 2 == 1 then p z
+          ((word_length A v - word_length A z) / 2) else pos 0) else pos 0) ≡ pos 0
       go true = rw e refl
       go false = refl
 
@@ -138,7 +142,8 @@ module _ (A : IntegerMatrix) (v : List ℕ) (s : ℕ) (p : Family) (P : List ℕ
             (λ (n : IsBelow A z v → ⊥). inr (scale-none z (row.outside z n)))
             (below_or_not A g z v)
           where
-            odd : ((word_length A v - word_length A z) % 2 == 1) ≡ true → word_length A v ≡ word_length A z + suc (2 * ((word_length A v - word_length A z) / 2))
+            odd : ((word_length A v - word_length A z) % 2 == 1) ≡ true
+                → word_length A v ≡ word_length A z + suc (2 * ((word_length A v - word_length A z) / 2))
             odd f = let m : (word_length A v - word_length A z) % 2 ≡ 1 = grind (arith, nat_tests) in omega (arith, m)
         go true false e f = inr (scale-even z f)
         go false b e f = inr (scale-long z e)
@@ -169,7 +174,8 @@ module _ (A : IntegerMatrix) (v : List ℕ) (s : ℕ) (p : Family) (P : List ℕ
 
     pub corrections-respects : (words : List (List ℕ)) → RespectsElements A (corrections words)
     unfolding corrections
-    corrections-respects words x y e k = sum_over-equal words (λ z. correction z x) (λ z. correction z y) k (λ z. correction-respects z x y e k)
+    corrections-respects words x y e k = sum_over-equal words (λ z. correction z x) (λ z. correction z y) k
+        (λ z. correction-respects z x y e k)
 
     -- ---- bar
 
@@ -197,14 +203,16 @@ module _ (A : IntegerMatrix) (v : List ℕ) (s : ℕ) (p : Family) (P : List ℕ
           (subst (λ (G : Family). Balanced A (suc (word_length A v)) (step Left A s p) G) (λ i x k. sums x k (shortens_left A s x) refl i)
           (Balanced-step A g s l (row-balanced A g v p row all (λ y b. once y (below-trans A g b lower_below)))))
         where
-          sums : (x : List ℕ) (k : ℕ) (b : Bool) → shortens_left A s x ≡ b → step_sums A s (bar_sum A all p) x k ≡ bar_sum A all (step Left A s p) x k
+          sums : (x : List ℕ) (k : ℕ) (b : Bool) → shortens_left A s x ≡ b
+              → step_sums A s (bar_sum A all p) x k ≡ bar_sum A all (step Left A s p) x k
           sums x k true e = rw e (sym (bar-shorter A g s l p row.element all closed x k e))
           sums x k false e = rw e (sym (bar-longer A g s l p row.element all closed x k e))
 
       none-balanced : Balanced A (word_length A (s ∷ v)) (λ x. zero_polynomial) (bar_sum A all (λ y. zero_polynomial))
       none-balanced =
           subst (λ (G : Family). Balanced A (word_length A (s ∷ v)) (λ x. zero_polynomial) G)
-          (λ i x k. sym (sum_over-none all (λ y. product (r_polynomial A x y) zero_polynomial) k (λ y. product-zero (r_polynomial A x y) k)) i)
+          (λ i x k. sym (sum_over-none all (λ y. product (r_polynomial A x y) zero_polynomial) k
+          (λ y. product-zero (r_polynomial A x y) k)) i)
           (Balanced-none A (word_length A (s ∷ v)))
 
       correction-balanced : (z : List ℕ) → Balanced A (word_length A (s ∷ v)) (correction z) (bar_sum A all (correction z))
@@ -225,7 +233,8 @@ module _ (A : IntegerMatrix) (v : List ℕ) (s : ℕ) (p : Family) (P : List ℕ
               (Balanced-times_q_power A (word_length A z) (half z)
               (row-balanced A g z (P z) (rows z c.below) all (λ y b. once y (below-trans A g b (below-trans A g c.below lower_below)))))))
 
-      corrections-balanced : (words : List (List ℕ)) → Balanced A (word_length A (s ∷ v)) (corrections words) (bar_sum A all (corrections words))
+      corrections-balanced : (words : List (List ℕ))
+          → Balanced A (word_length A (s ∷ v)) (corrections words) (bar_sum A all (corrections words))
       unfolding corrections
       corrections-balanced [] = none-balanced
       corrections-balanced (z ∷ words) =

@@ -86,7 +86,8 @@ module _ (A : IntegerMatrix) (g : IsAdmissible A) where
 
       longer : (d : ℕ) → length (s ∷ v) ≡ word_length A x + d → word_length A (s ∷ x) ≡ word_length A x + 1
           → ((m : ℕ) → length v ≡ word_length A x + m → (k : ℕ) → flip m (r_along A x v) k ≡ times_sign m (r_along A x v) k)
-          → ((m : ℕ) → length v ≡ word_length A (s ∷ x) + m → (k : ℕ) → flip m (r_along A (s ∷ x) v) k ≡ times_sign m (r_along A (s ∷ x) v) k)
+          → ((m : ℕ) → length v ≡ word_length A (s ∷ x) + m → (k : ℕ)
+          → flip m (r_along A (s ∷ x) v) k ≡ times_sign m (r_along A (s ∷ x) v) k)
           → (k : ℕ) → flip d (plus (times_q_less_one (r_along A x v)) (times_q (r_along A (s ∷ x) v))) k
           ≡ times_sign d (plus (times_q_less_one (r_along A x v)) (times_q (r_along A (s ∷ x) v))) k
       longer zero e size here there k =

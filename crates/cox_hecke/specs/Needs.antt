@@ -11,4 +11,5 @@ use Rattle.cox_hecke.specs.Step.{IsCorrection}
 pub data IsNeeded (A : IntegerMatrix) (w : List ℕ) : List ℕ → Type 0 where
   itself : {z : List ℕ} → SameElement A z w → IsNeeded A w z
   shorter : {y z : List ℕ} {s : ℕ} → IsNeeded A w z → IsLeastLeftDescent A z s → SameElement A y (s ∷ z) → IsNeeded A w y
-  corrected : {u z : List ℕ} {s : ℕ} {m : ℤ} → IsNeeded A w z → IsLeastLeftDescent A z s → IsCorrection Left A s (s ∷ z) u m → IsNeeded A w u
+  corrected : {u z : List ℕ} {s : ℕ} {m : ℤ} → IsNeeded A w z → IsLeastLeftDescent A z s → IsCorrection Left A s (s ∷ z) u m
+      → IsNeeded A w u

@@ -21,7 +21,8 @@ IsDescent side A x s = word_length A (times_letter side s x) < word_length A x
 
 -- (1 + T(s)) p or p (1 + T(s)): on the left, at x, p(sx) + q p(x) where sx < x, else q p(sx) + p(x)
 abbrev pub step : Side → IntegerMatrix → ℕ → Family → Family
-step side A s p x = if nat_lt (word_length A (times_letter side s x)) (word_length A x) then plus (p (times_letter side s x)) (times_q (p x))
+step side A s p x = if nat_lt (word_length A (times_letter side s x)) (word_length A x) then plus (p (times_letter side s x))
+    (times_q (p x))
     else plus (times_q (p (times_letter side s x))) (p x)
 
 -- A step from v by s is corrected by the u with su < u for which m = mu(u,v) is not 0.

@@ -1,7 +1,8 @@
 -- Each clause is a lemma on the operators with the sign `true`.
 use Rattle.std.proofs.Common.{true, ap}
 use Rattle.cox_hecke.specs.Family.{Family}
-use Rattle.cox_hecke.proofs.Signed.{left-right, left-back, back-left, by_left-respects, by_right-respects, plus_signed, first_times_q, first_alone, minus_signed}
+use Rattle.cox_hecke.proofs.Signed.{left-right, left-back, back-left, by_left-respects, by_right-respects, plus_signed, first_times_q}
+use Rattle.cox_hecke.proofs.Signed.{first_alone, minus_signed}
 use Rattle.cox_hecke.proofs.laws.operators.Goals as goal
 
 pub returns-clause-commute : goal.returns-clause-commute

@@ -1,7 +1,8 @@
 -- Each clause is a lemma on R by operators.
 use Rattle.std.proofs.Common.{ap}
 use Rattle.cox_poly.specs.Coefficients.{Coefficients}
-use Rattle.cox_hecke.proofs.RPolynomials.{r-left_shorter, r-left_longer, r-left_moved, r-right_shorter, r-right_longer, r-right_moved, r-inverse}
+use Rattle.cox_hecke.proofs.RPolynomials.{r-left_shorter, r-left_longer, r-left_moved, r-right_shorter, r-right_longer, r-right_moved}
+use Rattle.cox_hecke.proofs.RPolynomials.{r-inverse}
 use Rattle.cox_hecke.proofs.TurnedR.{r-turned}
 use Rattle.cox_hecke.proofs.laws.r_polynomials.Goals as goal
 
