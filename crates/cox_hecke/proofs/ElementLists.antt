@@ -18,7 +18,7 @@ use Rattle.cox_reflect.proofs.Bruhat.{below-same, below-refl, below_identity, li
 use Rattle.cox_hecke.specs.Family.{is_same}
 use Rattle.cox_hecke.specs.Operators.{shortens_left}
 use Rattle.cox_hecke.specs.Sums.{occurrences, ListsEach}
-use Rattle.cox_hecke.specs.Row.{IsBetween}
+use Rattle.cox_hecke.specs.Row.{LiesBetween}
 use Rattle.cox_hecke.proofs.Descents.{yes-nat_lt, no-nat_lt, shortens_left-same, shortens_left-back, some_left_descent, empty_same}
 use Rattle.cox_hecke.proofs.SumLemmas.{same-is_same, is_same-same, not_same-is_same, same_or_not}
 
@@ -159,7 +159,7 @@ module _ (A : IntegerMatrix) (g : IsAdmissible A) where
       go false true e f rest = let h : t x ≡ false = r x y (is_same-same A g x y f) ∙ e in rw (e, h) (rw h at rest)
       go false false e f rest = rw (e, f) rest
 
-  pub between_list : (x w : List ℕ) → (words : List (List ℕ)) × Tells A (λ y. IsBetween A x w y) words
+  pub between_list : (x w : List ℕ) → (words : List (List ℕ)) × Tells A (λ y. LiesBetween A x w y) words
   between_list x w = (filter (above x) (below_list w).0, λ y. go y (below_or_not x y) ((below_list w).1 y))
     where
       count : (y : List ℕ) → occurrences A y (filter (above x) (below_list w).0)
@@ -168,8 +168,8 @@ module _ (A : IntegerMatrix) (g : IsAdmissible A) where
 
       go : (y : List ℕ) → IsBelow A x y ⊎ (IsBelow A x y → ⊥)
           → ((occurrences A y (below_list w).0 ≡ 1) × IsBelow A y w) ⊎ ((occurrences A y (below_list w).0 ≡ 0) × (IsBelow A y w → ⊥))
-          → ((occurrences A y (filter (above x) (below_list w).0) ≡ 1) × IsBetween A x w y)
-          ⊎ ((occurrences A y (filter (above x) (below_list w).0) ≡ 0) × (IsBetween A x w y → ⊥))
+          → ((occurrences A y (filter (above x) (below_list w).0) ≡ 1) × LiesBetween A x w y)
+          ⊎ ((occurrences A y (filter (above x) (below_list w).0) ≡ 0) × (LiesBetween A x w y → ⊥))
       go y (inl b) (inl c) = inl (count y ∙ rw (above-yes x y b) c.0, record { above = b; below = c.1 })
-      go y (inl b) (inr c) = inr (count y ∙ rw (above-yes x y b) c.0, λ (i : IsBetween A x w y). c.1 i.below)
-      go y (inr n) c = inr (count y ∙ rw (above-no x y n) refl, λ (i : IsBetween A x w y). n i.above)
+      go y (inl b) (inr c) = inr (count y ∙ rw (above-yes x y b) c.0, λ (i : LiesBetween A x w y). c.1 i.below)
+      go y (inr n) c = inr (count y ∙ rw (above-no x y n) refl, λ (i : LiesBetween A x w y). n i.above)

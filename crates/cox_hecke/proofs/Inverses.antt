@@ -15,7 +15,7 @@ use Rattle.cox_poly.specs.Coefficients.{Coefficients}
 use Rattle.cox_poly.specs.Products.{flip, product}
 use Rattle.cox_hecke.specs.Family.{Family, is_same}
 use Rattle.cox_hecke.specs.Sums.{occurrences, ListsEach, bar_sum}
-use Rattle.cox_hecke.specs.Row.{IsBetween, IsRow}
+use Rattle.cox_hecke.specs.Row.{LiesBetween, IsRow}
 use Rattle.cox_hecke.proofs.Signed.{at_inverses, at_inverses-respects}
 use Rattle.cox_hecke.proofs.SumLemmas.{same_or_not, same-is_same, not_same-is_same}
 use Rattle.cox_hecke.proofs.RPolynomials.{r-inverse}
@@ -58,8 +58,8 @@ module _ (A : IntegerMatrix) (g : IsAdmissible A) where
       sums x (y ∷ words) k =
           omega (arith, ints, sums x words k, ap (λ (f : Coefficients). product f (p (reverse y)) k) (r-inverse A g x y))
 
-      each : (x : List ℕ) (between : List (List ℕ)) → ListsEach A (IsBetween A x (reverse w)) between
-          → ListsEach A (IsBetween A (reverse x) w) (map reverse between)
+      each : (x : List ℕ) (between : List (List ℕ)) → ListsEach A (LiesBetween A x (reverse w)) between
+          → ListsEach A (LiesBetween A (reverse x) w) (map reverse between)
       each x between list = record {
         once = λ y b. occurrences-reverse y between ∙ list.once (reverse y)
             (record { above = below-unreverse_both x y b.above; below = (below_reverse A g y w).0 b.below });
@@ -73,7 +73,7 @@ module _ (A : IntegerMatrix) (g : IsAdmissible A) where
           below-reverse_both : (x y : List ℕ) → IsBelow A x (reverse y) → IsBelow A (reverse x) y
           below-reverse_both x y b = unreverse-below b
 
-      bar : (x : List ℕ) (between : List (List ℕ)) → IsBelow A x (reverse w) → ListsEach A (IsBetween A x (reverse w)) between → (k : ℕ)
+      bar : (x : List ℕ) (between : List (List ℕ)) → IsBelow A x (reverse w) → ListsEach A (LiesBetween A x (reverse w)) between → (k : ℕ)
           → flip (word_length A (reverse w) - word_length A x) (at_inverses p x) k ≡ bar_sum A between (at_inverses p) x k
       bar x between b list k =
           ap (λ (n : ℕ). flip n (p (reverse x)) k) difference

@@ -42,3 +42,5 @@ pub mod Polynomials
 pub mod StepFamilies
 -- which rows are needed
 pub mod NeedLemmas
+-- T(w^-1)^-1 by R-polynomials
+pub mod Expansion

@@ -12,13 +12,18 @@ use Rattle.cox_base.specs.Admissible.{IsAdmissible}
 use Rattle.cox_base.specs.Element.{SameElement}
 use Rattle.cox_base.specs.Reduced.{IsReduced}
 use Rattle.cox_reflect.proofs.Elements.{same-sym, same-trans, same-cons, same-square, same-reverse}
+use Rattle.cox_reflect.proofs.Search.{word_length-equal, word_length-length}
+use Rattle.cox_base.specs.Length.{word_length}
 use Rattle.cox_reflect.proofs.Lengths.{IsReduced-reverse, IsReduced-tail}
 use Rattle.cox_poly.specs.Coefficients.{Coefficients, zero_polynomial, plus, times_q, times_q_less_one}
 use Rattle.cox_hecke.specs.Family.{Family, RespectsElements, basis, is_same}
-use Rattle.cox_hecke.specs.Operators.{shortens_left, left, left_inverse, left_word, right_word, left_inverse_word}
+use Rattle.cox_hecke.specs.Operators.{shortens_left, left, right, left_inverse, right_inverse, left_word, right_word, left_inverse_word}
 use Rattle.cox_hecke.specs.Step.{step}
-use Rattle.cox_hecke.proofs.Descents.{shortens_left-same, shortens_left-back, reduced-letter, reduced-rises}
-use Rattle.cox_hecke.proofs.Signed.{at_inverses, at_inverses-respects, at_inverses-by_left, plus_signed, first_times_q}
+use Rattle.cox_hecke.proofs.Descents.{shortens_left-same, shortens_left-back, reduced-letter, reduced-rises, empty_same}
+use Rattle.cox_hecke.proofs.Signed.{at_inverses, at_inverses-respects, at_inverses-by_left, plus_signed, first_times_q, first_alone}
+use Rattle.cox_hecke.proofs.Signed.{minus_signed}
+use Rattle.cox_hecke.proofs.Signed.{family_times_q, left-back, back-left}
+use Rattle.cox_hecke.proofs.RPolynomials.{unit, unit-one, unit-other}
 use Rattle.cox_hecke.proofs.WordOperators.{left_along, back_along, left_along-same, back_along-same}
 use Rattle.cox_hecke.proofs.SumLemmas.{same_or_not, same-is_same, not_same-is_same}
 use Rattle.cox_hecke.proofs.Balance.{times_q-none}
@@ -33,7 +38,7 @@ left_along-word A (s ∷ u) h =
     left_along-word A u (left A s h) ∙ sym (left_word-append A (reverse u) (s ∷ []) h)
     ∙ ap (λ (v : List ℕ). left_word A v h) (sym (reverse-cons s u))
 
-back_along-word : (A : IntegerMatrix) (u : List ℕ) (h : Family) → left_inverse_word A u h ≡ back_along A true u h
+pub back_along-word : (A : IntegerMatrix) (u : List ℕ) (h : Family) → left_inverse_word A u h ≡ back_along A true u h
 back_along-word A [] h = refl
 back_along-word A (s ∷ u) h = ap (left_inverse A s) (back_along-word A u h)
 
@@ -118,3 +123,29 @@ module _ (A : IntegerMatrix) (g : IsAdmissible A) where
   pub left_word-basis : (u : List ℕ) → IsReduced A u → left_word A u (basis A []) ≡ basis A u
   left_word-basis [] c = refl
   left_word-basis (s ∷ u) c = ap (left A s) (left_word-basis u (IsReduced-tail A g s u c)) ∙ left-basis s u c
+
+  pub unit-basis : unit A ≡ basis A []
+  unit-basis = λ i x. at x i
+    where
+      at : (x : List ℕ) → unit A x ≡ basis A [] x
+      at x = ⊎_elim (λ (e : SameElement A [] x). rw (same-is_same A g e) (unit-one A x (identity e)))
+          (λ (n : SameElement A [] x → ⊥).
+          rw (not_same-is_same A g [] x n) (unit-other A x (λ z. n (same-sym A g (empty_same A g x z)))))
+          (same_or_not A g [] x)
+        where
+          identity : SameElement A [] x → word_length A x ≡ 0
+          identity e = omega (arith, word_length-equal A g e, word_length-length A g [])
+
+  -- ---- the same on the right
+
+  pub right-inverse : (s : ℕ) (h : Family) → IsLetter A.rank s → RespectsElements A h → right A s (right_inverse A s h) ≡ family_times_q h
+  right-inverse s h l r =
+      sym (at_inverses-by_left A g (plus_signed true) first_times_q s (left_inverse A s (at_inverses h))
+      ∙ ap (right A s) (at_inverses-by_left A g first_alone (minus_signed true) s (at_inverses h) ∙ ap (right_inverse A s) (twice h)))
+      ∙ ap at_inverses (left-back A g true s (at_inverses h) l (at_inverses-respects A g h r)) ∙ ap family_times_q (twice h)
+
+  pub inverse-right : (s : ℕ) (h : Family) → IsLetter A.rank s → RespectsElements A h → right_inverse A s (right A s h) ≡ family_times_q h
+  inverse-right s h l r =
+      sym (at_inverses-by_left A g first_alone (minus_signed true) s (left A s (at_inverses h))
+      ∙ ap (right_inverse A s) (at_inverses-by_left A g (plus_signed true) first_times_q s (at_inverses h) ∙ ap (right A s) (twice h)))
+      ∙ ap at_inverses (back-left A g true s (at_inverses h) l (at_inverses-respects A g h r)) ∙ ap family_times_q (twice h)

@@ -25,6 +25,10 @@ module _ (A : IntegerMatrix) (g : IsAdmissible A) where
   unfolding kl_polynomial
   kl_polynomial-is x w = record { row = row_of A g w; is = row_of-is A g w; at = λ k. refl }
 
+  pub kl_polynomial-is_row : (w : List ℕ) → IsRow A w (λ x. kl_polynomial x w)
+  unfolding kl_polynomial
+  kl_polynomial-is_row w = row_of-is A g w
+
   pub kl_polynomial-row : (x w : List ℕ) (p : Family) → IsRow A w p → kl_polynomial x w ≡ p x
   unfolding kl_polynomial
   kl_polynomial-row x w p row = row_of-value A g w p row x

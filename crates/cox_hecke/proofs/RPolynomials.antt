@@ -73,6 +73,9 @@ sides_core false false true zero = refl
 sides_core false false true (suc k) = refl
 sides_core b false false k = refl
 
+pub unit-one : (A : IntegerMatrix) (x : List ℕ) → word_length A x ≡ 0 → unit A x ≡ one_polynomial
+unit-one A x z = rw z refl
+
 pub unit-other : (A : IntegerMatrix) (x : List ℕ) → (word_length A x ≡ 0 → ⊥) → unit A x ≡ zero_polynomial
 unit-other A x n = let e : (word_length A x == 0) ≡ false = grind (arith, nat_tests) in rw e refl
 

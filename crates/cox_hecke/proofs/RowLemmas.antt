@@ -20,7 +20,7 @@ use Rattle.cox_rpoly.specs.RPolynomial.{r_polynomial}
 use Rattle.cox_rpoly.proofs.PolynomialLemmas.{r_polynomial-not_below, r_polynomial-equal}
 use Rattle.cox_hecke.specs.Family.{Family, RespectsElements, is_same}
 use Rattle.cox_hecke.specs.Sums.{occurrences, bar_sum}
-use Rattle.cox_hecke.specs.Row.{IsBetween, IsRow}
+use Rattle.cox_hecke.specs.Row.{LiesBetween, IsRow}
 use Rattle.cox_hecke.proofs.SumLemmas.{sum_over-equal, sum_over-none, sum_over-one, sum_over-lists, same-is_same}
 use Rattle.cox_hecke.proofs.ElementLists.{Tells-ListsEach, below_list, below_or_not, between_list}
 use Rattle.cox_hecke.proofs.BarSums.{bar_term-respects}
@@ -38,7 +38,7 @@ one_above zero l = absurd (omega arith)
 one_above (suc k) l = refl
 
 module _ (A : IntegerMatrix) (g : IsAdmissible A) where
-  pub between_or_not : (x w y : List ℕ) → IsBetween A x w y ⊎ ((IsBelow A x y → ⊥) ⊎ (IsBelow A y w → ⊥))
+  pub between_or_not : (x w y : List ℕ) → LiesBetween A x w y ⊎ ((IsBelow A x y → ⊥) ⊎ (IsBelow A y w → ⊥))
   between_or_not x w y = ⊎_elim
       (λ (b : IsBelow A x y). ⊎_elim (λ (c : IsBelow A y w). inl (record { above = b; below = c })) (λ (n : IsBelow A y w → ⊥). inr (inr n))
       (below_or_not A g y w))
@@ -59,14 +59,14 @@ module _ (A : IntegerMatrix) (g : IsAdmissible A) where
     bar_sum-none words x n = λ i k. sum_over-none words (λ y. product (r_polynomial A x y) (f y)) k (λ y. term-none x y k (apart y)) i
       where
         apart : (y : List ℕ) → (IsBelow A x y → ⊥) ⊎ (IsBelow A y w → ⊥)
-        apart y = ⊎_elim (λ (b : IsBetween A x w y). absurd (n (below-trans A g b.above b.below))) (λ c. c) (between_or_not x w y)
+        apart y = ⊎_elim (λ (b : LiesBetween A x w y). absurd (n (below-trans A g b.above b.below))) (λ c. c) (between_or_not x w y)
 
     pub bar_sum-lists : RespectsElements A f → (x : List ℕ) (ys zs : List (List ℕ))
-        → ((y : List ℕ) → IsBetween A x w y → occurrences A y ys ≡ 1) → ((y : List ℕ) → IsBetween A x w y → occurrences A y zs ≡ 1)
+        → ((y : List ℕ) → LiesBetween A x w y → occurrences A y ys ≡ 1) → ((y : List ℕ) → LiesBetween A x w y → occurrences A y zs ≡ 1)
         → (k : ℕ) → bar_sum A ys f x k ≡ bar_sum A zs f x k
     bar_sum-lists r x ys zs once_ys once_zs k =
         sum_over-lists A g ys zs (λ y. product (r_polynomial A x y) (f y)) k (bar_term-respects A g x f r)
-        (λ y. ⊎_elim (λ (b : IsBetween A x w y). inr (once_ys y b ∙ sym (once_zs y b), omega (arith, once_zs y b)))
+        (λ y. ⊎_elim (λ (b : LiesBetween A x w y). inr (once_ys y b ∙ sym (once_zs y b), omega (arith, once_zs y b)))
         (λ c. inl (term-none x y k c)) (between_or_not x w y))
 
   -- ---- the conditions of a row, with any list
@@ -105,7 +105,7 @@ module _ (A : IntegerMatrix) (g : IsAdmissible A) where
         turned x d e b =
             let difference : word_length A w - word_length A x ≡ d = omega (arith, e)
             in let list = between_list A g x w
-            in let each = Tells-ListsEach A (IsBetween A x w) list.0 list.1
+            in let each = Tells-ListsEach A (LiesBetween A x w) list.0 list.1
             in λ i k. (ap (λ (d : ℕ). flip d (p x) k) (sym difference) ∙ row.bar x list.0 b each k
             ∙ bar_sum-lists w p row.outside row.element x list.0 words each.once (λ y c. once y c.below) k) i
 

@@ -27,16 +27,13 @@ use Rattle.cox_hecke.specs.Operators.{shortens_left}
 use Rattle.cox_hecke.specs.Sums.{bar_sum}
 use Rattle.cox_hecke.specs.Row.{IsRow}
 use Rattle.cox_hecke.proofs.Descents.{nat_lt-yes, shortens_left-back, some_left_descent, empty_same}
-use Rattle.cox_hecke.proofs.RPolynomials.{unit, unit-respects, unit-other}
+use Rattle.cox_hecke.proofs.RPolynomials.{unit, unit-one, unit-respects, unit-other}
 use Rattle.cox_hecke.proofs.SumLemmas.{same-is_same}
 use Rattle.cox_hecke.proofs.ElementLists.{below_list}
 use Rattle.cox_hecke.proofs.Balance.{Balanced}
 use Rattle.cox_hecke.proofs.RowLemmas.{bar_sum-none, row-from, row-same, one_above}
 use Rattle.cox_hecke.proofs.StepRow.{step_row}
 use Rattle.cox_hecke.proofs.StepIsRow.{step_row-is}
-
-unit-one : (A : IntegerMatrix) (x : List ℕ) → word_length A x ≡ 0 → unit A x ≡ one_polynomial
-unit-one A x z = rw z refl
 
 module _ (A : IntegerMatrix) (g : IsAdmissible A) where
   -- ---- e

@@ -1,6 +1,7 @@
 -- Sums over lists of elements: they are linear, and they do not depend on the list as long as it names each element with a nonzero term
 -- once.
-use Rattle.std.proofs.Common.{◌≡◌, ℕ, zero, suc, ◌≤◌, Bool, true, false, if◌then◌else◌, List, [], ◌∷◌, ◌⊎◌, inl, inr, ⊎_elim}
+use Rattle.std.proofs.Common.{◌≡◌, ℕ, zero, suc, ◌<◌, ◌≤◌, length, get_or, Bool, true, false, if◌then◌else◌, List, [], ◌∷◌, ◌⊎◌, inl, inr}
+use Rattle.std.proofs.Common.{⊎_elim}
 use Rattle.std.proofs.Common.{ℤ, pos, ◌+ℤ◌, ◌-ℤ◌, ◌*ℤ◌, refl, ap, sym, ◌∙◌, arith}
 use Rattle.std.proofs.lemmas.Int.{ints}
 use Rattle.std.proofs.lemmas.Bool.{false≢true}
@@ -153,3 +154,23 @@ module _ (A : IntegerMatrix) (g : IsAdmissible A) where
           (λ (e : SameElement A y z). rw (same-is_same e, same-is_same (same-sym A g e)) (r z y (same-sym A g e) k))
           (λ (n : SameElement A y z → ⊥). rw (not_same-is_same y z n, not_same-is_same z y (λ e. n (same-sym A g e))) refl)
           (same_or_not y z)
+
+  -- ---- an element at one place of the list alone
+
+  occurrences-absent : (words : List (List ℕ)) (x : List ℕ) → ((i : ℕ) → i < length words → SameElement A x (get_or words i []) → ⊥)
+      → occurrences A x words ≡ 0
+  occurrences-absent [] x none = refl
+  occurrences-absent (y ∷ words) x none =
+      rw (not_same-is_same x y (none 0 (omega arith)))
+      (occurrences-absent words x (λ i l. none (suc i) (omega (arith, l))))
+
+  pub occurrences-at : (words : List (List ℕ)) (x : List ℕ) (i : ℕ) → i < length words → SameElement A x (get_or words i [])
+      → ((j : ℕ) → j < length words → SameElement A x (get_or words j []) → j ≡ i) → occurrences A x words ≡ 1
+  occurrences-at [] x i l e only = absurd (omega arith)
+  occurrences-at (y ∷ words) x zero l e only =
+      rw (same-is_same e) (ap suc (occurrences-absent words x (λ j m same. let f = only (suc j) (omega (arith, m)) same
+      in omega (arith, f))))
+  occurrences-at (y ∷ words) x (suc i) l e only =
+      rw (not_same-is_same x y (λ same. let f = only 0 (omega arith) same in omega (arith, f)))
+      (occurrences-at words x i (omega (arith, l)) e
+      (λ j m same. let f = only (suc j) (omega (arith, m)) same in omega (arith, f)))

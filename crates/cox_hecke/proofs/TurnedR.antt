@@ -18,23 +18,27 @@ use Rattle.cox_poly.proofs.Coefficients.{flip_at, flip_above, flip-suc, flip-tim
 use Rattle.cox_rpoly.specs.RPolynomial.{r_along, r_polynomial}
 use Rattle.cox_rpoly.proofs.AlongLemmas.{along-identity, along-shorter, along-longer, along-long, along-degree, shortens}
 use Rattle.cox_rpoly.proofs.PolynomialLemmas.{r_polynomial-is}
-use Rattle.cox_hecke.specs.Sums.{times_sign}
+use Rattle.cox_hecke.specs.Sign.{times_sign}
 use Rattle.cox_hecke.proofs.Balance.{flip-none, flip-plus, flip-minus}
 
 times_sign-plus : (d : ℕ) (f h : Coefficients) (k : ℕ) → times_sign d (plus f h) k ≡ times_sign d f k +ℤ times_sign d h k
 times_sign-plus zero f h k = refl
 times_sign-plus (suc d) f h k = omega (arith, ints, times_sign-plus d f h k)
 
-times_sign-minus : (d : ℕ) (f h : Coefficients) (k : ℕ) → times_sign d (minus f h) k ≡ times_sign d f k -ℤ times_sign d h k
+pub times_sign-minus : (d : ℕ) (f h : Coefficients) (k : ℕ) → times_sign d (minus f h) k ≡ times_sign d f k -ℤ times_sign d h k
 times_sign-minus zero f h k = refl
 times_sign-minus (suc d) f h k = omega (arith, ints, times_sign-minus d f h k)
 
-times_sign-times_q : (d : ℕ) (f : Coefficients) (k : ℕ) → times_sign d (times_q f) k ≡ times_q (times_sign d f) k
+pub times_sign-times_q : (d : ℕ) (f : Coefficients) (k : ℕ) → times_sign d (times_q f) k ≡ times_q (times_sign d f) k
 times_sign-times_q zero f k = refl
 times_sign-times_q (suc d) f zero = omega (arith, ints, times_sign-times_q d f zero)
 times_sign-times_q (suc d) f (suc k) = omega (arith, ints, times_sign-times_q d f (suc k))
 
-times_sign-none : (d : ℕ) (k : ℕ) → times_sign d zero_polynomial k ≡ pos 0
+pub times_sign-negated : (d : ℕ) (f : Coefficients) (k : ℕ) → times_sign d (negated f) k ≡ negated (times_sign d f) k
+times_sign-negated zero f k = refl
+times_sign-negated (suc d) f k = omega (arith, ints, times_sign-negated d f k)
+
+pub times_sign-none : (d : ℕ) (k : ℕ) → times_sign d zero_polynomial k ≡ pos 0
 times_sign-none zero k = refl
 times_sign-none (suc d) k = omega (arith, ints, times_sign-none d k)
 

@@ -2,6 +2,8 @@
 pub mod Family
 -- the operators of the Hecke algebra
 pub mod Operators
+-- signs
+pub mod Sign
 -- sums over lists of elements
 pub mod Sums
 -- rows, Kazhdan-Lusztig polynomials, mu

@@ -9,7 +9,7 @@ use Rattle.cox_hecke.specs.Family.{Family, RespectsElements}
 use Rattle.cox_hecke.specs.Sums.{ListsEach, bar_sum}
 
 -- x ≤ y ≤ w
-pub record IsBetween (A : IntegerMatrix) (x w y : List ℕ) : Type 0 where
+pub record LiesBetween (A : IntegerMatrix) (x w y : List ℕ) : Type 0 where
   pub above : IsBelow A x y
   pub below : IsBelow A y w
 
@@ -21,7 +21,7 @@ pub record IsRow (A : IntegerMatrix) (w : List ℕ) (p : Family) : Type 0 where
   pub outside : (x : List ℕ) → ¬ IsBelow A x w → (k : ℕ) → p x k ≡ pos 0
   pub top : (k : ℕ) → p w k ≡ one_polynomial k
   pub degree : (x : List ℕ) (k : ℕ) → word_length A x < word_length A w → word_length A w ≤ word_length A x + 2 * k → p x k ≡ pos 0
-  pub bar : (x : List ℕ) (between : List (List ℕ)) → IsBelow A x w → ListsEach A (IsBetween A x w) between
+  pub bar : (x : List ℕ) (between : List (List ℕ)) → IsBelow A x w → ListsEach A (LiesBetween A x w) between
       → (k : ℕ) → flip (word_length A w - word_length A x) (p x) k ≡ bar_sum A between p x k
 
 -- f is P(x,w): what the row of w has at x

@@ -1,5 +1,5 @@
 -- The right side of the recursion for rows (Kazhdan and Lusztig 1979, 2.2.c; Humphreys 7.11), for a descent of w on either side.
-use Rattle.std.specs.Prelude.{◌≡◌, ◌≢◌, ℕ, ◌-◌, ◌/◌, ◌<◌, if◌then◌else◌, nat_lt, List, [], ◌∷◌, ◌++◌, map, All, ℤ, pos}
+use Rattle.std.specs.Prelude.{◌≡◌, ◌≢◌, ℕ, ◌-◌, ◌/◌, ◌<◌, Bool, if◌then◌else◌, nat_lt, List, [], ◌∷◌, ◌++◌, map, All, ℤ, pos}
 use Rattle.cox_base.specs.declared.side.Side.{Side}
 use Rattle.cox_base.specs.declared.side.Side.TheVariants.{Left, Right}
 use Rattle.cox_base.specs.IntegerMatrix.{IntegerMatrix}
@@ -15,15 +15,17 @@ abbrev pub times_letter : Side → ℕ → List ℕ → List ℕ
 times_letter Left s x = s ∷ x
 times_letter Right s x = x ++ s ∷ []
 
--- s shortens x on that side
+-- s shortens x on that side; and the same as a test
 abbrev pub IsDescent : Side → IntegerMatrix → List ℕ → ℕ → Type 0
 IsDescent side A x s = word_length A (times_letter side s x) < word_length A x
 
+abbrev pub shortens : Side → IntegerMatrix → ℕ → List ℕ → Bool
+shortens side A s x = nat_lt (word_length A (times_letter side s x)) (word_length A x)
+
 -- (1 + T(s)) p or p (1 + T(s)): on the left, at x, p(sx) + q p(x) where sx < x, else q p(sx) + p(x)
 abbrev pub step : Side → IntegerMatrix → ℕ → Family → Family
-step side A s p x = if nat_lt (word_length A (times_letter side s x)) (word_length A x) then plus (p (times_letter side s x))
-    (times_q (p x))
-    else plus (times_q (p (times_letter side s x))) (p x)
+step side A s p x =
+    if shortens side A s x then plus (p (times_letter side s x)) (times_q (p x)) else plus (times_q (p (times_letter side s x))) (p x)
 
 -- A step from v by s is corrected by the u with su < u for which m = mu(u,v) is not 0.
 pub record IsCorrection (side : Side) (A : IntegerMatrix) (s : ℕ) (v u : List ℕ) (m : ℤ) : Type 0 where

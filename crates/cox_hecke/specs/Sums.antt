@@ -1,8 +1,8 @@
 -- Sums over finitely many elements, which are listed by words.
-use Rattle.std.specs.Prelude.{◌≡◌, ℕ, zero, suc, ◌≤◌, if◌then◌else◌, List, [], ◌∷◌}
+use Rattle.std.specs.Prelude.{◌≡◌, ℕ, suc, ◌≤◌, if◌then◌else◌, List, [], ◌∷◌}
 use Rattle.cox_base.specs.IntegerMatrix.{IntegerMatrix}
 use Rattle.cox_poly.specs.Coefficients.{Coefficients, zero_polynomial, plus}
-use Rattle.cox_poly.specs.Products.{product, negated}
+use Rattle.cox_poly.specs.Products.{product}
 use Rattle.cox_rpoly.specs.RPolynomial.{r_polynomial}
 use Rattle.cox_hecke.specs.Family.{Family, is_same}
 
@@ -30,8 +30,3 @@ sum_over (y ∷ words) f = plus (f y) (sum_over words f)
 -- (Humphreys 7.4). So these sums are, up to signs and powers of q, the coefficients of the T(x) in bar of a combination of the T(y).
 abbrev pub bar_sum : IntegerMatrix → List (List ℕ) → Family → Family
 bar_sum A words h x = sum_over words (λ y. product (r_polynomial A x y) (h y))
-
--- (-1)^d f
-abbrev pub times_sign : ℕ → Coefficients → Coefficients
-times_sign zero f = f
-times_sign (suc d) f = negated (times_sign d f)

@@ -1,7 +1,7 @@
 //! The laws of the Hecke algebra and of Kazhdan-Lusztig polynomials, for every admissible integer matrix A. Each function does nothing: its
 //! clauses are theorems. Elements are given by words; `left A s h` is T(s) h, by coefficients.
 
-ghost use Rattle.std.specs.Prelude.{◌≡◌, ◌≢◌, ℕ, ◌+◌, List, [], ◌∷◌, ◌++◌, reverse, All, ℤ, pos};
+ghost use Rattle.std.specs.Prelude.{◌≡◌, ◌≢◌, ℕ, ◌+◌, ◌-◌, List, [], ◌∷◌, ◌++◌, length, reverse, All, ℤ, pos};
 ghost use Rattle.cox_base.specs.declared.side.Side.{Side};
 ghost use Rattle.cox_base.specs.declared.side.Side.TheVariants.{Left};
 ghost use Rattle.cox_base.specs.Matrix.{IsLetter};
@@ -15,9 +15,10 @@ ghost use Rattle.cox_poly.specs.Coefficients.{Coefficients, plus, times_q, times
 ghost use Rattle.cox_poly.specs.Products.{minus, flip};
 ghost use Rattle.cox_rpoly.specs.RPolynomial.{r_polynomial};
 ghost use Rattle.cox_hecke.specs.Family.{Family, RespectsElements, basis};
-ghost use Rattle.cox_hecke.specs.Operators.{left, right, left_inverse, left_word, right_word, left_inverse_word};
-ghost use Rattle.cox_hecke.specs.Sums.{ListsEach, IsClosedUnder, bar_sum, times_sign};
-ghost use Rattle.cox_hecke.specs.Row.{IsBetween, IsRow, IsKazhdanLusztig, IsMu};
+ghost use Rattle.cox_hecke.specs.Operators.{left, right, left_inverse, right_inverse, left_word, right_word, left_inverse_word};
+ghost use Rattle.cox_hecke.specs.Sign.{times_sign};
+ghost use Rattle.cox_hecke.specs.Sums.{ListsEach, IsClosedUnder, bar_sum};
+ghost use Rattle.cox_hecke.specs.Row.{LiesBetween, IsRow, IsKazhdanLusztig, IsMu};
 ghost use Rattle.cox_hecke.specs.Step.{times_letter, IsDescent, step, Correction, AreCorrections, correction_sum, IsStepFamily};
 ghost use Rattle.cox_hecke.specs.Needs.{IsNeeded};
 
@@ -25,33 +26,47 @@ ghost use Rattle.cox_hecke.specs.Needs.{IsNeeded};
 pub fn operators()
     ensures commute { (A : IntegerMatrix) → IsAdmissible A → (s t : ℕ) (h : Family) → IsLetter A.rank s → IsLetter A.rank t
         → RespectsElements A h → (x : List ℕ) (k : ℕ) → left A s (right A t h) x k ≡ right A t (left A s h) x k }
+    ensures inverses_commute { (A : IntegerMatrix) → IsAdmissible A → (s t : ℕ) (h : Family) → IsLetter A.rank s → IsLetter A.rank t
+        → RespectsElements A h → (x : List ℕ) (k : ℕ)
+        → left_inverse A s (right_inverse A t h) x k ≡ right_inverse A t (left_inverse A s h) x k }
     ensures left_of_inverse { (A : IntegerMatrix) → IsAdmissible A → (s : ℕ) (h : Family) → IsLetter A.rank s → RespectsElements A h
         → (x : List ℕ) (k : ℕ) → left A s (left_inverse A s h) x k ≡ times_q (h x) k }
     ensures inverse_of_left { (A : IntegerMatrix) → IsAdmissible A → (s : ℕ) (h : Family) → IsLetter A.rank s → RespectsElements A h
         → (x : List ℕ) (k : ℕ) → left_inverse A s (left A s h) x k ≡ times_q (h x) k }
-
-    // what they make of a family that respects elements respects them
-    ensures left_respects { (A : IntegerMatrix) → IsAdmissible A → (s : ℕ) (h : Family) → RespectsElements A h → RespectsElements A (left A s h) }
-    ensures right_respects { (A : IntegerMatrix) → IsAdmissible A → (s : ℕ) (h : Family) → RespectsElements A h → RespectsElements A (right A s h) }
-    ensures inverse_respects { (A : IntegerMatrix) → IsAdmissible A → (s : ℕ) (h : Family) → RespectsElements A h
-        → RespectsElements A (left_inverse A s h) }
+    ensures right_of_inverse { (A : IntegerMatrix) → IsAdmissible A → (s : ℕ) (h : Family) → IsLetter A.rank s → RespectsElements A h
+        → (x : List ℕ) (k : ℕ) → right A s (right_inverse A s h) x k ≡ times_q (h x) k }
+    ensures inverse_of_right { (A : IntegerMatrix) → IsAdmissible A → (s : ℕ) (h : Family) → IsLetter A.rank s → RespectsElements A h
+        → (x : List ℕ) (k : ℕ) → right_inverse A s (right A s h) x k ≡ times_q (h x) k }
 {}
 
-/// The product of the operators along a reduced word depends on the word's element alone, and for a reduced word of w the product of the T(s)
-/// is T(w).
+/// What the operators make of a family that respects elements respects them.
+pub fn respect()
+    ensures left { (A : IntegerMatrix) → IsAdmissible A → (s : ℕ) (h : Family) → RespectsElements A h
+        → RespectsElements A (left A s h) }
+    ensures right { (A : IntegerMatrix) → IsAdmissible A → (s : ℕ) (h : Family) → RespectsElements A h
+        → RespectsElements A (right A s h) }
+    ensures left_inverse { (A : IntegerMatrix) → IsAdmissible A → (s : ℕ) (h : Family) → RespectsElements A h
+        → RespectsElements A (left_inverse A s h) }
+    ensures right_inverse { (A : IntegerMatrix) → IsAdmissible A → (s : ℕ) (h : Family) → RespectsElements A h
+        → RespectsElements A (right_inverse A s h) }
+{}
+
+/// The product of the operators along a reduced word depends on the word's element alone. For a reduced word of w the product of the T(s)
+/// is T(w), and the product of the q T(s)^-1 is the sum of the (-1)^(l(w)-l(x)) R(x,w) T(x): that is how R is defined in Humphreys 7.4.
 pub fn words()
-    ensures left { (A : IntegerMatrix) → IsAdmissible A → (u v : List ℕ) (h : Family) → IsReduced A u → IsReduced A v → SameElement A u v
-        → RespectsElements A h → (x : List ℕ) (k : ℕ) → left_word A u h x k ≡ left_word A v h x k }
-    ensures right { (A : IntegerMatrix) → IsAdmissible A → (u v : List ℕ) (h : Family) → IsReduced A u → IsReduced A v → SameElement A u v
-        → RespectsElements A h → (x : List ℕ) (k : ℕ) → right_word A u h x k ≡ right_word A v h x k }
-    ensures left_inverse { (A : IntegerMatrix) → IsAdmissible A → (u v : List ℕ) (h : Family) → IsReduced A u → IsReduced A v → SameElement A u v
-        → RespectsElements A h → (x : List ℕ) (k : ℕ) → left_inverse_word A u h x k ≡ left_inverse_word A v h x k }
+    ensures left { (A : IntegerMatrix) → IsAdmissible A → (u v : List ℕ) (h : Family) → IsReduced A u → IsReduced A v
+        → SameElement A u v → RespectsElements A h → (x : List ℕ) (k : ℕ) → left_word A u h x k ≡ left_word A v h x k }
+    ensures right { (A : IntegerMatrix) → IsAdmissible A → (u v : List ℕ) (h : Family) → IsReduced A u → IsReduced A v
+        → SameElement A u v → RespectsElements A h → (x : List ℕ) (k : ℕ) → right_word A u h x k ≡ right_word A v h x k }
+    ensures left_inverse { (A : IntegerMatrix) → IsAdmissible A → (u v : List ℕ) (h : Family) → IsReduced A u → IsReduced A v
+        → SameElement A u v → RespectsElements A h → (x : List ℕ) (k : ℕ) → left_inverse_word A u h x k ≡ left_inverse_word A v h x k }
     ensures basis { (A : IntegerMatrix) → IsAdmissible A → (u : List ℕ) → IsReduced A u
         → (x : List ℕ) (k : ℕ) → left_word A u (basis A []) x k ≡ basis A u x k }
+    ensures inverse_basis { (A : IntegerMatrix) → IsAdmissible A → (u : List ℕ) → IsReduced A u → (x : List ℕ) (k : ℕ)
+        → left_inverse_word A u (basis A []) x k ≡ times_sign (length u - word_length A x) (r_polynomial A x u) k }
 {}
 
-/// Bar respects multiplication by 1 + T(s): with the sums of R(x,y) h(y) over a list that is closed under s, those of (1 + T(s)) h come from
-/// those of h.
+/// Bar respects multiplication by 1 + T(s): the sums of R(x,y) h(y), over a list that is closed under s, give those of (1 + T(s)) h.
 pub fn bar()
     ensures product { (A : IntegerMatrix) (s : ℕ) (h : Family) (x : List ℕ) (k : ℕ) → step Left A s h x k ≡ plus (h x) (left A s h x) k }
     ensures shorter { (A : IntegerMatrix) → IsAdmissible A → (s : ℕ) (h : Family) (words : List (List ℕ)) → IsLetter A.rank s
@@ -87,7 +102,7 @@ pub fn r_polynomials()
 
 /// There is a list of the elements between any two.
 pub fn lists()
-    ensures { (A : IntegerMatrix) → IsAdmissible A → (x w : List ℕ) → (words : List (List ℕ)) × ListsEach A (IsBetween A x w) words }
+    ensures { (A : IntegerMatrix) → IsAdmissible A → (x w : List ℕ) → (words : List (List ℕ)) × ListsEach A (LiesBetween A x w) words }
 {}
 
 /// Each element has exactly one row, whichever of its words is taken (Kazhdan and Lusztig 1979, theorem 1.1; Humphreys 7.9 to 7.11).
@@ -127,11 +142,12 @@ pub fn mu()
     ensures right { (A : IntegerMatrix) → IsAdmissible A → (w u : List ℕ) (s : ℕ) (m : ℤ) → IsMu A u w m → m ≢ pos 0 → IsRightDescent A w s
         → ¬ IsRightDescent A u s → SameElement A u (w ++ s ∷ []) }
     ensures left_shift { (A : IntegerMatrix) → IsAdmissible A → (w : List ℕ) (s : ℕ) → IsLeftDescent A w s → IsMu A (s ∷ w) w (pos 1) }
-    ensures right_shift { (A : IntegerMatrix) → IsAdmissible A → (w : List ℕ) (s : ℕ) → IsRightDescent A w s → IsMu A (w ++ s ∷ []) w (pos 1) }
+    ensures right_shift { (A : IntegerMatrix) → IsAdmissible A → (w : List ℕ) (s : ℕ) → IsRightDescent A w s
+        → IsMu A (w ++ s ∷ []) w (pos 1) }
 {}
 
-/// The recursion (Kazhdan and Lusztig 1979, 2.2.c; Humphreys 7.11): for any descent s of w, on either side, (1 + T(s)) times the row of sw, less
-/// its corrections, is the row of w. The corrections have a list, and so there is a step family by any descent.
+/// The recursion (Kazhdan and Lusztig 1979, 2.2.c; Humphreys 7.11): for any descent s of w, on either side, (1 + T(s)) times the row of sw,
+/// less its corrections, is the row of w. The corrections have a list, so there is a step family by any descent, and it is the row.
 pub fn recursion()
     ensures rows { (A : IntegerMatrix) → IsAdmissible A → (side : Side) (w : List ℕ) (s : ℕ) → IsDescent side A w s
         → (p : Family) → IsRow A (times_letter side s w) p
