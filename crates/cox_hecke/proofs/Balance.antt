@@ -10,7 +10,7 @@ use Rattle.cox_base.specs.Matrix.{IsLetter}
 use Rattle.cox_base.specs.IntegerMatrix.{IntegerMatrix}
 use Rattle.cox_base.specs.Admissible.{IsAdmissible}
 use Rattle.cox_base.specs.Length.{word_length}
-use Rattle.cox_poly.specs.Coefficients.{Coefficients, zero_polynomial, plus, times_q}
+use Rattle.cox_poly.specs.Coefficients.{Coefficients, zero_polynomial, one_polynomial, plus, times_q}
 use Rattle.cox_poly.specs.Products.{minus, scaled, times_q_power, flip, product}
 use Rattle.cox_poly.specs.Size.{HasDegreeAtMost}
 use Rattle.cox_poly.proofs.Coefficients.{times_q_power-zero, times_q_power-suc, flip_at, flip_above, flip-suc, flip-times_q}
@@ -48,6 +48,13 @@ flip-none d = λ i k. at k (nat_le k d) i
     at : (k : ℕ) (b : Bool) → (if b then pos 0 else pos 0) ≡ pos 0
     at k true = refl
     at k false = refl
+
+pub flip-one : flip 0 one_polynomial ≡ one_polynomial
+flip-one = λ i k. at k i
+  where
+    at : (k : ℕ) → flip 0 one_polynomial k ≡ one_polynomial k
+    at zero = flip_at one_polynomial 0 0 0 (omega arith)
+    at (suc k) = flip_above one_polynomial 0 (suc k) (omega arith)
 
 pub flip-plus : (d : ℕ) (f h : Coefficients) → flip d (plus f h) ≡ plus (flip d f) (flip d h)
 flip-plus d f h = λ i k. at k (nat_le k d) i

@@ -29,7 +29,7 @@ use Rattle.cox_hecke.specs.Family.{Family, RespectsElements}
 use Rattle.cox_hecke.specs.Operators.{shortens_left}
 use Rattle.cox_hecke.specs.Row.{IsRow, IsMu, middle_coefficient}
 use Rattle.cox_hecke.specs.Step.{step, Correction, IsCorrection, AreCorrections, correction_sum}
-use Rattle.cox_hecke.proofs.Descents.{shortens_left-back, descent-reverse, reverse-descent}
+use Rattle.cox_hecke.proofs.Descents.{reverse-push, reverse-back, shortens_left-back, descent-reverse, reverse-descent}
 use Rattle.cox_hecke.proofs.Signed.{respected, at_inverses}
 use Rattle.cox_hecke.proofs.ElementLists.{below_or_not}
 use Rattle.cox_hecke.proofs.BarSums.{step-shorter, step-longer}
@@ -156,7 +156,7 @@ module _ (A : IntegerMatrix) (g : IsAdmissible A) where
 
   pub row-right : (w x : List ℕ) (s : ℕ) (p : Family) → IsRow A w p → IsRightDescent A w s → (k : ℕ) → p (x ++ s ∷ []) k ≡ p x k
   row-right w x s p row d k =
-      ap (λ (u : List ℕ). p u k) (sym (reverse-cons s (reverse x) ∙ ap (λ (u : List ℕ). u ++ s ∷ []) (reverse-reverse x)))
+      ap (λ (u : List ℕ). p u k) (sym (reverse-back x s))
       ∙ row-left (reverse w) (reverse x) s (at_inverses p) (row-reverse A g w p row) (descent-reverse A g w s d) k
       ∙ ap (λ (u : List ℕ). p u k) (reverse-reverse x)
 
@@ -194,9 +194,6 @@ module _ (A : IntegerMatrix) (g : IsAdmissible A) where
       = row-left w w s (row_of A g w) (row_of-is A g w) d 0 ∙ (row_of-is A g w).top 0
       in mu-by_row A g (s ∷ w) w (pos 1) (row_of A g w) (row_of-is A g w) (rw difference (sym value))
 
-  reverse-push : (w : List ℕ) (s : ℕ) → reverse (w ++ s ∷ []) ≡ s ∷ reverse w
-  reverse-push w s = reverse-append w (s ∷ [])
-
   pub mu-right : (w u : List ℕ) (s : ℕ) (m : ℤ) → IsMu A u w m → m ≢ pos 0 → IsRightDescent A w s → (IsRightDescent A u s → ⊥)
       → SameElement A u (w ++ s ∷ [])
   mu-right w u s m c some d n =
@@ -206,5 +203,5 @@ module _ (A : IntegerMatrix) (g : IsAdmissible A) where
 
   pub mu-shift_right : (w : List ℕ) (s : ℕ) → IsRightDescent A w s → IsMu A (w ++ s ∷ []) w (pos 1)
   mu-shift_right w s d =
-      rw (reverse-cons s (reverse w), reverse-reverse w) at
+      rw (reverse-back w s) at
       (mu-reverse A g (s ∷ reverse w) (reverse w) (pos 1) (mu-shift_left (reverse w) s (descent-reverse A g w s d)))

@@ -5,7 +5,8 @@ use Rattle.std.proofs.Common.{refl, ap, sym, ◌∙◌, arith}
 use Rattle.std.specs.Prelude.{nat_lt}
 use Rattle.std.proofs.lemmas.Bool.{cases_lt}
 use Rattle.std.proofs.lemmas.Bool.Decides.{nat_tests}
-use Rattle.std.proofs.lemmas.List.{reverse-reverse}
+use Rattle.std.proofs.lemmas.List.{reverse-reverse, reverse-append}
+use mathlib.Core.List.{reverse-cons}
 use Rattle.cox_base.specs.Matrix.{IsLetter}
 use Rattle.cox_base.specs.IntegerMatrix.{IntegerMatrix}
 use Rattle.cox_base.specs.Admissible.{IsAdmissible}
@@ -51,6 +52,13 @@ nat_lt-no m n l = ⊎_elim (λ h. absurd (l h)) (λ (h : n ≤ m). grind (arith,
 
 pub no-nat_lt : (m n : ℕ) → nat_lt m n ≡ false → m < n → ⊥
 no-nat_lt m n e l = grind (arith, nat_tests)
+
+-- the reversed word of a word with a letter behind, or before, it
+pub reverse-push : (w : List ℕ) (s : ℕ) → reverse (w ++ s ∷ []) ≡ s ∷ reverse w
+reverse-push w s = reverse-append w (s ∷ [])
+
+pub reverse-back : (w : List ℕ) (s : ℕ) → reverse (s ∷ reverse w) ≡ w ++ s ∷ []
+reverse-back w s = reverse-cons s (reverse w) ∙ ap (λ (u : List ℕ). u ++ s ∷ []) (reverse-reverse w)
 
 module _ (A : IntegerMatrix) (g : IsAdmissible A) where
   -- ---- it depends on the element alone

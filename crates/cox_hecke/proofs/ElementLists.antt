@@ -42,8 +42,8 @@ module _ (A : IntegerMatrix) (g : IsAdmissible A) where
   differ s x y true e f = not_same-is_same A g x y (λ same. false≢true (sym f ∙ sym (shortens_left-same A g s same) ∙ e))
   differ s x y false e f = not_same-is_same A g x y (λ same. false≢true (sym e ∙ shortens_left-same A g s same ∙ f))
 
-  moved : (s : ℕ) (x y : List ℕ) → is_same A x (s ∷ y) ≡ is_same A (s ∷ x) y
-  moved s x y = ⊎_elim
+  pub is_same-moved : (s : ℕ) (x y : List ℕ) → is_same A x (s ∷ y) ≡ is_same A (s ∷ x) y
+  is_same-moved s x y = ⊎_elim
       (λ (e : SameElement A x (s ∷ y)). same-is_same A g e
       ∙ sym (same-is_same A g (same-trans A g (same-cons A g s e) (same-square A g s y))))
       (λ (n : SameElement A x (s ∷ y) → ⊥). not_same-is_same A g x (s ∷ y) n
@@ -69,7 +69,7 @@ module _ (A : IntegerMatrix) (g : IsAdmissible A) where
           ≡ (if shortens_left A s x then occurrences A (s ∷ x) (y ∷ words) else occurrences A x (y ∷ words))
       go true true e f rest = rw (e, differ s (s ∷ x) y false (there x true f) e, f) (rw f at rest)
       go true false e f rest = rw (e, differ s x y false f e, f) (rw f at rest)
-      go false true e f rest = rw (e, differ s x y true f e, moved s x y, f)
+      go false true e f rest = rw (e, differ s x y true f e, is_same-moved s x y, f)
           (ap (λ (n : ℕ). if is_same A (s ∷ x) y then suc n else n) (rw f at rest))
       go false false e f rest =
           rw (e, differ s x (s ∷ y) false f (there y false e), f) (ap (λ (n : ℕ). if is_same A x y then suc n else n) (rw f at rest))

@@ -26,6 +26,7 @@ use Rattle.cox_hecke.proofs.Signed.{family_times_q, left-back, back-left}
 use Rattle.cox_hecke.proofs.RPolynomials.{unit, unit-one, unit-other}
 use Rattle.cox_hecke.proofs.WordOperators.{left_along, back_along, left_along-same, back_along-same}
 use Rattle.cox_hecke.proofs.SumLemmas.{same_or_not, same-is_same, not_same-is_same}
+use Rattle.cox_hecke.proofs.ElementLists.{is_same-moved}
 use Rattle.cox_hecke.proofs.Balance.{times_q-none}
 
 left_word-append : (A : IntegerMatrix) (u v : List ℕ) (h : Family) → left_word A (u ++ v) h ≡ left_word A u (left_word A v h)
@@ -99,14 +100,6 @@ module _ (A : IntegerMatrix) (g : IsAdmissible A) where
       other : (x : List ℕ) → shortens_left A s x ≡ true → is_same A u x ≡ false
       other x e = not_same-is_same A g u x (λ same. false≢true (sym rises ∙ shortens_left-same A g s same ∙ e))
 
-      moved : (x : List ℕ) → is_same A u (s ∷ x) ≡ is_same A (s ∷ u) x
-      moved x = ⊎_elim
-          (λ (e : SameElement A u (s ∷ x)). same-is_same A g e
-          ∙ sym (same-is_same A g (same-trans A g (same-cons A g s e) (same-square A g s x))))
-          (λ (n : SameElement A u (s ∷ x) → ⊥). not_same-is_same A g u (s ∷ x) n
-          ∙ sym (not_same-is_same A g (s ∷ u) x (λ e. n (same-trans A g (same-sym A g (same-square A g s u)) (same-cons A g s e)))))
-          (same_or_not A g u (s ∷ x))
-
       sum : (f : Coefficients) → plus f (times_q_less_one zero_polynomial) ≡ f
       sum f = λ i k. go k i
         where
@@ -115,10 +108,10 @@ module _ (A : IntegerMatrix) (g : IsAdmissible A) where
           go (suc k) = omega (arith, ints)
 
       at : (x : List ℕ) (b : Bool) → shortens_left A s x ≡ b → left A s (basis A u) x ≡ basis A (s ∷ u) x
-      at x true e = rw (e, other x e, moved x) (sum (basis A (s ∷ u) x))
+      at x true e = rw (e, other x e, is_same-moved A g s u x) (sum (basis A (s ∷ u) x))
       at x false e =
           let up : shortens_left A s (s ∷ x) ≡ true = shortens_left-back A g s x letter ∙ ap not e
-          in rw (e, sym (moved x), other (s ∷ x) up) times_q-none
+          in rw (e, sym (is_same-moved A g s u x), other (s ∷ x) up) times_q-none
 
   pub left_word-basis : (u : List ℕ) → IsReduced A u → left_word A u (basis A []) ≡ basis A u
   left_word-basis [] c = refl

@@ -29,7 +29,8 @@ use Rattle.cox_rpoly.proofs.AlongLemmas.{along-shorter, along-longer}
 use Rattle.cox_rpoly.proofs.PolynomialLemmas.{r_polynomial-is, r_polynomial-same}
 use Rattle.cox_hecke.specs.Family.{Family, RespectsElements}
 use Rattle.cox_hecke.specs.Operators.{shortens_left, shortens_right}
-use Rattle.cox_hecke.proofs.Descents.{nat_lt-yes, nat_lt-no, yes-nat_lt, no-nat_lt, shortens_left-back, empty_same, descent-reverse}
+use Rattle.cox_hecke.proofs.Descents.{reverse-push, nat_lt-yes, nat_lt-no, yes-nat_lt, no-nat_lt, shortens_left-back, empty_same}
+use Rattle.cox_hecke.proofs.Descents.{descent-reverse}
 use Rattle.cox_hecke.proofs.Descents.{reverse-descent}
 use Rattle.cox_hecke.proofs.Signed.{signed, left_back, right_back, at_inverses, at_inverses-by_left, first_alone, minus_signed}
 use Rattle.cox_hecke.proofs.Signed.{left_back-right_back}
@@ -232,11 +233,11 @@ module _ (A : IntegerMatrix) (g : IsAdmissible A) where
 
   r-push : (x w : List ℕ) (s t : ℕ) → r_polynomial A (s ∷ reverse x) (t ∷ reverse w) ≡ r_polynomial A (x ++ s ∷ []) (w ++ t ∷ [])
   r-push x w s t =
-      ap (λ (y : List ℕ). r_polynomial A y (t ∷ reverse w)) (sym (reverse-append x (s ∷ [])))
-      ∙ ap (r_polynomial A (reverse (x ++ s ∷ []))) (sym (reverse-append w (t ∷ []))) ∙ r-inverse (x ++ s ∷ []) (w ++ t ∷ [])
+      ap (λ (y : List ℕ). r_polynomial A y (t ∷ reverse w)) (sym (reverse-push x s))
+      ∙ ap (r_polynomial A (reverse (x ++ s ∷ []))) (sym (reverse-push w t)) ∙ r-inverse (x ++ s ∷ []) (w ++ t ∷ [])
 
   r-push_one : (x w : List ℕ) (s : ℕ) → r_polynomial A (s ∷ reverse x) (reverse w) ≡ r_polynomial A (x ++ s ∷ []) w
-  r-push_one x w s = ap (λ (y : List ℕ). r_polynomial A y (reverse w)) (sym (reverse-append x (s ∷ []))) ∙ r-inverse (x ++ s ∷ []) w
+  r-push_one x w s = ap (λ (y : List ℕ). r_polynomial A y (reverse w)) (sym (reverse-push x s)) ∙ r-inverse (x ++ s ∷ []) w
 
   pub r-right_shorter : (x w : List ℕ) (s : ℕ) → IsRightDescent A w s → IsRightDescent A x s
       → r_polynomial A x w ≡ r_polynomial A (x ++ s ∷ []) (w ++ s ∷ [])
@@ -257,4 +258,4 @@ module _ (A : IntegerMatrix) (g : IsAdmissible A) where
   r-right_moved x w s d n =
       sym (r-push_one x w s)
       ∙ r-left_moved (reverse x) (reverse w) s (descent-reverse A g w s d) (λ c. n (reverse-descent A g x s c))
-      ∙ ap (r_polynomial A (reverse x)) (sym (reverse-append w (s ∷ []))) ∙ r-inverse x (w ++ s ∷ [])
+      ∙ ap (r_polynomial A (reverse x)) (sym (reverse-push w s)) ∙ r-inverse x (w ++ s ∷ [])

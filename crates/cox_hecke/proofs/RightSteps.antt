@@ -20,7 +20,7 @@ use Rattle.cox_hecke.specs.Operators.{shortens_left, shortens_right}
 use Rattle.cox_hecke.specs.Sums.{occurrences}
 use Rattle.cox_hecke.specs.Row.{IsRow, IsMu}
 use Rattle.cox_hecke.specs.Step.{step, IsCorrection, Correction, corrected_elements, AreCorrections, correction_sum}
-use Rattle.cox_hecke.proofs.Descents.{shortens-reverse, descent-reverse, reverse-descent}
+use Rattle.cox_hecke.proofs.Descents.{reverse-push, reverse-back, shortens-reverse, descent-reverse, reverse-descent}
 use Rattle.cox_hecke.proofs.Signed.{at_inverses}
 use Rattle.cox_hecke.proofs.Inverses.{occurrences-reverse, row-reverse}
 use Rattle.cox_hecke.proofs.AllRows.{row_of, row_of-is, mu-value, mu-by_row}
@@ -40,12 +40,6 @@ module _ (A : IntegerMatrix) (g : IsAdmissible A) where
       mu-by_row A g (reverse x) (reverse w) m (at_inverses (row_of A g w)) (row-reverse A g w (row_of A g w) (row_of-is A g w))
       (mu-value A g x w m (row_of A g w) c (row_of-is A g w)
       ∙ rw (word_length-reverse A g w, word_length-reverse A g x, reverse-reverse x) refl)
-
-  reverse-push : (w : List ℕ) (s : ℕ) → reverse (w ++ s ∷ []) ≡ s ∷ reverse w
-  reverse-push w s = reverse-append w (s ∷ [])
-
-  reverse-back : (w : List ℕ) (s : ℕ) → reverse (s ∷ reverse w) ≡ w ++ s ∷ []
-  reverse-back w s = reverse-cons s (reverse w) ∙ ap (λ (u : List ℕ). u ++ s ∷ []) (reverse-reverse w)
 
   module _ (w : List ℕ) (s : ℕ) where
     right_to_left : (u : List ℕ) (m : ℤ) → IsCorrection Right A s (w ++ s ∷ []) u m → IsCorrection Left A s (s ∷ reverse w) (reverse u) m

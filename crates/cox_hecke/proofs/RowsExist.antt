@@ -30,7 +30,7 @@ use Rattle.cox_hecke.proofs.Descents.{nat_lt-yes, shortens_left-back, some_left_
 use Rattle.cox_hecke.proofs.RPolynomials.{unit, unit-one, unit-respects, unit-other}
 use Rattle.cox_hecke.proofs.SumLemmas.{same-is_same}
 use Rattle.cox_hecke.proofs.ElementLists.{below_list}
-use Rattle.cox_hecke.proofs.Balance.{Balanced}
+use Rattle.cox_hecke.proofs.Balance.{Balanced, flip-one}
 use Rattle.cox_hecke.proofs.RowLemmas.{bar_sum-none, row-from, row-same, one_above}
 use Rattle.cox_hecke.proofs.StepRow.{step_row}
 use Rattle.cox_hecke.proofs.StepIsRow.{step_row-is}
@@ -67,12 +67,8 @@ module _ (A : IntegerMatrix) (g : IsAdmissible A) where
                 rw (r_polynomial-equal A g (empty_same A g x here), unit-one A [] (omega (arith, word_length-length A g [])))
                 (λ i k. one-product one_polynomial k i)
 
-            flat : (k : ℕ) → flip 0 one_polynomial k ≡ one_polynomial k
-            flat zero = flip_at one_polynomial 0 0 0 (omega arith)
-            flat (suc k) = flip_above one_polynomial 0 (suc k) (omega arith)
-
             at : (k : ℕ) → flip 0 one_polynomial k ≡ bar_sum A ([] ∷ []) (unit A) x k
-            at k = omega (arith, ints, flat k, ap (λ (f : Coefficients). f k) one)
+            at k = omega (arith, ints, ap (λ (f : Coefficients). f k) flip-one, ap (λ (f : Coefficients). f k) one)
 
     row_of_identity : IsRow A w (unit A)
     row_of_identity =

@@ -12,7 +12,8 @@ use Rattle.cox_poly.specs.Coefficients.{Coefficients, plus, times_q, times_q_les
 use Rattle.cox_poly.specs.Products.{minus, negated}
 use Rattle.cox_hecke.specs.Family.{Family, RespectsElements}
 use Rattle.cox_hecke.specs.Operators.{shortens_left, shortens_right}
-use Rattle.cox_hecke.proofs.Descents.{shortens_left-same, shortens_right-same, shortens_left-back, shortens_right-back, shortens-reverse}
+use Rattle.cox_hecke.proofs.Descents.{reverse-push, shortens_left-same, shortens_right-same, shortens_left-back, shortens_right-back}
+use Rattle.cox_hecke.proofs.Descents.{shortens-reverse}
 use Rattle.cox_hecke.proofs.Descents.{SidesOf, apart, together, sides_of}
 
 -- (q - 1) f or (1 - q) f
@@ -260,4 +261,4 @@ module _ (A : IntegerMatrix) (g : IsAdmissible A) where
   at_inverses-by_left up down s h = λ i x. at x i
     where
       at : (x : List ℕ) → by_left A up down s h (reverse x) ≡ by_right A up down s (at_inverses h) x
-      at x = rw (shortens-reverse A g s x, reverse-append x (s ∷ [])) refl
+      at x = rw (shortens-reverse A g s x, reverse-push x s) refl

@@ -19,7 +19,7 @@ use Rattle.cox_rpoly.specs.RPolynomial.{r_along, r_polynomial}
 use Rattle.cox_rpoly.proofs.AlongLemmas.{along-identity, along-shorter, along-longer, along-long, along-degree, shortens}
 use Rattle.cox_rpoly.proofs.PolynomialLemmas.{r_polynomial-is}
 use Rattle.cox_hecke.specs.Sign.{times_sign}
-use Rattle.cox_hecke.proofs.Balance.{flip-none, flip-plus, flip-minus}
+use Rattle.cox_hecke.proofs.Balance.{flip-one, flip-none, flip-plus, flip-minus}
 
 times_sign-plus : (d : ℕ) (f h : Coefficients) (k : ℕ) → times_sign d (plus f h) k ≡ times_sign d f k +ℤ times_sign d h k
 times_sign-plus zero f h k = refl
@@ -41,10 +41,6 @@ times_sign-negated (suc d) f k = omega (arith, ints, times_sign-negated d f k)
 pub times_sign-none : (d : ℕ) (k : ℕ) → times_sign d zero_polynomial k ≡ pos 0
 times_sign-none zero k = refl
 times_sign-none (suc d) k = omega (arith, ints, times_sign-none d k)
-
-one_flat : (k : ℕ) → flip 0 one_polynomial k ≡ one_polynomial k
-one_flat zero = flip_at one_polynomial 0 0 0 (omega arith)
-one_flat (suc k) = flip_above one_polynomial 0 (suc k) (omega arith)
 
 at : {f h : Coefficients} → f ≡ h → (k : ℕ) → f k ≡ h k
 at e k = ap (λ (f : Coefficients). f k) e
@@ -73,7 +69,7 @@ turned-longer e f h low turned_f turned_h k =
 module _ (A : IntegerMatrix) (g : IsAdmissible A) where
   along-turned : (x v : List ℕ) (d : ℕ) → IsWord A.rank v → length v ≡ word_length A x + d
       → (k : ℕ) → flip d (r_along A x v) k ≡ times_sign d (r_along A x v) k
-  along-turned x [] zero c e k = rw (along-identity A x (omega (arith, e))) (one_flat k)
+  along-turned x [] zero c e k = rw (along-identity A x (omega (arith, e))) (at flip-one k)
   along-turned x [] (suc d) c e k = absurd (omega (arith, e))
   along-turned x (s ∷ v) d c e k = ⊎_elim
       (λ (down : IsLeftDescent A x s).
