@@ -8,9 +8,8 @@ use Rattle.std.specs.Prelude.{All, ◌==◌}
 use Rattle.std.proofs.lemmas.Int.{ints}
 use Rattle.std.proofs.lemmas.Bool.{cases_lt}
 use Rattle.std.proofs.lemmas.Bool.Decides.{nat_tests}
-use Rattle.std.proofs.lemmas.List.{reverse-reverse, reverse-append}
+use Rattle.std.proofs.lemmas.List.{reverse-reverse}
 use Rattle.std.proofs.lemmas.List.Elements.{All-head, All-tail, All-weaker}
-use mathlib.Core.List.{reverse-cons}
 use Rattle.cox_base.specs.declared.side.Side.TheVariants.{Left}
 use Rattle.cox_base.specs.IntegerMatrix.{IntegerMatrix}
 use Rattle.cox_base.specs.Admissible.{IsAdmissible}
@@ -203,5 +202,5 @@ module _ (A : IntegerMatrix) (g : IsAdmissible A) where
 
   pub mu-shift_right : (w : List ℕ) (s : ℕ) → IsRightDescent A w s → IsMu A (w ++ s ∷ []) w (pos 1)
   mu-shift_right w s d =
-      rw (reverse-back w s) at
+      rw (reverse-back w s, reverse-reverse w) at
       (mu-reverse A g (s ∷ reverse w) (reverse w) (pos 1) (mu-shift_left (reverse w) s (descent-reverse A g w s d)))

@@ -18,7 +18,6 @@ use Rattle.cox_reflect.proofs.Bruhat.{below-refl, below-length}
 use Rattle.cox_poly.specs.Coefficients.{Coefficients, zero_polynomial, one_polynomial}
 use Rattle.cox_poly.specs.Products.{flip, product}
 use Rattle.cox_poly.specs.Size.{HasDegreeAtMost}
-use Rattle.cox_poly.proofs.Coefficients.{flip_at, flip_above}
 use Rattle.cox_poly.proofs.Products.{one-product}
 use Rattle.cox_rpoly.specs.RPolynomial.{r_polynomial}
 use Rattle.cox_rpoly.proofs.PolynomialLemmas.{r_polynomial-equal}
