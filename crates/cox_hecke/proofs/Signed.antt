@@ -1,6 +1,7 @@
 -- The operators with a sign: `true` for those of the Hecke algebra, with q - 1; `false` for those with 1 - q in its place, of which the
 -- second is the recursion of R-polynomials. Left and right operators commute, and one of each kind undoes the other but for a factor q.
-use Rattle.std.proofs.Common.{◌≡◌, ℕ, zero, suc, Bool, true, false, not, if◌then◌else◌, List, [], ◌∷◌, ◌++◌, reverse, refl, sym, arith}
+use Rattle.std.proofs.Common.{◌≡◌, ℕ, zero, suc, Bool, true, false, not, if◌then◌else◌, List, [], ◌∷◌, ◌++◌, reverse}
+use Rattle.std.proofs.Common.{◌+ℤ◌, ◌-ℤ◌, refl, sym, arith}
 use Rattle.std.proofs.lemmas.Int.{ints}
 use Rattle.cox_base.specs.Matrix.{IsLetter}
 use Rattle.cox_base.specs.IntegerMatrix.{IntegerMatrix}
@@ -65,16 +66,33 @@ family_times_q h x = times_q (h x)
 abbrev pub at_inverses : Family → Family
 at_inverses h x = h (reverse x)
 
+-- ---- (q - 1) f and (1 - q) f are linear, and q passes
+
+signed-plus : (b : Bool) (f h : Coefficients) (k : ℕ) → signed b (plus f h) k ≡ signed b f k +ℤ signed b h k
+signed-plus true f h zero = omega (arith, ints)
+signed-plus true f h (suc k) = omega (arith, ints)
+signed-plus false f h zero = omega (arith, ints)
+signed-plus false f h (suc k) = omega (arith, ints)
+
+signed-minus : (b : Bool) (f h : Coefficients) (k : ℕ) → signed b (minus f h) k ≡ signed b f k -ℤ signed b h k
+signed-minus true f h zero = omega (arith, ints)
+signed-minus true f h (suc k) = omega (arith, ints)
+signed-minus false f h zero = omega (arith, ints)
+signed-minus false f h (suc k) = omega (arith, ints)
+
+signed-times_q : (b : Bool) (f : Coefficients) (k : ℕ) → signed b (times_q f) k ≡ times_q (signed b f) k
+signed-times_q true f zero = refl
+signed-times_q true f (suc k) = refl
+signed-times_q false f zero = refl
+signed-times_q false f (suc k) = refl
+
 -- ---- the values: a of h at x, c at sx
 
 left-back_core : (b p : Bool) (a c : Coefficients) (k : ℕ)
     → (if p then plus (if not p then a else minus (times_q a) (signed b c)) (signed b (if p then c else minus (times_q c) (signed b a)))
     else times_q (if not p then a else minus (times_q a) (signed b c))) k
     ≡ times_q a k
-left-back_core true true a c zero = omega (arith, ints)
-left-back_core true true a c (suc k) = omega (arith, ints)
-left-back_core false true a c zero = omega (arith, ints)
-left-back_core false true a c (suc k) = omega (arith, ints)
+left-back_core b true a c k = omega (arith, ints)
 left-back_core b false a c k = refl
 
 back-left_core : (b p : Bool) (a c : Coefficients) (k : ℕ)
@@ -82,12 +100,8 @@ back-left_core : (b p : Bool) (a c : Coefficients) (k : ℕ)
     else minus (times_q (if not p then plus a (signed b c) else times_q a)) (signed b (if p then plus c (signed b a) else times_q c))) k
     ≡ times_q a k
 back-left_core b true a c k = refl
-back-left_core true false a c zero = omega (arith, ints)
-back-left_core true false a c (suc zero) = omega (arith, ints)
-back-left_core true false a c (suc (suc k)) = omega (arith, ints)
-back-left_core false false a c zero = omega (arith, ints)
-back-left_core false false a c (suc zero) = omega (arith, ints)
-back-left_core false false a c (suc (suc k)) = omega (arith, ints)
+back-left_core b false a c zero = omega (arith, ints, signed-times_q b c zero)
+back-left_core b false a c (suc k) = omega (arith, ints, signed-times_q b c (suc k))
 
 -- The polynomials of h at x, sx, xt, sxt; p and r say whether s and t shorten x, and also xt and sx. Then the left operator commutes with
 -- the right one.
@@ -99,58 +113,49 @@ Commute shorter longer = (p r : Bool) (a c d e : Coefficients) (k : ℕ)
     else longer (if p then shorter e d else longer e d) (if p then shorter c a else longer c a)) k
 
 commute_core : (b : Bool) → Commute (plus_signed b) first_times_q
-commute_core true true true a c d e zero = omega (arith, ints)
-commute_core true true true a c d e (suc zero) = omega (arith, ints)
-commute_core true true true a c d e (suc (suc k)) = omega (arith, ints)
-commute_core false true true a c d e zero = omega (arith, ints)
-commute_core false true true a c d e (suc zero) = omega (arith, ints)
-commute_core false true true a c d e (suc (suc k)) = omega (arith, ints)
-commute_core true true false a c d e zero = omega (arith, ints)
-commute_core true true false a c d e (suc zero) = omega (arith, ints)
-commute_core true true false a c d e (suc (suc k)) = omega (arith, ints)
-commute_core false true false a c d e zero = omega (arith, ints)
-commute_core false true false a c d e (suc zero) = omega (arith, ints)
-commute_core false true false a c d e (suc (suc k)) = omega (arith, ints)
-commute_core true false true a c d e zero = omega (arith, ints)
-commute_core true false true a c d e (suc zero) = omega (arith, ints)
-commute_core true false true a c d e (suc (suc k)) = omega (arith, ints)
-commute_core false false true a c d e zero = omega (arith, ints)
-commute_core false false true a c d e (suc zero) = omega (arith, ints)
-commute_core false false true a c d e (suc (suc k)) = omega (arith, ints)
+commute_core b true true a c d e k = omega (arith, ints, signed-plus b d (signed b a) k, signed-plus b c (signed b a) k)
+commute_core b true false a c d e zero = omega (arith, ints, signed-times_q b d zero)
+commute_core b true false a c d e (suc k) = omega (arith, ints, signed-times_q b d (suc k))
+commute_core b false true a c d e zero = omega (arith, ints, signed-times_q b c zero)
+commute_core b false true a c d e (suc k) = omega (arith, ints, signed-times_q b c (suc k))
 commute_core b false false a c d e k = refl
 
 commute_back_core : (b : Bool) → Commute first_alone (minus_signed b)
 commute_back_core b true true a c d e k = refl
 commute_back_core b true false a c d e k = refl
 commute_back_core b false true a c d e k = refl
-commute_back_core true false false a c d e zero = omega (arith, ints)
-commute_back_core true false false a c d e (suc zero) = omega (arith, ints)
-commute_back_core true false false a c d e (suc (suc k)) = omega (arith, ints)
-commute_back_core false false false a c d e zero = omega (arith, ints)
-commute_back_core false false false a c d e (suc zero) = omega (arith, ints)
-commute_back_core false false false a c d e (suc (suc k)) = omega (arith, ints)
+commute_back_core b false false a c d e zero =
+    omega (
+      arith,
+      ints,
+      signed-minus b (times_q d) (signed b a) zero,
+      signed-minus b (times_q c) (signed b a) zero,
+      signed-times_q b d zero,
+      signed-times_q b c zero,
+    )
+commute_back_core b false false a c d e (suc k) =
+    omega (
+      arith,
+      ints,
+      signed-minus b (times_q d) (signed b a) (suc k),
+      signed-minus b (times_q c) (signed b a) (suc k),
+      signed-times_q b d (suc k),
+      signed-times_q b c (suc k),
+    )
 
 times_q_core : (b p : Bool) (a c : Coefficients) (k : ℕ)
     → (if p then plus (times_q c) (signed b (times_q a)) else times_q (times_q c)) k
     ≡ times_q (if p then plus c (signed b a) else times_q c) k
-times_q_core true true a c zero = omega (arith, ints)
-times_q_core true true a c (suc zero) = omega (arith, ints)
-times_q_core true true a c (suc (suc k)) = omega (arith, ints)
-times_q_core false true a c zero = omega (arith, ints)
-times_q_core false true a c (suc zero) = omega (arith, ints)
-times_q_core false true a c (suc (suc k)) = omega (arith, ints)
+times_q_core b true a c zero = omega (arith, ints, signed-times_q b a zero)
+times_q_core b true a c (suc k) = omega (arith, ints, signed-times_q b a (suc k))
 times_q_core b false a c k = refl
 
 times_q_back_core : (b p : Bool) (a c : Coefficients) (k : ℕ)
     → (if p then times_q c else minus (times_q (times_q c)) (signed b (times_q a))) k
     ≡ times_q (if p then c else minus (times_q c) (signed b a)) k
 times_q_back_core b true a c k = refl
-times_q_back_core true false a c zero = omega (arith, ints)
-times_q_back_core true false a c (suc zero) = omega (arith, ints)
-times_q_back_core true false a c (suc (suc k)) = omega (arith, ints)
-times_q_back_core false false a c zero = omega (arith, ints)
-times_q_back_core false false a c (suc zero) = omega (arith, ints)
-times_q_back_core false false a c (suc (suc k)) = omega (arith, ints)
+times_q_back_core b false a c zero = omega (arith, ints, signed-times_q b a zero)
+times_q_back_core b false a c (suc k) = omega (arith, ints, signed-times_q b a (suc k))
 
 -- ---- q passes
 
