@@ -18,7 +18,7 @@ use Rattle.cox_hecke.specs.Family.{Family, RespectsElements}
 use Rattle.cox_hecke.specs.Operators.{shortens_left}
 use Rattle.cox_hecke.specs.Sums.{occurrences, IsClosedUnder, bar_sum}
 use Rattle.cox_hecke.specs.Step.{step}
-use Rattle.cox_hecke.proofs.Descents.{yes-nat_lt, no-nat_lt, shortens_left-same, shortens_left-back}
+use Rattle.cox_hecke.proofs.Descents.{nat_lt-yes, nat_lt-no, yes-nat_lt, no-nat_lt, shortens_left-same, shortens_left-back}
 use Rattle.cox_hecke.proofs.Signed.{respected}
 use Rattle.cox_hecke.proofs.RPolynomials.{r-left_shorter, r-left_longer, r-left_moved}
 use Rattle.cox_hecke.proofs.SumLemmas.{sum_over-lists}
@@ -205,3 +205,12 @@ module _ (A : IntegerMatrix) (g : IsAdmissible A) where
           in_pairs x (step Left A s h) k (step-respects s h r) ∙ bar-paired_longer words x k e
           ∙ sym (ap (λ (f : Coefficients). times_q (plus f (bar_sum A words h (s ∷ x))) k) (λ i j. in_pairs x h j r i)
           ∙ ap (λ (f : Coefficients). times_q (plus (bar_sum A (paired A s words) h x) f) k) (λ i j. in_pairs (s ∷ x) h j r i))
+
+      -- the same by descents
+      pub bar-descent : (x : List ℕ) (k : ℕ) → IsLeftDescent A x s
+          → bar_sum A words (step Left A s h) x k ≡ plus (bar_sum A words h x) (bar_sum A words h (s ∷ x)) k
+      bar-descent x k d = bar-shorter x k (nat_lt-yes d)
+
+      pub bar-ascent : (x : List ℕ) (k : ℕ) → (IsLeftDescent A x s → ⊥)
+          → bar_sum A words (step Left A s h) x k ≡ times_q (plus (bar_sum A words h x) (bar_sum A words h (s ∷ x))) k
+      bar-ascent x k n = bar-longer x k (nat_lt-no (word_length A (s ∷ x)) (word_length A x) n)

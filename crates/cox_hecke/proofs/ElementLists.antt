@@ -173,3 +173,6 @@ module _ (A : IntegerMatrix) (g : IsAdmissible A) where
       go y (inl b) (inl c) = inl (count y ∙ rw (above-yes x y b) c.0, record { above = b; below = c.1 })
       go y (inl b) (inr c) = inr (count y ∙ rw (above-yes x y b) c.0, λ (i : LiesBetween A x w y). c.1 i.below)
       go y (inr n) c = inr (count y ∙ rw (above-no x y n) refl, λ (i : LiesBetween A x w y). n i.above)
+
+  pub between_listed : (x w : List ℕ) → (words : List (List ℕ)) × ListsEach A (LiesBetween A x w) words
+  between_listed x w = let list = between_list x w in (list.0, Tells-ListsEach A (LiesBetween A x w) list.0 list.1)

@@ -22,7 +22,7 @@ use Rattle.cox_hecke.specs.Step.{step}
 use Rattle.cox_hecke.proofs.Descents.{shortens_left-same, shortens_left-back, reduced-letter, reduced-rises, empty_same}
 use Rattle.cox_hecke.proofs.Signed.{at_inverses, at_inverses-respects, at_inverses-by_left, plus_signed, first_times_q, first_alone}
 use Rattle.cox_hecke.proofs.Signed.{minus_signed}
-use Rattle.cox_hecke.proofs.Signed.{family_times_q, left-back, back-left}
+use Rattle.cox_hecke.proofs.Signed.{family_times_q, left-back, back-left, by_left-respects, by_right-respects}
 use Rattle.cox_hecke.proofs.RPolynomials.{unit, unit-one, unit-other}
 use Rattle.cox_hecke.proofs.WordOperators.{left_along, back_along, left_along-same, back_along-same}
 use Rattle.cox_hecke.proofs.SumLemmas.{same_or_not, same-is_same, not_same-is_same}
@@ -55,6 +55,22 @@ step-sum A s h x k = go (shortens_left A s x) k
     go false (suc k) = omega (arith, ints)
 
 module _ (A : IntegerMatrix) (g : IsAdmissible A) where
+  -- ---- families that respect elements
+
+  pub left-respects : (s : ℕ) (h : Family) → RespectsElements A h → RespectsElements A (left A s h)
+  left-respects s h r = by_left-respects A g (plus_signed true) first_times_q s h r
+
+  pub right-respects : (s : ℕ) (h : Family) → RespectsElements A h → RespectsElements A (right A s h)
+  right-respects s h r = by_right-respects A g (plus_signed true) first_times_q s h r
+
+  pub left_inverse-respects : (s : ℕ) (h : Family) → RespectsElements A h → RespectsElements A (left_inverse A s h)
+  left_inverse-respects s h r = by_left-respects A g first_alone (minus_signed true) s h r
+
+  pub right_inverse-respects : (s : ℕ) (h : Family) → RespectsElements A h → RespectsElements A (right_inverse A s h)
+  right_inverse-respects s h r = by_right-respects A g first_alone (minus_signed true) s h r
+
+  -- ---- operators of words
+
   left_word-along : (u : List ℕ) (h : Family) → left_word A u h ≡ left_along A true (reverse u) h
   left_word-along u h = sym (left_along-word A (reverse u) h ∙ ap (λ (v : List ℕ). left_word A v h) (reverse-reverse u))
 

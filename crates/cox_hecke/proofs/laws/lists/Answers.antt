@@ -1,7 +1,6 @@
 -- The elements below w are listed by a descent, and those above x are picked out.
-use Rattle.cox_hecke.specs.Row.{LiesBetween}
-use Rattle.cox_hecke.proofs.ElementLists.{Tells-ListsEach, between_list}
+use Rattle.cox_hecke.proofs.ElementLists.{between_listed}
 use Rattle.cox_hecke.proofs.laws.lists.Goals as goal
 
 pub returns : goal.returns
-returns c = λ A g x w. let list = between_list A g x w in (list.0, Tells-ListsEach A (LiesBetween A x w) list.0 list.1)
+returns c = between_listed
