@@ -14,7 +14,7 @@ occurrences A x (y ∷ words) = if is_same A x y then suc (occurrences A x words
 -- the words name the elements that have the property P, each once, and no others
 pub record ListsEach (A : IntegerMatrix) (P : List ℕ → Type 0) (words : List (List ℕ)) : Type 0 where
   pub once : (x : List ℕ) → P x → occurrences A x words ≡ 1
-  pub no_other : (x : List ℕ) → (P x → ⊥) → occurrences A x words ≡ 0
+  pub no_other : (x : List ℕ) → ¬ P x → occurrences A x words ≡ 0
 
 -- no element is named twice, and with each x the words name s x
 pub record IsClosedUnder (A : IntegerMatrix) (s : ℕ) (words : List (List ℕ)) : Type 0 where
