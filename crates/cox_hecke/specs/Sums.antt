@@ -1,0 +1,32 @@
+-- Sums over finitely many elements, which are listed by words.
+use Rattle.std.specs.Prelude.{◌≡◌, ℕ, suc, ◌≤◌, if◌then◌else◌, List, [], ◌∷◌}
+use Rattle.cox_base.specs.IntegerMatrix.{IntegerMatrix}
+use Rattle.cox_poly.specs.Coefficients.{Coefficients, zero_polynomial, plus}
+use Rattle.cox_poly.specs.Products.{product}
+use Rattle.cox_rpoly.specs.RPolynomial.{r_polynomial}
+use Rattle.cox_hecke.specs.Family.{Family, is_same}
+
+-- how many of the words name the element of x
+abbrev pub occurrences : IntegerMatrix → List ℕ → List (List ℕ) → ℕ
+occurrences A x [] = 0
+occurrences A x (y ∷ words) = if is_same A x y then suc (occurrences A x words) else occurrences A x words
+
+-- the words name the elements that have the property P, each once, and no others
+pub record ListsEach (A : IntegerMatrix) (P : List ℕ → Type 0) (words : List (List ℕ)) : Type 0 where
+  pub once : (x : List ℕ) → P x → occurrences A x words ≡ 1
+  pub no_other : (x : List ℕ) → ¬ P x → occurrences A x words ≡ 0
+
+-- no element is named twice, and with each x the words name s x
+pub record IsClosedUnder (A : IntegerMatrix) (s : ℕ) (words : List (List ℕ)) : Type 0 where
+  pub once : (x : List ℕ) → occurrences A x words ≤ 1
+  pub closed : (x : List ℕ) → occurrences A (s ∷ x) words ≡ occurrences A x words
+
+-- the sum of f(y) over the words y
+abbrev pub sum_over : List (List ℕ) → Family → Coefficients
+sum_over [] f = zero_polynomial
+sum_over (y ∷ words) f = plus (f y) (sum_over words f)
+
+-- The sum of R(x,y) h(y). Bar sends q to 1/q and T(y) to T(y^-1)^-1, which is the sum over x of (-1)^(l(y)-l(x)) q^-l(y) R(x,y) T(x)
+-- (Humphreys 7.4). So these sums are, up to signs and powers of q, the coefficients of the T(x) in bar of a combination of the T(y).
+abbrev pub bar_sum : IntegerMatrix → List (List ℕ) → Family → Family
+bar_sum A words h x = sum_over words (λ y. product (r_polynomial A x y) (h y))
