@@ -195,7 +195,9 @@ fn refuses_what_is_too_large(rt: HostRuntime) -> Result<(), Fail> {
         fault(Context::of_interval(rt.alloc(), &a_2, &top, 3))
             == Some(ContextFault::Size { limit: 3, seen: 4 })
     );
-    assert!(rt; fault(Context::of_group(rt.alloc(), &infinite, MAX_MEMBERS)) == Some(ContextFault::Long));
+    assert!(rt;
+        fault(Context::of_group(rt.alloc(), &infinite, MAX_MEMBERS)) == Some(ContextFault::Long)
+    );
     assert!(rt; fault(Context::of_group(rt.alloc(), &infinite, 511)) == Some(ContextFault::Long));
     assert!(rt;
         fault(Context::of_group(rt.alloc(), &infinite, 510))
