@@ -1,8 +1,7 @@
 -- Which child s x of a member x is the next member, for a list of members as it grows.
-use Rattle.std.proofs.Common.{◌≡◌, ℕ, ◌+◌, ◌≤◌, ◌<◌, List, [], ◌∷◌, ◌++◌, length, Contains, Option, None, Some, ◌⊎◌, inl, inr, refl, ap, sym, ◌∙◌}
+use Rattle.std.proofs.Common.{◌≡◌, ℕ, ◌+◌, ◌≤◌, ◌<◌, List, [], ◌∷◌, length, Contains, Option, None, Some, inl, refl, ap, sym, ◌∙◌}
 use Rattle.std.proofs.Common.{⊎_elim, arith, subst, false, is_some}
 use Rattle.std.proofs.lemmas.Bool.{cases_lt, cases_order}
-use Rattle.std.proofs.lemmas.List.Elements.{All-head}
 use Rattle.arrayvec.specs.ArrayVec.{ArrayVec}
 use Rattle.cox_base.specs.Matrix.{CoxeterMatrix, IsLetter}
 use Rattle.cox_base.specs.Admissible.{IsCoxeterMatrix, IsAdmissible}
@@ -14,7 +13,7 @@ use Rattle.cox_base.specs.Reduced.{IsLeftDescent}
 use Rattle.cox_base.specs.Bruhat.{IsBelow}
 use Rattle.cox_base.specs.declared.limits.TheConstants.{MAX_LETTERS}
 use Rattle.cox_reflect.proofs.Admissible.{IsAdmissible-integer_matrix}
-use Rattle.cox_reflect.proofs.Elements.{same-refl, same-sym, same-trans, same-cons, same-square, same-equal}
+use Rattle.cox_reflect.proofs.Elements.{same-refl, same-sym, same-trans, same-cons, same-square}
 use Rattle.cox_reflect.proofs.Search.{normal_form-same, normal_form-equal, word_length-equal}
 use Rattle.cox_reflect.proofs.Lengths.{word_length-is}
 use Rattle.cox_reflect.proofs.Bruhat.{below-same, below-length, below-equal_length}
@@ -23,10 +22,10 @@ use Rattle.cox_context.specs.Members.{IsElement}
 use Rattle.cox_context.specs.Closed.{IsClosed}
 use Rattle.cox_context.specs.Numbers.{word_at, IsNumberOf}
 use Rattle.cox_context.specs.Family.{IsMember, IsBelowTop}
-use Rattle.cox_context.specs.Growth.{IsGrowing, IsEarlier, IsChild, IsOutside, IsNext, IsNoNext, known, above, outside, AreBelowTop}
+use Rattle.cox_context.specs.Growth.{IsGrowing, IsChild, IsOutside, IsNext, IsNoNext, known, above, outside, AreBelowTop}
 use Rattle.cox_context.proofs.ListLemmas.{contains-placed, placed-contains, rising-place}
-use Rattle.cox_context.proofs.Ideals.{IsIdeal, ideal-member, ideal-tailed, element-normal_form, element-length, element-tail}
-use Rattle.cox_context.proofs.GrowthLemmas.{IsTailed, growing-length}
+use Rattle.cox_context.proofs.Ideals.{IsIdeal, ideal-member, ideal-tailed, element-normal_form, element-length}
+use Rattle.cox_context.proofs.GrowthLemmas.{growing-length}
 use Rattle.cox_context.proofs.NormalLemmas.{first-least}
 use Rattle.cox_context.proofs.LowerLemmas.{IsAscent, ascent}
 
@@ -107,8 +106,12 @@ module _ (A : IntegerMatrix) (g : IsAdmissible A) (P : List ℕ → Type 0) (ide
         twice : (m : ℕ) → (c : IsChild words low s j m) × (c.i < high) → word_at words m ≡ s ∷ word_at words j → ⊥
         twice m (c, below) is =
             ⊎_elim (λ (less : c.t < s). omega (arith, less, letter_same e))
-            (λ same. omega (arith, same.1, rising-place words c.i j h.rising (omega (arith, below, h.end)) (omega (arith, inside, h.end))
-            (rest_same e))) c.earlier
+            (λ same. omega (
+              arith,
+              same.1,
+              rising-place words c.i j h.rising (omega (arith, below, h.end)) (omega (arith, inside, h.end))
+                  (rest_same e),
+            )) c.earlier
           where
             e : c.t ∷ word_at words c.i ≡ s ∷ word_at words j
             e = sym c.is ∙ is

@@ -15,9 +15,9 @@ use Rattle.cox_reflect.proofs.Elements.{same-cons, same-refl}
 use Rattle.cox_reflect.proofs.Search.{normal_form-same, normal_form-equal, word_length-length, length-normal_form, IsWord-normal_form}
 use Rattle.cox_reflect.proofs.Lengths.{word_length-is}
 use Rattle.cox_reflect.proofs.ShortLexFirst.{IsBefore-cons, normal_form-comes_first, none-before_normal_form}
-use Rattle.cox_reflect.proofs.Bruhat.{below-trans, below-ascent, below-cons, below-least}
+use Rattle.cox_reflect.proofs.Bruhat.{below-trans, below-ascent, below-least}
 use Rattle.cox_context.specs.Members.{IsElement}
-use Rattle.cox_context.specs.Family.{IsMember, top_descents}
+use Rattle.cox_context.specs.Family.{IsMember}
 use Rattle.cox_context.proofs.GrowthLemmas.{IsTailed}
 
 -- a property of elements that goes over to each element below

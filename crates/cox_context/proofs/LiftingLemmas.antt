@@ -8,7 +8,6 @@ use Rattle.arrayvec.specs.ArrayVec.{ArrayVec}
 use Rattle.cox_base.specs.Matrix.{IsWord}
 use Rattle.cox_base.specs.IntegerMatrix.{IntegerMatrix}
 use Rattle.cox_base.specs.Admissible.{IsAdmissible}
-use Rattle.cox_base.specs.ShortLex.{normal_form}
 use Rattle.cox_base.specs.Length.{left_descents}
 use Rattle.cox_base.specs.Reduced.{IsReduced, IsLeftDescent}
 use Rattle.cox_base.specs.Bruhat.{IsBelow}

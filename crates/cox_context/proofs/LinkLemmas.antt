@@ -80,8 +80,11 @@ links-push links link h room inside letters = record {
   inward = λ i l k. ⊎_elim (λ (below : i < length links). rw (old i below) (h.inward i l below))
       (λ (above : length links ≤ i). let e : i ≡ length links = omega (arith, above, k, size) in rw (e, new) inside) (cases_lt i (length links));
   letters = λ i k. rw (words-push links link h.some) (⊎_elim
-      (λ (below : i < length links). rw (old i below, word_at-old words (link.first ∷ word_at words link.rest) i
-      (omega (arith, below, words-size links))) (h.letters i below))
+      (λ (below : i < length links). rw (
+        old i below,
+        word_at-old words (link.first ∷ word_at words link.rest) i
+            (omega (arith, below, words-size links)),
+      ) (h.letters i below))
       (λ (above : length links ≤ i). last i (omega (arith, above, k, size))) (cases_lt i (length links)));
 }
   where

@@ -1,5 +1,5 @@
 -- Walks from a member x by two letters t and s in turn, where s x is no member: down while the letters shorten, and up on the other side.
-use Rattle.std.proofs.Common.{◌≡◌, ℕ, zero, suc, ◌+◌, ◌≤◌, ◌<◌, Bool, true, false, not, cond, List, [], ◌∷◌, ◌++◌, length, Contains, Some, refl, ap}
+use Rattle.std.proofs.Common.{◌≡◌, ℕ, suc, ◌+◌, ◌≤◌, ◌<◌, Bool, true, false, not, cond, List, ◌∷◌, ◌++◌, length, Contains, Some, refl, ap}
 use Rattle.std.proofs.Common.{sym, ◌∙◌, ⊎_elim, arith}
 use Rattle.cox_base.specs.Matrix.{CoxeterMatrix, IsLetter, label}
 use Rattle.cox_base.specs.IntegerMatrix.{IntegerMatrix, integer_matrix}
@@ -14,7 +14,7 @@ use Rattle.cox_reflect.proofs.Elements.{same-refl, same-sym, same-trans, same-co
 use Rattle.cox_reflect.proofs.Search.{normal_form-same, normal_form-equal, word_length-equal}
 use Rattle.cox_reflect.proofs.Lengths.{word_length-is, word_length-cons, cons-word_length}
 use Rattle.cox_reflect.proofs.Deletion.{left_length}
-use Rattle.cox_reflect.proofs.Bruhat.{below-same, below-refl, below-ascent}
+use Rattle.cox_reflect.proofs.Bruhat.{below-same, below-ascent}
 use Rattle.cox_reflect.proofs.OrderLemmas.{first-descent}
 use Rattle.cox_reflect.proofs.RankTwo.{is_even, alternating, alternating-zero, alternating-suc}
 use Rattle.cox_context.specs.Closed.{IsClosed}

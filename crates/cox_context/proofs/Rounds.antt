@@ -1,9 +1,9 @@
 -- Two letters t and s in turn before an element x that s lengthens. Where t shortens s x as well, the first m - 1 steps by t, s, t, .. all
 -- shorten, and after m - 1 steps more the walk has come to t s x.
-use Rattle.std.proofs.Common.{◌≡◌, ℕ, zero, suc, ◌+◌, ◌-◌, ◌≤◌, ◌<◌, Bool, true, false, not, List, [], ◌∷◌, ◌++◌, length, reverse, cond}
-use Rattle.std.proofs.Common.{refl, ap, sym, ◌∙◌, arith, length-append}
+use Rattle.std.proofs.Common.{◌≡◌, ℕ, zero, suc, ◌+◌, ◌-◌, ◌≤◌, ◌<◌, Bool, true, false, List, [], ◌∷◌, ◌++◌, length, reverse, cond}
+use Rattle.std.proofs.Common.{refl, ap, arith, length-append}
 use Rattle.std.proofs.lemmas.List.{append_assoc, reverse-append, append-nil, length-reverse}
-use mathlib.Core.List.{reverse-cons, reverse-reverse}
+use mathlib.Core.List.{reverse-cons}
 use Rattle.cox_base.specs.Matrix.{CoxeterMatrix, IsLetter, label}
 use Rattle.cox_base.specs.Admissible.{IsCoxeterMatrix, IsAdmissible, HasOrder}
 use Rattle.cox_base.specs.IntegerMatrix.{IntegerMatrix, integer_matrix}
@@ -14,13 +14,13 @@ use Rattle.cox_base.specs.Bruhat.{IsBelow}
 use Rattle.cox_reflect.proofs.Admissible.{IsAdmissible-integer_matrix, order_label}
 use Rattle.cox_reflect.proofs.Elements.{same-refl, same-sym, same-trans, same-equal, same-append, same-cons, same-drop_back, same-inverse}
 use Rattle.cox_reflect.proofs.Elements.{same-square}
-use Rattle.cox_reflect.proofs.Search.{word_length-equal, word_length-least, word_length-length}
+use Rattle.cox_reflect.proofs.Search.{word_length-equal, word_length-least}
 use Rattle.cox_reflect.proofs.Lengths.{IsReduced-reverse, word_length-cons, word_length-reverse}
 use Rattle.cox_reflect.proofs.Bruhat.{below-cons}
 use Rattle.cox_reflect.proofs.RankTwo.{is_even, alternating, alternating-zero, alternating-suc, length-alternating, alternating-last}
 use Rattle.cox_reflect.proofs.RankTwo.{alternating-ends, TwoLetters, spread, braids, two_letters, pair_of}
 use Rattle.cox_reflect.proofs.Positivity.{Split, split, positive, spread_nonnegative, BraidEnd, braid_end}
-use Rattle.cox_reflect.proofs.Roots.{no_descent, left_descent-letter, left_descent_reverse}
+use Rattle.cox_reflect.proofs.Roots.{no_descent, left_descent_reverse}
 use Rattle.cox_reflect.proofs.TwoDescents.{zigzag, zigzag-order}
 
 -- 2 k

@@ -1,5 +1,5 @@
 -- The shorter elements of a new member, letter by letter, and the row that they make.
-use Rattle.std.proofs.Common.{◌≡◌, ℕ, zero, suc, ◌+◌, ◌-◌, ◌*◌, ◌≤◌, ◌<◌, List, [], ◌∷◌, ◌++◌, length, set, Contains, Option, None, Some, ◌⊎◌, inl, inr}
+use Rattle.std.proofs.Common.{◌≡◌, ℕ, ◌+◌, ◌-◌, ◌*◌, ◌≤◌, ◌<◌, List, [], ◌∷◌, ◌++◌, length, set, Contains, Option, None, Some}
 use Rattle.std.proofs.Common.{refl, ap, sym, ◌∙◌, ⊎_elim, arith, get_or, length-append}
 use Rattle.std.proofs.lemmas.Bool.{cases_lt, cases_eq}
 use Rattle.std.proofs.lemmas.List.{length-set, length-replicate, get_or-replicate}
@@ -10,7 +10,6 @@ use Rattle.cox_base.specs.Admissible.{IsAdmissible}
 use Rattle.cox_base.specs.ShortLex.{normal_form}
 use Rattle.cox_base.specs.Reduced.{IsLeftDescent}
 use Rattle.cox_context.specs.declared.shifts.TheConstants.{NO_MEMBER}
-use Rattle.cox_context.specs.declared.members.TheConstants.{MAX_MEMBERS}
 use Rattle.cox_context.specs.Closed.{IsClosed}
 use Rattle.cox_context.specs.Numbers.{word_at, IsNumberOf}
 use Rattle.cox_context.specs.Shifts.{entry, number_of, AreLeftShifts, IsLower}
@@ -25,7 +24,7 @@ use Rattle.cox_reflect.proofs.Elements.{same-sym, same-trans, same-equal, same-c
 use Rattle.cox_reflect.proofs.Search.{normal_form-same, normal_form-equal, word_length-length}
 use Rattle.cox_reflect.proofs.Lengths.{word_length-is}
 use Rattle.cox_reflect.proofs.Deletion.{left_length}
-use Rattle.cox_context.proofs.Places.{place-within, place-one, entry-is, entry-set_same, entry-set_other, entry-old, entry-new, number_of-some}
+use Rattle.cox_context.proofs.Places.{place-within, entry-is, entry-set_same, entry-set_other, entry-old, entry-new, number_of-some}
 use Rattle.cox_context.proofs.Places.{number_of-none}
 
 -- the entries of the letters before t, the later ones being empty

@@ -1,6 +1,6 @@
 -- Sets of letters by bits.
-use Rattle.std.proofs.Common.{◌≡◌, ℕ, ◌+◌, ◌-◌, ◌≤◌, ◌<◌, ◌^◌, ◌*◌, ◌%◌, ◌⊎◌, Bool, true, false, List, [], ◌∷◌, ◌++◌, length, filter, refl, sym, ◌∙◌, ap, arith}
-use Rattle.std.proofs.Common.{if◌then◌else◌, ◌↔◌, bit_and, bit_or, IsBitSet, ⊎_elim, inl, inr, ◌/◌, get_or, length-append}
+use Rattle.std.proofs.Common.{◌≡◌, ℕ, ◌+◌, ◌-◌, ◌≤◌, ◌<◌, ◌^◌, ◌*◌, ◌%◌, ◌⊎◌, true, false, List, [], ◌∷◌, ◌++◌, length, filter, refl, sym, ◌∙◌, arith}
+use Rattle.std.proofs.Common.{◌↔◌, bit_and, bit_or, IsBitSet, ⊎_elim, inl, inr, ◌/◌, get_or, length-append}
 use Rattle.std.specs.List.{range_with_len}
 use Rattle.std.proofs.lemmas.Bool.{cases_lt, cases_eq, eqb-true, eq-eqb, ne_eqb}
 use Rattle.std.proofs.lemmas.Nat.{and_or_self, and_or_apart, pow_apart, bit_set_by_shift}

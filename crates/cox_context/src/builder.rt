@@ -221,12 +221,7 @@ impl Builder {
 }
 
 /// Appends the row of the member y with this number: its shifts by the letters that shorten it, which are noted at both members.
-fn push_row(
-    table: &mut Vec<u32>,
-    rank: u32,
-    number: u32,
-    lower: &[u32],
-) -> Result<(), AllocError>
+fn push_row(table: &mut Vec<u32>, rank: u32, number: u32, lower: &[u32]) -> Result<(), AllocError>
     requires limit { rank ≤ MAX_RANK }
     requires few { number ≤ MAX_MEMBERS }
     requires size { length table.old.items ≡ number * rank }

@@ -85,13 +85,7 @@ fn right_shift(
 }
 
 /// The right shift of a member whose entries are there.
-fn known_right_shift(
-    g: &Coxeter,
-    members: &Members,
-    right: &[u32],
-    s: u8,
-    i: u32,
-) -> Option<u32>
+fn known_right_shift(g: &Coxeter, members: &Members, right: &[u32], s: u8, i: u32) -> Option<u32>
     requires right { AreRightShifts (integer_matrix g.now) members.now right.now }
     requires member { i < length members.now }
     requires letter { IsLetter g.now.rank s }

@@ -41,13 +41,7 @@ pub(crate) fn entry(table: &[u32], rank: u32, s: u8, i: u32) -> Option<u32>
 }
 
 /// The number of s x for the member x with the number i, where it is a member.
-pub(crate) fn left_shift(
-    g: &Coxeter,
-    members: &Members,
-    left: &[u32],
-    s: u8,
-    i: u32,
-) -> Option<u32>
+pub(crate) fn left_shift(g: &Coxeter, members: &Members, left: &[u32], s: u8, i: u32) -> Option<u32>
     requires left { AreLeftShifts (integer_matrix g.now) members.now left.now }
     requires letter { IsLetter g.now.rank s }
     requires member { i < length members.now }

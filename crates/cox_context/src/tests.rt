@@ -1,9 +1,11 @@
-//! Elements of finite groups by length against published degrees, small intervals, shifts in A 2, and refusals.
-ghost use Rattle.std.specs.Prelude.{◌≤◌, length, IfOk};
+//! Elements of finite groups by length against published degrees, small intervals, shifts in A 2, long words, and refusals.
+ghost use Rattle.std.specs.Prelude.{◌≡◌, IfOk};
 ghost use Rattle.cox_base.specs.Matrix.{IsWord};
 
-use crate::{Context, ContextFault};
-use cox_base::{Coxeter, Word, read_word};
+use crate::{Context, ContextFault, MAX_MEMBERS};
+use cox_base::{Coxeter, MAX_LETTERS, Word, read_word};
+use cox_minroots::{MAX_SMALL_ROOTS, RootTable};
+use std::alloc::Global;
 use std::process::Abort;
 use std::test::Fail;
 
@@ -31,15 +33,19 @@ fn lengths(rt: &impl Abort, context: &Context) -> [u32; 64] {
     counts
 }
 
-/// The word that a text names.
-fn word(rt: &impl Abort, g: &Coxeter, text: &[u8]) -> Result<Word, Fail>
-    ensures letters { IfOk result (λ w. IsWord g.now.rank w.items) }
-    ensures short { IfOk result (λ w. length w.items ≤ 63) }
+/// The table of small roots of a group.
+fn table(alloc: Global, g: &Coxeter) -> Result<RootTable, Fail>
+    ensures { IfOk result (λ t. t ≡ g.now) }
 {
-    assert!(rt; text.len() <= 63);
-    let word = read_word(text, g.rank())?;
-    assert!(rt; word.len() <= 63);
-    Ok(word)
+    Ok(RootTable::build(alloc, g, MAX_SMALL_ROOTS)?)
+}
+
+/// The word that a text names.
+fn word(rt: &impl Abort, g: &RootTable, text: &[u8]) -> Result<Word, Fail>
+    ensures { IfOk result (λ w. IsWord g.now.rank w.items) }
+{
+    assert!(rt; text.len() <= MAX_LETTERS);
+    Ok(read_word(text, g.group().rank())?)
 }
 
 #[test]
@@ -53,8 +59,8 @@ fn has_the_published_elements_of_finite_groups(rt: HostRuntime) -> Result<(), Fa
         (b'E', 6, 51840, &[2, 5, 6, 8, 9, 12]),
     ];
     for (letter, n, order, degrees) in cases {
-        let g = Coxeter::named(letter, n)?;
-        assert!(rt; 1 <= order && order <= 65536);
+        let g = table(rt.alloc(), &Coxeter::named(letter, n)?)?;
+        assert!(rt; 1 <= order && order <= MAX_MEMBERS);
         let context = Context::of_group(rt.alloc(), &g, order)?;
         assert_eq!(rt; context.len(), order, "{letter} {n}");
         assert!(rt; lengths(&rt, &context) == poincare(degrees), "{letter} {n}");
@@ -64,7 +70,7 @@ fn has_the_published_elements_of_finite_groups(rt: HostRuntime) -> Result<(), Fa
 
 #[test]
 fn lists_an_interval_in_shortlex_order(rt: HostRuntime) -> Result<(), Fail> {
-    let g = Coxeter::named(b'A', 3)?;
+    let g = table(rt.alloc(), &Coxeter::named(b'A', 3)?)?;
     let all: [&[u8]; 24] = [
         b"e", b"1", b"2", b"3", b"12", b"13", b"21", b"23", b"32", b"121", b"123", b"132", b"213",
         b"232", b"321", b"1213", b"1232", b"1321", b"2132", b"2321", b"12132", b"12321", b"21321",
@@ -83,9 +89,9 @@ fn lists_an_interval_in_shortlex_order(rt: HostRuntime) -> Result<(), Fail> {
 
 #[test]
 fn counts_small_intervals(rt: HostRuntime) -> Result<(), Fail> {
-    let g = Coxeter::named(b'A', 3)?;
+    let g = table(rt.alloc(), &Coxeter::named(b'A', 3)?)?;
     let top = word(&rt, &g, b"2132")?;
-    let context = Context::of_interval(rt.alloc(), &g, &top, 65536)?;
+    let context = Context::of_interval(rt.alloc(), &g, &top, MAX_MEMBERS)?;
     assert_eq!(rt; context.len(), 14);
     let low = context.number(&word(&rt, &g, b"2")?).ok_or("no member")?;
     assert!(rt; low < context.len());
@@ -100,7 +106,7 @@ fn counts_small_intervals(rt: HostRuntime) -> Result<(), Fail> {
 
 #[test]
 fn has_four_coatoms_in_a_4(rt: HostRuntime) -> Result<(), Fail> {
-    let g = Coxeter::named(b'A', 4)?;
+    let g = table(rt.alloc(), &Coxeter::named(b'A', 4)?)?;
     let context = Context::of_group(rt.alloc(), &g, 120)?;
     assert_eq!(rt; lengths(&rt, &context)[9], 4);
     assert!(rt; 119 < context.len());
@@ -116,7 +122,9 @@ fn shifts_in_a_2(rt: HostRuntime) -> Result<(), Fail> {
     let right = [[1, 2], [0, 3], [4, 0], [5, 1], [2, 5], [3, 4]];
     let left_descents: [&[u8]; 6] = [&[], &[1], &[2], &[1], &[2], &[1, 2]];
     let right_descents: [&[u8]; 6] = [&[], &[1], &[2], &[2], &[1], &[1, 2]];
-    let g = Coxeter::named(b'A', 2)?;
+    let left_sets = [0, 1, 2, 1, 2, 3];
+    let right_sets = [0, 1, 2, 2, 1, 3];
+    let g = table(rt.alloc(), &Coxeter::named(b'A', 2)?)?;
     let context = Context::of_group(rt.alloc(), &g, 6)?;
     assert_eq!(rt; context.matrix().rank(), 2);
     assert_eq!(rt; context.len(), 6);
@@ -128,6 +136,8 @@ fn shifts_in_a_2(rt: HostRuntime) -> Result<(), Fail> {
                 Some(right[i as usize][s as usize - 1])
             );
         }
+        assert_eq!(rt; context.left_descent_set(i), left_sets[i as usize]);
+        assert_eq!(rt; context.right_descent_set(i), right_sets[i as usize]);
         assert!(rt; context.left_descents(i).as_slice() == left_descents[i as usize]);
         assert!(rt; context.right_descents(i).as_slice() == right_descents[i as usize]);
     }
@@ -138,7 +148,7 @@ fn shifts_in_a_2(rt: HostRuntime) -> Result<(), Fail> {
 #[test]
 fn has_no_shift_out_of_an_interval(rt: HostRuntime) -> Result<(), Fail> {
     // e, 1, 2, 12
-    let g = Coxeter::named(b'A', 2)?;
+    let g = table(rt.alloc(), &Coxeter::named(b'A', 2)?)?;
     let top = word(&rt, &g, b"12")?;
     let context = Context::of_interval(rt.alloc(), &g, &top, 4)?;
     assert_eq!(rt; context.len(), 4);
@@ -152,10 +162,27 @@ fn has_no_shift_out_of_an_interval(rt: HostRuntime) -> Result<(), Fail> {
 }
 
 #[test]
+fn has_words_of_255_letters(rt: HostRuntime) -> Result<(), Fail> {
+    let g = table(rt.alloc(), &Coxeter::of_labels(3, &[0, 0, 0])?)?;
+    let mut text = [b'1'; MAX_LETTERS];
+    for k in 0..MAX_LETTERS / 2 {
+        text[2 * k + 1] = b'2';
+    }
+    let top = word(&rt, &g, &text)?;
+    let context = Context::of_interval(rt.alloc(), &g, &top, MAX_MEMBERS)?;
+    assert_eq!(rt; context.len(), 510);
+    assert_eq!(rt; context.length(509), 255);
+    assert!(rt; context.word(509).as_slice() == top.as_slice());
+    assert_eq!(rt; context.number(&top), Some(509));
+    assert!(rt; context.below(1, 509) && !context.below(507, 508));
+    Ok(())
+}
+
+#[test]
 fn refuses_what_is_too_large(rt: HostRuntime) -> Result<(), Fail> {
-    let a_3 = Coxeter::named(b'A', 3)?;
-    let a_2 = Coxeter::named(b'A', 2)?;
-    let infinite = Coxeter::of_labels(2, &[0])?;
+    let a_3 = table(rt.alloc(), &Coxeter::named(b'A', 3)?)?;
+    let a_2 = table(rt.alloc(), &Coxeter::named(b'A', 2)?)?;
+    let infinite = table(rt.alloc(), &Coxeter::of_labels(2, &[0])?)?;
     assert!(rt;
         fault(Context::of_group(rt.alloc(), &a_3, 23))
             == Some(ContextFault::Size {
@@ -168,13 +195,15 @@ fn refuses_what_is_too_large(rt: HostRuntime) -> Result<(), Fail> {
         fault(Context::of_interval(rt.alloc(), &a_2, &top, 3))
             == Some(ContextFault::Size { limit: 3, seen: 4 })
     );
-    assert!(rt; fault(Context::of_group(rt.alloc(), &infinite, 65536)) == Some(ContextFault::Long));
-    assert!(rt; fault(Context::of_group(rt.alloc(), &infinite, 127)) == Some(ContextFault::Long));
     assert!(rt;
-        fault(Context::of_group(rt.alloc(), &infinite, 126))
+        fault(Context::of_group(rt.alloc(), &infinite, MAX_MEMBERS)) == Some(ContextFault::Long)
+    );
+    assert!(rt; fault(Context::of_group(rt.alloc(), &infinite, 511)) == Some(ContextFault::Long));
+    assert!(rt;
+        fault(Context::of_group(rt.alloc(), &infinite, 510))
             == Some(ContextFault::Size {
-                limit: 126,
-                seen: 127
+                limit: 510,
+                seen: 511
             })
     );
     Ok(())

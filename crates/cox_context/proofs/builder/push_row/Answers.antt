@@ -1,5 +1,5 @@
 -- One letter more, and its entry at the shorter member.
-use Rattle.std.proofs.Common.{◌≡◌, ◌+◌, ◌<◌, refl, sym, ◌∙◌, arith}
+use Rattle.std.proofs.Common.{◌+◌, ◌<◌, refl, sym, ◌∙◌, arith}
 use Rattle.cox_base.specs.Matrix.{IsLetter}
 use Rattle.cox_context.specs.declared.shifts.TheConstants.{NO_MEMBER}
 use Rattle.cox_context.proofs.RowLemmas.{row-start, row-push, row-link, row-entry}

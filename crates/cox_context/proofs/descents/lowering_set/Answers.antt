@@ -1,5 +1,5 @@
 -- A bit is set exactly where the shift goes to a member before.
-use Rattle.std.proofs.Common.{◌≡◌, ℕ, ◌+◌, ◌-◌, true, false, refl, ap, sym, ◌∙◌, arith}
+use Rattle.std.proofs.Common.{◌≡◌, ◌+◌, ◌-◌, refl, ap, sym, ◌∙◌, arith}
 use Rattle.cox_context.specs.Shifts.{entry}
 use Rattle.cox_context.specs.Sets.{is_lower}
 use Rattle.cox_context.proofs.SetLemmas.{set-start, set-skip, set-add, bit-shifted}

@@ -1,5 +1,5 @@
 -- Each letter of the word of the top is a step of lifting.
-use Rattle.std.proofs.Common.{◌≡◌, ◌+◌, ◌∷◌, ◌<◌, ℕ, List, length, drop, slice_index, Option, Some, None, IfSome, arith, add-one, drop-cons}
+use Rattle.std.proofs.Common.{◌≡◌, ◌+◌, ◌∷◌, ◌<◌, ℕ, length, drop, slice_index, Option, Some, None, IfSome, arith, add-one, drop-cons}
 use Rattle.std.specs.Option.{option_or}
 use Rattle.std.proofs.lemmas.List.{drop_all}
 use Rattle.cox_base.specs.IntegerMatrix.{IntegerMatrix, integer_matrix}

@@ -1,5 +1,5 @@
 -- One letter more.
-use Rattle.std.proofs.Common.{◌≡◌, ◌+◌, ◌<◌, ◌≤◌, ◌∷◌, refl, sym, ◌∙◌, arith}
+use Rattle.std.proofs.Common.{◌+◌, ◌<◌, ◌∷◌, refl, arith}
 use Rattle.cox_base.specs.Matrix.{IsLetter}
 use Rattle.cox_base.specs.IntegerMatrix.{integer_matrix}
 use Rattle.cox_base.specs.declared.limits.TheConstants.{MAX_RANK}

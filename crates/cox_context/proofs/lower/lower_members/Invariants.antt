@@ -1,6 +1,5 @@
 -- The entries of the letters before t.
-use Rattle.std.proofs.Common.{◌≡◌, ◌<◌, ◌∷◌, ℕ, length}
-use Rattle.cox_base.specs.Matrix.{IsLetter}
+use Rattle.std.proofs.Common.{◌∷◌}
 use Rattle.cox_base.specs.IntegerMatrix.{integer_matrix}
 use Rattle.cox_context.specs.Numbers.{word_at}
 use Rattle.cox_context.proofs.RowLemmas.{AreLowerBefore}

@@ -1,6 +1,5 @@
 -- The walk finds t y, or shows that t does not shorten y or that y is no member.
-use Rattle.std.proofs.Common.{◌≡◌, ◌+◌, ◌-◌, ◌≤◌, ◌<◌, suc, sym, ◌∙◌, arith}
-use Rattle.cox_base.specs.Matrix.{label}
+use Rattle.std.proofs.Common.{◌≡◌, ◌+◌, ◌-◌, suc, sym, ◌∙◌, arith}
 use Rattle.cox_base.specs.IntegerMatrix.{integer_matrix}
 use Rattle.cox_reflect.proofs.Admissible.{IsAdmissible-integer_matrix}
 use Rattle.cox_context.proofs.LowerLemmas.{step-start, step-next, no_order, down-none, down-next, down-end, up-none, up-next, up-end}

@@ -1,5 +1,5 @@
 -- One entry more keeps the table right.
-use Rattle.std.proofs.Common.{◌∷◌, [], length-append, unwrap_or, arith}
+use Rattle.std.proofs.Common.{◌∷◌, [], length-append, arith}
 use Rattle.cox_base.specs.IntegerMatrix.{integer_matrix}
 use Rattle.cox_reflect.proofs.Admissible.{IsAdmissible-integer_matrix}
 use Rattle.cox_context.proofs.RightShifts.{right-found}

@@ -1,5 +1,5 @@
 -- The identity alone has no letter and no shift.
-use Rattle.std.proofs.Common.{rules, ◌≡◌, ◌∷◌, [], ℕ, length, refl}
+use Rattle.std.proofs.Common.{rules, ◌≡◌}
 use Rattle.std.proofs.Math.ListN.{replicate}
 use Rattle.cox_base.specs.IntegerMatrix.{integer_matrix}
 use Rattle.cox_reflect.proofs.Admissible.{IsAdmissible-integer_matrix}

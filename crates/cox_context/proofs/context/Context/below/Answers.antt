@@ -1,5 +1,5 @@
 -- Each letter is a step of lifting, by the left shift that is kept.
-use Rattle.std.proofs.Common.{◌≡◌, ℕ, [], arith}
+use Rattle.std.proofs.Common.{◌≡◌, [], arith}
 use Rattle.std.proofs.lemmas.Bool.{eqb-true, eq-eqb}
 use Rattle.cox_base.specs.IntegerMatrix.{IntegerMatrix, integer_matrix}
 use Rattle.cox_context.specs.Numbers.{word_at}

@@ -1,5 +1,5 @@
 -- The letters of the set are the right descents.
-use Rattle.std.proofs.Common.{ap, sym, ◌∙◌, ℕ, List, filter}
+use Rattle.std.proofs.Common.{ap, ◌∙◌, ℕ, filter}
 use Rattle.cox_base.specs.ShortLex.{letters}
 use Rattle.cox_base.specs.IntegerMatrix.{integer_matrix}
 use Rattle.cox_context.specs.Closed.{Elements}

@@ -1,7 +1,6 @@
 -- Each link has the number of letters of its word.
 use Rattle.std.proofs.Common.{◌≡◌, ◌<◌, ℕ, List, length, ap, arith}
-use Rattle.cox_context.specs.Links.{words_of, link_at}
-use Rattle.cox_context.specs.declared.members.Link.{Link}
+use Rattle.cox_context.specs.Links.{link_at}
 use Rattle.cox_context.proofs.LinkLemmas.{words-size, link-read}
 use Rattle.cox_context.proofs.members.Members.length.Goals as goal
 

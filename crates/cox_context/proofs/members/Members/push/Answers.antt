@@ -1,5 +1,5 @@
 -- One more link is one more word.
-use Rattle.std.proofs.Common.{◌≡◌, ◌<◌, ◌+◌, ℕ, List, length, ap, arith}
+use Rattle.std.proofs.Common.{◌≡◌, ◌<◌, ℕ, List, length, ap, arith}
 use Rattle.cox_context.specs.Links.{words_of, link_at}
 use Rattle.cox_context.specs.Numbers.{word_at}
 use Rattle.cox_context.proofs.LinkLemmas.{words-size, words-push, links-push, link-read}
