@@ -120,9 +120,6 @@ fn heights_that_overflow(rt: HostRuntime) -> Result<(), Fail> {
     // the prefix of 200 letters without its last 55
     let end = word_of(&g, &text[55..110]).ok_or("a word")?;
     assert!(rt; prefix.len() + end.len() <= MAX_LETTERS);
-    assert_eq!(rt;
-        table.product(&prefix, &end).as_slice(),
-        short.as_slice()
-    );
+    assert_eq!(rt; table.product(&prefix, &end).as_slice(), short.as_slice());
     Ok(())
 }
