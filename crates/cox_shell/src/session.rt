@@ -45,7 +45,7 @@ impl Model for Session {
 }
 
 impl Session {
-    ghost use Rattle.std.specs.Prelude.{◌≡◌, ◌+◌, ◌<◌, ◌≤◌, ◌^◌, length, IfOk, OnErr, IfSome, IsSomeAnd};
+    ghost use Rattle.std.specs.Prelude.{◌≡◌, ◌<◌, ◌≤◌, ◌^◌, length, IfOk, OnErr, IfSome, IsSomeAnd};
     ghost use Rattle.cox_command.specs.declared.command.Command.TheVariants.{Group};
     ghost use Rattle.cox_command.specs.ParseContract.{HasWordsOf};
     ghost use Rattle.cox_shell.specs.Reply.{Reply, opening, with_group, refusal, rank_of};
@@ -67,7 +67,7 @@ impl Session {
     /// Answers a line with this content, of bytes from 0x20 to 0x7E, behind what `out` has. On
     /// `NoMemory` the session is as before, and a prefix of the answer is appended.
     pub fn answer(&mut self, line: &[u8], out: &mut Vec<u8>) -> Result<Said, AllocError>
-        requires size { length line.now + 1 < 2 ^ 32 }
+        requires size { length line.now < 2 ^ 32 }
         ensures ok { IfOk result (λ said. (reply : Reply) × IsContentReply self.old line.now reply
             × Says said reply self.new out.old.items out.new.items) }
         ensures err { OnErr result ((reply : Reply) × IsContentReply self.old line.now reply
