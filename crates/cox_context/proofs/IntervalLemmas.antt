@@ -2,6 +2,7 @@
 use Rattle.std.proofs.Common.{◌≡◌, ℕ, ◌+◌, ◌≤◌, ◌<◌, ◌==◌, Bool, true, false, if◌then◌else◌, nat_lt, List, [], ◌∷◌, length}
 use Rattle.std.proofs.Common.{filter, map, ◌⊎◌, ◌↔◌, inl, inr, refl, sym, ◌∙◌, ⊎_elim, arith, subst, ltb-true, lt-ltb, true≢false}
 use Rattle.std.proofs.lemmas.Bool.{cases_lt, eqb-true, eq-eqb}
+use Rattle.cox_base.specs.declared.limits.TheConstants.{MAX_LETTERS}
 use Rattle.cox_base.specs.IntegerMatrix.{IntegerMatrix}
 use Rattle.cox_base.specs.Admissible.{IsAdmissible}
 use Rattle.cox_base.specs.ShortLex.{normal_form}
@@ -118,8 +119,8 @@ module _ (A : IntegerMatrix) (g : IsAdmissible A) where
       (cases_lt limit (length c.0))
 
   -- an interval is refused for its size alone, apart from memory that runs out
-  pub interval-refused : (limit : ℕ) (w : List ℕ) → length w ≤ 63 → (fault : ContextFault) → IsRefusal (IsInInterval A w) limit fault
-      → (fault ≡ NoMemory → ⊥)
+  pub interval-refused : (limit : ℕ) (w : List ℕ) → length w ≤ MAX_LETTERS → (fault : ContextFault)
+      → IsRefusal (IsInInterval A w) limit fault → (fault ≡ NoMemory → ⊥)
       → HasMoreThan limit (IsInInterval A w)
   interval-refused limit w short (Size bound seen) refusal memory =
       let c = interval-exists w in HasMoreThan-over (IsInInterval A w) limit c.0 c.1 refusal.2
