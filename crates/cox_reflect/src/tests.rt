@@ -3,11 +3,11 @@ ghost use Rattle.std.specs.Prelude.{◌≤◌, ◌^◌, ◌<◌, length, IfSome}
 ghost use Rattle.cox_base.specs.Matrix.{IsWord};
 
 use crate::{LETTERS_OF_128_BITS, below, descents, image, length, normal_form};
-use cox_base::{Coxeter, Side, Word, read_word};
+use cox_base::{Coxeter, MAX_RANK, Side, Word, read_word};
 use std::alloc::{AllocError, Global};
 use std::test::Fail;
 
-/// A word of at most 63 letters.
+/// A word for which 128 bits suffice.
 fn short_word(g: &Coxeter, text: &[u8]) -> Option<Word>
     ensures letters { IfSome result (λ w. IsWord g.now.rank w.items) }
     ensures short { IfSome result (λ w. length w.items ≤ LETTERS_OF_128_BITS) }
@@ -198,11 +198,9 @@ fn moves_roots(rt: HostRuntime) -> Result<(), Fail> {
         let g = Coxeter::named(letter, n)?;
         let word = short_word(&g, word).ok_or("a word")?;
         assert!(rt; 1 <= s && u32::from(s) <= g.rank());
-        assert_eq!(rt;
-            image(&g, &word, s),
-            [first, second, 0, 0, 0, 0, 0, 0, 0],
-            "{letter} {n}"
-        );
+        let mut root = [0; MAX_RANK];
+        (root[0], root[1]) = (first, second);
+        assert_eq!(rt; image(&g, &word, s), root, "{letter} {n}");
     }
     Ok(())
 }
