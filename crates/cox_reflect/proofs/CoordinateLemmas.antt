@@ -18,13 +18,14 @@ use Rattle.cox_reflect.specs.RootHeight.{at_letter}
 use Rattle.cox_reflect.proofs.Sums.{sum_to-same, simple_root-self, simple_root-other}
 use Rattle.cox_reflect.proofs.BackwardTurns.{reverse-map_push, turn-letter, turn-length}
 use Rattle.cox_reflect.proofs.Admissible.{IsAdmissible-integer_matrix}
+use Rattle.cox_reflect.specs.declared.wide_heights.TheConstants.{LETTERS_OF_128_BITS}
 use Rattle.cox_reflect.proofs.LetterLists.{at_letter-set_same, at_letter-set_other}
 use Rattle.cox_reflect.proofs.Action.{act-cons}
 use Rattle.cox_reflect.proofs.Elements.{matrix-column}
 use Rattle.cox_reflect.proofs.Sizes.{coordinate-size, size-prefix, entry-small, sum_to-small, size-act}
 
-fits-bound : (z : ℤ) (n : ℕ) → nat_abs z ≤ 4 * n → n ≤ 4 ^ 62 → SFits w128 z
-fits-bound z n small bound = let top : 4 * 4 ^ 62 < 2 ^ 127 = lit< tt in fits_signed_from_abs w128 z (omega (arith, small, bound, top))
+fits-bound : (z : ℤ) (n : ℕ) → nat_abs z ≤ 4 * n → n ≤ 4 ^ (LETTERS_OF_128_BITS - 1) → SFits w128 z
+fits-bound z n small bound = let top : 4 * 4 ^ (LETTERS_OF_128_BITS - 1) < 2 ^ 127 = lit< tt in fits_signed_from_abs w128 z (omega (arith, small, bound, top))
 
 pub part-none : (f : ℕ → ℤ) → sum_to 0 f ≡ pos 0
 unfolding sum_to
@@ -37,13 +38,13 @@ sum_to-next (suc k) f l = let e : suc k - 1 ≡ k = omega arith in rw e refl
 
 module _ (A : IntegerMatrix) (g : IsAdmissible A) where
   -- each product, and each part of the sum, fits
-  pub term-fits : (s t : ℕ) (v : Vector) → IsLetter A.rank t → size A.rank v ≤ 4 ^ 62 → SFits w128 (A.entry s t *ℤ v t)
+  pub term-fits : (s t : ℕ) (v : Vector) → IsLetter A.rank t → size A.rank v ≤ 4 ^ (LETTERS_OF_128_BITS - 1) → SFits w128 (A.entry s t *ℤ v t)
   term-fits s t v l bound =
       let product : nat_abs (A.entry s t *ℤ v t) ≡ nat_abs (A.entry s t) * nat_abs (v t) = unsigned_abs-mul (A.entry s t) (v t)
       in let small : nat_abs (A.entry s t) * nat_abs (v t) ≤ 3 * nat_abs (v t) = mul-le-mul_right (nat_abs (v t)) (entry-small A g s t)
       in fits-bound (A.entry s t *ℤ v t) (size A.rank v) (omega (arith, product, small, coordinate-size A.rank t v l)) bound
 
-  pub part-fits : (s t : ℕ) (v : Vector) → IsLetter A.rank t → size A.rank v ≤ 4 ^ 62
+  pub part-fits : (s t : ℕ) (v : Vector) → IsLetter A.rank t → size A.rank v ≤ 4 ^ (LETTERS_OF_128_BITS - 1)
       → SFits w128 (sum_to (t - 1) (λ k. A.entry s k *ℤ v k) +ℤ (A.entry s t *ℤ v t))
   part-fits s t v l bound =
       rw (sum_to-next t (λ k. A.entry s k *ℤ v k) l.from_one)
@@ -95,16 +96,17 @@ module _ (A : IntegerMatrix) (list : List ℤ) (v : Vector) (is : AreCoordinates
           at_letter-set_other list s i x l.from_one k.from_one ne ∙ is.each i k ∙ rw (simple_root-other s i ne) (omega (arith, ints))
 
 size-word : (A : IntegerMatrix) (g : IsAdmissible A) (list : List ℤ) (v : Vector) → AreCoordinates A list v → (w : List ℕ) (s : ℕ)
-    → v ≡ act A w (simple_root s) → length w ≤ 62
-    → size A.rank (at_letter list) ≤ 4 ^ 62
+    → v ≡ act A w (simple_root s) → length w < LETTERS_OF_128_BITS
+    → size A.rank (at_letter list) ≤ 4 ^ (LETTERS_OF_128_BITS - 1)
 size-word A g list v is w s e short =
-    let power : 4 ^ length w ≤ 4 ^ 62 = pow-le-pow_right (lit< tt) short
+    let few : length w ≤ LETTERS_OF_128_BITS - 1 = omega (arith, short)
+    in let power : 4 ^ length w ≤ 4 ^ (LETTERS_OF_128_BITS - 1) = pow-le-pow_right (lit< tt) few
     in let bound : size A.rank v ≤ 4 ^ length w = rw e (size-act A g w s)
     in omega (arith, size-at_letter A list v is A.rank (omega arith), bound, power)
 
 -- the code's difference fits
 reflected-fits : (A : IntegerMatrix) (list : List ℤ) (s : ℕ) (p : ℤ) → IsLetter A.rank s → nat_abs p ≤ 3 * size A.rank (at_letter list)
-    → size A.rank (at_letter list) ≤ 4 ^ 62
+    → size A.rank (at_letter list) ≤ 4 ^ (LETTERS_OF_128_BITS - 1)
     → SFits w128 (at_letter list s -ℤ p)
 reflected-fits A list s p l small bound =
     let difference : nat_abs (at_letter list s -ℤ p) ≤ nat_abs (at_letter list s) + nat_abs p = omega (arith, ints)
@@ -145,7 +147,7 @@ AreCoordinates-next A f xs x s list is = rw (reverse-map_push f xs x, act-cons A
 
 -- ---- a turn of the loop over the letters of w, the last one first: xs are the items so far, item is the next, f gives their letters
 
-module _ (x : CoxeterMatrix) (matrix : IsCoxeterMatrix x) (w : List ℕ) (word : IsWord x.rank w) (short : length w ≤ 63) (s : ℕ)
+module _ (x : CoxeterMatrix) (matrix : IsCoxeterMatrix x) (w : List ℕ) (word : IsWord x.rank w) (short : length w ≤ LETTERS_OF_128_BITS) (s : ℕ)
     {X : Type 0} (f : X → ℕ)
     (xs : List X) (item : X) (turn : (length xs < length (reverse w)) × (f item ≡ get_or (reverse w) (length xs) (f item)))
     (list : List ℤ) (are : AreCoordinates (integer_matrix x) list (act (integer_matrix x) (reverse (map f xs)) (simple_root s))) where
@@ -155,7 +157,7 @@ module _ (x : CoxeterMatrix) (matrix : IsCoxeterMatrix x) (w : List ℕ) (word :
   pub image-letter : IsLetter x.rank (f item)
   image-letter = turn-letter x.rank (length xs) (f item) w word turn
 
-  pub image-room : size x.rank (at_letter list) ≤ 4 ^ 62
+  pub image-room : size x.rank (at_letter list) ≤ 4 ^ (LETTERS_OF_128_BITS - 1)
   image-room = size-word (integer_matrix x) g list _ are (reverse (map f xs)) s refl (omega (arith, short, turn-length f xs w turn.0))
 
   pub image-fits : (p : ℤ) → nat_abs p ≤ 3 * size x.rank (at_letter list) → SFits w128 (at_letter list (f item) -ℤ p)

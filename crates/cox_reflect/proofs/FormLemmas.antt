@@ -1,4 +1,4 @@
--- Reading an element off by descents: its length, and its normal form by the least ones.
+-- Reading an element off by descents: its normal form by the least ones.
 use Rattle.std.proofs.Common.{◌≡◌, ℕ, ◌+◌, ◌<◌, Bool, List, [], ◌∷◌, ◌++◌, length, reverse, filter, ℤ, refl, ap, sym, ◌∙◌, arith}
 use Rattle.std.proofs.Math.Path.{fun_ext}
 use Rattle.std.proofs.lemmas.List.{append-nil, append_assoc, length-append, reverse-reverse}

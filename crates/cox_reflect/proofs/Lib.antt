@@ -46,13 +46,15 @@ pub mod Removal
 pub mod DescentLists
 -- heights of roots: how a letter before the word changes them, their size, and descents by their signs
 pub mod HeightLemmas
+-- a loop that puts a letter before a word, height by height
+pub mod HeightTurns
 -- lists of numbers, one a letter: a write at a letter, and the letters whose numbers are negative
 pub mod LetterLists
--- products and differences in 128 bits
+-- products and sums in 128 bits, and tested differences at any width
 pub mod Computed
 -- two letters in turn, and their order where both shorten an element
 pub mod TwoDescents
--- lengths and normal forms, read off by descents
+-- normal forms, read off by descents
 pub mod FormLemmas
 -- Bruhat order by lifting
 pub mod OrderLemmas

@@ -1,8 +1,6 @@
 -- How large coordinates get: a letter multiplies the sum of their absolute values by 4 at most.
 use Rattle.std.proofs.Common.{◌≡◌, ℕ, zero, suc, ◌+◌, ◌*◌, ◌^◌, ◌≤◌, ◌<◌, List, [], ◌∷◌, length, ℤ, ◌-ℤ◌, ◌*ℤ◌, nat_abs, refl}
 use Rattle.std.proofs.Common.{sym, ⊎_elim, arith, lit≤, pow-suc, mul-le-mul_right}
-use Rattle.std.proofs.Math.Nat.{pow-le-pow_right}
-use Rattle.std.proofs.Common.{lit<}
 use Rattle.std.proofs.lemmas.Bool.{cases_eq}
 use Rattle.std.proofs.lemmas.Int.{ints, unsigned_abs-mul}
 use Rattle.cox_base.specs.Matrix.{IsLetter}
@@ -134,25 +132,3 @@ module _ (A : IntegerMatrix) (g : IsAdmissible A) where
   size-act [] s = rw (act-nil A (simple_root s)) (size-simple_root A.rank s)
   size-act (t ∷ w) s =
       rw (act-cons A t w (simple_root s), pow-suc 4 (length w)) (omega (arith, size-reflect t (act A w (simple_root s)), size-act w s))
-
-  -- after at most 62 letters every partial sum fits 128 bits ..
-  pub partial_sum-bound : (w : List ℕ) (r s k : ℕ) → length w ≤ 62 → k ≤ A.rank
-      → nat_abs (sum_to k (λ t. A.entry s t *ℤ act A w (simple_root r) t)) ≤ 3 * 4 ^ 62
-  partial_sum-bound w r s k short within =
-      omega (
-        arith,
-        sum_to-small s k (act A w (simple_root r)),
-        size-prefix k A.rank (act A w (simple_root r)) within,
-        size-act w r,
-        pow-le-pow_right {n = 4} (lit< tt) short,
-      )
-
-  -- .. and after 63 every coordinate
-  pub coordinate-bound : (w : List ℕ) (r i : ℕ) → length w ≤ 63 → IsLetter A.rank i → nat_abs (act A w (simple_root r) i) ≤ 4 ^ 63
-  coordinate-bound w r i short l =
-      omega (
-        arith,
-        coordinate-size A.rank i (act A w (simple_root r)) l,
-        size-act w r,
-        pow-le-pow_right {n = 4} (lit< tt) short,
-      )

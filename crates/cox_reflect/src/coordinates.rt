@@ -11,7 +11,7 @@ use cox_base::{Coxeter, MAX_RANK, Word};
 
 /// The coordinates of M(w) e(s), that of e(i) at i - 1; 0 past the rank.
 ///
-/// For example in A 2 the image of e(1) under `21` is -e(1) - e(2): the numbers -1, -1, 0, 0, 0, 0, 0, 0, 0.
+/// For example in A 2 the image of e(1) under `21` is -e(1) - e(2): the numbers -1, -1, 0, 0, ..
 pub fn image(g: &Coxeter, w: &Word, s: u8) -> [i128; MAX_RANK]
     requires letters { IsWord g.now.rank w.now.items }
     requires short { length w.now.items ≤ LETTERS_OF_128_BITS }
@@ -33,7 +33,7 @@ pub fn image(g: &Coxeter, w: &Word, s: u8) -> [i128; MAX_RANK]
 /// a(s,1) v(1) + .. + a(s,n) v(n).
 fn pairing(g: &Coxeter, v: &[i128; MAX_RANK], s: u8) -> i128
     requires letter { IsLetter g.now.rank s }
-    requires room { size g.now.rank (at_letter v.now) ≤ 4 ^ 62 }
+    requires room { size g.now.rank (at_letter v.now) ≤ 4 ^ (LETTERS_OF_128_BITS - 1) }
     ensures value { result ≡ sum_to g.now.rank (λ t. entry_of g.now s t *ℤ at_letter v.now t) }
     ensures bound { nat_abs result ≤ 3 * size g.now.rank (at_letter v.now) }
 {

@@ -7,7 +7,7 @@ use cox_base::{Coxeter, MAX_RANK, Side, Word, read_word};
 use std::alloc::{AllocError, Global};
 use std::test::Fail;
 
-/// A word of at most 63 letters.
+/// A word for which 128 bits suffice.
 fn short_word(g: &Coxeter, text: &[u8]) -> Option<Word>
     ensures letters { IfSome result (λ w. IsWord g.now.rank w.items) }
     ensures short { IfSome result (λ w. length w.items ≤ LETTERS_OF_128_BITS) }
