@@ -30,7 +30,8 @@ use Rattle.cox_context.proofs.NormalLemmas.{first-least}
 use Rattle.cox_context.proofs.LowerLemmas.{IsAscent, ascent}
 
 -- membership is that of an element below the top
-member-parts : (A : IntegerMatrix) (top : Option (ArrayVec ℕ)) (word : List ℕ) → IsMember A top word → IsElement A word × IsBelowTop A top word
+member-parts : (A : IntegerMatrix) (top : Option (ArrayVec ℕ)) (word : List ℕ) → IsMember A top word
+    → IsElement A word × IsBelowTop A top word
 member-parts A None word p = (p, tt)
 member-parts A (Some top) word p = (p.element, p.below)
 
@@ -134,7 +135,8 @@ module _ (A : IntegerMatrix) (g : IsAdmissible A) (P : List ℕ → Type 0) (ide
         in o.absent (placed-contains words o.word (record { i = w.0; within = omega (arith, w.1, h.end); is = w.2 }))
 
     -- a new element s x has that normal form: its first letter is not less than s, and not greater
-    pub new-normal : IsAscent A words s j → (Contains words (normal_form A (s ∷ word_at words j)) → ⊥) → P (normal_form A (s ∷ word_at words j))
+    pub new-normal : IsAscent A words s j → (Contains words (normal_form A (s ∷ word_at words j)) → ⊥) → P (normal_form A
+        (s ∷ word_at words j))
         → normal_form A (s ∷ word_at words j) ≡ s ∷ word_at words j
     new-normal ascent new p = go (normal_form A (s ∷ word_at words j)) refl p
       where
@@ -156,7 +158,8 @@ module _ (A : IntegerMatrix) (g : IsAdmissible A) (P : List ℕ → Type 0) (ide
             equal f =
                 let both : SameElement A (s ∷ z) (s ∷ word_at words j) = rw f at same
                 in let z_same : SameElement A z (word_at words j)
-                = same-trans A g (same-sym A g (same-square A g s z)) (same-trans A g (same-cons A g s both) (same-square A g s (word_at words j)))
+                = same-trans A g (same-sym A g (same-square A g s z)) (same-trans A g (same-cons A g s both) (same-square A g s
+                (word_at words j)))
                 in rw f (ap (λ (y : List ℕ). s ∷ y)
                 (sym (ideal.element z rest).normal ∙ normal_form-equal A g z_same ∙ x_element.normal))
 
@@ -165,10 +168,16 @@ module _ (A : IntegerMatrix) (g : IsAdmissible A) (P : List ℕ → Type 0) (ide
               where
                 there : (i : ℕ) × (i < high) × (word_at words i ≡ z) → ⊥
                 there (i, to, is) =
-                    let from : low ≤ i = ⊎_elim (λ (below : i < low). absurd (omega (arith, h.shorter i below, ap length is, ap length e, long)))
+                    let from : low ≤ i = ⊎_elim (λ (below : i < low). absurd (omega
+                    (arith, h.shorter i below, ap length is, ap length e, long)))
                     (λ (upper : low ≤ i). upper) (cases_lt i low)
                     in let m = h.found t i ((ideal-tailed A g P ideal).letter t z q) from to (inl less) (rw is q)
-                    in new (rw e (placed-contains words (t ∷ z) (record { i = m.0; within = m.1; is = m.2 ∙ ap (λ (y : List ℕ). t ∷ y) is })))
+                    in new (rw e (placed-contains words (t ∷ z) (record {
+                      i = m.0;
+                      within = m.1;
+                      is = m.2 ∙ ap (λ
+                          (y : List ℕ). t ∷ y) is;
+                    })))
 
             greater : s < t → ⊥
             greater more = first-least A g t z (ideal.element (t ∷ z) q) s shorter more

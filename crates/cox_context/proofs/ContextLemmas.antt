@@ -1,5 +1,6 @@
 -- Contexts of intervals and of groups: their members are closed downwards, and what a group that goes on has.
-use Rattle.std.proofs.Common.{◌≡◌, ℕ, ◌+◌, ◌≤◌, ◌<◌, List, [], ◌∷◌, length, Contains, None, Some, Result, Ok, Err, IfErr, ap, sym, ◌∙◌, ⊎_elim}
+use Rattle.std.proofs.Common.{◌≡◌, ℕ, ◌+◌, ◌≤◌, ◌<◌, List, [], ◌∷◌, length, Contains, None, Some, Result, Ok, Err, IfErr, ap, sym, ◌∙◌}
+use Rattle.std.proofs.Common.{⊎_elim}
 use Rattle.std.proofs.Common.{arith, subst}
 use Rattle.std.proofs.lemmas.Bool.{cases_lt}
 use Rattle.std.proofs.lemmas.List.Elements.{All-head}
@@ -56,7 +57,8 @@ refusal-along P Q to from limit (Size bound seen) (is, one_more, over) = (
 )
 refusal-along P Q to from limit Long l = record {
   words = l.words;
-  are = list-along (λ word. P word × (length word ≤ MAX_LETTERS)) (λ word. Q word × (length word ≤ MAX_LETTERS)) (λ word p. (to word p.0, p.1))
+  are = list-along (λ word. P word × (length word ≤ MAX_LETTERS)) (λ word. Q word × (length word ≤ MAX_LETTERS)) (λ word p.
+      (to word p.0, p.1))
       (λ word q. (from word q.0, q.1)) l.words l.are;
   count = l.count;
   long = l.long;

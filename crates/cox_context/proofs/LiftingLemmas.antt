@@ -1,5 +1,6 @@
 -- Whether a new element is below the top: by a letter that shortens both, or along the word of the top.
-use Rattle.std.proofs.Common.{◌≡◌, ℕ, ◌<◌, ◌≤◌, Bool, true, List, [], ◌∷◌, length, Contains, Option, None, Some, ◌↔◌, IsTrue, refl, ap, sym, ◌∙◌, arith}
+use Rattle.std.proofs.Common.{◌≡◌, ℕ, ◌<◌, ◌≤◌, Bool, true, List, [], ◌∷◌, length, Contains, Option, None, Some, ◌↔◌, IsTrue, refl, ap, sym}
+use Rattle.std.proofs.Common.{◌∙◌, arith}
 use Rattle.std.proofs.Common.{get_or, eqb-true, eqb}
 use Rattle.std.specs.Option.{option_eq, option_or}
 use Rattle.std.proofs.lemmas.Bool.{eq-eqb}
@@ -73,7 +74,8 @@ module _ (A : IntegerMatrix) (g : IsAdmissible A) (words : List (List ℕ)) wher
       in (some.1, (λ b. step.0 (old.0 b), λ b. old.1 (step.1 b)))
 
   -- at the end the identity alone is below
-  pub left-end : (y w rest : List ℕ) (s : ℕ) (at : Option ℕ) → IsClosed A words → IsLeftDescent A y s → rest ≡ [] → IsLeft A words y w rest at
+  pub left-end : (y w rest : List ℕ) (s : ℕ) (at : Option ℕ) → IsClosed A words → IsLeftDescent A y s → rest ≡ []
+      → IsLeft A words y w rest at
       → (at ≡ Some 0) ↔ IsBelow A y w
   left-end y w rest s None closed d e h = (
     λ q. absurd (cc),
@@ -98,11 +100,13 @@ module _ (A : IntegerMatrix) (g : IsAdmissible A) (words : List (List ℕ)) wher
   pub shared-below : (y w : List ℕ) (t k : ℕ) → IsLeftDescent A w t → IsLower A words y t (Some k) → IsBelow A (word_at words k) w
       → IsBelow A y w
   shared-below y w t k d (e, inside, is) b =
-      below-same A g (same-trans A g (same-cons A g t (same-trans A g (same-equal A g is) (normal_form-same A g (t ∷ y)))) (same-square A g t y))
+      below-same A g (same-trans A g (same-cons A g t (same-trans A g (same-equal A g is) (normal_form-same A g (t ∷ y))))
+      (same-square A g t y))
       (same-refl A g w) (below-cons A g (word_at words k) w t d b)
 
   -- a letter of the top's descents with an entry
-  pub shared : (y descents lower : List ℕ) (top : ArrayVec ℕ) → IsAdmissible A → AreLower A words y lower → descents ≡ left_descents A top.items
+  pub shared : (y descents lower : List ℕ) (top : ArrayVec ℕ) → IsAdmissible A → AreLower A words y lower
+      → descents ≡ left_descents A top.items
       → AreBelowTop A (Some top) words → (t : ℕ) × (k : ℕ) × Contains descents t × (entry A.rank lower t 0 ≡ Some k) → IsBelow A y top.items
   shared y descents lower top g h e below (t, k, c, some) =
       let d : IsLeftDescent A top.items t = contained-descent A g top.items t (rw e at c)

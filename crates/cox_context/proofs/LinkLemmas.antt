@@ -25,7 +25,8 @@ from-old words (link ∷ links) i l =
     ∙ word_at-old words (linked words link) i l
 
 from-at : (words : List (List ℕ)) (links : List Link) (i : ℕ) → i < length links → (link_at links i).rest < length words + i
-    → word_at (words_from words links) (length words + i) ≡ (link_at links i).first ∷ word_at (words_from words links) (link_at links i).rest
+    → word_at (words_from words links) (length words + i) ≡ (link_at links i).first ∷ word_at (words_from words links)
+    (link_at links i).rest
 from-at words [] i l k = absurd (omega (arith, l))
 from-at words (link ∷ links) zero l k =
     let more = length-push words (linked words link)
@@ -78,7 +79,8 @@ links-push links link h room inside letters = record {
   some = omega (arith, size, h.some);
   few = omega (arith, size, room);
   inward = λ i l k. ⊎_elim (λ (below : i < length links). rw (old i below) (h.inward i l below))
-      (λ (above : length links ≤ i). let e : i ≡ length links = omega (arith, above, k, size) in rw (e, new) inside) (cases_lt i (length links));
+      (λ (above : length links ≤ i). let e : i ≡ length links = omega (arith, above, k, size) in rw (e, new) inside) (cases_lt i
+      (length links));
   letters = λ i k. rw (words-push links link h.some) (⊎_elim
       (λ (below : i < length links). rw (
         old i below,

@@ -102,7 +102,8 @@ module _ (c : CoxeterMatrix) (m : IsCoxeterMatrix c) (words : List (List ℕ)) (
     no_order e d = omega (arith, e, descent-label c m (word_at words i) s t lt ls ne ascent.reduced d)
 
     -- on the way down a letter that does not shorten shows that t does not shorten s x
-    pub down-none : (j at letter other : ℕ) → IsStep A words s t i j at letter other → length (word_at words at) + j ≡ length (word_at words i)
+    pub down-none : (j at letter other : ℕ) → IsStep A words s t i j at letter other → length (word_at words at) + j ≡ length
+        (word_at words i)
         → j + 1 < label c t s → (IsLeftDescent A (word_at words at) letter → ⊥) → IsLeftDescent A (s ∷ word_at words i) t → ⊥
     down-none j at letter other h size less none d =
         let e : suc j ≡ j + 1 = omega arith
@@ -130,14 +131,16 @@ module _ (c : CoxeterMatrix) (m : IsCoxeterMatrix c) (words : List (List ℕ)) (
     )
 
     -- after m - 1 steps down t shortens s x
-    pub down-end : (j at letter other : ℕ) → IsStep A words s t i j at letter other → length (word_at words at) + j ≡ length (word_at words i)
+    pub down-end : (j at letter other : ℕ) → IsStep A words s t i j at letter other → length (word_at words at) + j ≡ length
+        (word_at words i)
         → j + 1 ≡ label c t s → IsLeftDescent A (s ∷ word_at words i) t
     down-end j at letter other h size all =
         steps-descent c m (word_at words i) s t lt ls ne ascent.reduced j all
         (omega (arith, size, word_length-equal A g h.same, length-at A g words closed at h.within))
 
     -- on the way up each element is below s x, and no longer than x
-    pub up-none : (j at letter other : ℕ) → IsStep A words s t i j at letter other → length (word_at words at) + 1 ≤ length (word_at words i)
+    pub up-none : (j at letter other : ℕ) → IsStep A words s t i j at letter other → length (word_at words at) + 1 ≤ length
+        (word_at words i)
         → IsLeftDescent A (s ∷ word_at words i) t → (Contains words (normal_form A (letter ∷ word_at words at)) → ⊥)
         → IsOutside A words (s ∷ word_at words i) (length (word_at words i))
     up-none j at letter other h short d none = record {

@@ -1,5 +1,6 @@
 -- The number of a word, by shifts from its last letter to its first.
-use Rattle.std.proofs.Common.{◌≡◌, ℕ, zero, suc, ◌+◌, ◌-◌, ◌≤◌, ◌<◌, List, [], ◌∷◌, length, drop, get_or, drop-cons, Contains, ap, sym, ◌∙◌, ⊎_elim, arith}
+use Rattle.std.proofs.Common.{◌≡◌, ℕ, zero, suc, ◌+◌, ◌-◌, ◌≤◌, ◌<◌, List, [], ◌∷◌, length, drop, get_or, drop-cons, Contains, ap, sym, ◌∙◌}
+use Rattle.std.proofs.Common.{⊎_elim, arith}
 use Rattle.std.proofs.lemmas.Bool.{cases_lt}
 use Rattle.std.proofs.lemmas.List.Elements.{All-head}
 use Rattle.cox_base.specs.Matrix.{IsLetter}
@@ -47,7 +48,8 @@ module _ (A : IntegerMatrix) (g : IsAdmissible A) (words : List (List ℕ)) (clo
   pub shift-is : (s at k rest : ℕ) → at < length words → k < length words → word_at words k ≡ normal_form A (s ∷ word_at words at)
       → word_at words k ≡ s ∷ word_at words rest → word_at words k ≡ s ∷ word_at words at
   shift-is s at k rest l m e f =
-      let back : word_at words at ≡ word_at words rest = shift-back A g words closed s at k l e ∙ first-off A g words closed s (word_at words rest) k m f
+      let back : word_at words at ≡ word_at words rest = shift-back A g words closed s at k l e ∙ first-off A g words closed s
+      (word_at words rest) k m f
       in f ∙ ap (λ (x : List ℕ). s ∷ x) (sym back)
 
   -- the next letter of a member's word, from behind, with the rest

@@ -16,7 +16,8 @@ use Rattle.cox_context.specs.Shifts.{entry, number_of, AreLeftShifts, IsLower}
 use Rattle.cox_context.specs.Rows.{IsRowPushed}
 use Rattle.cox_context.specs.Growth.{AreLower}
 use Rattle.cox_context.specs.Members.{IsElement}
-use Rattle.cox_context.proofs.ListLemmas.{contains-placed, placed-contains, word_at-old, word_at-new, length-push, push_cases, rising-length, rising-place}
+use Rattle.cox_context.proofs.ListLemmas.{contains-placed, placed-contains, word_at-old, word_at-new, length-push, push_cases}
+use Rattle.cox_context.proofs.ListLemmas.{rising-length, rising-place}
 use Rattle.cox_context.proofs.Shifting.{element-at}
 use Rattle.cox_context.proofs.Ideals.{element-length}
 use Rattle.cox_base.specs.Length.{word_length}
@@ -212,10 +213,12 @@ module _ (A : IntegerMatrix) (g : IsAdmissible A) (words : List (List ℕ)) (y :
     back_from : (t j : ℕ) → IsLetter A.rank t → j < length words → normal_form A (t ∷ word_at words j) ≡ y
         → normal_form A (t ∷ y) ≡ word_at words j
     back_from t j l m e =
-        normal_form-equal A g (same-trans A g (same-cons A g t (same-trans A g (same-equal A g (sym e)) (normal_form-same A g (t ∷ word_at words j))))
+        normal_form-equal A g (same-trans A g (same-cons A g t (same-trans A g (same-equal A g (sym e)) (normal_form-same A g
+        (t ∷ word_at words j))))
         (same-square A g t (word_at words j))) ∙ (old_element j m).normal
 
-    noted : (t j : ℕ) (x : Option ℕ) → IsLetter A.rank t → j < length words → normal_form A (t ∷ word_at words j) ≡ y → IsLower A words y t x
+    noted : (t j : ℕ) (x : Option ℕ) → IsLetter A.rank t → j < length words → normal_form A (t ∷ word_at words j) ≡ y
+        → IsLower A words y t x
         → x ≡ Some j
     noted t j None l m e none =
         absurd (none (leads_down t l (omega (arith, word_length-is A (t ∷ y), ap length (back_from t j l m e), upto j m))))
@@ -242,7 +245,8 @@ module _ (A : IntegerMatrix) (g : IsAdmissible A) (words : List (List ℕ)) (y :
         elsewhere : (k ≡ j → ⊥) → IsNumberOf (words ++ y ∷ []) (normal_form A (t ∷ word_at (words ++ y ∷ []) j)) (entry A.rank new t j)
         elsewhere ne =
             let no : entry A.rank lower t 0 ≡ Some j → ⊥ = λ f. ne (let q = sym e ∙ f in cc)
-            in rw (word_at-old words y j m, pushed.kept t j l m (λ less f. no f)) (from_old t j (entry A.rank old t j) l m no (h.shift t j l m))
+            in rw (word_at-old words y j m, pushed.kept t j l m (λ less f. no f)) (from_old t j (entry A.rank old t j) l m no
+            (h.shift t j l m))
 
         here : k ≡ j → IsNumberOf (words ++ y ∷ []) (normal_form A (t ∷ word_at (words ++ y ∷ []) j)) (entry A.rank new t j)
         here q =

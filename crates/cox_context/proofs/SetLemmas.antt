@@ -1,5 +1,6 @@
 -- Sets of letters by bits.
-use Rattle.std.proofs.Common.{◌≡◌, ℕ, ◌+◌, ◌-◌, ◌≤◌, ◌<◌, ◌^◌, ◌*◌, ◌%◌, ◌⊎◌, true, false, List, [], ◌∷◌, ◌++◌, length, filter, refl, sym, ◌∙◌, arith}
+use Rattle.std.proofs.Common.{◌≡◌, ℕ, ◌+◌, ◌-◌, ◌≤◌, ◌<◌, ◌^◌, ◌*◌, ◌%◌, ◌⊎◌, true, false, List, [], ◌∷◌, ◌++◌, length, filter, refl, sym}
+use Rattle.std.proofs.Common.{◌∙◌, arith}
 use Rattle.std.proofs.Common.{◌↔◌, bit_and, bit_or, IsBitSet, ⊎_elim, inl, inr, ◌/◌, get_or, length-append}
 use Rattle.std.specs.List.{range_with_len}
 use Rattle.std.proofs.lemmas.Bool.{cases_lt, cases_eq, eqb-true, eq-eqb, ne_eqb}
@@ -39,7 +40,8 @@ set-skip rank table i s next set q h none = record {
   bit = λ k. (
     λ b. let p = (h.bit k).0 b in (omega (arith, p.0, q), p.1),
     λ p. (h.bit k).1 (
-      ⊎_elim (λ (below : k + 1 < s). below) (λ (above : s ≤ k + 1). absurd (here k p.1 (omega (arith, above, p.0, q)))) (cases_lt (k + 1) s),
+      ⊎_elim (λ (below : k + 1 < s). below) (λ (above : s ≤ k + 1). absurd (here k p.1 (omega (arith, above, p.0, q)))) (cases_lt
+          (k + 1) s),
       p.1,
     ),
   );

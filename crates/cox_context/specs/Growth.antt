@@ -66,7 +66,8 @@ pub record IsNext (A : IntegerMatrix) (words : List (List ℕ)) (top : Option (A
   pub below : IsBelowTop A top y
   pub numbers : AreLower A words y lower
 
--- a word y = s x that is not: its element is among the words, or is not below the top, or an element below it that is no longer than x is not
+-- a word y = s x that is not: its element is among the words, or is not below the top, or an element below it that is no longer than x is
+-- not
 -- among the words
 pub data IsNoNext (A : IntegerMatrix) (words : List (List ℕ)) (top : Option (ArrayVec ℕ)) (y : List ℕ) (k : ℕ) : Type 0 where
   known : Contains words (normal_form A y) → IsNoNext A words top y k

@@ -3,7 +3,8 @@ use Rattle.std.specs.Prelude.{◌≡◌, ℕ, ◌+◌, ◌-◌, ◌*◌, ◌<◌
 use Rattle.cox_base.specs.Matrix.{IsLetter}
 use Rattle.cox_context.specs.Shifts.{entry}
 
--- The new table has the old entries and, for the letters before next, those of the member n, which are given. Where such an entry is k, that of the
+-- The new table has the old entries and, for the letters before next, those of the member n, which are given. Where such an entry is k,
+-- that of the
 -- member k for the letter is n.
 pub record IsRowPushed (rank n : ℕ) (lower : List ℕ) (next : ℕ) (old new : List ℕ) : Type 0 where
   pub size : length new ≡ n * rank + (next - 1)

@@ -1,5 +1,6 @@
 -- Sets of letters by bits: bit s - 1 for the letter s.
-use Rattle.std.specs.Prelude.{◌≡◌, ℕ, ◌+◌, ◌-◌, ◌/◌, ◌^◌, ◌<◌, ◌==◌, ◌↔◌, Bool, true, false, nat_lt, List, length, slice_index, Option, None, Some}
+use Rattle.std.specs.Prelude.{◌≡◌, ℕ, ◌+◌, ◌-◌, ◌/◌, ◌^◌, ◌<◌, ◌==◌, ◌↔◌, Bool, true, false, nat_lt, List, length, slice_index, Option}
+use Rattle.std.specs.Prelude.{None, Some}
 use Rattle.std.specs.Prelude.{bit_and, IsBitSet}
 use Rattle.cox_context.specs.Shifts.{entry}
 

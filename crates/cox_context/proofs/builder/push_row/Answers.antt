@@ -17,7 +17,8 @@ loop-t-preserved c =
       | in-Some w ↦
           rw (w.table-is, w.place.ensures, c.in_ok-push.ensures.items) (row-link c.args.rank c.args.number c.args.lower.now
           c.args.table.now.items c.loop-t.table.items c.loop-t.t (c.loop-t.t + 1) refl l c.loop-t.invariant _
-          (row-entry c.args.rank c.args.lower.now c.loop-t.t) c.requires.below w.in-Some.k (sym c.entry-shorter.ensures ∙ w.in-Some.is) small)
+          (row-entry c.args.rank c.args.lower.now c.loop-t.t) c.requires.below w.in-Some.k (sym c.entry-shorter.ensures
+          ∙ w.in-Some.is) small)
       | in_default w ↦
           rw (w.table-is, c.in_ok-push.ensures.items) (row-push c.args.rank c.args.number c.args.lower.now c.args.table.now.items
           c.loop-t.table.items c.loop-t.t (c.loop-t.t + 1) refl l c.loop-t.invariant _

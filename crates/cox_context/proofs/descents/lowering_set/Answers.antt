@@ -15,7 +15,8 @@ loop-s-preserved c =
     sym (c.is_lower.ensures ∙ ap (is_lower c.args.i) c.entry.ensures)
     in elim c.if-is_lower.branch [
       | then-is_lower w ↦
-          rw (w.set-is, bit-shifted (c.loop-s.s - 1) (omega (arith, c.loop-s-test.true, c.requires.limit, c.loop-s.auto.s))) (set-add c.args.rank c.args.table.now c.args.i c.loop-s.s (c.loop-s.s + 1) c.loop-s.set refl c.loop-s.auto.s
+          rw (w.set-is, bit-shifted (c.loop-s.s - 1) (omega (arith, c.loop-s-test.true, c.requires.limit, c.loop-s.auto.s))) (set-add
+          c.args.rank c.args.table.now c.args.i c.loop-s.s (c.loop-s.s + 1) c.loop-s.set refl c.loop-s.auto.s
           c.loop-s.invariant (is ∙ w.if-is_lower.true))
       | else-is_lower w ↦
           rw w.set-is (set-skip c.args.rank c.args.table.now c.args.i c.loop-s.s (c.loop-s.s + 1) c.loop-s.set refl

@@ -18,7 +18,13 @@ loop-t-preserved c =
     elim c.match-branch-2.branch [
       | in-Some w ↦
           let found = rw w.in-Some.is at c.in_ok-k.ensures.lower
-          in let l : IsLetter c.args.g.now.rank c.loop-t.t = record { from_one = c.loop-t.auto.t; to_rank = omega (arith, c.rank.ensures.rank) }
+          in let l : IsLetter c.args.g.now.rank c.loop-t.t = record {
+            from_one = c.loop-t.auto.t;
+            to_rank = omega (
+              arith,
+              c.rank.ensures.rank,
+            );
+          }
           in let small : w.in-Some.k < NO_MEMBER = omega (arith, found.1, c.requires.closed.few)
           in rw w.lower-is (lower-set (integer_matrix c.args.g.now) c.args.members.now (c.args.s ∷ word_at c.args.members.now c.args.i)
           c.loop-t.t (c.loop-t.t + 1) w.in-Some.k c.loop-t.lower refl l c.loop-t.invariant small found)

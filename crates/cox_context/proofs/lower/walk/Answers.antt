@@ -21,7 +21,8 @@ pub returns-in_default-clause-lower : goal.returns-in_default-clause-lower
 returns-in_default-clause-lower c =
     down-none c.args.g.now c.requires.matrix c.args.members.now c.requires.closed c.args.s c.args.i c.requires.letter_s c.requires.member
     c.requires.new c.args.t c.requires.letter_t c.requires.apart (c.down._down - 1) c.down.at c.down.letter c.down.other
-    c.down.invariant.step c.down.invariant.size (omega (arith, c.label-order.ensures, c.down-test.true, c.down.auto._down)) c.in_default.ensures
+    c.down.invariant.step c.down.invariant.size (omega (arith, c.label-order.ensures, c.down-test.true, c.down.auto._down))
+    c.in_default.ensures
 
 pub down-preserved : goal.down-preserved
 down-preserved c =

@@ -7,7 +7,8 @@ use Rattle.cox_context.proofs.shifts.lower_shift.Goals as goal
 
 pub returns-in_err-shift : goal.returns-in_err-shift
 returns-in_err-shift c = rw c.from_residual.ensures (λ d. c.in_err-shift.ensures (descent-member (integer_matrix c.args.g.now)
-    (IsAdmissible-integer_matrix c.args.g.now c.requires.matrix) c.args.members.now c.requires.closed c.args.s c.args.i c.requires.member d))
+    (IsAdmissible-integer_matrix c.args.g.now c.requires.matrix) c.args.members.now c.requires.closed c.args.s c.args.i
+    c.requires.member d))
 
 pub returns-then-shift-i : goal.returns-then-shift-i
 returns-then-shift-i c = (

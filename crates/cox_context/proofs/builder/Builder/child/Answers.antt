@@ -19,7 +19,8 @@ returns-then-is_below_top-clause-next c =
     c.requires.parent new
     in record {
       new = new;
-      below = (c.is_below_top.ensures (c.args.s ∷ word_at c.args.self.now.members c.args.parent) c.args.s up.descent c.in-Ok.ensures.lower).0
+      below = (c.is_below_top.ensures (c.args.s ∷ word_at c.args.self.now.members c.args.parent) c.args.s up.descent
+          c.in-Ok.ensures.lower).0
           c.if-is_below_top.true;
       numbers = c.in-Ok.ensures.lower;
     }

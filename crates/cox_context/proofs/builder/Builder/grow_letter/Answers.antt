@@ -41,7 +41,8 @@ returns-in_err-add-clause-fault c =
     in let prefix : IsPrefixOf P (c.loop-parent.self.members ++ y ∷ [])
     = growing-prefix c.args.family.now.group.rank P tailed c.args.letters c.args.low c.args.high c.args.s c.loop-parent.parent
     c.loop-parent.self.members c.loop-parent.invariant.growing c.loop-parent-test.true member
-    in let short : (i : ℕ) → i < length c.loop-parent.self.members + 1 → length (word_at (c.loop-parent.self.members ++ y ∷ []) i) ≤ MAX_LETTERS
+    in let short : (i : ℕ) → i < length c.loop-parent.self.members + 1 → length (word_at (c.loop-parent.self.members
+    ++ y ∷ []) i) ≤ MAX_LETTERS
     = λ i l. omega (
       arith,
       push-length c.args.family.now.group.rank P tailed c.args.letters c.args.low c.args.high c.args.s
@@ -65,11 +66,13 @@ loop-parent-preserved c =
           in let member : P y = next-member c.args.family.now.group c.requires.matrix c.args.family.now.top
           c.args.letters c.args.low c.args.high c.args.s c.loop-parent.parent c.loop-parent.self.members c.loop-parent.invariant.growing
           w.in-Some.lower c.requires.letter closed c.loop-parent-test.true next
-          in let growing : IsGrowing c.args.family.now.group.rank P c.args.letters c.args.low c.args.high c.args.s (c.loop-parent.parent + 1)
+          in let growing : IsGrowing c.args.family.now.group.rank P c.args.letters c.args.low c.args.high c.args.s
+          (c.loop-parent.parent + 1)
           (c.loop-parent.self.members ++ y ∷ [])
           = growing-push c.args.family.now.group.rank P tailed c.args.letters c.args.low c.args.high c.args.s c.loop-parent.parent
           c.loop-parent.self.members c.loop-parent.invariant.growing c.loop-parent-test.true member
-          in let room : length (c.loop-parent.self.members ++ y ∷ []) ≤ c.args.limit = rw w.in_ok-add.ensures.added at w.in_ok-add.ensures.room
+          in let room : length (c.loop-parent.self.members ++ y ∷ []) ≤ c.args.limit
+          = rw w.in_ok-add.ensures.added at w.in_ok-add.ensures.room
           in let more : IsClosed A (c.loop-parent.self.members ++ y ∷ []) = member-closed c.args.family.now.group c.requires.matrix
           c.args.family.now.top c.args.letters c.args.low c.args.high c.args.s (c.loop-parent.parent + 1)
           (c.loop-parent.self.members ++ y ∷ []) growing c.requires.short (omega (arith, room, c.requires.limit))

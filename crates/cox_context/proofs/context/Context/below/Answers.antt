@@ -28,7 +28,8 @@ loop-upper-preserved-in-Some c =
     c.link-link.result.first (word_at c.args.self.now.members c.link-link.result.rest) c.loop-upper.upper c.loop-upper.invariant.inside
     c.link-link.ensures.word
     in let next = settled-next A c.len.ensures.admissible c.args.self.now.members c.len.ensures.closed
-    (word_at c.args.self.now.members c.args.i) (word_at c.args.self.now.members c.args.j) (word_at c.args.self.now.members c.loop-upper.upper)
+    (word_at c.args.self.now.members c.args.i) (word_at c.args.self.now.members c.args.j) (word_at c.args.self.now.members
+    c.loop-upper.upper)
     (word_at c.args.self.now.members c.link-link.result.rest) c.link-link.result.first c.loop-upper.rest c.left.result letter
     c.loop-upper.invariant.settled c.link-link.ensures.word
     (length-at A c.len.ensures.admissible c.args.self.now.members c.len.ensures.closed c.loop-upper.upper c.loop-upper.invariant.inside)
@@ -45,7 +46,8 @@ loop-upper-preserved c =
     c.link-link.result.first (word_at c.args.self.now.members c.link-link.result.rest) c.loop-upper.upper c.loop-upper.invariant.inside
     c.link-link.ensures.word
     in let next = settled-next A c.len.ensures.admissible c.args.self.now.members c.len.ensures.closed
-    (word_at c.args.self.now.members c.args.i) (word_at c.args.self.now.members c.args.j) (word_at c.args.self.now.members c.loop-upper.upper)
+    (word_at c.args.self.now.members c.args.i) (word_at c.args.self.now.members c.args.j) (word_at c.args.self.now.members
+    c.loop-upper.upper)
     (word_at c.args.self.now.members c.link-link.result.rest) c.link-link.result.first c.loop-upper.rest c.left.result letter
     c.loop-upper.invariant.settled c.link-link.ensures.word
     (length-at A c.len.ensures.admissible c.args.self.now.members c.len.ensures.closed c.loop-upper.upper c.loop-upper.invariant.inside)

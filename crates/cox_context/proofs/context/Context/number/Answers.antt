@@ -25,7 +25,14 @@ returns-then-s-eq0 c = λ there.
     c.len.ensures.closed _ (word_at c.args.self.now.members c.loop-done.at) next
     in elim c.then-s-eq0.branch [
       | then-s-eq0-via-then-s-eq0 w ↦ omega (arith, letter.from_one, w.if-s-eq0.true)
-      | then-s-eq0-via-else-s-eq0+then-s-rank w ↦ omega (arith, letter.to_rank, w.if-s-rank.true, c.rank-rank.ensures.rank, ap (λ (m : CoxeterMatrix). m.rank) c.matrix.ensures)
+      | then-s-eq0-via-else-s-eq0+then-s-rank w ↦ omega (
+        arith,
+        letter.to_rank,
+        w.if-s-rank.true,
+        c.rank-rank.ensures.rank,
+        ap (λ
+            (m : CoxeterMatrix). m.rank) c.matrix.ensures,
+      )
     ]
 
 pub returns-in_err-longer : goal.returns-in_err-longer
@@ -41,7 +48,8 @@ returns-then-longer-at c = λ there.
     let next = next-contained (integer_matrix c.args.self.now.matrix) c.len.ensures.admissible c.args.self.now.members c.len.ensures.closed
     c.as_slice-letters.result.now c.args.word.now.items c.loop-done.done c.loop-done.at c.loop-done-test.true
     c.as_slice-letters.ensures.value c.loop-done.invariant.word there
-    in let later = shift-later (integer_matrix c.args.self.now.matrix) c.len.ensures.admissible c.args.self.now.members c.len.ensures.closed _
+    in let later = shift-later (integer_matrix c.args.self.now.matrix) c.len.ensures.admissible c.args.self.now.members
+    c.len.ensures.closed _
     c.loop-done.at c.in_ok-longer.longer next c.loop-done.invariant.inside c.in_ok-longer.ensures.1
     in omega (arith, later, c.if-longer-at.true)
 
@@ -65,7 +73,8 @@ loop-done-preserved c =
     c.link.ensures.word ∙ ap (λ (q : ℕ). q ∷ word_at c.args.self.now.members c.link.result.rest) c.if-link-s.false
     in record {
       inside = c.in_ok-longer.ensures.0;
-      word = next-word A c.len.ensures.admissible c.args.self.now.members c.len.ensures.closed c.as_slice-letters.result.now c.loop-done.done
+      word = next-word A c.len.ensures.admissible c.args.self.now.members c.len.ensures.closed c.as_slice-letters.result.now
+          c.loop-done.done
           c.loop-done.at c.in_ok-longer.longer c.loop-done-test.true c.loop-done.invariant.word
           (shift-is A c.len.ensures.admissible c.args.self.now.members c.len.ensures.closed s c.loop-done.at c.in_ok-longer.longer
           c.link.result.rest c.loop-done.invariant.inside c.in_ok-longer.ensures.0 c.in_ok-longer.ensures.1 first);

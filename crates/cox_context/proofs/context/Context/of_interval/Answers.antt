@@ -28,7 +28,8 @@ form-same x y e matrix w top f =
 pub grow-requires-clause-top : goal.grow-requires-clause-top
 grow-requires-clause-top c = (
   rw (c.copy.ensures ∙ c.group.ensures) c.normal_form-top.ensures.word,
-  (form-same c.args.group.now c.copy.result (c.copy.ensures ∙ c.group.ensures) c.in_ok-builder.ensures.matrix c.args.w.now.items c.normal_form-top.result.items
+  (form-same c.args.group.now c.copy.result (c.copy.ensures ∙ c.group.ensures) c.in_ok-builder.ensures.matrix c.args.w.now.items
+      c.normal_form-top.result.items
       c.normal_form-top.ensures.form).0,
 )
 
@@ -39,7 +40,8 @@ returns-in_err-grow-clause-refused c =
     in let top : List ℕ = c.normal_form-top.result.items
     in let w : List ℕ = c.args.w.now.items
     in let form =
-    form-same c.args.group.now c.copy.result (c.copy.ensures ∙ c.group.ensures) c.in_ok-builder.ensures.matrix w top c.normal_form-top.ensures.form
+    form-same c.args.group.now c.copy.result (c.copy.ensures ∙ c.group.ensures) c.in_ok-builder.ensures.matrix w top
+    c.normal_form-top.ensures.form
     in let refused : IfErr c.from_residual-in_err-grow.result (IsRefusal (IsInInterval A top) c.args.limit) = search rules
     in rw (← (c.copy.ensures ∙ c.group.ensures)) (result-along (IsInInterval A top) (IsInInterval A w) (interval-from A g w top form.1)
     (interval-from A g top w (same-sym A g form.1)) c.args.limit c.from_residual-in_err-grow.result refused)
@@ -51,7 +53,8 @@ members c =
     let A : IntegerMatrix = integer_matrix c.copy.result
     in let g : IsAdmissible A = IsAdmissible-integer_matrix c.copy.result c.in_ok-builder.ensures.matrix
     in let top : List ℕ = c.normal_form-top.result.items
-    in let form = form-same c.args.group.now c.copy.result (c.copy.ensures ∙ c.group.ensures) c.in_ok-builder.ensures.matrix c.args.w.now.items top
+    in let form = form-same c.args.group.now c.copy.result (c.copy.ensures ∙ c.group.ensures) c.in_ok-builder.ensures.matrix
+    c.args.w.now.items top
     c.normal_form-top.ensures.form
     in let letters : c.len-letters.result ≡ length top = search rules
     in interval-list A g top c.in_ok-grow.field-0 c.grow.new.self.members form.0 (rw (← letters) c.in_ok-grow.ensures.grown)
@@ -71,8 +74,10 @@ returns-clause-members c =
     in let top : List ℕ = c.normal_form-top.result.items
     in let w : List ℕ = c.args.w.now.items
     in let form =
-    form-same c.args.group.now c.copy.result (c.copy.ensures ∙ c.group.ensures) c.in_ok-builder.ensures.matrix w top c.normal_form-top.ensures.form
+    form-same c.args.group.now c.copy.result (c.copy.ensures ∙ c.group.ensures) c.in_ok-builder.ensures.matrix w top
+    c.normal_form-top.ensures.form
     in let list : IsListOf (IsInInterval A w) c.grow.new.self.members = list-along (IsInInterval A top) (IsInInterval A w)
     (interval-from A g w top form.1) (interval-from A g top w (same-sym A g form.1)) c.grow.new.self.members (members c.before)
-    in rw (← (c.copy.ensures ∙ c.group.ensures)) (made_members c.of_members.result c.copy.result c.grow.new.self.members (IsListOf (IsInInterval A w))
+    in rw (← (c.copy.ensures ∙ c.group.ensures)) (made_members c.of_members.result c.copy.result c.grow.new.self.members (IsListOf
+    (IsInInterval A w))
     c.of_members.ensures.made list)

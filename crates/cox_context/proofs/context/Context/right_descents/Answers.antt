@@ -10,5 +10,7 @@ use Rattle.cox_context.proofs.context.Context.right_descents.Goals as goal
 
 pub returns : goal.returns
 returns c = c.letters_of.ensures
-    ∙ ap (λ (n : ℕ). filter (has_letter c.right_descent_set.result) (letters n)) (c.rank.ensures.rank ∙ ap (λ (e : Elements). e.matrix.rank) c.self.view_is)
-    ∙ right-letters (integer_matrix c.args.self.now.matrix) (word_at c.args.self.now.members c.args.i) c.right_descent_set.result c.right_descent_set.ensures
+    ∙ ap (λ (n : ℕ). filter (has_letter c.right_descent_set.result) (letters n)) (c.rank.ensures.rank ∙ ap (λ
+    (e : Elements). e.matrix.rank) c.self.view_is)
+    ∙ right-letters (integer_matrix c.args.self.now.matrix) (word_at c.args.self.now.members c.args.i) c.right_descent_set.result
+    c.right_descent_set.ensures
