@@ -13,7 +13,8 @@ use Rattle.cox_reflect.specs.Action.{Vector, pairing, reflect}
 use Rattle.cox_reflect.specs.Transpose.{transposed}
 use Rattle.cox_lemmas.proofs.Ring.{neg_mul, mul_neg}
 use Rattle.cox_reflect.proofs.Transposed.{IsAdmissible-transposed}
-use Rattle.cox_small.specs.SmallRoots.{IsShortStep, IsSmall, simple, step, HasMoreSmallRoots, HasFewSmallRoots}
+use Rattle.cox_small.specs.SmallRoots.{IsShortStep, IsSmall, simple, step, HasMoreSmallRoots}
+use Rattle.cox_small.specs.RootCounts.{HasFewSmallRoots}
 use Rattle.cox_small.proofs.ElementaryRoots.{small-pair, small-positive, small-coroot}
 use Rattle.cox_small.proofs.Signs.{negative-agrees}
 use Rattle.cox_minroots.specs.declared.root.Root.{Root}

@@ -12,7 +12,8 @@ use Rattle.cox_base.specs.IntegerMatrix.{IntegerMatrix}
 use Rattle.cox_base.specs.Admissible.{IsAdmissible}
 use Rattle.cox_base.specs.Element.{SameElement}
 use Rattle.cox_base.specs.Reduced.{IsReduced}
-use Rattle.cox_reflect.specs.Action.{simple_root, reflect, act}
+use Rattle.cox_reflect.specs.Action.{simple_root, reflect}
+use Rattle.cox_reflect.specs.WordAction.{act}
 use Rattle.cox_reflect.proofs.Action.{act-nil, act-cons}
 use Rattle.cox_reflect.proofs.Removal.{right_letter_goes}
 use Rattle.cox_small.specs.SmallRoots.{IsSmall}

@@ -7,7 +7,8 @@ use mathlib.Core.List.{reverse-cons}
 use Rattle.cox_base.specs.Matrix.{IsLetter}
 use Rattle.cox_base.specs.IntegerMatrix.{IntegerMatrix}
 use Rattle.cox_base.specs.Admissible.{IsAdmissible}
-use Rattle.cox_reflect.specs.Action.{Vector, simple_root, pairing, minus, reflect, act}
+use Rattle.cox_reflect.specs.Action.{Vector, simple_root, pairing, minus, reflect}
+use Rattle.cox_reflect.specs.WordAction.{act}
 use Rattle.cox_lemmas.proofs.Ring.{linears, multiply_out}
 use Rattle.cox_reflect.proofs.Sums.{letter_cases, simple_root-other, sum_to-minus, sum_to-zero, sum_to-simple_root, sum_to-other_root}
 

@@ -13,7 +13,8 @@ use Rattle.cox_base.specs.Matrix.{CoxeterMatrix, IsLetter, IsWord}
 use Rattle.cox_base.specs.Admissible.{IsCoxeterMatrix, IsAdmissible}
 use Rattle.cox_base.specs.IntegerMatrix.{IntegerMatrix, integer_matrix, entry_of}
 use Rattle.cox_base.specs.Element.{sum_to, matrix}
-use Rattle.cox_reflect.specs.Action.{Vector, simple_root, pairing, minus, reflect, act, size}
+use Rattle.cox_reflect.specs.Action.{Vector, simple_root, pairing, minus, reflect}
+use Rattle.cox_reflect.specs.WordAction.{act, size}
 use Rattle.cox_reflect.specs.RootHeight.{at_letter}
 use Rattle.cox_reflect.proofs.Sums.{sum_to-same, simple_root-self, simple_root-other}
 use Rattle.cox_reflect.proofs.BackwardTurns.{reverse-map_push, turn-letter, turn-length}

@@ -11,7 +11,8 @@ use Rattle.cox_base.specs.Matrix.{IsLetter}
 use Rattle.cox_base.specs.IntegerMatrix.{IntegerMatrix}
 use Rattle.cox_base.specs.Admissible.{IsAdmissible}
 use Rattle.cox_base.specs.Element.{sum_to, identity, product, generator_matrix, matrix, SameElement}
-use Rattle.cox_reflect.specs.Action.{Vector, simple_root, pairing, minus, reflect, act}
+use Rattle.cox_reflect.specs.Action.{Vector, simple_root, pairing, minus, reflect}
+use Rattle.cox_reflect.specs.WordAction.{act}
 use Rattle.cox_lemmas.proofs.Ring.{linears, multiply_out}
 use Rattle.cox_reflect.proofs.Sums.{letter_cases, sum_to-same, minus-sum_to, sum_to-simple_root, simple_root-self, simple_root-other}
 use Rattle.cox_reflect.proofs.Action.{act-nil, act-cons, act-append, act-push, act-minus, act-outside, act-other_root, act-fixed}

@@ -13,7 +13,8 @@ use Rattle.cox_base.specs.Element.{sum_to, matrix, SameElement}
 use Rattle.cox_base.specs.ShortLex.{normal_form}
 use Rattle.cox_base.specs.Length.{word_length}
 use Rattle.cox_base.specs.Reduced.{IsLeftDescent}
-use Rattle.cox_reflect.specs.Action.{Vector, simple_root, pairing, minus, reflect, act, IsNonpositive}
+use Rattle.cox_reflect.specs.Action.{Vector, simple_root, pairing, minus, reflect}
+use Rattle.cox_reflect.specs.WordAction.{act, IsNonpositive}
 use Rattle.cox_reflect.specs.RootHeight.{at_letter, height}
 use Rattle.cox_reflect.specs.Height.{AreHeights, AreOfShortElement, AreShortWith}
 use Rattle.cox_lemmas.proofs.Ring.{linears, multiply_out, one_times}

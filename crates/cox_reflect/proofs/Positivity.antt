@@ -12,7 +12,8 @@ use Rattle.cox_base.specs.Element.{SameElement}
 use Rattle.cox_base.specs.ShortLex.{normal_form}
 use Rattle.cox_base.specs.Length.{word_length}
 use Rattle.cox_base.specs.Reduced.{IsReduced}
-use Rattle.cox_reflect.specs.Action.{Vector, simple_root, minus, act, IsNonnegative}
+use Rattle.cox_reflect.specs.Action.{Vector, simple_root, minus}
+use Rattle.cox_reflect.specs.WordAction.{act, IsNonnegative}
 use Rattle.cox_lemmas.proofs.Ring.{linears, multiply_out, neg_mul, product_nonnegative}
 use Rattle.cox_reflect.proofs.Sums.{letter_cases, simple_root-self, simple_root-other}
 use Rattle.cox_reflect.proofs.Action.{act-nil, act-append, act-minus}

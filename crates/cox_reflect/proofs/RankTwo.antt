@@ -14,7 +14,8 @@ use Rattle.cox_base.specs.IntegerMatrix.{IntegerMatrix}
 use Rattle.cox_base.specs.Admissible.{two, three, four, back_four, six, IsAdmissible, IsAdmissiblePair, HasOrder, order_six, order_back_six}
 use Rattle.cox_base.specs.Admissible.{back_six, infinity, order_two, order_three, order_four, order_back_four}
 use Rattle.cox_base.specs.Element.{SameElement}
-use Rattle.cox_reflect.specs.Action.{Vector, simple_root, pairing, minus, reflect, act}
+use Rattle.cox_reflect.specs.Action.{Vector, simple_root, pairing, minus, reflect}
+use Rattle.cox_reflect.specs.WordAction.{act}
 use Rattle.cox_lemmas.proofs.Ring.{linears, multiply_out}
 use Rattle.cox_reflect.proofs.Action.{act-nil, act-cons, pairing-minus, pairing-simple_root}
 use Rattle.cox_reflect.proofs.Elements.{act-same}

@@ -7,7 +7,8 @@ use Rattle.cox_base.specs.Matrix.{IsLetter}
 use Rattle.cox_base.specs.IntegerMatrix.{IntegerMatrix}
 use Rattle.cox_base.specs.Admissible.{IsAdmissible}
 use Rattle.cox_base.specs.Element.{SameElement}
-use Rattle.cox_reflect.specs.Action.{simple_root, act, IsNonnegative}
+use Rattle.cox_reflect.specs.Action.{simple_root}
+use Rattle.cox_reflect.specs.WordAction.{act, IsNonnegative}
 use Rattle.cox_reflect.proofs.Action.{act-cons, reflect-other}
 use Rattle.cox_reflect.proofs.Elements.{same-refl, same-trans, same-cons, same-append, same-reverse, same-square}
 use Rattle.cox_reflect.proofs.Roots.{sign_changes, root-negative_at}

@@ -11,7 +11,8 @@ use Rattle.cox_base.specs.Admissible.{IsAdmissible}
 use Rattle.cox_base.specs.Element.{matrix, SameElement}
 use Rattle.cox_base.specs.Length.{word_length}
 use Rattle.cox_base.specs.Reduced.{IsLeftDescent, IsRightDescent}
-use Rattle.cox_reflect.specs.Action.{simple_root, act, IsNonnegative, IsNonpositive}
+use Rattle.cox_reflect.specs.Action.{simple_root}
+use Rattle.cox_reflect.specs.WordAction.{act, IsNonnegative, IsNonpositive}
 use Rattle.cox_reflect.specs.Root.{IsNonnegativeRoot, IsNonpositiveRoot, IsZeroRoot}
 use Rattle.cox_lemmas.proofs.Ring.{linears}
 use Rattle.cox_reflect.proofs.Sums.{letter_cases, letter_above, last_letter, simple_root-other}

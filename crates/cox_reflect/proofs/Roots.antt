@@ -12,7 +12,8 @@ use Rattle.cox_base.specs.Admissible.{IsAdmissible}
 use Rattle.cox_base.specs.Element.{SameElement}
 use Rattle.cox_base.specs.Length.{word_length}
 use Rattle.cox_base.specs.Reduced.{IsLeftDescent, IsRightDescent}
-use Rattle.cox_reflect.specs.Action.{Vector, simple_root, minus, reflect, act, IsNonnegative, IsNonpositive}
+use Rattle.cox_reflect.specs.Action.{Vector, simple_root, minus, reflect}
+use Rattle.cox_reflect.specs.WordAction.{act, IsNonnegative, IsNonpositive}
 use Rattle.cox_lemmas.proofs.Ring.{linears, zero_times, times_zero}
 use Rattle.cox_reflect.proofs.Sums.{letter_cases, simple_root-self, simple_root-other}
 use Rattle.cox_reflect.proofs.Action.{act-push, act-minus, act-reverse, act-fixed, reflect-simple_root, reflect-other, act-other_root}

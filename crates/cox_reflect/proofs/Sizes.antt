@@ -7,7 +7,8 @@ use Rattle.cox_base.specs.Matrix.{IsLetter}
 use Rattle.cox_base.specs.IntegerMatrix.{IntegerMatrix}
 use Rattle.cox_base.specs.Admissible.{two, three, four, back_four, six, IsAdmissible, IsAdmissiblePair, back_six, infinity}
 use Rattle.cox_base.specs.Element.{sum_to}
-use Rattle.cox_reflect.specs.Action.{Vector, simple_root, pairing, minus, reflect, act, size}
+use Rattle.cox_reflect.specs.Action.{Vector, simple_root, pairing, minus, reflect}
+use Rattle.cox_reflect.specs.WordAction.{act, size}
 use Rattle.cox_reflect.proofs.Sums.{letter_cases, simple_root-self, simple_root-other}
 use Rattle.cox_reflect.proofs.Action.{act-nil, act-cons}
 use Rattle.cox_reflect.proofs.RankTwo.{pair_of}

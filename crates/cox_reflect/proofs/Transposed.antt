@@ -10,7 +10,8 @@ use Rattle.cox_base.specs.Length.{word_length}
 use Rattle.cox_base.specs.Reduced.{IsReduced}
 use Rattle.cox_reflect.specs.Transpose.{transposed}
 use Rattle.cox_reflect.specs.Relations.{AreRelated, itself, turned, chained, joined, square, braided}
-use Rattle.cox_reflect.specs.Action.{Vector, simple_root, reflect, act, IsNonnegative, IsNonpositive}
+use Rattle.cox_reflect.specs.Action.{Vector, simple_root, reflect}
+use Rattle.cox_reflect.specs.WordAction.{act, IsNonnegative, IsNonpositive}
 use Rattle.cox_lemmas.proofs.Ring.{linears}
 use Rattle.cox_reflect.proofs.Action.{act-append, act-cons, act-reverse, reverse-act}
 use Rattle.cox_reflect.proofs.Elements.{same-act, matrix-column}

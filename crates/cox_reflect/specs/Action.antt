@@ -1,5 +1,5 @@
--- How a word acts on integer vectors: the generator s takes v to v - p(s,v) e(s), and a word acts by its letters, the last one first.
-use Rattle.std.specs.Prelude.{ℕ, zero, suc, ◌+◌, nat_abs, ◌==◌, if◌then◌else◌, List, [], ◌∷◌, ℤ, pos, ◌-ℤ◌, ◌*ℤ◌, ◌≤ℤ◌}
+-- How a generator acts on integer vectors: s takes v to v - p(s,v) e(s).
+use Rattle.std.specs.Prelude.{ℕ, ◌==◌, if◌then◌else◌, ℤ, pos, ◌-ℤ◌, ◌*ℤ◌}
 use Rattle.cox_base.specs.IntegerMatrix.{IntegerMatrix}
 use Rattle.cox_base.specs.Element.{sum_to}
 
@@ -22,21 +22,3 @@ minus v c w i = v i -ℤ (c *ℤ w i)
 -- the image of v under the generator s
 unfoldable pub reflect : IntegerMatrix → ℕ → Vector → Vector
 reflect A s v = minus v (pairing A s v) (simple_root s)
-
--- the image of v under a word
-unfoldable pub act : IntegerMatrix → List ℕ → Vector → Vector
-act A [] v = v
-act A (s ∷ u) v = reflect A s (act A u v)
-
--- each coordinate is at least 0
-abbrev pub IsNonnegative : Vector → Type 0
-IsNonnegative v = (i : ℕ) → pos 0 ≤ℤ v i
-
--- each coordinate is at most 0
-abbrev pub IsNonpositive : Vector → Type 0
-IsNonpositive v = (i : ℕ) → v i ≤ℤ pos 0
-
--- |v(1)| + .. + |v(n)|
-unfoldable pub size : ℕ → Vector → ℕ
-size zero v = 0
-size (suc n) v = size n v + nat_abs (v (suc n))

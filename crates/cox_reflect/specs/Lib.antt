@@ -1,5 +1,7 @@
--- the action of words on integer vectors
+-- the action of generators on integer vectors
 pub mod Action
+-- the action of words, and the signs of vectors
+pub mod WordAction
 -- words made of other words: a reflection, a word without one of its letters
 pub mod DerivedWords
 -- the sign of a root

@@ -3,7 +3,7 @@ ghost use Rattle.std.specs.Prelude.{◌≡◌, ℕ, ◌-◌, ◌*◌, ◌^◌, �
 ghost use Rattle.cox_base.specs.Matrix.{IsLetter, IsWord};
 ghost use Rattle.cox_base.specs.IntegerMatrix.{integer_matrix, entry_of};
 ghost use Rattle.cox_base.specs.Element.{sum_to, matrix};
-ghost use Rattle.cox_reflect.specs.Action.{size};
+ghost use Rattle.cox_reflect.specs.WordAction.{size};
 ghost use Rattle.cox_reflect.specs.RootHeight.{at_letter};
 
 use crate::wide_heights::LETTERS_OF_128_BITS;

@@ -2,7 +2,8 @@
 use Rattle.std.proofs.Common.{◌≡◌, ℕ, Some, None, inl, inr, refl, sym}
 use Rattle.cox_base.specs.Matrix.{CoxeterMatrix}
 use Rattle.cox_base.specs.IntegerMatrix.{integer_matrix}
-use Rattle.cox_small.specs.SmallRoots.{HasMoreSmallRoots, HasFewSmallRoots}
+use Rattle.cox_small.specs.SmallRoots.{HasMoreSmallRoots}
+use Rattle.cox_small.specs.RootCounts.{HasFewSmallRoots}
 use Rattle.cox_small.proofs.Counting.{not_both}
 use Rattle.cox_command.specs.declared.refusal.Refusal.TheVariants.{ManyRoots}
 use Rattle.cox_command.specs.declared.command.Command.TheVariants.{Group}

@@ -5,7 +5,8 @@ use mathlib.Core.List.{reverse-cons}
 use Rattle.cox_base.specs.Matrix.{IsLetter}
 use Rattle.cox_base.specs.IntegerMatrix.{IntegerMatrix}
 use Rattle.cox_base.specs.Admissible.{IsAdmissible}
-use Rattle.cox_reflect.specs.Action.{Vector, simple_root, pairing, minus, reflect, act}
+use Rattle.cox_reflect.specs.Action.{Vector, simple_root, pairing, minus, reflect}
+use Rattle.cox_reflect.specs.WordAction.{act}
 use Rattle.cox_reflect.specs.Transpose.{transposed}
 use Rattle.cox_reflect.specs.DerivedWords.{reflection}
 use Rattle.cox_lemmas.proofs.Ring.{linears, multiply_out}

@@ -2,7 +2,8 @@
 use Rattle.std.proofs.Common.{◌≡◌, ℕ, zero, suc, ◌≤◌, ◌<◌, ◌⊎◌, refl, ap, sym, ◌∙◌, inl, inr, ⊎_elim, arith}
 use Rattle.std.proofs.lemmas.Bool.{cases_eq, cases_lt}
 use Rattle.cox_base.specs.IntegerMatrix.{IntegerMatrix}
-use Rattle.cox_small.specs.SmallRoots.{HasMoreSmallRoots, HasFewSmallRoots}
+use Rattle.cox_small.specs.SmallRoots.{HasMoreSmallRoots}
+use Rattle.cox_small.specs.RootCounts.{HasFewSmallRoots}
 
 -- f is v at one of the numbers 0 to n, or at none
 search_value : (n : ℕ) (f : ℕ → ℕ) (v : ℕ) → ((i : ℕ) × (i ≤ n) × (f i ≡ v)) ⊎ ((i : ℕ) → i ≤ n → f i ≡ v → ⊥)

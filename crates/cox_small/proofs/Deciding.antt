@@ -15,7 +15,8 @@ use Rattle.cox_reflect.specs.Action.{Vector, simple_root, pairing, reflect}
 use Rattle.cox_reflect.specs.Transpose.{transposed}
 use Rattle.cox_reflect.proofs.Sums.{letter_cases, simple_root-other}
 use Rattle.cox_reflect.proofs.Action.{reflect-other}
-use Rattle.cox_small.specs.SmallRoots.{IsShortStep, IsSmall, simple, step, IsSmallRoot, HasMoreSmallRoots, HasFewSmallRoots}
+use Rattle.cox_small.specs.SmallRoots.{IsShortStep, IsSmall, simple, step, IsSmallRoot, HasMoreSmallRoots}
+use Rattle.cox_small.specs.RootCounts.{HasFewSmallRoots}
 use Rattle.cox_small.proofs.ElementaryRoots.{small-coroot}
 
 -- a property holds or not

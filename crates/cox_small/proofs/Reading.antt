@@ -9,7 +9,8 @@ use Rattle.cox_base.specs.Matrix.{IsLetter}
 use Rattle.cox_base.specs.IntegerMatrix.{IntegerMatrix}
 use Rattle.cox_base.specs.Admissible.{IsAdmissible}
 use Rattle.cox_base.specs.Reduced.{IsReduced}
-use Rattle.cox_reflect.specs.Action.{Vector, simple_root, pairing, act, IsNonnegative, IsNonpositive}
+use Rattle.cox_reflect.specs.Action.{Vector, simple_root, pairing}
+use Rattle.cox_reflect.specs.WordAction.{act, IsNonnegative, IsNonpositive}
 use Rattle.cox_reflect.specs.Transpose.{transposed}
 use Rattle.cox_reflect.proofs.Action.{act-cons, act-append}
 use Rattle.cox_lemmas.proofs.Ring.{linears}

@@ -5,7 +5,8 @@ use Rattle.std.proofs.lemmas.Int.{ints, by_lt_z}
 use Rattle.cox_base.specs.Matrix.{IsLetter}
 use Rattle.cox_base.specs.IntegerMatrix.{IntegerMatrix}
 use Rattle.cox_base.specs.Admissible.{IsAdmissible}
-use Rattle.cox_reflect.specs.Action.{Vector, simple_root, pairing, reflect, act, IsNonnegative, IsNonpositive}
+use Rattle.cox_reflect.specs.Action.{Vector, simple_root, pairing, reflect}
+use Rattle.cox_reflect.specs.WordAction.{act, IsNonnegative, IsNonpositive}
 use Rattle.cox_reflect.specs.Transpose.{transposed}
 use Rattle.cox_lemmas.proofs.Ring.{linears}
 use Rattle.cox_reflect.proofs.Sums.{letter_cases}

@@ -2,7 +2,8 @@
 use Rattle.std.specs.Prelude.{◌≡◌, ℕ, List}
 use Rattle.cox_base.specs.Matrix.{IsLetter}
 use Rattle.cox_base.specs.IntegerMatrix.{IntegerMatrix}
-use Rattle.cox_reflect.specs.Action.{Vector, simple_root, act, IsNonnegative, IsNonpositive}
+use Rattle.cox_reflect.specs.Action.{Vector, simple_root}
+use Rattle.cox_reflect.specs.WordAction.{act, IsNonnegative, IsNonpositive}
 
 -- b is the image of a simple root
 pub record IsRoot (A : IntegerMatrix) (b : Vector) : Type 0 where

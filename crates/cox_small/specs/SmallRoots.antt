@@ -31,8 +31,3 @@ pub record HasMoreSmallRoots (A : IntegerMatrix) (max : ℕ) : Type 0 where
   pub root : ℕ → Vector
   pub small : (i : ℕ) → i ≤ max → IsSmallRoot A (root i)
   pub different : (i j : ℕ) → i < j → j ≤ max → root i ≡ root j → ⊥
-
--- there are at most max small roots: each is one of root 0 to root (max - 1)
-pub record HasFewSmallRoots (A : IntegerMatrix) (max : ℕ) : Type 0 where
-  pub root : ℕ → Vector
-  pub all : {b : Vector} → IsSmallRoot A b → (i : ℕ) × (i < max) × (root i ≡ b)

@@ -6,9 +6,11 @@ ghost use Rattle.cox_base.specs.IntegerMatrix.{IntegerMatrix};
 ghost use Rattle.cox_base.specs.Admissible.{IsAdmissible};
 ghost use Rattle.cox_base.specs.Element.{SameElement};
 ghost use Rattle.cox_base.specs.Reduced.{IsReduced};
-ghost use Rattle.cox_reflect.specs.Action.{Vector, simple_root, pairing, reflect, act, IsNonnegative, IsNonpositive};
+ghost use Rattle.cox_reflect.specs.Action.{Vector, simple_root, pairing, reflect};
+ghost use Rattle.cox_reflect.specs.WordAction.{act, IsNonnegative, IsNonpositive};
 ghost use Rattle.cox_reflect.specs.Transpose.{transposed};
-ghost use Rattle.cox_small.specs.SmallRoots.{IsSmall, IsSmallRoot, HasMoreSmallRoots, HasFewSmallRoots};
+ghost use Rattle.cox_small.specs.SmallRoots.{IsSmall, IsSmallRoot, HasMoreSmallRoots};
+ghost use Rattle.cox_small.specs.RootCounts.{HasFewSmallRoots};
 ghost use Rattle.cox_small.specs.Elementary.{IsElementary};
 
 /// Small roots are positive, with one coroot each, and they are the elementary roots: the positive roots that dominate no other positive root.

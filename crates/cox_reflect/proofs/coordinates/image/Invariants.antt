@@ -1,7 +1,8 @@
 -- The list has the coordinates of the root under the letters so far.
 use Rattle.std.proofs.Common.{reverse, map}
 use Rattle.cox_base.specs.IntegerMatrix.{integer_matrix}
-use Rattle.cox_reflect.specs.Action.{simple_root, act}
+use Rattle.cox_reflect.specs.Action.{simple_root}
+use Rattle.cox_reflect.specs.WordAction.{act}
 use Rattle.cox_reflect.proofs.CoordinateLemmas.{AreCoordinates}
 use Rattle.cox_reflect.proofs.coordinates.image.Given as goal
 

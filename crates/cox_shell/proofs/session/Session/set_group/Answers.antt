@@ -2,7 +2,8 @@
 use Rattle.std.proofs.Common.{◌≡◌, Some, refl, ap, ap₂, ◌∙◌, sym}
 use Rattle.cox_base.specs.IntegerMatrix.{integer_matrix}
 use Rattle.cox_base.proofs.Admissible.{IsAdmissible-integer_matrix}
-use Rattle.cox_small.specs.SmallRoots.{HasMoreSmallRoots, HasFewSmallRoots}
+use Rattle.cox_small.specs.SmallRoots.{HasMoreSmallRoots}
+use Rattle.cox_small.specs.RootCounts.{HasFewSmallRoots}
 use Rattle.cox_command.specs.declared.command.Command.TheVariants.{Group}
 use Rattle.cox_command.specs.declared.refusal.Refusal.TheVariants.{ManyRoots}
 use Rattle.cox_shell.specs.Reply.{State, refusal, silence, with_group}
