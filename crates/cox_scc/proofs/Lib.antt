@@ -1,0 +1,12 @@
+-- edges of a graph
+pub mod Edges
+-- vertices that are reached
+pub mod Reaching
+-- lists of places
+pub mod Stacks
+-- vertices on the stack reach each other
+pub mod Chains
+-- what a step of the pass keeps
+pub mod Keeping
+-- a part that becomes a class
+pub mod Closing
