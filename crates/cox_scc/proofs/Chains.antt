@@ -65,10 +65,11 @@ module _ (IsEdge : ℕ → ℕ → Type 0) (stack : ℕ → ℕ) (size : ℕ) (p
         (chain.back p within);
   }
 
-  -- what stands above the last part leaves the stack
-  pub chain_leave : (fewer : List ℕ) (size' : ℕ) → size' ≤ size → ((b : ℕ) → Contains parts b → b < size' → Contains fewer b)
-      → IsChain IsEdge stack size' fewer
-  chain_leave fewer size' le kept = record {
-    on = λ p within. chain.on p (omega arith);
-    back = λ p within. ⊎_elim (λ part. inl (kept (p + 1) part within)) (λ r. inr r) (chain.back p (omega arith));
+  -- what stands above `low` leaves the stack
+  pub chain_leave : (fewer : List ℕ) (shorter : ℕ → ℕ) (low : ℕ) → low ≤ size → ((p : ℕ) → p < low → shorter p ≡ stack p)
+      → ((b : ℕ) → Contains parts b → b < low → Contains fewer b) → IsChain IsEdge shorter low fewer
+  chain_leave fewer shorter low le same kept = record {
+    on = λ p within. Reaches-same (same p (omega arith)) (same (p + 1) within) (chain.on p (omega arith));
+    back = λ p within. ⊎_elim (λ part. inl (kept (p + 1) part within))
+        (λ r. inr (Reaches-same (same (p + 1) within) (same p (omega arith)) r)) (chain.back p (omega arith));
   }

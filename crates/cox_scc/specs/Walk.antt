@@ -75,3 +75,18 @@ pub record IsWalk (n : ℕ) (offsets targets : List ℕ) (search : Search) (path
 -- no vertex that was seen is unseen again
 abbrev pub StaySeen : Search → Search → Type 0
 StaySeen old new = (v : ℕ) → visit_of new v ≡ Unseen → visit_of old v ≡ Unseen
+
+-- vertex v stands on the stack between two places
+pub record Stands (stack : ℕ → ℕ) (low high v : ℕ) : Type 0 where
+  pub place : ℕ
+  pub above : low ≤ place
+  pub below : place < high
+  pub is : stack place ≡ v
+
+-- the vertices between two places of the stack become a class by the number `least`, which is the least of them; nothing else changes
+pub record BecomeClass (stack : ℕ → ℕ) (low high least : ℕ) (visit later : ℕ → Visit) (class after : ℕ → ℕ) : Type 0 where
+  pub closed : (place : ℕ) → low ≤ place → place < high → later (stack place) ≡ Closed
+  pub number : (place : ℕ) → low ≤ place → place < high → after (stack place) ≡ least
+  pub others : (v : ℕ) → Stands stack low high v ⊎ ((later v ≡ visit v) × (after v ≡ class v))
+  pub member : Stands stack low high least
+  pub least_is : (place : ℕ) → low ≤ place → place < high → least ≤ stack place
