@@ -3,9 +3,11 @@
 -- The vertices that were seen and whose class is not known yet stand on a stack, in the order in which they were seen. The stack is cut into parts, and
 -- `parts` has the places where they begin. The path has the places of the vertices that are being explored. Whatever is said of the edges of a
 -- vertex is said of those before `next`, which were followed.
-use Rattle.std.specs.Prelude.{◌≡◌, ℕ, ◌+◌, ◌<◌, ◌≤◌, ◌⊎◌, ◌↔◌, ⊤, List, length, slice_index, slice_index_or, vec_len, Contains}
+use Rattle.std.specs.Prelude.{◌≡◌, ℕ, ◌+◌, ◌-◌, ◌*◌, ◌<◌, ◌≤◌, ◌⊎◌, ◌↔◌, ⊤, List, [], ◌∷◌, ◌++◌, length, take, sum, slice_index, slice_index_or}
+use Rattle.std.specs.Prelude.{slice_set, vec_len, Contains}
 use Rattle.cox_scc.specs.Reach.{Reaches, ReachEachOther}
 use Rattle.cox_scc.specs.Sorted.{Leads}
+use Rattle.cox_scc.specs.declared.adjacency.Adjacency.{Adjacency}
 use Rattle.cox_scc.specs.declared.search.Visit.{Visit}
 use Rattle.cox_scc.specs.declared.search.Visit.TheVariants.{Unseen, Open, Closed}
 use Rattle.cox_scc.specs.declared.search.Search.{Search}
@@ -60,17 +62,21 @@ pub record AreSettled (IsEdge : ℕ → ℕ → Type 0) (n : ℕ) (visit : ℕ �
 abbrev pub visit_of : Search → ℕ → Visit
 visit_of search v = slice_index_or search.visits.items v Unseen
 
+-- the lists of a graph have an edge from one vertex to the other
+abbrev pub LeadsIn : Adjacency → ℕ → ℕ → Type 0
+LeadsIn adjacency = Leads adjacency.offsets.items adjacency.targets.items
+
 -- what holds between two steps of the pass
-pub record IsWalk (n : ℕ) (offsets targets : List ℕ) (search : Search) (path : List ℕ) : Type 0 where
-  pub visits_count : vec_len search.visits ≡ n
-  pub classes_count : vec_len search.classes ≡ n
-  pub next_count : vec_len search.next ≡ n
-  pub placed : ArePlaced n (visit_of search) (slice_index search.stack.items) (vec_len search.stack)
-  pub chain : IsChain (Leads offsets targets) (slice_index search.stack.items) (vec_len search.stack) search.parts.items
-  pub followed : AreFollowed n (slice_index offsets) (slice_index targets) (visit_of search) (slice_index search.next.items)
-      (slice_index search.stack.items) (vec_len search.stack) search.parts.items path
+pub record IsWalk (adjacency : Adjacency) (search : Search) (path : List ℕ) : Type 0 where
+  pub visits_count : vec_len search.visits ≡ adjacency.vertices
+  pub classes_count : vec_len search.classes ≡ adjacency.vertices
+  pub next_count : vec_len search.next ≡ adjacency.vertices
+  pub placed : ArePlaced adjacency.vertices (visit_of search) (slice_index search.stack.items) (vec_len search.stack)
+  pub chain : IsChain (LeadsIn adjacency) (slice_index search.stack.items) (vec_len search.stack) search.parts.items
+  pub followed : AreFollowed adjacency.vertices (slice_index adjacency.offsets.items) (slice_index adjacency.targets.items) (visit_of search)
+      (slice_index search.next.items) (slice_index search.stack.items) (vec_len search.stack) search.parts.items path
   pub stacked : AreStacked (vec_len search.stack) search.parts.items path
-  pub settled : AreSettled (Leads offsets targets) n (visit_of search) (slice_index search.classes.items)
+  pub settled : AreSettled (LeadsIn adjacency) adjacency.vertices (visit_of search) (slice_index search.classes.items)
 
 -- no vertex that was seen is unseen again
 abbrev pub StaySeen : Search → Search → Type 0
@@ -90,3 +96,51 @@ pub record BecomeClass (stack : ℕ → ℕ) (low high least : ℕ) (visit later
   pub others : (v : ℕ) → Stands stack low high v ⊎ ((later v ≡ visit v) × (after v ≡ class v))
   pub member : Stands stack low high least
   pub least_is : (place : ℕ) → low ≤ place → place < high → least ≤ stack place
+
+-- the least of the members is their number now, and they are closed; nothing else changes
+pub record CloseMembers (members : List ℕ) (least : ℕ) (visits later : List Visit) (classes after : List ℕ) : Type 0 where
+  pub visits_count : length later ≡ length visits
+  pub classes_count : length after ≡ length classes
+  pub closed : (k : ℕ) → k < length members → slice_index_or later (slice_index members k) Unseen ≡ Closed
+  pub number : (k : ℕ) → k < length members → slice_index after (slice_index members k) ≡ least
+  pub others : (v : ℕ)
+      → Contains members v ⊎ ((slice_index_or later v Unseen ≡ slice_index_or visits v Unseen) × (slice_index after v ≡ slice_index classes v))
+
+-- the vertex comes onto the stack, as a part of its own
+pub record Enters (old new : Search) (vertex : ℕ) : Type 0 where
+  pub visits : new.visits.items ≡ slice_set old.visits.items vertex (Open (vec_len old.stack))
+  pub stack : new.stack.items ≡ old.stack.items ++ vertex ∷ []
+  pub parts : new.parts.items ≡ old.parts.items ++ vec_len old.stack ∷ []
+  pub classes : new.classes ≡ old.classes
+  pub next : new.next ≡ old.next
+
+-- the parts that begin after the place are joined to the one before
+pub record Joins (parts fewer : List ℕ) (place : ℕ) : Type 0 where
+  pub rise : IsRising fewer
+  pub was : (b : ℕ) → Contains fewer b → Contains parts b × (b ≤ place)
+  pub kept : (b : ℕ) → Contains parts b → b ≤ place → Contains fewer b
+
+-- what an edge to a vertex with this visit does, and the place where the pass goes on
+abbrev pub Meets : Visit → Search → Search → ℕ → ℕ → ℕ → Type 0
+Meets Unseen old new here target there =
+    Enters old new target × (new.waiting.items ≡ old.waiting.items ++ here ∷ []) × (there ≡ vec_len old.stack)
+Meets (Open place) old new here target there =
+    (new ≡ record old { parts = new.parts }) × Joins old.parts.items new.parts.items place × (there ≡ here)
+Meets Closed old new here target there = (new ≡ old) × (there ≡ here)
+
+-- the vertices from the place up become a class, and leave the stack
+pub record Closes (old new : Search) (low : ℕ) : Type 0 where
+  pub visits_count : vec_len new.visits ≡ vec_len old.visits
+  pub classes_count : vec_len new.classes ≡ vec_len old.classes
+  pub least : ℕ
+  pub become : BecomeClass (slice_index old.stack.items) low (vec_len old.stack) least (visit_of old) (visit_of new)
+      (slice_index old.classes.items) (slice_index new.classes.items)
+  pub stack : new.stack.items ≡ take low old.stack.items
+  pub parts : new.parts ≡ old.parts
+  pub next : new.next ≡ old.next
+  pub waiting : new.waiting ≡ old.waiting
+
+-- what is left to do: two for each edge that was not followed, and one for each vertex of the path
+abbrev pub work_left : Adjacency → Search → List ℕ → ℕ
+work_left adjacency search path =
+    2 * (vec_len search.next * vec_len adjacency.targets - sum search.next.items) + length path

@@ -3,7 +3,9 @@
 //! It keeps the vertices that were seen, and whose class is not known yet, on a stack in the order in which they were seen. The stack is cut into
 //! parts of vertices that reach each other. An edge back to a vertex on the stack joins the parts from there up. When all edges of the
 //! vertex where a part begins were followed, and it is the last part, then it is a class, and leaves the stack.
-ghost use Rattle.std.specs.Prelude.{◌≡◌, ℕ, ◌+◌, ◌<◌, ◌≤◌, ◌++◌, ◌∷◌, [], length, slice_index, IfOk, OnOk, MatchOption, Contains, vec_len};
+ghost use Rattle.std.specs.Prelude.{◌≡◌, ◌≢◌, ℕ, ◌-◌, ◌+◌, ◌<◌, ◌≤◌, ◌++◌, ◌∷◌, [], length, drop, slice_index, slice_index_or, IfOk, OnOk, IfNone, Contains, vec_len};
+ghost use Rattle.std.specs.Option.{option_to_list};
+ghost use Rattle.cox_scc.specs.Walk.{IsRising, Joins, CloseMembers};
 
 use crate::NoMemory;
 use crate::adjacency::Adjacency;
@@ -35,4 +37,185 @@ pub(crate) struct Search {
     pub(crate) parts: Vec<usize>,
     /// The places of the vertices that wait until what they led to is explored.
     pub(crate) waiting: Vec<usize>,
+}
+
+impl Search {
+    ghost use Rattle.cox_scc.specs.Walk.{visit_of, IsWalk, LeadsIn, StaySeen, Enters, Meets, Closes, work_left};
+
+    /// Follows edges from the vertex as far as they lead to vertices that were not seen.
+    pub(crate) fn explore(&mut self, adjacency: &Adjacency, root: u32) -> Result<(), NoMemory>
+        requires walk { IsWalk adjacency.now self.old [] }
+        requires root { root < adjacency.now.vertices }
+        requires unseen { visit_of self.old root ≡ Visit.Unseen }
+        requires idle { self.old.waiting.items ≡ [] }
+        ensures walk { OnOk result (IsWalk adjacency.now self.new []) }
+        ensures idle { OnOk result (self.new.waiting.items ≡ []) }
+        ensures seen { OnOk result (StaySeen self.old self.new) }
+        ensures found { OnOk result (visit_of self.new root ≢ Visit.Unseen) }
+    {
+        let mut place = Some(self.stack.len());
+        self.enter(root)?;
+        while let Some(here) = place {
+            place = self.step(adjacency, here)?;
+        }
+        Ok(())
+    }
+
+    // Follows one edge of the vertex at the place, or is done with it, and says at which place the pass goes on.
+    fn step(&mut self, adjacency: &Adjacency, here: usize) -> Result<Option<usize>, NoMemory>
+        requires walk { IsWalk adjacency.now self.old (self.old.waiting.items ++ here ∷ []) }
+        ensures walk { IfOk result (λ there. IsWalk adjacency.now self.new (self.new.waiting.items ++ option_to_list there)) }
+        ensures seen { OnOk result (StaySeen self.old self.new) }
+        ensures less { IfOk result (λ there. work_left adjacency.now self.new (self.new.waiting.items ++ option_to_list there) < work_left adjacency.now self.old (self.old.waiting.items ++ here ∷ [])) }
+    {
+        let vertex = self.stack[here] as usize;
+        if self.next[vertex] < adjacency.offsets[vertex + 1] {
+            let there = self.follow(adjacency, here)?;
+            return Ok(Some(there));
+        }
+        Ok(self.leave(adjacency, here))
+    }
+
+    // Follows the next edge of the vertex at the place.
+    fn follow(&mut self, adjacency: &Adjacency, here: usize) -> Result<usize, NoMemory>
+        requires walk { IsWalk adjacency.now self.old (self.old.waiting.items ++ here ∷ []) }
+        requires more { let vertex = slice_index self.old.stack.items here in slice_index self.old.next.items vertex < slice_index adjacency.now.offsets.items (vertex + 1) }
+        ensures walk { IfOk result (λ there. IsWalk adjacency.now self.new (self.new.waiting.items ++ there ∷ [])) }
+        ensures seen { OnOk result (StaySeen self.old self.new) }
+        ensures less { IfOk result (λ there. work_left adjacency.now self.new (self.new.waiting.items ++ there ∷ []) < work_left adjacency.now self.old (self.old.waiting.items ++ here ∷ [])) }
+    {
+        let vertex = self.stack[here] as usize;
+        let edge = self.next[vertex];
+        let there = self.meet(here, adjacency.targets[edge])?;
+        self.next[vertex] = edge + 1;
+        Ok(there)
+    }
+
+    // Is done with the vertex at the place, whose edges were all followed.
+    fn leave(&mut self, adjacency: &Adjacency, here: usize) -> Option<usize>
+        requires walk { IsWalk adjacency.now self.old (self.old.waiting.items ++ here ∷ []) }
+        requires done { let vertex = slice_index self.old.stack.items here in slice_index adjacency.now.offsets.items (vertex + 1) ≤ slice_index self.old.next.items vertex }
+        ensures walk { IsWalk adjacency.now self.new (self.new.waiting.items ++ option_to_list result) }
+        ensures seen { StaySeen self.old self.new }
+        ensures less { work_left adjacency.now self.new (self.new.waiting.items ++ option_to_list result) < work_left adjacency.now self.old (self.old.waiting.items ++ here ∷ []) }
+    {
+        self.finish(adjacency, here);
+        self.waiting.pop()
+    }
+
+    // Closes the last part where it begins at the place. The vertex there leaves the path.
+    fn finish(&mut self, adjacency: &Adjacency, here: usize)
+        requires walk { IsWalk adjacency.now self.old (self.old.waiting.items ++ here ∷ []) }
+        requires done { let vertex = slice_index self.old.stack.items here in slice_index adjacency.now.offsets.items (vertex + 1) ≤ slice_index self.old.next.items vertex }
+        ensures walk { IsWalk adjacency.now self.new self.new.waiting.items }
+        ensures seen { StaySeen self.old self.new }
+        ensures next { self.new.next ≡ self.old.next }
+        ensures waiting { self.new.waiting ≡ self.old.waiting }
+    {
+        let _vertices = adjacency.vertices;
+        let last = self.parts.len() - 1;
+        if self.parts[last] == here {
+            self.parts.truncate(last);
+            self.close(here);
+        }
+    }
+
+    // Goes to the end of an edge from the vertex at the place.
+    fn meet(&mut self, here: usize, target: u32) -> Result<usize, NoMemory>
+        requires target { target < vec_len self.old.visits }
+        requires rise { IsRising self.old.parts.items }
+        ensures { IfOk result (λ there. Meets (visit_of self.old target) self.old self.new here target there) }
+    {
+        match self.visits[target as usize] {
+            Visit::Unseen => {
+                let there = self.stack.len();
+                self.enter(target)?;
+                self.waiting.push(here)?;
+                Ok(there)
+            }
+            Visit::Open(place) => {
+                self.join(place);
+                Ok(here)
+            }
+            Visit::Closed => Ok(here),
+        }
+    }
+
+    // Puts a vertex that was not seen onto the stack, as a part of its own.
+    fn enter(&mut self, vertex: u32) -> Result<(), NoMemory>
+        requires { vertex < vec_len self.old.visits }
+        ensures enters { OnOk result (Enters self.old self.new vertex) }
+        ensures waiting { self.new.waiting ≡ self.old.waiting }
+    {
+        let place = self.stack.len();
+        self.stack.push(vertex)?;
+        self.parts.push(place)?;
+        self.visits[vertex as usize] = Visit::Open(place);
+        Ok(())
+    }
+
+    // Joins the parts that begin after the place to the one before.
+    fn join(&mut self, place: usize)
+        requires { IsRising self.old.parts.items }
+        ensures others { self.new ≡ record self.old { parts = self.new.parts } }
+        ensures joins { Joins self.old.parts.items self.new.parts.items place }
+    {
+        let count = count_up_to(&self.parts, place);
+        self.parts.truncate(count);
+    }
+
+    // Makes a class of the vertices from the place up, and takes them off the stack.
+    fn close(&mut self, low: usize)
+        requires some { low < vec_len self.old.stack }
+        requires vertices { (place : ℕ) → place < vec_len self.old.stack → slice_index self.old.stack.items place < vec_len self.old.visits }
+        requires sized { vec_len self.old.classes ≡ vec_len self.old.visits }
+        ensures { Closes self.old self.new low }
+    {
+        let least = least_of(&self.stack[low..]);
+        close_members(
+            &mut self.visits,
+            &mut self.classes,
+            &self.stack[low..],
+            least,
+        );
+        self.stack.truncate(low);
+    }
+}
+
+// How many of the places, which go up, are not after this one.
+fn count_up_to(places: &[usize], place: usize) -> usize
+    ensures within { result ≤ length places.now }
+    ensures after { (k : ℕ) → result ≤ k → k < length places.now → place < slice_index places.now k }
+    ensures last { 0 < result → slice_index places.now (result - 1) ≤ place }
+{
+    let mut count = places.len();
+    while count > 0 && places[count - 1] > place {
+        count -= 1;
+    }
+    count
+}
+
+// The least of some numbers.
+fn least_of(members: &[u32]) -> u32
+    requires { 0 < length members.now }
+    ensures member { Contains members.now result }
+    ensures least { (k : ℕ) → k < length members.now → result ≤ slice_index members.now k }
+{
+    let mut least = members[0];
+    for &member in members {
+        least = least.min(member);
+    }
+    least
+}
+
+// Closes the members, and gives them a number.
+fn close_members(visits: &mut Vec<Visit>, classes: &mut Vec<u32>, members: &[u32], least: u32)
+    requires sized { vec_len classes.old ≡ vec_len visits.old }
+    requires members { (k : ℕ) → k < length members.now → slice_index members.now k < vec_len visits.old }
+    ensures { CloseMembers members.now least visits.old.items visits.new.items classes.old.items classes.new.items }
+{
+    for &member in members {
+        visits[member as usize] = Visit::Closed;
+        classes[member as usize] = least;
+    }
 }
