@@ -10,3 +10,5 @@ pub mod Chains
 pub mod Keeping
 -- a part that becomes a class
 pub mod Closing
+-- the whole state of the pass
+pub mod Walks
