@@ -4,6 +4,7 @@ use Rattle.std.proofs.lemmas.Bool.{cases_lt, cases_eq}
 use Rattle.std.proofs.lemmas.List.{get_or-set_same, get_or-set_other, get_or_append_left, get_or_push, get_or-take, length-set, take_more, take_all, length_push, length-append}
 use Rattle.std.proofs.lemmas.List.Elements.{Contains-append_left, Contains-push, Contains-push_cases}
 use Rattle.std.specs.Vec.{with_item}
+use Rattle.std.specs.Global.{Vec}
 use Rattle.cox_scc.specs.declared.adjacency.Adjacency.{Adjacency}
 use Rattle.cox_scc.specs.declared.search.Search.{Search}
 use Rattle.cox_scc.specs.declared.search.Visit.{Visit}
@@ -78,3 +79,167 @@ module _ (old new : Search) (v : ℕ) (enters : Enters old new v) where
         (settled_enter n size v (visit_of old) (visit_of new) (slice_index old.stack.items) (slice_index new.stack.items) opened others_stay top_is
         below_stays unseen (LeadsIn adjacency) (slice_index old.classes.items) walk.settled);
   }
+
+-- the vertex at the end of the path
+module _ (adjacency : Adjacency) (search : Search) (rest : List ℕ) (here : ℕ) (walk : IsWalk adjacency search (rest ++ here ∷ [])) where
+  abbrev vertex : ℕ
+  vertex = slice_index search.stack.items here
+
+  abbrev edge : ℕ
+  edge = slice_index search.next.items vertex
+
+  abbrev IsMore : Type 0
+  IsMore = edge < slice_index adjacency.offsets.items (vertex + 1)
+
+  pub here_in : here < vec_len search.stack
+  here_in = walk.stacked.below here (Contains-push rest here)
+
+  pub vertex_in : vertex < adjacency.vertices
+  vertex_in = walk.placed.vertex here here_in
+
+  pub edge_from : IsMore → IsFrom adjacency.offsets.items vertex edge
+  edge_from more = record { begun = walk.followed.begun vertex vertex_in; within = more }
+
+  pub edge_in : IsMore → edge < vec_len adjacency.targets
+  edge_in more = omega (arith, adjacency.listed.room vertex vertex_in, adjacency.targets.ok.0)
+
+  pub target_in : IsMore → slice_index adjacency.targets.items edge < adjacency.vertices
+  target_in more = adjacency.listed.vertex vertex edge vertex_in (edge_from more)
+
+  -- no part begins after the end of the path
+  pub parts_below : (b : ℕ) → Contains search.parts.items b → b ≤ here
+  parts_below b part = ⊎_elim (λ waits. let lt : b < here = rising_below rest here b walk.stacked.path_rises waits in omega arith) (λ is. omega arith)
+      (Contains-push_cases rest here b (walk.stacked.on_path b part))
+
+  leads : IsMore → Reaches (LeadsIn adjacency) vertex (slice_index adjacency.targets.items edge)
+  leads more = Reaches-step (edge, edge_from more, refl)
+
+  last_leads : IsMore → (p : ℕ) → p + 1 ≡ vec_len search.stack
+      → Reaches (LeadsIn adjacency) (slice_index search.stack.items p) (slice_index adjacency.targets.items edge)
+  last_leads more p last =
+      let within : here < vec_len search.stack = here_in in
+      Reaches-join (chain_down (LeadsIn adjacency) (slice_index search.stack.items) (vec_len search.stack) search.parts.items walk.chain here p
+      parts_below (omega arith) (omega arith)) (leads more)
+
+  -- the parts are joined from the place of the target up
+  walk_join : (fewer : Vec ℕ) (place : ℕ) → IsMore → place < vec_len search.stack
+      → slice_index search.stack.items place ≡ slice_index adjacency.targets.items edge
+      → Joins search.parts.items fewer.items place → IsWalk adjacency (record search { parts = fewer }) (rest ++ here ∷ [])
+  walk_join fewer place more place_in place_is joins = record {
+    visits_count = walk.visits_count;
+    classes_count = walk.classes_count;
+    next_count = walk.next_count;
+    placed = walk.placed;
+    chain = chain_join (LeadsIn adjacency) (slice_index search.stack.items) (vec_len search.stack) search.parts.items walk.chain fewer.items here place
+        here_in place_in parts_below joins.kept (subst (Reaches (LeadsIn adjacency) vertex) (sym place_is) (leads more));
+    followed = followed_join adjacency.vertices (slice_index adjacency.offsets.items) (slice_index adjacency.targets.items) (visit_of search)
+        (slice_index search.next.items) (slice_index search.stack.items) (vec_len search.stack) search.parts.items fewer.items (rest ++ here ∷ [])
+        (λ b part. (joins.was b part).0) walk.followed;
+    stacked = stacked_join (vec_len search.stack) place search.parts.items fewer.items (rest ++ here ∷ []) joins.rise
+        (λ b part. (joins.was b part).0) joins.kept walk.stacked;
+    settled = walk.settled;
+  }
+
+-- what holds once the end of the edge was met that the vertex at `here` has before it
+record HasMet (adjacency : Adjacency) (old mid : Search) (here : ℕ) (path : List ℕ) : Type 0 where
+  walk : IsWalk adjacency mid path
+  on_path : Contains path here
+  vertex_stays : slice_index mid.stack.items here ≡ slice_index old.stack.items here
+  next_stays : mid.next ≡ old.next
+  lies : (b : ℕ) → Contains mid.parts.items b → b ≤ here
+      → LiesFrom b (visit_of mid (slice_index adjacency.targets.items (slice_index old.next.items (slice_index old.stack.items here))))
+  seen : StaySeen old mid
+
+has_met : (adjacency : Adjacency) (old mid : Search) (here there : ℕ) (walk : IsWalk adjacency old (old.waiting.items ++ here ∷ []))
+    → slice_index old.next.items (slice_index old.stack.items here) < slice_index adjacency.offsets.items (slice_index old.stack.items here + 1)
+    → (visit : Visit)
+    → visit_of old (slice_index adjacency.targets.items (slice_index old.next.items (slice_index old.stack.items here))) ≡ visit
+    → Meets visit old mid here (slice_index adjacency.targets.items (slice_index old.next.items (slice_index old.stack.items here))) there
+    → HasMet adjacency old mid here (mid.waiting.items ++ there ∷ [])
+has_met adjacency old mid here there walk more Unseen is meets =
+    let target : ℕ = slice_index adjacency.targets.items (slice_index old.next.items (slice_index old.stack.items here)) in
+    let within : here < vec_len old.stack = here_in adjacency old old.waiting.items here walk in
+    let in_range : target < adjacency.vertices = target_in adjacency old old.waiting.items here walk more in
+    let in_visits : target < vec_len old.visits = subst (λ z. target < z) (sym walk.visits_count) in_range in
+    let path_is : mid.waiting.items ++ there ∷ [] ≡ (old.waiting.items ++ here ∷ []) ++ vec_len old.stack ∷ [] =
+    ap (λ z. z ++ there ∷ []) meets.1 ∙ ap (λ z. (old.waiting.items ++ here ∷ []) ++ z ∷ []) meets.2 in record {
+      walk = subst (IsWalk adjacency mid) (sym path_is)
+          (walk_enter old mid target meets.0 adjacency (old.waiting.items ++ here ∷ []) in_range is
+          (last_leads adjacency old old.waiting.items here walk more) walk);
+      on_path = subst (λ z. Contains z here) (sym path_is)
+          (Contains-append_left (old.waiting.items ++ here ∷ []) (vec_len old.stack ∷ []) here (Contains-push old.waiting.items here));
+      vertex_stays = below_stays old mid target meets.0 here within;
+      next_stays = meets.0.next;
+      lies = λ b part low. subst (LiesFrom b) (sym (now_open old mid target meets.0 in_visits)) (let le : b ≤ vec_len old.stack = omega arith in le);
+      seen = enter_seen old mid target meets.0 in_visits;
+    }
+has_met adjacency old mid here there walk more (Open place) is meets =
+    let target : ℕ = slice_index adjacency.targets.items (slice_index old.next.items (slice_index old.stack.items here)) in
+    let in_range : target < adjacency.vertices = target_in adjacency old old.waiting.items here walk more in
+    let found = walk.placed.found target place in_range is in
+    let path_is : mid.waiting.items ++ there ∷ [] ≡ old.waiting.items ++ here ∷ [] =
+    ap (λ z. z.waiting.items ++ there ∷ []) meets.0 ∙ ap (λ z. old.waiting.items ++ z ∷ []) meets.2 in record {
+      walk = subst (IsWalk adjacency mid) (sym path_is)
+          (subst (λ z. IsWalk adjacency z (old.waiting.items ++ here ∷ [])) (sym meets.0)
+          (walk_join adjacency old old.waiting.items here walk mid.parts place more found.0 found.1 meets.1));
+      on_path = subst (λ z. Contains z here) (sym path_is) (Contains-push old.waiting.items here);
+      vertex_stays = ap (λ z. slice_index z.stack.items here) meets.0;
+      next_stays = ap (λ z. z.next) meets.0;
+      lies = λ b part low. subst (LiesFrom b) (sym (ap (λ z. visit_of z target) meets.0 ∙ is)) (meets.1.was b part).1;
+      seen = λ v was. sym (ap (λ z. visit_of z v) meets.0) ∙ was;
+    }
+has_met adjacency old mid here there walk more Closed is meets =
+    let target : ℕ = slice_index adjacency.targets.items (slice_index old.next.items (slice_index old.stack.items here)) in
+    let path_is : mid.waiting.items ++ there ∷ [] ≡ old.waiting.items ++ here ∷ [] =
+    ap (λ z. z.waiting.items ++ there ∷ []) meets.0 ∙ ap (λ z. old.waiting.items ++ z ∷ []) meets.1 in record {
+      walk = subst (IsWalk adjacency mid) (sym path_is) (subst (λ z. IsWalk adjacency z (old.waiting.items ++ here ∷ [])) (sym meets.0) walk);
+      on_path = subst (λ z. Contains z here) (sym path_is) (Contains-push old.waiting.items here);
+      vertex_stays = ap (λ z. slice_index z.stack.items here) meets.0;
+      next_stays = ap (λ z. z.next) meets.0;
+      lies = λ b part low. subst (LiesFrom b) (sym (ap (λ z. visit_of z target) meets.0 ∙ is)) tt;
+      seen = λ v was. sym (ap (λ z. visit_of z v) meets.0) ∙ was;
+    }
+
+-- the edge was followed
+pub walk_follow : (adjacency : Adjacency) (old mid : Search) (here there vertex edge : ℕ)
+    → IsWalk adjacency old (old.waiting.items ++ here ∷ [])
+    → vertex ≡ slice_index old.stack.items here → edge ≡ slice_index old.next.items vertex → edge < slice_index adjacency.offsets.items (vertex + 1)
+    → Meets (visit_of old (slice_index adjacency.targets.items edge)) old mid here (slice_index adjacency.targets.items edge) there
+    → IsWalk adjacency (record mid { next = with_item mid.next vertex (edge + 1) }) (mid.waiting.items ++ there ∷ []) × StaySeen old mid
+walk_follow adjacency old mid here there vertex edge walk vertex_is edge_is more meets =
+    let target : ℕ → ℕ = slice_index adjacency.targets.items in
+    let offset : ℕ → ℕ = slice_index adjacency.offsets.items in
+    let v : ℕ = slice_index old.stack.items here in
+    let e : ℕ = slice_index old.next.items v in
+    let e_is : edge ≡ e = edge_is ∙ ap (slice_index old.next.items) vertex_is in
+    let more_here : e < offset (v + 1) = subst (λ z. z < offset (v + 1)) e_is (subst (λ z. edge < offset (z + 1)) vertex_is more) in
+    let meets_here : Meets (visit_of old (target e)) old mid here (target e) there =
+    subst (λ z. Meets (visit_of old (target z)) old mid here (target z) there) e_is meets in
+    let met = has_met adjacency old mid here there walk more_here (visit_of old (target e)) refl meets_here in
+    let mid_v : slice_index mid.stack.items here ≡ vertex = met.vertex_stays ∙ sym vertex_is in
+    let mid_e : slice_index mid.next.items vertex ≡ edge = ap (λ z. slice_index z.items vertex) met.next_stays ∙ sym edge_is in
+    let v_in : vertex < length mid.next.items =
+    (let old_in : v < adjacency.vertices = vertex_in adjacency old old.waiting.items here walk in
+    omega (arith, met.walk.next_count, mid.next.ok.0)) in
+    let later : ℕ → ℕ = slice_index (slice_set mid.next.items vertex (edge + 1)) in
+    let w = met.walk in
+    let here_below : here < vec_len mid.stack = w.stacked.below here met.on_path in
+    (record {
+      visits_count = w.visits_count;
+      classes_count = w.classes_count;
+      next_count = w.next_count;
+      placed = w.placed;
+      chain = w.chain;
+      followed = followed_advance adjacency.vertices offset target (visit_of mid) (slice_index mid.next.items) later (slice_index mid.stack.items)
+          (vec_len mid.stack) here mid.parts.items (mid.waiting.items ++ there ∷ [])
+          (subst (λ z. later z ≡ slice_index mid.next.items z + 1) (sym mid_v)
+          (get_or-set_same mid.next.items vertex (edge + 1) 0 v_in ∙ ap (λ z. z + 1) (sym mid_e)))
+          (λ x ne. get_or-set_other mid.next.items vertex x (edge + 1) 0 (λ same. ne (same ∙ sym mid_v)))
+          here_below met.on_path
+          (subst (λ z. slice_index mid.next.items z < offset (z + 1)) (sym mid_v) (subst (λ z. z < offset (vertex + 1)) (sym mid_e) more))
+          (λ b part low. subst (λ z. LiesFrom b (visit_of mid (target (slice_index mid.next.items z)))) (sym mid_v)
+          (subst (λ z. LiesFrom b (visit_of mid (target z))) (sym (mid_e ∙ e_is)) (met.lies b part low)))
+          w.placed w.followed;
+      stacked = w.stacked;
+      settled = w.settled;
+    }, met.seen)
