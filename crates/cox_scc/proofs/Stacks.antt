@@ -32,3 +32,11 @@ rising_push xs x up below i j lt within = ⊎_elim
     first_in = omega (arith, length_push xs x)
     first : get_or (xs ++ x ∷ []) i 0 ≡ get_or xs i 0
     first = get_or_append_left xs (x ∷ []) 0 i first_in
+
+-- no place is greater than the last one
+pub rising_last : (xs : List ℕ) (last y : ℕ) → length xs ≡ last + 1 → IsRising xs → Contains xs y → y ≤ get_or xs last 0
+rising_last xs last y count up (k, lt, is) =
+    let y_is : get_or xs k 0 ≡ y = get_or_default xs k 0 y lt ∙ is in
+    ⊎_elim (λ less. let h : get_or xs k 0 < get_or xs last 0 = up k last less (omega arith) in omega arith)
+    (λ ge. let k_is : k ≡ last = omega arith in subst (λ z. y ≤ get_or xs z 0) k_is (omega arith))
+    (cases_lt k last)

@@ -1,8 +1,8 @@
 -- The whole state of the pass before and after each step.
 use Rattle.std.proofs.Common.{◌≡◌, ◌≢◌, ℕ, ◌+◌, ◌-◌, ◌<◌, ◌≤◌, ◌⊎◌, inl, inr, List, [], ◌∷◌, ◌++◌, length, take, get_or, slice_index, slice_index_or, slice_set, vec_len, Contains, ⊎_elim, subst, sym, refl, ◌∙◌, ap, arith}
 use Rattle.std.proofs.lemmas.Bool.{cases_lt, cases_eq}
-use Rattle.std.proofs.lemmas.List.{get_or-set_same, get_or-set_other, get_or_append_left, get_or_push, get_or-take, length-set, take_more, take_all, length_push, length-append}
-use Rattle.std.proofs.lemmas.List.Elements.{Contains-append_left, Contains-push, Contains-push_cases}
+use Rattle.std.proofs.lemmas.List.{get_or-set_same, get_or-set_other, get_or_append_left, get_or_push, get_or-take, length-set, take_more, take_all, length_push, length-append, length-take-le}
+use Rattle.std.proofs.lemmas.List.Elements.{Contains-append_left, Contains-push, Contains-push_cases, Contains-get_or}
 use Rattle.std.specs.Vec.{with_item}
 use Rattle.std.specs.Global.{Vec}
 use Rattle.cox_scc.specs.declared.adjacency.Adjacency.{Adjacency}
@@ -12,7 +12,7 @@ use Rattle.cox_scc.specs.declared.search.Visit.TheVariants.{Unseen, Open, Closed
 use Rattle.cox_scc.specs.Reach.{Reaches}
 use Rattle.cox_scc.specs.Sorted.{IsFrom, Leads}
 use Rattle.cox_scc.specs.Walk.{ArePlaced, AreFollowed, AreStacked, AreSettled, IsChain, LiesFrom, Stands, BecomeClass, visit_of, IsWalk, LeadsIn, StaySeen, Enters, Joins, Meets, Closes}
-use Rattle.cox_scc.proofs.Stacks.{rising_below, rising_rest}
+use Rattle.cox_scc.proofs.Stacks.{rising_below, rising_last}
 use Rattle.cox_scc.proofs.Reaching.{Reaches-join, Reaches-step}
 use Rattle.cox_scc.proofs.Chains.{chain_up, chain_down, chain_enter, chain_join, chain_leave}
 use Rattle.cox_scc.proofs.Keeping.{placed_enter, followed_enter, settled_enter, stacked_enter, stacked_join, followed_join, followed_advance, followed_retreat, stacked_retreat}
@@ -243,3 +243,109 @@ walk_follow adjacency old mid here there vertex edge walk vertex_is edge_is more
       stacked = w.stacked;
       settled = w.settled;
     }, met.seen)
+
+-- all edges were followed of the vertex at the end of the path
+module _ (adjacency : Adjacency) (search : Search) (rest : List ℕ) (here : ℕ) (walk : IsWalk adjacency search (rest ++ here ∷ []))
+    (done : slice_index adjacency.offsets.items (slice_index search.stack.items here + 1) ≤ slice_index search.next.items (slice_index search.stack.items here)) where
+  all_followed : slice_index search.next.items (slice_index search.stack.items here) ≡ slice_index adjacency.offsets.items (slice_index search.stack.items here + 1)
+  all_followed =
+      let v : ℕ = slice_index search.stack.items here in
+      let within : slice_index search.next.items v ≤ slice_index adjacency.offsets.items (v + 1) =
+      walk.followed.within v (vertex_in adjacency search rest here walk) in omega (arith, done)
+
+  -- there is a last part, and it begins at the end of the path or before
+  pub some_part : 0 < vec_len search.parts
+  some_part =
+      let within : here < vec_len search.stack = here_in adjacency search rest here walk in
+      let first : Contains search.parts.items 0 = walk.stacked.first (omega arith) in
+      let below : first.0 < length search.parts.items = first.1 in omega (arith, search.parts.ok.0)
+
+  -- the last part begins before the end of the path: nothing is closed
+  pub walk_retreat : slice_index search.parts.items (vec_len search.parts - 1) ≢ here → IsWalk adjacency search rest
+  walk_retreat ne =
+      let size : ℕ = vec_len search.stack in
+      let parts : List ℕ = search.parts.items in
+      let count : length parts ≡ (vec_len search.parts - 1) + 1 = (let some : 0 < vec_len search.parts = some_part in omega (arith, search.parts.ok.0)) in
+      let last_in : Contains parts (slice_index parts (vec_len search.parts - 1)) = Contains-get_or parts (vec_len search.parts - 1) 0 (omega arith) in
+      let not_here : (b : ℕ) → Contains parts b → b ≢ here = λ b part is.
+      (let low : b ≤ slice_index parts (vec_len search.parts - 1) = rising_last parts (vec_len search.parts - 1) b count walk.stacked.parts_rise part in
+      let high : slice_index parts (vec_len search.parts - 1) ≤ here = parts_below adjacency search rest here walk _ last_in in
+      ne (omega arith)) in record {
+        visits_count = walk.visits_count;
+        classes_count = walk.classes_count;
+        next_count = walk.next_count;
+        placed = walk.placed;
+        chain = walk.chain;
+        followed = followed_retreat adjacency.vertices (slice_index adjacency.offsets.items) (slice_index adjacency.targets.items) (visit_of search)
+            (slice_index search.next.items) (slice_index search.stack.items) size here parts rest all_followed walk.followed;
+        stacked = stacked_retreat size here parts rest not_here walk.stacked;
+        settled = walk.settled;
+      }
+
+  -- an edge from the last part leads into it, or to a closed vertex
+  leads_on : Contains search.parts.items here → (p b : ℕ) → here ≤ p → p < vec_len search.stack
+      → LeadsIn adjacency (slice_index search.stack.items p) b → LiesFrom here (visit_of search b)
+  leads_on part p b above within (e, from, is) =
+      let offset : ℕ → ℕ = slice_index adjacency.offsets.items in
+      let next : ℕ → ℕ = slice_index search.next.items in
+      let stack : ℕ → ℕ = slice_index search.stack.items in
+      let all : next (stack p) ≡ offset (stack p + 1) =
+      ⊎_elim
+      (λ on. ⊎_elim (λ waits. let low : p < here = rising_below rest here p walk.stacked.path_rises waits in absurd (omega arith))
+      (λ same. subst (λ z. next (stack z) ≡ offset (stack z + 1)) same all_followed)
+      (Contains-push_cases rest here p on))
+      (λ h. h) (walk.followed.whole p within) in
+      subst (λ z. LiesFrom here (visit_of search z)) is
+      (walk.followed.ahead here p e part above within from.begun (subst (λ z. e < z) (sym all) from.within))
+
+  -- the last part begins at the end of the path: it is closed
+  pub walk_close : (fewer : Vec ℕ) (new : Search) → search.parts.items ≡ fewer.items ++ here ∷ [] → Closes (record search { parts = fewer }) new here
+      → IsWalk adjacency new rest
+  walk_close fewer new parts_are closes =
+      let n : ℕ = adjacency.vertices in
+      let offset : ℕ → ℕ = slice_index adjacency.offsets.items in
+      let target : ℕ → ℕ = slice_index adjacency.targets.items in
+      let size : ℕ = vec_len search.stack in
+      let stack : ℕ → ℕ = slice_index search.stack.items in
+      let shorter : ℕ → ℕ = slice_index new.stack.items in
+      let class : ℕ → ℕ = slice_index search.classes.items in
+      let after : ℕ → ℕ = slice_index new.classes.items in
+      let low_in : here < size = here_in adjacency search rest here walk in
+      let part : Contains search.parts.items here = subst (λ z. Contains z here) (sym parts_are) (Contains-push fewer.items here) in
+      let was : (b : ℕ) → Contains fewer.items b → Contains search.parts.items b =
+      λ b h. subst (λ z. Contains z b) (sym parts_are) (Contains-append_left fewer.items (here ∷ []) b h) in
+      let kept : (b : ℕ) → Contains search.parts.items b → b < here → Contains fewer.items b =
+      λ b h lt. ⊎_elim (λ old. old) (λ is. absurd (omega arith)) (Contains-push_cases fewer.items here b (subst (λ z. Contains z b) parts_are h)) in
+      let same : (p : ℕ) → p < here → shorter p ≡ stack p =
+      λ p lt. ap (λ z. slice_index z p) closes.stack ∙ get_or-take here search.stack.items p 0 lt in
+      let size_is : vec_len new.stack ≡ here =
+      new.stack.ok.0 ∙ ap (length {A = ℕ}) closes.stack ∙ length-take-le here search.stack.items (omega (arith, search.stack.ok.0)) in
+      let parts_is : new.parts.items ≡ fewer.items = ap (λ z. z.items) closes.parts in record {
+        visits_count = closes.visits_count ∙ walk.visits_count;
+        classes_count = closes.classes_count ∙ walk.classes_count;
+        next_count = ap (λ z. z.len) closes.next ∙ walk.next_count;
+        placed = subst (ArePlaced n (visit_of new) shorter) (sym size_is)
+            (placed_close n here size closes.least (visit_of search) (visit_of new) class after stack low_in closes.become walk.placed shorter same);
+        chain = subst (λ z. IsChain (LeadsIn adjacency) shorter z new.parts.items) (sym size_is)
+            (subst (IsChain (LeadsIn adjacency) shorter here) (sym parts_is)
+            (chain_leave (LeadsIn adjacency) stack size search.parts.items walk.chain fewer.items shorter here (omega arith) same kept));
+        followed = subst (λ z. AreFollowed n offset target (visit_of new) (slice_index new.next.items) shorter z new.parts.items rest) (sym size_is)
+            (subst (λ z. AreFollowed n offset target (visit_of new) (slice_index new.next.items) shorter here z rest) (sym parts_is)
+            (subst (λ z. AreFollowed n offset target (visit_of new) (slice_index z.items) shorter here fewer.items rest) (sym closes.next)
+            (followed_close n here size closes.least (visit_of search) (visit_of new) class after stack low_in closes.become walk.placed offset target
+            (slice_index search.next.items) shorter search.parts.items fewer.items rest same was walk.followed)));
+        stacked = subst (λ z. AreStacked z new.parts.items rest) (sym size_is)
+            (subst (λ z. AreStacked here z rest) (sym parts_is)
+            (stacked_close size here fewer.items rest (subst (λ z. AreStacked size z (rest ++ here ∷ [])) parts_are walk.stacked)));
+        settled = settled_close (LeadsIn adjacency) n here size closes.least (visit_of search) (visit_of new) class after stack low_in closes.become
+            walk.placed search.parts.items walk.chain (parts_below adjacency search rest here walk) walk.settled (leads_on part)
+            (λ a b a_in lead. subst (λ z. z < n) lead.2 (adjacency.listed.vertex a lead.0 a_in lead.1));
+      }
+
+-- what is closed was seen
+pub close_seen : (old new : Search) (low : ℕ) → Closes old new low → StaySeen old new
+close_seen old new low closes v is = ⊎_elim
+    (λ stands. let both : Closed ≡ Unseen = sym (closes.become.closed stands.place stands.above stands.below) ∙ ap (visit_of new) stands.is ∙ is in
+    absurd (let no : ⊥ = cc in no))
+    (λ kept. sym kept.0 ∙ is)
+    (closes.become.others v)
