@@ -1,8 +1,9 @@
 -- The whole state of the pass before and after each step.
-use Rattle.std.proofs.Common.{◌≡◌, ◌≢◌, ℕ, ◌+◌, ◌-◌, ◌<◌, ◌≤◌, ◌⊎◌, inl, inr, List, [], ◌∷◌, ◌++◌, length, take, get_or, slice_index, slice_index_or, slice_set, vec_len, Contains, ⊎_elim, subst, sym, refl, ◌∙◌, ap, arith}
+use Rattle.std.proofs.Common.{◌≡◌, ◌≢◌, ℕ, ◌+◌, ◌-◌, ◌<◌, ◌≤◌, ◌⊎◌, inl, inr, List, [], ◌∷◌, ◌++◌, length, take, get_or, slice_index, slice_index_or, slice_set, vec_len, sum, ◌*◌, All, Contains, ⊎_elim, subst, sym, refl, ◌∙◌, ap, arith}
 use Rattle.std.proofs.lemmas.Bool.{cases_lt, cases_eq}
-use Rattle.std.proofs.lemmas.List.{get_or-set_same, get_or-set_other, get_or_append_left, get_or_push, get_or-take, length-set, take_more, take_all, length_push, length-append, length-take-le}
-use Rattle.std.proofs.lemmas.List.Elements.{Contains-append_left, Contains-push, Contains-push_cases, Contains-get_or}
+use Rattle.std.proofs.lemmas.List.{get_or-set_same, get_or-set_other, get_or_append_left, get_or_push, get_or_read_under, get_or-take, length-set, take_more, take_all, length_push, length-append, length-take-le}
+use Rattle.std.proofs.lemmas.List.Elements.{Contains-append_left, Contains-push, Contains-push_cases, Contains-get_or, All-from_get_or}
+use Rattle.std.proofs.lemmas.List.Sums.{sum_by-set, sum_by-le}
 use Rattle.std.specs.Vec.{with_item}
 use Rattle.std.specs.Global.{Vec}
 use Rattle.cox_scc.specs.declared.adjacency.Adjacency.{Adjacency}
@@ -11,7 +12,7 @@ use Rattle.cox_scc.specs.declared.search.Visit.{Visit}
 use Rattle.cox_scc.specs.declared.search.Visit.TheVariants.{Unseen, Open, Closed}
 use Rattle.cox_scc.specs.Reach.{Reaches}
 use Rattle.cox_scc.specs.Sorted.{IsFrom, Leads}
-use Rattle.cox_scc.specs.Walk.{ArePlaced, AreFollowed, AreStacked, AreSettled, IsChain, LiesFrom, Stands, BecomeClass, visit_of, IsWalk, LeadsIn, StaySeen, Enters, Joins, Meets, Closes}
+use Rattle.cox_scc.specs.Walk.{ArePlaced, AreFollowed, AreStacked, AreSettled, IsChain, LiesFrom, Stands, BecomeClass, visit_of, IsWalk, LeadsIn, StaySeen, Enters, Joins, Meets, Closes, work_left}
 use Rattle.cox_scc.proofs.Stacks.{rising_below, rising_last}
 use Rattle.cox_scc.proofs.Reaching.{Reaches-join, Reaches-step}
 use Rattle.cox_scc.proofs.Chains.{chain_up, chain_down, chain_enter, chain_join, chain_leave}
@@ -111,6 +112,25 @@ module _ (adjacency : Adjacency) (search : Search) (rest : List ℕ) (here : ℕ
   parts_below b part = ⊎_elim (λ waits. let lt : b < here = rising_below rest here b walk.stacked.path_rises waits in omega arith) (λ is. omega arith)
       (Contains-push_cases rest here b (walk.stacked.on_path b part))
 
+  -- what the code reads at the end of the path
+  pub vertex_read : (v : ℕ) → v ≡ get_or search.stack.items here v → v ≡ vertex
+  vertex_read v is = get_or_read_under search.stack.items here (vec_len search.stack) v 0 is here_in search.stack.ok.0
+
+  pub in_next : (v : ℕ) → v ≡ vertex → v < vec_len search.next
+  in_next v is = omega (arith, vertex_in, walk.next_count)
+
+  pub edge_read : (v e : ℕ) → v ≡ vertex → e ≡ get_or search.next.items v e → e ≡ slice_index search.next.items v
+  edge_read v e v_is is = get_or_read_under search.next.items v (vec_len search.next) e 0 is (in_next v v_is) search.next.ok.0
+
+  pub in_offsets : (v : ℕ) → v ≡ vertex → v + 1 < vec_len adjacency.offsets
+  in_offsets v is = omega (arith, vertex_in, adjacency.listed.count, adjacency.offsets.ok.0)
+
+  pub edge_is_next : (v e : ℕ) → v ≡ vertex → e ≡ slice_index search.next.items v → e ≡ edge
+  edge_is_next v e v_is is = is ∙ ap (slice_index search.next.items) v_is
+
+  pub target_read : (e t : ℕ) → e ≡ edge → IsMore → t ≡ get_or adjacency.targets.items e t → t ≡ slice_index adjacency.targets.items e
+  target_read e t e_is more is = get_or_read_under adjacency.targets.items e (vec_len adjacency.targets) t 0 is (omega (arith, edge_in more)) adjacency.targets.ok.0
+
   leads : IsMore → Reaches (LeadsIn adjacency) vertex (slice_index adjacency.targets.items edge)
   leads more = Reaches-step (edge, edge_from more, refl)
 
@@ -149,6 +169,7 @@ record HasMet (adjacency : Adjacency) (old mid : Search) (here : ℕ) (path : Li
   lies : (b : ℕ) → Contains mid.parts.items b → b ≤ here
       → LiesFrom b (visit_of mid (slice_index adjacency.targets.items (slice_index old.next.items (slice_index old.stack.items here))))
   seen : StaySeen old mid
+  longer : length path ≤ length (old.waiting.items ++ here ∷ []) + 1
 
 has_met : (adjacency : Adjacency) (old mid : Search) (here there : ℕ) (walk : IsWalk adjacency old (old.waiting.items ++ here ∷ []))
     → slice_index old.next.items (slice_index old.stack.items here) < slice_index adjacency.offsets.items (slice_index old.stack.items here + 1)
@@ -172,6 +193,7 @@ has_met adjacency old mid here there walk more Unseen is meets =
       next_stays = meets.0.next;
       lies = λ b part low. subst (LiesFrom b) (sym (now_open old mid target meets.0 in_visits)) (let le : b ≤ vec_len old.stack = omega arith in le);
       seen = enter_seen old mid target meets.0 in_visits;
+      longer = omega (arith, ap (length {A = ℕ}) path_is, length_push (old.waiting.items ++ here ∷ []) (vec_len old.stack));
     }
 has_met adjacency old mid here there walk more (Open place) is meets =
     let target : ℕ = slice_index adjacency.targets.items (slice_index old.next.items (slice_index old.stack.items here)) in
@@ -187,6 +209,7 @@ has_met adjacency old mid here there walk more (Open place) is meets =
       next_stays = ap (λ z. z.next) meets.0;
       lies = λ b part low. subst (LiesFrom b) (sym (ap (λ z. visit_of z target) meets.0 ∙ is)) (meets.1.was b part).1;
       seen = λ v was. sym (ap (λ z. visit_of z v) meets.0) ∙ was;
+      longer = omega (arith, ap (length {A = ℕ}) path_is);
     }
 has_met adjacency old mid here there walk more Closed is meets =
     let target : ℕ = slice_index adjacency.targets.items (slice_index old.next.items (slice_index old.stack.items here)) in
@@ -198,14 +221,43 @@ has_met adjacency old mid here there walk more Closed is meets =
       next_stays = ap (λ z. z.next) meets.0;
       lies = λ b part low. subst (LiesFrom b) (sym (ap (λ z. visit_of z target) meets.0 ∙ is)) tt;
       seen = λ v was. sym (ap (λ z. visit_of z v) meets.0) ∙ was;
+      longer = omega (arith, ap (length {A = ℕ}) path_is);
     }
 
--- the edge was followed
+-- the sum grows by one where one element does
+sum-set : (xs : List ℕ) (i : ℕ) → i < length xs → sum (slice_set xs i (slice_index xs i + 1)) ≡ sum xs + 1
+sum-set xs i within = omega (arith, sum_by-set (λ x. x) xs i (slice_index xs i + 1) 0 within)
+
+-- there is less work left where one more edge was followed and the path is longer by one at most
+work_less : (adjacency : Adjacency) (search : Search) (path longer : List ℕ) (v e : ℕ) → e ≡ slice_index search.next.items v → v < vec_len search.next
+    → IsWalk adjacency (record search { next = with_item search.next v (e + 1) }) longer → length longer ≤ length path + 1
+    → work_left adjacency (record search { next = with_item search.next v (e + 1) }) longer < work_left adjacency search path
+work_less adjacency search path longer v e e_is v_in walk le =
+    let m : ℕ = vec_len adjacency.targets in
+    let all : ℕ = vec_len search.next * m in
+    let after : List ℕ = slice_set search.next.items v (e + 1) in
+    let sum_is : sum after ≡ sum search.next.items + 1 =
+    ap (λ z. sum (slice_set search.next.items v (z + 1))) e_is ∙ sum-set search.next.items v (omega (arith, search.next.ok.0)) in
+    let count : length after ≡ vec_len search.next = length-set search.next.items v (e + 1) ∙ sym search.next.ok.0 in
+    let within : All (λ x. x ≤ m) after = All-from_get_or (λ x. x ≤ m) after 0
+    (λ i lt. let i_in : i < adjacency.vertices = omega (arith, walk.next_count) in
+    omega (arith, walk.followed.within i i_in, adjacency.listed.room i i_in, adjacency.targets.ok.0)) in
+    let bound : sum after ≤ vec_len search.next * m = subst (λ z. sum after ≤ z * m) count (sum_by-le (λ x. x) m after within) in
+    omega (arith, sum_is, bound, le)
+
+-- an edge was followed
+pub record HasFollowed (adjacency : Adjacency) (old mid : Search) (here there vertex edge : ℕ) : Type 0 where
+  pub walk : IsWalk adjacency (record mid { next = with_item mid.next vertex (edge + 1) }) (mid.waiting.items ++ there ∷ [])
+  pub seen : StaySeen old mid
+  pub in_next : vertex < vec_len mid.next
+  pub less : work_left adjacency (record mid { next = with_item mid.next vertex (edge + 1) }) (mid.waiting.items ++ there ∷ [])
+      < work_left adjacency old (old.waiting.items ++ here ∷ [])
+
 pub walk_follow : (adjacency : Adjacency) (old mid : Search) (here there vertex edge : ℕ)
     → IsWalk adjacency old (old.waiting.items ++ here ∷ [])
     → vertex ≡ slice_index old.stack.items here → edge ≡ slice_index old.next.items vertex → edge < slice_index adjacency.offsets.items (vertex + 1)
     → Meets (visit_of old (slice_index adjacency.targets.items edge)) old mid here (slice_index adjacency.targets.items edge) there
-    → IsWalk adjacency (record mid { next = with_item mid.next vertex (edge + 1) }) (mid.waiting.items ++ there ∷ []) × StaySeen old mid
+    → HasFollowed adjacency old mid here there vertex edge
 walk_follow adjacency old mid here there vertex edge walk vertex_is edge_is more meets =
     let target : ℕ → ℕ = slice_index adjacency.targets.items in
     let offset : ℕ → ℕ = slice_index adjacency.offsets.items in
@@ -224,7 +276,7 @@ walk_follow adjacency old mid here there vertex edge walk vertex_is edge_is more
     let later : ℕ → ℕ = slice_index (slice_set mid.next.items vertex (edge + 1)) in
     let w = met.walk in
     let here_below : here < vec_len mid.stack = w.stacked.below here met.on_path in
-    (record {
+    let after : IsWalk adjacency (record mid { next = with_item mid.next vertex (edge + 1) }) (mid.waiting.items ++ there ∷ []) = record {
       visits_count = w.visits_count;
       classes_count = w.classes_count;
       next_count = w.next_count;
@@ -242,7 +294,15 @@ walk_follow adjacency old mid here there vertex edge walk vertex_is edge_is more
           w.placed w.followed;
       stacked = w.stacked;
       settled = w.settled;
-    }, met.seen)
+    } in
+    let vertex_below : vertex < vec_len mid.next = omega (arith, mid.next.ok.0) in record {
+      walk = after;
+      seen = met.seen;
+      in_next = vertex_below;
+      less = subst (λ z. work_left adjacency (record mid { next = with_item mid.next vertex (edge + 1) }) (mid.waiting.items ++ there ∷ [])
+          < 2 * (z.len * vec_len adjacency.targets - sum z.items) + length (old.waiting.items ++ here ∷ [])) met.next_stays
+          (work_less adjacency mid (old.waiting.items ++ here ∷ []) (mid.waiting.items ++ there ∷ []) vertex edge (sym mid_e) vertex_below after met.longer);
+    }
 
 -- all edges were followed of the vertex at the end of the path
 module _ (adjacency : Adjacency) (search : Search) (rest : List ℕ) (here : ℕ) (walk : IsWalk adjacency search (rest ++ here ∷ []))

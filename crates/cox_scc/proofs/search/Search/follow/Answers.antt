@@ -1,10 +1,15 @@
+-- What is read is the next edge of the vertex at the end of the path, and following it keeps the walk.
+use Rattle.std.proofs.Common.{◌≡◌, ℕ, ◌+◌, ◌<◌, ◌++◌, ◌∷◌, [], slice_index, vec_len, get_or, ap, ◌∙◌, arith}
+use Rattle.cox_scc.proofs.Walks.{here_in, vertex_read, in_next, edge_read, edge_in, target_in, walk_follow}
 use Rattle.cox_scc.proofs.search.Search.follow.Goals as goal
 
 pub index-requires : goal.index-requires
-index-requires c = ?
+index-requires c = here_in c.args.adjacency.now c.args.self.now c.args.self.now.waiting.items c.args.here c.requires.walk
 
 pub index-edge-requires : goal.index-edge-requires
-index-edge-requires c = ?
+index-edge-requires c =
+    let w = c.requires.walk in
+    in_next _ _ _ _ w c.index.result.now (vertex_read _ _ _ _ w c.index.result.now c.index.ensures)
 
 pub index-requires-2 : goal.index-requires-2
 index-requires-2 c = ?
