@@ -131,6 +131,10 @@ module _ (adjacency : Adjacency) (search : Search) (rest : List ℕ) (here : ℕ
   pub target_read : (e t : ℕ) → e ≡ edge → IsMore → t ≡ get_or adjacency.targets.items e t → t ≡ slice_index adjacency.targets.items e
   target_read e t e_is more is = get_or_read_under adjacency.targets.items e (vec_len adjacency.targets) t 0 is (omega (arith, edge_in more)) adjacency.targets.ok.0
 
+  pub offset_read : (v o : ℕ) → v ≡ vertex → o ≡ get_or adjacency.offsets.items (v + 1) o → o ≡ slice_index adjacency.offsets.items (vertex + 1)
+  offset_read v o v_is is = get_or_read_under adjacency.offsets.items (v + 1) (vec_len adjacency.offsets) o 0 is (in_offsets v v_is) adjacency.offsets.ok.0
+      ∙ ap (λ z. slice_index adjacency.offsets.items (z + 1)) v_is
+
   leads : IsMore → Reaches (LeadsIn adjacency) vertex (slice_index adjacency.targets.items edge)
   leads more = Reaches-step (edge, edge_from more, refl)
 
@@ -303,6 +307,22 @@ walk_follow adjacency old mid here there vertex edge walk vertex_is edge_is more
           < 2 * (z.len * vec_len adjacency.targets - sum z.items) + length (old.waiting.items ++ here ∷ [])) met.next_stays
           (work_less adjacency mid (old.waiting.items ++ here ∷ []) (mid.waiting.items ++ there ∷ []) vertex edge (sym mid_e) vertex_below after met.longer);
     }
+
+-- the same by what the code reads
+pub walk_follow_read : (adjacency : Adjacency) (old mid : Search) (here there v e t : ℕ) (walk : IsWalk adjacency old (old.waiting.items ++ here ∷ []))
+    → v ≡ get_or old.stack.items here v → e ≡ get_or old.next.items v e → t ≡ get_or adjacency.targets.items e t
+    → slice_index old.next.items (slice_index old.stack.items here) < slice_index adjacency.offsets.items (slice_index old.stack.items here + 1)
+    → Meets (visit_of old t) old mid here t there → HasFollowed adjacency old mid here there v e
+walk_follow_read adjacency old mid here there v e t walk v_read e_read t_read more meets =
+    let v_is : v ≡ slice_index old.stack.items here = vertex_read adjacency old old.waiting.items here walk v v_read in
+    let e_is : e ≡ slice_index old.next.items v = edge_read adjacency old old.waiting.items here walk v e v_is e_read in
+    let e_next : e ≡ slice_index old.next.items (slice_index old.stack.items here) =
+    edge_is_next adjacency old old.waiting.items here walk v e v_is e_is in
+    let t_is : t ≡ slice_index adjacency.targets.items e = target_read adjacency old old.waiting.items here walk e t e_next more t_read in
+    walk_follow adjacency old mid here there v e walk v_is e_is
+    (subst (λ z. e < slice_index adjacency.offsets.items (z + 1)) (sym v_is)
+    (subst (λ z. z < slice_index adjacency.offsets.items (slice_index old.stack.items here + 1)) (sym e_next) more))
+    (subst (λ z. Meets (visit_of old z) old mid here z there) t_is meets)
 
 -- all edges were followed of the vertex at the end of the path
 module _ (adjacency : Adjacency) (search : Search) (rest : List ℕ) (here : ℕ) (walk : IsWalk adjacency search (rest ++ here ∷ []))
