@@ -1,11 +1,12 @@
 -- The last part of the stack becomes a class.
-use Rattle.std.proofs.Common.{◌≡◌, ◌≢◌, ℕ, ◌+◌, ◌<◌, ◌≤◌, ◌⊎◌, ◌↔◌, inl, inr, List, [], ◌∷◌, ◌++◌, Contains, ⊎_elim, subst, sym, refl, ◌∙◌, ap, arith}
+use Rattle.std.proofs.Common.{◌≡◌, ◌≢◌, ℕ, ◌+◌, ◌<◌, ◌≤◌, ◌⊎◌, ◌↔◌, inl, inr, List, [], ◌∷◌, ◌++◌, Contains, ⊎_elim, subst, sym, refl, ◌∙◌, ap, arith, ◌-◌, length, take, drop, slice_index, slice_index_or}
 use Rattle.std.proofs.lemmas.Bool.{cases_lt, cases_eq}
+use Rattle.std.proofs.lemmas.List.{take_rest, get_or-drop, get_or_default, length-drop}
 use Rattle.std.proofs.lemmas.List.Elements.{Contains-append_left, Contains-push, Contains-push_cases}
 use Rattle.cox_scc.specs.declared.search.Visit.{Visit}
 use Rattle.cox_scc.specs.declared.search.Visit.TheVariants.{Unseen, Open, Closed}
 use Rattle.cox_scc.specs.Reach.{Reaches, ReachEachOther}
-use Rattle.cox_scc.specs.Walk.{ArePlaced, AreFollowed, AreStacked, AreSettled, IsChain, LiesFrom, Stands, BecomeClass}
+use Rattle.cox_scc.specs.Walk.{ArePlaced, AreFollowed, AreStacked, AreSettled, IsChain, LiesFrom, Stands, BecomeClass, CloseMembers}
 use Rattle.cox_scc.proofs.Stacks.{rising_below, rising_rest}
 use Rattle.cox_scc.proofs.Reaching.{Reaches-join, Reaches-keeps}
 use Rattle.cox_scc.proofs.Chains.{chain_up, chain_down}
@@ -189,3 +190,39 @@ module _ (IsEdge : ℕ → ℕ → Type 0) (n low size least : ℕ) (visit later
       least_cases a b a_in b_in (inr ka) (inl sb) e = absurd (other_number a a_in ka.0 (sym ka.1 ∙ sym e ∙ member_number b sb))
       least_cases a b a_in b_in (inr ka) (inr kb) e =
           let old : class a ≤ b = settled.least a b a_in b_in ka.0 kb.0 (sym kb.1 ∙ e ∙ ka.1) in omega (arith, ka.1)
+
+-- the slice of the stack from `low` on, as the code has it
+pub slice_is : (slice stack : List ℕ) (low : ℕ) → slice ≡ stack → take (length slice - low) (drop low slice) ≡ drop low stack
+slice_is slice stack low is = take_rest slice low ∙ ap (drop low) is
+
+-- closing the members of that slice makes a class of them
+pub become_class : (stack members others : List ℕ) (low size least : ℕ) (visits later : List Visit) (classes after : List ℕ)
+    → size ≡ length stack → low ≤ size → members ≡ drop low stack → others ≡ drop low stack → Contains others least
+    → ((k : ℕ) → k < length others → least ≤ slice_index others k) → CloseMembers members least visits later classes after
+    → BecomeClass (slice_index stack) low size least (λ v. slice_index_or visits v Unseen) (λ v. slice_index_or later v Unseen)
+    (slice_index classes) (slice_index after)
+become_class stack members others low size least visits later classes after size_is low_le members_are others_are found low_bound close = record {
+  closed = λ p above below. subst (λ z. slice_index_or later z Unseen ≡ Closed) (at members members_are p above)
+      (close.closed (p - low) (within members members_are p above below));
+  number = λ p above below. subst (λ z. slice_index after z ≡ least) (at members members_are p above)
+      (close.number (p - low) (within members members_are p above below));
+  others = λ v. ⊎_elim (λ is. inl (stands members members_are v is)) (λ kept. inr kept) (close.others v);
+  member = stands others others_are least found;
+  least_is = λ p above below. subst (λ z. least ≤ z) (at others others_are p above) (low_bound (p - low) (within others others_are p above below));
+}
+  where
+    at : (xs : List ℕ) → xs ≡ drop low stack → (p : ℕ) → low ≤ p → slice_index xs (p - low) ≡ slice_index stack p
+    at xs are p above =
+        let there : low + (p - low) ≡ p = omega arith in
+        ap (λ z. slice_index z (p - low)) are ∙ get_or-drop low stack (p - low) 0 ∙ ap (slice_index stack) there
+    count : (xs : List ℕ) → xs ≡ drop low stack → length xs ≡ size - low
+    count xs are = ap (length {A = ℕ}) are ∙ length-drop low stack ∙ ap (λ z. z - low) (sym size_is)
+    within : (xs : List ℕ) → xs ≡ drop low stack → (p : ℕ) → low ≤ p → p < size → p - low < length xs
+    within xs are p above below = omega (arith, count xs are)
+    stands : (xs : List ℕ) → xs ≡ drop low stack → (v : ℕ) → Contains xs v → Stands (slice_index stack) low size v
+    stands xs are v (k, lt, is) = record {
+      place = low + k;
+      above = omega arith;
+      below = omega (arith, count xs are);
+      is = sym (get_or-drop low stack k 0) ∙ ap (λ z. slice_index z k) (sym are) ∙ get_or_default xs k 0 v lt ∙ is;
+    }

@@ -1,7 +1,7 @@
 -- Lists of places that go up: with a last place, and without it.
-use Rattle.std.proofs.Common.{◌≡◌, ℕ, ◌+◌, ◌<◌, ◌≤◌, List, [], ◌∷◌, ◌++◌, length, get_or, Contains, refl, ◌∙◌, ⊎_elim, subst, arith}
+use Rattle.std.proofs.Common.{◌≡◌, ℕ, ◌+◌, ◌<◌, ◌≤◌, List, [], ◌∷◌, ◌++◌, length, take, get_or, Contains, refl, sym, ap, ◌∙◌, ⊎_elim, subst, arith}
 use Rattle.std.proofs.lemmas.Bool.{cases_lt}
-use Rattle.std.proofs.lemmas.List.{get_or_append_left, get_or_default, get_or_push, length_push}
+use Rattle.std.proofs.lemmas.List.{get_or_append_left, get_or_default, get_or_push, get_or_read, length_push, take_all, take_more}
 use Rattle.std.proofs.lemmas.List.Elements.{Contains-get_or}
 use Rattle.cox_scc.specs.Walk.{IsRising}
 
@@ -40,3 +40,10 @@ rising_last xs last y count up (k, lt, is) =
     ⊎_elim (λ less. let h : get_or xs k 0 < get_or xs last 0 = up k last less (omega arith) in omega arith)
     (λ ge. let k_is : k ≡ last = omega arith in subst (λ z. y ≤ get_or xs z 0) k_is (omega arith))
     (cases_lt k last)
+
+-- the last place, as the code reads it and cuts it off
+pub cut_last : (xs fewer : List ℕ) (last x : ℕ) → length xs ≡ last + 1 → fewer ≡ take last xs → x ≡ get_or xs last x → xs ≡ fewer ++ x ∷ []
+cut_last xs fewer last x count cut read =
+    let value : x ≡ get_or xs last 0 = get_or_read xs last x (omega arith) read 0 in
+    sym (take_all (last + 1) xs (omega arith)) ∙ take_more xs last 0 (omega arith) ∙ ap (λ z. z ++ get_or xs last 0 ∷ []) (sym cut)
+    ∙ ap (λ z. fewer ++ z ∷ []) (sym value)

@@ -429,3 +429,24 @@ close_seen old new low closes v is = ⊎_elim
     absurd (let no : ⊥ = cc in no))
     (λ kept. sym kept.0 ∙ is)
     (closes.become.others v)
+
+-- where no vertex is explored, no vertex is on the stack
+pub empty_stack : (adjacency : Adjacency) (search : Search) → IsWalk adjacency search [] → vec_len search.stack ≡ 0
+empty_stack adjacency search walk = ⊎_elim
+    (λ some. let on : Contains [] 0 = walk.stacked.on_path 0 (walk.stacked.first some) in
+    let none : on.0 < 0 = on.1 in absurd (omega arith))
+    (λ none. omega arith)
+    (cases_lt 0 (vec_len search.stack))
+
+-- the first vertex that is explored
+pub walk_root : (adjacency : Adjacency) (old new : Search) (root place : ℕ) → IsWalk adjacency old [] → root < adjacency.vertices
+    → visit_of old root ≡ Unseen → Enters old new root → new.waiting.items ≡ [] → place ≡ vec_len old.stack
+    → IsWalk adjacency new (new.waiting.items ++ place ∷ [])
+walk_root adjacency old new root place walk root_in unseen enters idle place_is =
+    let none : vec_len old.stack ≡ 0 = empty_stack adjacency old walk in
+    let path_is : new.waiting.items ++ place ∷ [] ≡ vec_len old.stack ∷ [] = ap (λ z. z ++ place ∷ []) idle ∙ ap (λ z. z ∷ []) place_is in
+    subst (IsWalk adjacency new) (sym path_is)
+    (walk_enter old new root enters adjacency [] root_in unseen (λ p last. absurd (omega arith)) walk)
+
+pub enter_found : (old new : Search) (v : ℕ) → Enters old new v → v < vec_len old.visits → visit_of new v ≢ Unseen
+enter_found old new v enters v_in is = let both : Open (vec_len old.stack) ≡ Unseen = sym (now_open old new v enters v_in) ∙ is in cc

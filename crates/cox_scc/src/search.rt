@@ -66,6 +66,7 @@ impl Search {
         requires walk { IsWalk adjacency.now self.old (self.old.waiting.items ++ here ∷ []) }
         ensures walk { IfOk result (λ there. IsWalk adjacency.now self.new (self.new.waiting.items ++ option_to_list there)) }
         ensures seen { OnOk result (StaySeen self.old self.new) }
+        ensures end { IfOk result (λ there. IfNone there (self.new.waiting.items ≡ [])) }
         ensures less { IfOk result (λ there. work_left adjacency.now self.new (self.new.waiting.items ++ option_to_list there) < work_left adjacency.now self.old (self.old.waiting.items ++ here ∷ [])) }
     {
         let vertex = self.stack[here] as usize;
@@ -97,6 +98,7 @@ impl Search {
         requires done { let vertex = slice_index self.old.stack.items here in slice_index adjacency.now.offsets.items (vertex + 1) ≤ slice_index self.old.next.items vertex }
         ensures walk { IsWalk adjacency.now self.new (self.new.waiting.items ++ option_to_list result) }
         ensures seen { StaySeen self.old self.new }
+        ensures end { IfNone result (self.new.waiting.items ≡ []) }
         ensures less { work_left adjacency.now self.new (self.new.waiting.items ++ option_to_list result) < work_left adjacency.now self.old (self.old.waiting.items ++ here ∷ []) }
     {
         self.finish(adjacency, here);

@@ -1,10 +1,15 @@
+-- The path begins with the root.
+use Rattle.std.proofs.Common.{◌≡◌, ◌<◌, ap, ◌∙◌, arith, vec_len}
+use Rattle.cox_scc.proofs.Walks.{walk_root, enter_seen, enter_found}
 use Rattle.cox_scc.proofs.search.Search.explore.Goals as goal
 
 pub loop-place-init : goal.loop-place-init
-loop-place-init c = ?
-
-pub returns-clause-walk : goal.returns-clause-walk
-returns-clause-walk c = ?
-
-pub returns-clause-idle : goal.returns-clause-idle
-returns-clause-idle c = ?
+loop-place-init c =
+    let enters = c.in_ok-enter.ensures.enters in
+    let in_visits : c.args.root < vec_len c.args.self.now.visits = omega (arith, c.requires.walk.visits_count, c.requires.root) in record {
+      walk = walk_root _ c.args.self.now c.enter.new.self c.args.root _ c.requires.walk c.requires.root c.requires.unseen enters
+          (ap (λ z. z.items) c.enter.ensures.waiting ∙ c.requires.idle) c.len.ensures;
+      seen = enter_seen _ _ _ enters in_visits;
+      end = tt;
+      found = enter_found _ _ _ enters in_visits;
+    }
