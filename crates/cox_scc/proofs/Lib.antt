@@ -12,3 +12,5 @@ pub mod Keeping
 pub mod Closing
 -- the whole state of the pass
 pub mod Walks
+-- edges sorted by counting
+pub mod Counting
