@@ -18,6 +18,7 @@ mod digraph;
 mod search;
 
 
+pub use components::classes;
 pub use digraph::Digraph;
 use std::alloc::AllocError;
 

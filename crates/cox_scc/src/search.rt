@@ -42,6 +42,46 @@ pub(crate) struct Search {
 impl Search {
     ghost use Rattle.cox_scc.specs.Walk.{visit_of, IsWalk, LeadsIn, StaySeen, Enters, Meets, Closes, work_left};
 
+    /// A pass that has seen no vertex.
+    pub(crate) fn new(alloc: Global, adjacency: &Adjacency) -> Result<Search, NoMemory>
+        ensures walk { IfOk result (λ search. IsWalk adjacency.now search []) }
+        ensures idle { IfOk result (λ search. search.waiting.items ≡ []) }
+    {
+        let vertices = adjacency.vertices as usize;
+        let mut next = adjacency.offsets.clone()?;
+        next.truncate(vertices);
+        Ok(Search {
+            visits: vec![in alloc; Visit::Unseen; vertices]?,
+            classes: vec![in alloc; 0; vertices]?,
+            next,
+            stack: Vec::new(alloc),
+            parts: Vec::new(alloc),
+            waiting: Vec::new(alloc),
+        })
+    }
+
+    /// Closes all vertices.
+    pub(crate) fn explore_all(&mut self, adjacency: &Adjacency) -> Result<(), NoMemory>
+        requires walk { IsWalk adjacency.now self.old [] }
+        requires idle { self.old.waiting.items ≡ [] }
+        ensures walk { OnOk result (IsWalk adjacency.now self.new []) }
+        ensures seen { OnOk result ((v : ℕ) → v < adjacency.now.vertices → visit_of self.new v ≢ Visit.Unseen) }
+    {
+        for root in 0..adjacency.vertices {
+            if let Visit::Unseen = self.visits[root as usize] {
+                self.explore(adjacency, root)?;
+            }
+        }
+        Ok(())
+    }
+
+    /// The class of each vertex.
+    pub(crate) fn into_classes(self) -> Vec<u32>
+        ensures { result ≡ self.classes }
+    {
+        self.classes
+    }
+
     /// Follows edges from the vertex as far as they lead to vertices that were not seen.
     pub(crate) fn explore(&mut self, adjacency: &Adjacency, root: u32) -> Result<(), NoMemory>
         requires walk { IsWalk adjacency.now self.old [] }
