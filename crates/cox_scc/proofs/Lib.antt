@@ -14,3 +14,5 @@ pub mod Closing
 pub mod Walks
 -- edges sorted by counting
 pub mod Counting
+-- all vertices are closed
+pub mod AllClosed
