@@ -144,7 +144,7 @@ module _ (IsEdge : ℕ → ℕ → Type 0) (n low size least : ℕ) (visit later
     closed = closed_edges n low size least visit later class after stack low_in become placed IsEdge settled.closed ahead in_range;
     same = λ a b a_in b_in a_is b_is. both_cases a b a_in b_in (cases a a_is) (cases b b_is);
     vertex = λ a a_in is. ⊎_elim
-        (λ stands. subst (λ z. z < n) (sym (member_number a stands) ) least_in)
+        (λ stands. subst (λ z. z < n) (sym (member_number a stands)) least_in)
         (λ kept. subst (λ z. z < n) (sym kept.1) (settled.vertex a a_in kept.0))
         (cases a is);
     member = λ a a_in is. ⊎_elim
@@ -161,10 +161,13 @@ module _ (IsEdge : ℕ → ℕ → Type 0) (n low size least : ℕ) (visit later
     where
       cases : (v : ℕ) → later v ≡ Closed → Stands stack low size v ⊎ ((visit v ≡ Closed) × (after v ≡ class v))
       cases = closed_cases n low size least visit later class after stack low_in become placed
+
       keep : (v : ℕ) → visit v ≡ Closed → (later v ≡ Closed) × (after v ≡ class v)
       keep = stay_closed n low size least visit later class after stack low_in become placed
+
       least_in : least < n
       least_in = subst (λ z. z < n) become.member.is (placed.vertex become.member.place become.member.below)
+
       both_cases : (a b : ℕ) → a < n → b < n → Stands stack low size a ⊎ ((visit a ≡ Closed) × (after a ≡ class a))
           → Stands stack low size b ⊎ ((visit b ≡ Closed) × (after b ≡ class b)) → (after a ≡ after b) ↔ ReachEachOther IsEdge a b
       both_cases a b a_in b_in (inl sa) (inl sb) =
@@ -180,6 +183,7 @@ module _ (IsEdge : ℕ → ℕ → Type 0) (n low size least : ℕ) (visit later
       both_cases a b a_in b_in (inr ka) (inr kb) =
           let old = settled.same a b a_in b_in ka.0 kb.0 in
           (λ e. old.0 (sym ka.1 ∙ e ∙ kb.1), λ r. ka.1 ∙ old.1 r ∙ sym kb.1)
+
       least_cases : (a b : ℕ) → a < n → b < n → Stands stack low size a ⊎ ((visit a ≡ Closed) × (after a ≡ class a))
           → Stands stack low size b ⊎ ((visit b ≡ Closed) × (after b ≡ class b)) → after b ≡ after a → after a ≤ b
       least_cases a b a_in b_in (inl sa) (inl sb) e =
@@ -215,10 +219,13 @@ become_class stack members others low size least visits later classes after size
     at xs are p above =
         let there : low + (p - low) ≡ p = omega arith in
         ap (λ z. slice_index z (p - low)) are ∙ get_or-drop low stack (p - low) 0 ∙ ap (slice_index stack) there
+
     count : (xs : List ℕ) → xs ≡ drop low stack → length xs ≡ size - low
     count xs are = ap (length {A = ℕ}) are ∙ length-drop low stack ∙ ap (λ z. z - low) (sym size_is)
+
     within : (xs : List ℕ) → xs ≡ drop low stack → (p : ℕ) → low ≤ p → p < size → p - low < length xs
     within xs are p above below = omega (arith, count xs are)
+
     stands : (xs : List ℕ) → xs ≡ drop low stack → (v : ℕ) → Contains xs v → Stands (slice_index stack) low size v
     stands xs are v (k, lt, is) = record {
       place = low + k;

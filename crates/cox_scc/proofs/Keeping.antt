@@ -84,6 +84,7 @@ module _ (n size v : ℕ) (visit later : ℕ → Visit) (stack taller : ℕ → 
           (λ e. let both : Open size ≡ Closed = sym now_open ∙ ap later (sym e) ∙ is in cc)
           (λ ne. sym (others w ne) ∙ is)
           (cases_eq w v)
+
       after : (w : ℕ) → visit w ≡ Closed → later w ≡ Closed
       after w is = ⊎_elim
           (λ e. let both : Unseen ≡ Closed = sym unseen ∙ ap visit (sym e) ∙ is in cc)

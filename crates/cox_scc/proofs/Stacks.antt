@@ -30,6 +30,7 @@ rising_push xs x up below i j lt within = ⊎_elim
   where
     first_in : i < length xs
     first_in = omega (arith, length_push xs x)
+
     first : get_or (xs ++ x ∷ []) i 0 ≡ get_or xs i 0
     first = get_or_append_left xs (x ∷ []) 0 i first_in
 

@@ -54,32 +54,32 @@ module _ (old new : Search) (v : ℕ) (enters : Enters old new v) where
       let offset : ℕ → ℕ = slice_index adjacency.offsets.items in
       let target : ℕ → ℕ = slice_index adjacency.targets.items in
       let opened : visit_of new v ≡ Open size = now_open (subst (λ z. v < z) (sym walk.visits_count) v_in) in record {
-    visits_count = new.visits.ok.0 ∙ ap (length {A = Visit}) enters.visits
-        ∙ length-set old.visits.items v (Open (vec_len old.stack)) ∙ sym old.visits.ok.0 ∙ walk.visits_count;
-    classes_count = ap (λ z. z.len) enters.classes ∙ walk.classes_count;
-    next_count = ap (λ z. z.len) enters.next ∙ walk.next_count;
-    placed = subst (ArePlaced n (visit_of new) (slice_index new.stack.items)) (sym taller)
-        (placed_enter n size v (visit_of old) (visit_of new) (slice_index old.stack.items) (slice_index new.stack.items) opened others_stay top_is below_stays
-        unseen v_in walk.placed);
-    chain = subst (λ z. IsChain (LeadsIn adjacency) (slice_index new.stack.items) z new.parts.items) (sym taller)
-        (subst (IsChain (LeadsIn adjacency) (slice_index new.stack.items) (size + 1)) (sym enters.parts)
-        (chain_enter (LeadsIn adjacency) (slice_index old.stack.items) size old.parts.items walk.chain v (slice_index new.stack.items) below_stays
-        top_is reached));
-    followed = subst (λ z. AreFollowed n offset target (visit_of new) (slice_index new.next.items) (slice_index new.stack.items) z new.parts.items longer)
-        (sym taller)
-        (subst (λ z. AreFollowed n offset target (visit_of new) (slice_index new.next.items) (slice_index new.stack.items) (size + 1) z longer)
-        (sym enters.parts)
-        (subst (λ z. AreFollowed n offset target (visit_of new) (slice_index z.items) (slice_index new.stack.items) (size + 1)
-        (old.parts.items ++ size ∷ []) longer) (sym enters.next)
-        (followed_enter n size v (visit_of old) (visit_of new) (slice_index old.stack.items) (slice_index new.stack.items) opened others_stay top_is
-        below_stays unseen offset target (slice_index old.next.items) old.parts.items path v_in
-        (λ b part. walk.stacked.below b (walk.stacked.on_path b part)) walk.followed)));
-    stacked = subst (λ z. AreStacked z new.parts.items longer) (sym taller)
-        (subst (λ z. AreStacked (size + 1) z longer) (sym enters.parts) (stacked_enter size old.parts.items path walk.stacked));
-    settled = subst (λ z. AreSettled (LeadsIn adjacency) n (visit_of new) (slice_index z.items)) (sym enters.classes)
-        (settled_enter n size v (visit_of old) (visit_of new) (slice_index old.stack.items) (slice_index new.stack.items) opened others_stay top_is
-        below_stays unseen (LeadsIn adjacency) (slice_index old.classes.items) walk.settled);
-  }
+        visits_count = new.visits.ok.0 ∙ ap (length {A = Visit}) enters.visits
+            ∙ length-set old.visits.items v (Open (vec_len old.stack)) ∙ sym old.visits.ok.0 ∙ walk.visits_count;
+        classes_count = ap (λ z. z.len) enters.classes ∙ walk.classes_count;
+        next_count = ap (λ z. z.len) enters.next ∙ walk.next_count;
+        placed = subst (ArePlaced n (visit_of new) (slice_index new.stack.items)) (sym taller)
+            (placed_enter n size v (visit_of old) (visit_of new) (slice_index old.stack.items) (slice_index new.stack.items) opened others_stay top_is below_stays
+            unseen v_in walk.placed);
+        chain = subst (λ z. IsChain (LeadsIn adjacency) (slice_index new.stack.items) z new.parts.items) (sym taller)
+            (subst (IsChain (LeadsIn adjacency) (slice_index new.stack.items) (size + 1)) (sym enters.parts)
+            (chain_enter (LeadsIn adjacency) (slice_index old.stack.items) size old.parts.items walk.chain v (slice_index new.stack.items) below_stays
+            top_is reached));
+        followed = subst (λ z. AreFollowed n offset target (visit_of new) (slice_index new.next.items) (slice_index new.stack.items) z new.parts.items longer)
+            (sym taller)
+            (subst (λ z. AreFollowed n offset target (visit_of new) (slice_index new.next.items) (slice_index new.stack.items) (size + 1) z longer)
+            (sym enters.parts)
+            (subst (λ z. AreFollowed n offset target (visit_of new) (slice_index z.items) (slice_index new.stack.items) (size + 1)
+            (old.parts.items ++ size ∷ []) longer) (sym enters.next)
+            (followed_enter n size v (visit_of old) (visit_of new) (slice_index old.stack.items) (slice_index new.stack.items) opened others_stay top_is
+            below_stays unseen offset target (slice_index old.next.items) old.parts.items path v_in
+            (λ b part. walk.stacked.below b (walk.stacked.on_path b part)) walk.followed)));
+        stacked = subst (λ z. AreStacked z new.parts.items longer) (sym taller)
+            (subst (λ z. AreStacked (size + 1) z longer) (sym enters.parts) (stacked_enter size old.parts.items path walk.stacked));
+        settled = subst (λ z. AreSettled (LeadsIn adjacency) n (visit_of new) (slice_index z.items)) (sym enters.classes)
+            (settled_enter n size v (visit_of old) (visit_of new) (slice_index old.stack.items) (slice_index new.stack.items) opened others_stay top_is
+            below_stays unseen (LeadsIn adjacency) (slice_index old.classes.items) walk.settled);
+      }
 
 -- the vertex at the end of the path
 module _ (adjacency : Adjacency) (search : Search) (rest : List ℕ) (here : ℕ) (walk : IsWalk adjacency search (rest ++ here ∷ [])) where

@@ -17,7 +17,6 @@ mod components;
 mod digraph;
 mod search;
 
-
 pub use components::classes;
 pub use digraph::Digraph;
 use std::alloc::AllocError;

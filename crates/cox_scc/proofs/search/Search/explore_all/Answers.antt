@@ -10,7 +10,7 @@ pub loop-root-preserved : goal.loop-root-preserved
 loop-root-preserved c =
     let i = c.loop-root.invariant in
     elim c.match-index.branch [
-      in-Unseen+in_ok-explore w ↦
+      | in-Unseen+in_ok-explore w ↦
           let e = w.in_ok-explore.ensures in
           subst (HadTurns c.args.adjacency.now (c.loop-root.root + 1)) (sym w.self-is) (record {
             walk = e.walk;

@@ -25,7 +25,7 @@ meet-requires-clause-target c =
     let e_is = edge_is_next _ _ _ _ w _ _ v_is (edge_read _ _ _ _ w _ c.index-edge.result.now v_is c.index-edge.ensures) in
     let t_is = target_read _ _ _ _ w _ c.index-2.result.now e_is c.requires.more c.index-2.ensures in
     let in_range = subst (λ z. slice_index c.args.adjacency.now.targets.items z < c.args.adjacency.now.vertices) (sym e_is)
-        (target_in _ _ _ _ w c.requires.more) in
+    (target_in _ _ _ _ w c.requires.more) in
     omega (arith, t_is, in_range, w.visits_count)
 
 pub overflow_add-edge : goal.overflow_add-edge
