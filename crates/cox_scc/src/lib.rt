@@ -16,6 +16,8 @@ mod adjacency;
 mod components;
 mod digraph;
 mod search;
+#[cfg(test)]
+mod tests;
 
 pub use components::classes;
 pub use digraph::Digraph;
