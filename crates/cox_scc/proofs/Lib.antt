@@ -10,6 +10,8 @@ pub mod Chains
 pub mod Keeping
 -- a part that becomes a class
 pub mod Closing
+-- the stack has at most as many places as there are vertices
+pub mod Pigeonholes
 -- the whole state of the pass
 pub mod Walks
 -- edges sorted by counting

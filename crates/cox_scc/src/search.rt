@@ -3,7 +3,7 @@
 //! It keeps the vertices that were seen, and whose class is not known yet, on a stack in the order in which they were seen. The stack is cut into
 //! parts of vertices that reach each other. An edge back to a vertex on the stack joins the parts from there up. When all edges of the
 //! vertex where a part begins were followed, and it is the last part, then it is a class, and leaves the stack.
-ghost use Rattle.std.specs.Prelude.{◌≡◌, ◌≢◌, ℕ, ◌-◌, ◌+◌, ◌<◌, ◌≤◌, ◌++◌, ◌∷◌, [], length, drop, slice_index, slice_index_or, IfOk, OnOk, IfNone, Contains, vec_len};
+ghost use Rattle.std.specs.Prelude.{◌≡◌, ◌≢◌, ℕ, ◌-◌, ◌+◌, ◌<◌, ◌≤◌, ◌^◌, ◌++◌, ◌∷◌, [], length, drop, slice_index, slice_index_or, IfOk, OnOk, IfNone, Contains, vec_len};
 ghost use Rattle.std.specs.Option.{option_to_list};
 ghost use Rattle.cox_scc.specs.Walk.{IsRising, Joins, CloseMembers};
 
@@ -17,7 +17,7 @@ pub(crate) enum Visit {
     /// The pass has not come to it.
     Unseen,
     /// It is on the stack, at this place.
-    Open(usize),
+    Open(u32),
     /// Its class is known.
     Closed,
 }
@@ -34,9 +34,9 @@ pub(crate) struct Search {
     /// The open vertices, in the order in which they were seen.
     pub(crate) stack: Vec<u32>,
     /// The places of the stack where its parts begin.
-    pub(crate) parts: Vec<usize>,
+    pub(crate) parts: Vec<u32>,
     /// The places of the vertices that wait until what they led to is explored.
-    pub(crate) waiting: Vec<usize>,
+    pub(crate) waiting: Vec<u32>,
 }
 
 impl Search {
@@ -93,8 +93,7 @@ impl Search {
         ensures seen { OnOk result (StaySeen self.old self.new) }
         ensures found { OnOk result (visit_of self.new root ≢ Visit.Unseen) }
     {
-        let mut place = Some(self.stack.len());
-        self.enter(root)?;
+        let mut place = Some(self.enter(root)?);
         while let Some(here) = place {
             place = self.step(adjacency, here)?;
         }
@@ -102,14 +101,14 @@ impl Search {
     }
 
     // Follows one edge of the vertex at the place, or is done with it, and says at which place the pass goes on.
-    fn step(&mut self, adjacency: &Adjacency, here: usize) -> Result<Option<usize>, NoMemory>
+    fn step(&mut self, adjacency: &Adjacency, here: u32) -> Result<Option<u32>, NoMemory>
         requires walk { IsWalk adjacency.now self.old (self.old.waiting.items ++ here ∷ []) }
         ensures walk { IfOk result (λ there. IsWalk adjacency.now self.new (self.new.waiting.items ++ option_to_list there)) }
         ensures seen { OnOk result (StaySeen self.old self.new) }
         ensures end { IfOk result (λ there. IfNone there (self.new.waiting.items ≡ [])) }
         ensures less { IfOk result (λ there. work_left adjacency.now self.new (self.new.waiting.items ++ option_to_list there) < work_left adjacency.now self.old (self.old.waiting.items ++ here ∷ [])) }
     {
-        let vertex = self.stack[here] as usize;
+        let vertex = self.stack[here as usize] as usize;
         if self.next[vertex] < adjacency.offsets[vertex + 1] {
             let there = self.follow(adjacency, here)?;
             return Ok(Some(there));
@@ -118,14 +117,14 @@ impl Search {
     }
 
     // Follows the next edge of the vertex at the place.
-    fn follow(&mut self, adjacency: &Adjacency, here: usize) -> Result<usize, NoMemory>
+    fn follow(&mut self, adjacency: &Adjacency, here: u32) -> Result<u32, NoMemory>
         requires walk { IsWalk adjacency.now self.old (self.old.waiting.items ++ here ∷ []) }
         requires more { let vertex = slice_index self.old.stack.items here in slice_index self.old.next.items vertex < slice_index adjacency.now.offsets.items (vertex + 1) }
         ensures walk { IfOk result (λ there. IsWalk adjacency.now self.new (self.new.waiting.items ++ there ∷ [])) }
         ensures seen { OnOk result (StaySeen self.old self.new) }
         ensures less { IfOk result (λ there. work_left adjacency.now self.new (self.new.waiting.items ++ there ∷ []) < work_left adjacency.now self.old (self.old.waiting.items ++ here ∷ [])) }
     {
-        let vertex = self.stack[here] as usize;
+        let vertex = self.stack[here as usize] as usize;
         let edge = self.next[vertex];
         let there = self.meet(here, adjacency.targets[edge])?;
         self.next[vertex] = edge + 1;
@@ -133,7 +132,7 @@ impl Search {
     }
 
     // Is done with the vertex at the place, whose edges were all followed.
-    fn leave(&mut self, adjacency: &Adjacency, here: usize) -> Option<usize>
+    fn leave(&mut self, adjacency: &Adjacency, here: u32) -> Option<u32>
         requires walk { IsWalk adjacency.now self.old (self.old.waiting.items ++ here ∷ []) }
         requires done { let vertex = slice_index self.old.stack.items here in slice_index adjacency.now.offsets.items (vertex + 1) ≤ slice_index self.old.next.items vertex }
         ensures walk { IsWalk adjacency.now self.new (self.new.waiting.items ++ option_to_list result) }
@@ -146,7 +145,7 @@ impl Search {
     }
 
     // Closes the last part where it begins at the place. The vertex there leaves the path.
-    fn finish(&mut self, adjacency: &Adjacency, here: usize)
+    fn finish(&mut self, adjacency: &Adjacency, here: u32)
         requires walk { IsWalk adjacency.now self.old (self.old.waiting.items ++ here ∷ []) }
         requires done { let vertex = slice_index self.old.stack.items here in slice_index adjacency.now.offsets.items (vertex + 1) ≤ slice_index self.old.next.items vertex }
         ensures walk { IsWalk adjacency.now self.new self.new.waiting.items }
@@ -163,15 +162,15 @@ impl Search {
     }
 
     // Goes to the end of an edge from the vertex at the place.
-    fn meet(&mut self, here: usize, target: u32) -> Result<usize, NoMemory>
+    fn meet(&mut self, here: u32, target: u32) -> Result<u32, NoMemory>
+        requires room { vec_len self.old.stack < 2 ^ 32 }
         requires target { target < vec_len self.old.visits }
         requires rise { IsRising self.old.parts.items }
         ensures { IfOk result (λ there. Meets (visit_of self.old target) self.old self.new here target there) }
     {
         match self.visits[target as usize] {
             Visit::Unseen => {
-                let there = self.stack.len();
-                self.enter(target)?;
+                let there = self.enter(target)?;
                 self.waiting.push(here)?;
                 Ok(there)
             }
@@ -183,21 +182,23 @@ impl Search {
         }
     }
 
-    // Puts a vertex that was not seen onto the stack, as a part of its own.
-    fn enter(&mut self, vertex: u32) -> Result<(), NoMemory>
-        requires { vertex < vec_len self.old.visits }
+    // Puts a vertex that was not seen onto the stack, as a part of its own, and says at which place.
+    fn enter(&mut self, vertex: u32) -> Result<u32, NoMemory>
+        requires room { vec_len self.old.stack < 2 ^ 32 }
+        requires vertex { vertex < vec_len self.old.visits }
         ensures enters { OnOk result (Enters self.old self.new vertex) }
+        ensures place { IfOk result (λ place. place ≡ vec_len self.old.stack) }
         ensures waiting { self.new.waiting ≡ self.old.waiting }
     {
-        let place = self.stack.len();
+        let place = self.stack.len() as u32;
         self.stack.push(vertex)?;
         self.parts.push(place)?;
         self.visits[vertex as usize] = Visit::Open(place);
-        Ok(())
+        Ok(place)
     }
 
     // Joins the parts that begin after the place to the one before.
-    fn join(&mut self, place: usize)
+    fn join(&mut self, place: u32)
         requires { IsRising self.old.parts.items }
         ensures others { self.new ≡ record self.old { parts = self.new.parts } }
         ensures joins { Joins self.old.parts.items self.new.parts.items place }
@@ -207,12 +208,13 @@ impl Search {
     }
 
     // Makes a class of the vertices from the place up, and takes them off the stack.
-    fn close(&mut self, low: usize)
+    fn close(&mut self, low: u32)
         requires some { low < vec_len self.old.stack }
         requires vertices { (place : ℕ) → place < vec_len self.old.stack → slice_index self.old.stack.items place < vec_len self.old.visits }
         requires sized { vec_len self.old.classes ≡ vec_len self.old.visits }
         ensures { Closes self.old self.new low }
     {
+        let low = low as usize;
         let least = least_of(&self.stack[low..]);
         close_members(
             &mut self.visits,
@@ -225,7 +227,7 @@ impl Search {
 }
 
 // How many of the places, which go up, are not after this one.
-fn count_up_to(places: &[usize], place: usize) -> usize
+fn count_up_to(places: &[u32], place: u32) -> usize
     ensures within { result ≤ length places.now }
     ensures after { (k : ℕ) → result ≤ k → k < length places.now → place < slice_index places.now k }
     ensures last { 0 < result → slice_index places.now (result - 1) ≤ place }

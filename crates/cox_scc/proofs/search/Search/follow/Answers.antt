@@ -1,5 +1,6 @@
 -- What is read is the next edge of the vertex at the end of the path, and following it keeps the walk.
 use Rattle.std.proofs.Common.{◌≡◌, ◌<◌, slice_index, subst, sym, arith}
+use Rattle.cox_scc.proofs.Pigeonholes.{stack_fits}
 use Rattle.cox_scc.proofs.Walks.{here_in, vertex_read, in_next, edge_read, edge_is_next, edge_in, target_in, target_read, walk_follow_read}
 use Rattle.cox_scc.proofs.search.Search.follow.Goals as goal
 
@@ -27,6 +28,9 @@ meet-requires-clause-target c =
     let in_range = subst (λ z. slice_index c.args.adjacency.now.targets.items z < c.args.adjacency.now.vertices) (sym e_is)
     (target_in _ _ _ _ w c.requires.more) in
     omega (arith, t_is, in_range, w.visits_count)
+
+pub meet-requires-clause-room : goal.meet-requires-clause-room
+meet-requires-clause-room c = omega (arith, stack_fits _ _ _ _ c.requires.walk.placed, c.args.adjacency.now.few)
 
 pub overflow_add-edge : goal.overflow_add-edge
 overflow_add-edge c =
