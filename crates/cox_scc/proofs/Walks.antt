@@ -12,7 +12,7 @@ use Rattle.cox_scc.specs.declared.search.Visit.{Visit}
 use Rattle.cox_scc.specs.declared.search.Visit.TheVariants.{Unseen, Open, Closed}
 use Rattle.cox_scc.specs.Reach.{Reaches}
 use Rattle.cox_scc.specs.Sorted.{IsFrom, Leads}
-use Rattle.cox_scc.specs.Walk.{ArePlaced, AreFollowed, AreStacked, AreSettled, IsChain, LiesFrom, Stands, BecomeClass, visit_of, IsWalk, LeadsIn, StaySeen, Enters, Joins, Meets, Closes, work_left}
+use Rattle.cox_scc.specs.Walk.{ArePlaced, AreFollowed, AreStacked, AreSettled, IsChain, LiesFrom, Stands, BecomeClass, visit_of, IsWalk, LeadsIn, StaySeen, Enters, Joins, Meets, Closes, Finishes, work_left}
 use Rattle.cox_scc.proofs.Stacks.{rising_below, rising_last}
 use Rattle.cox_scc.proofs.Reaching.{Reaches-join, Reaches-step}
 use Rattle.cox_scc.proofs.Chains.{chain_up, chain_down, chain_enter, chain_join, chain_leave}
@@ -134,6 +134,13 @@ module _ (adjacency : Adjacency) (search : Search) (rest : List ℕ) (here : ℕ
   pub offset_read : (v o : ℕ) → v ≡ vertex → o ≡ get_or adjacency.offsets.items (v + 1) o → o ≡ slice_index adjacency.offsets.items (vertex + 1)
   offset_read v o v_is is = get_or_read_under adjacency.offsets.items (v + 1) (vec_len adjacency.offsets) o 0 is (in_offsets v v_is) adjacency.offsets.ok.0
       ∙ ap (λ z. slice_index adjacency.offsets.items (z + 1)) v_is
+
+  pub done_read : (v e o : ℕ) → v ≡ get_or search.stack.items here v → e ≡ get_or search.next.items v e
+      → o ≡ get_or adjacency.offsets.items (v + 1) o → o ≤ e → slice_index adjacency.offsets.items (vertex + 1) ≤ edge
+  done_read v e o v_read e_read o_read le =
+      let v_is : v ≡ vertex = vertex_read v v_read in
+      let e_is : e ≡ edge = edge_is_next v e v_is (edge_read v e v_is e_read) in
+      omega (arith, e_is, offset_read v o v_is o_read, le)
 
   leads : IsMore → Reaches (LeadsIn adjacency) vertex (slice_index adjacency.targets.items edge)
   leads more = Reaches-step (edge, edge_from more, refl)
@@ -429,6 +436,51 @@ close_seen old new low closes v is = ⊎_elim
     absurd (let no : ⊥ = cc in no))
     (λ kept. sym kept.0 ∙ is)
     (closes.become.others v)
+
+-- what holds once the vertex at `here` left the path
+pub record HasFinished (adjacency : Adjacency) (old mid : Search) : Type 0 where
+  pub walk : IsWalk adjacency mid old.waiting.items
+  pub seen : StaySeen old mid
+  pub next : mid.next ≡ old.next
+  pub waiting : mid.waiting ≡ old.waiting
+
+pub walk_finish : (adjacency : Adjacency) (old mid : Search) (here : ℕ) → IsWalk adjacency old (old.waiting.items ++ here ∷ [])
+    → slice_index adjacency.offsets.items (slice_index old.stack.items here + 1) ≤ slice_index old.next.items (slice_index old.stack.items here)
+    → Finishes old mid here → HasFinished adjacency old mid
+walk_finish adjacency old mid here walk done (inl (fewer, parts_are, closes)) = record {
+  walk = walk_close adjacency old old.waiting.items here walk done fewer mid parts_are closes;
+  seen = close_seen (record old { parts = fewer }) mid here closes;
+  next = closes.next;
+  waiting = closes.waiting;
+}
+walk_finish adjacency old mid here walk done (inr (ne, same)) = record {
+  walk = subst (λ z. IsWalk adjacency z old.waiting.items) (sym same) (walk_retreat adjacency old old.waiting.items here walk done ne);
+  seen = λ v is. sym (ap (λ z. visit_of z v) same) ∙ is;
+  next = ap (λ z. z.next) same;
+  waiting = ap (λ z. z.waiting) same;
+}
+
+-- the vertex that waited last is on the end of the path
+pub walk_back : (adjacency : Adjacency) (old mid : Search) (fewer : Vec ℕ) (path : List ℕ) → HasFinished adjacency old mid → mid.waiting.items ≡ path
+    → IsWalk adjacency (record mid { waiting = fewer }) path
+walk_back adjacency old mid fewer path finished path_is =
+    let w : IsWalk adjacency mid path = subst (IsWalk adjacency mid) (sym (ap (λ z. z.items) finished.waiting) ∙ path_is) finished.walk in record {
+      visits_count = w.visits_count;
+      classes_count = w.classes_count;
+      next_count = w.next_count;
+      placed = w.placed;
+      chain = w.chain;
+      followed = w.followed;
+      stacked = w.stacked;
+      settled = w.settled;
+    }
+
+pub back_less : (adjacency : Adjacency) (old mid : Search) (fewer : Vec ℕ) (path : List ℕ) (here : ℕ) → HasFinished adjacency old mid
+    → mid.waiting.items ≡ path → work_left adjacency (record mid { waiting = fewer }) path < work_left adjacency old (old.waiting.items ++ here ∷ [])
+back_less adjacency old mid fewer path here finished path_is =
+    subst (λ z. 2 * (z.len * vec_len adjacency.targets - sum z.items) + length path < work_left adjacency old (old.waiting.items ++ here ∷ []))
+    (sym finished.next)
+    (omega (arith, length_push old.waiting.items here, ap (length {A = ℕ}) (sym (ap (λ z. z.items) finished.waiting) ∙ path_is)))
 
 -- where no vertex is explored, no vertex is on the stack
 pub empty_stack : (adjacency : Adjacency) (search : Search) → IsWalk adjacency search [] → vec_len search.stack ≡ 0

@@ -3,8 +3,9 @@
 -- The vertices that were seen and whose class is not known yet stand on a stack, in the order in which they were seen. The stack is cut into parts, and
 -- `parts` has the places where they begin. The path has the places of the vertices that are being explored. Whatever is said of the edges of a
 -- vertex is said of those before `next`, which were followed.
-use Rattle.std.specs.Prelude.{◌≡◌, ℕ, ◌+◌, ◌-◌, ◌*◌, ◌<◌, ◌≤◌, ◌⊎◌, ◌↔◌, ⊤, List, [], ◌∷◌, ◌++◌, length, take, sum, slice_index, slice_index_or}
+use Rattle.std.specs.Prelude.{◌≡◌, ◌≢◌, ℕ, ◌+◌, ◌-◌, ◌*◌, ◌<◌, ◌≤◌, ◌⊎◌, ◌↔◌, ⊤, List, [], ◌∷◌, ◌++◌, length, take, sum, slice_index, slice_index_or}
 use Rattle.std.specs.Prelude.{slice_set, vec_len, Contains}
+use Rattle.std.specs.Global.{Vec}
 use Rattle.cox_scc.specs.Reach.{Reaches, ReachEachOther}
 use Rattle.cox_scc.specs.Sorted.{Leads}
 use Rattle.cox_scc.specs.declared.adjacency.Adjacency.{Adjacency}
@@ -139,6 +140,12 @@ pub record Closes (old new : Search) (low : ℕ) : Type 0 where
   pub parts : new.parts ≡ old.parts
   pub next : new.next ≡ old.next
   pub waiting : new.waiting ≡ old.waiting
+
+-- the last part becomes a class where it begins at the place; else nothing changes
+abbrev pub Finishes : Search → Search → ℕ → Type 0
+Finishes old new here =
+    ((fewer : Vec ℕ) × (old.parts.items ≡ fewer.items ++ here ∷ []) × Closes (record old { parts = fewer }) new here)
+    ⊎ ((slice_index old.parts.items (vec_len old.parts - 1) ≢ here) × (new ≡ old))
 
 -- what is left to do: two for each edge that was not followed, and one for each vertex of the path
 abbrev pub work_left : Adjacency → Search → List ℕ → ℕ

@@ -40,7 +40,7 @@ pub(crate) struct Search {
 }
 
 impl Search {
-    ghost use Rattle.cox_scc.specs.Walk.{visit_of, IsWalk, LeadsIn, StaySeen, Enters, Meets, Closes, work_left};
+    ghost use Rattle.cox_scc.specs.Walk.{visit_of, IsWalk, LeadsIn, StaySeen, Enters, Meets, Closes, Finishes, work_left};
 
     /// A pass that has seen no vertex.
     pub(crate) fn new(alloc: Global, adjacency: &Adjacency) -> Result<Search, NoMemory>
@@ -113,7 +113,8 @@ impl Search {
             let there = self.follow(adjacency, here)?;
             return Ok(Some(there));
         }
-        Ok(self.leave(adjacency, here))
+        self.finish(here);
+        Ok(self.waiting.pop())
     }
 
     // Follows the next edge of the vertex at the place.
@@ -131,29 +132,14 @@ impl Search {
         Ok(there)
     }
 
-    // Is done with the vertex at the place, whose edges were all followed.
-    fn leave(&mut self, adjacency: &Adjacency, here: u32) -> Option<u32>
-        requires walk { IsWalk adjacency.now self.old (self.old.waiting.items ++ here ∷ []) }
-        requires done { let vertex = slice_index self.old.stack.items here in slice_index adjacency.now.offsets.items (vertex + 1) ≤ slice_index self.old.next.items vertex }
-        ensures walk { IsWalk adjacency.now self.new (self.new.waiting.items ++ option_to_list result) }
-        ensures seen { StaySeen self.old self.new }
-        ensures end { IfNone result (self.new.waiting.items ≡ []) }
-        ensures less { work_left adjacency.now self.new (self.new.waiting.items ++ option_to_list result) < work_left adjacency.now self.old (self.old.waiting.items ++ here ∷ []) }
+    // Closes the last part where it begins at the place.
+    fn finish(&mut self, here: u32)
+        requires some { 0 < vec_len self.old.parts }
+        requires here { here < vec_len self.old.stack }
+        requires vertices { (place : ℕ) → place < vec_len self.old.stack → slice_index self.old.stack.items place < vec_len self.old.visits }
+        requires sized { vec_len self.old.classes ≡ vec_len self.old.visits }
+        ensures { Finishes self.old self.new here }
     {
-        self.finish(adjacency, here);
-        self.waiting.pop()
-    }
-
-    // Closes the last part where it begins at the place. The vertex there leaves the path.
-    fn finish(&mut self, adjacency: &Adjacency, here: u32)
-        requires walk { IsWalk adjacency.now self.old (self.old.waiting.items ++ here ∷ []) }
-        requires done { let vertex = slice_index self.old.stack.items here in slice_index adjacency.now.offsets.items (vertex + 1) ≤ slice_index self.old.next.items vertex }
-        ensures walk { IsWalk adjacency.now self.new self.new.waiting.items }
-        ensures seen { StaySeen self.old self.new }
-        ensures next { self.new.next ≡ self.old.next }
-        ensures waiting { self.new.waiting ≡ self.old.waiting }
-    {
-        let _vertices = adjacency.vertices;
         let last = self.parts.len() - 1;
         if self.parts[last] == here {
             self.parts.truncate(last);
