@@ -1,11 +1,11 @@
 -- When all vertices are closed, their classes are right for the graph.
-use Rattle.std.proofs.Common.{◌≡◌, ◌≢◌, ℕ, ◌<◌, ◌↔◌, List, [], slice_index, vec_len, subst, sym, refl, ◌∙◌, ap, arith}
+use Rattle.std.proofs.Common.{◌≡◌, ◌≢◌, ℕ, ◌<◌, List, [], vec_len, subst, sym, refl, arith}
 use Rattle.std.specs.Global.{Vec}
 use Rattle.cox_scc.specs.declared.adjacency.Adjacency.{Adjacency}
 use Rattle.cox_scc.specs.declared.search.Search.{Search}
 use Rattle.cox_scc.specs.declared.search.Visit.{Visit}
 use Rattle.cox_scc.specs.declared.search.Visit.TheVariants.{Unseen, Open, Closed}
-use Rattle.cox_scc.specs.Reach.{IsEdge, Reaches, ReachEachOther, AreClasses, IsLeastOfClass}
+use Rattle.cox_scc.specs.Reach.{HasEdge, Reaches, AreClasses, IsLeastOfClass}
 use Rattle.cox_scc.specs.Sorted.{AreSorted}
 use Rattle.cox_scc.specs.Walk.{visit_of, IsWalk, LeadsIn}
 use Rattle.cox_scc.proofs.Walks.{empty_stack}
@@ -19,13 +19,13 @@ pub record HadTurns (adjacency : Adjacency) (root : ℕ) (search : Search) : Typ
 module _ (edges : List (ℕ × ℕ)) (adjacency : Adjacency)
     (sorted : AreSorted adjacency.vertices edges adjacency.offsets.items adjacency.targets.items) where
   -- the lists and the graph lead to the same vertices
-  to_graph : {a b : ℕ} → a < adjacency.vertices → Reaches (LeadsIn adjacency) a b → Reaches (IsEdge edges) a b
+  to_graph : {a b : ℕ} → a < adjacency.vertices → Reaches (LeadsIn adjacency) a b → Reaches (HasEdge edges) a b
   to_graph a_in (Reaches.itself a) = Reaches.itself a
   to_graph a_in (Reaches.onward a b c (e, from, is) rest) =
       let b_in : b < adjacency.vertices = subst (λ z. z < adjacency.vertices) is (adjacency.listed.vertex a e a_in from) in
       Reaches.onward a b c (sorted.edge a b a_in (e, from, is)) (to_graph b_in rest)
 
-  to_lists : {a b : ℕ} → Reaches (IsEdge edges) a b → Reaches (LeadsIn adjacency) a b
+  to_lists : {a b : ℕ} → Reaches (HasEdge edges) a b → Reaches (LeadsIn adjacency) a b
   to_lists (Reaches.itself a) = Reaches.itself a
   to_lists (Reaches.onward a b c edge rest) = Reaches.onward a b c (sorted.all a b edge) (to_lists rest)
 
@@ -40,7 +40,7 @@ module _ (edges : List (ℕ × ℕ)) (adjacency : Adjacency)
             absurd (omega (arith, empty_stack adjacency search walk))
         by_visit Closed is = is
 
-    pub classes_same : AreClasses (IsEdge edges) adjacency.vertices search.classes.items
+    pub classes_same : AreClasses (HasEdge edges) adjacency.vertices search.classes.items
     classes_same a b a_in b_in =
         let same = walk.settled.same a b a_in b_in (all_closed a a_in) (all_closed b b_in) in
         (λ e. (to_graph a_in (same.0 e).0, to_graph b_in (same.0 e).1), λ r. same.1 (to_lists r.0, to_lists r.1))
@@ -56,10 +56,10 @@ module _ (edges : List (ℕ × ℕ)) (adjacency : Adjacency)
 pub same_of_code : (graph_edges : List (ℕ × ℕ)) (n : ℕ) (adjacency : Adjacency) (search : Search) (classes : Vec ℕ) → adjacency.vertices ≡ n
     → AreSorted n graph_edges adjacency.offsets.items adjacency.targets.items → IsWalk adjacency search []
     → ((v : ℕ) → v < adjacency.vertices → visit_of search v ≢ Unseen) → classes ≡ search.classes
-    → AreClasses (IsEdge graph_edges) n classes.items
+    → AreClasses (HasEdge graph_edges) n classes.items
 same_of_code graph_edges n adjacency search classes n_is sorted walk seen classes_are =
-    subst (λ z. AreClasses (IsEdge graph_edges) n z.items) (sym classes_are)
-    (subst (λ z. AreClasses (IsEdge graph_edges) z search.classes.items) n_is
+    subst (λ z. AreClasses (HasEdge graph_edges) n z.items) (sym classes_are)
+    (subst (λ z. AreClasses (HasEdge graph_edges) z search.classes.items) n_is
     (classes_same graph_edges adjacency
     (subst (λ z. AreSorted z graph_edges adjacency.offsets.items adjacency.targets.items) (sym n_is) sorted) search walk seen))
 

@@ -1,11 +1,11 @@
 -- What holds of places, edges and stacks is kept by each step of the pass.
-use Rattle.std.proofs.Common.{◌≡◌, ◌≢◌, ℕ, zero, suc, ◌+◌, ◌-◌, ◌<◌, ◌≤◌, ◌⊎◌, inl, inr, List, [], ◌∷◌, ◌++◌, Contains, ⊎_elim, subst, sym, refl, ◌∙◌, ap, arith}
+use Rattle.std.proofs.Common.{◌≡◌, ◌≢◌, ℕ, ◌+◌, ◌<◌, ◌≤◌, inl, inr, List, [], ◌∷◌, ◌++◌, Contains, ⊎_elim, subst, sym, ◌∙◌, ap, arith}
 use Rattle.std.proofs.lemmas.Bool.{cases_lt, cases_eq}
 use Rattle.std.proofs.lemmas.List.Elements.{Contains-append_left, Contains-push, Contains-push_cases}
 use Rattle.cox_scc.specs.declared.search.Visit.{Visit}
 use Rattle.cox_scc.specs.declared.search.Visit.TheVariants.{Unseen, Open, Closed}
 use Rattle.cox_scc.specs.Walk.{IsRising, ArePlaced, AreFollowed, AreStacked, AreSettled, LiesFrom}
-use Rattle.cox_scc.proofs.Stacks.{rising_below, rising_rest, rising_push}
+use Rattle.cox_scc.proofs.Stacks.{rising_rest, rising_push}
 
 -- a vertex comes onto the stack
 module _ (n size v : ℕ) (visit later : ℕ → Visit) (stack taller : ℕ → ℕ)

@@ -1,7 +1,6 @@
 -- What is reached along edges.
-use Rattle.std.proofs.Common.{◌≡◌, ℕ, ◌+◌, ◌<◌, ◌≤◌, ⊎_elim, subst, sym, refl, suc, zero, arith, inl, inr, ◌⊎◌}
-use Rattle.std.proofs.lemmas.Bool.{cases_lt}
-use Rattle.cox_scc.specs.Reach.{Reaches, ReachEachOther}
+use Rattle.std.proofs.Common.{ℕ}
+use Rattle.cox_scc.specs.Reach.{Reaches}
 
 pub Reaches-join : {IsEdge : ℕ → ℕ → Type 0} {a b c : ℕ} → Reaches IsEdge a b → Reaches IsEdge b c → Reaches IsEdge a c
 Reaches-join (Reaches.itself a) r = r

@@ -1,7 +1,7 @@
 -- The whole state of the pass before and after each step.
-use Rattle.std.proofs.Common.{◌≡◌, ◌≢◌, ℕ, ◌+◌, ◌-◌, ◌<◌, ◌≤◌, ◌⊎◌, inl, inr, List, [], ◌∷◌, ◌++◌, length, take, get_or, slice_index, slice_index_or, slice_set, vec_len, sum, ◌*◌, All, Contains, ⊎_elim, subst, sym, refl, ◌∙◌, ap, arith}
+use Rattle.std.proofs.Common.{◌≡◌, ◌≢◌, ℕ, ◌+◌, ◌-◌, ◌<◌, ◌≤◌, inl, inr, List, [], ◌∷◌, ◌++◌, length, get_or, slice_index, slice_set, vec_len, sum, ◌*◌, All, Contains, ⊎_elim, subst, sym, refl, ◌∙◌, ap, arith}
 use Rattle.std.proofs.lemmas.Bool.{cases_lt, cases_eq}
-use Rattle.std.proofs.lemmas.List.{get_or-set_same, get_or-set_other, get_or_append_left, get_or_push, get_or_read_under, get_or-take, length-set, take_more, take_all, length_push, length-append, length-take-le}
+use Rattle.std.proofs.lemmas.List.{get_or-set_same, get_or-set_other, get_or_append_left, get_or_push, get_or_read_under, get_or-take, length-set, length_push, length-take-le}
 use Rattle.std.proofs.lemmas.List.Elements.{Contains-append_left, Contains-push, Contains-push_cases, Contains-get_or, All-from_get_or}
 use Rattle.std.proofs.lemmas.List.Sums.{sum_by-set, sum_by-le}
 use Rattle.std.specs.Vec.{with_item}
@@ -11,11 +11,11 @@ use Rattle.cox_scc.specs.declared.search.Search.{Search}
 use Rattle.cox_scc.specs.declared.search.Visit.{Visit}
 use Rattle.cox_scc.specs.declared.search.Visit.TheVariants.{Unseen, Open, Closed}
 use Rattle.cox_scc.specs.Reach.{Reaches}
-use Rattle.cox_scc.specs.Sorted.{IsFrom, Leads}
-use Rattle.cox_scc.specs.Walk.{ArePlaced, AreFollowed, AreStacked, AreSettled, IsChain, LiesFrom, Stands, BecomeClass, visit_of, IsWalk, LeadsIn, StaySeen, Enters, Joins, Meets, Closes, Finishes, work_left}
+use Rattle.cox_scc.specs.Sorted.{IsFrom}
+use Rattle.cox_scc.specs.Walk.{ArePlaced, AreFollowed, AreStacked, AreSettled, IsChain, LiesFrom, visit_of, IsWalk, LeadsIn, StaySeen, Enters, Joins, Meets, Closes, Finishes, work_left}
 use Rattle.cox_scc.proofs.Stacks.{rising_below, rising_last}
 use Rattle.cox_scc.proofs.Reaching.{Reaches-join, Reaches-step}
-use Rattle.cox_scc.proofs.Chains.{chain_up, chain_down, chain_enter, chain_join, chain_leave}
+use Rattle.cox_scc.proofs.Chains.{chain_down, chain_enter, chain_join, chain_leave}
 use Rattle.cox_scc.proofs.Keeping.{placed_enter, followed_enter, settled_enter, stacked_enter, stacked_join, followed_join, followed_advance, followed_retreat, stacked_retreat}
 use Rattle.cox_scc.proofs.Closing.{placed_close, followed_close, stacked_close, settled_close}
 

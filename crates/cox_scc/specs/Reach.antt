@@ -1,9 +1,9 @@
 -- Directed graphs by their edges: what is reachable, and the classes of vertices that reach each other.
 use Rattle.std.specs.Prelude.{◌≡◌, ℕ, ◌<◌, ◌≤◌, ◌↔◌, List, Contains, slice_index}
 
--- the relation of a list of edges, each as where it begins and where it ends
-abbrev pub IsEdge : List (ℕ × ℕ) → ℕ → ℕ → Type 0
-IsEdge edges a b = Contains edges (a, b)
+-- the list of edges, each as where it begins and where it ends, has one from a to b
+abbrev pub HasEdge : List (ℕ × ℕ) → ℕ → ℕ → Type 0
+HasEdge edges a b = Contains edges (a, b)
 
 -- edges lead from a to b: a is b, or there is an edge from a and edges lead on from its end
 pub data Reaches (IsEdge : ℕ → ℕ → Type 0) : ℕ → ℕ → Type 0 where

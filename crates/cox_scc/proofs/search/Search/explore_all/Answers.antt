@@ -1,5 +1,5 @@
 -- The root is seen after its turn, and what was seen before still is.
-use Rattle.std.proofs.Common.{◌≡◌, ◌≢◌, ◌+◌, ◌<◌, [], vec_len, below_more, subst, sym, ◌∙◌, arith}
+use Rattle.std.proofs.Common.{◌+◌, ◌<◌, vec_len, below_more, subst, sym, ◌∙◌, arith}
 use Rattle.std.proofs.lemmas.List.{get_or_read_under}
 use Rattle.cox_scc.specs.declared.search.Visit.TheVariants.{Unseen}
 use Rattle.cox_scc.proofs.AllClosed.{HadTurns}

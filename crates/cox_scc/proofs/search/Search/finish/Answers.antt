@@ -10,8 +10,11 @@ returns-then-index-here c =
     let count : length c.args.self.now.parts.items ≡ last + 1 =
     omega (arith, c.requires.some, c.len-last.ensures, c.args.self.now.parts.ok.0) in
     let parts_are = cut_last c.args.self.now.parts.items c.truncate.new.self.items last c.index.result.now count c.truncate.ensures.items c.index.ensures in
-    inl (c.truncate.new.self, subst (λ z. c.args.self.now.parts.items ≡ c.truncate.new.self.items ++ z ∷ []) c.if-index-here.true parts_are,
-    c.close.ensures)
+    inl (
+      c.truncate.new.self,
+      subst (λ z. c.args.self.now.parts.items ≡ c.truncate.new.self.items ++ z ∷ []) c.if-index-here.true parts_are,
+      c.close.ensures,
+    )
 
 pub returns-else-index-here : goal.returns-else-index-here
 returns-else-index-here c =
