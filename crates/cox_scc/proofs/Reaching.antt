@@ -1,0 +1,15 @@
+-- What is reached along edges.
+use Rattle.std.proofs.Common.{ℕ}
+use Rattle.cox_scc.specs.Reach.{Reaches}
+
+pub Reaches-join : {IsEdge : ℕ → ℕ → Type 0} {a b c : ℕ} → Reaches IsEdge a b → Reaches IsEdge b c → Reaches IsEdge a c
+Reaches-join (Reaches.itself a) r = r
+Reaches-join (Reaches.onward a b c e r) s = Reaches.onward a b _ e (Reaches-join r s)
+
+pub Reaches-step : {IsEdge : ℕ → ℕ → Type 0} {a b : ℕ} → IsEdge a b → Reaches IsEdge a b
+Reaches-step e = Reaches.onward _ _ _ e (Reaches.itself _)
+
+-- what is kept along edges is kept wherever they lead
+pub Reaches-keeps : {IsEdge : ℕ → ℕ → Type 0} {a b : ℕ} (P : ℕ → Type 0) → ((x y : ℕ) → P x → IsEdge x y → P y) → Reaches IsEdge a b → P a → P b
+Reaches-keeps P keep (Reaches.itself a) p = p
+Reaches-keeps P keep (Reaches.onward a b c e r) p = Reaches-keeps P keep r (keep a b p e)

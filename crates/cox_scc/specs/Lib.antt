@@ -1,0 +1,8 @@
+-- what is reachable along edges, and classes
+pub mod Reach
+-- a `Digraph` as plain data
+pub mod Graph
+-- edges sorted by where they begin
+pub mod Sorted
+-- the depth-first pass
+pub mod Walk

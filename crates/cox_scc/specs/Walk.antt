@@ -1,0 +1,153 @@
+-- What holds during the depth-first pass.
+--
+-- The vertices that were seen and whose class is not known yet stand on a stack, in the order in which they were seen. The stack is cut into parts, and
+-- `parts` has the places where they begin. The path has the places of the vertices that are being explored. Whatever is said of the edges of a
+-- vertex is said of those before `next`, which were followed.
+use Rattle.std.specs.Prelude.{◌≡◌, ◌≢◌, ℕ, ◌+◌, ◌-◌, ◌*◌, ◌<◌, ◌≤◌, ◌⊎◌, ◌↔◌, ⊤, List, [], ◌∷◌, ◌++◌, length, take, sum, slice_index, slice_index_or}
+use Rattle.std.specs.Prelude.{slice_set, vec_len, Contains}
+use Rattle.std.specs.Global.{Vec}
+use Rattle.cox_scc.specs.Reach.{Reaches, ReachEachOther}
+use Rattle.cox_scc.specs.Sorted.{Leads}
+use Rattle.cox_scc.specs.declared.adjacency.Adjacency.{Adjacency}
+use Rattle.cox_scc.specs.declared.search.Visit.{Visit}
+use Rattle.cox_scc.specs.declared.search.Visit.TheVariants.{Unseen, Open, Closed}
+use Rattle.cox_scc.specs.declared.search.Search.{Search}
+
+-- a vertex with this visit is closed, or stands on the stack at place b or above
+abbrev pub LiesFrom : ℕ → Visit → Type 0
+LiesFrom b Unseen = ⊥
+LiesFrom b (Open place) = b ≤ place
+LiesFrom b Closed = ⊤
+
+abbrev pub IsRising : List ℕ → Type 0
+IsRising places = (i j : ℕ) → i < j → j < length places → slice_index places i < slice_index places j
+
+-- the visits of vertices tell their places on the stack
+pub record ArePlaced (n : ℕ) (visit : ℕ → Visit) (stack : ℕ → ℕ) (size : ℕ) : Type 0 where
+  pub found : (v place : ℕ) → v < n → visit v ≡ Open place → (place < size) × (stack place ≡ v)
+  pub vertex : (place : ℕ) → place < size → stack place < n
+  pub visited : (place : ℕ) → place < size → visit (stack place) ≡ Open place
+
+-- each vertex on the stack reaches the next one, which reaches it back unless a part begins there
+pub record IsChain (IsEdge : ℕ → ℕ → Type 0) (stack : ℕ → ℕ) (size : ℕ) (parts : List ℕ) : Type 0 where
+  pub on : (place : ℕ) → place + 1 < size → Reaches IsEdge (stack place) (stack (place + 1))
+  pub back : (place : ℕ) → place + 1 < size → Contains parts (place + 1) ⊎ Reaches IsEdge (stack (place + 1)) (stack place)
+
+-- no edge that was followed leads below the part where it begins, and all edges were followed of the vertices that are not on the path
+pub record AreFollowed (n : ℕ) (offset target : ℕ → ℕ) (visit : ℕ → Visit) (next : ℕ → ℕ) (stack : ℕ → ℕ) (size : ℕ) (parts path : List ℕ)
+    : Type 0 where
+  pub begun : (v : ℕ) → v < n → offset v ≤ next v
+  pub within : (v : ℕ) → v < n → next v ≤ offset (v + 1)
+  pub fresh : (v : ℕ) → v < n → visit v ≡ Unseen → next v ≡ offset v
+  pub ahead : (b place e : ℕ) → Contains parts b → b ≤ place → place < size → offset (stack place) ≤ e → e < next (stack place)
+      → LiesFrom b (visit (target e))
+  pub whole : (place : ℕ) → place < size → Contains path place ⊎ (next (stack place) ≡ offset (stack place + 1))
+
+-- parts and path go up the stack, and each part begins with a vertex of the path
+pub record AreStacked (size : ℕ) (parts path : List ℕ) : Type 0 where
+  pub parts_rise : IsRising parts
+  pub path_rises : IsRising path
+  pub below : (place : ℕ) → Contains path place → place < size
+  pub on_path : (b : ℕ) → Contains parts b → Contains path b
+  pub first : 0 < size → Contains parts 0
+
+-- the classes of closed vertices are right, and no edge leads out of them
+pub record AreSettled (IsEdge : ℕ → ℕ → Type 0) (n : ℕ) (visit : ℕ → Visit) (class : ℕ → ℕ) : Type 0 where
+  pub closed : (a b : ℕ) → a < n → visit a ≡ Closed → IsEdge a b → visit b ≡ Closed
+  pub same : (a b : ℕ) → a < n → b < n → visit a ≡ Closed → visit b ≡ Closed → (class a ≡ class b) ↔ ReachEachOther IsEdge a b
+  pub vertex : (a : ℕ) → a < n → visit a ≡ Closed → class a < n
+  pub member : (a : ℕ) → a < n → visit a ≡ Closed → visit (class a) ≡ Closed
+  pub number : (a : ℕ) → a < n → visit a ≡ Closed → class (class a) ≡ class a
+  pub least : (a b : ℕ) → a < n → b < n → visit a ≡ Closed → visit b ≡ Closed → class b ≡ class a → class a ≤ b
+
+abbrev pub visit_of : Search → ℕ → Visit
+visit_of search v = slice_index_or search.visits.items v Unseen
+
+-- the lists of a graph have an edge from one vertex to the other
+abbrev pub LeadsIn : Adjacency → ℕ → ℕ → Type 0
+LeadsIn adjacency = Leads adjacency.offsets.items adjacency.targets.items
+
+-- what holds between two steps of the pass
+pub record IsWalk (adjacency : Adjacency) (search : Search) (path : List ℕ) : Type 0 where
+  pub visits_count : vec_len search.visits ≡ adjacency.vertices
+  pub classes_count : vec_len search.classes ≡ adjacency.vertices
+  pub next_count : vec_len search.next ≡ adjacency.vertices
+  pub placed : ArePlaced adjacency.vertices (visit_of search) (slice_index search.stack.items) (vec_len search.stack)
+  pub chain : IsChain (LeadsIn adjacency) (slice_index search.stack.items) (vec_len search.stack) search.parts.items
+  pub followed : AreFollowed adjacency.vertices (slice_index adjacency.offsets.items) (slice_index adjacency.targets.items) (visit_of search)
+      (slice_index search.next.items) (slice_index search.stack.items) (vec_len search.stack) search.parts.items path
+  pub stacked : AreStacked (vec_len search.stack) search.parts.items path
+  pub settled : AreSettled (LeadsIn adjacency) adjacency.vertices (visit_of search) (slice_index search.classes.items)
+
+-- no vertex that was seen is unseen again
+abbrev pub StaySeen : Search → Search → Type 0
+StaySeen old new = (v : ℕ) → visit_of new v ≡ Unseen → visit_of old v ≡ Unseen
+
+-- vertex v stands on the stack between two places
+pub record Stands (stack : ℕ → ℕ) (low high v : ℕ) : Type 0 where
+  pub place : ℕ
+  pub above : low ≤ place
+  pub below : place < high
+  pub is : stack place ≡ v
+
+-- the vertices between two places of the stack become a class by the number `least`, which is the least of them; nothing else changes
+pub record BecomeClass (stack : ℕ → ℕ) (low high least : ℕ) (visit later : ℕ → Visit) (class after : ℕ → ℕ) : Type 0 where
+  pub closed : (place : ℕ) → low ≤ place → place < high → later (stack place) ≡ Closed
+  pub number : (place : ℕ) → low ≤ place → place < high → after (stack place) ≡ least
+  pub others : (v : ℕ) → Stands stack low high v ⊎ ((later v ≡ visit v) × (after v ≡ class v))
+  pub member : Stands stack low high least
+  pub least_is : (place : ℕ) → low ≤ place → place < high → least ≤ stack place
+
+-- the least of the members is their number now, and they are closed; nothing else changes
+pub record CloseMembers (members : List ℕ) (least : ℕ) (visits later : List Visit) (classes after : List ℕ) : Type 0 where
+  pub visits_count : length later ≡ length visits
+  pub classes_count : length after ≡ length classes
+  pub closed : (k : ℕ) → k < length members → slice_index_or later (slice_index members k) Unseen ≡ Closed
+  pub number : (k : ℕ) → k < length members → slice_index after (slice_index members k) ≡ least
+  pub others : (v : ℕ)
+      → Contains members v ⊎ ((slice_index_or later v Unseen ≡ slice_index_or visits v Unseen) × (slice_index after v ≡ slice_index classes v))
+
+-- the vertex comes onto the stack, as a part of its own
+pub record Enters (old new : Search) (vertex : ℕ) : Type 0 where
+  pub visits : new.visits.items ≡ slice_set old.visits.items vertex (Open (vec_len old.stack))
+  pub stack : new.stack.items ≡ old.stack.items ++ vertex ∷ []
+  pub parts : new.parts.items ≡ old.parts.items ++ vec_len old.stack ∷ []
+  pub classes : new.classes ≡ old.classes
+  pub next : new.next ≡ old.next
+
+-- the parts that begin after the place are joined to the one before
+pub record Joins (parts fewer : List ℕ) (place : ℕ) : Type 0 where
+  pub rise : IsRising fewer
+  pub was : (b : ℕ) → Contains fewer b → Contains parts b × (b ≤ place)
+  pub kept : (b : ℕ) → Contains parts b → b ≤ place → Contains fewer b
+
+-- what an edge to a vertex with this visit does, and the place where the pass goes on
+abbrev pub Meets : Visit → Search → Search → ℕ → ℕ → ℕ → Type 0
+Meets Unseen old new here target there =
+    Enters old new target × (new.waiting.items ≡ old.waiting.items ++ here ∷ []) × (there ≡ vec_len old.stack)
+Meets (Open place) old new here target there =
+    (new ≡ record old { parts = new.parts }) × Joins old.parts.items new.parts.items place × (there ≡ here)
+Meets Closed old new here target there = (new ≡ old) × (there ≡ here)
+
+-- the vertices from the place up become a class, and leave the stack
+pub record Closes (old new : Search) (low : ℕ) : Type 0 where
+  pub visits_count : vec_len new.visits ≡ vec_len old.visits
+  pub classes_count : vec_len new.classes ≡ vec_len old.classes
+  pub least : ℕ
+  pub become : BecomeClass (slice_index old.stack.items) low (vec_len old.stack) least (visit_of old) (visit_of new)
+      (slice_index old.classes.items) (slice_index new.classes.items)
+  pub stack : new.stack.items ≡ take low old.stack.items
+  pub parts : new.parts ≡ old.parts
+  pub next : new.next ≡ old.next
+  pub waiting : new.waiting ≡ old.waiting
+
+-- the last part becomes a class where it begins at the place; else nothing changes
+abbrev pub Finishes : Search → Search → ℕ → Type 0
+Finishes old new here =
+    ((fewer : Vec ℕ) × (old.parts.items ≡ fewer.items ++ here ∷ []) × Closes (record old { parts = fewer }) new here)
+    ⊎ ((slice_index old.parts.items (vec_len old.parts - 1) ≢ here) × (new ≡ old))
+
+-- what is left to do: two for each edge that was not followed, and one for each vertex of the path
+abbrev pub work_left : Adjacency → Search → List ℕ → ℕ
+work_left adjacency search path =
+    2 * (vec_len search.next * vec_len adjacency.targets - sum search.next.items) + length path
