@@ -1,5 +1,5 @@
 //! The number of small roots, and small words, against published values and by hand.
-ghost use Rattle.std.specs.Prelude.{IfSome};
+ghost use Rattle.std.specs.Prelude.{◌≤◌, IfSome, length};
 ghost use Rattle.cox_base.specs.Matrix.{IsWord};
 
 use crate::{MAX_SMALL_ROOTS, RootFault, RootTable};
@@ -15,6 +15,17 @@ fn word_of(g: &Coxeter, text: &[u8]) -> Option<Word>
         return None;
     }
     read_word(text, g.rank()).ok()
+}
+
+/// These letters over and over.
+fn repeated(letters: &[u8]) -> [u8; MAX_LETTERS]
+    requires { 1 ≤ length letters.now }
+{
+    let mut text = [b'1'; MAX_LETTERS];
+    for k in 0..MAX_LETTERS {
+        text[k] = letters[k % letters.len()];
+    }
+    text
 }
 
 /// In a finite group each positive root is small (Humphreys 2.10); of affine type A 8 there are 72 (Brink and Howlett).
@@ -57,11 +68,7 @@ fn infinite_dihedral_group(rt: HostRuntime) -> Result<(), Fail> {
     let g = Coxeter::of_labels(2, &[0])?;
     let table = RootTable::build(rt.alloc(), &g, 2)?;
     assert_eq!(rt; table.len(), 2);
-    let mut text = [b'1'; MAX_LETTERS];
-    for k in 0..127 {
-        text[2 * k + 1] = b'2';
-    }
-    let word = word_of(&g, &text).ok_or("a word")?;
+    let word = word_of(&g, &repeated(b"12")).ok_or("a word")?;
     assert_eq!(rt; table.length(&word), 255);
     let form = table.normal_form(&word);
     assert_eq!(rt; form.as_slice(), word.as_slice());
@@ -98,11 +105,7 @@ fn heights_that_overflow(rt: HostRuntime) -> Result<(), Fail> {
     let g = Coxeter::of_labels(3, &[0, 0, 0])?;
     let table = RootTable::build(rt.alloc(), &g, MAX_SMALL_ROOTS)?;
     assert_eq!(rt; table.len(), 3);
-    let (mut text, mut turned) = ([b'1'; MAX_LETTERS], [b'3'; MAX_LETTERS]);
-    for k in 0..MAX_LETTERS / 3 {
-        (text[3 * k + 1], text[3 * k + 2]) = (b'2', b'3');
-        (turned[3 * k + 1], turned[3 * k + 2]) = (b'2', b'1');
-    }
+    let (text, turned) = (repeated(b"123"), repeated(b"321"));
     let word = word_of(&g, &text).ok_or("a word")?;
     let prefix = word_of(&g, &text[..200]).ok_or("a word")?;
     let short = word_of(&g, &text[..145]).ok_or("a word")?;
