@@ -15,7 +15,11 @@ fn short_word(g: &Coxeter, text: &[u8]) -> Option<Word>
     if text.len() > LETTERS_OF_128_BITS {
         return None;
     }
-    read_word(text, g.rank()).ok()
+    let word = read_word(text, g.rank()).ok()?;
+    if word.len() > LETTERS_OF_128_BITS {
+        return None;
+    }
+    Some(word)
 }
 
 /// Whether a text is the normal form of the element that it names.

@@ -1,5 +1,5 @@
 //! R-polynomials of words of 255 letters, against values that are known by hand.
-ghost use Rattle.std.specs.Prelude.{◌≤◌, IfSome};
+ghost use Rattle.std.specs.Prelude.{◌≤◌, IfSome, length};
 ghost use Rattle.cox_base.specs.Matrix.{IsWord};
 
 use cox_base::{Coxeter, MAX_LETTERS, Word, read_word};
@@ -8,20 +8,27 @@ use cox_rpoly::{RFault, r};
 use std::alloc::Global;
 use std::test::Fail;
 
-/// The word of a text.
-fn word_of(g: &Coxeter, text: &[u8]) -> Option<Word>
+/// So many letters of the word that repeats these letters without end.
+fn repeated(g: &Coxeter, letters: &[u8], count: usize) -> Option<Word>
+    requires { 1 ≤ length letters.now }
     ensures { IfSome result (λ w. IsWord g.now.rank w.items) }
 {
-    if text.len() > MAX_LETTERS {
+    if count > MAX_LETTERS {
         return None;
     }
-    read_word(text, g.rank()).ok()
+    let mut text = [b'1'; MAX_LETTERS];
+    for k in 0..count {
+        text[k] = letters[k % letters.len()];
+    }
+    read_word(&text[..count], g.rank()).ok()
 }
 
-/// The text of R of two words.
-fn text_of(alloc: Global, table: &RootTable, y: &[u8], w: &[u8]) -> Result<String, Fail> {
-    let y = word_of(table.group(), y).ok_or("no word")?;
-    let w = word_of(table.group(), w).ok_or("no word")?;
+/// The text of R of the word that repeats these letters, so many of them, and the same of 255 letters.
+fn text_of(alloc: Global, table: &RootTable, letters: &[u8], count: usize) -> Result<String, Fail>
+    requires { 1 ≤ length letters.now }
+{
+    let y = repeated(table.group(), letters, count).ok_or("no word")?;
+    let w = repeated(table.group(), letters, MAX_LETTERS).ok_or("no word")?;
     let mut out = Vec::new(alloc);
     r(alloc, table, &y, &w)?.put_text(&mut out)?;
     Ok(String::from_utf8(out).ok().ok_or("not UTF-8")?)
@@ -32,16 +39,12 @@ fn text_of(alloc: Global, table: &RootTable, y: &[u8], w: &[u8]) -> Result<Strin
 fn infinite_dihedral_group(rt: HostRuntime) -> Result<(), Fail> {
     let g = Coxeter::of_labels(2, &[0])?;
     let table = RootTable::build(rt.alloc(), &g, MAX_SMALL_ROOTS)?;
-    let mut w = [b'1'; MAX_LETTERS];
-    for k in 0..MAX_LETTERS / 2 {
-        w[2 * k + 1] = b'2';
-    }
     assert_eq!(rt;
-        text_of(rt.alloc(), &table, &w[..216], &w)?.as_str(),
+        text_of(rt.alloc(), &table, b"12", 216)?.as_str(),
         "-1+2q-2q^2+2q^3-2q^4+2q^5-2q^6+2q^7-2q^8+2q^9-2q^10+2q^11-2q^12+2q^13-2q^14+2q^15-2q^16+2q^17-2q^18+2q^19-2q^20+2q^21-2q^22+2q^23-2q^24+2q^25-2q^26+2q^27-2q^28+2q^29-2q^30+2q^31-2q^32+2q^33-2q^34+2q^35-2q^36+2q^37-2q^38+q^39"
     );
-    let y = word_of(&g, &w[..215]).ok_or("no word")?;
-    let w = word_of(&g, &w).ok_or("no word")?;
+    let y = repeated(&g, b"12", 215).ok_or("no word")?;
+    let w = repeated(&g, b"12", MAX_LETTERS).ok_or("no word")?;
     assert_eq!(rt; r(rt.alloc(), &table, &y, &w).err(), Some(RFault::Deep(40)));
     Ok(())
 }
@@ -51,14 +54,12 @@ fn infinite_dihedral_group(rt: HostRuntime) -> Result<(), Fail> {
 fn free_product_of_three(rt: HostRuntime) -> Result<(), Fail> {
     let g = Coxeter::of_labels(3, &[0, 0, 0])?;
     let table = RootTable::build(rt.alloc(), &g, MAX_SMALL_ROOTS)?;
-    let mut w = [b'1'; MAX_LETTERS];
-    for k in 0..MAX_LETTERS / 3 {
-        w[3 * k + 1] = b'2';
-        w[3 * k + 2] = b'3';
-    }
     let powers: [(usize, &str); 3] = [(255, "1"), (254, "-1+q"), (253, "1-2q+q^2")];
     for (letters, text) in powers {
-        assert_eq!(rt; text_of(rt.alloc(), &table, &w[..letters], &w)?.as_str(), text);
+        assert_eq!(rt;
+            text_of(rt.alloc(), &table, b"123", letters)?.as_str(),
+            text
+        );
     }
     Ok(())
 }
