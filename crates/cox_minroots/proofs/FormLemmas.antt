@@ -1,5 +1,6 @@
 -- Normal forms and descents of reduced words, by exchanges.
-use Rattle.std.proofs.Common.{◌≡◌, ℕ, zero, suc, ◌+◌, ◌-◌, ◌≤◌, ◌<◌, Bool, true, false, Option, None, Some, is_some, IfSome, IfNone, nat_lt, List, [], ◌∷◌, ◌++◌, length, reverse, filter, refl, ap, sym, ◌∙◌, ⊎_elim, arith, ltb-true, lt-ltb}
+use Rattle.std.proofs.Common.{◌≡◌, ℕ, zero, suc, ◌+◌, ◌-◌, ◌≤◌, ◌<◌, Bool, true, false, Option, None, Some, is_some, IfSome, IfNone}
+use Rattle.std.proofs.Common.{nat_lt, List, [], ◌∷◌, ◌++◌, length, reverse, filter, refl, ap, sym, ◌∙◌, ⊎_elim, arith, ltb-true, lt-ltb}
 use Rattle.std.specs.List.{range_with_len, remove}
 use Rattle.std.proofs.Math.Path.{fun_ext}
 use Rattle.std.proofs.lemmas.Bool.{cases_lt}
@@ -15,10 +16,9 @@ use Rattle.cox_base.specs.ShortLex.{letters, normal_form}
 use Rattle.cox_base.specs.Length.{word_length, left_descents, right_descents}
 use Rattle.cox_base.specs.Reduced.{IsReduced, IsLeftDescent, IsRightDescent}
 use Rattle.cox_reflect.proofs.Sums.{letter_above}
-use Rattle.cox_reflect.proofs.Elements.{same-refl, same-trans, same-reverse, same-push, same-append}
+use Rattle.cox_reflect.proofs.Elements.{same-trans, same-reverse, same-push}
 use Rattle.cox_reflect.proofs.FormLemmas.{left_descents-word_at}
 use Rattle.cox_reflect.proofs.Search.{normal_form-equal, word_length-equal, word_length-length}
-use Rattle.cox_reflect.proofs.Lengths.{word_length-reverse}
 use Rattle.cox_reflect.proofs.Roots.{reverse_left_descent, left_descent_reverse, left_descent-letter}
 use Rattle.cox_reflect.proofs.WordLemmas.{IsWord-append, IsWord-single}
 use Rattle.cox_reflect.proofs.NormalForm.{normal_form-descent, normal_form-no_descent}

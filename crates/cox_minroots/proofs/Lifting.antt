@@ -1,5 +1,6 @@
 -- Bruhat order by lifting, with reduced words of the inverses.
-use Rattle.std.proofs.Common.{◌≡◌, ℕ, ◌<◌, Bool, true, false, ◌==◌, IsTrue, List, [], ◌∷◌, ◌++◌, length, reverse, ◌↔◌, refl, sym, ◌∙◌, arith, eqb-true, eq-eqb}
+use Rattle.std.proofs.Common.{◌≡◌, ℕ, ◌<◌, Bool, true, false, ◌==◌, IsTrue, List, [], ◌∷◌, ◌++◌, length, reverse, ◌↔◌, refl, sym, ◌∙◌}
+use Rattle.std.proofs.Common.{arith, eqb-true, eq-eqb}
 use Rattle.std.specs.List.{remove}
 use Rattle.std.proofs.lemmas.Bool.{false≢true}
 use Rattle.std.proofs.lemmas.List.{length-append}

@@ -1,5 +1,6 @@
 -- Roots as the keys of a set: where a root is found, and a new one goes last.
-use Rattle.std.proofs.Common.{◌≡◌, ℕ, zero, suc, ◌<◌, Bool, true, false, nat_eq, ◌&&◌, ◌||◌, List, [], ◌∷◌, length, get_or, Contains, Option, None, Some, is_some, MatchOption, position, refl, sym, ◌∙◌, true≢false, arith}
+use Rattle.std.proofs.Common.{◌≡◌, ℕ, zero, suc, ◌<◌, Bool, true, false, nat_eq, ◌&&◌, ◌||◌, List, [], ◌∷◌, length, get_or, Contains}
+use Rattle.std.proofs.Common.{Option, None, Some, is_some, MatchOption, position, refl, sym, ◌∙◌, true≢false, arith}
 use Rattle.std.specs.Cmp.Lexicographic.{pointwise, bytes_decides}
 use Rattle.std.specs.List.{list_any}
 use Rattle.std.proofs.lemmas.List.Quantifiers.{position-Some}

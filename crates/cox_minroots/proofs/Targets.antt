@@ -1,7 +1,8 @@
 -- The image of a small root under a letter, where the product of the pairings is at most 3 and the root is not that of the letter: it is
 -- small,
 -- so a list of all small roots has it.
-use Rattle.std.proofs.Common.{◌≡◌, ℕ, ◌+◌, ◌-◌, ◌*◌, ◌/◌, ◌%◌, ◌≤◌, ◌<◌, List, [], ◌∷◌, ◌++◌, length, get_or, set, Contains, pos, ◌-ℤ◌, ◌*ℤ◌, ◌<ℤ◌, ap, sym, ◌∙◌, ⊎_elim, arith}
+use Rattle.std.proofs.Common.{◌≡◌, ℕ, ◌+◌, ◌-◌, ◌*◌, ◌/◌, ◌%◌, ◌≤◌, ◌<◌, List, [], ◌∷◌, ◌++◌, length, get_or, set, Contains, pos, ◌-ℤ◌}
+use Rattle.std.proofs.Common.{◌*ℤ◌, ◌<ℤ◌, ap, sym, ◌∙◌, ⊎_elim, arith}
 use Rattle.std.proofs.lemmas.Bool.{cases_lt, cases_order}
 use Rattle.std.proofs.lemmas.Int.{ints, by_lt_z}
 use Rattle.std.proofs.Math.Nat.{mul-le-mul_left}
@@ -29,7 +30,8 @@ use Rattle.cox_minroots.specs.Closure.{IsRow, IsClosed}
 use Rattle.cox_minroots.specs.declared.moves.TheConstants.{NEGATIVE, OUT}
 use Rattle.cox_minroots.specs.Moves.{IsMove}
 use Rattle.cox_minroots.proofs.CoordinateLemmas.{vector_of-letter, vector_of-at, pairing-weight}
-use Rattle.cox_minroots.proofs.ClosureLemmas.{closed-has, negative-product, rise-negative, rise-positive, factors, short, root-equal, turned-root, turned-coroot}
+use Rattle.cox_minroots.proofs.ClosureLemmas.{closed-has, negative-product, rise-negative, rise-positive, factors, short, root-equal}
+use Rattle.cox_minroots.proofs.ClosureLemmas.{turned-root, turned-coroot}
 
 -- where the image has coordinates of a row, the code can compute it
 can_turn_to : (A : IntegerMatrix) → IsAdmissible A → (s m : ℕ) (xs ys : List ℕ) → IsLetter A.rank s → IsRow m ys → m < 65536
@@ -201,7 +203,8 @@ module _ (A : IntegerMatrix) (g : IsAdmissible A) (fits : A.rank ≤ MAX_RANK) (
 
 module _ (x : CoxeterMatrix) (matrix : IsCoxeterMatrix x) (fits : x.rank ≤ MAX_RANK) (roots : List Root)
     (h : IsClosed (integer_matrix x) roots)
-    (few : length roots ≤ MAX_SMALL_ROOTS) (i : ℕ) (l : i < length roots) (s : ℕ) (ls : IsLetter x.rank s) (root : Root) (at : root ≡ root_at roots i)
+    (few : length roots ≤ MAX_SMALL_ROOTS) (i : ℕ) (l : i < length roots) (s : ℕ) (ls : IsLetter x.rank s) (root : Root)
+    (at : root ≡ root_at roots i)
     (product : ℕ) (is : product ≡ rise (integer_matrix x) s root.root * rise (transposed (integer_matrix x)) s root.coroot) where
   g : IsAdmissible (integer_matrix x)
   g = IsAdmissible-integer_matrix x matrix

@@ -1,5 +1,5 @@
 //! The number of small roots, and small words, against published values and by hand.
-ghost use Rattle.std.specs.Prelude.{IfSome};
+ghost use Rattle.std.specs.Prelude.{◌≤◌, IfSome, length};
 ghost use Rattle.cox_base.specs.Matrix.{IsWord};
 
 use crate::{MAX_SMALL_ROOTS, RootFault, RootTable};
@@ -15,6 +15,21 @@ fn word_of(g: &Coxeter, text: &[u8]) -> Option<Word>
         return None;
     }
     read_word(text, g.rank()).ok()
+}
+
+/// So many letters of the word that repeats these letters without end.
+fn repeated(g: &Coxeter, letters: &[u8], count: usize) -> Option<Word>
+    requires { 1 ≤ length letters.now }
+    ensures { IfSome result (λ w. IsWord g.now.rank w.items) }
+{
+    if count > MAX_LETTERS {
+        return None;
+    }
+    let mut text = [b'1'; MAX_LETTERS];
+    for k in 0..count {
+        text[k] = letters[k % letters.len()];
+    }
+    read_word(&text[..count], g.rank()).ok()
 }
 
 /// In a finite group each positive root is small (Humphreys 2.10); of affine type A 8 there are 72 (Brink and Howlett).
@@ -57,11 +72,7 @@ fn infinite_dihedral_group(rt: HostRuntime) -> Result<(), Fail> {
     let g = Coxeter::of_labels(2, &[0])?;
     let table = RootTable::build(rt.alloc(), &g, 2)?;
     assert_eq!(rt; table.len(), 2);
-    let mut text = [b'1'; MAX_LETTERS];
-    for k in 0..127 {
-        text[2 * k + 1] = b'2';
-    }
-    let word = word_of(&g, &text).ok_or("a word")?;
+    let word = repeated(&g, b"12", MAX_LETTERS).ok_or("a word")?;
     assert_eq!(rt; table.length(&word), 255);
     let form = table.normal_form(&word);
     assert_eq!(rt; form.as_slice(), word.as_slice());
@@ -96,29 +107,30 @@ fn words_of_a_3(rt: HostRuntime) -> Result<(), Fail> {
 #[test]
 fn heights_that_overflow(rt: HostRuntime) -> Result<(), Fail> {
     let g = Coxeter::of_labels(3, &[0, 0, 0])?;
-    let table = RootTable::build(rt.alloc(), &g, MAX_SMALL_ROOTS)?;
-    assert_eq!(rt; table.len(), 3);
-    let (mut text, mut turned) = ([b'1'; MAX_LETTERS], [b'3'; MAX_LETTERS]);
-    for k in 0..MAX_LETTERS / 3 {
-        (text[3 * k + 1], text[3 * k + 2]) = (b'2', b'3');
-        (turned[3 * k + 1], turned[3 * k + 2]) = (b'2', b'1');
-    }
-    let word = word_of(&g, &text).ok_or("a word")?;
-    let prefix = word_of(&g, &text[..200]).ok_or("a word")?;
-    let short = word_of(&g, &text[..145]).ok_or("a word")?;
-    let back = word_of(&g, &turned).ok_or("a word")?;
+    let table = RootTable::build(rt.alloc(), &g, 3)?;
+    let word = repeated(&g, b"123", MAX_LETTERS).ok_or("a word")?;
+    let back = repeated(&g, b"321", MAX_LETTERS).ok_or("a word")?;
     assert!(rt; Heights::of_word(&g, &word).is_none());
     assert_eq!(rt; table.normal_form(&word).as_slice(), word.as_slice());
     assert_eq!(rt; table.length(&word), 255);
     assert_eq!(rt; table.left_descents(&word).as_slice(), [1].as_slice());
     assert_eq!(rt; table.right_descents(&word).as_slice(), [3].as_slice());
     assert_eq!(rt; table.inverse(&word).as_slice(), back.as_slice());
-    assert!(rt; table.below(&prefix, &word));
     assert!(rt; !table.below(&back, &word));
     assert_eq!(rt; Words::longest(&table), 255);
-    // the prefix of 200 letters without its last 55
-    let end = word_of(&g, &turned[55..110]).ok_or("a word")?;
-    assert!(rt; prefix.len() + end.len() <= MAX_LETTERS);
-    assert_eq!(rt; table.product(&prefix, &end).as_slice(), short.as_slice());
+    Ok(())
+}
+
+/// The first 200 letters of such a word, and the inverse of its letters 146 to 200.
+#[test]
+fn products_that_overflow(rt: HostRuntime) -> Result<(), Fail> {
+    let g = Coxeter::of_labels(3, &[0, 0, 0])?;
+    let table = RootTable::build(rt.alloc(), &g, 3)?;
+    let word = repeated(&g, b"123", 200).ok_or("a word")?;
+    let end = repeated(&g, b"213", 55).ok_or("a word")?;
+    let prefix = repeated(&g, b"123", 145).ok_or("a word")?;
+    assert!(rt; word.len() + end.len() <= MAX_LETTERS);
+    assert_eq!(rt; table.product(&word, &end).as_slice(), prefix.as_slice());
+    assert!(rt; table.below(&prefix, &word));
     Ok(())
 }

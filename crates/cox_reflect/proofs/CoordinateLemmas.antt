@@ -26,7 +26,8 @@ use Rattle.cox_reflect.proofs.Elements.{matrix-column}
 use Rattle.cox_reflect.proofs.Sizes.{coordinate-size, size-prefix, entry-small, sum_to-small, size-act}
 
 fits-bound : (z : ℤ) (n : ℕ) → nat_abs z ≤ 4 * n → n ≤ 4 ^ (LETTERS_OF_128_BITS - 1) → SFits w128 z
-fits-bound z n small bound = let top : 4 * 4 ^ (LETTERS_OF_128_BITS - 1) < 2 ^ 127 = lit< tt in fits_signed_from_abs w128 z (omega (arith, small, bound, top))
+fits-bound z n small bound =
+    let top : 4 * 4 ^ (LETTERS_OF_128_BITS - 1) < 2 ^ 127 = lit< tt in fits_signed_from_abs w128 z (omega (arith, small, bound, top))
 
 pub part-none : (f : ℕ → ℤ) → sum_to 0 f ≡ pos 0
 unfolding sum_to
@@ -39,7 +40,8 @@ sum_to-next (suc k) f l = let e : suc k - 1 ≡ k = omega arith in rw e refl
 
 module _ (A : IntegerMatrix) (g : IsAdmissible A) where
   -- each product, and each part of the sum, fits
-  pub term-fits : (s t : ℕ) (v : Vector) → IsLetter A.rank t → size A.rank v ≤ 4 ^ (LETTERS_OF_128_BITS - 1) → SFits w128 (A.entry s t *ℤ v t)
+  pub term-fits : (s t : ℕ) (v : Vector) → IsLetter A.rank t → size A.rank v ≤ 4 ^ (LETTERS_OF_128_BITS - 1)
+      → SFits w128 (A.entry s t *ℤ v t)
   term-fits s t v l bound =
       let product : nat_abs (A.entry s t *ℤ v t) ≡ nat_abs (A.entry s t) * nat_abs (v t) = unsigned_abs-mul (A.entry s t) (v t)
       in let small : nat_abs (A.entry s t) * nat_abs (v t) ≤ 3 * nat_abs (v t) = mul-le-mul_right (nat_abs (v t)) (entry-small A g s t)
@@ -148,7 +150,8 @@ AreCoordinates-next A f xs x s list is = rw (reverse-map_push f xs x, act-cons A
 
 -- ---- a turn of the loop over the letters of w, the last one first: xs are the items so far, item is the next, f gives their letters
 
-module _ (x : CoxeterMatrix) (matrix : IsCoxeterMatrix x) (w : List ℕ) (word : IsWord x.rank w) (short : length w ≤ LETTERS_OF_128_BITS) (s : ℕ)
+module _ (x : CoxeterMatrix) (matrix : IsCoxeterMatrix x) (w : List ℕ) (word : IsWord x.rank w) (short : length w ≤ LETTERS_OF_128_BITS)
+    (s : ℕ)
     {X : Type 0} (f : X → ℕ)
     (xs : List X) (item : X) (turn : (length xs < length (reverse w)) × (f item ≡ get_or (reverse w) (length xs) (f item)))
     (list : List ℤ) (are : AreCoordinates (integer_matrix x) list (act (integer_matrix x) (reverse (map f xs)) (simple_root s))) where

@@ -13,7 +13,8 @@ use Rattle.cox_base.specs.Length.{word_length}
 use Rattle.cox_base.specs.Reduced.{IsReduced, IsLeftDescent, IsRightDescent}
 use Rattle.cox_reflect.specs.Exchange.{LeavesOneOut, LeavesTwoOut}
 use Rattle.cox_reflect.specs.DerivedWords.{reflection, IsWithoutOne, this_one, later_one}
-use Rattle.cox_reflect.proofs.Elements.{act-same, same-sym, same-trans, same-cons, same-push, same-square, same-push_twice, same-drop_prefix}
+use Rattle.cox_reflect.proofs.Elements.{act-same, same-sym, same-trans, same-cons, same-push, same-square, same-push_twice}
+use Rattle.cox_reflect.proofs.Elements.{same-drop_prefix}
 use Rattle.cox_reflect.proofs.Action.{act-cons, act-append, reverse-act}
 use Rattle.cox_reflect.specs.Action.{reflect}
 use Rattle.cox_reflect.specs.WordAction.{act}

@@ -1,5 +1,6 @@
 -- A loop that puts a letter s before a word: the heights are replaced one by one. Its numbers have the width w.
-use Rattle.std.proofs.Common.{◌≡◌, ℕ, ◌+◌, ◌-◌, ◌*◌, ◌^◌, ◌≤◌, ◌<◌, List, ◌∷◌, length, set, ℤ, ◌-ℤ◌, ◌*ℤ◌, nat_abs, to_z, of_z, ap, ◌∙◌, arith}
+use Rattle.std.proofs.Common.{◌≡◌, ℕ, ◌+◌, ◌-◌, ◌*◌, ◌^◌, ◌≤◌, ◌<◌, List, ◌∷◌, length, set, ℤ, ◌-ℤ◌, ◌*ℤ◌, nat_abs}
+use Rattle.std.proofs.Common.{to_z, of_z, ap, ◌∙◌, arith}
 use Rattle.std.proofs.lemmas.Int.{to_z-of_z}
 use Rattle.std.proofs.lemmas.List.{length-set}
 use mir.Syntax.{Width}

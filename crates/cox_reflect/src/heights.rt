@@ -39,7 +39,7 @@ impl Heights {
         Heights::of_identity()
     }
 
-    /// The heights of a word.
+    /// The heights of a word. For example in A 2 those of `1` are -1 and 2.
     pub fn of_word(g: &Coxeter, w: &Word) -> Option<Heights>
         requires letters { IsWord g.now.rank w.now.items }
         ensures heights { IfSome result (λ h. AreHeights (integer_matrix g.now) w.now.items h.values) }
@@ -109,6 +109,8 @@ impl Heights {
 }
 
 /// Whether the element with these heights is below that of a reduced word. None where a number overflows.
+///
+/// For example in A 2 the element with the heights of `1` is below the word 2, 1.
 pub fn below_reduced(g: &Coxeter, heights: Heights, form: &[u8]) -> Option<bool>
     requires letters { IsWord g.now.rank form.now }
     requires reduced { IsReduced (integer_matrix g.now) form.now }

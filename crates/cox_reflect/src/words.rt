@@ -26,13 +26,13 @@ pub trait Words {
         ensures value { result ≡ longest self.now }
         ensures limit { result ≤ MAX_LETTERS };
 
-    /// The normal form of the element that w names: its ShortLex-first word.
+    /// The normal form of the element that w names: its ShortLex-first word. For example in A 2 that of `212` is `121`.
     fn normal_form(&self, w: &Word) -> Word
         requires letters { IsWord (matrix self.now).rank w.now.items }
         requires short { length w.now.items ≤ longest self.now }
         ensures { result.items ≡ normal_form (integer_matrix (matrix self.now)) w.now.items };
 
-    /// The letters s with l(sw) < l(w), rising.
+    /// The letters s with l(sw) < l(w), rising. For example in A 3 the word `12` has the left descents 1.
     fn left_descents(&self, w: &Word) -> Word
         requires letters { IsWord (matrix self.now).rank w.now.items }
         requires short { length w.now.items ≤ longest self.now }

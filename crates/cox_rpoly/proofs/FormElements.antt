@@ -1,5 +1,6 @@
 -- Elements told by their normal forms: their words, their descents by a search in the list, and products by a letter.
-use Rattle.std.proofs.Common.{◌≡◌, ℕ, zero, suc, ◌+◌, ◌≤◌, ◌<◌, Bool, true, false, ◌&&◌, ◌||◌, nat_eq, nat_lt, List, ◌∷◌, length, ◌↔◌, refl, ap, sym, ◌∙◌, ⊎_elim}
+use Rattle.std.proofs.Common.{◌≡◌, ℕ, zero, suc, ◌+◌, ◌≤◌, ◌<◌, Bool, true, false, ◌&&◌, ◌||◌, nat_eq, nat_lt, List, ◌∷◌, length, ◌↔◌}
+use Rattle.std.proofs.Common.{refl, ap, sym, ◌∙◌, ⊎_elim}
 use Rattle.std.proofs.Common.{arith, eqb-true, eq-eqb, ltb-true, lt-ltb}
 use Rattle.std.specs.List.{list_any, range_with_len}
 use Rattle.std.proofs.lemmas.Bool.{cases_eq}

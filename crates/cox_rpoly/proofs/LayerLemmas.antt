@@ -100,7 +100,8 @@ module _ {X : Type 0} (of : Naming X) where
     }
 
     -- x is short, and so is s x where s does not shorten x
-    pub IsShortElement-member : (s : ℕ) (v : List ℕ) (x : X) (limit : ℕ) → IsReduced A (s ∷ v) → length v + 1 ≤ limit → IsMember of A (s ∷ v) x
+    pub IsShortElement-member : (s : ℕ) (v : List ℕ) (x : X) (limit : ℕ) → IsReduced A (s ∷ v) → length v + 1 ≤ limit
+        → IsMember of A (s ∷ v) x
         → IsShortElement of A limit x
     IsShortElement-member s v x limit r short m = record {
       word = m.word;
@@ -108,7 +109,8 @@ module _ {X : Type 0} (of : Naming X) where
       short = omega (arith, below-length A g m.below, r, short);
     }
 
-    pub IsShortElement-times : (s : ℕ) (v : List ℕ) (x moved : X) (limit : ℕ) → IsReduced A (s ∷ v) → length v + 1 ≤ limit → IsMember of A (s ∷ v) x
+    pub IsShortElement-times : (s : ℕ) (v : List ℕ) (x moved : X) (limit : ℕ) → IsReduced A (s ∷ v) → length v + 1 ≤ limit
+        → IsMember of A (s ∷ v) x
         → ((u : List ℕ) → of A u x → IsLeftDescent A u s → ⊥) → ((u : List ℕ) → of A u x → of A (s ∷ u) moved)
         → IsShortElement of A limit moved
     IsShortElement-times s v x moved limit r short m ascent moves =

@@ -34,20 +34,23 @@ module _ {X : Type 0} (of : Naming X) where
 
   module _ (A : IntegerMatrix) (g : IsAdmissible A) where
     -- where no letters are left
-    pub IsValue-end : SameDescents of A → (x : X) (p : List ℤ) → IsMember of A [] x → ((k : ℕ) → coefficient p k ≡ one_polynomial k) → IsValue of A [] x p
+    pub IsValue-end : SameDescents of A → (x : X) (p : List ℤ) → IsMember of A [] x → ((k : ℕ) → coefficient p k ≡ one_polynomial k)
+        → IsValue of A [] x p
     IsValue-end descents x p m one = record {
       at = λ u e k. one k ∙ sym
           (ap (λ (f : Coefficients). f k) (along-identity A u (below_identity-length of A g descents m.word x m.of_word m.below u e)));
     }
 
-    pub AreValues-end : SameDescents of A → (v : List ℕ) (layer : List X) (values : List (List ℤ)) {n : ℕ} → length v ≡ 0 → All (IsMember of A v) layer → n
+    pub AreValues-end : SameDescents of A → (v : List ℕ) (layer : List X) (values : List (List ℤ)) {n : ℕ} → length v ≡ 0
+        → All (IsMember of A v) layer → n
         ≡ length layer
         → AreOnes n values → AreValues of A v layer values
     AreValues-end descents (s ∷ v) layer values none members count ones = absurd (omega (arith, none))
     AreValues-end descents [] layer values none members count ones = record {
       count = ones.count ∙ count;
       each = λ i x below.
-          IsValue-end descents (get_or layer i x) (numbered values i) (members i x below) (λ k. ones.each i k (omega (arith, below, count)));
+          IsValue-end descents (get_or layer i x) (numbered values i) (members i x below)
+          (λ k. ones.each i k (omega (arith, below, count)));
     }
 
     -- where at most 38 letters more are left than x has

@@ -21,7 +21,8 @@ same_heights x y t =
     let e = (signed_items x.values y.values).0 t
     in ap (λ (values : List ℤ). let h : Heights = record { values = values } in h) e
 
-pub same_descents_by_heights : (A : IntegerMatrix) → IsAdmissible A → (u v : List ℕ) (x : Heights) → is_of_heights A u x → is_of_heights A v x
+pub same_descents_by_heights : (A : IntegerMatrix) → IsAdmissible A → (u v : List ℕ) (x : Heights) → is_of_heights A u x
+    → is_of_heights A v x
     → (t : ℕ) → IsLeftDescent A u t → IsLeftDescent A v t
 same_descents_by_heights A g u v x a b t d =
     descent_from_heights A g v x.values t b (left_descent-letter A g u t d) (heights_at_descent A g u x.values t a d)

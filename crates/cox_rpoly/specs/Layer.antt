@@ -65,6 +65,7 @@ IsLink of A s v x next (Longer i None) = IsLongerLink of A s x next i × ((u : L
 IsLink of A s v x next (Longer i (Some j)) = IsLongerLink of A s x next i × IsTimesAt of A s x next j
 
 -- one link an element
-pub record AreLinks {X : Type 0} (of : Naming X) (A : IntegerMatrix) (s : ℕ) (v : List ℕ) (layer next : List X) (links : List Link) : Type 0 where
+pub record AreLinks {X : Type 0} (of : Naming X) (A : IntegerMatrix) (s : ℕ) (v : List ℕ) (layer next : List X)
+    (links : List Link) : Type 0 where
   pub count : length links ≡ length layer
   pub each : (i : ℕ) (x : X) (l : Link) → i < length layer → IsLink of A s v (slice_index_or layer i x) next (slice_index_or links i l)

@@ -23,7 +23,8 @@ normal_form-requires c =
 
 pub returns-clause-form : goal.returns-clause-form
 returns-clause-form c =
-    IfSome_then c.normal_form.result c.normal_form.ensures.form (λ form is. is (word_at c.args.side c.args.w.now.items) c.in_ok-heights_at.ensures)
+    IfSome_then c.normal_form.result c.normal_form.ensures.form (λ form is. is (word_at c.args.side c.args.w.now.items)
+    c.in_ok-heights_at.ensures)
 
 pub returns-clause-reduced : goal.returns-clause-reduced
 returns-clause-reduced c =

@@ -3,7 +3,9 @@ use Rattle.std.proofs.Common.{arith}
 use Rattle.cox_base.specs.Matrix.{IsLetter}
 use Rattle.cox_minroots.proofs.Stepping.{stepping-start, stepping-turns, stepping-passed, stepping-added}
 use Rattle.cox_minroots.proofs.closure.add_steps.Goals as goal
-use Rattle.cox_minroots.proofs.closure.add_steps.Goals.{then-product-ge1+then-product-le-LONGEST+in_ok-insert, else-product-ge1, else-product-ge1-via-then-product-ge1+else-product-le-LONGEST, else-product-ge1-via-else-product-ge1}
+use Rattle.cox_minroots.proofs.closure.add_steps.Goals.{then-product-ge1+then-product-le-LONGEST+in_ok-insert, else-product-ge1}
+use Rattle.cox_minroots.proofs.closure.add_steps.Goals.{else-product-ge1-via-then-product-ge1+else-product-le-LONGEST}
+use Rattle.cox_minroots.proofs.closure.add_steps.Goals.{else-product-ge1-via-else-product-ge1}
 
 pub loop-s-init : goal.loop-s-init
 loop-s-init c = stepping-start _ _ _ c.requires.small c.requires.within

@@ -11,7 +11,8 @@ use Rattle.cox_reflect.proofs.forms.normal_form.Goals as goal
 
 pub normal_form_of-requires : goal.normal_form_of-requires
 normal_form_of-requires c = record {
-  short = AreOfShortElement-word (integer_matrix c.args.g.now) (IsAdmissible-integer_matrix c.args.g.now c.rank-rank.ensures.matrix) MAX_LETTERS
+  short = AreOfShortElement-word (integer_matrix c.args.g.now) (IsAdmissible-integer_matrix c.args.g.now c.rank-rank.ensures.matrix)
+      MAX_LETTERS
       c.args.w.now.items c.heights_at.result.values (omega (arith, c.requires.short)) c.heights_at.ensures;
 }
 
@@ -25,7 +26,8 @@ pub returns-clause-word : goal.returns-clause-word
 returns-clause-word c =
     let p = IsAdmissible-integer_matrix c.args.g.now c.rank-rank.ensures.matrix
     in let word : IsWord c.args.g.now.rank c.in-Some.form.items
-    = rw (c.in-Some.ensures.form c.args.w.now.items c.heights_at.ensures) (IsWord-normal_form (integer_matrix c.args.g.now) p c.args.w.now.items)
+    = rw (c.in-Some.ensures.form c.args.w.now.items c.heights_at.ensures)
+    (IsWord-normal_form (integer_matrix c.args.g.now) p c.args.w.now.items)
     in word
 
 pub returns-clause-no_longer : goal.returns-clause-no_longer

@@ -25,11 +25,13 @@ pub loop-s-preserved : goal.loop-s-preserved
 loop-s-preserved g c = elim c.if-is_negative.branch [
   | then-is_negative+in_ok-put_first w ↦ rw w.heights-is
       (turn-down c.args.g.now c.rank-rank.ensures.matrix c.args.form.now c.requires.letters c.requires.reduced c.loop-s.s-index
-      c.loop-s-test.true (g.H.HeightRow.values c.args.heights) (g.H.HeightRow.values c.loop-s.heights) c.loop-s.invariant c.is_negative.result
+      c.loop-s-test.true (g.H.HeightRow.values c.args.heights) (g.H.HeightRow.values c.loop-s.heights) c.loop-s.invariant
+      c.is_negative.result
       c.is_negative.ensures w.if-is_negative.true (g.H.HeightRow.values w.put_first.new.self) w.in_ok-put_first.ensures.heights)
   | else-is_negative w ↦ rw w.heights-is
       (turn-up c.args.g.now c.rank-rank.ensures.matrix c.args.form.now c.requires.letters c.requires.reduced c.loop-s.s-index
-      c.loop-s-test.true (g.H.HeightRow.values c.args.heights) (g.H.HeightRow.values c.loop-s.heights) c.loop-s.invariant c.is_negative.result
+      c.loop-s-test.true (g.H.HeightRow.values c.args.heights) (g.H.HeightRow.values c.loop-s.heights) c.loop-s.invariant
+      c.is_negative.result
       c.is_negative.ensures w.if-is_negative.false)
 ]
 

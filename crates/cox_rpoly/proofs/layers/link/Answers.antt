@@ -1,7 +1,8 @@
 -- What the link says is what the calls ensure; each element that is taken up is a member.
 use Rattle.std.proofs.Common.{sym, ◌∙◌}
 use Rattle.std.proofs.lemmas.Bool.{false≢true}
-use Rattle.cox_base.specs.IntegerMatrix.{integer_matrix}
+use Rattle.cox_base.specs.Admissible.{IsAdmissible}
+use Rattle.cox_base.specs.IntegerMatrix.{IntegerMatrix, integer_matrix}
 use Rattle.cox_reflect.proofs.Admissible.{IsAdmissible-integer_matrix}
 use Rattle.cox_reflect.proofs.Lengths.{IsReduced-tail}
 use Rattle.cox_rpoly.specs.Layer.{IsMember}
@@ -11,14 +12,21 @@ use Rattle.cox_rpoly.proofs.layers.link.Goals as goal
 
 pub is_shortened-requires-clause-short : goal.is_shortened-requires-clause-short
 is_shortened-requires-clause-short g c =
-    IsShortElement-member g.E.Element.is_of (integer_matrix (g.W.Words.matrix c.args.words.now)) (IsAdmissible-integer_matrix (g.W.Words.matrix c.args.words.now) (rw c.matrix.ensures at c.rank-rank.ensures.matrix)) c.args.s c.args.rest.now c.args.x.now (g.W.Words.longest c.args.words.now) c.requires.reduced
+    let A : IntegerMatrix = integer_matrix (g.W.Words.matrix c.args.words.now)
+    in let p : IsAdmissible A = IsAdmissible-integer_matrix (g.W.Words.matrix c.args.words.now)
+    (rw c.matrix.ensures at c.rank-rank.ensures.matrix)
+    in IsShortElement-member g.E.Element.is_of A p c.args.s c.args.rest.now c.args.x.now (g.W.Words.longest c.args.words.now)
+    c.requires.reduced
     c.requires.short c.requires.member
 
 pub returns-then-is_shortened-clause-members : goal.returns-then-is_shortened-clause-members
 returns-then-is_shortened-clause-members g c =
-    IsGrown-All (IsMember g.E.Element.is_of (integer_matrix (g.W.Words.matrix c.args.words.now)) c.args.rest.now) c.args.next.now.keys c.number.new.layer.keys c.in-Some.moved
+    let A : IntegerMatrix = integer_matrix (g.W.Words.matrix c.args.words.now)
+    in let p : IsAdmissible A = IsAdmissible-integer_matrix (g.W.Words.matrix c.args.words.now)
+    (rw c.matrix.ensures at c.rank-rank.ensures.matrix)
+    in IsGrown-All (IsMember g.E.Element.is_of A c.args.rest.now) c.args.next.now.keys c.number.new.layer.keys c.in-Some.moved
     c.in_ok-number.ensures.grown c.requires.members
-    (IsMember-shorter g.E.Element.is_of (integer_matrix (g.W.Words.matrix c.args.words.now)) (IsAdmissible-integer_matrix (g.W.Words.matrix c.args.words.now) (rw c.matrix.ensures at c.rank-rank.ensures.matrix)) c.args.s c.args.rest.now c.args.x.now c.in-Some.moved c.requires.reduced c.requires.member
+    (IsMember-shorter g.E.Element.is_of A p c.args.s c.args.rest.now c.args.x.now c.in-Some.moved c.requires.reduced c.requires.member
     (λ u e. (c.is_shortened.ensures u e).0 c.if-is_shortened.true) c.in-Some.ensures.times)
 
 pub returns-then-is_shortened-clause-extends : goal.returns-then-is_shortened-clause-extends
@@ -26,19 +34,29 @@ returns-then-is_shortened-clause-extends g c =
     IsGrown-Extends c.args.next.now.keys c.number.new.layer.keys c.in-Some.moved c.in_ok-number.ensures.grown
 
 pub is_below-requires-clause-reduced : goal.is_below-requires-clause-reduced
-is_below-requires-clause-reduced g c = IsReduced-tail (integer_matrix (g.W.Words.matrix c.args.words.now)) (IsAdmissible-integer_matrix (g.W.Words.matrix c.args.words.now) (rw c.matrix.ensures at c.rank-rank.ensures.matrix)) c.args.s c.args.rest.now c.requires.reduced
+is_below-requires-clause-reduced g c =
+    let A : IntegerMatrix = integer_matrix (g.W.Words.matrix c.args.words.now)
+    in let p : IsAdmissible A = IsAdmissible-integer_matrix (g.W.Words.matrix c.args.words.now)
+    (rw c.matrix.ensures at c.rank-rank.ensures.matrix)
+    in IsReduced-tail A p c.args.s c.args.rest.now c.requires.reduced
 
 pub is_below-requires-clause-short : goal.is_below-requires-clause-short
 is_below-requires-clause-short g c =
-    IsShortElement-times g.E.Element.is_of (integer_matrix (g.W.Words.matrix c.args.words.now)) (IsAdmissible-integer_matrix (g.W.Words.matrix c.args.words.now) (rw c.matrix.ensures at c.rank-rank.ensures.matrix)) c.args.s c.args.rest.now c.args.x.now c.in-Some.moved (g.W.Words.longest c.args.words.now)
+    let A : IntegerMatrix = integer_matrix (g.W.Words.matrix c.args.words.now)
+    in let p : IsAdmissible A = IsAdmissible-integer_matrix (g.W.Words.matrix c.args.words.now)
+    (rw c.matrix.ensures at c.rank-rank.ensures.matrix)
+    in IsShortElement-times g.E.Element.is_of A p c.args.s c.args.rest.now c.args.x.now c.in-Some.moved (g.W.Words.longest c.args.words.now)
     c.requires.reduced c.requires.short c.requires.member
     (λ u e d. absurd (false≢true (sym c.if-is_shortened.false ∙ (c.is_shortened.ensures u e).1 d))) c.in-Some.ensures.times
 
 pub returns-in-Some-false-clause-members : goal.returns-in-Some-false-clause-members
 returns-in-Some-false-clause-members g c =
-    IsGrown-All (IsMember g.E.Element.is_of (integer_matrix (g.W.Words.matrix c.args.words.now)) c.args.rest.now) c.args.next.now.keys c.number-2.new.layer.keys c.args.x.now
+    let A : IntegerMatrix = integer_matrix (g.W.Words.matrix c.args.words.now)
+    in let p : IsAdmissible A = IsAdmissible-integer_matrix (g.W.Words.matrix c.args.words.now)
+    (rw c.matrix.ensures at c.rank-rank.ensures.matrix)
+    in IsGrown-All (IsMember g.E.Element.is_of A c.args.rest.now) c.args.next.now.keys c.number-2.new.layer.keys c.args.x.now
     (rw c.copied.ensures at c.in_ok-still.ensures.grown) c.requires.members
-    (IsMember-still g.E.Element.is_of (integer_matrix (g.W.Words.matrix c.args.words.now)) (IsAdmissible-integer_matrix (g.W.Words.matrix c.args.words.now) (rw c.matrix.ensures at c.rank-rank.ensures.matrix)) c.args.s c.args.rest.now c.args.x.now c.requires.reduced c.requires.member
+    (IsMember-still g.E.Element.is_of A p c.args.s c.args.rest.now c.args.x.now c.requires.reduced c.requires.member
     (λ u e d. absurd (false≢true (sym c.if-is_shortened.false ∙ (c.is_shortened.ensures u e).1 d))))
 
 pub returns-in-Some-false-clause-extends : goal.returns-in-Some-false-clause-extends
@@ -47,13 +65,17 @@ returns-in-Some-false-clause-extends g c =
 
 pub returns-in_ok-number-in-Some-true-clause-members : goal.returns-in_ok-number-in-Some-true-clause-members
 returns-in_ok-number-in-Some-true-clause-members g c =
-    let still = IsGrown-All (IsMember g.E.Element.is_of (integer_matrix (g.W.Words.matrix c.args.words.now)) c.args.rest.now) c.args.next.now.keys c.number-2.new.layer.keys c.args.x.now
+    let A : IntegerMatrix = integer_matrix (g.W.Words.matrix c.args.words.now)
+    in let p : IsAdmissible A = IsAdmissible-integer_matrix (g.W.Words.matrix c.args.words.now)
+    (rw c.matrix.ensures at c.rank-rank.ensures.matrix)
+    in let still = IsGrown-All (IsMember g.E.Element.is_of A c.args.rest.now) c.args.next.now.keys c.number-2.new.layer.keys c.args.x.now
     (rw c.copied.ensures at c.in_ok-still.ensures.grown) c.requires.members
-    (IsMember-still g.E.Element.is_of (integer_matrix (g.W.Words.matrix c.args.words.now)) (IsAdmissible-integer_matrix (g.W.Words.matrix c.args.words.now) (rw c.matrix.ensures at c.rank-rank.ensures.matrix)) c.args.s c.args.rest.now c.args.x.now c.requires.reduced c.requires.member
+    (IsMember-still g.E.Element.is_of A p c.args.s c.args.rest.now c.args.x.now c.requires.reduced c.requires.member
     (λ u e d. absurd (false≢true (sym c.if-is_shortened.false ∙ (c.is_shortened.ensures u e).1 d))))
-    in IsGrown-All (IsMember g.E.Element.is_of (integer_matrix (g.W.Words.matrix c.args.words.now)) c.args.rest.now) c.number-2.new.layer.keys c.number-in-Some-true.new.layer.keys c.in-Some.moved
+    in IsGrown-All (IsMember g.E.Element.is_of A c.args.rest.now) c.number-2.new.layer.keys c.number-in-Some-true.new.layer.keys
+    c.in-Some.moved
     c.in_ok-number-in-Some-true.ensures.grown still
-    (IsMember-times g.E.Element.is_of (integer_matrix (g.W.Words.matrix c.args.words.now)) (IsAdmissible-integer_matrix (g.W.Words.matrix c.args.words.now) (rw c.matrix.ensures at c.rank-rank.ensures.matrix)) c.args.s c.args.rest.now c.args.x.now c.in-Some.moved c.requires.member
+    (IsMember-times g.E.Element.is_of A p c.args.s c.args.rest.now c.args.x.now c.in-Some.moved c.requires.member
     (λ u e d. absurd (false≢true (sym c.if-is_shortened.false ∙ (c.is_shortened.ensures u e).1 d))) c.in-Some.ensures.times
     (λ u e. (c.in-Some-true.ensures.below u e).0 c.in-Some-true.field-0-test))
 

@@ -1,13 +1,16 @@
 -- One element more is linked.
-use Rattle.cox_base.specs.IntegerMatrix.{integer_matrix}
+use Rattle.cox_base.specs.IntegerMatrix.{IntegerMatrix, integer_matrix}
 use Rattle.cox_rpoly.proofs.LayerLemmas.{AreLinks-more}
 use Rattle.cox_rpoly.proofs.layers.next_layer.Goals as goal
 
 pub loop-x-preserved : goal.loop-x-preserved
-loop-x-preserved g c = record {
-  members = rw c.in-Some.is at c.in_ok-link.ensures.members;
-  links = rw c.in_ok-push.ensures.items
-      (AreLinks-more g.E.Element.is_of (integer_matrix (g.W.Words.matrix c.args.words.now)) c.args.s c.args.rest.now c.args.layer.now c.loop-x.next.keys c.link.new.next.keys c.loop-x.links.items
-      c.loop-x.x-index c.x-item.result c.in-Some.link c.loop-x-test.true c.x-item.is c.loop-x.invariant.links
-      (rw c.in-Some.is at c.in_ok-link.ensures.extends) (rw c.in-Some.is at c.in_ok-link.ensures.link));
-}
+loop-x-preserved g c =
+    let A : IntegerMatrix = integer_matrix (g.W.Words.matrix c.args.words.now)
+    in record {
+      members = rw c.in-Some.is at c.in_ok-link.ensures.members;
+      links = rw c.in_ok-push.ensures.items
+          (AreLinks-more g.E.Element.is_of A c.args.s c.args.rest.now c.args.layer.now c.loop-x.next.keys c.link.new.next.keys
+          c.loop-x.links.items
+          c.loop-x.x-index c.x-item.result c.in-Some.link c.loop-x-test.true c.x-item.is c.loop-x.invariant.links
+          (rw c.in-Some.is at c.in_ok-link.ensures.extends) (rw c.in-Some.is at c.in_ok-link.ensures.link));
+    }

@@ -8,5 +8,6 @@ use Rattle.cox_rpoly.proofs.layers.next_layer.Given as goal
 abbrev pub invariant-loop-x : goal.invariant-loop-x
 invariant-loop-x g l = record {
   members : All (IsMember g.E.Element.is_of (integer_matrix (g.W.Words.matrix l.words)) l.rest) l.next.keys;
-  links : AreLinks g.E.Element.is_of (integer_matrix (g.W.Words.matrix l.words)) l.s l.rest (take l.x-index l.layer) l.next.keys l.links.items;
+  links : AreLinks g.E.Element.is_of (integer_matrix (g.W.Words.matrix l.words)) l.s l.rest (take l.x-index l.layer) l.next.keys
+      l.links.items;
 }

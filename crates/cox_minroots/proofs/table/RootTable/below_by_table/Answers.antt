@@ -1,4 +1,4 @@
--- Each last letter of the larger word goes, and if it shortens the smaller element it goes there too; at the end the identity alone is below.
+-- Each last letter of the larger word goes, and if it shortens the smaller element it goes there too. At the end only e is below e.
 use Rattle.std.proofs.Common.{◌∷◌, [], ◌++◌}
 use Rattle.cox_base.specs.IntegerMatrix.{integer_matrix}
 use Rattle.cox_reflect.proofs.Admissible.{IsAdmissible-integer_matrix}

@@ -8,7 +8,8 @@ use Rattle.cox_reflect.proofs.heights.HeightsHeightRow.put_first.Goals as goal
 
 pub returns-then-unsigned_abs-gt-LARGEST-clause-sure : goal.returns-then-unsigned_abs-gt-LARGEST-clause-sure
 returns-then-unsigned_abs-gt-LARGEST-clause-sure c = λ short.
-    own-tested c.args.g.now c.rank-rank.ensures.matrix w64 c.args.s c.args.self.now.values c.requires.letter (search rules) LETTERS_OF_64_BITS
+    own-tested c.args.g.now c.rank-rank.ensures.matrix w64 c.args.s c.args.self.now.values c.requires.letter (search rules)
+    LETTERS_OF_64_BITS
     c.unsigned_abs.result LARGEST (lit≤ tt) (lit< tt) short c.unsigned_abs.ensures.value c.if-unsigned_abs-gt-LARGEST.true (lit≤ tt)
 
 pub returns-in_err-self-clause-sure : goal.returns-in_err-self-clause-sure
