@@ -15,10 +15,10 @@ ghost use Rattle.cox_context.specs.Refusal.{IsRefusal};
 ghost use Rattle.cox_context.specs.Shifts.{AreLeftShifts};
 
 use crate::ContextFault;
-use crate::builder::Builder;
+use crate::builder::{Builder, Listing};
 use crate::descents::{letters_of, lowering_sets};
 use crate::family::Family;
-use crate::members::{Link, MAX_MEMBERS, Members};
+use crate::members::{Link, MAX_MEMBERS};
 use crate::right_shifts::right_shifts;
 use crate::shifts::entry;
 use cox_base::{Coxeter, MAX_LETTERS, Word};
@@ -33,8 +33,7 @@ use std::marker::Model;
 #[derive(Drop)]
 pub struct Context {
     group: Coxeter,
-    members: Members,
-    left: Vec<u32>,
+    listing: Listing,
     right: Vec<u32>,
     left_descents: Vec<u16>,
     right_descents: Vec<u16>,
@@ -47,9 +46,9 @@ impl Model for Context {
 
     ghost Value = { Elements };
 
-    ghost view = { λ c. record { matrix = c.group; members = c.members } };
+    ghost view = { λ c. record { matrix = c.group; members = c.listing.members } };
 
-    ghost invariant = { λ c. IsContext (integer_matrix c.group) c.members c.left.items c.right.items c.left_descents.items c.right_descents.items };
+    ghost invariant = { λ c. IsContext (integer_matrix c.group) c.listing.members c.listing.left.items c.right.items c.left_descents.items c.right_descents.items };
 }
 
 impl Context {
@@ -78,9 +77,12 @@ impl Context {
             descents: group.left_descents(&top),
             top: Some(top),
         };
-        let mut builder = Builder::new(alloc, &family)?;
-        builder.grow(&family, letters, limit)?;
-        Context::of_members(alloc, family.group, builder)
+        let Ok(identity) = Listing::new(alloc, &family.group) else {
+            return Err(ContextFault::NoMemory);
+        };
+        let mut builder = Builder::new(alloc, &family, &identity)?;
+        builder.grow(&family, &identity, letters, limit)?;
+        Context::of_members(alloc, family.group, builder.listing)
     }
 
     /// The elements of a group.
@@ -100,27 +102,30 @@ impl Context {
             top: None,
             descents: Word::new(),
         };
-        let mut builder = Builder::new(alloc, &family)?;
-        let low = builder.grow(&family, MAX_LETTERS as u32, limit)?;
+        let Ok(identity) = Listing::new(alloc, &family.group) else {
+            return Err(ContextFault::NoMemory);
+        };
+        let mut builder = Builder::new(alloc, &family, &identity)?;
+        let low = builder.grow(&family, &identity, MAX_LETTERS as u32, limit)?;
         if builder.goes_on(&family, low) {
             return Err(ContextFault::Long);
         }
-        Context::of_members(alloc, family.group, builder)
+        Context::of_members(alloc, family.group, builder.listing)
     }
 
     /// The context with the members that were found.
-    fn of_members(alloc: Global, group: Coxeter, builder: Builder) -> Result<Context, ContextFault>
-        requires closed { IsClosed (integer_matrix group) builder.members }
-        requires left { AreLeftShifts (integer_matrix group) builder.members builder.left.items }
-        ensures made { IfOk result (λ c. c ≡ record { matrix = group; members = builder.members }) }
+    fn of_members(alloc: Global, group: Coxeter, listing: Listing) -> Result<Context, ContextFault>
+        requires closed { IsClosed (integer_matrix group) listing.members }
+        requires left { AreLeftShifts (integer_matrix group) listing.members listing.left.items }
+        ensures made { IfOk result (λ c. c ≡ record { matrix = group; members = listing.members }) }
         ensures fault { IfErr result (λ fault. fault ≡ ContextFault.NoMemory) }
     {
-        let Builder { members, left } = builder;
-        let Ok(right) = right_shifts(alloc, &group, &members, left.as_slice()) else {
+        let left = listing.left.as_slice();
+        let Ok(right) = right_shifts(alloc, &group, &listing.members, left) else {
             return Err(ContextFault::NoMemory);
         };
-        let (rank, count) = (group.rank(), members.len());
-        let Ok(left_descents) = lowering_sets(alloc, left.as_slice(), rank, count) else {
+        let (rank, count) = (group.rank(), listing.members.len());
+        let Ok(left_descents) = lowering_sets(alloc, left, rank, count) else {
             return Err(ContextFault::NoMemory);
         };
         let Ok(right_descents) = lowering_sets(alloc, right.as_slice(), rank, count) else {
@@ -128,8 +133,7 @@ impl Context {
         };
         Ok(Context {
             group,
-            members,
-            left,
+            listing,
             right,
             left_descents,
             right_descents,
@@ -143,7 +147,7 @@ impl Context {
         ensures admissible { IsAdmissible (integer_matrix self.now.matrix) }
     {
         let _rank = self.group.rank();
-        self.members.len()
+        self.listing.members.len()
     }
 
     /// The Coxeter matrix of the group.
@@ -185,7 +189,7 @@ impl Context {
         requires { i < length self.now.members }
         ensures { result.items ≡ word_at self.now.members i }
     {
-        self.members.word(i)
+        self.listing.members.word(i)
     }
 
     /// The first letter of a member other than the identity, and the number of the rest.
@@ -195,7 +199,7 @@ impl Context {
         ensures word { word_at self.now.members i ≡ result.first ∷ word_at self.now.members result.rest }
         ensures inward { result.rest < i }
     {
-        self.members.link(i)
+        self.listing.members.link(i)
     }
 
     /// The number of s x for the member x with the number i; `None` exactly where s x is no member.
@@ -204,7 +208,7 @@ impl Context {
         requires member { i < length self.now.members }
         ensures { IsNumberOf self.now.members (normal_form (integer_matrix self.now.matrix) (s ∷ word_at self.now.members i)) result }
     {
-        entry(self.left.as_slice(), self.group.rank(), s, i)
+        entry(self.listing.left.as_slice(), self.group.rank(), s, i)
     }
 
     /// The number of x s for the member x with the number i; `None` exactly where x s is no member.
@@ -221,7 +225,7 @@ impl Context {
         requires { i < length self.now.members }
         ensures { result ≡ length (word_at self.now.members i) }
     {
-        self.members.length(i)
+        self.listing.members.length(i)
     }
 
     /// Whether x <= y in Bruhat order, for the members x and y with the numbers i and j.
