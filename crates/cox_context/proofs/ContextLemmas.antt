@@ -1,33 +1,35 @@
 -- Contexts of intervals and of groups: their members are closed downwards, and what a group that goes on has.
 use Rattle.std.proofs.Common.{◌≡◌, ℕ, ◌+◌, ◌≤◌, ◌<◌, List, [], ◌∷◌, length, Contains, None, Some, Result, Ok, Err, IfErr, ap, sym, ◌∙◌}
 use Rattle.std.proofs.Common.{⊎_elim}
-use Rattle.std.proofs.Common.{arith, subst, inl, inr, refl}
+use Rattle.std.proofs.Common.{arith, subst, inl, inr, refl, Option, slice_index}
 use Rattle.std.proofs.lemmas.Bool.{cases_lt}
 use Rattle.std.proofs.lemmas.List.Elements.{All-head}
-use Rattle.cox_base.specs.Matrix.{IsLetter}
+use Rattle.cox_base.specs.Matrix.{CoxeterMatrix, IsLetter}
 use Rattle.cox_base.specs.declared.limits.TheConstants.{MAX_LETTERS}
-use Rattle.cox_base.specs.IntegerMatrix.{IntegerMatrix}
-use Rattle.cox_base.specs.Admissible.{IsAdmissible}
+use Rattle.cox_base.specs.IntegerMatrix.{IntegerMatrix, integer_matrix}
+use Rattle.cox_base.specs.Admissible.{IsAdmissible, IsCoxeterMatrix}
 use Rattle.cox_base.specs.Element.{SameElement}
 use Rattle.cox_base.specs.ShortLex.{normal_form}
 use Rattle.cox_base.specs.Length.{word_length}
 use Rattle.cox_base.specs.Bruhat.{IsBelow}
 use Rattle.cox_base.specs.Reduced.{IsReduced, IsLeftDescent}
 use Rattle.cox_reflect.proofs.Elements.{same-refl, same-sym}
-use Rattle.cox_reflect.proofs.Lengths.{word_length-is}
+use Rattle.cox_reflect.proofs.Admissible.{IsAdmissible-integer_matrix}
+use Rattle.cox_reflect.proofs.Lengths.{word_length-is, IsReduced-normal_form}
 use Rattle.cox_reflect.proofs.Deletion.{left_length}
 use Rattle.cox_reflect.proofs.Bruhat.{below-length, below-same, below-least}
-use Rattle.cox_reflect.proofs.Search.{word_length-length}
+use Rattle.cox_reflect.proofs.Search.{word_length-length, normal_form-same}
 use Rattle.cox_context.specs.declared.fault.ContextFault.{ContextFault}
 use Rattle.cox_context.specs.declared.fault.ContextFault.TheVariants.{Size, Long, NoMemory}
 use Rattle.cox_context.specs.declared.members.TheConstants.{MAX_MEMBERS}
 use Rattle.cox_context.specs.Members.{IsElement, IsInInterval, IsInUnion}
 use Rattle.cox_context.specs.Closed.{IsClosed}
 use Rattle.cox_context.specs.SortedList.{IsListOf}
-use Rattle.cox_context.specs.Numbers.{word_at}
-use Rattle.cox_context.specs.Growth.{IsGrown}
+use Rattle.cox_context.specs.Numbers.{word_at, IsNumberOf, AreMoved}
+use Rattle.cox_context.specs.Growth.{IsGrown, AreNumbers, AreLast}
+use Rattle.cox_context.specs.Shifts.{entry}
 use Rattle.cox_context.specs.Refusal.{IsLong, IsRefusal}
-use Rattle.cox_context.proofs.ListLemmas.{contains-placed, placed-contains}
+use Rattle.cox_context.proofs.ListLemmas.{contains-placed, placed-contains, contains-at, rising-place}
 use Rattle.cox_context.proofs.Ideals.{IsIdeal, group-ideal, union-ideal, ideal-tailed, element-normal_form, element-length, element-nil, element-tail}
 use Rattle.cox_context.proofs.GrowthLemmas.{IsTailed, grown-length, grown-list}
 
@@ -195,6 +197,40 @@ module _ (A : IntegerMatrix) (g : IsAdmissible A) where
         n,
       )))
 
+  -- what was found up to the greatest length is the union with the interval
+  pub union-members : (w top : List ℕ) (earlier words : List (List ℕ)) (letters low : ℕ) → SameElement A top w → IsClosed A earlier
+      → word_length A top ≤ letters → ((i : ℕ) → i < length earlier → length (word_at earlier i) ≤ letters)
+      → IsGrown A.rank (IsInUnion A top earlier) letters low words → IsListOf (IsInUnion A w earlier) words
+  union-members w top earlier words letters low same closed long old h =
+      let P : List ℕ → Type 0 = IsInUnion A top earlier
+      in list-along P (IsInUnion A w earlier) (union-from w top earlier same) (union-from top w earlier (same-sym A g same)) words
+      (grown-list A.rank P (ideal-tailed A g P (union-ideal A g top earlier closed)) letters low words h
+      (λ word p. union-length top earlier letters word long old p))
+
+  -- each earlier member has the last place with its number
+  pub moved-members : (w : List ℕ) (earlier words : List (List ℕ)) (numbers moved : List ℕ) → IsClosed A earlier
+      → IsListOf (IsInUnion A w earlier) words → AreNumbers earlier words numbers → length moved ≡ length earlier
+      → AreLast numbers (length numbers) moved → AreMoved earlier words moved
+  moved-members w earlier words numbers moved closed are n size h =
+      record { size = size; within = λ k l. (place k l).0; word = λ k l. (place k l).1 }
+    where
+      same_number : (k i : ℕ) → k < length earlier → i < length words → word_at words i ≡ word_at earlier k
+          → (x : Option ℕ) → IsNumberOf earlier (word_at words i) x → x ≡ Some k
+      same_number k i l m e None none = absurd (none (placed-contains earlier (word_at words i) (record { i = k; within = l; is = sym e })))
+      same_number k i l m e (Some j) (inside, is) = ap (λ (q : ℕ). Some q) (rising-place earlier j k closed.rising inside l (is ∙ e))
+
+      read : (k i : ℕ) → i < length words → entry 1 numbers 1 i ≡ Some k → word_at words i ≡ word_at earlier k
+      read k i l e = let f = rw e at (n.each i l) in sym f.1
+
+      place : (k : ℕ) → k < length earlier → (slice_index moved k < length words) × (word_at words (slice_index moved k) ≡ word_at earlier k)
+      place k l =
+          let there : Contains words (word_at earlier k) = are.whole (word_at earlier k)
+          (record { element = closed.element (word_at earlier k) (contains-at earlier k l); either = inr (contains-at earlier k l) })
+          in let q = contains-placed words (word_at earlier k) there
+          in let found = h.last q.i k (omega (arith, q.within, n.size)) (same_number k q.i l q.within q.is (entry 1 numbers 1 q.i) (n.each q.i q.within))
+          in let inside : slice_index moved k < length words = omega (arith, found.0, n.size)
+          in (inside, read k (slice_index moved k) inside found.1)
+
   -- where each member of MAX_LETTERS letters is shortened by each letter, no element is longer
   pub group-length : (low : ℕ) (words : List (List ℕ)) → IsGrown A.rank (IsElement A) MAX_LETTERS low words
       → ((i s : ℕ) → low ≤ i → i < length words → IsLetter A.rank s → IsLeftDescent A (word_at words i) s) → (word : List ℕ)
@@ -242,3 +278,11 @@ module _ (A : IntegerMatrix) (g : IsAdmissible A) where
           ⊎_elim (λ longer. omega (arith, longer, element-length A g (word_at words i) (h.sound i l), h.level i from l))
           (λ shorter. absurd (none (omega (arith, shorter))))
           (left_length A g s (word_at words i) letter)
+
+-- the normal form of w in a group x, as a word in its copy y
+pub form-same : (x y : CoxeterMatrix) → y ≡ x → IsCoxeterMatrix y → (w top : List ℕ) → top ≡ normal_form (integer_matrix x) w
+    → IsReduced (integer_matrix y) top × SameElement (integer_matrix y) top w
+form-same x y e matrix w top f =
+    let g : IsAdmissible (integer_matrix y) = IsAdmissible-integer_matrix y matrix
+    in let form : top ≡ normal_form (integer_matrix y) w = rw e f
+    in (rw form (IsReduced-normal_form (integer_matrix y) g w), rw form (normal_form-same (integer_matrix y) g w))

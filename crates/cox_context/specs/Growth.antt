@@ -1,6 +1,6 @@
 -- A list of members as it grows by length: the members of the next length are the s x for s = 1, 2, .. and for each s the members
 -- x of this length, in order.
-use Rattle.std.specs.Prelude.{◌≡◌, ◌⊎◌, ℕ, ◌<◌, ◌≤◌, List, ◌∷◌, length, Contains, Option, None, Some}
+use Rattle.std.specs.Prelude.{◌≡◌, ◌⊎◌, ℕ, ◌<◌, ◌≤◌, List, ◌∷◌, length, slice_index, Contains, Option, None, Some}
 use Rattle.arrayvec.specs.ArrayVec.{ArrayVec}
 use Rattle.cox_base.specs.Matrix.{IsLetter}
 use Rattle.cox_base.specs.IntegerMatrix.{IntegerMatrix}
@@ -90,3 +90,8 @@ AreBelowTop A top words numbers = (i : ℕ) → i < length words → entry 1 num
 abbrev pub left_word : List (List ℕ) → List ℕ → Option ℕ → List ℕ
 left_word words y None = y
 left_word words y (Some i) = word_at words i
+
+-- for each number that one of the first places has the last such place
+pub record AreLast (numbers : List ℕ) (done : ℕ) (moved : List ℕ) : Type 0 where
+  pub last : (i k : ℕ) → i < done → entry 1 numbers 1 i ≡ Some k
+      → (slice_index moved k < done) × (entry 1 numbers 1 (slice_index moved k) ≡ Some k)

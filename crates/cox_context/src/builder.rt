@@ -13,7 +13,7 @@ ghost use Rattle.cox_base.specs.Reduced.{IsLeftDescent};
 ghost use Rattle.cox_context.specs.Closed.{IsClosed};
 ghost use Rattle.cox_context.specs.Family.{IsMember, IsTop};
 ghost use Rattle.cox_context.specs.Numbers.{word_at, IsNumberOf};
-ghost use Rattle.cox_context.specs.Growth.{IsGrowing, IsGrown, IsNext, IsNoNext, AreBelowTop, AreNumbers};
+ghost use Rattle.cox_context.specs.Growth.{IsGrowing, IsGrown, IsNext, IsNoNext, AreBelowTop, AreNumbers, AreLast};
 ghost use Rattle.cox_context.specs.Refusal.{IsPrefixOf, IsRefusal};
 ghost use Rattle.cox_context.specs.Shifts.{entry, AreLeftShifts};
 ghost use Rattle.cox_context.specs.Rows.{IsRowPushed};
@@ -339,4 +339,20 @@ fn lacks_shift(table: &[u32], rank: u32, i: u32) -> bool
         }
     }
     false
+}
+
+/// For each of so many earlier members its place in the list of the numbers of the members, where it has one.
+pub(crate) fn moved(alloc: Global, numbers: &[u32], count: u32) -> Result<Vec<u32>, AllocError>
+    requires few { length numbers.now ≤ MAX_MEMBERS }
+    requires below { (i k : ℕ) → i < length numbers.now → entry 1 numbers.now 1 i ≡ Some k → k < count }
+    ensures size { IfOk result (λ moved. length moved.items ≡ count) }
+    ensures last { IfOk result (λ moved. AreLast numbers.now (length numbers.now) moved.items) }
+{
+    let mut moved = vec![in alloc; 0; count as usize]?;
+    for i in 0..numbers.len() as u32 {
+        if let Some(k) = number_at(numbers, i) {
+            moved[k as usize] = i;
+        }
+    }
+    Ok(moved)
 }

@@ -1,5 +1,5 @@
 //! Contexts and their calls.
-ghost use Rattle.std.specs.Prelude.{◌≡◌, ℕ, ◌+◌, ◌<◌, ◌≤◌, ◌↔◌, ◌∷◌, ◌++◌, [], length, IfOk, IfErr, IsTrue, IsBitSet};
+ghost use Rattle.std.specs.Prelude.{◌≡◌, ℕ, ◌+◌, ◌<◌, ◌≤◌, ◌↔◌, ◌∷◌, ◌++◌, [], length, IfOk, IfErr, OnOk, OnErr, IsTrue, IsBitSet};
 ghost use Rattle.cox_base.specs.Matrix.{IsLetter, IsWord};
 ghost use Rattle.cox_base.specs.Admissible.{IsAdmissible};
 ghost use Rattle.cox_base.specs.IntegerMatrix.{integer_matrix};
@@ -7,15 +7,15 @@ ghost use Rattle.cox_base.specs.ShortLex.{normal_form};
 ghost use Rattle.cox_base.specs.Length.{left_descents, right_descents};
 ghost use Rattle.cox_base.specs.Reduced.{IsLeftDescent, IsRightDescent};
 ghost use Rattle.cox_base.specs.Bruhat.{IsBelow};
-ghost use Rattle.cox_context.specs.Members.{IsElement, IsInInterval};
+ghost use Rattle.cox_context.specs.Members.{IsElement, IsInInterval, IsInUnion};
 ghost use Rattle.cox_context.specs.Closed.{IsClosed};
 ghost use Rattle.cox_context.specs.SortedList.{IsListOf};
-ghost use Rattle.cox_context.specs.Numbers.{word_at, IsNumberOf};
+ghost use Rattle.cox_context.specs.Numbers.{word_at, IsNumberOf, AreMoved};
 ghost use Rattle.cox_context.specs.Refusal.{IsRefusal};
 ghost use Rattle.cox_context.specs.Shifts.{AreLeftShifts};
 
 use crate::ContextFault;
-use crate::builder::{Builder, Listing};
+use crate::builder::{Builder, Listing, moved};
 use crate::descents::{letters_of, lowering_sets};
 use crate::family::Family;
 use crate::members::{Link, MAX_MEMBERS};
@@ -111,6 +111,69 @@ impl Context {
             return Err(ContextFault::Long);
         }
         Context::of_members(alloc, family.group, builder.listing)
+    }
+
+    /// Adds the elements x with x <= w, and tells the new number of each member that was there before.
+    ///
+    /// `Size` where there are more than `limit` members then. After a fault the context is unchanged. In A 3 the interval of `12` has four elements;
+    /// with that of `21` there are five.
+    pub fn extend(
+        &mut self,
+        group: &RootTable,
+        w: &Word,
+        limit: u32,
+    ) -> Result<Vec<u32>, ContextFault>
+        requires matrix { group.now ≡ self.old.matrix }
+        requires letters { IsWord group.now.rank w.now.items }
+        requires some { 1 ≤ limit }
+        requires limit { limit ≤ MAX_MEMBERS }
+        ensures matrix { self.new.matrix ≡ self.old.matrix }
+        ensures members { OnOk result (IsListOf (IsInUnion (integer_matrix group.now) w.now.items self.old.members) self.new.members) }
+        ensures few { OnOk result (length self.new.members ≤ limit) }
+        ensures moved { IfOk result (λ moved. AreMoved self.old.members self.new.members moved.items) }
+        ensures refused { IfErr result (IsRefusal (IsInUnion (integer_matrix group.now) w.now.items self.old.members) limit) }
+        ensures unchanged { OnErr result (self.new ≡ self.old) }
+    {
+        let (context, moved) = self.extended(group, w, limit)?;
+        *self = context;
+        Ok(moved)
+    }
+
+    /// This context with the elements x with x <= w, and the new number of each member of this one.
+    fn extended(
+        &self,
+        group: &RootTable,
+        w: &Word,
+        limit: u32,
+    ) -> Result<(Context, Vec<u32>), ContextFault>
+        requires matrix { group.now ≡ self.now.matrix }
+        requires letters { IsWord group.now.rank w.now.items }
+        requires some { 1 ≤ limit }
+        requires limit { limit ≤ MAX_MEMBERS }
+        ensures matrix { IfOk result (λ r. r.0.matrix ≡ self.now.matrix) }
+        ensures members { IfOk result (λ r. IsListOf (IsInUnion (integer_matrix group.now) w.now.items self.now.members) r.0.members) }
+        ensures few { IfOk result (λ r. length r.0.members ≤ limit) }
+        ensures moved { IfOk result (λ r. AreMoved self.now.members r.0.members r.1.items) }
+        ensures refused { IfErr result (IsRefusal (IsInUnion (integer_matrix group.now) w.now.items self.now.members) limit) }
+    {
+        let alloc = *self.listing.left.allocator();
+        let top = group.normal_form(w);
+        prove!(top.len() <= MAX_LETTERS);
+        prove!(self.len() > 0);
+        let longest = self.length(self.len() - 1);
+        let letters = longest.max(top.len() as u32);
+        let family = Family {
+            group: group.group().copy(),
+            descents: group.left_descents(&top),
+            top: Some(top),
+        };
+        let mut builder = Builder::new(alloc, &family, &self.listing)?;
+        builder.grow(&family, &self.listing, letters, limit)?;
+        let Ok(moved) = moved(alloc, builder.numbers.as_slice(), self.len()) else {
+            return Err(ContextFault::NoMemory);
+        };
+        let context = Context::of_members(alloc, family.group, builder.listing)?;
+        Ok((context, moved))
     }
 
     /// The context with the members that were found.
@@ -223,7 +286,8 @@ impl Context {
     /// The length of the member with the number i.
     pub fn length(&self, i: u32) -> u32
         requires { i < length self.now.members }
-        ensures { result ≡ length (word_at self.now.members i) }
+        ensures length { result ≡ length (word_at self.now.members i) }
+        ensures short { result ≤ MAX_LETTERS }
     {
         self.listing.members.length(i)
     }

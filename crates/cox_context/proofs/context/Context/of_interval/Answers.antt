@@ -15,16 +15,8 @@ use Rattle.cox_context.specs.Refusal.{IsRefusal}
 use Rattle.cox_context.specs.SortedList.{IsListOf}
 use Rattle.cox_context.proofs.ResultLemmas.{made_members}
 use Rattle.cox_context.proofs.Ideals.{interval-ideal}
-use Rattle.cox_context.proofs.ContextLemmas.{identity-closed, list-closed, list-along, result-along, interval-length, union-interval, interval-union, interval-members}
+use Rattle.cox_context.proofs.ContextLemmas.{form-same, identity-closed, list-closed, list-along, result-along, interval-length, union-interval, interval-union, interval-members}
 use Rattle.cox_context.proofs.context.Context.of_interval.Goals as goal
-
--- the normal form of w in a group x, as a word in its copy y
-form-same : (x y : CoxeterMatrix) → y ≡ x → IsCoxeterMatrix y → (w top : List ℕ) → top ≡ normal_form (integer_matrix x) w
-    → IsReduced (integer_matrix y) top × SameElement (integer_matrix y) top w
-form-same x y e matrix w top f =
-    let g : IsAdmissible (integer_matrix y) = IsAdmissible-integer_matrix y matrix
-    in let form : top ≡ normal_form (integer_matrix y) w = rw e f
-    in (rw form (IsReduced-normal_form (integer_matrix y) g w), rw form (normal_form-same (integer_matrix y) g w))
 
 pub grow-requires-clause-top : goal.grow-requires-clause-top
 grow-requires-clause-top c = (
@@ -33,6 +25,12 @@ grow-requires-clause-top c = (
       c.normal_form-top.result.items
       c.normal_form-top.ensures.form).0,
 )
+
+pub new-requires-2 : goal.new-requires-2
+new-requires-2 c = record {
+  earlier = rw c.in-Ok.ensures.members (identity-closed (integer_matrix c.copy.result)
+      (IsAdmissible-integer_matrix c.copy.result c.in-Ok.ensures.matrix));
+}
 
 pub grow-requires-clause-earlier : goal.grow-requires-clause-earlier
 grow-requires-clause-earlier c = rw c.in-Ok.ensures.members (identity-closed (integer_matrix c.copy.result)
