@@ -30,7 +30,8 @@ use Rattle.cox_context.specs.Growth.{IsGrown, AreNumbers, AreLast}
 use Rattle.cox_context.specs.Shifts.{entry}
 use Rattle.cox_context.specs.Refusal.{IsLong, IsRefusal}
 use Rattle.cox_context.proofs.ListLemmas.{contains-placed, placed-contains, contains-at, rising-place}
-use Rattle.cox_context.proofs.Ideals.{IsIdeal, group-ideal, union-ideal, ideal-tailed, element-normal_form, element-length, element-nil, element-tail}
+use Rattle.cox_context.proofs.Ideals.{IsIdeal, group-ideal, union-ideal, ideal-tailed, element-normal_form, element-length, element-nil}
+use Rattle.cox_context.proofs.Ideals.{element-tail}
 use Rattle.cox_context.proofs.GrowthLemmas.{IsTailed, grown-length, grown-list}
 
 -- ---- the same words with two properties
@@ -162,13 +163,17 @@ module _ (A : IntegerMatrix) (g : IsAdmissible A) where
   identity-closed = record {
     rising = λ i j l k. absurd (omega (arith, l, k));
     element = λ word c. rw (← only word c) (element-nil A g);
-    down = λ y w c e b. (0, omega arith, sym (empty y (omega (
-      arith,
-      below-length A g b,
-      element-length A g y e,
-      word_length-length A g w,
-      ap length (only w c),
-    ))));
+    down = λ y w c e b. (
+      0,
+      omega arith,
+      sym (empty y (omega (
+        arith,
+        below-length A g b,
+        element-length A g y e,
+        word_length-length A g w,
+        ap length (only w c),
+      ))),
+    );
     short = λ word c. rw (← only word c) (omega arith);
     some = omega arith;
     few = omega arith;
@@ -222,12 +227,14 @@ module _ (A : IntegerMatrix) (g : IsAdmissible A) where
       read : (k i : ℕ) → i < length words → entry 1 numbers 1 i ≡ Some k → word_at words i ≡ word_at earlier k
       read k i l e = let f = rw e at (n.each i l) in sym f.1
 
-      place : (k : ℕ) → k < length earlier → (slice_index moved k < length words) × (word_at words (slice_index moved k) ≡ word_at earlier k)
+      place : (k : ℕ) → k < length earlier → (slice_index moved k < length words) × (word_at words
+          (slice_index moved k) ≡ word_at earlier k)
       place k l =
           let there : Contains words (word_at earlier k) = are.whole (word_at earlier k)
           (record { element = closed.element (word_at earlier k) (contains-at earlier k l); either = inr (contains-at earlier k l) })
           in let q = contains-placed words (word_at earlier k) there
-          in let found = h.last q.i k (omega (arith, q.within, n.size)) (same_number k q.i l q.within q.is (entry 1 numbers 1 q.i) (n.each q.i q.within))
+          in let found = h.last q.i k (omega (arith, q.within, n.size)) (same_number k q.i l q.within q.is (entry 1 numbers 1 q.i)
+          (n.each q.i q.within))
           in let inside : slice_index moved k < length words = omega (arith, found.0, n.size)
           in (inside, read k (slice_index moved k) inside found.1)
 

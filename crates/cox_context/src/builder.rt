@@ -221,13 +221,7 @@ impl Builder {
     /// The number of y = s x among the earlier members, for the member x with this number, where y was not found before.
     ///
     /// With y is x an earlier member, and y is the left shift of x there.
-    fn earlier_number(
-        &self,
-        family: &Family,
-        earlier: &Listing,
-        s: u8,
-        parent: u32,
-    ) -> Option<u32>
+    fn earlier_number(&self, family: &Family, earlier: &Listing, s: u8, parent: u32) -> Option<u32>
         requires matrix { IsCoxeterMatrix family.now.group }
         requires earlier { IsClosed (integer_matrix family.now.group) earlier.now.members }
         requires earlier_left { AreLeftShifts (integer_matrix family.now.group) earlier.now.members earlier.now.left.items }
@@ -281,7 +275,10 @@ impl Builder {
         }
         if push_row(&mut self.listing.left, rank, number, &child.lower).is_err()
             || self.listing.members.push(s, parent).is_err()
-            || self.numbers.push(child.number.unwrap_or(NO_MEMBER)).is_err()
+            || self
+                .numbers
+                .push(child.number.unwrap_or(NO_MEMBER))
+                .is_err()
         {
             return Err(ContextFault::NoMemory);
         }

@@ -68,8 +68,12 @@ fn is_below_top(
         None => true,
         Some(top) => {
             prove!(members.len() <= MAX_MEMBERS);
-            shares_descent(family.group.rank(), family.descents.as_slice(), lower, numbers)
-                || lifts(&family.group, members, left, lower, top)
+            shares_descent(
+                family.group.rank(),
+                family.descents.as_slice(),
+                lower,
+                numbers,
+            ) || lifts(&family.group, members, left, lower, top)
         }
     }
 }

@@ -1,7 +1,7 @@
 -- The child is the next member, or it is not meant, or it was found before, or an element below it was not.
-use Rattle.std.proofs.Common.{◌≡◌, ◌∷◌, ℕ, List, Contains, IsTrue, sym, ◌∙◌}
+use Rattle.std.proofs.Common.{◌∷◌, Contains, sym, ◌∙◌}
 use Rattle.std.proofs.lemmas.Bool.{false≢true}
-use Rattle.cox_base.specs.IntegerMatrix.{IntegerMatrix, integer_matrix}
+use Rattle.cox_base.specs.IntegerMatrix.{integer_matrix}
 use Rattle.cox_base.specs.ShortLex.{normal_form}
 use Rattle.cox_context.specs.Numbers.{word_at}
 use Rattle.cox_context.specs.Growth.{above, known}

@@ -1,5 +1,5 @@
 -- With y is x an earlier member.
-use Rattle.std.proofs.Common.{◌≡◌, ◌∷◌, ℕ, List, None, Some, sym}
+use Rattle.std.proofs.Common.{◌≡◌, ℕ, List, None, Some, sym}
 use Rattle.cox_base.specs.IntegerMatrix.{IntegerMatrix, integer_matrix}
 use Rattle.cox_base.specs.Admissible.{IsAdmissible}
 use Rattle.cox_reflect.proofs.Admissible.{IsAdmissible-integer_matrix}
@@ -15,7 +15,8 @@ returns-in_err-before c =
     let A : IntegerMatrix = integer_matrix c.args.family.now.group
     in let g : IsAdmissible A = IsAdmissible-integer_matrix c.args.family.now.group c.requires.matrix
     in let x : List ℕ = word_at c.args.self.now.listing.members c.args.parent
-    in let read : entry 1 c.args.self.now.numbers.items 1 c.args.parent ≡ None = sym (rw c.as_slice.ensures.value at c.in_err-before.ensures)
+    in let read : entry 1 c.args.self.now.numbers.items 1 c.args.parent ≡ None = sym (rw c.as_slice.ensures.value at
+    c.in_err-before.ensures)
     in let none = rw read at (c.requires.numbers.each c.args.parent c.requires.parent)
     in rw c.from_residual.ensures (earlier-none A g c.args.self.now.listing.members c.args.earlier.now.members c.args.s c.args.parent
     c.requires.earlier (element-at A g c.args.self.now.listing.members c.requires.closed c.args.parent c.requires.parent)

@@ -31,7 +31,8 @@ loop-i-preserved c =
     in let all = rw (c.rank-rank.ensures.rank, c.as_slice.ensures.value) at
     (c.lacks_shift.ensures.no (λ yes. absurd (false≢true (sym c.if-lacks_shift.false ∙ yes))))
     in λ i s from to l. ⊎_elim (λ (below : i < c.loop-i.i). c.loop-i.invariant i s from below l)
-    (λ (above : c.loop-i.i ≤ i). let e : i ≡ c.loop-i.i = omega (arith, to, above) in rw e (shifted-descent A g c.args.self.now.listing.members
+    (λ (above : c.loop-i.i ≤ i). let e : i ≡ c.loop-i.i = omega (arith, to, above) in rw e (shifted-descent A g
+    c.args.self.now.listing.members
     c.requires.closed s c.loop-i.i _ l within (λ k m. c.requires.longest c.loop-i.i k c.loop-i.auto.i within m)
     (c.requires.left.shift s c.loop-i.i l within) (all s l)))
     (cases_lt i c.loop-i.i)

@@ -8,7 +8,8 @@ use Rattle.cox_context.proofs.builder.Builder.grow.Given as goal
 
 abbrev pub invariant-loop-known : goal.invariant-loop-known
 invariant-loop-known l = record {
-  grown : IsGrown l.family.group.rank (IsMember (integer_matrix l.family.group) l.family.top l.earlier.members) l.known l.low l.self.listing.members;
+  grown : IsGrown l.family.group.rank (IsMember
+      (integer_matrix l.family.group) l.family.top l.earlier.members) l.known l.low l.self.listing.members;
   left : AreLeftShifts (integer_matrix l.family.group) l.self.listing.members l.self.listing.left.items;
   numbers : AreNumbers l.earlier.members l.self.listing.members l.self.numbers.items;
   room : length l.self.listing.members ≤ l.limit;

@@ -17,13 +17,15 @@ use Rattle.cox_context.proofs.builder.Builder.grow_letter.Goals.{in-Some+in_ok-a
 
 pub child-requires-clause-closed : goal.child-requires-clause-closed
 child-requires-clause-closed c =
-    member-closed c.args.family.now.group c.requires.matrix c.args.family.now.top c.args.earlier.now.members c.requires.earlier c.args.letters c.args.low c.args.high c.args.s
+    member-closed c.args.family.now.group c.requires.matrix c.args.family.now.top c.args.earlier.now.members c.requires.earlier
+    c.args.letters c.args.low c.args.high c.args.s
     c.loop-parent.parent c.loop-parent.self.listing.members c.loop-parent.invariant.growing c.requires.short
     (omega (arith, c.loop-parent.invariant.room, c.requires.limit))
 
 pub child-requires-clause-below : goal.child-requires-clause-below
 child-requires-clause-below c =
-    members-below c.args.family.now.group c.requires.matrix c.args.family.now.top c.args.earlier.now.members c.requires.earlier c.args.letters c.args.low c.args.high c.args.s
+    members-below c.args.family.now.group c.requires.matrix c.args.family.now.top c.args.earlier.now.members c.requires.earlier
+    c.args.letters c.args.low c.args.high c.args.s
     c.loop-parent.parent c.loop-parent.self.listing.members c.loop-parent.invariant.growing c.loop-parent.self.numbers.items
     c.loop-parent.invariant.numbers
 
@@ -34,10 +36,12 @@ returns-in_err-add-clause-fault c =
     in let tailed : IsTailed c.args.family.now.group.rank P = member-tailed c.args.family.now.group c.requires.matrix
     c.args.family.now.top c.args.earlier.now.members c.requires.earlier
     in let y : List ℕ = c.args.s ∷ word_at c.loop-parent.self.listing.members c.loop-parent.parent
-    in let closed : IsClosed A c.loop-parent.self.listing.members = member-closed c.args.family.now.group c.requires.matrix c.args.family.now.top c.args.earlier.now.members c.requires.earlier
+    in let closed : IsClosed A c.loop-parent.self.listing.members = member-closed c.args.family.now.group c.requires.matrix
+    c.args.family.now.top c.args.earlier.now.members c.requires.earlier
     c.args.letters c.args.low c.args.high c.args.s c.loop-parent.parent c.loop-parent.self.listing.members c.loop-parent.invariant.growing
     c.requires.short (omega (arith, c.loop-parent.invariant.room, c.requires.limit))
-    in let member : P y = next-member c.args.family.now.group c.requires.matrix c.args.family.now.top c.args.earlier.now.members c.requires.earlier
+    in let member : P y = next-member c.args.family.now.group c.requires.matrix c.args.family.now.top c.args.earlier.now.members
+    c.requires.earlier
     c.args.letters c.args.low c.args.high c.args.s c.loop-parent.parent c.loop-parent.self.listing.members c.loop-parent.invariant.growing
     c.in-Some.child c.requires.letter closed c.loop-parent-test.true c.in-Some.ensures.next
     in let prefix : IsPrefixOf P (c.loop-parent.self.listing.members ++ y ∷ [])
@@ -60,14 +64,17 @@ loop-parent-preserved c =
     in let tailed : IsTailed c.args.family.now.group.rank P = member-tailed c.args.family.now.group c.requires.matrix
     c.args.family.now.top c.args.earlier.now.members c.requires.earlier
     in let y : List ℕ = c.args.s ∷ word_at c.loop-parent.self.listing.members c.loop-parent.parent
-    in let closed : IsClosed A c.loop-parent.self.listing.members = member-closed c.args.family.now.group c.requires.matrix c.args.family.now.top c.args.earlier.now.members c.requires.earlier
+    in let closed : IsClosed A c.loop-parent.self.listing.members = member-closed c.args.family.now.group c.requires.matrix
+    c.args.family.now.top c.args.earlier.now.members c.requires.earlier
     c.args.letters c.args.low c.args.high c.args.s c.loop-parent.parent c.loop-parent.self.listing.members c.loop-parent.invariant.growing
     c.requires.short (omega (arith, c.loop-parent.invariant.room, c.requires.limit))
     in elim c.match-child.branch [
       | in-Some+in_ok-add w ↦
           let next = w.in-Some.ensures.next
-          in let member : P y = next-member c.args.family.now.group c.requires.matrix c.args.family.now.top c.args.earlier.now.members c.requires.earlier
-          c.args.letters c.args.low c.args.high c.args.s c.loop-parent.parent c.loop-parent.self.listing.members c.loop-parent.invariant.growing
+          in let member : P y = next-member c.args.family.now.group c.requires.matrix c.args.family.now.top c.args.earlier.now.members
+          c.requires.earlier
+          c.args.letters c.args.low c.args.high c.args.s c.loop-parent.parent c.loop-parent.self.listing.members
+          c.loop-parent.invariant.growing
           w.in-Some.child c.requires.letter closed c.loop-parent-test.true next
           in let growing : IsGrowing c.args.family.now.group.rank P c.args.letters c.args.low c.args.high c.args.s
           (c.loop-parent.parent + 1)
@@ -77,12 +84,14 @@ loop-parent-preserved c =
           in let room : length (c.loop-parent.self.listing.members ++ y ∷ []) ≤ c.args.limit
           = rw w.in_ok-add.ensures.added at w.in_ok-add.ensures.room
           in let more : IsClosed A (c.loop-parent.self.listing.members ++ y ∷ []) = member-closed c.args.family.now.group c.requires.matrix
-          c.args.family.now.top c.args.earlier.now.members c.requires.earlier c.args.letters c.args.low c.args.high c.args.s (c.loop-parent.parent + 1)
+          c.args.family.now.top c.args.earlier.now.members c.requires.earlier c.args.letters c.args.low c.args.high c.args.s
+          (c.loop-parent.parent + 1)
           (c.loop-parent.self.listing.members ++ y ∷ []) growing c.requires.short (omega (arith, room, c.requires.limit))
           in rw w.self-is (record {
             growing = rw w.in_ok-add.ensures.added growing;
             left = rw w.in_ok-add.ensures.added (shifts-push A (IsAdmissible-integer_matrix c.args.family.now.group c.requires.matrix)
-                c.loop-parent.self.listing.members y more w.in-Some.child.lower c.loop-parent.self.listing.left.items _ c.loop-parent.invariant.left next.numbers
+                c.loop-parent.self.listing.members y more w.in-Some.child.lower c.loop-parent.self.listing.left.items _
+                c.loop-parent.invariant.left next.numbers
                 (rw w.rank.ensures.rank at w.in_ok-add.ensures.left));
             numbers = rw (w.in_ok-add.ensures.added, w.in_ok-add.ensures.numbers) (numbers-push c.args.family.now.group c.requires.matrix
                 c.args.family.now.top c.args.earlier.now.members c.requires.earlier c.args.letters c.args.low c.args.high c.args.s
@@ -94,8 +103,10 @@ loop-parent-preserved c =
           rw w.self-is (record {
             growing =
                 growing-skip c.args.family.now.group.rank P tailed c.args.letters c.args.low c.args.high c.args.s c.loop-parent.parent
-                c.loop-parent.self.listing.members c.loop-parent.invariant.growing c.loop-parent-test.true (no-next-none c.args.family.now.group
-                c.requires.matrix c.args.family.now.top c.args.earlier.now.members c.requires.earlier c.args.letters c.args.low c.args.high c.args.s c.loop-parent.parent
+                c.loop-parent.self.listing.members c.loop-parent.invariant.growing c.loop-parent-test.true (no-next-none
+                c.args.family.now.group
+                c.requires.matrix c.args.family.now.top c.args.earlier.now.members c.requires.earlier c.args.letters c.args.low
+                c.args.high c.args.s c.loop-parent.parent
                 c.loop-parent.self.listing.members c.loop-parent.invariant.growing c.loop-parent-test.true w.in_default.ensures.none);
             left = c.loop-parent.invariant.left;
             numbers = c.loop-parent.invariant.numbers;
@@ -110,5 +121,6 @@ returns-clause-growing c =
     in let tailed : IsTailed c.args.family.now.group.rank P = member-tailed c.args.family.now.group c.requires.matrix
     c.args.family.now.top c.args.earlier.now.members c.requires.earlier
     in let last : c.loop-parent.parent ≡ c.args.high = omega (arith, c.requires.growing.stop)
-    in growing-letter c.args.family.now.group.rank P tailed c.args.letters c.args.low c.args.high c.args.s c.loop-parent.self.listing.members
+    in growing-letter c.args.family.now.group.rank P tailed c.args.letters c.args.low c.args.high c.args.s
+    c.loop-parent.self.listing.members
     c.requires.growing.stop (rw last at c.loop-parent.invariant.growing)

@@ -1,5 +1,5 @@
 -- The identity alone has no letter, and is the first of the earlier members.
-use Rattle.std.proofs.Common.{rules, ◌≡◌, ◌∷◌, [], ℕ, List}
+use Rattle.std.proofs.Common.{rules, ◌≡◌, ◌∷◌, []}
 use Rattle.cox_base.specs.IntegerMatrix.{integer_matrix}
 use Rattle.cox_reflect.proofs.Admissible.{IsAdmissible-integer_matrix}
 use Rattle.cox_context.specs.Family.{IsMember}

@@ -1,5 +1,5 @@
 -- The builder finds the union with the interval up to the normal form of w, which is that up to w.
-use Rattle.std.proofs.Common.{rules, ◌≡◌, ◌≤◌, ◌<◌, ◌-◌, ◌∙◌, List, ℕ, length, IfErr, ap, sym, subst, arith}
+use Rattle.std.proofs.Common.{rules, ◌≡◌, ◌≤◌, ◌<◌, ◌-◌, ◌∙◌, List, ℕ, length, IfErr, ap, sym, arith}
 use Rattle.cox_base.specs.Admissible.{IsAdmissible}
 use Rattle.cox_base.specs.IntegerMatrix.{IntegerMatrix, integer_matrix}
 use Rattle.cox_base.specs.Length.{word_length}
@@ -84,7 +84,8 @@ returns-clause-members c =
     )
     in let are : IsListOf (IsInUnion A w earlier) c.grow.new.self.listing.members = union-members A g w top earlier
     c.grow.new.self.listing.members c.max-letters.result c.in_ok-grow.field-0 form.1 closed long old c.in_ok-grow.ensures.grown
-    in let made : c.in_ok-context.context.members ≡ c.grow.new.self.listing.members = ap (λ (e : Elements). e.members) c.in_ok-context.ensures.made
+    in let made : c.in_ok-context.context.members ≡ c.grow.new.self.listing.members = ap (λ (e : Elements). e.members)
+    c.in_ok-context.ensures.made
     in rw (← same, ← is, made) are
 
 pub returns-clause-moved : goal.returns-clause-moved
@@ -111,7 +112,8 @@ returns-clause-moved c =
     )
     in let are : IsListOf (IsInUnion A w earlier) c.grow.new.self.listing.members = union-members A g w top earlier
     c.grow.new.self.listing.members c.max-letters.result c.in_ok-grow.field-0 form.1 closed long old c.in_ok-grow.ensures.grown
-    in let made : c.in_ok-context.context.members ≡ c.grow.new.self.listing.members = ap (λ (e : Elements). e.members) c.in_ok-context.ensures.made
+    in let made : c.in_ok-context.context.members ≡ c.grow.new.self.listing.members = ap (λ (e : Elements). e.members)
+    c.in_ok-context.ensures.made
     in let count = rw (c.len-5.ensures.len, ← is) at c.in-Ok.ensures.size
     in rw (← is, made) (moved-members A g w earlier c.grow.new.self.listing.members c.grow.new.self.numbers.items c.in-Ok.moved.items closed
     are c.in_ok-grow.ensures.numbers count (rw c.as_slice.ensures.value at c.in-Ok.ensures.last))

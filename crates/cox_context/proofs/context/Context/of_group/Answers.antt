@@ -1,5 +1,5 @@
 -- The members of at most MAX_LETTERS letters are the group where no letter makes one of MAX_LETTERS longer.
-use Rattle.std.proofs.Common.{rules, ◌≤◌, ℕ, List, None, length, arith, sym, ◌∙◌}
+use Rattle.std.proofs.Common.{rules, ◌≤◌, ℕ, List, length, arith, sym, ◌∙◌}
 use Rattle.std.proofs.lemmas.Bool.{false≢true}
 use Rattle.cox_base.specs.IntegerMatrix.{IntegerMatrix, integer_matrix}
 use Rattle.cox_base.specs.Admissible.{IsAdmissible}
@@ -29,7 +29,8 @@ goes_on-requires-clause-longest c = λ i k from l m.
     in let g : IsAdmissible A = IsAdmissible-integer_matrix c.copy.result c.new-2.ensures.matrix
     in omega (
       arith,
-      grown-length A.rank (IsElement A) (ideal-tailed A g (IsElement A) (group-ideal A g)) MAX_LETTERS c.in_ok-low.low c.grow.new.self.listing.members c.in_ok-low.ensures.grown k m,
+      grown-length A.rank (IsElement A) (ideal-tailed A g (IsElement A) (group-ideal A g)) MAX_LETTERS c.in_ok-low.low
+          c.grow.new.self.listing.members c.in_ok-low.ensures.grown k m,
       c.in_ok-low.ensures.grown.level i from l,
     )
 

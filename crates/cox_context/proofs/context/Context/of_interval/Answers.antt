@@ -1,21 +1,16 @@
 -- The builder finds the interval up to the normal form of w, which is that up to w.
-use Rattle.std.proofs.Common.{rules, ◌≡◌, ◌≤◌, ◌∙◌, ◌∷◌, [], List, ℕ, length, IfErr, arith}
-use Rattle.cox_base.specs.Matrix.{CoxeterMatrix}
-use Rattle.cox_base.specs.Admissible.{IsCoxeterMatrix, IsAdmissible}
+use Rattle.std.proofs.Common.{rules, ◌≡◌, ◌∙◌, List, ℕ, length, IfErr, arith}
+use Rattle.cox_base.specs.Admissible.{IsAdmissible}
 use Rattle.cox_base.specs.IntegerMatrix.{IntegerMatrix, integer_matrix}
-use Rattle.cox_base.specs.Element.{SameElement}
-use Rattle.cox_base.specs.ShortLex.{normal_form}
-use Rattle.cox_base.specs.Reduced.{IsReduced}
 use Rattle.cox_reflect.proofs.Admissible.{IsAdmissible-integer_matrix}
-use Rattle.cox_reflect.proofs.Search.{normal_form-same, word_length-equal}
-use Rattle.cox_reflect.proofs.Elements.{same-refl}
-use Rattle.cox_reflect.proofs.Lengths.{IsReduced-normal_form}
+use Rattle.cox_reflect.proofs.Search.{word_length-equal}
 use Rattle.cox_context.specs.Members.{IsInInterval, IsInUnion}
 use Rattle.cox_context.specs.Refusal.{IsRefusal}
 use Rattle.cox_context.specs.SortedList.{IsListOf}
 use Rattle.cox_context.proofs.ResultLemmas.{made_members}
 use Rattle.cox_context.proofs.Ideals.{interval-ideal}
-use Rattle.cox_context.proofs.ContextLemmas.{form-same, identity-closed, list-closed, list-along, result-along, interval-length, union-interval, interval-union, interval-members}
+use Rattle.cox_context.proofs.ContextLemmas.{form-same, identity-closed, list-closed, result-along, interval-length, union-interval}
+use Rattle.cox_context.proofs.ContextLemmas.{interval-union, interval-members}
 use Rattle.cox_context.proofs.context.Context.of_interval.Goals as goal
 
 pub grow-requires-clause-top : goal.grow-requires-clause-top
@@ -45,7 +40,8 @@ returns-in_err-grow-clause-refused c =
     in let form =
     form-same c.args.group.now c.copy.result (c.copy.ensures ∙ c.group.ensures) c.in_ok-builder.ensures.matrix w top
     c.normal_form-top.ensures.form
-    in let refused : IfErr c.from_residual-in_err-grow.result (IsRefusal (IsInUnion A top c.in-Ok.identity.members) c.args.limit) = search rules
+    in let refused : IfErr c.from_residual-in_err-grow.result (IsRefusal (IsInUnion A top c.in-Ok.identity.members) c.args.limit)
+    = search rules
     in rw (← (c.copy.ensures ∙ c.group.ensures)) (result-along (IsInUnion A top c.in-Ok.identity.members) (IsInInterval A w)
     (union-interval A g w top c.in-Ok.identity.members form.1 c.in-Ok.ensures.members)
     (interval-union A g w top c.in-Ok.identity.members form.1) c.args.limit c.from_residual-in_err-grow.result refused)
