@@ -29,7 +29,8 @@ use Rattle.cox_context.specs.Numbers.{word_at, IsNumberOf, AreMoved}
 use Rattle.cox_context.specs.Growth.{IsGrown, AreNumbers, AreLast}
 use Rattle.cox_context.specs.Shifts.{entry}
 use Rattle.cox_context.specs.Refusal.{IsLong, IsRefusal}
-use Rattle.cox_context.proofs.ListLemmas.{contains-placed, placed-contains, contains-at, rising-place}
+use Rattle.cox_context.proofs.ListLemmas.{contains-placed, placed-contains, contains-at, rising-place, rising-before}
+use Rattle.cox_context.proofs.SortedLemmas.{before-less}
 use Rattle.cox_context.proofs.Ideals.{IsIdeal, group-ideal, union-ideal, ideal-tailed, element-normal_form, element-length, element-nil}
 use Rattle.cox_context.proofs.Ideals.{element-tail}
 use Rattle.cox_context.proofs.GrowthLemmas.{IsTailed, grown-length, grown-list}
@@ -217,7 +218,16 @@ module _ (A : IntegerMatrix) (g : IsAdmissible A) where
       → IsListOf (IsInUnion A w earlier) words → AreNumbers earlier words numbers → length moved ≡ length earlier
       → AreLast numbers (length numbers) moved → AreMoved earlier words moved
   moved-members w earlier words numbers moved closed are n size h =
-      record { size = size; within = λ k l. (place k l).0; word = λ k l. (place k l).1 }
+      record {
+        size = size;
+        within = λ k l. (place k l).0;
+        word = λ k l. (place k l).1;
+        rising = λ i j l m.
+            let first = place i (omega (arith, l, m))
+            in let second = place j m
+            in before-less words (slice_index moved i) (slice_index moved j) are.rising first.0
+            (rw (first.1, second.1) (rising-before earlier i j closed.rising l m));
+      }
     where
       same_number : (k i : ℕ) → k < length earlier → i < length words → word_at words i ≡ word_at earlier k
           → (x : Option ℕ) → IsNumberOf earlier (word_at words i) x → x ≡ Some k
