@@ -1,6 +1,6 @@
 -- Which child s x of a member x is the next member, for a list of members as it grows.
 use Rattle.std.proofs.Common.{◌≡◌, ℕ, ◌+◌, ◌≤◌, ◌<◌, List, [], ◌∷◌, length, Contains, Option, None, Some, inl, refl, ap, sym, ◌∙◌}
-use Rattle.std.proofs.Common.{⊎_elim, arith, subst, false, is_some}
+use Rattle.std.proofs.Common.{⊎_elim, arith, subst, true, false, is_some, unwrap_or, length-append, inr, ◌++◌}
 use Rattle.std.proofs.lemmas.Bool.{cases_lt, cases_order}
 use Rattle.arrayvec.specs.ArrayVec.{ArrayVec}
 use Rattle.cox_base.specs.Matrix.{CoxeterMatrix, IsLetter}
@@ -21,33 +21,58 @@ use Rattle.cox_context.specs.declared.members.TheConstants.{MAX_MEMBERS}
 use Rattle.cox_context.specs.Members.{IsElement}
 use Rattle.cox_context.specs.Closed.{IsClosed}
 use Rattle.cox_context.specs.Numbers.{word_at, IsNumberOf}
-use Rattle.cox_context.specs.Family.{IsMember, IsBelowTop}
-use Rattle.cox_context.specs.Growth.{IsGrowing, IsChild, IsOutside, IsNext, IsNoNext, known, above, outside, AreBelowTop}
+use Rattle.cox_context.specs.Family.{IsMember, IsBelowTop, IsMeant}
+use Rattle.cox_context.specs.Growth.{IsGrowing, IsChild, IsOutside, IsNext, IsNoNext, known, above, outside, AreBelowTop, AreNumbers}
 use Rattle.cox_context.proofs.ListLemmas.{contains-placed, placed-contains, rising-place}
+use Rattle.cox_context.proofs.ListLemmas.{word_at-old, word_at-new, length-push, push_cases}
+use Rattle.cox_context.proofs.Places.{entry-old, entry-new, number_of-some}
+use Rattle.cox_context.specs.declared.builder.Child.{Child}
+use Rattle.cox_context.specs.declared.shifts.TheConstants.{NO_MEMBER}
+use Rattle.cox_context.specs.Shifts.{entry, number_of}
 use Rattle.cox_context.proofs.Ideals.{IsIdeal, ideal-member, ideal-tailed, element-normal_form, element-length}
 use Rattle.cox_context.proofs.GrowthLemmas.{growing-length}
 use Rattle.cox_context.proofs.NormalLemmas.{first-least}
 use Rattle.cox_context.proofs.LowerLemmas.{IsAscent, ascent}
 
--- membership is that of an element below the top
-member-parts : (A : IntegerMatrix) (top : Option (ArrayVec ℕ)) (word : List ℕ) → IsMember A top word
-    → IsElement A word × IsBelowTop A top word
-member-parts A None word p = (p, tt)
-member-parts A (Some top) word p = (p.element, p.below)
+-- membership is that of an element that is meant
+member-parts : (A : IntegerMatrix) (top : Option (ArrayVec ℕ)) (earlier : List (List ℕ)) (word : List ℕ) → IsMember A top earlier word
+    → IsElement A word × IsMeant A top earlier word
+member-parts A None earlier word p = (p, inl tt)
+member-parts A (Some top) earlier word p =
+    (p.element, ⊎_elim (λ b. inl b) (λ c. inr (rw p.element.normal c)) p.either)
 
-member-of : (A : IntegerMatrix) (top : Option (ArrayVec ℕ)) (word : List ℕ) → IsElement A word → IsBelowTop A top word → IsMember A top word
-member-of A None word e b = e
-member-of A (Some top) word e b = record { element = e; below = b }
+member-of : (A : IntegerMatrix) (top : Option (ArrayVec ℕ)) (earlier : List (List ℕ)) (word : List ℕ) → IsElement A word
+    → IsMeant A top earlier word → IsMember A top earlier word
+member-of A None earlier word e m = e
+member-of A (Some top) earlier word e m =
+    record { element = e; either = ⊎_elim (λ b. inl b) (λ c. inr (rw e.normal at c)) m }
 
 -- what has no number is not there
 pub unfound : (words : List (List ℕ)) (word : List ℕ) (x : Option ℕ) → IsNumberOf words word x → is_some x ≡ false → Contains words word → ⊥
 unfound words word None none e c = none c
 unfound words word (Some k) found e c = absurd (cc)
 
+pub found : (words : List (List ℕ)) (word : List ℕ) (x : Option ℕ) → IsNumberOf words word x → is_some x ≡ true → Contains words word
+found words word None none e = absurd (cc)
+found words word (Some k) (l, is) e = placed-contains words word (record { i = k; within = l; is = is })
+
+-- with s x is x an earlier member
+pub earlier-none : (A : IntegerMatrix) → IsAdmissible A → (words earlier : List (List ℕ)) (s i : ℕ) → IsClosed A earlier
+    → IsElement A (word_at words i) → IsAscent A words s i → (Contains earlier (word_at words i) → ⊥)
+    → Contains earlier (normal_form A (s ∷ word_at words i)) → ⊥
+earlier-none A g words earlier s i closed e up none c =
+    none (closed.down (word_at words i) (normal_form A (s ∷ word_at words i)) c e
+    (below-same A g (same-refl A g (word_at words i)) (same-sym A g (normal_form-same A g (s ∷ word_at words i))) up.above))
+
 below-top-same : (A : IntegerMatrix) → IsAdmissible A → (top : Option (ArrayVec ℕ)) (v w : List ℕ) → SameElement A v w → IsBelowTop A top v
     → IsBelowTop A top w
 below-top-same A g None v w e b = tt
 below-top-same A g (Some top) v w e b = below-same A g e (same-refl A g top.items) b
+
+meant-same : (A : IntegerMatrix) → IsAdmissible A → (top : Option (ArrayVec ℕ)) (earlier : List (List ℕ)) (v w : List ℕ) → SameElement A v w
+    → IsMeant A top earlier v → IsMeant A top earlier w
+meant-same A g top earlier v w e m =
+    ⊎_elim (λ b. inl (below-top-same A g top v w e b)) (λ c. inr (rw (normal_form-equal A g e) at c)) m
 
 module _ (A : IntegerMatrix) (g : IsAdmissible A) (P : List ℕ → Type 0) (ideal : IsIdeal A P) (k low high s j : ℕ) (words : List (List ℕ))
     (h : IsGrowing A.rank P k low high s j words) where
@@ -185,43 +210,82 @@ module _ (A : IntegerMatrix) (g : IsAdmissible A) (P : List ℕ → Type 0) (ide
                 shorter : IsLeftDescent A (t ∷ z) s
                 shorter = omega (arith, ascent.descent, word_length-equal A g same, word_length-equal A g (same-cons A g s same))
 
--- ---- in a group or an interval
+-- ---- in the family that is meant
 
-module _ (c : CoxeterMatrix) (m : IsCoxeterMatrix c) (top : Option (ArrayVec ℕ)) (k low high s j : ℕ) (words : List (List ℕ))
-    (h : IsGrowing c.rank (IsMember (integer_matrix c) top) k low high s j words) where
+module _ (c : CoxeterMatrix) (m : IsCoxeterMatrix c) (top : Option (ArrayVec ℕ)) (earlier : List (List ℕ))
+    (before : IsClosed (integer_matrix c) earlier) (k low high s j : ℕ) (words : List (List ℕ))
+    (h : IsGrowing c.rank (IsMember (integer_matrix c) top earlier) k low high s j words) where
   A : IntegerMatrix
   A = integer_matrix c
 
   g : IsAdmissible (integer_matrix c)
   g = IsAdmissible-integer_matrix c m
 
-  ideal : IsIdeal (integer_matrix c) (IsMember (integer_matrix c) top)
-  ideal = ideal-member (integer_matrix c) g top
+  ideal : IsIdeal (integer_matrix c) (IsMember (integer_matrix c) top earlier)
+  ideal = ideal-member (integer_matrix c) g top earlier before
 
   pub member-closed : k < MAX_LETTERS → length words ≤ MAX_MEMBERS → IsClosed (integer_matrix c) words
-  member-closed = growing-closed (integer_matrix c) g (IsMember (integer_matrix c) top) ideal k low high s j words h
+  member-closed = growing-closed (integer_matrix c) g (IsMember (integer_matrix c) top earlier) ideal k low high s j words h
 
-  pub members-below : AreBelowTop (integer_matrix c) top words
-  members-below i l = (member-parts (integer_matrix c) top (word_at words i) (h.sound i l)).1
+  pub members-below : (numbers : List ℕ) → AreNumbers earlier words numbers → AreBelowTop (integer_matrix c) top words numbers
+  members-below numbers n i l none =
+      ⊎_elim (λ b. b) (λ there. absurd (absent (entry 1 numbers 1 i) none (n.each i l) (rw (sound.0).normal at there))) sound.1
+    where
+      sound : IsElement (integer_matrix c) (word_at words i) × IsMeant (integer_matrix c) top earlier (word_at words i)
+      sound = member-parts (integer_matrix c) top earlier (word_at words i) (h.sound i l)
+
+      absent : (x : Option ℕ) → x ≡ None → IsNumberOf earlier (word_at words i) x → Contains earlier (word_at words i) → ⊥
+      absent None e none there = none there
+      absent (Some n) e found there = absurd (cc)
 
   -- the next child is a member
-  pub next-member : (lower : List ℕ) → IsLetter c.rank s → IsClosed (integer_matrix c) words → j < high
-      → IsNext (integer_matrix c) words top (s ∷ word_at words j) lower → IsMember (integer_matrix c) top (s ∷ word_at words j)
-  next-member lower letter closed inside next =
+  pub next-member : (child : Child) → IsLetter c.rank s → IsClosed (integer_matrix c) words → j < high
+      → IsNext (integer_matrix c) words top earlier (s ∷ word_at words j) child
+      → IsMember (integer_matrix c) top earlier (s ∷ word_at words j)
+  next-member child letter closed inside next =
       let y : List ℕ = s ∷ word_at words j
-      in let p : IsMember (integer_matrix c) top (normal_form (integer_matrix c) y)
-      = member-of (integer_matrix c) top (normal_form (integer_matrix c) y) (element-normal_form (integer_matrix c) g y)
-      (below-top-same (integer_matrix c) g top y (normal_form (integer_matrix c) y)
-      (same-sym (integer_matrix c) g (normal_form-same (integer_matrix c) g y)) next.below)
-      in let normal = new-normal (integer_matrix c) g (IsMember (integer_matrix c) top) ideal k low high s j words h inside
+      in let p : IsMember (integer_matrix c) top earlier (normal_form (integer_matrix c) y)
+      = member-of (integer_matrix c) top earlier (normal_form (integer_matrix c) y) (element-normal_form (integer_matrix c) g y)
+      (meant-same (integer_matrix c) g top earlier y (normal_form (integer_matrix c) y)
+      (same-sym (integer_matrix c) g (normal_form-same (integer_matrix c) g y)) next.meant)
+      in let normal = new-normal (integer_matrix c) g (IsMember (integer_matrix c) top earlier) ideal k low high s j words h inside
       (ascent c m words closed s j letter (omega (arith, inside, h.end)) next.new) next.new p
       in rw normal at p
 
   -- a child that is not the next is none
-  pub no-next-none : j < high → IsNoNext (integer_matrix c) words top (s ∷ word_at words j) (length (word_at words j))
-      → IsMember (integer_matrix c) top (s ∷ word_at words j) → ⊥
+  pub no-next-none : j < high → IsNoNext (integer_matrix c) words top earlier (s ∷ word_at words j) (length (word_at words j))
+      → IsMember (integer_matrix c) top earlier (s ∷ word_at words j) → ⊥
   no-next-none inside (known there) p =
-      known-none (integer_matrix c) g (IsMember (integer_matrix c) top) ideal k low high s j words h inside there p
-  no-next-none inside (above none) p = none (member-parts (integer_matrix c) top (s ∷ word_at words j) p).1
+      known-none (integer_matrix c) g (IsMember (integer_matrix c) top earlier) ideal k low high s j words h inside there p
+  no-next-none inside (above none) p = none (member-parts (integer_matrix c) top earlier (s ∷ word_at words j) p).1
   no-next-none inside (outside o) p =
-      outside-none (integer_matrix c) g (IsMember (integer_matrix c) top) ideal k low high s j words h inside o p
+      outside-none (integer_matrix c) g (IsMember (integer_matrix c) top earlier) ideal k low high s j words h inside o p
+
+  -- its number among the earlier members is appended
+  pub numbers-push : (child : Child) (numbers : List ℕ) → length earlier ≤ MAX_MEMBERS → AreNumbers earlier words numbers
+      → IsNext (integer_matrix c) words top earlier (s ∷ word_at words j) child
+      → IsMember (integer_matrix c) top earlier (s ∷ word_at words j)
+      → AreNumbers earlier (words ++ (s ∷ word_at words j) ∷ []) (numbers ++ unwrap_or child.number NO_MEMBER ∷ [])
+  numbers-push child numbers few n next member = record {
+    size = omega (arith, length-push words (s ∷ word_at words j), length-append numbers (x ∷ []), n.size);
+    each = λ i l. ⊎_elim (λ (below : i < length words). rw (word_at-old words (s ∷ word_at words j) i below, old i below) (n.each i below))
+        (λ (last : i ≡ length words). rw (word_at-new words (s ∷ word_at words j) i last, here i last) is)
+        (push_cases words (s ∷ word_at words j) i l);
+  }
+    where
+      x : ℕ
+      x = unwrap_or child.number NO_MEMBER
+
+      old : (i : ℕ) → i < length words → entry 1 (numbers ++ unwrap_or child.number NO_MEMBER ∷ []) 1 i ≡ entry 1 numbers 1 i
+      old i l = entry-old 1 numbers 1 i (unwrap_or child.number NO_MEMBER) (omega (arith, l, n.size))
+
+      here : (i : ℕ) → i ≡ length words → entry 1 (numbers ++ unwrap_or child.number NO_MEMBER ∷ []) 1 i ≡ child.number
+      here i e = entry-new 1 numbers 1 i (unwrap_or child.number NO_MEMBER) (omega (arith, e, n.size)) ∙ read child.number next.number
+        where
+          read : (z : Option ℕ) → IsNumberOf earlier (normal_form (integer_matrix c) (s ∷ word_at words j)) z
+              → number_of (unwrap_or z NO_MEMBER) ≡ z
+          read None f = refl
+          read (Some k) f = number_of-some k (omega (arith, f.0, few))
+
+      is : IsNumberOf earlier (s ∷ word_at words j) child.number
+      is = let e = ideal.element (s ∷ word_at words j) member in rw e.normal at next.number

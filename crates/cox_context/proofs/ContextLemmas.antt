@@ -1,32 +1,38 @@
 -- Contexts of intervals and of groups: their members are closed downwards, and what a group that goes on has.
 use Rattle.std.proofs.Common.{◌≡◌, ℕ, ◌+◌, ◌≤◌, ◌<◌, List, [], ◌∷◌, length, Contains, None, Some, Result, Ok, Err, IfErr, ap, sym, ◌∙◌}
 use Rattle.std.proofs.Common.{⊎_elim}
-use Rattle.std.proofs.Common.{arith, subst}
+use Rattle.std.proofs.Common.{arith, subst, inl, inr, refl, Option, slice_index}
 use Rattle.std.proofs.lemmas.Bool.{cases_lt}
 use Rattle.std.proofs.lemmas.List.Elements.{All-head}
-use Rattle.cox_base.specs.Matrix.{IsLetter}
+use Rattle.cox_base.specs.Matrix.{CoxeterMatrix, IsLetter}
 use Rattle.cox_base.specs.declared.limits.TheConstants.{MAX_LETTERS}
-use Rattle.cox_base.specs.IntegerMatrix.{IntegerMatrix}
-use Rattle.cox_base.specs.Admissible.{IsAdmissible}
+use Rattle.cox_base.specs.IntegerMatrix.{IntegerMatrix, integer_matrix}
+use Rattle.cox_base.specs.Admissible.{IsAdmissible, IsCoxeterMatrix}
 use Rattle.cox_base.specs.Element.{SameElement}
 use Rattle.cox_base.specs.ShortLex.{normal_form}
 use Rattle.cox_base.specs.Length.{word_length}
+use Rattle.cox_base.specs.Bruhat.{IsBelow}
 use Rattle.cox_base.specs.Reduced.{IsReduced, IsLeftDescent}
-use Rattle.cox_reflect.proofs.Elements.{same-refl}
-use Rattle.cox_reflect.proofs.Lengths.{word_length-is}
+use Rattle.cox_reflect.proofs.Elements.{same-refl, same-sym}
+use Rattle.cox_reflect.proofs.Admissible.{IsAdmissible-integer_matrix}
+use Rattle.cox_reflect.proofs.Lengths.{word_length-is, IsReduced-normal_form}
 use Rattle.cox_reflect.proofs.Deletion.{left_length}
-use Rattle.cox_reflect.proofs.Bruhat.{below-length, below-same}
+use Rattle.cox_reflect.proofs.Bruhat.{below-length, below-same, below-least}
+use Rattle.cox_reflect.proofs.Search.{word_length-length, normal_form-same}
 use Rattle.cox_context.specs.declared.fault.ContextFault.{ContextFault}
 use Rattle.cox_context.specs.declared.fault.ContextFault.TheVariants.{Size, Long, NoMemory}
 use Rattle.cox_context.specs.declared.members.TheConstants.{MAX_MEMBERS}
-use Rattle.cox_context.specs.Members.{IsElement, IsInInterval}
+use Rattle.cox_context.specs.Members.{IsElement, IsInInterval, IsInUnion}
 use Rattle.cox_context.specs.Closed.{IsClosed}
 use Rattle.cox_context.specs.SortedList.{IsListOf}
-use Rattle.cox_context.specs.Numbers.{word_at}
-use Rattle.cox_context.specs.Growth.{IsGrown}
+use Rattle.cox_context.specs.Numbers.{word_at, IsNumberOf, AreMoved}
+use Rattle.cox_context.specs.Growth.{IsGrown, AreNumbers, AreLast}
+use Rattle.cox_context.specs.Shifts.{entry}
 use Rattle.cox_context.specs.Refusal.{IsLong, IsRefusal}
-use Rattle.cox_context.proofs.ListLemmas.{contains-placed, placed-contains}
-use Rattle.cox_context.proofs.Ideals.{IsIdeal, ideal-member, ideal-tailed, element-normal_form, element-length, element-tail}
+use Rattle.cox_context.proofs.ListLemmas.{contains-placed, placed-contains, contains-at, rising-place, rising-before}
+use Rattle.cox_context.proofs.SortedLemmas.{before-less}
+use Rattle.cox_context.proofs.Ideals.{IsIdeal, group-ideal, union-ideal, ideal-tailed, element-normal_form, element-length, element-nil}
+use Rattle.cox_context.proofs.Ideals.{element-tail}
 use Rattle.cox_context.proofs.GrowthLemmas.{IsTailed, grown-length, grown-list}
 
 -- ---- the same words with two properties
@@ -116,29 +122,131 @@ module _ (A : IntegerMatrix) (g : IsAdmissible A) where
       there : (y : List ℕ) → P y → length y ≤ k → Contains words y
       there y p l = let w = h.whole y p l in placed-contains words y (record { i = w.0; within = w.1; is = w.2 })
 
-  interval-ideal : (top : List ℕ) → IsIdeal A (IsInInterval A top)
-  interval-ideal top = ideal-member A g (Some (record { items = top }))
-
   -- no member of the interval is longer than its top
   pub interval-length : (w word : List ℕ) → IsInInterval A w word → length word ≤ word_length A w
   interval-length w word p = omega (arith, below-length A g p.below, element-length A g word p.element)
 
-  -- the members of no more letters than the top, a reduced word, are the interval
-  pub interval-list : (top : List ℕ) (low : ℕ) (words : List (List ℕ)) → IsReduced A top
-      → IsGrown A.rank (IsInInterval A top) (length top) low words → IsListOf (IsInInterval A top) words
-  interval-list top low words reduced h =
-      grown-list A.rank (IsInInterval A top) (ideal-tailed A g (IsInInterval A top) (interval-ideal top)) (length top) low words h
-      (λ word p. omega (arith, interval-length top word p, reduced))
+  -- no member of the union is longer than both
+  pub union-length : (w : List ℕ) (earlier : List (List ℕ)) (n : ℕ) (word : List ℕ) → word_length A w ≤ n
+      → ((i : ℕ) → i < length earlier → length (word_at earlier i) ≤ n) → IsInUnion A w earlier word → length word ≤ n
+  union-length w earlier n word short old p =
+      ⊎_elim (λ b. omega (arith, below-length A g b, element-length A g word p.element, short))
+      (λ c. let q = contains-placed earlier word c in subst (λ (x : List ℕ). length x ≤ n) q.is (old q.i q.within)) p.either
 
-  pub interval-closed : (top : List ℕ) (words : List (List ℕ)) → IsReduced A top → length top ≤ MAX_LETTERS → length words ≤ MAX_MEMBERS
-      → IsListOf (IsInInterval A top) words → IsClosed A words
-  interval-closed top words reduced short few are =
-      list-closed (IsInInterval A top) words (interval-ideal top) are
-      (λ word p. omega (arith, interval-length top word p, reduced, short)) few
+  -- the union with the interval up to w is that with the interval up to a word of the same element
+  pub union-from : (w top : List ℕ) (earlier : List (List ℕ)) → SameElement A top w → (word : List ℕ) → IsInUnion A top earlier word
+      → IsInUnion A w earlier word
+  union-from w top earlier same word p =
+      record { element = p.element; either = ⊎_elim (λ b. inl (below-same A g (same-refl A g word) same b)) (λ c. inr c) p.either }
 
-  -- the interval up to w is that up to a word of the same element
-  pub interval-from : (w top : List ℕ) → SameElement A top w → (word : List ℕ) → IsInInterval A top word → IsInInterval A w word
-  interval-from w top same word p = record { element = p.element; below = below-same A g (same-refl A g word) same p.below }
+  -- with the identity alone it is the interval
+  pub union-interval : (w top : List ℕ) (earlier : List (List ℕ)) → SameElement A top w → earlier ≡ [] ∷ [] → (word : List ℕ)
+      → IsInUnion A top earlier word → IsInInterval A w word
+  union-interval w top earlier same e word p = record {
+    element = p.element;
+    below = ⊎_elim (λ b. below-same A g (same-refl A g word) same b) (λ c. least (rw e at c)) p.either;
+  }
+    where
+      least : Contains ([] ∷ []) word → IsBelow A word w
+      least c =
+          let q = contains-placed ([] ∷ []) word c
+          in let first : q.i ≡ 0 = omega (arith, q.within)
+          in let is : [] ≡ word = rw first at q.is
+          in rw (← is) (below-least A g w)
+
+  pub interval-union : (w top : List ℕ) (earlier : List (List ℕ)) → SameElement A top w → (word : List ℕ) → IsInInterval A w word
+      → IsInUnion A top earlier word
+  interval-union w top earlier same word p =
+      record { element = p.element; either = inl (below-same A g (same-refl A g word) (same-sym A g same) p.below) }
+
+  -- the identity alone is closed downwards
+  pub identity-closed : IsClosed A ([] ∷ [])
+  identity-closed = record {
+    rising = λ i j l k. absurd (omega (arith, l, k));
+    element = λ word c. rw (← only word c) (element-nil A g);
+    down = λ y w c e b. (
+      0,
+      omega arith,
+      sym (empty y (omega (
+        arith,
+        below-length A g b,
+        element-length A g y e,
+        word_length-length A g w,
+        ap length (only w c),
+      ))),
+    );
+    short = λ word c. rw (← only word c) (omega arith);
+    some = omega arith;
+    few = omega arith;
+  }
+    where
+      only : (word : List ℕ) → Contains ([] ∷ []) word → [] ≡ word
+      only word c =
+          let q = contains-placed ([] ∷ []) word c in let first : q.i ≡ 0 = omega (arith, q.within) in rw first at q.is
+
+      empty : (n : List ℕ) → length n ≤ 0 → n ≡ []
+      empty [] l = refl
+      empty (s ∷ x) l = absurd (omega (arith, l))
+
+  -- what was found up to the length of a reduced word of w is the interval
+  pub interval-members : (w top : List ℕ) (earlier words : List (List ℕ)) (letters low : ℕ) → SameElement A top w → IsReduced A top
+      → earlier ≡ [] ∷ [] → letters ≡ length top → IsGrown A.rank (IsInUnion A top earlier) letters low words
+      → IsListOf (IsInInterval A w) words
+  interval-members w top earlier words letters low same reduced e n h =
+      let P : List ℕ → Type 0 = IsInUnion A top earlier
+      in let closed : IsClosed A earlier = rw e identity-closed
+      in list-along P (IsInInterval A w) (union-interval w top earlier same e) (interval-union w top earlier same) words
+      (grown-list A.rank P (ideal-tailed A g P (union-ideal A g top earlier closed)) letters low words h (λ word p. omega (
+        arith,
+        interval-length top word (union-interval top top earlier (same-refl A g top) e word p),
+        reduced,
+        n,
+      )))
+
+  -- what was found up to the greatest length is the union with the interval
+  pub union-members : (w top : List ℕ) (earlier words : List (List ℕ)) (letters low : ℕ) → SameElement A top w → IsClosed A earlier
+      → word_length A top ≤ letters → ((i : ℕ) → i < length earlier → length (word_at earlier i) ≤ letters)
+      → IsGrown A.rank (IsInUnion A top earlier) letters low words → IsListOf (IsInUnion A w earlier) words
+  union-members w top earlier words letters low same closed long old h =
+      let P : List ℕ → Type 0 = IsInUnion A top earlier
+      in list-along P (IsInUnion A w earlier) (union-from w top earlier same) (union-from top w earlier (same-sym A g same)) words
+      (grown-list A.rank P (ideal-tailed A g P (union-ideal A g top earlier closed)) letters low words h
+      (λ word p. union-length top earlier letters word long old p))
+
+  -- each earlier member has the last place with its number
+  pub moved-members : (w : List ℕ) (earlier words : List (List ℕ)) (numbers moved : List ℕ) → IsClosed A earlier
+      → IsListOf (IsInUnion A w earlier) words → AreNumbers earlier words numbers → length moved ≡ length earlier
+      → AreLast numbers (length numbers) moved → AreMoved earlier words moved
+  moved-members w earlier words numbers moved closed are n size h =
+      record {
+        size = size;
+        within = λ k l. (place k l).0;
+        word = λ k l. (place k l).1;
+        rising = λ i j l m.
+            let first = place i (omega (arith, l, m))
+            in let second = place j m
+            in before-less words (slice_index moved i) (slice_index moved j) are.rising first.0
+            (rw (first.1, second.1) (rising-before earlier i j closed.rising l m));
+      }
+    where
+      same_number : (k i : ℕ) → k < length earlier → i < length words → word_at words i ≡ word_at earlier k
+          → (x : Option ℕ) → IsNumberOf earlier (word_at words i) x → x ≡ Some k
+      same_number k i l m e None none = absurd (none (placed-contains earlier (word_at words i) (record { i = k; within = l; is = sym e })))
+      same_number k i l m e (Some j) (inside, is) = ap (λ (q : ℕ). Some q) (rising-place earlier j k closed.rising inside l (is ∙ e))
+
+      read : (k i : ℕ) → i < length words → entry 1 numbers 1 i ≡ Some k → word_at words i ≡ word_at earlier k
+      read k i l e = let f = rw e at (n.each i l) in sym f.1
+
+      place : (k : ℕ) → k < length earlier → (slice_index moved k < length words) × (word_at words
+          (slice_index moved k) ≡ word_at earlier k)
+      place k l =
+          let there : Contains words (word_at earlier k) = are.whole (word_at earlier k)
+          (record { element = closed.element (word_at earlier k) (contains-at earlier k l); either = inr (contains-at earlier k l) })
+          in let q = contains-placed words (word_at earlier k) there
+          in let found = h.last q.i k (omega (arith, q.within, n.size)) (same_number k q.i l q.within q.is (entry 1 numbers 1 q.i)
+          (n.each q.i q.within))
+          in let inside : slice_index moved k < length words = omega (arith, found.0, n.size)
+          in (inside, read k (slice_index moved k) inside found.1)
 
   -- where each member of MAX_LETTERS letters is shortened by each letter, no element is longer
   pub group-length : (low : ℕ) (words : List (List ℕ)) → IsGrown A.rank (IsElement A) MAX_LETTERS low words
@@ -180,10 +288,18 @@ module _ (A : IntegerMatrix) (g : IsAdmissible A) where
   }
     where
       tailed : IsTailed A.rank (IsElement A)
-      tailed = ideal-tailed A g (IsElement A) (ideal-member A g None)
+      tailed = ideal-tailed A g (IsElement A) (group-ideal A g)
 
       up : word_length A (s ∷ word_at words i) ≡ MAX_LETTERS + 1
       up =
           ⊎_elim (λ longer. omega (arith, longer, element-length A g (word_at words i) (h.sound i l), h.level i from l))
           (λ shorter. absurd (none (omega (arith, shorter))))
           (left_length A g s (word_at words i) letter)
+
+-- the normal form of w in a group x, as a word in its copy y
+pub form-same : (x y : CoxeterMatrix) → y ≡ x → IsCoxeterMatrix y → (w top : List ℕ) → top ≡ normal_form (integer_matrix x) w
+    → IsReduced (integer_matrix y) top × SameElement (integer_matrix y) top w
+form-same x y e matrix w top f =
+    let g : IsAdmissible (integer_matrix y) = IsAdmissible-integer_matrix y matrix
+    in let form : top ≡ normal_form (integer_matrix y) w = rw e f
+    in (rw form (IsReduced-normal_form (integer_matrix y) g w), rw form (normal_form-same (integer_matrix y) g w))

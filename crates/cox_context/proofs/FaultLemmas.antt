@@ -1,12 +1,10 @@
 -- Why a context is refused.
-use Rattle.std.proofs.Common.{◌≡◌, ℕ, ◌+◌, ◌≤◌, ◌<◌, List, [], ◌∷◌, ◌++◌, length, Contains, arith, refl}
+use Rattle.std.proofs.Common.{◌≡◌, ℕ, ◌+◌, ◌≤◌, ◌<◌, List, [], ◌∷◌, ◌++◌, length, arith}
 use Rattle.cox_base.specs.declared.limits.TheConstants.{MAX_LETTERS}
-use Rattle.cox_reflect.proofs.ShortLexFirst.{IsBefore, IsBefore-irrefl}
-use Rattle.cox_context.specs.SortedList.{IsRising}
 use Rattle.cox_context.specs.Refusal.{IsPrefixOf}
 use Rattle.cox_context.specs.Numbers.{word_at}
 use Rattle.cox_context.specs.Refusal.{IsOver}
-use Rattle.cox_context.proofs.ListLemmas.{contains-placed, word_at-old, word_at-new, length-push, rising-before}
+use Rattle.cox_context.proofs.ListLemmas.{contains-placed, length-push}
 
 -- a prefix with one word more than the limit
 pub over-prefix : (P : List ℕ → Type 0) (limit : ℕ) (words : List (List ℕ)) (word : List ℕ) → length words ≡ limit
@@ -19,11 +17,3 @@ over-prefix P limit words word count prefix short = record {
   short = λ other c. let p = contains-placed (words ++ word ∷ []) other c in rw (← p.is)
       (short p.i (omega (arith, p.within, length-push words word)));
 }
-
--- the last word of a rising list is not among those before it
-pub rising-new : (words : List (List ℕ)) (word : List ℕ) → IsRising (words ++ word ∷ []) → Contains words word → ⊥
-rising-new words word r c =
-    let p = contains-placed words word c
-    in let before : IsBefore (word_at (words ++ word ∷ []) p.i) (word_at (words ++ word ∷ []) (length words)) =
-    rising-before (words ++ word ∷ []) p.i (length words) r p.within (omega (arith, length-push words word))
-    in IsBefore-irrefl (rw (word_at-old words word p.i p.within, word_at-new words word (length words) refl, p.is) at before)

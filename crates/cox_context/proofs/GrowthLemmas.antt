@@ -39,20 +39,6 @@ module _ (rank : ℕ) (P : List ℕ → Type 0) (closed : IsTailed rank P) where
     whole = λ word p l. (0, omega arith, empty-length word l);
   }
 
-  pub growing-start : (k low : ℕ) (words : List (List ℕ)) → IsGrown rank P k low words → IsGrowing rank P k low (length words) 1 low words
-  growing-start k low words h = record {
-    start = omega arith;
-    stop = h.start;
-    end = omega arith;
-    rising = h.rising;
-    sound = h.sound;
-    shorter = h.shorter;
-    level = h.level;
-    whole = h.whole;
-    made = λ m from to. absurd (omega (arith, from, to));
-    found = λ t i l from to early p. absurd (⊎_elim (λ less. omega (arith, l.from_one, less)) (λ same. omega (arith, same.1, from)) early);
-  }
-
   module _ (k low high s j : ℕ) (words : List (List ℕ)) (h : IsGrowing rank P k low high s j words) where
     -- children come in the order of their first letters, and then of their parents
     pair-before : (t i t' i' : ℕ) → low ≤ i → i < high → low ≤ i' → i' < high → IsEarlier t i t' i'

@@ -1,6 +1,6 @@
 -- What is closed downwards in Bruhat order: the group, and the interval up to an element.
 use Rattle.std.proofs.Common.{◌≡◌, ℕ, ◌≤◌, Bool, true, nat_lt, List, [], ◌∷◌, length, filter, Contains, Option, None, Some, refl}
-use Rattle.std.proofs.Common.{ap, ◌∙◌, ⊎_elim, arith, ltb-true}
+use Rattle.std.proofs.Common.{ap, inl, inr, ◌∙◌, ⊎_elim, arith, ltb-true}
 use Rattle.std.proofs.lemmas.List.Elements.{All-nil, All-head, All-tail, All-contains, filter_passes}
 use Rattle.arrayvec.specs.ArrayVec.{ArrayVec}
 use Rattle.cox_base.specs.Matrix.{CoxeterMatrix, IsLetter}
@@ -16,7 +16,8 @@ use Rattle.cox_reflect.proofs.Search.{normal_form-same, normal_form-equal, word_
 use Rattle.cox_reflect.proofs.Lengths.{word_length-is}
 use Rattle.cox_reflect.proofs.ShortLexFirst.{IsBefore-cons, normal_form-comes_first, none-before_normal_form}
 use Rattle.cox_reflect.proofs.Bruhat.{below-trans, below-ascent, below-least}
-use Rattle.cox_context.specs.Members.{IsElement}
+use Rattle.cox_context.specs.Members.{IsElement, IsInInterval, IsInUnion}
+use Rattle.cox_context.specs.Closed.{IsClosed}
 use Rattle.cox_context.specs.Family.{IsMember}
 use Rattle.cox_context.proofs.GrowthLemmas.{IsTailed}
 
@@ -61,13 +62,29 @@ module _ (A : IntegerMatrix) (g : IsAdmissible A) where
       in ltb-true (word_length A (s ∷ w)) (word_length A w)
       (All-contains (λ t. test t ≡ true) (filter test (letters A.rank)) s (filter_passes test (letters A.rank)) c)
 
-  pub ideal-member : (top : Option (ArrayVec ℕ)) → IsIdeal A (IsMember A top)
-  ideal-member None = record { element = λ w p. p; down = λ y w p e b. e; least = element-nil }
-  ideal-member (Some top) = record {
+  pub group-ideal : IsIdeal A (IsElement A)
+  group-ideal = record { element = λ w p. p; down = λ y w p e b. e; least = element-nil }
+
+  pub interval-ideal : (top : List ℕ) → IsIdeal A (IsInInterval A top)
+  interval-ideal top = record {
     element = λ w p. p.element;
     down = λ y w p e b. record { element = e; below = below-trans A g b p.below };
-    least = record { element = element-nil; below = below-least A g top.items };
+    least = record { element = element-nil; below = below-least A g top };
   }
+
+  pub union-ideal : (top : List ℕ) (earlier : List (List ℕ)) → IsClosed A earlier → IsIdeal A (IsInUnion A top earlier)
+  union-ideal top earlier closed = record {
+    element = λ w p. p.element;
+    down = λ y w p e b. record {
+      element = e;
+      either = ⊎_elim (λ under. inl (below-trans A g b under)) (λ old. inr (closed.down y w old e b)) p.either;
+    };
+    least = record { element = element-nil; either = inl (below-least A g top) };
+  }
+
+  pub ideal-member : (top : Option (ArrayVec ℕ)) (earlier : List (List ℕ)) → IsClosed A earlier → IsIdeal A (IsMember A top earlier)
+  ideal-member None earlier closed = group-ideal
+  ideal-member (Some top) earlier closed = union-ideal top.items earlier closed
 
   pub ideal-tailed : (P : List ℕ → Type 0) → IsIdeal A P → IsTailed A.rank P
   ideal-tailed P i = record {
@@ -76,9 +93,9 @@ module _ (A : IntegerMatrix) (g : IsAdmissible A) where
     tail = λ s x p. i.down x (s ∷ x) p (element-tail s x (i.element (s ∷ x) p)) (below-tail s x (i.element (s ∷ x) p));
   }
 
--- the family of a group or of an interval, of a Coxeter matrix
-pub member-tailed : (c : CoxeterMatrix) → IsCoxeterMatrix c → (top : Option (ArrayVec ℕ))
-    → IsTailed c.rank (IsMember (integer_matrix c) top)
-member-tailed c matrix top =
+-- the family that is meant, of a Coxeter matrix
+pub member-tailed : (c : CoxeterMatrix) → IsCoxeterMatrix c → (top : Option (ArrayVec ℕ)) (earlier : List (List ℕ))
+    → IsClosed (integer_matrix c) earlier → IsTailed c.rank (IsMember (integer_matrix c) top earlier)
+member-tailed c matrix top earlier closed =
     let g : IsAdmissible (integer_matrix c) = IsAdmissible-integer_matrix c matrix
-    in ideal-tailed (integer_matrix c) g (IsMember (integer_matrix c) top) (ideal-member (integer_matrix c) g top)
+    in ideal-tailed (integer_matrix c) g (IsMember (integer_matrix c) top earlier) (ideal-member (integer_matrix c) g top earlier closed)

@@ -104,14 +104,15 @@ module _ (A : IntegerMatrix) (g : IsAdmissible A) (words : List (List ℕ)) wher
       (same-square A g t y))
       (same-refl A g w) (below-cons A g (word_at words k) w t d b)
 
-  -- a letter of the top's descents with an entry
-  pub shared : (y descents lower : List ℕ) (top : ArrayVec ℕ) → IsAdmissible A → AreLower A words y lower
-      → descents ≡ left_descents A top.items
-      → AreBelowTop A (Some top) words → (t : ℕ) × (k : ℕ) × Contains descents t × (entry A.rank lower t 0 ≡ Some k) → IsBelow A y top.items
-  shared y descents lower top g h e below (t, k, c, some) =
+  -- a letter of the top's descents that leads to a member below the top
+  pub shared : (y descents lower numbers : List ℕ) (top : ArrayVec ℕ) → IsAdmissible A → AreLower A words y lower
+      → descents ≡ left_descents A top.items → AreBelowTop A (Some top) words numbers
+      → (t : ℕ) × (k : ℕ) × Contains descents t × (entry A.rank lower t 0 ≡ Some k) × (entry 1 numbers 1 k ≡ None)
+      → IsBelow A y top.items
+  shared y descents lower numbers top g h e below (t, k, c, some, none) =
       let d : IsLeftDescent A top.items t = contained-descent A g top.items t (rw e at c)
       in let found : IsLower A words y t (Some k) = rw some at (h.each t (left_descent-letter A g top.items t d))
-      in shared-below y top.items t k d found (below k found.1)
+      in shared-below y top.items t k d found (below k found.1 none)
 
   -- the comparison at the end
   pub left-answer : (y w rest : List ℕ) (s : ℕ) (at : Option ℕ) (answer : Bool) → answer ≡ option_eq eqb at (Some 0) → IsClosed A words

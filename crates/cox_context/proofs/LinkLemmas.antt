@@ -65,14 +65,6 @@ pub words-push : (links : List Link) (link : Link) → 1 ≤ length links
 words-push [] link l = absurd (omega (arith, l))
 words-push (identity ∷ links) link l = from-push ([] ∷ []) links link
 
-pub links-start : (identity : Link) → identity.letters ≡ 0 → AreLinks (identity ∷ [])
-links-start identity none = record {
-  some = omega arith;
-  few = omega arith;
-  inward = λ i l k. absurd (omega (arith, l, k));
-  letters = λ i l. let e : i ≡ 0 = omega (arith, l) in rw e none;
-}
-
 pub links-push : (links : List Link) (link : Link) → AreLinks links → length links < MAX_MEMBERS → link.rest < length links
     → link.letters ≡ length (word_at (words_of links) link.rest) + 1 → AreLinks (links ++ link ∷ [])
 links-push links link h room inside letters = record {

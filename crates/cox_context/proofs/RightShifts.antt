@@ -1,6 +1,6 @@
 -- Right shifts, from those of the members without their first letters.
 use Rattle.std.proofs.Common.{◌≡◌, ℕ, ◌+◌, ◌-◌, ◌*◌, ◌≤◌, ◌<◌, List, [], ◌∷◌, ◌++◌, length, Contains, Option, None, Some, ◌⊎◌}
-use Rattle.std.proofs.Common.{inl, inr, refl, ap, sym, ◌∙◌, ⊎_elim, arith, subst, unwrap_or}
+use Rattle.std.proofs.Common.{inl, inr, sym, ◌∙◌, arith, subst, unwrap_or}
 use Rattle.std.proofs.lemmas.List.{length-append}
 use Rattle.std.proofs.lemmas.Bool.{cases_lt}
 use Rattle.std.proofs.lemmas.List.Elements.{All-head}
@@ -15,18 +15,9 @@ use Rattle.cox_context.specs.Members.{IsElement}
 use Rattle.cox_context.specs.Closed.{IsClosed}
 use Rattle.cox_context.specs.Numbers.{word_at, IsNumberOf}
 use Rattle.cox_context.specs.Shifts.{entry, number_of, AreRightShifts}
-use Rattle.cox_context.proofs.ListLemmas.{contains-at, rising-length}
-use Rattle.cox_context.proofs.Ideals.{element-tail, below-tail}
+use Rattle.cox_context.proofs.Ideals.{element-tail}
 use Rattle.cox_context.proofs.Places.{place-one, entry-old, entry-new, number_of-some}
 use Rattle.cox_context.proofs.Shifting.{element-at, right-parent}
-
--- a word that is x' for the member t x' is the member before it that t leads to
-pub record IsParent (words : List (List ℕ)) (i : ℕ) (x : List ℕ) (found : Option ℕ) : Type 0 where
-  pub p : ℕ
-  pub is : found ≡ Some p
-  pub less : p < i
-  pub within : p < length words
-  pub word : word_at words p ≡ x
 
 module _ (A : IntegerMatrix) (g : IsAdmissible A) (words : List (List ℕ)) (closed : IsClosed A words) where
   pub first-letter : (t : ℕ) (x : List ℕ) (i : ℕ) → i < length words → word_at words i ≡ t ∷ x → IsLetter A.rank t
@@ -39,44 +30,6 @@ module _ (A : IntegerMatrix) (g : IsAdmissible A) (words : List (List ℕ)) (clo
       let elem : IsElement A (t ∷ x) = rw e at (element-at A g words closed i l)
       in rw e (normal_form-equal A g (same-square A g t x) ∙ (element-tail A g t x elem).normal)
 
-  pub parent : (t : ℕ) (x : List ℕ) (i : ℕ) (found : Option ℕ) → i < length words → word_at words i ≡ t ∷ x
-      → IsNumberOf words (normal_form A (t ∷ word_at words i)) found → IsParent words i x found
-  parent t x i found l e n = go found n
-    where
-      elem : IsElement A (t ∷ x)
-      elem = rw e at (element-at A g words closed i l)
-
-      form : normal_form A (t ∷ word_at words i) ≡ x
-      form = first-off t x i l e
-
-      there : Contains words x
-      there = closed.down x (word_at words i) (contains-at words i l) (element-tail A g t x elem) (rw e (below-tail A g t x elem))
-
-      go : (found : Option ℕ) → IsNumberOf words (normal_form A (t ∷ word_at words i)) found → IsParent words i x found
-      go None none = absurd (none (rw form there))
-      go (Some p) (within, is) =
-          let word : word_at words p ≡ x = is ∙ form
-          in record {
-            p = p;
-            is = refl;
-            less = ⊎_elim (λ (less : p < i). less)
-                (λ (more : i ≤ p). absurd (omega
-                (arith, rising-length words i p closed.rising more within, ap length word, ap length e))) (cases_lt p i);
-            within = within;
-            word = word;
-          }
-
-  pub parent-some : (t : ℕ) (x : List ℕ) (i k : ℕ) → i < length words → word_at words i ≡ t ∷ x
-      → IsNumberOf words (normal_form A (t ∷ word_at words i)) (Some k) → (k < i) × (word_at words k ≡ x)
-  parent-some t x i k l e n =
-      let p = parent t x i (Some k) l e n
-      in let q : p.p ≡ k = (let f = p.is in cc)
-      in (rw q at p.less, rw q at p.word)
-
-  pub parent-none : (t : ℕ) (x : List ℕ) (i : ℕ) → i < length words → word_at words i ≡ t ∷ x
-      → (Contains words (normal_form A (t ∷ word_at words i)) → ⊥) → ⊥
-  parent-none t x i l e n = let p = parent t x i None l e n in let f = p.is in absurd (cc)
-
   pub right-none : (t s : ℕ) (x : List ℕ) (i p : ℕ) → IsLetter A.rank s → i < length words → word_at words i ≡ t ∷ x → word_at words p ≡ x
       → (Contains words (normal_form A (word_at words p ++ s ∷ [])) → ⊥) → Contains words (normal_form A (word_at words i ++ s ∷ [])) → ⊥
   right-none t s x i p letter l e f none c = none (rw f (right-parent A g words closed t s x i letter l e (rw e at c)))
@@ -88,9 +41,6 @@ module _ (A : IntegerMatrix) (g : IsAdmissible A) (words : List (List ℕ)) (clo
     where
       same : normal_form A (t ∷ word_at words q) ≡ normal_form A (word_at words i ++ s ∷ [])
       same = rw e (normal_form-equal A g (same-cons A g t (same-trans A g (same-equal A g h) (rw f (normal_form-same A g (x ++ s ∷ []))))))
-
-  pub right-start : AreRightShifts A words []
-  right-start = record { shift = λ s i l m k. absurd (omega (arith, k)) }
 
   -- one more entry
   pub right-push : (table : List ℕ) (s i : ℕ) (x : ℕ) → AreRightShifts A words table → IsLetter A.rank s

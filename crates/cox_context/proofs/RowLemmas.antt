@@ -14,11 +14,11 @@ use Rattle.cox_context.specs.Closed.{IsClosed}
 use Rattle.cox_context.specs.Numbers.{word_at, IsNumberOf}
 use Rattle.cox_context.specs.Shifts.{entry, number_of, AreLeftShifts, IsLower}
 use Rattle.cox_context.specs.Rows.{IsRowPushed}
-use Rattle.cox_context.specs.Growth.{AreLower}
+use Rattle.cox_context.specs.Growth.{AreLower, AreNumbers}
 use Rattle.cox_context.specs.Members.{IsElement}
 use Rattle.cox_context.proofs.ListLemmas.{contains-placed, placed-contains, word_at-old, word_at-new, length-push, push_cases}
 use Rattle.cox_context.proofs.ListLemmas.{rising-length, rising-place}
-use Rattle.cox_context.proofs.Shifting.{element-at}
+use Rattle.cox_context.proofs.Shifting.{element-at, first-member}
 use Rattle.cox_context.proofs.Ideals.{element-length}
 use Rattle.cox_base.specs.Length.{word_length}
 use Rattle.cox_reflect.proofs.Elements.{same-sym, same-trans, same-equal, same-cons, same-square}
@@ -285,3 +285,13 @@ shifts-start A g = record {
         in let is : [] ≡ normal_form A (s ∷ []) = rw first at p.is
         in ⊎_elim (λ longer. omega (arith, longer, word_length-is A (s ∷ []), ap length is))
         (λ shorter. omega (arith, shorter, word_length-length A g [])) (left_length A g s [] l)
+
+pub numbers-start : (A : IntegerMatrix) → IsAdmissible A → (earlier : List (List ℕ)) → IsClosed A earlier
+    → AreNumbers earlier ([] ∷ []) (0 ∷ [])
+numbers-start A g earlier closed = record {
+  size = refl;
+  each = λ i l. let e : i ≡ 0 = omega (arith, l) in rw e (rw first (omega (arith, closed.some), first-member A g earlier closed));
+}
+  where
+    first : entry 1 (0 ∷ []) 1 0 ≡ Some 0
+    first = sym (entry-is 1 (0 ∷ []) 1 0)

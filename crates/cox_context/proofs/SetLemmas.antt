@@ -1,18 +1,16 @@
 -- Sets of letters by bits.
-use Rattle.std.proofs.Common.{◌≡◌, ℕ, ◌+◌, ◌-◌, ◌≤◌, ◌<◌, ◌^◌, ◌*◌, ◌%◌, ◌⊎◌, true, false, List, [], ◌∷◌, ◌++◌, length, filter, refl, sym}
+use Rattle.std.proofs.Common.{◌≡◌, ℕ, ◌+◌, ◌-◌, ◌≤◌, ◌<◌, ◌^◌, ◌*◌, ◌%◌, true, false, List, [], ◌∷◌, ◌++◌, length, filter, refl, sym}
 use Rattle.std.proofs.Common.{◌∙◌, arith}
-use Rattle.std.proofs.Common.{◌↔◌, bit_and, bit_or, IsBitSet, ⊎_elim, inl, inr, ◌/◌, get_or, length-append}
+use Rattle.std.proofs.Common.{◌↔◌, bit_and, bit_or, IsBitSet, ⊎_elim, ◌/◌}
 use Rattle.std.specs.List.{range_with_len}
 use Rattle.std.proofs.lemmas.Bool.{cases_lt, cases_eq, eqb-true, eq-eqb, ne_eqb}
 use Rattle.std.proofs.lemmas.Nat.{and_or_self, and_or_apart, pow_apart, bit_set_by_shift}
 use Rattle.std.proofs.lemmas.Nat.{pow_pos}
 use Rattle.std.proofs.Math.Pow.{pow-lt}
-use Rattle.std.proofs.lemmas.List.{get_or_append_left}
-use Rattle.std.proofs.Math.Seq.{get_or-append_seam}
 use Rattle.cox_lemmas.proofs.RangeFilters.{filter_range-yes, filter_range-no, length-filter_range}
 use Rattle.cox_base.specs.ShortLex.{letters}
 use Rattle.cox_context.specs.Shifts.{entry}
-use Rattle.cox_context.specs.Sets.{is_lower, has_letter, IsLoweringSet, AreLoweringSets}
+use Rattle.cox_context.specs.Sets.{is_lower, has_letter, IsLoweringSet}
 
 -- ---- one bit more
 
@@ -67,23 +65,6 @@ set-add rank table i s next set q l h lower = record {
     own k e =
         let f : s - 1 ≡ k = omega (arith, e)
         in (λ b. (omega (arith, e, q), rw e lower), λ p. rw f (bit-own set k))
-
-pub sets-start : (rank : ℕ) (table : List ℕ) → AreLoweringSets rank table 0 []
-sets-start rank table = record { size = omega arith; each = λ i l. absurd (omega (arith, l)) }
-
-pub sets-push : (rank : ℕ) (table : List ℕ) (count : ℕ) (sets : List ℕ) (set : ℕ) → AreLoweringSets rank table count sets
-    → IsLoweringSet rank table count (rank + 1) set → AreLoweringSets rank table (count + 1) (sets ++ set ∷ [])
-sets-push rank table count sets set h e = record {
-  size = omega (arith, length-append sets (set ∷ []), h.size);
-  each = λ i l. go i l (cases_lt i count);
-}
-  where
-    go : (i : ℕ) → i < count + 1 → (i < count) ⊎ (count ≤ i) → IsLoweringSet rank table i (rank + 1) (get_or (sets ++ set ∷ []) i 0)
-    go i l (inl less) = rw (get_or_append_left sets (set ∷ []) 0 i (omega (arith, less, h.size))) (h.each i less)
-    go i l (inr more) =
-        let last : i ≡ length sets = omega (arith, more, l, h.size)
-        in let same : i ≡ count = omega (arith, more, l)
-        in rw same (rw (← same, last, get_or-append_seam sets set [] 0) (rw (← last, same) e))
 
 -- ---- the letters of a set
 

@@ -76,15 +76,6 @@ module _ (A : IntegerMatrix) (g : IsAdmissible A) (words : List (List ℕ)) (clo
       size : word_length A (s ∷ word_at words i) ≡ length (word_at words k)
       size = word_length-is A (s ∷ word_at words i) ∙ sym (ap length e)
 
-  -- s x is not x
-  pub shift-moves : (s : ℕ) (i k : ℕ) → IsLetter A.rank s → i < length words → word_at words k ≡ normal_form A (s ∷ word_at words i)
-      → k ≡ i → ⊥
-  shift-moves s i k l m e q =
-      let size : word_length A (s ∷ word_at words i) ≡ length (word_at words k) = word_length-is A (s ∷ word_at words i) ∙ sym (ap length e)
-      in ⊎_elim (λ up. omega (arith, up, size, length-at i m, ap (λ (j : ℕ). length (word_at words j)) q))
-      (λ down. omega (arith, down, size, length-at i m, ap (λ (j : ℕ). length (word_at words j)) q))
-      (left_length A g s (word_at words i) l)
-
   pub right_shift-less : (s : ℕ) (i k : ℕ) → IsLetter A.rank s → i < length words → k < length words
       → word_at words k ≡ normal_form A (word_at words i ++ s ∷ []) → (k < i) ↔ IsRightDescent A (word_at words i) s
   right_shift-less s i k l m n e = (

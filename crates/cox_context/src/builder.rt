@@ -3,51 +3,86 @@
 //! The members with one letter more are the s x for s = 1, 2, .. and, for each s, the members x of the last length in order, where s is the least
 //! left descent of s x. So each is found once, and they come in ShortLex order. A shift is noted as soon as the longer of its two members is found: where
 //! s leads from x to a member already, s x is shorter than x or was found from a lesser letter.
-ghost use Rattle.std.specs.Prelude.{◌≡◌, ℕ, List, ◌+◌, ◌*◌, ◌<◌, ◌≤◌, ◌∷◌, ◌++◌, [], length, IfOk, IfErr, OnOk, IfSome, IfNone, IsTrue, IsSome, Option};
+ghost use Rattle.std.specs.Prelude.{◌≡◌, ℕ, List, ◌+◌, ◌*◌, ◌<◌, ◌≤◌, ◌∷◌, ◌++◌, [], length, IfOk, IfErr, OnOk, IfSome, IfNone, IsTrue, IsSome, Option, Contains, unwrap_or};
 ghost use Rattle.arrayvec.specs.ArrayVec.{ArrayVec};
 ghost use Rattle.cox_base.specs.Matrix.{IsLetter};
 ghost use Rattle.cox_base.specs.Admissible.{IsCoxeterMatrix};
 ghost use Rattle.cox_base.specs.IntegerMatrix.{IntegerMatrix, integer_matrix};
+ghost use Rattle.cox_base.specs.ShortLex.{normal_form};
 ghost use Rattle.cox_base.specs.Reduced.{IsLeftDescent};
 ghost use Rattle.cox_context.specs.Closed.{IsClosed};
 ghost use Rattle.cox_context.specs.Family.{IsMember, IsTop};
-ghost use Rattle.cox_context.specs.Numbers.{word_at};
-ghost use Rattle.cox_context.specs.Growth.{IsGrowing, IsGrown, IsNext, IsNoNext, AreBelowTop};
+ghost use Rattle.cox_context.specs.Numbers.{word_at, IsNumberOf};
+ghost use Rattle.cox_context.specs.Growth.{IsGrowing, IsGrown, IsNext, IsNoNext, AreBelowTop, AreNumbers, AreLast};
 ghost use Rattle.cox_context.specs.Refusal.{IsPrefixOf, IsRefusal};
 ghost use Rattle.cox_context.specs.Shifts.{entry, AreLeftShifts};
 ghost use Rattle.cox_context.specs.Rows.{IsRowPushed};
 
 use crate::ContextFault;
 use crate::family::Family;
-use crate::lifting::is_below_top;
+use crate::lifting::is_meant;
 use crate::lower::lower_members;
 use crate::members::{MAX_MEMBERS, Members};
-use crate::shifts::{NO_MEMBER, entry, left_shift, place};
-use cox_base::{MAX_LETTERS, MAX_RANK};
+use crate::shifts::{NO_MEMBER, entry, left_shift, number_at, place};
+use cox_base::{Coxeter, MAX_LETTERS, MAX_RANK};
 use std::alloc::{AllocError, Global};
 
-/// The members that were found so far, and the table of their left shifts.
+/// Members, and the table of their left shifts.
 #[derive(Drop)]
-pub(crate) struct Builder {
+pub(crate) struct Listing {
     pub(crate) members: Members,
     pub(crate) left: Vec<u32>,
 }
 
+/// What is known of a new member y: the shorter elements t y, and its number among the earlier members.
+#[derive(Clone, Copy)]
+pub(crate) struct Child {
+    lower: [u32; MAX_RANK],
+    number: Option<u32>,
+}
+
+/// The members that were found so far, and the number of each among the earlier members.
+#[derive(Drop)]
+pub(crate) struct Builder {
+    pub(crate) listing: Listing,
+    pub(crate) numbers: Vec<u32>,
+}
+
+impl Listing {
+    /// The identity alone.
+    pub(crate) fn new(alloc: Global, g: &Coxeter) -> Result<Listing, AllocError>
+        ensures members { IfOk result (λ l. l.members ≡ [] ∷ []) }
+        ensures left { IfOk result (λ l. AreLeftShifts (integer_matrix g.now) l.members l.left.items) }
+        ensures matrix { IsCoxeterMatrix g.now }
+    {
+        let rank = g.rank();
+        let members = Members::new(alloc)?;
+        let left = vec![in alloc; NO_MEMBER; rank as usize]?;
+        Ok(Listing { members, left })
+    }
+}
+
 impl Builder {
     /// The identity alone.
-    pub(crate) fn new(alloc: Global, family: &Family) -> Result<Builder, ContextFault>
-        ensures grown { IfOk result (λ b. IsGrown family.now.group.rank (IsMember (integer_matrix family.now.group) family.now.top) 0 0 b.members) }
-        ensures left { IfOk result (λ b. AreLeftShifts (integer_matrix family.now.group) b.members b.left.items) }
-        ensures one { IfOk result (λ b. length b.members ≡ 1) }
+    pub(crate) fn new(
+        alloc: Global,
+        family: &Family,
+        earlier: &Listing,
+    ) -> Result<Builder, ContextFault>
+        requires earlier { IsClosed (integer_matrix family.now.group) earlier.now.members }
+        ensures grown { IfOk result (λ b. IsGrown family.now.group.rank (IsMember (integer_matrix family.now.group) family.now.top earlier.now.members) 0 0 b.listing.members) }
+        ensures left { IfOk result (λ b. AreLeftShifts (integer_matrix family.now.group) b.listing.members b.listing.left.items) }
+        ensures numbers { IfOk result (λ b. AreNumbers earlier.now.members b.listing.members b.numbers.items) }
+        ensures one { IfOk result (λ b. length b.listing.members ≡ 1) }
         ensures matrix { IsCoxeterMatrix family.now.group }
         ensures fault { IfErr result (λ fault. fault ≡ ContextFault.NoMemory) }
     {
-        let rank = family.group.rank();
-        let Ok(members) = Members::new(alloc) else {
+        let _rank = family.group.rank();
+        let Ok(listing) = Listing::new(alloc, &family.group) else {
             return Err(ContextFault::NoMemory);
         };
-        match vec![in alloc; NO_MEMBER; rank as usize] {
-            Ok(left) => Ok(Builder { members, left }),
+        match vec![in alloc; 0; 1] {
+            Ok(numbers) => Ok(Builder { listing, numbers }),
             Err(_) => Err(ContextFault::NoMemory),
         }
     }
@@ -56,24 +91,29 @@ impl Builder {
     pub(crate) fn grow(
         &mut self,
         family: &Family,
+        earlier: &Listing,
         letters: u32,
         limit: u32,
     ) -> Result<u32, ContextFault>
         requires top { IsTop (integer_matrix family.now.group) family.now.top }
+        requires earlier { IsClosed (integer_matrix family.now.group) earlier.now.members }
+        requires earlier_left { AreLeftShifts (integer_matrix family.now.group) earlier.now.members earlier.now.left.items }
         requires short { letters ≤ MAX_LETTERS }
         requires limit { limit ≤ MAX_MEMBERS }
-        requires room { length self.old.members ≤ limit }
-        requires grown { IsGrown family.now.group.rank (IsMember (integer_matrix family.now.group) family.now.top) 0 0 self.old.members }
-        requires left { AreLeftShifts (integer_matrix family.now.group) self.old.members self.old.left.items }
-        ensures grown { IfOk result (λ low. IsGrown family.now.group.rank (IsMember (integer_matrix family.now.group) family.now.top) letters low self.new.members) }
-        ensures left { OnOk result (AreLeftShifts (integer_matrix family.now.group) self.new.members self.new.left.items) }
-        ensures room { OnOk result (length self.new.members ≤ limit) }
-        ensures fault { IfErr result (IsRefusal (IsMember (integer_matrix family.now.group) family.now.top) limit) }
+        requires room { length self.old.listing.members ≤ limit }
+        requires grown { IsGrown family.now.group.rank (IsMember (integer_matrix family.now.group) family.now.top earlier.now.members) 0 0 self.old.listing.members }
+        requires left { AreLeftShifts (integer_matrix family.now.group) self.old.listing.members self.old.listing.left.items }
+        requires numbers { AreNumbers earlier.now.members self.old.listing.members self.old.numbers.items }
+        ensures grown { IfOk result (λ low. IsGrown family.now.group.rank (IsMember (integer_matrix family.now.group) family.now.top earlier.now.members) letters low self.new.listing.members) }
+        ensures left { OnOk result (AreLeftShifts (integer_matrix family.now.group) self.new.listing.members self.new.listing.left.items) }
+        ensures numbers { OnOk result (AreNumbers earlier.now.members self.new.listing.members self.new.numbers.items) }
+        ensures room { OnOk result (length self.new.listing.members ≤ limit) }
+        ensures fault { IfErr result (IsRefusal (IsMember (integer_matrix family.now.group) family.now.top earlier.now.members) limit) }
     {
         let mut low = 0;
         for known in 0..letters {
-            let high = self.members.len();
-            self.grow_length(family, known, low, limit)?;
+            let high = self.listing.members.len();
+            self.grow_length(family, earlier, known, low, limit)?;
             low = high;
         }
         Ok(low)
@@ -83,25 +123,30 @@ impl Builder {
     fn grow_length(
         &mut self,
         family: &Family,
+        earlier: &Listing,
         letters: u32,
         low: u32,
         limit: u32,
     ) -> Result<(), ContextFault>
         requires top { IsTop (integer_matrix family.now.group) family.now.top }
+        requires earlier { IsClosed (integer_matrix family.now.group) earlier.now.members }
+        requires earlier_left { AreLeftShifts (integer_matrix family.now.group) earlier.now.members earlier.now.left.items }
         requires short { letters < MAX_LETTERS }
         requires limit { limit ≤ MAX_MEMBERS }
-        requires room { length self.old.members ≤ limit }
-        requires grown { IsGrown family.now.group.rank (IsMember (integer_matrix family.now.group) family.now.top) letters low self.old.members }
-        requires left { AreLeftShifts (integer_matrix family.now.group) self.old.members self.old.left.items }
-        ensures grown { OnOk result (IsGrown family.now.group.rank (IsMember (integer_matrix family.now.group) family.now.top) (letters + 1) (length self.old.members) self.new.members) }
-        ensures left { OnOk result (AreLeftShifts (integer_matrix family.now.group) self.new.members self.new.left.items) }
-        ensures room { OnOk result (length self.new.members ≤ limit) }
-        ensures fault { IfErr result (IsRefusal (IsMember (integer_matrix family.now.group) family.now.top) limit) }
+        requires room { length self.old.listing.members ≤ limit }
+        requires grown { IsGrown family.now.group.rank (IsMember (integer_matrix family.now.group) family.now.top earlier.now.members) letters low self.old.listing.members }
+        requires left { AreLeftShifts (integer_matrix family.now.group) self.old.listing.members self.old.listing.left.items }
+        requires numbers { AreNumbers earlier.now.members self.old.listing.members self.old.numbers.items }
+        ensures grown { OnOk result (IsGrown family.now.group.rank (IsMember (integer_matrix family.now.group) family.now.top earlier.now.members) (letters + 1) (length self.old.listing.members) self.new.listing.members) }
+        ensures left { OnOk result (AreLeftShifts (integer_matrix family.now.group) self.new.listing.members self.new.listing.left.items) }
+        ensures numbers { OnOk result (AreNumbers earlier.now.members self.new.listing.members self.new.numbers.items) }
+        ensures room { OnOk result (length self.new.listing.members ≤ limit) }
+        ensures fault { IfErr result (IsRefusal (IsMember (integer_matrix family.now.group) family.now.top earlier.now.members) limit) }
     {
         let rank = family.group.rank() as u8;
-        let high = self.members.len();
+        let high = self.listing.members.len();
         for s in 1..rank + 1 {
-            self.grow_letter(family, letters, low, high, s, limit)?;
+            self.grow_letter(family, earlier, letters, low, high, s, limit)?;
         }
         Ok(())
     }
@@ -110,6 +155,7 @@ impl Builder {
     fn grow_letter(
         &mut self,
         family: &Family,
+        earlier: &Listing,
         letters: u32,
         low: u32,
         high: u32,
@@ -118,84 +164,121 @@ impl Builder {
     ) -> Result<(), ContextFault>
         requires matrix { IsCoxeterMatrix family.now.group }
         requires top { IsTop (integer_matrix family.now.group) family.now.top }
+        requires earlier { IsClosed (integer_matrix family.now.group) earlier.now.members }
+        requires earlier_left { AreLeftShifts (integer_matrix family.now.group) earlier.now.members earlier.now.left.items }
         requires short { letters < MAX_LETTERS }
         requires letter { IsLetter family.now.group.rank s }
         requires limit { limit ≤ MAX_MEMBERS }
-        requires room { length self.old.members ≤ limit }
-        requires growing { IsGrowing family.now.group.rank (IsMember (integer_matrix family.now.group) family.now.top) letters low high s low self.old.members }
-        requires left { AreLeftShifts (integer_matrix family.now.group) self.old.members self.old.left.items }
-        ensures growing { OnOk result (IsGrowing family.now.group.rank (IsMember (integer_matrix family.now.group) family.now.top) letters low high (s + 1) low self.new.members) }
-        ensures left { OnOk result (AreLeftShifts (integer_matrix family.now.group) self.new.members self.new.left.items) }
-        ensures room { OnOk result (length self.new.members ≤ limit) }
-        ensures fault { IfErr result (IsRefusal (IsMember (integer_matrix family.now.group) family.now.top) limit) }
+        requires room { length self.old.listing.members ≤ limit }
+        requires growing { IsGrowing family.now.group.rank (IsMember (integer_matrix family.now.group) family.now.top earlier.now.members) letters low high s low self.old.listing.members }
+        requires left { AreLeftShifts (integer_matrix family.now.group) self.old.listing.members self.old.listing.left.items }
+        requires numbers { AreNumbers earlier.now.members self.old.listing.members self.old.numbers.items }
+        ensures growing { OnOk result (IsGrowing family.now.group.rank (IsMember (integer_matrix family.now.group) family.now.top earlier.now.members) letters low high (s + 1) low self.new.listing.members) }
+        ensures left { OnOk result (AreLeftShifts (integer_matrix family.now.group) self.new.listing.members self.new.listing.left.items) }
+        ensures numbers { OnOk result (AreNumbers earlier.now.members self.new.listing.members self.new.numbers.items) }
+        ensures room { OnOk result (length self.new.listing.members ≤ limit) }
+        ensures fault { IfErr result (IsRefusal (IsMember (integer_matrix family.now.group) family.now.top earlier.now.members) limit) }
     {
         for parent in low..high {
-            if let Some(lower) = self.child(family, s, parent) {
-                self.add(family.group.rank(), s, parent, &lower, limit)?;
+            if let Some(child) = self.child(family, earlier, s, parent) {
+                self.add(family.group.rank(), s, parent, &child, limit)?;
             }
         }
         Ok(())
     }
 
-    /// The shorter elements t y of y = s x, for the member x with this number, where y is a member and was not found before.
-    fn child(&self, family: &Family, s: u8, parent: u32) -> Option<[u32; MAX_RANK]>
+    /// The child y = s x of the member x with this number, where y is a member and was not found before.
+    fn child(&self, family: &Family, earlier: &Listing, s: u8, parent: u32) -> Option<Child>
         requires matrix { IsCoxeterMatrix family.now.group }
         requires top { IsTop (integer_matrix family.now.group) family.now.top }
-        requires closed { IsClosed (integer_matrix family.now.group) self.now.members }
-        requires left { AreLeftShifts (integer_matrix family.now.group) self.now.members self.now.left.items }
-        requires below { AreBelowTop (integer_matrix family.now.group) family.now.top self.now.members }
+        requires earlier { IsClosed (integer_matrix family.now.group) earlier.now.members }
+        requires earlier_left { AreLeftShifts (integer_matrix family.now.group) earlier.now.members earlier.now.left.items }
+        requires closed { IsClosed (integer_matrix family.now.group) self.now.listing.members }
+        requires left { AreLeftShifts (integer_matrix family.now.group) self.now.listing.members self.now.listing.left.items }
+        requires numbers { AreNumbers earlier.now.members self.now.listing.members self.now.numbers.items }
+        requires below { AreBelowTop (integer_matrix family.now.group) family.now.top self.now.listing.members self.now.numbers.items }
         requires letter { IsLetter family.now.group.rank s }
-        requires parent { parent < length self.now.members }
-        ensures next { IfSome result (IsNext (integer_matrix family.now.group) self.now.members family.now.top (s ∷ word_at self.now.members parent)) }
-        ensures none { IfNone result (IsNoNext (integer_matrix family.now.group) self.now.members family.now.top (s ∷ word_at self.now.members parent) (length (word_at self.now.members parent))) }
+        requires parent { parent < length self.now.listing.members }
+        ensures next { IfSome result (IsNext (integer_matrix family.now.group) self.now.listing.members family.now.top earlier.now.members (s ∷ word_at self.now.listing.members parent)) }
+        ensures none { IfNone result (IsNoNext (integer_matrix family.now.group) self.now.listing.members family.now.top earlier.now.members (s ∷ word_at self.now.listing.members parent) (length (word_at self.now.listing.members parent))) }
     {
-        let (members, left) = (&self.members, self.left.as_slice());
+        let (members, left) = (&self.listing.members, self.listing.left.as_slice());
         if left_shift(&family.group, members, left, s, parent).is_some() {
             return None;
         }
         let Ok(lower) = lower_members(&family.group, members, left, s, parent) else {
             return None;
         };
-        if is_below_top(family, members, left, &lower) {
-            Some(lower)
+        let number = self.earlier_number(family, earlier, s, parent);
+        let numbers = self.numbers.as_slice();
+        if is_meant(family, members, left, numbers, &lower, number) {
+            Some(Child { lower, number })
         } else {
             None
         }
     }
 
-    /// Appends the member y = s x, for the member x with this number and the shorter elements t y, if the limit admits one more.
+    /// The number of y = s x among the earlier members, for the member x with this number, where y was not found before.
+    ///
+    /// With y is x an earlier member, and y is the left shift of x there.
+    fn earlier_number(&self, family: &Family, earlier: &Listing, s: u8, parent: u32) -> Option<u32>
+        requires matrix { IsCoxeterMatrix family.now.group }
+        requires earlier { IsClosed (integer_matrix family.now.group) earlier.now.members }
+        requires earlier_left { AreLeftShifts (integer_matrix family.now.group) earlier.now.members earlier.now.left.items }
+        requires closed { IsClosed (integer_matrix family.now.group) self.now.listing.members }
+        requires numbers { AreNumbers earlier.now.members self.now.listing.members self.now.numbers.items }
+        requires letter { IsLetter family.now.group.rank s }
+        requires parent { parent < length self.now.listing.members }
+        requires new { ¬ (Contains self.now.listing.members (normal_form (integer_matrix family.now.group) (s ∷ word_at self.now.listing.members parent))) }
+        ensures { IsNumberOf earlier.now.members (normal_form (integer_matrix family.now.group) (s ∷ word_at self.now.listing.members parent)) result }
+    {
+        let before = number_at(self.numbers.as_slice(), parent)?;
+        left_shift(
+            &family.group,
+            &earlier.members,
+            earlier.left.as_slice(),
+            s,
+            before,
+        )
+    }
+
+    /// Appends the member y = s x, the child of the member x with this number, if the limit admits one more.
     fn add(
         &mut self,
         rank: u32,
         s: u8,
         parent: u32,
-        lower: &[u32],
+        child: &Child,
         limit: u32,
     ) -> Result<(), ContextFault>
         requires rank { rank ≤ MAX_RANK }
         requires limit { limit ≤ MAX_MEMBERS }
-        requires room { length self.old.members ≤ limit }
-        requires parent { parent < length self.old.members }
-        requires short { length (word_at self.old.members parent) < MAX_LETTERS }
-        requires size { length self.old.left.items ≡ length self.old.members * rank }
-        requires lower { rank ≤ length lower.now }
-        requires below { (t k : ℕ) → IsLetter rank t → entry rank lower.now t 0 ≡ Some k → k < length self.old.members }
-        ensures added { OnOk result (self.new.members ≡ self.old.members ++ (s ∷ word_at self.old.members parent) ∷ []) }
-        ensures left { OnOk result (IsRowPushed rank (length self.old.members) lower.now (rank + 1) self.old.left.items self.new.left.items) }
-        ensures room { OnOk result (length self.new.members ≤ limit) }
-        ensures fault { (A : IntegerMatrix) → (top : Option (ArrayVec ℕ)) → IsPrefixOf (IsMember A top) (self.old.members ++ (s ∷ word_at self.old.members parent) ∷ [])
-            → ((i : ℕ) → i < length self.old.members + 1 → length (word_at (self.old.members ++ (s ∷ word_at self.old.members parent) ∷ []) i) ≤ MAX_LETTERS)
-            → IfErr result (IsRefusal (IsMember A top) limit) }
+        requires room { length self.old.listing.members ≤ limit }
+        requires parent { parent < length self.old.listing.members }
+        requires short { length (word_at self.old.listing.members parent) < MAX_LETTERS }
+        requires size { length self.old.listing.left.items ≡ length self.old.listing.members * rank }
+        requires below { (t k : ℕ) → IsLetter rank t → entry rank child.now.lower t 0 ≡ Some k → k < length self.old.listing.members }
+        ensures added { OnOk result (self.new.listing.members ≡ self.old.listing.members ++ (s ∷ word_at self.old.listing.members parent) ∷ []) }
+        ensures left { OnOk result (IsRowPushed rank (length self.old.listing.members) child.now.lower (rank + 1) self.old.listing.left.items self.new.listing.left.items) }
+        ensures numbers { OnOk result (self.new.numbers.items ≡ self.old.numbers.items ++ unwrap_or child.now.number NO_MEMBER ∷ []) }
+        ensures room { OnOk result (length self.new.listing.members ≤ limit) }
+        ensures fault { (A : IntegerMatrix) → (top : Option (ArrayVec ℕ)) (earlier : List (List ℕ)) → IsPrefixOf (IsMember A top earlier) (self.old.listing.members ++ (s ∷ word_at self.old.listing.members parent) ∷ [])
+            → ((i : ℕ) → i < length self.old.listing.members + 1 → length (word_at (self.old.listing.members ++ (s ∷ word_at self.old.listing.members parent) ∷ []) i) ≤ MAX_LETTERS)
+            → IfErr result (IsRefusal (IsMember A top earlier) limit) }
     {
-        let number = self.members.len();
+        let number = self.listing.members.len();
         if number == limit {
             return Err(ContextFault::Size {
                 limit,
                 seen: limit + 1,
             });
         }
-        if push_row(&mut self.left, rank, number, lower).is_err()
-            || self.members.push(s, parent).is_err()
+        if push_row(&mut self.listing.left, rank, number, &child.lower).is_err()
+            || self.listing.members.push(s, parent).is_err()
+            || self
+                .numbers
+                .push(child.number.unwrap_or(NO_MEMBER))
+                .is_err()
         {
             return Err(ContextFault::NoMemory);
         }
@@ -204,15 +287,15 @@ impl Builder {
 
     /// Whether an element with one letter more comes from one of the members from low on, the longest.
     pub(crate) fn goes_on(&self, family: &Family, low: u32) -> bool
-        requires closed { IsClosed (integer_matrix family.now.group) self.now.members }
-        requires left { AreLeftShifts (integer_matrix family.now.group) self.now.members self.now.left.items }
-        requires longest { (i k : ℕ) → low ≤ i → i < length self.now.members → k < length self.now.members → length (word_at self.now.members k) ≤ length (word_at self.now.members i) }
-        ensures yes { IsTrue result → (i : ℕ) × (s : ℕ) × (low ≤ i) × (i < length self.now.members) × IsLetter family.now.group.rank s × (¬ (IsLeftDescent (integer_matrix family.now.group) (word_at self.now.members i) s)) }
-        ensures no { ¬ (IsTrue result) → (i s : ℕ) → low ≤ i → i < length self.now.members → IsLetter family.now.group.rank s → IsLeftDescent (integer_matrix family.now.group) (word_at self.now.members i) s }
+        requires closed { IsClosed (integer_matrix family.now.group) self.now.listing.members }
+        requires left { AreLeftShifts (integer_matrix family.now.group) self.now.listing.members self.now.listing.left.items }
+        requires longest { (i k : ℕ) → low ≤ i → i < length self.now.listing.members → k < length self.now.listing.members → length (word_at self.now.listing.members k) ≤ length (word_at self.now.listing.members i) }
+        ensures yes { IsTrue result → (i : ℕ) × (s : ℕ) × (low ≤ i) × (i < length self.now.listing.members) × IsLetter family.now.group.rank s × (¬ (IsLeftDescent (integer_matrix family.now.group) (word_at self.now.listing.members i) s)) }
+        ensures no { ¬ (IsTrue result) → (i s : ℕ) → low ≤ i → i < length self.now.listing.members → IsLetter family.now.group.rank s → IsLeftDescent (integer_matrix family.now.group) (word_at self.now.listing.members i) s }
     {
         let rank = family.group.rank();
-        for i in low..self.members.len() {
-            if lacks_shift(self.left.as_slice(), rank, i) {
+        for i in low..self.listing.members.len() {
+            if lacks_shift(self.listing.left.as_slice(), rank, i) {
                 return true;
             }
         }
@@ -253,4 +336,20 @@ fn lacks_shift(table: &[u32], rank: u32, i: u32) -> bool
         }
     }
     false
+}
+
+/// For each of so many earlier members its place in the list of the numbers of the members, where it has one.
+pub(crate) fn moved(alloc: Global, numbers: &[u32], count: u32) -> Result<Vec<u32>, AllocError>
+    requires few { length numbers.now ≤ MAX_MEMBERS }
+    requires below { (i k : ℕ) → i < length numbers.now → entry 1 numbers.now 1 i ≡ Some k → k < count }
+    ensures size { IfOk result (λ moved. length moved.items ≡ count) }
+    ensures last { IfOk result (λ moved. AreLast numbers.now (length numbers.now) moved.items) }
+{
+    let mut moved = vec![in alloc; 0; count as usize]?;
+    for i in 0..numbers.len() as u32 {
+        if let Some(k) = number_at(numbers, i) {
+            moved[k as usize] = i;
+        }
+    }
+    Ok(moved)
 }

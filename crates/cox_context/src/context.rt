@@ -1,5 +1,5 @@
 //! Contexts and their calls.
-ghost use Rattle.std.specs.Prelude.{◌≡◌, ℕ, ◌+◌, ◌<◌, ◌≤◌, ◌↔◌, ◌∷◌, ◌++◌, [], length, IfOk, IfErr, IsTrue, IsBitSet};
+ghost use Rattle.std.specs.Prelude.{◌≡◌, ℕ, ◌+◌, ◌<◌, ◌≤◌, ◌↔◌, ◌∷◌, ◌++◌, [], length, IfOk, IfErr, OnOk, OnErr, IsTrue, IsBitSet};
 ghost use Rattle.cox_base.specs.Matrix.{IsLetter, IsWord};
 ghost use Rattle.cox_base.specs.Admissible.{IsAdmissible};
 ghost use Rattle.cox_base.specs.IntegerMatrix.{integer_matrix};
@@ -7,18 +7,18 @@ ghost use Rattle.cox_base.specs.ShortLex.{normal_form};
 ghost use Rattle.cox_base.specs.Length.{left_descents, right_descents};
 ghost use Rattle.cox_base.specs.Reduced.{IsLeftDescent, IsRightDescent};
 ghost use Rattle.cox_base.specs.Bruhat.{IsBelow};
-ghost use Rattle.cox_context.specs.Members.{IsElement, IsInInterval};
+ghost use Rattle.cox_context.specs.Members.{IsElement, IsInInterval, IsInUnion};
 ghost use Rattle.cox_context.specs.Closed.{IsClosed};
 ghost use Rattle.cox_context.specs.SortedList.{IsListOf};
-ghost use Rattle.cox_context.specs.Numbers.{word_at, IsNumberOf};
+ghost use Rattle.cox_context.specs.Numbers.{word_at, IsNumberOf, AreMoved};
 ghost use Rattle.cox_context.specs.Refusal.{IsRefusal};
 ghost use Rattle.cox_context.specs.Shifts.{AreLeftShifts};
 
 use crate::ContextFault;
-use crate::builder::Builder;
+use crate::builder::{Builder, Listing, moved};
 use crate::descents::{letters_of, lowering_sets};
 use crate::family::Family;
-use crate::members::{Link, MAX_MEMBERS, Members};
+use crate::members::{Link, MAX_MEMBERS};
 use crate::right_shifts::right_shifts;
 use crate::shifts::entry;
 use cox_base::{Coxeter, MAX_LETTERS, Word};
@@ -33,8 +33,7 @@ use std::marker::Model;
 #[derive(Drop)]
 pub struct Context {
     group: Coxeter,
-    members: Members,
-    left: Vec<u32>,
+    listing: Listing,
     right: Vec<u32>,
     left_descents: Vec<u16>,
     right_descents: Vec<u16>,
@@ -47,9 +46,9 @@ impl Model for Context {
 
     ghost Value = { Elements };
 
-    ghost view = { λ c. record { matrix = c.group; members = c.members } };
+    ghost view = { λ c. record { matrix = c.group; members = c.listing.members } };
 
-    ghost invariant = { λ c. IsContext (integer_matrix c.group) c.members c.left.items c.right.items c.left_descents.items c.right_descents.items };
+    ghost invariant = { λ c. IsContext (integer_matrix c.group) c.listing.members c.listing.left.items c.right.items c.left_descents.items c.right_descents.items };
 }
 
 impl Context {
@@ -78,9 +77,12 @@ impl Context {
             descents: group.left_descents(&top),
             top: Some(top),
         };
-        let mut builder = Builder::new(alloc, &family)?;
-        builder.grow(&family, letters, limit)?;
-        Context::of_members(alloc, family.group, builder)
+        let Ok(identity) = Listing::new(alloc, &family.group) else {
+            return Err(ContextFault::NoMemory);
+        };
+        let mut builder = Builder::new(alloc, &family, &identity)?;
+        builder.grow(&family, &identity, letters, limit)?;
+        Context::of_members(alloc, family.group, builder.listing)
     }
 
     /// The elements of a group.
@@ -100,27 +102,93 @@ impl Context {
             top: None,
             descents: Word::new(),
         };
-        let mut builder = Builder::new(alloc, &family)?;
-        let low = builder.grow(&family, MAX_LETTERS as u32, limit)?;
+        let Ok(identity) = Listing::new(alloc, &family.group) else {
+            return Err(ContextFault::NoMemory);
+        };
+        let mut builder = Builder::new(alloc, &family, &identity)?;
+        let low = builder.grow(&family, &identity, MAX_LETTERS as u32, limit)?;
         if builder.goes_on(&family, low) {
             return Err(ContextFault::Long);
         }
-        Context::of_members(alloc, family.group, builder)
+        Context::of_members(alloc, family.group, builder.listing)
+    }
+
+    /// Adds the elements x with x <= w, and tells the new number of each member that was there before.
+    ///
+    /// `Size` where there are more than `limit` members then. After a fault the context is unchanged. In A 3 the interval of `12` has four elements;
+    /// with that of `21` there are five.
+    pub fn extend(
+        &mut self,
+        group: &RootTable,
+        w: &Word,
+        limit: u32,
+    ) -> Result<Vec<u32>, ContextFault>
+        requires matrix { group.now ≡ self.old.matrix }
+        requires letters { IsWord group.now.rank w.now.items }
+        requires some { 1 ≤ limit }
+        requires limit { limit ≤ MAX_MEMBERS }
+        ensures matrix { self.new.matrix ≡ self.old.matrix }
+        ensures members { OnOk result (IsListOf (IsInUnion (integer_matrix group.now) w.now.items self.old.members) self.new.members) }
+        ensures few { OnOk result (length self.new.members ≤ limit) }
+        ensures moved { IfOk result (λ moved. AreMoved self.old.members self.new.members moved.items) }
+        ensures refused { IfErr result (IsRefusal (IsInUnion (integer_matrix group.now) w.now.items self.old.members) limit) }
+        ensures unchanged { OnErr result (self.new ≡ self.old) }
+    {
+        let (context, moved) = self.extended(group, w, limit)?;
+        *self = context;
+        Ok(moved)
+    }
+
+    /// This context with the elements x with x <= w, and the new number of each member of this one.
+    fn extended(
+        &self,
+        group: &RootTable,
+        w: &Word,
+        limit: u32,
+    ) -> Result<(Context, Vec<u32>), ContextFault>
+        requires matrix { group.now ≡ self.now.matrix }
+        requires letters { IsWord group.now.rank w.now.items }
+        requires some { 1 ≤ limit }
+        requires limit { limit ≤ MAX_MEMBERS }
+        ensures matrix { IfOk result (λ r. r.0.matrix ≡ self.now.matrix) }
+        ensures members { IfOk result (λ r. IsListOf (IsInUnion (integer_matrix group.now) w.now.items self.now.members) r.0.members) }
+        ensures few { IfOk result (λ r. length r.0.members ≤ limit) }
+        ensures moved { IfOk result (λ r. AreMoved self.now.members r.0.members r.1.items) }
+        ensures refused { IfErr result (IsRefusal (IsInUnion (integer_matrix group.now) w.now.items self.now.members) limit) }
+    {
+        let alloc = *self.listing.left.allocator();
+        let top = group.normal_form(w);
+        prove!(top.len() <= MAX_LETTERS);
+        prove!(self.len() > 0);
+        let longest = self.length(self.len() - 1);
+        let letters = longest.max(top.len() as u32);
+        let family = Family {
+            group: group.group().copy(),
+            descents: group.left_descents(&top),
+            top: Some(top),
+        };
+        let mut builder = Builder::new(alloc, &family, &self.listing)?;
+        builder.grow(&family, &self.listing, letters, limit)?;
+        let Ok(moved) = moved(alloc, builder.numbers.as_slice(), self.len()) else {
+            return Err(ContextFault::NoMemory);
+        };
+        let context = Context::of_members(alloc, family.group, builder.listing)?;
+        Ok((context, moved))
     }
 
     /// The context with the members that were found.
-    fn of_members(alloc: Global, group: Coxeter, builder: Builder) -> Result<Context, ContextFault>
-        requires closed { IsClosed (integer_matrix group) builder.members }
-        requires left { AreLeftShifts (integer_matrix group) builder.members builder.left.items }
-        ensures made { IfOk result (λ c. c ≡ record { matrix = group; members = builder.members }) }
+    fn of_members(alloc: Global, group: Coxeter, listing: Listing) -> Result<Context, ContextFault>
+        requires closed { IsClosed (integer_matrix group) listing.members }
+        requires left { AreLeftShifts (integer_matrix group) listing.members listing.left.items }
+        ensures made { IfOk result (λ c. c ≡ record { matrix = group; members = listing.members }) }
         ensures fault { IfErr result (λ fault. fault ≡ ContextFault.NoMemory) }
     {
-        let Builder { members, left } = builder;
-        let Ok(right) = right_shifts(alloc, &group, &members, left.as_slice()) else {
+        let left = listing.left.as_slice();
+        let Ok(right) = right_shifts(alloc, &group, &listing.members, left) else {
             return Err(ContextFault::NoMemory);
         };
-        let (rank, count) = (group.rank(), members.len());
-        let Ok(left_descents) = lowering_sets(alloc, left.as_slice(), rank, count) else {
+        let (rank, count) = (group.rank(), listing.members.len());
+        let Ok(left_descents) = lowering_sets(alloc, left, rank, count) else {
             return Err(ContextFault::NoMemory);
         };
         let Ok(right_descents) = lowering_sets(alloc, right.as_slice(), rank, count) else {
@@ -128,8 +196,7 @@ impl Context {
         };
         Ok(Context {
             group,
-            members,
-            left,
+            listing,
             right,
             left_descents,
             right_descents,
@@ -143,7 +210,7 @@ impl Context {
         ensures admissible { IsAdmissible (integer_matrix self.now.matrix) }
     {
         let _rank = self.group.rank();
-        self.members.len()
+        self.listing.members.len()
     }
 
     /// The Coxeter matrix of the group.
@@ -185,7 +252,7 @@ impl Context {
         requires { i < length self.now.members }
         ensures { result.items ≡ word_at self.now.members i }
     {
-        self.members.word(i)
+        self.listing.members.word(i)
     }
 
     /// The first letter of a member other than the identity, and the number of the rest.
@@ -195,7 +262,7 @@ impl Context {
         ensures word { word_at self.now.members i ≡ result.first ∷ word_at self.now.members result.rest }
         ensures inward { result.rest < i }
     {
-        self.members.link(i)
+        self.listing.members.link(i)
     }
 
     /// The number of s x for the member x with the number i; `None` exactly where s x is no member.
@@ -204,7 +271,7 @@ impl Context {
         requires member { i < length self.now.members }
         ensures { IsNumberOf self.now.members (normal_form (integer_matrix self.now.matrix) (s ∷ word_at self.now.members i)) result }
     {
-        entry(self.left.as_slice(), self.group.rank(), s, i)
+        entry(self.listing.left.as_slice(), self.group.rank(), s, i)
     }
 
     /// The number of x s for the member x with the number i; `None` exactly where x s is no member.
@@ -219,9 +286,10 @@ impl Context {
     /// The length of the member with the number i.
     pub fn length(&self, i: u32) -> u32
         requires { i < length self.now.members }
-        ensures { result ≡ length (word_at self.now.members i) }
+        ensures length { result ≡ length (word_at self.now.members i) }
+        ensures short { result ≤ MAX_LETTERS }
     {
-        self.members.length(i)
+        self.listing.members.length(i)
     }
 
     /// Whether x <= y in Bruhat order, for the members x and y with the numbers i and j.

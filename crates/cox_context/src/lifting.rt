@@ -1,28 +1,64 @@
 //! Whether an element y that is not among the members yet is below the top of an interval, by the shorter elements t y.
-ghost use Rattle.std.specs.Prelude.{◌≡◌, ℕ, List, ◌<◌, ◌≤◌, ◌↔◌, IsTrue, IfSome, length, Contains};
+ghost use Rattle.std.specs.Prelude.{◌≡◌, ℕ, List, ◌<◌, ◌≤◌, ◌↔◌, IsTrue, IfSome, length, Contains, None};
 ghost use Rattle.arrayvec.specs.ArrayVec.{ArrayVec};
 ghost use Rattle.cox_base.specs.Matrix.{IsLetter, IsWord};
 ghost use Rattle.cox_base.specs.Admissible.{IsCoxeterMatrix};
 ghost use Rattle.cox_base.specs.IntegerMatrix.{integer_matrix};
 ghost use Rattle.cox_base.specs.Reduced.{IsReduced, IsLeftDescent};
 ghost use Rattle.cox_base.specs.Bruhat.{IsBelow};
+ghost use Rattle.cox_base.specs.ShortLex.{normal_form};
 ghost use Rattle.cox_context.specs.Closed.{IsClosed};
+ghost use Rattle.cox_context.specs.Numbers.{IsNumberOf};
 ghost use Rattle.cox_context.specs.Shifts.{entry, AreLeftShifts, IsLower};
 ghost use Rattle.cox_context.specs.Growth.{AreLower, AreBelowTop, left_word};
-ghost use Rattle.cox_context.specs.Family.{IsTop, IsBelowTop};
+ghost use Rattle.cox_context.specs.Family.{IsTop, IsBelowTop, IsMeant};
 
 use crate::family::Family;
-use crate::members::Members;
-use crate::shifts::{entry, lower_shift};
+use crate::members::{MAX_MEMBERS, Members};
+use crate::shifts::{entry, lower_shift, number_at};
 use cox_base::{Coxeter, MAX_RANK, Word};
 
-/// Whether y is below the top, where there is one, for an element y other than the identity with these elements t y.
-pub(crate) fn is_below_top(family: &Family, members: &Members, left: &[u32], lower: &[u32]) -> bool
+/// Whether y is meant, for an element y other than the identity with these elements t y and this number among the earlier members.
+pub(crate) fn is_meant(
+    family: &Family,
+    members: &Members,
+    left: &[u32],
+    numbers: &[u32],
+    lower: &[u32],
+    number: Option<u32>,
+) -> bool
     requires matrix { IsCoxeterMatrix family.now.group }
     requires top { IsTop (integer_matrix family.now.group) family.now.top }
     requires closed { IsClosed (integer_matrix family.now.group) members.now }
     requires left { AreLeftShifts (integer_matrix family.now.group) members.now left.now }
-    requires below { AreBelowTop (integer_matrix family.now.group) family.now.top members.now }
+    requires below { AreBelowTop (integer_matrix family.now.group) family.now.top members.now numbers.now }
+    requires count { length numbers.now ≡ length members.now }
+    requires size { family.now.group.rank ≤ length lower.now }
+    requires inside { (t k : ℕ) → IsLetter family.now.group.rank t → entry family.now.group.rank lower.now t 0 ≡ Some k → k < length members.now }
+    ensures { (y : List ℕ) (s : ℕ) (earlier : List (List ℕ)) → IsLeftDescent (integer_matrix family.now.group) y s
+        → AreLower (integer_matrix family.now.group) members.now y lower.now → IsNumberOf earlier (normal_form (integer_matrix family.now.group) y) number
+        → (IsTrue result ↔ IsMeant (integer_matrix family.now.group) family.now.top earlier y) }
+{
+    match number {
+        Some(_) => true,
+        None => is_below_top(family, members, left, numbers, lower),
+    }
+}
+
+/// Whether y is below the top, where there is one, for an element y other than the identity with these elements t y.
+fn is_below_top(
+    family: &Family,
+    members: &Members,
+    left: &[u32],
+    numbers: &[u32],
+    lower: &[u32],
+) -> bool
+    requires matrix { IsCoxeterMatrix family.now.group }
+    requires top { IsTop (integer_matrix family.now.group) family.now.top }
+    requires closed { IsClosed (integer_matrix family.now.group) members.now }
+    requires left { AreLeftShifts (integer_matrix family.now.group) members.now left.now }
+    requires below { AreBelowTop (integer_matrix family.now.group) family.now.top members.now numbers.now }
+    requires count { length numbers.now ≡ length members.now }
     requires size { family.now.group.rank ≤ length lower.now }
     requires inside { (t k : ℕ) → IsLetter family.now.group.rank t → entry family.now.group.rank lower.now t 0 ≡ Some k → k < length members.now }
     ensures { (y : List ℕ) (s : ℕ) → IsLeftDescent (integer_matrix family.now.group) y s → AreLower (integer_matrix family.now.group) members.now y lower.now
@@ -31,22 +67,31 @@ pub(crate) fn is_below_top(family: &Family, members: &Members, left: &[u32], low
     match &family.top {
         None => true,
         Some(top) => {
-            shares_descent(family.group.rank(), family.descents.as_slice(), lower)
-                || lifts(&family.group, members, left, lower, top)
+            prove!(members.len() <= MAX_MEMBERS);
+            shares_descent(
+                family.group.rank(),
+                family.descents.as_slice(),
+                lower,
+                numbers,
+            ) || lifts(&family.group, members, left, lower, top)
         }
     }
 }
 
-/// Whether one of these letters shortens y.
-fn shares_descent(rank: u32, descents: &[u8], lower: &[u32]) -> bool
+/// Whether one of these letters shortens y to a member that is no earlier one.
+fn shares_descent(rank: u32, descents: &[u8], lower: &[u32], numbers: &[u32]) -> bool
     requires limit { rank ≤ MAX_RANK }
     requires letters { IsWord rank descents.now }
     requires size { rank ≤ length lower.now }
-    ensures { IsTrue result → (t k : ℕ) × Contains descents.now t × (entry rank lower.now t 0 ≡ Some k) }
+    requires few { length numbers.now ≤ MAX_MEMBERS }
+    requires inside { (t k : ℕ) → IsLetter rank t → entry rank lower.now t 0 ≡ Some k → k < length numbers.now }
+    ensures { IsTrue result → (t k : ℕ) × Contains descents.now t × (entry rank lower.now t 0 ≡ Some k) × (entry 1 numbers.now 1 k ≡ None) }
 {
     for &t in descents {
-        if entry(lower, rank, t, 0).is_some() {
-            return true;
+        if let Some(k) = entry(lower, rank, t, 0) {
+            if number_at(numbers, k).is_none() {
+                return true;
+            }
         }
     }
     false

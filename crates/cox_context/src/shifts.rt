@@ -40,6 +40,15 @@ pub(crate) fn entry(table: &[u32], rank: u32, s: u8, i: u32) -> Option<u32>
     }
 }
 
+/// The number that a list has at a place, or none.
+pub(crate) fn number_at(numbers: &[u32], i: u32) -> Option<u32>
+    requires few { i ≤ MAX_MEMBERS }
+    requires within { i < length numbers.now }
+    ensures { result ≡ entry 1 numbers.now 1 i }
+{
+    entry(numbers, 1, 1, i)
+}
+
 /// The number of s x for the member x with the number i, where it is a member.
 pub(crate) fn left_shift(g: &Coxeter, members: &Members, left: &[u32], s: u8, i: u32) -> Option<u32>
     requires left { AreLeftShifts (integer_matrix g.now) members.now left.now }

@@ -179,6 +179,22 @@ fn has_words_of_255_letters(rt: HostRuntime) -> Result<(), Fail> {
 }
 
 #[test]
+fn is_extended_by_an_interval(rt: HostRuntime) -> Result<(), Fail> {
+    // e, 1, 2, 12, and with 21: e, 1, 2, 12, 21
+    let g = table(rt.alloc(), &Coxeter::named(b'A', 2)?)?;
+    let (first, second) = (word(&rt, &g, b"21")?, word(&rt, &g, b"12")?);
+    let mut context = Context::of_interval(rt.alloc(), &g, &first, 4)?;
+    assert!(rt; context.extend(&g, &second, 4) == Err(ContextFault::Size { limit: 4, seen: 5 }));
+    assert_eq!(rt; context.len(), 4);
+    let moved = context.extend(&g, &second, 5)?;
+    assert!(rt; moved.as_slice() == [0, 1, 2, 4].as_slice());
+    assert_eq!(rt; context.len(), 5);
+    assert_eq!(rt; context.number(&second), Some(3));
+    assert_eq!(rt; context.left(2, 3), None);
+    Ok(())
+}
+
+#[test]
 fn refuses_what_is_too_large(rt: HostRuntime) -> Result<(), Fail> {
     let a_3 = table(rt.alloc(), &Coxeter::named(b'A', 3)?)?;
     let a_2 = table(rt.alloc(), &Coxeter::named(b'A', 2)?)?;

@@ -15,11 +15,11 @@ invariant_of-result c =
       right_size = c.in-Ok.ensures.size;
       right_shifts = c.in-Ok.ensures.shifts;
       left_bits =
-          left-sets A g c.args.builder.members c.requires.closed c.args.builder.left.items c.in-Ok-lowering_sets.left_descents.items
+          left-sets A g c.args.listing.members c.requires.closed c.args.listing.left.items c.in-Ok-lowering_sets.left_descents.items
           c.requires.left
-          (rw (c.rank-rank.ensures.rank, c.len-count.ensures.len, c.as_slice-2.ensures.value) at c.in-Ok-lowering_sets.ensures);
+          (rw (c.rank-rank.ensures.rank, c.len-count.ensures.len, c.as_slice-left.ensures.value) at c.in-Ok-lowering_sets.ensures);
       right_bits =
-          right-sets A g c.args.builder.members c.requires.closed c.in-Ok.right.items
+          right-sets A g c.args.listing.members c.requires.closed c.in-Ok.right.items
           c.in-Ok-lowering_sets-2.right_descents.items c.in-Ok.ensures.size c.in-Ok.ensures.shifts
-          (rw (c.rank-rank.ensures.rank, c.len-count.ensures.len, c.as_slice-3.ensures.value) at c.in-Ok-lowering_sets-2.ensures);
+          (rw (c.rank-rank.ensures.rank, c.len-count.ensures.len, c.as_slice.ensures.value) at c.in-Ok-lowering_sets-2.ensures);
     }
