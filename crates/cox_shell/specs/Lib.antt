@@ -13,6 +13,7 @@ pub mod ScriptAnswer
 pub mod SessionLimits
 pub mod Status
 pub mod Top
+
 -- what a command asks
 -- the replies to commands, in the terms of Coxeter groups
 -- the reply to the content of a line

@@ -84,7 +84,9 @@ impl Session {
         ensures rank { result ≡ rank_of self.now }
         ensures limit { IfSome result (λ n. n ≤ MAX_RANK) }
     {
-        self.workspace.as_ref().map(|work| work.table.group().rank())
+        self.workspace
+            .as_ref()
+            .map(|work| work.table.group().rank())
     }
 
     /// Answers a command, whose words are over the letters of the group.

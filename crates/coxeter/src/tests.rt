@@ -175,7 +175,13 @@ const LONG_WORDS: &[(&str, &str, usize, &str, &str)] = &[
     ("matrix 2 0\nlength 1", "21", 127, "\n", "255\n"),
     ("matrix 2 0\ncompute ", "12", 128, "\n", "error 17\n"),
     ("matrix 3 0 0 0\nlength ", "123", 85, "\n", "255\n"),
-    ("matrix 3 0 0 0\nbetti 1", "21", 5, "\n", "1 2 2 2 2 2 2 2 2 2 2 1\n"),
+    (
+        "matrix 3 0 0 0\nbetti 1",
+        "21",
+        5,
+        "\n",
+        "1 2 2 2 2 2 2 2 2 2 2 1\n",
+    ),
     ("type A 2\nlength ", "12", 127, "\n", "2\n"),
     ("type A 2\nlength ", "12", 128, "\n", "error 17\n"),
     ("type A 10\ncompute 1", ".1", 254, "\n", "1\n"),
@@ -284,7 +290,11 @@ fn long_words(rt: HostRuntime) -> Result<(), Fail> {
         }
         script.extend_from_slice(end.as_bytes())?;
         let (_, sink) = end_of(rt.alloc(), plain(&script))?;
-        assert_eq!(rt; sink.bytes(), written.as_bytes(), "{begin} {count} times {letters}");
+        assert_eq!(rt;
+            sink.bytes(),
+            written.as_bytes(),
+            "{begin} {count} times {letters}"
+        );
     }
     Ok(())
 }
@@ -301,7 +311,13 @@ fn longest_words(rt: HostRuntime) -> Result<(), Fail> {
         script.extend_from_slice(b"compute ")?;
         script.extend_from_slice(&word)?;
         word.push(b'\n')?;
-        let (_, sink) = end_of(rt.alloc(), Run { room: 300, ..plain(&script) })?;
+        let (_, sink) = end_of(
+            rt.alloc(),
+            Run {
+                room: 300,
+                ..plain(&script)
+            },
+        )?;
         assert_eq!(rt; sink.bytes(), word.as_slice(), "{count} times {letters}");
     }
     Ok(())
@@ -311,7 +327,12 @@ fn longest_words(rt: HostRuntime) -> Result<(), Fail> {
 #[test]
 fn r_of_long_words(rt: HostRuntime) -> Result<(), Fail> {
     let rows: [(&str, &str, usize, &str); 4] = [
-        ("matrix 2 0\n", "12", 216, "-1+2q-2q^2+2q^3-2q^4+2q^5-2q^6+2q^7-2q^8+2q^9-2q^10+2q^11-2q^12+2q^13-2q^14+2q^15-2q^16+2q^17-2q^18+2q^19-2q^20+2q^21-2q^22+2q^23-2q^24+2q^25-2q^26+2q^27-2q^28+2q^29-2q^30+2q^31-2q^32+2q^33-2q^34+2q^35-2q^36+2q^37-2q^38+q^39\n"),
+        (
+            "matrix 2 0\n",
+            "12",
+            216,
+            "-1+2q-2q^2+2q^3-2q^4+2q^5-2q^6+2q^7-2q^8+2q^9-2q^10+2q^11-2q^12+2q^13-2q^14+2q^15-2q^16+2q^17-2q^18+2q^19-2q^20+2q^21-2q^22+2q^23-2q^24+2q^25-2q^26+2q^27-2q^28+2q^29-2q^30+2q^31-2q^32+2q^33-2q^34+2q^35-2q^36+2q^37-2q^38+q^39\n",
+        ),
         ("matrix 2 0\n", "12", 215, "error 34\n"),
         ("matrix 3 0 0 0\n", "123", 254, "-1+q\n"),
         ("matrix 3 0 0 0\n", "123", 253, "1-2q+q^2\n"),
@@ -332,7 +353,11 @@ fn r_of_long_words(rt: HostRuntime) -> Result<(), Fail> {
             ..plain(&script)
         };
         let (_, sink) = end_of(rt.alloc(), run)?;
-        assert_eq!(rt; sink.bytes(), written.as_bytes(), "{count} letters in {group}");
+        assert_eq!(rt;
+            sink.bytes(),
+            written.as_bytes(),
+            "{count} letters in {group}"
+        );
     }
     Ok(())
 }

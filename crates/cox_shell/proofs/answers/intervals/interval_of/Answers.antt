@@ -43,12 +43,15 @@ returns-in-Err-Size c =
     let refusal = rw c.context.ensures.context at (c.in-Err-Size.ensures {u = tt}).refused in
     record {
       matrix = tt;
-      members = inr (λ none. none, inl (
-        interval-size
-            (integer_matrix c.args.work.now.table) admissible c.args.work.now.options.context c.args.w.now.items (omega arith) _ _ _
-            c.in-Err-Size.field-0-is refusal,
-        refl,
-      ));
+      members = inr (
+        λ none. none,
+        inl (
+          interval-size
+              (integer_matrix c.args.work.now.table) admissible c.args.work.now.options.context c.args.w.now.items (omega arith) _ _ _
+              c.in-Err-Size.field-0-is refusal,
+          refl,
+        ),
+      );
       group = matrix;
     }
 
