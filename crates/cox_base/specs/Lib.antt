@@ -1,23 +1,24 @@
 -- Coxeter matrices and the labels that they may have
-pub mod Admissible
-pub mod Bruhat
-pub mod Element
-pub mod IntegerMatrix
-pub mod Length
 pub mod Matrix
-pub mod NamedType
-pub mod Reduced
-pub mod ShortLex
-pub mod Table
-pub mod WordReading
-pub mod WordText
-
 -- what the type of Coxeter matrices keeps
+pub mod Table
 -- the table of types
+pub mod NamedType
 -- the integer matrix of a Coxeter matrix
+pub mod IntegerMatrix
+-- which matrices are admitted
+pub mod Admissible
 -- the matrix of a word, and when two words name one element
+pub mod Element
 -- the ShortLex order of words, and the normal form
+pub mod ShortLex
 -- the length of an element, and its descents
+pub mod Length
+-- reduced words, and what a descent is
+pub mod Reduced
 -- Bruhat order
+pub mod Bruhat
 -- words as they are written
+pub mod WordText
 -- what reading a word answers
+pub mod WordReading

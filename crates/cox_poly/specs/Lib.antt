@@ -1,16 +1,16 @@
 -- polynomials as functions from degrees to coefficients
 pub mod Coefficients
-pub mod Limit
-pub mod ListedText
-pub mod Polynomial
-pub mod PolynomialText
-pub mod Products
-pub mod Puts
-pub mod Size
-
 -- their multiples and products
+pub mod Products
 -- bounds of their degree and of the sum of their absolute coefficients
+pub mod Size
 -- polynomials as lists of coefficients
+pub mod Polynomial
 -- coefficients within a limit
+pub mod Limit
 -- how a text is put behind others
+pub mod Puts
 -- the text of a polynomial
+pub mod PolynomialText
+-- the terms of a polynomial, one after the other
+pub mod ListedText

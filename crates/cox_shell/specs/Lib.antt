@@ -1,28 +1,28 @@
 -- replies to lines
-pub mod Answer
-pub mod CommandReply
-pub mod ContentReply
-pub mod ExitCode
-pub mod LineReply
-pub mod Outcome
-pub mod Question
 pub mod Reply
-pub mod Run
-pub mod Saying
-pub mod ScriptAnswer
-pub mod SessionLimits
-pub mod Status
-pub mod Top
-
 -- what a command asks
+pub mod Question
 -- the replies to commands, in the terms of Coxeter groups
+pub mod CommandReply
 -- the reply to the content of a line
+pub mod ContentReply
 -- the reply to a line
+pub mod LineReply
 -- the replies to the lines of a script
+pub mod Answer
 -- the text that answers a script
+pub mod ScriptAnswer
 -- the limits that options give
+pub mod SessionLimits
 -- what the calls that answer say of a reply
+pub mod Saying
 -- how a run ends
+pub mod Status
+-- exit codes
+pub mod ExitCode
 -- where a run stands, and what serving a line does
+pub mod Run
 -- what a run over the lines does
+pub mod Outcome
 -- what a whole run does
+pub mod Top
