@@ -40,3 +40,5 @@ pub mod SortedLemmas
 mod Listing
 -- Bruhat intervals as lists
 pub mod IntervalLemmas
+-- sets of letters as bits
+pub mod DescentSets

@@ -1,6 +1,7 @@
 //! Contexts and their calls.
 ghost use Rattle.std.specs.Prelude.{◌≡◌, ◌<◌, ◌≤◌, ◌↔◌, ◌∷◌, ◌++◌, [], length, IfOk, IfErr, IsTrue};
 ghost use Rattle.cox_base.specs.Matrix.{IsLetter, IsWord};
+ghost use Rattle.cox_base.specs.Admissible.{IsAdmissible};
 ghost use Rattle.cox_base.specs.IntegerMatrix.{integer_matrix};
 ghost use Rattle.cox_base.specs.ShortLex.{normal_form};
 ghost use Rattle.cox_base.specs.Length.{left_descents, right_descents};
@@ -144,8 +145,9 @@ impl Context {
     pub fn len(&self) -> u32
         ensures len { result ≡ length self.now.members }
         ensures closed { IsClosed (integer_matrix self.now.matrix) self.now.members }
+        ensures admissible { IsAdmissible (integer_matrix self.now.matrix) }
     {
-        let _ = &self.group;
+        let _rank = self.group.rank();
         self.members.len()
     }
 

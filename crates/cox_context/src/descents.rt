@@ -47,7 +47,7 @@ fn lowering(table: &[Option<u32>], rank: u32, i: u32) -> Letters
 }
 
 /// Whether a shift takes member i to a member before it.
-fn is_lower(i: u32, shift: Option<u32>) -> bool
+pub(crate) fn is_lower(i: u32, shift: Option<u32>) -> bool
     ensures { result ≡ is_lower i shift }
 {
     match shift {

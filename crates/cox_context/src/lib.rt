@@ -12,11 +12,13 @@
 //! - `builder`: finds the members, length by length
 //! - `shifts`, `right_shifts`: the tables of left and right shifts
 //! - `descents`: the descents of each member, read off these tables
+//! - `descent_sets`: the same as sets of bits
 //! - `laws`: each interval has one list in ShortLex order, closed downwards
 #![tactic(auto)]
 
 mod builder;
 mod context;
+mod descent_sets;
 mod descents;
 mod family;
 mod fault;
