@@ -12,3 +12,11 @@ pub mod SumLemmas
 pub mod ElementLists
 -- bar respects 1 + T(s)
 pub mod BarSums
+-- families that another one is turned round
+pub mod Balance
+-- rows: their last condition over any list; each element has at most one
+pub mod RowLemmas
+-- the step from the row of v to the row of sv
+pub mod StepRow
+-- the step family is the row
+pub mod StepIsRow
