@@ -20,3 +20,7 @@ pub mod RowLemmas
 pub mod StepRow
 -- the step family is the row
 pub mod StepIsRow
+-- each element has a row
+pub mod RowsExist
+-- rows at inverses
+pub mod Inverses

@@ -67,7 +67,7 @@ sides_core false false true zero = refl
 sides_core false false true (suc k) = refl
 sides_core b false false k = refl
 
-unit-other : (A : IntegerMatrix) (x : List ℕ) → (word_length A x ≡ 0 → ⊥) → unit A x ≡ zero_polynomial
+pub unit-other : (A : IntegerMatrix) (x : List ℕ) → (word_length A x ≡ 0 → ⊥) → unit A x ≡ zero_polynomial
 unit-other A x n = let e : (word_length A x == 0) ≡ false = grind (arith, nat_tests) in rw e refl
 
 back_along-append : (A : IntegerMatrix) (b : Bool) (u v : List ℕ) (h : Family) → back_along A b (u ++ v) h ≡ back_along A b u (back_along A b v h)
