@@ -1,6 +1,6 @@
--- Families F that turned round in the degrees n - l(x) are G: they are closed under 1 + T(s), multiples by powers of q, sums and differences.
--- The last condition of a row of w says that of n = l(w), with the sums of R(x,y) p(y) for G.
-use Rattle.std.proofs.Common.{◌≡◌, ℕ, zero, suc, ◌+◌, ◌-◌, ◌*◌, ◌≤◌, ◌<◌, Bool, true, false, not, if◌then◌else◌, List, [], ◌∷◌, ◌⊎◌, inl, inr, ⊎_elim}
+-- Families F that turned round in the degrees n - l(x) are G: they are closed under 1 + T(s), multiples by powers of q, sums and
+-- differences. The last condition of a row of w says that of n = l(w), with the sums of R(x,y) p(y) for G.
+use Rattle.std.proofs.Common.{◌≡◌, ℕ, zero, suc, ◌+◌, ◌-◌, ◌*◌, ◌≤◌, ◌<◌, Bool, true, false, if◌then◌else◌, List, ◌∷◌}
 use Rattle.std.proofs.Common.{ℤ, pos, ◌+ℤ◌, ◌-ℤ◌, ◌*ℤ◌, neg_ℤ, refl, ap, sym, ◌∙◌, subst, arith}
 use Rattle.std.specs.Prelude.{nat_le}
 use Rattle.std.proofs.lemmas.Int.{ints}
@@ -18,7 +18,7 @@ use Rattle.cox_poly.proofs.Products.{product-plus, product-negated, product-scal
 use Rattle.cox_rpoly.specs.RPolynomial.{r_polynomial}
 use Rattle.cox_hecke.specs.Family.{Family}
 use Rattle.cox_hecke.specs.Operators.{shortens_left}
-use Rattle.cox_hecke.specs.Sums.{sum_over, bar_sum}
+use Rattle.cox_hecke.specs.Sums.{bar_sum}
 use Rattle.cox_hecke.specs.Step.{step}
 use Rattle.cox_hecke.proofs.Descents.{Moves, left_moves}
 use Rattle.cox_hecke.proofs.BarSums.{step-shorter, step-longer}
@@ -49,17 +49,19 @@ flip-none d = λ i k. at k (nat_le k d) i
     at k true = refl
     at k false = refl
 
-flip-plus : (d : ℕ) (f h : Coefficients) → flip d (plus f h) ≡ plus (flip d f) (flip d h)
+pub flip-plus : (d : ℕ) (f h : Coefficients) → flip d (plus f h) ≡ plus (flip d f) (flip d h)
 flip-plus d f h = λ i k. at k (nat_le k d) i
   where
-    at : (k : ℕ) (b : Bool) → (if b then f (d - k) +ℤ h (d - k) else pos 0) ≡ (if b then f (d - k) else pos 0) +ℤ (if b then h (d - k) else pos 0)
+    at : (k : ℕ) (b : Bool) → (if b then f (d - k) +ℤ h (d - k) else pos 0)
+        ≡ (if b then f (d - k) else pos 0) +ℤ (if b then h (d - k) else pos 0)
     at k true = refl
     at k false = refl
 
 pub flip-minus : (d : ℕ) (f h : Coefficients) → flip d (minus f h) ≡ minus (flip d f) (flip d h)
 flip-minus d f h = λ i k. at k (nat_le k d) i
   where
-    at : (k : ℕ) (b : Bool) → (if b then f (d - k) -ℤ h (d - k) else pos 0) ≡ (if b then f (d - k) else pos 0) -ℤ (if b then h (d - k) else pos 0)
+    at : (k : ℕ) (b : Bool) → (if b then f (d - k) -ℤ h (d - k) else pos 0)
+        ≡ (if b then f (d - k) else pos 0) -ℤ (if b then h (d - k) else pos 0)
     at k true = refl
     at k false = refl
 

@@ -1,25 +1,24 @@
 -- Bar respects 1 + T(s). Where a list is made of pairs x, sx, each pair by itself gives the equation, by the two recursions of R.
-use Rattle.std.proofs.Common.{◌≡◌, ℕ, zero, suc, ◌+◌, ◌≤◌, ◌<◌, Bool, true, false, not, if◌then◌else◌, List, [], ◌∷◌, ◌⊎◌, inl, inr, ⊎_elim}
-use Rattle.std.proofs.Common.{ℤ, pos, ◌+ℤ◌, ◌-ℤ◌, ◌*ℤ◌, neg_ℤ, refl, ap, sym, ◌∙◌, arith}
+use Rattle.std.proofs.Common.{◌≡◌, ℕ, zero, suc, Bool, true, false, not, List, [], ◌∷◌, inr}
+use Rattle.std.proofs.Common.{ℤ, ◌+ℤ◌, ◌-ℤ◌, refl, ap, sym, ◌∙◌, arith}
 use Rattle.std.proofs.lemmas.Int.{ints}
 use Rattle.cox_base.specs.declared.side.Side.TheVariants.{Left}
 use Rattle.cox_base.specs.Matrix.{IsLetter}
 use Rattle.cox_base.specs.IntegerMatrix.{IntegerMatrix}
 use Rattle.cox_base.specs.Admissible.{IsAdmissible}
-use Rattle.cox_base.specs.Element.{SameElement}
 use Rattle.cox_base.specs.Length.{word_length}
 use Rattle.cox_base.specs.Reduced.{IsLeftDescent}
-use Rattle.cox_reflect.proofs.Elements.{same-refl, same-sym, same-trans, same-cons, same-square}
-use Rattle.cox_poly.specs.Coefficients.{Coefficients, zero_polynomial, plus, times_q, times_q_less_one}
-use Rattle.cox_poly.specs.Products.{minus, negated, product}
+use Rattle.cox_reflect.proofs.Elements.{same-refl, same-cons, same-square}
+use Rattle.cox_poly.specs.Coefficients.{Coefficients, plus, times_q, times_q_less_one}
+use Rattle.cox_poly.specs.Products.{negated, product}
 use Rattle.cox_poly.proofs.Products.{product-plus, plus-product, negated-product, product-times_q, times_q-product}
 use Rattle.cox_rpoly.specs.RPolynomial.{r_polynomial}
 use Rattle.cox_rpoly.proofs.PolynomialLemmas.{r_polynomial-same}
 use Rattle.cox_hecke.specs.Family.{Family, RespectsElements}
 use Rattle.cox_hecke.specs.Operators.{shortens_left}
-use Rattle.cox_hecke.specs.Sums.{occurrences, IsClosedUnder, sum_over, bar_sum}
+use Rattle.cox_hecke.specs.Sums.{occurrences, IsClosedUnder, bar_sum}
 use Rattle.cox_hecke.specs.Step.{step}
-use Rattle.cox_hecke.proofs.Descents.{yes-nat_lt, no-nat_lt, nat_lt-yes, shortens_left-same, shortens_left-back}
+use Rattle.cox_hecke.proofs.Descents.{yes-nat_lt, no-nat_lt, shortens_left-same, shortens_left-back}
 use Rattle.cox_hecke.proofs.Signed.{respected}
 use Rattle.cox_hecke.proofs.RPolynomials.{r-left_shorter, r-left_longer, r-left_moved}
 use Rattle.cox_hecke.proofs.SumLemmas.{sum_over-lists}
@@ -176,7 +175,8 @@ module _ (A : IntegerMatrix) (g : IsAdmissible A) where
             (product (r_polynomial A (s ∷ x) y) (h y)) (product (r_polynomial A x y) (h (s ∷ y)))
             (bar_sum A (paired A s words) h x) (bar_sum A (paired A s words) h (s ∷ x))
             (product (r_polynomial A x y) (plus (times_q (h (s ∷ y))) (h y)) k)
-            (product (plus (times_q_less_one (r_polynomial A x y)) (times_q (r_polynomial A (s ∷ x) y))) (plus (h y) (times_q (h (s ∷ y)))) k)
+            (product (plus (times_q_less_one (r_polynomial A x y)) (times_q (r_polynomial A (s ∷ x) y)))
+            (plus (h y) (times_q (h (s ∷ y)))) k)
             (bar_sum A (paired A s words) (step Left A s h) x k)
             (pair-longer (r_polynomial A x y) (r_polynomial A (s ∷ x) y) (h y) (h (s ∷ y)) k) rest)
 

@@ -1,5 +1,6 @@
 -- A letter on either side of a word: whether it shortens it, and what that says of lengths.
-use Rattle.std.proofs.Common.{◌≡◌, ℕ, suc, ◌+◌, ◌<◌, ◌≤◌, Bool, true, false, not, List, [], ◌∷◌, ◌++◌, reverse, length, ◌⊎◌, inl, inr, ⊎_elim}
+use Rattle.std.proofs.Common.{◌≡◌, ℕ, suc, ◌+◌, ◌<◌, ◌≤◌, Bool, true, false, not, List, [], ◌∷◌, ◌++◌, reverse, length, ◌⊎◌, inl, inr}
+use Rattle.std.proofs.Common.{⊎_elim}
 use Rattle.std.proofs.Common.{refl, ap, sym, ◌∙◌, arith}
 use Rattle.std.specs.Prelude.{nat_lt}
 use Rattle.std.proofs.lemmas.Bool.{cases_lt}
@@ -12,10 +13,10 @@ use Rattle.cox_base.specs.Element.{SameElement}
 use Rattle.cox_base.specs.ShortLex.{normal_form}
 use Rattle.cox_base.specs.Length.{word_length}
 use Rattle.cox_base.specs.Reduced.{IsReduced, IsLeftDescent, IsRightDescent}
-use Rattle.cox_reflect.proofs.Elements.{same-refl, same-sym, same-trans, same-cons, same-push, same-square, same-push_twice, same-equal}
+use Rattle.cox_reflect.proofs.Elements.{same-sym, same-trans, same-cons, same-push, same-square, same-push_twice, same-equal}
 use Rattle.cox_reflect.proofs.Search.{normal_form-same, word_length-equal, word_length-length}
-use Rattle.cox_reflect.proofs.Lengths.{word_length-is, word_length-cons_reverse, word_length-reverse, IsReduced-normal_form, IsReduced-tail}
-use Rattle.cox_reflect.proofs.Roots.{left_descent-letter, descent-letter, left_descent_reverse, reverse_left_descent}
+use Rattle.cox_reflect.proofs.Lengths.{word_length-is, word_length-cons_reverse, word_length-reverse, IsReduced-tail}
+use Rattle.cox_reflect.proofs.Roots.{left_descent-letter, left_descent_reverse, reverse_left_descent}
 use Rattle.cox_reflect.proofs.Deletion.{left_length, right_length, sides_same}
 use Rattle.cox_hecke.specs.Operators.{shortens_left, shortens_right}
 
@@ -84,7 +85,8 @@ module _ (A : IntegerMatrix) (g : IsAdmissible A) where
   -- on the right it is as on the left for the reversed word
   pub shortens-reverse : (s : ℕ) (x : List ℕ) → shortens_left A s (reverse x) ≡ shortens_right A s x
   shortens-reverse s x =
-      let e : word_length A (s ∷ reverse x) ≡ word_length A (x ++ s ∷ []) = rw (reverse-reverse x) at (word_length-cons_reverse A g s (reverse x))
+      let e : word_length A (s ∷ reverse x)
+      ≡ word_length A (x ++ s ∷ []) = rw (reverse-reverse x) at (word_length-cons_reverse A g s (reverse x))
       in rw (e, word_length-reverse A g x) refl
 
   -- ---- both sides: s and t do not disturb one another, unless sx = xt
@@ -127,7 +129,8 @@ module _ (A : IntegerMatrix) (g : IsAdmissible A) where
   -- ---- reduced words
 
   pub reduced-letter : (s : ℕ) (u : List ℕ) → IsReduced A (s ∷ u) → IsLetter A.rank s
-  reduced-letter s u r = left_descent-letter A g (s ∷ u) s (omega (arith, r, word_length-equal A g (same-square A g s u), word_length-length A g u))
+  reduced-letter s u r = left_descent-letter A g (s ∷ u) s
+      (omega (arith, r, word_length-equal A g (same-square A g s u), word_length-length A g u))
 
   pub reduced-rises : (s : ℕ) (u : List ℕ) → IsReduced A (s ∷ u) → shortens_left A s u ≡ false
   reduced-rises s u r = nat_lt-no (word_length A (s ∷ u)) (word_length A u) (λ h. omega (arith, r, IsReduced-tail A g s u r))
@@ -140,7 +143,8 @@ module _ (A : IntegerMatrix) (g : IsAdmissible A) where
       go [] e = absurd (omega (arith, some, word_length-is A x, ap length e))
       go (s ∷ n) e =
           let same : SameElement A (s ∷ x) n
-          = same-trans A g (same-cons A g s (same-trans A g (same-sym A g (normal_form-same A g x)) (same-equal A g e))) (same-square A g s n)
+          = same-trans A g (same-cons A g s (same-trans A g (same-sym A g (normal_form-same A g x)) (same-equal A g e)))
+          (same-square A g s n)
           in (s, omega (arith, word_length-equal A g same, word_length-length A g n, word_length-is A x, ap length e))
 
   pub some_right_descent : (x : List ℕ) → 0 < word_length A x → (s : ℕ) × IsRightDescent A x s

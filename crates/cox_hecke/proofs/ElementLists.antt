@@ -1,14 +1,13 @@
--- Lists of the elements below w, each once, by a descent s of w: x and sx for each x below sw with sx > x. And of those between two elements.
-use Rattle.std.proofs.Common.{◌≡◌, ℕ, zero, suc, ◌+◌, ◌≤◌, ◌<◌, Bool, true, false, not, if◌then◌else◌, List, [], ◌∷◌, ◌⊎◌, inl, inr, ⊎_elim, filter}
+-- Lists of the elements below w, each once, by a descent s of w: x and sx for each x below sw with sx > x. And of those between two
+-- elements.
+use Rattle.std.proofs.Common.{◌≡◌, ℕ, zero, suc, Bool, true, false, not, if◌then◌else◌, List, [], ◌∷◌, ◌⊎◌, inl, inr, ⊎_elim, filter}
 use Rattle.std.proofs.Common.{refl, ap, sym, ◌∙◌, arith}
-use Rattle.std.specs.Prelude.{nat_eq, ◌==◌}
-use Rattle.std.specs.Cmp.Lexicographic.{pointwise}
+use Rattle.std.specs.Prelude.{◌==◌}
 use Rattle.std.proofs.lemmas.Bool.{false≢true}
 use Rattle.cox_base.specs.Matrix.{IsLetter}
 use Rattle.cox_base.specs.IntegerMatrix.{IntegerMatrix}
 use Rattle.cox_base.specs.Admissible.{IsAdmissible}
 use Rattle.cox_base.specs.Element.{SameElement}
-use Rattle.cox_base.specs.ShortLex.{normal_form}
 use Rattle.cox_base.specs.Length.{word_length}
 use Rattle.cox_base.specs.Reduced.{IsLeftDescent}
 use Rattle.cox_base.specs.Bruhat.{IsBelow}
@@ -16,11 +15,12 @@ use Rattle.cox_reflect.proofs.Elements.{same-refl, same-sym, same-trans, same-co
 use Rattle.cox_reflect.proofs.Lengths.{cons-word_length}
 use Rattle.cox_reflect.proofs.Roots.{left_descent-letter}
 use Rattle.cox_reflect.proofs.Bruhat.{below-same, below-refl, below_identity, lift_down, lift_up}
+use Rattle.cox_hecke.specs.Family.{is_same}
 use Rattle.cox_hecke.specs.Operators.{shortens_left}
-use Rattle.cox_hecke.specs.Sums.{is_same, occurrences, ListsEach, IsClosedUnder}
+use Rattle.cox_hecke.specs.Sums.{occurrences, ListsEach}
 use Rattle.cox_hecke.specs.Row.{IsBetween}
-use Rattle.cox_hecke.proofs.Descents.{Moves, nat_lt-yes, yes-nat_lt, no-nat_lt, shortens_left-same, shortens_left-back, left_moves, some_left_descent, empty_same}
-use Rattle.cox_hecke.proofs.SumLemmas.{same-is_same, is_same-same, not_same-is_same, same_or_not, occurrences-same}
+use Rattle.cox_hecke.proofs.Descents.{yes-nat_lt, no-nat_lt, shortens_left-same, shortens_left-back, some_left_descent, empty_same}
+use Rattle.cox_hecke.proofs.SumLemmas.{same-is_same, is_same-same, not_same-is_same, same_or_not}
 
 -- x and sx for each x of the list with sx > x
 abbrev pub paired : IntegerMatrix → ℕ → List (List ℕ) → List (List ℕ)
@@ -44,7 +44,8 @@ module _ (A : IntegerMatrix) (g : IsAdmissible A) where
 
   moved : (s : ℕ) (x y : List ℕ) → is_same A x (s ∷ y) ≡ is_same A (s ∷ x) y
   moved s x y = ⊎_elim
-      (λ (e : SameElement A x (s ∷ y)). same-is_same A g e ∙ sym (same-is_same A g (same-trans A g (same-cons A g s e) (same-square A g s y))))
+      (λ (e : SameElement A x (s ∷ y)). same-is_same A g e
+      ∙ sym (same-is_same A g (same-trans A g (same-cons A g s e) (same-square A g s y))))
       (λ (n : SameElement A x (s ∷ y) → ⊥). not_same-is_same A g x (s ∷ y) n
       ∙ sym (not_same-is_same A g (s ∷ x) y (λ e. n (same-trans A g (same-sym A g (same-square A g s x)) (same-cons A g s e)))))
       (same_or_not A g x (s ∷ y))
@@ -64,30 +65,39 @@ module _ (A : IntegerMatrix) (g : IsAdmissible A) where
 
       go : (p q : Bool) → shortens_left A s y ≡ p → shortens_left A s x ≡ q
           → occurrences A x (paired A s words) ≡ (if shortens_left A s x then occurrences A (s ∷ x) words else occurrences A x words)
-          → occurrences A x (paired A s (y ∷ words)) ≡ (if shortens_left A s x then occurrences A (s ∷ x) (y ∷ words) else occurrences A x (y ∷ words))
+          → occurrences A x (paired A s (y ∷ words))
+          ≡ (if shortens_left A s x then occurrences A (s ∷ x) (y ∷ words) else occurrences A x (y ∷ words))
       go true true e f rest = rw (e, differ s (s ∷ x) y false (there x true f) e, f) (rw f at rest)
       go true false e f rest = rw (e, differ s x y false f e, f) (rw f at rest)
-      go false true e f rest = rw (e, differ s x y true f e, moved s x y, f) (ap (λ (n : ℕ). if is_same A (s ∷ x) y then suc n else n) (rw f at rest))
+      go false true e f rest = rw (e, differ s x y true f e, moved s x y, f)
+          (ap (λ (n : ℕ). if is_same A (s ∷ x) y then suc n else n) (rw f at rest))
       go false false e f rest =
           rw (e, differ s x (s ∷ y) false f (there y false e), f) (ap (λ (n : ℕ). if is_same A x y then suc n else n) (rw f at rest))
 
   -- ---- the elements below w
 
   pub below_lists : (n : ℕ) (w : List ℕ) → word_length A w ≡ n → (words : List (List ℕ)) × Tells A (λ x. IsBelow A x w) words
-  below_lists zero w z = ([] ∷ [], λ x. ⊎_elim
-      (λ (e : SameElement A x []). inl (rw (same-is_same A g e) refl, below-refl A g (same-trans A g e (same-sym A g (empty_same A g w z)))))
-      (λ (n : SameElement A x [] → ⊥). inr (rw (not_same-is_same A g x [] n) refl,
-      λ b. n ((below_identity A g x).0 (below-same A g (same-refl A g x) (empty_same A g w z) b))))
-      (same_or_not A g x []))
+  below_lists zero w z = (
+    [] ∷ [],
+    λ x. ⊎_elim
+        (λ (e : SameElement A x []). inl
+        (rw (same-is_same A g e) refl, below-refl A g (same-trans A g e (same-sym A g (empty_same A g w z)))))
+        (λ (n : SameElement A x [] → ⊥). inr (
+          rw (not_same-is_same A g x [] n) refl,
+          λ b. n ((below_identity A g x).0 (below-same A g (same-refl A g x) (empty_same A g w z) b)),
+        ))
+        (same_or_not A g x []),
+  )
   below_lists (suc n) w z = step (some_left_descent A g w (omega (arith, z))) (λ v e. below_lists n v e)
     where
       step : (s : ℕ) × IsLeftDescent A w s
           → ((v : List ℕ) → word_length A v ≡ n → (words : List (List ℕ)) × Tells A (λ x. IsBelow A x v) words)
           → (words : List (List ℕ)) × Tells A (λ x. IsBelow A x w) words
-      step (s , d) lists = pairs (lists (s ∷ w) (omega (arith, z, d, cons-word_length A g s w)))
+      step (s, d) lists = pairs (lists (s ∷ w) (omega (arith, z, d, cons-word_length A g s w)))
         where
-          pairs : (words : List (List ℕ)) × Tells A (λ x. IsBelow A x (s ∷ w)) words → (words : List (List ℕ)) × Tells A (λ x. IsBelow A x w) words
-          pairs (words , tells) = (paired A s words, λ x. go x (shortens_left A s x) refl)
+          pairs : (words : List (List ℕ)) × Tells A (λ x. IsBelow A x (s ∷ w)) words
+              → (words : List (List ℕ)) × Tells A (λ x. IsBelow A x w) words
+          pairs (words, tells) = (paired A s words, λ x. go x (shortens_left A s x) refl)
             where
               l : IsLetter A.rank s
               l = left_descent-letter A g w s d
@@ -97,7 +107,8 @@ module _ (A : IntegerMatrix) (g : IsAdmissible A) where
                   ⊎ ((occurrences A x (paired A s words) ≡ 0) × (IsBelow A x w → ⊥))
               go x true e =
                   let c : IsLeftDescent A x s = yes-nat_lt (word_length A (s ∷ x)) (word_length A x) e
-                  in let count : occurrences A x (paired A s words) ≡ occurrences A (s ∷ x) words = occurrences-paired s words x l ∙ rw e refl
+                  in let count : occurrences A x (paired A s words) ≡ occurrences A (s ∷ x) words = occurrences-paired s words x l
+                  ∙ rw e refl
                   in ⊎_elim (λ y. inl (count ∙ y.0, (lift_down A g x w s d c).1 y.1))
                   (λ n. inr (count ∙ n.0, λ b. n.1 ((lift_down A g x w s d c).0 b))) (tells (s ∷ x))
               go x false e =
@@ -132,7 +143,7 @@ module _ (A : IntegerMatrix) (g : IsAdmissible A) where
       (λ (n : IsBelow A x y → ⊥). above-no x y n ∙ sym (above-no x z (λ b. n (below-same A g (same-refl A g x) (same-sym A g e) b))))
       (below_or_not x y)
 
-  occurrences-filter : (t : List ℕ → Bool) → ((y z : List ℕ) → SameElement A y z → t y ≡ t z) → (words : List (List ℕ)) (x : List ℕ)
+  pub occurrences-filter : (t : List ℕ → Bool) → ((y z : List ℕ) → SameElement A y z → t y ≡ t z) → (words : List (List ℕ)) (x : List ℕ)
       → occurrences A x (filter t words) ≡ (if t x then occurrences A x words else 0)
   occurrences-filter t r [] x = go (t x)
     where
@@ -151,7 +162,8 @@ module _ (A : IntegerMatrix) (g : IsAdmissible A) where
   pub between_list : (x w : List ℕ) → (words : List (List ℕ)) × Tells A (λ y. IsBetween A x w y) words
   between_list x w = (filter (above x) (below_list w).0, λ y. go y (below_or_not x y) ((below_list w).1 y))
     where
-      count : (y : List ℕ) → occurrences A y (filter (above x) (below_list w).0) ≡ (if above x y then occurrences A y (below_list w).0 else 0)
+      count : (y : List ℕ) → occurrences A y (filter (above x) (below_list w).0)
+          ≡ (if above x y then occurrences A y (below_list w).0 else 0)
       count y = occurrences-filter (above x) (λ y z e. above-same x e) (below_list w).0 y
 
       go : (y : List ℕ) → IsBelow A x y ⊎ (IsBelow A x y → ⊥)

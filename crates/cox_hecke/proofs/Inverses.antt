@@ -1,6 +1,6 @@
 -- P(x,w) = P(x^-1,w^-1): the row of w at inverses is the row of w^-1, since R is the same at inverses.
-use Rattle.std.proofs.Common.{◌≡◌, ℕ, zero, suc, ◌-◌, Bool, true, false, if◌then◌else◌, List, [], ◌∷◌, ◌++◌, reverse, map, ◌⊎◌, inl, inr, ⊎_elim}
-use Rattle.std.proofs.Common.{pos, ◌+ℤ◌, refl, ap, sym, ◌∙◌, subst, arith}
+use Rattle.std.proofs.Common.{◌≡◌, ℕ, ◌-◌, List, [], ◌∷◌, reverse, map, ⊎_elim}
+use Rattle.std.proofs.Common.{refl, ap, sym, ◌∙◌, arith}
 use Rattle.std.proofs.lemmas.Int.{ints}
 use Rattle.std.proofs.lemmas.List.{reverse-reverse}
 use Rattle.cox_base.specs.IntegerMatrix.{IntegerMatrix}
@@ -13,9 +13,8 @@ use Rattle.cox_reflect.proofs.Lengths.{word_length-reverse}
 use Rattle.cox_reflect.proofs.Bruhat.{below_reverse}
 use Rattle.cox_poly.specs.Coefficients.{Coefficients}
 use Rattle.cox_poly.specs.Products.{flip, product}
-use Rattle.cox_rpoly.specs.RPolynomial.{r_polynomial}
-use Rattle.cox_hecke.specs.Family.{Family, RespectsElements}
-use Rattle.cox_hecke.specs.Sums.{is_same, occurrences, ListsEach, sum_over, bar_sum}
+use Rattle.cox_hecke.specs.Family.{Family, is_same}
+use Rattle.cox_hecke.specs.Sums.{occurrences, ListsEach, bar_sum}
 use Rattle.cox_hecke.specs.Row.{IsBetween, IsRow}
 use Rattle.cox_hecke.proofs.Signed.{at_inverses, at_inverses-respects}
 use Rattle.cox_hecke.proofs.SumLemmas.{same_or_not, same-is_same, not_same-is_same}
@@ -53,7 +52,8 @@ module _ (A : IntegerMatrix) (g : IsAdmissible A) where
     bar = bar;
   }
     where
-      sums : (x : List ℕ) (words : List (List ℕ)) (k : ℕ) → bar_sum A (map reverse words) p (reverse x) k ≡ bar_sum A words (at_inverses p) x k
+      sums : (x : List ℕ) (words : List (List ℕ)) (k : ℕ)
+          → bar_sum A (map reverse words) p (reverse x) k ≡ bar_sum A words (at_inverses p) x k
       sums x [] k = refl
       sums x (y ∷ words) k =
           omega (arith, ints, sums x words k, ap (λ (f : Coefficients). product f (p (reverse y)) k) (r-inverse A g x y))

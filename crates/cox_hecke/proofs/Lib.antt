@@ -24,3 +24,21 @@ pub mod StepIsRow
 pub mod RowsExist
 -- rows at inverses
 pub mod Inverses
+-- a row for each element, and mu
+pub mod AllRows
+-- step families by any left descent
+pub mod LeftSteps
+-- step families by any right descent
+pub mod RightSteps
+-- P(sx,w) = P(x,w), and where mu is not 0
+pub mod Descended
+-- R turned round
+pub mod TurnedR
+-- the operators of the Hecke algebra, without the sign
+pub mod OperatorLaws
+-- P(x,w) as a value
+pub mod Polynomials
+-- step families
+pub mod StepFamilies
+-- which rows are needed
+pub mod NeedLemmas

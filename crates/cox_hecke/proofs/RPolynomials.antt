@@ -1,8 +1,9 @@
--- R-polynomials by operators: R(x,w) is the coefficient at x of the second operators with the sign `false`, along any reduced word of w, at T(e).
--- So it obeys its recursion for every left descent; it is the same at inverses; and so it obeys the recursion for every right descent.
-use Rattle.std.proofs.Common.{◌≡◌, ℕ, zero, suc, ◌+◌, ◌-◌, ◌<◌, ◌≤◌, Bool, true, false, not, if◌then◌else◌, List, [], ◌∷◌, ◌++◌, reverse, length}
-use Rattle.std.proofs.Common.{pos, refl, ap, sym, ◌∙◌, ⊎_elim, arith}
-use Rattle.std.specs.Prelude.{nat_lt, ◌==◌}
+-- R-polynomials by operators: R(x,w) is the coefficient at x of the second operators with the sign `false`, along any reduced word of w, at
+-- T(e). So it obeys its recursion for every left descent; it is the same at inverses; and so it obeys the recursion for every right
+-- descent.
+use Rattle.std.proofs.Common.{◌≡◌, ℕ, zero, suc, Bool, true, false, not, if◌then◌else◌, List, [], ◌∷◌, ◌++◌, reverse}
+use Rattle.std.proofs.Common.{refl, ap, sym, ◌∙◌, ⊎_elim, arith}
+use Rattle.std.specs.Prelude.{◌==◌}
 use Rattle.std.proofs.lemmas.Int.{ints}
 use Rattle.std.proofs.lemmas.Bool.{cases_eq}
 use Rattle.std.proofs.lemmas.Bool.Decides.{nat_tests}
@@ -18,20 +19,25 @@ use Rattle.cox_base.specs.Length.{word_length}
 use Rattle.cox_base.specs.Reduced.{IsReduced, IsLeftDescent, IsRightDescent}
 use Rattle.cox_reflect.proofs.Elements.{same-refl, same-sym, same-trans, same-cons, same-push, same-square, same-push_twice, same-reverse}
 use Rattle.cox_reflect.proofs.Search.{normal_form-same, word_length-equal, word_length-length, IsWord-normal_form}
-use Rattle.cox_reflect.proofs.Lengths.{word_length-is, word_length-reverse, IsReduced-normal_form, IsReduced-reverse, IsReduced-tail, cons-word_length}
+use Rattle.cox_reflect.proofs.Lengths.{word_length-is, word_length-reverse, IsReduced-normal_form, IsReduced-reverse, cons-word_length}
 use Rattle.cox_reflect.proofs.WordLemmas.{IsWord-reverse}
 use Rattle.cox_reflect.proofs.Roots.{left_descent-letter}
 use Rattle.cox_poly.specs.Coefficients.{Coefficients, zero_polynomial, one_polynomial, plus, times_q, times_q_less_one}
-use Rattle.cox_poly.specs.Products.{minus, negated}
+use Rattle.cox_poly.specs.Products.{minus}
 use Rattle.cox_rpoly.specs.RPolynomial.{r_along, r_polynomial}
 use Rattle.cox_rpoly.proofs.AlongLemmas.{along-shorter, along-longer}
 use Rattle.cox_rpoly.proofs.PolynomialLemmas.{r_polynomial-is, r_polynomial-same}
-use Rattle.cox_hecke.specs.Family.{Family, RespectsElements, unit}
+use Rattle.cox_hecke.specs.Family.{Family, RespectsElements}
 use Rattle.cox_hecke.specs.Operators.{shortens_left, shortens_right}
-use Rattle.cox_hecke.proofs.Descents.{nat_lt-yes, nat_lt-no, yes-nat_lt, no-nat_lt, shortens_left-back, empty_same, descent-reverse, reverse-descent}
-use Rattle.cox_hecke.proofs.Signed.{signed, left_back, right_back, at_inverses, at_inverses-left_back, left_back-right_back, right_back-respects}
-use Rattle.cox_hecke.proofs.Signed.{at_inverses-respects}
+use Rattle.cox_hecke.proofs.Descents.{nat_lt-yes, nat_lt-no, yes-nat_lt, no-nat_lt, shortens_left-back, empty_same, descent-reverse}
+use Rattle.cox_hecke.proofs.Descents.{reverse-descent}
+use Rattle.cox_hecke.proofs.Signed.{signed, left_back, right_back, at_inverses, at_inverses-by_left, first_alone, minus_signed}
+use Rattle.cox_hecke.proofs.Signed.{left_back-right_back}
 use Rattle.cox_hecke.proofs.WordOperators.{back_along, back_along-respects, back_along-same}
+
+-- T(e)
+abbrev pub unit : IntegerMatrix → Family
+unit A x = if word_length A x == 0 then one_polynomial else zero_polynomial
 
 -- ---- along a word, by these operators
 
@@ -70,7 +76,8 @@ sides_core b false false k = refl
 pub unit-other : (A : IntegerMatrix) (x : List ℕ) → (word_length A x ≡ 0 → ⊥) → unit A x ≡ zero_polynomial
 unit-other A x n = let e : (word_length A x == 0) ≡ false = grind (arith, nat_tests) in rw e refl
 
-back_along-append : (A : IntegerMatrix) (b : Bool) (u v : List ℕ) (h : Family) → back_along A b (u ++ v) h ≡ back_along A b u (back_along A b v h)
+back_along-append : (A : IntegerMatrix) (b : Bool) (u v : List ℕ) (h : Family)
+    → back_along A b (u ++ v) h ≡ back_along A b u (back_along A b v h)
 back_along-append A b [] v h = refl
 back_along-append A b (s ∷ u) v h = ap (left_back A b s) (back_along-append A b u v h)
 
@@ -108,7 +115,8 @@ module _ (A : IntegerMatrix) (g : IsAdmissible A) where
       ∙ ap (λ (h : Family). left_back A false s h x)
       (λ i y. sym (r-word y (s ∷ w) (normal_form A (s ∷ w)) (IsReduced-normal_form A g (s ∷ w)) (normal_form-same A g (s ∷ w))) i)
 
-  pub r-left_shorter : (x w : List ℕ) (s : ℕ) → IsLeftDescent A w s → IsLeftDescent A x s → r_polynomial A x w ≡ r_polynomial A (s ∷ x) (s ∷ w)
+  pub r-left_shorter : (x w : List ℕ) (s : ℕ) → IsLeftDescent A w s → IsLeftDescent A x s
+      → r_polynomial A x w ≡ r_polynomial A (s ∷ x) (s ∷ w)
   r-left_shorter x w s d c = r-left x w s d ∙ rw (nat_lt-yes c) refl
 
   pub r-left_moved : (x w : List ℕ) (s : ℕ) → IsLeftDescent A w s → (IsLeftDescent A x s → ⊥)
@@ -137,13 +145,23 @@ module _ (A : IntegerMatrix) (g : IsAdmissible A) where
       left_then_right x z =
           let single : SameElement A x (s ∷ [])
           = same-trans A g (same-sym A g (same-square A g s x)) (same-cons A g s (empty_same A g (s ∷ x) z))
-          in omega (arith, word_length-equal A g (same-trans A g (same-push A g s single) (same-square A g s [])), word_length-length A g [])
+          in omega (
+            arith,
+            word_length-equal A g
+                (same-trans A g (same-push A g s single) (same-square A g s [])),
+            word_length-length A g [],
+          )
 
       right_then_left : (x : List ℕ) → word_length A (x ++ s ∷ []) ≡ 0 → word_length A (s ∷ x) ≡ 0
       right_then_left x z =
           let single : SameElement A x (s ∷ [])
           = same-trans A g (same-sym A g (same-push_twice A g x s)) (same-push A g s (empty_same A g (x ++ s ∷ []) z))
-          in omega (arith, word_length-equal A g (same-trans A g (same-cons A g s single) (same-square A g s [])), word_length-length A g [])
+          in omega (
+            arith,
+            word_length-equal A g
+                (same-trans A g (same-cons A g s single) (same-square A g s [])),
+            word_length-length A g [],
+          )
 
       none_core : (p r : Bool) (k : ℕ)
           → (if p then zero_polynomial else minus (times_q zero_polynomial) (signed b zero_polynomial)) k
@@ -162,12 +180,15 @@ module _ (A : IntegerMatrix) (g : IsAdmissible A) where
           miss n m =
               ⊎_elim
               (λ (z : word_length A x ≡ 0).
-                  rw (nat_lt-no (word_length A (s ∷ x)) (word_length A x) (λ l. omega (arith, l, z)),
-                  nat_lt-no (word_length A (x ++ s ∷ [])) (word_length A x) (λ l. omega (arith, l, z)), unit-other A (s ∷ x) n,
-                  unit-other A (x ++ s ∷ []) m) refl)
+              rw (
+                nat_lt-no (word_length A (s ∷ x)) (word_length A x) (λ l. omega (arith, l, z)),
+                nat_lt-no (word_length A (x ++ s ∷ [])) (word_length A x) (λ l. omega (arith, l, z)),
+                unit-other A (s ∷ x) n,
+                unit-other A (x ++ s ∷ []) m,
+              ) refl)
               (λ (c : word_length A x ≡ 0 → ⊥).
-                  rw (unit-other A (s ∷ x) n, unit-other A (x ++ s ∷ []) m, unit-other A x c)
-                  (λ i k. none_core (shortens_left A s x) (shortens_right A s x) k i))
+              rw (unit-other A (s ∷ x) n, unit-other A (x ++ s ∷ []) m, unit-other A x c)
+              (λ i k. none_core (shortens_left A s x) (shortens_right A s x) k i))
               (cases_eq (word_length A x) 0)
 
   unit-inverses : at_inverses (unit A) ≡ unit A
@@ -183,12 +204,14 @@ module _ (A : IntegerMatrix) (g : IsAdmissible A) where
       ap (left_back A b s) (back_along-right b u t h (All-tail (IsLetter A.rank) s u c) l r)
       ∙ left_back-right_back A g b s t (back_along A b u h) (All-head (IsLetter A.rank) s u c) l (back_along-respects A g b u h r)
 
-  back_along-reverse : (b : Bool) (u : List ℕ) → IsWord A.rank u → at_inverses (back_along A b u (unit A)) ≡ back_along A b (reverse u) (unit A)
+  back_along-reverse : (b : Bool) (u : List ℕ) → IsWord A.rank u
+      → at_inverses (back_along A b u (unit A)) ≡ back_along A b (reverse u) (unit A)
   back_along-reverse b [] c = unit-inverses
   back_along-reverse b (s ∷ u) c =
-      at_inverses-left_back A g b s (back_along A b u (unit A))
+      at_inverses-by_left A g first_alone (minus_signed b) s (back_along A b u (unit A))
       ∙ ap (right_back A b s) (back_along-reverse b u (All-tail (IsLetter A.rank) s u c))
-      ∙ sym (back_along-right b (reverse u) s (unit A) (IsWord-reverse u (All-tail (IsLetter A.rank) s u c)) (All-head (IsLetter A.rank) s u c)
+      ∙ sym (back_along-right b (reverse u) s (unit A) (IsWord-reverse u (All-tail (IsLetter A.rank) s u c))
+      (All-head (IsLetter A.rank) s u c)
       unit-respects)
       ∙ ap (back_along A b (reverse u)) (sym (unit-sides b s))
       ∙ sym (back_along-append A b (reverse u) (s ∷ []) (unit A))
@@ -215,7 +238,8 @@ module _ (A : IntegerMatrix) (g : IsAdmissible A) where
   pub r-right_shorter : (x w : List ℕ) (s : ℕ) → IsRightDescent A w s → IsRightDescent A x s
       → r_polynomial A x w ≡ r_polynomial A (x ++ s ∷ []) (w ++ s ∷ [])
   r-right_shorter x w s d c =
-      sym (r-inverse x w) ∙ r-left_shorter (reverse x) (reverse w) s (descent-reverse A g w s d) (descent-reverse A g x s c) ∙ r-push x w s s
+      sym (r-inverse x w) ∙ r-left_shorter (reverse x) (reverse w) s (descent-reverse A g w s d) (descent-reverse A g x s c)
+      ∙ r-push x w s s
 
   pub r-right_longer : (x w : List ℕ) (s : ℕ) → IsRightDescent A w s → (IsRightDescent A x s → ⊥)
       → r_polynomial A x w ≡ plus (times_q_less_one (r_polynomial A (x ++ s ∷ []) w)) (times_q (r_polynomial A (x ++ s ∷ []) (w ++ s ∷ [])))

@@ -1,7 +1,7 @@
--- Rows: their last condition over any list that names the elements between x and w once, and that no element has two. For the difference of two
--- rows of w at a longest x where it is not 0 the condition says that it is itself turned round, against the bound on its degree.
-use Rattle.std.proofs.Common.{◌≡◌, ℕ, zero, suc, ◌+◌, ◌-◌, ◌*◌, ◌≤◌, ◌<◌, Bool, true, false, if◌then◌else◌, List, [], ◌∷◌, ◌⊎◌, inl, inr, ⊎_elim}
-use Rattle.std.proofs.Common.{ℤ, pos, ◌+ℤ◌, ◌-ℤ◌, ◌*ℤ◌, refl, ap, sym, ◌∙◌, subst, arith}
+-- Rows: their last condition over any list that names the elements between x and w once, and that no element has two. For the difference of
+-- two rows of w at a longest x where it is not 0 the condition says that it is itself turned round, against the bound on its degree.
+use Rattle.std.proofs.Common.{◌≡◌, ℕ, zero, suc, ◌+◌, ◌-◌, ◌*◌, ◌≤◌, ◌<◌, Bool, true, false, if◌then◌else◌, List, ◌⊎◌, inl, inr, ⊎_elim}
+use Rattle.std.proofs.Common.{pos, ◌-ℤ◌, refl, ap, sym, ◌∙◌, subst, arith}
 use Rattle.std.proofs.lemmas.Int.{ints}
 use Rattle.std.proofs.lemmas.Bool.{cases_lt, false≢true}
 use Rattle.cox_base.specs.IntegerMatrix.{IntegerMatrix}
@@ -9,21 +9,20 @@ use Rattle.cox_base.specs.Admissible.{IsAdmissible}
 use Rattle.cox_base.specs.Element.{SameElement}
 use Rattle.cox_base.specs.Length.{word_length}
 use Rattle.cox_base.specs.Bruhat.{IsBelow}
-use Rattle.cox_reflect.proofs.Elements.{same-refl, same-sym, same-trans}
+use Rattle.cox_reflect.proofs.Elements.{same-refl, same-sym}
 use Rattle.cox_reflect.proofs.Search.{word_length-equal}
-use Rattle.cox_reflect.proofs.Bruhat.{below-same, below-refl, below-trans, below-length, below-equal_length}
+use Rattle.cox_reflect.proofs.Bruhat.{below-same, below-trans, below-length, below-equal_length}
 use Rattle.cox_poly.specs.Coefficients.{Coefficients, zero_polynomial, one_polynomial}
 use Rattle.cox_poly.specs.Products.{minus, flip, product}
-use Rattle.cox_poly.specs.Size.{HasDegreeAtMost}
 use Rattle.cox_poly.proofs.Coefficients.{flip_at}
 use Rattle.cox_poly.proofs.Products.{product_of_none, product-zero, one-product}
 use Rattle.cox_rpoly.specs.RPolynomial.{r_polynomial}
 use Rattle.cox_rpoly.proofs.PolynomialLemmas.{r_polynomial-not_below, r_polynomial-equal}
-use Rattle.cox_hecke.specs.Family.{Family, RespectsElements}
-use Rattle.cox_hecke.specs.Sums.{is_same, occurrences, ListsEach, sum_over, bar_sum}
+use Rattle.cox_hecke.specs.Family.{Family, RespectsElements, is_same}
+use Rattle.cox_hecke.specs.Sums.{occurrences, bar_sum}
 use Rattle.cox_hecke.specs.Row.{IsBetween, IsRow}
 use Rattle.cox_hecke.proofs.SumLemmas.{sum_over-equal, sum_over-none, sum_over-one, sum_over-lists, same-is_same}
-use Rattle.cox_hecke.proofs.ElementLists.{Tells, Tells-ListsEach, below_list, below_or_not, between_list}
+use Rattle.cox_hecke.proofs.ElementLists.{Tells-ListsEach, below_list, below_or_not, between_list}
 use Rattle.cox_hecke.proofs.BarSums.{bar_term-respects}
 use Rattle.cox_hecke.proofs.Balance.{Balanced, Balanced-minus, bar_sum-minus, flip-none}
 
@@ -41,7 +40,8 @@ one_above (suc k) l = refl
 module _ (A : IntegerMatrix) (g : IsAdmissible A) where
   pub between_or_not : (x w y : List ℕ) → IsBetween A x w y ⊎ ((IsBelow A x y → ⊥) ⊎ (IsBelow A y w → ⊥))
   between_or_not x w y = ⊎_elim
-      (λ (b : IsBelow A x y). ⊎_elim (λ (c : IsBelow A y w). inl (record { above = b; below = c })) (λ (n : IsBelow A y w → ⊥). inr (inr n)) (below_or_not A g y w))
+      (λ (b : IsBelow A x y). ⊎_elim (λ (c : IsBelow A y w). inl (record { above = b; below = c })) (λ (n : IsBelow A y w → ⊥). inr (inr n))
+      (below_or_not A g y w))
       (λ (n : IsBelow A x y → ⊥). inr (inl n)) (below_or_not A g x y)
 
   -- ---- a family that is 0 outside the elements below w
@@ -75,7 +75,8 @@ module _ (A : IntegerMatrix) (g : IsAdmissible A) where
     -- at the elements that are no shorter than w it is as at w, or 0
     pub row-long : (x : List ℕ) → word_length A w ≤ word_length A x → (k : ℕ) → 0 < k → p x k ≡ pos 0
     row-long x l k some = ⊎_elim
-        (λ (b : IsBelow A x w). row.element x w (below-equal_length A g b (omega (arith, l, below-length A g b))) k ∙ row.top k ∙ one_above k some)
+        (λ (b : IsBelow A x w). row.element x w (below-equal_length A g b (omega (arith, l, below-length A g b))) k ∙ row.top k
+        ∙ one_above k some)
         (λ (n : IsBelow A x w → ⊥). row.outside x n k)
         (below_or_not A g x w)
 
@@ -95,7 +96,8 @@ module _ (A : IntegerMatrix) (g : IsAdmissible A) where
           (λ (l : word_length A w ≤ word_length A x). row-long x l k (omega (arith, above)))
           (cases_lt (word_length A x) (word_length A w));
       turned = λ x d e. ⊎_elim (λ (b : IsBelow A x w). turned x d e b)
-          (λ (n : IsBelow A x w → ⊥). ap (flip d) (outside_path w p row.outside x n) ∙ flip-none d ∙ sym (bar_sum-none w p row.outside words x n))
+          (λ (n : IsBelow A x w → ⊥). ap (flip d) (outside_path w p row.outside x n) ∙ flip-none d
+          ∙ sym (bar_sum-none w p row.outside words x n))
           (below_or_not A g x w);
     }
       where
@@ -185,12 +187,12 @@ module _ (A : IntegerMatrix) (g : IsAdmissible A) where
             nothing : (SameElement A x y → ⊥) → product (r_polynomial A x y) (difference y) k ≡ pos 0
             nothing n = ⊎_elim
                 (λ (b : IsBelow A x y).
-                    let l : word_length A x < word_length A y
-                    = ⊎_elim (λ l. l) (λ (m : word_length A y ≤ word_length A x).
-                        absurd (n (below-equal_length A g b (omega (arith, m, below-length A g b)))))
-                    (cases_lt (word_length A x) (word_length A y))
-                    in let none : difference y ≡ zero_polynomial = λ i k. longer y l k i
-                    in rw none (product-zero (r_polynomial A x y) k))
+                let l : word_length A x < word_length A y
+                = ⊎_elim (λ l. l) (λ (m : word_length A y ≤ word_length A x).
+                absurd (n (below-equal_length A g b (omega (arith, m, below-length A g b)))))
+                (cases_lt (word_length A x) (word_length A y))
+                in let none : difference y ≡ zero_polynomial = λ i k. longer y l k i
+                in rw none (product-zero (r_polynomial A x y) k))
                 (λ (n : IsBelow A x y → ⊥). term-none w difference outside x y k (inl n))
                 (below_or_not A g x y)
 
@@ -203,7 +205,8 @@ module _ (A : IntegerMatrix) (g : IsAdmissible A) where
         sum b k =
             sum_over-equal words (λ y. product (r_polynomial A x y) (difference y))
             (λ y. if is_same A x y then product (r_polynomial A x y) (difference y) else zero_polynomial) k (term k)
-            ∙ sum_over-one A g words x (λ y. product (r_polynomial A x y) (difference y)) k (bar_term-respects A g x difference difference-respects)
+            ∙ sum_over-one A g words x (λ y. product (r_polynomial A x y) (difference y)) k
+            (bar_term-respects A g x difference difference-respects)
             ∙ rw (once x b, r_polynomial-equal A g (same-refl A g x)) (omega (arith, ints, one-product (difference x) k))
 
         inside : IsBelow A x w → word_length A x < word_length A w → (k : ℕ) → difference x k ≡ pos 0

@@ -1,6 +1,6 @@
 -- Each element has a row, by induction on its length: that of e is 1 at e, and a left descent s of w makes the row of w from that of sw.
-use Rattle.std.proofs.Common.{◌≡◌, ℕ, zero, suc, ◌+◌, ◌≤◌, ◌<◌, Bool, true, false, not, if◌then◌else◌, List, [], ◌∷◌, ◌⊎◌, inl, inr, ⊎_elim}
-use Rattle.std.proofs.Common.{pos, refl, ap, sym, ◌∙◌, subst, arith}
+use Rattle.std.proofs.Common.{◌≡◌, ℕ, zero, suc, ◌≤◌, ◌<◌, false, not, List, [], ◌∷◌, ◌⊎◌, inl, inr, ⊎_elim}
+use Rattle.std.proofs.Common.{pos, refl, ap, ◌∙◌, arith}
 use Rattle.std.proofs.lemmas.Int.{ints}
 use Rattle.std.proofs.lemmas.Bool.{cases_lt, cases_eq}
 use Rattle.cox_base.specs.Matrix.{IsLetter}
@@ -11,23 +11,23 @@ use Rattle.cox_base.specs.ShortLex.{normal_form}
 use Rattle.cox_base.specs.Length.{word_length}
 use Rattle.cox_base.specs.Reduced.{IsLeftDescent}
 use Rattle.cox_base.specs.Bruhat.{IsBelow}
-use Rattle.cox_reflect.proofs.Elements.{same-refl, same-sym, same-trans, same-square}
+use Rattle.cox_reflect.proofs.Elements.{same-sym, same-trans, same-square}
 use Rattle.cox_reflect.proofs.Search.{normal_form-same, normal_form-equal, word_length-equal, word_length-length}
 use Rattle.cox_reflect.proofs.Roots.{left_descent-letter}
-use Rattle.cox_reflect.proofs.Bruhat.{below-same, below-refl, below-length, below_identity}
-use Rattle.cox_poly.specs.Coefficients.{Coefficients, zero_polynomial, one_polynomial, plus}
+use Rattle.cox_reflect.proofs.Bruhat.{below-refl, below-length}
+use Rattle.cox_poly.specs.Coefficients.{Coefficients, zero_polynomial, one_polynomial}
 use Rattle.cox_poly.specs.Products.{flip, product}
 use Rattle.cox_poly.specs.Size.{HasDegreeAtMost}
 use Rattle.cox_poly.proofs.Coefficients.{flip_at, flip_above}
 use Rattle.cox_poly.proofs.Products.{one-product}
 use Rattle.cox_rpoly.specs.RPolynomial.{r_polynomial}
 use Rattle.cox_rpoly.proofs.PolynomialLemmas.{r_polynomial-equal}
-use Rattle.cox_hecke.specs.Family.{Family, RespectsElements, unit}
+use Rattle.cox_hecke.specs.Family.{Family}
 use Rattle.cox_hecke.specs.Operators.{shortens_left}
-use Rattle.cox_hecke.specs.Sums.{is_same, occurrences, bar_sum}
+use Rattle.cox_hecke.specs.Sums.{bar_sum}
 use Rattle.cox_hecke.specs.Row.{IsRow}
 use Rattle.cox_hecke.proofs.Descents.{nat_lt-yes, shortens_left-back, some_left_descent, empty_same}
-use Rattle.cox_hecke.proofs.RPolynomials.{unit-respects, unit-other}
+use Rattle.cox_hecke.proofs.RPolynomials.{unit, unit-respects, unit-other}
 use Rattle.cox_hecke.proofs.SumLemmas.{same-is_same}
 use Rattle.cox_hecke.proofs.ElementLists.{below_list}
 use Rattle.cox_hecke.proofs.Balance.{Balanced}
@@ -105,7 +105,8 @@ module _ (A : IntegerMatrix) (g : IsAdmissible A) where
   chosen-row : (n : ℕ) (lower : Shorter n) (z : List ℕ) → word_length A z < n → IsRow A z (chosen n lower z)
   unfolding chosen
   chosen-row n lower z l =
-      row-same A g (normal_form A z) z (picked n lower (normal_form A z) (cases_lt (word_length A (normal_form A z)) n)) (normal_form-same A g z)
+      row-same A g (normal_form A z) z (picked n lower (normal_form A z) (cases_lt (word_length A (normal_form A z)) n))
+      (normal_form-same A g z)
       (picked-row n lower (normal_form A z) (cases_lt (word_length A (normal_form A z)) n)
       (omega (arith, l, word_length-equal A g (normal_form-same A g z))))
 
@@ -119,7 +120,7 @@ module _ (A : IntegerMatrix) (g : IsAdmissible A) where
       (λ (some : word_length A w ≡ 0 → ⊥). step (some_left_descent A g w (omega (arith, some)))) (cases_eq (word_length A w) 0)
     where
       step : (s : ℕ) × IsLeftDescent A w s → (p : Family) × IsRow A w p
-      step (s , d) =
+      step (s, d) =
           let letter : IsLetter A.rank s = left_descent-letter A g w s d
           in let rising : shortens_left A s (s ∷ w) ≡ false = shortens_left-back A g s w letter ∙ ap not (nat_lt-yes d)
           in let list = below_list A g (s ∷ w)
@@ -127,8 +128,8 @@ module _ (A : IntegerMatrix) (g : IsAdmissible A) where
           in (
             step_row A (s ∷ w) s next.0 (chosen n lower) list.0,
             row-same A g (s ∷ s ∷ w) w (step_row A (s ∷ w) s next.0 (chosen n lower) list.0) (same-square A g s w)
-            (step_row-is A (s ∷ w) s next.0 (chosen n lower) g letter rising next.1
-            (λ z b. chosen-row n lower z (omega (arith, l, d, below-length A g b))) (chosen-same n lower) list.0 list.1),
+                (step_row-is A (s ∷ w) s next.0 (chosen n lower) g letter rising next.1
+                (λ z b. chosen-row n lower z (omega (arith, l, d, below-length A g b))) (chosen-same n lower) list.0 list.1),
           )
 
   rows_below : (n : ℕ) (w : List ℕ) → word_length A w < n → (p : Family) × IsRow A w p

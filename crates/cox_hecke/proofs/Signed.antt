@@ -1,14 +1,13 @@
--- The operators with a sign: `true` for those of the Hecke algebra, with q - 1; `false` for those with 1 - q in its place, of which the second
--- is the recursion of R-polynomials. Left and right operators commute, and one of each kind undoes the other but for a factor q.
-use Rattle.std.proofs.Common.{◌≡◌, ℕ, zero, suc, ◌+◌, Bool, true, false, not, if◌then◌else◌, List, [], ◌∷◌, ◌++◌, reverse, refl, ap, sym, ◌∙◌, arith}
+-- The operators with a sign: `true` for those of the Hecke algebra, with q - 1; `false` for those with 1 - q in its place, of which the
+-- second is the recursion of R-polynomials. Left and right operators commute, and one of each kind undoes the other but for a factor q.
+use Rattle.std.proofs.Common.{◌≡◌, ℕ, zero, suc, Bool, true, false, not, if◌then◌else◌, List, [], ◌∷◌, ◌++◌, reverse, refl, sym, arith}
 use Rattle.std.proofs.lemmas.Int.{ints}
 use Rattle.std.proofs.lemmas.List.{reverse-append}
 use Rattle.cox_base.specs.Matrix.{IsLetter}
 use Rattle.cox_base.specs.IntegerMatrix.{IntegerMatrix}
 use Rattle.cox_base.specs.Admissible.{IsAdmissible}
 use Rattle.cox_base.specs.Element.{SameElement}
-use Rattle.cox_base.specs.Length.{word_length}
-use Rattle.cox_reflect.proofs.Elements.{same-refl, same-sym, same-trans, same-cons, same-push, same-square, same-push_twice, same-reverse}
+use Rattle.cox_reflect.proofs.Elements.{same-trans, same-cons, same-push, same-square, same-push_twice, same-reverse}
 use Rattle.cox_poly.specs.Coefficients.{Coefficients, plus, times_q, times_q_less_one}
 use Rattle.cox_poly.specs.Products.{minus, negated}
 use Rattle.cox_hecke.specs.Family.{Family, RespectsElements}
@@ -21,17 +20,42 @@ abbrev pub signed : Bool → Coefficients → Coefficients
 signed true f = times_q_less_one f
 signed false f = negated (times_q_less_one f)
 
+-- what an operator makes of the polynomials at sx and at x
+abbrev pub Combination : Type 0
+Combination = Coefficients → Coefficients → Coefficients
+
+-- the operator from the left, or from the right, with the one combination where the letter shortens x, and else with the other
+abbrev pub by_left : IntegerMatrix → Combination → Combination → ℕ → Family → Family
+by_left A shorter longer s h x = if shortens_left A s x then shorter (h (s ∷ x)) (h x) else longer (h (s ∷ x)) (h x)
+
+abbrev pub by_right : IntegerMatrix → Combination → Combination → ℕ → Family → Family
+by_right A shorter longer s h x = if shortens_right A s x then shorter (h (x ++ s ∷ [])) (h x) else longer (h (x ++ s ∷ [])) (h x)
+
+-- those of T(s)
+abbrev pub plus_signed : Bool → Combination
+plus_signed b f c = plus f (signed b c)
+
+abbrev pub first_times_q : Combination
+first_times_q f c = times_q f
+
 abbrev pub left_signed : IntegerMatrix → Bool → ℕ → Family → Family
-left_signed A b s h x = if shortens_left A s x then plus (h (s ∷ x)) (signed b (h x)) else times_q (h (s ∷ x))
+left_signed A b = by_left A (plus_signed b) first_times_q
 
 abbrev pub right_signed : IntegerMatrix → Bool → ℕ → Family → Family
-right_signed A b s h x = if shortens_right A s x then plus (h (x ++ s ∷ [])) (signed b (h x)) else times_q (h (x ++ s ∷ []))
+right_signed A b = by_right A (plus_signed b) first_times_q
+
+-- those of q T(s)^-1
+abbrev pub first_alone : Combination
+first_alone f c = f
+
+abbrev pub minus_signed : Bool → Combination
+minus_signed b f c = minus (times_q f) (signed b c)
 
 abbrev pub left_back : IntegerMatrix → Bool → ℕ → Family → Family
-left_back A b s h x = if shortens_left A s x then h (s ∷ x) else minus (times_q (h (s ∷ x))) (signed b (h x))
+left_back A b = by_left A first_alone (minus_signed b)
 
 abbrev pub right_back : IntegerMatrix → Bool → ℕ → Family → Family
-right_back A b s h x = if shortens_right A s x then h (x ++ s ∷ []) else minus (times_q (h (x ++ s ∷ []))) (signed b (h x))
+right_back A b = by_right A first_alone (minus_signed b)
 
 -- q h
 abbrev pub family_times_q : Family → Family
@@ -65,12 +89,16 @@ back-left_core false false a c zero = omega (arith, ints)
 back-left_core false false a c (suc zero) = omega (arith, ints)
 back-left_core false false a c (suc (suc k)) = omega (arith, ints)
 
--- h at x, sx, xt, sxt; p and r whether s and t shorten x
-commute_core : (b p r : Bool) (a c d e : Coefficients) (k : ℕ)
-    → (if p then plus (if r then plus e (signed b c) else times_q e) (signed b (if r then plus d (signed b a) else times_q d))
-    else times_q (if r then plus e (signed b c) else times_q e)) k
-    ≡ (if r then plus (if p then plus e (signed b d) else times_q e) (signed b (if p then plus c (signed b a) else times_q c))
-    else times_q (if p then plus e (signed b d) else times_q e)) k
+-- The polynomials of h at x, sx, xt, sxt; p and r say whether s and t shorten x, and also xt and sx. Then the left operator commutes with
+-- the right one.
+abbrev Commute : Combination → Combination → Type 0
+Commute shorter longer = (p r : Bool) (a c d e : Coefficients) (k : ℕ)
+    → (if p then shorter (if r then shorter e c else longer e c) (if r then shorter d a else longer d a)
+    else longer (if r then shorter e c else longer e c) (if r then shorter d a else longer d a)) k
+    ≡ (if r then shorter (if p then shorter e d else longer e d) (if p then shorter c a else longer c a)
+    else longer (if p then shorter e d else longer e d) (if p then shorter c a else longer c a)) k
+
+commute_core : (b : Bool) → Commute (plus_signed b) first_times_q
 commute_core true true true a c d e zero = omega (arith, ints)
 commute_core true true true a c d e (suc zero) = omega (arith, ints)
 commute_core true true true a c d e (suc (suc k)) = omega (arith, ints)
@@ -91,11 +119,7 @@ commute_core false false true a c d e (suc zero) = omega (arith, ints)
 commute_core false false true a c d e (suc (suc k)) = omega (arith, ints)
 commute_core b false false a c d e k = refl
 
-commute_back_core : (b p r : Bool) (a c d e : Coefficients) (k : ℕ)
-    → (if p then (if r then e else minus (times_q e) (signed b c))
-    else minus (times_q (if r then e else minus (times_q e) (signed b c))) (signed b (if r then d else minus (times_q d) (signed b a)))) k
-    ≡ (if r then (if p then e else minus (times_q e) (signed b d))
-    else minus (times_q (if p then e else minus (times_q e) (signed b d))) (signed b (if p then c else minus (times_q c) (signed b a)))) k
+commute_back_core : (b : Bool) → Commute first_alone (minus_signed b)
 commute_back_core b true true a c d e k = refl
 commute_back_core b true false a c d e k = refl
 commute_back_core b false true a c d e k = refl
@@ -145,21 +169,11 @@ module _ (A : IntegerMatrix) (g : IsAdmissible A) where
 
   -- ---- what they make of families that respect elements respects them
 
-  pub left_signed-respects : (b : Bool) (s : ℕ) (h : Family) → RespectsElements A h → RespectsElements A (left_signed A b s h)
-  left_signed-respects b s h r x y e k =
-      rw (shortens_left-same A g s e, respected r e, respected r (same-cons A g s e)) refl
+  pub by_left-respects : (up down : Combination) (s : ℕ) (h : Family) → RespectsElements A h → RespectsElements A (by_left A up down s h)
+  by_left-respects up down s h r x y e k = rw (shortens_left-same A g s e, respected r e, respected r (same-cons A g s e)) refl
 
-  pub right_signed-respects : (b : Bool) (s : ℕ) (h : Family) → RespectsElements A h → RespectsElements A (right_signed A b s h)
-  right_signed-respects b s h r x y e k =
-      rw (shortens_right-same A g s e, respected r e, respected r (same-push A g s e)) refl
-
-  pub left_back-respects : (b : Bool) (s : ℕ) (h : Family) → RespectsElements A h → RespectsElements A (left_back A b s h)
-  left_back-respects b s h r x y e k =
-      rw (shortens_left-same A g s e, respected r e, respected r (same-cons A g s e)) refl
-
-  pub right_back-respects : (b : Bool) (s : ℕ) (h : Family) → RespectsElements A h → RespectsElements A (right_back A b s h)
-  right_back-respects b s h r x y e k =
-      rw (shortens_right-same A g s e, respected r e, respected r (same-push A g s e)) refl
+  pub by_right-respects : (up down : Combination) (s : ℕ) (h : Family) → RespectsElements A h → RespectsElements A (by_right A up down s h)
+  by_right-respects up down s h r x y e k = rw (shortens_right-same A g s e, respected r e, respected r (same-push A g s e)) refl
 
   pub family_times_q-respects : (h : Family) → RespectsElements A h → RespectsElements A (family_times_q h)
   family_times_q-respects h r x y e zero = refl
@@ -175,59 +189,75 @@ module _ (A : IntegerMatrix) (g : IsAdmissible A) where
   left-back b s h l r = λ i x k. at x k i
     where
       at : (x : List ℕ) (k : ℕ) → left_signed A b s (left_back A b s h) x k ≡ times_q (h x) k
-      at x k = rw (shortens_left-back A g s x l, respected r (same-square A g s x)) (left-back_core b (shortens_left A s x) (h x) (h (s ∷ x)) k)
+      at x k = rw (shortens_left-back A g s x l, respected r (same-square A g s x))
+          (left-back_core b (shortens_left A s x) (h x) (h (s ∷ x)) k)
 
   pub back-left : (b : Bool) (s : ℕ) (h : Family) → IsLetter A.rank s → RespectsElements A h
       → left_back A b s (left_signed A b s h) ≡ family_times_q h
   back-left b s h l r = λ i x k. at x k i
     where
       at : (x : List ℕ) (k : ℕ) → left_back A b s (left_signed A b s h) x k ≡ times_q (h x) k
-      at x k = rw (shortens_left-back A g s x l, respected r (same-square A g s x)) (back-left_core b (shortens_left A s x) (h x) (h (s ∷ x)) k)
+      at x k = rw (shortens_left-back A g s x l, respected r (same-square A g s x))
+          (back-left_core b (shortens_left A s x) (h x) (h (s ∷ x)) k)
 
   -- ---- left and right commute
 
-  module _ (b : Bool) (s t : ℕ) (h : Family) (l : IsLetter A.rank s) (m : IsLetter A.rank t) (r : RespectsElements A h) where
+  module _ (shorter longer : Combination) (core : Commute shorter longer) (s t : ℕ) (h : Family) (l : IsLetter A.rank s)
+      (m : IsLetter A.rank t) (r : RespectsElements A h) where
     around : (x : List ℕ) → SameElement A (s ∷ x) (x ++ t ∷ []) → SameElement A (s ∷ x ++ t ∷ []) x
     around x e = same-trans A g (same-push A g t e) (same-push_twice A g x t)
 
+    -- where sx = xt both give the same combination of h(x) and h(sx)
     far : (x : List ℕ) (p : Bool) → SameElement A (s ∷ x) (x ++ t ∷ []) → shortens_left A s x ≡ p → shortens_right A t x ≡ p
-        → (k : ℕ) → left_signed A b s (right_signed A b t h) x k ≡ right_signed A b t (left_signed A b s h) x k
+        → (k : ℕ) → by_left A shorter longer s (by_right A shorter longer t h) x k
+        ≡ by_right A shorter longer t (by_left A shorter longer s h) x k
     far x true e p q k =
-        rw (sym (shortens_left-same A g s e), shortens_right-same A g t e, shortens_left-back A g s x l, shortens_right-back A g t x m, p, q,
-        respected r (around x e), respected r e) refl
+        rw (
+          sym (shortens_left-same A g s e),
+          shortens_right-same A g t e,
+          shortens_left-back A g s x l,
+          shortens_right-back A g t x m,
+          p,
+          q,
+          respected r (around x e),
+          respected r e,
+        ) refl
     far x false e p q k =
-        rw (sym (shortens_left-same A g s e), shortens_right-same A g t e, shortens_left-back A g s x l, shortens_right-back A g t x m, p, q,
-        respected r (around x e), respected r e) refl
+        rw (
+          sym (shortens_left-same A g s e),
+          shortens_right-same A g t e,
+          shortens_left-back A g s x l,
+          shortens_right-back A g t x m,
+          p,
+          q,
+          respected r (around x e),
+          respected r e,
+        ) refl
 
-    pub left-right : left_signed A b s (right_signed A b t h) ≡ right_signed A b t (left_signed A b s h)
-    left-right = λ i x k. at x k (sides_of A g s t x l m) i
+    by_left-by_right : by_left A shorter longer s (by_right A shorter longer t h)
+        ≡ by_right A shorter longer t (by_left A shorter longer s h)
+    by_left-by_right = λ i x k. at x k (sides_of A g s t x l m) i
       where
-        at : (x : List ℕ) (k : ℕ) → SidesOf A g s t x → left_signed A b s (right_signed A b t h) x k ≡ right_signed A b t (left_signed A b s h) x k
+        at : (x : List ℕ) (k : ℕ) → SidesOf A g s t x
+            → by_left A shorter longer s (by_right A shorter longer t h) x k
+            ≡ by_right A shorter longer t (by_left A shorter longer s h) x k
         at x k (apart p q) =
-            rw (p, q) (commute_core b (shortens_left A s x) (shortens_right A t x) (h x) (h (s ∷ x)) (h (x ++ t ∷ [])) (h (s ∷ x ++ t ∷ [])) k)
+            rw (p, q) (core (shortens_left A s x) (shortens_right A t x) (h x) (h (s ∷ x)) (h (x ++ t ∷ [])) (h (s ∷ x ++ t ∷ [])) k)
         at x k (together e p) = far x (shortens_left A s x) e refl (sym p) k
 
-    far_back : (x : List ℕ) (p : Bool) → SameElement A (s ∷ x) (x ++ t ∷ []) → shortens_left A s x ≡ p → shortens_right A t x ≡ p
-        → (k : ℕ) → left_back A b s (right_back A b t h) x k ≡ right_back A b t (left_back A b s h) x k
-    far_back x true e p q k =
-        rw (sym (shortens_left-same A g s e), shortens_right-same A g t e, shortens_left-back A g s x l, shortens_right-back A g t x m, p, q,
-        respected r (around x e), respected r e) refl
-    far_back x false e p q k =
-        rw (sym (shortens_left-same A g s e), shortens_right-same A g t e, shortens_left-back A g s x l, shortens_right-back A g t x m, p, q,
-        respected r (around x e), respected r e) refl
+  pub left-right : (b : Bool) (s t : ℕ) (h : Family) → IsLetter A.rank s → IsLetter A.rank t → RespectsElements A h
+      → left_signed A b s (right_signed A b t h) ≡ right_signed A b t (left_signed A b s h)
+  left-right b s t h l m r = by_left-by_right (plus_signed b) first_times_q (commute_core b) s t h l m r
 
-    pub left_back-right_back : left_back A b s (right_back A b t h) ≡ right_back A b t (left_back A b s h)
-    left_back-right_back = λ i x k. at x k (sides_of A g s t x l m) i
-      where
-        at : (x : List ℕ) (k : ℕ) → SidesOf A g s t x → left_back A b s (right_back A b t h) x k ≡ right_back A b t (left_back A b s h) x k
-        at x k (apart p q) =
-            rw (p, q) (commute_back_core b (shortens_left A s x) (shortens_right A t x) (h x) (h (s ∷ x)) (h (x ++ t ∷ [])) (h (s ∷ x ++ t ∷ [])) k)
-        at x k (together e p) = far_back x (shortens_left A s x) e refl (sym p) k
+  pub left_back-right_back : (b : Bool) (s t : ℕ) (h : Family) → IsLetter A.rank s → IsLetter A.rank t → RespectsElements A h
+      → left_back A b s (right_back A b t h) ≡ right_back A b t (left_back A b s h)
+  left_back-right_back b s t h l m r = by_left-by_right first_alone (minus_signed b) (commute_back_core b) s t h l m r
 
   -- ---- inverses turn left into right
 
-  pub at_inverses-left_back : (b : Bool) (s : ℕ) (h : Family) → at_inverses (left_back A b s h) ≡ right_back A b s (at_inverses h)
-  at_inverses-left_back b s h = λ i x. at x i
+  pub at_inverses-by_left : (up down : Combination) (s : ℕ) (h : Family)
+      → at_inverses (by_left A up down s h) ≡ by_right A up down s (at_inverses h)
+  at_inverses-by_left up down s h = λ i x. at x i
     where
-      at : (x : List ℕ) → left_back A b s h (reverse x) ≡ right_back A b s (at_inverses h) x
+      at : (x : List ℕ) → by_left A up down s h (reverse x) ≡ by_right A up down s (at_inverses h) x
       at x = rw (shortens-reverse A g s x, reverse-append x (s ∷ [])) refl

@@ -1,5 +1,6 @@
 -- The step family of w = sv > v is the row of w: its degree bound, its value 1 at w, and that it is 0 unless x ≤ w.
-use Rattle.std.proofs.Common.{◌≡◌, ℕ, zero, suc, ◌+◌, ◌-◌, ◌*◌, ◌≤◌, ◌<◌, Bool, true, false, not, if◌then◌else◌, List, [], ◌∷◌, ◌⊎◌, inl, inr, ⊎_elim}
+use Rattle.std.proofs.Common.{◌≡◌, ℕ, zero, suc, ◌+◌, ◌-◌, ◌*◌, ◌≤◌, ◌<◌, Bool, true, false, not, if◌then◌else◌, List, ◌∷◌, ◌⊎◌, inl, inr}
+use Rattle.std.proofs.Common.{⊎_elim}
 use Rattle.std.proofs.Common.{ℤ, pos, ◌+ℤ◌, ◌-ℤ◌, ◌*ℤ◌, refl, ap, sym, ◌∙◌, subst, arith}
 use Rattle.std.proofs.lemmas.Int.{ints}
 use Rattle.std.proofs.lemmas.Bool.{cases_lt, cases_eq, false≢true}
@@ -10,25 +11,26 @@ use Rattle.cox_base.specs.Admissible.{IsAdmissible}
 use Rattle.cox_base.specs.Element.{SameElement}
 use Rattle.cox_base.specs.Length.{word_length}
 use Rattle.cox_base.specs.Bruhat.{IsBelow}
-use Rattle.cox_reflect.proofs.Elements.{same-refl, same-sym, same-trans, same-cons, same-square}
-use Rattle.cox_reflect.proofs.Search.{word_length-equal}
+use Rattle.cox_reflect.proofs.Elements.{same-refl, same-square}
 use Rattle.cox_reflect.proofs.Bruhat.{below-same, below-trans, below-length, below-equal_length, below-cons}
 use Rattle.cox_poly.specs.Coefficients.{Coefficients, zero_polynomial, one_polynomial, plus, times_q}
 use Rattle.cox_poly.specs.Products.{times_q_power}
 use Rattle.cox_poly.proofs.Coefficients.{times_q_power_at, times_q_power_below}
-use Rattle.cox_hecke.specs.Family.{Family, RespectsElements}
+use Rattle.cox_hecke.specs.Family.{Family, RespectsElements, is_same}
 use Rattle.cox_hecke.specs.Operators.{shortens_left}
-use Rattle.cox_hecke.specs.Sums.{is_same, occurrences, sum_over}
+use Rattle.cox_hecke.specs.Sums.{occurrences}
 use Rattle.cox_hecke.specs.Row.{IsRow}
 use Rattle.cox_hecke.specs.Step.{step}
 use Rattle.cox_hecke.proofs.Descents.{Moves, left_moves, shortens_left-same, shortens_left-back}
-use Rattle.cox_hecke.proofs.SumLemmas.{sum_over-equal, sum_over-none, sum_over-one, same-is_same, is_same-same}
-use Rattle.cox_hecke.proofs.ElementLists.{Tells, Tells-ListsEach, below_list, below_or_not}
+use Rattle.cox_hecke.proofs.SumLemmas.{sum_over-equal, sum_over-none, sum_over-one, same-is_same}
+use Rattle.cox_hecke.proofs.ElementLists.{Tells, Tells-ListsEach, below_list}
 use Rattle.cox_hecke.proofs.BarSums.{step-shorter, step-longer, step-respects}
-use Rattle.cox_hecke.proofs.Balance.{Balanced, times_q-none}
+use Rattle.cox_hecke.proofs.Balance.{times_q-none}
 use Rattle.cox_hecke.proofs.RowLemmas.{row-from, row-long, row-longer, row-other, one_above, outside_path}
-use Rattle.cox_hecke.proofs.StepRow.{scale, half, correction, corrections, step_row, Corrects, scale-is, correction-none, correction-at, step_row-at, corrections-is}
-use Rattle.cox_hecke.proofs.StepRow.{size, upper, descent, lower_below, corrects_or_not, half-is, correction-same, corrections-respects, step_row-balanced}
+use Rattle.cox_hecke.proofs.StepRow.{scale, half, correction, corrections, step_row, Corrects, scale-is, correction-none, correction-at}
+use Rattle.cox_hecke.proofs.StepRow.{step_row-at, corrections-is}
+use Rattle.cox_hecke.proofs.StepRow.{size, upper, descent, lower_below, corrects_or_not, half-is, correction-same, corrections-respects}
+use Rattle.cox_hecke.proofs.StepRow.{step_row-balanced}
 
 nothing_shorter : (k : ℕ) → plus zero_polynomial (times_q zero_polynomial) k ≡ pos 0
 nothing_shorter zero = refl
@@ -73,16 +75,17 @@ module _ (A : IntegerMatrix) (v : List ℕ) (s : ℕ) (p : Family) (P : List ℕ
 
     far_or_none : (z : List ℕ) → (SameElement A x z → ⊥) → correction A v s p P z x k ≡ pos 0
     far_or_none z other = ⊎_elim (λ (c : Corrects A v s p P z). far z c other)
-        (λ (n : scale A v s p P z ≡ pos 0). at_x (correction-none A v s p P z n x) k) (corrects_or_not A v s p P g l rising row rows same_rows z)
+        (λ (n : scale A v s p P z ≡ pos 0). at_x (correction-none A v s p P z n x) k)
+        (corrects_or_not A v s p P g l rising row rows same_rows z)
 
     -- where sx > x: all of them
     corrections-longer : (words : List (List ℕ)) → shortens_left A s x ≡ false → corrections A v s p P words x k ≡ pos 0
     corrections-longer words e =
         corrections-is A v s p P words x k ∙ sum_over-none words (λ z. correction A v s p P z x) k
         (λ z. ⊎_elim
-            (λ (c : Corrects A v s p P z). far z c (λ same. false≢true (sym e ∙ shortens_left-same A g s same ∙ c.shortens)))
-            (λ (n : scale A v s p P z ≡ pos 0). at_x (correction-none A v s p P z n x) k)
-            (corrects_or_not A v s p P g l rising row rows same_rows z))
+        (λ (c : Corrects A v s p P z). far z c (λ same. false≢true (sym e ∙ shortens_left-same A g s same ∙ c.shortens)))
+        (λ (n : scale A v s p P z ≡ pos 0). at_x (correction-none A v s p P z n x) k)
+        (corrects_or_not A v s p P g l rising row rows same_rows z))
 
     -- else all but the correction by x
     corrections-own : (words : List (List ℕ)) → corrections A v s p P words x k ≡ pos (occurrences A x words) *ℤ correction A v s p P x x k
@@ -168,7 +171,8 @@ module _ (A : IntegerMatrix) (v : List ℕ) (s : ℕ) (p : Family) (P : List ℕ
           )
       go true e m (suc j) bound =
           let m' : word_length A x ≡ suc (word_length A (s ∷ x)) = moves true e m
-          in let there : p (s ∷ x) (suc j) ≡ pos 0 = row.degree (s ∷ x) (suc j) (omega (arith, less, longer, m')) (omega (arith, bound, longer, m'))
+          in let there : p (s ∷ x) (suc j)
+          ≡ pos 0 = row.degree (s ∷ x) (suc j) (omega (arith, less, longer, m')) (omega (arith, bound, longer, m'))
           in let same : corrections A v s p P words x (suc j) ≡ p x j = corrections-own x (suc j) bound words ∙ middle
           in omega (arith, ints, at_x (step-shorter A g s p x e) (suc j), there, same)
         where
@@ -180,7 +184,7 @@ module _ (A : IntegerMatrix) (v : List ℕ) (s : ℕ) (p : Family) (P : List ℕ
               inside one b =
                   let short : word_length A x < word_length A v
                   = ⊎_elim (λ l. l) (λ (long : word_length A v ≤ word_length A x).
-                      absurd (not_v x e (below-equal_length A g b (omega (arith, long, below-length A g b)))))
+                  absurd (not_v x e (below-equal_length A g b (omega (arith, long, below-length A g b)))))
                   (cases_lt (word_length A x) (word_length A v))
                   in rw one (omega (arith, ints, own x j e b short (omega (arith, bound, longer))))
 
@@ -205,14 +209,15 @@ module _ (A : IntegerMatrix) (v : List ℕ) (s : ℕ) (p : Family) (P : List ℕ
           )
 
       -- at an x for which all rows of elements below v are 0, and p is 0 at x
-      only_there : (x : List ℕ) (k : ℕ) → ((z : List ℕ) → IsBelow A z v → (j : ℕ) → P z x j ≡ pos 0) → corrections A v s p P words x k ≡ pos 0
+      only_there : (x : List ℕ) (k : ℕ) → ((z : List ℕ) → IsBelow A z v → (j : ℕ) → P z x j ≡ pos 0)
+          → corrections A v s p P words x k ≡ pos 0
       only_there x k none =
           corrections-is A v s p P words x k ∙ sum_over-none words (λ z. correction A v s p P z x) k
           (λ z. ⊎_elim
-              (λ (c : Corrects A v s p P z). correction-at A v s p P z x k
-              ∙ no_product (scale A v s p P z) (times_q_power (half A v s p P z) (P z x) k) (power z c.below (half A v s p P z)))
-              (λ (n : scale A v s p P z ≡ pos 0). at_x (correction-none A v s p P z n x) k)
-              (corrects_or_not A v s p P g l rising row rows same_rows z))
+          (λ (c : Corrects A v s p P z). correction-at A v s p P z x k
+          ∙ no_product (scale A v s p P z) (times_q_power (half A v s p P z) (P z x) k) (power z c.below (half A v s p P z)))
+          (λ (n : scale A v s p P z ≡ pos 0). at_x (correction-none A v s p P z n x) k)
+          (corrects_or_not A v s p P g l rising row rows same_rows z))
         where
           power : (z : List ℕ) → IsBelow A z v → (n : ℕ) → times_q_power n (P z x) k ≡ pos 0
           power z b n = ⊎_elim (λ (low : k < n). times_q_power_below (P z x) n k low)

@@ -1,11 +1,11 @@
--- The step from the row p of v to that of w = sv > v: (1 + T(s)) p, less mu(z,v) q^((l(w)-l(z))/2) times the row of z for each z below v with
--- sz < z. Bar respects each part. The degree bound can fail for (1 + T(s)) p at an x with sx < x alone, by one coefficient, mu(x,v); the
--- correction by z = x takes that away, and the others meet the bound.
-use Rattle.std.proofs.Common.{◌≡◌, ℕ, zero, suc, ◌+◌, ◌-◌, ◌*◌, ◌/◌, ◌%◌, ◌≤◌, ◌<◌, Bool, true, false, not, if◌then◌else◌, List, [], ◌∷◌, ◌⊎◌, inl, inr, ⊎_elim}
-use Rattle.std.proofs.Common.{ℤ, pos, ◌+ℤ◌, ◌-ℤ◌, ◌*ℤ◌, refl, ap, sym, ◌∙◌, subst, arith}
+-- The step from the row p of v to that of w = sv > v: (1 + T(s)) p, less mu(z,v) q^((l(w)-l(z))/2) times the row of z for each z below v
+-- with sz < z. Bar respects each part. The degree bound can fail for (1 + T(s)) p at an x with sx < x alone, by one coefficient, mu(x,v);
+-- the correction by z = x takes that away, and the others meet the bound.
+use Rattle.std.proofs.Common.{◌≡◌, ℕ, suc, ◌+◌, ◌-◌, ◌*◌, ◌/◌, ◌%◌, Bool, true, false, not, if◌then◌else◌, List, [], ◌∷◌, ◌⊎◌, inl, inr}
+use Rattle.std.proofs.Common.{⊎_elim}
+use Rattle.std.proofs.Common.{ℤ, pos, ◌-ℤ◌, ◌*ℤ◌, refl, ap, sym, ◌∙◌, subst, arith}
 use Rattle.std.specs.Prelude.{◌==◌}
 use Rattle.std.proofs.lemmas.Int.{ints}
-use Rattle.std.proofs.lemmas.Bool.{cases_lt, cases_eq, false≢true}
 use Rattle.std.proofs.lemmas.Bool.Decides.{nat_tests}
 use Rattle.cox_base.specs.declared.side.Side.TheVariants.{Left}
 use Rattle.cox_base.specs.Matrix.{IsLetter}
@@ -15,27 +15,27 @@ use Rattle.cox_base.specs.Element.{SameElement}
 use Rattle.cox_base.specs.Length.{word_length}
 use Rattle.cox_base.specs.Reduced.{IsLeftDescent}
 use Rattle.cox_base.specs.Bruhat.{IsBelow}
-use Rattle.cox_reflect.proofs.Elements.{same-refl, same-sym, same-trans, same-cons, same-square}
+use Rattle.cox_reflect.proofs.Elements.{same-refl, same-square}
 use Rattle.cox_reflect.proofs.Search.{word_length-equal}
-use Rattle.cox_reflect.proofs.Bruhat.{below-same, below-refl, below-trans, below-length, below-equal_length, below-descent, below-cons}
-use Rattle.cox_poly.specs.Coefficients.{Coefficients, zero_polynomial, one_polynomial, plus, times_q}
+use Rattle.cox_reflect.proofs.Bruhat.{below-same, below-trans, below-descent, below-cons}
+use Rattle.cox_poly.specs.Coefficients.{Coefficients, zero_polynomial}
 use Rattle.cox_poly.specs.Products.{minus, scaled, times_q_power, product}
 use Rattle.cox_poly.proofs.Products.{product-zero}
 use Rattle.cox_rpoly.specs.RPolynomial.{r_polynomial}
-use Rattle.cox_poly.proofs.Coefficients.{times_q_power_at, times_q_power_below}
 use Rattle.cox_hecke.specs.Family.{Family, RespectsElements}
 use Rattle.cox_hecke.specs.Operators.{shortens_left}
-use Rattle.cox_hecke.specs.Sums.{is_same, occurrences, ListsEach, IsClosedUnder, sum_over, bar_sum}
+use Rattle.cox_hecke.specs.Sums.{occurrences, IsClosedUnder, sum_over, bar_sum}
 use Rattle.cox_hecke.specs.Row.{IsRow, middle_coefficient}
 use Rattle.cox_hecke.specs.Step.{step}
-use Rattle.cox_hecke.proofs.Descents.{Moves, left_moves, nat_lt-yes, yes-nat_lt, shortens_left-same, shortens_left-back}
+use Rattle.cox_hecke.proofs.Descents.{Moves, left_moves, yes-nat_lt, shortens_left-same, shortens_left-back}
 use Rattle.cox_hecke.proofs.Signed.{respected}
-use Rattle.cox_hecke.proofs.SumLemmas.{sum_over-equal, sum_over-none, sum_over-one, same-is_same, not_same-is_same, is_same-same}
-use Rattle.cox_hecke.proofs.ElementLists.{Tells, Tells-ListsEach, below_list, below_or_not}
-use Rattle.cox_hecke.proofs.BarSums.{step-shorter, step-longer, step-respects, bar-shorter, bar-longer}
-use Rattle.cox_hecke.proofs.Balance.{Balanced, Balanced-none, Balanced-plus, Balanced-minus, Balanced-scaled, Balanced-times_q_power, Balanced-step}
-use Rattle.cox_hecke.proofs.Balance.{step_sums, bar_sum-plus, bar_sum-minus, bar_sum-scaled, bar_sum-times_q_power, plus_paths, times_q-none}
-use Rattle.cox_hecke.proofs.RowLemmas.{row-balanced, row-from, row-long, row-longer, row-other, outside_path, bar_sum-none, one_above}
+use Rattle.cox_hecke.proofs.SumLemmas.{sum_over-equal, sum_over-none}
+use Rattle.cox_hecke.proofs.ElementLists.{Tells, Tells-ListsEach, below_or_not}
+use Rattle.cox_hecke.proofs.BarSums.{bar-shorter, bar-longer}
+use Rattle.cox_hecke.proofs.Balance.{Balanced, Balanced-none, Balanced-plus, Balanced-minus, Balanced-scaled, Balanced-times_q_power}
+use Rattle.cox_hecke.proofs.Balance.{Balanced-step}
+use Rattle.cox_hecke.proofs.Balance.{step_sums, bar_sum-plus, bar_sum-minus, bar_sum-scaled, bar_sum-times_q_power}
+use Rattle.cox_hecke.proofs.RowLemmas.{row-balanced}
 
 module _ (A : IntegerMatrix) (v : List ℕ) (s : ℕ) (p : Family) (P : List ℕ → Family) where
   -- mu(z,v) where s shortens z, else 0
@@ -65,9 +65,18 @@ module _ (A : IntegerMatrix) (v : List ℕ) (s : ℕ) (p : Family) (P : List ℕ
   pub scale-is : (z : List ℕ) → Corrects z → (j : ℕ) → word_length A v ≡ word_length A z + suc (2 * j) → scale z ≡ p z j
   unfolding scale
   scale-is z c j e =
-      let odd : ((word_length A v - word_length A z) % 2 == 1) ≡ true = (let m : (word_length A v - word_length A z) % 2 ≡ 1 = omega (arith, e) in rw m refl)
+      let odd : ((word_length A v - word_length A z) % 2 == 1)
+      ≡ true = (let m : (word_length A v - word_length A z) % 2 ≡ 1 = omega (arith, e) in rw m refl)
       in let middle : (word_length A v - word_length A z) / 2 ≡ j = omega (arith, e)
       in rw (c.shortens, odd, middle) refl
+
+  pub scale-shortens : (z : List ℕ) → shortens_left A s z ≡ true → scale z ≡ middle_coefficient (word_length A v - word_length A z) (p z)
+  unfolding scale
+  scale-shortens z e = rw e refl
+
+  pub half-at : (z : List ℕ) → half z ≡ (word_length A (s ∷ v) - word_length A z) / 2
+  unfolding half
+  half-at z = refl
 
   scale-long : (z : List ℕ) → shortens_left A s z ≡ false → scale z ≡ pos 0
   unfolding scale
@@ -86,7 +95,8 @@ module _ (A : IntegerMatrix) (v : List ℕ) (s : ℕ) (p : Family) (P : List ℕ
   unfolding scale
   scale-even z e = go (shortens_left A s z)
     where
-      go : (a : Bool) → (if a then (if (word_length A v - word_length A z) % 2 == 1 then p z ((word_length A v - word_length A z) / 2) else pos 0) else pos 0) ≡ pos 0
+      go : (a : Bool) → (if a then (if (word_length A v - word_length A z) % 2 == 1 then p z
+          ((word_length A v - word_length A z) / 2) else pos 0) else pos 0) ≡ pos 0
       go true = rw e refl
       go false = refl
 
@@ -132,7 +142,8 @@ module _ (A : IntegerMatrix) (v : List ℕ) (s : ℕ) (p : Family) (P : List ℕ
             (λ (n : IsBelow A z v → ⊥). inr (scale-none z (row.outside z n)))
             (below_or_not A g z v)
           where
-            odd : ((word_length A v - word_length A z) % 2 == 1) ≡ true → word_length A v ≡ word_length A z + suc (2 * ((word_length A v - word_length A z) / 2))
+            odd : ((word_length A v - word_length A z) % 2 == 1) ≡ true
+                → word_length A v ≡ word_length A z + suc (2 * ((word_length A v - word_length A z) / 2))
             odd f = let m : (word_length A v - word_length A z) % 2 ≡ 1 = grind (arith, nat_tests) in omega (arith, m)
         go true false e f = inr (scale-even z f)
         go false b e f = inr (scale-long z e)
@@ -143,7 +154,7 @@ module _ (A : IntegerMatrix) (v : List ℕ) (s : ℕ) (p : Family) (P : List ℕ
 
     -- ---- the corrections respect elements, on either side
 
-    scale-same : {y z : List ℕ} → SameElement A y z → scale y ≡ scale z
+    pub scale-same : {y z : List ℕ} → SameElement A y z → scale y ≡ scale z
     unfolding scale
     scale-same {y} {z} e = rw (shortens_left-same A g s e, word_length-equal A g e, respected A g row.element e) refl
 
@@ -163,7 +174,8 @@ module _ (A : IntegerMatrix) (v : List ℕ) (s : ℕ) (p : Family) (P : List ℕ
 
     pub corrections-respects : (words : List (List ℕ)) → RespectsElements A (corrections words)
     unfolding corrections
-    corrections-respects words x y e k = sum_over-equal words (λ z. correction z x) (λ z. correction z y) k (λ z. correction-respects z x y e k)
+    corrections-respects words x y e k = sum_over-equal words (λ z. correction z x) (λ z. correction z y) k
+        (λ z. correction-respects z x y e k)
 
     -- ---- bar
 
@@ -177,8 +189,8 @@ module _ (A : IntegerMatrix) (v : List ℕ) (s : ℕ) (p : Family) (P : List ℕ
         closed = λ x. ⊎_elim
             (λ (b : IsBelow A x (s ∷ v)). once (s ∷ x) (below-cons A g x (s ∷ v) s descent b) ∙ sym (once x b))
             (λ (n : IsBelow A x (s ∷ v) → ⊥). no_other (s ∷ x)
-                (λ b. n (below-same A g (same-square A g s x) (same-refl A g (s ∷ v)) (below-cons A g (s ∷ x) (s ∷ v) s descent b)))
-                ∙ sym (no_other x n))
+            (λ b. n (below-same A g (same-square A g s x) (same-refl A g (s ∷ v)) (below-cons A g (s ∷ x) (s ∷ v) s descent b)))
+            ∙ sym (no_other x n))
             (below_or_not A g x (s ∷ v));
       }
         where
@@ -191,14 +203,16 @@ module _ (A : IntegerMatrix) (v : List ℕ) (s : ℕ) (p : Family) (P : List ℕ
           (subst (λ (G : Family). Balanced A (suc (word_length A v)) (step Left A s p) G) (λ i x k. sums x k (shortens_left A s x) refl i)
           (Balanced-step A g s l (row-balanced A g v p row all (λ y b. once y (below-trans A g b lower_below)))))
         where
-          sums : (x : List ℕ) (k : ℕ) (b : Bool) → shortens_left A s x ≡ b → step_sums A s (bar_sum A all p) x k ≡ bar_sum A all (step Left A s p) x k
+          sums : (x : List ℕ) (k : ℕ) (b : Bool) → shortens_left A s x ≡ b
+              → step_sums A s (bar_sum A all p) x k ≡ bar_sum A all (step Left A s p) x k
           sums x k true e = rw e (sym (bar-shorter A g s l p row.element all closed x k e))
           sums x k false e = rw e (sym (bar-longer A g s l p row.element all closed x k e))
 
       none-balanced : Balanced A (word_length A (s ∷ v)) (λ x. zero_polynomial) (bar_sum A all (λ y. zero_polynomial))
       none-balanced =
           subst (λ (G : Family). Balanced A (word_length A (s ∷ v)) (λ x. zero_polynomial) G)
-          (λ i x k. sym (sum_over-none all (λ y. product (r_polynomial A x y) zero_polynomial) k (λ y. product-zero (r_polynomial A x y) k)) i)
+          (λ i x k. sym (sum_over-none all (λ y. product (r_polynomial A x y) zero_polynomial) k
+          (λ y. product-zero (r_polynomial A x y) k)) i)
           (Balanced-none A (word_length A (s ∷ v)))
 
       correction-balanced : (z : List ℕ) → Balanced A (word_length A (s ∷ v)) (correction z) (bar_sum A all (correction z))
@@ -219,7 +233,8 @@ module _ (A : IntegerMatrix) (v : List ℕ) (s : ℕ) (p : Family) (P : List ℕ
               (Balanced-times_q_power A (word_length A z) (half z)
               (row-balanced A g z (P z) (rows z c.below) all (λ y b. once y (below-trans A g b (below-trans A g c.below lower_below)))))))
 
-      corrections-balanced : (words : List (List ℕ)) → Balanced A (word_length A (s ∷ v)) (corrections words) (bar_sum A all (corrections words))
+      corrections-balanced : (words : List (List ℕ))
+          → Balanced A (word_length A (s ∷ v)) (corrections words) (bar_sum A all (corrections words))
       unfolding corrections
       corrections-balanced [] = none-balanced
       corrections-balanced (z ∷ words) =

@@ -1,9 +1,7 @@
--- Sums over lists of elements: they are linear, and they do not depend on the list as long as it names each element with a nonzero term once.
-use Rattle.std.proofs.Common.{◌≡◌, ℕ, zero, suc, ◌+◌, ◌≤◌, Bool, true, false, if◌then◌else◌, List, [], ◌∷◌, ◌++◌, ◌⊎◌, inl, inr, ⊎_elim}
+-- Sums over lists of elements: they are linear, and they do not depend on the list as long as it names each element with a nonzero term
+-- once.
+use Rattle.std.proofs.Common.{◌≡◌, ℕ, zero, suc, ◌≤◌, Bool, true, false, if◌then◌else◌, List, [], ◌∷◌, ◌⊎◌, inl, inr, ⊎_elim}
 use Rattle.std.proofs.Common.{ℤ, pos, ◌+ℤ◌, ◌-ℤ◌, ◌*ℤ◌, refl, ap, sym, ◌∙◌, arith}
-use Rattle.std.specs.Prelude.{nat_eq}
-use Rattle.std.specs.Cmp.Lexicographic.{pointwise}
-use Rattle.std.specs.Str.{bytes_eq}
 use Rattle.std.proofs.lemmas.Int.{ints}
 use Rattle.std.proofs.lemmas.Bool.{false≢true}
 use Rattle.std.proofs.lemmas.Slice.Eq.{bytes_eq-Decides}
@@ -13,15 +11,16 @@ use Rattle.cox_base.specs.Element.{SameElement}
 use Rattle.cox_base.specs.ShortLex.{normal_form}
 use Rattle.cox_reflect.proofs.Elements.{same-refl, same-sym, same-trans, same-equal}
 use Rattle.cox_reflect.proofs.Search.{normal_form-same, normal_form-equal}
-use Rattle.cox_poly.specs.Coefficients.{Coefficients, zero_polynomial, plus, times_q}
+use Rattle.cox_poly.specs.Coefficients.{zero_polynomial, plus, times_q}
 use Rattle.cox_poly.specs.Products.{minus, scaled}
 use Rattle.cox_lemmas.proofs.Ring.{mul_add}
-use Rattle.cox_hecke.specs.Family.{Family, RespectsElements}
-use Rattle.cox_hecke.specs.Sums.{is_same, occurrences, sum_over}
+use Rattle.cox_hecke.specs.Family.{Family, RespectsElements, is_same}
+use Rattle.cox_hecke.specs.Sums.{occurrences, sum_over}
 
 -- ---- linear
 
-pub sum_over-equal : (words : List (List ℕ)) (f h : Family) (k : ℕ) → ((y : List ℕ) → f y k ≡ h y k) → sum_over words f k ≡ sum_over words h k
+pub sum_over-equal : (words : List (List ℕ)) (f h : Family) (k : ℕ) → ((y : List ℕ) → f y k ≡ h y k)
+    → sum_over words f k ≡ sum_over words h k
 sum_over-equal [] f h k e = refl
 sum_over-equal (y ∷ words) f h k e = omega (arith, ints, e y, sum_over-equal words f h k e)
 
@@ -42,7 +41,8 @@ sum_over-minus (y ∷ words) f h k = omega (arith, ints, sum_over-minus words f 
 pub sum_over-scaled : (words : List (List ℕ)) (c : ℤ) (f : Family) (k : ℕ)
     → sum_over words (λ y. scaled c (f y)) k ≡ c *ℤ sum_over words f k
 sum_over-scaled [] c f k = omega (arith, ints)
-sum_over-scaled (y ∷ words) c f k = sum c (f y k) (sum_over words f k) (sum_over words (λ y. scaled c (f y)) k) (sum_over-scaled words c f k)
+sum_over-scaled (y ∷ words) c f k = sum c (f y k) (sum_over words f k) (sum_over words (λ y. scaled c (f y)) k)
+    (sum_over-scaled words c f k)
   where
     sum : (c a b d : ℤ) → d ≡ c *ℤ b → (c *ℤ a) +ℤ d ≡ c *ℤ (a +ℤ b)
     sum c a b d e = ap (λ (z : ℤ). (c *ℤ a) +ℤ z) e ∙ sym (mul_add c a b)
@@ -131,14 +131,15 @@ module _ (A : IntegerMatrix) (g : IsAdmissible A) where
       sum_over-named ys f (λ y. sum_over zs (λ z. if is_same A y z then f z else zero_polynomial)) k
       (λ y n. sym (sum_over-one zs y f k r ∙ once y (occurrences A y zs)
       (⊎_elim (λ e. inl e) (λ (o : (occurrences A y ys ≡ occurrences A y zs) × (occurrences A y zs ≤ 1)).
-          inr (one (occurrences A y zs) o.1 (λ z. n (o.0 ∙ z)))) (c y))))
+      inr (one (occurrences A y zs) o.1 (λ z. n (o.0 ∙ z)))) (c y))))
       ∙ sum_over-swap ys zs (λ y z. if is_same A y z then f z else zero_polynomial) k
       ∙ sum_over-named zs (λ z. sum_over ys (λ y. if is_same A y z then f z else zero_polynomial)) f k
-      (λ z n. sum_over-equal ys (λ y. if is_same A y z then f z else zero_polynomial) (λ y. if is_same A z y then f y else zero_polynomial) k
+      (λ z n. sum_over-equal ys (λ y. if is_same A y z then f z else zero_polynomial)
+      (λ y. if is_same A z y then f y else zero_polynomial) k
       (λ y. turned y z)
       ∙ sum_over-one ys z f k r ∙ once z (occurrences A z ys)
       (⊎_elim (λ e. inl e) (λ (o : (occurrences A z ys ≡ occurrences A z zs) × (occurrences A z zs ≤ 1)).
-          inr (o.0 ∙ one (occurrences A z zs) o.1 n)) (c z)))
+      inr (o.0 ∙ one (occurrences A z zs) o.1 n)) (c z)))
     where
       one : (n : ℕ) → n ≤ 1 → (n ≡ 0 → ⊥) → n ≡ 1
       one n l some = omega (arith, l, some)

@@ -1,26 +1,25 @@
 -- Operators of words: those of two reduced words of one element are the same. Since left operators commute with right ones, it is enough to
 -- look at the coefficient of T(e), where a word u of k letters gives q^k times the coefficient at u.
-use Rattle.std.proofs.Common.{◌≡◌, ℕ, zero, suc, ◌+◌, ◌<◌, ◌≤◌, Bool, true, false, not, if◌then◌else◌, List, [], ◌∷◌, ◌++◌, reverse, length}
+use Rattle.std.proofs.Common.{◌≡◌, ℕ, zero, suc, Bool, true, false, not, List, [], ◌∷◌, ◌++◌, length}
 use Rattle.std.proofs.Common.{refl, ap, sym, ◌∙◌, subst, arith}
-use Rattle.std.proofs.lemmas.List.{length-reverse, reverse-reverse, append_assoc}
-use mathlib.Core.List.{reverse-cons}
 use Rattle.cox_base.specs.Matrix.{IsLetter}
 use Rattle.cox_base.specs.IntegerMatrix.{IntegerMatrix}
 use Rattle.cox_base.specs.Admissible.{IsAdmissible}
 use Rattle.cox_base.specs.Element.{SameElement}
-use Rattle.cox_base.specs.ShortLex.{normal_form}
 use Rattle.cox_base.specs.Length.{word_length}
 use Rattle.cox_base.specs.Reduced.{IsReduced, IsRightDescent}
-use Rattle.cox_reflect.proofs.Elements.{same-refl, same-sym, same-trans, same-push_twice, same-equal}
-use Rattle.cox_reflect.proofs.Search.{normal_form-same, word_length-equal}
-use Rattle.cox_reflect.proofs.Lengths.{word_length-is, IsReduced-tail}
+use Rattle.cox_reflect.proofs.Elements.{same-push_twice}
+use Rattle.cox_reflect.proofs.Search.{word_length-equal}
+use Rattle.cox_reflect.proofs.Lengths.{IsReduced-tail}
 use Rattle.cox_reflect.proofs.Roots.{descent-letter}
-use Rattle.cox_poly.specs.Coefficients.{Coefficients, plus, times_q, times_q_less_one}
+use Rattle.cox_poly.specs.Coefficients.{Coefficients, times_q}
 use Rattle.cox_hecke.specs.Family.{Family, RespectsElements}
 use Rattle.cox_hecke.specs.Operators.{shortens_left, shortens_right}
-use Rattle.cox_hecke.proofs.Descents.{nat_lt-yes, Moves, right_moves, shortens_right-back, reduced-letter, reduced-rises, some_right_descent, empty_same}
-use Rattle.cox_hecke.proofs.Signed.{left_signed, right_signed, left_back, right_back, family_times_q, respected}
-use Rattle.cox_hecke.proofs.Signed.{left_signed-times_q, left_back-times_q, left_signed-respects, right_signed-respects, left_back-respects}
+use Rattle.cox_hecke.proofs.Descents.{nat_lt-yes, Moves, right_moves, shortens_right-back, reduced-letter, reduced-rises}
+use Rattle.cox_hecke.proofs.Descents.{some_right_descent, empty_same}
+use Rattle.cox_hecke.proofs.Signed.{left_signed, right_signed, left_back, family_times_q}
+use Rattle.cox_hecke.proofs.Signed.{left_signed-times_q, left_back-times_q, by_left-respects, by_right-respects, plus_signed, first_times_q}
+use Rattle.cox_hecke.proofs.Signed.{first_alone, minus_signed}
 use Rattle.cox_hecke.proofs.Signed.{family_times_q-respects, left-back, back-left, left-right}
 
 -- q^n h
@@ -54,11 +53,12 @@ module _ (A : IntegerMatrix) (g : IsAdmissible A) where
 
   pub left_along-respects : (b : Bool) (u : List ℕ) (h : Family) → RespectsElements A h → RespectsElements A (left_along A b u h)
   left_along-respects b [] h r = r
-  left_along-respects b (s ∷ u) h r = left_along-respects b u (left_signed A b s h) (left_signed-respects A g b s h r)
+  left_along-respects b (s ∷ u) h r = left_along-respects b u (left_signed A b s h)
+      (by_left-respects A g (plus_signed b) first_times_q s h r)
 
   pub back_along-respects : (b : Bool) (u : List ℕ) (h : Family) → RespectsElements A h → RespectsElements A (back_along A b u h)
   back_along-respects b [] h r = r
-  back_along-respects b (s ∷ u) h r = left_back-respects A g b s (back_along A b u h) (back_along-respects b u h r)
+  back_along-respects b (s ∷ u) h r = by_left-respects A g first_alone (minus_signed b) s (back_along A b u h) (back_along-respects b u h r)
 
   -- ---- q passes
 
@@ -70,7 +70,8 @@ module _ (A : IntegerMatrix) (g : IsAdmissible A) where
   left_back-power b s zero h = refl
   left_back-power b s (suc n) h = left_back-times_q A b s (family_power n h) ∙ ap family_times_q (left_back-power b s n h)
 
-  back_along-power : (b : Bool) (u : List ℕ) (n : ℕ) (h : Family) → back_along A b u (family_power n h) ≡ family_power n (back_along A b u h)
+  back_along-power : (b : Bool) (u : List ℕ) (n : ℕ) (h : Family)
+      → back_along A b u (family_power n h) ≡ family_power n (back_along A b u h)
   back_along-power b [] n h = refl
   back_along-power b (s ∷ u) n h = ap (left_back A b s) (back_along-power b u n h) ∙ left_back-power b s n (back_along A b u h)
 
@@ -81,7 +82,8 @@ module _ (A : IntegerMatrix) (g : IsAdmissible A) where
   left_along-identity b (s ∷ u) h r =
       left_along-identity b u (left_signed A b s h) (IsReduced-tail A g s u r) ∙ power (length u) u (reduced-rises A g s u r)
     where
-      power : (n : ℕ) (x : List ℕ) → shortens_left A s x ≡ false → family_power n (left_signed A b s h) x ≡ times_q (family_power n h (s ∷ x))
+      power : (n : ℕ) (x : List ℕ) → shortens_left A s x ≡ false
+          → family_power n (left_signed A b s h) x ≡ times_q (family_power n h (s ∷ x))
       power zero x e = rw e refl
       power (suc n) x e = ap times_q (power n x e)
 
@@ -92,7 +94,7 @@ module _ (A : IntegerMatrix) (g : IsAdmissible A) where
   left_along-right b [] t h c l r = refl
   left_along-right b (s ∷ u) t h c l r =
       ap (left_along A b u) (left-right A g b s t h (reduced-letter A g s u c) l r)
-      ∙ left_along-right b u t (left_signed A b s h) (IsReduced-tail A g s u c) l (left_signed-respects A g b s h r)
+      ∙ left_along-right b u t (left_signed A b s h) (IsReduced-tail A g s u c) l (by_left-respects A g (plus_signed b) first_times_q s h r)
 
   -- ---- the word does not matter: at x, by a right descent of x down to e
 
@@ -110,7 +112,8 @@ module _ (A : IntegerMatrix) (g : IsAdmissible A) where
       identity = empty_same A g x z
   left_along-at b (suc n) u v h c d e r x z k =
       step (some_right_descent A g x (omega (arith, z)))
-      (λ t l y size. left_along-at b n u v (right_signed A b t h) c d e (right_signed-respects A g b t h r) y size (suc k))
+      (λ t l y size. left_along-at b n u v (right_signed A b t h) c d e (by_right-respects A g (plus_signed b) first_times_q t h r) y size
+      (suc k))
     where
       -- the coefficient at x is, a degree higher, that of the product with T(t) at xt
       raised : (t : ℕ) (w : List ℕ) → IsReduced A w → IsLetter A.rank t → shortens_right A t (x ++ t ∷ []) ≡ false
@@ -123,7 +126,7 @@ module _ (A : IntegerMatrix) (g : IsAdmissible A) where
           → ((t : ℕ) → IsLetter A.rank t → (y : List ℕ) → word_length A y ≡ n
           → left_along A b u (right_signed A b t h) y (suc k) ≡ left_along A b v (right_signed A b t h) y (suc k))
           → left_along A b u h x k ≡ left_along A b v h x k
-      step (t , down) below =
+      step (t, down) below =
           let l = descent-letter A g x t down
           in let q : shortens_right A t (x ++ t ∷ []) ≡ false
           = shortens_right-back A g t x l ∙ ap not (nat_lt-yes down)
@@ -132,7 +135,9 @@ module _ (A : IntegerMatrix) (g : IsAdmissible A) where
         where
           down_one : (t : ℕ) → IsLetter A.rank t → shortens_right A t x ≡ true
               → Moves (shortens_right A t x) (word_length A x) (word_length A (x ++ t ∷ [])) → word_length A (x ++ t ∷ []) ≡ n
-          down_one t l shorter m = let f : word_length A x ≡ suc (word_length A (x ++ t ∷ [])) = subst (λ p. Moves p (word_length A x) (word_length A (x ++ t ∷ []))) shorter m in omega (arith, f, z)
+          down_one t l shorter m = let f : word_length A x
+              ≡ suc (word_length A (x ++ t ∷ [])) = subst (λ p. Moves p (word_length A x) (word_length A (x ++ t ∷ []))) shorter m
+              in omega (arith, f, z)
 
   pub left_along-same : (b : Bool) (u v : List ℕ) (h : Family) → IsReduced A u → IsReduced A v → SameElement A u v → RespectsElements A h
       → left_along A b u h ≡ left_along A b v h
@@ -144,7 +149,8 @@ module _ (A : IntegerMatrix) (g : IsAdmissible A) where
       → back_along A b u (left_along A b u h) ≡ family_power (length u) h
   back_along-left b [] h c r = refl
   back_along-left b (s ∷ u) h c r =
-      ap (left_back A b s) (back_along-left b u (left_signed A b s h) (IsReduced-tail A g s u c) (left_signed-respects A g b s h r))
+      ap (left_back A b s) (back_along-left b u (left_signed A b s h) (IsReduced-tail A g s u c)
+      (by_left-respects A g (plus_signed b) first_times_q s h r))
       ∙ left_back-power b s (length u) (left_signed A b s h)
       ∙ ap (family_power (length u)) (back-left A g b s h (reduced-letter A g s u c) r) ∙ family_power-inside (length u) h
 

@@ -1,9 +1,10 @@
 -- Combinations of the basis elements T(x) of the Hecke algebra, with polynomials in q as coefficients.
-use Rattle.std.specs.Prelude.{◌≡◌, ℕ, ◌==◌, if◌then◌else◌, List}
+use Rattle.std.specs.Prelude.{◌≡◌, ℕ, Bool, if◌then◌else◌, nat_eq, List}
+use Rattle.std.specs.Cmp.Lexicographic.{pointwise}
 use Rattle.cox_base.specs.IntegerMatrix.{IntegerMatrix}
 use Rattle.cox_base.specs.Element.{SameElement}
-use Rattle.cox_base.specs.Length.{word_length}
-use Rattle.cox_poly.specs.Coefficients.{Coefficients, zero_polynomial, one_polynomial, plus, times_q}
+use Rattle.cox_base.specs.ShortLex.{normal_form}
+use Rattle.cox_poly.specs.Coefficients.{Coefficients, zero_polynomial, one_polynomial}
 
 -- A polynomial for each element x, which is given by its words: the coefficient of T(x). It may be other than 0 at infinitely many x.
 abbrev pub Family : Type 0
@@ -13,13 +14,10 @@ Family = List ℕ → Coefficients
 abbrev pub RespectsElements : IntegerMatrix → Family → Type 0
 RespectsElements A h = (x y : List ℕ) → SameElement A x y → (k : ℕ) → h x k ≡ h y k
 
--- T(e)
-abbrev pub unit : IntegerMatrix → Family
-unit A x = if word_length A x == 0 then one_polynomial else zero_polynomial
+-- whether x and y name one element
+abbrev pub is_same : IntegerMatrix → List ℕ → List ℕ → Bool
+is_same A x y = pointwise nat_eq (normal_form A x) (normal_form A y)
 
--- h + h', q h and q^n h
-abbrev pub family_plus : Family → Family → Family
-family_plus h j x = plus (h x) (j x)
-
-abbrev pub family_times_q : Family → Family
-family_times_q h x = times_q (h x)
+-- T(w)
+abbrev pub basis : IntegerMatrix → List ℕ → Family
+basis A w x = if is_same A w x then one_polynomial else zero_polynomial

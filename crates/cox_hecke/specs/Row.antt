@@ -1,7 +1,6 @@
 -- Rows of Kazhdan-Lusztig polynomials (Kazhdan and Lusztig 1979, 1.1; Humphreys 7.9, 7.10).
 use Rattle.std.specs.Prelude.{◌≡◌, ℕ, ◌+◌, ◌-◌, ◌*◌, ◌/◌, ◌%◌, ◌==◌, ◌<◌, ◌≤◌, if◌then◌else◌, List, ℤ, pos}
 use Rattle.cox_base.specs.IntegerMatrix.{IntegerMatrix}
-use Rattle.cox_base.specs.Element.{SameElement}
 use Rattle.cox_base.specs.Length.{word_length}
 use Rattle.cox_base.specs.Bruhat.{IsBelow}
 use Rattle.cox_poly.specs.Coefficients.{Coefficients, one_polynomial}

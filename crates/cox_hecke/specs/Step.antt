@@ -21,23 +21,28 @@ IsDescent side A x s = word_length A (times_letter side s x) < word_length A x
 
 -- (1 + T(s)) p or p (1 + T(s)): on the left, at x, p(sx) + q p(x) where sx < x, else q p(sx) + p(x)
 abbrev pub step : Side → IntegerMatrix → ℕ → Family → Family
-step side A s p x = if nat_lt (word_length A (times_letter side s x)) (word_length A x) then plus (p (times_letter side s x)) (times_q (p x))
+step side A s p x = if nat_lt (word_length A (times_letter side s x)) (word_length A x) then plus (p (times_letter side s x))
+    (times_q (p x))
     else plus (times_q (p (times_letter side s x))) (p x)
 
--- what a step from v by s is corrected by: an element u that s shortens, with mu(u,v), which is not 0
+-- A step from v by s is corrected by the u with su < u for which m = mu(u,v) is not 0.
+pub record IsCorrection (side : Side) (A : IntegerMatrix) (s : ℕ) (v u : List ℕ) (m : ℤ) : Type 0 where
+  pub shortens : IsDescent side A u s
+  pub is_mu : IsMu A u v m
+  pub some : m ≢ pos 0
+
+-- u with its mu(u,v)
 pub record Correction : Type 0 where
   pub element : List ℕ
   pub mu : ℤ
 
-pub record IsCorrection (side : Side) (A : IntegerMatrix) (s : ℕ) (v : List ℕ) (c : Correction) : Type 0 where
-  pub shortens : IsDescent side A c.element s
-  pub is_mu : IsMu A c.element v c.mu
-  pub some : c.mu ≢ pos 0
+abbrev pub corrected_elements : List Correction → List (List ℕ)
+corrected_elements list = map (λ c. c.element) list
 
--- all of them, each once
+-- the list has each of them once
 pub record AreCorrections (side : Side) (A : IntegerMatrix) (s : ℕ) (v : List ℕ) (list : List Correction) : Type 0 where
-  pub each : All (λ c. IsCorrection side A s v c) list
-  pub once : (c : Correction) → IsCorrection side A s v c → occurrences A c.element (map (λ d. d.element) list) ≡ 1
+  pub each : All (λ c. IsCorrection side A s v c.element c.mu) list
+  pub once : (u : List ℕ) (m : ℤ) → IsCorrection side A s v u m → occurrences A u (corrected_elements list) ≡ 1
 
 -- the sum of mu(u,v) q^((l(w)-l(u))/2) P(x,u) over the corrections u; `rows u` is the row of u
 abbrev pub correction_sum : IntegerMatrix → List ℕ → (List ℕ → Family) → List Correction → Family

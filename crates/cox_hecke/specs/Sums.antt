@@ -1,16 +1,10 @@
 -- Sums over finitely many elements, which are listed by words.
-use Rattle.std.specs.Prelude.{◌≡◌, ℕ, zero, suc, ◌≤◌, Bool, if◌then◌else◌, nat_eq, List, [], ◌∷◌}
-use Rattle.std.specs.Cmp.Lexicographic.{pointwise}
+use Rattle.std.specs.Prelude.{◌≡◌, ℕ, zero, suc, ◌≤◌, if◌then◌else◌, List, [], ◌∷◌}
 use Rattle.cox_base.specs.IntegerMatrix.{IntegerMatrix}
-use Rattle.cox_base.specs.ShortLex.{normal_form}
 use Rattle.cox_poly.specs.Coefficients.{Coefficients, zero_polynomial, plus}
 use Rattle.cox_poly.specs.Products.{product, negated}
 use Rattle.cox_rpoly.specs.RPolynomial.{r_polynomial}
-use Rattle.cox_hecke.specs.Family.{Family}
-
--- whether x and y name one element
-abbrev pub is_same : IntegerMatrix → List ℕ → List ℕ → Bool
-is_same A x y = pointwise nat_eq (normal_form A x) (normal_form A y)
+use Rattle.cox_hecke.specs.Family.{Family, is_same}
 
 -- how many of the words name the element of x
 abbrev pub occurrences : IntegerMatrix → List ℕ → List (List ℕ) → ℕ

@@ -1,3 +1,153 @@
-//! The laws.
-pub fn nothing()
+//! The laws of the Hecke algebra and of Kazhdan-Lusztig polynomials, for every admissible integer matrix A. Each function does nothing: its
+//! clauses are theorems. Elements are given by words; `left A s h` is T(s) h, by coefficients.
+
+ghost use Rattle.std.specs.Prelude.{◌≡◌, ◌≢◌, ℕ, ◌+◌, List, [], ◌∷◌, ◌++◌, reverse, All, ℤ, pos};
+ghost use Rattle.cox_base.specs.declared.side.Side.{Side};
+ghost use Rattle.cox_base.specs.declared.side.Side.TheVariants.{Left};
+ghost use Rattle.cox_base.specs.Matrix.{IsLetter};
+ghost use Rattle.cox_base.specs.IntegerMatrix.{IntegerMatrix};
+ghost use Rattle.cox_base.specs.Admissible.{IsAdmissible};
+ghost use Rattle.cox_base.specs.Element.{SameElement};
+ghost use Rattle.cox_base.specs.Length.{word_length};
+ghost use Rattle.cox_base.specs.Reduced.{IsReduced, IsLeftDescent, IsRightDescent};
+ghost use Rattle.cox_base.specs.Bruhat.{IsBelow};
+ghost use Rattle.cox_poly.specs.Coefficients.{Coefficients, plus, times_q, times_q_less_one};
+ghost use Rattle.cox_poly.specs.Products.{minus, flip};
+ghost use Rattle.cox_rpoly.specs.RPolynomial.{r_polynomial};
+ghost use Rattle.cox_hecke.specs.Family.{Family, RespectsElements, basis};
+ghost use Rattle.cox_hecke.specs.Operators.{left, right, left_inverse, left_word, right_word, left_inverse_word};
+ghost use Rattle.cox_hecke.specs.Sums.{ListsEach, IsClosedUnder, bar_sum, times_sign};
+ghost use Rattle.cox_hecke.specs.Row.{IsBetween, IsRow, IsKazhdanLusztig, IsMu};
+ghost use Rattle.cox_hecke.specs.Step.{times_letter, IsDescent, step, Correction, AreCorrections, correction_sum, IsStepFamily};
+ghost use Rattle.cox_hecke.specs.Needs.{IsNeeded};
+
+/// Left and right multiplication commute, and T(s) and q T(s)^-1 undo each other, but for the factor q (Humphreys 7.1 to 7.4).
+pub fn operators()
+    ensures commute { (A : IntegerMatrix) → IsAdmissible A → (s t : ℕ) (h : Family) → IsLetter A.rank s → IsLetter A.rank t
+        → RespectsElements A h → (x : List ℕ) (k : ℕ) → left A s (right A t h) x k ≡ right A t (left A s h) x k }
+    ensures left_of_inverse { (A : IntegerMatrix) → IsAdmissible A → (s : ℕ) (h : Family) → IsLetter A.rank s → RespectsElements A h
+        → (x : List ℕ) (k : ℕ) → left A s (left_inverse A s h) x k ≡ times_q (h x) k }
+    ensures inverse_of_left { (A : IntegerMatrix) → IsAdmissible A → (s : ℕ) (h : Family) → IsLetter A.rank s → RespectsElements A h
+        → (x : List ℕ) (k : ℕ) → left_inverse A s (left A s h) x k ≡ times_q (h x) k }
+
+    // what they make of a family that respects elements respects them
+    ensures left_respects { (A : IntegerMatrix) → IsAdmissible A → (s : ℕ) (h : Family) → RespectsElements A h → RespectsElements A (left A s h) }
+    ensures right_respects { (A : IntegerMatrix) → IsAdmissible A → (s : ℕ) (h : Family) → RespectsElements A h → RespectsElements A (right A s h) }
+    ensures inverse_respects { (A : IntegerMatrix) → IsAdmissible A → (s : ℕ) (h : Family) → RespectsElements A h
+        → RespectsElements A (left_inverse A s h) }
+{}
+
+/// The product of the operators along a reduced word depends on the word's element alone, and for a reduced word of w the product of the T(s)
+/// is T(w).
+pub fn words()
+    ensures left { (A : IntegerMatrix) → IsAdmissible A → (u v : List ℕ) (h : Family) → IsReduced A u → IsReduced A v → SameElement A u v
+        → RespectsElements A h → (x : List ℕ) (k : ℕ) → left_word A u h x k ≡ left_word A v h x k }
+    ensures right { (A : IntegerMatrix) → IsAdmissible A → (u v : List ℕ) (h : Family) → IsReduced A u → IsReduced A v → SameElement A u v
+        → RespectsElements A h → (x : List ℕ) (k : ℕ) → right_word A u h x k ≡ right_word A v h x k }
+    ensures left_inverse { (A : IntegerMatrix) → IsAdmissible A → (u v : List ℕ) (h : Family) → IsReduced A u → IsReduced A v → SameElement A u v
+        → RespectsElements A h → (x : List ℕ) (k : ℕ) → left_inverse_word A u h x k ≡ left_inverse_word A v h x k }
+    ensures basis { (A : IntegerMatrix) → IsAdmissible A → (u : List ℕ) → IsReduced A u
+        → (x : List ℕ) (k : ℕ) → left_word A u (basis A []) x k ≡ basis A u x k }
+{}
+
+/// Bar respects multiplication by 1 + T(s): with the sums of R(x,y) h(y) over a list that is closed under s, those of (1 + T(s)) h come from
+/// those of h.
+pub fn bar()
+    ensures product { (A : IntegerMatrix) (s : ℕ) (h : Family) (x : List ℕ) (k : ℕ) → step Left A s h x k ≡ plus (h x) (left A s h x) k }
+    ensures shorter { (A : IntegerMatrix) → IsAdmissible A → (s : ℕ) (h : Family) (words : List (List ℕ)) → IsLetter A.rank s
+        → RespectsElements A h → IsClosedUnder A s words → (x : List ℕ) (k : ℕ) → IsLeftDescent A x s
+        → bar_sum A words (step Left A s h) x k ≡ plus (bar_sum A words h x) (bar_sum A words h (s ∷ x)) k }
+    ensures longer { (A : IntegerMatrix) → IsAdmissible A → (s : ℕ) (h : Family) (words : List (List ℕ)) → IsLetter A.rank s
+        → RespectsElements A h → IsClosedUnder A s words → (x : List ℕ) (k : ℕ) → ¬ IsLeftDescent A x s
+        → bar_sum A words (step Left A s h) x k ≡ times_q (plus (bar_sum A words h x) (bar_sum A words h (s ∷ x))) k }
+{}
+
+/// R obeys its recursion for every left descent and for every right descent of w; it is the same at inverses; and
+/// q^d R(x,w)(1/q) = (-1)^d R(x,w), where d = l(w) - l(x) (Humphreys 7.5).
+pub fn r_polynomials()
+    ensures left_shorter { (A : IntegerMatrix) → IsAdmissible A → (x w : List ℕ) (s : ℕ) → IsLeftDescent A w s → IsLeftDescent A x s
+        → (k : ℕ) → r_polynomial A x w k ≡ r_polynomial A (s ∷ x) (s ∷ w) k }
+    ensures left_longer { (A : IntegerMatrix) → IsAdmissible A → (x w : List ℕ) (s : ℕ) → IsLeftDescent A w s → ¬ IsLeftDescent A x s
+        → (k : ℕ) → r_polynomial A x w k
+        ≡ plus (times_q_less_one (r_polynomial A (s ∷ x) w)) (times_q (r_polynomial A (s ∷ x) (s ∷ w))) k }
+    ensures left_moved { (A : IntegerMatrix) → IsAdmissible A → (x w : List ℕ) (s : ℕ) → IsLeftDescent A w s → ¬ IsLeftDescent A x s
+        → (k : ℕ) → r_polynomial A (s ∷ x) w k ≡ r_polynomial A x (s ∷ w) k }
+    ensures right_shorter { (A : IntegerMatrix) → IsAdmissible A → (x w : List ℕ) (s : ℕ) → IsRightDescent A w s → IsRightDescent A x s
+        → (k : ℕ) → r_polynomial A x w k ≡ r_polynomial A (x ++ s ∷ []) (w ++ s ∷ []) k }
+    ensures right_longer { (A : IntegerMatrix) → IsAdmissible A → (x w : List ℕ) (s : ℕ) → IsRightDescent A w s → ¬ IsRightDescent A x s
+        → (k : ℕ) → r_polynomial A x w k
+        ≡ plus (times_q_less_one (r_polynomial A (x ++ s ∷ []) w)) (times_q (r_polynomial A (x ++ s ∷ []) (w ++ s ∷ []))) k }
+    ensures right_moved { (A : IntegerMatrix) → IsAdmissible A → (x w : List ℕ) (s : ℕ) → IsRightDescent A w s → ¬ IsRightDescent A x s
+        → (k : ℕ) → r_polynomial A (x ++ s ∷ []) w k ≡ r_polynomial A x (w ++ s ∷ []) k }
+    ensures inverse { (A : IntegerMatrix) → IsAdmissible A → (x w : List ℕ) (k : ℕ)
+        → r_polynomial A (reverse x) (reverse w) k ≡ r_polynomial A x w k }
+    ensures flipped { (A : IntegerMatrix) → IsAdmissible A → (x w : List ℕ) (d : ℕ) → word_length A w ≡ word_length A x + d
+        → (k : ℕ) → flip d (r_polynomial A x w) k ≡ times_sign d (r_polynomial A x w) k }
+{}
+
+/// There is a list of the elements between any two.
+pub fn lists()
+    ensures { (A : IntegerMatrix) → IsAdmissible A → (x w : List ℕ) → (words : List (List ℕ)) × ListsEach A (IsBetween A x w) words }
+{}
+
+/// Each element has exactly one row, whichever of its words is taken (Kazhdan and Lusztig 1979, theorem 1.1; Humphreys 7.9 to 7.11).
+pub fn rows()
+    ensures unique { (A : IntegerMatrix) → IsAdmissible A → (w : List ℕ) (p r : Family) → IsRow A w p → IsRow A w r
+        → (x : List ℕ) (k : ℕ) → p x k ≡ r x k }
+    ensures exists { (A : IntegerMatrix) → IsAdmissible A → (w : List ℕ) → (p : Family) × IsRow A w p }
+    ensures same { (A : IntegerMatrix) → IsAdmissible A → (v w : List ℕ) (p : Family) → SameElement A v w → IsRow A v p → IsRow A w p }
+{}
+
+/// There is exactly one P(x,w). It depends on the elements alone, and is 0 unless x <= w. P(sx,w) = P(x,w) for each left descent s of w,
+/// P(xs,w) = P(x,w) for each right descent, and P(x,w) = P(x^-1,w^-1).
+pub fn polynomials()
+    ensures exists { (A : IntegerMatrix) → IsAdmissible A → (x w : List ℕ) → (f : Coefficients) × IsKazhdanLusztig A x w f }
+    ensures unique { (A : IntegerMatrix) → IsAdmissible A → (x w : List ℕ) (f h : Coefficients) → IsKazhdanLusztig A x w f
+        → IsKazhdanLusztig A x w h → (k : ℕ) → f k ≡ h k }
+    ensures elements { (A : IntegerMatrix) → IsAdmissible A → (x y v w : List ℕ) (f : Coefficients) → SameElement A x y → SameElement A v w
+        → IsKazhdanLusztig A x v f → IsKazhdanLusztig A y w f }
+    ensures outside { (A : IntegerMatrix) → IsAdmissible A → (x w : List ℕ) (f : Coefficients) → ¬ IsBelow A x w → IsKazhdanLusztig A x w f
+        → (k : ℕ) → f k ≡ pos 0 }
+    ensures left { (A : IntegerMatrix) → IsAdmissible A → (x w : List ℕ) (s : ℕ) (f : Coefficients) → IsLeftDescent A w s
+        → IsKazhdanLusztig A x w f → IsKazhdanLusztig A (s ∷ x) w f }
+    ensures right { (A : IntegerMatrix) → IsAdmissible A → (x w : List ℕ) (s : ℕ) (f : Coefficients) → IsRightDescent A w s
+        → IsKazhdanLusztig A x w f → IsKazhdanLusztig A (x ++ s ∷ []) w f }
+    ensures inverse { (A : IntegerMatrix) → IsAdmissible A → (x w : List ℕ) (f : Coefficients) → IsKazhdanLusztig A x w f
+        → IsKazhdanLusztig A (reverse x) (reverse w) f }
+{}
+
+/// There is exactly one mu(u,w). If it is not 0 and s is a left descent of w and not of u, then u = sw, and mu(sw,w) is 1; and the same on
+/// the right (Kazhdan and Lusztig 1979, 2.3).
+pub fn mu()
+    ensures exists { (A : IntegerMatrix) → IsAdmissible A → (u w : List ℕ) → (m : ℤ) × IsMu A u w m }
+    ensures unique { (A : IntegerMatrix) → IsAdmissible A → (u w : List ℕ) (m n : ℤ) → IsMu A u w m → IsMu A u w n → m ≡ n }
+    ensures inverse { (A : IntegerMatrix) → IsAdmissible A → (u w : List ℕ) (m : ℤ) → IsMu A u w m → IsMu A (reverse u) (reverse w) m }
+    ensures left { (A : IntegerMatrix) → IsAdmissible A → (w u : List ℕ) (s : ℕ) (m : ℤ) → IsMu A u w m → m ≢ pos 0 → IsLeftDescent A w s
+        → ¬ IsLeftDescent A u s → SameElement A u (s ∷ w) }
+    ensures right { (A : IntegerMatrix) → IsAdmissible A → (w u : List ℕ) (s : ℕ) (m : ℤ) → IsMu A u w m → m ≢ pos 0 → IsRightDescent A w s
+        → ¬ IsRightDescent A u s → SameElement A u (w ++ s ∷ []) }
+    ensures left_shift { (A : IntegerMatrix) → IsAdmissible A → (w : List ℕ) (s : ℕ) → IsLeftDescent A w s → IsMu A (s ∷ w) w (pos 1) }
+    ensures right_shift { (A : IntegerMatrix) → IsAdmissible A → (w : List ℕ) (s : ℕ) → IsRightDescent A w s → IsMu A (w ++ s ∷ []) w (pos 1) }
+{}
+
+/// The recursion (Kazhdan and Lusztig 1979, 2.2.c; Humphreys 7.11): for any descent s of w, on either side, (1 + T(s)) times the row of sw, less
+/// its corrections, is the row of w. The corrections have a list, and so there is a step family by any descent.
+pub fn recursion()
+    ensures rows { (A : IntegerMatrix) → IsAdmissible A → (side : Side) (w : List ℕ) (s : ℕ) → IsDescent side A w s
+        → (p : Family) → IsRow A (times_letter side s w) p
+        → (list : List Correction) → AreCorrections side A s (times_letter side s w) list
+        → (lower : List ℕ → Family) → All (λ c. IsRow A c.element (lower c.element)) list
+        → (r : Family) → IsRow A w r → (x : List ℕ) (k : ℕ) → r x k ≡ minus (step side A s p x) (correction_sum A w lower list x) k }
+    ensures corrections { (A : IntegerMatrix) → IsAdmissible A → (side : Side) (w : List ℕ) (s : ℕ) → IsDescent side A w s
+        → (list : List Correction) × AreCorrections side A s (times_letter side s w) list }
+    ensures family { (A : IntegerMatrix) → IsAdmissible A → (side : Side) (w : List ℕ) (s : ℕ) (f : Family) → IsDescent side A w s
+        → IsStepFamily side A s w f → IsRow A w f }
+    ensures exists { (A : IntegerMatrix) → IsAdmissible A → (side : Side) (w : List ℕ) (s : ℕ) → IsDescent side A w s
+        → (f : Family) × IsStepFamily side A s w f }
+{}
+
+/// Need(w) is a set of elements, and it has what each of its members needs.
+pub fn needs()
+    ensures elements { (A : IntegerMatrix) → IsAdmissible A → (w y z : List ℕ) → SameElement A y z → IsNeeded A w y → IsNeeded A w z }
+    ensures transitive { (A : IntegerMatrix) → IsAdmissible A → (w z y : List ℕ) → IsNeeded A w z → IsNeeded A z y → IsNeeded A w y }
 {}
