@@ -10,12 +10,12 @@
 //!
 //! - `row`: the row, its parts, and new numbers for it when a context grows
 //! - `raised`: raising a member by the descents of another
-//! - `look_up`: the polynomial and mu of any member
+//! - `look_up`: the polynomial and mu of any member, and how many polynomials there are
 #![tactic(auto)]
 
 mod look_up;
 mod raised;
 mod row;
 
-pub use look_up::{mu, polynomial};
+pub use look_up::{mu, polynomial, pool_len};
 pub use row::Row;

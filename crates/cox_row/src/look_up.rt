@@ -1,4 +1,4 @@
-//! The polynomial and mu of any member, read off a row.
+//! What is read off a row: the polynomial and mu of any member, and how many polynomials there are.
 ghost use Rattle.std.specs.Prelude.{◌≡◌, ℕ, ◌<◌, ◌↔◌, length, IfSome, IsSome};
 ghost use Rattle.cox_base.specs.IntegerMatrix.{integer_matrix};
 ghost use Rattle.cox_base.specs.Bruhat.{IsBelow};
@@ -6,6 +6,7 @@ ghost use Rattle.cox_poly.specs.Polynomial.{coefficient};
 ghost use Rattle.cox_hecke.specs.Row.{IsKazhdanLusztig, IsMu};
 ghost use Rattle.cox_context.specs.Numbers.{word_at};
 ghost use Rattle.cox_row.specs.RowOf.{IsRowAt};
+ghost use Rattle.cox_row.specs.Distinct.{HasDistinctPolynomials};
 
 use crate::Row;
 use crate::raised::raised;
@@ -41,4 +42,16 @@ pub fn mu(ctx: &Context, row: &Row, i: u32, u: u32) -> i32
         Ok(k) => row.mu[k],
         Err(_) => 0,
     }
+}
+
+/// How many polynomials P(x,w) with x <= w there are, each counted once, for the row of the member w with the number i.
+///
+/// For the longest element of a finite group there is one, the polynomial 1.
+pub fn pool_len(ctx: &Context, row: &Row, i: u32) -> u32
+    requires i { i < length ctx.now.members }
+    requires row { IsRowAt ctx.now i row.now }
+    ensures { HasDistinctPolynomials (integer_matrix ctx.now.matrix) (word_at ctx.now.members i) result }
+{
+    let _len = ctx.len();
+    row.pool.len() as u32
 }

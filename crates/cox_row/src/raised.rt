@@ -1,8 +1,9 @@
 //! Raising a member x by the descents of a member w: as long as some letter shortens w on a side and not x, it is put before or behind x.
 ghost use Rattle.std.specs.Prelude.{◌≡◌, ℕ, List, ◌<◌, length, IfSome, IfNone};
+ghost use Rattle.cox_base.specs.Admissible.{IsAdmissible};
 ghost use Rattle.cox_base.specs.IntegerMatrix.{integer_matrix};
 ghost use Rattle.cox_context.specs.Numbers.{word_at};
-ghost use Rattle.cox_row.specs.LetterSets.{IsSubset, IsMissing, AreLeftDescents, AreRightDescents};
+ghost use Rattle.cox_row.specs.LetterSets.{IsSubset, IsMissing, AreLetters, AreLeftDescents, AreRightDescents};
 ghost use Rattle.cox_row.specs.Raised.{raise_to, LeadsTo, IsRaisedFully};
 
 use cox_context::Context;
@@ -24,6 +25,7 @@ pub(crate) fn raised(ctx: &Context, i: u32, x: u32) -> Option<u32>
     requires x { x < length ctx.now.members }
     ensures { IsRaisedFully (integer_matrix ctx.now.matrix) ctx.now.members (word_at ctx.now.members i) (word_at ctx.now.members x) result }
 {
+    let _len = ctx.len();
     let left = ctx.left_descent_set(i);
     let right = ctx.right_descent_set(i);
     let mut at = x;
@@ -39,7 +41,10 @@ pub(crate) fn raised(ctx: &Context, i: u32, x: u32) -> Option<u32>
 
 /// Where raising the member x by one letter leads, for a w with these descents.
 fn raise_once(ctx: &Context, left: u16, right: u16, x: u32) -> Raise
-    requires { x < length ctx.now.members }
+    requires admissible { IsAdmissible (integer_matrix ctx.now.matrix) }
+    requires left { AreLetters ctx.now.matrix.rank left }
+    requires right { AreLetters ctx.now.matrix.rank right }
+    requires x { x < length ctx.now.members }
     ensures { (w : List ℕ) → AreLeftDescents (integer_matrix ctx.now.matrix) w left → AreRightDescents (integer_matrix ctx.now.matrix) w right
         → LeadsTo (integer_matrix ctx.now.matrix) ctx.now.members w (word_at ctx.now.members x) result }
 {
