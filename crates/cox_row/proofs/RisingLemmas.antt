@@ -1,5 +1,5 @@
 -- Numbers that rise: what a binary search says of them.
-use Rattle.std.proofs.Common.{◌≡◌, ℕ, ◌<◌, ◌≤◌, List, length, Result, Ok, Err, refl, ap, ⊎_elim, arith}
+use Rattle.std.proofs.Common.{◌≡◌, ℕ, zero, suc, ◌+◌, ◌<◌, ◌≤◌, List, length, Result, Ok, Err, refl, ap, ⊎_elim, arith}
 use Rattle.std.specs.Prelude.{MatchResult}
 use Rattle.std.specs.Ordering.{nat_cmp}
 use Rattle.std.specs.List.Sorted.{IsBinarySearchResult}
@@ -19,3 +19,18 @@ found-rising numbers x (Ok i) rising is = searched numbers x (Ok i) is (rising-m
 found-rising numbers x (Err i) rising is = λ k l e.
     let r = searched numbers x (Err i) is (rising-most numbers rising)
     in ⊎_elim (λ (less : k < i). let h = r.1 k less in omega (arith, h, e)) (λ (h : i ≤ k). let m = r.2 k h l in omega (arith, m, e)) (cases_lt k i)
+
+-- numbers that rise and are below n are no more than n
+rising-least : (numbers : List ℕ) → AreRising numbers → (k : ℕ) → k < length numbers → k ≤ number_at numbers k
+rising-least numbers rising zero l = omega arith
+rising-least numbers rising (suc k) l =
+    let least = rising-least numbers rising k (omega arith) in let more = rising k (suc k) (omega arith) l in omega (arith, least, more)
+
+pub rising-few : (n : ℕ) (numbers : List ℕ) → AreRising numbers → AreWithin n numbers → length numbers ≤ n
+rising-few n numbers rising within = go (length numbers) refl
+  where
+    go : (size : ℕ) → length numbers ≡ size → size ≤ n
+    go zero e = omega arith
+    go (suc k) e =
+        let l : k < length numbers = omega arith
+        in let least = rising-least numbers rising k l in let less = within k l in omega (arith, least, less)
