@@ -18,4 +18,5 @@ mod raised;
 mod row;
 
 pub use look_up::{mu, polynomial, pool_len};
+pub use raised::{Raise, raise_fully, raise_once};
 pub use row::Row;

@@ -9,7 +9,7 @@ ghost use Rattle.cox_row.specs.RowOf.{IsRowAt};
 ghost use Rattle.cox_row.specs.Distinct.{HasDistinctPolynomials};
 
 use crate::Row;
-use crate::raised::raised;
+use crate::raised::raise_fully;
 use cox_context::Context;
 use cox_poly::Poly;
 
@@ -23,7 +23,7 @@ pub fn polynomial<'a>(ctx: &Context, row: &'a Row, i: u32, x: u32) -> Option<&'a
     ensures value { IfSome result (λ p. IsKazhdanLusztig (integer_matrix ctx.now.matrix) (word_at ctx.now.members x) (word_at ctx.now.members i) (coefficient p.now)) }
     ensures exactly { IsSome result ↔ IsBelow (integer_matrix ctx.now.matrix) (word_at ctx.now.members x) (word_at ctx.now.members i) }
 {
-    let top = raised(ctx, i, x)?;
+    let top = raise_fully(ctx, i, x)?;
     match row.extremal.binary_search(&top) {
         Ok(k) => Some(&row.pool[row.places[k] as usize]),
         Err(_) => None,

@@ -10,7 +10,7 @@ use cox_context::Context;
 
 /// Where raising by one letter leads.
 #[derive(Clone, Copy)]
-pub(crate) enum Raise {
+pub enum Raise {
     /// Nowhere, since the member is extremal.
     Done,
     /// To the member with this number.
@@ -20,7 +20,7 @@ pub(crate) enum Raise {
 }
 
 /// The extremal member to which x is raised by the descents of w, for the members w and x with the numbers i and x; `None` where x <= w fails.
-pub(crate) fn raised(ctx: &Context, i: u32, x: u32) -> Option<u32>
+pub fn raise_fully(ctx: &Context, i: u32, x: u32) -> Option<u32>
     requires i { i < length ctx.now.members }
     requires x { x < length ctx.now.members }
     ensures { IsRaisedFully (integer_matrix ctx.now.matrix) ctx.now.members (word_at ctx.now.members i) (word_at ctx.now.members x) result }
@@ -40,7 +40,7 @@ pub(crate) fn raised(ctx: &Context, i: u32, x: u32) -> Option<u32>
 }
 
 /// Where raising the member x by one letter leads, for a w with these descents.
-fn raise_once(ctx: &Context, left: u16, right: u16, x: u32) -> Raise
+pub fn raise_once(ctx: &Context, left: u16, right: u16, x: u32) -> Raise
     requires admissible { IsAdmissible (integer_matrix ctx.now.matrix) }
     requires left { AreLetters ctx.now.matrix.rank left }
     requires right { AreLetters ctx.now.matrix.rank right }

@@ -4,7 +4,7 @@ use Rattle.cox_base.specs.IntegerMatrix.{IntegerMatrix, integer_matrix}
 use Rattle.cox_context.specs.Numbers.{word_at}
 use Rattle.cox_row.proofs.LetterBits.{left-letters, right-letters}
 use Rattle.cox_row.proofs.Raising.{raised-later, raised-outside, later-not_below, stands-trans}
-use Rattle.cox_row.proofs.raised.raised.Goals as goal
+use Rattle.cox_row.proofs.raised.raise_fully.Goals as goal
 
 pub loop-at-smaller : goal.loop-at-smaller
 loop-at-smaller c =

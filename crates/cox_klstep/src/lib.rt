@@ -1,0 +1,13 @@
+//! Makes the row of Kazhdan-Lusztig polynomials of a member of a context from the rows that the recursion asks for.
+//!
+//! For the least left descent s of w, v = sw, and an extremal x <= w, P(x,w) is P(sx,v) + q P(x,v), less the sum of mu(u,v) q^((l(w)-l(u))/2) P(x,u)
+//! over the u with su < u (Kazhdan and Lusztig 1979, 2.2.c; Humphreys 7.11).
+//!
+//! - `step`: the descent, the shorter element and the corrections
+//! - `sums`: the recursion at one extremal member
+#![tactic(auto)]
+
+mod step;
+mod sums;
+
+pub use step::{Correction, Step};
