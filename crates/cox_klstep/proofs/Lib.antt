@@ -1,1 +1,6 @@
--- lemmas
+-- what is added to the sums, and how large they become
+pub mod AddedSums
+-- lists of numbered corrections
+pub mod NumberedLists
+-- the recursion by numbers
+pub mod NumberedRecursion

@@ -1,11 +1,13 @@
 //! The recursion at one extremal member.
 ghost use Rattle.std.specs.Prelude.{◌≡◌, ℕ, ◌+◌, ◌*◌, ◌^◌, ◌<◌, ◌≤◌, ◌↔◌, length, pos, unsigned_abs, IsTrue};
+ghost use Rattle.cox_base.specs.Admissible.{IsAdmissible};
 ghost use Rattle.cox_base.specs.IntegerMatrix.{integer_matrix};
 ghost use Rattle.cox_base.specs.Bruhat.{IsBelow};
 ghost use Rattle.cox_poly.specs.Coefficients.{Coefficients, plus};
 ghost use Rattle.cox_poly.specs.Products.{minus, scaled, times_q_power};
 ghost use Rattle.cox_poly.specs.Polynomial.{coefficient};
 ghost use Rattle.cox_hecke.specs.Row.{IsKazhdanLusztig};
+ghost use Rattle.cox_context.specs.Closed.{IsClosed};
 ghost use Rattle.cox_context.specs.Numbers.{word_at};
 ghost use Rattle.cox_row.specs.Extremal.{IsExtremal};
 ghost use Rattle.cox_row.specs.RowOf.{IsRowAt};
@@ -19,6 +21,8 @@ use cox_row::{Row, polynomial};
 
 /// Adds factor q^shift P(x,u) to the sums, for the row of the member u, and says whether x <= u.
 fn add(ctx: &Context, row: &Row, u: u32, x: u32, factor: i64, shift: u32, sums: &mut Acc) -> bool
+    requires admissible { IsAdmissible (integer_matrix ctx.now.matrix) }
+    requires closed { IsClosed (integer_matrix ctx.now.matrix) ctx.now.members }
     requires u { u < length ctx.now.members }
     requires x { x < length ctx.now.members }
     requires row { IsRowAt ctx.now u row.now }
@@ -33,6 +37,7 @@ fn add(ctx: &Context, row: &Row, u: u32, x: u32, factor: i64, shift: u32, sums: 
 {
     match polynomial(ctx, row, u, x) {
         Some(p) => {
+            let _degree = p.degree();
             sums.add_scaled(p, factor, shift);
             true
         }
@@ -72,6 +77,8 @@ fn sum_up(
 
 /// Takes the corrections off the sums.
 fn correct(ctx: &Context, step: &Step, needed: &[&Row], x: u32, sums: &mut Acc)
+    requires admissible { IsAdmissible (integer_matrix ctx.now.matrix) }
+    requires closed { IsClosed (integer_matrix ctx.now.matrix) ctx.now.members }
     requires step { IsStep ctx.now step.now }
     requires needed { AreNeeded ctx.now step.now.corrections.items needed.now }
     requires x { x < length ctx.now.members }
@@ -88,6 +95,8 @@ fn correct(ctx: &Context, step: &Step, needed: &[&Row], x: u32, sums: &mut Acc)
 
 /// Takes one correction off the sums.
 fn take_off(ctx: &Context, row: &Row, correction: &Correction, x: u32, sums: &mut Acc)
+    requires admissible { IsAdmissible (integer_matrix ctx.now.matrix) }
+    requires closed { IsClosed (integer_matrix ctx.now.matrix) ctx.now.members }
     requires u { correction.now.number < length ctx.now.members }
     requires x { x < length ctx.now.members }
     requires row { IsRowAt ctx.now correction.now.number row.now }

@@ -21,16 +21,15 @@ found-rising numbers x (Err i) rising is = λ k l e.
     in ⊎_elim (λ (less : k < i). let h = r.1 k less in omega (arith, h, e)) (λ (h : i ≤ k). let m = r.2 k h l in omega (arith, m, e)) (cases_lt k i)
 
 -- numbers that rise and are below n are no more than n
-rising-least : (numbers : List ℕ) → AreRising numbers → (k : ℕ) → k < length numbers → k ≤ number_at numbers k
-rising-least numbers rising zero l = omega arith
-rising-least numbers rising (suc k) l =
-    let least = rising-least numbers rising k (omega arith) in let more = rising k (suc k) (omega arith) l in omega (arith, least, more)
+least-rising : (f : ℕ → ℕ) (size : ℕ) → ((j k : ℕ) → j < k → k < size → f j < f k) → (k : ℕ) → k < size → k ≤ f k
+least-rising f size rising zero l = omega arith
+least-rising f size rising (suc k) l =
+    let least = least-rising f size rising k (omega arith) in let more = rising k (suc k) (omega arith) l in omega (arith, least, more)
+
+pub few-rising : (f : ℕ → ℕ) (n size : ℕ) → ((j k : ℕ) → j < k → k < size → f j < f k) → ((k : ℕ) → k < size → f k < n) → size ≤ n
+few-rising f n zero rising within = omega arith
+few-rising f n (suc k) rising within =
+    let least = least-rising f (suc k) rising k (omega arith) in let less = within k (omega arith) in omega (arith, least, less)
 
 pub rising-few : (n : ℕ) (numbers : List ℕ) → AreRising numbers → AreWithin n numbers → length numbers ≤ n
-rising-few n numbers rising within = go (length numbers) refl
-  where
-    go : (size : ℕ) → length numbers ≡ size → size ≤ n
-    go zero e = omega arith
-    go (suc k) e =
-        let l : k < length numbers = omega arith
-        in let least = rising-least numbers rising k l in let less = within k l in omega (arith, least, less)
+rising-few n numbers rising within = few-rising (number_at numbers) n (length numbers) rising within
