@@ -4,3 +4,7 @@ pub mod AddedSums
 pub mod NumberedLists
 -- the recursion by numbers
 pub mod NumberedRecursion
+-- lists with one more item
+pub mod PushLemmas
+-- corrections among the neighbours
+pub mod Filtered

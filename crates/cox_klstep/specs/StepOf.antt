@@ -12,6 +12,7 @@ use Rattle.cox_context.specs.Numbers.{word_at}
 use Rattle.cox_row.specs.declared.row.Row.{Row}
 use Rattle.cox_row.specs.RowOf.{IsRowAt}
 use Rattle.cox_klstep.specs.declared.step.Correction.{Correction}
+use Rattle.cox_klstep.specs.declared.step.Descent.{Descent}
 use Rattle.cox_klstep.specs.declared.step.Step.{Step}
 
 -- the correction at a place
@@ -28,6 +29,13 @@ pub record AreNumbered (A : IntegerMatrix) (members : List (List ℕ)) (s : ℕ)
       → word_length A w ≡ word_length A (word_at members (correction_at list k).number) + 2 * (correction_at list k).shift
   pub whole : (u : ℕ) (m : ℤ) → u < length members → IsCorrection Left A s (s ∷ w) (word_at members u) m
       → (k : ℕ) × (k < length list) × ((correction_at list k).number ≡ u)
+
+-- the least left descent s of the member w, and the number of sw
+pub record IsDescentAt (e : Elements) (d : Descent) : Type 0 where
+  pub within : d.member < length e.members
+  pub least : IsLeastLeftDescent (integer_matrix e.matrix) (word_at e.members d.member) d.letter
+  pub lower_within : d.lower < length e.members
+  pub lower_is : word_at e.members d.lower ≡ normal_form (integer_matrix e.matrix) (d.letter ∷ word_at e.members d.member)
 
 -- the step by which the row of the member with its number is made
 pub record IsStep (e : Elements) (step : Step) : Type 0 where

@@ -10,4 +10,4 @@
 mod step;
 mod sums;
 
-pub use step::{Correction, Step};
+pub use step::{Correction, Descent, Step};

@@ -88,3 +88,13 @@ module _ (A : IntegerMatrix) (g : IsAdmissible A) where
         in let e : s - 1 + 1 ≡ s = omega (arith, letter.from_one)
         in rw e at ((h (s - 1)).0 (none_right (s - 1) ((r (s - 1)).1 (rw e d))));
   }
+
+-- the lowest bit of a set that has one
+pub lowest-bit : (set : ℕ) → set < 2 ^ 16 → set ≢ 0 → IsBitSet set (trailing_zeros w16 set) × ((k : ℕ) → IsBitSet set k → trailing_zeros w16 set ≤ k)
+lowest-bit set l some =
+    let t = bit_at-trailing_zeros w16 set (omega (arith, some)) l
+    in (
+      one-set set (trailing_zeros w16 set) t.1,
+      λ k b. ⊎_elim (λ (less : k < trailing_zeros w16 set). absurd (omega (arith, t.2 k less, set-one set k b)))
+          (λ (h : trailing_zeros w16 set ≤ k). h) (cases_lt k (trailing_zeros w16 set)),
+    )
