@@ -6,5 +6,7 @@ pub mod NumberedLists
 pub mod NumberedRecursion
 -- lists with one more item
 pub mod PushLemmas
+-- least descents
+pub mod LeastDescents
 -- corrections among the neighbours
 pub mod Filtered
