@@ -10,3 +10,7 @@ pub mod PushLemmas
 pub mod LeastDescents
 -- corrections among the neighbours
 pub mod Filtered
+-- values of mu as they are found
+pub mod Middles
+-- polynomials as they are found
+pub mod Keeping

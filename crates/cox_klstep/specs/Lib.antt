@@ -4,3 +4,7 @@ pub mod Limits
 pub mod StepOf
 -- sums of the polynomials of corrections
 pub mod Sums
+-- a row that is being made
+pub mod Drafts
+-- why a row is not made
+pub mod Faults

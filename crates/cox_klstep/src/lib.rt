@@ -5,9 +5,15 @@
 //!
 //! - `step`: the descent, the shorter element and the corrections
 //! - `sums`: the recursion at one extremal member
+//! - `values`, `mus`: the polynomials, and the values of mu, of a row that is being made
+//! - `fault`: why a row is not made
 #![tactic(auto)]
 
+mod fault;
+mod mus;
 mod step;
 mod sums;
+mod values;
 
+pub use fault::StepFault;
 pub use step::{Correction, Descent, Step};
