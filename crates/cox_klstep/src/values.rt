@@ -1,5 +1,5 @@
 //! The polynomials of a row that is being made.
-ghost use Rattle.std.specs.Prelude.{◌≡◌, ◌≢◌, ℕ, List, ◌+◌, ◌^◌, ◌<◌, ◌≤◌, ℤ, length, Err, IfOk, IfSome, IfNone};
+ghost use Rattle.std.specs.Prelude.{◌≡◌, ◌≢◌, ℕ, List, ◌+◌, ◌^◌, ◌<◌, ◌≤◌, ℤ, length, [], ◌∷◌, ◌++◌, Err, IfOk, OnOk, IfSome, IfNone};
 ghost use Rattle.cox_base.specs.IntegerMatrix.{IntegerMatrix};
 ghost use Rattle.cox_base.specs.Bruhat.{IsBelow};
 ghost use Rattle.cox_poly.specs.Polynomial.{coefficient, SameCoefficients};
@@ -11,7 +11,7 @@ ghost use Rattle.cox_row.specs.Polynomials.{polynomial_at};
 ghost use Rattle.cox_klstep.specs.Drafts.{IsPooled, AreBegun};
 
 use cox_poly::{Acc, Poly, PolyFault};
-use std::alloc::Global;
+use std::alloc::{AllocError, Global};
 
 /// Extremal members so far, each with the place of its polynomial in the pool.
 #[derive(Drop)]
@@ -43,11 +43,25 @@ impl Values {
         ensures polynomial { IfOk result (λ place. SameCoefficients (polynomial_at self.new.pool.items place) sums.now) }
         ensures too_big { (d : ℕ) (v : ℤ) → result ≡ Err (PolyFault.TooBig d v) → IsFirstAbove limit sums.now d v }
     {
-        let place = place_of(alloc, &mut self.pool, sums, limit)?;
-        if self.extremal.push(x).is_err() || self.places.push(place).is_err() {
-            return Err(PolyFault::NoMemory);
+        let place = match place_of(alloc, &mut self.pool, sums, limit) {
+            Ok(place) => place,
+            Err(fault) => return Err(fault),
+        };
+        match self.append(x, place) {
+            Ok(()) => Ok(place),
+            Err(_) => Err(PolyFault::NoMemory),
         }
-        Ok(place)
+    }
+
+    /// One extremal member more, with the place of its polynomial.
+    fn append(&mut self, x: u32, place: u32) -> Result<(), AllocError>
+        ensures extremal { OnOk result (self.new.extremal.items ≡ self.old.extremal.items ++ x ∷ []) }
+        ensures places { OnOk result (self.new.places.items ≡ self.old.places.items ++ place ∷ []) }
+        ensures pool { self.new.pool.items ≡ self.old.pool.items }
+    {
+        self.extremal.push(x)?;
+        self.places.push(place)?;
+        Ok(())
     }
 }
 
@@ -65,10 +79,18 @@ fn place_of(alloc: Global, pool: &mut Vec<Poly>, sums: &Acc, limit: i64) -> Resu
         return Ok(place);
     }
     let place = pool.len() as u32;
-    if pool.push(polynomial).is_err() {
-        return Err(PolyFault::NoMemory);
+    match append(pool, polynomial) {
+        Ok(()) => Ok(place),
+        Err(_) => Err(PolyFault::NoMemory),
     }
-    Ok(place)
+}
+
+/// One polynomial more.
+fn append(pool: &mut Vec<Poly>, polynomial: Poly) -> Result<(), AllocError>
+    ensures { OnOk result (pool.new.items ≡ pool.old.items ++ polynomial ∷ []) }
+{
+    pool.push(polynomial)?;
+    Ok(())
 }
 
 /// The place of a polynomial in the pool, if it is there.
