@@ -14,3 +14,5 @@ pub mod Filtered
 pub mod Middles
 -- polynomials as they are found
 pub mod Keeping
+-- mu at members that are not extremal
+pub mod RaisedMus

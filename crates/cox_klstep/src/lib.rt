@@ -6,14 +6,17 @@
 //! - `step`: the descent, the shorter element and the corrections
 //! - `sums`: the recursion at one extremal member
 //! - `values`, `mus`: the polynomials, and the values of mu, of a row that is being made
+//! - `making`: the row
 //! - `fault`: why a row is not made
 #![tactic(auto)]
 
 mod fault;
+mod making;
 mod mus;
 mod step;
 mod sums;
 mod values;
 
 pub use fault::StepFault;
+pub use making::{MU_LIMIT, row};
 pub use step::{Correction, Descent, Step};

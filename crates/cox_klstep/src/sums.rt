@@ -46,7 +46,7 @@ fn add(ctx: &Context, row: &Row, u: u32, x: u32, factor: i64, shift: u32, sums: 
 }
 
 /// The sums become those of P(x,w), for an extremal x; says whether x <= w.
-fn sum_up(
+pub(crate) fn sum_up(
     ctx: &Context,
     step: &Step,
     lower: &Row,

@@ -9,7 +9,6 @@ use Rattle.cox_reflect.proofs.Elements.{same-sym, same-refl}
 use Rattle.cox_reflect.proofs.Search.{normal_form-same}
 use Rattle.cox_poly.specs.Polynomial.{coefficient, IsPolynomial}
 use Rattle.cox_hecke.specs.Row.{IsKazhdanLusztig, IsMu}
-use Rattle.cox_hecke.proofs.AllRows.{mu-exists}
 use Rattle.cox_context.specs.Closed.{IsClosed}
 use Rattle.cox_context.specs.Numbers.{word_at}
 use Rattle.cox_context.proofs.ListLemmas.{contains-placed}
@@ -19,6 +18,7 @@ use Rattle.cox_row.specs.Extremal.{IsExtremal, AreExtremal}
 use Rattle.cox_row.specs.Polynomials.{polynomial_at, HavePolynomials}
 use Rattle.cox_row.specs.Mus.{value_at, AreMus}
 use Rattle.cox_row.specs.Raised.{StandsFor}
+use Rattle.cox_row.proofs.MuLemmas.{mu-zero}
 
 module _ (A : IntegerMatrix) (members : List (List ℕ)) (w : List ℕ) where
   -- the polynomial at a place is that of all elements for which the element there stands
@@ -44,9 +44,5 @@ module _ (A : IntegerMatrix) (members : List (List ℕ)) (w : List ℕ) where
   -- a member that the list of mu does not have has 0
   pub mu-absent : (g : IsAdmissible A) (u : ℕ) (numbers : List ℕ) (values : List ℤ) → AreMus A members w numbers values → u < length members
       → ((k : ℕ) → k < length numbers → number_at numbers k ≡ u → ⊥) → IsMu A (word_at members u) w (pos 0)
-  mu-absent g u numbers values h l none = go (mu-exists A g (word_at members u) w).0 (mu-exists A g (word_at members u) w).1
-    where
-      go : (m : ℤ) → IsMu A (word_at members u) w m → IsMu A (word_at members u) w (pos 0)
-      go (pos zero) mu = mu
-      go (pos (suc n)) mu = absurd (let there = h.whole u (pos (suc n)) l mu (λ e. cc) in none there.0 there.1 there.2)
-      go (negsuc n) mu = absurd (let there = h.whole u (negsuc n) l mu (λ e. cc) in none there.0 there.1 there.2)
+  mu-absent g u numbers values h l none =
+      mu-zero A g (word_at members u) w (λ m mu some. let there = h.whole u m l mu some in none there.0 there.1 there.2)
