@@ -16,3 +16,5 @@ pub mod Middles
 pub mod Keeping
 -- mu at members that are not extremal
 pub mod RaisedMus
+-- the row when each member is done
+pub mod Finished

@@ -1,5 +1,6 @@
 -- The sums are those of P(x,w).
-use Rattle.std.proofs.Common.{◌≡◌, ℕ, ◌<◌, ◌≤◌, length, [], pos, Err, FitsSigned, w64, w128, rules, refl, sym, ap, ◌∙◌, arith}
+use Rattle.std.proofs.Common.{◌≡◌, ℕ, ◌<◌, ◌≤◌, length, [], pos, Err, FitsSigned, w64, rules, refl, sym, ap, ◌∙◌, arith}
+use Rattle.std.specs.Int.{w128}
 use Rattle.std.proofs.lemmas.Int.{to_z-of_z}
 use Rattle.std.proofs.lemmas.List.{get_or_default}
 use Rattle.cox_base.specs.IntegerMatrix.{IntegerMatrix, integer_matrix}
@@ -51,4 +52,14 @@ returns-in-Ok-clause-mu c =
     })
 
 pub returns-in-Err-TooBig-clause-fault : goal.returns-in-Err-TooBig-clause-fault
-returns-in-Err-TooBig-clause-fault c = ?
+returns-in-Err-TooBig-clause-fault c =
+    let fits : FitsSigned w64 c.args.limit = search rules
+    in let wide : FitsSigned w128 c.in-Err-TooBig.value = search rules
+    in let first = c.in-Err-TooBig.ensures.too_big c.in-Err-TooBig.degree c.in-Err-TooBig.value (ap (λ f. Err f) c.in-Err-TooBig.field-0-is)
+    in let above = simp (to_z-of_z w64 c.args.limit fits) at first.above
+    in rw (to_z-of_z w128 c.in-Err-TooBig.value wide) record {
+      polynomial = coefficient c.sum_up.new.sums;
+      is = c.if-not-sum_up.ensures.value refl;
+      value = sym first.value;
+      above = above;
+    }
