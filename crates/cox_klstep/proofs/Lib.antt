@@ -1,0 +1,20 @@
+-- what is added to the sums, and how large they become
+pub mod AddedSums
+-- lists of numbered corrections
+pub mod NumberedLists
+-- the recursion by numbers
+pub mod NumberedRecursion
+-- lists with one more item
+pub mod PushLemmas
+-- least descents
+pub mod LeastDescents
+-- corrections among the neighbours
+pub mod Filtered
+-- values of mu as they are found
+pub mod Middles
+-- polynomials as they are found
+pub mod Keeping
+-- mu at members that are not extremal
+pub mod RaisedMus
+-- the row when each member is done
+pub mod Finished

@@ -1,0 +1,72 @@
+-- The recursion for an extremal x, which s shortens.
+use Rattle.std.proofs.Common.{◌≡◌, ℕ, ◌+◌, ◌*◌, ◌^◌, ◌<◌, ◌≤◌, length, pos, Some, None, refl, sym, ap, ◌∙◌, arith}
+use Rattle.cox_base.specs.Matrix.{IsLetter}
+use Rattle.cox_base.specs.IntegerMatrix.{IntegerMatrix, integer_matrix}
+use Rattle.cox_base.specs.Reduced.{IsLeftDescent}
+use Rattle.cox_reflect.proofs.Roots.{left_descent-letter}
+use Rattle.cox_poly.specs.Coefficients.{Coefficients}
+use Rattle.cox_poly.specs.Polynomial.{coefficient}
+use Rattle.cox_hecke.proofs.Polynomials.{kl_polynomial, kl_polynomial-is}
+use Rattle.cox_context.specs.Numbers.{word_at}
+use Rattle.cox_context.proofs.Shifting.{descent-member}
+use Rattle.cox_klstep.specs.Sums.{numbered_sum}
+use Rattle.cox_klstep.proofs.AddedSums.{three-sums}
+use Rattle.cox_klstep.proofs.NumberedRecursion.{below-lowered, sums-are}
+use Rattle.cox_klstep.proofs.sums.sum_up.Goals as goal
+
+pub left-requires-clause-letter : goal.left-requires-clause-letter
+left-requires-clause-letter c = left_descent-letter (integer_matrix c.args.ctx.now.matrix) c.len-len.ensures.admissible
+    (word_at c.args.ctx.now.members c.args.step.now.member) c.args.step.now.letter c.requires.step.descent.descent
+
+pub unreachable-requires : goal.unreachable-requires
+unreachable-requires c = c.in_default.ensures (descent-member (integer_matrix c.args.ctx.now.matrix) c.len-len.ensures.admissible
+    c.args.ctx.now.members c.len-len.ensures.closed c.args.step.now.letter c.args.x c.requires.x
+    (c.requires.extremal.left c.args.step.now.letter c.requires.step.descent.descent))
+
+pub returns-then-not-add-clause-below : goal.returns-then-not-add-clause-below
+returns-then-not-add-clause-below c =
+    let lowered = below-lowered (integer_matrix c.args.ctx.now.matrix) c.len-len.ensures.admissible c.args.ctx.now.members
+    c.len-len.ensures.closed c.args.step.now.member c.requires.step.within c.args.step.now.letter c.requires.step.descent.descent
+    c.args.step.now.corrections.items c.requires.step.numbered c.args.x c.in-Some.shorter c.args.step.now.lower
+    (c.requires.extremal.left c.args.step.now.letter c.requires.step.descent.descent) c.in-Some.ensures.1 c.requires.step.lower_is
+    in (λ t. lowered.0 (c.if-not-add.ensures.below.0 t), λ b. c.if-not-add.ensures.below.1 (lowered.1 b))
+
+pub add-requires-2-clause-room : goal.add-requires-2-clause-room
+add-requires-2-clause-room c = λ k.
+    let small = c.add.ensures.size 0 (λ j. rw (c.requires.clear j) (omega arith)) k in omega (arith, small)
+
+pub correct-requires-clause-room : goal.correct-requires-clause-room
+correct-requires-clause-room c = λ k.
+    let small = c.add-2.ensures.size 1
+    (λ j. let first = c.add.ensures.size 0 (λ d. rw (c.requires.clear d) (omega arith)) j in omega (arith, first)) k
+    in omega (arith, small)
+
+pub returns-clause-below : goal.returns-clause-below
+returns-clause-below c =
+    let lowered = below-lowered (integer_matrix c.args.ctx.now.matrix) c.len-len.ensures.admissible c.args.ctx.now.members
+    c.len-len.ensures.closed c.args.step.now.member c.requires.step.within c.args.step.now.letter c.requires.step.descent.descent
+    c.args.step.now.corrections.items c.requires.step.numbered c.args.x c.in-Some.shorter c.args.step.now.lower
+    (c.requires.extremal.left c.args.step.now.letter c.requires.step.descent.descent) c.in-Some.ensures.1 c.requires.step.lower_is
+    in (λ t. lowered.0 (c.if-not-add.ensures.below.0 t), λ b. c.if-not-add.ensures.below.1 (lowered.1 b))
+
+pub returns-clause-value : goal.returns-clause-value
+returns-clause-value c = λ _.
+    let A : IntegerMatrix = integer_matrix c.args.ctx.now.matrix
+    in let P : ℕ → Coefficients = λ u. kl_polynomial A c.len-len.ensures.admissible (word_at c.args.ctx.now.members c.args.x)
+    (word_at c.args.ctx.now.members u)
+    in let a : Coefficients = kl_polynomial A c.len-len.ensures.admissible (word_at c.args.ctx.now.members c.in-Some.shorter)
+    (word_at c.args.ctx.now.members c.args.step.now.lower)
+    in let b : Coefficients = P c.args.step.now.lower
+    in let gives = λ (u : ℕ) (l : u < length c.args.ctx.now.members). kl_polynomial-is A c.len-len.ensures.admissible
+    (word_at c.args.ctx.now.members c.args.x) (word_at c.args.ctx.now.members u)
+    in let is_a = kl_polynomial-is A c.len-len.ensures.admissible (word_at c.args.ctx.now.members c.in-Some.shorter)
+    (word_at c.args.ctx.now.members c.args.step.now.lower)
+    in let is_b = gives c.args.step.now.lower c.requires.step.lower_within
+    in sums-are (integer_matrix c.args.ctx.now.matrix) c.len-len.ensures.admissible c.args.ctx.now.members
+    c.len-len.ensures.closed c.args.step.now.member c.requires.step.within c.args.step.now.letter c.requires.step.descent.descent
+    c.args.step.now.corrections.items c.requires.step.numbered c.args.x c.in-Some.shorter c.args.step.now.lower
+    (c.requires.extremal.left c.args.step.now.letter c.requires.step.descent.descent) c.in-Some.ensures.1 c.requires.step.lower_is
+    P a b (coefficient c.correct.new.sums) gives is_a is_b
+    (three-sums a b (numbered_sum P c.args.step.now.corrections.items) (coefficient c.args.sums.now) (coefficient c.add.new.sums)
+    (coefficient c.add-2.new.sums) (coefficient c.correct.new.sums) c.requires.clear (c.add.ensures.sum a is_a) (c.add-2.ensures.sum b is_b)
+    (c.correct.ensures P gives))

@@ -1,0 +1,10 @@
+-- coefficients and values of mu beyond a limit
+pub mod Limits
+-- the step by which a row is made
+pub mod StepOf
+-- sums of the polynomials of corrections
+pub mod Sums
+-- a row that is being made
+pub mod Drafts
+-- why a row is not made
+pub mod Faults

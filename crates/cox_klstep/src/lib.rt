@@ -1,0 +1,22 @@
+//! Makes the row of Kazhdan-Lusztig polynomials of a member of a context from the rows that the recursion asks for.
+//!
+//! For the least left descent s of w, v = sw, and an extremal x <= w, P(x,w) is P(sx,v) + q P(x,v), less the sum of mu(u,v) q^((l(w)-l(u))/2) P(x,u)
+//! over the u with su < u (Kazhdan and Lusztig 1979, 2.2.c; Humphreys 7.11).
+//!
+//! - `step`: the descent, the shorter element and the corrections
+//! - `sums`: the recursion at one extremal member
+//! - `values`, `mus`: the polynomials, and the values of mu, of a row that is being made
+//! - `making`: the row
+//! - `fault`: why a row is not made
+#![tactic(auto)]
+
+mod fault;
+mod making;
+mod mus;
+mod step;
+mod sums;
+mod values;
+
+pub use fault::StepFault;
+pub use making::{MU_LIMIT, row};
+pub use step::{Correction, Descent, Step};

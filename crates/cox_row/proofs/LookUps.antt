@@ -1,0 +1,48 @@
+-- What a row has at a place, and what it tells where it has none.
+use Rattle.std.proofs.Common.{◌≡◌, ◌≢◌, ℕ, zero, suc, ◌<◌, ◌≤◌, List, [], length, ℤ, pos, negsuc, refl, sym, ap, ◌∙◌, ⊎_elim, arith}
+use Rattle.cox_base.specs.IntegerMatrix.{IntegerMatrix}
+use Rattle.cox_base.specs.Admissible.{IsAdmissible}
+use Rattle.cox_base.specs.Element.{SameElement}
+use Rattle.cox_base.specs.ShortLex.{normal_form}
+use Rattle.cox_base.specs.Bruhat.{IsBelow}
+use Rattle.cox_reflect.proofs.Elements.{same-sym, same-refl}
+use Rattle.cox_reflect.proofs.Search.{normal_form-same}
+use Rattle.cox_poly.specs.Polynomial.{coefficient, IsPolynomial}
+use Rattle.cox_hecke.specs.Row.{IsKazhdanLusztig, IsMu}
+use Rattle.cox_context.specs.Closed.{IsClosed}
+use Rattle.cox_context.specs.Numbers.{word_at}
+use Rattle.cox_context.proofs.ListLemmas.{contains-placed}
+use Rattle.cox_context.proofs.Shifting.{member-below}
+use Rattle.cox_row.specs.Rising.{number_at}
+use Rattle.cox_row.specs.Extremal.{IsExtremal, AreExtremal}
+use Rattle.cox_row.specs.Polynomials.{polynomial_at, HavePolynomials}
+use Rattle.cox_row.specs.Mus.{value_at, AreMus}
+use Rattle.cox_row.specs.Raised.{StandsFor}
+use Rattle.cox_row.proofs.MuLemmas.{mu-zero}
+
+module _ (A : IntegerMatrix) (members : List (List ℕ)) (w : List ℕ) where
+  -- the polynomial at a place is that of all elements for which the element there stands
+  pub value-at : (x : List ℕ) (top k : ℕ) (numbers places : List ℕ) (pool : List (List ℤ)) → HavePolynomials A members w numbers places pool
+      → StandsFor A w x (word_at members top) → k < length numbers → number_at numbers k ≡ top
+      → IsKazhdanLusztig A x w (coefficient (polynomial_at pool (number_at places k)))
+  value-at x top k numbers places pool h stands l e = stands.same _ (rw e at (h.value k l))
+
+  pub below-at : (x : List ℕ) (top k : ℕ) (numbers : List ℕ) → AreExtremal A members w numbers → StandsFor A w x (word_at members top)
+      → k < length numbers → number_at numbers k ≡ top → IsBelow A x w
+  below-at x top k numbers h stands l e = stands.from (rw e at (h.below k l))
+
+  -- an extremal element that the row does not have is not below w
+  pub absent-outside : (x : List ℕ) (top : ℕ) (numbers : List ℕ) → AreExtremal A members w numbers → top < length members
+      → IsExtremal A w (word_at members top) → StandsFor A w x (word_at members top)
+      → ((k : ℕ) → k < length numbers → number_at numbers k ≡ top → ⊥) → IsBelow A x w → ⊥
+  absent-outside x top numbers h l e stands none b = let there = h.whole top l e (stands.to b) in none there.0 there.1 there.2
+
+  pub mu-at : (u k : ℕ) (numbers : List ℕ) (values : List ℤ) → AreMus A members w numbers values → k < length numbers → number_at numbers k ≡ u
+      → IsMu A (word_at members u) w (value_at values k)
+  mu-at u k numbers values h l e = rw e at (h.value k l)
+
+  -- a member that the list of mu does not have has 0
+  pub mu-absent : (g : IsAdmissible A) (u : ℕ) (numbers : List ℕ) (values : List ℤ) → AreMus A members w numbers values → u < length members
+      → ((k : ℕ) → k < length numbers → number_at numbers k ≡ u → ⊥) → IsMu A (word_at members u) w (pos 0)
+  mu-absent g u numbers values h l none =
+      mu-zero A g (word_at members u) w (λ m mu some. let there = h.whole u m l mu some in none there.0 there.1 there.2)

@@ -1,0 +1,18 @@
+-- numbers of members that rise
+pub mod Rising
+-- extremal elements
+pub mod Extremal
+-- the polynomials at extremal elements
+pub mod Polynomials
+-- the values of mu that are not 0
+pub mod Mus
+-- the row of an element
+pub mod RowOf
+-- the polynomials of a row, each once
+pub mod Distinct
+-- members with new numbers
+pub mod Moved
+-- sets of letters by bits
+pub mod LetterSets
+-- raising an element by the descents of another
+pub mod Raised

@@ -1,0 +1,22 @@
+//! Rows of Kazhdan-Lusztig polynomials: what is kept of a row, and what is read off it.
+//!
+//! The row of w has P(x,w) for each x <= w, and mu(x,w). It is kept at the extremal x alone: those to which each left descent of w is a left
+//! descent, and each right descent of w a right one. For any other x some letter shortens w and not x; with it x becomes longer, and P(x,w) stays
+//! as it is (Kazhdan and Lusztig 1979, 2.3.g). So x is raised until it is extremal, and its polynomial is looked up there. All this goes by the
+//! numbers of a context and its tables, and takes no memory.
+//!
+//! That a row is that of an element, `IsRowOf`, is a property of the row and of the members of a context. Each look-up requires it, and whoever
+//! makes a row has to prove it.
+//!
+//! - `row`: the row, its parts, and new numbers for it when a context grows
+//! - `raised`: raising a member by the descents of another
+//! - `look_up`: the polynomial and mu of any member, and how many polynomials there are
+#![tactic(auto)]
+
+mod look_up;
+mod raised;
+mod row;
+
+pub use look_up::{mu, polynomial, pool_len};
+pub use raised::{Raise, raise_fully, raise_once};
+pub use row::Row;
