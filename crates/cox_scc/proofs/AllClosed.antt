@@ -29,7 +29,8 @@ module _ (edges : List (ℕ × ℕ)) (adjacency : Adjacency)
   to_lists (Reaches.itself a) = Reaches.itself a
   to_lists (Reaches.onward a b c edge rest) = Reaches.onward a b c (sorted.all a b edge) (to_lists rest)
 
-  module _ (search : Search) (walk : IsWalk adjacency search []) (seen : (v : ℕ) → v < adjacency.vertices → visit_of search v ≢ Unseen) where
+  module _ (search : Search) (walk : IsWalk adjacency search []) (seen : (v : ℕ) → v < adjacency.vertices
+      → visit_of search v ≢ Unseen) where
     all_closed : (v : ℕ) → v < adjacency.vertices → visit_of search v ≡ Closed
     all_closed v v_in = by_visit (visit_of search v) refl
       where
@@ -63,7 +64,8 @@ same_of_code graph_edges n adjacency search classes n_is sorted walk seen classe
     (classes_same graph_edges adjacency
     (subst (λ z. AreSorted z graph_edges adjacency.offsets.items adjacency.targets.items) (sym n_is) sorted) search walk seen))
 
-pub least_of_code : (graph_edges : List (ℕ × ℕ)) (n : ℕ) (adjacency : Adjacency) (search : Search) (classes : Vec ℕ) → adjacency.vertices ≡ n
+pub least_of_code : (graph_edges : List (ℕ × ℕ)) (n : ℕ) (adjacency : Adjacency) (search : Search) (classes : Vec ℕ)
+    → adjacency.vertices ≡ n
     → AreSorted n graph_edges adjacency.offsets.items adjacency.targets.items → IsWalk adjacency search []
     → ((v : ℕ) → v < adjacency.vertices → visit_of search v ≢ Unseen) → classes ≡ search.classes
     → (a : ℕ) → a < n → IsLeastOfClass n classes.items a
