@@ -126,7 +126,7 @@ followed_join n offset target visit next stack size parts fewer path was followe
   whole = followed.whole;
 }
 
--- one more edge was followed of the vertex at `here`, which is on the path
+-- one more edge of the vertex at `here`, which is on the path, was followed
 pub followed_advance : (n : ℕ) (offset target : ℕ → ℕ) (visit : ℕ → Visit) (next later stack : ℕ → ℕ) (size here : ℕ) (parts path : List ℕ)
     → later (stack here) ≡ next (stack here) + 1 → ((v : ℕ) → v ≢ stack here → later v ≡ next v) → here < size → Contains path here
     → next (stack here) < offset (stack here + 1)
@@ -166,7 +166,7 @@ followed_advance n offset target visit next later stack size here parts path one
     same_place p within is =
         let both : Open p ≡ Open here = sym (placed.visited p within) ∙ ap visit is ∙ placed.visited here here_in in cc
 
--- all edges were followed of the vertex at `here`, which leaves the path
+-- all edges of the vertex at `here` were followed, and it leaves the path
 pub followed_retreat : (n : ℕ) (offset target : ℕ → ℕ) (visit : ℕ → Visit) (next stack : ℕ → ℕ) (size here : ℕ) (parts rest : List ℕ)
     → next (stack here) ≡ offset (stack here + 1)
     → AreFollowed n offset target visit next stack size parts (rest ++ here ∷ [])

@@ -9,6 +9,13 @@ Reaches-join (Reaches.onward a b c e r) s = Reaches.onward a b _ e (Reaches-join
 pub Reaches-step : {IsEdge : ℕ → ℕ → Type 0} {a b : ℕ} → IsEdge a b → Reaches IsEdge a b
 Reaches-step e = Reaches.onward _ _ _ e (Reaches.itself _)
 
+-- where edges of one kind are edges of another, at the vertices that they lead to, what is reached is reached
+pub Reaches-map : {IsEdge IsOther : ℕ → ℕ → Type 0} {a b : ℕ} (P : ℕ → Type 0) → ((x y : ℕ) → P x → IsEdge x y → P y × IsOther x y)
+    → P a → Reaches IsEdge a b → Reaches IsOther a b
+Reaches-map P edge p (Reaches.itself a) = Reaches.itself a
+Reaches-map P edge p (Reaches.onward a b c e r) =
+    let step = edge a b p e in Reaches.onward a b c step.1 (Reaches-map P edge step.0 r)
+
 -- what is kept along edges is kept wherever they lead
 pub Reaches-keeps : {IsEdge : ℕ → ℕ → Type 0} {a b : ℕ} (P : ℕ → Type 0) → ((x y : ℕ) → P x → IsEdge x y → P y) → Reaches IsEdge a b → P a
     → P b

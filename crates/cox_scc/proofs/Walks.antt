@@ -358,7 +358,7 @@ walk_follow_read adjacency old mid here there v e t walk v_read e_read t_read mo
     (subst (λ z. z < slice_index adjacency.offsets.items (slice_index old.stack.items here + 1)) (sym e_next) more))
     (subst (λ z. Meets (visit_of old z) old mid here z there) t_is meets)
 
--- all edges were followed of the vertex at the end of the path
+-- all edges of the vertex at the end of the path were followed
 module _ (adjacency : Adjacency) (search : Search) (rest : List ℕ) (here : ℕ) (walk : IsWalk adjacency search (rest ++ here ∷ []))
     (done : slice_index adjacency.offsets.items (slice_index search.stack.items here + 1) ≤ slice_index search.next.items
     (slice_index search.stack.items here)) where

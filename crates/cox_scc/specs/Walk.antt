@@ -37,7 +37,7 @@ pub record IsChain (IsEdge : ℕ → ℕ → Type 0) (stack : ℕ → ℕ) (size
   pub on : (place : ℕ) → place + 1 < size → Reaches IsEdge (stack place) (stack (place + 1))
   pub back : (place : ℕ) → place + 1 < size → Contains parts (place + 1) ⊎ Reaches IsEdge (stack (place + 1)) (stack place)
 
--- no edge that was followed leads below the part where it begins, and all edges were followed of the vertices that are not on the path
+-- no edge that was followed leads below the part where it begins, and all edges of the vertices that are not on the path were followed
 pub record AreFollowed (n : ℕ) (offset target : ℕ → ℕ) (visit : ℕ → Visit) (next : ℕ → ℕ) (stack : ℕ → ℕ) (size : ℕ) (parts path : List ℕ)
     : Type 0 where
   pub begun : (v : ℕ) → v < n → offset v ≤ next v
