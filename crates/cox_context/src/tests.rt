@@ -190,7 +190,6 @@ fn is_extended_by_an_interval(rt: HostRuntime) -> Result<(), Fail> {
     assert!(rt; moved.as_slice() == [0, 1, 2, 4].as_slice());
     assert_eq!(rt; context.len(), 5);
     assert_eq!(rt; context.number(&second), Some(3));
-    assert_eq!(rt; context.left(2, 3), None);
     Ok(())
 }
 

@@ -8,6 +8,7 @@ use Rattle.cox_scc.specs.declared.search.Visit.TheVariants.{Unseen, Open, Closed
 use Rattle.cox_scc.specs.Reach.{HasEdge, Reaches, AreClasses, IsLeastOfClass}
 use Rattle.cox_scc.specs.Sorted.{AreSorted}
 use Rattle.cox_scc.specs.Walk.{visit_of, IsWalk, LeadsIn}
+use Rattle.cox_scc.proofs.Reaching.{Reaches-map}
 use Rattle.cox_scc.proofs.Walks.{empty_stack}
 
 -- the vertices below the root were seen, and none is being explored
@@ -20,16 +21,14 @@ module _ (edges : List (ℕ × ℕ)) (adjacency : Adjacency)
     (sorted : AreSorted adjacency.vertices edges adjacency.offsets.items adjacency.targets.items) where
   -- the lists and the graph lead to the same vertices
   to_graph : {a b : ℕ} → a < adjacency.vertices → Reaches (LeadsIn adjacency) a b → Reaches (HasEdge edges) a b
-  to_graph a_in (Reaches.itself a) = Reaches.itself a
-  to_graph a_in (Reaches.onward a b c (e, from, is) rest) =
-      let b_in : b < adjacency.vertices = subst (λ z. z < adjacency.vertices) is (adjacency.listed.vertex a e a_in from) in
-      Reaches.onward a b c (sorted.edge a b a_in (e, from, is)) (to_graph b_in rest)
+  to_graph a_in r = Reaches-map (λ v. v < adjacency.vertices) (λ x y x_in lead.
+      (subst (λ z. z < adjacency.vertices) lead.2 (adjacency.listed.vertex x lead.0 x_in lead.1), sorted.edge x y x_in lead)) a_in r
 
   to_lists : {a b : ℕ} → Reaches (HasEdge edges) a b → Reaches (LeadsIn adjacency) a b
-  to_lists (Reaches.itself a) = Reaches.itself a
-  to_lists (Reaches.onward a b c edge rest) = Reaches.onward a b c (sorted.all a b edge) (to_lists rest)
+  to_lists r = Reaches-map (λ v. Unit {0}) (λ x y always edge. (tt, sorted.all x y edge)) tt r
 
-  module _ (search : Search) (walk : IsWalk adjacency search []) (seen : (v : ℕ) → v < adjacency.vertices → visit_of search v ≢ Unseen) where
+  module _ (search : Search) (walk : IsWalk adjacency search []) (seen : (v : ℕ) → v < adjacency.vertices
+      → visit_of search v ≢ Unseen) where
     all_closed : (v : ℕ) → v < adjacency.vertices → visit_of search v ≡ Closed
     all_closed v v_in = by_visit (visit_of search v) refl
       where
@@ -63,7 +62,8 @@ same_of_code graph_edges n adjacency search classes n_is sorted walk seen classe
     (classes_same graph_edges adjacency
     (subst (λ z. AreSorted z graph_edges adjacency.offsets.items adjacency.targets.items) (sym n_is) sorted) search walk seen))
 
-pub least_of_code : (graph_edges : List (ℕ × ℕ)) (n : ℕ) (adjacency : Adjacency) (search : Search) (classes : Vec ℕ) → adjacency.vertices ≡ n
+pub least_of_code : (graph_edges : List (ℕ × ℕ)) (n : ℕ) (adjacency : Adjacency) (search : Search) (classes : Vec ℕ)
+    → adjacency.vertices ≡ n
     → AreSorted n graph_edges adjacency.offsets.items adjacency.targets.items → IsWalk adjacency search []
     → ((v : ℕ) → v < adjacency.vertices → visit_of search v ≢ Unseen) → classes ≡ search.classes
     → (a : ℕ) → a < n → IsLeastOfClass n classes.items a

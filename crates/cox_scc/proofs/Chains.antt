@@ -1,13 +1,11 @@
 -- The vertices on the stack: each reaches those above it, and those of one part reach each other.
-use Rattle.std.proofs.Common.{◌≡◌, ℕ, zero, suc, ◌+◌, ◌-◌, ◌<◌, ◌≤◌, inl, inr, List, [], ◌∷◌, ◌++◌, Contains, ⊎_elim, subst, sym, refl, ap, arith}
+use Rattle.std.proofs.Common.{◌≡◌, ℕ, zero, suc, ◌+◌, ◌-◌, ◌<◌, ◌≤◌, inl, inr, List, [], ◌∷◌, ◌++◌, Contains, ⊎_elim, subst, sym, refl}
+use Rattle.std.proofs.Common.{ap, arith}
 use Rattle.std.proofs.lemmas.Bool.{cases_lt}
 use Rattle.std.proofs.lemmas.List.Elements.{Contains-append_left, Contains-push}
 use Rattle.cox_scc.specs.Reach.{Reaches}
 use Rattle.cox_scc.specs.Walk.{IsChain}
-use Rattle.cox_scc.proofs.Reaching.{Reaches-join}
-
-Reaches-same : {IsEdge : ℕ → ℕ → Type 0} {a b p q : ℕ} → a ≡ p → b ≡ q → Reaches IsEdge p q → Reaches IsEdge a b
-Reaches-same {IsEdge} {a} {b} {p} {q} e f r = subst (λ z. Reaches IsEdge z b) (sym e) (subst (λ z. Reaches IsEdge p z) (sym f) r)
+use Rattle.cox_scc.proofs.Reaching.{Reaches-join, Reaches-same}
 
 module _ (IsEdge : ℕ → ℕ → Type 0) (stack : ℕ → ℕ) (size : ℕ) (parts : List ℕ) (chain : IsChain IsEdge stack size parts) where
   up_by : (i k : ℕ) → i + k < size → Reaches IsEdge (stack i) (stack (i + k))
@@ -26,7 +24,8 @@ module _ (IsEdge : ℕ → ℕ → Type 0) (stack : ℕ → ℕ) (size : ℕ) (p
   down_by i (suc k) low within =
       let e : i + suc k ≡ (i + k) + 1 = omega arith in
       Reaches-same (ap stack e) refl (Reaches-join
-      (⊎_elim (λ part. let le : (i + k) + 1 ≤ i = low ((i + k) + 1) part in absurd (omega arith)) (λ r. r) (chain.back (i + k) (omega arith)))
+      (⊎_elim (λ part. let le : (i + k) + 1 ≤ i = low ((i + k) + 1) part in absurd (omega arith)) (λ r. r) (chain.back (i + k)
+      (omega arith)))
       (down_by i k low (omega arith)))
 
   -- where no part begins above it, a vertex is reached from those above it
@@ -52,7 +51,8 @@ module _ (IsEdge : ℕ → ℕ → Type 0) (stack : ℕ → ℕ) (size : ℕ) (p
 
   -- the vertex at `here` reaches the one at `low`: no part begins between them any more
   pub chain_join : (fewer : List ℕ) (here low : ℕ) → here < size → low < size → ((b : ℕ) → Contains parts b → b ≤ here)
-      → ((b : ℕ) → Contains parts b → b ≤ low → Contains fewer b) → Reaches IsEdge (stack here) (stack low) → IsChain IsEdge stack size fewer
+      → ((b : ℕ) → Contains parts b → b ≤ low → Contains fewer b) → Reaches IsEdge (stack here) (stack low)
+      → IsChain IsEdge stack size fewer
   chain_join fewer here low here_in low_in parts_low kept reached = record {
     on = chain.on;
     back = λ p within. ⊎_elim

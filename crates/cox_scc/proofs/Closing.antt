@@ -1,5 +1,6 @@
 -- The last part of the stack becomes a class.
-use Rattle.std.proofs.Common.{◌≡◌, ◌≢◌, ℕ, ◌+◌, ◌<◌, ◌≤◌, ◌⊎◌, ◌↔◌, inl, inr, List, [], ◌∷◌, ◌++◌, Contains, ⊎_elim, subst, sym, refl, ◌∙◌, ap, arith, ◌-◌, length, take, drop, slice_index, slice_index_or}
+use Rattle.std.proofs.Common.{◌≡◌, ◌≢◌, ℕ, ◌+◌, ◌<◌, ◌≤◌, ◌⊎◌, ◌↔◌, inl, inr, List, [], ◌∷◌, ◌++◌, Contains, ⊎_elim, subst, sym, refl}
+use Rattle.std.proofs.Common.{◌∙◌, ap, arith, ◌-◌, length, take, drop, slice_index, slice_index_or}
 use Rattle.std.proofs.lemmas.Bool.{cases_lt}
 use Rattle.std.proofs.lemmas.List.{take_rest, get_or-drop, get_or_default, length-drop}
 use Rattle.std.proofs.lemmas.List.Elements.{Contains-append_left, Contains-push, Contains-push_cases}
@@ -51,7 +52,8 @@ module _ (n low size least : ℕ) (visit later : ℕ → Visit) (class after sta
 
   pub followed_close : (offset target next shorter : ℕ → ℕ) (parts rest_parts rest : List ℕ) → ((p : ℕ) → p < low → shorter p ≡ stack p)
       → ((b : ℕ) → Contains rest_parts b → Contains parts b)
-      → AreFollowed n offset target visit next stack size parts (rest ++ low ∷ []) → AreFollowed n offset target later next shorter low rest_parts rest
+      → AreFollowed n offset target visit next stack size parts (rest ++ low ∷ [])
+      → AreFollowed n offset target later next shorter low rest_parts rest
   followed_close offset target next shorter parts rest_parts rest same was followed = record {
     begun = followed.begun;
     within = followed.within;
@@ -102,7 +104,8 @@ stacked_close size low rest_parts rest stacked = record {
       ⊎_elim (λ waits. waits) (λ is. absurd (omega arith))
       (Contains-push_cases rest low b (stacked.on_path b (Contains-append_left rest_parts (low ∷ []) b part)));
   first = λ some. ⊎_elim (λ part. part) (λ is. absurd (omega arith))
-      (Contains-push_cases rest_parts low 0 (stacked.first (let in' : low < size = stacked.below low (Contains-push rest low) in omega arith)));
+      (Contains-push_cases rest_parts low 0 (stacked.first (let in' : low < size = stacked.below low (Contains-push rest low) in
+      omega arith)));
 }
 
 -- the part was a class of vertices that reach each other, and no edge leads out of it but to closed vertices
@@ -205,15 +208,17 @@ pub become_class : (stack members others : List ℕ) (low size least : ℕ) (vis
     → ((k : ℕ) → k < length others → least ≤ slice_index others k) → CloseMembers members least visits later classes after
     → BecomeClass (slice_index stack) low size least (λ v. slice_index_or visits v Unseen) (λ v. slice_index_or later v Unseen)
     (slice_index classes) (slice_index after)
-become_class stack members others low size least visits later classes after size_is low_le members_are others_are found low_bound close = record {
-  closed = λ p above below. subst (λ z. slice_index_or later z Unseen ≡ Closed) (at members members_are p above)
-      (close.closed (p - low) (within members members_are p above below));
-  number = λ p above below. subst (λ z. slice_index after z ≡ least) (at members members_are p above)
-      (close.number (p - low) (within members members_are p above below));
-  others = λ v. ⊎_elim (λ is. inl (stands members members_are v is)) (λ kept. inr kept) (close.others v);
-  member = stands others others_are least found;
-  least_is = λ p above below. subst (λ z. least ≤ z) (at others others_are p above) (low_bound (p - low) (within others others_are p above below));
-}
+become_class stack members others low size least visits later classes after size_is low_le members_are others_are found low_bound close =
+    record {
+      closed = λ p above below. subst (λ z. slice_index_or later z Unseen ≡ Closed) (at members members_are p above)
+          (close.closed (p - low) (within members members_are p above below));
+      number = λ p above below. subst (λ z. slice_index after z ≡ least) (at members members_are p above)
+          (close.number (p - low) (within members members_are p above below));
+      others = λ v. ⊎_elim (λ is. inl (stands members members_are v is)) (λ kept. inr kept) (close.others v);
+      member = stands others others_are least found;
+      least_is = λ p above below. subst (λ z. least ≤ z) (at others others_are p above) (low_bound (p - low)
+          (within others others_are p above below));
+    }
   where
     at : (xs : List ℕ) → xs ≡ drop low stack → (p : ℕ) → low ≤ p → slice_index xs (p - low) ≡ slice_index stack p
     at xs are p above =

@@ -3,7 +3,8 @@ use Rattle.std.proofs.Common.{◌≡◌, ℕ, ◌<◌, List, [], ◌∷◌, ◌+
 use Rattle.std.proofs.lemmas.List.Elements.{Contains-push_cases}
 
 -- the ends of all edges are among n vertices, also after an edge was added or was not
-pub within-push : (edges longer : List (ℕ × ℕ)) (added : Bool) (a b n : ℕ) → longer ≡ cond added (edges ++ (a, b) ∷ []) edges → a < n → b < n
+pub within-push : (edges longer : List (ℕ × ℕ)) (added : Bool) (a b n : ℕ) → longer ≡ cond added (edges ++ (a, b) ∷ []) edges → a < n
+    → b < n
     → ((p q : ℕ) → Contains edges (p, q) → (p < n) × (q < n)) → (p q : ℕ) → Contains longer (p, q) → (p < n) × (q < n)
 within-push edges longer false a b n is from to within p q is_edge = within p q (subst (λ z. Contains z (p, q)) is is_edge)
 within-push edges longer true a b n is from to within p q is_edge =

@@ -92,7 +92,8 @@ module _ (n size v : ℕ) (visit later : ℕ → Visit) (stack taller : ℕ → 
           (cases_eq w v)
 
 -- a part of its own at the top of the stack, which the path goes on to
-pub stacked_enter : (size : ℕ) (parts path : List ℕ) → AreStacked size parts path → AreStacked (size + 1) (parts ++ size ∷ []) (path ++ size ∷ [])
+pub stacked_enter : (size : ℕ) (parts path : List ℕ) → AreStacked size parts path
+    → AreStacked (size + 1) (parts ++ size ∷ []) (path ++ size ∷ [])
 stacked_enter size parts path stacked = record {
   parts_rise = rising_push parts size stacked.parts_rise (λ b part. stacked.below b (stacked.on_path b part));
   path_rises = rising_push path size stacked.path_rises stacked.below;
@@ -125,54 +126,59 @@ followed_join n offset target visit next stack size parts fewer path was followe
   whole = followed.whole;
 }
 
--- one more edge was followed of the vertex at `here`, which is on the path
+-- one more edge of the vertex at `here`, which is on the path, was followed
 pub followed_advance : (n : ℕ) (offset target : ℕ → ℕ) (visit : ℕ → Visit) (next later stack : ℕ → ℕ) (size here : ℕ) (parts path : List ℕ)
     → later (stack here) ≡ next (stack here) + 1 → ((v : ℕ) → v ≢ stack here → later v ≡ next v) → here < size → Contains path here
     → next (stack here) < offset (stack here + 1)
     → ((b : ℕ) → Contains parts b → b ≤ here → LiesFrom b (visit (target (next (stack here)))))
     → ArePlaced n visit stack size
     → AreFollowed n offset target visit next stack size parts path → AreFollowed n offset target visit later stack size parts path
-followed_advance n offset target visit next later stack size here parts path one_more others here_in on_path more lies placed followed = record {
-  begun = λ v v_in. ⊎_elim
-      (λ e. let old : offset v ≤ next v = followed.begun v v_in in
-      subst (λ z. offset z ≤ later z) (sym e) (let was : offset (stack here) ≤ next (stack here) = subst (λ z. offset z ≤ next z) e old in omega arith))
-      (λ ne. subst (λ z. offset v ≤ z) (sym (others v ne)) (followed.begun v v_in)) (cases_eq v (stack here));
-  within = λ v v_in. ⊎_elim
-      (λ e. subst (λ z. later z ≤ offset (z + 1)) (sym e) (omega arith))
-      (λ ne. subst (λ z. z ≤ offset (v + 1)) (sym (others v ne)) (followed.within v v_in)) (cases_eq v (stack here));
-  fresh = λ v v_in is. ⊎_elim
-      (λ e. let both : Open here ≡ Unseen = sym (placed.visited here here_in) ∙ ap visit (sym e) ∙ is in absurd (let no : ⊥ = cc in no))
-      (λ ne. others v ne ∙ followed.fresh v v_in is) (cases_eq v (stack here));
-  ahead = λ b p e part le within from upto. ⊎_elim
-      (λ is. ⊎_elim
-      (λ lt. followed.ahead b p e part le within from (subst (λ z. e < next z) (sym is) lt))
-      (λ ge. let edge_is : e ≡ next (stack here) =
-      (let high : e < later (stack here) = subst (λ z. e < later z) is upto in omega arith) in
-      subst (λ z. LiesFrom b (visit (target z))) (sym edge_is) (lies b part (subst (λ z. b ≤ z) (same_place p within is) le)))
-      (cases_lt e (next (stack here))))
-      (λ ne. followed.ahead b p e part le within from (subst (λ z. e < z) (others (stack p) ne) upto))
-      (cases_eq (stack p) (stack here));
-  whole = λ p within. ⊎_elim
-      (λ is. inl (subst (Contains path) (sym (same_place p within is)) on_path))
-      (λ ne. ⊎_elim (λ on. inl on) (λ all. inr (others (stack p) ne ∙ all)) (followed.whole p within))
-      (cases_eq (stack p) (stack here));
-}
+followed_advance n offset target visit next later stack size here parts path one_more others here_in on_path more lies placed followed =
+    record {
+      begun = λ v v_in. ⊎_elim
+          (λ e. let old : offset v ≤ next v = followed.begun v v_in in
+          subst (λ z. offset z ≤ later z) (sym e) (
+          let was : offset (stack here) ≤ next (stack here) = subst (λ z. offset z ≤ next z) e old in
+          omega arith))
+          (λ ne. subst (λ z. offset v ≤ z) (sym (others v ne)) (followed.begun v v_in)) (cases_eq v (stack here));
+      within = λ v v_in. ⊎_elim
+          (λ e. subst (λ z. later z ≤ offset (z + 1)) (sym e) (omega arith))
+          (λ ne. subst (λ z. z ≤ offset (v + 1)) (sym (others v ne)) (followed.within v v_in)) (cases_eq v (stack here));
+      fresh = λ v v_in is. ⊎_elim
+          (λ e. let both : Open here ≡ Unseen = sym (placed.visited here here_in) ∙ ap visit (sym e) ∙ is in absurd (let no : ⊥ = cc in no))
+          (λ ne. others v ne ∙ followed.fresh v v_in is) (cases_eq v (stack here));
+      ahead = λ b p e part le within from upto. ⊎_elim
+          (λ is. ⊎_elim
+          (λ lt. followed.ahead b p e part le within from (subst (λ z. e < next z) (sym is) lt))
+          (λ ge. let edge_is : e ≡ next (stack here) =
+          (let high : e < later (stack here) = subst (λ z. e < later z) is upto in omega arith) in
+          subst (λ z. LiesFrom b (visit (target z))) (sym edge_is) (lies b part (subst (λ z. b ≤ z) (same_place p within is) le)))
+          (cases_lt e (next (stack here))))
+          (λ ne. followed.ahead b p e part le within from (subst (λ z. e < z) (others (stack p) ne) upto))
+          (cases_eq (stack p) (stack here));
+      whole = λ p within. ⊎_elim
+          (λ is. inl (subst (Contains path) (sym (same_place p within is)) on_path))
+          (λ ne. ⊎_elim (λ on. inl on) (λ all. inr (others (stack p) ne ∙ all)) (followed.whole p within))
+          (cases_eq (stack p) (stack here));
+    }
   where
     same_place : (p : ℕ) → p < size → stack p ≡ stack here → p ≡ here
     same_place p within is =
         let both : Open p ≡ Open here = sym (placed.visited p within) ∙ ap visit is ∙ placed.visited here here_in in cc
 
--- all edges were followed of the vertex at `here`, which leaves the path
+-- all edges of the vertex at `here` were followed, and it leaves the path
 pub followed_retreat : (n : ℕ) (offset target : ℕ → ℕ) (visit : ℕ → Visit) (next stack : ℕ → ℕ) (size here : ℕ) (parts rest : List ℕ)
     → next (stack here) ≡ offset (stack here + 1)
-    → AreFollowed n offset target visit next stack size parts (rest ++ here ∷ []) → AreFollowed n offset target visit next stack size parts rest
+    → AreFollowed n offset target visit next stack size parts (rest ++ here ∷ [])
+    → AreFollowed n offset target visit next stack size parts rest
 followed_retreat n offset target visit next stack size here parts rest all followed = record {
   begun = followed.begun;
   within = followed.within;
   fresh = followed.fresh;
   ahead = followed.ahead;
   whole = λ p within. ⊎_elim
-      (λ on. ⊎_elim (λ waits. inl waits) (λ is. inr (subst (λ z. next (stack z) ≡ offset (stack z + 1)) is all)) (Contains-push_cases rest here p on))
+      (λ on. ⊎_elim (λ waits. inl waits) (λ is. inr (subst (λ z. next (stack z) ≡ offset (stack z + 1)) is all))
+      (Contains-push_cases rest here p on))
       (λ old. inr old) (followed.whole p within);
 }
 
@@ -182,6 +188,7 @@ stacked_retreat size here parts rest ne stacked = record {
   parts_rise = stacked.parts_rise;
   path_rises = rising_rest rest here stacked.path_rises;
   below = λ p on. stacked.below p (Contains-append_left rest (here ∷ []) p on);
-  on_path = λ b part. ⊎_elim (λ waits. waits) (λ is. absurd (ne b part (sym is))) (Contains-push_cases rest here b (stacked.on_path b part));
+  on_path = λ b part. ⊎_elim (λ waits. waits) (λ is. absurd (ne b part (sym is))) (Contains-push_cases rest here b
+      (stacked.on_path b part));
   first = stacked.first;
 }

@@ -38,12 +38,14 @@ module _ (m last q : ℕ) (f g : ℕ → ℕ) (below : (p : ℕ) → p < last + 
 
 -- different numbers below n for all places below `size`: there are at most n places
 pigeonhole : (n size : ℕ) (f g : ℕ → ℕ) → ((p : ℕ) → p < size → f p < n) → ((p : ℕ) → p < size → g (f p) ≡ p) → size ≤ n
-pigeonhole zero size f g below back = ⊎_elim (λ some. let none : f 0 < 0 = below 0 some in absurd (omega arith)) (λ none. none) (cases_lt 0 size)
+pigeonhole zero size f g below back = ⊎_elim (λ some. let none : f 0 < 0 = below 0 some in absurd (omega arith)) (λ none. none)
+    (cases_lt 0 size)
 pigeonhole (suc m) zero f g below back = omega arith
 pigeonhole (suc m) (suc last) f g below back =
     let fewer : ((p : ℕ) → p < suc last → f p ≢ m) → suc last ≤ suc m = λ free.
     (let less : suc last ≤ m =
-    pigeonhole m (suc last) f g (λ p lt. let low : f p < suc m = below p lt in let ne : f p ≢ m = free p lt in omega arith) back in omega arith) in
+    pigeonhole m (suc last) f g (λ p lt. let low : f p < suc m = below p lt in let ne : f p ≢ m = free p lt in omega arith) back in
+    omega arith) in
     ⊎_elim
     (λ q_in. ⊎_elim
     (λ q_is. let less : last ≤ m = pigeonhole m last (moved f (g m) last) (moved_back g (g m) last)

@@ -1,7 +1,9 @@
 -- The whole state of the pass before and after each step.
-use Rattle.std.proofs.Common.{◌≡◌, ◌≢◌, ℕ, ◌+◌, ◌-◌, ◌<◌, ◌≤◌, inl, inr, List, [], ◌∷◌, ◌++◌, length, get_or, slice_index, slice_set, vec_len, sum, ◌*◌, All, Contains, ⊎_elim, subst, sym, refl, ◌∙◌, ap, arith}
+use Rattle.std.proofs.Common.{◌≡◌, ◌≢◌, ℕ, ◌+◌, ◌-◌, ◌<◌, ◌≤◌, inl, inr, List, [], ◌∷◌, ◌++◌, length, get_or, slice_index, slice_set}
+use Rattle.std.proofs.Common.{vec_len, sum, ◌*◌, All, Contains, ⊎_elim, subst, sym, refl, ◌∙◌, ap, arith}
 use Rattle.std.proofs.lemmas.Bool.{cases_lt, cases_eq}
-use Rattle.std.proofs.lemmas.List.{get_or-set_same, get_or-set_other, get_or_append_left, get_or_push, get_or_read_under, get_or-take, length-set, length_push, length-take-le}
+use Rattle.std.proofs.lemmas.List.{get_or-set_same, get_or-set_other, get_or_append_left, get_or_push, get_or_read_under, get_or-take}
+use Rattle.std.proofs.lemmas.List.{length-set, length_push, length-take-le}
 use Rattle.std.proofs.lemmas.List.Elements.{Contains-append_left, Contains-push, Contains-push_cases, Contains-get_or, All-from_get_or}
 use Rattle.std.proofs.lemmas.List.Sums.{sum_by-set, sum_by-le}
 use Rattle.std.specs.Vec.{with_item}
@@ -12,11 +14,13 @@ use Rattle.cox_scc.specs.declared.search.Visit.{Visit}
 use Rattle.cox_scc.specs.declared.search.Visit.TheVariants.{Unseen, Open, Closed}
 use Rattle.cox_scc.specs.Reach.{Reaches}
 use Rattle.cox_scc.specs.Sorted.{IsFrom}
-use Rattle.cox_scc.specs.Walk.{ArePlaced, AreFollowed, AreStacked, AreSettled, IsChain, LiesFrom, visit_of, IsWalk, LeadsIn, StaySeen, Enters, Joins, Meets, Closes, Finishes, work_left}
+use Rattle.cox_scc.specs.Walk.{ArePlaced, AreFollowed, AreStacked, AreSettled, IsChain, LiesFrom, visit_of, IsWalk, LeadsIn, StaySeen}
+use Rattle.cox_scc.specs.Walk.{Enters, Joins, Meets, Closes, Finishes, work_left}
 use Rattle.cox_scc.proofs.Stacks.{rising_below, rising_last}
 use Rattle.cox_scc.proofs.Reaching.{Reaches-join, Reaches-step}
 use Rattle.cox_scc.proofs.Chains.{chain_down, chain_enter, chain_join, chain_leave}
-use Rattle.cox_scc.proofs.Keeping.{placed_enter, followed_enter, settled_enter, stacked_enter, stacked_join, followed_join, followed_advance, followed_retreat, stacked_retreat}
+use Rattle.cox_scc.proofs.Keeping.{placed_enter, followed_enter, settled_enter, stacked_enter, stacked_join, followed_join}
+use Rattle.cox_scc.proofs.Keeping.{followed_advance, followed_retreat, stacked_retreat}
 use Rattle.cox_scc.proofs.Closing.{placed_close, followed_close, stacked_close, settled_close}
 
 -- the vertex v, which was not seen, comes onto the stack
@@ -59,25 +63,31 @@ module _ (old new : Search) (v : ℕ) (enters : Enters old new v) where
         classes_count = ap (λ z. z.len) enters.classes ∙ walk.classes_count;
         next_count = ap (λ z. z.len) enters.next ∙ walk.next_count;
         placed = subst (ArePlaced n (visit_of new) (slice_index new.stack.items)) (sym taller)
-            (placed_enter n size v (visit_of old) (visit_of new) (slice_index old.stack.items) (slice_index new.stack.items) opened others_stay top_is below_stays
+            (placed_enter n size v (visit_of old) (visit_of new) (slice_index old.stack.items)
+            (slice_index new.stack.items) opened others_stay top_is below_stays
             unseen v_in walk.placed);
         chain = subst (λ z. IsChain (LeadsIn adjacency) (slice_index new.stack.items) z new.parts.items) (sym taller)
             (subst (IsChain (LeadsIn adjacency) (slice_index new.stack.items) (size + 1)) (sym enters.parts)
-            (chain_enter (LeadsIn adjacency) (slice_index old.stack.items) size old.parts.items walk.chain v (slice_index new.stack.items) below_stays
+            (chain_enter (LeadsIn adjacency) (slice_index old.stack.items) size old.parts.items walk.chain v
+            (slice_index new.stack.items) below_stays
             top_is reached));
-        followed = subst (λ z. AreFollowed n offset target (visit_of new) (slice_index new.next.items) (slice_index new.stack.items) z new.parts.items longer)
+        followed = subst (λ z. AreFollowed n offset target (visit_of new) (slice_index new.next.items)
+            (slice_index new.stack.items) z new.parts.items longer)
             (sym taller)
-            (subst (λ z. AreFollowed n offset target (visit_of new) (slice_index new.next.items) (slice_index new.stack.items) (size + 1) z longer)
+            (subst (λ z. AreFollowed n offset target (visit_of new) (slice_index new.next.items) (slice_index new.stack.items)
+            (size + 1) z longer)
             (sym enters.parts)
             (subst (λ z. AreFollowed n offset target (visit_of new) (slice_index z.items) (slice_index new.stack.items) (size + 1)
             (old.parts.items ++ size ∷ []) longer) (sym enters.next)
-            (followed_enter n size v (visit_of old) (visit_of new) (slice_index old.stack.items) (slice_index new.stack.items) opened others_stay top_is
+            (followed_enter n size v (visit_of old) (visit_of new) (slice_index old.stack.items)
+            (slice_index new.stack.items) opened others_stay top_is
             below_stays unseen offset target (slice_index old.next.items) old.parts.items path v_in
             (λ b part. walk.stacked.below b (walk.stacked.on_path b part)) walk.followed)));
         stacked = subst (λ z. AreStacked z new.parts.items longer) (sym taller)
             (subst (λ z. AreStacked (size + 1) z longer) (sym enters.parts) (stacked_enter size old.parts.items path walk.stacked));
         settled = subst (λ z. AreSettled (LeadsIn adjacency) n (visit_of new) (slice_index z.items)) (sym enters.classes)
-            (settled_enter n size v (visit_of old) (visit_of new) (slice_index old.stack.items) (slice_index new.stack.items) opened others_stay top_is
+            (settled_enter n size v (visit_of old) (visit_of new) (slice_index old.stack.items)
+            (slice_index new.stack.items) opened others_stay top_is
             below_stays unseen (LeadsIn adjacency) (slice_index old.classes.items) walk.settled);
       }
 
@@ -109,7 +119,8 @@ module _ (adjacency : Adjacency) (search : Search) (rest : List ℕ) (here : ℕ
 
   -- no part begins after the end of the path
   pub parts_below : (b : ℕ) → Contains search.parts.items b → b ≤ here
-  parts_below b part = ⊎_elim (λ waits. let lt : b < here = rising_below rest here b walk.stacked.path_rises waits in omega arith) (λ is. omega arith)
+  parts_below b part = ⊎_elim (λ waits. let lt : b < here = rising_below rest here b walk.stacked.path_rises waits in
+      omega arith) (λ is. omega arith)
       (Contains-push_cases rest here b (walk.stacked.on_path b part))
 
   -- what the code reads at the end of the path
@@ -129,10 +140,13 @@ module _ (adjacency : Adjacency) (search : Search) (rest : List ℕ) (here : ℕ
   edge_is_next v e v_is is = is ∙ ap (slice_index search.next.items) v_is
 
   pub target_read : (e t : ℕ) → e ≡ edge → IsMore → t ≡ get_or adjacency.targets.items e t → t ≡ slice_index adjacency.targets.items e
-  target_read e t e_is more is = get_or_read_under adjacency.targets.items e (vec_len adjacency.targets) t 0 is (omega (arith, edge_in more)) adjacency.targets.ok.0
+  target_read e t e_is more is = get_or_read_under adjacency.targets.items e (vec_len adjacency.targets) t 0 is (omega
+      (arith, edge_in more)) adjacency.targets.ok.0
 
-  pub offset_read : (v o : ℕ) → v ≡ vertex → o ≡ get_or adjacency.offsets.items (v + 1) o → o ≡ slice_index adjacency.offsets.items (vertex + 1)
-  offset_read v o v_is is = get_or_read_under adjacency.offsets.items (v + 1) (vec_len adjacency.offsets) o 0 is (in_offsets v v_is) adjacency.offsets.ok.0
+  pub offset_read : (v o : ℕ) → v ≡ vertex → o ≡ get_or adjacency.offsets.items (v + 1) o
+      → o ≡ slice_index adjacency.offsets.items (vertex + 1)
+  offset_read v o v_is is = get_or_read_under adjacency.offsets.items (v + 1) (vec_len adjacency.offsets) o 0 is
+      (in_offsets v v_is) adjacency.offsets.ok.0
       ∙ ap (λ z. slice_index adjacency.offsets.items (z + 1)) v_is
 
   pub done_read : (v e o : ℕ) → v ≡ get_or search.stack.items here v → e ≡ get_or search.next.items v e
@@ -149,7 +163,8 @@ module _ (adjacency : Adjacency) (search : Search) (rest : List ℕ) (here : ℕ
       → Reaches (LeadsIn adjacency) (slice_index search.stack.items p) (slice_index adjacency.targets.items edge)
   last_leads more p last =
       let within : here < vec_len search.stack = here_in in
-      Reaches-join (chain_down (LeadsIn adjacency) (slice_index search.stack.items) (vec_len search.stack) search.parts.items walk.chain here p
+      Reaches-join (chain_down (LeadsIn adjacency) (slice_index search.stack.items)
+      (vec_len search.stack) search.parts.items walk.chain here p
       parts_below (omega arith) (omega arith)) (leads more)
 
   -- the parts are joined from the place of the target up
@@ -161,10 +176,13 @@ module _ (adjacency : Adjacency) (search : Search) (rest : List ℕ) (here : ℕ
     classes_count = walk.classes_count;
     next_count = walk.next_count;
     placed = walk.placed;
-    chain = chain_join (LeadsIn adjacency) (slice_index search.stack.items) (vec_len search.stack) search.parts.items walk.chain fewer.items here place
+    chain = chain_join (LeadsIn adjacency) (slice_index search.stack.items)
+        (vec_len search.stack) search.parts.items walk.chain fewer.items here place
         here_in place_in parts_below joins.kept (subst (Reaches (LeadsIn adjacency) vertex) (sym place_is) (leads more));
-    followed = followed_join adjacency.vertices (slice_index adjacency.offsets.items) (slice_index adjacency.targets.items) (visit_of search)
-        (slice_index search.next.items) (slice_index search.stack.items) (vec_len search.stack) search.parts.items fewer.items (rest ++ here ∷ [])
+    followed = followed_join adjacency.vertices (slice_index adjacency.offsets.items) (slice_index adjacency.targets.items)
+        (visit_of search)
+        (slice_index search.next.items) (slice_index search.stack.items) (vec_len search.stack) search.parts.items fewer.items
+        (rest ++ here ∷ [])
         (λ b part. (joins.was b part).0) walk.followed;
     stacked = stacked_join (vec_len search.stack) place search.parts.items fewer.items (rest ++ here ∷ []) joins.rise
         (λ b part. (joins.was b part).0) joins.kept walk.stacked;
@@ -183,7 +201,8 @@ record HasMet (adjacency : Adjacency) (old mid : Search) (here : ℕ) (path : Li
   longer : length path ≤ length (old.waiting.items ++ here ∷ []) + 1
 
 has_met : (adjacency : Adjacency) (old mid : Search) (here there : ℕ) (walk : IsWalk adjacency old (old.waiting.items ++ here ∷ []))
-    → slice_index old.next.items (slice_index old.stack.items here) < slice_index adjacency.offsets.items (slice_index old.stack.items here + 1)
+    → slice_index old.next.items (slice_index old.stack.items here) < slice_index adjacency.offsets.items
+    (slice_index old.stack.items here + 1)
     → (visit : Visit)
     → visit_of old (slice_index adjacency.targets.items (slice_index old.next.items (slice_index old.stack.items here))) ≡ visit
     → Meets visit old mid here (slice_index adjacency.targets.items (slice_index old.next.items (slice_index old.stack.items here))) there
@@ -202,7 +221,8 @@ has_met adjacency old mid here there walk more Unseen is meets =
           (Contains-append_left (old.waiting.items ++ here ∷ []) (vec_len old.stack ∷ []) here (Contains-push old.waiting.items here));
       vertex_stays = below_stays old mid target meets.0 here within;
       next_stays = meets.0.next;
-      lies = λ b part low. subst (LiesFrom b) (sym (now_open old mid target meets.0 in_visits)) (let le : b ≤ vec_len old.stack = omega arith in le);
+      lies = λ b part low. subst (LiesFrom b) (sym (now_open old mid target meets.0 in_visits))
+          (let le : b ≤ vec_len old.stack = omega arith in le);
       seen = enter_seen old mid target meets.0 in_visits;
       longer = omega (arith, ap (length {A = ℕ}) path_is, length_push (old.waiting.items ++ here ∷ []) (vec_len old.stack));
     }
@@ -226,7 +246,8 @@ has_met adjacency old mid here there walk more Closed is meets =
     let target : ℕ = slice_index adjacency.targets.items (slice_index old.next.items (slice_index old.stack.items here)) in
     let path_is : mid.waiting.items ++ there ∷ [] ≡ old.waiting.items ++ here ∷ [] =
     ap (λ z. z.waiting.items ++ there ∷ []) meets.0 ∙ ap (λ z. old.waiting.items ++ z ∷ []) meets.1 in record {
-      walk = subst (IsWalk adjacency mid) (sym path_is) (subst (λ z. IsWalk adjacency z (old.waiting.items ++ here ∷ [])) (sym meets.0) walk);
+      walk = subst (IsWalk adjacency mid) (sym path_is) (subst (λ z. IsWalk adjacency z (old.waiting.items ++ here ∷ []))
+          (sym meets.0) walk);
       on_path = subst (λ z. Contains z here) (sym path_is) (Contains-push old.waiting.items here);
       vertex_stays = ap (λ z. slice_index z.stack.items here) meets.0;
       next_stays = ap (λ z. z.next) meets.0;
@@ -240,7 +261,8 @@ sum-set : (xs : List ℕ) (i : ℕ) → i < length xs → sum (slice_set xs i (s
 sum-set xs i within = omega (arith, sum_by-set (λ x. x) xs i (slice_index xs i + 1) 0 within)
 
 -- there is less work left where one more edge was followed and the path is longer by one at most
-work_less : (adjacency : Adjacency) (search : Search) (path longer : List ℕ) (v e : ℕ) → e ≡ slice_index search.next.items v → v < vec_len search.next
+work_less : (adjacency : Adjacency) (search : Search) (path longer : List ℕ) (v e : ℕ) → e ≡ slice_index search.next.items v
+    → v < vec_len search.next
     → IsWalk adjacency (record search { next = with_item search.next v (e + 1) }) longer → length longer ≤ length path + 1
     → work_left adjacency (record search { next = with_item search.next v (e + 1) }) longer < work_left adjacency search path
 work_less adjacency search path longer v e e_is v_in walk le =
@@ -266,7 +288,8 @@ pub record HasFollowed (adjacency : Adjacency) (old mid : Search) (here there ve
 
 pub walk_follow : (adjacency : Adjacency) (old mid : Search) (here there vertex edge : ℕ)
     → IsWalk adjacency old (old.waiting.items ++ here ∷ [])
-    → vertex ≡ slice_index old.stack.items here → edge ≡ slice_index old.next.items vertex → edge < slice_index adjacency.offsets.items (vertex + 1)
+    → vertex ≡ slice_index old.stack.items here → edge ≡ slice_index old.next.items vertex
+    → edge < slice_index adjacency.offsets.items (vertex + 1)
     → Meets (visit_of old (slice_index adjacency.targets.items edge)) old mid here (slice_index adjacency.targets.items edge) there
     → HasFollowed adjacency old mid here there vertex edge
 walk_follow adjacency old mid here there vertex edge walk vertex_is edge_is more meets =
@@ -293,7 +316,8 @@ walk_follow adjacency old mid here there vertex edge walk vertex_is edge_is more
       next_count = w.next_count;
       placed = w.placed;
       chain = w.chain;
-      followed = followed_advance adjacency.vertices offset target (visit_of mid) (slice_index mid.next.items) later (slice_index mid.stack.items)
+      followed = followed_advance adjacency.vertices offset target (visit_of mid) (slice_index mid.next.items) later
+          (slice_index mid.stack.items)
           (vec_len mid.stack) here mid.parts.items (mid.waiting.items ++ there ∷ [])
           (subst (λ z. later z ≡ slice_index mid.next.items z + 1) (sym mid_v)
           (get_or-set_same mid.next.items vertex (edge + 1) 0 v_in ∙ ap (λ z. z + 1) (sym mid_e)))
@@ -312,13 +336,16 @@ walk_follow adjacency old mid here there vertex edge walk vertex_is edge_is more
       in_next = vertex_below;
       less = subst (λ z. work_left adjacency (record mid { next = with_item mid.next vertex (edge + 1) }) (mid.waiting.items ++ there ∷ [])
           < 2 * (z.len * vec_len adjacency.targets - sum z.items) + length (old.waiting.items ++ here ∷ [])) met.next_stays
-          (work_less adjacency mid (old.waiting.items ++ here ∷ []) (mid.waiting.items ++ there ∷ []) vertex edge (sym mid_e) vertex_below after met.longer);
+          (work_less adjacency mid (old.waiting.items ++ here ∷ []) (mid.waiting.items ++ there ∷ []) vertex edge
+          (sym mid_e) vertex_below after met.longer);
     }
 
 -- the same by what the code reads
-pub walk_follow_read : (adjacency : Adjacency) (old mid : Search) (here there v e t : ℕ) (walk : IsWalk adjacency old (old.waiting.items ++ here ∷ []))
+pub walk_follow_read : (adjacency : Adjacency) (old mid : Search) (here there v e t : ℕ) (walk : IsWalk adjacency old
+    (old.waiting.items ++ here ∷ []))
     → v ≡ get_or old.stack.items here v → e ≡ get_or old.next.items v e → t ≡ get_or adjacency.targets.items e t
-    → slice_index old.next.items (slice_index old.stack.items here) < slice_index adjacency.offsets.items (slice_index old.stack.items here + 1)
+    → slice_index old.next.items (slice_index old.stack.items here) < slice_index adjacency.offsets.items
+    (slice_index old.stack.items here + 1)
     → Meets (visit_of old t) old mid here t there → HasFollowed adjacency old mid here there v e
 walk_follow_read adjacency old mid here there v e t walk v_read e_read t_read more meets =
     let v_is : v ≡ slice_index old.stack.items here = vertex_read adjacency old old.waiting.items here walk v v_read in
@@ -331,10 +358,12 @@ walk_follow_read adjacency old mid here there v e t walk v_read e_read t_read mo
     (subst (λ z. z < slice_index adjacency.offsets.items (slice_index old.stack.items here + 1)) (sym e_next) more))
     (subst (λ z. Meets (visit_of old z) old mid here z there) t_is meets)
 
--- all edges were followed of the vertex at the end of the path
+-- all edges of the vertex at the end of the path were followed
 module _ (adjacency : Adjacency) (search : Search) (rest : List ℕ) (here : ℕ) (walk : IsWalk adjacency search (rest ++ here ∷ []))
-    (done : slice_index adjacency.offsets.items (slice_index search.stack.items here + 1) ≤ slice_index search.next.items (slice_index search.stack.items here)) where
-  all_followed : slice_index search.next.items (slice_index search.stack.items here) ≡ slice_index adjacency.offsets.items (slice_index search.stack.items here + 1)
+    (done : slice_index adjacency.offsets.items (slice_index search.stack.items here + 1) ≤ slice_index search.next.items
+    (slice_index search.stack.items here)) where
+  all_followed : slice_index search.next.items (slice_index search.stack.items here) ≡ slice_index adjacency.offsets.items
+      (slice_index search.stack.items here + 1)
   all_followed =
       let v : ℕ = slice_index search.stack.items here in
       let within : slice_index search.next.items v ≤ slice_index adjacency.offsets.items (v + 1) =
@@ -352,10 +381,13 @@ module _ (adjacency : Adjacency) (search : Search) (rest : List ℕ) (here : ℕ
   walk_retreat ne =
       let size : ℕ = vec_len search.stack in
       let parts : List ℕ = search.parts.items in
-      let count : length parts ≡ (vec_len search.parts - 1) + 1 = (let some : 0 < vec_len search.parts = some_part in omega (arith, search.parts.ok.0)) in
-      let last_in : Contains parts (slice_index parts (vec_len search.parts - 1)) = Contains-get_or parts (vec_len search.parts - 1) 0 (omega arith) in
+      let count : length parts ≡ (vec_len search.parts - 1) + 1 = (let some : 0 < vec_len search.parts = some_part in
+      omega (arith, search.parts.ok.0)) in
+      let last_in : Contains parts (slice_index parts (vec_len search.parts - 1)) = Contains-get_or parts (vec_len search.parts - 1) 0
+      (omega arith) in
       let not_here : (b : ℕ) → Contains parts b → b ≢ here = λ b part is.
-      (let low : b ≤ slice_index parts (vec_len search.parts - 1) = rising_last parts (vec_len search.parts - 1) b count walk.stacked.parts_rise part in
+      (let low : b ≤ slice_index parts (vec_len search.parts - 1) = rising_last parts
+      (vec_len search.parts - 1) b count walk.stacked.parts_rise part in
       let high : slice_index parts (vec_len search.parts - 1) ≤ here = parts_below adjacency search rest here walk _ last_in in
       ne (omega arith)) in record {
         visits_count = walk.visits_count;
@@ -363,7 +395,8 @@ module _ (adjacency : Adjacency) (search : Search) (rest : List ℕ) (here : ℕ
         next_count = walk.next_count;
         placed = walk.placed;
         chain = walk.chain;
-        followed = followed_retreat adjacency.vertices (slice_index adjacency.offsets.items) (slice_index adjacency.targets.items) (visit_of search)
+        followed = followed_retreat adjacency.vertices (slice_index adjacency.offsets.items) (slice_index adjacency.targets.items)
+            (visit_of search)
             (slice_index search.next.items) (slice_index search.stack.items) size here parts rest all_followed walk.followed;
         stacked = stacked_retreat size here parts rest not_here walk.stacked;
         settled = walk.settled;
@@ -386,7 +419,8 @@ module _ (adjacency : Adjacency) (search : Search) (rest : List ℕ) (here : ℕ
       (walk.followed.ahead here p e part above within from.begun (subst (λ z. e < z) (sym all) from.within))
 
   -- the last part begins at the end of the path: it is closed
-  pub walk_close : (fewer : Vec ℕ) (new : Search) → search.parts.items ≡ fewer.items ++ here ∷ [] → Closes (record search { parts = fewer }) new here
+  pub walk_close : (fewer : Vec ℕ) (new : Search) → search.parts.items ≡ fewer.items ++ here ∷ []
+      → Closes (record search { parts = fewer }) new here
       → IsWalk adjacency new rest
   walk_close fewer new parts_are closes =
       let n : ℕ = adjacency.vertices in
@@ -402,7 +436,8 @@ module _ (adjacency : Adjacency) (search : Search) (rest : List ℕ) (here : ℕ
       let was : (b : ℕ) → Contains fewer.items b → Contains search.parts.items b =
       λ b h. subst (λ z. Contains z b) (sym parts_are) (Contains-append_left fewer.items (here ∷ []) b h) in
       let kept : (b : ℕ) → Contains search.parts.items b → b < here → Contains fewer.items b =
-      λ b h lt. ⊎_elim (λ old. old) (λ is. absurd (omega arith)) (Contains-push_cases fewer.items here b (subst (λ z. Contains z b) parts_are h)) in
+      λ b h lt. ⊎_elim (λ old. old) (λ is. absurd (omega arith)) (Contains-push_cases fewer.items here b (subst
+      (λ z. Contains z b) parts_are h)) in
       let same : (p : ℕ) → p < here → shorter p ≡ stack p =
       λ p lt. ap (λ z. slice_index z p) closes.stack ∙ get_or-take here search.stack.items p 0 lt in
       let size_is : vec_len new.stack ≡ here =
@@ -412,19 +447,23 @@ module _ (adjacency : Adjacency) (search : Search) (rest : List ℕ) (here : ℕ
         classes_count = closes.classes_count ∙ walk.classes_count;
         next_count = ap (λ z. z.len) closes.next ∙ walk.next_count;
         placed = subst (ArePlaced n (visit_of new) shorter) (sym size_is)
-            (placed_close n here size closes.least (visit_of search) (visit_of new) class after stack low_in closes.become walk.placed shorter same);
+            (placed_close n here size closes.least (visit_of search)
+            (visit_of new) class after stack low_in closes.become walk.placed shorter same);
         chain = subst (λ z. IsChain (LeadsIn adjacency) shorter z new.parts.items) (sym size_is)
             (subst (IsChain (LeadsIn adjacency) shorter here) (sym parts_is)
             (chain_leave (LeadsIn adjacency) stack size search.parts.items walk.chain fewer.items shorter here (omega arith) same kept));
-        followed = subst (λ z. AreFollowed n offset target (visit_of new) (slice_index new.next.items) shorter z new.parts.items rest) (sym size_is)
+        followed = subst (λ z. AreFollowed n offset target (visit_of new) (slice_index new.next.items) shorter z new.parts.items rest)
+            (sym size_is)
             (subst (λ z. AreFollowed n offset target (visit_of new) (slice_index new.next.items) shorter here z rest) (sym parts_is)
             (subst (λ z. AreFollowed n offset target (visit_of new) (slice_index z.items) shorter here fewer.items rest) (sym closes.next)
-            (followed_close n here size closes.least (visit_of search) (visit_of new) class after stack low_in closes.become walk.placed offset target
+            (followed_close n here size closes.least (visit_of search)
+            (visit_of new) class after stack low_in closes.become walk.placed offset target
             (slice_index search.next.items) shorter search.parts.items fewer.items rest same was walk.followed)));
         stacked = subst (λ z. AreStacked z new.parts.items rest) (sym size_is)
             (subst (λ z. AreStacked here z rest) (sym parts_is)
             (stacked_close size here fewer.items rest (subst (λ z. AreStacked size z (rest ++ here ∷ [])) parts_are walk.stacked)));
-        settled = settled_close (LeadsIn adjacency) n here size closes.least (visit_of search) (visit_of new) class after stack low_in closes.become
+        settled = settled_close (LeadsIn adjacency) n here size closes.least (visit_of search)
+            (visit_of new) class after stack low_in closes.become
             walk.placed search.parts.items walk.chain (parts_below adjacency search rest here walk) walk.settled (leads_on part)
             (λ a b a_in lead. subst (λ z. z < n) lead.2 (adjacency.listed.vertex a lead.0 a_in lead.1));
       }
@@ -432,7 +471,8 @@ module _ (adjacency : Adjacency) (search : Search) (rest : List ℕ) (here : ℕ
 -- what is closed was seen
 pub close_seen : (old new : Search) (low : ℕ) → Closes old new low → StaySeen old new
 close_seen old new low closes v is = ⊎_elim
-    (λ stands. let both : Closed ≡ Unseen = sym (closes.become.closed stands.place stands.above stands.below) ∙ ap (visit_of new) stands.is ∙ is in
+    (λ stands. let both : Closed ≡ Unseen = sym (closes.become.closed stands.place stands.above stands.below)
+    ∙ ap (visit_of new) stands.is ∙ is in
     absurd (let no : ⊥ = cc in no))
     (λ kept. sym kept.0 ∙ is)
     (closes.become.others v)
@@ -445,7 +485,8 @@ pub record HasFinished (adjacency : Adjacency) (old mid : Search) : Type 0 where
   pub waiting : mid.waiting ≡ old.waiting
 
 pub walk_finish : (adjacency : Adjacency) (old mid : Search) (here : ℕ) → IsWalk adjacency old (old.waiting.items ++ here ∷ [])
-    → slice_index adjacency.offsets.items (slice_index old.stack.items here + 1) ≤ slice_index old.next.items (slice_index old.stack.items here)
+    → slice_index adjacency.offsets.items (slice_index old.stack.items here + 1) ≤ slice_index old.next.items
+    (slice_index old.stack.items here)
     → Finishes old mid here → HasFinished adjacency old mid
 walk_finish adjacency old mid here walk done (inl (fewer, parts_are, closes)) = record {
   walk = walk_close adjacency old old.waiting.items here walk done fewer mid parts_are closes;
@@ -461,10 +502,12 @@ walk_finish adjacency old mid here walk done (inr (ne, same)) = record {
 }
 
 -- the vertex that waited last is on the end of the path
-pub walk_back : (adjacency : Adjacency) (old mid : Search) (fewer : Vec ℕ) (path : List ℕ) → HasFinished adjacency old mid → mid.waiting.items ≡ path
+pub walk_back : (adjacency : Adjacency) (old mid : Search) (fewer : Vec ℕ) (path : List ℕ) → HasFinished adjacency old mid
+    → mid.waiting.items ≡ path
     → IsWalk adjacency (record mid { waiting = fewer }) path
 walk_back adjacency old mid fewer path finished path_is =
-    let w : IsWalk adjacency mid path = subst (IsWalk adjacency mid) (sym (ap (λ z. z.items) finished.waiting) ∙ path_is) finished.walk in record {
+    let w : IsWalk adjacency mid path = subst (IsWalk adjacency mid) (sym (ap (λ z. z.items) finished.waiting) ∙ path_is) finished.walk in
+    record {
       visits_count = w.visits_count;
       classes_count = w.classes_count;
       next_count = w.next_count;
@@ -476,9 +519,11 @@ walk_back adjacency old mid fewer path finished path_is =
     }
 
 pub back_less : (adjacency : Adjacency) (old mid : Search) (fewer : Vec ℕ) (path : List ℕ) (here : ℕ) → HasFinished adjacency old mid
-    → mid.waiting.items ≡ path → work_left adjacency (record mid { waiting = fewer }) path < work_left adjacency old (old.waiting.items ++ here ∷ [])
+    → mid.waiting.items ≡ path → work_left adjacency (record mid { waiting = fewer }) path < work_left adjacency old
+    (old.waiting.items ++ here ∷ [])
 back_less adjacency old mid fewer path here finished path_is =
-    subst (λ z. 2 * (z.len * vec_len adjacency.targets - sum z.items) + length path < work_left adjacency old (old.waiting.items ++ here ∷ []))
+    subst (λ z. 2 * (z.len * vec_len adjacency.targets - sum z.items) + length path < work_left adjacency old
+    (old.waiting.items ++ here ∷ []))
     (sym finished.next)
     (omega (arith, length_push old.waiting.items here, ap (length {A = ℕ}) (sym (ap (λ z. z.items) finished.waiting) ∙ path_is)))
 

@@ -1,9 +1,12 @@
 -- What holds during the depth-first pass.
 --
--- The vertices that were seen and whose class is not known yet stand on a stack, in the order in which they were seen. The stack is cut into parts, and
--- `parts` has the places where they begin. The path has the places of the vertices that are being explored. Whatever is said of the edges of a
--- vertex is said of those before `next`, which were followed.
-use Rattle.std.specs.Prelude.{◌≡◌, ◌≢◌, ℕ, ◌+◌, ◌-◌, ◌*◌, ◌<◌, ◌≤◌, ◌⊎◌, ◌↔◌, ⊤, List, [], ◌∷◌, ◌++◌, length, take, sum, slice_index, slice_index_or}
+-- The vertices that were seen, and whose class is not known yet, stand on a stack in the order in which they were seen. The stack is cut
+-- into
+-- parts, and `parts` has the places where they begin. The path has the places of the vertices that are being explored: those that wait,
+-- and at
+-- its end the one that is explored now. The edges of a vertex that were followed are those from its offset up to `next`.
+use Rattle.std.specs.Prelude.{◌≡◌, ◌≢◌, ℕ, ◌+◌, ◌-◌, ◌*◌, ◌<◌, ◌≤◌, ◌⊎◌, ◌↔◌, ⊤, List, [], ◌∷◌, ◌++◌, length, take, sum, slice_index}
+use Rattle.std.specs.Prelude.{slice_index_or}
 use Rattle.std.specs.Prelude.{slice_set, vec_len, Contains}
 use Rattle.std.specs.Global.{Vec}
 use Rattle.cox_scc.specs.Reach.{Reaches, ReachEachOther}
@@ -19,6 +22,7 @@ LiesFrom b Unseen = ⊥
 LiesFrom b (Open place) = b ≤ place
 LiesFrom b Closed = ⊤
 
+-- the places go up
 abbrev pub IsRising : List ℕ → Type 0
 IsRising places = (i j : ℕ) → i < j → j < length places → slice_index places i < slice_index places j
 
@@ -33,7 +37,7 @@ pub record IsChain (IsEdge : ℕ → ℕ → Type 0) (stack : ℕ → ℕ) (size
   pub on : (place : ℕ) → place + 1 < size → Reaches IsEdge (stack place) (stack (place + 1))
   pub back : (place : ℕ) → place + 1 < size → Contains parts (place + 1) ⊎ Reaches IsEdge (stack (place + 1)) (stack place)
 
--- no edge that was followed leads below the part where it begins, and all edges were followed of the vertices that are not on the path
+-- no edge that was followed leads below the part where it begins, and all edges of the vertices that are not on the path were followed
 pub record AreFollowed (n : ℕ) (offset target : ℕ → ℕ) (visit : ℕ → Visit) (next : ℕ → ℕ) (stack : ℕ → ℕ) (size : ℕ) (parts path : List ℕ)
     : Type 0 where
   pub begun : (v : ℕ) → v < n → offset v ≤ next v
@@ -60,6 +64,7 @@ pub record AreSettled (IsEdge : ℕ → ℕ → Type 0) (n : ℕ) (visit : ℕ �
   pub number : (a : ℕ) → a < n → visit a ≡ Closed → class (class a) ≡ class a
   pub least : (a b : ℕ) → a < n → b < n → visit a ≡ Closed → visit b ≡ Closed → class b ≡ class a → class a ≤ b
 
+-- what is known of a vertex
 abbrev pub visit_of : Search → ℕ → Visit
 visit_of search v = slice_index_or search.visits.items v Unseen
 
@@ -74,7 +79,8 @@ pub record IsWalk (adjacency : Adjacency) (search : Search) (path : List ℕ) : 
   pub next_count : vec_len search.next ≡ adjacency.vertices
   pub placed : ArePlaced adjacency.vertices (visit_of search) (slice_index search.stack.items) (vec_len search.stack)
   pub chain : IsChain (LeadsIn adjacency) (slice_index search.stack.items) (vec_len search.stack) search.parts.items
-  pub followed : AreFollowed adjacency.vertices (slice_index adjacency.offsets.items) (slice_index adjacency.targets.items) (visit_of search)
+  pub followed : AreFollowed adjacency.vertices (slice_index adjacency.offsets.items) (slice_index adjacency.targets.items)
+      (visit_of search)
       (slice_index search.next.items) (slice_index search.stack.items) (vec_len search.stack) search.parts.items path
   pub stacked : AreStacked (vec_len search.stack) search.parts.items path
   pub settled : AreSettled (LeadsIn adjacency) adjacency.vertices (visit_of search) (slice_index search.classes.items)
@@ -105,7 +111,8 @@ pub record CloseMembers (members : List ℕ) (least : ℕ) (visits later : List 
   pub closed : (k : ℕ) → k < length members → slice_index_or later (slice_index members k) Unseen ≡ Closed
   pub number : (k : ℕ) → k < length members → slice_index after (slice_index members k) ≡ least
   pub others : (v : ℕ)
-      → Contains members v ⊎ ((slice_index_or later v Unseen ≡ slice_index_or visits v Unseen) × (slice_index after v ≡ slice_index classes v))
+      → Contains members v ⊎ ((slice_index_or later v Unseen ≡ slice_index_or visits v Unseen) ×
+      (slice_index after v ≡ slice_index classes v))
 
 -- the vertex comes onto the stack, as a part of its own
 pub record Enters (old new : Search) (vertex : ℕ) : Type 0 where
@@ -147,7 +154,7 @@ Finishes old new here =
     ((fewer : Vec ℕ) × (old.parts.items ≡ fewer.items ++ here ∷ []) × Closes (record old { parts = fewer }) new here)
     ⊎ ((slice_index old.parts.items (vec_len old.parts - 1) ≢ here) × (new ≡ old))
 
--- what is left to do: two for each edge that was not followed, and one for each vertex of the path
+-- what falls with each step: twice a bound on the edges that are left, and the vertices of the path
 abbrev pub work_left : Adjacency → Search → List ℕ → ℕ
 work_left adjacency search path =
     2 * (vec_len search.next * vec_len adjacency.targets - sum search.next.items) + length path

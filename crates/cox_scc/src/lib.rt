@@ -7,7 +7,7 @@
 //! - digraph: `Digraph`, vertices and edges as they were added
 //! - adjacency: the edges sorted by where they begin, in two flat lists
 //! - search: the depth-first pass
-//! - classes: `classes`, which runs the pass from each vertex
+//! - components: `classes`, which runs the pass over all vertices
 //!
 //! It stands on std alone. `specs/Reach.antt` has the definitions.
 #![tactic(auto)]

@@ -1,8 +1,8 @@
 //! The depth-first pass.
 //!
 //! It keeps the vertices that were seen, and whose class is not known yet, on a stack in the order in which they were seen. The stack is cut into
-//! parts of vertices that reach each other. An edge back to a vertex on the stack joins the parts from there up. When all edges of the
-//! vertex where a part begins were followed, and it is the last part, then it is a class, and leaves the stack.
+//! parts of vertices that reach each other. An edge to a vertex on the stack joins the parts from there up. When the pass is done with the
+//! vertex where the last part begins, that part is a class, and leaves the stack.
 ghost use Rattle.std.specs.Prelude.{◌≡◌, ◌≢◌, ℕ, ◌-◌, ◌+◌, ◌<◌, ◌≤◌, ◌^◌, ◌++◌, ◌∷◌, [], length, drop, slice_index, slice_index_or, IfOk, OnOk, IfNone, Contains, vec_len};
 ghost use Rattle.std.specs.Option.{option_to_list};
 ghost use Rattle.cox_scc.specs.Walk.{IsRising, Joins, CloseMembers};

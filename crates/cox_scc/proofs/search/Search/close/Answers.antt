@@ -8,7 +8,8 @@ returns c = record {
   visits_count = omega (arith, c.close_members.new.visits.ok.0, c.close_members.ensures.visits_count, c.args.self.now.visits.ok.0);
   classes_count = omega (arith, c.close_members.new.classes.ok.0, c.close_members.ensures.classes_count, c.args.self.now.classes.ok.0);
   least = c.least_of-least.result;
-  become = become_class c.args.self.now.stack.items _ _ c.args.low _ c.least_of-least.result _ _ _ _ c.args.self.now.stack.ok.0 (omega arith)
+  become = become_class c.args.self.now.stack.items _ _ c.args.low _ c.least_of-least.result _ _ _ _ c.args.self.now.stack.ok.0
+      (omega arith)
       (slice_is _ _ c.args.low c.deref-2.ensures.value) (slice_is _ _ c.args.low c.deref.ensures.value)
       c.least_of-least.ensures.member c.least_of-least.ensures.least c.close_members.ensures;
   stack = c.truncate.ensures.items;

@@ -19,7 +19,8 @@ loop-root-preserved c =
           })
       | in_default w ↦
           let in_visits : c.loop-root.root < vec_len c.loop-root.self.visits = omega (arith, i.walk.visits_count, c.loop-root-test.true) in
-          let read = get_or_read_under c.loop-root.self.visits.items c.loop-root.root (vec_len c.loop-root.self.visits) c.index.result.now Unseen
+          let read = get_or_read_under c.loop-root.self.visits.items c.loop-root.root
+          (vec_len c.loop-root.self.visits) c.index.result.now Unseen
           c.index.ensures in_visits c.loop-root.self.visits.ok.0 in
           subst (HadTurns c.args.adjacency.now (c.loop-root.root + 1)) (sym w.self-is) (record {
             walk = i.walk;

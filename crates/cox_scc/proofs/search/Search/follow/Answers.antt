@@ -41,15 +41,19 @@ overflow_add-edge c =
 
 pub index_mut-requires : goal.index_mut-requires
 index_mut-requires c =
-    (walk_follow_read c.args.adjacency.now c.args.self.now c.meet.new.self c.args.here c.in_ok-there.there c.index.result.now c.index-edge.result.now
-    c.index-2.result.now c.requires.walk c.index.ensures c.index-edge.ensures c.index-2.ensures c.requires.more c.in_ok-there.ensures).in_next
+    (walk_follow_read c.args.adjacency.now c.args.self.now c.meet.new.self c.args.here c.in_ok-there.there c.index.result.now
+    c.index-edge.result.now
+    c.index-2.result.now c.requires.walk c.index.ensures c.index-edge.ensures c.index-2.ensures c.requires.more
+    c.in_ok-there.ensures).in_next
 
 pub returns-clause-walk : goal.returns-clause-walk
 returns-clause-walk c =
-    (walk_follow_read c.args.adjacency.now c.args.self.now c.meet.new.self c.args.here c.in_ok-there.there c.index.result.now c.index-edge.result.now
+    (walk_follow_read c.args.adjacency.now c.args.self.now c.meet.new.self c.args.here c.in_ok-there.there c.index.result.now
+    c.index-edge.result.now
     c.index-2.result.now c.requires.walk c.index.ensures c.index-edge.ensures c.index-2.ensures c.requires.more c.in_ok-there.ensures).walk
 
 pub returns-clause-less : goal.returns-clause-less
 returns-clause-less c =
-    (walk_follow_read c.args.adjacency.now c.args.self.now c.meet.new.self c.args.here c.in_ok-there.there c.index.result.now c.index-edge.result.now
+    (walk_follow_read c.args.adjacency.now c.args.self.now c.meet.new.self c.args.here c.in_ok-there.there c.index.result.now
+    c.index-edge.result.now
     c.index-2.result.now c.requires.walk c.index.ensures c.index-edge.ensures c.index-2.ensures c.requires.more c.in_ok-there.ensures).less

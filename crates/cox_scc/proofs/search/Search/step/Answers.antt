@@ -1,6 +1,7 @@
 -- What is read is the next edge of the vertex at the end of the path, and where its edges end.
 use Rattle.std.proofs.Common.{arith}
-use Rattle.cox_scc.proofs.Walks.{here_in, vertex_read, in_next, edge_read, edge_is_next, in_offsets, offset_read, done_read, some_part, HasFinished, walk_finish, walk_back, back_less}
+use Rattle.cox_scc.proofs.Walks.{here_in, vertex_read, in_next, edge_read, edge_is_next, in_offsets, offset_read, done_read, some_part}
+use Rattle.cox_scc.proofs.Walks.{HasFinished, walk_finish, walk_back, back_less}
 use Rattle.cox_scc.proofs.search.Search.step.Goals as goal
 
 pub index-requires : goal.index-requires
@@ -26,7 +27,8 @@ follow-requires-clause-more c =
 pub finish-requires : goal.finish-requires
 finish-requires c =
     let w = c.requires.walk in record {
-      some = some_part _ _ _ _ w (done_read _ _ _ _ w c.index.result.now c.index-2.result.now c.index-3.result.now c.index.ensures c.index-2.ensures c.index-3.ensures
+      some = some_part _ _ _ _ w (done_read _ _ _ _ w c.index.result.now c.index-2.result.now c.index-3.result.now c.index.ensures
+          c.index-2.ensures c.index-3.ensures
           c.if-index.false);
       here = here_in _ _ _ c.args.here w;
       vertices = λ p within. omega (arith, w.placed.vertex p within, w.visits_count);
@@ -36,7 +38,8 @@ finish-requires c =
 -- the vertex at the place left the path
 finished : (c : goal.After-pop) → HasFinished c.args.adjacency.now c.args.self.now c.finish.new.self
 finished c = walk_finish c.args.adjacency.now c.args.self.now c.finish.new.self c.args.here c.requires.walk
-    (done_read _ _ _ _ c.requires.walk c.index.result.now c.index-2.result.now c.index-3.result.now c.index.ensures c.index-2.ensures c.index-3.ensures
+    (done_read _ _ _ _ c.requires.walk c.index.result.now c.index-2.result.now c.index-3.result.now c.index.ensures c.index-2.ensures
+    c.index-3.ensures
     c.if-index.false) c.finish.ensures
 
 pub returns-clause-walk : goal.returns-clause-walk
