@@ -1,6 +1,5 @@
 -- The row of the identity: P(e,e) = 1, and mu(e,e) = 0.
-use Rattle.std.proofs.Common.{◌≡◌, ℕ, zero, suc, ◌+◌, ◌-◌, ◌%◌, ◌<◌, ◌≤◌, List, [], ◌∷◌, length, inr, ℤ, pos, refl, sym, ap, ◌∙◌, lit≤, arith}
-use Rattle.std.specs.Prelude.{unsigned_abs, ◌≤ℤ◌}
+use Rattle.std.proofs.Common.{◌≡◌, ℕ, zero, suc, ◌-◌, List, [], ◌∷◌, inr, pos, refl, sym, ◌∙◌, arith}
 use Rattle.std.proofs.lemmas.Int.{ints}
 use Rattle.cox_base.specs.IntegerMatrix.{IntegerMatrix}
 use Rattle.cox_base.specs.Admissible.{IsAdmissible}
@@ -8,7 +7,7 @@ use Rattle.cox_base.specs.Length.{word_length}
 use Rattle.cox_reflect.proofs.Elements.{same-refl}
 use Rattle.cox_reflect.proofs.Bruhat.{below-refl}
 use Rattle.cox_poly.specs.Coefficients.{one_polynomial}
-use Rattle.cox_poly.specs.Polynomial.{coefficient, IsPolynomial}
+use Rattle.cox_poly.specs.Polynomial.{coefficient}
 use Rattle.cox_poly.specs.Limit.{AllWithin}
 use Rattle.cox_hecke.specs.Row.{IsKazhdanLusztig, IsMu}
 use Rattle.cox_hecke.proofs.AllRows.{row_of, row_of-is}
@@ -17,7 +16,7 @@ use Rattle.cox_context.specs.Numbers.{word_at}
 use Rattle.cox_row.specs.Extremal.{AreExtremal}
 use Rattle.cox_row.specs.Polynomials.{HavePolynomials}
 use Rattle.cox_row.specs.Mus.{AreMus}
-use Rattle.cox_klstep.specs.Drafts.{IsPooled, AreBegun, AreNoted}
+use Rattle.cox_klstep.specs.Drafts.{AreBegun, AreNoted}
 use Rattle.cox_klstep.proofs.Middles.{middle-even, noted-skip}
 use Rattle.cox_klstep.proofs.Keeping.{begun-keep}
 use Rattle.cox_klstep.proofs.Finished.{finished-extremal, finished-mus}

@@ -16,11 +16,5 @@ pub fn identity_row(alloc: Global, ctx: &Context) -> Result<Row, AllocError>
     let places = Vec::from_slice(alloc, &[0u32])?;
     let mut pool = Vec::new(alloc);
     pool.push(Poly::one(alloc)?)?;
-    Ok(Row::of_parts(
-        extremal,
-        places,
-        pool,
-        Vec::new(alloc),
-        Vec::new(alloc),
-    ))
+    Ok(Row::of_parts(extremal, places, pool, Vec::new(alloc), Vec::new(alloc)))
 }

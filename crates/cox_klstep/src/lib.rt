@@ -17,6 +17,8 @@ mod making;
 mod mus;
 mod step;
 mod sums;
+#[cfg(test)]
+mod tests;
 mod values;
 
 pub use fault::StepFault;
