@@ -1,5 +1,5 @@
 -- The corrections are the neighbours of sw that s shortens, in order.
-use Rattle.std.proofs.Common.{◌≡◌, ◌≢◌, ◌⊎◌, inl, inr, ℕ, suc, ◌+◌, ◌*◌, ◌<◌, ◌≤◌, List, [], ◌∷◌, ◌++◌, length, Contains, ℤ, pos, refl, sym, ap, ◌∙◌, ⊎_elim, arith}
+use Rattle.std.proofs.Common.{◌≡◌, ℕ, ◌+◌, ◌*◌, ◌<◌, ◌≤◌, List, [], ◌∷◌, ◌++◌, length, ℤ, refl, sym, ◌∙◌, ⊎_elim, arith}
 use Rattle.std.proofs.lemmas.Bool.{cases_lt}
 use Rattle.cox_base.specs.declared.side.Side.TheVariants.{Left}
 use Rattle.cox_base.specs.IntegerMatrix.{IntegerMatrix}
@@ -10,9 +10,7 @@ use Rattle.cox_base.specs.Length.{word_length}
 use Rattle.cox_base.specs.Reduced.{IsLeftDescent}
 use Rattle.cox_reflect.proofs.Elements.{same-refl, same-sym}
 use Rattle.cox_reflect.proofs.Search.{normal_form-same, word_length-equal}
-use Rattle.cox_reflect.proofs.Roots.{left_descent-letter}
-use Rattle.cox_reflect.proofs.Lengths.{cons-word_length, word_length-cons}
-use Rattle.cox_hecke.specs.Row.{IsMu}
+use Rattle.cox_reflect.proofs.Lengths.{cons-word_length}
 use Rattle.cox_hecke.specs.Step.{IsCorrection}
 use Rattle.cox_hecke.proofs.AllRows.{row_of, row_of-is}
 use Rattle.cox_hecke.proofs.Descended.{mu-odd}
@@ -54,13 +52,16 @@ module _ (A : IntegerMatrix) (g : IsAdmissible A) (members : List (List ℕ)) (c
   half p l =
       let odd = mu-odd A g (word_at members (number_at numbers p)) (word_at members lower) (value_at values p) (row_of A g (word_at members lower))
       (mus.value p l) (mus.some p l) (row_of-is A g (word_at members lower))
-      in (odd.0 + 1, omega (
-        arith,
-        odd.1,
-        lower-length,
-        length-at A g members closed i inside,
-        length-at A g members closed (number_at numbers p) (mus.within p l),
-      ))
+      in (
+        odd.0 + 1,
+        omega (
+          arith,
+          odd.1,
+          lower-length,
+          length-at A g members closed i inside,
+          length-at A g members closed (number_at numbers p) (mus.within p l),
+        ),
+      )
 
   pub filtered-start : AreFiltered A members s (word_at members i) numbers 0 []
   filtered-start = record {
@@ -90,9 +91,9 @@ module _ (A : IntegerMatrix) (g : IsAdmissible A) (members : List (List ℕ)) (c
     rising = λ j k less m. ⊎_elim
         (λ (old : k < length list). rw (push-old list c _ j (omega (arith, less, old)), push-old list c _ k old) (h.rising j k less old))
         (λ (new : k ≡ length list).
-            let q = h.placed j (omega (arith, less, new))
-            in let less_number = mus.rising q.0 p q.1 l
-            in rw (push-old list c _ j (omega (arith, less, new)), push-new list c _ k new) (omega (arith, less_number, q.2, number)))
+        let q = h.placed j (omega (arith, less, new))
+        in let less_number = mus.rising q.0 p q.1 l
+        in rw (push-old list c _ j (omega (arith, less, new)), push-new list c _ k new) (omega (arith, less_number, q.2, number)))
         (push_cases list c k m);
     placed = λ k m. ⊎_elim
         (λ (old : k < length list). let q = h.placed k old in rw (push-old list c _ k old) (q.0, omega (arith, q.1, e), q.2))
@@ -109,22 +110,22 @@ module _ (A : IntegerMatrix) (g : IsAdmissible A) (members : List (List ℕ)) (c
     shift = λ k m. ⊎_elim
         (λ (old : k < length list). rw (push-old list c _ k old) (h.shift k old))
         (λ (new : k ≡ length list).
-            let h = half p l
-            in rw (push-new list c _ k new, number) (omega (
-              arith,
-              h.1,
-              shift h.0 h.1,
-              length-at A g members closed i inside,
-              length-at A g members closed (number_at numbers p) (mus.within p l),
-            )))
+        let h = half p l
+        in rw (push-new list c _ k new, number) (omega (
+          arith,
+          h.1,
+          shift h.0 h.1,
+          length-at A g members closed i inside,
+          length-at A g members closed (number_at numbers p) (mus.within p l),
+        )))
         (push_cases list c k m);
     found = λ q m dq. ⊎_elim
         (λ (less : q < p).
-            let k = h.found q less dq
-            in (k.0, omega (arith, k.1, push-length list c), rw (push-old list c _ k.0 k.1) k.2))
+        let k = h.found q less dq
+        in (k.0, omega (arith, k.1, push-length list c), rw (push-old list c _ k.0 k.1) k.2))
         (λ (more : p ≤ q).
-            let is : q ≡ p = omega (arith, m, more, e)
-            in (length list, omega (arith, push-length list c), rw (push-new list c _ (length list) refl, is) number))
+        let is : q ≡ p = omega (arith, m, more, e)
+        in (length list, omega (arith, push-length list c), rw (push-new list c _ (length list) refl, is) number))
         (cases_lt q p);
   }
 

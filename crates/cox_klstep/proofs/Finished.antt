@@ -1,5 +1,5 @@
 -- When each member up to w is done, the row is that of w: what comes after w is not below w.
-use Rattle.std.proofs.Common.{◌≡◌, ◌≢◌, ℕ, ◌+◌, ◌<◌, ◌≤◌, List, length, ℤ, pos, refl, sym, ap, ◌∙◌, ⊎_elim, arith}
+use Rattle.std.proofs.Common.{ℕ, ◌+◌, ◌<◌, ◌≤◌, List, length, ℤ, ⊎_elim, arith}
 use Rattle.std.proofs.lemmas.Bool.{cases_lt}
 use Rattle.cox_base.specs.IntegerMatrix.{IntegerMatrix}
 use Rattle.cox_base.specs.Admissible.{IsAdmissible}
@@ -37,7 +37,7 @@ module _ (A : IntegerMatrix) (g : IsAdmissible A) (members : List (List ℕ)) (c
     some = h.some;
     whole = λ u m l mu some. ⊎_elim (λ (less : u < end). h.whole u m less mu some)
         (λ (more : end ≤ u). absurd (later-not_below A g members closed u i l inside (omega (arith, more, all))
-            (mu-below A g (word_at members u) (word_at members i) m mu some))) (cases_lt u end);
+        (mu-below A g (word_at members u) (word_at members i) m mu some))) (cases_lt u end);
   }
 
 -- a value of mu that is too large is one of the row

@@ -1,15 +1,14 @@
 -- One extremal member more with its polynomial, or a member that is not extremal or not below w.
-use Rattle.std.proofs.Common.{◌≡◌, ◌≢◌, ◌⊎◌, inl, inr, ℕ, ◌+◌, ◌<◌, ◌≤◌, List, [], ◌∷◌, ◌++◌, length, ℤ, pos, refl, sym, ap, ◌∙◌, ⊎_elim, arith}
+use Rattle.std.proofs.Common.{◌≡◌, ◌≢◌, ◌⊎◌, inl, inr, ℕ, ◌+◌, ◌<◌, ◌≤◌, List, [], ◌∷◌, ◌++◌, length, ℤ, refl, sym, ◌∙◌, ⊎_elim, arith}
 use Rattle.std.proofs.lemmas.Bool.{cases_lt}
 use Rattle.cox_base.specs.IntegerMatrix.{IntegerMatrix}
 use Rattle.cox_base.specs.Bruhat.{IsBelow}
-use Rattle.cox_poly.specs.Polynomial.{coefficient, IsPolynomial, SameCoefficients}
-use Rattle.cox_poly.specs.Limit.{AllWithin}
+use Rattle.cox_poly.specs.Polynomial.{coefficient}
 use Rattle.cox_hecke.specs.Row.{IsKazhdanLusztig}
 use Rattle.cox_context.specs.Numbers.{word_at}
 use Rattle.cox_row.specs.Rising.{number_at}
 use Rattle.cox_row.specs.Extremal.{IsExtremal}
-use Rattle.cox_row.specs.Polynomials.{polynomial_at, IsPool, HavePolynomials}
+use Rattle.cox_row.specs.Polynomials.{polynomial_at, IsPool}
 use Rattle.cox_klstep.specs.Drafts.{IsPooled, AreBegun}
 use Rattle.cox_klstep.proofs.PushLemmas.{push-length, push-old, push-new, push_cases}
 
@@ -44,15 +43,15 @@ module _ (A : IntegerMatrix) (members : List (List ℕ)) (w : List ℕ) (limit :
       once = λ i j less l. ⊎_elim
           (λ old. rw (pooled.kept i (omega (arith, less, old)), pooled.kept j old) (h.polynomials.distinct.once i j less old))
           (λ is. ⊎_elim
-              (λ (old : i < length pool). rw (is.0, pooled.kept i old) (is.1 i old))
-              (λ (high : length pool ≤ i). ⊎_elim (λ e. absurd (omega (arith, e, l, less, high))) (λ e. absurd (omega (arith, e.0, l, less, high)))
-                  pooled.size)
-              (cases_lt i (length pool)))
+          (λ (old : i < length pool). rw (is.0, pooled.kept i old) (is.1 i old))
+          (λ (high : length pool ≤ i). ⊎_elim (λ e. absurd (omega (arith, e, l, less, high))) (λ e. absurd (omega (arith, e.0, l, less, high)))
+          pooled.size)
+          (cases_lt i (length pool)))
           (new_cases j l);
       used = λ j l. ⊎_elim
           (λ old.
-              let k = h.polynomials.distinct.used j old
-              in (k.0, omega (arith, k.1, push-length places place), push-old places place 0 k.0 k.1 ∙ k.2))
+          let k = h.polynomials.distinct.used j old
+          in (k.0, omega (arith, k.1, push-length places place), push-old places place 0 k.0 k.1 ∙ k.2))
           (λ is. (length places, omega (arith, push-length places place), push-new places place 0 (length places) refl ∙ sym is.0))
           (new_cases j l);
       few = ⊎_elim (λ e. omega (arith, e, h.polynomials.distinct.few, push-length places place))
@@ -65,7 +64,7 @@ module _ (A : IntegerMatrix) (members : List (List ℕ)) (w : List ℕ) (limit :
       rising = λ j k less l. ⊎_elim
           (λ (old : k < length numbers). rw (push-old numbers x 0 j (omega (arith, less, old)), push-old numbers x 0 k old) (h.rising j k less old))
           (λ (last : k ≡ length numbers). rw (push-old numbers x 0 j (omega (arith, less, last)), push-new numbers x 0 k last)
-              (h.before j (omega (arith, less, last))))
+          (h.before j (omega (arith, less, last))))
           (push_cases numbers x k l);
       before = λ k l. ⊎_elim
           (λ (old : k < length numbers). rw (push-old numbers x 0 k old) (omega (arith, h.before k old)))
@@ -81,8 +80,11 @@ module _ (A : IntegerMatrix) (members : List (List ℕ)) (w : List ℕ) (limit :
           (push_cases numbers x k l);
       whole = λ y l e b. ⊎_elim
           (λ (less : y < x). let k = h.whole y less e b in (k.0, omega (arith, k.1, push-length numbers x), push-old numbers x 0 k.0 k.1 ∙ k.2))
-          (λ (more : x ≤ y). (length numbers, omega (arith, push-length numbers x),
-              push-new numbers x 0 (length numbers) refl ∙ omega (arith, l, more)))
+          (λ (more : x ≤ y). (
+            length numbers,
+            omega (arith, push-length numbers x),
+            push-new numbers x 0 (length numbers) refl ∙ omega (arith, l, more),
+          ))
           (cases_lt y x);
       polynomials = record {
         size = omega (arith, h.polynomials.size, push-length numbers x, push-length places place);
@@ -93,12 +95,12 @@ module _ (A : IntegerMatrix) (members : List (List ℕ)) (w : List ℕ) (limit :
         distinct = kept-pool;
         value = λ k l. ⊎_elim
             (λ (old : k < length numbers).
-                let m : k < length places = omega (arith, old, h.polynomials.size)
-                in rw (push-old numbers x 0 k old, push-old places place 0 k m, pooled.kept (number_at places k) (h.polynomials.placed k m))
-                    (h.polynomials.value k old))
+            let m : k < length places = omega (arith, old, h.polynomials.size)
+            in rw (push-old numbers x 0 k old, push-old places place 0 k m, pooled.kept (number_at places k) (h.polynomials.placed k m))
+            (h.polynomials.value k old))
             (λ (last : k ≡ length numbers).
-                rw (push-new numbers x 0 k last, push-new places place 0 k (omega (arith, last, h.polynomials.size)))
-                    record { row = is.row; is = is.is; at = λ d. pooled.same d ∙ is.at d })
+            rw (push-new numbers x 0 k last, push-new places place 0 k (omega (arith, last, h.polynomials.size)))
+            record { row = is.row; is = is.is; at = λ d. pooled.same d ∙ is.at d })
             (push_cases numbers x k l);
       };
       small = λ j l. ⊎_elim (λ old. rw (pooled.kept j old) (h.small j old)) (λ is. rw is.0 pooled.small) (new_cases j l);

@@ -18,3 +18,5 @@ pub mod Keeping
 pub mod RaisedMus
 -- the row when each member is done
 pub mod Finished
+-- the row of the identity
+pub mod IdentityRow

@@ -1,16 +1,13 @@
 -- The middle coefficient, and lists of the values of mu as they grow.
-use Rattle.std.proofs.Common.{◌≡◌, ◌≢◌, ◌⊎◌, inl, inr, ℕ, zero, suc, ◌+◌, ◌-◌, ◌/◌, ◌%◌, ◌==◌, ◌<◌, ◌≤◌, if◌then◌else◌, Bool, true, false, List, [], ◌∷◌, ◌++◌, length, ℤ, pos}
-use Rattle.std.proofs.Common.{refl, sym, ap, ◌∙◌, ⊎_elim, arith}
+use Rattle.std.proofs.Common.{◌≡◌, ◌≢◌, ℕ, ◌+◌, ◌/◌, ◌%◌, ◌==◌, ◌<◌, ◌≤◌, if◌then◌else◌, Bool, true, false, List, [], ◌∷◌, ◌++◌, length, ℤ, pos}
+use Rattle.std.proofs.Common.{refl, ◌∙◌, ⊎_elim, arith}
 use Rattle.std.proofs.lemmas.Bool.{cases_lt, eq-eqb, eqb-true}
 use Rattle.cox_base.specs.IntegerMatrix.{IntegerMatrix}
 use Rattle.cox_base.specs.Admissible.{IsAdmissible}
-use Rattle.cox_base.specs.Length.{word_length}
 use Rattle.cox_poly.specs.Coefficients.{Coefficients}
 use Rattle.cox_hecke.specs.Row.{IsMu, middle_coefficient}
 use Rattle.cox_hecke.proofs.AllRows.{mu-unique}
 use Rattle.cox_context.specs.Numbers.{word_at}
-use Rattle.cox_row.specs.Rising.{number_at, AreRising, AreWithin}
-use Rattle.cox_row.specs.Mus.{value_at}
 use Rattle.cox_klstep.specs.Drafts.{AreNoted}
 use Rattle.cox_klstep.proofs.PushLemmas.{push-length, push-old, push-new, push_cases}
 
@@ -35,7 +32,7 @@ module _ (A : IntegerMatrix) (g : IsAdmissible A) (members : List (List ℕ)) (w
     some = h.some;
     whole = λ u m l mu some. ⊎_elim (λ (less : u < x). h.whole u m less mu some)
         (λ (more : x ≤ u). let e : u ≡ x = omega (arith, l, more)
-            in absurd (some (mu-unique A g (word_at members x) w m (pos 0) (rw e at mu) none))) (cases_lt u x);
+        in absurd (some (mu-unique A g (word_at members x) w m (pos 0) (rw e at mu) none))) (cases_lt u x);
   }
 
   pub noted-push : (m : ℤ) → m ≢ pos 0 → IsMu A (word_at members x) w m → AreNoted A members w x numbers values
@@ -45,7 +42,7 @@ module _ (A : IntegerMatrix) (g : IsAdmissible A) (members : List (List ℕ)) (w
     rising = λ j k less l. ⊎_elim
         (λ (old : k < length numbers). rw (push-old numbers x 0 j (omega (arith, less, old)), push-old numbers x 0 k old) (h.rising j k less old))
         (λ (new : k ≡ length numbers). rw (push-old numbers x 0 j (omega (arith, less, new)), push-new numbers x 0 k new)
-            (h.before j (omega (arith, less, new))))
+        (h.before j (omega (arith, less, new))))
         (push_cases numbers x k l);
     before = λ k l. ⊎_elim
         (λ (old : k < length numbers). rw (push-old numbers x 0 k old) (omega (arith, h.before k old)))
@@ -61,7 +58,7 @@ module _ (A : IntegerMatrix) (g : IsAdmissible A) (members : List (List ℕ)) (w
         (push_cases numbers x k l);
     whole = λ u n l mu_u some_u. ⊎_elim
         (λ (less : u < x). let k = h.whole u n less mu_u some_u
-            in (k.0, omega (arith, k.1, push-length numbers x), push-old numbers x 0 k.0 k.1 ∙ k.2))
+        in (k.0, omega (arith, k.1, push-length numbers x), push-old numbers x 0 k.0 k.1 ∙ k.2))
         (λ (more : x ≤ u). (length numbers, omega (arith, push-length numbers x), push-new numbers x 0 (length numbers) refl ∙ omega (arith, l, more)))
         (cases_lt u x);
   }

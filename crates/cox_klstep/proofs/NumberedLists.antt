@@ -1,22 +1,16 @@
 -- Lists of numbered corrections: they name the elements of the corrections, each once, and their sum is that of the recursion.
-use Rattle.std.proofs.Common.{◌≡◌, ℕ, zero, suc, ◌+◌, ◌-◌, ◌*◌, ◌/◌, ◌<◌, ◌≤◌, List, [], ◌∷◌, length, map, take, get_or, ℤ, pos, ◌+ℤ◌, ◌-ℤ◌, true, false, refl, sym, ap, ◌∙◌, ⊎_elim, arith}
-use Rattle.std.specs.Prelude.{All}
+use Rattle.std.proofs.Common.{◌≡◌, ℕ, zero, suc, ◌-◌, ◌/◌, ◌<◌, List, [], ◌∷◌, length, map, take, ℤ, pos, ◌+ℤ◌, ◌-ℤ◌, true, false, refl, sym, ap, ◌∙◌, arith}
 use Rattle.std.proofs.lemmas.Int.{ints}
-use Rattle.std.proofs.lemmas.List.{length-map, get_or-map}
-use Rattle.cox_base.specs.declared.side.Side.TheVariants.{Left}
 use Rattle.cox_base.specs.IntegerMatrix.{IntegerMatrix}
 use Rattle.cox_base.specs.Admissible.{IsAdmissible}
 use Rattle.cox_base.specs.Element.{SameElement}
-use Rattle.cox_base.specs.ShortLex.{normal_form}
 use Rattle.cox_base.specs.Length.{word_length}
-use Rattle.cox_base.specs.Bruhat.{IsBelow}
-use Rattle.cox_reflect.proofs.Elements.{same-refl, same-sym, same-trans, same-equal}
-use Rattle.cox_reflect.proofs.Search.{normal_form-same, normal_form-equal}
-use Rattle.cox_poly.specs.Coefficients.{Coefficients, plus}
+use Rattle.cox_reflect.proofs.Elements.{same-sym, same-trans}
+use Rattle.cox_reflect.proofs.Search.{normal_form-equal}
+use Rattle.cox_poly.specs.Coefficients.{Coefficients}
 use Rattle.cox_poly.specs.Products.{scaled, times_q_power}
 use Rattle.cox_hecke.specs.Family.{Family, is_same}
 use Rattle.cox_hecke.specs.Sums.{occurrences}
-use Rattle.cox_hecke.specs.Row.{IsRow, IsKazhdanLusztig}
 use Rattle.cox_hecke.specs.Step.{IsCorrection, AreCorrections}
 use Rattle.cox_hecke.specs.Step as hecke
 use Rattle.cox_hecke.proofs.SumLemmas.{same-is_same, not_same-is_same}
@@ -25,8 +19,8 @@ use Rattle.cox_context.specs.Numbers.{word_at}
 use Rattle.cox_context.proofs.ListLemmas.{rising-place}
 use Rattle.cox_context.proofs.Shifting.{element-at}
 use Rattle.cox_klstep.specs.declared.step.Correction.{Correction}
-use Rattle.cox_klstep.specs.StepOf.{correction_at, AreNumbered}
-use Rattle.cox_klstep.specs.Sums.{GivesAt, numbered_sum}
+use Rattle.cox_klstep.specs.StepOf.{correction_at}
+use Rattle.cox_klstep.specs.Sums.{numbered_sum}
 
 -- one correction more
 pub numbered_sum-push : (P : ℕ → Coefficients) (list : List Correction) (k : ℕ) → k < length list → (d : ℕ)
@@ -89,7 +83,7 @@ module _ (A : IntegerMatrix) (g : IsAdmissible A) (members : List (List ℕ)) (c
   occurs-once (c ∷ list) within rising zero l e =
       let yes : is_same A u (word_at members c.number) ≡ true = same-is_same A g (rw e is)
       in rw yes (ap (λ n. suc n) (occurs-none list (λ k l. within (suc k) (omega (arith, l)))
-          (λ k m same. let less = rising 0 (suc k) (omega arith) (omega (arith, m)) in omega (arith, less, e, same))))
+      (λ k m same. let less = rising 0 (suc k) (omega arith) (omega (arith, m)) in omega (arith, less, e, same))))
   occurs-once (c ∷ list) within rising (suc k) l e =
       rw (same_as c.number (within 0 (omega arith)) (λ same. let less = rising 0 (suc k) (omega arith) l in omega (arith, less, e, same)))
       (occurs-once list (λ i m. within (suc i) (omega (arith, m))) (λ i i' m n. rising (suc i) (suc i') (omega (arith, m)) (omega (arith, n)))

@@ -1,14 +1,11 @@
 -- The recursion by numbers: the sums with the corrections taken off are those of P(x,w).
-use Rattle.std.proofs.Common.{◌≡◌, ℕ, ◌+◌, ◌-◌, ◌*◌, ◌/◌, ◌<◌, ◌≤◌, List, [], ◌∷◌, length, Contains, get_or, ℤ, pos, ◌-ℤ◌, ◌↔◌, true, refl, sym, ap, ◌∙◌, arith}
-use Rattle.std.specs.Prelude.{All, nat_lt, if◌then◌else◌}
-use Rattle.std.proofs.lemmas.Int.{ints}
+use Rattle.std.proofs.Common.{◌≡◌, ℕ, ◌<◌, ◌≤◌, List, ◌∷◌, length, pos, ◌↔◌, refl, sym, ◌∙◌, arith}
 use Rattle.std.proofs.lemmas.List.{length-map, get_or-map}
 use Rattle.cox_base.specs.declared.side.Side.TheVariants.{Left}
 use Rattle.cox_base.specs.IntegerMatrix.{IntegerMatrix}
 use Rattle.cox_base.specs.Admissible.{IsAdmissible}
 use Rattle.cox_base.specs.Element.{SameElement}
 use Rattle.cox_base.specs.ShortLex.{normal_form}
-use Rattle.cox_base.specs.Length.{word_length}
 use Rattle.cox_base.specs.Reduced.{IsLeftDescent}
 use Rattle.cox_base.specs.Bruhat.{IsBelow}
 use Rattle.cox_reflect.proofs.Elements.{same-refl, same-sym, same-cons}
@@ -16,20 +13,18 @@ use Rattle.cox_reflect.proofs.Search.{normal_form-same, word_length-equal}
 use Rattle.cox_reflect.proofs.Bruhat.{below-same, below-trans, below-descent, lift_down}
 use Rattle.cox_poly.specs.Coefficients.{Coefficients, plus, times_q}
 use Rattle.cox_poly.specs.Products.{minus}
-use Rattle.cox_hecke.specs.Family.{Family}
-use Rattle.cox_hecke.specs.Row.{IsRow, IsKazhdanLusztig}
-use Rattle.cox_hecke.specs.Step.{IsCorrection, AreCorrections, step, correction_sum}
+use Rattle.cox_hecke.specs.Row.{IsKazhdanLusztig}
+use Rattle.cox_hecke.specs.Step.{AreCorrections, step, correction_sum}
 use Rattle.cox_hecke.proofs.Descents.{nat_lt-yes}
 use Rattle.cox_hecke.proofs.AllRows.{row_of, row_of-is, mu-same, kazhdan_lusztig-value}
 use Rattle.cox_hecke.proofs.Descended.{mu-below}
-use Rattle.cox_hecke.proofs.Polynomials.{kazhdan_lusztig-same, kazhdan_lusztig-outside}
+use Rattle.cox_hecke.proofs.Polynomials.{kazhdan_lusztig-same}
 use Rattle.cox_hecke.proofs.StepFamilies.{recursion}
 use Rattle.cox_context.specs.Closed.{IsClosed}
 use Rattle.cox_context.specs.Numbers.{word_at}
 use Rattle.cox_context.proofs.ListLemmas.{contains-placed, contains-at}
 use Rattle.cox_context.proofs.Shifting.{member-below, length-at}
 use Rattle.cox_row.proofs.RisingLemmas.{few-rising}
-use Rattle.cox_row.proofs.Raising.{later-not_below}
 use Rattle.cox_klstep.specs.declared.step.Correction.{Correction}
 use Rattle.cox_klstep.specs.StepOf.{correction_at, AreNumbered}
 use Rattle.cox_klstep.specs.Sums.{GivesAt, numbered_sum}
@@ -47,8 +42,8 @@ module _ (A : IntegerMatrix) (g : IsAdmissible A) (members : List (List ℕ)) (c
         let size : length (named members list) ≡ length list = length-map list _
         in let m : k < length list = omega (arith, l, size)
         in rw (get_or-map (λ c. record { element = word_at members c.number; mu = c.factor }) list k
-            (record { number = 0; factor = pos 0; shift = 0 }) d m)
-            (numbered.each k m);
+        (record { number = 0; factor = pos 0; shift = 0 }) d m)
+        (numbered.each k m);
     once = λ u m c.
         let below : IsBelow A u (word_at members i) = below-trans A g (mu-below A g u (s ∷ word_at members i) m c.is_mu c.some)
         (below-descent A g (word_at members i) s descent)
@@ -75,13 +70,16 @@ module _ (A : IntegerMatrix) (g : IsAdmissible A) (members : List (List ℕ)) (c
   }
     where
       first : step Left A s (row_of A g (s ∷ word_at members i)) x ≡ plus a (times_q b)
-      first = rw (nat_lt-yes d, ← kazhdan_lusztig-value A g (s ∷ x) (s ∷ word_at members i) a is_a,
-          ← kazhdan_lusztig-value A g x (s ∷ word_at members i) b is_b) refl
+      first = rw (
+        nat_lt-yes d,
+        ← kazhdan_lusztig-value A g (s ∷ x) (s ∷ word_at members i) a is_a,
+        ← kazhdan_lusztig-value A g x (s ∷ word_at members i) b is_b,
+      ) refl
 
       second : (k : ℕ) → correction_sum A (word_at members i) (row_of A g) (named members list) x k ≡ numbered_sum P list k
       second = named-sum A (word_at members i) x members P (row_of A g) list
           (λ j l. kazhdan_lusztig-value A g x (word_at members (correction_at list j).number) (P (correction_at list j).number)
-              (gives (correction_at list j).number (numbered.within j l)))
+          (gives (correction_at list j).number (numbered.within j l)))
           (λ j l. omega (arith, numbered.shift j l))
 
       sides : (k : ℕ) → minus (step Left A s (row_of A g (s ∷ word_at members i)) x)

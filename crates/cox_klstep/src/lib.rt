@@ -7,16 +7,21 @@
 //! - `sums`: the recursion at one extremal member
 //! - `values`, `mus`: the polynomials, and the values of mu, of a row that is being made
 //! - `making`: the row
+//! - `identity`: the row of the identity
 //! - `fault`: why a row is not made
 #![tactic(auto)]
 
 mod fault;
+mod identity;
 mod making;
 mod mus;
 mod step;
 mod sums;
+#[cfg(test)]
+mod tests;
 mod values;
 
 pub use fault::StepFault;
+pub use identity::identity_row;
 pub use making::{MU_LIMIT, row};
 pub use step::{Correction, Descent, Step};

@@ -66,13 +66,7 @@ pub fn row(
         mus.note(x, value)?;
     }
     let mu = narrow(alloc, &mus)?;
-    Ok(Row::of_parts(
-        values.extremal,
-        values.places,
-        values.pool,
-        mus.numbers,
-        mu,
-    ))
+    Ok(Row::of_parts(values.extremal, values.places, values.pool, mus.numbers, mu))
 }
 
 /// One member more; its value of mu.

@@ -108,5 +108,13 @@ fn take_off(ctx: &Context, row: &Row, correction: &Correction, x: u32, sums: &mu
         → (k : ℕ) → unsigned_abs (coefficient sums.new k) ≤ (n + 1) * 2 ^ 94 }
 {
     let factor = -i64::from(correction.factor);
-    add(ctx, row, correction.number, x, factor, correction.shift, sums);
+    add(
+        ctx,
+        row,
+        correction.number,
+        x,
+        factor,
+        correction.shift,
+        sums,
+    );
 }

@@ -34,7 +34,13 @@ impl Values {
     }
 
     /// One extremal member more, whose polynomial has these sums; its place in the pool.
-    pub(crate) fn keep(&mut self, alloc: Global, x: u32, sums: &Acc, limit: i64) -> Result<u32, PolyFault>
+    pub(crate) fn keep(
+        &mut self,
+        alloc: Global,
+        x: u32,
+        sums: &Acc,
+        limit: i64,
+    ) -> Result<u32, PolyFault>
         requires few { length self.old.pool.items ≤ x }
         ensures kept { IfOk result (λ _. (A : IntegerMatrix) → (members : List (List ℕ)) (w : List ℕ) → AreBegun A members w limit x self.old.extremal.items self.old.places.items self.old.pool.items
             → IsExtremal A w (word_at members x) → IsBelow A (word_at members x) w → IsKazhdanLusztig A (word_at members x) w (coefficient sums.now)

@@ -1,18 +1,11 @@
 -- What a row has at a place, and what it tells where it has none.
-use Rattle.std.proofs.Common.{◌≡◌, ◌≢◌, ℕ, zero, suc, ◌<◌, ◌≤◌, List, [], length, ℤ, pos, negsuc, refl, sym, ap, ◌∙◌, ⊎_elim, arith}
+use Rattle.std.proofs.Common.{◌≡◌, ℕ, ◌<◌, List, length, ℤ, pos}
 use Rattle.cox_base.specs.IntegerMatrix.{IntegerMatrix}
 use Rattle.cox_base.specs.Admissible.{IsAdmissible}
-use Rattle.cox_base.specs.Element.{SameElement}
-use Rattle.cox_base.specs.ShortLex.{normal_form}
 use Rattle.cox_base.specs.Bruhat.{IsBelow}
-use Rattle.cox_reflect.proofs.Elements.{same-sym, same-refl}
-use Rattle.cox_reflect.proofs.Search.{normal_form-same}
-use Rattle.cox_poly.specs.Polynomial.{coefficient, IsPolynomial}
+use Rattle.cox_poly.specs.Polynomial.{coefficient}
 use Rattle.cox_hecke.specs.Row.{IsKazhdanLusztig, IsMu}
-use Rattle.cox_context.specs.Closed.{IsClosed}
 use Rattle.cox_context.specs.Numbers.{word_at}
-use Rattle.cox_context.proofs.ListLemmas.{contains-placed}
-use Rattle.cox_context.proofs.Shifting.{member-below}
 use Rattle.cox_row.specs.Rising.{number_at}
 use Rattle.cox_row.specs.Extremal.{IsExtremal, AreExtremal}
 use Rattle.cox_row.specs.Polynomials.{polynomial_at, HavePolynomials}

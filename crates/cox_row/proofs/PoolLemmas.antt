@@ -1,27 +1,25 @@
 -- The pool of a row has each polynomial P(x,w) once.
-use Rattle.std.proofs.Common.{◌≡◌, ℕ, ◌<◌, ◌≤◌, List, length, ℤ, refl, sym, ap, ◌∙◌, arith}
+use Rattle.std.proofs.Common.{ℕ, ◌<◌, List, length, ℤ, arith}
 use Rattle.cox_base.specs.IntegerMatrix.{IntegerMatrix}
 use Rattle.cox_base.specs.Admissible.{IsAdmissible}
 use Rattle.cox_base.specs.Element.{SameElement}
 use Rattle.cox_base.specs.ShortLex.{normal_form}
 use Rattle.cox_base.specs.Bruhat.{IsBelow}
-use Rattle.cox_reflect.proofs.Elements.{same-sym, same-refl}
+use Rattle.cox_reflect.proofs.Elements.{same-sym}
 use Rattle.cox_reflect.proofs.Search.{normal_form-same}
-use Rattle.cox_poly.specs.Polynomial.{coefficient, IsPolynomial}
 use Rattle.cox_poly.proofs.Polynomials.{same_polynomial}
-use Rattle.cox_hecke.specs.Row.{IsKazhdanLusztig}
 use Rattle.cox_hecke.proofs.Polynomials.{kazhdan_lusztig-unique}
 use Rattle.cox_context.specs.Closed.{IsClosed}
 use Rattle.cox_context.specs.Numbers.{word_at}
 use Rattle.cox_context.proofs.ListLemmas.{contains-placed}
 use Rattle.cox_context.proofs.Shifting.{member-below}
 use Rattle.cox_row.specs.Rising.{number_at}
-use Rattle.cox_row.specs.Extremal.{IsExtremal, AreExtremal}
+use Rattle.cox_row.specs.Extremal.{AreExtremal}
 use Rattle.cox_row.specs.Polynomials.{polynomial_at, HavePolynomials}
-use Rattle.cox_row.specs.Distinct.{IsPolynomialOf, ArePolynomialsOf}
+use Rattle.cox_row.specs.Distinct.{ArePolynomialsOf}
 use Rattle.cox_row.specs.Raised.{StandsFor}
 use Rattle.cox_row.proofs.Raising.{stands-same}
-use Rattle.cox_row.proofs.Tops.{HasTop, top-exists, extremal-same}
+use Rattle.cox_row.proofs.Tops.{top-exists, extremal-same}
 
 module _ (A : IntegerMatrix) (g : IsAdmissible A) (members : List (List ℕ)) (closed : IsClosed A members) (i : ℕ) (inside : i < length members)
     (numbers places : List ℕ) (pool : List (List ℤ)) (extremal : AreExtremal A members (word_at members i) numbers)

@@ -1,26 +1,22 @@
 -- Raising an element by the descents of another: what is raised stands for what it comes from, and comes later among the members.
-use Rattle.std.proofs.Common.{◌≡◌, ◌⊎◌, inl, inr, ℕ, ◌+◌, ◌<◌, ◌≤◌, List, [], ◌∷◌, ◌++◌, length, Contains, Option, None, Some, refl, sym, ◌∙◌, ⊎_elim, arith}
+use Rattle.std.proofs.Common.{◌≡◌, ℕ, ◌+◌, ◌<◌, ◌≤◌, List, [], ◌∷◌, ◌++◌, length, Option, None, Some, sym, ◌∙◌, ⊎_elim, arith}
 use Rattle.std.proofs.lemmas.Bool.{cases_lt}
 use Rattle.cox_base.specs.IntegerMatrix.{IntegerMatrix}
 use Rattle.cox_base.specs.Admissible.{IsAdmissible}
 use Rattle.cox_base.specs.Element.{SameElement}
 use Rattle.cox_base.specs.ShortLex.{normal_form}
 use Rattle.cox_base.specs.Length.{word_length}
-use Rattle.cox_base.specs.Reduced.{IsLeftDescent, IsRightDescent}
 use Rattle.cox_base.specs.Bruhat.{IsBelow}
-use Rattle.cox_reflect.proofs.Elements.{same-refl, same-sym, same-trans, same-square, same-push_twice}
+use Rattle.cox_reflect.proofs.Elements.{same-refl, same-sym, same-square, same-push_twice}
 use Rattle.cox_reflect.proofs.Search.{normal_form-same, normal_form-equal, word_length-equal}
 use Rattle.cox_reflect.proofs.Deletion.{left_length, right_length}
 use Rattle.cox_reflect.proofs.Roots.{left_descent-letter, descent-letter}
-use Rattle.cox_reflect.proofs.Bruhat.{below-same, below-refl, below-length, below-equal_length, below-cons, below-push}
-use Rattle.cox_poly.specs.Coefficients.{Coefficients}
-use Rattle.cox_hecke.specs.Row.{IsKazhdanLusztig}
+use Rattle.cox_reflect.proofs.Bruhat.{below-same, below-length, below-equal_length, below-cons, below-push}
 use Rattle.cox_hecke.proofs.Polynomials.{kazhdan_lusztig-same, kazhdan_lusztig-left, kazhdan_lusztig-right}
 use Rattle.cox_context.specs.Closed.{IsClosed}
 use Rattle.cox_context.specs.Numbers.{word_at, IsNumberOf}
 use Rattle.cox_context.proofs.ListLemmas.{rising-place, rising-length}
 use Rattle.cox_context.proofs.Shifting.{element-at, length-at, member-below}
-use Rattle.cox_row.specs.Extremal.{IsExtremal}
 use Rattle.cox_row.specs.Raised.{IsRaised, on_left, on_right, IsRaisedTo, raise_to, LeadsTo, StandsFor}
 use Rattle.cox_row.specs.LetterSets.{IsMissing, AreLeftDescents, AreRightDescents}
 
@@ -108,5 +104,8 @@ module _ (A : IntegerMatrix) (g : IsAdmissible A) where
         in let same : SameElement A (word_at words i) (word_at words j)
         = below-equal_length A g b
         (omega (arith, size, below-length A g b, length-at A g words closed i l, length-at A g words closed j m))
-        in omega (arith, rising-place words i j closed.rising l m
-        (sym (element-at A g words closed i l).normal ∙ normal_form-equal A g same ∙ (element-at A g words closed j m).normal))
+        in omega (
+          arith,
+          rising-place words i j closed.rising l m
+              (sym (element-at A g words closed i l).normal ∙ normal_form-equal A g same ∙ (element-at A g words closed j m).normal),
+        )

@@ -1,22 +1,18 @@
 -- The row of w is still its row in a larger context, by the new numbers: what is below w was a member before.
-use Rattle.std.proofs.Common.{◌≡◌, ◌≢◌, ℕ, zero, suc, ◌+◌, ◌<◌, ◌≤◌, List, [], ◌∷◌, ◌++◌, length, map, take, drop, set, get_or, Contains, ℤ, pos, refl, sym, ap, ◌∙◌}
-use Rattle.std.proofs.Common.{add-one, ⊎_elim, arith}
-use Rattle.std.proofs.lemmas.Bool.{cases_lt}
+use Rattle.std.proofs.Common.{◌≡◌, ℕ, zero, suc, ◌<◌, List, [], ◌∷◌, ◌++◌, length, map, take, drop, set, get_or, Contains, ℤ, refl, sym, ap, ◌∙◌}
+use Rattle.std.proofs.Common.{arith}
 use Rattle.std.proofs.lemmas.List.{length-map, get_or-map}
 use Rattle.cox_base.specs.IntegerMatrix.{IntegerMatrix}
 use Rattle.cox_base.specs.Admissible.{IsAdmissible}
 use Rattle.cox_base.specs.Bruhat.{IsBelow}
-use Rattle.cox_poly.specs.Polynomial.{coefficient}
-use Rattle.cox_hecke.specs.Row.{IsKazhdanLusztig, IsMu}
 use Rattle.cox_hecke.proofs.Descended.{mu-below}
 use Rattle.cox_context.specs.Closed.{IsClosed}
-use Rattle.cox_context.specs.Members.{IsElement}
 use Rattle.cox_context.specs.Numbers.{word_at}
 use Rattle.cox_context.proofs.ListLemmas.{contains-placed, contains-at, rising-place}
 use Rattle.cox_row.specs.Rising.{number_at, AreRising, AreWithin}
-use Rattle.cox_row.specs.Extremal.{IsExtremal, AreExtremal}
-use Rattle.cox_row.specs.Polynomials.{polynomial_at, HavePolynomials}
-use Rattle.cox_row.specs.Mus.{value_at, AreMus}
+use Rattle.cox_row.specs.Extremal.{AreExtremal}
+use Rattle.cox_row.specs.Polynomials.{HavePolynomials}
+use Rattle.cox_row.specs.Mus.{AreMus}
 use Rattle.cox_row.specs.Moved.{AreMoved}
 
 -- one number more

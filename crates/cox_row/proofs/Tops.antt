@@ -1,17 +1,16 @@
 -- Each x ≤ w is raised to an extremal element: so the polynomials at extremal elements are all polynomials of the row.
-use Rattle.std.proofs.Common.{◌≡◌, ◌⊎◌, inl, inr, ℕ, zero, suc, ◌+◌, ◌<◌, ◌≤◌, List, [], ◌∷◌, ◌++◌, length, Contains, refl, sym, ap, ⊎_elim, arith}
+use Rattle.std.proofs.Common.{◌≡◌, ◌⊎◌, inl, inr, ℕ, zero, suc, ◌+◌, ◌<◌, ◌≤◌, List, [], ◌∷◌, ◌++◌, ⊎_elim, arith}
 use Rattle.std.proofs.lemmas.Bool.{cases_lt}
 use Rattle.cox_base.specs.IntegerMatrix.{IntegerMatrix}
 use Rattle.cox_base.specs.Admissible.{IsAdmissible}
 use Rattle.cox_base.specs.Element.{SameElement}
-use Rattle.cox_base.specs.ShortLex.{normal_form}
 use Rattle.cox_base.specs.Length.{word_length}
 use Rattle.cox_base.specs.Reduced.{IsLeftDescent, IsRightDescent}
 use Rattle.cox_base.specs.Bruhat.{IsBelow}
-use Rattle.cox_reflect.proofs.Elements.{same-refl, same-sym, same-cons, same-push}
-use Rattle.cox_reflect.proofs.Search.{normal_form-same, word_length-equal}
+use Rattle.cox_reflect.proofs.Elements.{same-cons, same-push}
+use Rattle.cox_reflect.proofs.Search.{word_length-equal}
 use Rattle.cox_reflect.proofs.Roots.{left_descent-letter, descent-letter}
-use Rattle.cox_reflect.proofs.Bruhat.{below-same, below-length}
+use Rattle.cox_reflect.proofs.Bruhat.{below-length}
 use Rattle.cox_row.specs.Extremal.{IsExtremal}
 use Rattle.cox_row.specs.Raised.{IsRaised, on_left, on_right, StandsFor}
 use Rattle.cox_row.proofs.Raising.{stands-refl, stands-trans, raised-stands, raised-longer}
@@ -39,18 +38,18 @@ module _ (A : IntegerMatrix) (g : IsAdmissible A) where
     left-at : (s : ℕ) → (IsLeftDescent A w s → IsLeftDescent A x s) ⊎ ((y : List ℕ) × IsRaised A w x y)
     left-at s =
         ⊎_elim (λ (d : word_length A (s ∷ w) < word_length A w).
-            ⊎_elim (λ (yes : word_length A (s ∷ x) < word_length A x). inl (λ _. yes))
-            (λ (no : word_length A x ≤ word_length A (s ∷ x)). inr (s ∷ x, on_left s d (λ h. omega (arith, h, no))))
-            (cases_lt (word_length A (s ∷ x)) (word_length A x)))
+        ⊎_elim (λ (yes : word_length A (s ∷ x) < word_length A x). inl (λ _. yes))
+        (λ (no : word_length A x ≤ word_length A (s ∷ x)). inr (s ∷ x, on_left s d (λ h. omega (arith, h, no))))
+        (cases_lt (word_length A (s ∷ x)) (word_length A x)))
         (λ (none : word_length A w ≤ word_length A (s ∷ w)). inl (λ d. absurd (omega (arith, d, none))))
         (cases_lt (word_length A (s ∷ w)) (word_length A w))
 
     right-at : (s : ℕ) → (IsRightDescent A w s → IsRightDescent A x s) ⊎ ((y : List ℕ) × IsRaised A w x y)
     right-at s =
         ⊎_elim (λ (d : word_length A (w ++ s ∷ []) < word_length A w).
-            ⊎_elim (λ (yes : word_length A (x ++ s ∷ []) < word_length A x). inl (λ _. yes))
-            (λ (no : word_length A x ≤ word_length A (x ++ s ∷ [])). inr (x ++ s ∷ [], on_right s d (λ h. omega (arith, h, no))))
-            (cases_lt (word_length A (x ++ s ∷ [])) (word_length A x)))
+        ⊎_elim (λ (yes : word_length A (x ++ s ∷ []) < word_length A x). inl (λ _. yes))
+        (λ (no : word_length A x ≤ word_length A (x ++ s ∷ [])). inr (x ++ s ∷ [], on_right s d (λ h. omega (arith, h, no))))
+        (cases_lt (word_length A (x ++ s ∷ [])) (word_length A x)))
         (λ (none : word_length A w ≤ word_length A (w ++ s ∷ [])). inl (λ d. absurd (omega (arith, d, none))))
         (cases_lt (word_length A (w ++ s ∷ [])) (word_length A w))
 
@@ -61,8 +60,8 @@ module _ (A : IntegerMatrix) (g : IsAdmissible A) where
     }
     up_to (suc n) = ⊎_elim
         (λ (h : IsExtremalTo A w x n). ⊎_elim
-            (λ left. ⊎_elim (λ right. inl (more h left right)) (λ r. inr r) (right-at (suc n)))
-            (λ r. inr r) (left-at (suc n)))
+        (λ left. ⊎_elim (λ right. inl (more h left right)) (λ r. inr r) (right-at (suc n)))
+        (λ r. inr r) (left-at (suc n)))
         (λ r. inr r) (up_to n)
       where
         more : IsExtremalTo A w x n → (IsLeftDescent A w (suc n) → IsLeftDescent A x (suc n))
@@ -87,9 +86,9 @@ module _ (A : IntegerMatrix) (g : IsAdmissible A) where
   has_top w (suc n) x l b = ⊎_elim
       (λ (e : IsExtremal A w x). record { top = x; extremal = e; stands = stands-refl A g w x })
       (λ (r : (y : List ℕ) × IsRaised A w x y).
-          let stands = raised-stands A g r.1
-          in let h = has_top w n r.0 (omega (arith, l, raised-longer A g r.1)) (stands.to b)
-          in record { top = h.top; extremal = h.extremal; stands = stands-trans A g stands h.stands })
+      let stands = raised-stands A g r.1
+      in let h = has_top w n r.0 (omega (arith, l, raised-longer A g r.1)) (stands.to b)
+      in record { top = h.top; extremal = h.extremal; stands = stands-trans A g stands h.stands })
       (extremal_or_raised w x)
 
   pub top-exists : (w x : List ℕ) → IsBelow A x w → HasTop A w x

@@ -1,9 +1,9 @@
 -- The sums are those of P(x,w).
-use Rattle.std.proofs.Common.{◌≡◌, ℕ, ◌<◌, ◌≤◌, length, [], pos, Err, FitsSigned, w64, rules, refl, sym, ap, ◌∙◌, arith}
+use Rattle.std.proofs.Common.{◌≡◌, [], Err, FitsSigned, w64, rules, refl, sym, ap, ◌∙◌, arith}
 use Rattle.std.specs.Int.{w128}
 use Rattle.std.proofs.lemmas.Int.{to_z-of_z}
 use Rattle.std.proofs.lemmas.List.{get_or_default}
-use Rattle.cox_base.specs.IntegerMatrix.{IntegerMatrix, integer_matrix}
+use Rattle.cox_base.specs.IntegerMatrix.{integer_matrix}
 use Rattle.cox_poly.specs.Polynomial.{coefficient}
 use Rattle.cox_context.specs.Numbers.{word_at}
 use Rattle.cox_hecke.proofs.Descended.{mu-below}

@@ -1,6 +1,5 @@
 -- An extremal member goes into the row; of any other the value of mu is known from where it is raised to.
-use Rattle.std.proofs.Common.{◌≡◌, ℕ, ◌<◌, refl, sym}
-use Rattle.cox_base.specs.IntegerMatrix.{IntegerMatrix, integer_matrix}
+use Rattle.cox_base.specs.IntegerMatrix.{integer_matrix}
 use Rattle.cox_context.specs.Numbers.{word_at}
 use Rattle.cox_row.proofs.LetterBits.{left-letters, right-letters}
 use Rattle.cox_klstep.proofs.Keeping.{begun-skip}

@@ -1,10 +1,9 @@
 -- The middle coefficient where the difference of lengths is odd.
-use Rattle.std.proofs.Common.{◌≡◌, ℕ, ◌-◌, ◌%◌, ◌/◌, pos, FitsSigned, w64, rules, refl, sym, ap, ◌∙◌, arith}
+use Rattle.std.proofs.Common.{◌≡◌, ◌-◌, FitsSigned, w64, rules, sym, ◌∙◌, arith}
 use Rattle.std.proofs.lemmas.Int.{to_z-of_z}
 use Rattle.cox_base.specs.IntegerMatrix.{IntegerMatrix, integer_matrix}
 use Rattle.cox_base.specs.Length.{word_length}
 use Rattle.cox_poly.specs.Polynomial.{coefficient}
-use Rattle.cox_hecke.specs.Row.{middle_coefficient}
 use Rattle.cox_context.specs.Numbers.{word_at}
 use Rattle.cox_context.proofs.Shifting.{length-at}
 use Rattle.cox_klstep.proofs.Middles.{middle-odd, middle-even}

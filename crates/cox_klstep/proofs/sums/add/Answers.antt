@@ -1,7 +1,7 @@
 -- P(x,u) has no term beyond the sums, and its coefficients have 64 bits.
-use Rattle.std.proofs.Common.{◌≡◌, ℕ, ◌+◌, ◌*◌, ◌^◌, ◌≤◌, FitsSigned, w64, rules, refl, sym, ◌∙◌, arith}
+use Rattle.std.proofs.Common.{◌*◌, ◌^◌, FitsSigned, w64, rules, ◌∙◌, arith}
 use Rattle.std.proofs.lemmas.Int.{to_z-of_z}
-use Rattle.cox_base.specs.IntegerMatrix.{IntegerMatrix, integer_matrix}
+use Rattle.cox_base.specs.IntegerMatrix.{integer_matrix}
 use Rattle.cox_context.specs.Numbers.{word_at}
 use Rattle.cox_context.proofs.ListLemmas.{contains-at}
 use Rattle.cox_context.proofs.Shifting.{length-at}
@@ -11,8 +11,12 @@ use Rattle.cox_klstep.proofs.sums.add.Goals as goal
 pub add_scaled-requires-clause-degrees : goal.add_scaled-requires-clause-degrees
 add_scaled-requires-clause-degrees c = value-low (integer_matrix c.args.ctx.now.matrix) c.requires.admissible
     (word_at c.args.ctx.now.members c.args.x) (word_at c.args.ctx.now.members c.args.u) c.in-Some.p.now c.args.shift
-    (omega (arith, length-at (integer_matrix c.args.ctx.now.matrix) c.requires.admissible c.args.ctx.now.members c.requires.closed
-    c.args.u c.requires.u, c.requires.closed.short (word_at c.args.ctx.now.members c.args.u) (contains-at c.args.ctx.now.members c.args.u c.requires.u)))
+    (omega (
+      arith,
+      length-at (integer_matrix c.args.ctx.now.matrix) c.requires.admissible c.args.ctx.now.members c.requires.closed
+          c.args.u c.requires.u,
+      c.requires.closed.short (word_at c.args.ctx.now.members c.args.u) (contains-at c.args.ctx.now.members c.args.u c.requires.u),
+    ))
     c.requires.shift c.in-Some.ensures.value
 
 pub add_scaled-requires-clause-room : goal.add_scaled-requires-clause-room

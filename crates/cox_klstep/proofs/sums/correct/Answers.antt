@@ -1,12 +1,10 @@
 -- Each correction is taken off, or its polynomial is 0.
-use Rattle.std.proofs.Common.{◌≡◌, ℕ, ◌+◌, ◌*◌, ◌^◌, ◌<◌, ◌≤◌, length, take, refl, sym, ap, ◌∙◌, add-one, arith}
+use Rattle.std.proofs.Common.{◌+◌, ◌<◌, length, arith}
 use Rattle.std.proofs.lemmas.List.{take_all}
-use Rattle.cox_base.specs.IntegerMatrix.{IntegerMatrix, integer_matrix}
-use Rattle.cox_base.specs.Reduced.{IsLeftDescent}
+use Rattle.cox_base.specs.IntegerMatrix.{integer_matrix}
 use Rattle.cox_context.specs.Numbers.{word_at}
-use Rattle.cox_poly.specs.Coefficients.{Coefficients}
 use Rattle.cox_poly.specs.Polynomial.{coefficient}
-use Rattle.cox_klstep.specs.StepOf.{correction_at, AreNumbered}
+use Rattle.cox_klstep.specs.StepOf.{correction_at}
 use Rattle.cox_hecke.proofs.Polynomials.{kazhdan_lusztig-outside}
 use Rattle.cox_row.proofs.Raising.{later-not_below}
 use Rattle.cox_klstep.proofs.AddedSums.{none-scaled}
@@ -37,28 +35,28 @@ loop-k-preserved c =
     = rw c.deref-correction-items.ensures.value (c.requires.step.numbered.within c.loop-k.k l)
     in elim c.if-x-correction.branch [
       | then-x-correction w ↦ rw w.sums-is record {
-          sum = λ P gives d.
-              let off = w.take_off.ensures.sum (P (correction_at c.deref-correction-items.result.now c.loop-k.k).number)
-              (gives (correction_at c.deref-correction-items.result.now c.loop-k.k).number within) d
-              in taken P c.deref-correction-items.result.now c.loop-k.k (c.loop-k.k + 1) (omega arith) c.loop-k-test.true d
-              (coefficient c.args.sums.now d) (coefficient c.loop-k.sums d) (coefficient w.take_off.new.sums d)
-              (c.loop-k.invariant.sum P gives d) off;
-          size = λ d. let small = w.take_off.ensures.size (c.loop-k.k + 2) c.loop-k.invariant.size d in omega (arith, small);
-        }
+        sum = λ P gives d.
+            let off = w.take_off.ensures.sum (P (correction_at c.deref-correction-items.result.now c.loop-k.k).number)
+            (gives (correction_at c.deref-correction-items.result.now c.loop-k.k).number within) d
+            in taken P c.deref-correction-items.result.now c.loop-k.k (c.loop-k.k + 1) (omega arith) c.loop-k-test.true d
+            (coefficient c.args.sums.now d) (coefficient c.loop-k.sums d) (coefficient w.take_off.new.sums d)
+            (c.loop-k.invariant.sum P gives d) off;
+        size = λ d. let small = w.take_off.ensures.size (c.loop-k.k + 2) c.loop-k.invariant.size d in omega (arith, small);
+      }
       | else-x-correction w ↦ rw w.sums-is record {
-          sum = λ P gives d. passed P c.deref-correction-items.result.now c.loop-k.k (c.loop-k.k + 1) (omega arith) c.loop-k-test.true d
-              (coefficient c.args.sums.now d) (coefficient c.loop-k.sums d) (c.loop-k.invariant.sum P gives d)
-              (none-scaled (correction_at c.deref-correction-items.result.now c.loop-k.k).factor
-              (correction_at c.deref-correction-items.result.now c.loop-k.k).shift
-              (P (correction_at c.deref-correction-items.result.now c.loop-k.k).number)
-              (λ k. kazhdan_lusztig-outside (integer_matrix c.args.ctx.now.matrix) c.requires.admissible (word_at c.args.ctx.now.members c.args.x)
-              (word_at c.args.ctx.now.members (correction_at c.deref-correction-items.result.now c.loop-k.k).number)
-              (P (correction_at c.deref-correction-items.result.now c.loop-k.k).number)
-              (later-not_below (integer_matrix c.args.ctx.now.matrix) c.requires.admissible c.args.ctx.now.members c.requires.closed c.args.x
-              (correction_at c.deref-correction-items.result.now c.loop-k.k).number c.requires.x within w.if-x-correction.false)
-              (gives (correction_at c.deref-correction-items.result.now c.loop-k.k).number within) k) d);
-          size = λ d. let small = c.loop-k.invariant.size d in omega (arith, small);
-        }
+        sum = λ P gives d. passed P c.deref-correction-items.result.now c.loop-k.k (c.loop-k.k + 1) (omega arith) c.loop-k-test.true d
+            (coefficient c.args.sums.now d) (coefficient c.loop-k.sums d) (c.loop-k.invariant.sum P gives d)
+            (none-scaled (correction_at c.deref-correction-items.result.now c.loop-k.k).factor
+            (correction_at c.deref-correction-items.result.now c.loop-k.k).shift
+            (P (correction_at c.deref-correction-items.result.now c.loop-k.k).number)
+            (λ k. kazhdan_lusztig-outside (integer_matrix c.args.ctx.now.matrix) c.requires.admissible (word_at c.args.ctx.now.members c.args.x)
+            (word_at c.args.ctx.now.members (correction_at c.deref-correction-items.result.now c.loop-k.k).number)
+            (P (correction_at c.deref-correction-items.result.now c.loop-k.k).number)
+            (later-not_below (integer_matrix c.args.ctx.now.matrix) c.requires.admissible c.args.ctx.now.members c.requires.closed c.args.x
+            (correction_at c.deref-correction-items.result.now c.loop-k.k).number c.requires.x within w.if-x-correction.false)
+            (gives (correction_at c.deref-correction-items.result.now c.loop-k.k).number within) k) d);
+        size = λ d. let small = c.loop-k.invariant.size d in omega (arith, small);
+      }
     ]
 
 pub returns : goal.returns

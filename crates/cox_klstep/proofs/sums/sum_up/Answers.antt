@@ -1,8 +1,6 @@
 -- The recursion for an extremal x, which s shortens.
-use Rattle.std.proofs.Common.{◌≡◌, ℕ, ◌+◌, ◌*◌, ◌^◌, ◌<◌, ◌≤◌, length, pos, Some, None, refl, sym, ap, ◌∙◌, arith}
-use Rattle.cox_base.specs.Matrix.{IsLetter}
+use Rattle.std.proofs.Common.{ℕ, ◌<◌, length, arith}
 use Rattle.cox_base.specs.IntegerMatrix.{IntegerMatrix, integer_matrix}
-use Rattle.cox_base.specs.Reduced.{IsLeftDescent}
 use Rattle.cox_reflect.proofs.Roots.{left_descent-letter}
 use Rattle.cox_poly.specs.Coefficients.{Coefficients}
 use Rattle.cox_poly.specs.Polynomial.{coefficient}

@@ -1,10 +1,7 @@
 -- A multiple by -m is taken off.
-use Rattle.std.proofs.Common.{◌≡◌, ℕ, ◌^◌, ◌<◌, pos, ◌-ℤ◌, FitsSigned, w32, w64, rules, refl, sym, ap, ◌∙◌, arith}
-use Rattle.std.specs.Prelude.{neg_ℤ, unsigned_abs}
+use Rattle.std.proofs.Common.{◌≡◌, pos, ◌-ℤ◌, FitsSigned, w32, w64, rules, ◌∙◌, arith}
+use Rattle.std.specs.Prelude.{neg_ℤ}
 use Rattle.std.proofs.lemmas.Int.{ints, to_z-of_z}
-use Rattle.cox_base.specs.IntegerMatrix.{IntegerMatrix, integer_matrix}
-use Rattle.cox_poly.specs.Coefficients.{plus}
-use Rattle.cox_poly.specs.Products.{scaled, times_q_power}
 use Rattle.cox_poly.specs.Polynomial.{coefficient}
 use Rattle.cox_klstep.proofs.AddedSums.{minus-plus}
 use Rattle.cox_klstep.proofs.sums.take_off.Goals as goal

@@ -1,7 +1,5 @@
 -- Equal polynomials are equal lists.
-use Rattle.std.proofs.Common.{◌≡◌, ℕ, ◌+◌, ◌<◌, List, [], ℤ, Bool, true, false, refl, sym, ap, ◌∙◌, arith}
-use Rattle.std.specs.Ordering.{int_eq}
-use Rattle.std.specs.Cmp.Lexicographic.{pointwise}
+use Rattle.std.proofs.Common.{◌≡◌, [], true, sym, ◌∙◌}
 use Rattle.std.specs.Cmp.Rules.{signed_items}
 use Rattle.std.proofs.lemmas.List.{get_or_default}
 use borrow.Author.Count.{below_more}
@@ -19,5 +17,5 @@ loop-k-preserved c =
     let at : c.index-pool-k.result ≡ polynomial_at c.args.pool.now c.loop-k.k
     = c.index-pool-k.is ∙ get_or_default c.args.pool.now c.loop-k.k _ [] c.loop-k-test.true
     in below_more _ _ c.loop-k.invariant (λ same.
-        let yes : c.eq.result ≡ true = c.eq.ensures ∙ (signed_items c.index-pool-k.result c.args.polynomial.now).1 (at ∙ same)
-        in cc (c.if-eq.false))
+    let yes : c.eq.result ≡ true = c.eq.ensures ∙ (signed_items c.index-pool-k.result c.args.polynomial.now).1 (at ∙ same)
+    in cc (c.if-eq.false))

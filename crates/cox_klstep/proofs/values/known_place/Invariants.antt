@@ -1,5 +1,5 @@
 -- None of the polynomials so far is the one that is looked for.
-use Rattle.std.proofs.Common.{◌≡◌, ◌≢◌, ℕ, ◌<◌}
+use Rattle.std.proofs.Common.{◌≢◌, ℕ, ◌<◌}
 use Rattle.cox_row.specs.Polynomials.{polynomial_at}
 use Rattle.cox_klstep.proofs.values.known_place.Given as goal
 

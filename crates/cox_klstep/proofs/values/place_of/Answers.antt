@@ -1,9 +1,7 @@
 -- A polynomial that is not in the pool is put behind the others.
-use Rattle.std.proofs.Common.{◌≡◌, ◌≢◌, ◌⊎◌, inl, inr, ℕ, ◌+◌, ◌<◌, length, [], Err, FitsSigned, w64, rules, refl, sym, ap, ◌∙◌, arith}
+use Rattle.std.proofs.Common.{◌≡◌, inr, length, [], Err, FitsSigned, w64, rules, ap, arith}
 use Rattle.std.proofs.lemmas.Int.{to_z-of_z}
-use Rattle.cox_poly.specs.Polynomial.{coefficient}
 use Rattle.cox_poly.specs.declared.poly_fault.PolyFault.TheVariants.{TooBig}
-use Rattle.cox_row.specs.Polynomials.{polynomial_at}
 use Rattle.cox_klstep.proofs.PushLemmas.{push-length, push-old, push-new}
 use Rattle.cox_klstep.proofs.values.place_of.Goals as goal
 

@@ -1,8 +1,8 @@
 -- A value that is found is that of mu, and where there is none mu is 0.
-use Rattle.std.proofs.Common.{◌≡◌, ℕ, ◌<◌, length, Ok, Err, pos, FitsSigned, w32, rules, refl, sym, ap, ◌∙◌, arith}
+use Rattle.std.proofs.Common.{◌≡◌, Ok, Err, pos, FitsSigned, w32, rules, ◌∙◌, arith}
 use Rattle.std.proofs.lemmas.Int.{to_z-of_z}
 use Rattle.std.proofs.lemmas.List.{get_or_default}
-use Rattle.cox_base.specs.IntegerMatrix.{IntegerMatrix, integer_matrix}
+use Rattle.cox_base.specs.IntegerMatrix.{integer_matrix}
 use Rattle.cox_context.specs.Numbers.{word_at}
 use Rattle.cox_row.specs.Mus.{value_at}
 use Rattle.cox_row.proofs.RisingLemmas.{found-rising}

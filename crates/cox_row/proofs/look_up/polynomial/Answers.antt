@@ -1,7 +1,7 @@
 -- The raised member stands for x, and its place is found by a search of numbers that rise.
-use Rattle.std.proofs.Common.{◌≡◌, ℕ, ◌<◌, length, [], Ok, Err, refl, sym, ap, ◌∙◌, arith}
+use Rattle.std.proofs.Common.{◌≡◌, ◌<◌, length, [], Ok, Err, refl, ◌∙◌, arith}
 use Rattle.std.proofs.lemmas.List.{get_or_default}
-use Rattle.cox_base.specs.IntegerMatrix.{IntegerMatrix, integer_matrix}
+use Rattle.cox_base.specs.IntegerMatrix.{integer_matrix}
 use Rattle.cox_context.specs.Numbers.{word_at}
 use Rattle.cox_row.specs.Rising.{number_at}
 use Rattle.cox_row.specs.Polynomials.{polynomial_at}
@@ -29,8 +29,8 @@ returns-in-Ok-clause-exactly c =
     (rw c.deref.ensures.value at c.in-Ok.ensures.position)
     in (
       λ _. below-at (integer_matrix c.args.ctx.now.matrix) c.args.ctx.now.members (word_at c.args.ctx.now.members c.args.i)
-      (word_at c.args.ctx.now.members c.args.x) c.in_ok-top.top c.in-Ok.k c.args.row.now.extremal.items c.requires.row.extremal
-      c.in_ok-top.ensures.2 found.0 found.1,
+          (word_at c.args.ctx.now.members c.args.x) c.in_ok-top.top c.in-Ok.k c.args.row.now.extremal.items c.requires.row.extremal
+          c.in_ok-top.ensures.2 found.0 found.1,
       λ _. refl,
     )
 
@@ -41,6 +41,6 @@ returns-in-Err-clause-exactly c =
     in (
       λ never. absurd (cc),
       λ below. absurd (absent-outside (integer_matrix c.args.ctx.now.matrix) c.args.ctx.now.members (word_at c.args.ctx.now.members c.args.i)
-      (word_at c.args.ctx.now.members c.args.x) c.in_ok-top.top c.args.row.now.extremal.items c.requires.row.extremal
-      c.in_ok-top.ensures.0 c.in_ok-top.ensures.1 c.in_ok-top.ensures.2 none below),
+          (word_at c.args.ctx.now.members c.args.x) c.in_ok-top.top c.args.row.now.extremal.items c.requires.row.extremal
+          c.in_ok-top.ensures.0 c.in_ok-top.ensures.1 c.in_ok-top.ensures.2 none below),
     )

@@ -1,6 +1,6 @@
 -- The pool has each polynomial once, and no more than there are members.
-use Rattle.std.proofs.Common.{ℕ, ◌<◌, ◌≤◌, length, arith}
-use Rattle.cox_base.specs.IntegerMatrix.{IntegerMatrix, integer_matrix}
+use Rattle.std.proofs.Common.{◌≤◌, length, arith}
+use Rattle.cox_base.specs.IntegerMatrix.{integer_matrix}
 use Rattle.cox_row.proofs.RisingLemmas.{rising-few}
 use Rattle.cox_row.proofs.PoolLemmas.{pool-polynomials}
 use Rattle.cox_row.proofs.look_up.pool_len.Goals as goal
@@ -15,7 +15,7 @@ pub returns : goal.returns
 returns c = (
   c.args.row.now.pool.items,
   pool-polynomials (integer_matrix c.args.ctx.now.matrix) c.len-len.ensures.admissible c.args.ctx.now.members c.len-len.ensures.closed
-  c.args.i c.requires.i c.args.row.now.extremal.items c.args.row.now.places.items c.args.row.now.pool.items c.requires.row.extremal
-  c.requires.row.polynomials,
+      c.args.i c.requires.i c.args.row.now.extremal.items c.args.row.now.places.items c.args.row.now.pool.items c.requires.row.extremal
+      c.requires.row.polynomials,
   omega arith,
 )

@@ -1,5 +1,5 @@
 -- The least bit of the one set that the other does not have.
-use Rattle.std.proofs.Common.{◌≡◌, ℕ, ◌-◌, ◌<◌, bit_and, refl, arith}
+use Rattle.std.proofs.Common.{◌-◌, bit_and, refl, arith}
 use Rattle.std.proofs.lemmas.Nat.{and_le_l}
 use Rattle.cox_row.proofs.LetterBits.{none-missing, least-missing}
 use Rattle.cox_row.proofs.raised.missing.Goals as goal

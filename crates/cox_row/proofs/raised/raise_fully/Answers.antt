@@ -1,6 +1,6 @@
 -- Each member to which x is raised stands for it and has a greater number.
 use Rattle.std.proofs.Common.{arith}
-use Rattle.cox_base.specs.IntegerMatrix.{IntegerMatrix, integer_matrix}
+use Rattle.cox_base.specs.IntegerMatrix.{integer_matrix}
 use Rattle.cox_context.specs.Numbers.{word_at}
 use Rattle.cox_row.proofs.LetterBits.{left-letters, right-letters}
 use Rattle.cox_row.proofs.Raising.{raised-later, raised-outside, later-not_below, stands-trans}

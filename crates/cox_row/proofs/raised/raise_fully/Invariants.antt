@@ -1,6 +1,6 @@
 -- The member at hand stands for x, and its number rises.
-use Rattle.std.proofs.Common.{ℕ, ◌+◌, ◌-◌, ◌<◌, List, length}
-use Rattle.cox_base.specs.IntegerMatrix.{IntegerMatrix, integer_matrix}
+use Rattle.std.proofs.Common.{◌+◌, ◌-◌, ◌<◌, length}
+use Rattle.cox_base.specs.IntegerMatrix.{integer_matrix}
 use Rattle.cox_context.specs.Numbers.{word_at}
 use Rattle.cox_row.specs.Raised.{StandsFor}
 use Rattle.cox_row.proofs.raised.raise_fully.Given as goal

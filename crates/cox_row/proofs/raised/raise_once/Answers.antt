@@ -1,5 +1,5 @@
 -- A missing letter raises x, and where none is missing x is extremal.
-use Rattle.cox_base.specs.IntegerMatrix.{IntegerMatrix, integer_matrix}
+use Rattle.cox_base.specs.IntegerMatrix.{integer_matrix}
 use Rattle.cox_context.specs.Numbers.{word_at}
 use Rattle.cox_row.proofs.LetterBits.{missing-letter, none-extremal}
 use Rattle.cox_row.proofs.Raising.{leads-left, leads-right}

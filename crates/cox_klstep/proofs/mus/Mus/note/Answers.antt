@@ -1,5 +1,5 @@
 -- A value other than 0 is put behind the others.
-use Rattle.std.proofs.Common.{◌≡◌, pos, FitsSigned, w64, to_z, of_z, rules, refl, sym, ap, ◌∙◌}
+use Rattle.std.proofs.Common.{◌≡◌, pos, FitsSigned, w64, to_z, of_z, rules, sym, ap, ◌∙◌}
 use Rattle.std.proofs.lemmas.Int.{to_z-of_z}
 use Rattle.cox_klstep.proofs.Middles.{noted-skip, noted-push}
 use Rattle.cox_klstep.proofs.mus.Mus.note.Goals as goal

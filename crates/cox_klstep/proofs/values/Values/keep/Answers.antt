@@ -1,5 +1,5 @@
 -- The member is put behind the others, with its place.
-use Rattle.std.proofs.Common.{◌≡◌, ℕ, Err, FitsSigned, w64, rules, refl, sym, ap, ◌∙◌, arith}
+use Rattle.std.proofs.Common.{FitsSigned, w64, rules}
 use Rattle.std.proofs.lemmas.Int.{to_z-of_z}
 use Rattle.cox_klstep.proofs.Keeping.{begun-keep}
 use Rattle.cox_klstep.proofs.values.Values.keep.Goals as goal

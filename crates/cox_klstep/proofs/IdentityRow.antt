@@ -1,0 +1,97 @@
+-- The row of the identity: P(e,e) = 1, and mu(e,e) = 0.
+use Rattle.std.proofs.Common.{◌≡◌, ℕ, zero, suc, ◌-◌, List, [], ◌∷◌, inr, pos, refl, sym, ◌∙◌, arith}
+use Rattle.std.proofs.lemmas.Int.{ints}
+use Rattle.cox_base.specs.IntegerMatrix.{IntegerMatrix}
+use Rattle.cox_base.specs.Admissible.{IsAdmissible}
+use Rattle.cox_base.specs.Length.{word_length}
+use Rattle.cox_reflect.proofs.Elements.{same-refl}
+use Rattle.cox_reflect.proofs.Bruhat.{below-refl}
+use Rattle.cox_poly.specs.Coefficients.{one_polynomial}
+use Rattle.cox_poly.specs.Polynomial.{coefficient}
+use Rattle.cox_poly.specs.Limit.{AllWithin}
+use Rattle.cox_hecke.specs.Row.{IsKazhdanLusztig, IsMu}
+use Rattle.cox_hecke.proofs.AllRows.{row_of, row_of-is}
+use Rattle.cox_context.specs.Closed.{IsClosed}
+use Rattle.cox_context.specs.Numbers.{word_at}
+use Rattle.cox_row.specs.Extremal.{AreExtremal}
+use Rattle.cox_row.specs.Polynomials.{HavePolynomials}
+use Rattle.cox_row.specs.Mus.{AreMus}
+use Rattle.cox_klstep.specs.Drafts.{AreBegun, AreNoted}
+use Rattle.cox_klstep.proofs.Middles.{middle-even, noted-skip}
+use Rattle.cox_klstep.proofs.Keeping.{begun-keep}
+use Rattle.cox_klstep.proofs.Finished.{finished-extremal, finished-mus}
+
+module _ (A : IntegerMatrix) (g : IsAdmissible A) (members : List (List ℕ)) (closed : IsClosed A members) where
+  one-at : (k : ℕ) → coefficient (pos 1 ∷ []) k ≡ one_polynomial k
+  one-at zero = refl
+  one-at (suc k) = refl
+
+  is-one : IsKazhdanLusztig A (word_at members 0) (word_at members 0) (coefficient (pos 1 ∷ []))
+  is-one = record {
+    row = row_of A g (word_at members 0);
+    is = row_of-is A g (word_at members 0);
+    at = λ k. one-at k ∙ sym ((row_of-is A g (word_at members 0)).top k);
+  }
+
+  is-zero : IsMu A (word_at members 0) (word_at members 0) (pos 0)
+  is-zero = record {
+    polynomial = coefficient (pos 1 ∷ []);
+    is = is-one;
+    value = sym (middle-even (word_length A (word_at members 0) - word_length A (word_at members 0)) (coefficient (pos 1 ∷ []))
+        (λ e. omega (arith, e)));
+  }
+
+  begun-start : AreBegun A members (word_at members 0) (pos 1) 0 [] [] []
+  begun-start = record {
+    rising = λ j k l m. absurd (omega (arith, m));
+    before = λ k l. absurd (omega (arith, l));
+    extremal = λ k l. absurd (omega (arith, l));
+    below = λ k l. absurd (omega (arith, l));
+    whole = λ x l e b. absurd (omega (arith, l));
+    polynomials = record {
+      size = refl;
+      placed = λ k l. absurd (omega (arith, l));
+      distinct = record {
+        trimmed = λ j l. absurd (omega (arith, l));
+        once = λ i j l m. absurd (omega (arith, m));
+        used = λ j l. absurd (omega (arith, l));
+        few = omega arith;
+      };
+      value = λ k l. absurd (omega (arith, l));
+    };
+    small = λ j l. absurd (omega (arith, l));
+  }
+
+  small : AllWithin (pos 1) (pos 1 ∷ [])
+  small zero = omega (arith, ints)
+  small (suc k) = omega (arith, ints)
+
+  begun : AreBegun A members (word_at members 0) (pos 1) 1 (0 ∷ []) (0 ∷ []) ((pos 1 ∷ []) ∷ [])
+  begun = begun-keep A members (word_at members 0) (pos 1) 0 [] [] [] ((pos 1 ∷ []) ∷ []) 0 (pos 1 ∷ []) record {
+    within = omega arith;
+    trimmed = λ some e. cc;
+    same = λ k. refl;
+    small = small;
+    kept = λ j l. absurd (omega (arith, l));
+    size = inr (refl, refl, λ j l. absurd (omega (arith, l)));
+  } begun-start record { left = λ s d. d; right = λ s d. d } (below-refl A g (same-refl A g (word_at members 0))) is-one
+
+  noted : AreNoted A members (word_at members 0) 1 [] []
+  noted = noted-skip A g members (word_at members 0) 0 [] [] is-zero record {
+    size = refl;
+    rising = λ j k l m. absurd (omega (arith, m));
+    before = λ k l. absurd (omega (arith, l));
+    value = λ k l. absurd (omega (arith, l));
+    some = λ k l. absurd (omega (arith, l));
+    whole = λ u m l mu some. absurd (omega (arith, l));
+  }
+
+  pub identity-extremal : AreExtremal A members (word_at members 0) (0 ∷ [])
+  identity-extremal = finished-extremal A g members closed 0 closed.some 1 (omega arith) (omega arith) (pos 1) (0 ∷ []) (0 ∷ [])
+      ((pos 1 ∷ []) ∷ []) begun
+
+  pub identity-polynomials : HavePolynomials A members (word_at members 0) (0 ∷ []) (0 ∷ []) ((pos 1 ∷ []) ∷ [])
+  identity-polynomials = begun.polynomials
+
+  pub identity-mus : AreMus A members (word_at members 0) [] []
+  identity-mus = finished-mus A g members closed 0 closed.some 1 (omega arith) (omega arith) [] [] noted

@@ -1,0 +1,20 @@
+//! The row of the identity.
+ghost use Rattle.std.specs.Prelude.{IfOk};
+ghost use Rattle.cox_row.specs.RowOf.{IsRowAt};
+
+use cox_context::Context;
+use cox_poly::Poly;
+use cox_row::Row;
+use std::alloc::{AllocError, Global};
+
+/// The row of the identity, which is the member 0: P(e,e) = 1, and no value of mu other than 0.
+pub fn identity_row(alloc: Global, ctx: &Context) -> Result<Row, AllocError>
+    ensures { IfOk result (IsRowAt ctx.now 0) }
+{
+    let _len = ctx.len();
+    let extremal = Vec::from_slice(alloc, &[0u32])?;
+    let places = Vec::from_slice(alloc, &[0u32])?;
+    let mut pool = Vec::new(alloc);
+    pool.push(Poly::one(alloc)?)?;
+    Ok(Row::of_parts(extremal, places, pool, Vec::new(alloc), Vec::new(alloc)))
+}
