@@ -2,14 +2,15 @@
 use crate::{Descent, Step, identity_row, row};
 use cox_base::Coxeter;
 use cox_context::Context;
+use cox_minroots::{MAX_SMALL_ROOTS, RootTable};
 use cox_row::{mu, polynomial, pool_len};
 use std::test::Fail;
 
 #[test]
 fn makes_the_row_of_a_generator(rt: HostRuntime) -> Result<(), Fail> {
     let alloc = rt.alloc();
-    let g = Coxeter::named(b'A', 2)?;
-    let context = Context::of_group(alloc, &g, 6)?;
+    let table = RootTable::build(alloc, &Coxeter::named(b'A', 2)?, MAX_SMALL_ROOTS)?;
+    let context = Context::of_group(alloc, &table, 6)?;
     assert_eq!(rt; context.len(), 6);
     let lower = identity_row(alloc, &context)?;
     let descent = Descent::of(&context, 1);

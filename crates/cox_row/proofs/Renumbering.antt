@@ -7,13 +7,12 @@ use Rattle.cox_base.specs.Admissible.{IsAdmissible}
 use Rattle.cox_base.specs.Bruhat.{IsBelow}
 use Rattle.cox_hecke.proofs.Descended.{mu-below}
 use Rattle.cox_context.specs.Closed.{IsClosed}
-use Rattle.cox_context.specs.Numbers.{word_at}
+use Rattle.cox_context.specs.Numbers.{word_at, AreMoved}
 use Rattle.cox_context.proofs.ListLemmas.{contains-placed, contains-at, rising-place}
 use Rattle.cox_row.specs.Rising.{number_at, AreRising, AreWithin}
 use Rattle.cox_row.specs.Extremal.{AreExtremal}
 use Rattle.cox_row.specs.Polynomials.{HavePolynomials}
 use Rattle.cox_row.specs.Mus.{AreMus}
-use Rattle.cox_row.specs.Moved.{AreMoved}
 
 -- one number more
 pub rename-next : (f : ℕ → ℕ) (xs : List ℕ) (i : ℕ) → i < length xs
@@ -36,18 +35,18 @@ module _ (A : IntegerMatrix) (old new : List (List ℕ)) (moved : List ℕ) (fro
 
   renamed-word : (numbers : List ℕ) (k : ℕ) → AreWithin (length old) numbers → k < length numbers
       → word_at new (number_at (renamed numbers) k) ≡ word_at old (number_at numbers k)
-  renamed-word numbers k within l = ap (λ i. word_at new i) (renamed-at numbers k l) ∙ are.is (number_at numbers k) (within k l)
+  renamed-word numbers k within l = ap (λ i. word_at new i) (renamed-at numbers k l) ∙ are.word (number_at numbers k) (within k l)
 
   renamed-rising : (numbers : List ℕ) → AreWithin (length old) numbers → AreRising numbers → AreRising (renamed numbers)
   renamed-rising numbers within rising j k l m =
       let inside : k < length numbers = omega (arith, m, renamed-length numbers)
-      in let less = are.rising (number_at numbers j) (number_at numbers k) (rising j k l inside) (rw are.size (within k inside))
+      in let less = are.rising (number_at numbers j) (number_at numbers k) (rising j k l inside) (within k inside)
       in omega (arith, less, renamed-at numbers j (omega arith), renamed-at numbers k inside)
 
   renamed-within : (numbers : List ℕ) → AreWithin (length old) numbers → AreWithin (length new) (renamed numbers)
   renamed-within numbers within k l =
       let inside : k < length numbers = omega (arith, l, renamed-length numbers)
-      in rw (renamed-at numbers k inside) (are.within (number_at numbers k) (rw are.size (within k inside)))
+      in rw (renamed-at numbers k inside) (are.within (number_at numbers k) (within k inside))
 
   -- a new member that is an old one has the new number of the old one
   renamed-place : (numbers : List ℕ) (i j : ℕ) → i < length new → j < length old → word_at old j ≡ word_at new i
@@ -57,7 +56,7 @@ module _ (A : IntegerMatrix) (old new : List (List ℕ)) (moved : List ℕ) (fro
     k,
     rw (renamed-length numbers) inside,
     renamed-at numbers k inside ∙ ap (λ n. number_at moved n) is
-        ∙ rising-place new (number_at moved j) i to.rising (are.within j (rw are.size m)) l (are.is j m ∙ e),
+        ∙ rising-place new (number_at moved j) i to.rising (are.within j m) l (are.word j m ∙ e),
   )
 
   module _ (g : IsAdmissible A) (w : List ℕ) (member : Contains old w) where

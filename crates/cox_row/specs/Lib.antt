@@ -10,8 +10,6 @@ pub mod Mus
 pub mod RowOf
 -- the polynomials of a row, each once
 pub mod Distinct
--- members with new numbers
-pub mod Moved
 -- sets of letters by bits
 pub mod LetterSets
 -- raising an element by the descents of another
