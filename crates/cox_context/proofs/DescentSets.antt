@@ -10,8 +10,10 @@ IsSetBefore P next set = (k : ℕ) → IsBitSet set k ↔ ((k + 1 < next) × P (
 pub set-next : (P : ℕ → Type 0) (set new s : ℕ) (wanted : Bool) → IsSetBefore P s set
     → ((k : ℕ) → IsBitSet new k ↔ (IsBitSet set k ⊎ ((k + 1 ≡ s) × (wanted ≡ true)))) → (wanted ≡ true) ↔ P s → IsSetBefore P (s + 1) new
 set-next P set new s wanted h e w k = (
-  λ b. ⊎_elim (λ old. let p = (h k).0 old in (omega (arith, p.0), p.1)) (λ is. (omega (arith, is.0), subst P (sym is.0) (w.0 is.1))) ((e k).0 b),
-  λ p. (e k).1 (⊎_elim (λ less. inl ((h k).1 (less, p.1))) (λ (more : _). let is : k + 1 ≡ s = omega (arith, p.0, more) in inr (is, w.1 (subst P is p.1)))
+  λ b. ⊎_elim (λ old. let p = (h k).0 old in (omega (arith, p.0), p.1)) (λ is. (omega (arith, is.0), subst P (sym is.0) (w.0 is.1)))
+      ((e k).0 b),
+  λ p. (e k).1 (⊎_elim (λ less. inl ((h k).1 (less, p.1))) (λ (more : _). let is : k + 1 ≡ s
+      = omega (arith, p.0, more) in inr (is, w.1 (subst P is p.1)))
       (cases_lt (k + 1) s)),
 )
 

@@ -11,16 +11,20 @@ use Rattle.cox_context.proofs.descent_sets.left_set.Goals as goal
 
 pub loop-s-preserved : goal.loop-s-preserved
 loop-s-preserved c =
-    let rank : c.rank-rank.result ≡ c.args.ctx.now.matrix.rank = c.rank-rank.ensures.rank ∙ ap (λ (m : CoxeterMatrix). m.rank) c.matrix.ensures
+    let rank : c.rank-rank.result ≡ c.args.ctx.now.matrix.rank = c.rank-rank.ensures.rank
+    ∙ ap (λ (m : CoxeterMatrix). m.rank) c.matrix.ensures
     in let letter : IsLetter c.args.ctx.now.matrix.rank c.loop-s.s = record { from_one = omega arith; to_rank = omega arith }
-    in let lower = lower-descent (integer_matrix c.args.ctx.now.matrix) c.len-len.ensures.admissible c.args.ctx.now.members c.len-len.ensures.closed
+    in let lower = lower-descent (integer_matrix c.args.ctx.now.matrix) c.len-len.ensures.admissible c.args.ctx.now.members
+    c.len-len.ensures.closed
     c.loop-s.s c.args.i c.left.result letter c.requires c.left.ensures
     in set-next (IsLeftDescent (integer_matrix c.args.ctx.now.matrix) (word_at c.args.ctx.now.members c.args.i)) c.loop-s.set
     c.with_letter-set.result c.loop-s.s c.is_lower.result c.loop-s.invariant c.with_letter-set.ensures (rw c.is_lower.ensures lower)
 
 pub returns : goal.returns
 returns c =
-    let rank : c.rank-rank.result ≡ c.args.ctx.now.matrix.rank = c.rank-rank.ensures.rank ∙ ap (λ (m : CoxeterMatrix). m.rank) c.matrix.ensures
+    let rank : c.rank-rank.result ≡ c.args.ctx.now.matrix.rank = c.rank-rank.ensures.rank
+    ∙ ap (λ (m : CoxeterMatrix). m.rank) c.matrix.ensures
     in let A : IntegerMatrix = integer_matrix c.args.ctx.now.matrix
     in set-end (IsLeftDescent A (word_at c.args.ctx.now.members c.args.i)) c.args.ctx.now.matrix.rank c.loop-s.s c.loop-s.set
-    (omega arith) (λ s d. left_descent-letter A c.len-len.ensures.admissible (word_at c.args.ctx.now.members c.args.i) s d) c.loop-s.invariant
+    (omega arith) (λ s d. left_descent-letter A c.len-len.ensures.admissible (word_at c.args.ctx.now.members c.args.i) s d)
+    c.loop-s.invariant
