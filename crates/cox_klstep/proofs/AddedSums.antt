@@ -36,12 +36,14 @@ shifted f (suc k) = rw (times_q_power_at f 1 (suc k) k (omega arith)) (omega (ar
 
 -- from 0: P(sx,v), then q P(x,v), then the corrections
 pub three-sums : (a b c old first second third : Coefficients) → ((k : ℕ) → old k ≡ pos 0)
-    → ((k : ℕ) → first k ≡ plus old (scaled (pos 1) (times_q_power 0 a)) k) → ((k : ℕ) → second k ≡ plus first (scaled (pos 1) (times_q_power 1 b)) k)
+    → ((k : ℕ) → first k ≡ plus old (scaled (pos 1) (times_q_power 0 a)) k)
+    → ((k : ℕ) → second k ≡ plus first (scaled (pos 1) (times_q_power 1 b)) k)
     → ((k : ℕ) → third k ≡ minus second c k) → (k : ℕ) → third k ≡ minus (plus a (times_q b)) c k
 three-sums a b c old first second third none e f h k = omega (arith, ints, none k, e k, f k, h k, once a k, shifted b k)
 
 -- a term of 2^94 at most
-pub after-small : (old p : List ℤ) (c : ℤ) (n k a : ℕ) → unsigned_abs (coefficient old k) ≤ a → HasSmallCoefficients p → unsigned_abs c ≤ 2 ^ 31
+pub after-small : (old p : List ℤ) (c : ℤ) (n k a : ℕ) → unsigned_abs (coefficient old k) ≤ a → HasSmallCoefficients p
+    → unsigned_abs c ≤ 2 ^ 31
     → unsigned_abs (coefficient_after old p c n k) ≤ a + 2 ^ 94
 after-small old p c n k a small p_small c_small =
     let bound = absolute_after (coefficient old) (coefficient p) c n k a (2 ^ 63) small p_small
@@ -59,7 +61,8 @@ module _ (A : IntegerMatrix) (g : IsAdmissible A) (x u : List ℕ) where
   pub sum-same : (old p : List ℤ) (c : ℤ) (n : ℕ) (f : Coefficients) → IsKazhdanLusztig A x u (coefficient p) → IsKazhdanLusztig A x u f
       → (k : ℕ) → coefficient_after old p c n k ≡ plus (coefficient old) (scaled c (times_q_power n f)) k
   sum-same old p c n f is other k =
-      ap (λ (h : Coefficients). plus (coefficient old) (scaled c (times_q_power n h)) k) (λ i j. kazhdan_lusztig-unique A g x u (coefficient p) f is other j i)
+      ap (λ (h : Coefficients). plus (coefficient old) (scaled c (times_q_power n h)) k)
+      (λ i j. kazhdan_lusztig-unique A g x u (coefficient p) f is other j i)
 
   -- where x ≤ u fails nothing is added
   pub sum-none : (old : List ℤ) (c : ℤ) (n : ℕ) (f : Coefficients) → (IsBelow A x u → ⊥) → IsKazhdanLusztig A x u f

@@ -25,7 +25,8 @@ use Rattle.cox_klstep.specs.StepOf.{correction_at, AreNumbered}
 use Rattle.cox_klstep.proofs.PushLemmas.{push-length, push-old, push-new, push_cases}
 
 -- the corrections by the neighbours at the places before p
-pub record AreFiltered (A : IntegerMatrix) (members : List (List ℕ)) (s : ℕ) (w : List ℕ) (numbers : List ℕ) (p : ℕ) (list : List Correction)
+pub record AreFiltered (A : IntegerMatrix) (members : List (List ℕ)) (s : ℕ) (w : List ℕ) (numbers : List ℕ) (p : ℕ)
+    (list : List Correction)
     : Type 0 where
   pub rising : (j k : ℕ) → j < k → k < length list → (correction_at list j).number < (correction_at list k).number
   pub placed : (k : ℕ) → k < length list → (q : ℕ) × (q < p) × (number_at numbers q ≡ (correction_at list k).number)
@@ -36,7 +37,8 @@ pub record AreFiltered (A : IntegerMatrix) (members : List (List ℕ)) (s : ℕ)
   pub found : (q : ℕ) → q < p → IsLeftDescent A (word_at members (number_at numbers q)) s
       → (k : ℕ) × (k < length list) × ((correction_at list k).number ≡ number_at numbers q)
 
-module _ (A : IntegerMatrix) (g : IsAdmissible A) (members : List (List ℕ)) (closed : IsClosed A members) (i lower s : ℕ) (inside : i < length members)
+module _ (A : IntegerMatrix) (g : IsAdmissible A) (members : List (List ℕ)) (closed : IsClosed A members) (i lower s : ℕ)
+    (inside : i < length members)
     (below : lower < length members) (descent : IsLeftDescent A (word_at members i) s)
     (lower_is : word_at members lower ≡ normal_form A (s ∷ word_at members i)) (numbers : List ℕ) (values : List ℤ)
     (mus : AreMus A members (word_at members lower) numbers values) where
@@ -50,7 +52,8 @@ module _ (A : IntegerMatrix) (g : IsAdmissible A) (members : List (List ℕ)) (c
   pub half : (p : ℕ) → p < length numbers
       → (d : ℕ) × (length (word_at members i) ≡ length (word_at members (number_at numbers p)) + 2 * d)
   half p l =
-      let odd = mu-odd A g (word_at members (number_at numbers p)) (word_at members lower) (value_at values p) (row_of A g (word_at members lower))
+      let odd = mu-odd A g (word_at members (number_at numbers p)) (word_at members lower) (value_at values p)
+      (row_of A g (word_at members lower))
       (mus.value p l) (mus.some p l) (row_of-is A g (word_at members lower))
       in (
         odd.0 + 1,

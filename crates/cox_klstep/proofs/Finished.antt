@@ -14,7 +14,8 @@ use Rattle.cox_klstep.specs.Faults.{IsFault, IsNarrowFault}
 use Rattle.cox_klstep.specs.declared.fault.StepFault.{StepFault}
 use Rattle.cox_klstep.specs.declared.fault.StepFault.TheVariants.{Coefficient, Mu, NoMemory}
 
-module _ (A : IntegerMatrix) (g : IsAdmissible A) (members : List (List ℕ)) (closed : IsClosed A members) (i : ℕ) (inside : i < length members)
+module _ (A : IntegerMatrix) (g : IsAdmissible A) (members : List (List ℕ)) (closed : IsClosed A members) (i : ℕ)
+    (inside : i < length members)
     (end : ℕ) (all : i < end) (last : end ≤ i + 1) where
   pub finished-extremal : (limit : ℤ) (numbers places : List ℕ) (pool : List (List ℤ))
       → AreBegun A members (word_at members i) limit end numbers places pool → AreExtremal A members (word_at members i) numbers

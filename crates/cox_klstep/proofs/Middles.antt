@@ -1,5 +1,6 @@
 -- The middle coefficient, and lists of the values of mu as they grow.
-use Rattle.std.proofs.Common.{◌≡◌, ◌≢◌, ℕ, ◌+◌, ◌/◌, ◌%◌, ◌==◌, ◌<◌, ◌≤◌, if◌then◌else◌, Bool, true, false, List, [], ◌∷◌, ◌++◌, length, ℤ, pos}
+use Rattle.std.proofs.Common.{◌≡◌, ◌≢◌, ℕ, ◌+◌, ◌/◌, ◌%◌, ◌==◌, ◌<◌, ◌≤◌, if◌then◌else◌, Bool, true, false, List, [], ◌∷◌, ◌++◌, length}
+use Rattle.std.proofs.Common.{ℤ, pos}
 use Rattle.std.proofs.Common.{refl, ◌∙◌, ⊎_elim, arith}
 use Rattle.std.proofs.lemmas.Bool.{cases_lt, eq-eqb, eqb-true}
 use Rattle.cox_base.specs.IntegerMatrix.{IntegerMatrix}
@@ -23,7 +24,8 @@ middle-even d f none = go (d % 2 == 1) refl
 
 module _ (A : IntegerMatrix) (g : IsAdmissible A) (members : List (List ℕ)) (w : List ℕ) (x : ℕ) (numbers : List ℕ) (values : List ℤ) where
   -- mu(x,w) is 0
-  pub noted-skip : IsMu A (word_at members x) w (pos 0) → AreNoted A members w x numbers values → AreNoted A members w (x + 1) numbers values
+  pub noted-skip : IsMu A (word_at members x) w (pos 0) → AreNoted A members w x numbers values
+      → AreNoted A members w (x + 1) numbers values
   noted-skip none h = record {
     size = h.size;
     rising = h.rising;
@@ -40,7 +42,8 @@ module _ (A : IntegerMatrix) (g : IsAdmissible A) (members : List (List ℕ)) (w
   noted-push m some mu h = record {
     size = omega (arith, h.size, push-length numbers x, push-length values m);
     rising = λ j k less l. ⊎_elim
-        (λ (old : k < length numbers). rw (push-old numbers x 0 j (omega (arith, less, old)), push-old numbers x 0 k old) (h.rising j k less old))
+        (λ (old : k < length numbers). rw (push-old numbers x 0 j (omega (arith, less, old)), push-old numbers x 0 k old)
+        (h.rising j k less old))
         (λ (new : k ≡ length numbers). rw (push-old numbers x 0 j (omega (arith, less, new)), push-new numbers x 0 k new)
         (h.before j (omega (arith, less, new))))
         (push_cases numbers x k l);
@@ -49,7 +52,8 @@ module _ (A : IntegerMatrix) (g : IsAdmissible A) (members : List (List ℕ)) (w
         (λ (new : k ≡ length numbers). rw (push-new numbers x 0 k new) (omega arith))
         (push_cases numbers x k l);
     value = λ k l. ⊎_elim
-        (λ (old : k < length numbers). rw (push-old numbers x 0 k old, push-old values m (pos 0) k (omega (arith, old, h.size))) (h.value k old))
+        (λ (old : k < length numbers). rw (push-old numbers x 0 k old, push-old values m (pos 0) k (omega (arith, old, h.size)))
+        (h.value k old))
         (λ (new : k ≡ length numbers). rw (push-new numbers x 0 k new, push-new values m (pos 0) k (omega (arith, new, h.size))) mu)
         (push_cases numbers x k l);
     some = λ k l. ⊎_elim
@@ -59,6 +63,11 @@ module _ (A : IntegerMatrix) (g : IsAdmissible A) (members : List (List ℕ)) (w
     whole = λ u n l mu_u some_u. ⊎_elim
         (λ (less : u < x). let k = h.whole u n less mu_u some_u
         in (k.0, omega (arith, k.1, push-length numbers x), push-old numbers x 0 k.0 k.1 ∙ k.2))
-        (λ (more : x ≤ u). (length numbers, omega (arith, push-length numbers x), push-new numbers x 0 (length numbers) refl ∙ omega (arith, l, more)))
+        (λ (more : x ≤ u). (
+          length numbers,
+          omega (arith, push-length numbers x),
+          push-new numbers x 0 (length numbers) refl
+              ∙ omega (arith, l, more),
+        ))
         (cases_lt u x);
   }

@@ -1,5 +1,6 @@
 -- Lists of numbered corrections: they name the elements of the corrections, each once, and their sum is that of the recursion.
-use Rattle.std.proofs.Common.{◌≡◌, ℕ, zero, suc, ◌-◌, ◌/◌, ◌<◌, List, [], ◌∷◌, length, map, take, ℤ, pos, ◌+ℤ◌, ◌-ℤ◌, true, false, refl, sym, ap, ◌∙◌, arith}
+use Rattle.std.proofs.Common.{◌≡◌, ℕ, zero, suc, ◌-◌, ◌/◌, ◌<◌, List, [], ◌∷◌, length, map, take, ℤ, pos, ◌+ℤ◌, ◌-ℤ◌, true, false, refl}
+use Rattle.std.proofs.Common.{sym, ap, ◌∙◌, arith}
 use Rattle.std.proofs.lemmas.Int.{ints}
 use Rattle.cox_base.specs.IntegerMatrix.{IntegerMatrix}
 use Rattle.cox_base.specs.Admissible.{IsAdmissible}
@@ -47,9 +48,11 @@ passed P list k n is l d a old e none = rw is (omega (arith, ints, e, none, numb
 abbrev pub named : List (List ℕ) → List Correction → List hecke.Correction
 named members list = map (λ c. record { element = word_at members c.number; mu = c.factor }) list
 
-pub named-sum : (A : IntegerMatrix) (w x : List ℕ) (members : List (List ℕ)) (P : ℕ → Coefficients) (rows : List ℕ → Family) (list : List Correction)
+pub named-sum : (A : IntegerMatrix) (w x : List ℕ) (members : List (List ℕ)) (P : ℕ → Coefficients) (rows : List ℕ
+    → Family) (list : List Correction)
     → ((k : ℕ) → k < length list → P (correction_at list k).number ≡ rows (word_at members (correction_at list k).number) x)
-    → ((k : ℕ) → k < length list → (word_length A w - word_length A (word_at members (correction_at list k).number)) / 2 ≡ (correction_at list k).shift)
+    → ((k : ℕ) → k < length list → (word_length A w - word_length A (word_at members (correction_at list k).number)) /
+    2 ≡ (correction_at list k).shift)
     → (d : ℕ) → hecke.correction_sum A w rows (named members list) x d ≡ numbered_sum P list d
 named-sum A w x members P rows [] same shift d = refl
 named-sum A w x members P rows (c ∷ list) same shift d =
@@ -86,5 +89,6 @@ module _ (A : IntegerMatrix) (g : IsAdmissible A) (members : List (List ℕ)) (c
       (λ k m same. let less = rising 0 (suc k) (omega arith) (omega (arith, m)) in omega (arith, less, e, same))))
   occurs-once (c ∷ list) within rising (suc k) l e =
       rw (same_as c.number (within 0 (omega arith)) (λ same. let less = rising 0 (suc k) (omega arith) l in omega (arith, less, e, same)))
-      (occurs-once list (λ i m. within (suc i) (omega (arith, m))) (λ i i' m n. rising (suc i) (suc i') (omega (arith, m)) (omega (arith, n)))
+      (occurs-once list (λ i m. within (suc i) (omega (arith, m))) (λ i i' m n. rising (suc i) (suc i') (omega (arith, m))
+      (omega (arith, n)))
       k (omega (arith, l)) e)

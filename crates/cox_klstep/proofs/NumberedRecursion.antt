@@ -30,7 +30,8 @@ use Rattle.cox_klstep.specs.StepOf.{correction_at, AreNumbered}
 use Rattle.cox_klstep.specs.Sums.{GivesAt, numbered_sum}
 use Rattle.cox_klstep.proofs.NumberedLists.{named, named-sum, occurs-once}
 
-module _ (A : IntegerMatrix) (g : IsAdmissible A) (members : List (List ℕ)) (closed : IsClosed A members) (i : ℕ) (inside : i < length members)
+module _ (A : IntegerMatrix) (g : IsAdmissible A) (members : List (List ℕ)) (closed : IsClosed A members) (i : ℕ)
+    (inside : i < length members)
     (s : ℕ) (descent : IsLeftDescent A (word_at members i) s) (list : List Correction)
     (numbered : AreNumbered A members s (word_at members i) list) where
   w : List ℕ
@@ -118,8 +119,10 @@ module _ (A : IntegerMatrix) (g : IsAdmissible A) (members : List (List ℕ)) (c
 
     -- the sums are those of P(x,w)
     pub sums-are : (P : ℕ → Coefficients) (a b h : Coefficients) → GivesAt A members (word_at members x) P
-        → IsKazhdanLusztig A (word_at members shorter) (word_at members lower) a → IsKazhdanLusztig A (word_at members x) (word_at members lower) b
-        → ((k : ℕ) → h k ≡ minus (plus a (times_q b)) (numbered_sum P list) k) → IsKazhdanLusztig A (word_at members x) (word_at members i) h
+        → IsKazhdanLusztig A (word_at members shorter) (word_at members lower) a
+        → IsKazhdanLusztig A (word_at members x) (word_at members lower) b
+        → ((k : ℕ) → h k ≡ minus (plus a (times_q b)) (numbered_sum P list) k)
+        → IsKazhdanLusztig A (word_at members x) (word_at members i) h
     sums-are P a b h gives is_a is_b is = numbered-recursion (word_at members x) P a b h d gives
         (kazhdan_lusztig-same A g (word_at members shorter) (s ∷ word_at members x) (word_at members lower) (s ∷ word_at members i) a
         shorter-same lower-same is_a)

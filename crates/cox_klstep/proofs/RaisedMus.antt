@@ -27,7 +27,8 @@ module _ (A : IntegerMatrix) (g : IsAdmissible A) where
   raised-shift {w} {x} (on_left s d n) e =
       mu-same A g (s ∷ w) x w (pos 1) (same-trans A g (same-cons A g s (same-sym A g e)) (same-square A g s x)) (mu-shift_left A g w s d)
   raised-shift {w} {x} (on_right s d n) e =
-      mu-same A g (w ++ s ∷ []) x w (pos 1) (same-trans A g (same-push A g s (same-sym A g e)) (same-push_twice A g x s)) (mu-shift_right A g w s d)
+      mu-same A g (w ++ s ∷ []) x w (pos 1) (same-trans A g (same-push A g s (same-sym A g e)) (same-push_twice A g x s))
+      (mu-shift_right A g w s d)
 
   -- where mu is not 0 it is raised to w
   raised-some : {w x y : List ℕ} (m : ℤ) → IsRaised A w x y → IsMu A x w m → m ≢ pos 0 → SameElement A y w
@@ -37,7 +38,8 @@ module _ (A : IntegerMatrix) (g : IsAdmissible A) where
       same-trans A g (same-push A g s (mu-right A g w x s m mu some d n)) (same-push_twice A g w s)
 
   module _ (members : List (List ℕ)) (closed : IsClosed A members) (i : ℕ) (inside : i < length members) where
-    pub raised-one : (x : List ℕ) (k : ℕ) → k ≡ i → IsRaisedTo A members (word_at members i) x (Some k) → IsMu A x (word_at members i) (pos 1)
+    pub raised-one : (x : List ℕ) (k : ℕ) → k ≡ i → IsRaisedTo A members (word_at members i) x (Some k)
+        → IsMu A x (word_at members i) (pos 1)
     raised-one x k e r =
         let is : word_at members i ≡ normal_form A r.y = ap (λ j. word_at members j) (sym e) ∙ r.number.1
         in raised-shift r.raised (rw is (same-sym A g (normal_form-same A g r.y)))
@@ -45,7 +47,8 @@ module _ (A : IntegerMatrix) (g : IsAdmissible A) where
     same-member : (y : List ℕ) → SameElement A y (word_at members i) → normal_form A y ≡ word_at members i
     same-member y e = normal_form-equal A g e ∙ (element-at A g members closed i inside).normal
 
-    pub raised-other : (x : List ℕ) (k : ℕ) → (k ≡ i → ⊥) → IsRaisedTo A members (word_at members i) x (Some k) → IsMu A x (word_at members i) (pos 0)
+    pub raised-other : (x : List ℕ) (k : ℕ) → (k ≡ i → ⊥) → IsRaisedTo A members (word_at members i) x (Some k)
+        → IsMu A x (word_at members i) (pos 0)
     raised-other x k apart r = mu-zero A g x (word_at members i) (λ m mu some.
         apart (rising-place members k i closed.rising r.number.0 inside
         (r.number.1 ∙ same-member r.y (raised-some m r.raised mu some))))

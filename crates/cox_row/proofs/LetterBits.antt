@@ -1,5 +1,6 @@
 -- Sets of letters by bits: the letters of one that another does not have.
-use Rattle.std.proofs.Common.{◌≡◌, ◌≢◌, ℕ, ◌+◌, ◌-◌, ◌*◌, ◌^◌, ◌<◌, ◌≤◌, List, min, IsBitSet, bit_and, w16, refl, sym, ap, ◌∙◌, ⊎_elim, arith}
+use Rattle.std.proofs.Common.{◌≡◌, ◌≢◌, ℕ, ◌+◌, ◌-◌, ◌*◌, ◌^◌, ◌<◌, ◌≤◌, List, min, IsBitSet, bit_and, w16, refl, sym, ap, ◌∙◌, ⊎_elim}
+use Rattle.std.proofs.Common.{arith}
 use Rattle.std.specs.Int.{bit_at, bit_not, trailing_zeros}
 use Rattle.std.proofs.lemmas.Bool.{cases_lt}
 use Rattle.std.proofs.lemmas.Nat.{pow_pos}
@@ -27,42 +28,45 @@ set-one n k set = go (bit_at n k) (bit_at-lt n k) (λ z. set (and_pow n k ∙ ti
     go : (b : ℕ) → b < 2 → (b ≡ 0 → ⊥) → b ≡ 1
     go b l some = omega arith
 
-module _ (wanted present rest : ℕ) (small : wanted < 2 ^ 16) (fits : present < 2 ^ 16) (is : rest ≡ bit_and wanted (bit_not w16 present)) where
-  rest-at : (k : ℕ) → k < 16 → bit_at rest k ≡ min (bit_at wanted k) (1 - bit_at present k)
-  rest-at k l =
-      ap (λ n. bit_at n k) is ∙ bit_at_and wanted (bit_not w16 present) k ∙ ap (λ b. min (bit_at wanted k) b) (bit_at_not w16 present k fits l)
+module _ (wanted present rest : ℕ) (small : wanted < 2 ^ 16) (fits : present < 2 ^ 16) (is : rest ≡ bit_and wanted (bit_not w16 present))
+  where
+    rest-at : (k : ℕ) → k < 16 → bit_at rest k ≡ min (bit_at wanted k) (1 - bit_at present k)
+    rest-at k l =
+        ap (λ n. bit_at n k) is ∙ bit_at_and wanted (bit_not w16 present) k
+        ∙ ap (λ b. min (bit_at wanted k) b) (bit_at_not w16 present k fits l)
 
-  pub none-missing : rest ≡ 0 → IsSubset wanted present
-  none-missing z k set = one-set present k
-      (go (bit_at wanted k) (bit_at present k) (set-one wanted k set) (bit_at-lt present k) (sym (rest-at k inside) ∙ zero))
-    where
-      inside : k < 16
-      inside = ⊎_elim (λ l. l) (λ (h : 16 ≤ k). absurd (omega (arith, set-one wanted k set, bit_at_above wanted 16 k small h))) (cases_lt k 16)
+    pub none-missing : rest ≡ 0 → IsSubset wanted present
+    none-missing z k set = one-set present k
+        (go (bit_at wanted k) (bit_at present k) (set-one wanted k set) (bit_at-lt present k) (sym (rest-at k inside) ∙ zero))
+      where
+        inside : k < 16
+        inside = ⊎_elim (λ l. l) (λ (h : 16 ≤ k). absurd (omega (arith, set-one wanted k set, bit_at_above wanted 16 k small h)))
+            (cases_lt k 16)
 
-      zero : bit_at rest k ≡ 0
-      zero = ap (λ n. bit_at n k) z ∙ bit_at-zero k
+        zero : bit_at rest k ≡ 0
+        zero = ap (λ n. bit_at n k) z ∙ bit_at-zero k
 
-      go : (a b : ℕ) → a ≡ 1 → b < 2 → min a (1 - b) ≡ 0 → b ≡ 1
-      go a b e l h = omega arith
+        go : (a b : ℕ) → a ≡ 1 → b < 2 → min a (1 - b) ≡ 0 → b ≡ 1
+        go a b e l h = omega arith
 
-  pub least-missing : rest < 2 ^ 16 → rest ≢ 0 → IsMissing wanted present (trailing_zeros w16 rest + 1)
-  least-missing l some = record {
-    bit = trailing_zeros w16 rest;
-    letter = refl;
-    among = one-set wanted (trailing_zeros w16 rest) (first (bit_at wanted (trailing_zeros w16 rest)) _ (bit_at-lt wanted _) both);
-    lacks = λ set. second _ (bit_at present (trailing_zeros w16 rest)) both (set-one present (trailing_zeros w16 rest) set);
-  }
-    where
-      first : (a b : ℕ) → a < 2 → min a (1 - b) ≡ 1 → a ≡ 1
-      first a b l e = omega arith
+    pub least-missing : rest < 2 ^ 16 → rest ≢ 0 → IsMissing wanted present (trailing_zeros w16 rest + 1)
+    least-missing l some = record {
+      bit = trailing_zeros w16 rest;
+      letter = refl;
+      among = one-set wanted (trailing_zeros w16 rest) (first (bit_at wanted (trailing_zeros w16 rest)) _ (bit_at-lt wanted _) both);
+      lacks = λ set. second _ (bit_at present (trailing_zeros w16 rest)) both (set-one present (trailing_zeros w16 rest) set);
+    }
+      where
+        first : (a b : ℕ) → a < 2 → min a (1 - b) ≡ 1 → a ≡ 1
+        first a b l e = omega arith
 
-      second : (a b : ℕ) → min a (1 - b) ≡ 1 → b ≡ 1 → ⊥
-      second a b e f = omega arith
+        second : (a b : ℕ) → min a (1 - b) ≡ 1 → b ≡ 1 → ⊥
+        second a b e f = omega arith
 
-      both : min (bit_at wanted (trailing_zeros w16 rest)) (1 - bit_at present (trailing_zeros w16 rest)) ≡ 1
-      both =
-          let t = bit_at-trailing_zeros w16 rest (omega (arith, some)) l
-          in sym (rest-at (trailing_zeros w16 rest) t.0) ∙ t.1
+        both : min (bit_at wanted (trailing_zeros w16 rest)) (1 - bit_at present (trailing_zeros w16 rest)) ≡ 1
+        both =
+            let t = bit_at-trailing_zeros w16 rest (omega (arith, some)) l
+            in sym (rest-at (trailing_zeros w16 rest) t.0) ∙ t.1
 
 pub missing-letter : (rank wanted present s : ℕ) → AreLetters rank wanted → IsMissing wanted present s → IsLetter rank s
 missing-letter rank wanted present s letters m = rw m.letter (letters m.bit m.among)
@@ -89,7 +93,8 @@ module _ (A : IntegerMatrix) (g : IsAdmissible A) where
   }
 
 -- the lowest bit of a set that has one
-pub lowest-bit : (set : ℕ) → set < 2 ^ 16 → set ≢ 0 → IsBitSet set (trailing_zeros w16 set) × ((k : ℕ) → IsBitSet set k → trailing_zeros w16 set ≤ k)
+pub lowest-bit : (set : ℕ) → set < 2 ^ 16 → set ≢ 0 → IsBitSet set (trailing_zeros w16 set) × ((k : ℕ) → IsBitSet set k
+    → trailing_zeros w16 set ≤ k)
 lowest-bit set l some =
     let t = bit_at-trailing_zeros w16 set (omega (arith, some)) l
     in (

@@ -30,7 +30,8 @@ module _ (A : IntegerMatrix) (members : List (List ℕ)) (w : List ℕ) where
       → ((k : ℕ) → k < length numbers → number_at numbers k ≡ top → ⊥) → IsBelow A x w → ⊥
   absent-outside x top numbers h l e stands none b = let there = h.whole top l e (stands.to b) in none there.0 there.1 there.2
 
-  pub mu-at : (u k : ℕ) (numbers : List ℕ) (values : List ℤ) → AreMus A members w numbers values → k < length numbers → number_at numbers k ≡ u
+  pub mu-at : (u k : ℕ) (numbers : List ℕ) (values : List ℤ) → AreMus A members w numbers values → k < length numbers
+      → number_at numbers k ≡ u
       → IsMu A (word_at members u) w (value_at values k)
   mu-at u k numbers values h l e = rw e at (h.value k l)
 

@@ -21,7 +21,8 @@ use Rattle.cox_row.specs.Raised.{StandsFor}
 use Rattle.cox_row.proofs.Raising.{stands-same}
 use Rattle.cox_row.proofs.Tops.{top-exists, extremal-same}
 
-module _ (A : IntegerMatrix) (g : IsAdmissible A) (members : List (List ℕ)) (closed : IsClosed A members) (i : ℕ) (inside : i < length members)
+module _ (A : IntegerMatrix) (g : IsAdmissible A) (members : List (List ℕ)) (closed : IsClosed A members) (i : ℕ)
+    (inside : i < length members)
     (numbers places : List ℕ) (pool : List (List ℤ)) (extremal : AreExtremal A members (word_at members i) numbers)
     (have : HavePolynomials A members (word_at members i) numbers places pool) where
   -- for each x ≤ w an extremal member stands

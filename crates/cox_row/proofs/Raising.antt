@@ -22,7 +22,8 @@ use Rattle.cox_row.specs.LetterSets.{IsMissing, AreLeftDescents, AreRightDescent
 
 -- a letter that is missing on the left, or on the right, raises x
 module _ (A : IntegerMatrix) (words : List (List ℕ)) (w x : List ℕ) (wanted present s : ℕ) (missing : IsMissing wanted present s) where
-  leads : (y : List ℕ) (found : Option ℕ) → IsRaised A w x y → IsNumberOf words (normal_form A y) found → LeadsTo A words w x (raise_to found)
+  leads : (y : List ℕ) (found : Option ℕ) → IsRaised A w x y → IsNumberOf words (normal_form A y) found
+      → LeadsTo A words w x (raise_to found)
   leads y None r n = record { y = y; raised = r; number = n }
   leads y (Some k) r n = record { y = y; raised = r; number = n }
 

@@ -1,5 +1,6 @@
 -- The row of w is still its row in a larger context, by the new numbers: what is below w was a member before.
-use Rattle.std.proofs.Common.{◌≡◌, ℕ, zero, suc, ◌<◌, List, [], ◌∷◌, ◌++◌, length, map, take, drop, set, get_or, Contains, ℤ, refl, sym, ap, ◌∙◌}
+use Rattle.std.proofs.Common.{◌≡◌, ℕ, zero, suc, ◌<◌, List, [], ◌∷◌, ◌++◌, length, map, take, drop, set, get_or, Contains, ℤ, refl, sym}
+use Rattle.std.proofs.Common.{ap, ◌∙◌}
 use Rattle.std.proofs.Common.{arith}
 use Rattle.std.proofs.lemmas.List.{length-map, get_or-map}
 use Rattle.cox_base.specs.IntegerMatrix.{IntegerMatrix}
@@ -21,7 +22,8 @@ rename-next f [] i l = absurd (omega (arith, l))
 rename-next f (x ∷ xs) zero l = refl
 rename-next f (x ∷ xs) (suc i) l = ap (λ ys. f x ∷ ys) (rename-next f xs i (omega arith))
 
-module _ (A : IntegerMatrix) (old new : List (List ℕ)) (moved : List ℕ) (from : IsClosed A old) (to : IsClosed A new) (are : AreMoved old new moved) where
+module _ (A : IntegerMatrix) (old new : List (List ℕ)) (moved : List ℕ) (from : IsClosed A old) (to : IsClosed A new)
+    (are : AreMoved old new moved) where
   renamed : List ℕ → List ℕ
   renamed numbers = map (number_at moved) numbers
 
@@ -68,7 +70,8 @@ module _ (A : IntegerMatrix) (old new : List (List ℕ)) (moved : List ℕ) (fro
 
     was_member : (i : ℕ) → i < length new → IsBelow A (word_at new i) w → WasMember (word_at new i)
     was_member i l b =
-        let place = contains-placed old (word_at new i) (from.down (word_at new i) w member (to.element (word_at new i) (contains-at new i l)) b)
+        let place = contains-placed old (word_at new i) (from.down (word_at new i) w member
+        (to.element (word_at new i) (contains-at new i l)) b)
         in record { j = place.i; within = place.within; is = place.is }
 
     pub moved-extremal : (numbers : List ℕ) → AreExtremal A old w numbers → AreExtremal A new w (map (number_at moved) numbers)
@@ -99,7 +102,8 @@ module _ (A : IntegerMatrix) (old new : List (List ℕ)) (moved : List ℕ) (fro
           in rw (renamed-word numbers k within inside) (h.value k inside);
     }
 
-    pub moved-mus : (numbers : List ℕ) (values : List ℤ) → AreMus A old w numbers values → AreMus A new w (map (number_at moved) numbers) values
+    pub moved-mus : (numbers : List ℕ) (values : List ℤ) → AreMus A old w numbers values
+        → AreMus A new w (map (number_at moved) numbers) values
     unfolding renamed
     moved-mus numbers values h = record {
       size = h.size ∙ sym (renamed-length numbers);

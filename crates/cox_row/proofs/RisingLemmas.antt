@@ -7,18 +7,22 @@ use Rattle.std.proofs.lemmas.Bool.{cases_lt}
 use Rattle.std.proofs.lemmas.List.Sorted.{searched}
 use Rattle.cox_row.specs.Rising.{number_at, AreRising, AreWithin}
 
-pub rising-most : (numbers : List ℕ) → AreRising numbers → (i j : ℕ) → i ≤ j → j < length numbers → number_at numbers i ≤ number_at numbers j
+pub rising-most : (numbers : List ℕ) → AreRising numbers → (i j : ℕ) → i ≤ j → j < length numbers
+    → number_at numbers i ≤ number_at numbers j
 rising-most numbers rising i j l m =
     ⊎_elim (λ (less : i < j). omega (arith, rising i j less m))
     (λ (h : j ≤ i). let e : i ≡ j = omega arith in omega (arith, ap (λ k. number_at numbers k) e)) (cases_lt i j)
 
 -- what binary_search says of numbers that rise
-pub found-rising : (numbers : List ℕ) (x : ℕ) (found : Result ℕ ℕ) → AreRising numbers → IsBinarySearchResult (λ y. nat_cmp y x) numbers found
-    → MatchResult found (λ i. (i < length numbers) × (number_at numbers i ≡ x)) (λ _. (k : ℕ) → k < length numbers → number_at numbers k ≡ x → ⊥)
+pub found-rising : (numbers : List ℕ) (x : ℕ) (found : Result ℕ ℕ) → AreRising numbers
+    → IsBinarySearchResult (λ y. nat_cmp y x) numbers found
+    → MatchResult found (λ i. (i < length numbers) × (number_at numbers i ≡ x)) (λ _. (k : ℕ) → k < length numbers
+    → number_at numbers k ≡ x → ⊥)
 found-rising numbers x (Ok i) rising is = searched numbers x (Ok i) is (rising-most numbers rising)
 found-rising numbers x (Err i) rising is = λ k l e.
     let r = searched numbers x (Err i) is (rising-most numbers rising)
-    in ⊎_elim (λ (less : k < i). let h = r.1 k less in omega (arith, h, e)) (λ (h : i ≤ k). let m = r.2 k h l in omega (arith, m, e)) (cases_lt k i)
+    in ⊎_elim (λ (less : k < i). let h = r.1 k less in omega (arith, h, e)) (λ (h : i ≤ k). let m
+    = r.2 k h l in omega (arith, m, e)) (cases_lt k i)
 
 -- numbers that rise and are below n are no more than n
 least-rising : (f : ℕ → ℕ) (size : ℕ) → ((j k : ℕ) → j < k → k < size → f j < f k) → (k : ℕ) → k < size → k ≤ f k

@@ -23,7 +23,8 @@ pub add_scaled-requires-clause-room : goal.add_scaled-requires-clause-room
 add_scaled-requires-clause-room c = λ k.
     let fits : FitsSigned w64 c.args.factor = search rules
     in rw (to_z-of_z w64 c.args.factor fits)
-    (let small = after-small c.args.sums.now c.in-Some.p.now c.args.factor c.args.shift k (2 ^ 125) (c.requires.room k) c.degree-degree.ensures.small
+    (let small = after-small c.args.sums.now c.in-Some.p.now c.args.factor c.args.shift k (2 ^ 125) (c.requires.room k)
+    c.degree-degree.ensures.small
     c.requires.factor in omega (arith, small))
 
 pub returns-in-Some-clause-sum : goal.returns-in-Some-clause-sum
@@ -37,7 +38,8 @@ pub returns-in-Some-clause-size : goal.returns-in-Some-clause-size
 returns-in-Some-clause-size c = λ n old k.
     let fits : FitsSigned w64 c.args.factor = search rules
     in let is = simp (to_z-of_z w64 c.args.factor fits) at (c.add_scaled.ensures.sum k)
-    in let small = after-small c.args.sums.now c.in-Some.p.now c.args.factor c.args.shift k (n * 2 ^ 94) (old k) c.degree-degree.ensures.small
+    in let small = after-small c.args.sums.now c.in-Some.p.now c.args.factor c.args.shift k (n * 2 ^ 94) (old k)
+    c.degree-degree.ensures.small
     c.requires.factor
     in rw is (omega (arith, small))
 

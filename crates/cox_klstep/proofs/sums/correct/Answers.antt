@@ -49,7 +49,8 @@ loop-k-preserved c =
             (none-scaled (correction_at c.deref-correction-items.result.now c.loop-k.k).factor
             (correction_at c.deref-correction-items.result.now c.loop-k.k).shift
             (P (correction_at c.deref-correction-items.result.now c.loop-k.k).number)
-            (λ k. kazhdan_lusztig-outside (integer_matrix c.args.ctx.now.matrix) c.requires.admissible (word_at c.args.ctx.now.members c.args.x)
+            (λ k. kazhdan_lusztig-outside (integer_matrix c.args.ctx.now.matrix) c.requires.admissible
+            (word_at c.args.ctx.now.members c.args.x)
             (word_at c.args.ctx.now.members (correction_at c.deref-correction-items.result.now c.loop-k.k).number)
             (P (correction_at c.deref-correction-items.result.now c.loop-k.k).number)
             (later-not_below (integer_matrix c.args.ctx.now.matrix) c.requires.admissible c.args.ctx.now.members c.requires.closed c.args.x

@@ -15,5 +15,6 @@ returns-clause-sum c = λ f is k.
     in let fits_negated : FitsSigned w64 (pos 0 -ℤ c.from-factor.result) = search rules
     in let negated : pos 0 -ℤ c.from-factor.result ≡ neg_ℤ c.args.correction.now.factor = omega (arith, ints, value)
     in let fits_after : FitsSigned w64 (neg_ℤ c.args.correction.now.factor) = rw negated at fits_negated
-    in simp (to_z-of_z w64 c.from-factor.result wide, negated, to_z-of_z w64 (neg_ℤ c.args.correction.now.factor) fits_after) at (c.add.ensures.sum f is k)
+    in simp (to_z-of_z w64 c.from-factor.result wide, negated, to_z-of_z w64 (neg_ℤ c.args.correction.now.factor) fits_after)
+    at (c.add.ensures.sum f is k)
     ∙ minus-plus (coefficient c.args.sums.now) f c.args.correction.now.factor c.args.correction.now.shift k

@@ -40,7 +40,8 @@ returns-in-Err-clause-exactly c =
     (rw c.deref.ensures.value at c.in-Err.ensures.position)
     in (
       λ never. absurd (cc),
-      λ below. absurd (absent-outside (integer_matrix c.args.ctx.now.matrix) c.args.ctx.now.members (word_at c.args.ctx.now.members c.args.i)
+      λ below. absurd (absent-outside (integer_matrix c.args.ctx.now.matrix) c.args.ctx.now.members
+          (word_at c.args.ctx.now.members c.args.i)
           (word_at c.args.ctx.now.members c.args.x) c.in_ok-top.top c.args.row.now.extremal.items c.requires.row.extremal
           c.in_ok-top.ensures.0 c.in_ok-top.ensures.1 c.in_ok-top.ensures.2 none below),
     )

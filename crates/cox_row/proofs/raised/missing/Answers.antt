@@ -6,7 +6,8 @@ use Rattle.cox_row.proofs.raised.missing.Goals as goal
 
 pub returns-then-rest-eq0-clause-none : goal.returns-then-rest-eq0-clause-none
 returns-then-rest-eq0-clause-none c =
-    none-missing c.args.wanted c.args.present (bit_and c.args.wanted (65535 - c.args.present)) (omega arith) (omega arith) refl c.if-rest-eq0.true
+    none-missing c.args.wanted c.args.present (bit_and c.args.wanted (65535 - c.args.present)) (omega arith) (omega arith) refl
+    c.if-rest-eq0.true
 
 pub returns-else-rest-eq0-clause-some : goal.returns-else-rest-eq0-clause-some
 returns-else-rest-eq0-clause-some c =
