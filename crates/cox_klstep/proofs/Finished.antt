@@ -1,16 +1,29 @@
 -- When each member up to w is done, the row is that of w: what comes after w is not below w.
-use Rattle.std.proofs.Common.{ℕ, ◌+◌, ◌<◌, ◌≤◌, List, length, ℤ, ⊎_elim, arith}
+use Rattle.std.proofs.Common.{ℕ, ◌+◌, ◌<◌, ◌≤◌, List, length, ⊎_elim, arith, ◌≡◌}
 use Rattle.std.proofs.lemmas.Bool.{cases_lt}
 use Rattle.cox_base.specs.IntegerMatrix.{IntegerMatrix}
 use Rattle.cox_base.specs.Admissible.{IsAdmissible}
+use Rattle.std.specs.Prelude.{ℤ, pos, unsigned_abs, ◌<ℤ◌, ◌≤ℤ◌}
+use Rattle.std.proofs.lemmas.Int.{ints}
+use Rattle.cox_base.specs.Bruhat.{IsBelow}
+use Rattle.cox_hecke.proofs.AllRows.{mu-unique}
 use Rattle.cox_hecke.proofs.Descended.{mu-below}
+use Rattle.cox_hecke.proofs.ElementLists.{below_or_not}
 use Rattle.cox_context.specs.Closed.{IsClosed}
 use Rattle.cox_context.specs.Numbers.{word_at}
 use Rattle.cox_row.specs.Extremal.{AreExtremal}
 use Rattle.cox_row.specs.Mus.{AreMus}
 use Rattle.cox_row.proofs.Raising.{later-not_below}
 use Rattle.cox_klstep.specs.Drafts.{AreBegun, AreNoted}
+use Rattle.cox_row.specs.Polynomials.{polynomial_at, HavePolynomials}
+use Rattle.cox_row.specs.Rising.{number_at}
+use Rattle.cox_row.specs.Mus.{value_at}
+use Rattle.cox_row.proofs.PoolLemmas.{kept}
+use Rattle.cox_poly.specs.Limit.{AllWithin}
+use Rattle.cox_klstep.specs.declared.making.TheConstants.{MU_LIMIT}
+use Rattle.cox_klstep.specs.Limits.{IsLargeCoefficient, IsLargeMu}
 use Rattle.cox_klstep.specs.Faults.{IsFault, IsNarrowFault}
+use Rattle.cox_klstep.proofs.LargeLemmas.{outside-none, within-none}
 use Rattle.cox_klstep.specs.declared.fault.StepFault.{StepFault}
 use Rattle.cox_klstep.specs.declared.fault.StepFault.TheVariants.{Coefficient, Mu, NoMemory}
 
@@ -41,12 +54,57 @@ module _ (A : IntegerMatrix) (g : IsAdmissible A) (members : List (List ℕ)) (c
         (mu-below A g (word_at members u) (word_at members i) m mu some))) (cases_lt u end);
   }
 
--- a value of mu that is too large is one of the row
-pub noted-fault : (A : IntegerMatrix) (members : List (List ℕ)) (w : List ℕ) (limit : ℤ) (end : ℕ) (numbers : List ℕ) (values : List ℤ)
-    (fault : StepFault) → AreNoted A members w end numbers values → IsNarrowFault numbers values fault → IsFault A members w limit fault
-noted-fault A members w limit end numbers values (Coefficient x degree value) h never = absurd never
-noted-fault A members w limit end numbers values (Mu x value) h (k, at) = record {
-  is = rw (at.number, at.is) (h.value k (omega (arith, at.within, h.size)));
-  above = at.above;
+-- where the polynomials of the row are within the limit, no coefficient is above it
+module _ (A : IntegerMatrix) (g : IsAdmissible A) (members : List (List ℕ)) (closed : IsClosed A members) (i : ℕ)
+    (inside : i < length members)
+    (limit : ℤ) (least : pos 0 ≤ℤ limit) (numbers places : List ℕ) (pool : List (List ℤ))
+    (extremal : AreExtremal A members (word_at members i) numbers)
+    (have : HavePolynomials A members (word_at members i) numbers places pool)
+    (small : (j : ℕ) → j < length pool → AllWithin limit (polynomial_at pool j)) where
+  pub none-large : (x : List ℕ) (k : ℕ) (c : ℤ) → IsLargeCoefficient A limit x (word_at members i) k c → ⊥
+  none-large x k c = ⊎_elim
+      (λ (b : IsBelow A x (word_at members i)).
+      let there = kept A g members closed i inside numbers places pool extremal have x b
+      in let l : there.k < length places = omega (arith, there.within, have.size)
+      in within-none A g limit x (word_at members i) (polynomial_at pool (number_at places there.k))
+      (there.stands.same _ (have.value there.k there.within)) (small (number_at places there.k) (have.placed there.k l)) k c)
+      (λ (n : IsBelow A x (word_at members i) → ⊥). outside-none A g limit x (word_at members i) least n k c)
+      (below_or_not A g x (word_at members i))
+
+-- the first value of mu that is too large
+pub noted-fault : (A : IntegerMatrix) (g : IsAdmissible A) (members : List (List ℕ)) (w : List ℕ) (limit : ℤ) (end : ℕ)
+    (numbers : List ℕ) (values : List ℤ)
+    (fault : StepFault) → AreNoted A members w end numbers values
+    → ((x : List ℕ) (k : ℕ) (c : ℤ) → IsLargeCoefficient A limit x w k c → ⊥) → IsNarrowFault numbers values fault
+    → IsFault A members w limit fault
+noted-fault A g members w limit end numbers values (Coefficient x degree value) h none never = absurd never
+noted-fault A g members w limit end numbers values (Mu x value) h none (k, at) = record {
+  large = record {
+    is = rw (at.number, at.is) (h.value k (omega (arith, at.within, h.size)));
+    above = at.above;
+  };
+  before = λ y m l large. first y m l large (h.whole y m (omega (arith, l, at.number, h.before k inside)) large.is
+      (not_zero m large.above));
+  small = λ y j c l. none (word_at members y) j c;
 }
-noted-fault A members w limit end numbers values NoMemory h none = tt
+  where
+    inside : k < length numbers
+    inside = omega (arith, at.within, h.size)
+
+    not_zero : (m : ℤ) → pos MU_LIMIT <ℤ pos (unsigned_abs m) → m ≡ pos 0 → ⊥
+    not_zero m l e = let zero : pos MU_LIMIT <ℤ pos 0 = rw e at l in omega (arith, ints, zero)
+
+    first : (y : ℕ) (m : ℤ) → y < x → IsLargeMu A (pos MU_LIMIT) (word_at members y) w m
+        → ((j : ℕ) × (j < length numbers) × (number_at numbers j ≡ y)) → ⊥
+    first y m l large (j, there, is) = ⊎_elim
+        (λ (less : j < k).
+        let value : m ≡ value_at values j = mu-unique A g (word_at members y) w m (value_at values j) large.is
+        (rw is at (h.value j there))
+        in let above : pos MU_LIMIT <ℤ pos (unsigned_abs (value_at values j)) = rw value at large.above
+        in let within = at.before j less in omega (arith, ints, above, within))
+        (λ (more : k ≤ j). ⊎_elim
+        (λ (after : k < j). let rises = h.rising k j after there in omega (arith, rises, is, l, at.number))
+        (λ (same : j ≤ k). let e : j ≡ k = omega arith
+        in let n : number_at numbers k ≡ y = rw e at is in omega (arith, n, l, at.number)) (cases_lt k j))
+        (cases_lt j k)
+noted-fault A g members w limit end numbers values NoMemory h none nothing = tt

@@ -16,6 +16,8 @@ pub mod Middles
 pub mod Keeping
 -- mu at members that are not extremal
 pub mod RaisedMus
+-- coefficients above the limit
+pub mod LargeLemmas
 -- the row when each member is done
 pub mod Finished
 -- the row of the identity

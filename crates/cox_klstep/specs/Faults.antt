@@ -1,5 +1,5 @@
 -- Why a row is not made.
-use Rattle.std.specs.Prelude.{◌≡◌, ℕ, ◌<◌, List, length, ℤ, pos, ◌<ℤ◌, unsigned_abs}
+use Rattle.std.specs.Prelude.{◌≡◌, ℕ, ◌<◌, ◌≤◌, List, length, ℤ, pos, ◌<ℤ◌, unsigned_abs}
 use Rattle.cox_base.specs.IntegerMatrix.{IntegerMatrix}
 use Rattle.cox_context.specs.Numbers.{word_at}
 use Rattle.cox_row.specs.Rising.{number_at}
@@ -9,18 +9,44 @@ use Rattle.cox_klstep.specs.declared.making.TheConstants.{MU_LIMIT}
 use Rattle.cox_klstep.specs.declared.fault.StepFault.{StepFault}
 use Rattle.cox_klstep.specs.declared.fault.StepFault.TheVariants.{Coefficient, Mu, NoMemory}
 
+-- x is the first member for which P(x,w) has a coefficient above the limit, and degree is the least degree of one
+pub record IsFirstLarge (A : IntegerMatrix) (members : List (List ℕ)) (w : List ℕ) (limit : ℤ) (x degree : ℕ) (value : ℤ) : Type 0 where
+  pub large : IsLargeCoefficient A limit (word_at members x) w degree value
+  pub least : (k : ℕ) (c : ℤ) → k < degree → ¬ IsLargeCoefficient A limit (word_at members x) w k c
+  pub before : (y k : ℕ) (c : ℤ) → y < x → ¬ IsLargeCoefficient A limit (word_at members y) w k c
+
+-- no coefficient is above the limit, and x is the first member for which mu(x,w) is above MU_LIMIT
+pub record IsFirstLargeMu (A : IntegerMatrix) (members : List (List ℕ)) (w : List ℕ) (limit : ℤ) (x : ℕ) (value : ℤ) : Type 0 where
+  pub large : IsLargeMu A (pos MU_LIMIT) (word_at members x) w value
+  pub before : (y : ℕ) (m : ℤ) → y < x → ¬ IsLargeMu A (pos MU_LIMIT) (word_at members y) w m
+  pub small : (y k : ℕ) (c : ℤ) → y < length members → ¬ IsLargeCoefficient A limit (word_at members y) w k c
+
+-- the first large coefficient at the member x alone
+abbrev pub IsFaultAt : IntegerMatrix → List (List ℕ) → List ℕ → ℤ → ℕ → StepFault → Type 0
+IsFaultAt A members w limit x (Coefficient y degree value) = (y ≡ x) × IsLargeCoefficient A limit (word_at members x) w degree value
+    × ((k : ℕ) (c : ℤ) → k < degree → ¬ IsLargeCoefficient A limit (word_at members x) w k c)
+IsFaultAt A members w limit x (Mu y value) = ⊥
+IsFaultAt A members w limit x NoMemory = Unit {0}
+
+-- what a fault on the way says of the row of w
+abbrev pub IsFound : IntegerMatrix → List (List ℕ) → List ℕ → ℤ → ℕ → StepFault → Type 0
+IsFound A members w limit x (Coefficient y degree value) = (y ≡ x) × IsLargeCoefficient A limit (word_at members x) w degree value
+IsFound A members w limit x (Mu y value) = ⊥
+IsFound A members w limit x NoMemory = Unit {0}
+
 -- what a fault says of the row of w; out of memory says nothing
 abbrev pub IsFault : IntegerMatrix → List (List ℕ) → List ℕ → ℤ → StepFault → Type 0
-IsFault A members w limit (Coefficient x degree value) = IsLargeCoefficient A limit (word_at members x) w degree value
-IsFault A members w limit (Mu x value) = IsLargeMu A (pos MU_LIMIT) (word_at members x) w value
+IsFault A members w limit (Coefficient x degree value) = IsFirstLarge A members w limit x degree value
+IsFault A members w limit (Mu x value) = IsFirstLargeMu A members w limit x value
 IsFault A members w limit NoMemory = Unit {0}
 
--- the value at the place k is above the limit, and that of the number x
+-- the value at the place k is above the limit, and that of the number x; those before it are not
 pub record IsAboveAt (numbers : List ℕ) (values : List ℤ) (x : ℕ) (value : ℤ) (k : ℕ) : Type 0 where
   pub within : k < length values
   pub number : x ≡ number_at numbers k
   pub is : value ≡ value_at values k
   pub above : pos MU_LIMIT <ℤ pos (unsigned_abs value)
+  pub before : (j : ℕ) → j < k → unsigned_abs (value_at values j) ≤ MU_LIMIT
 
 -- what a fault says of a list of values of mu with their numbers
 abbrev pub IsNarrowFault : List ℕ → List ℤ → StepFault → Type 0

@@ -1,5 +1,5 @@
 //! Makes the row of a member.
-ghost use Rattle.std.specs.Prelude.{◌≡◌, ℕ, List, ◌+◌, ◌<◌, ◌≤◌, length, OnOk, IfOk, IfErr, unsigned_abs};
+ghost use Rattle.std.specs.Prelude.{◌≡◌, ℕ, List, ◌+◌, ◌<◌, ◌≤◌, length, OnOk, IfOk, IfErr, IfSome, IfNone, ℤ, pos, ◌≤ℤ◌, unsigned_abs};
 ghost use Rattle.cox_base.specs.Admissible.{IsAdmissible};
 ghost use Rattle.cox_base.specs.IntegerMatrix.{IntegerMatrix, integer_matrix};
 ghost use Rattle.cox_poly.specs.Limit.{AllWithin};
@@ -12,7 +12,8 @@ ghost use Rattle.cox_row.specs.Polynomials.{polynomial_at};
 ghost use Rattle.cox_row.specs.RowOf.{IsRowAt};
 ghost use Rattle.cox_klstep.specs.StepOf.{IsStep, AreNeeded};
 ghost use Rattle.cox_klstep.specs.Drafts.{AreBegun, AreNoted};
-ghost use Rattle.cox_klstep.specs.Faults.{IsFault, IsNarrowFault};
+ghost use Rattle.cox_klstep.specs.Faults.{IsFault, IsFound, IsFaultAt, IsNarrowFault};
+ghost use Rattle.cox_klstep.specs.Limits.{IsLargeCoefficient};
 
 use crate::StepFault;
 use crate::mus::{Mus, middle};
@@ -21,7 +22,7 @@ use crate::sums::sum_up;
 use crate::values::Values;
 use cox_context::Context;
 use cox_poly::{Acc, PolyFault};
-use cox_row::{Raise, Row, raise_once};
+use cox_row::{Raise, Row, raise_fully, raise_once};
 use std::alloc::Global;
 
 /// The greatest absolute value of mu that a row keeps.
@@ -29,7 +30,8 @@ pub const MU_LIMIT: u64 = 2_147_483_647;
 
 /// The row of the member of the step, from the row of the shorter element and those of the corrections, in their order.
 ///
-/// `Coefficient` where a coefficient is above the limit in absolute value, and `Mu` where none is but a value of mu is above [`MU_LIMIT`].
+/// `Coefficient` where a coefficient is above the limit in absolute value, at the first member x that has one and its least degree; and `Mu` where
+/// none is but a value of mu is above [`MU_LIMIT`].
 pub fn row(
     alloc: Global,
     ctx: &Context,
@@ -41,6 +43,7 @@ pub fn row(
     requires step { IsStep ctx.now step.now }
     requires lower { IsRowAt ctx.now step.now.lower lower.now }
     requires needed { AreNeeded ctx.now step.now.corrections.items needed.now }
+    requires limit { pos 0 ≤ℤ limit }
     ensures row { IfOk result (IsRowAt ctx.now step.now.member) }
     ensures within { IfOk result (λ r. (j : ℕ) → j < length r.pool.items → AllWithin limit (polynomial_at r.pool.items j)) }
     ensures fault { IfErr result (IsFault (integer_matrix ctx.now.matrix) ctx.now.members (word_at ctx.now.members step.now.member) limit) }
@@ -51,7 +54,7 @@ pub fn row(
     let mut values = Values::new(alloc);
     let mut mus = Mus::new(alloc);
     for x in 0..step.member + 1 {
-        let value = add_member(
+        let value = match add_member(
             alloc,
             ctx,
             step,
@@ -62,11 +65,79 @@ pub fn row(
             right,
             x,
             &mut values,
-        )?;
+        ) {
+            Ok(value) => value,
+            Err(StepFault::NoMemory) => return Err(StepFault::NoMemory),
+            Err(_) => return Err(first_fault(alloc, ctx, step, lower, needed, limit, x)),
+        };
         mus.note(x, value)?;
     }
-    let mu = narrow(alloc, &mus)?;
+    let mu = match narrow(alloc, &mus) {
+        Ok(mu) => mu,
+        Err(fault) => return Err(fault),
+    };
     Ok(Row::of_parts(values.extremal, values.places, values.pool, mus.numbers, mu))
+}
+
+/// The first fault at the members up to x. Out of memory where there is none.
+fn first_fault(
+    alloc: Global,
+    ctx: &Context,
+    step: &Step,
+    lower: &Row,
+    needed: &[&Row],
+    limit: i64,
+    x: u32,
+) -> StepFault
+    requires step { IsStep ctx.now step.now }
+    requires lower { IsRowAt ctx.now step.now.lower lower.now }
+    requires needed { AreNeeded ctx.now step.now.corrections.items needed.now }
+    requires x { x < length ctx.now.members }
+    requires limit { pos 0 ≤ℤ limit }
+    ensures { IsFault (integer_matrix ctx.now.matrix) ctx.now.members (word_at ctx.now.members step.now.member) limit result }
+{
+    let _len = ctx.len();
+    for y in 0..x + 1 {
+        if let Some(fault) = fault_at(alloc, ctx, step, lower, needed, limit, y) {
+            return fault;
+        }
+    }
+    StepFault::NoMemory
+}
+
+/// The fault at one member, if there is one.
+fn fault_at(
+    alloc: Global,
+    ctx: &Context,
+    step: &Step,
+    lower: &Row,
+    needed: &[&Row],
+    limit: i64,
+    x: u32,
+) -> Option<StepFault>
+    requires step { IsStep ctx.now step.now }
+    requires lower { IsRowAt ctx.now step.now.lower lower.now }
+    requires needed { AreNeeded ctx.now step.now.corrections.items needed.now }
+    requires x { x < length ctx.now.members }
+    requires limit { pos 0 ≤ℤ limit }
+    ensures some { IfSome result (IsFaultAt (integer_matrix ctx.now.matrix) ctx.now.members (word_at ctx.now.members step.now.member) limit x) }
+    ensures none { IfNone result ((k : ℕ) (c : ℤ) → ¬ IsLargeCoefficient (integer_matrix ctx.now.matrix) limit (word_at ctx.now.members x) (word_at ctx.now.members step.now.member) k c) }
+{
+    let _len = ctx.len();
+    let Some(top) = raise_fully(ctx, step.member, x) else {
+        return None;
+    };
+    let mut sums = Acc::new();
+    if !sum_up(ctx, step, lower, needed, top, &mut sums) {
+        return None;
+    }
+    match sums.close(alloc, limit) {
+        Ok(_) => None,
+        Err(PolyFault::TooBig { degree, value }) => {
+            Some(StepFault::Coefficient { x, degree, value })
+        }
+        Err(PolyFault::NoMemory) => Some(StepFault::NoMemory),
+    }
 }
 
 /// One member more; its value of mu.
@@ -97,7 +168,7 @@ fn add_member(
     ensures begun { OnOk result (AreBegun (integer_matrix ctx.now.matrix) ctx.now.members (word_at ctx.now.members step.now.member) limit (x + 1)
         values.new.extremal.items values.new.places.items values.new.pool.items) }
     ensures mu { IfOk result (IsMu (integer_matrix ctx.now.matrix) (word_at ctx.now.members x) (word_at ctx.now.members step.now.member)) }
-    ensures fault { IfErr result (IsFault (integer_matrix ctx.now.matrix) ctx.now.members (word_at ctx.now.members step.now.member) limit) }
+    ensures fault { IfErr result (IsFound (integer_matrix ctx.now.matrix) ctx.now.members (word_at ctx.now.members step.now.member) limit x) }
 {
     match raise_once(ctx, left, right, x) {
         Raise::Done => add_extremal(alloc, ctx, step, lower, needed, limit, x, values),
@@ -127,7 +198,7 @@ fn add_extremal(
     ensures begun { OnOk result (AreBegun (integer_matrix ctx.now.matrix) ctx.now.members (word_at ctx.now.members step.now.member) limit (x + 1)
         values.new.extremal.items values.new.places.items values.new.pool.items) }
     ensures mu { IfOk result (IsMu (integer_matrix ctx.now.matrix) (word_at ctx.now.members x) (word_at ctx.now.members step.now.member)) }
-    ensures fault { IfErr result (IsFault (integer_matrix ctx.now.matrix) ctx.now.members (word_at ctx.now.members step.now.member) limit) }
+    ensures fault { IfErr result (IsFound (integer_matrix ctx.now.matrix) ctx.now.members (word_at ctx.now.members step.now.member) limit x) }
 {
     let _len = ctx.len();
     let mut sums = Acc::new();

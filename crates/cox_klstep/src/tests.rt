@@ -9,7 +9,8 @@ use std::test::Fail;
 #[test]
 fn makes_the_row_of_a_generator(rt: HostRuntime) -> Result<(), Fail> {
     let alloc = rt.alloc();
-    let table = RootTable::build(alloc, &Coxeter::named(b'A', 2)?, MAX_SMALL_ROOTS)?;
+    let g = Coxeter::named(b'A', 2)?;
+    let table = RootTable::build(alloc, &g, MAX_SMALL_ROOTS)?;
     let context = Context::of_group(alloc, &table, 6)?;
     assert_eq!(rt; context.len(), 6);
     let lower = identity_row(alloc, &context)?;

@@ -26,12 +26,12 @@ module _ (A : IntegerMatrix) (g : IsAdmissible A) (members : List (List ℕ)) (c
     (numbers places : List ℕ) (pool : List (List ℤ)) (extremal : AreExtremal A members (word_at members i) numbers)
     (have : HavePolynomials A members (word_at members i) numbers places pool) where
   -- for each x ≤ w an extremal member stands
-  record IsKept (x : List ℕ) : Type 0 where
+  pub record IsKept (x : List ℕ) : Type 0 where
     pub k : ℕ
     pub within : k < length numbers
     pub stands : StandsFor A (word_at members i) x (word_at members (number_at numbers k))
 
-  kept : (x : List ℕ) → IsBelow A x (word_at members i) → IsKept x
+  pub kept : (x : List ℕ) → IsBelow A x (word_at members i) → IsKept x
   kept x b =
       let t = top-exists A g (word_at members i) x b
       in let place = contains-placed members (normal_form A t.top) (member-below A g members closed t.top i inside (t.stands.to b))

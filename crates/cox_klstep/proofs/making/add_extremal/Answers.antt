@@ -57,9 +57,12 @@ returns-in-Err-TooBig-clause-fault c =
     in let wide : FitsSigned w128 c.in-Err-TooBig.value = search rules
     in let first = c.in-Err-TooBig.ensures.too_big c.in-Err-TooBig.degree c.in-Err-TooBig.value (ap (λ f. Err f) c.in-Err-TooBig.field-0-is)
     in let above = simp (to_z-of_z w64 c.args.limit fits) at first.above
-    in rw (to_z-of_z w128 c.in-Err-TooBig.value wide) record {
-      polynomial = coefficient c.sum_up.new.sums;
-      is = c.if-not-sum_up.ensures.value refl;
-      value = sym first.value;
-      above = above;
-    }
+    in rw (to_z-of_z w128 c.in-Err-TooBig.value wide) (
+      refl,
+      record {
+        polynomial = coefficient c.sum_up.new.sums;
+        is = c.if-not-sum_up.ensures.value refl;
+        value = sym first.value;
+        above = above;
+      },
+    )

@@ -32,6 +32,6 @@ loop-i-preserved c =
     (omega (arith, few, c.len-i-end.ensures.closed.few)) in
     record {
       long = length-set c.loop-i.counts c.length.result _ ∙ c.loop-i.invariant.long;
-      values = counts-more members c.loop-i.counts c.loop-i.i c.length.result _ c.loop-i.invariant.values below c.length.ensures
+      values = counts-more members c.loop-i.counts c.loop-i.i c.length.result _ c.loop-i.invariant.values below c.length.ensures.length
           (omega (arith, bound)) sum;
     }
