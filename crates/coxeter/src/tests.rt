@@ -323,6 +323,16 @@ fn longest_words(rt: HostRuntime) -> Result<(), Fail> {
     Ok(())
 }
 
+/// The first so many of the letters again and again, at most 256.
+fn repeated(alloc: Global, letters: &str, count: usize) -> Result<Vec<u8>, AllocError> {
+    let mut word = Vec::new(alloc);
+    for _ in 0..128 {
+        word.extend_from_slice(letters.as_bytes())?;
+    }
+    word.truncate(count);
+    Ok(word)
+}
+
 /// `rpol` of a word of 255 letters and so many of its first ones.
 #[test]
 fn r_of_long_words(rt: HostRuntime) -> Result<(), Fail> {
@@ -338,16 +348,11 @@ fn r_of_long_words(rt: HostRuntime) -> Result<(), Fail> {
         ("matrix 3 0 0 0\n", "123", 253, "1-2q+q^2\n"),
     ];
     for (group, letters, count, written) in rows {
-        let mut word = Vec::new(rt.alloc());
-        while word.len() < 255 {
-            word.extend_from_slice(letters.as_bytes())?;
-        }
-        word.truncate(255);
         let mut script = group.as_bytes().to_vec(rt.alloc())?;
         script.extend_from_slice(b"rpol ")?;
-        script.extend_from_slice(&word[..count])?;
+        script.extend_from_slice(&repeated(rt.alloc(), letters, count)?)?;
         script.push(b' ')?;
-        script.extend_from_slice(&word)?;
+        script.extend_from_slice(&repeated(rt.alloc(), letters, 255)?)?;
         let run = Run {
             room: 400,
             ..plain(&script)
