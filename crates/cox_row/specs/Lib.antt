@@ -8,6 +8,8 @@ pub mod Polynomials
 pub mod Mus
 -- the row of an element
 pub mod RowOf
+-- rows within a limit
+pub mod Within
 -- the polynomials of a row, each once
 pub mod Distinct
 -- sets of letters by bits

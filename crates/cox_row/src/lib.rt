@@ -11,12 +11,15 @@
 //! - `row`: the row, its parts, and new numbers for it when a context grows
 //! - `raised`: raising a member by the descents of another
 //! - `look_up`: the polynomial and mu of any member, and how many polynomials there are
+//! - `lower_rows`: rows that are at hand, by number
 #![tactic(auto)]
 
 mod look_up;
+mod lower_rows;
 mod raised;
 mod row;
 
 pub use look_up::{mu, polynomial, pool_len};
+pub use lower_rows::LowerRows;
 pub use raised::{Raise, raise_fully, raise_once};
 pub use row::Row;
