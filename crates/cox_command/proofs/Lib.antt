@@ -4,3 +4,5 @@ pub mod Pieces
 pub mod MatrixArguments
 -- a line gives at most one command
 pub mod OneCommand
+-- the steps of the generator
+pub mod GeneratedWords

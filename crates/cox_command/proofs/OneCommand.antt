@@ -4,21 +4,24 @@ use Rattle.cox_command.specs.CommandReading.{IsGivenBy, IsGiven}
 use Rattle.cox_command.specs.SameCommand.{SameCommand}
 use Rattle.cox_command.specs.CommandWord.{command_word_of}
 use Rattle.cox_command.specs.declared.command.Command.{Command}
-use Rattle.cox_command.specs.declared.command.Command.TheVariants.{Nothing, Quit, Group, One, Two}
+use Rattle.cox_command.specs.declared.command.Command.TheVariants.{Nothing, Quit, Group, One, Two, Plain, Work}
 use Rattle.cox_command.specs.declared.command_word.CommandWord.{CommandWord}
 
 -- a command word with its arguments
 IsGivenBy-unique : (one other : Command) (word : CommandWord) (arguments : List (List ℕ)) (rank : Option ℕ)
     → IsGivenBy one word arguments rank
     → IsGivenBy other word arguments rank → SameCommand one other
-IsGivenBy-unique Nothing other word arguments rank first second = absurd first
-IsGivenBy-unique one Nothing word arguments rank first second = absurd second
-IsGivenBy-unique Quit Quit word arguments rank first second = tt
-IsGivenBy-unique (Group g) (Group h) word arguments rank first second = cc (first, second)
-IsGivenBy-unique (One kind w) (One other v) word arguments rank first second = (cc (first.0, second.0), first.1 ∙ sym second.1)
-IsGivenBy-unique (Two kind y w) (Two other x v) word arguments rank first second =
+IsGivenBy-unique Nothing other verb arguments rank first second = absurd first
+IsGivenBy-unique one Nothing verb arguments rank first second = absurd second
+IsGivenBy-unique Quit Quit verb arguments rank first second = tt
+IsGivenBy-unique (Group g) (Group h) verb arguments rank first second = cc (first, second)
+IsGivenBy-unique (One kind w) (One other v) verb arguments rank first second = (cc (first.0, second.0), first.1 ∙ sym second.1)
+IsGivenBy-unique (Two kind y w) (Two other x v) verb arguments rank first second =
     (cc (first.0, second.0), first.1 ∙ sym second.1, first.2 ∙ sym second.2)
-IsGivenBy-unique one other word arguments rank first second = grind (arith, first, second)
+IsGivenBy-unique (Plain kind) (Plain other) verb arguments rank first second = cc (first, second)
+IsGivenBy-unique (Work start count) (Work begin many) verb arguments rank first second =
+    (first.1 ∙ sym second.1, first.2 ∙ sym second.2)
+IsGivenBy-unique one other verb arguments rank first second = grind (arith, first, second)
 
 -- what both facts of a value give
 both_of_some : {T : Type 0} (o : Option T) (P Q : T → Type 0) (S : Type 0) → ((x : T) → P x → Q x → S) → IsSomeAnd o P → IsSomeAnd o Q → S

@@ -9,7 +9,7 @@ use Rattle.cox_command.specs.LineRefusal.{rank_or_zero, argument}
 use Rattle.cox_command.specs.declared.command.Command.{Command}
 use Rattle.cox_command.specs.declared.command.Command.TheVariants as asks
 use Rattle.cox_command.specs.declared.command_word.CommandWord.{CommandWord}
-use Rattle.cox_command.specs.declared.command_word.CommandWord.TheVariants.{Named, Matrix, Quit, One, Two}
+use Rattle.cox_command.specs.declared.command_word.CommandWord.TheVariants.{Named, Matrix, Quit, One, Two, Plain, Work}
 
 -- the matrix that `matrix` sets: its rank, and its labels above the diagonal, row by row
 abbrev pub matrix_of : List (List ℕ) → CoxeterMatrix
@@ -31,12 +31,15 @@ word_argument rank arguments place = word_of (rank_or_zero rank) (argument argum
 
 -- a command word with these arguments gives this command, where the group that is set, if any, has this rank
 abbrev pub IsGivenBy : Command → CommandWord → List (List ℕ) → Option ℕ → Type 0
-IsGivenBy asks.Nothing word arguments rank = ⊥
-IsGivenBy asks.Quit word arguments rank = word ≡ Quit
-IsGivenBy (asks.Group g) word arguments rank = matrix_set word arguments ≡ Some g
-IsGivenBy (asks.One kind w) word arguments rank = (word ≡ One kind) × (w.items ≡ word_argument rank arguments 0)
-IsGivenBy (asks.Two kind y w) word arguments rank =
-    (word ≡ Two kind) × (y.items ≡ word_argument rank arguments 0) × (w.items ≡ word_argument rank arguments 1)
+IsGivenBy asks.Nothing verb arguments rank = ⊥
+IsGivenBy asks.Quit verb arguments rank = verb ≡ Quit
+IsGivenBy (asks.Group g) verb arguments rank = matrix_set verb arguments ≡ Some g
+IsGivenBy (asks.One kind w) verb arguments rank = (verb ≡ One kind) × (w.items ≡ word_argument rank arguments 0)
+IsGivenBy (asks.Two kind y w) verb arguments rank =
+    (verb ≡ Two kind) × (y.items ≡ word_argument rank arguments 0) × (w.items ≡ word_argument rank arguments 1)
+IsGivenBy (asks.Plain kind) verb arguments rank = verb ≡ Plain kind
+IsGivenBy (asks.Work start count) verb arguments rank =
+    (verb ≡ Work) × (start ≡ value_of (argument arguments 0)) × (count ≡ value_of (argument arguments 1))
 
 -- the tokens of a line give this command: none gives nothing, else the first one is a command word
 abbrev pub IsGiven : Command → List (List ℕ) → Option ℕ → Type 0

@@ -12,5 +12,7 @@ pub mod LineRefusal
 pub mod CommandReading
 -- when two commands are the same
 pub mod SameCommand
+-- the words that `work` generates
+pub mod Generated
 -- what the calls that read a line answer
 pub mod ParseContract

@@ -1,19 +1,20 @@
 -- Which lines are refused, and why. Each cause is a test of its own; of those that apply to a line, the first in the order is answered.
-use Rattle.std.specs.Prelude.{ℕ, ◌+◌, ◌-◌, ◌*◌, ◌/◌, ◌==◌, Bool, true, false, not, ◌&&◌, if◌then◌else◌, nat_lt, nat_le, List, [], ◌∷◌}
+use Rattle.std.specs.Prelude.{ℕ, ◌+◌, ◌-◌, ◌*◌, ◌/◌, ◌==◌, Bool, true, false, not, ◌&&◌, if◌then◌else◌, nat_lt, List, [], ◌∷◌}
 use Rattle.std.specs.Prelude.{length, drop, find, Option, None, Some, is_none, is_some, unwrap_or, slice_index_or}
 use Rattle.std.specs.List.{list_any, list_all}
 use Rattle.cox_base.specs.declared.limits.TheConstants.{MAX_RANK, MAX_LETTERS}
 use Rattle.cox_base.specs.Matrix.{is_label}
 use Rattle.cox_base.specs.NamedType.{is_type}
 use Rattle.cox_base.specs.WordText.{pieces_of, first_foreign}
-use Rattle.cox_command.specs.Number.{is_number, value_of}
+use Rattle.cox_command.specs.Number.{is_number, is_number_in, value_of}
 use Rattle.cox_command.specs.Tokens.{tokens_of}
 use Rattle.cox_command.specs.CommandWord.{command_word_of}
+use Rattle.cox_command.specs.declared.limits.TheConstants.{MAX_START, MAX_COUNT}
 use Rattle.cox_command.specs.declared.refusal.Refusal.{Refusal}
 use Rattle.cox_command.specs.declared.refusal.Refusal.TheVariants.{UnknownCommand, WrongCount, WrongNumber, UnknownType, WrongLabel}
 use Rattle.cox_command.specs.declared.refusal.Refusal.TheVariants.{NoGroup, ForeignLetter, LongWord}
 use Rattle.cox_command.specs.declared.command_word.CommandWord.{CommandWord}
-use Rattle.cox_command.specs.declared.command_word.CommandWord.TheVariants.{Named, Matrix, Quit, One, Two}
+use Rattle.cox_command.specs.declared.command_word.CommandWord.TheVariants.{Named, Matrix, Quit, One, Two, Plain, Work}
 
 -- the rank of the group that is set; 0 where none is
 abbrev pub rank_or_zero : Option ℕ → ℕ
@@ -25,7 +26,11 @@ argument arguments place = slice_index_or arguments place []
 
 -- whether a token is a number from 1 to the greatest rank, as the rank after `matrix` has to be
 abbrev pub is_rank : List ℕ → Bool
-is_rank token = is_number token && nat_le 1 (value_of token) && nat_le (value_of token) MAX_RANK
+is_rank token = is_number_in 1 MAX_RANK token
+
+-- whether the arguments of `work` are a state of the generator, and how many words
+abbrev pub are_work_numbers : List (List ℕ) → Bool
+are_work_numbers arguments = is_number_in 0 MAX_START (argument arguments 0) && is_number_in 1 MAX_COUNT (argument arguments 1)
 
 -- Whether WrongCount applies: the number of arguments is not the command's. For `matrix` it is judged after the rank, if there is an
 -- argument at all.
@@ -36,11 +41,14 @@ has_wrong_count Matrix arguments = if is_rank (argument arguments 0)
 has_wrong_count Quit arguments = not (length arguments == 0)
 has_wrong_count (One word) arguments = not (length arguments == 1)
 has_wrong_count (Two word) arguments = not (length arguments == 2)
+has_wrong_count (Plain word) arguments = not (length arguments == 0)
+has_wrong_count Work arguments = not (length arguments == 2)
 
 -- whether WrongNumber applies: a number argument is no number, or is outside its range
 abbrev pub has_wrong_number : CommandWord → List (List ℕ) → Bool
 has_wrong_number Named arguments = not (is_number (argument arguments 1))
 has_wrong_number Matrix arguments = not (is_rank (argument arguments 0) && list_all is_number (drop 1 arguments))
+has_wrong_number Work arguments = not (are_work_numbers arguments)
 has_wrong_number _ arguments = false
 
 -- all commands but these need a group
@@ -86,14 +94,14 @@ has_foreign_letter word arguments rank = takes_words word && list_any (λ token.
 
 -- whether a refusal applies to a command with these arguments, where the group that is set, if any, has this rank
 abbrev pub applies : CommandWord → List (List ℕ) → Option ℕ → Refusal → Bool
-applies word arguments rank WrongCount = has_wrong_count word arguments
-applies word arguments rank WrongNumber = has_wrong_number word arguments
-applies word arguments rank NoGroup = lacks_group word rank
-applies word arguments rank UnknownType = has_no_type word arguments
-applies word arguments rank WrongLabel = has_wrong_label word arguments
-applies word arguments rank LongWord = has_long_word word arguments rank
-applies word arguments rank ForeignLetter = has_foreign_letter word arguments rank
-applies word arguments rank _ = false
+applies verb arguments rank WrongCount = has_wrong_count verb arguments
+applies verb arguments rank WrongNumber = has_wrong_number verb arguments
+applies verb arguments rank NoGroup = lacks_group verb rank
+applies verb arguments rank UnknownType = has_no_type verb arguments
+applies verb arguments rank WrongLabel = has_wrong_label verb arguments
+applies verb arguments rank LongWord = has_long_word verb arguments rank
+applies verb arguments rank ForeignLetter = has_foreign_letter verb arguments rank
+applies verb arguments rank _ = false
 
 -- the order in which they are tried, after UnknownCommand
 abbrev pub refusal_order : List Refusal

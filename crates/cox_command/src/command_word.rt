@@ -2,7 +2,7 @@
 ghost use Rattle.std.specs.Prelude.{◌≡◌};
 ghost use Rattle.cox_command.specs.CommandWord.{command_word_of};
 
-use crate::{OneWord, TwoWord};
+use crate::{NoWord, OneWord, TwoWord};
 
 /// The commands, by their first token.
 #[derive(Clone, Copy, Debug, Eq, PartialEq)]
@@ -17,6 +17,10 @@ pub enum CommandWord {
     One(OneWord),
     /// A command with two words.
     Two(TwoWord),
+    /// A command without arguments, on the whole group.
+    Plain(NoWord),
+    /// `work`
+    Work,
 }
 
 /// The command that a token names.
@@ -41,12 +45,34 @@ pub fn command_word(token: &[u8]) -> Option<CommandWord>
         Some(CommandWord::One(OneWord::Coatoms))
     } else if token == b"betti".as_slice() {
         Some(CommandWord::One(OneWord::Betti))
+    } else if token == b"klbasis".as_slice() {
+        Some(CommandWord::One(OneWord::Klbasis))
+    } else if token == b"ihbetti".as_slice() {
+        Some(CommandWord::One(OneWord::Ihbetti))
+    } else if token == b"extremals".as_slice() {
+        Some(CommandWord::One(OneWord::Extremals))
     } else if token == b"inorder".as_slice() {
         Some(CommandWord::Two(TwoWord::Inorder))
     } else if token == b"interval".as_slice() {
         Some(CommandWord::Two(TwoWord::Interval))
     } else if token == b"rpol".as_slice() {
         Some(CommandWord::Two(TwoWord::Rpol))
+    } else if token == b"pol".as_slice() {
+        Some(CommandWord::Two(TwoWord::Pol))
+    } else if token == b"mu".as_slice() {
+        Some(CommandWord::Two(TwoWord::Mu))
+    } else if token == b"lwgraph".as_slice() {
+        Some(CommandWord::Plain(NoWord::Lwgraph))
+    } else if token == b"rwgraph".as_slice() {
+        Some(CommandWord::Plain(NoWord::Rwgraph))
+    } else if token == b"lcells".as_slice() {
+        Some(CommandWord::Plain(NoWord::Lcells))
+    } else if token == b"rcells".as_slice() {
+        Some(CommandWord::Plain(NoWord::Rcells))
+    } else if token == b"lrcells".as_slice() {
+        Some(CommandWord::Plain(NoWord::Lrcells))
+    } else if token == b"work".as_slice() {
+        Some(CommandWord::Work)
     } else {
         None
     }

@@ -6,7 +6,7 @@ ghost use Rattle.cox_command.specs.LineRefusal.{is_rank};
 ghost use Rattle.cox_command.specs.ParseContract.{ReadsArguments};
 ghost use Rattle.cox_command.specs.declared.command_word.CommandWord.TheVariants.{Named, Matrix};
 
-use crate::number::read_number;
+use crate::number::{read_number, read_number_in};
 use crate::tokens::Tokens;
 use crate::{Command, Refusal};
 use arrayvec::ArrayVec;
@@ -57,10 +57,8 @@ pub fn parse_matrix(mut arguments: Tokens) -> Result<Command, Refusal>
 fn read_rank(token: &[u8]) -> Option<usize>
     ensures { result ≡ (if is_rank token.now then Some (value_of token.now) else None) }
 {
-    match read_number(token) {
-        Some(n) if 1 <= n && n <= MAX_RANK as u32 => Some(n as usize),
-        _ => None,
-    }
+    let n = read_number_in(token, 1, MAX_RANK as u32)?;
+    Some(n as usize)
 }
 
 /// The values of the tokens, if each is a number.

@@ -3,22 +3,27 @@
 //! `parse` is exact both ways: it answers the command that the grammar gives, and else the first refusal that applies, in a stated order.
 //! Grammar and causes are definitions of their own in `specs/`, one table or one test each. Nothing here takes memory.
 //!
-//! A new command with words is a variant, a row in `command_word_of` and a row in `command_word`. One of another shape is also a variant of
+//! A new command with words, or without arguments, is a variant, a row in `command_word_of` and a row in `command_word`. One of another shape is also a variant of
 //! `Command` and `CommandWord`, a function that reads its arguments, and a case of each test in `specs/LineRefusal.antt` that speaks of it.
 //!
 //! - `command`: commands as values, and why a line gives none
 //! - `refusal`: refusals, and their numbers
 //! - `command_word`: the table of command words
 //! - `tokens`, `number`: the parts of a line
-//! - `group_arguments`, `word_arguments`: the arguments
+//! - `no_arguments`, `group_arguments`, `word_arguments`, `work_arguments`: the arguments
+//! - `limits`: how far the numbers of `work` go
 //! - `parsing`: lines
+//! - `generated`: the words that `work` generates
 //! - `laws`: a line gives at most one command
 #![tactic(auto)]
 
 mod command;
 mod command_word;
+mod generated;
 mod group_arguments;
 mod laws;
+mod limits;
+mod no_arguments;
 mod number;
 mod parsing;
 mod refusal;
@@ -26,8 +31,11 @@ mod refusal;
 mod tests;
 mod tokens;
 mod word_arguments;
+mod work_arguments;
 
-pub use command::{Command, LineFault, OneWord, TwoWord};
+pub use command::{Command, LineFault, NoWord, OneWord, TwoWord};
+pub use generated::work_word;
 pub use laws::gives_one_command;
+pub use limits::{MAX_COUNT, MAX_START};
 pub use parsing::parse;
 pub use refusal::Refusal;

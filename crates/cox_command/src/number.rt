@@ -1,6 +1,6 @@
 //! Numbers as they are written.
 ghost use Rattle.std.specs.Prelude.{◌≡◌, ◌<◌, ◌^◌, if◌then◌else◌, Some, None, IfSome};
-ghost use Rattle.cox_command.specs.Number.{is_number, value_of};
+ghost use Rattle.cox_command.specs.Number.{is_number, is_number_in, value_of};
 
 /// The most decimal digits that a number may have.
 pub(crate) const MAX_DIGITS: usize = 9;
@@ -21,4 +21,14 @@ pub fn read_number(token: &[u8]) -> Option<u32>
         value = 10 * value + (byte - b'0') as u32;
     }
     Some(value)
+}
+
+/// The value of such a number, if it is of this range.
+pub fn read_number_in(token: &[u8], least: u32, most: u32) -> Option<u32>
+    ensures { result ≡ (if is_number_in least most token.now then Some (value_of token.now) else None) }
+{
+    match read_number(token) {
+        Some(n) if least <= n && n <= most => Some(n),
+        _ => None,
+    }
 }

@@ -1,13 +1,14 @@
 //! Lines.
-ghost use Rattle.std.specs.Prelude.{◌<◌, ◌≤◌, ◌^◌, ℕ, Option, length, IfSome};
+ghost use Rattle.std.specs.Prelude.{◌<◌, ◌≤◌, ◌^◌, length, IfSome};
 ghost use Rattle.cox_command.specs.ParseContract.{ParsesAs, ReadsTokens, ReadsArguments};
 ghost use Rattle.cox_command.specs.Tokens.{tokens_of};
-ghost use Rattle.cox_command.specs.declared.command_word.CommandWord.TheVariants.{Quit};
 
 use crate::command_word::{CommandWord, command_word};
 use crate::group_arguments::{parse_matrix, parse_type};
+use crate::no_arguments::{parse_plain, parse_quit};
 use crate::tokens::{Tokens, first_token, tokens_in};
 use crate::word_arguments::{parse_one, parse_two};
+use crate::work_arguments::parse_work;
 use crate::{Command, LineFault, Refusal};
 use cox_base::MAX_RANK;
 
@@ -57,15 +58,7 @@ fn parse_arguments(
         CommandWord::Quit => parse_quit(arguments),
         CommandWord::One(kind) => parse_one(kind, arguments, rank),
         CommandWord::Two(kind) => parse_two(kind, arguments, rank),
+        CommandWord::Plain(kind) => parse_plain(kind, arguments, rank),
+        CommandWord::Work => parse_work(arguments, rank),
     }
-}
-
-/// `quit` has no arguments.
-fn parse_quit(arguments: Tokens) -> Result<Command, Refusal>
-    ensures { (rank : Option ℕ) → ReadsArguments result Quit arguments.entry rank }
-{
-    if !arguments.has_count(0) {
-        return Err(Refusal::WrongCount);
-    }
-    Ok(Command::Quit)
 }

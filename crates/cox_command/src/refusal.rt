@@ -29,6 +29,8 @@ pub enum Refusal {
     ManyRoots,
     /// The interval from the identity to w has more elements than the session's limit.
     LargeInterval,
+    /// A row that the row of w needs has a coefficient, or a value of mu, above the session's limit.
+    LargeRow,
     /// y is below w, and their lengths differ by more than is worked with.
     FarApart,
 }
@@ -51,6 +53,7 @@ impl Refusal {
             Refusal::ForeignByte => 19,
             Refusal::ManyRoots => 21,
             Refusal::LargeInterval => 31,
+            Refusal::LargeRow => 32,
             Refusal::FarApart => 34,
         }
     }

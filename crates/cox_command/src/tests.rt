@@ -64,6 +64,19 @@ fn refuses_lines_in_order(rt: HostRuntime) {
         ("compute 1..2", Some(10), 16),
         ("inorder 1 2.", Some(10), 16),
         ("compute 1.2", Some(9), 16),
+        ("pol 1x", None, 11),
+        ("mu 1x e", None, 15),
+        ("klbasis 12", Some(2), 0),
+        ("lrcells", Some(2), 0),
+        ("lrcells", None, 15),
+        ("lrcells e", None, 11),
+        ("work 7", None, 11),
+        ("work x 1", None, 12),
+        ("work 7 1", None, 15),
+        ("work 65536 1000000", Some(2), 0),
+        ("work 65537 1", Some(2), 12),
+        ("work 0 0", Some(2), 12),
+        ("work 0 1000001", None, 12),
     ];
     for (line, rank, number) in lines {
         assert_eq!(rt; refusal(&rt, line.as_bytes(), rank), number, "at {line:?}");
@@ -112,6 +125,10 @@ fn gives_commands(rt: HostRuntime) -> Result<(), Fail> {
         panic!(rt; "a word");
     };
     assert!(rt; w.as_slice() == [9, 10, 9].as_slice());
+    let Command::Work { start, count } = parse(b"work 65536 0002", Some(2))? else {
+        panic!(rt; "two numbers");
+    };
+    assert_eq!(rt; (start, count), (MAX_START, 2));
     let Command::Group(group) = parse(b"matrix 3 3 2 04", None)? else {
         panic!(rt; "a group");
     };
@@ -121,4 +138,11 @@ fn gives_commands(rt: HostRuntime) -> Result<(), Fail> {
         [3, 2, 4]
     );
     Ok(())
+}
+
+#[test]
+fn generates_words(rt: HostRuntime) {
+    let (word, next) = work_word(7, 2);
+    assert!(rt; word.as_slice() == [2, 2, 1, 2, 2, 1, 1, 1, 1, 2, 1, 1].as_slice());
+    assert_eq!(rt; next, 34_736);
 }

@@ -1,7 +1,7 @@
 //! What the command's definition gives.
 ghost use Rattle.std.specs.Prelude.{◌≡◌, ◌≢◌, ◌∷◌, [], ℕ, List, Some, All, IsSomeAnd, codes, not, slice_index};
 ghost use Rattle.clap.specs.ValueTests.{is_unsigned_in};
-ghost use Rattle.cox_options.specs.declared.options.TheConstants.{MAX_CONTEXT, MAX_ROOTS};
+ghost use Rattle.cox_options.specs.declared.options.TheConstants.{MAX_CONTEXT, MAX_ROOTS, MAX_COEF};
 ghost use Rattle.cox_options.specs.Arguments.{IsTaken, is_refused, decimal_value, given_number};
 ghost use Rattle.cox_options.specs.Command.{number_options};
 ghost use Rattle.cox_options.specs.OneOption.{IsInRange, joined, named};
@@ -11,6 +11,7 @@ pub fn name_alone_gives_defaults()
     ensures taken { (name : List ℕ) → IsTaken (name ∷ []) }
     ensures context { (name : List ℕ) → given_number (codes "context") (name ∷ []) ≡ Some MAX_CONTEXT }
     ensures roots { (name : List ℕ) → given_number (codes "roots") (name ∷ []) ≡ Some MAX_ROOTS }
+    ensures coef { (name : List ℕ) → given_number (codes "coef") (name ∷ []) ≡ Some MAX_COEF }
 {}
 
 /// For each option `--NAME=N` is taken exactly when N writes a number of its range, and gives that number.

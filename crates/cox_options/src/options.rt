@@ -1,6 +1,6 @@
 //! The options as values.
-ghost use Rattle.std.specs.Prelude.{◌≤◌};
-ghost use Rattle.cox_options.specs.declared.options.TheConstants.{MAX_CONTEXT, MAX_ROOTS};
+ghost use Rattle.std.specs.Prelude.{◌≤◌, ◌≤ℤ◌, pos};
+ghost use Rattle.cox_options.specs.declared.options.TheConstants.{MAX_CONTEXT, MAX_ROOTS, MAX_COEF};
 
 /// The greatest number that `--context` takes, and its default.
 pub const MAX_CONTEXT: u32 = 1_048_576;
@@ -14,6 +14,12 @@ pub const MAX_ROOTS: u32 = 4_096;
 /// The same in decimal digits.
 pub const MAX_ROOTS_TEXT: &str = "4096";
 
+/// The greatest number that `--coef` takes, and its default: the greatest of type `i64`.
+pub const MAX_COEF: u64 = 9_223_372_036_854_775_807;
+
+/// The same in decimal digits.
+pub const MAX_COEF_TEXT: &str = "9223372036854775807";
+
 /// What the arguments ask for. Each field is within its range.
 #[derive(Clone, Copy, Debug, PartialEq, Eq)]
 pub struct Options {
@@ -21,8 +27,11 @@ pub struct Options {
     pub(crate) context: u32,
     // How many small roots a group may have, from 1 to `MAX_ROOTS`.
     pub(crate) roots: u32,
+    // How large a coefficient may be in absolute value, from 1 to `MAX_COEF`.
+    pub(crate) coef: i64,
     ghost context_in_range: { (1 ≤ context) × (context ≤ MAX_CONTEXT) },
     ghost roots_in_range: { (1 ≤ roots) × (roots ≤ MAX_ROOTS) },
+    ghost coef_in_range: { (pos 1 ≤ℤ coef) × (coef ≤ℤ pos MAX_COEF) },
 }
 
 impl Options {
@@ -45,19 +54,30 @@ impl Options {
     {
         self.roots
     }
+
+    /// How large a coefficient of a Kazhdan-Lusztig polynomial may be in absolute value, from 1 to `MAX_COEF`.
+    pub fn coef(&self) -> i64
+        ensures coef { result ≡ self.now.coef }
+        ensures least { pos 1 ≤ℤ result }
+        ensures most { result ≤ℤ pos MAX_COEF }
+    {
+        self.coef
+    }
 }
 
 impl Default for Options {
     ghost use Rattle.std.specs.Prelude.{◌≡◌};
 
-    /// Each option's default: the context `MAX_CONTEXT`, and `MAX_ROOTS` roots.
+    /// Each option's default: the context `MAX_CONTEXT`, `MAX_ROOTS` roots, and coefficients up to `MAX_COEF`.
     fn default() -> Options
         ensures context { result.context ≡ MAX_CONTEXT }
         ensures roots { result.roots ≡ MAX_ROOTS }
+        ensures coef { result.coef ≡ pos MAX_COEF }
     {
         Options {
             context: MAX_CONTEXT,
             roots: MAX_ROOTS,
+            coef: MAX_COEF as i64,
         }
     }
 }

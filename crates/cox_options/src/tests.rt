@@ -63,7 +63,30 @@ fn reads_words(rt: HostRuntime) {
 }
 
 #[test]
+fn reads_limits_of_coefficients(rt: HostRuntime) {
+    let rows: [(&[&str], i64); 8] = [
+        (&["coxeter"], i64::MAX),
+        (&["coxeter", "--coef", "1"], 1),
+        (&["coxeter", "--coef=3000000000"], 3_000_000_000),
+        (&["coxeter", "--coef", "9223372036854775807"], i64::MAX),
+        (&["coxeter", "--coef", "9223372036854775808"], 0),
+        (&["coxeter", "--coef", "0"], 0),
+        (&["coxeter", "--coef", "2", "--roots", "3"], 2),
+        (&["coxeter", "--coef", "2", "--coef", "2"], 0),
+    ];
+    for (words, wanted) in rows {
+        let coef = match read(rt.alloc(), words) {
+            Ok(options) => options.coef(),
+            Err(OptionFault::Usage) => 0,
+            Err(OptionFault::NoMemory) => -1,
+        };
+        assert_eq!(rt; coef, wanted, "at {words:?}");
+    }
+}
+
+#[test]
 fn has_defaults(rt: HostRuntime) {
     assert_eq!(rt; Options::default().context(), MAX_CONTEXT);
     assert_eq!(rt; Options::default().roots(), MAX_ROOTS);
+    assert_eq!(rt; Options::default().coef(), i64::MAX);
 }

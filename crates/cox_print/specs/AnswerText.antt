@@ -1,8 +1,9 @@
 -- The texts of answers, as lists of bytes. The rank is that of the group.
-use Rattle.std.specs.Prelude.{ℕ, ℤ, ◌++◌, Bool, if◌then◌else◌, List, [], ◌∷◌, length, map, codes, decimal}
+use Rattle.std.specs.Prelude.{ℕ, ℤ, ◌++◌, Bool, true, false, if◌then◌else◌, List, [], ◌∷◌, length, map, codes, decimal}
 use Rattle.std.specs.Fmt.{signed_decimal}
 use Rattle.std.specs.List.{flat_map}
 use Rattle.cox_base.specs.WordText.{letters_or, word_text}
+use Rattle.cox_poly.specs.PolynomialText.{polynomial_text}
 
 -- an element: its normal form as it is written, `e` for the identity
 abbrev pub element_text : ℕ → List ℕ → List ℕ
@@ -28,6 +29,37 @@ list_text items = decimal (length items) ++ flat_map (λ item. 10 ∷ item) item
 -- a list of elements
 abbrev pub elements_text : ℕ → List (List ℕ) → List ℕ
 elements_text rank words = list_text (map (element_text rank) words)
+
+-- an element and a polynomial that belongs to it
+abbrev pub pair_text : ℕ → List ℕ → List ℤ → List ℕ
+pair_text rank x p = element_text rank x ++ codes ":" ++ polynomial_text p
+
+-- a member of a cell, and whether it is the first: a space stands before each other one
+abbrev pub member_text : ℕ → List ℕ → Bool → List ℕ
+member_text rank x first = if first then element_text rank x else codes " " ++ element_text rank x
+
+-- the members of a cell, separated by one space
+abbrev pub members_text : ℕ → List (List ℕ) → List ℕ
+members_text rank [] = []
+members_text rank (x ∷ others) = member_text rank x true ++ flat_map (λ y. member_text rank y false) others
+
+-- an element of a W-graph and its label, which is a set of letters
+abbrev pub head_text : ℕ → List ℕ → List ℕ → List ℕ
+head_text rank x label = element_text rank x ++ codes " " ++ set_text rank label
+
+-- an edge of it: the element that it leads to, and its value
+abbrev pub edge_text : ℕ → List ℕ → ℤ → List ℕ
+edge_text rank y value = codes " " ++ element_text rank y ++ codes ":" ++ signed_decimal value
+
+-- a count and its name
+abbrev pub count_text : List ℕ → ℕ → List ℕ
+count_text name n = name ++ codes " " ++ decimal n
+
+-- how many words were worked through, how many entries their rows have, the largest degree, and the sum of the coefficients
+abbrev pub work_text : ℕ → ℕ → ℕ → ℕ → List ℕ
+work_text words entries degree sum =
+    count_text (codes "words") words ++ count_text (codes " entries") entries ++ count_text (codes " degree") degree
+    ++ count_text (codes " sum") sum
 
 -- whether a fact holds
 abbrev pub truth_text : Bool → List ℕ

@@ -2,11 +2,11 @@
 ghost use Rattle.std.specs.Prelude.{◌≤◌};
 ghost use Rattle.cox_base.specs.Matrix.{IsWord};
 ghost use Rattle.cox_poly.specs.Puts.{Puts};
-ghost use Rattle.cox_print.specs.AnswerText.{descent_text, truth_text, refusal_text};
+ghost use Rattle.cox_print.specs.AnswerText.{descent_text, truth_text, refusal_text, count_text, work_text};
 
 use crate::NoMemory;
 use crate::element::put_set;
-use crate::putting::put_count;
+use crate::putting::{put_count, put_natural};
 use cox_base::{MAX_RANK, Word};
 use cox_poly::append::put_text;
 
@@ -36,4 +36,30 @@ pub fn put_refusal(out: &mut Vec<u8>, n: u8) -> Result<(), NoMemory>
 {
     put_text(out, b"error ")?;
     put_count(out, n as usize)
+}
+
+/// Appends what `work` found: how many words, how many entries their rows have, the largest degree of a polynomial, and the sum of all
+/// coefficients, as in `words 1 entries 4 degree 0 sum 4`.
+pub fn put_work(
+    out: &mut Vec<u8>,
+    words: u64,
+    entries: u64,
+    degree: u32,
+    sum: u64,
+) -> Result<(), NoMemory>
+    ensures { Puts result (work_text words entries degree sum) out.old.items out.new.items }
+{
+    put_named_count(out, b"words", words)?;
+    put_named_count(out, b" entries", entries)?;
+    put_named_count(out, b" degree", u64::from(degree))?;
+    put_named_count(out, b" sum", sum)
+}
+
+/// Appends a name, a space and a count.
+fn put_named_count(out: &mut Vec<u8>, name: &[u8], n: u64) -> Result<(), NoMemory>
+    ensures { Puts result (count_text name.now n) out.old.items out.new.items }
+{
+    put_text(out, name)?;
+    put_text(out, b" ")?;
+    put_natural(out, n)
 }

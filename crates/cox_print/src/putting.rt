@@ -11,6 +11,13 @@ use cox_poly::append::{put_number, put_text};
 pub fn put_count(out: &mut Vec<u8>, n: usize) -> Result<(), NoMemory>
     ensures { Puts result (decimal n) out.old.items out.new.items }
 {
+    put_natural(out, n as u64)
+}
+
+/// Appends a natural number in decimal.
+pub(crate) fn put_natural(out: &mut Vec<u8>, n: u64) -> Result<(), NoMemory>
+    ensures { Puts result (decimal n) out.old.items out.new.items }
+{
     put_number(out, n as i128)
 }
 

@@ -1,6 +1,7 @@
 //! Each call once, and the texts that the clauses leave to their words.
 use super::*;
 use cox_base::read_word;
+use cox_poly::Poly;
 use std::test::Fail;
 
 #[test]
@@ -74,5 +75,26 @@ fn puts_lists_of_numbers(rt: HostRuntime) -> Result<(), Fail> {
         put_end(&mut out)?;
     }
     assert_eq!(rt; out.as_slice(), b"1 3 5 6 5 3 1\n\n-2\n0 -10\n".as_slice());
+    Ok(())
+}
+
+#[test]
+fn puts_items_of_lists(rt: HostRuntime) -> Result<(), Fail> {
+    let mut out = Vec::new(rt.alloc());
+    let (word, empty) = (read_word(b"12", 2)?, read_word(b"e", 2)?);
+    put_count(&mut out, 1)?;
+    put_next_pair(&mut out, 2, &word, &Poly::of(rt.alloc(), &[1, 2])?)?;
+    put_end(&mut out)?;
+    put_member(&mut out, 2, &empty, true)?;
+    put_member(&mut out, 2, &word, false)?;
+    put_end(&mut out)?;
+    put_head(&mut out, 2, &word, &empty)?;
+    put_edge(&mut out, 2, &word, -1)?;
+    put_edge(&mut out, 2, &empty, i64::MIN)?;
+    put_end(&mut out)?;
+    put_work(&mut out, 1, 4, u32::MAX, u64::MAX)?;
+    let want =
+        b"1\n12:1+2q\ne 12\n12 - 12:-1 e:-9223372036854775808\nwords 1 entries 4 degree 4294967295 sum 18446744073709551615";
+    assert_eq!(rt; out.as_slice(), want.as_slice());
     Ok(())
 }

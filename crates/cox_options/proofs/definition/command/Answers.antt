@@ -18,5 +18,6 @@ returns c =
     let context = c.number_option-context.ensures.rule ∙ ap (rule (codes "context") MAX_CONTEXT_TEXT.now) c.from.ensures in
     let roots = c.number_option-roots.ensures.rule ∙ ap (rule (codes "roots") MAX_ROOTS_TEXT.now) c.from-2.ensures in
     let one = c.in_ok-arg.ensures.shape c.number_option-context.ensures.local ∙ ap₂ with_rule start context in
-    IfOk-weaker c.arg-2.result _ _
-    (λ command added. added.shape c.number_option-roots.ensures.local ∙ ap₂ with_rule one roots) c.arg-2.ensures
+    let two = c.in_ok-arg-2.ensures.shape c.number_option-roots.ensures.local ∙ ap₂ with_rule one roots in
+    IfOk-weaker c.arg-3.result _ _
+    (λ command added. added.shape c.number_option-coef.ensures.local ∙ ap₂ with_rule two c.number_option-coef.ensures.rule) c.arg-3.ensures

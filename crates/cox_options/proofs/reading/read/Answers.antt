@@ -1,5 +1,6 @@
 -- A parse without a fault gives the options by their definition.
-use Rattle.std.proofs.Common.{◌∙◌, ap, sym, not, map, codes}
+use Rattle.std.proofs.Common.{◌∙◌, ap, sym, not, map, codes, pos}
+use Rattle.std.specs.Prelude.{option_map}
 use Rattle.clap.specs.Simple.{App}
 use Rattle.clap.specs.Walk.{is_empty}
 use Rattle.clap.specs.Words.{Kinds, fault_of, found_of, is_simple, is_simple_and_free}
@@ -9,7 +10,7 @@ use Rattle.cox_options.proofs.reading.read.Goals as goal
 pub options_in-requires : goal.options_in-requires
 options_in-requires c =
     let numbers = options_read _ _ c.in-Ok-try_get_matches_from.ensures.parsed c.in-Ok.ensures in
-    record { context = numbers.0; roots = numbers.1.0 }
+    record { context = numbers.0; roots = numbers.1.0; coef = numbers.1.1.0 }
 
 pub returns-in-Ok-try_get_matches_from-clause-taken :
     goal.returns-in-Ok-try_get_matches_from-clause-taken
@@ -34,3 +35,11 @@ returns-in-Ok-try_get_matches_from-clause-roots c =
     given_read _ (map (λ word. word.now) c.args.words.now) (found_of c.in-Ok-try_get_matches_from.matches)
     (codes "roots") c.in-Ok.ensures found.0
     ∙ c.options_in.ensures.roots
+
+pub returns-in-Ok-try_get_matches_from-clause-coef :
+    goal.returns-in-Ok-try_get_matches_from-clause-coef
+returns-in-Ok-try_get_matches_from-clause-coef c =
+    let found = c.in-Ok-try_get_matches_from.ensures.matches (ap is_simple c.in-Ok.ensures) in
+    ap (option_map pos) (given_read _ (map (λ word. word.now) c.args.words.now) (found_of c.in-Ok-try_get_matches_from.matches)
+    (codes "coef") c.in-Ok.ensures found.0)
+    ∙ c.options_in.ensures.coef

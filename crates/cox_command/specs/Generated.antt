@@ -1,0 +1,29 @@
+-- The words that `work` generates.
+use Rattle.std.specs.Prelude.{ℕ, zero, suc, ◌+◌, ◌*◌, ◌%◌, List, [], ◌∷◌, ◌++◌}
+use Rattle.cox_command.specs.declared.generated.TheConstants.{MULTIPLIER, INCREMENT, MODULUS, WORD_LETTERS}
+
+-- the state after one step
+abbrev pub next_state : ℕ → ℕ
+next_state g = (MULTIPLIER * g + INCREMENT) % MODULUS
+
+-- the state after so many steps
+unfoldable pub state_after : ℕ → ℕ → ℕ
+state_after zero g = g
+state_after (suc steps) g = next_state (state_after steps g)
+
+-- the letter that a state gives
+abbrev pub state_letter : ℕ → ℕ → ℕ
+state_letter rank g = 1 + g % rank
+
+-- the letters that so many steps give: each that of the state after it
+unfoldable pub step_letters : ℕ → ℕ → ℕ → List ℕ
+step_letters rank zero g = []
+step_letters rank (suc steps) g = step_letters rank steps g ++ state_letter rank (state_after (suc steps) g) ∷ []
+
+-- the word that a state gives
+abbrev pub generated_word : ℕ → ℕ → List ℕ
+generated_word rank g = step_letters rank WORD_LETTERS g
+
+-- the state behind that word, from which the next one is generated
+abbrev pub state_behind_word : ℕ → ℕ
+state_behind_word g = state_after WORD_LETTERS g

@@ -1,0 +1,2 @@
+-- three texts, one behind another
+pub mod ThreeTexts
