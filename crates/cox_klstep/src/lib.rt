@@ -14,16 +14,21 @@
 //! - `fault`: why a row is not made
 #![tactic(auto)]
 
+mod choice;
+mod draft;
 mod fault;
 mod identity;
 mod making;
 mod member;
 mod mus;
 mod needed;
+mod sides;
+mod source;
 mod step;
 mod steps;
 mod sums;
 mod tables;
+mod target;
 #[cfg(test)]
 mod tests;
 mod values;
