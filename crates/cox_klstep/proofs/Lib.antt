@@ -16,8 +16,6 @@ pub mod Filtered
 pub mod Middles
 -- polynomials as they are found
 pub mod Keeping
--- mu at members that are not extremal
-pub mod RaisedMus
 -- coefficients above the limit
 pub mod LargeLemmas
 -- the row when each member is done
