@@ -1,0 +1,2 @@
+-- elements whose rows are beyond the limits
+pub mod Beyond

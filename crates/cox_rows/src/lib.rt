@@ -1,0 +1,4 @@
+//! A context with rows of its members.
+#![tactic(auto)]
+
+pub mod laws;
