@@ -4,3 +4,5 @@ pub mod NeedCases
 pub mod BeyondLemmas
 -- whether Need(w) has such a row can be told
 pub mod NeedDecided
+-- the rows that are held, by place
+pub mod HeldLemmas

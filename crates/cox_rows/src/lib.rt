@@ -1,4 +1,5 @@
 //! A context with rows of its members.
 #![tactic(auto)]
 
+mod held;
 pub mod laws;

@@ -1,0 +1,127 @@
+//! A context, and rows of some of its members.
+ghost use Rattle.std.specs.Prelude.{◌≡◌, ◌≢◌, ℕ, ◌<◌, ◌≤◌, ◌↔◌, [], length, IfSome, IsSome, IsNone, IfNone, IsTrue, OnOk, OnErr, Some, None, is_some, true, pos, ◌≤ℤ◌};
+ghost use Rattle.cox_row.specs.RowOf.{IsRowAt};
+ghost use Rattle.cox_row.specs.Within.{IsRowWithin};
+ghost use Rattle.cox_rows.specs.Holding.{Holding, Holds, IsHeldRow, row_at};
+
+use cox_context::Context;
+use cox_row::Row;
+use std::alloc::{AllocError, Global};
+use std::marker::Model;
+
+/// A context, and rows of its members, each under its member's number. There may be fewer places for rows than members.
+#[derive(Drop)]
+pub(crate) struct Held {
+    context: Context,
+    rows: Vec<Option<Row>>,
+    limit: i64,
+}
+
+impl Model for Held {
+    ghost use Rattle.cox_rows.specs.Holding.{Holding, AreRows, held};
+
+    ghost Value = { Holding };
+
+    ghost view = { λ h. record { elements = h.context; limit = h.limit; holds = held h.rows.items } };
+
+    ghost invariant = { λ h. AreRows h.context h.limit h.rows.items };
+}
+
+impl Held {
+    /// A context with no rows.
+    pub(crate) fn new(alloc: Global, context: Context, limit: i64) -> Held
+        requires { pos 0 ≤ℤ limit }
+        ensures { result ≡ record { elements = context; limit = limit; holds = [] } }
+    {
+        Held {
+            context,
+            rows: Vec::new(alloc),
+            limit,
+        }
+    }
+
+    /// The context.
+    pub(crate) fn context(&self) -> &Context
+        ensures { result.now ≡ self.now.elements }
+    {
+        &self.context
+    }
+
+    /// The greatest absolute value of a coefficient.
+    pub(crate) fn limit(&self) -> i64
+        ensures limit { result ≡ self.now.limit }
+        ensures least { pos 0 ≤ℤ self.now.limit }
+    {
+        self.limit
+    }
+
+    /// The row of the member with the number i, if it is there.
+    pub(crate) fn row(&self, i: u32) -> Option<&Row>
+        ensures row { IfSome result (λ r. IsHeldRow self.now.elements self.now.limit i r.now) }
+        ensures exactly { IsSome result ↔ Holds self.now i }
+    {
+        match self.rows.get(i as usize) {
+            Some(Some(row)) => Some(row),
+            _ => None,
+        }
+    }
+
+    /// Puts the row of the member with the number i.
+    pub(crate) fn put(&mut self, i: u32, row: Row) -> Result<(), AllocError>
+        requires { IsHeldRow self.old.elements self.old.limit i row }
+        ensures elements { self.new.elements ≡ self.old.elements }
+        ensures limit { self.new.limit ≡ self.old.limit }
+        ensures there { OnOk result (Holds self.new i) }
+        ensures kept { (j : ℕ) → Holds self.old j → Holds self.new j }
+        ensures others { (j : ℕ) → j ≢ i → Holds self.new j → Holds self.old j }
+    {
+        put_at(&mut self.rows, i as usize, row)
+    }
+
+    /// Takes the row of the member with the number i out, if it is there.
+    pub(crate) fn take(&mut self, i: u32) -> Option<Row>
+        ensures row { IfSome result (IsHeldRow self.old.elements self.old.limit i) }
+        ensures exactly { IsSome result ↔ Holds self.old i }
+        ensures elements { self.new.elements ≡ self.old.elements }
+        ensures limit { self.new.limit ≡ self.old.limit }
+        ensures gone { ¬ Holds self.new i }
+        ensures others { (j : ℕ) → j ≢ i → Holds self.new j ↔ Holds self.old j }
+    {
+        take_at(&mut self.rows, i as usize)
+    }
+}
+
+/// Takes the row at a place out, if there is one.
+fn take_at(rows: &mut Vec<Option<Row>>, i: usize) -> Option<Row>
+    ensures taken { result ≡ row_at rows.old.items i }
+    ensures gone { row_at rows.new.items i ≡ None }
+    ensures others { (j : ℕ) → j ≢ i → row_at rows.new.items j ≡ row_at rows.old.items j }
+{
+    if i >= rows.len() {
+        return None;
+    }
+    rows[i].take()
+}
+
+/// Puts a row at a place, where there may be none yet. Without memory no row is put.
+fn put_at(rows: &mut Vec<Option<Row>>, i: usize, row: Row) -> Result<(), AllocError>
+    ensures at { OnOk result (row_at rows.new.items i ≡ Some row) }
+    ensures others { (j : ℕ) → j ≢ i → row_at rows.new.items j ≡ row_at rows.old.items j }
+    ensures failed { OnErr result ((j : ℕ) → row_at rows.new.items j ≡ row_at rows.old.items j) }
+    ensures kept { (j : ℕ) → is_some (row_at rows.old.items j) ≡ true → is_some (row_at rows.new.items j) ≡ true }
+{
+    make_room(rows, i)?;
+    rows[i] = Some(row);
+    Ok(())
+}
+
+/// Appends places without rows until there is one with the number i.
+fn make_room(rows: &mut Vec<Option<Row>>, i: usize) -> Result<(), AllocError>
+    ensures same { (j : ℕ) → row_at rows.new.items j ≡ row_at rows.old.items j }
+    ensures room { OnOk result (i < length rows.new.items) }
+{
+    'places: while rows.len() <= i {
+        rows.push(None)?;
+    }
+    Ok(())
+}
