@@ -2,3 +2,7 @@
 pub mod Beyond
 -- a context with rows
 pub mod Holding
+-- why rows are not made
+pub mod Faults
+-- how rows change while others are made
+pub mod Ensured

@@ -5,7 +5,7 @@ ghost use Rattle.cox_row.specs.Within.{IsRowWithin};
 ghost use Rattle.cox_rows.specs.Holding.{Holding, Holds, IsHeldRow, row_at};
 
 use cox_context::Context;
-use cox_row::Row;
+use cox_row::{LowerRows, Row};
 use std::alloc::{AllocError, Global};
 use std::marker::Model;
 
@@ -48,7 +48,7 @@ impl Held {
     }
 
     /// The greatest absolute value of a coefficient.
-    pub(crate) fn limit(&self) -> i64
+    pub(crate) fn greatest(&self) -> i64
         ensures limit { result ≡ self.now.limit }
         ensures least { pos 0 ≤ℤ self.now.limit }
     {
@@ -56,7 +56,7 @@ impl Held {
     }
 
     /// The row of the member with the number i, if it is there.
-    pub(crate) fn row(&self, i: u32) -> Option<&Row>
+    pub(crate) fn get(&self, i: u32) -> Option<&Row>
         ensures row { IfSome result (λ r. IsHeldRow self.now.elements self.now.limit i r.now) }
         ensures exactly { IsSome result ↔ Holds self.now i }
     {
@@ -101,6 +101,29 @@ fn take_at(rows: &mut Vec<Option<Row>>, i: usize) -> Option<Row>
         return None;
     }
     rows[i].take()
+}
+
+impl LowerRows for Held {
+    ghost elements = { λ h. h.elements };
+
+    ghost holds = { λ h i. Holds h i };
+
+    ghost limit = { λ h. h.limit };
+
+    fn limit(&self) -> i64 {
+        self.greatest()
+    }
+
+    fn has(&self, i: u32) -> bool {
+        self.get(i).is_some()
+    }
+
+    fn row(&self, i: u32) -> &Row {
+        match self.get(i) {
+            Some(row) => row,
+            None => unreachable!(),
+        }
+    }
 }
 
 /// Puts a row at a place, where there may be none yet. Without memory no row is put.

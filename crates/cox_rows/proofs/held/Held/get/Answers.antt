@@ -2,7 +2,7 @@
 use Rattle.std.proofs.Common.{None, sym, ◌∙◌}
 use Rattle.cox_rows.specs.Holding.{row_at}
 use Rattle.cox_rows.proofs.HeldLemmas.{row-there}
-use Rattle.cox_rows.proofs.held.Held.row.Goals as goal
+use Rattle.cox_rows.proofs.held.Held.get.Goals as goal
 
 pub returns-in-Some-Some-clause-row : goal.returns-in-Some-Some-clause-row
 returns-in-Some-Some-clause-row c =
