@@ -6,3 +6,11 @@ pub mod BeyondLemmas
 pub mod NeedDecided
 -- the rows that are held, by place
 pub mod HeldLemmas
+-- rows that are held are not beyond the limits
+pub mod RowBeyond
+-- faults of rows
+pub mod FaultLemmas
+-- how rows change while others are made
+pub mod Ensuring
+-- settled members
+pub mod SettledLemmas

@@ -1,7 +1,8 @@
 //! A context, and rows of some of its members.
 ghost use Rattle.std.specs.Prelude.{◌≡◌, ◌≢◌, ℕ, ◌<◌, ◌≤◌, ◌↔◌, [], length, IfSome, IsSome, IsNone, IfNone, IsTrue, OnOk, OnErr, Some, None, is_some, true, pos, ◌≤ℤ◌};
-ghost use Rattle.cox_row.specs.RowOf.{IsRowAt};
-ghost use Rattle.cox_row.specs.Within.{IsRowWithin};
+ghost use Rattle.cox_base.specs.Admissible.{IsAdmissible};
+ghost use Rattle.cox_base.specs.IntegerMatrix.{integer_matrix};
+ghost use Rattle.cox_context.specs.Closed.{IsClosed};
 ghost use Rattle.cox_rows.specs.Holding.{Holding, Holds, IsHeldRow, row_at};
 
 use cox_context::Context;
@@ -42,15 +43,18 @@ impl Held {
 
     /// The context.
     pub(crate) fn context(&self) -> &Context
-        ensures { result.now ≡ self.now.elements }
+        ensures context { result.now ≡ self.now.elements }
+        ensures closed { IsClosed (integer_matrix self.now.elements.matrix) self.now.elements.members }
+        ensures admissible { IsAdmissible (integer_matrix self.now.elements.matrix) }
+        ensures least { pos 0 ≤ℤ self.now.limit }
     {
+        let _len = self.context.len();
         &self.context
     }
 
     /// The greatest absolute value of a coefficient.
     pub(crate) fn greatest(&self) -> i64
-        ensures limit { result ≡ self.now.limit }
-        ensures least { pos 0 ≤ℤ self.now.limit }
+        ensures { result ≡ self.now.limit }
     {
         self.limit
     }
@@ -111,6 +115,7 @@ impl LowerRows for Held {
     ghost limit = { λ h. h.limit };
 
     fn limit(&self) -> i64 {
+        let _context = self.context();
         self.greatest()
     }
 

@@ -2,6 +2,8 @@
 ghost use Rattle.std.specs.Prelude.{◌≡◌, ◌≢◌, ℕ, ◌<◌, ◌≤◌, ◌↔◌, [], true, length, IfSome, IfNone, IsSome, IsTrue, IfOk, IfErr, OnOk, pos, ◌≤ℤ◌, unsigned_abs, ◌⊎◌, false, slice_index_or};
 ghost use Rattle.cox_base.specs.IntegerMatrix.{integer_matrix};
 ghost use Rattle.cox_hecke.specs.Needs.{IsNeeded};
+ghost use Rattle.cox_base.specs.Admissible.{IsAdmissible};
+ghost use Rattle.cox_context.specs.Closed.{IsClosed};
 ghost use Rattle.cox_context.specs.Numbers.{word_at};
 ghost use Rattle.cox_row.specs.Mus.{value_at};
 ghost use Rattle.cox_klstep.specs.StepOf.{IsDescentAt};
@@ -59,12 +61,16 @@ impl Rows {
 
     /// The context.
     pub fn context(&self) -> &Context
-        ensures { result.now ≡ self.now.elements }
+        ensures context { result.now ≡ self.now.elements }
+        ensures closed { IsClosed (integer_matrix self.now.elements.matrix) self.now.elements.members }
+        ensures admissible { IsAdmissible (integer_matrix self.now.elements.matrix) }
+        ensures least { pos 0 ≤ℤ self.now.limit }
     {
         self.held.context()
     }
 
     /// Makes the rows of Need(z) that are not there, for the member z with the number i, and no others.
+    #[cycle(ensuring)]
     pub fn ensure(&mut self, i: u32) -> Result<(), RowsFault>
         requires { i < length self.old.elements.members }
         ensures rows { IsEnsured (word_at self.old.elements.members i) self.old self.new }
@@ -73,19 +79,36 @@ impl Rows {
         ensures fault { IfErr result (IsRowsFault self.old.elements self.old.limit
             (IsNeeded (integer_matrix self.old.elements.matrix) (word_at self.old.elements.members i))) }
     {
+        let _context = self.context();
         if self.is_settled(i) {
             return Ok(());
         }
-        if i > 0 {
-            let descent = Descent::of(self.context(), i);
-            self.ensure(descent.lower)?;
-            let corrections = self.corrections(&descent)?;
-            'corrections: for &u in corrections.iter() {
-                self.ensure(u)?;
-            }
-        }
+        self.ensure_lower(i)?;
         self.make(i)?;
         self.settle(i)
+    }
+
+    /// Makes the rows that the row of the member with the number i is made from, and what they need.
+    #[cycle(ensuring)]
+    fn ensure_lower(&mut self, i: u32) -> Result<(), RowsFault>
+        requires { i < length self.old.elements.members }
+        ensures rows { IsEnsured (word_at self.old.elements.members i) self.old self.new }
+        ensures there { OnOk result (HasNeeds self.old.elements (Holds self.new) i) }
+        ensures small { OnOk result (AreNeedsSmall (integer_matrix self.old.elements.matrix) self.old.limit (word_at self.old.elements.members i)) }
+        ensures fault { IfErr result (IsRowsFault self.old.elements self.old.limit
+            (IsNeeded (integer_matrix self.old.elements.matrix) (word_at self.old.elements.members i))) }
+    {
+        let context = self.context();
+        if i == 0 {
+            return Ok(());
+        }
+        let descent = Descent::of(context, i);
+        self.ensure(descent.lower)?;
+        let corrections = self.corrections(&descent)?;
+        'each: for &u in corrections.iter() {
+            self.ensure(u)?;
+        }
+        Ok(())
     }
 
     /// The members that correct the step by a descent, where the row of the shorter element is there.
@@ -158,6 +181,7 @@ impl Rows {
         ensures small { OnOk result (¬ NeedsBeyond (integer_matrix self.old.elements.matrix) self.old.limit (word_at self.old.elements.members i)) }
         ensures fault { IfErr result (IsRowsFault self.old.elements self.old.limit (λ w. w ≡ word_at self.old.elements.members i)) }
     {
+        let _context = self.held.context();
         let Some(row) = self.held.get(i) else {
             unreachable!();
         };
