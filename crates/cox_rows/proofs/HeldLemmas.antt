@@ -22,3 +22,17 @@ row_at-push (row ∷ rows) (suc i) = row_at-push rows i
 pub row-there : (e : Elements) (limit : ℤ) (rows : List (Option Row)) (i : ℕ) (row : Row) → AreRows e limit rows → row_at rows i ≡ Some row
     → IsHeldRow e limit i row
 row-there e limit rows i row are is = rw is at (are.each i)
+
+-- no row is there
+pub not-there : (found : Option Row) → found ≡ None → is_some found ≡ true → ⊥
+not-there None e s = cc
+not-there (Some row) e s = cc
+
+-- what is held is the row of a member
+pub held-member : (e : Elements) (limit : ℤ) (rows : List (Option Row)) → AreRows e limit rows → (i : ℕ)
+    → slice_index_or (held rows) i false ≡ true → i < length e.members
+held-member e limit rows are i some = go (row_at rows i) (are.each i) (sym (held-at rows i) ∙ some)
+  where
+    go : (found : Option Row) → IfSome found (IsHeldRow e limit i) → is_some found ≡ true → i < length e.members
+    go None h t = absurd (cc)
+    go (Some row) h t = h.member

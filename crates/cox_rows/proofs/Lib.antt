@@ -14,3 +14,5 @@ pub mod FaultLemmas
 pub mod Ensuring
 -- settled members
 pub mod SettledLemmas
+-- rows under new numbers
+pub mod SpreadLemmas

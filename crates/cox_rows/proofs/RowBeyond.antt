@@ -29,7 +29,7 @@ use Rattle.cox_rows.specs.Beyond.{IsBeyond, coefficient, mu}
 module _ (A : IntegerMatrix) (g : IsAdmissible A) (members : List (List ℕ)) (closed : IsClosed A members) (i : ℕ)
     (inside : i < length members)
     (limit : ℤ) (least : pos 0 ≤ℤ limit) (row : Row) (is : IsRowOf A members (word_at members i) row) (within : IsRowWithin limit row) where
-  none-coefficient : (x : List ℕ) (k : ℕ) (c : ℤ) → IsLargeCoefficient A limit x (word_at members i) k c → ⊥
+  pub none-coefficient : (x : List ℕ) (k : ℕ) (c : ℤ) → IsLargeCoefficient A limit x (word_at members i) k c → ⊥
   none-coefficient x k c h = none-large A g members closed i inside limit least row.extremal.items row.places.items row.pool.items
       is.extremal is.polynomials within x k c h
 

@@ -6,3 +6,5 @@ pub mod Holding
 pub mod Faults
 -- how rows change while others are made
 pub mod Ensured
+-- rows under new numbers
+pub mod Spread

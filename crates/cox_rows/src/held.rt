@@ -1,14 +1,23 @@
 //! A context, and rows of some of its members.
-ghost use Rattle.std.specs.Prelude.{◌≡◌, ◌≢◌, ℕ, ◌<◌, ◌≤◌, ◌↔◌, [], length, IfSome, IsSome, IsNone, IfNone, IsTrue, OnOk, OnErr, Some, None, is_some, true, pos, ◌≤ℤ◌};
+ghost use Rattle.std.specs.Prelude.{◌≡◌, ◌≢◌, ℕ, ◌<◌, ◌≤◌, ◌↔◌, [], length, IfSome, IsSome, IsNone, IfNone, IsTrue, IfOk, IfErr, OnOk, OnErr, Some, None, is_some, true, pos, ◌≤ℤ◌};
 ghost use Rattle.cox_base.specs.Admissible.{IsAdmissible};
 ghost use Rattle.cox_base.specs.IntegerMatrix.{integer_matrix};
 ghost use Rattle.cox_context.specs.Closed.{IsClosed};
-ghost use Rattle.cox_rows.specs.Holding.{Holding, Holds, IsHeldRow, row_at};
+ghost use Rattle.cox_base.specs.Matrix.{IsWord};
+ghost use Rattle.cox_context.specs.Members.{IsInUnion};
+ghost use Rattle.cox_context.specs.SortedList.{IsListOf};
+ghost use Rattle.cox_context.specs.Refusal.{IsRefusal};
+ghost use Rattle.cox_context.specs.declared.fault.ContextFault.TheVariants.{NoMemory};
+ghost use Rattle.cox_rows.specs.Holding.{Holding, Holds, IsHeldRow, AreRows, row_at, held};
+ghost use Rattle.cox_rows.specs.Spread.{IsMovable, AreSpread, AreCarried};
 
-use cox_context::Context;
+use cox_base::Word;
+use cox_context::{Context, ContextFault, MAX_MEMBERS};
+use cox_minroots::RootTable;
 use cox_row::{LowerRows, Row};
 use std::alloc::{AllocError, Global};
 use std::marker::Model;
+use std::mem;
 
 /// A context, and rows of its members, each under its member's number. There may be fewer places for rows than members.
 #[derive(Drop)]
@@ -47,6 +56,7 @@ impl Held {
         ensures closed { IsClosed (integer_matrix self.now.elements.matrix) self.now.elements.members }
         ensures admissible { IsAdmissible (integer_matrix self.now.elements.matrix) }
         ensures least { pos 0 ≤ℤ self.now.limit }
+        ensures members { (i : ℕ) → Holds self.now i → i < length self.now.elements.members }
     {
         let _len = self.context.len();
         &self.context
@@ -152,4 +162,24 @@ fn make_room(rows: &mut Vec<Option<Row>>, i: usize) -> Result<(), AllocError>
         rows.push(None)?;
     }
     Ok(())
+}
+
+/// The rows at their new places, with new numbers.
+fn spread(
+    alloc: Global,
+    rows: Vec<Option<Row>>,
+    moved: &[u32],
+) -> Result<Vec<Option<Row>>, AllocError>
+    requires { (i : ℕ) → IfSome (row_at rows.items i) (IsMovable moved.now i) }
+    ensures { IfOk result (λ spread. AreSpread rows.items moved.now (length rows.items) spread.items) }
+{
+    let mut rows = rows;
+    let mut spread = Vec::new(alloc);
+    'rows: for i in 0..rows.len() {
+        if let Some(mut row) = take_at(&mut rows, i) {
+            row.renumber(moved);
+            put_at(&mut spread, moved[i] as usize, row)?;
+        }
+    }
+    Ok(spread)
 }
