@@ -8,3 +8,5 @@ pub mod Faults
 pub mod Ensured
 -- rows under new numbers
 pub mod Spread
+-- a context that grows
+pub mod Extended

@@ -7,9 +7,9 @@ ghost use Rattle.cox_base.specs.Matrix.{IsWord};
 ghost use Rattle.cox_context.specs.Members.{IsInUnion};
 ghost use Rattle.cox_context.specs.SortedList.{IsListOf};
 ghost use Rattle.cox_context.specs.Refusal.{IsRefusal};
-ghost use Rattle.cox_context.specs.declared.fault.ContextFault.TheVariants.{NoMemory};
 ghost use Rattle.cox_rows.specs.Holding.{Holding, Holds, IsHeldRow, AreRows, row_at, held};
 ghost use Rattle.cox_rows.specs.Spread.{IsMovable, AreSpread, AreCarried};
+ghost use Rattle.cox_rows.specs.Extended.{IsLeft};
 
 use cox_base::Word;
 use cox_context::{Context, ContextFault, MAX_MEMBERS};
@@ -102,6 +102,60 @@ impl Held {
         ensures others { (j : ℕ) → j ≢ i → Holds self.new j ↔ Holds self.old j }
     {
         take_at(&mut self.rows, i as usize)
+    }
+
+    /// The context and the rows.
+    pub(crate) fn into_parts(self) -> (Context, Vec<Option<Row>>)
+        ensures context { result.0 ≡ self.elements }
+        ensures rows { (i : ℕ) → IfSome (row_at result.1.items i) (IsHeldRow self.elements self.limit i) }
+        ensures exactly { self.holds ≡ held result.1.items }
+    {
+        (self.context, self.rows)
+    }
+
+    /// A context with rows of its members.
+    pub(crate) fn adopt(context: Context, rows: Vec<Option<Row>>, limit: i64) -> Held
+        requires { AreRows context limit rows.items }
+        ensures { result ≡ record { elements = context; limit = limit; holds = held rows.items } }
+    {
+        Held {
+            context,
+            rows,
+            limit,
+        }
+    }
+
+    /// Adds the elements x with x <= w to the context; the new number of each member that was there before. Without memory no row may be left.
+    pub(crate) fn extend(
+        &mut self,
+        group: &RootTable,
+        w: &Word,
+        limit: u32,
+    ) -> Result<Vec<u32>, ContextFault>
+        requires matrix { group.now ≡ self.old.elements.matrix }
+        requires letters { IsWord group.now.rank w.now.items }
+        requires some { 1 ≤ limit }
+        requires limit { limit ≤ MAX_MEMBERS }
+        ensures matrix { self.new.elements.matrix ≡ self.old.elements.matrix }
+        ensures limit { self.new.limit ≡ self.old.limit }
+        ensures members { OnOk result (IsListOf (IsInUnion (integer_matrix group.now) w.now.items self.old.elements.members) self.new.elements.members) }
+        ensures few { OnOk result (length self.new.elements.members ≤ limit) }
+        ensures carried { IfOk result (λ moved. AreCarried self.old self.new moved.items) }
+        ensures refused { IfErr result (IsRefusal (IsInUnion (integer_matrix group.now) w.now.items self.old.elements.members) limit) }
+        ensures unchanged { IfErr result (IsLeft self.old self.new) }
+    {
+        let _old = self.context.len();
+        let moved = self.context.extend(group, w, limit)?;
+        let _new = self.context.len();
+        let alloc = *self.rows.allocator();
+        let rows = mem::replace(&mut self.rows, Vec::new(alloc));
+        match spread(alloc, rows, moved.as_slice()) {
+            Ok(rows) => {
+                self.rows = rows;
+                Ok(moved)
+            }
+            Err(_) => Err(ContextFault::NoMemory),
+        }
     }
 }
 
