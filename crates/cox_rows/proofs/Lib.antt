@@ -16,3 +16,5 @@ pub mod Ensuring
 pub mod SettledLemmas
 -- rows under new numbers
 pub mod SpreadLemmas
+-- larger contexts
+pub mod ExtendLemmas

@@ -78,6 +78,7 @@ impl Rows {
         ensures closed { IsClosed (integer_matrix self.now.elements.matrix) self.now.elements.members }
         ensures admissible { IsAdmissible (integer_matrix self.now.elements.matrix) }
         ensures least { pos 0 ≤ℤ self.now.limit }
+        ensures members { (i : ℕ) → Holds self.now i → i < length self.now.elements.members }
     {
         self.held.context()
     }
