@@ -11,7 +11,7 @@ pub mod RowBeyond
 -- faults of rows
 pub mod FaultLemmas
 -- how rows change while others are made
-pub mod Ensuring
+pub mod EnsureLemmas
 -- settled members
 pub mod SettledLemmas
 -- rows under new numbers

@@ -26,3 +26,7 @@ abbrev pub IsRowsFault : Elements → ℤ → (List ℕ → Type 0) → RowsFaul
 IsRowsFault e limit P (Coefficient x w degree value) = IsRowFault e limit P w (step.Coefficient x degree value)
 IsRowsFault e limit P (Mu x w value) = IsRowFault e limit P w (step.Mu x value)
 IsRowsFault e limit P NoMemory = Unit {0}
+
+-- the row of some member is beyond a limit
+abbrev pub IsFaultOfSome : Elements → ℤ → RowsFault → Type 0
+IsFaultOfSome e limit fault = IsRowsFault e limit (λ w. Unit {0}) fault

@@ -1,4 +1,4 @@
-//! A context with rows of its members, and how rows are made.
+//! A context with rows of its members: look-ups, and contexts that grow.
 ghost use Rattle.std.specs.Prelude.{◌≡◌, ◌≢◌, ℕ, ◌<◌, ◌≤◌, ◌↔◌, [], true, length, IfSome, IfNone, IsSome, IsTrue, IfOk, IfErr, OnOk, pos, ◌≤ℤ◌, unsigned_abs, ◌⊎◌, false, slice_index, slice_index_or};
 ghost use Rattle.cox_base.specs.IntegerMatrix.{integer_matrix};
 ghost use Rattle.cox_base.specs.Matrix.{IsWord};
@@ -24,12 +24,11 @@ ghost use Rattle.cox_rows.specs.Extended.{IsExtended, IsLeft};
 ghost use Rattle.cox_rows.specs.Faults.{IsRowsFault};
 ghost use Rattle.cox_rows.specs.Ensured.{IsEnsured, IsSettled, AreNeedsSmall};
 
-use crate::RowsFault;
-use crate::fault::fault_of;
+use crate::flags::{clear_at, spread_flags};
 use crate::held::Held;
 use cox_base::Word;
 use cox_context::{Context, ContextFault, MAX_MEMBERS};
-use cox_klstep::{Descent, MU_LIMIT, StepFault, Steps, Tables, needs, row};
+use cox_klstep::{Steps, Tables};
 use cox_minroots::RootTable;
 use cox_poly::Poly;
 use cox_row::{LowerRows, Row, mu, polynomial, pool_len};
@@ -40,10 +39,10 @@ use std::mem;
 /// A context, and the rows of some of its members. Every coefficient of a row that is held is within the limit.
 #[derive(Drop)]
 pub struct Rows {
-    held: Held,
-    settled: Vec<bool>,
-    tables: Option<Tables>,
-    steps: Steps,
+    pub(crate) held: Held,
+    pub(crate) settled: Vec<bool>,
+    pub(crate) tables: Option<Tables>,
+    pub(crate) steps: Steps,
 }
 
 impl Model for Rows {
@@ -229,129 +228,6 @@ impl Rows {
             }
         }
     }
-
-    /// Makes the rows of Need(z) that are not there, for the member z with the number i, and no others.
-    #[cycle(ensuring)]
-    pub fn ensure(&mut self, i: u32) -> Result<(), RowsFault>
-        requires { i < length self.old.elements.members }
-        ensures rows { IsEnsured (word_at self.old.elements.members i) self.old self.new }
-        ensures there { OnOk result (Holds self.new i) }
-        ensures small { OnOk result (¬ NeedsBeyond (integer_matrix self.old.elements.matrix) self.old.limit (word_at self.old.elements.members i)) }
-        ensures fault { IfErr result (IsRowsFault self.old.elements self.old.limit
-            (IsNeeded (integer_matrix self.old.elements.matrix) (word_at self.old.elements.members i))) }
-    {
-        let _context = self.context();
-        if self.is_settled(i) {
-            return Ok(());
-        }
-        self.ensure_lower(i)?;
-        self.make(i)?;
-        self.settle(i)
-    }
-
-    /// Makes the rows that the row of the member with the number i is made from, and what they need.
-    #[cycle(ensuring)]
-    fn ensure_lower(&mut self, i: u32) -> Result<(), RowsFault>
-        requires { i < length self.old.elements.members }
-        ensures rows { IsEnsured (word_at self.old.elements.members i) self.old self.new }
-        ensures there { OnOk result (HasNeeds self.old.elements (Holds self.new) i) }
-        ensures small { OnOk result (AreNeedsSmall (integer_matrix self.old.elements.matrix) self.old.limit (word_at self.old.elements.members i)) }
-        ensures fault { IfErr result (IsRowsFault self.old.elements self.old.limit
-            (IsNeeded (integer_matrix self.old.elements.matrix) (word_at self.old.elements.members i))) }
-    {
-        let context = self.context();
-        if i == 0 {
-            return Ok(());
-        }
-        let descent = Descent::of(context, i);
-        self.ensure(descent.lower)?;
-        let corrections = self.corrections(&descent)?;
-        'each: for &u in corrections.iter() {
-            self.ensure(u)?;
-        }
-        Ok(())
-    }
-
-    /// The members that correct the step by a descent, where the row of the shorter element is there.
-    fn corrections(&self, descent: &Descent) -> Result<Vec<u32>, AllocError>
-        requires descent { IsDescentAt self.now.elements descent.now }
-        requires lower { Holds self.now descent.now.lower }
-        ensures { IfOk result (λ v. AreNeeds (integer_matrix self.now.elements.matrix) self.now.elements.members descent.now.letter (word_at self.now.elements.members descent.now.member) v.items) }
-    {
-        let alloc = *self.settled.allocator();
-        let Some(lower) = self.held.get(descent.lower) else {
-            unreachable!();
-        };
-        needs(alloc, self.held.context(), descent, lower)
-    }
-
-    /// Makes the row of the member with the number i, unless it is there.
-    fn make(&mut self, i: u32) -> Result<(), RowsFault>
-        requires member { i < length self.old.elements.members }
-        requires needs { HasNeeds self.old.elements (Holds self.old) i }
-        ensures elements { self.new.elements ≡ self.old.elements }
-        ensures limit { self.new.limit ≡ self.old.limit }
-        ensures kept { (j : ℕ) → Holds self.old j → Holds self.new j }
-        ensures others { (j : ℕ) → j ≢ i → Holds self.new j → Holds self.old j }
-        ensures there { OnOk result (Holds self.new i) }
-        ensures fault { IfErr result (IsRowsFault self.old.elements self.old.limit (λ w. w ≡ word_at self.old.elements.members i)) }
-    {
-        if self.held.get(i).is_some() {
-            return Ok(());
-        }
-        let alloc = *self.settled.allocator();
-        let mut tables = self.take_tables(alloc)?;
-        let made = row(alloc, self.held.context(), i, &self.held, &mut tables, &mut self.steps);
-        self.tables = Some(tables);
-        match made {
-            Ok(row) => {
-                self.held.put(i, row)?;
-                Ok(())
-            }
-            Err(fault) => Err(fault_of(fault, i)),
-        }
-    }
-
-    /// The tables of the context, which are taken out.
-    fn take_tables(&mut self, alloc: Global) -> Result<Tables, AllocError>
-        ensures same { self.new ≡ self.old }
-        ensures tables { IfOk result (AreTables self.old.elements) }
-    {
-        match self.tables.take() {
-            Some(tables) => Ok(tables),
-            None => Tables::of(alloc, self.held.context()),
-        }
-    }
-
-    /// Whether the member with the number i is known to be settled.
-    fn is_settled(&self, i: u32) -> bool
-        ensures { IsTrue result → IsSettled self.now i }
-    {
-        match self.settled.get(i as usize) {
-            Some(settled) => *settled,
-            None => false,
-        }
-    }
-
-    /// Notes that the member with the number i is settled, where all that its row is made from is; a value of mu may be too large.
-    fn settle(&mut self, i: u32) -> Result<(), RowsFault>
-        requires member { i < length self.old.elements.members }
-        requires there { Holds self.old i }
-        requires needs { AreNeedsSmall (integer_matrix self.old.elements.matrix) self.old.limit (word_at self.old.elements.members i) }
-        ensures same { self.new ≡ self.old }
-        ensures small { OnOk result (¬ NeedsBeyond (integer_matrix self.old.elements.matrix) self.old.limit (word_at self.old.elements.members i)) }
-        ensures fault { IfErr result (IsRowsFault self.old.elements self.old.limit (λ w. w ≡ word_at self.old.elements.members i)) }
-    {
-        let _context = self.held.context();
-        let Some(row) = self.held.get(i) else {
-            unreachable!();
-        };
-        if let Some(fault) = large_mu(row) {
-            return Err(fault_of(fault, i));
-        }
-        set_at(&mut self.settled, i as usize)?;
-        Ok(())
-    }
 }
 
 impl LowerRows for Rows {
@@ -372,66 +248,4 @@ impl LowerRows for Rows {
     fn row(&self, i: u32) -> &Row {
         LowerRows::row(&self.held, i)
     }
-}
-
-/// The first value of mu that is above its limit, if there is one.
-fn large_mu(row: &Row) -> Option<StepFault>
-    requires { length row.now.mu.items ≡ length row.now.neighbours.items }
-    ensures some { IfSome result (IsNarrowFault row.now.neighbours.items row.now.mu.items) }
-    ensures none { IfNone result ((k : ℕ) → k < length row.now.mu.items → unsigned_abs (value_at row.now.mu.items k) ≤ MU_LIMIT) }
-{
-    'values: for (k, value) in row.mu().iter().enumerate() {
-        if u64::from(value.unsigned_abs()) > MU_LIMIT {
-            return Some(StepFault::Mu {
-                x: row.neighbours()[k],
-                value: i64::from(*value),
-            });
-        }
-    }
-    None
-}
-
-/// Clears a flag, if it is there.
-fn clear_at(flags: &mut Vec<bool>, i: usize)
-    ensures gone { slice_index_or flags.new.items i false ≡ false }
-    ensures others { (j : ℕ) → j ≢ i → slice_index_or flags.new.items j false ≡ slice_index_or flags.old.items j false }
-{
-    if i < flags.len() {
-        flags[i] = false;
-    }
-}
-
-/// The flags at their new places.
-fn spread_flags(alloc: Global, flags: &[bool], moved: &[u32]) -> Result<Vec<bool>, AllocError>
-    ensures { IfOk result (λ spread. (j : ℕ) → slice_index_or spread.items j false ≡ true
-        → (i : ℕ) × (slice_index_or flags.now i false ≡ true) × (slice_index moved.now i ≡ j)) }
-{
-    let mut spread = Vec::new(alloc);
-    'flags: for i in 0..flags.len().min(moved.len()) {
-        if flags[i] {
-            set_at(&mut spread, moved[i] as usize)?;
-        }
-    }
-    Ok(spread)
-}
-
-/// Sets a flag, behind those that are there too.
-fn set_at(flags: &mut Vec<bool>, i: usize) -> Result<(), AllocError>
-    ensures at { (j : ℕ) → slice_index_or flags.new.items j false ≡ true → (j ≡ i) ⊎ (slice_index_or flags.old.items j false ≡ true) }
-    ensures set { OnOk result (slice_index_or flags.new.items i false ≡ true) }
-{
-    make_room(flags, i)?;
-    flags[i] = true;
-    Ok(())
-}
-
-/// Appends flags that are not set until there is one with the number i.
-fn make_room(flags: &mut Vec<bool>, i: usize) -> Result<(), AllocError>
-    ensures same { (j : ℕ) → slice_index_or flags.new.items j false ≡ slice_index_or flags.old.items j false }
-    ensures room { OnOk result (i < length flags.new.items) }
-{
-    'places: while flags.len() <= i {
-        flags.push(false)?;
-    }
-    Ok(())
 }

@@ -11,9 +11,9 @@ use Rattle.cox_klstep.proofs.NeedLemmas.{listed-needs}
 use Rattle.cox_rows.specs.Holding.{Holding, Holds}
 use Rattle.cox_rows.specs.Faults.{IsRowsFault}
 use Rattle.cox_rows.specs.Ensured.{IsEnsured, AreNeedsSmall}
-use Rattle.cox_rows.proofs.Ensuring.{ensured-needed, ensured-then, fault-needed, fault-own, under_way-start, under_way-rows, under_way-next}
-use Rattle.cox_rows.proofs.Ensuring.{lower-before, lower-needed, correction-before, correction-needed, needs-small}
-use Rattle.cox_rows.proofs.Ensuring.{identity-needs, identity-small}
+use Rattle.cox_rows.proofs.EnsureLemmas.{ensured-needed, ensured-then, fault-needed, fault-own, under_way-start, under_way-rows, under_way-next}
+use Rattle.cox_rows.proofs.EnsureLemmas.{lower-before, lower-needed, correction-before, correction-needed, needs-small}
+use Rattle.cox_rows.proofs.EnsureLemmas.{identity-needs, identity-small}
 use Rattle.cox_rows.proofs.rows.Rows.+ensuring.Goals as goal
 
 -- ---- the row and what it is made from
