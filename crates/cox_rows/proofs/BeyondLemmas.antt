@@ -1,6 +1,6 @@
 -- Whether the row of w is beyond the limits can be told: only the x ≤ w count, of which there is a list, and only degrees up to the length.
-use Rattle.std.proofs.Common.{◌≡◌, ℕ, zero, suc, ◌+◌, ◌*◌, ◌<◌, ◌≤◌, List, [], ◌∷◌, ℤ, pos, ◌⊎◌, inl, inr, ⊎_elim, sym, ◌∙◌, refl}
-use Rattle.std.proofs.Common.{if◌then◌else◌, true, false, Bool, arith}
+use Rattle.std.proofs.Common.{◌≡◌, ℕ, zero, suc, ◌<◌, ◌≤◌, List, [], ◌∷◌, ℤ, pos, ◌⊎◌, inl, inr, ⊎_elim, sym, ◌∙◌, refl}
+use Rattle.std.proofs.Common.{arith}
 use Rattle.std.specs.Prelude.{unsigned_abs, ◌<ℤ◌, ◌≤ℤ◌}
 use Rattle.std.proofs.lemmas.Bool.{cases_lt}
 use Rattle.std.proofs.lemmas.Int.{ints, by_lt_z}
@@ -9,11 +9,8 @@ use Rattle.cox_base.specs.Admissible.{IsAdmissible}
 use Rattle.cox_base.specs.Element.{SameElement}
 use Rattle.cox_base.specs.Length.{word_length}
 use Rattle.cox_base.specs.Bruhat.{IsBelow}
-use Rattle.cox_reflect.proofs.Elements.{same-refl, same-sym}
-use Rattle.cox_reflect.proofs.Bruhat.{below-refl}
-use Rattle.cox_hecke.specs.Family.{is_same}
+use Rattle.cox_reflect.proofs.Elements.{same-refl}
 use Rattle.cox_hecke.specs.Sums.{occurrences}
-use Rattle.cox_hecke.specs.Row.{IsMu, IsKazhdanLusztig}
 use Rattle.cox_hecke.proofs.SumLemmas.{same_or_not, not_same-is_same}
 use Rattle.cox_hecke.proofs.ElementLists.{below_or_not, below_list}
 use Rattle.cox_hecke.proofs.AllRows.{mu-exists, mu-unique}
@@ -114,8 +111,11 @@ module _ (A : IntegerMatrix) (g : IsAdmissible A) (limit : ℤ) (least : pos 0 �
       → ((k : ℕ) × (c : ℤ) × IsLargeCoefficient A limit x w k c) ⊎ ((k : ℕ) (c : ℤ) → IsLargeCoefficient A limit x w k c → ⊥)
   tell-coefficient w x = ⊎_elim
       (λ (found : (k : ℕ) × (limit <ℤ pos (unsigned_abs (kl_polynomial A g x w k)))).
-      inl (found.0, kl_polynomial A g x w found.0,
-      record { polynomial = kl_polynomial A g x w; is = kl_polynomial-is A g x w; value = refl; above = found.1 }))
+      inl (
+        found.0,
+        kl_polynomial A g x w found.0,
+        record { polynomial = kl_polynomial A g x w; is = kl_polynomial-is A g x w; value = refl; above = found.1 },
+      ))
       (λ (none : (k : ℕ) → k < suc (word_length A w) → limit <ℤ pos (unsigned_abs (kl_polynomial A g x w k)) → ⊥).
       inr (λ k c h. let e : kl_polynomial A g x w k ≡ c
       = kazhdan_lusztig-unique A g x w (kl_polynomial A g x w) h.polynomial (kl_polynomial-is A g x w) h.is k ∙ h.value

@@ -1,5 +1,5 @@
 -- How the rows that are held change while those of Need(w) are made, and what is known when all that w needs is settled.
-use Rattle.std.proofs.Common.{◌≡◌, ◌≢◌, ◌⊎◌, inl, inr, ⊎_elim, ℕ, ◌+◌, ◌<◌, ◌≤◌, List, [], ◌∷◌, length, ℤ, pos, refl, sym, ap, subst, ◌∙◌, arith}
+use Rattle.std.proofs.Common.{◌≡◌, ◌≢◌, inl, inr, ⊎_elim, ℕ, ◌+◌, ◌<◌, ◌≤◌, List, ◌∷◌, length, ℤ, pos, refl, ap, subst, ◌∙◌, arith}
 use Rattle.std.specs.Prelude.{◌≤ℤ◌, IfErr, Result}
 use Rattle.std.proofs.lemmas.Bool.{cases_lt, cases_eq}
 use Rattle.std.proofs.lemmas.Result.{MatchResult-weaker}
@@ -8,8 +8,6 @@ use Rattle.cox_base.specs.IntegerMatrix.{IntegerMatrix, integer_matrix}
 use Rattle.cox_base.specs.Admissible.{IsAdmissible}
 use Rattle.cox_base.specs.Element.{SameElement}
 use Rattle.cox_base.specs.ShortLex.{normal_form}
-use Rattle.cox_base.specs.Length.{word_length}
-use Rattle.cox_base.specs.Bruhat.{IsBelow}
 use Rattle.cox_reflect.specs.Height.{IsLeastLeftDescent}
 use Rattle.cox_reflect.proofs.Elements.{same-refl, same-sym}
 use Rattle.cox_reflect.proofs.Search.{normal_form-same}

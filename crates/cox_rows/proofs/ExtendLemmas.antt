@@ -1,10 +1,10 @@
 -- Settled members stay settled in a larger context; and a context that has w already is its union with the interval of w.
-use Rattle.std.proofs.Common.{◌≡◌, ◌⊎◌, inl, inr, ⊎_elim, ℕ, ◌+◌, ◌<◌, ◌≤◌, List, [], length, Bool, true, false, Option, None, Some, is_some, refl, sym}
-use Rattle.std.proofs.Common.{ap, ◌∙◌, arith, zero-add}
-use Rattle.std.specs.Prelude.{slice_index, slice_index_or, Contains, IsSome}
+use Rattle.std.proofs.Common.{◌≡◌, inr, ⊎_elim, ℕ, ◌<◌, List, length, Bool, true, false, Option, None, Some, is_some, refl}
+use Rattle.std.proofs.Common.{◌∙◌, arith, zero-add}
+use Rattle.std.specs.Prelude.{slice_index, slice_index_or, Contains}
 use Rattle.std.specs.List.{range_with_len}
 use Rattle.std.proofs.lemmas.List.FromFn.{get_or-range_with_len, length-range_with_len}
-use Rattle.cox_base.specs.IntegerMatrix.{IntegerMatrix, integer_matrix}
+use Rattle.cox_base.specs.IntegerMatrix.{IntegerMatrix}
 use Rattle.cox_base.specs.Admissible.{IsAdmissible}
 use Rattle.cox_base.specs.Bruhat.{IsBelow}
 use Rattle.cox_base.specs.ShortLex.{normal_form}
@@ -14,7 +14,7 @@ use Rattle.cox_reflect.proofs.Bruhat.{below-same}
 use Rattle.cox_context.specs.Closed.{IsClosed}
 use Rattle.cox_context.specs.Members.{IsInUnion}
 use Rattle.cox_context.specs.SortedList.{IsListOf}
-use Rattle.cox_context.specs.Numbers.{word_at, AreMoved, IsNumberOf}
+use Rattle.cox_context.specs.Numbers.{IsNumberOf}
 use Rattle.cox_context.proofs.ListLemmas.{contains-at}
 use Rattle.cox_klstep.specs.declared.tables.Tables.{Tables}
 use Rattle.cox_rows.specs.Holding.{Holding, Holds}

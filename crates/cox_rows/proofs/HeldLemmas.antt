@@ -1,9 +1,9 @@
 -- Rows by place: what is held is what is there, and places without rows change nothing.
-use Rattle.std.proofs.Common.{◌≡◌, ◌≢◌, ℕ, zero, suc, ◌<◌, ◌≤◌, List, [], ◌∷◌, ◌++◌, length, Bool, true, false, Option, None, Some, is_some, refl, sym, ap, ◌∙◌, arith}
-use Rattle.std.specs.Prelude.{IfSome, ◌↔◌, slice_index_or, ℤ}
+use Rattle.std.proofs.Common.{◌≡◌, ℕ, zero, suc, ◌<◌, List, [], ◌∷◌, ◌++◌, length, true, false, Option, None, Some, is_some, refl, sym, ◌∙◌}
+use Rattle.std.specs.Prelude.{IfSome, slice_index_or, ℤ}
 use Rattle.cox_context.specs.Closed.{Elements}
 use Rattle.cox_row.specs.declared.row.Row.{Row}
-use Rattle.cox_rows.specs.Holding.{Holding, Holds, IsHeldRow, AreRows, row_at, held}
+use Rattle.cox_rows.specs.Holding.{IsHeldRow, AreRows, row_at, held}
 
 -- a place is held where a row is there
 pub held-at : (rows : List (Option Row)) (i : ℕ) → slice_index_or (held rows) i false ≡ is_some (row_at rows i)

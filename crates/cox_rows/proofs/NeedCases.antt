@@ -8,7 +8,7 @@ use Rattle.cox_base.specs.Element.{SameElement}
 use Rattle.cox_base.specs.Length.{word_length}
 use Rattle.cox_base.specs.Reduced.{IsLeftDescent}
 use Rattle.cox_reflect.specs.Height.{IsLeastLeftDescent}
-use Rattle.cox_reflect.proofs.Elements.{same-refl, same-sym, same-trans, same-cons}
+use Rattle.cox_reflect.proofs.Elements.{same-refl, same-trans, same-cons}
 use Rattle.cox_reflect.proofs.Search.{word_length-equal}
 use Rattle.cox_reflect.proofs.Bruhat.{below-length}
 use Rattle.cox_hecke.specs.Step.{IsCorrection}
@@ -90,10 +90,13 @@ module _ (A : IntegerMatrix) (g : IsAdmissible A) where
   least_below w (suc n) = ⊎_elim
       (λ (found : (s : ℕ) × IsLeastLeftDescent A w s). inl found)
       (λ (none : (s : ℕ) → s < n → IsLeftDescent A w s → ⊥). ⊎_elim
-      (λ (d : word_length A (n ∷ w) < word_length A w). inl (n, record {
-        descent = d;
-        least = λ t f. ⊎_elim (λ (less : t < n). absurd (none t less f)) (λ h. h) (cases_lt t n);
-      }))
+      (λ (d : word_length A (n ∷ w) < word_length A w). inl (
+        n,
+        record {
+          descent = d;
+          least = λ t f. ⊎_elim (λ (less : t < n). absurd (none t less f)) (λ h. h) (cases_lt t n);
+        },
+      ))
       (λ (no : word_length A w ≤ word_length A (n ∷ w)). inr (λ s l f. ⊎_elim
       (λ (less : s < n). none s less f)
       (λ (more : n ≤ s). let e : s ≡ n = omega (arith, l, more) in let h : IsLeftDescent A w n = rw e at f in omega (arith, h, no))

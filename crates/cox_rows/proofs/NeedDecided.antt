@@ -10,8 +10,7 @@ use Rattle.cox_base.specs.Admissible.{IsAdmissible}
 use Rattle.cox_base.specs.Element.{SameElement}
 use Rattle.cox_base.specs.Length.{word_length}
 use Rattle.cox_reflect.specs.Height.{IsLeastLeftDescent}
-use Rattle.cox_reflect.proofs.Elements.{same-refl, same-sym}
-use Rattle.cox_reflect.proofs.Search.{word_length-equal}
+use Rattle.cox_reflect.proofs.Elements.{same-refl}
 use Rattle.cox_hecke.specs.Sums.{occurrences}
 use Rattle.cox_hecke.specs.Step.{IsCorrection, Correction, AreCorrections, corrected_elements}
 use Rattle.cox_hecke.specs.Needs.{IsNeeded, itself}

@@ -1,5 +1,5 @@
 -- A row that is held is not beyond the limits, if no value of mu that it has is.
-use Rattle.std.proofs.Common.{◌≡◌, ℕ, ◌<◌, ◌≤◌, List, length, ℤ, pos, sym, ◌∙◌, arith}
+use Rattle.std.proofs.Common.{◌≡◌, ℕ, ◌<◌, ◌≤◌, List, length, ℤ, pos, arith}
 use Rattle.std.specs.Prelude.{unsigned_abs, ◌<ℤ◌, ◌≤ℤ◌}
 use Rattle.std.proofs.lemmas.Int.{ints}
 use Rattle.cox_base.specs.IntegerMatrix.{IntegerMatrix}
@@ -40,7 +40,7 @@ module _ (A : IntegerMatrix) (g : IsAdmissible A) (members : List (List ℕ)) (c
       → (x : List ℕ) (m : ℤ) → IsLargeMu A (pos MU_LIMIT) x (word_at members i) m → ⊥
   none-mu small x m h =
       let place = contains-placed members (normal_form A x)
-          (member-below A g members closed x i inside (mu-below A g x (word_at members i) m h.is (not_zero m h.above)))
+      (member-below A g members closed x i inside (mu-below A g x (word_at members i) m h.is (not_zero m h.above)))
       in let there : IsMu A (word_at members place.i) (word_at members i) m
       = rw place.is (mu-words A g m (same-sym A g (normal_form-same A g x)) (same-refl A g (word_at members i)) h.is)
       in let k = is.mus.whole place.i m place.within there (not_zero m h.above)

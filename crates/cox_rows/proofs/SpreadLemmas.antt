@@ -1,7 +1,7 @@
 -- Rows are put under their new numbers one after another; then they are the rows of the larger context.
-use Rattle.std.proofs.Common.{◌≡◌, ◌≢◌, ℕ, zero, suc, ◌+◌, ◌<◌, ◌≤◌, List, [], ◌∷◌, length, Bool, true, false, Option, None, Some, is_some, ℤ, pos}
+use Rattle.std.proofs.Common.{◌≡◌, ◌≢◌, ℕ, ◌+◌, ◌<◌, ◌≤◌, List, [], length, true, false, Option, None, Some, is_some, ℤ, pos}
 use Rattle.std.proofs.Common.{⊎_elim, refl, sym, ap, ◌∙◌, arith}
-use Rattle.std.specs.Prelude.{IfSome, slice_index, slice_index_or, unsigned_abs, ◌<ℤ◌, ◌≤ℤ◌, Contains}
+use Rattle.std.specs.Prelude.{IfSome, slice_index, slice_index_or, unsigned_abs}
 use Rattle.std.proofs.lemmas.Int.{by_lt_z}
 use Rattle.std.proofs.lemmas.Bool.{cases_lt, cases_eq}
 use Rattle.std.proofs.lemmas.List.{get_or_past}
@@ -17,8 +17,8 @@ use Rattle.cox_row.specs.Polynomials.{polynomial_at}
 use Rattle.cox_row.specs.RowOf.{IsRowOf}
 use Rattle.cox_row.specs.Within.{IsRowWithin}
 use Rattle.cox_klstep.specs.Limits.{IsLargeCoefficient}
-use Rattle.cox_rows.specs.Holding.{Holding, Holds, IsHeldRow, AreRows, row_at, held}
-use Rattle.cox_rows.specs.Spread.{IsMovable, IsRenumbered, IsFromBefore, AreSpread, AreCarried}
+use Rattle.cox_rows.specs.Holding.{IsHeldRow, AreRows, row_at, held}
+use Rattle.cox_rows.specs.Spread.{IsMovable, IsRenumbered, IsFromBefore, AreSpread}
 use Rattle.cox_rows.proofs.HeldLemmas.{held-at, row-there, not-there}
 use Rattle.cox_rows.proofs.RowBeyond.{none-coefficient}
 
@@ -106,7 +106,7 @@ module _ (a e : Elements) (limit : ℤ) (g : IsAdmissible (integer_matrix a.matr
       in let word : word_at e.members j ≡ word_at a.members h.i = rw h.number at (are.word h.i old.member)
       in let is : IsRowOf (integer_matrix a.matrix) e.members (word_at a.members h.i) row
       = h.renumbered (integer_matrix a.matrix) a.members e.members (word_at a.members h.i) g from close are
-          (contains-at a.members h.i old.member) old.is
+      (contains-at a.members h.i old.member) old.is
       in record {
         member = rw h.number at (are.within h.i old.member);
         is = rw (same, word) is;

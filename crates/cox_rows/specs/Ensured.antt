@@ -1,5 +1,5 @@
 -- How the rows that are held change while those of Need(w) are made.
-use Rattle.std.specs.Prelude.{◌≡◌, ◌⊎◌, ℕ, ◌<◌, List, ◌∷◌, Bool, true, false, length, slice_index_or, Option, IfSome, ℤ}
+use Rattle.std.specs.Prelude.{◌≡◌, ◌⊎◌, ℕ, List, ◌∷◌, Bool, true, false, slice_index_or, Option, IfSome, ℤ}
 use Rattle.cox_base.specs.declared.side.Side.TheVariants.{Left}
 use Rattle.cox_base.specs.IntegerMatrix.{IntegerMatrix, integer_matrix}
 use Rattle.cox_reflect.specs.Height.{IsLeastLeftDescent}

@@ -28,15 +28,18 @@ ghost use Rattle.cox_rows.specs.Extended.{IsExtended, IsLeft};
 ghost use Rattle.cox_rows.specs.Faults.{IsRowsFault, IsFaultOfSome};
 ghost use Rattle.cox_rows.specs.Ensured.{IsEnsured, IsSettled, AreNeedsSmall};
 
+use crate::fault::fault_of;
 use crate::flags::set_at;
 use crate::{Rows, RowsFault};
-use crate::fault::fault_of;
 use cox_klstep::{Descent, MU_LIMIT, StepFault, Tables, needs, row};
 use cox_row::Row;
 use std::alloc::{AllocError, Global};
 
 impl Rows {
     /// Makes the rows of Need(z) that are not there, for the member z with the number i, and no others.
+    ///
+    /// `Coefficient` or `Mu` where the row of an element of Need(z) is beyond a limit; what was made before that is held. In A 2, with all six elements
+    /// as members, the rows that `121` needs are those of `121`, `21`, `1` and the identity.
     #[cycle(ensuring)]
     pub fn ensure(&mut self, i: u32) -> Result<(), RowsFault>
         requires { i < length self.old.elements.members }
@@ -80,7 +83,7 @@ impl Rows {
 
     /// Makes all rows that are not there, in the order of the members.
     ///
-    /// A fault is that of the row of some member. In a finite group these are all rows of the group, if the context has all elements.
+    /// A fault is that of the row of some member.
     pub fn ensure_all(&mut self) -> Result<(), RowsFault>
         ensures elements { self.new.elements ≡ self.old.elements }
         ensures limit { self.new.limit ≡ self.old.limit }
@@ -125,7 +128,14 @@ impl Rows {
         }
         let alloc = *self.settled.allocator();
         let mut tables = self.take_tables(alloc)?;
-        let made = row(alloc, self.held.context(), i, &self.held, &mut tables, &mut self.steps);
+        let made = row(
+            alloc,
+            self.held.context(),
+            i,
+            &self.held,
+            &mut tables,
+            &mut self.steps,
+        );
         self.tables = Some(tables);
         match made {
             Ok(row) => {

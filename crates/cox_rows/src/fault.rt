@@ -51,7 +51,12 @@ pub(crate) fn fault_of(fault: StepFault, w: u32) -> RowsFault
 {
     match fault {
         StepFault::Coefficient { x, degree, value } => {
-            RowsFault::Coefficient { x, w, degree, value }
+            RowsFault::Coefficient {
+                x,
+                w,
+                degree,
+                value,
+            }
         }
         StepFault::Mu { x, value } => RowsFault::Mu { x, w, value },
         StepFault::NoMemory => RowsFault::NoMemory,

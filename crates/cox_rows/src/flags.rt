@@ -14,7 +14,11 @@ pub(crate) fn clear_at(flags: &mut Vec<bool>, i: usize)
 }
 
 /// The flags at their new places.
-pub(crate) fn spread_flags(alloc: Global, flags: &[bool], moved: &[u32]) -> Result<Vec<bool>, AllocError>
+pub(crate) fn spread_flags(
+    alloc: Global,
+    flags: &[bool],
+    moved: &[u32],
+) -> Result<Vec<bool>, AllocError>
     ensures { IfOk result (λ spread. (j : ℕ) → slice_index_or spread.items j false ≡ true
         → (i : ℕ) × (slice_index_or flags.now i false ≡ true) × (slice_index moved.now i ≡ j)) }
 {

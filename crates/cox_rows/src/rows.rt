@@ -57,7 +57,7 @@ impl Model for Rows {
 }
 
 impl Rows {
-    /// A context with no rows.
+    /// A context with no rows; no coefficient of a row is to be above the limit in absolute value.
     pub fn new(alloc: Global, context: Context, limit: i64) -> Result<Rows, AllocError>
         requires { pos 0 ≤ℤ limit }
         ensures { IfOk result (λ r. r ≡ record { elements = context; limit = limit; holds = [] }) }
@@ -105,6 +105,8 @@ impl Rows {
     }
 
     /// P(x,w), for the member w with the number i, whose row is held, and the member x with the number x; `None` exactly where x <= w fails.
+    ///
+    /// In A 3 that of `2` and `2132` is 1 + q.
     pub fn polynomial(&self, i: u32, x: u32) -> Option<&Poly>
         requires held { Holds self.now i }
         requires x { x < length self.now.elements.members }
@@ -191,7 +193,9 @@ impl Rows {
 
     /// Adds the elements x with x <= w to the context. The rows that are held stay, under their members' new numbers.
     ///
-    /// `Size` where there are more than `limit` members then. After `Size` and `Long` all is as before; without memory no row may be left.
+    /// `Size` where there are more than `limit` members then. After `Size` and `Long` all is as before; without memory no row may be left, and there may
+    /// be more members. In A 2 the interval of `12` has four elements, the last with the number 3; with that of `21` there are five, and its row has the
+    /// same number.
     pub fn extend(&mut self, group: &RootTable, w: &Word, limit: u32) -> Result<(), ContextFault>
         requires matrix { group.now ≡ self.old.elements.matrix }
         requires letters { IsWord group.now.rank w.now.items }

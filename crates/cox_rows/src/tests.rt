@@ -49,6 +49,7 @@ fn keeps_rows_in_a_larger_context(rt: HostRuntime) -> Result<(), Fail> {
     let g = Coxeter::named(b'A', 2)?;
     let table = RootTable::build(alloc, &g, MAX_SMALL_ROOTS)?;
     let context = Context::of_interval(alloc, &table, &word(&rt, &table, b"12")?, 4)?;
+    assert_eq!(rt; context.len(), 4);
     let mut rows = Rows::new(alloc, context, i64::MAX)?;
     rows.ensure(3)?;
     rows.extend(&table, &word(&rt, &table, b"121")?, 6)?;

@@ -1,6 +1,5 @@
 -- What is there is the row.
 use Rattle.std.proofs.Common.{None, sym, ◌∙◌}
-use Rattle.cox_rows.specs.Holding.{row_at}
 use Rattle.cox_rows.proofs.HeldLemmas.{row-there}
 use Rattle.cox_rows.proofs.held.Held.get.Goals as goal
 

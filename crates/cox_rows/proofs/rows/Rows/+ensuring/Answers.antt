@@ -1,16 +1,15 @@
 -- What is made on the way to the row of w is needed by w, and when all that w needs is settled, w is.
-use Rattle.std.proofs.Common.{◌≡◌, ◌<◌, ◌≤◌, ℕ, length, rules, sym, ◌∙◌, arith, refl}
+use Rattle.std.proofs.Common.{◌≡◌, ◌<◌, length, rules, ◌∙◌, arith, refl}
 use Rattle.std.specs.Prelude.{IfErr}
 use Rattle.cox_base.specs.IntegerMatrix.{integer_matrix}
 use Rattle.cox_hecke.specs.Needs.{IsNeeded}
 use Rattle.cox_context.specs.Numbers.{word_at}
 use Rattle.cox_row.specs.Rising.{number_at}
 use Rattle.cox_klstep.specs.StepOf.{IsDescentAt}
-use Rattle.cox_klstep.specs.NeedsOf.{HasNeeds, AreNeeds}
+use Rattle.cox_klstep.specs.NeedsOf.{AreNeeds}
 use Rattle.cox_klstep.proofs.NeedLemmas.{listed-needs}
-use Rattle.cox_rows.specs.Holding.{Holding, Holds}
+use Rattle.cox_rows.specs.Holding.{Holds}
 use Rattle.cox_rows.specs.Faults.{IsRowsFault}
-use Rattle.cox_rows.specs.Ensured.{IsEnsured, AreNeedsSmall}
 use Rattle.cox_rows.proofs.EnsureLemmas.{ensured-needed, ensured-then, fault-needed, fault-own, under_way-start, under_way-rows, under_way-next}
 use Rattle.cox_rows.proofs.EnsureLemmas.{lower-before, lower-needed, correction-before, correction-needed, needs-small}
 use Rattle.cox_rows.proofs.EnsureLemmas.{identity-needs, identity-small}
@@ -26,7 +25,7 @@ ensure-returns-in_err-make-clause-rows t c =
 pub ensure-returns-in_err-make-clause-fault : goal.ensure-returns-in_err-make-clause-fault
 ensure-returns-in_err-make-clause-fault t c =
     let own : IfErr c.from_residual-in_err-make.result (IsRowsFault c.ensure_lower.new.self.elements c.ensure_lower.new.self.limit
-        (λ w. w ≡ word_at c.ensure_lower.new.self.elements.members c.args.i)) = search rules
+    (λ w. w ≡ word_at c.ensure_lower.new.self.elements.members c.args.i)) = search rules
     in fault-own c.args.self.now.elements c.args.self.now.limit (word_at c.args.self.now.elements.members c.args.i)
     c.from_residual-in_err-make.result c.context-context.ensures.admissible
     (rw (c.ensure_lower.ensures.rows.elements, c.ensure_lower.ensures.rows.limit) at own)
@@ -63,7 +62,7 @@ pub ensure_lower-ensure-requires : goal.ensure_lower-ensure-requires
 ensure_lower-ensure-requires t c =
     let is : IsDescentAt c.args.self.now.elements c.of-descent.result = rw c.context-context.ensures.context at c.of-descent.ensures.descent
     in let less = lower-before c.args.self.now.elements c.context-context.ensures.admissible c.context-context.ensures.closed
-        c.of-descent.result is
+    c.of-descent.result is
     in (omega (arith, less, c.of-descent.ensures.number, c.decreases), is.lower_within)
 
 pub ensure_lower-returns-in_err-ensure-clause-rows : goal.ensure_lower-returns-in_err-ensure-clause-rows
@@ -78,8 +77,8 @@ pub ensure_lower-returns-in_err-ensure-clause-fault : goal.ensure_lower-returns-
 ensure_lower-returns-in_err-ensure-clause-fault t c =
     let is : IsDescentAt c.args.self.now.elements c.of-descent.result = rw c.context-context.ensures.context at c.of-descent.ensures.descent
     in let fault : IfErr c.from_residual.result (IsRowsFault c.args.self.now.elements c.args.self.now.limit
-        (IsNeeded (integer_matrix c.args.self.now.elements.matrix)
-        (word_at c.args.self.now.elements.members c.of-descent.result.lower))) = search rules
+    (IsNeeded (integer_matrix c.args.self.now.elements.matrix)
+    (word_at c.args.self.now.elements.members c.of-descent.result.lower))) = search rules
     in fault-needed c.args.self.now.elements c.args.self.now.limit (word_at c.args.self.now.elements.members c.args.i)
     (word_at c.args.self.now.elements.members c.of-descent.result.lower) c.from_residual.result c.context-context.ensures.admissible
     (rw c.of-descent.ensures.number at (lower-needed c.args.self.now.elements c.context-context.ensures.admissible
@@ -108,19 +107,19 @@ pub ensure_lower-ensure-requires-in-each : goal.ensure_lower-ensure-requires-in-
 ensure_lower-ensure-requires-in-each t c =
     let is : IsDescentAt c.args.self.now.elements c.of-descent.result = rw c.context-context.ensures.context at c.of-descent.ensures.descent
     in let are : AreNeeds (integer_matrix c.args.self.now.elements.matrix) c.args.self.now.elements.members c.of-descent.result.letter
-        (word_at c.args.self.now.elements.members c.of-descent.result.member) c.deref-u-items.result.now
-        = rw c.deref-u-items.ensures.value (rw c.ensure.ensures.rows.elements at c.in_ok-corrections.ensures)
+    (word_at c.args.self.now.elements.members c.of-descent.result.member) c.deref-u-items.result.now
+    = rw c.deref-u-items.ensures.value (rw c.ensure.ensures.rows.elements at c.in_ok-corrections.ensures)
     in let l : c.each.u-index < length c.deref-u-items.result.now = omega arith
     in let less = correction-before c.args.self.now.elements c.context-context.ensures.admissible c.context-context.ensures.closed
-        c.of-descent.result is c.deref-u-items.result.now are c.each.u-index l
+    c.of-descent.result is c.deref-u-items.result.now are c.each.u-index l
     in (omega (arith, less, c.of-descent.ensures.number, c.decreases), rw c.each.invariant.rows.elements (are.within c.each.u-index l))
 
 pub ensure_lower-returns-in_err-ensure-2-clause-rows : goal.ensure_lower-returns-in_err-ensure-2-clause-rows
 ensure_lower-returns-in_err-ensure-2-clause-rows t c =
     let is : IsDescentAt c.args.self.now.elements c.of-descent.result = rw c.context-context.ensures.context at c.of-descent.ensures.descent
     in let are : AreNeeds (integer_matrix c.args.self.now.elements.matrix) c.args.self.now.elements.members c.of-descent.result.letter
-        (word_at c.args.self.now.elements.members c.of-descent.result.member) c.deref-u-items.result.now
-        = rw c.deref-u-items.ensures.value (rw c.ensure.ensures.rows.elements at c.in_ok-corrections.ensures)
+    (word_at c.args.self.now.elements.members c.of-descent.result.member) c.deref-u-items.result.now
+    = rw c.deref-u-items.ensures.value (rw c.ensure.ensures.rows.elements at c.in_ok-corrections.ensures)
     in let l : c.each.u-index < length c.deref-u-items.result.now = omega arith
     in under_way-rows (word_at c.args.self.now.elements.members c.args.i) c.args.self.now c.ensure.new.self c.each.self
     c.ensure-in-each.new.self c.deref-u-items.result.now c.each.u-index (number_at c.deref-u-items.result.now c.each.u-index)
@@ -133,12 +132,12 @@ pub ensure_lower-returns-in_err-ensure-2-clause-fault : goal.ensure_lower-return
 ensure_lower-returns-in_err-ensure-2-clause-fault t c =
     let is : IsDescentAt c.args.self.now.elements c.of-descent.result = rw c.context-context.ensures.context at c.of-descent.ensures.descent
     in let are : AreNeeds (integer_matrix c.args.self.now.elements.matrix) c.args.self.now.elements.members c.of-descent.result.letter
-        (word_at c.args.self.now.elements.members c.of-descent.result.member) c.deref-u-items.result.now
-        = rw c.deref-u-items.ensures.value (rw c.ensure.ensures.rows.elements at c.in_ok-corrections.ensures)
+    (word_at c.args.self.now.elements.members c.of-descent.result.member) c.deref-u-items.result.now
+    = rw c.deref-u-items.ensures.value (rw c.ensure.ensures.rows.elements at c.in_ok-corrections.ensures)
     in let l : c.each.u-index < length c.deref-u-items.result.now = omega arith
     in let fault : IfErr c.from_residual-in_err-ensure-2.result (IsRowsFault c.each.self.elements c.each.self.limit
-        (IsNeeded (integer_matrix c.each.self.elements.matrix)
-        (word_at c.each.self.elements.members (number_at c.deref-u-items.result.now c.each.u-index)))) = search rules
+    (IsNeeded (integer_matrix c.each.self.elements.matrix)
+    (word_at c.each.self.elements.members (number_at c.deref-u-items.result.now c.each.u-index)))) = search rules
     in fault-needed c.args.self.now.elements c.args.self.now.limit (word_at c.args.self.now.elements.members c.args.i)
     (word_at c.args.self.now.elements.members (number_at c.deref-u-items.result.now c.each.u-index))
     c.from_residual-in_err-ensure-2.result c.context-context.ensures.admissible
@@ -150,8 +149,8 @@ pub ensure_lower-each-preserved : goal.ensure_lower-each-preserved
 ensure_lower-each-preserved t c =
     let is : IsDescentAt c.args.self.now.elements c.of-descent.result = rw c.context-context.ensures.context at c.of-descent.ensures.descent
     in let are : AreNeeds (integer_matrix c.args.self.now.elements.matrix) c.args.self.now.elements.members c.of-descent.result.letter
-        (word_at c.args.self.now.elements.members c.of-descent.result.member) c.deref-u-items.result.now
-        = rw c.deref-u-items.ensures.value (rw c.ensure.ensures.rows.elements at c.in_ok-corrections.ensures)
+    (word_at c.args.self.now.elements.members c.of-descent.result.member) c.deref-u-items.result.now
+    = rw c.deref-u-items.ensures.value (rw c.ensure.ensures.rows.elements at c.in_ok-corrections.ensures)
     in let l : c.each.u-index < length c.deref-u-items.result.now = omega arith
     in under_way-next (word_at c.args.self.now.elements.members c.args.i) c.args.self.now c.ensure.new.self c.each.self
     c.ensure-in-each.new.self c.deref-u-items.result.now c.each.u-index (number_at c.deref-u-items.result.now c.each.u-index)
@@ -167,8 +166,8 @@ pub ensure_lower-returns-clause-there : goal.ensure_lower-returns-clause-there
 ensure_lower-returns-clause-there t c =
     let is : IsDescentAt c.args.self.now.elements c.of-descent.result = rw c.context-context.ensures.context at c.of-descent.ensures.descent
     in let are : AreNeeds (integer_matrix c.args.self.now.elements.matrix) c.args.self.now.elements.members c.of-descent.result.letter
-        (word_at c.args.self.now.elements.members c.of-descent.result.member) c.deref-u-items.result.now
-        = rw c.deref-u-items.ensures.value (rw c.ensure.ensures.rows.elements at c.in_ok-corrections.ensures)
+    (word_at c.args.self.now.elements.members c.of-descent.result.member) c.deref-u-items.result.now
+    = rw c.deref-u-items.ensures.value (rw c.ensure.ensures.rows.elements at c.in_ok-corrections.ensures)
     in rw c.of-descent.ensures.number at (listed-needs c.args.self.now.elements (Holds c.each.self) c.of-descent.result
     c.deref-u-items.result.now c.context-context.ensures.admissible c.context-context.ensures.closed is are
     (c.each.invariant.kept c.of-descent.result.lower c.in_ok-ensure.ensures.there)
@@ -178,8 +177,8 @@ pub ensure_lower-returns-clause-small : goal.ensure_lower-returns-clause-small
 ensure_lower-returns-clause-small t c =
     let is : IsDescentAt c.args.self.now.elements c.of-descent.result = rw c.context-context.ensures.context at c.of-descent.ensures.descent
     in let are : AreNeeds (integer_matrix c.args.self.now.elements.matrix) c.args.self.now.elements.members c.of-descent.result.letter
-        (word_at c.args.self.now.elements.members c.of-descent.result.member) c.deref-u-items.result.now
-        = rw c.deref-u-items.ensures.value (rw c.ensure.ensures.rows.elements at c.in_ok-corrections.ensures)
+    (word_at c.args.self.now.elements.members c.of-descent.result.member) c.deref-u-items.result.now
+    = rw c.deref-u-items.ensures.value (rw c.ensure.ensures.rows.elements at c.in_ok-corrections.ensures)
     in rw c.of-descent.ensures.number at (needs-small c.args.self.now.elements c.context-context.ensures.admissible
     c.context-context.ensures.closed c.of-descent.result is c.args.self.now.limit c.context-context.ensures.least
     c.deref-u-items.result.now are c.in_ok-ensure.ensures.small

@@ -1,10 +1,10 @@
 -- All that the row is made from is settled, and its values of mu were looked through.
-use Rattle.std.proofs.Common.{◌≡◌, subst, sym, ◌∙◌}
+use Rattle.std.proofs.Common.{◌≡◌, subst}
 use Rattle.cox_base.specs.IntegerMatrix.{integer_matrix}
 use Rattle.cox_context.specs.Numbers.{word_at}
 use Rattle.cox_rows.specs.Holding.{Holding, Holds}
 use Rattle.cox_rows.specs.Faults.{IsRowsFault}
-use Rattle.cox_rows.specs.Ensured.{IsSettled, AreNeedsSmall}
+use Rattle.cox_rows.specs.Ensured.{AreNeedsSmall}
 use Rattle.cox_rows.specs.Beyond.{NeedsBeyond}
 use Rattle.cox_rows.proofs.SettledLemmas.{mu_fault-is, is_settled, store-set}
 use Rattle.cox_rows.proofs.rows.Rows.settle.Goals as goal
@@ -19,7 +19,7 @@ returns-in-Some-large_mu-clause-fault c =
 pub invariant_of-self : goal.invariant_of-self
 invariant_of-self c =
     let needs : AreNeedsSmall (integer_matrix c.self.inside.held.elements.matrix) c.self.inside.held.limit
-        (word_at c.self.inside.held.elements.members c.args.i) = rw c.self.view_is c.requires.needs
+    (word_at c.self.inside.held.elements.members c.args.i) = rw c.self.view_is c.requires.needs
     in let there : Holds c.self.inside.held c.args.i = rw c.self.view_is c.requires.there
     in store-set c.self.inside.held c.self.inside.settled.items c.set_at.new.flags.items c.self.inside.tables c.args.i c.set_at.ensures.at
     (is_settled c.self.inside.held c.args.i c.context-context.ensures.admissible c.context-context.ensures.closed
@@ -29,7 +29,7 @@ invariant_of-self c =
 pub invariant_of-self-2 : goal.invariant_of-self-2
 invariant_of-self-2 c =
     let needs : AreNeedsSmall (integer_matrix c.self.inside.held.elements.matrix) c.self.inside.held.limit
-        (word_at c.self.inside.held.elements.members c.args.i) = rw c.self.view_is c.requires.needs
+    (word_at c.self.inside.held.elements.members c.args.i) = rw c.self.view_is c.requires.needs
     in let there : Holds c.self.inside.held c.args.i = rw c.self.view_is c.requires.there
     in store-set c.self.inside.held c.self.inside.settled.items c.set_at.new.flags.items c.self.inside.tables c.args.i c.set_at.ensures.at
     (is_settled c.self.inside.held c.args.i c.context-context.ensures.admissible c.context-context.ensures.closed
@@ -39,7 +39,7 @@ invariant_of-self-2 c =
 pub returns-clause-small : goal.returns-clause-small
 returns-clause-small c =
     let needs : AreNeedsSmall (integer_matrix c.self.inside.held.elements.matrix) c.self.inside.held.limit
-        (word_at c.self.inside.held.elements.members c.args.i) = rw c.self.view_is c.requires.needs
+    (word_at c.self.inside.held.elements.members c.args.i) = rw c.self.view_is c.requires.needs
     in let there : Holds c.self.inside.held c.args.i = rw c.self.view_is c.requires.there
     in let P : Holding → Type 0 = λ h. NeedsBeyond (integer_matrix h.elements.matrix) h.limit (word_at h.elements.members c.args.i) → ⊥
     in subst P c.self.view_is
