@@ -1,0 +1,207 @@
+-- How the rows that are held change while those of Need(w) are made, and what is known when all that w needs is settled.
+use Rattle.std.proofs.Common.{◌≡◌, ◌≢◌, inl, inr, ⊎_elim, ℕ, ◌+◌, ◌<◌, ◌≤◌, List, ◌∷◌, length, ℤ, pos, refl, ap, subst, ◌∙◌, arith}
+use Rattle.std.specs.Prelude.{◌≤ℤ◌, IfErr, Result}
+use Rattle.std.proofs.lemmas.Bool.{cases_lt, cases_eq}
+use Rattle.std.proofs.lemmas.Result.{MatchResult-weaker}
+use Rattle.cox_base.specs.declared.side.Side.TheVariants.{Left}
+use Rattle.cox_base.specs.IntegerMatrix.{IntegerMatrix, integer_matrix}
+use Rattle.cox_base.specs.Admissible.{IsAdmissible}
+use Rattle.cox_base.specs.Element.{SameElement}
+use Rattle.cox_base.specs.ShortLex.{normal_form}
+use Rattle.cox_reflect.specs.Height.{IsLeastLeftDescent}
+use Rattle.cox_reflect.proofs.Elements.{same-refl, same-sym}
+use Rattle.cox_reflect.proofs.Search.{normal_form-same}
+use Rattle.cox_reflect.proofs.Bruhat.{below-same, below-refl}
+use Rattle.cox_hecke.specs.Step.{IsCorrection}
+use Rattle.cox_hecke.specs.Needs.{IsNeeded, itself}
+use Rattle.cox_hecke.proofs.Descended.{mu-below}
+use Rattle.cox_hecke.proofs.NeedLemmas.{needed-trans}
+use Rattle.cox_context.specs.Closed.{Elements, IsClosed}
+use Rattle.cox_context.specs.Numbers.{word_at}
+use Rattle.cox_context.proofs.ListLemmas.{contains-placed}
+use Rattle.cox_context.proofs.Shifting.{member-below, first-member, length-at}
+use Rattle.cox_row.specs.Rising.{number_at}
+use Rattle.cox_klstep.specs.declared.step.Descent.{Descent}
+use Rattle.cox_klstep.specs.StepOf.{IsDescentAt}
+use Rattle.cox_klstep.specs.NeedsOf.{HasNeeds, AreNeeds}
+use Rattle.cox_klstep.proofs.NeedLemmas.{shorter-before}
+use Rattle.cox_rows.specs.Beyond.{NeedsBeyond}
+use Rattle.cox_rows.specs.Holding.{Holding, Holds}
+use Rattle.cox_rows.specs.declared.fault.RowsFault.{RowsFault}
+use Rattle.cox_rows.specs.Faults.{IsRowsFault}
+use Rattle.cox_rows.specs.Ensured.{IsEnsured, AreNeedsSmall}
+use Rattle.cox_rows.proofs.FaultLemmas.{fault-weaker}
+use Rattle.cox_rows.proofs.NeedCases.{least-unique, need-shorter, need-correction, correction-words}
+use Rattle.cox_rows.proofs.NeedDecided.{needs_beyond-same}
+
+-- ---- states
+
+pub ensured-refl : (w : List ℕ) (h : Holding) → IsEnsured w h h
+ensured-refl w h = record { elements = refl; limit = refl; kept = λ j l. l; needed = λ j l. inl l }
+
+pub ensured-trans : (w : List ℕ) (a b c : Holding) → IsEnsured w a b → IsEnsured w b c → IsEnsured w a c
+ensured-trans w a b c f h = record {
+  elements = h.elements ∙ f.elements;
+  limit = h.limit ∙ f.limit;
+  kept = λ j l. h.kept j (f.kept j l);
+  needed = λ j l. ⊎_elim (λ (old : Holds b j). f.needed j old)
+      (λ (new : IsNeeded (integer_matrix b.elements.matrix) w (word_at b.elements.members j)). inr (rw f.elements at new)) (h.needed j l);
+}
+
+-- what is needed by what w needs
+pub ensured-needed : (a b : Holding) (w v : List ℕ) → IsAdmissible (integer_matrix a.elements.matrix)
+    → IsNeeded (integer_matrix a.elements.matrix) w v → IsEnsured v a b → IsEnsured w a b
+ensured-needed a b w v g n h = record {
+  elements = h.elements;
+  limit = h.limit;
+  kept = h.kept;
+  needed = λ j l. ⊎_elim (λ (old : Holds a j). inl old)
+      (λ (new : IsNeeded (integer_matrix a.elements.matrix) v (word_at a.elements.members j)).
+      inr (needed-trans (integer_matrix a.elements.matrix) g w v (word_at a.elements.members j) n new)) (h.needed j l);
+}
+
+-- the row of w itself is made
+pub ensured-made : (a b : Holding) (i : ℕ) → IsAdmissible (integer_matrix a.elements.matrix) → b.elements ≡ a.elements → b.limit ≡ a.limit
+    → ((j : ℕ) → Holds a j → Holds b j) → ((j : ℕ) → j ≢ i → Holds b j → Holds a j) → IsEnsured (word_at a.elements.members i) a b
+ensured-made a b i g elements limit kept others = record {
+  elements = elements;
+  limit = limit;
+  kept = kept;
+  needed = λ j l. ⊎_elim
+      (λ (e : j ≡ i). inr (rw e (itself (same-refl (integer_matrix a.elements.matrix) g (word_at a.elements.members i)))))
+      (λ (apart : j ≢ i). inl (others j apart l)) (cases_eq j i);
+}
+
+pub ensured-then : (a b c : Holding) (i : ℕ) → IsAdmissible (integer_matrix a.elements.matrix)
+    → IsEnsured (word_at a.elements.members i) a b → c.elements ≡ b.elements → c.limit ≡ b.limit
+    → ((j : ℕ) → Holds b j → Holds c j) → ((j : ℕ) → j ≢ i → Holds c j → Holds b j) → IsEnsured (word_at a.elements.members i) a c
+ensured-then a b c i g h elements limit kept others = ensured-trans (word_at a.elements.members i) a b c h
+    (subst (λ (e : Elements). IsEnsured (word_at e.members i) b c) h.elements
+    (ensured-made b c i (rw h.elements g) elements limit kept others))
+
+-- ---- faults
+
+pub fault-needed : {T : Type 0} (e : Elements) (limit : ℤ) (w v : List ℕ) (result : Result T RowsFault)
+    → IsAdmissible (integer_matrix e.matrix) → IsNeeded (integer_matrix e.matrix) w v
+    → IfErr result (IsRowsFault e limit (IsNeeded (integer_matrix e.matrix) v))
+    → IfErr result (IsRowsFault e limit (IsNeeded (integer_matrix e.matrix) w))
+fault-needed e limit w v result g n h = MatchResult-weaker result h (λ x t. t)
+    (λ fault f. fault-weaker e limit (IsNeeded (integer_matrix e.matrix) v) (IsNeeded (integer_matrix e.matrix) w) fault
+    (λ u m. needed-trans (integer_matrix e.matrix) g w v u n m) f)
+
+pub fault-own : {T : Type 0} (e : Elements) (limit : ℤ) (w : List ℕ) (result : Result T RowsFault)
+    → IsAdmissible (integer_matrix e.matrix) → IfErr result (IsRowsFault e limit (λ u. u ≡ w))
+    → IfErr result (IsRowsFault e limit (IsNeeded (integer_matrix e.matrix) w))
+fault-own e limit w result g h = MatchResult-weaker result h (λ x t. t)
+    (λ fault f. fault-weaker e limit (λ u. u ≡ w) (IsNeeded (integer_matrix e.matrix) w) fault
+    (λ u is. rw is (itself (same-refl (integer_matrix e.matrix) g w))) f)
+
+-- ---- the corrections, one after another
+
+-- From a to b the shorter element was ensured, and from b to h the first n of the numbers.
+pub record IsUnderWay (w : List ℕ) (a b h : Holding) (numbers : List ℕ) (n : ℕ) : Type 0 where
+  pub rows : IsEnsured w a h
+  pub kept : (j : ℕ) → Holds b j → Holds h j
+  pub there : (k : ℕ) → k < n → Holds h (number_at numbers k)
+  pub small : (k : ℕ) → k < n
+      → NeedsBeyond (integer_matrix a.elements.matrix) a.limit (word_at a.elements.members (number_at numbers k)) → ⊥
+
+pub under_way-start : (w : List ℕ) (a b : Holding) (numbers : List ℕ) → IsEnsured w a b → IsUnderWay w a b b numbers 0
+under_way-start w a b numbers rows = record {
+  rows = rows;
+  kept = λ j l. l;
+  there = λ k l. absurd (omega (arith, l));
+  small = λ k l. absurd (omega (arith, l));
+}
+
+pub under_way-rows : (w : List ℕ) (a b x y : Holding) (numbers : List ℕ) (n u : ℕ) → IsAdmissible (integer_matrix a.elements.matrix)
+    → IsUnderWay w a b x numbers n → IsNeeded (integer_matrix a.elements.matrix) w (word_at a.elements.members u)
+    → IsEnsured (word_at x.elements.members u) x y → IsEnsured w a y
+under_way-rows w a b x y numbers n u g h needed rows = ensured-trans w a x y h.rows
+    (ensured-needed x y w (word_at x.elements.members u) (rw h.rows.elements g) (rw h.rows.elements needed) rows)
+
+pub under_way-next : (w : List ℕ) (a b x y : Holding) (numbers : List ℕ) (n u : ℕ) → IsAdmissible (integer_matrix a.elements.matrix)
+    → IsUnderWay w a b x numbers n → number_at numbers n ≡ u
+    → IsNeeded (integer_matrix a.elements.matrix) w (word_at a.elements.members u)
+    → IsEnsured (word_at x.elements.members u) x y → Holds y u
+    → (NeedsBeyond (integer_matrix x.elements.matrix) x.limit (word_at x.elements.members u) → ⊥)
+    → IsUnderWay w a b y numbers (n + 1)
+under_way-next w a b x y numbers n u g h is needed rows there small = record {
+  rows = under_way-rows w a b x y numbers n u g h needed rows;
+  kept = λ j l. rows.kept j (h.kept j l);
+  there = λ k l. ⊎_elim (λ (less : k < n). rows.kept (number_at numbers k) (h.there k less))
+      (λ (more : n ≤ k). let e : k ≡ n = omega (arith, l, more) in rw (e, is) there) (cases_lt k n);
+  small = λ k l. ⊎_elim (λ (less : k < n). h.small k less)
+      (λ (more : n ≤ k). let e : k ≡ n = omega (arith, l, more)
+      in rw (e, is) (rw (h.rows.elements, h.rows.limit) at small)) (cases_lt k n);
+}
+
+-- ---- a descent
+
+module _ (e : Elements) (g : IsAdmissible (integer_matrix e.matrix)) (closed : IsClosed (integer_matrix e.matrix) e.members) (d : Descent)
+    (is : IsDescentAt e d) where
+  abbrev A : IntegerMatrix
+  A = integer_matrix e.matrix
+
+  abbrev w : List ℕ
+  w = word_at e.members d.member
+
+  lower-same : SameElement A (word_at e.members d.lower) (d.letter ∷ w)
+  lower-same = rw is.lower_is (normal_form-same A g (d.letter ∷ w))
+
+  pub lower-before : d.lower < d.member
+  lower-before = shorter-before A g e.members closed d.member is.within d.letter d.lower is.least.descent is.lower_within
+      (below-refl A g lower-same)
+
+  pub lower-needed : IsNeeded A w (word_at e.members d.lower)
+  lower-needed = need-shorter A g w (word_at e.members d.lower) d.letter is.least (itself lower-same)
+
+  module _ (numbers : List ℕ) (are : AreNeeds A e.members d.letter w numbers) (k : ℕ) (l : k < length numbers) where
+    pub correction-before : number_at numbers k < d.member
+    correction-before =
+        let c = are.each k l
+        in shorter-before A g e.members closed d.member is.within d.letter (number_at numbers k) is.least.descent (are.within k l)
+        (mu-below A g (word_at e.members (number_at numbers k)) (d.letter ∷ w) c.0 c.1.is_mu c.1.some)
+
+    pub correction-needed : IsNeeded A w (word_at e.members (number_at numbers k))
+    correction-needed =
+        let c = are.each k l
+        in need-correction A g w (word_at e.members (number_at numbers k)) (word_at e.members (number_at numbers k)) d.letter c.0 is.least c.1
+        (itself (same-refl A g (word_at e.members (number_at numbers k))))
+
+  -- where the shorter element and the corrections need nothing beyond the limits
+  pub needs-small : (limit : ℤ) → pos 0 ≤ℤ limit → (numbers : List ℕ) → AreNeeds A e.members d.letter w numbers
+      → (NeedsBeyond A limit (word_at e.members d.lower) → ⊥)
+      → ((k : ℕ) → k < length numbers → NeedsBeyond A limit (word_at e.members (number_at numbers k)) → ⊥)
+      → AreNeedsSmall A limit w
+  needs-small limit least numbers are lower each = record {
+    shorter = λ s f h. lower (needs_beyond-same A g limit least (d.letter ∷ w) (word_at e.members d.lower)
+        (same-sym A g lower-same) (rw (least-unique A g w d.letter s is.least f) at h));
+    corrected = λ s u m f c h.
+        let c : IsCorrection Left A d.letter (d.letter ∷ w) u m = rw (least-unique A g w d.letter s is.least f) at c
+        in let place = contains-placed e.members (normal_form A u) (member-below A g e.members closed u d.lower is.lower_within
+        (below-same A g (same-refl A g u) (same-sym A g lower-same) (mu-below A g u (d.letter ∷ w) m c.is_mu c.some)))
+        in let same : SameElement A u (word_at e.members place.i) = rw place.is (same-sym A g (normal_form-same A g u))
+        in let k = are.whole place.i m place.within
+        (correction-words A g d.letter (d.letter ∷ w) (d.letter ∷ w) u (word_at e.members place.i) m (same-refl A g (d.letter ∷ w)) same c)
+        in each k.0 k.1 (rw k.2 (needs_beyond-same A g limit least u (word_at e.members place.i) same h));
+  }
+
+-- the identity needs nothing
+module _ (e : Elements) (g : IsAdmissible (integer_matrix e.matrix)) (closed : IsClosed (integer_matrix e.matrix) e.members) where
+  no_descent : (s : ℕ) → IsLeastLeftDescent (integer_matrix e.matrix) (word_at e.members 0) s → ⊥
+  no_descent s d =
+      let zero = length-at (integer_matrix e.matrix) g e.members closed 0 closed.some
+      in omega (arith, d.descent, zero, ap length (first-member (integer_matrix e.matrix) g e.members closed))
+
+  pub identity-needs : (holds : ℕ → Type 0) → HasNeeds e holds 0
+  identity-needs holds = record {
+    shorter = λ s j d. absurd (no_descent s d);
+    corrected = λ s u m d. absurd (no_descent s d);
+  }
+
+  pub identity-small : (limit : ℤ) → AreNeedsSmall (integer_matrix e.matrix) limit (word_at e.members 0)
+  identity-small limit = record {
+    shorter = λ s d. absurd (no_descent s d);
+    corrected = λ s u m d. absurd (no_descent s d);
+  }

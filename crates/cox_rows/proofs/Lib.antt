@@ -1,0 +1,20 @@
+-- what Need(w) is, by the least left descent of w
+pub mod NeedCases
+-- whether a row is beyond the limits can be told
+pub mod BeyondLemmas
+-- whether Need(w) has such a row can be told
+pub mod NeedDecided
+-- the rows that are held, by place
+pub mod HeldLemmas
+-- rows that are held are not beyond the limits
+pub mod RowBeyond
+-- faults of rows
+pub mod FaultLemmas
+-- how rows change while others are made
+pub mod EnsureLemmas
+-- settled members
+pub mod SettledLemmas
+-- rows under new numbers
+pub mod SpreadLemmas
+-- larger contexts
+pub mod ExtendLemmas

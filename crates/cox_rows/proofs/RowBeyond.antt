@@ -1,0 +1,69 @@
+-- A row that is held is not beyond the limits, if no value of mu that it has is.
+use Rattle.std.proofs.Common.{◌≡◌, ℕ, ◌<◌, ◌≤◌, List, length, ℤ, pos, arith}
+use Rattle.std.specs.Prelude.{unsigned_abs, ◌<ℤ◌, ◌≤ℤ◌}
+use Rattle.std.proofs.lemmas.Int.{ints}
+use Rattle.cox_base.specs.IntegerMatrix.{IntegerMatrix}
+use Rattle.cox_base.specs.Admissible.{IsAdmissible}
+use Rattle.cox_base.specs.ShortLex.{normal_form}
+use Rattle.cox_reflect.proofs.Elements.{same-refl, same-sym}
+use Rattle.cox_reflect.proofs.Search.{normal_form-same}
+use Rattle.cox_hecke.specs.Row.{IsMu}
+use Rattle.cox_hecke.proofs.AllRows.{mu-unique}
+use Rattle.cox_hecke.proofs.Descended.{mu-below}
+use Rattle.cox_context.specs.Closed.{IsClosed}
+use Rattle.cox_context.specs.Numbers.{word_at}
+use Rattle.cox_context.proofs.ListLemmas.{contains-placed}
+use Rattle.cox_context.proofs.Shifting.{member-below}
+use Rattle.cox_row.specs.declared.row.Row.{Row}
+use Rattle.cox_row.specs.Mus.{value_at}
+use Rattle.cox_row.specs.RowOf.{IsRowOf}
+use Rattle.cox_row.specs.Within.{IsRowWithin}
+use Rattle.cox_row.proofs.MuLemmas.{mu-words}
+use Rattle.cox_klstep.specs.declared.making.TheConstants.{MU_LIMIT}
+use Rattle.cox_klstep.specs.declared.fault.StepFault.{StepFault}
+use Rattle.cox_klstep.specs.Limits.{IsLargeCoefficient, IsLargeMu}
+use Rattle.cox_klstep.specs.Faults.{IsFault, IsNarrowFault}
+use Rattle.cox_klstep.proofs.Finished.{none-large, noted-fault}
+use Rattle.cox_rows.specs.Beyond.{IsBeyond, coefficient, mu}
+
+module _ (A : IntegerMatrix) (g : IsAdmissible A) (members : List (List ℕ)) (closed : IsClosed A members) (i : ℕ)
+    (inside : i < length members)
+    (limit : ℤ) (least : pos 0 ≤ℤ limit) (row : Row) (is : IsRowOf A members (word_at members i) row) (within : IsRowWithin limit row) where
+  pub none-coefficient : (x : List ℕ) (k : ℕ) (c : ℤ) → IsLargeCoefficient A limit x (word_at members i) k c → ⊥
+  none-coefficient x k c h = none-large A g members closed i inside limit least row.extremal.items row.places.items row.pool.items
+      is.extremal is.polynomials within x k c h
+
+  not_zero : (m : ℤ) → pos MU_LIMIT <ℤ pos (unsigned_abs m) → m ≡ pos 0 → ⊥
+  not_zero m l e = let zero : pos MU_LIMIT <ℤ pos 0 = rw e at l in omega (arith, ints, zero)
+
+  none-mu : ((k : ℕ) → k < length row.mu.items → unsigned_abs (value_at row.mu.items k) ≤ MU_LIMIT)
+      → (x : List ℕ) (m : ℤ) → IsLargeMu A (pos MU_LIMIT) x (word_at members i) m → ⊥
+  none-mu small x m h =
+      let place = contains-placed members (normal_form A x)
+      (member-below A g members closed x i inside (mu-below A g x (word_at members i) m h.is (not_zero m h.above)))
+      in let there : IsMu A (word_at members place.i) (word_at members i) m
+      = rw place.is (mu-words A g m (same-sym A g (normal_form-same A g x)) (same-refl A g (word_at members i)) h.is)
+      in let k = is.mus.whole place.i m place.within there (not_zero m h.above)
+      in let value : IsMu A (word_at members place.i) (word_at members i) (value_at row.mu.items k.0) = rw k.2 at (is.mus.value k.0 k.1)
+      in let same : m ≡ value_at row.mu.items k.0
+      = mu-unique A g (word_at members place.i) (word_at members i) m (value_at row.mu.items k.0) there value
+      in let above : pos MU_LIMIT <ℤ pos (unsigned_abs (value_at row.mu.items k.0)) = rw same at h.above
+      in let few = small k.0 (omega (arith, k.1, is.mus.size))
+      in omega (arith, ints, above, few)
+
+  pub not_beyond : ((k : ℕ) → k < length row.mu.items → unsigned_abs (value_at row.mu.items k) ≤ MU_LIMIT)
+      → IsBeyond A limit (word_at members i) → ⊥
+  not_beyond small (coefficient {x} {k} {c} h) = none-coefficient x k c h
+  not_beyond small (mu {x} {m} h) = none-mu small x m h
+
+  -- the first value of mu that is too large
+  pub mu-fault : (fault : StepFault) → IsNarrowFault row.neighbours.items row.mu.items fault
+      → IsFault A members (word_at members i) limit fault
+  mu-fault fault h = noted-fault A g members (word_at members i) limit (length members) row.neighbours.items row.mu.items fault (record {
+    size = is.mus.size;
+    rising = is.mus.rising;
+    before = is.mus.within;
+    value = is.mus.value;
+    some = is.mus.some;
+    whole = is.mus.whole;
+  }) none-coefficient h

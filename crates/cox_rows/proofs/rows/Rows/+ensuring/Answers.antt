@@ -1,0 +1,185 @@
+-- What is made on the way to the row of w is needed by w, and when all that w needs is settled, w is.
+use Rattle.std.proofs.Common.{◌≡◌, ◌<◌, length, rules, ◌∙◌, arith, refl}
+use Rattle.std.specs.Prelude.{IfErr}
+use Rattle.cox_base.specs.IntegerMatrix.{integer_matrix}
+use Rattle.cox_hecke.specs.Needs.{IsNeeded}
+use Rattle.cox_context.specs.Numbers.{word_at}
+use Rattle.cox_row.specs.Rising.{number_at}
+use Rattle.cox_klstep.specs.StepOf.{IsDescentAt}
+use Rattle.cox_klstep.specs.NeedsOf.{AreNeeds}
+use Rattle.cox_klstep.proofs.NeedLemmas.{listed-needs}
+use Rattle.cox_rows.specs.Holding.{Holds}
+use Rattle.cox_rows.specs.Faults.{IsRowsFault}
+use Rattle.cox_rows.proofs.EnsureLemmas.{ensured-needed, ensured-then, fault-needed, fault-own, under_way-start, under_way-rows, under_way-next}
+use Rattle.cox_rows.proofs.EnsureLemmas.{lower-before, lower-needed, correction-before, correction-needed, needs-small}
+use Rattle.cox_rows.proofs.EnsureLemmas.{identity-needs, identity-small}
+use Rattle.cox_rows.proofs.rows.Rows.+ensuring.Goals as goal
+
+-- ---- the row and what it is made from
+
+pub ensure-returns-in_err-make-clause-rows : goal.ensure-returns-in_err-make-clause-rows
+ensure-returns-in_err-make-clause-rows t c =
+    ensured-then c.args.self.now c.ensure_lower.new.self c.make.new.self c.args.i c.context-context.ensures.admissible
+    c.ensure_lower.ensures.rows c.make.ensures.elements c.make.ensures.limit c.make.ensures.kept c.make.ensures.others
+
+pub ensure-returns-in_err-make-clause-fault : goal.ensure-returns-in_err-make-clause-fault
+ensure-returns-in_err-make-clause-fault t c =
+    let own : IfErr c.from_residual-in_err-make.result (IsRowsFault c.ensure_lower.new.self.elements c.ensure_lower.new.self.limit
+    (λ w. w ≡ word_at c.ensure_lower.new.self.elements.members c.args.i)) = search rules
+    in fault-own c.args.self.now.elements c.args.self.now.limit (word_at c.args.self.now.elements.members c.args.i)
+    c.from_residual-in_err-make.result c.context-context.ensures.admissible
+    (rw (c.ensure_lower.ensures.rows.elements, c.ensure_lower.ensures.rows.limit) at own)
+
+pub ensure-returns-clause-rows : goal.ensure-returns-clause-rows
+ensure-returns-clause-rows t c = rw c.settle.ensures.same
+    (ensured-then c.args.self.now c.ensure_lower.new.self c.make.new.self c.args.i c.context-context.ensures.admissible
+    c.ensure_lower.ensures.rows c.make.ensures.elements c.make.ensures.limit c.make.ensures.kept c.make.ensures.others)
+
+pub ensure-returns-clause-fault : goal.ensure-returns-clause-fault
+ensure-returns-clause-fault t c =
+    fault-own c.args.self.now.elements c.args.self.now.limit (word_at c.args.self.now.elements.members c.args.i)
+    c.settle.result c.context-context.ensures.admissible
+    (rw (c.make.ensures.elements ∙ c.ensure_lower.ensures.rows.elements, c.make.ensures.limit ∙ c.ensure_lower.ensures.rows.limit)
+    at c.settle.ensures.fault)
+
+-- ---- the identity
+
+pub ensure_lower-returns-then-i-eq0-clause-there : goal.ensure_lower-returns-then-i-eq0-clause-there
+ensure_lower-returns-then-i-eq0-clause-there t c =
+    let e : c.args.i ≡ 0 = omega arith
+    in rw e (identity-needs c.args.self.now.elements c.context-context.ensures.admissible c.context-context.ensures.closed
+    (Holds c.args.self.now))
+
+pub ensure_lower-returns-then-i-eq0-clause-small : goal.ensure_lower-returns-then-i-eq0-clause-small
+ensure_lower-returns-then-i-eq0-clause-small t c =
+    let e : c.args.i ≡ 0 = omega arith
+    in rw e (identity-small c.args.self.now.elements c.context-context.ensures.admissible c.context-context.ensures.closed
+    c.args.self.now.limit)
+
+-- ---- the shorter element
+
+pub ensure_lower-ensure-requires : goal.ensure_lower-ensure-requires
+ensure_lower-ensure-requires t c =
+    let is : IsDescentAt c.args.self.now.elements c.of-descent.result = rw c.context-context.ensures.context at c.of-descent.ensures.descent
+    in let less = lower-before c.args.self.now.elements c.context-context.ensures.admissible c.context-context.ensures.closed
+    c.of-descent.result is
+    in (omega (arith, less, c.of-descent.ensures.number, c.decreases), is.lower_within)
+
+pub ensure_lower-returns-in_err-ensure-clause-rows : goal.ensure_lower-returns-in_err-ensure-clause-rows
+ensure_lower-returns-in_err-ensure-clause-rows t c =
+    let is : IsDescentAt c.args.self.now.elements c.of-descent.result = rw c.context-context.ensures.context at c.of-descent.ensures.descent
+    in ensured-needed c.args.self.now c.ensure.new.self (word_at c.args.self.now.elements.members c.args.i)
+    (word_at c.args.self.now.elements.members c.of-descent.result.lower) c.context-context.ensures.admissible
+    (rw c.of-descent.ensures.number at (lower-needed c.args.self.now.elements c.context-context.ensures.admissible
+    c.context-context.ensures.closed c.of-descent.result is)) c.ensure.ensures.rows
+
+pub ensure_lower-returns-in_err-ensure-clause-fault : goal.ensure_lower-returns-in_err-ensure-clause-fault
+ensure_lower-returns-in_err-ensure-clause-fault t c =
+    let is : IsDescentAt c.args.self.now.elements c.of-descent.result = rw c.context-context.ensures.context at c.of-descent.ensures.descent
+    in let fault : IfErr c.from_residual.result (IsRowsFault c.args.self.now.elements c.args.self.now.limit
+    (IsNeeded (integer_matrix c.args.self.now.elements.matrix)
+    (word_at c.args.self.now.elements.members c.of-descent.result.lower))) = search rules
+    in fault-needed c.args.self.now.elements c.args.self.now.limit (word_at c.args.self.now.elements.members c.args.i)
+    (word_at c.args.self.now.elements.members c.of-descent.result.lower) c.from_residual.result c.context-context.ensures.admissible
+    (rw c.of-descent.ensures.number at (lower-needed c.args.self.now.elements c.context-context.ensures.admissible
+    c.context-context.ensures.closed c.of-descent.result is)) fault
+
+pub ensure_lower-returns-in_err-corrections-clause-rows : goal.ensure_lower-returns-in_err-corrections-clause-rows
+ensure_lower-returns-in_err-corrections-clause-rows t c =
+    let is : IsDescentAt c.args.self.now.elements c.of-descent.result = rw c.context-context.ensures.context at c.of-descent.ensures.descent
+    in ensured-needed c.args.self.now c.ensure.new.self (word_at c.args.self.now.elements.members c.args.i)
+    (word_at c.args.self.now.elements.members c.of-descent.result.lower) c.context-context.ensures.admissible
+    (rw c.of-descent.ensures.number at (lower-needed c.args.self.now.elements c.context-context.ensures.admissible
+    c.context-context.ensures.closed c.of-descent.result is)) c.ensure.ensures.rows
+
+-- ---- the corrections
+
+pub ensure_lower-each-init : goal.ensure_lower-each-init
+ensure_lower-each-init t c =
+    let is : IsDescentAt c.args.self.now.elements c.of-descent.result = rw c.context-context.ensures.context at c.of-descent.ensures.descent
+    in under_way-start (word_at c.args.self.now.elements.members c.args.i) c.args.self.now c.ensure.new.self c.deref-u-items.result.now
+    (ensured-needed c.args.self.now c.ensure.new.self (word_at c.args.self.now.elements.members c.args.i)
+    (word_at c.args.self.now.elements.members c.of-descent.result.lower) c.context-context.ensures.admissible
+    (rw c.of-descent.ensures.number at (lower-needed c.args.self.now.elements c.context-context.ensures.admissible
+    c.context-context.ensures.closed c.of-descent.result is)) c.ensure.ensures.rows)
+
+pub ensure_lower-ensure-requires-in-each : goal.ensure_lower-ensure-requires-in-each
+ensure_lower-ensure-requires-in-each t c =
+    let is : IsDescentAt c.args.self.now.elements c.of-descent.result = rw c.context-context.ensures.context at c.of-descent.ensures.descent
+    in let are : AreNeeds (integer_matrix c.args.self.now.elements.matrix) c.args.self.now.elements.members c.of-descent.result.letter
+    (word_at c.args.self.now.elements.members c.of-descent.result.member) c.deref-u-items.result.now
+    = rw c.deref-u-items.ensures.value (rw c.ensure.ensures.rows.elements at c.in_ok-corrections.ensures)
+    in let l : c.each.u-index < length c.deref-u-items.result.now = omega arith
+    in let less = correction-before c.args.self.now.elements c.context-context.ensures.admissible c.context-context.ensures.closed
+    c.of-descent.result is c.deref-u-items.result.now are c.each.u-index l
+    in (omega (arith, less, c.of-descent.ensures.number, c.decreases), rw c.each.invariant.rows.elements (are.within c.each.u-index l))
+
+pub ensure_lower-returns-in_err-ensure-2-clause-rows : goal.ensure_lower-returns-in_err-ensure-2-clause-rows
+ensure_lower-returns-in_err-ensure-2-clause-rows t c =
+    let is : IsDescentAt c.args.self.now.elements c.of-descent.result = rw c.context-context.ensures.context at c.of-descent.ensures.descent
+    in let are : AreNeeds (integer_matrix c.args.self.now.elements.matrix) c.args.self.now.elements.members c.of-descent.result.letter
+    (word_at c.args.self.now.elements.members c.of-descent.result.member) c.deref-u-items.result.now
+    = rw c.deref-u-items.ensures.value (rw c.ensure.ensures.rows.elements at c.in_ok-corrections.ensures)
+    in let l : c.each.u-index < length c.deref-u-items.result.now = omega arith
+    in under_way-rows (word_at c.args.self.now.elements.members c.args.i) c.args.self.now c.ensure.new.self c.each.self
+    c.ensure-in-each.new.self c.deref-u-items.result.now c.each.u-index (number_at c.deref-u-items.result.now c.each.u-index)
+    c.context-context.ensures.admissible c.each.invariant
+    (rw c.of-descent.ensures.number at (correction-needed c.args.self.now.elements c.context-context.ensures.admissible
+    c.context-context.ensures.closed c.of-descent.result is c.deref-u-items.result.now are c.each.u-index l))
+    c.ensure-in-each.ensures.rows
+
+pub ensure_lower-returns-in_err-ensure-2-clause-fault : goal.ensure_lower-returns-in_err-ensure-2-clause-fault
+ensure_lower-returns-in_err-ensure-2-clause-fault t c =
+    let is : IsDescentAt c.args.self.now.elements c.of-descent.result = rw c.context-context.ensures.context at c.of-descent.ensures.descent
+    in let are : AreNeeds (integer_matrix c.args.self.now.elements.matrix) c.args.self.now.elements.members c.of-descent.result.letter
+    (word_at c.args.self.now.elements.members c.of-descent.result.member) c.deref-u-items.result.now
+    = rw c.deref-u-items.ensures.value (rw c.ensure.ensures.rows.elements at c.in_ok-corrections.ensures)
+    in let l : c.each.u-index < length c.deref-u-items.result.now = omega arith
+    in let fault : IfErr c.from_residual-in_err-ensure-2.result (IsRowsFault c.each.self.elements c.each.self.limit
+    (IsNeeded (integer_matrix c.each.self.elements.matrix)
+    (word_at c.each.self.elements.members (number_at c.deref-u-items.result.now c.each.u-index)))) = search rules
+    in fault-needed c.args.self.now.elements c.args.self.now.limit (word_at c.args.self.now.elements.members c.args.i)
+    (word_at c.args.self.now.elements.members (number_at c.deref-u-items.result.now c.each.u-index))
+    c.from_residual-in_err-ensure-2.result c.context-context.ensures.admissible
+    (rw c.of-descent.ensures.number at (correction-needed c.args.self.now.elements c.context-context.ensures.admissible
+    c.context-context.ensures.closed c.of-descent.result is c.deref-u-items.result.now are c.each.u-index l))
+    (rw (c.each.invariant.rows.elements, c.each.invariant.rows.limit) at fault)
+
+pub ensure_lower-each-preserved : goal.ensure_lower-each-preserved
+ensure_lower-each-preserved t c =
+    let is : IsDescentAt c.args.self.now.elements c.of-descent.result = rw c.context-context.ensures.context at c.of-descent.ensures.descent
+    in let are : AreNeeds (integer_matrix c.args.self.now.elements.matrix) c.args.self.now.elements.members c.of-descent.result.letter
+    (word_at c.args.self.now.elements.members c.of-descent.result.member) c.deref-u-items.result.now
+    = rw c.deref-u-items.ensures.value (rw c.ensure.ensures.rows.elements at c.in_ok-corrections.ensures)
+    in let l : c.each.u-index < length c.deref-u-items.result.now = omega arith
+    in under_way-next (word_at c.args.self.now.elements.members c.args.i) c.args.self.now c.ensure.new.self c.each.self
+    c.ensure-in-each.new.self c.deref-u-items.result.now c.each.u-index (number_at c.deref-u-items.result.now c.each.u-index)
+    c.context-context.ensures.admissible c.each.invariant refl
+    (rw c.of-descent.ensures.number at (correction-needed c.args.self.now.elements c.context-context.ensures.admissible
+    c.context-context.ensures.closed c.of-descent.result is c.deref-u-items.result.now are c.each.u-index l))
+    c.ensure-in-each.ensures.rows c.in_ok-ensure-2.ensures.there c.in_ok-ensure-2.ensures.small
+
+pub ensure_lower-returns-clause-rows : goal.ensure_lower-returns-clause-rows
+ensure_lower-returns-clause-rows t c = c.each.invariant.rows
+
+pub ensure_lower-returns-clause-there : goal.ensure_lower-returns-clause-there
+ensure_lower-returns-clause-there t c =
+    let is : IsDescentAt c.args.self.now.elements c.of-descent.result = rw c.context-context.ensures.context at c.of-descent.ensures.descent
+    in let are : AreNeeds (integer_matrix c.args.self.now.elements.matrix) c.args.self.now.elements.members c.of-descent.result.letter
+    (word_at c.args.self.now.elements.members c.of-descent.result.member) c.deref-u-items.result.now
+    = rw c.deref-u-items.ensures.value (rw c.ensure.ensures.rows.elements at c.in_ok-corrections.ensures)
+    in rw c.of-descent.ensures.number at (listed-needs c.args.self.now.elements (Holds c.each.self) c.of-descent.result
+    c.deref-u-items.result.now c.context-context.ensures.admissible c.context-context.ensures.closed is are
+    (c.each.invariant.kept c.of-descent.result.lower c.in_ok-ensure.ensures.there)
+    (λ k l. c.each.invariant.there k (omega (arith, l))))
+
+pub ensure_lower-returns-clause-small : goal.ensure_lower-returns-clause-small
+ensure_lower-returns-clause-small t c =
+    let is : IsDescentAt c.args.self.now.elements c.of-descent.result = rw c.context-context.ensures.context at c.of-descent.ensures.descent
+    in let are : AreNeeds (integer_matrix c.args.self.now.elements.matrix) c.args.self.now.elements.members c.of-descent.result.letter
+    (word_at c.args.self.now.elements.members c.of-descent.result.member) c.deref-u-items.result.now
+    = rw c.deref-u-items.ensures.value (rw c.ensure.ensures.rows.elements at c.in_ok-corrections.ensures)
+    in rw c.of-descent.ensures.number at (needs-small c.args.self.now.elements c.context-context.ensures.admissible
+    c.context-context.ensures.closed c.of-descent.result is c.args.self.now.limit c.context-context.ensures.least
+    c.deref-u-items.result.now are c.in_ok-ensure.ensures.small
+    (λ k l. c.each.invariant.small k (omega (arith, l))))

@@ -1,0 +1,14 @@
+-- The recursion goes to smaller numbers. The corrections so far are there, and need nothing beyond the limits.
+use Rattle.std.proofs.Common.{◌+◌, ◌*◌}
+use Rattle.cox_context.specs.Numbers.{word_at}
+use Rattle.cox_rows.proofs.EnsureLemmas.{IsUnderWay}
+use Rattle.cox_rows.proofs.rows.Rows.+ensuring.Given as goal
+
+abbrev pub decreases-ensure : goal.decreases-ensure
+decreases-ensure l = 2 * l.i + 1
+
+abbrev pub decreases-ensure_lower : goal.decreases-ensure_lower
+decreases-ensure_lower l = 2 * l.i
+
+abbrev pub invariant-ensure_lower-each : goal.invariant-ensure_lower-each
+invariant-ensure_lower-each l = IsUnderWay (word_at l.fn.self.elements.members l.i) l.fn.self l.initial.self l.self l.u-items l.u-index

@@ -1,0 +1,35 @@
+-- How the rows that are held change while those of Need(w) are made.
+use Rattle.std.specs.Prelude.{◌≡◌, ◌⊎◌, ℕ, List, ◌∷◌, Bool, true, false, slice_index_or, Option, IfSome, ℤ}
+use Rattle.cox_base.specs.declared.side.Side.TheVariants.{Left}
+use Rattle.cox_base.specs.IntegerMatrix.{IntegerMatrix, integer_matrix}
+use Rattle.cox_reflect.specs.Height.{IsLeastLeftDescent}
+use Rattle.cox_hecke.specs.Step.{IsCorrection}
+use Rattle.cox_hecke.specs.Needs.{IsNeeded}
+use Rattle.cox_context.specs.Numbers.{word_at}
+use Rattle.cox_klstep.specs.declared.tables.Tables.{Tables}
+use Rattle.cox_klstep.specs.TablesOf.{AreTables}
+use Rattle.cox_rows.specs.Beyond.{NeedsBeyond}
+use Rattle.cox_rows.specs.Holding.{Holding, Holds}
+
+-- the context and the limit stay, what is held stays, and what is new is needed by w
+pub record IsEnsured (w : List ℕ) (old new : Holding) : Type 0 where
+  pub elements : new.elements ≡ old.elements
+  pub limit : new.limit ≡ old.limit
+  pub kept : (j : ℕ) → Holds old j → Holds new j
+  pub needed : (j : ℕ) → Holds new j
+      → Holds old j ⊎ IsNeeded (integer_matrix old.elements.matrix) w (word_at old.elements.members j)
+
+-- Need(w) has no row beyond the limits but, maybe, that of w itself
+pub record AreNeedsSmall (A : IntegerMatrix) (limit : ℤ) (w : List ℕ) : Type 0 where
+  pub shorter : (s : ℕ) → IsLeastLeftDescent A w s → ¬ NeedsBeyond A limit (s ∷ w)
+  pub corrected : (s : ℕ) (u : List ℕ) (m : ℤ) → IsLeastLeftDescent A w s → IsCorrection Left A s (s ∷ w) u m → ¬ NeedsBeyond A limit u
+
+-- the row of the member with the number i is there, and no row of its Need is beyond the limits
+pub record IsSettled (h : Holding) (i : ℕ) : Type 0 where
+  pub there : Holds h i
+  pub small : ¬ NeedsBeyond (integer_matrix h.elements.matrix) h.limit (word_at h.elements.members i)
+
+-- which members are known to be settled, and the tables of the context, where there are some
+pub record IsStore (h : Holding) (settled : List Bool) (tables : Option Tables) : Type 0 where
+  pub known : (i : ℕ) → slice_index_or settled i false ≡ true → IsSettled h i
+  pub usable : IfSome tables (AreTables h.elements)

@@ -1,0 +1,35 @@
+-- A context with rows of some of its members, as contracts see it.
+use Rattle.std.specs.Prelude.{◌≡◌, ℕ, ◌<◌, List, Bool, true, false, length, map, is_some, slice_index_or, Option, None, IfSome, ℤ, pos, ◌≤ℤ◌}
+use Rattle.cox_context.specs.Closed.{Elements}
+use Rattle.cox_row.specs.declared.row.Row.{Row}
+use Rattle.cox_row.specs.RowOf.{IsRowAt}
+use Rattle.cox_row.specs.Within.{IsRowWithin}
+
+-- the Coxeter matrix and the members of the context, the greatest absolute value of a coefficient, and which members have a row
+pub record Holding : Type 0 where
+  pub elements : Elements
+  pub limit : ℤ
+  pub holds : List Bool
+
+-- the row of the member with the number i is there
+abbrev pub Holds : Holding → ℕ → Type 0
+Holds h i = slice_index_or h.holds i false ≡ true
+
+-- the row of the member with the number i, within the limit
+pub record IsHeldRow (e : Elements) (limit : ℤ) (i : ℕ) (row : Row) : Type 0 where
+  pub member : i < length e.members
+  pub is : IsRowAt e i row
+  pub within : IsRowWithin limit row
+
+-- the row at a place, if one is there
+abbrev pub row_at : List (Option Row) → ℕ → Option Row
+row_at rows i = slice_index_or rows i None
+
+-- each row that is there is that of the member with its number, within the limit
+pub record AreRows (e : Elements) (limit : ℤ) (rows : List (Option Row)) : Type 0 where
+  pub least : pos 0 ≤ℤ limit
+  pub each : (i : ℕ) → IfSome (row_at rows i) (IsHeldRow e limit i)
+
+-- where there are rows
+abbrev pub held : List (Option Row) → List Bool
+held rows = map is_some rows

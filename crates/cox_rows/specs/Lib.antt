@@ -1,0 +1,12 @@
+-- elements whose rows are beyond the limits
+pub mod Beyond
+-- a context with rows
+pub mod Holding
+-- why rows are not made
+pub mod Faults
+-- how rows change while others are made
+pub mod Ensured
+-- rows under new numbers
+pub mod Spread
+-- a context that grows
+pub mod Extended

@@ -1,0 +1,206 @@
+//! How the rows of Need(i) are made.
+//!
+//! The row of w is made from that of sw, for the least left descent s of w, and from those of the corrections of the step. So these are made first,
+//! by recursion to smaller numbers. A member is settled when its row is held and no row of its Need is beyond the limits; that is noted, so that
+//! nothing is looked at twice.
+ghost use Rattle.std.specs.Prelude.{◌≡◌, ◌≢◌, ℕ, ◌<◌, ◌≤◌, ◌↔◌, [], true, length, IfSome, IfNone, IsSome, IsTrue, IfOk, IfErr, OnOk, pos, ◌≤ℤ◌, unsigned_abs, ◌⊎◌, false, slice_index, slice_index_or};
+ghost use Rattle.cox_base.specs.IntegerMatrix.{integer_matrix};
+ghost use Rattle.cox_base.specs.Matrix.{IsWord};
+ghost use Rattle.cox_base.specs.Bruhat.{IsBelow};
+ghost use Rattle.cox_poly.specs.Polynomial.{coefficient};
+ghost use Rattle.cox_hecke.specs.Row.{IsKazhdanLusztig, IsMu};
+ghost use Rattle.cox_context.specs.Members.{IsInUnion};
+ghost use Rattle.cox_context.specs.SortedList.{IsListOf};
+ghost use Rattle.cox_context.specs.Refusal.{IsRefusal};
+ghost use Rattle.cox_row.specs.Distinct.{HasDistinctPolynomials};
+ghost use Rattle.cox_hecke.specs.Needs.{IsNeeded};
+ghost use Rattle.cox_base.specs.Admissible.{IsAdmissible};
+ghost use Rattle.cox_context.specs.Closed.{IsClosed};
+ghost use Rattle.cox_context.specs.Numbers.{word_at};
+ghost use Rattle.cox_row.specs.Mus.{value_at};
+ghost use Rattle.cox_klstep.specs.StepOf.{IsDescentAt};
+ghost use Rattle.cox_klstep.specs.NeedsOf.{HasNeeds, AreNeeds};
+ghost use Rattle.cox_klstep.specs.TablesOf.{AreTables};
+ghost use Rattle.cox_klstep.specs.Faults.{IsNarrowFault};
+ghost use Rattle.cox_rows.specs.Beyond.{NeedsBeyond};
+ghost use Rattle.cox_rows.specs.Holding.{Holding, Holds, IsHeldRow, AreRows, row_at, held};
+ghost use Rattle.cox_rows.specs.Extended.{IsExtended, IsLeft};
+ghost use Rattle.cox_rows.specs.Faults.{IsRowsFault, IsFaultOfSome};
+ghost use Rattle.cox_rows.specs.Ensured.{IsEnsured, IsSettled, AreNeedsSmall};
+
+use crate::fault::fault_of;
+use crate::flags::set_at;
+use crate::{Rows, RowsFault};
+use cox_klstep::{Descent, MU_LIMIT, StepFault, Tables, needs, row};
+use cox_row::Row;
+use std::alloc::{AllocError, Global};
+
+impl Rows {
+    /// Makes the rows of Need(z) that are not there, for the member z with the number i, and no others.
+    ///
+    /// `Coefficient` or `Mu` where the row of an element of Need(z) is beyond a limit; what was made before that is held. In A 2, with all six elements
+    /// as members, the rows that `121` needs are those of `121`, `21`, `1` and the identity.
+    #[cycle(ensuring)]
+    pub fn ensure(&mut self, i: u32) -> Result<(), RowsFault>
+        requires { i < length self.old.elements.members }
+        ensures rows { IsEnsured (word_at self.old.elements.members i) self.old self.new }
+        ensures there { OnOk result (Holds self.new i) }
+        ensures small { OnOk result (¬ NeedsBeyond (integer_matrix self.old.elements.matrix) self.old.limit (word_at self.old.elements.members i)) }
+        ensures fault { IfErr result (IsRowsFault self.old.elements self.old.limit
+            (IsNeeded (integer_matrix self.old.elements.matrix) (word_at self.old.elements.members i))) }
+    {
+        let _context = self.context();
+        if self.is_settled(i) {
+            return Ok(());
+        }
+        self.ensure_lower(i)?;
+        self.make(i)?;
+        self.settle(i)
+    }
+
+    /// Makes the rows that the row of the member with the number i is made from, and what they need.
+    #[cycle(ensuring)]
+    fn ensure_lower(&mut self, i: u32) -> Result<(), RowsFault>
+        requires { i < length self.old.elements.members }
+        ensures rows { IsEnsured (word_at self.old.elements.members i) self.old self.new }
+        ensures there { OnOk result (HasNeeds self.old.elements (Holds self.new) i) }
+        ensures small { OnOk result (AreNeedsSmall (integer_matrix self.old.elements.matrix) self.old.limit (word_at self.old.elements.members i)) }
+        ensures fault { IfErr result (IsRowsFault self.old.elements self.old.limit
+            (IsNeeded (integer_matrix self.old.elements.matrix) (word_at self.old.elements.members i))) }
+    {
+        let context = self.context();
+        if i == 0 {
+            return Ok(());
+        }
+        let descent = Descent::of(context, i);
+        self.ensure(descent.lower)?;
+        let corrections = self.corrections(&descent)?;
+        'each: for &u in corrections.iter() {
+            self.ensure(u)?;
+        }
+        Ok(())
+    }
+
+    /// Makes all rows that are not there, in the order of the members.
+    ///
+    /// A fault is that of the row of some member.
+    pub fn ensure_all(&mut self) -> Result<(), RowsFault>
+        ensures elements { self.new.elements ≡ self.old.elements }
+        ensures limit { self.new.limit ≡ self.old.limit }
+        ensures kept { (j : ℕ) → Holds self.old j → Holds self.new j }
+        ensures there { OnOk result ((i : ℕ) → i < length self.old.elements.members → Holds self.new i) }
+        ensures small { OnOk result ((i : ℕ) → i < length self.old.elements.members
+            → ¬ NeedsBeyond (integer_matrix self.old.elements.matrix) self.old.limit (word_at self.old.elements.members i)) }
+        ensures fault { IfErr result (IsFaultOfSome self.old.elements self.old.limit) }
+    {
+        'members: for i in 0..self.context().len() {
+            self.ensure(i)?;
+        }
+        Ok(())
+    }
+
+    /// The members that correct the step by a descent, where the row of the shorter element is there.
+    fn corrections(&self, descent: &Descent) -> Result<Vec<u32>, AllocError>
+        requires descent { IsDescentAt self.now.elements descent.now }
+        requires lower { Holds self.now descent.now.lower }
+        ensures { IfOk result (λ v. AreNeeds (integer_matrix self.now.elements.matrix) self.now.elements.members descent.now.letter (word_at self.now.elements.members descent.now.member) v.items) }
+    {
+        let alloc = *self.settled.allocator();
+        let Some(lower) = self.held.get(descent.lower) else {
+            unreachable!();
+        };
+        needs(alloc, self.held.context(), descent, lower)
+    }
+
+    /// Makes the row of the member with the number i, unless it is there.
+    fn make(&mut self, i: u32) -> Result<(), RowsFault>
+        requires member { i < length self.old.elements.members }
+        requires needs { HasNeeds self.old.elements (Holds self.old) i }
+        ensures elements { self.new.elements ≡ self.old.elements }
+        ensures limit { self.new.limit ≡ self.old.limit }
+        ensures kept { (j : ℕ) → Holds self.old j → Holds self.new j }
+        ensures others { (j : ℕ) → j ≢ i → Holds self.new j → Holds self.old j }
+        ensures there { OnOk result (Holds self.new i) }
+        ensures fault { IfErr result (IsRowsFault self.old.elements self.old.limit (λ w. w ≡ word_at self.old.elements.members i)) }
+    {
+        if self.held.get(i).is_some() {
+            return Ok(());
+        }
+        let alloc = *self.settled.allocator();
+        let mut tables = self.take_tables(alloc)?;
+        let made = row(
+            alloc,
+            self.held.context(),
+            i,
+            &self.held,
+            &mut tables,
+            &mut self.steps,
+        );
+        self.tables = Some(tables);
+        match made {
+            Ok(row) => {
+                self.held.put(i, row)?;
+                Ok(())
+            }
+            Err(fault) => Err(fault_of(fault, i)),
+        }
+    }
+
+    /// The tables of the context, which are taken out.
+    fn take_tables(&mut self, alloc: Global) -> Result<Tables, AllocError>
+        ensures same { self.new ≡ self.old }
+        ensures tables { IfOk result (AreTables self.old.elements) }
+    {
+        match self.tables.take() {
+            Some(tables) => Ok(tables),
+            None => Tables::of(alloc, self.held.context()),
+        }
+    }
+
+    /// Whether the member with the number i is known to be settled.
+    fn is_settled(&self, i: u32) -> bool
+        ensures { IsTrue result → IsSettled self.now i }
+    {
+        match self.settled.get(i as usize) {
+            Some(settled) => *settled,
+            None => false,
+        }
+    }
+
+    /// Notes that the member with the number i is settled, where all that its row is made from is; a value of mu may be too large.
+    fn settle(&mut self, i: u32) -> Result<(), RowsFault>
+        requires member { i < length self.old.elements.members }
+        requires there { Holds self.old i }
+        requires needs { AreNeedsSmall (integer_matrix self.old.elements.matrix) self.old.limit (word_at self.old.elements.members i) }
+        ensures same { self.new ≡ self.old }
+        ensures small { OnOk result (¬ NeedsBeyond (integer_matrix self.old.elements.matrix) self.old.limit (word_at self.old.elements.members i)) }
+        ensures fault { IfErr result (IsRowsFault self.old.elements self.old.limit (λ w. w ≡ word_at self.old.elements.members i)) }
+    {
+        let _context = self.held.context();
+        let Some(row) = self.held.get(i) else {
+            unreachable!();
+        };
+        if let Some(fault) = large_mu(row) {
+            return Err(fault_of(fault, i));
+        }
+        set_at(&mut self.settled, i as usize)?;
+        Ok(())
+    }
+}
+
+/// The first value of mu that is above its limit, if there is one.
+fn large_mu(row: &Row) -> Option<StepFault>
+    requires { length row.now.mu.items ≡ length row.now.neighbours.items }
+    ensures some { IfSome result (IsNarrowFault row.now.neighbours.items row.now.mu.items) }
+    ensures none { IfNone result ((k : ℕ) → k < length row.now.mu.items → unsigned_abs (value_at row.now.mu.items k) ≤ MU_LIMIT) }
+{
+    'values: for (k, value) in row.mu().iter().enumerate() {
+        if u64::from(value.unsigned_abs()) > MU_LIMIT {
+            return Some(StepFault::Mu {
+                x: row.neighbours()[k],
+                value: i64::from(*value),
+            });
+        }
+    }
+    None
+}

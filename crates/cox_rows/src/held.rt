@@ -1,0 +1,239 @@
+//! A context, and rows of some of its members.
+ghost use Rattle.std.specs.Prelude.{◌≡◌, ◌≢◌, ℕ, ◌<◌, ◌≤◌, ◌↔◌, [], length, IfSome, IsSome, IsNone, IfNone, IsTrue, IfOk, IfErr, OnOk, OnErr, Some, None, is_some, true, pos, ◌≤ℤ◌};
+ghost use Rattle.cox_base.specs.Admissible.{IsAdmissible};
+ghost use Rattle.cox_base.specs.IntegerMatrix.{integer_matrix};
+ghost use Rattle.cox_context.specs.Closed.{IsClosed};
+ghost use Rattle.cox_base.specs.Matrix.{IsWord};
+ghost use Rattle.cox_context.specs.Members.{IsInUnion};
+ghost use Rattle.cox_context.specs.SortedList.{IsListOf};
+ghost use Rattle.cox_context.specs.Refusal.{IsRefusal};
+ghost use Rattle.cox_rows.specs.Holding.{Holding, Holds, IsHeldRow, AreRows, row_at, held};
+ghost use Rattle.cox_rows.specs.Spread.{IsMovable, AreSpread, AreCarried};
+ghost use Rattle.cox_rows.specs.Extended.{IsLeft};
+
+use cox_base::Word;
+use cox_context::{Context, ContextFault, MAX_MEMBERS};
+use cox_minroots::RootTable;
+use cox_row::{LowerRows, Row};
+use std::alloc::{AllocError, Global};
+use std::marker::Model;
+use std::mem;
+
+/// A context, and rows of its members, each under its member's number. There may be fewer places for rows than members.
+#[derive(Drop)]
+pub(crate) struct Held {
+    context: Context,
+    rows: Vec<Option<Row>>,
+    limit: i64,
+}
+
+impl Model for Held {
+    ghost use Rattle.cox_rows.specs.Holding.{Holding, AreRows, held};
+
+    ghost Value = { Holding };
+
+    ghost view = { λ h. record { elements = h.context; limit = h.limit; holds = held h.rows.items } };
+
+    ghost invariant = { λ h. AreRows h.context h.limit h.rows.items };
+}
+
+impl Held {
+    /// A context with no rows.
+    pub(crate) fn new(alloc: Global, context: Context, limit: i64) -> Held
+        requires { pos 0 ≤ℤ limit }
+        ensures { result ≡ record { elements = context; limit = limit; holds = [] } }
+    {
+        Held {
+            context,
+            rows: Vec::new(alloc),
+            limit,
+        }
+    }
+
+    /// The context.
+    pub(crate) fn context(&self) -> &Context
+        ensures context { result.now ≡ self.now.elements }
+        ensures closed { IsClosed (integer_matrix self.now.elements.matrix) self.now.elements.members }
+        ensures admissible { IsAdmissible (integer_matrix self.now.elements.matrix) }
+        ensures least { pos 0 ≤ℤ self.now.limit }
+        ensures members { (i : ℕ) → Holds self.now i → i < length self.now.elements.members }
+    {
+        let _len = self.context.len();
+        &self.context
+    }
+
+    /// The greatest absolute value of a coefficient.
+    pub(crate) fn greatest(&self) -> i64
+        ensures { result ≡ self.now.limit }
+    {
+        self.limit
+    }
+
+    /// The row of the member with the number i, if it is there.
+    pub(crate) fn get(&self, i: u32) -> Option<&Row>
+        ensures row { IfSome result (λ r. IsHeldRow self.now.elements self.now.limit i r.now) }
+        ensures exactly { IsSome result ↔ Holds self.now i }
+    {
+        match self.rows.get(i as usize) {
+            Some(Some(row)) => Some(row),
+            _ => None,
+        }
+    }
+
+    /// Puts the row of the member with the number i.
+    pub(crate) fn put(&mut self, i: u32, row: Row) -> Result<(), AllocError>
+        requires { IsHeldRow self.old.elements self.old.limit i row }
+        ensures elements { self.new.elements ≡ self.old.elements }
+        ensures limit { self.new.limit ≡ self.old.limit }
+        ensures there { OnOk result (Holds self.new i) }
+        ensures kept { (j : ℕ) → Holds self.old j → Holds self.new j }
+        ensures others { (j : ℕ) → j ≢ i → Holds self.new j → Holds self.old j }
+    {
+        put_at(&mut self.rows, i as usize, row)
+    }
+
+    /// Takes the row of the member with the number i out, if it is there.
+    pub(crate) fn take(&mut self, i: u32) -> Option<Row>
+        ensures row { IfSome result (IsHeldRow self.old.elements self.old.limit i) }
+        ensures exactly { IsSome result ↔ Holds self.old i }
+        ensures elements { self.new.elements ≡ self.old.elements }
+        ensures limit { self.new.limit ≡ self.old.limit }
+        ensures gone { ¬ Holds self.new i }
+        ensures others { (j : ℕ) → j ≢ i → Holds self.new j ↔ Holds self.old j }
+    {
+        take_at(&mut self.rows, i as usize)
+    }
+
+    /// The context and the rows.
+    pub(crate) fn into_parts(self) -> (Context, Vec<Option<Row>>)
+        ensures context { result.0 ≡ self.elements }
+        ensures rows { (i : ℕ) → IfSome (row_at result.1.items i) (IsHeldRow self.elements self.limit i) }
+        ensures exactly { self.holds ≡ held result.1.items }
+    {
+        (self.context, self.rows)
+    }
+
+    /// A context with rows of its members.
+    pub(crate) fn adopt(context: Context, rows: Vec<Option<Row>>, limit: i64) -> Held
+        requires { AreRows context limit rows.items }
+        ensures { result ≡ record { elements = context; limit = limit; holds = held rows.items } }
+    {
+        Held {
+            context,
+            rows,
+            limit,
+        }
+    }
+
+    /// Adds the elements x with x <= w to the context; the new number of each member that was there before. Without memory no row may be left.
+    pub(crate) fn extend(
+        &mut self,
+        group: &RootTable,
+        w: &Word,
+        limit: u32,
+    ) -> Result<Vec<u32>, ContextFault>
+        requires matrix { group.now ≡ self.old.elements.matrix }
+        requires letters { IsWord group.now.rank w.now.items }
+        requires some { 1 ≤ limit }
+        requires limit { limit ≤ MAX_MEMBERS }
+        ensures matrix { self.new.elements.matrix ≡ self.old.elements.matrix }
+        ensures limit { self.new.limit ≡ self.old.limit }
+        ensures members { OnOk result (IsListOf (IsInUnion (integer_matrix group.now) w.now.items self.old.elements.members) self.new.elements.members) }
+        ensures few { OnOk result (length self.new.elements.members ≤ limit) }
+        ensures carried { IfOk result (λ moved. AreCarried self.old self.new moved.items) }
+        ensures refused { IfErr result (IsRefusal (IsInUnion (integer_matrix group.now) w.now.items self.old.elements.members) limit) }
+        ensures unchanged { IfErr result (IsLeft self.old self.new) }
+    {
+        let _old = self.context.len();
+        let moved = self.context.extend(group, w, limit)?;
+        let _new = self.context.len();
+        let alloc = *self.rows.allocator();
+        let rows = mem::replace(&mut self.rows, Vec::new(alloc));
+        match spread(alloc, rows, moved.as_slice()) {
+            Ok(rows) => {
+                self.rows = rows;
+                Ok(moved)
+            }
+            Err(_) => Err(ContextFault::NoMemory),
+        }
+    }
+}
+
+/// Takes the row at a place out, if there is one.
+fn take_at(rows: &mut Vec<Option<Row>>, i: usize) -> Option<Row>
+    ensures taken { result ≡ row_at rows.old.items i }
+    ensures gone { row_at rows.new.items i ≡ None }
+    ensures others { (j : ℕ) → j ≢ i → row_at rows.new.items j ≡ row_at rows.old.items j }
+{
+    if i >= rows.len() {
+        return None;
+    }
+    rows[i].take()
+}
+
+impl LowerRows for Held {
+    ghost elements = { λ h. h.elements };
+
+    ghost holds = { λ h i. Holds h i };
+
+    ghost limit = { λ h. h.limit };
+
+    fn limit(&self) -> i64 {
+        let _context = self.context();
+        self.greatest()
+    }
+
+    fn has(&self, i: u32) -> bool {
+        self.get(i).is_some()
+    }
+
+    fn row(&self, i: u32) -> &Row {
+        match self.get(i) {
+            Some(row) => row,
+            None => unreachable!(),
+        }
+    }
+}
+
+/// Puts a row at a place, where there may be none yet. Without memory no row is put.
+fn put_at(rows: &mut Vec<Option<Row>>, i: usize, row: Row) -> Result<(), AllocError>
+    ensures at { OnOk result (row_at rows.new.items i ≡ Some row) }
+    ensures others { (j : ℕ) → j ≢ i → row_at rows.new.items j ≡ row_at rows.old.items j }
+    ensures failed { OnErr result ((j : ℕ) → row_at rows.new.items j ≡ row_at rows.old.items j) }
+    ensures kept { (j : ℕ) → is_some (row_at rows.old.items j) ≡ true → is_some (row_at rows.new.items j) ≡ true }
+{
+    make_room(rows, i)?;
+    rows[i] = Some(row);
+    Ok(())
+}
+
+/// Appends places without rows until there is one with the number i.
+fn make_room(rows: &mut Vec<Option<Row>>, i: usize) -> Result<(), AllocError>
+    ensures same { (j : ℕ) → row_at rows.new.items j ≡ row_at rows.old.items j }
+    ensures room { OnOk result (i < length rows.new.items) }
+{
+    'places: while rows.len() <= i {
+        rows.push(None)?;
+    }
+    Ok(())
+}
+
+/// The rows at their new places, with new numbers.
+fn spread(
+    alloc: Global,
+    rows: Vec<Option<Row>>,
+    moved: &[u32],
+) -> Result<Vec<Option<Row>>, AllocError>
+    requires { (i : ℕ) → IfSome (row_at rows.items i) (IsMovable moved.now i) }
+    ensures { IfOk result (λ spread. AreSpread rows.items moved.now (length rows.items) spread.items) }
+{
+    let mut rows = rows;
+    let mut spread = Vec::new(alloc);
+    'rows: for i in 0..rows.len() {
+        if let Some(mut row) = take_at(&mut rows, i) {
+            row.renumber(moved);
+            put_at(&mut spread, moved[i] as usize, row)?;
+        }
+    }
+    Ok(spread)
+}

@@ -1,0 +1,255 @@
+//! A context with rows of its members: look-ups, and contexts that grow.
+ghost use Rattle.std.specs.Prelude.{◌≡◌, ◌≢◌, ℕ, ◌<◌, ◌≤◌, ◌↔◌, [], true, length, IfSome, IfNone, IsSome, IsTrue, IfOk, IfErr, OnOk, pos, ◌≤ℤ◌, unsigned_abs, ◌⊎◌, false, slice_index, slice_index_or};
+ghost use Rattle.cox_base.specs.IntegerMatrix.{integer_matrix};
+ghost use Rattle.cox_base.specs.Matrix.{IsWord};
+ghost use Rattle.cox_base.specs.Bruhat.{IsBelow};
+ghost use Rattle.cox_poly.specs.Polynomial.{coefficient};
+ghost use Rattle.cox_hecke.specs.Row.{IsKazhdanLusztig, IsMu};
+ghost use Rattle.cox_context.specs.Members.{IsInUnion};
+ghost use Rattle.cox_context.specs.SortedList.{IsListOf};
+ghost use Rattle.cox_context.specs.Refusal.{IsRefusal};
+ghost use Rattle.cox_row.specs.Distinct.{HasDistinctPolynomials};
+ghost use Rattle.cox_hecke.specs.Needs.{IsNeeded};
+ghost use Rattle.cox_base.specs.Admissible.{IsAdmissible};
+ghost use Rattle.cox_context.specs.Closed.{IsClosed};
+ghost use Rattle.cox_context.specs.Numbers.{word_at};
+ghost use Rattle.cox_row.specs.Mus.{value_at};
+ghost use Rattle.cox_klstep.specs.StepOf.{IsDescentAt};
+ghost use Rattle.cox_klstep.specs.NeedsOf.{HasNeeds, AreNeeds};
+ghost use Rattle.cox_klstep.specs.TablesOf.{AreTables};
+ghost use Rattle.cox_klstep.specs.Faults.{IsNarrowFault};
+ghost use Rattle.cox_rows.specs.Beyond.{NeedsBeyond};
+ghost use Rattle.cox_rows.specs.Holding.{Holding, Holds, IsHeldRow, AreRows, row_at, held};
+ghost use Rattle.cox_rows.specs.Extended.{IsExtended, IsLeft};
+ghost use Rattle.cox_rows.specs.Faults.{IsRowsFault};
+ghost use Rattle.cox_rows.specs.Ensured.{IsEnsured, IsSettled, AreNeedsSmall};
+
+use crate::flags::{clear_at, spread_flags};
+use crate::held::Held;
+use cox_base::Word;
+use cox_context::{Context, ContextFault, MAX_MEMBERS};
+use cox_klstep::{Steps, Tables};
+use cox_minroots::RootTable;
+use cox_poly::Poly;
+use cox_row::{LowerRows, Row, mu, polynomial, pool_len};
+use std::alloc::{AllocError, Global};
+use std::marker::Model;
+use std::mem;
+
+/// A context, and the rows of some of its members. Every coefficient of a row that is held is within the limit.
+#[derive(Drop)]
+pub struct Rows {
+    pub(crate) held: Held,
+    pub(crate) settled: Vec<bool>,
+    pub(crate) tables: Option<Tables>,
+    pub(crate) steps: Steps,
+}
+
+impl Model for Rows {
+    ghost use Rattle.cox_rows.specs.Holding.{Holding};
+    ghost use Rattle.cox_rows.specs.Ensured.{IsStore};
+
+    ghost Value = { Holding };
+
+    ghost view = { λ r. r.held };
+
+    ghost invariant = { λ r. IsStore r.held r.settled.items r.tables };
+}
+
+impl Rows {
+    /// A context with no rows; no coefficient of a row is to be above the limit in absolute value.
+    pub fn new(alloc: Global, context: Context, limit: i64) -> Result<Rows, AllocError>
+        requires { pos 0 ≤ℤ limit }
+        ensures { IfOk result (λ r. r ≡ record { elements = context; limit = limit; holds = [] }) }
+    {
+        let tables = Tables::of(alloc, &context)?;
+        Ok(Rows {
+            held: Held::new(alloc, context, limit),
+            settled: Vec::new(alloc),
+            tables: Some(tables),
+            steps: Steps::new(),
+        })
+    }
+
+    /// The context.
+    pub fn context(&self) -> &Context
+        ensures context { result.now ≡ self.now.elements }
+        ensures closed { IsClosed (integer_matrix self.now.elements.matrix) self.now.elements.members }
+        ensures admissible { IsAdmissible (integer_matrix self.now.elements.matrix) }
+        ensures least { pos 0 ≤ℤ self.now.limit }
+        ensures members { (i : ℕ) → Holds self.now i → i < length self.now.elements.members }
+    {
+        self.held.context()
+    }
+
+    /// The greatest absolute value that a coefficient may have.
+    pub fn limit(&self) -> i64
+        ensures { result ≡ self.now.limit }
+    {
+        self.held.greatest()
+    }
+
+    /// Whether the row of the member with the number i is held.
+    pub fn has(&self, i: u32) -> bool
+        ensures { IsTrue result ↔ Holds self.now i }
+    {
+        self.held.get(i).is_some()
+    }
+
+    /// The row of the member with the number i; `None` exactly where it is not held.
+    pub fn row(&self, i: u32) -> Option<&Row>
+        ensures row { IfSome result (λ r. IsHeldRow self.now.elements self.now.limit i r.now) }
+        ensures exactly { IsSome result ↔ Holds self.now i }
+    {
+        self.held.get(i)
+    }
+
+    /// P(x,w), for the member w with the number i, whose row is held, and the member x with the number x; `None` exactly where x <= w fails.
+    ///
+    /// In A 3 that of `2` and `2132` is 1 + q.
+    pub fn polynomial(&self, i: u32, x: u32) -> Option<&Poly>
+        requires held { Holds self.now i }
+        requires x { x < length self.now.elements.members }
+        ensures value { IfSome result (λ p. IsKazhdanLusztig (integer_matrix self.now.elements.matrix)
+            (word_at self.now.elements.members x) (word_at self.now.elements.members i) (coefficient p.now)) }
+        ensures exactly { IsSome result ↔ IsBelow (integer_matrix self.now.elements.matrix)
+            (word_at self.now.elements.members x) (word_at self.now.elements.members i) }
+    {
+        match self.held.get(i) {
+            Some(row) => polynomial(self.held.context(), row, i, x),
+            None => unreachable!(),
+        }
+    }
+
+    /// mu(u,w), for the member w with the number i, whose row is held, and the member u with the number u.
+    pub fn mu(&self, i: u32, u: u32) -> i32
+        requires held { Holds self.now i }
+        requires u { u < length self.now.elements.members }
+        ensures { IsMu (integer_matrix self.now.elements.matrix) (word_at self.now.elements.members u)
+            (word_at self.now.elements.members i) result }
+    {
+        match self.held.get(i) {
+            Some(row) => mu(self.held.context(), row, i, u),
+            None => unreachable!(),
+        }
+    }
+
+    /// How many polynomials P(x,w) with x <= w there are, each counted once, for the member w with the number i, whose row is held.
+    pub fn pool_len(&self, i: u32) -> u32
+        requires { Holds self.now i }
+        ensures { HasDistinctPolynomials (integer_matrix self.now.elements.matrix) (word_at self.now.elements.members i) result }
+    {
+        match self.held.get(i) {
+            Some(row) => pool_len(self.held.context(), row, i),
+            None => unreachable!(),
+        }
+    }
+
+    /// How many polynomials were added up so far for the rows that were made here. It stands still at the end of its 64 bits.
+    pub fn steps(&self) -> u64 {
+        self.steps.taken()
+    }
+
+    /// Takes the row of the member with the number i out; `None` exactly where it is not held. It takes no memory.
+    pub fn take(&mut self, i: u32) -> Option<Row>
+        ensures row { IfSome result (IsHeldRow self.old.elements self.old.limit i) }
+        ensures exactly { IsSome result ↔ Holds self.old i }
+        ensures elements { self.new.elements ≡ self.old.elements }
+        ensures limit { self.new.limit ≡ self.old.limit }
+        ensures gone { ¬ Holds self.new i }
+        ensures others { (j : ℕ) → j ≢ i → Holds self.new j ↔ Holds self.old j }
+    {
+        clear_at(&mut self.settled, i as usize);
+        self.held.take(i)
+    }
+
+    /// The context and the rows, each under its member's number. There may be fewer places than members.
+    pub fn into_parts(self) -> (Context, Vec<Option<Row>>)
+        ensures context { result.0 ≡ self.elements }
+        ensures rows { (i : ℕ) → IfSome (row_at result.1.items i) (IsHeldRow self.elements self.limit i) }
+        ensures exactly { self.holds ≡ held result.1.items }
+    {
+        self.held.into_parts()
+    }
+
+    /// A context with rows of its members, each under its member's number. There may be fewer places than members.
+    pub fn adopt(
+        alloc: Global,
+        context: Context,
+        rows: Vec<Option<Row>>,
+        limit: i64,
+    ) -> Result<Rows, AllocError>
+        requires { AreRows context limit rows.items }
+        ensures { IfOk result (λ r. r ≡ record { elements = context; limit = limit; holds = held rows.items }) }
+    {
+        let tables = Tables::of(alloc, &context)?;
+        Ok(Rows {
+            held: Held::adopt(context, rows, limit),
+            settled: Vec::new(alloc),
+            tables: Some(tables),
+            steps: Steps::new(),
+        })
+    }
+
+    /// Adds the elements x with x <= w to the context. The rows that are held stay, under their members' new numbers.
+    ///
+    /// `Size` where there are more than `limit` members then. After `Size` and `Long` all is as before; without memory no row may be left, and there may
+    /// be more members. In A 2 the interval of `12` has four elements, the last with the number 3; with that of `21` there are five, and its row has the
+    /// same number.
+    pub fn extend(&mut self, group: &RootTable, w: &Word, limit: u32) -> Result<(), ContextFault>
+        requires matrix { group.now ≡ self.old.elements.matrix }
+        requires letters { IsWord group.now.rank w.now.items }
+        requires some { 1 ≤ limit }
+        requires limit { limit ≤ MAX_MEMBERS }
+        ensures matrix { self.new.elements.matrix ≡ self.old.elements.matrix }
+        ensures limit { self.new.limit ≡ self.old.limit }
+        ensures members { OnOk result (IsListOf (IsInUnion (integer_matrix group.now) w.now.items self.old.elements.members) self.new.elements.members) }
+        ensures few { OnOk result (length self.new.elements.members ≤ limit) }
+        ensures extended { OnOk result (IsExtended self.old self.new) }
+        ensures refused { IfErr result (IsRefusal (IsInUnion (integer_matrix group.now) w.now.items self.old.elements.members) limit) }
+        ensures unchanged { IfErr result (IsLeft self.old self.new) }
+    {
+        let context = self.context();
+        if context.len() <= limit && context.number(&group.normal_form(w)).is_some() {
+            return Ok(());
+        }
+        let alloc = *self.settled.allocator();
+        let settled = mem::replace(&mut self.settled, Vec::new(alloc));
+        let tables = self.tables.take();
+        match self.held.extend(group, w, limit) {
+            Ok(moved) => {
+                let Ok(settled) = spread_flags(alloc, settled.as_slice(), moved.as_slice()) else {
+                    return Err(ContextFault::NoMemory);
+                };
+                self.settled = settled;
+                Ok(())
+            }
+            Err(ContextFault::NoMemory) => Err(ContextFault::NoMemory),
+            Err(fault) => {
+                self.settled = settled;
+                self.tables = tables;
+                Err(fault)
+            }
+        }
+    }
+}
+
+impl LowerRows for Rows {
+    ghost elements = { λ r. r.elements };
+
+    ghost holds = { λ r i. Holds r i };
+
+    ghost limit = { λ r. r.limit };
+
+    fn limit(&self) -> i64 {
+        LowerRows::limit(&self.held)
+    }
+
+    fn has(&self, i: u32) -> bool {
+        LowerRows::has(&self.held, i)
+    }
+
+    fn row(&self, i: u32) -> &Row {
+        LowerRows::row(&self.held, i)
+    }
+}
