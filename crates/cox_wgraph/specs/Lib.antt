@@ -6,3 +6,5 @@ pub mod Listing
 pub mod Numbered
 -- edges in a flat list
 pub mod Flat
+-- a graph that is being built
+pub mod Building

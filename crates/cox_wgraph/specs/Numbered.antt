@@ -18,6 +18,9 @@ pub record AreEdges (A : IntegerMatrix) (members : List (List ℕ)) (i : ℕ) (e
   pub whole : (j : ℕ) (m : ℤ) → j < length members → IsEdge A (word_at members i) (word_at members j) m
       → (k : ℕ) × (k < length edges) × ((edge_at edges k).to ≡ j)
 
--- what the edges lead to
+-- what an edge leads to
+abbrev pub joined_by : List (List ℕ) → Edge → Joined
+joined_by members e = record { element = word_at members e.to; value = e.value }
+
 abbrev pub joined_of : List (List ℕ) → List Edge → List Joined
-joined_of members edges = map (λ e. record { element = word_at members e.to; value = e.value }) edges
+joined_of members edges = map (joined_by members) edges
