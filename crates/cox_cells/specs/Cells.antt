@@ -1,5 +1,5 @@
 -- The preorders on a Coxeter group, and its cells (Kazhdan and Lusztig 1979, section 1). Elements are their normal forms.
-use Rattle.std.specs.Prelude.{◌≡◌, ◌⊎◌, ℕ, ◌<◌, List, [], length, map, slice_index_or, Contains, All}
+use Rattle.std.specs.Prelude.{◌⊎◌, ℕ, ◌<◌, List, length, map, Contains, All}
 use Rattle.cox_base.specs.declared.side.Side.{Side}
 use Rattle.cox_base.specs.declared.side.Side.TheVariants as Sides
 use Rattle.cox_base.specs.IntegerMatrix.{IntegerMatrix}
@@ -11,18 +11,22 @@ use Rattle.cox_wgraph.specs.Listing.{IsNeighbour}
 use Rattle.cox_cells.specs.declared.kind.CellKind.{CellKind}
 use Rattle.cox_cells.specs.declared.kind.CellKind.TheVariants.{Left, Right, Both}
 
--- a step from x to y by descents on a side: they are joined, and some descent of x is none of y
-pub record IsSideStep (side : Side) (A : IntegerMatrix) (x y : List ℕ) : Type 0 where
-  pub neighbour : IsNeighbour A x y
+-- some descent of x on the side is none of y
+pub record HasOwnDescent (side : Side) (A : IntegerMatrix) (x y : List ℕ) : Type 0 where
   pub letter : ℕ
   pub descent : IsDescent side A x letter
   pub none : ¬ IsDescent side A y letter
 
--- a step for left cells, for right cells, and for cells of both sides
-abbrev pub IsStep : CellKind → IntegerMatrix → List ℕ → List ℕ → Type 0
-IsStep Left A x y = IsSideStep Sides.Left A x y
-IsStep Right A x y = IsSideStep Sides.Right A x y
-IsStep Both A x y = IsSideStep Sides.Left A x y ⊎ IsSideStep Sides.Right A x y
+-- some left descent, for left cells; some right descent, for right cells; either, for cells of both sides
+abbrev pub HasOwn : CellKind → IntegerMatrix → List ℕ → List ℕ → Type 0
+HasOwn Left A x y = HasOwnDescent Sides.Left A x y
+HasOwn Right A x y = HasOwnDescent Sides.Right A x y
+HasOwn Both A x y = HasOwnDescent Sides.Left A x y ⊎ HasOwnDescent Sides.Right A x y
+
+-- a step from x to y: they are joined, and some descent of x is none of y
+pub record IsStep (kind : CellKind) (A : IntegerMatrix) (x y : List ℕ) : Type 0 where
+  pub neighbour : IsNeighbour A x y
+  pub own : HasOwn kind A x y
 
 -- x ≤ w in the preorder: a chain of steps leads from x to w, possibly of none
 pub data Precedes (kind : CellKind) (A : IntegerMatrix) : List ℕ → List ℕ → Type 0 where

@@ -1,7 +1,9 @@
 //! The graph and its calls.
 ghost use Rattle.std.specs.Prelude.{◌≡◌, ℕ, ◌+◌, ◌-◌, ◌≤◌, ◌<◌, ◌↔◌, length, take, drop, slice_index_or, IfOk, IsBitSet};
+ghost use Rattle.cox_base.specs.Admissible.{IsAdmissible};
 ghost use Rattle.cox_base.specs.IntegerMatrix.{integer_matrix};
 ghost use Rattle.cox_hecke.specs.Step.{IsDescent};
+ghost use Rattle.cox_context.specs.Closed.{IsClosed};
 ghost use Rattle.cox_context.specs.Members.{IsElement};
 ghost use Rattle.cox_context.specs.Numbers.{word_at};
 ghost use Rattle.cox_context.specs.SortedList.{IsListOf};
@@ -64,7 +66,9 @@ impl<'a> WGraph<'a> {
 
     /// The number of vertices.
     pub fn len(&self) -> u32
-        ensures { result ≡ length self.now.members }
+        ensures len { result ≡ length self.now.members }
+        ensures closed { IsClosed (integer_matrix self.now.matrix) self.now.members }
+        ensures admissible { IsAdmissible (integer_matrix self.now.matrix) }
     {
         self.context.len()
     }
