@@ -1,5 +1,5 @@
 //! The members of each class.
-ghost use Rattle.std.specs.Prelude.{◌≡◌, ◌≢◌, ℕ, ◌+◌, ◌≤◌, ◌<◌, ◌^◌, ◌∷◌, ◌++◌, [], length, slice_index, slice_set, IfOk, OnOk};
+ghost use Rattle.std.specs.Prelude.{◌≡◌, ℕ, ◌<◌, ◌^◌, ◌∷◌, ◌++◌, [], length, slice_index, slice_set, IfOk, OnOk};
 ghost use Rattle.cox_scc.specs.Reach.{IsLeastOfClass};
 ghost use Rattle.cox_cells.specs.Numbered.{AreClassLists, lists_of, list_at};
 
