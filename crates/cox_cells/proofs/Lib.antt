@@ -1,0 +1,14 @@
+-- chains of steps
+pub mod Chains
+-- a finite group has at most one list of cells
+pub mod OneList
+-- it is decided what a chain leads to
+pub mod Decided
+-- a finite group has a list of cells
+pub mod SomeList
+-- the members of each class
+pub mod ClassLists
+-- cells by number
+pub mod NumberedCells
+-- steps are added
+pub mod StepLemmas

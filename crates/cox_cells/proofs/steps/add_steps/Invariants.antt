@@ -1,0 +1,11 @@
+-- The steps at the edges so far are added.
+use Rattle.std.proofs.Common.{◌≡◌}
+use Rattle.cox_scc.specs.Graph.{vertices_of, edges_of}
+use Rattle.cox_cells.specs.Numbered.{AreStepsTo}
+use Rattle.cox_cells.proofs.steps.add_steps.Given as goal
+
+abbrev pub invariant-loop-edge : goal.invariant-loop-edge
+invariant-loop-edge l = record {
+  vertices : vertices_of l.steps ≡ vertices_of l.initial.steps;
+  steps : AreStepsTo l.kind l.graph l.i l.edge-items l.edge-index (edges_of l.steps);
+}

@@ -1,0 +1,21 @@
+//! The left cells, the right cells and the cells of both sides of a finite Coxeter group.
+//!
+//! In the preorder of a side, x <= w where a chain of edges of the W-graph leads from x to w, and at each edge some descent of the one end is none of the
+//! next. Two elements are in one cell where each is below the other (Kazhdan and Lusztig 1979, section 1). So the cells are the classes of a directed
+//! graph, which `cox_scc` finds in linear time.
+//!
+//! - `kind`: left cells, right cells, and cells of both sides
+//! - `steps`: the steps between the vertices of a W-graph, as a directed graph
+//! - `gathering`: the members of each class
+//! - `components`: the cells
+//! - `laws`: a finite group has one list of cells of each kind
+#![tactic(auto)]
+
+mod components;
+mod gathering;
+mod kind;
+pub mod laws;
+mod steps;
+
+pub use components::cells;
+pub use kind::CellKind;
