@@ -1,5 +1,6 @@
 -- The row of the identity: P(e,e) = 1, and mu(e,e) = 0.
-use Rattle.std.proofs.Common.{◌≡◌, ℕ, zero, suc, ◌-◌, List, [], ◌∷◌, inr, pos, refl, sym, ◌∙◌, arith}
+use Rattle.std.proofs.Common.{◌≡◌, ℕ, zero, suc, ◌-◌, ◌<◌, List, [], ◌∷◌, length, inr, ℤ, pos, refl, sym, ◌∙◌, arith}
+use Rattle.std.specs.Prelude.{◌≤ℤ◌, ◌<ℤ◌}
 use Rattle.std.proofs.lemmas.Int.{ints}
 use Rattle.cox_base.specs.IntegerMatrix.{IntegerMatrix}
 use Rattle.cox_base.specs.Admissible.{IsAdmissible}
@@ -14,12 +15,19 @@ use Rattle.cox_hecke.proofs.AllRows.{row_of, row_of-is}
 use Rattle.cox_context.specs.Closed.{IsClosed}
 use Rattle.cox_context.specs.Numbers.{word_at}
 use Rattle.cox_row.specs.Extremal.{AreExtremal}
-use Rattle.cox_row.specs.Polynomials.{HavePolynomials}
+use Rattle.cox_row.specs.Polynomials.{polynomial_at, HavePolynomials}
 use Rattle.cox_row.specs.Mus.{AreMus}
+use Rattle.cox_klstep.specs.Faults.{IsFirstLarge}
 use Rattle.cox_klstep.specs.Drafts.{AreBegun, AreNoted}
 use Rattle.cox_klstep.proofs.Middles.{middle-even, noted-skip}
 use Rattle.cox_klstep.proofs.Keeping.{begun-keep}
 use Rattle.cox_klstep.proofs.Finished.{finished-extremal, finished-mus}
+
+pub identity-within : (limit : ℤ) → pos 1 ≤ℤ limit → (j : ℕ) → j < length ((pos 1 ∷ []) ∷ [])
+    → AllWithin limit (polynomial_at ((pos 1 ∷ []) ∷ []) j)
+identity-within limit l zero m zero = l
+identity-within limit l zero m (suc k) = omega (arith, ints, l)
+identity-within limit l (suc j) m k = absurd (omega (arith, m))
 
 module _ (A : IntegerMatrix) (g : IsAdmissible A) (members : List (List ℕ)) (closed : IsClosed A members) where
   one-at : (k : ℕ) → coefficient (pos 1 ∷ []) k ≡ one_polynomial k
@@ -95,3 +103,11 @@ module _ (A : IntegerMatrix) (g : IsAdmissible A) (members : List (List ℕ)) (c
 
   pub identity-mus : AreMus A members (word_at members 0) [] []
   identity-mus = finished-mus A g members closed 0 closed.some 1 (omega arith) (omega arith) [] [] noted
+
+  -- its one coefficient is above the limit 0
+  pub identity-large : (limit : ℤ) → limit <ℤ pos 1 → IsFirstLarge A members (word_at members 0) limit 0 0 (pos 1)
+  identity-large limit l = record {
+    large = record { polynomial = coefficient (pos 1 ∷ []); is = is-one; value = refl; above = l };
+    least = λ k c m. absurd (omega (arith, m));
+    before = λ y k c m. absurd (omega (arith, m));
+  }

@@ -22,3 +22,5 @@ pub mod LargeLemmas
 pub mod Finished
 -- the row of the identity
 pub mod IdentityRow
+-- when the rows that a row is made from are there
+pub mod NeedLemmas

@@ -8,3 +8,7 @@ pub mod Sums
 pub mod Drafts
 -- why a row is not made
 pub mod Faults
+-- the rows that a row is made from
+pub mod NeedsOf
+-- the tables of a context
+pub mod TablesOf

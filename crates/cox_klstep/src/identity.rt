@@ -1,6 +1,7 @@
 //! The row of the identity.
-ghost use Rattle.std.specs.Prelude.{IfOk};
+ghost use Rattle.std.specs.Prelude.{IfOk, ℤ, pos, ◌≤ℤ◌};
 ghost use Rattle.cox_row.specs.RowOf.{IsRowAt};
+ghost use Rattle.cox_row.specs.Within.{IsRowWithin};
 
 use cox_context::Context;
 use cox_poly::Poly;
@@ -9,7 +10,8 @@ use std::alloc::{AllocError, Global};
 
 /// The row of the identity, which is the member 0: P(e,e) = 1, and no value of mu other than 0.
 pub fn identity_row(alloc: Global, ctx: &Context) -> Result<Row, AllocError>
-    ensures { IfOk result (IsRowAt ctx.now 0) }
+    ensures row { IfOk result (IsRowAt ctx.now 0) }
+    ensures within { IfOk result (λ r. (limit : ℤ) → pos 1 ≤ℤ limit → IsRowWithin limit r) }
 {
     let _len = ctx.len();
     let extremal = Vec::from_slice(alloc, &[0u32])?;

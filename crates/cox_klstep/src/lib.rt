@@ -6,7 +6,10 @@
 //! - `step`: the descent, the shorter element and the corrections
 //! - `sums`: the recursion at one extremal member
 //! - `values`, `mus`: the polynomials, and the values of mu, of a row that is being made
-//! - `making`: the row
+//! - `making`: the row by a step
+//! - `needed`: the rows that a row is made from
+//! - `member`: the row of a member from rows that are at hand
+//! - `tables`, `steps`: what makes rows faster, and how much was added up
 //! - `identity`: the row of the identity
 //! - `fault`: why a row is not made
 #![tactic(auto)]
@@ -14,14 +17,22 @@
 mod fault;
 mod identity;
 mod making;
+mod member;
 mod mus;
+mod needed;
 mod step;
+mod steps;
 mod sums;
+mod tables;
 #[cfg(test)]
 mod tests;
 mod values;
 
 pub use fault::StepFault;
 pub use identity::identity_row;
-pub use making::{MU_LIMIT, row};
-pub use step::{Correction, Descent, Step};
+pub use making::MU_LIMIT;
+pub use member::row;
+pub use needed::needs;
+pub use step::Descent;
+pub use steps::Steps;
+pub use tables::Tables;

@@ -2,14 +2,13 @@
 ghost use Rattle.std.specs.Prelude.{◌≡◌, ℕ, List, ◌+◌, ◌<◌, ◌≤◌, length, OnOk, IfOk, IfErr, IfSome, IfNone, ℤ, pos, ◌≤ℤ◌, unsigned_abs};
 ghost use Rattle.cox_base.specs.Admissible.{IsAdmissible};
 ghost use Rattle.cox_base.specs.IntegerMatrix.{IntegerMatrix, integer_matrix};
-ghost use Rattle.cox_poly.specs.Limit.{AllWithin};
 ghost use Rattle.cox_hecke.specs.Row.{IsMu};
 ghost use Rattle.cox_context.specs.Closed.{IsClosed};
 ghost use Rattle.cox_context.specs.Numbers.{word_at};
 ghost use Rattle.cox_row.specs.Extremal.{IsExtremal};
 ghost use Rattle.cox_row.specs.LetterSets.{AreLetters, AreLeftDescents, AreRightDescents};
-ghost use Rattle.cox_row.specs.Polynomials.{polynomial_at};
 ghost use Rattle.cox_row.specs.RowOf.{IsRowAt};
+ghost use Rattle.cox_row.specs.Within.{IsRowWithin};
 ghost use Rattle.cox_klstep.specs.StepOf.{IsStep, AreNeeded};
 ghost use Rattle.cox_klstep.specs.Drafts.{AreBegun, AreNoted};
 ghost use Rattle.cox_klstep.specs.Faults.{IsFault, IsFound, IsFaultAt, IsNarrowFault};
@@ -32,7 +31,7 @@ pub const MU_LIMIT: u64 = 2_147_483_647;
 ///
 /// `Coefficient` where a coefficient is above the limit in absolute value, at the first member x that has one and its least degree; and `Mu` where
 /// none is but a value of mu is above [`MU_LIMIT`].
-pub fn row(
+pub(crate) fn make_row(
     alloc: Global,
     ctx: &Context,
     step: &Step,
@@ -45,7 +44,7 @@ pub fn row(
     requires needed { AreNeeded ctx.now step.now.corrections.items needed.now }
     requires limit { pos 0 ≤ℤ limit }
     ensures row { IfOk result (IsRowAt ctx.now step.now.member) }
-    ensures within { IfOk result (λ r. (j : ℕ) → j < length r.pool.items → AllWithin limit (polynomial_at r.pool.items j)) }
+    ensures within { IfOk result (IsRowWithin limit) }
     ensures fault { IfErr result (IsFault (integer_matrix ctx.now.matrix) ctx.now.members (word_at ctx.now.members step.now.member) limit) }
 {
     let _len = ctx.len();

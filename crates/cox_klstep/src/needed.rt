@@ -1,0 +1,52 @@
+//! The rows that a row is made from.
+ghost use Rattle.std.specs.Prelude.{◌≡◌, ◌<◌, ◌≤◌, length, IfOk};
+ghost use Rattle.cox_base.specs.IntegerMatrix.{integer_matrix};
+ghost use Rattle.cox_context.specs.Numbers.{word_at};
+ghost use Rattle.cox_row.specs.RowOf.{IsRowAt};
+ghost use Rattle.cox_klstep.specs.StepOf.{IsDescentAt, IsStep, AreNeeded};
+ghost use Rattle.cox_klstep.specs.NeedsOf.{HasNeeds, AreNeeds};
+
+use crate::step::{Descent, Step};
+use cox_context::Context;
+use cox_row::{LowerRows, Row};
+use std::alloc::{AllocError, Global};
+
+/// The members that correct the step to the member of the descent, rising by number.
+///
+/// The row of that member is made from their rows and that of the shorter element.
+pub fn needs(
+    alloc: Global,
+    ctx: &Context,
+    descent: &Descent,
+    lower: &Row,
+) -> Result<Vec<u32>, AllocError>
+    requires descent { IsDescentAt ctx.now descent.now }
+    requires lower { IsRowAt ctx.now descent.now.lower lower.now }
+    ensures { IfOk result (λ v. AreNeeds (integer_matrix ctx.now.matrix) ctx.now.members descent.now.letter (word_at ctx.now.members descent.now.member) v.items) }
+{
+    let step = Step::of(alloc, ctx, descent, lower)?;
+    let mut numbers = Vec::new(alloc);
+    for correction in step.corrections.iter() {
+        numbers.push(correction.number)?;
+    }
+    Ok(numbers)
+}
+
+/// The rows of the corrections of a step.
+pub(crate) fn needed_rows<'a, L: LowerRows>(
+    alloc: Global,
+    ctx: &Context,
+    step: &Step,
+    lower: &'a L,
+) -> Result<Vec<&'a Row>, AllocError>
+    requires step { IsStep ctx.now step.now }
+    requires lower { L.elements lower.now ≡ ctx.now }
+    requires needs { HasNeeds ctx.now (L.holds lower.now) step.now.member }
+    ensures { IfOk result (λ v. AreNeeded ctx.now step.now.corrections.items v.items) }
+{
+    let mut rows = Vec::new(alloc);
+    for correction in step.corrections.iter() {
+        rows.push(lower.row(correction.number))?;
+    }
+    Ok(rows)
+}
