@@ -1,0 +1,6 @@
+-- what a guard shows
+pub mod Guards
+-- what a worker does to its seat
+pub mod Keeping
+-- a member's shorter element and corrections
+pub mod Descended
