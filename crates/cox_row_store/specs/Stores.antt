@@ -7,7 +7,7 @@ use Rattle.cox_row_store.specs.declared.store.RowStore.{RowStore}
 
 -- the Coxeter matrix and the members that the rows are of
 abbrev pub elements_of : RowStore → Elements
-elements_of store = store.context.value
+elements_of store = store.anchor.elements
 
 -- the greatest absolute value that a coefficient may have
 abbrev pub limit_of : RowStore → ℤ

@@ -18,7 +18,6 @@ use cox_context::Context;
 use cox_row::Row;
 use cox_rowcell::{RowCell, RowGuard, Tag};
 use std::alloc::Global;
-use std::snapshot::Snapshot;
 use std::sync::Wait;
 
 /// Rows of the members of a context, shared by any number of threads. Each is claimed, made and published by a thread, or given up.
@@ -26,12 +25,13 @@ use std::sync::Wait;
 pub struct RowStore {
     claims: Claims,
     cells: Vec<RowCell>,
-    context: Snapshot<Context>,
+    // An empty cell that nothing is put into: by its tag contracts see the context.
+    anchor: RowCell,
     limit: i64,
     alloc: Global,
     ghost a_cell_each: { vec_len cells ≡ rows_of claims },
-    ghost a_row_each: { length context.value.members ≡ rows_of claims },
-    ghost placed: { ArePlaces context.value limit cells.items },
+    ghost a_row_each: { length anchor.elements.members ≡ rows_of claims },
+    ghost placed: { ArePlaces anchor.elements limit cells.items },
     ghost least: { pos 0 ≤ℤ limit },
 }
 
@@ -54,7 +54,7 @@ impl RowStore {
         let store = RowStore {
             claims,
             cells,
-            context: Snapshot::of(context),
+            anchor: RowCell::new(&Tag::new(context, 0, limit)),
             limit,
             alloc,
         };
@@ -191,7 +191,7 @@ impl RowStore {
         let RowStore {
             claims,
             cells,
-            context,
+            anchor,
             limit,
             alloc,
         } = self;
@@ -201,7 +201,7 @@ impl RowStore {
                 let store = RowStore {
                     claims,
                     cells,
-                    context,
+                    anchor,
                     limit,
                     alloc,
                 };

@@ -4,3 +4,5 @@ pub mod Guards
 pub mod Keeping
 -- a member's shorter element and corrections
 pub mod Descended
+-- what a seat has seen when rows were made
+pub mod Growing

@@ -8,3 +8,5 @@ pub mod Faults
 pub mod Ready
 -- what a worker does to its seat
 pub mod Work
+-- what a seat has seen when rows were made
+pub mod Filled

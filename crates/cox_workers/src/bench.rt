@@ -7,6 +7,7 @@ use cox_row_store::RowStore;
 use std::alloc::Global;
 
 /// What a worker works at: a store of rows over a context, under the worker's number, from 1.
+#[derive(Drop)]
 pub struct Bench<'a> {
     pub(crate) alloc: Global,
     pub(crate) context: &'a Context,
@@ -21,6 +22,7 @@ impl<'a> Bench<'a> {
         requires { elements_of store.now ≡ context.now }
         ensures context { result.context.now ≡ context.now }
         ensures store { result.store.now ≡ store.now }
+        ensures worker { result.worker ≡ worker }
     {
         Bench {
             alloc,

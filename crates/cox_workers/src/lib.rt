@@ -7,15 +7,18 @@
 //! - `shelf`: rows that a worker reads
 //! - `bench`, `hand`: what a worker works at, and what it keeps from row to row
 //! - `making`: one row, and those that it is made from
+//! - `filling`: all rows that are wanted, by several workers
 #![tactic(auto)]
 
 mod bench;
+mod filling;
 mod hand;
 mod making;
 mod missing;
 mod shelf;
 
 pub use bench::Bench;
+pub use filling::fill;
 pub use hand::Hand;
 pub use missing::Missing;
 pub use shelf::Shelf;

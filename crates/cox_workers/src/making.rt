@@ -70,7 +70,7 @@ impl<'a> Bench<'a> {
     }
 
     /// Waits until a row that another has claimed is Published or Void.
-    fn wait<R: Wait>(&self, rt: &R, seat: &mut Seat, i: u32) -> Result<(), Missing>
+    pub(crate) fn wait<R: Wait>(&self, rt: &R, seat: &mut Seat, i: u32) -> Result<(), Missing>
         requires own { IsSeat self.now.store.now seat.old }
         requires member { i < length self.now.context.now.members }
         ensures own { IsSeat self.now.store.now seat.new }

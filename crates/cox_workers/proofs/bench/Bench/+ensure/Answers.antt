@@ -66,7 +66,7 @@ pub take_in-returns-in_err-obtain-clause-kept : goal.take_in-returns-in_err-obta
 take_in-returns-in_err-obtain-clause-kept g t c =
     let e = c.args.self.now.context.now in
     let needed : IsNeededAt e c.args.i c.of-descent.result.lower = rw c.of-descent.ensures.number at
-        (lower-needed e c.len-len.ensures.admissible c.len-len.ensures.closed c.of-descent.result c.of-descent.ensures.descent)
+    (lower-needed e c.len-len.ensures.admissible c.len-len.ensures.closed c.of-descent.result c.of-descent.ensures.descent)
     in kept-needed e c.len-len.ensures.admissible c.args.i c.of-descent.result.lower c.args.seat.now c.obtain.new.seat needed c.obtain.ensures.kept
 
 pub take_in-returns-in_err-obtain-clause-missing : goal.take_in-returns-in_err-obtain-clause-missing
@@ -74,7 +74,7 @@ take_in-returns-in_err-obtain-clause-missing g t c =
     let e = c.args.self.now.context.now in
     let limit = limit_of c.args.self.now.store.now in
     let needed : IsNeededAt e c.args.i c.of-descent.result.lower = rw c.of-descent.ensures.number at
-        (lower-needed e c.len-len.ensures.admissible c.len-len.ensures.closed c.of-descent.result c.of-descent.ensures.descent)
+    (lower-needed e c.len-len.ensures.admissible c.len-len.ensures.closed c.of-descent.result c.of-descent.ensures.descent)
     in let why : IfErr c.from_residual.result (IsMissing e limit c.of-descent.result.lower c.args.seat.now c.obtain.new.seat) = search rules
     in result-needed e c.len-len.ensures.admissible limit c.args.i c.of-descent.result.lower c.args.seat.now c.args.seat.now c.obtain.new.seat
     c.from_residual.result needed refl why
@@ -87,9 +87,9 @@ take_in-obtain-requires-in-corrections g t c = λ κs outlives.
     let d = c.of-descent.result in
     let items = c.deref-u-items.result.now in
     let are : AreNeeds (integer_matrix e.matrix) e.members d.letter (word_at e.members d.member) items =
-        rw c.deref-u-items.ensures.value c.in_ok-corrections.ensures in
+    rw c.deref-u-items.ensures.value c.in_ok-corrections.ensures in
     let before = correction-before e c.len-len.ensures.admissible c.len-len.ensures.closed d c.of-descent.ensures.descent items are
-        c.corrections.u-index c.corrections-test.true
+    c.corrections.u-index c.corrections-test.true
     in (
       omega (arith, before, c.of-descent.ensures.number, c.decreases),
       (outlives.0, (outlives.1, (c.corrections.invariant.ready, are.within c.corrections.u-index c.corrections-test.true))),
@@ -102,10 +102,10 @@ take_in-returns-in_err-obtain-2-clause-kept g t c =
     let items = c.deref-u-items.result.now in
     let u = number_at items c.corrections.u-index in
     let are : AreNeeds (integer_matrix e.matrix) e.members d.letter (word_at e.members d.member) items =
-        rw c.deref-u-items.ensures.value c.in_ok-corrections.ensures in
+    rw c.deref-u-items.ensures.value c.in_ok-corrections.ensures in
     let needed : IsNeededAt e c.args.i u = rw c.of-descent.ensures.number at
-        (correction-needed e c.len-len.ensures.admissible c.len-len.ensures.closed d c.of-descent.ensures.descent items are
-        c.corrections.u-index c.corrections-test.true)
+    (correction-needed e c.len-len.ensures.admissible c.len-len.ensures.closed d c.of-descent.ensures.descent items are
+    c.corrections.u-index c.corrections-test.true)
     in kept-trans e c.args.i c.args.seat.now c.corrections.seat c.obtain-in-corrections.new.seat c.corrections.invariant.kept
     (kept-needed e c.len-len.ensures.admissible c.args.i u c.corrections.seat c.obtain-in-corrections.new.seat needed
     c.obtain-in-corrections.ensures.kept)
@@ -118,12 +118,12 @@ take_in-returns-in_err-obtain-2-clause-missing g t c =
     let items = c.deref-u-items.result.now in
     let u = number_at items c.corrections.u-index in
     let are : AreNeeds (integer_matrix e.matrix) e.members d.letter (word_at e.members d.member) items =
-        rw c.deref-u-items.ensures.value c.in_ok-corrections.ensures in
+    rw c.deref-u-items.ensures.value c.in_ok-corrections.ensures in
     let needed : IsNeededAt e c.args.i u = rw c.of-descent.ensures.number at
-        (correction-needed e c.len-len.ensures.admissible c.len-len.ensures.closed d c.of-descent.ensures.descent items are
-        c.corrections.u-index c.corrections-test.true)
+    (correction-needed e c.len-len.ensures.admissible c.len-len.ensures.closed d c.of-descent.ensures.descent items are
+    c.corrections.u-index c.corrections-test.true)
     in let why : IfErr c.from_residual-in_err-obtain-2.result (IsMissing e limit u c.corrections.seat c.obtain-in-corrections.new.seat) =
-        search rules
+    search rules
     in result-needed e c.len-len.ensures.admissible limit c.args.i u c.args.seat.now c.corrections.seat c.obtain-in-corrections.new.seat
     c.from_residual-in_err-obtain-2.result needed c.corrections.invariant.none why
 
@@ -133,7 +133,7 @@ take_in-returns-clause-needs g t c =
     let d = c.of-descent.result in
     let items = c.deref-u-items.result.now in
     let are : AreNeeds (integer_matrix e.matrix) e.members d.letter (word_at e.members d.member) items =
-        rw c.deref-u-items.ensures.value c.in_ok-corrections.ensures in
+    rw c.deref-u-items.ensures.value c.in_ok-corrections.ensures in
     rw c.of-descent.ensures.number at
     (listed-needs e (IsOn c.corrections.hand.shelf) d items c.len-len.ensures.admissible c.len-len.ensures.closed c.of-descent.ensures.descent are
     (c.corrections.invariant.stay d.lower c.in_ok-obtain.ensures.here.0)
