@@ -18,10 +18,12 @@
 //!   told of a line, and lines one by one
 //! - `limits`: how long lines and inputs may be
 //! - `laws`: the laws that determine the lines of a text
+//! - `gate`: gates that workers pass, which tests use to hold them
 #![tactic(auto)]
 
 mod byte_feed;
 mod calls;
+mod gate;
 pub mod laws;
 mod limits;
 mod line_reader;
@@ -37,6 +39,7 @@ mod std_source;
 mod tests;
 mod writing;
 
+pub use gate::{Gate, Open, Point};
 pub use limits::{CHUNK_SIZE, INPUT_LIMIT, LINE_LIMIT};
 pub use line_reader::{LineReader, Next, Stop};
 pub use memory_sink::MemorySink;

@@ -1,0 +1,24 @@
+-- The rows of a store that is ended: each is that of its member, and what was seen Published is there.
+use Rattle.std.proofs.Common.{◌≡◌, ◌≢◌, ℕ, ◌<◌, List, length, slice_index_or, Option, None, IfSome, subst, ℤ}
+use Rattle.std.proofs.Common.{arith}
+use Rattle.cox_context.specs.Closed.{Elements}
+use Rattle.cox_fill_core.specs.declared.event.RowState.{RowState}
+use Rattle.cox_claims.specs.declared.view.View.{View}
+use Rattle.cox_claims.specs.Tables.{Closes}
+use Rattle.cox_row.specs.declared.row.Row.{Row}
+use Rattle.cox_rowcell.specs.Place.{Place}
+use Rattle.cox_rowcell.specs.RowFor.{IsRowFor}
+use Rattle.cox_row_store.specs.Places.{place_at, ArePlaces}
+use Rattle.cox_row_store.specs.Taken.{row_at, AreTaken, TakesRows}
+
+pub are_taken : (e : Elements) (bound : ℤ) (view : View) (number rows : ℕ) (places : List Place) (states : List RowState) (out : List (Option Row))
+    → length e.members ≡ rows → length places ≡ rows → ArePlaces e bound places → Closes view number rows states → TakesRows places states out
+    → AreTaken e bound view out
+are_taken e bound view number rows places states out members cells placed ended taken = record {
+  count = omega (arith, taken.count, cells, members);
+  each = λ i l.
+      let within : i < length places = omega (arith, l, cells, members)
+      in subst (λ p. IfSome (row_at out i) (IsRowFor p)) (placed i within) (taken.each i (place_at e bound 0) within);
+  whole = λ i l seen.
+      taken.whole i (omega (arith, l, cells, members)) ((ended.known i (omega (arith, l, members))).published seen);
+}

@@ -1,0 +1,4 @@
+-- the rows that are taken from cells, one cell more
+pub mod OneMore
+-- the rows of a store that is ended
+pub mod Ended

@@ -1,0 +1,42 @@
+-- The rows that are taken from cells, one cell more.
+use Rattle.std.proofs.Common.{◌≡◌, ◌≢◌, ℕ, ◌<◌, ◌≤◌, List, [], ◌∷◌, ◌++◌, length, slice_index_or, Option, None, IfSome, ⊎_elim, sym, subst}
+use Rattle.std.proofs.Common.{arith, length-append}
+use Rattle.std.proofs.Math.ListN.{get_or-append}
+use Rattle.std.proofs.Math.Seq.{get_or-append_seam}
+use Rattle.std.proofs.lemmas.Bool.{cases_lt}
+use Rattle.cox_fill_core.specs.declared.event.RowState.{RowState}
+use Rattle.cox_row.specs.declared.row.Row.{Row}
+use Rattle.cox_rowcell.specs.Place.{Place}
+use Rattle.cox_rowcell.specs.RowFor.{IsRowFor}
+use Rattle.cox_row_store.specs.Taken.{row_at, TakesRows}
+
+-- what holds of each item, and of one more, by its number
+each_more : {X : Type 0} (xs : List X) (x d : X) (P : ℕ → X → Type 0) → ((i : ℕ) → i < length xs → P i (slice_index_or xs i d)) → P (length xs) x
+    → (i : ℕ) → i < length (xs ++ x ∷ []) → P i (slice_index_or (xs ++ x ∷ []) i d)
+each_more xs x d P old new i within =
+    ⊎_elim
+    (λ less. subst (P i) (sym (get_or-append xs (x ∷ []) d i less)) (old i less))
+    (λ (past : length xs ≤ i).
+    let last : i ≡ length xs = omega (arith, length-append xs (x ∷ []))
+    in subst (λ k. P k (slice_index_or (xs ++ x ∷ []) k d)) (sym last) (subst (P (length xs)) (sym (get_or-append_seam xs x [] d)) new))
+    (cases_lt i (length xs))
+
+pub takes_more : (places : List Place) (states : List RowState) (rows : List (Option Row)) (p : Place) (row : Option Row)
+    → TakesRows places states rows → IfSome row (IsRowFor p)
+    → (slice_index_or states (length rows) RowState.Free ≡ RowState.Published → row ≢ None) → TakesRows (places ++ p ∷ []) states (rows ++ row ∷ [])
+takes_more places states rows p row taken is there =
+    let count : length (rows ++ row ∷ []) ≡ length (places ++ p ∷ []) =
+    omega (arith, taken.count, length-append rows (row ∷ []), length-append places (p ∷ []))
+    in record {
+      count = count;
+      each = λ i d within.
+          let old : (k : ℕ) → k < length rows → IfSome (row_at rows k) (IsRowFor (slice_index_or (places ++ p ∷ []) k d)) = λ k l. ⊎_elim (λ (less : k < length places). subst (λ q. IfSome (row_at rows k) (IsRowFor q)) (sym (get_or-append places (p ∷ []) d k less)) (taken.each k d less))
+          (λ (past : length places ≤ k). absurd (omega (arith, l, taken.count))) (cases_lt k (length places))
+          in each_more rows row None (λ k r. IfSome r (IsRowFor (slice_index_or (places ++ p ∷ []) k d)))
+          old
+          (rw taken.count (subst (λ q. IfSome row (IsRowFor q)) (sym (get_or-append_seam places p [] d)) is))
+          i (omega (arith, within, count));
+      whole = λ i within.
+          each_more rows row None (λ k r. slice_index_or states k RowState.Free ≡ RowState.Published → r ≢ None)
+          (λ k l. taken.whole k (omega (arith, l, taken.count))) there i (omega (arith, within, count));
+    }

@@ -1,0 +1,26 @@
+-- The rows of a store that is ended.
+use Rattle.std.specs.Prelude.{◌≡◌, ◌≢◌, ℕ, ◌<◌, true, List, length, slice_index_or, Option, None, IfSome, ℤ}
+use Rattle.cox_context.specs.Closed.{Elements}
+use Rattle.cox_fill_core.specs.declared.event.RowState.{RowState}
+use Rattle.cox_claims.specs.declared.view.View.{View}
+use Rattle.cox_claims.specs.Knowledge.{saw_published}
+use Rattle.cox_row.specs.declared.row.Row.{Row}
+use Rattle.cox_rowcell.specs.Place.{Place}
+use Rattle.cox_rowcell.specs.RowFor.{IsRowFor}
+use Rattle.cox_row_store.specs.Places.{place_at}
+
+-- the row that is given back for member i, or none
+abbrev pub row_at : List (Option Row) → ℕ → Option Row
+row_at rows i = slice_index_or rows i None
+
+-- one entry for each member: its row, or none, and none only where this view has not seen the row Published
+pub record AreTaken (e : Elements) (bound : ℤ) (view : View) (rows : List (Option Row)) : Type 0 where
+  pub count : length rows ≡ length e.members
+  pub each : (i : ℕ) → i < length e.members → IfSome (row_at rows i) (IsRowFor (place_at e bound i))
+  pub whole : (i : ℕ) → i < length e.members → saw_published view i ≡ true → row_at rows i ≢ None
+
+-- what is taken from cells for these places whose rows are in these states: for each the row, or none, and none only if it is not Published
+pub record TakesRows (places : List Place) (states : List RowState) (rows : List (Option Row)) : Type 0 where
+  pub count : length rows ≡ length places
+  pub each : (i : ℕ) (else : Place) → i < length places → IfSome (row_at rows i) (IsRowFor (slice_index_or places i else))
+  pub whole : (i : ℕ) → i < length places → slice_index_or states i RowState.Free ≡ RowState.Published → row_at rows i ≢ None

@@ -1,0 +1,232 @@
+//! The store and its calls.
+ghost use Rattle.std.specs.Prelude.{◌≡◌, ◌≢◌, ℕ, ◌<◌, ◌≤◌, max, length, vec_len, ℤ, pos, ◌≤ℤ◌, IfOk, IfErr};
+ghost use Rattle.cox_claims.specs.Knowledge.{holds, SeesAll, newcomer, Looks, TriesClaim, Publishes, Voids, parted, told, joined};
+ghost use Rattle.cox_claims.specs.Seats.{view_of, number_of, splits_of, one_more_split, IsSameSeat, Holds, HoldsNothing, HasSeen, HasSeenVoid, HasMarked, Reads};
+ghost use Rattle.cox_claims.specs.Tables.{rows_of, IsSeatOf};
+ghost use Rattle.cox_fill_core.specs.declared.event.RowState.{RowState};
+ghost use Rattle.cox_fill_core.specs.declared.event.RowState.TheVariants.{Free};
+ghost use Rattle.cox_row.specs.RowOf.{IsRowAt};
+ghost use Rattle.cox_row.specs.Within.{IsRowWithin};
+ghost use Rattle.cox_rowcell.specs.RowFor.{IsRowFor};
+ghost use Rattle.cox_rowcell.specs.Guards.{place_of};
+ghost use Rattle.cox_row_store.specs.Places.{place_at, ArePlaces};
+
+use crate::NoMemory;
+use crate::taking::take_rows;
+use cox_claims::{Claimed, Claims, RowState, Seat};
+use cox_context::Context;
+use cox_row::Row;
+use cox_rowcell::{RowCell, RowGuard, Tag};
+use std::alloc::Global;
+use std::sync::Wait;
+
+/// Rows of the members of a context, shared by any number of threads. Each is claimed, made and published by a thread, or given up.
+#[derive(Drop)]
+pub struct RowStore {
+    claims: Claims,
+    cells: Vec<RowCell>,
+    // An empty cell that nothing is put into: by its tag contracts see the context.
+    anchor: RowCell,
+    limit: i64,
+    alloc: Global,
+    ghost a_cell_each: { vec_len cells ≡ rows_of claims },
+    ghost a_row_each: { length anchor.elements.members ≡ rows_of claims },
+    ghost placed: { ArePlaces anchor.elements limit cells.items },
+    ghost least: { pos 0 ≤ℤ limit },
+}
+
+impl RowStore {
+    ghost use Rattle.cox_row_store.specs.Stores.{elements_of, limit_of, IsSeat};
+    ghost use Rattle.cox_row_store.specs.Taken.{AreTaken};
+
+    /// A store of no rows yet for the members of a context, all Free, and its first seat. No coefficient of a row is to be above the limit.
+    pub fn new(alloc: Global, context: &Context, limit: i64) -> Result<(RowStore, Seat), NoMemory>
+        requires { pos 0 ≤ℤ limit }
+        ensures elements { IfOk result (λ made. elements_of made.0 ≡ context.now) }
+        ensures limit { IfOk result (λ made. limit_of made.0 ≡ limit) }
+        ensures seat { IfOk result (λ made. IsSeat made.0 made.1) }
+        ensures view { IfOk result (λ made. view_of made.1 ≡ newcomer) }
+        ensures first { IfOk result (λ made. number_of made.1 ≡ 0) }
+        ensures splits { IfOk result (λ made. splits_of made.1 ≡ 0) }
+    {
+        let cells = cells_of(alloc, context, limit)?;
+        let (claims, seat) = Claims::new(alloc, context.len())?;
+        let store = RowStore {
+            claims,
+            cells,
+            anchor: RowCell::new(&Tag::new(context, 0, limit)),
+            limit,
+            alloc,
+        };
+        Ok((store, seat))
+    }
+
+    /// How many members there are.
+    pub fn len(&self) -> u32
+        ensures { result ≡ length (elements_of self.now).members }
+    {
+        self.claims.rows()
+    }
+
+    /// The greatest absolute value that a coefficient may have.
+    pub fn limit(&self) -> i64
+        ensures limit { result ≡ limit_of self.now }
+        ensures least { pos 0 ≤ℤ limit_of self.now }
+    {
+        self.limit
+    }
+
+    /// Claims the row of a member, by one step. `Lost` comes only where the row was not Free at that step, with the state that it had.
+    pub fn claim(&self, seat: &mut Seat, member: u32) -> Claimed
+        requires own { IsSeat self.now seat.old }
+        requires member { member < length (elements_of self.now).members }
+        ensures own { IsSeat self.now seat.new }
+        ensures seat { IsSameSeat seat.old seat.new }
+        ensures splits { splits_of seat.new ≡ splits_of seat.old }
+        ensures step { TriesClaim (view_of seat.old) member result (view_of seat.new) }
+        ensures won { result ≡ Claimed.Won → Holds seat.new member }
+        ensures lost { (state : RowState) → result ≡ Claimed.Lost state → (state ≢ Free) × Reads seat.old member state seat.new }
+    {
+        self.claims.claim(seat, member)
+    }
+
+    /// The state of a member's row at this call's one step, never earlier than what the seat has seen of it.
+    pub fn look(&self, seat: &mut Seat, member: u32) -> RowState
+        requires own { IsSeat self.now seat.old }
+        requires member { member < length (elements_of self.now).members }
+        ensures own { IsSeat self.now seat.new }
+        ensures seat { IsSameSeat seat.old seat.new }
+        ensures splits { splits_of seat.new ≡ splits_of seat.old }
+        ensures step { Looks (view_of seat.old) member result (view_of seat.new) }
+        ensures read { Reads seat.old member result seat.new }
+    {
+        self.claims.look(seat, member)
+    }
+
+    /// Publishes the row of a member that the seat holds by a claim. From then on it can be read.
+    pub fn publish<R: Wait>(&self, rt: &R, seat: &mut Seat, member: u32, row: Row)
+        requires own { IsSeat self.now seat.old }
+        requires member { member < length (elements_of self.now).members }
+        requires held { Holds seat.old member }
+        requires row { IsRowAt (elements_of self.now) member row }
+        requires within { IsRowWithin (limit_of self.now) row }
+        ensures own { IsSeat self.now seat.new }
+        ensures seat { IsSameSeat seat.old seat.new }
+        ensures splits { splits_of seat.new ≡ splits_of seat.old }
+        ensures step { Publishes (view_of seat.old) member (view_of seat.new) }
+        ensures seen { HasSeen seat.new member }
+    {
+        self.cell(member).fill(rt, row);
+        self.claims.publish(seat, member);
+    }
+
+    /// Gives up the row of a member that the seat holds by a claim. It is Void for good.
+    pub fn void(&self, seat: &mut Seat, member: u32)
+        requires own { IsSeat self.now seat.old }
+        requires member { member < length (elements_of self.now).members }
+        requires held { Holds seat.old member }
+        ensures own { IsSeat self.now seat.new }
+        ensures seat { IsSameSeat seat.old seat.new }
+        ensures splits { splits_of seat.new ≡ splits_of seat.old }
+        ensures step { Voids (view_of seat.old) member (view_of seat.new) }
+        ensures seen { HasSeenVoid seat.new member × HasMarked seat.new member }
+    {
+        self.claims.void(seat, member);
+    }
+
+    /// Lends the row of a member that the seat has seen Published, until the guard is let go.
+    pub fn read<R: Wait>(&self, rt: &R, seat: &Seat, member: u32) -> RowGuard<'_>
+        requires own { IsSeat self.now seat.now }
+        requires member { member < length (elements_of self.now).members }
+        requires seen { HasSeen seat.now member }
+        ensures { place_of result ≡ place_at (elements_of self.now) (limit_of self.now) member }
+    {
+        let _ = seat;
+        self.cell(member).read(rt)
+    }
+
+    /// A new seat, which has seen what this one has and holds nothing. Both count one split more.
+    pub fn split(&self, seat: &mut Seat) -> Seat
+        requires { IsSeat self.now seat.old }
+        ensures own { IsSeat self.now seat.new × IsSeat self.now result }
+        ensures seat { IsSameSeat seat.old seat.new }
+        ensures old { view_of seat.new ≡ parted (view_of seat.old) }
+        ensures new { view_of result ≡ told (view_of seat.old) }
+        ensures seen { SeesAll (view_of seat.old) (view_of result) }
+        ensures idle { HoldsNothing result }
+        ensures splits { let count = one_more_split (splits_of seat.old) in
+            (splits_of seat.new ≡ count) × (splits_of result ≡ count) }
+    {
+        self.claims.split(seat)
+    }
+
+    /// Ends a seat that holds nothing: the first seat has then seen what both had.
+    pub fn meet(&self, seat: &mut Seat, other: Seat)
+        requires own { IsSeat self.now seat.old × IsSeat self.now other }
+        requires idle { HoldsNothing other }
+        ensures own { IsSeat self.now seat.new }
+        ensures seat { IsSameSeat seat.old seat.new }
+        ensures view { view_of seat.new ≡ joined (view_of seat.old) (view_of other) }
+        ensures seen { SeesAll (view_of seat.old) (view_of seat.new) × SeesAll (view_of other) (view_of seat.new) }
+        ensures held { (i : ℕ) → holds (view_of seat.new) i ≡ holds (view_of seat.old) i }
+        ensures splits { splits_of seat.new ≡ max (splits_of seat.old) (splits_of other) }
+    {
+        self.claims.meet(seat, other);
+    }
+
+    /// Ends the store. Gives one entry for each member: its row, or none, and none only where the seat has not seen the row Published.
+    /// Out of memory, the store and the seat come back as they were.
+    pub fn into_rows<R: Wait>(
+        self,
+        rt: &R,
+        seat: Seat,
+    ) -> Result<Vec<Option<Row>>, (RowStore, Seat)>
+        requires { IsSeat self seat }
+        ensures rows { IfOk result (λ rows. AreTaken (elements_of self) (limit_of self) (view_of seat) rows.items) }
+        ensures back { IfErr result (λ both. (both.0 ≡ self) × (both.1 ≡ seat)) }
+    {
+        let Ok(rows) = Vec::with_capacity(self.alloc, self.cells.len()) else {
+            return Err((self, seat));
+        };
+        let RowStore {
+            claims,
+            cells,
+            anchor,
+            limit,
+            alloc,
+        } = self;
+        match claims.close(seat) {
+            Ok(states) => Ok(take_rows(rt, cells, &states, rows)),
+            Err((claims, seat)) => {
+                let store = RowStore {
+                    claims,
+                    cells,
+                    anchor,
+                    limit,
+                    alloc,
+                };
+                Err((store, seat))
+            }
+        }
+    }
+
+    /// The cell of a member.
+    fn cell(&self, member: u32) -> &RowCell
+        requires { member < length (elements_of self.now).members }
+        ensures { result.now ≡ place_at (elements_of self.now) (limit_of self.now) member }
+    {
+        &self.cells[member as usize]
+    }
+}
+
+/// An empty cell for each member.
+fn cells_of(alloc: Global, context: &Context, limit: i64) -> Result<Vec<RowCell>, NoMemory>
+    ensures count { IfOk result (λ cells. vec_len cells ≡ length context.now.members) }
+    ensures placed { IfOk result (λ cells. ArePlaces context.now limit cells.items) }
+{
+    let mut cells = Vec::with_capacity(alloc, context.len() as usize)?;
+    for member in 0..context.len() {
+        cells.push(RowCell::new(&Tag::new(context, member, limit)))?;
+    }
+    Ok(cells)
+}

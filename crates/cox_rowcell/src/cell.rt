@@ -1,0 +1,136 @@
+//! A cell for the row of one member.
+ghost use Rattle.std.specs.Prelude.{◌≡◌, ◌<◌, ◌+◌, ◌-◌, ◌%◌, ◌^◌, IsTrue, IsSomeAnd, IsSome, IfSome};
+ghost use Rattle.counted_slot.specs.Counting.{readers};
+ghost use Rattle.cox_rowcell.specs.RowFor.{IsRowFor};
+
+use crate::tag::{Held, Tag};
+use counted_slot::{Claim, Counted, FREE, MOST_READERS, ONE_READER, PRESENT, TAKEN};
+use cox_row::Row;
+use std::marker::Model;
+use std::ops::Deref;
+use std::sync::Wait;
+use std::thread;
+
+/// A cell for the row of one member of a context. Contracts see its tag.
+#[derive(Drop)]
+pub struct RowCell {
+    slot: Counted<Option<Held>>,
+}
+
+impl Model for RowCell {
+    ghost use Rattle.cox_rowcell.specs.Place.{Place};
+
+    ghost Value = { Place };
+
+    ghost view = { λ c. c.slot };
+}
+
+impl RowCell {
+    ghost use Rattle.cox_rowcell.specs.Guards.{place_of};
+
+    /// An empty cell for the row of the tag.
+    pub fn new(tag: &Tag) -> RowCell
+        ensures { result ≡ tag.now }
+    {
+        RowCell {
+            slot: Counted::new(None, tag),
+        }
+    }
+
+    /// Puts the row of the tag into the cell. It waits while the cell is not empty, so it never returns for a cell that was filled.
+    pub fn fill<R: Wait>(&self, rt: &R, row: Row)
+        requires { IsRowFor self.now row }
+    {
+        for _ in rt.forever() {
+            let (found, claim) = self.slot.turn(FREE, TAKEN);
+            if found == FREE {
+                claim.put(Some(Held(row)), PRESENT);
+                return;
+            }
+            claim.done();
+            thread::yield_now();
+        }
+        unreachable!()
+    }
+
+    /// Lends the row, without a copy, until the guard is let go. It waits until there is one.
+    pub fn read<R: Wait>(&self, rt: &R) -> RowGuard<'_>
+        ensures { place_of result ≡ self.now }
+    {
+        for _ in rt.forever() {
+            if let Some(guard) = self.try_read() {
+                return guard;
+            }
+            thread::yield_now();
+        }
+        unreachable!()
+    }
+
+    /// The row, if the cell has one and no other thread came in between.
+    fn try_read(&self) -> Option<RowGuard<'_>>
+        ensures { IfSome result (λ guard. place_of guard ≡ self.now) }
+    {
+        let seen = self.slot.load();
+        if !can_be_read(seen) {
+            return None;
+        }
+        let (found, claim) = self.slot.turn(seen, seen + ONE_READER);
+        if found != seen {
+            claim.done();
+            return None;
+        }
+        if claim.get().is_none() {
+            claim.leave();
+            return None;
+        }
+        Some(RowGuard { claim })
+    }
+
+    /// The row, taken out of the cell. It never returns for a cell that was not filled.
+    pub fn into_row<R: Wait>(self, rt: &R) -> Row
+        ensures { IsRowFor self result }
+    {
+        match self.slot.into_inner() {
+            Some(held) => held.0,
+            None => {
+                for _ in rt.forever() {}
+                unreachable!()
+            }
+        }
+    }
+}
+
+/// Whether a cell with this word has a row, and one reader more may come.
+fn can_be_read(word: u64) -> bool
+    ensures { IsTrue result → (word % 4 ≡ 1) × (readers word < 2 ^ 30 - 1) × (word + 4 < 2 ^ 64) }
+{
+    word % ONE_READER == PRESENT && word % 0x1_0000_0000 / ONE_READER < MOST_READERS
+}
+
+/// Lends the row of a cell, until it is let go.
+pub struct RowGuard<'a> {
+    pub(crate) claim: Claim<'a, Option<Held>>,
+    ghost reads: { claim.right ≡ 1 },
+    ghost filled: { ∥ IsSomeAnd claim.value (λ x. IsSome x) ∥₁ },
+}
+
+impl<'a> RowGuard<'a> {
+    ghost use Rattle.cox_rowcell.specs.Guards.{place_of};
+
+    /// The row.
+    pub fn row(&self) -> &Row
+        ensures { IsRowFor (place_of self.now) result.now }
+    {
+        match self.claim.get() {
+            Some(held) => &held.0,
+            None => unreachable!(),
+        }
+    }
+}
+
+impl<'a> Drop for RowGuard<'a> {
+    fn drop(self) {
+        let RowGuard { claim } = self;
+        claim.leave();
+    }
+}

@@ -1,0 +1,209 @@
+-- What a worker does to its seat: step after step, for a member and for those that it needs.
+use Rattle.std.proofs.Common.{◌≡◌, ◌≢◌, ◌⊎◌, inl, inr, ⊎_elim, ℕ, ◌<◌, true, false, ◌==◌, List, [], ◌∷◌, length, ℤ, refl, sym, ap, ◌∙◌, subst, arith}
+use Rattle.std.specs.Prelude.{Result, IfErr}
+use Rattle.std.proofs.lemmas.Result.{MatchResult-weaker}
+use Rattle.std.proofs.lemmas.Bool.{or_cases, or_parts, or_left, cond-true, cond-false, eqb-true, eq-eqb, false_from_ne_true}
+use Rattle.cox_base.specs.IntegerMatrix.{integer_matrix}
+use Rattle.cox_base.specs.Admissible.{IsAdmissible}
+use Rattle.cox_reflect.proofs.Elements.{same-refl}
+use Rattle.cox_hecke.specs.Needs.{IsNeeded, itself}
+use Rattle.cox_hecke.proofs.NeedLemmas.{needed-trans}
+use Rattle.cox_context.specs.Closed.{Elements}
+use Rattle.cox_context.specs.Numbers.{word_at}
+use Rattle.cox_fill_core.specs.declared.event.RowState.{RowState}
+use Rattle.cox_klstep.specs.declared.fault.StepFault.{StepFault}
+use Rattle.cox_klstep.specs.declared.fault.StepFault.TheVariants as step
+use Rattle.cox_klstep.specs.Faults.{IsFault}
+use Rattle.cox_klstep.specs.NeedsOf.{HasNeeds}
+use Rattle.cox_claims.specs.declared.seat.Seat.{Seat}
+use Rattle.cox_claims.specs.declared.view.View.{View}
+use Rattle.cox_claims.specs.Knowledge.{among, without, holds, marked, saw_void, looked, won, published, voided, SeesAll, IsKnown, Looks, Loses, Wins, Publishes, Voids}
+use Rattle.cox_claims.specs.Seats.{view_of, splits_of, IsSameSeat, HasSeenVoid, HasMarked}
+use Rattle.cox_claims.proofs.Rows.{among_else}
+use Rattle.cox_workers.specs.declared.missing.Missing.{Missing}
+use Rattle.cox_workers.specs.declared.missing.Missing.TheVariants.{Void, Coefficient, Mu, NoMemory}
+use Rattle.cox_workers.specs.Faults.{missing_by}
+use Rattle.cox_workers.specs.Work.{IsNeededAt, IsKept, VoidsNone, IsVoid, IsBeyond, IsMissing, IsUnmade}
+
+-- ---- views
+
+-- a look changes no mark
+pub looked_marks : (v : View) (i : ℕ) (x : RowState) → (looked v i x).marks ≡ v.marks
+looked_marks v i RowState.Free = refl
+looked_marks v i RowState.Claimed = refl
+looked_marks v i RowState.Published = refl
+looked_marks v i RowState.Void = refl
+
+pub sees-refl : (v : View) → SeesAll v v
+sees-refl v = record { published = λ i h. h; void = λ i h. h; claimed = λ i h. h }
+
+pub sees-trans : (u v w : View) → SeesAll u v → SeesAll v w → SeesAll u w
+sees-trans u v w s t = record {
+  published = λ i h. t.published i (s.published i h);
+  void = λ i h. t.void i (s.void i h);
+  claimed = λ i h. t.claimed i (s.claimed i h);
+}
+
+-- without a row that is not there a list is what it was
+pub without-absent : (i : ℕ) (xs : List ℕ) → among i xs ≡ false → without i xs ≡ xs
+without-absent i [] h = refl
+without-absent i (x ∷ xs) h =
+    let parts = or_parts (x == i) (among i xs) h
+    in cond-false (x == i) (without i xs) (x ∷ without i xs) parts.0 ∙ ap (λ ys. x ∷ ys) (without-absent i xs parts.1)
+
+-- ---- what a member needs
+
+-- where all rows of one kind are of another, those that a row is made from are
+pub needs-map : (e : Elements) (P Q : ℕ → Type 0) (i : ℕ) → ((j : ℕ) → P j → Q j) → HasNeeds e P i → HasNeeds e Q i
+needs-map e P Q i f h = record {
+  shorter = λ s j d l is. f j (h.shorter s j d l is);
+  corrected = λ s u m d l c. f u (h.corrected s u m d l c);
+}
+
+module _ (e : Elements) where
+  pub needs_itself : IsAdmissible (integer_matrix e.matrix) → (i : ℕ) → i < length e.members → IsNeededAt e i i
+  needs_itself g i l = record { within = l; needed = itself (same-refl (integer_matrix e.matrix) g (word_at e.members i)) }
+
+  pub needs-trans : IsAdmissible (integer_matrix e.matrix) → (i u j : ℕ) → IsNeededAt e i u → IsNeededAt e u j → IsNeededAt e i j
+  needs-trans g i u j n m = record {
+    within = m.within;
+    needed = needed-trans (integer_matrix e.matrix) g (word_at e.members i) (word_at e.members u) (word_at e.members j) n.needed m.needed;
+  }
+
+  -- ---- what is kept
+
+  pub kept-refl : (i : ℕ) (a : Seat) → IsKept e i a a
+  kept-refl i a = record {
+    same = record { table = refl; number = refl };
+    splits = refl;
+    held = refl;
+    seen = sees-refl (view_of a);
+    marks = λ j h. inl h;
+  }
+
+  pub kept-trans : (i : ℕ) (a b c : Seat) → IsKept e i a b → IsKept e i b c → IsKept e i a c
+  kept-trans i a b c s t = record {
+    same = record { table = t.same.table ∙ s.same.table; number = t.same.number ∙ s.same.number };
+    splits = t.splits ∙ s.splits;
+    held = t.held ∙ s.held;
+    seen = sees-trans (view_of a) (view_of b) (view_of c) s.seen t.seen;
+    marks = λ j h. ⊎_elim (λ (old : HasMarked b j). s.marks j old) (λ (n : IsNeededAt e i j). inr n) (t.marks j h);
+  }
+
+  -- for a row that is needed, so for the row that needs it
+  pub kept-needed : IsAdmissible (integer_matrix e.matrix) → (i u : ℕ) (a b : Seat) → IsNeededAt e i u → IsKept e u a b → IsKept e i a b
+  kept-needed g i u a b n k = record {
+    same = k.same;
+    splits = k.splits;
+    held = k.held;
+    seen = k.seen;
+    marks = λ j h. ⊎_elim (λ (old : HasMarked a j). inl old) (λ (m : IsNeededAt e u j). inr (needs-trans g i u j n m)) (k.marks j h);
+  }
+
+  -- ---- why a row is not there
+
+  beyond-needed : IsAdmissible (integer_matrix e.matrix) → (limit : ℤ) (i u w : ℕ) (fault : StepFault) (b : Seat) → IsNeededAt e i u
+      → IsBeyond e limit u w fault b → IsBeyond e limit i w fault b
+  beyond-needed g limit i u w fault b n m = record { needed = needs-trans g i u w n m.needed; is = m.is; void = m.void }
+
+  -- the row itself was found Void, and the seat voided nothing before
+  pub looked_void : IsAdmissible (integer_matrix e.matrix) → (i : ℕ) (a b c : Seat) → i < length e.members → VoidsNone a b
+      → view_of c ≡ looked (view_of b) i RowState.Void → IsVoid e i i a c
+  looked_void g i a b c within none after = record {
+    needed = needs_itself g i within;
+    void = ap (λ v. saw_void v i) after ∙ or_left (i == i) (saw_void (view_of b) i) (eq-eqb i i refl);
+    mark = ap (λ v. among i v.marks) after ∙ ap (among i) none;
+  }
+
+  -- for a row that is needed, so for the row that needs it, where the seat voided nothing before
+  pub missing-needed : IsAdmissible (integer_matrix e.matrix) → (limit : ℤ) (i u : ℕ) (a b c : Seat) (m : Missing) → IsNeededAt e i u
+      → VoidsNone a b → IsMissing e limit u b c m → IsMissing e limit i a c m
+  missing-needed g limit i u a b c (Void j) n none h = record {
+    needed = needs-trans g i u j n h.needed;
+    void = h.void;
+    mark = h.mark ∙ ap (among j) none;
+  }
+  missing-needed g limit i u a b c (Coefficient x w degree value) n none h = beyond-needed g limit i u w (step.Coefficient x degree value) c n h
+  missing-needed g limit i u a b c (Mu x w value) n none h = beyond-needed g limit i u w (step.Mu x value) c n h
+  missing-needed g limit i u a b c NoMemory n none h = h
+
+  -- the same of a result
+  pub result-needed : {T : Type 0} → IsAdmissible (integer_matrix e.matrix) → (limit : ℤ) (i u : ℕ) (a b c : Seat) (result : Result T Missing)
+      → IsNeededAt e i u → VoidsNone a b → IfErr result (IsMissing e limit u b c) → IfErr result (IsMissing e limit i a c)
+  result-needed g limit i u a b c result n none h =
+      MatchResult-weaker result h (λ x t. t) (λ m f. missing-needed g limit i u a b c m n none f)
+
+  -- ---- a claim that is won, and what comes of it
+
+  module _ (g : IsAdmissible (integer_matrix e.matrix)) (i : ℕ) (within : i < length e.members) (a b c d : Seat)
+      (claimed : IsSameSeat a b) (claimed-splits : splits_of b ≡ splits_of a) (wins : Wins (view_of a) i (view_of b)) (kept : IsKept e i b c)
+      (ended : IsSameSeat c d) (ended-splits : splits_of d ≡ splits_of c)
+    where
+      -- the row was not held before
+      not-held : holds (view_of a) i ≡ false
+      not-held = false_from_ne_true (holds (view_of a) i) (λ h. let no = wins.known.held h in cc)
+
+      held-again : without i (view_of c).held ≡ (view_of a).held
+      held-again =
+          ap (without i) (kept.held ∙ ap (λ v. v.held) wins.after)
+          ∙ cond-true (i == i) (without i (view_of a).held) (i ∷ without i (view_of a).held) (eq-eqb i i refl)
+          ∙ without-absent i (view_of a).held not-held
+
+      same : IsSameSeat a d
+      same = record {
+        table = ended.table ∙ kept.same.table ∙ claimed.table;
+        number = ended.number ∙ kept.same.number ∙ claimed.number;
+      }
+
+      -- marks are those from before the claim, or on rows that are needed
+      marks : (j : ℕ) → HasMarked c j → HasMarked a j ⊎ IsNeededAt e i j
+      marks j h = ⊎_elim (λ (old : HasMarked b j). inl (ap (among j) (sym (ap (λ v. v.marks) wins.after)) ∙ old)) (λ (n : IsNeededAt e i j). inr n)
+          (kept.marks j h)
+
+      pub published_kept : Publishes (view_of c) i (view_of d) → IsKept e i a d
+      published_kept p = record {
+        same = same;
+        splits = ended-splits ∙ kept.splits ∙ claimed-splits;
+        held = ap (λ v. v.held) p.after ∙ held-again;
+        seen = sees-trans (view_of a) (view_of b) (view_of d) wins.kept (sees-trans (view_of b) (view_of c) (view_of d) kept.seen p.kept);
+        marks = λ j h. marks j (ap (λ v. among j v.marks) (sym p.after) ∙ h);
+      }
+
+      pub voided_kept : Voids (view_of c) i (view_of d) → IsKept e i a d
+      voided_kept p = record {
+        same = same;
+        splits = ended-splits ∙ kept.splits ∙ claimed-splits;
+        held = ap (λ v. v.held) p.after ∙ held-again;
+        seen = sees-trans (view_of a) (view_of b) (view_of d) wins.kept (sees-trans (view_of b) (view_of c) (view_of d) kept.seen p.kept);
+        marks = λ j h. ⊎_elim
+            (λ (this : (i == j) ≡ true). inr (subst (IsNeededAt e i) (eqb-true i j this) (needs_itself g i within)))
+            (λ (old : HasMarked c j). marks j old)
+            (or_cases (i == j) (marked (view_of c) j) (ap (λ v. among j v.marks) (sym p.after) ∙ h));
+      }
+
+      -- row i was Claimed to the end, so it is not one that was seen Void
+      marked_as_before : Voids (view_of c) i (view_of d) → (j : ℕ) → HasSeenVoid c j → marked (view_of d) j ≡ marked (view_of c) j
+      marked_as_before p j void = ap (λ v. among j v.marks) p.after
+          ∙ among_else i j (view_of c).marks (λ same. let no = p.known.void (subst (λ k. HasSeenVoid c k) same void) in cc)
+
+      missing : Voids (view_of c) i (view_of d) → (limit : ℤ) (m : Missing) → IsMissing e limit i b c m → IsMissing e limit i a d m
+      missing p limit (Void j) h = record {
+        needed = h.needed;
+        void = p.kept.void j h.void;
+        mark = marked_as_before p j h.void ∙ h.mark ∙ ap (λ v. among j v.marks) wins.after;
+      }
+      missing p limit (Coefficient x w degree value) h = record { needed = h.needed; is = h.is; void = p.kept.void w h.void }
+      missing p limit (Mu x w value) h = record { needed = h.needed; is = h.is; void = p.kept.void w h.void }
+      missing p limit NoMemory h = h
+
+      faulty : HasSeenVoid d i → (limit : ℤ) (fault : StepFault)
+          → IsFault (integer_matrix e.matrix) e.members (word_at e.members i) limit fault → IsMissing e limit i a d (missing_by fault i)
+      faulty void limit (step.Coefficient x degree value) is = record { needed = needs_itself g i within; is = is; void = void }
+      faulty void limit (step.Mu x value) is = record { needed = needs_itself g i within; is = is; void = void }
+      faulty void limit step.NoMemory is = tt
+
+      pub unmade_missing : Voids (view_of c) i (view_of d) → HasSeenVoid d i → (limit : ℤ) (m : Missing) → IsUnmade e limit i b c m
+          → IsMissing e limit i a d m
+      unmade_missing p void limit m h = ⊎_elim (λ (other : IsMissing e limit i b c m). missing p limit m other)
+          (λ (own : (fault : StepFault) × (m ≡ missing_by fault i) × IsFault (integer_matrix e.matrix) e.members (word_at e.members i) limit fault).
+          subst (IsMissing e limit i a d) (sym own.1) (faulty void limit own.0 own.2)) h

@@ -1,0 +1,8 @@
+-- what a guard shows
+pub mod Guards
+-- what a worker does to its seat
+pub mod Keeping
+-- a member's shorter element and corrections
+pub mod Descended
+-- what a seat has seen when rows were made
+pub mod Growing

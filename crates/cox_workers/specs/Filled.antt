@@ -1,0 +1,26 @@
+-- What a seat has seen when rows were made.
+use Rattle.std.specs.Prelude.{◌≡◌, ◌⊎◌, ℕ, ◌<◌, List, length}
+use Rattle.cox_claims.specs.declared.seat.Seat.{Seat}
+use Rattle.cox_claims.specs.Knowledge.{SeesAll}
+use Rattle.cox_claims.specs.Seats.{view_of, IsSameSeat, HoldsNothing, HasSeen, HasSeenVoid}
+use Rattle.cox_row.specs.Rising.{number_at}
+use Rattle.cox_row_store.specs.declared.store.RowStore.{RowStore}
+use Rattle.cox_row_store.specs.Stores.{IsSeat}
+
+-- the seat has seen row i Published or Void
+abbrev pub IsSettled : Seat → ℕ → Type 0
+IsSettled seat i = HasSeen seat i ⊎ HasSeenVoid seat i
+
+-- it is the same seat, it holds what it held, and has seen all that it had seen
+pub record IsGrown (old new : Seat) : Type 0 where
+  pub same : IsSameSeat old new
+  pub held : (view_of new).held ≡ (view_of old).held
+  pub seen : SeesAll (view_of old) (view_of new)
+
+-- a seat at the store that holds nothing came back as such, and has seen the rows at these places of the list Published or Void
+pub record IsFilled (store : RowStore) (Place : ℕ → Type 0) (wanted : List ℕ) (old new : Seat) : Type 0 where
+  pub own : IsSeat store new
+  pub same : IsSameSeat old new
+  pub idle : HoldsNothing new
+  pub seen : SeesAll (view_of old) (view_of new)
+  pub settled : (p : ℕ) → p < length wanted → Place p → IsSettled new (number_at wanted p)

@@ -1,0 +1,12 @@
+-- guards by the numbers of members
+pub mod Guarded
+-- rows that a worker reads
+pub mod Shelves
+-- why rows are not there
+pub mod Faults
+-- when a worker can work
+pub mod Ready
+-- what a worker does to its seat
+pub mod Work
+-- what a seat has seen when rows were made
+pub mod Filled

@@ -1,0 +1,16 @@
+-- When a worker can work.
+use Rattle.std.specs.Prelude.{ℕ}
+use Rattle.cox_claims.specs.declared.seat.Seat.{Seat}
+use Rattle.cox_claims.specs.Seats.{HasSeen}
+use Rattle.cox_klstep.specs.TablesOf.{AreTables}
+use Rattle.cox_row_store.specs.Stores.{limit_of, IsSeat}
+use Rattle.cox_workers.specs.declared.bench.Bench.{Bench}
+use Rattle.cox_workers.specs.declared.hand.Hand.{Hand}
+use Rattle.cox_workers.specs.Shelves.{IsOn, IsShelfOf}
+
+-- the seat is one at the store, the hand is for the rows of the store, and the seat has seen all rows Published that the hand reads
+pub record IsReady (bench : Bench) (seat : Seat) (hand : Hand) : Type 0 where
+  pub own : IsSeat bench.store.now seat
+  pub shelf : IsShelfOf bench.context.now (limit_of bench.store.now) hand.shelf
+  pub tables : AreTables bench.context.now hand.tables
+  pub seen : (i : ℕ) → IsOn hand.shelf i → HasSeen seat i

@@ -1,0 +1,57 @@
+-- What a worker does to its seat while it makes the row of a member.
+use Rattle.std.specs.Prelude.{◌≡◌, ◌⊎◌, ℕ, ◌<◌, true, length, ℤ}
+use Rattle.cox_base.specs.IntegerMatrix.{integer_matrix}
+use Rattle.cox_hecke.specs.Needs.{IsNeeded}
+use Rattle.cox_context.specs.Closed.{Elements}
+use Rattle.cox_context.specs.Numbers.{word_at}
+use Rattle.cox_klstep.specs.declared.fault.StepFault.{StepFault}
+use Rattle.cox_klstep.specs.declared.fault.StepFault.TheVariants as step
+use Rattle.cox_klstep.specs.Faults.{IsFault}
+use Rattle.cox_claims.specs.declared.seat.Seat.{Seat}
+use Rattle.cox_claims.specs.Knowledge.{SeesAll, marked}
+use Rattle.cox_claims.specs.Seats.{view_of, splits_of, IsSameSeat, HasSeenVoid, HasMarked}
+use Rattle.cox_workers.specs.declared.missing.Missing.{Missing}
+use Rattle.cox_workers.specs.declared.missing.Missing.TheVariants.{Void, Coefficient, Mu, NoMemory}
+use Rattle.cox_workers.specs.Faults.{missing_by}
+
+-- the row of member j is one of Need(w), where w is member i
+pub record IsNeededAt (e : Elements) (i j : ℕ) : Type 0 where
+  pub within : j < length e.members
+  pub needed : IsNeeded (integer_matrix e.matrix) (word_at e.members i) (word_at e.members j)
+
+-- it is the same seat; it holds what it held and has seen what it had seen, and has voided rows of Need(w) alone, where w is member i
+pub record IsKept (e : Elements) (i : ℕ) (old new : Seat) : Type 0 where
+  pub same : IsSameSeat old new
+  pub splits : splits_of new ≡ splits_of old
+  pub held : (view_of new).held ≡ (view_of old).held
+  pub seen : SeesAll (view_of old) (view_of new)
+  pub marks : (j : ℕ) → HasMarked new j → HasMarked old j ⊎ IsNeededAt e i j
+
+-- the seat has voided no row
+abbrev pub VoidsNone : Seat → Seat → Type 0
+VoidsNone old new = (view_of new).marks ≡ (view_of old).marks
+
+-- row j is needed, and the seat has seen it Void, and did not void it
+pub record IsVoid (e : Elements) (i j : ℕ) (old new : Seat) : Type 0 where
+  pub needed : IsNeededAt e i j
+  pub void : HasSeenVoid new j
+  pub mark : marked (view_of new) j ≡ marked (view_of old) j
+
+-- the row of w is needed, it is beyond a limit, and the seat has seen it Void
+pub record IsBeyond (e : Elements) (limit : ℤ) (i w : ℕ) (fault : StepFault) (new : Seat) : Type 0 where
+  pub needed : IsNeededAt e i w
+  pub is : IsFault (integer_matrix e.matrix) e.members (word_at e.members w) limit fault
+  pub void : HasSeenVoid new w
+
+-- why the row of member i is not there
+abbrev pub IsMissing : Elements → ℤ → ℕ → Seat → Seat → Missing → Type 0
+IsMissing e limit i old new (Void j) = IsVoid e i j old new
+IsMissing e limit i old new (Coefficient x w degree value) = IsBeyond e limit i w (step.Coefficient x degree value) new
+IsMissing e limit i old new (Mu x w value) = IsBeyond e limit i w (step.Mu x value) new
+IsMissing e limit i old new NoMemory = Unit {0}
+
+-- why the row of member i, which the seat held, was not made: either some other row that it needs is missing, or it is beyond a limit itself
+abbrev pub IsUnmade : Elements → ℤ → ℕ → Seat → Seat → Missing → Type 0
+IsUnmade e limit i old new missing =
+    IsMissing e limit i old new missing ⊎ ((fault : StepFault) × (missing ≡ missing_by fault i)
+    × IsFault (integer_matrix e.matrix) e.members (word_at e.members i) limit fault)

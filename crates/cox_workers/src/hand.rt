@@ -1,0 +1,34 @@
+//! What a worker keeps from row to row.
+ghost use Rattle.std.specs.Prelude.{IfOk};
+ghost use Rattle.cox_row_store.specs.Stores.{IsSeat};
+
+use crate::bench::Bench;
+use crate::shelf::Shelf;
+use cox_klstep::{Steps, Tables};
+use cox_row_store::Seat;
+use std::alloc::AllocError;
+
+/// What a worker keeps from row to row: rows that it reads, and tables.
+#[derive(Drop)]
+pub struct Hand<'a> {
+    pub(crate) shelf: Shelf<'a>,
+    pub(crate) tables: Tables,
+    pub(crate) steps: Steps,
+}
+
+impl<'a> Hand<'a> {
+    ghost use Rattle.cox_workers.specs.Ready.{IsReady};
+
+    /// A hand for the worker at this bench. The rows that it reads it reads until it is let go.
+    pub fn new(bench: &Bench<'a>, seat: &Seat) -> Result<Hand<'a>, AllocError>
+        requires { IsSeat bench.now.store.now seat.now }
+        ensures { IfOk result (IsReady bench.now seat.now) }
+    {
+        let _ = seat;
+        Ok(Hand {
+            shelf: Shelf::new(bench.alloc, bench.context, bench.store.limit())?,
+            tables: Tables::of(bench.alloc, bench.context)?,
+            steps: Steps::new(),
+        })
+    }
+}

@@ -1,0 +1,24 @@
+//! Workers that fill a store of rows.
+//!
+//! A worker claims the row of a member, makes it from the rows that the recursion asks for, and publishes it; rows that another worker has
+//! claimed it waits for. It holds a claim only on rows with greater numbers than the row that it waits for. A row that it cannot make it gives up.
+//!
+//! - `missing`: why a row is not there
+//! - `shelf`: rows that a worker reads
+//! - `bench`, `hand`: what a worker works at, and what it keeps from row to row
+//! - `making`: one row, and those that it is made from
+//! - `filling`: all rows that are wanted, by several workers
+#![tactic(auto)]
+
+mod bench;
+mod filling;
+mod hand;
+mod making;
+mod missing;
+mod shelf;
+
+pub use bench::Bench;
+pub use filling::fill;
+pub use hand::Hand;
+pub use missing::Missing;
+pub use shelf::Shelf;
