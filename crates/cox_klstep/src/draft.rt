@@ -44,6 +44,19 @@ impl Draft {
         }
     }
 
+    /// Gives back memory that is not used.
+    pub(crate) fn shrink(&mut self)
+        ensures extremal { self.new.values.extremal.items ≡ self.old.values.extremal.items }
+        ensures places { self.new.values.places.items ≡ self.old.values.places.items }
+        ensures pool { self.new.values.pool.items ≡ self.old.values.pool.items }
+        ensures numbers { self.new.mus.numbers.items ≡ self.old.mus.numbers.items }
+    {
+        self.values.extremal.shrink_to_fit();
+        self.values.places.shrink_to_fit();
+        self.values.pool.shrink_to_fit();
+        self.mus.numbers.shrink_to_fit();
+    }
+
     /// Notes the shifts before a member, where none from the members done to that one is extremal.
     pub(crate) fn pass(&mut self, ctx: &Context, i: u32, end: u32) -> Result<(), AllocError>
         requires i { i < length ctx.now.members }

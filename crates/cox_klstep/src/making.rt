@@ -64,6 +64,7 @@ pub(crate) fn make_row(
         Ok(mu) => mu,
         Err(fault) => return Err(fault),
     };
+    draft.shrink();
     Ok(Row::of_parts(
         draft.values.extremal,
         draft.values.places,
@@ -138,7 +139,9 @@ fn narrow(alloc: Global, mus: &Mus) -> Result<Vec<i32>, StepFault>
     ensures values { IfOk result (λ v. v.items ≡ mus.now.values.items) }
     ensures fault { IfErr result (IsNarrowFault mus.now.numbers.items mus.now.values.items) }
 {
-    let mut narrowed = Vec::new(alloc);
+    let Ok(mut narrowed) = Vec::with_capacity(alloc, mus.values.len()) else {
+        return Err(StepFault::NoMemory);
+    };
     for (k, value) in mus.values.iter().enumerate() {
         if value.unsigned_abs() > MU_LIMIT {
             return Err(StepFault::Mu {

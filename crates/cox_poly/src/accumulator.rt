@@ -120,13 +120,15 @@ fn erase(sums: &mut [i128])
     }
 }
 
-// Whether the sums are the coefficients of the polynomial, as far as they go.
+// Whether the sums are the coefficients of the polynomial, as far as they go. The last ones, which differ most, are looked at first.
 fn agrees(sums: &[i128], p: &Poly) -> bool
     requires { length sums.now ≤ DEGREES }
     ensures { IsTrue result ↔ ((k : ℕ) → k < length sums.now → coefficient p.now k ≡ coefficient sums.now k) }
 {
-    for (k, sum) in sums.iter().enumerate() {
-        if i128::from(p.coefficient(k as u32)) != *sum {
+    let mut k = sums.len();
+    while k > 0 {
+        k -= 1;
+        if i128::from(p.coefficient(k as u32)) != sums[k] {
             return false;
         }
     }
