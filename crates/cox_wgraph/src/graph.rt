@@ -41,7 +41,9 @@ impl<'a> Model for WGraph<'a> {
 }
 
 impl<'a> WGraph<'a> {
-    /// The graph of all members, from the rows of all of them.
+    /// The graph of all members, from the rows of all of them, in time linear in vertices and edges.
+    ///
+    /// In A 2 there are 8 edges, all of value 1, each listed at both of its ends.
     pub fn build<L: LowerRows>(
         alloc: Global,
         context: &'a Context,
@@ -81,6 +83,8 @@ impl<'a> WGraph<'a> {
     }
 
     /// The label of a vertex: its descents on the side, rising.
+    ///
+    /// In A 2 the vertex 3, which is 12, has the left label 1 and the right label 2.
     pub fn label(&self, side: Side, i: u32) -> Word
         requires { i < length self.now.members }
         ensures { result.items ≡ descents side (integer_matrix self.now.matrix) (word_at self.now.members i) }
