@@ -1,17 +1,15 @@
 -- The corrections are the neighbours of sw that s shortens, in order.
 use Rattle.std.proofs.Common.{◌≡◌, ℕ, ◌+◌, ◌*◌, ◌<◌, ◌≤◌, List, [], ◌∷◌, ◌++◌, length, ℤ, refl, sym, ◌∙◌, ⊎_elim, arith}
 use Rattle.std.proofs.lemmas.Bool.{cases_lt}
-use Rattle.cox_base.specs.declared.side.Side.TheVariants.{Left}
+use Rattle.cox_base.specs.declared.side.Side.{Side}
 use Rattle.cox_base.specs.IntegerMatrix.{IntegerMatrix}
 use Rattle.cox_base.specs.Admissible.{IsAdmissible}
 use Rattle.cox_base.specs.Element.{SameElement}
 use Rattle.cox_base.specs.ShortLex.{normal_form}
 use Rattle.cox_base.specs.Length.{word_length}
-use Rattle.cox_base.specs.Reduced.{IsLeftDescent}
 use Rattle.cox_reflect.proofs.Elements.{same-refl, same-sym}
 use Rattle.cox_reflect.proofs.Search.{normal_form-same, word_length-equal}
-use Rattle.cox_reflect.proofs.Lengths.{cons-word_length}
-use Rattle.cox_hecke.specs.Step.{IsCorrection}
+use Rattle.cox_hecke.specs.Step.{times_letter, IsDescent, IsCorrection}
 use Rattle.cox_hecke.proofs.AllRows.{row_of, row_of-is}
 use Rattle.cox_hecke.proofs.Descended.{mu-odd}
 use Rattle.cox_context.specs.Closed.{IsClosed}
@@ -22,31 +20,32 @@ use Rattle.cox_row.specs.Mus.{value_at, AreMus}
 use Rattle.cox_row.proofs.MuLemmas.{mu-words}
 use Rattle.cox_klstep.specs.declared.step.Correction.{Correction}
 use Rattle.cox_klstep.specs.StepOf.{correction_at, AreNumbered}
+use Rattle.cox_klstep.proofs.SideLemmas.{lowered-length}
 use Rattle.cox_klstep.proofs.PushLemmas.{push-length, push-old, push-new, push_cases}
 
 -- the corrections by the neighbours at the places before p
-pub record AreFiltered (A : IntegerMatrix) (members : List (List ℕ)) (s : ℕ) (w : List ℕ) (numbers : List ℕ) (p : ℕ)
+pub record AreFiltered (side : Side) (A : IntegerMatrix) (members : List (List ℕ)) (s : ℕ) (w : List ℕ) (numbers : List ℕ) (p : ℕ)
     (list : List Correction)
     : Type 0 where
   pub rising : (j k : ℕ) → j < k → k < length list → (correction_at list j).number < (correction_at list k).number
   pub placed : (k : ℕ) → k < length list → (q : ℕ) × (q < p) × (number_at numbers q ≡ (correction_at list k).number)
   pub each : (k : ℕ) → k < length list
-      → IsCorrection Left A s (s ∷ w) (word_at members (correction_at list k).number) (correction_at list k).factor
+      → IsCorrection side A s (times_letter side s w) (word_at members (correction_at list k).number) (correction_at list k).factor
   pub shift : (k : ℕ) → k < length list
       → word_length A w ≡ word_length A (word_at members (correction_at list k).number) + 2 * (correction_at list k).shift
-  pub found : (q : ℕ) → q < p → IsLeftDescent A (word_at members (number_at numbers q)) s
+  pub found : (q : ℕ) → q < p → IsDescent side A (word_at members (number_at numbers q)) s
       → (k : ℕ) × (k < length list) × ((correction_at list k).number ≡ number_at numbers q)
 
-module _ (A : IntegerMatrix) (g : IsAdmissible A) (members : List (List ℕ)) (closed : IsClosed A members) (i lower s : ℕ)
+module _ (side : Side) (A : IntegerMatrix) (g : IsAdmissible A) (members : List (List ℕ)) (closed : IsClosed A members) (i lower s : ℕ)
     (inside : i < length members)
-    (below : lower < length members) (descent : IsLeftDescent A (word_at members i) s)
-    (lower_is : word_at members lower ≡ normal_form A (s ∷ word_at members i)) (numbers : List ℕ) (values : List ℤ)
+    (below : lower < length members) (descent : IsDescent side A (word_at members i) s)
+    (lower_is : word_at members lower ≡ normal_form A (times_letter side s (word_at members i))) (numbers : List ℕ) (values : List ℤ)
     (mus : AreMus A members (word_at members lower) numbers values) where
-  lower-same : SameElement A (word_at members lower) (s ∷ word_at members i)
-  lower-same = rw lower_is (normal_form-same A g (s ∷ word_at members i))
+  lower-same : SameElement A (word_at members lower) (times_letter side s (word_at members i))
+  lower-same = rw lower_is (normal_form-same A g (times_letter side s (word_at members i)))
 
   lower-length : word_length A (word_at members i) ≡ word_length A (word_at members lower) + 1
-  lower-length = omega (arith, descent, word_length-equal A g lower-same, cons-word_length A g s (word_at members i))
+  lower-length = omega (arith, word_length-equal A g lower-same, lowered-length side A g s (word_at members i) descent)
 
   -- half the difference of the lengths of w and a neighbour of sw
   pub half : (p : ℕ) → p < length numbers
@@ -66,7 +65,7 @@ module _ (A : IntegerMatrix) (g : IsAdmissible A) (members : List (List ℕ)) (c
         ),
       )
 
-  pub filtered-start : AreFiltered A members s (word_at members i) numbers 0 []
+  pub filtered-start : AreFiltered side A members s (word_at members i) numbers 0 []
   filtered-start = record {
     rising = λ j k l m. absurd (omega (arith, m));
     placed = λ k l. absurd (omega (arith, l));
@@ -75,8 +74,8 @@ module _ (A : IntegerMatrix) (g : IsAdmissible A) (members : List (List ℕ)) (c
     found = λ q l. absurd (omega (arith, l));
   }
 
-  pub filtered-skip : (p n : ℕ) (list : List Correction) → n ≡ p + 1 → (IsLeftDescent A (word_at members (number_at numbers p)) s → ⊥)
-      → AreFiltered A members s (word_at members i) numbers p list → AreFiltered A members s (word_at members i) numbers n list
+  pub filtered-skip : (p n : ℕ) (list : List Correction) → n ≡ p + 1 → (IsDescent side A (word_at members (number_at numbers p)) s → ⊥)
+      → AreFiltered side A members s (word_at members i) numbers p list → AreFiltered side A members s (word_at members i) numbers n list
   filtered-skip p n list e none h = record {
     rising = h.rising;
     placed = λ k l. let q = h.placed k l in (q.0, omega (arith, q.1, e), q.2);
@@ -87,9 +86,9 @@ module _ (A : IntegerMatrix) (g : IsAdmissible A) (members : List (List ℕ)) (c
   }
 
   pub filtered-push : (p n : ℕ) (list : List Correction) (c : Correction) → n ≡ p + 1 → p < length numbers
-      → IsLeftDescent A (word_at members (number_at numbers p)) s → c.number ≡ number_at numbers p → c.factor ≡ value_at values p
+      → IsDescent side A (word_at members (number_at numbers p)) s → c.number ≡ number_at numbers p → c.factor ≡ value_at values p
       → ((d : ℕ) → length (word_at members i) ≡ length (word_at members (number_at numbers p)) + 2 * d → c.shift ≡ d)
-      → AreFiltered A members s (word_at members i) numbers p list → AreFiltered A members s (word_at members i) numbers n (list ++ c ∷ [])
+      → AreFiltered side A members s (word_at members i) numbers p list → AreFiltered side A members s (word_at members i) numbers n (list ++ c ∷ [])
   filtered-push p n list c e l d number factor shift h = record {
     rising = λ j k less m. ⊎_elim
         (λ (old : k < length list). rw (push-old list c _ j (omega (arith, less, old)), push-old list c _ k old) (h.rising j k less old))
@@ -132,8 +131,8 @@ module _ (A : IntegerMatrix) (g : IsAdmissible A) (members : List (List ℕ)) (c
         (cases_lt q p);
   }
 
-  pub filtered-end : (p : ℕ) (list : List Correction) → length numbers ≤ p → AreFiltered A members s (word_at members i) numbers p list
-      → p ≤ length numbers → AreNumbered A members s (word_at members i) list
+  pub filtered-end : (p : ℕ) (list : List Correction) → length numbers ≤ p → AreFiltered side A members s (word_at members i) numbers p list
+      → p ≤ length numbers → AreNumbered side A members s (word_at members i) list
   filtered-end p list all h fits = record {
     rising = h.rising;
     within = λ k l. let q = h.placed k l in rw (← q.2) (mus.within q.0 (omega (arith, q.1, fits)));

@@ -12,6 +12,20 @@ use Rattle.cox_row.specs.Polynomials.{polynomial_at, IsPool}
 use Rattle.cox_klstep.specs.Drafts.{IsPooled, AreBegun}
 use Rattle.cox_klstep.proofs.PushLemmas.{push-length, push-old, push-new, push_cases}
 
+-- no member from one to another is extremal
+pub begun-pass : (A : IntegerMatrix) (members : List (List ℕ)) (w : List ℕ) (limit : ℤ) (q p : ℕ) (numbers places : List ℕ)
+    (pool : List (List ℤ)) → q ≤ p → ((x : ℕ) → q ≤ x → x < p → IsExtremal A w (word_at members x) → ⊥)
+    → AreBegun A members w limit q numbers places pool → AreBegun A members w limit p numbers places pool
+begun-pass A members w limit q p numbers places pool l bare h = record {
+  rising = h.rising;
+  before = λ k m. omega (arith, h.before k m, l);
+  extremal = h.extremal;
+  below = h.below;
+  whole = λ y m e b. ⊎_elim (λ (less : y < q). h.whole y less e b) (λ (more : q ≤ y). absurd (bare y more m e)) (cases_lt y q);
+  polynomials = h.polynomials;
+  small = h.small;
+}
+
 module _ (A : IntegerMatrix) (members : List (List ℕ)) (w : List ℕ) (limit : ℤ) (x : ℕ) (numbers places : List ℕ) (pool : List (List ℤ))
   where
     pub begun-skip : (IsExtremal A w (word_at members x) → IsBelow A (word_at members x) w → ⊥)

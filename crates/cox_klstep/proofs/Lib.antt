@@ -2,6 +2,8 @@
 pub mod AddedSums
 -- lists of numbered corrections
 pub mod NumberedLists
+-- descents on either side
+pub mod SideLemmas
 -- the recursion by numbers
 pub mod NumberedRecursion
 -- lists with one more item
@@ -14,8 +16,6 @@ pub mod Filtered
 pub mod Middles
 -- polynomials as they are found
 pub mod Keeping
--- mu at members that are not extremal
-pub mod RaisedMus
 -- coefficients above the limit
 pub mod LargeLemmas
 -- the row when each member is done
@@ -24,3 +24,15 @@ pub mod Finished
 pub mod IdentityRow
 -- when the rows that a row is made from are there
 pub mod NeedLemmas
+-- inverses by number
+pub mod InverseLemmas
+-- lists of candidates
+pub mod CandidateLemmas
+-- shifts that are shorter
+pub mod Shifts
+-- which step is chosen
+pub mod Chosen
+-- which members are left
+pub mod Candidates
+-- how many polynomials are added up
+pub mod StepCounts

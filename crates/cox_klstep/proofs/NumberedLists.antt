@@ -19,6 +19,7 @@ use Rattle.cox_context.specs.Closed.{IsClosed}
 use Rattle.cox_context.specs.Numbers.{word_at}
 use Rattle.cox_context.proofs.ListLemmas.{rising-place}
 use Rattle.cox_context.proofs.Shifting.{element-at}
+use Rattle.cox_base.specs.declared.side.Side.TheVariants.{Left}
 use Rattle.cox_klstep.specs.declared.step.Correction.{Correction}
 use Rattle.cox_row.specs.Rising.{number_at}
 use Rattle.cox_klstep.specs.StepOf.{correction_at, AreNumbered}
@@ -98,7 +99,7 @@ module _ (A : IntegerMatrix) (g : IsAdmissible A) (members : List (List ℕ)) (c
 -- the numbers of the corrections, in order
 pub needs-numbered : (A : IntegerMatrix) (members : List (List ℕ)) (s : ℕ) (w : List ℕ) (list : List Correction) (numbers : List ℕ)
     → length numbers ≡ length list → ((k : ℕ) → k < length list → number_at numbers k ≡ (correction_at list k).number)
-    → AreNumbered A members s w list → AreNeeds A members s w numbers
+    → AreNumbered Left A members s w list → AreNeeds A members s w numbers
 needs-numbered A members s w list numbers size same h = record {
   rising = λ j k l m.
       let inside : k < length list = omega (arith, m, size)

@@ -1,15 +1,18 @@
 -- A row that is being made: what it has of the members before one.
-use Rattle.std.specs.Prelude.{◌≡◌, ◌≢◌, ◌⊎◌, ℕ, ◌+◌, ◌<◌, List, length, ℤ, pos}
-use Rattle.cox_base.specs.IntegerMatrix.{IntegerMatrix}
+use Rattle.std.specs.Prelude.{◌≡◌, ◌≢◌, ◌⊎◌, ℕ, ◌+◌, ◌<◌, ◌≤◌, List, length, ℤ, pos}
+use Rattle.cox_base.specs.IntegerMatrix.{IntegerMatrix, integer_matrix}
 use Rattle.cox_base.specs.Bruhat.{IsBelow}
 use Rattle.cox_poly.specs.Polynomial.{IsPolynomial, SameCoefficients}
 use Rattle.cox_poly.specs.Limit.{AllWithin}
 use Rattle.cox_hecke.specs.Row.{IsMu}
+use Rattle.cox_context.specs.Closed.{Elements}
 use Rattle.cox_context.specs.Numbers.{word_at}
 use Rattle.cox_row.specs.Rising.{number_at, AreRising, AreWithin}
 use Rattle.cox_row.specs.Extremal.{IsExtremal}
 use Rattle.cox_row.specs.Polynomials.{polynomial_at, HavePolynomials}
 use Rattle.cox_row.specs.Mus.{value_at}
+use Rattle.cox_klstep.specs.TargetOf.{IsLeastShift}
+use Rattle.cox_klstep.specs.declared.draft.Draft.{Draft}
 
 -- The polynomial with these sums is in the pool at the place: it was there before, or is behind the others now.
 pub record IsPooled (limit : ℤ) (sums : List ℤ) (old new : List (List ℤ)) (place : ℕ) : Type 0 where
@@ -43,3 +46,14 @@ pub record AreNoted (A : IntegerMatrix) (members : List (List ℕ)) (w : List �
   pub some : (k : ℕ) → k < length numbers → value_at values k ≢ pos 0
   pub whole : (u : ℕ) (m : ℤ) → u < end → IsMu A (word_at members u) w m → m ≢ pos 0
       → (k : ℕ) × (k < length numbers) × (number_at numbers k ≡ u)
+
+-- what a draft of the row of the member i has of the members done
+pub record IsUnderway (e : Elements) (i : ℕ) (limit : ℤ) (draft : Draft) : Type 0 where
+  pub begun : AreBegun (integer_matrix e.matrix) e.members (word_at e.members i) limit draft.done draft.values.extremal.items
+      draft.values.places.items draft.values.pool.items
+  pub noted : AreNoted (integer_matrix e.matrix) e.members (word_at e.members i) draft.done draft.mus.numbers.items draft.mus.values.items
+  pub next : IsLeastShift (integer_matrix e.matrix) e.members i draft.done draft.next
+
+-- no member from one to another is extremal for the member i
+abbrev pub AreBare : Elements → ℕ → ℕ → ℕ → Type 0
+AreBare e i start end = (x : ℕ) → start ≤ x → x < end → ¬ IsExtremal (integer_matrix e.matrix) (word_at e.members i) (word_at e.members x)

@@ -4,6 +4,12 @@ pub mod Limits
 pub mod StepOf
 -- sums of the polynomials of corrections
 pub mod Sums
+-- the member whose row is made
+pub mod TargetOf
+-- what the polynomials of a row come from
+pub mod SourceOf
+-- which step is chosen
+pub mod ChoiceOf
 -- a row that is being made
 pub mod Drafts
 -- why a row is not made

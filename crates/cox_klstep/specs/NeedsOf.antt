@@ -1,5 +1,5 @@
 -- The rows that the row of a member is made from.
-use Rattle.std.specs.Prelude.{◌≡◌, ℕ, ◌<◌, List, ◌∷◌, length, ℤ}
+use Rattle.std.specs.Prelude.{◌≡◌, ℕ, ◌+◌, ◌*◌, ◌<◌, ◌≤◌, List, ◌∷◌, length, ℤ}
 use Rattle.cox_base.specs.declared.side.Side.TheVariants.{Left}
 use Rattle.cox_base.specs.IntegerMatrix.{IntegerMatrix, integer_matrix}
 use Rattle.cox_base.specs.ShortLex.{normal_form}
@@ -7,6 +7,7 @@ use Rattle.cox_reflect.specs.Height.{IsLeastLeftDescent}
 use Rattle.cox_hecke.specs.Step.{IsCorrection}
 use Rattle.cox_context.specs.Closed.{Elements}
 use Rattle.cox_context.specs.Numbers.{word_at}
+use Rattle.cox_row.specs.declared.row.Row.{Row}
 use Rattle.cox_row.specs.Rising.{number_at, AreRising, AreWithin}
 
 -- the rows that the row of the member i is made from are there: that of the shorter element by its least left descent, and those of the
@@ -24,3 +25,9 @@ pub record AreNeeds (A : IntegerMatrix) (members : List (List ℕ)) (s : ℕ) (w
   pub each : (k : ℕ) → k < length numbers → (m : ℤ) × IsCorrection Left A s (s ∷ w) (word_at members (number_at numbers k)) m
   pub whole : (u : ℕ) (m : ℤ) → u < length members → IsCorrection Left A s (s ∷ w) (word_at members u) m
       → (k : ℕ) × (k < length numbers) × (number_at numbers k ≡ u)
+
+-- For a row with so many extremal elements: at most 2 polynomials more than the step by the least left descent has corrections were added up at
+-- each of them.
+abbrev pub IsWithinSteps : Elements → ℕ → ℕ → ℕ → Row → Type 0
+IsWithinSteps e i old new row = (s : ℕ) (numbers : List ℕ) → IsLeastLeftDescent (integer_matrix e.matrix) (word_at e.members i) s
+    → AreNeeds (integer_matrix e.matrix) e.members s (word_at e.members i) numbers → new ≤ old + (2 + length numbers) * length row.extremal.items

@@ -1,8 +1,39 @@
 -- What the tables of a context have.
-use Rattle.std.specs.Prelude.{◌≡◌, length}
+use Rattle.std.specs.Prelude.{◌≡◌, ◌⊎◌, ℕ, ◌<◌, List, [], length, slice_get, IfSome}
+use Rattle.cox_base.specs.IntegerMatrix.{integer_matrix}
+use Rattle.cox_base.specs.Reduced.{IsLeftDescent}
+use Rattle.std.specs.Prelude.{◌+◌, IsBitSet}
+use Rattle.std.specs.Global.{Vec}
 use Rattle.cox_context.specs.Closed.{Elements}
+use Rattle.cox_context.specs.Numbers.{word_at}
+use Rattle.cox_row.specs.Rising.{number_at, AreRising, AreWithin}
+use Rattle.cox_klstep.specs.SourceOf.{AreInverses}
 use Rattle.cox_klstep.specs.declared.tables.Tables.{Tables}
 
--- the tables are those of a context
+-- the letters of the set are left descents of the member
+abbrev pub HasDescents : Elements → ℕ → ℕ → Type 0
+HasDescents e set x = (k : ℕ) → IsBitSet set k → IsLeftDescent (integer_matrix e.matrix) (word_at e.members x) (k + 1)
+
+-- the members before end to which the letters of a set are left descents, rising by number
+pub record AreCandidates (e : Elements) (end set : ℕ) (numbers : List ℕ) : Type 0 where
+  pub rising : AreRising numbers
+  pub before : AreWithin end numbers
+  pub each : (k : ℕ) → k < length numbers → HasDescents e set (number_at numbers k)
+  pub whole : (x : ℕ) → x < end → HasDescents e set x → (k : ℕ) × (k < length numbers) × (number_at numbers k ≡ x)
+
+-- the tables are those of a context: the numbers of inverses, and for each set of letters the candidates, or nothing yet
 pub record AreTables (e : Elements) (tables : Tables) : Type 0 where
-  pub size : tables.count ≡ length e.members
+  pub inverses : AreInverses e tables.inverses.items
+  pub candidates : (set : ℕ) → IfSome (slice_get tables.candidates.items set)
+      (λ list. (list.items ≡ []) ⊎ AreCandidates e (length e.members) set list.items)
+
+-- the candidates for a set are there
+pub record IsMade (e : Elements) (set : ℕ) (tables : Tables) : Type 0 where
+  pub there : set < length tables.candidates.items
+  pub candidates : IfSome (slice_get tables.candidates.items set) (λ list. AreCandidates e (length e.members) set list.items)
+
+-- one empty list more
+pub record IsGrown (old new : List (Vec ℕ)) : Type 0 where
+  pub size : length new ≡ length old + 1
+  pub kept : (k : ℕ) → k < length old → slice_get new k ≡ slice_get old k
+  pub empty : IfSome (slice_get new (length old)) (λ list. list.items ≡ [])

@@ -1,29 +1,37 @@
-//! Makes the row of Kazhdan-Lusztig polynomials of a member of a context from the rows that the recursion asks for.
+//! Makes the row of Kazhdan-Lusztig polynomials of a member w of a context from rows that are at hand.
 //!
-//! For the least left descent s of w, v = sw, and an extremal x <= w, P(x,w) is P(sx,v) + q P(x,v), less the sum of mu(u,v) q^((l(w)-l(u))/2) P(x,u)
-//! over the u with su < u (Kazhdan and Lusztig 1979, 2.2.c; Humphreys 7.11).
+//! For a descent s of w on the left, v = sw, and an extremal x <= w, P(x,w) is P(sx,v) + q P(x,v), less the sum of mu(u,v) q^((l(w)-l(u))/2) P(x,u)
+//! over the u with su < u (Kazhdan and Lusztig 1979, 2.2.c; Humphreys 7.11); and the same on the right. Of all descents whose rows are there the one
+//! with the cheapest corrections is taken. Where the row of the inverse of w is there, P(x,w) is read off that as P(x^-1,w^-1).
 //!
-//! - `step`: the descent, the shorter element and the corrections
-//! - `sums`: the recursion at one extremal member
-//! - `values`, `mus`: the polynomials, and the values of mu, of a row that is being made
-//! - `making`: the row by a step
-//! - `needed`: the rows that a row is made from
-//! - `member`: the row of a member from rows that are at hand
-//! - `tables`, `steps`: what makes rows faster, and how much was added up
+//! - `member`: the row of a member
+//! - `needed`: the rows that are asked for
+//! - `choice`: which step is taken
+//! - `step`, `sides`: the descent, the shorter element and the corrections
+//! - `sums`, `source`: the polynomial at one extremal member, by the recursion or from the inverse
+//! - `target`: the member, and its shifts that are shorter
+//! - `draft`, `values`, `mus`: a row that is being made
+//! - `making`: the row, candidate by candidate
+//! - `tables`, `steps`: lists of candidates and inverses, and how much was added up
 //! - `identity`: the row of the identity
 //! - `fault`: why a row is not made
 #![tactic(auto)]
 
+mod choice;
+mod draft;
 mod fault;
 mod identity;
 mod making;
 mod member;
 mod mus;
 mod needed;
+mod sides;
+mod source;
 mod step;
 mod steps;
 mod sums;
 mod tables;
+mod target;
 #[cfg(test)]
 mod tests;
 mod values;

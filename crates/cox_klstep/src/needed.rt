@@ -1,12 +1,13 @@
 //! The rows that a row is made from.
-ghost use Rattle.std.specs.Prelude.{◌≡◌, ◌<◌, ◌≤◌, length, IfOk};
+ghost use Rattle.std.specs.Prelude.{◌≡◌, ℕ, ◌<◌, length, IfOk};
 ghost use Rattle.cox_base.specs.IntegerMatrix.{integer_matrix};
 ghost use Rattle.cox_context.specs.Numbers.{word_at};
 ghost use Rattle.cox_row.specs.RowOf.{IsRowAt};
-ghost use Rattle.cox_klstep.specs.StepOf.{IsDescentAt, IsStep, AreNeeded};
-ghost use Rattle.cox_klstep.specs.NeedsOf.{HasNeeds, AreNeeds};
+ghost use Rattle.cox_klstep.specs.StepOf.{correction_at, IsDescentAt, IsStep, AreNeeded};
+ghost use Rattle.cox_klstep.specs.NeedsOf.{AreNeeds};
 
 use crate::step::{Descent, Step};
+use cox_base::Side;
 use cox_context::Context;
 use cox_row::{LowerRows, Row};
 use std::alloc::{AllocError, Global};
@@ -24,7 +25,7 @@ pub fn needs(
     requires lower { IsRowAt ctx.now descent.now.lower lower.now }
     ensures { IfOk result (λ v. AreNeeds (integer_matrix ctx.now.matrix) ctx.now.members descent.now.letter (word_at ctx.now.members descent.now.member) v.items) }
 {
-    let step = Step::of(alloc, ctx, descent, lower)?;
+    let step = Step::of(alloc, ctx, Side::Left, descent, lower)?;
     let mut numbers = Vec::new(alloc);
     for correction in step.corrections.iter() {
         numbers.push(correction.number)?;
@@ -41,7 +42,7 @@ pub(crate) fn needed_rows<'a, L: LowerRows>(
 ) -> Result<Vec<&'a Row>, AllocError>
     requires step { IsStep ctx.now step.now }
     requires lower { L.elements lower.now ≡ ctx.now }
-    requires needs { HasNeeds ctx.now (L.holds lower.now) step.now.member }
+    requires there { (k : ℕ) → k < length step.now.corrections.items → L.holds lower.now (correction_at step.now.corrections.items k).number }
     ensures { IfOk result (λ v. AreNeeded ctx.now step.now.corrections.items v.items) }
 {
     let mut rows = Vec::new(alloc);

@@ -1,5 +1,5 @@
 //! The recursion at one extremal member.
-ghost use Rattle.std.specs.Prelude.{◌≡◌, ℕ, ◌+◌, ◌*◌, ◌^◌, ◌<◌, ◌≤◌, ◌↔◌, length, pos, unsigned_abs, IsTrue};
+ghost use Rattle.std.specs.Prelude.{◌≡◌, ℕ, ◌+◌, ◌*◌, ◌^◌, ◌<◌, ◌≤◌, ◌↔◌, length, pos, unsigned_abs, false, IsTrue};
 ghost use Rattle.cox_base.specs.Admissible.{IsAdmissible};
 ghost use Rattle.cox_base.specs.IntegerMatrix.{integer_matrix};
 ghost use Rattle.cox_base.specs.Bruhat.{IsBelow};
@@ -14,13 +14,24 @@ ghost use Rattle.cox_row.specs.RowOf.{IsRowAt};
 ghost use Rattle.cox_klstep.specs.StepOf.{IsStep, AreNeeded};
 ghost use Rattle.cox_klstep.specs.Sums.{GivesAt, numbered_sum};
 
+use crate::sides::shift;
 use crate::step::{Correction, Step};
+use crate::steps::Steps;
 use cox_context::Context;
 use cox_poly::Acc;
 use cox_row::{Row, polynomial};
 
 /// Adds factor q^shift P(x,u) to the sums, for the row of the member u, and says whether x <= u.
-fn add(ctx: &Context, row: &Row, u: u32, x: u32, factor: i64, shift: u32, sums: &mut Acc) -> bool
+pub(crate) fn add(
+    ctx: &Context,
+    row: &Row,
+    u: u32,
+    x: u32,
+    factor: i64,
+    shift: u32,
+    sums: &mut Acc,
+    steps: &mut Steps,
+) -> bool
     requires admissible { IsAdmissible (integer_matrix ctx.now.matrix) }
     requires closed { IsClosed (integer_matrix ctx.now.matrix) ctx.now.members }
     requires u { u < length ctx.now.members }
@@ -34,11 +45,14 @@ fn add(ctx: &Context, row: &Row, u: u32, x: u32, factor: i64, shift: u32, sums: 
         → (k : ℕ) → coefficient sums.new k ≡ plus (coefficient sums.old) (scaled factor (times_q_power shift f)) k }
     ensures size { (n : ℕ) → ((k : ℕ) → unsigned_abs (coefficient sums.old k) ≤ n * 2 ^ 94)
         → (k : ℕ) → unsigned_abs (coefficient sums.new k) ≤ (n + 1) * 2 ^ 94 }
+    ensures steps { steps.new ≤ steps.old + 1 }
+    ensures none { result ≡ false → steps.new ≡ steps.old }
 {
     match polynomial(ctx, row, u, x) {
         Some(p) => {
             let _degree = p.degree();
             sums.add_scaled(p, factor, shift);
+            steps.take();
             true
         }
         None => false,
@@ -53,6 +67,7 @@ pub(crate) fn sum_up(
     needed: &[&Row],
     x: u32,
     sums: &mut Acc,
+    steps: &mut Steps,
 ) -> bool
     requires step { IsStep ctx.now step.now }
     requires lower { IsRowAt ctx.now step.now.lower lower.now }
@@ -62,39 +77,49 @@ pub(crate) fn sum_up(
     requires clear { (k : ℕ) → coefficient sums.old k ≡ pos 0 }
     ensures below { IsTrue result ↔ IsBelow (integer_matrix ctx.now.matrix) (word_at ctx.now.members x) (word_at ctx.now.members step.now.member) }
     ensures value { IsTrue result → IsKazhdanLusztig (integer_matrix ctx.now.matrix) (word_at ctx.now.members x) (word_at ctx.now.members step.now.member) (coefficient sums.new) }
+    ensures steps { steps.new ≤ steps.old + (2 + length step.now.corrections.items) }
+    ensures none { result ≡ false → steps.new ≡ steps.old }
 {
     let _len = ctx.len();
-    let Some(shorter) = ctx.left(step.letter, x) else {
+    let Some(shorter) = shift(ctx, step.side, step.letter, x) else {
         unreachable!();
     };
-    if !add(ctx, lower, step.lower, shorter, 1, 0, sums) {
+    if !add(ctx, lower, step.lower, shorter, 1, 0, sums, steps) {
         return false;
     }
-    add(ctx, lower, step.lower, x, 1, 1, sums);
-    correct(ctx, step, needed, x, sums);
+    add(ctx, lower, step.lower, x, 1, 1, sums, steps);
+    correct(ctx, step, needed, x, sums, steps);
     true
 }
 
 /// Takes the corrections off the sums.
-fn correct(ctx: &Context, step: &Step, needed: &[&Row], x: u32, sums: &mut Acc)
+fn correct(ctx: &Context, step: &Step, needed: &[&Row], x: u32, sums: &mut Acc, steps: &mut Steps)
     requires admissible { IsAdmissible (integer_matrix ctx.now.matrix) }
     requires closed { IsClosed (integer_matrix ctx.now.matrix) ctx.now.members }
     requires step { IsStep ctx.now step.now }
     requires needed { AreNeeded ctx.now step.now.corrections.items needed.now }
     requires x { x < length ctx.now.members }
     requires room { (k : ℕ) → unsigned_abs (coefficient sums.old k) ≤ 2 * 2 ^ 94 }
-    ensures { (P : ℕ → Coefficients) → GivesAt (integer_matrix ctx.now.matrix) ctx.now.members (word_at ctx.now.members x) P
+    ensures sum { (P : ℕ → Coefficients) → GivesAt (integer_matrix ctx.now.matrix) ctx.now.members (word_at ctx.now.members x) P
         → (k : ℕ) → coefficient sums.new k ≡ minus (coefficient sums.old) (numbered_sum P step.now.corrections.items) k }
+    ensures steps { steps.new ≤ steps.old + length step.now.corrections.items }
 {
     for (k, correction) in step.corrections.iter().enumerate() {
         if x <= correction.number {
-            take_off(ctx, needed[k], correction, x, sums);
+            take_off(ctx, needed[k], correction, x, sums, steps);
         }
     }
 }
 
 /// Takes one correction off the sums.
-fn take_off(ctx: &Context, row: &Row, correction: &Correction, x: u32, sums: &mut Acc)
+fn take_off(
+    ctx: &Context,
+    row: &Row,
+    correction: &Correction,
+    x: u32,
+    sums: &mut Acc,
+    steps: &mut Steps,
+)
     requires admissible { IsAdmissible (integer_matrix ctx.now.matrix) }
     requires closed { IsClosed (integer_matrix ctx.now.matrix) ctx.now.members }
     requires u { correction.now.number < length ctx.now.members }
@@ -106,6 +131,7 @@ fn take_off(ctx: &Context, row: &Row, correction: &Correction, x: u32, sums: &mu
         → (k : ℕ) → coefficient sums.new k ≡ minus (coefficient sums.old) (scaled correction.now.factor (times_q_power correction.now.shift f)) k }
     ensures size { (n : ℕ) → ((k : ℕ) → unsigned_abs (coefficient sums.old k) ≤ n * 2 ^ 94)
         → (k : ℕ) → unsigned_abs (coefficient sums.new k) ≤ (n + 1) * 2 ^ 94 }
+    ensures steps { steps.new ≤ steps.old + 1 }
 {
     let factor = -i64::from(correction.factor);
     add(
@@ -116,5 +142,6 @@ fn take_off(ctx: &Context, row: &Row, correction: &Correction, x: u32, sums: &mu
         factor,
         correction.shift,
         sums,
+        steps,
     );
 }

@@ -1,9 +1,9 @@
 //! The polynomials of a row that is being made.
-ghost use Rattle.std.specs.Prelude.{◌≡◌, ◌≢◌, ℕ, List, ◌+◌, ◌^◌, ◌<◌, ◌≤◌, ℤ, length, [], ◌∷◌, ◌++◌, Err, IfOk, OnOk, IfSome, IfNone};
+ghost use Rattle.std.specs.Prelude.{◌≡◌, ℕ, List, ◌+◌, ◌^◌, ◌<◌, ◌≤◌, ℤ, length, [], ◌∷◌, ◌++◌, Err, IfOk, OnOk, IfSome, IfNone};
 ghost use Rattle.cox_base.specs.IntegerMatrix.{IntegerMatrix};
 ghost use Rattle.cox_base.specs.Bruhat.{IsBelow};
-ghost use Rattle.cox_poly.specs.Polynomial.{coefficient, SameCoefficients};
-ghost use Rattle.cox_poly.specs.Limit.{IsFirstAbove};
+ghost use Rattle.cox_poly.specs.Polynomial.{coefficient, IsPolynomial, SameCoefficients};
+ghost use Rattle.cox_poly.specs.Limit.{AllWithin, IsFirstAbove};
 ghost use Rattle.cox_hecke.specs.Row.{IsKazhdanLusztig};
 ghost use Rattle.cox_context.specs.Numbers.{word_at};
 ghost use Rattle.cox_row.specs.Extremal.{IsExtremal};
@@ -42,10 +42,12 @@ impl Values {
         limit: i64,
     ) -> Result<u32, PolyFault>
         requires few { length self.old.pool.items ≤ x }
+        requires small { (j : ℕ) → j < length self.old.pool.items → AllWithin limit (polynomial_at self.old.pool.items j) }
         ensures kept { IfOk result (λ _. (A : IntegerMatrix) → (members : List (List ℕ)) (w : List ℕ) → AreBegun A members w limit x self.old.extremal.items self.old.places.items self.old.pool.items
             → IsExtremal A w (word_at members x) → IsBelow A (word_at members x) w → IsKazhdanLusztig A (word_at members x) w (coefficient sums.now)
             → AreBegun A members w limit (x + 1) self.new.extremal.items self.new.places.items self.new.pool.items) }
         ensures within { IfOk result (λ place. place < length self.new.pool.items) }
+        ensures more { IfOk result (λ _. length self.new.extremal.items ≡ length self.old.extremal.items + 1) }
         ensures polynomial { IfOk result (λ place. SameCoefficients (polynomial_at self.new.pool.items place) sums.now) }
         ensures too_big { (d : ℕ) (v : ℤ) → result ≡ Err (PolyFault.TooBig d v) → IsFirstAbove limit sums.now d v }
     {
@@ -74,16 +76,17 @@ impl Values {
 /// The place of the polynomial with these sums in the pool, where it is put if it is new.
 fn place_of(alloc: Global, pool: &mut Vec<Poly>, sums: &Acc, limit: i64) -> Result<u32, PolyFault>
     requires few { length pool.old.items < 2 ^ 32 }
+    requires small { (j : ℕ) → j < length pool.old.items → AllWithin limit (polynomial_at pool.old.items j) }
     ensures place { IfOk result (IsPooled limit sums.now pool.old.items pool.new.items) }
     ensures too_big { (d : ℕ) (v : ℤ) → result ≡ Err (PolyFault.TooBig d v) → IsFirstAbove limit sums.now d v }
 {
+    if let Some(place) = known_place(pool.as_slice(), sums) {
+        return Ok(place);
+    }
     let polynomial = match sums.close(alloc, limit) {
         Ok(polynomial) => polynomial,
         Err(fault) => return Err(fault),
     };
-    if let Some(place) = known_place(pool.as_slice(), &polynomial) {
-        return Ok(place);
-    }
     let place = pool.len() as u32;
     match append(pool, polynomial) {
         Ok(()) => Ok(place),
@@ -99,14 +102,19 @@ fn append(pool: &mut Vec<Poly>, polynomial: Poly) -> Result<(), AllocError>
     Ok(())
 }
 
-/// The place of a polynomial in the pool, if it is there.
-fn known_place(pool: &[Poly], polynomial: &Poly) -> Option<u32>
+/// The place of the polynomial with these sums in the pool, if it is there. The last ones are looked at first.
+fn known_place(pool: &[Poly], sums: &Acc) -> Option<u32>
     requires few { length pool.now < 2 ^ 32 }
-    ensures found { IfSome result (λ k. (k < length pool.now) × (polynomial_at pool.now k ≡ polynomial.now)) }
-    ensures none { IfNone result ((j : ℕ) → j < length pool.now → polynomial_at pool.now j ≢ polynomial.now) }
+    ensures found { IfSome result (λ k. (k < length pool.now) × SameCoefficients (polynomial_at pool.now k) sums.now) }
+    ensures trimmed { IfSome result (λ k. IsPolynomial (polynomial_at pool.now k)) }
+    ensures none { IfNone result ((j : ℕ) → j < length pool.now → ¬ SameCoefficients (polynomial_at pool.now j) sums.now) }
 {
-    for (k, known) in pool.iter().enumerate() {
-        if *known == *polynomial {
+    let mut k = pool.len();
+    while k > 0 {
+        k -= 1;
+        let known = &pool[k];
+        let _degree = known.degree();
+        if sums.is(known) {
             return Some(k as u32);
         }
     }

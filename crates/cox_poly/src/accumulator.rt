@@ -111,6 +111,28 @@ fn narrowed_list(alloc: Global, sums: &[i128]) -> Result<Vec<i64>, NoMemory>
     Ok(items)
 }
 
+// Puts 0 for each sum.
+fn erase(sums: &mut [i128])
+    ensures { (k : ℕ) → coefficient sums.new k ≡ pos 0 }
+{
+    for sum in sums.iter_mut() {
+        *sum = 0;
+    }
+}
+
+// Whether the sums are the coefficients of the polynomial, as far as they go.
+fn agrees(sums: &[i128], p: &Poly) -> bool
+    requires { length sums.now ≤ DEGREES }
+    ensures { IsTrue result ↔ ((k : ℕ) → k < length sums.now → coefficient p.now k ≡ coefficient sums.now k) }
+{
+    for (k, sum) in sums.iter().enumerate() {
+        if i128::from(p.coefficient(k as u32)) != *sum {
+            return false;
+        }
+    }
+    true
+}
+
 impl Acc {
     /// The empty sum, 0.
     pub fn new() -> Acc
@@ -120,6 +142,23 @@ impl Acc {
             sums: zeros(),
             used: 0,
         }
+    }
+
+    /// Makes the sum 0 again.
+    pub fn clear(&mut self)
+        ensures { (k : ℕ) → coefficient self.new k ≡ pos 0 }
+    {
+        erase(&mut self.sums[..self.used]);
+        self.used = 0;
+    }
+
+    /// Whether the sum is this polynomial.
+    ///
+    /// `1 + q` and `q` add up to `1 + 2q`, and not to `1 + 2q + q^2`.
+    pub fn is(&self, p: &Poly) -> bool
+        ensures { IsTrue result ↔ SameCoefficients p.now self.now }
+    {
+        p.coefficients().len() <= self.used && agrees(&self.sums[..self.used], p)
     }
 
     /// Adds `factor * q^shift * p`. Each term of `q^shift * p` has a degree below [`DEGREES`], and no

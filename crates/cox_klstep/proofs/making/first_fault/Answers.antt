@@ -12,7 +12,7 @@ returns-in-Some c =
     let fits : FitsSigned w64 c.args.limit = search rules
     in let at = simp (to_z-of_z w64 c.args.limit fits) at c.in-Some.ensures.some
     in let before = simp (to_z-of_z w64 c.args.limit fits) at c.loop-y.invariant
-    in fault-first (integer_matrix c.args.ctx.now.matrix) c.args.ctx.now.members (word_at c.args.ctx.now.members c.args.step.now.member)
+    in fault-first (integer_matrix c.args.ctx.now.matrix) c.args.ctx.now.members (word_at c.args.ctx.now.members c.args.i)
     c.args.limit c.loop-y.y c.in-Some.fault before at
 
 pub loop-y-preserved : goal.loop-y-preserved

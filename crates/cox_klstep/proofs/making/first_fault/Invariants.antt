@@ -7,4 +7,4 @@ use Rattle.cox_klstep.proofs.making.first_fault.Given as goal
 
 abbrev pub invariant-loop-y : goal.invariant-loop-y
 invariant-loop-y l = (z k : ℕ) (c : ℤ) → z < l.y
-    → IsLargeCoefficient (integer_matrix l.ctx.matrix) l.limit (word_at l.ctx.members z) (word_at l.ctx.members l.step.member) k c → ⊥
+    → IsLargeCoefficient (integer_matrix l.ctx.matrix) l.limit (word_at l.ctx.members z) (word_at l.ctx.members l.i) k c → ⊥

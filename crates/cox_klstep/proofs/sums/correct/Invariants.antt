@@ -14,4 +14,5 @@ invariant-loop-k l = record {
   sum : (P : ℕ → Coefficients) → GivesAt (integer_matrix l.ctx.matrix) l.ctx.members (word_at l.ctx.members l.x) P
       → (d : ℕ) → coefficient l.sums d ≡ minus (coefficient l.initial.sums) (numbered_sum P (take l.k l.correction-items)) d;
   size : (d : ℕ) → unsigned_abs (coefficient l.sums d) ≤ (l.k + 2) * 2 ^ 94;
+  steps : l.steps ≤ l.initial.steps + l.k;
 }

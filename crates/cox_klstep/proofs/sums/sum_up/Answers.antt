@@ -1,32 +1,33 @@
 -- The recursion for an extremal x, which s shortens.
 use Rattle.std.proofs.Common.{ℕ, ◌<◌, length, arith}
 use Rattle.cox_base.specs.IntegerMatrix.{IntegerMatrix, integer_matrix}
-use Rattle.cox_reflect.proofs.Roots.{left_descent-letter}
 use Rattle.cox_poly.specs.Coefficients.{Coefficients}
 use Rattle.cox_poly.specs.Polynomial.{coefficient}
 use Rattle.cox_hecke.proofs.Polynomials.{kl_polynomial, kl_polynomial-is}
 use Rattle.cox_context.specs.Numbers.{word_at}
-use Rattle.cox_context.proofs.Shifting.{descent-member}
 use Rattle.cox_klstep.specs.Sums.{numbered_sum}
+use Rattle.cox_klstep.proofs.SideLemmas.{lowered-letter, lowered-member, extremal-descent}
 use Rattle.cox_klstep.proofs.AddedSums.{three-sums}
 use Rattle.cox_klstep.proofs.NumberedRecursion.{below-lowered, sums-are}
 use Rattle.cox_klstep.proofs.sums.sum_up.Goals as goal
 
-pub left-requires-clause-letter : goal.left-requires-clause-letter
-left-requires-clause-letter c = left_descent-letter (integer_matrix c.args.ctx.now.matrix) c.len-len.ensures.admissible
-    (word_at c.args.ctx.now.members c.args.step.now.member) c.args.step.now.letter c.requires.step.descent.descent
+pub shift-requires-clause-letter : goal.shift-requires-clause-letter
+shift-requires-clause-letter c = lowered-letter c.args.step.now.side (integer_matrix c.args.ctx.now.matrix) c.len-len.ensures.admissible
+    c.args.step.now.letter (word_at c.args.ctx.now.members c.args.step.now.member) c.requires.step.descent
 
 pub unreachable-requires : goal.unreachable-requires
-unreachable-requires c = c.in_default.ensures (descent-member (integer_matrix c.args.ctx.now.matrix) c.len-len.ensures.admissible
+unreachable-requires c = c.in_default.ensures (lowered-member c.args.step.now.side (integer_matrix c.args.ctx.now.matrix) c.len-len.ensures.admissible
     c.args.ctx.now.members c.len-len.ensures.closed c.args.step.now.letter c.args.x c.requires.x
-    (c.requires.extremal.left c.args.step.now.letter c.requires.step.descent.descent))
+    (extremal-descent c.args.step.now.side (integer_matrix c.args.ctx.now.matrix) c.args.step.now.letter
+    (word_at c.args.ctx.now.members c.args.step.now.member) (word_at c.args.ctx.now.members c.args.x) c.requires.extremal c.requires.step.descent))
 
 pub returns-then-not-add-clause-below : goal.returns-then-not-add-clause-below
 returns-then-not-add-clause-below c =
-    let lowered = below-lowered (integer_matrix c.args.ctx.now.matrix) c.len-len.ensures.admissible c.args.ctx.now.members
-    c.len-len.ensures.closed c.args.step.now.member c.requires.step.within c.args.step.now.letter c.requires.step.descent.descent
+    let lowered = below-lowered c.args.step.now.side (integer_matrix c.args.ctx.now.matrix) c.len-len.ensures.admissible c.args.ctx.now.members
+    c.len-len.ensures.closed c.args.step.now.member c.requires.step.within c.args.step.now.letter c.requires.step.descent
     c.args.step.now.corrections.items c.requires.step.numbered c.args.x c.in-Some.shorter c.args.step.now.lower
-    (c.requires.extremal.left c.args.step.now.letter c.requires.step.descent.descent) c.in-Some.ensures.1 c.requires.step.lower_is
+    (extremal-descent c.args.step.now.side (integer_matrix c.args.ctx.now.matrix) c.args.step.now.letter
+    (word_at c.args.ctx.now.members c.args.step.now.member) (word_at c.args.ctx.now.members c.args.x) c.requires.extremal c.requires.step.descent) c.in-Some.ensures.1 c.requires.step.lower_is
     in (λ t. lowered.0 (c.if-not-add.ensures.below.0 t), λ b. c.if-not-add.ensures.below.1 (lowered.1 b))
 
 pub add-requires-2-clause-room : goal.add-requires-2-clause-room
@@ -41,10 +42,11 @@ correct-requires-clause-room c = λ k.
 
 pub returns-clause-below : goal.returns-clause-below
 returns-clause-below c =
-    let lowered = below-lowered (integer_matrix c.args.ctx.now.matrix) c.len-len.ensures.admissible c.args.ctx.now.members
-    c.len-len.ensures.closed c.args.step.now.member c.requires.step.within c.args.step.now.letter c.requires.step.descent.descent
+    let lowered = below-lowered c.args.step.now.side (integer_matrix c.args.ctx.now.matrix) c.len-len.ensures.admissible c.args.ctx.now.members
+    c.len-len.ensures.closed c.args.step.now.member c.requires.step.within c.args.step.now.letter c.requires.step.descent
     c.args.step.now.corrections.items c.requires.step.numbered c.args.x c.in-Some.shorter c.args.step.now.lower
-    (c.requires.extremal.left c.args.step.now.letter c.requires.step.descent.descent) c.in-Some.ensures.1 c.requires.step.lower_is
+    (extremal-descent c.args.step.now.side (integer_matrix c.args.ctx.now.matrix) c.args.step.now.letter
+    (word_at c.args.ctx.now.members c.args.step.now.member) (word_at c.args.ctx.now.members c.args.x) c.requires.extremal c.requires.step.descent) c.in-Some.ensures.1 c.requires.step.lower_is
     in (λ t. lowered.0 (c.if-not-add.ensures.below.0 t), λ b. c.if-not-add.ensures.below.1 (lowered.1 b))
 
 pub returns-clause-value : goal.returns-clause-value
@@ -60,11 +62,12 @@ returns-clause-value c = λ _.
     in let is_a = kl_polynomial-is A c.len-len.ensures.admissible (word_at c.args.ctx.now.members c.in-Some.shorter)
     (word_at c.args.ctx.now.members c.args.step.now.lower)
     in let is_b = gives c.args.step.now.lower c.requires.step.lower_within
-    in sums-are (integer_matrix c.args.ctx.now.matrix) c.len-len.ensures.admissible c.args.ctx.now.members
-    c.len-len.ensures.closed c.args.step.now.member c.requires.step.within c.args.step.now.letter c.requires.step.descent.descent
+    in sums-are c.args.step.now.side (integer_matrix c.args.ctx.now.matrix) c.len-len.ensures.admissible c.args.ctx.now.members
+    c.len-len.ensures.closed c.args.step.now.member c.requires.step.within c.args.step.now.letter c.requires.step.descent
     c.args.step.now.corrections.items c.requires.step.numbered c.args.x c.in-Some.shorter c.args.step.now.lower
-    (c.requires.extremal.left c.args.step.now.letter c.requires.step.descent.descent) c.in-Some.ensures.1 c.requires.step.lower_is
+    (extremal-descent c.args.step.now.side (integer_matrix c.args.ctx.now.matrix) c.args.step.now.letter
+    (word_at c.args.ctx.now.members c.args.step.now.member) (word_at c.args.ctx.now.members c.args.x) c.requires.extremal c.requires.step.descent) c.in-Some.ensures.1 c.requires.step.lower_is
     P a b (coefficient c.correct.new.sums) gives is_a is_b
     (three-sums a b (numbered_sum P c.args.step.now.corrections.items) (coefficient c.args.sums.now) (coefficient c.add.new.sums)
     (coefficient c.add-2.new.sums) (coefficient c.correct.new.sums) c.requires.clear (c.add.ensures.sum a is_a) (c.add-2.ensures.sum b is_b)
-    (c.correct.ensures P gives))
+    (c.correct.ensures.sum P gives))

@@ -27,6 +27,6 @@ returns-in-Ok-append-clause-place c =
       size = inr (
         push-length c.args.pool.now.items c.in-Ok.polynomial,
         last,
-        λ j l. rw (push-new c.args.pool.now.items c.in-Ok.polynomial [] c.len-place.result last) (none j l),
+        λ j l. rw (push-new c.args.pool.now.items c.in-Ok.polynomial [] c.len-place.result last) (λ e. none j l (λ k. rw e (c.in-Ok.ensures.sum k))),
       );
     }

@@ -1,0 +1,47 @@
+-- The step by the least left descent is a choice; and no choice has more corrections.
+use Rattle.std.proofs.Common.{◌≡◌, refl, arith}
+use Rattle.cox_base.specs.declared.side.Side.TheVariants.{Left}
+use Rattle.cox_base.specs.IntegerMatrix.{integer_matrix}
+use Rattle.cox_context.specs.Numbers.{word_at}
+use Rattle.cox_klstep.specs.StepOf.{correction_at}
+use Rattle.cox_klstep.proofs.Chosen.{numbered-unique, numbered-needs}
+use Rattle.cox_klstep.proofs.choice.cheapest_step.Goals as goal
+
+pub cheapest-best-requires-clause-least : goal.cheapest-best-requires-clause-least
+cheapest-best-requires-clause-least g c =
+    let d = c.of-least.ensures.descent
+    in let needs = rw (← c.of-least.ensures.number) at c.requires.needs
+    in let first = rw (c.in_ok-first.ensures.side, c.in_ok-first.ensures.letter, c.in_ok-first.ensures.number)
+    at c.in_ok-first.ensures.step.numbered
+    in record {
+      lowering = record { within = d.within; descent = d.least.descent; lower_within = d.lower_within; lower_is = d.lower_is };
+      member = refl;
+      lower = needs.shorter c.of-least.result.letter c.of-least.result.lower d.least d.lower_within d.lower_is;
+      corrected = λ u m l h. needs.corrected c.of-least.result.letter u m d.least l h;
+      few = λ list h.
+          let few = numbered-unique (integer_matrix c.args.ctx.now.matrix) c.args.ctx.now.members c.of-least.result.letter
+          (word_at c.args.ctx.now.members c.of-least.result.member) Left list c.in_ok-first.first.corrections.items h first
+          in omega (arith, few, c.len-most.ensures);
+    }
+
+pub returns-clause-corrected : goal.returns-clause-corrected
+returns-clause-corrected g c = λ k l.
+    let n = rw (c.in_ok-step.ensures.side, c.in_ok-step.ensures.letter, c.in_ok-step.ensures.number, c.cheapest-best.ensures.member)
+    at c.in_ok-step.ensures.step.numbered
+    in c.cheapest-best.ensures.corrected (correction_at c.in_ok-step.step.corrections.items k).number
+    (correction_at c.in_ok-step.step.corrections.items k).factor (n.within k l) (n.each k l)
+
+pub returns-clause-few : goal.returns-clause-few
+returns-clause-few g c = λ s numbers least are.
+    let d = c.of-least.ensures.descent
+    in let n = rw (c.in_ok-step.ensures.side, c.in_ok-step.ensures.letter, c.in_ok-step.ensures.number, c.cheapest-best.ensures.member)
+    at c.in_ok-step.ensures.step.numbered
+    in let first = rw (c.in_ok-first.ensures.side, c.in_ok-first.ensures.letter, c.in_ok-first.ensures.number)
+    at c.in_ok-first.ensures.step.numbered
+    in let mine = rw c.of-least.ensures.number at d.least
+    in let same : s ≡ c.of-least.result.letter = omega (arith, least.least c.of-least.result.letter mine.descent, mine.least s least.descent)
+    in let few = c.cheapest-best.ensures.few c.in_ok-step.step.corrections.items n
+    in let most = numbered-needs (integer_matrix c.args.ctx.now.matrix) c.args.ctx.now.members c.of-least.result.letter
+    (word_at c.args.ctx.now.members c.of-least.result.member) c.in_ok-first.first.corrections.items numbers first
+    (rw (same, ← c.of-least.ensures.number) at are)
+    in omega (arith, few, most, c.len-most.ensures)

@@ -1,0 +1,17 @@
+-- The rows of the corrections so far are there, and counted.
+use Rattle.std.proofs.Common.{ℕ, ◌<◌, ◌≤◌}
+use Rattle.cox_base.specs.IntegerMatrix.{integer_matrix}
+use Rattle.cox_hecke.specs.Step.{IsDescent}
+use Rattle.cox_context.specs.Numbers.{word_at}
+use Rattle.cox_row.specs.Rising.{number_at}
+use Rattle.cox_klstep.proofs.Chosen.{CountsUpTo}
+use Rattle.cox_klstep.proofs.choice.cost.Given as goal
+
+abbrev pub invariant-loop-u : goal.invariant-loop-u
+invariant-loop-u g l = record {
+  held : (k : ℕ) → k < l.u-index
+      → IsDescent l.side (integer_matrix l.ctx.matrix) (word_at l.ctx.members (number_at l.u-items k)) l.descent.letter
+      → g.L.LowerRows.holds l.lower (number_at l.u-items k);
+  counts : CountsUpTo l.side (integer_matrix l.ctx.matrix) l.ctx.members l.descent.letter l.u-items l.u-index l.count;
+  bound : l.count ≤ l.most;
+}

@@ -1,0 +1,21 @@
+-- Which step is chosen.
+use Rattle.std.specs.Prelude.{◌≡◌, ℕ, ◌<◌, ◌≤◌, List, length, ℤ}
+use Rattle.cox_base.specs.declared.side.Side.{Side}
+use Rattle.cox_base.specs.IntegerMatrix.{integer_matrix}
+use Rattle.cox_hecke.specs.Step.{times_letter, IsCorrection}
+use Rattle.cox_context.specs.Closed.{Elements}
+use Rattle.cox_context.specs.Numbers.{word_at}
+use Rattle.cox_klstep.specs.declared.step.Correction.{Correction}
+use Rattle.cox_klstep.specs.declared.step.Descent.{Descent}
+use Rattle.cox_klstep.specs.StepOf.{AreNumbered, IsLowering}
+
+-- a step to the member i for which all rows are there, with at most so many corrections
+pub record IsChoice (e : Elements) (holds : ℕ → Type 0) (i most : ℕ) (side : Side) (d : Descent) : Type 0 where
+  pub lowering : IsLowering e side d
+  pub member : d.member ≡ i
+  pub lower : holds d.lower
+  pub corrected : (u : ℕ) (m : ℤ) → u < length e.members
+      → IsCorrection side (integer_matrix e.matrix) d.letter (times_letter side d.letter (word_at e.members i)) (word_at e.members u) m
+      → holds u
+  pub few : (list : List Correction) → AreNumbered side (integer_matrix e.matrix) e.members d.letter (word_at e.members i) list
+      → length list ≤ most

@@ -1,0 +1,153 @@
+//! Chooses the step by which the row of a member is made.
+ghost use Rattle.std.specs.Prelude.{◌≡◌, ℕ, ◌+◌, ◌<◌, ◌≤◌, List, length, IfOk, IfSome, ℤ};
+ghost use Rattle.cox_base.specs.Matrix.{IsLetter};
+ghost use Rattle.cox_base.specs.IntegerMatrix.{integer_matrix};
+ghost use Rattle.cox_reflect.specs.Height.{IsLeastLeftDescent};
+ghost use Rattle.cox_hecke.specs.Step.{times_letter, IsCorrection};
+ghost use Rattle.cox_context.specs.Numbers.{word_at};
+ghost use Rattle.cox_row.specs.RowOf.{IsRowAt};
+ghost use Rattle.cox_klstep.specs.StepOf.{AreNumbered, correction_at, IsLowering, IsStep};
+ghost use Rattle.cox_klstep.specs.NeedsOf.{HasNeeds, AreNeeds};
+ghost use Rattle.cox_klstep.specs.ChoiceOf.{IsChoice};
+ghost use Rattle.cox_klstep.specs.declared.step.Correction.{Correction};
+
+use crate::sides::{shift, shortens};
+use crate::step::{Descent, Step};
+use cox_base::Side;
+use cox_context::Context;
+use cox_row::LowerRows;
+use std::alloc::{AllocError, Global};
+
+/// A step to a member, and what it costs: the sum of the numbers of its corrections, each one more.
+#[derive(Clone, Copy)]
+struct Choice {
+    side: Side,
+    descent: Descent,
+    cost: u64,
+}
+
+/// Of the steps to the member with the number i by its descents on both sides the one with the least cost, among those whose rows are there
+/// and that have no more corrections than the step by the least left descent.
+pub(crate) fn cheapest_step<L: LowerRows>(
+    alloc: Global,
+    ctx: &Context,
+    i: u32,
+    lower: &L,
+) -> Result<Step, AllocError>
+    requires member { i < length ctx.now.members }
+    requires some { 0 < i }
+    requires lower { L.elements lower.now ≡ ctx.now }
+    requires needs { HasNeeds ctx.now (L.holds lower.now) i }
+    ensures member { IfOk result (λ step. step.member ≡ i) }
+    ensures step { IfOk result (IsStep ctx.now) }
+    ensures lower { IfOk result (λ step. L.holds lower.now step.lower) }
+    ensures corrected { IfOk result (λ step. (k : ℕ) → k < length step.corrections.items → L.holds lower.now (correction_at step.corrections.items k).number) }
+    ensures few { IfOk result (λ step. (s : ℕ) (numbers : List ℕ) → IsLeastLeftDescent (integer_matrix ctx.now.matrix) (word_at ctx.now.members i) s
+        → AreNeeds (integer_matrix ctx.now.matrix) ctx.now.members s (word_at ctx.now.members i) numbers → length step.corrections.items ≤ length numbers) }
+{
+    let _len = ctx.len();
+    let least = Descent::of(ctx, i);
+    let first = Step::of(alloc, ctx, Side::Left, &least, lower.row(least.lower))?;
+    let most = first.corrections.len();
+    if most == 0 {
+        return Ok(first);
+    }
+    let best = cheapest(ctx, &least, lower, most);
+    let step = Step::of(
+        alloc,
+        ctx,
+        best.side,
+        &best.descent,
+        lower.row(best.descent.lower),
+    )?;
+    Ok(step)
+}
+
+/// The cheapest choice with at most so many corrections.
+fn cheapest<L: LowerRows>(ctx: &Context, least: &Descent, lower: &L, most: usize) -> Choice
+    requires lower { L.elements lower.now ≡ ctx.now }
+    requires least { IsChoice ctx.now (L.holds lower.now) least.now.member most Side.Left least.now }
+    ensures { IsChoice ctx.now (L.holds lower.now) least.now.member most result.side result.descent }
+{
+    let rank = ctx.matrix().rank() as u8;
+    let mut best = Choice {
+        side: Side::Left,
+        descent: *least,
+        cost: cost(ctx, Side::Left, least, lower, most).unwrap_or(u64::MAX),
+    };
+    for s in 1..rank + 1 {
+        best = cheaper(ctx, least.member, Side::Left, s, lower, most, &best);
+        best = cheaper(ctx, least.member, Side::Right, s, lower, most, &best);
+    }
+    best
+}
+
+/// The step by a letter on a side where it is cheaper than the best one so far, else that.
+fn cheaper<L: LowerRows>(
+    ctx: &Context,
+    i: u32,
+    side: Side,
+    s: u8,
+    lower: &L,
+    most: usize,
+    best: &Choice,
+) -> Choice
+    requires i { i < length ctx.now.members }
+    requires letter { IsLetter ctx.now.matrix.rank s }
+    requires lower { L.elements lower.now ≡ ctx.now }
+    requires best { IsChoice ctx.now (L.holds lower.now) i most best.now.side best.now.descent }
+    ensures { IsChoice ctx.now (L.holds lower.now) i most result.side result.descent }
+{
+    if !shortens(ctx, side, s, i) {
+        return *best;
+    }
+    let Some(shorter) = shift(ctx, side, s, i) else {
+        return *best;
+    };
+    if !lower.has(shorter) {
+        return *best;
+    }
+    let descent = Descent {
+        member: i,
+        letter: s,
+        lower: shorter,
+    };
+    match cost(ctx, side, &descent, lower, most) {
+        Some(cost) if cost < best.cost => Choice {
+            side,
+            descent,
+            cost,
+        },
+        _ => *best,
+    }
+}
+
+/// What a step costs: the sum of the numbers of its corrections, each one more. `None` where a row is not there, or there are more than `most`
+/// corrections.
+fn cost<L: LowerRows>(
+    ctx: &Context,
+    side: Side,
+    descent: &Descent,
+    lower: &L,
+    most: usize,
+) -> Option<u64>
+    requires lower { L.elements lower.now ≡ ctx.now }
+    requires descent { IsLowering ctx.now side descent.now }
+    requires there { L.holds lower.now descent.now.lower }
+    ensures { IfSome result (λ _. IsChoice ctx.now (L.holds lower.now) descent.now.member most side descent.now) }
+{
+    let _len = ctx.len();
+    let row = lower.row(descent.lower);
+    let mut count = 0;
+    let mut sum = 0u64;
+    for &u in row.neighbours().iter() {
+        if shortens(ctx, side, descent.letter, u) {
+            if count >= most || !lower.has(u) {
+                return None;
+            }
+            count += 1;
+            sum = sum.saturating_add(u64::from(u) + 1);
+        }
+    }
+    Some(sum)
+}

@@ -1,0 +1,109 @@
+//! A row that is being made.
+ghost use Rattle.std.specs.Prelude.{◌≡◌, ℕ, ◌+◌, ◌*◌, ◌<◌, ◌≤◌, ℤ, length, OnOk, IfErr, pos};
+ghost use Rattle.cox_base.specs.IntegerMatrix.{integer_matrix};
+ghost use Rattle.cox_context.specs.Numbers.{word_at};
+ghost use Rattle.cox_row.specs.Extremal.{IsExtremal};
+ghost use Rattle.cox_klstep.specs.SourceOf.{IsSource, source_cost};
+ghost use Rattle.cox_klstep.specs.Drafts.{IsUnderway, AreBare};
+ghost use Rattle.cox_klstep.specs.Faults.{IsFound};
+
+use crate::StepFault;
+use crate::mus::{Mus, middle};
+use crate::source::{Source, put_polynomial};
+use crate::steps::Steps;
+use crate::target::least_shift;
+use crate::values::Values;
+use cox_context::Context;
+use cox_poly::{Acc, PolyFault};
+use std::alloc::{AllocError, Global};
+
+/// A row that is being made: what it has of the members before one.
+#[derive(Drop)]
+pub(crate) struct Draft {
+    pub(crate) values: Values,
+    pub(crate) mus: Mus,
+    /// The members before this one are done.
+    pub(crate) done: u32,
+    /// The least number of a shift from there on, or that of w itself.
+    pub(crate) next: u32,
+}
+
+impl Draft {
+    /// Nothing is done.
+    pub(crate) fn new(alloc: Global, ctx: &Context, i: u32) -> Draft
+        requires { i < length ctx.now.members }
+        ensures underway { (limit : ℤ) → IsUnderway ctx.now i limit result }
+        ensures done { result.done ≡ 0 }
+    {
+        let next = least_shift(ctx, i, 0);
+        Draft {
+            values: Values::new(alloc),
+            mus: Mus::new(alloc),
+            done: 0,
+            next,
+        }
+    }
+
+    /// Notes the shifts before a member, where none from the members done to that one is extremal.
+    pub(crate) fn pass(&mut self, ctx: &Context, i: u32, end: u32) -> Result<(), AllocError>
+        requires i { i < length ctx.now.members }
+        requires ahead { self.old.done ≤ end }
+        requires end { end ≤ i }
+        ensures passed { OnOk result ((limit : ℤ) → IsUnderway ctx.now i limit self.old
+            → AreBare ctx.now i self.old.done end → IsUnderway ctx.now i limit self.new) }
+        ensures done { OnOk result (self.new.done ≡ end) }
+        ensures values { self.new.values ≡ self.old.values }
+    {
+        let _len = ctx.len();
+        while self.next < end {
+            self.mus.note(self.next, 1)?;
+            self.next = least_shift(ctx, i, self.next + 1);
+        }
+        self.done = end;
+        Ok(())
+    }
+
+    /// One extremal member more.
+    pub(crate) fn add_extremal(
+        &mut self,
+        alloc: Global,
+        ctx: &Context,
+        i: u32,
+        source: &Source,
+        limit: i64,
+        sums: &mut Acc,
+        steps: &mut Steps,
+    ) -> Result<(), StepFault>
+        requires i { i < length ctx.now.members }
+        requires source { IsSource ctx.now i source.now }
+        requires x { self.old.done ≤ i }
+        requires extremal { IsExtremal (integer_matrix ctx.now.matrix) (word_at ctx.now.members i) (word_at ctx.now.members self.old.done) }
+        requires underway { IsUnderway ctx.now i limit self.old }
+        ensures underway { OnOk result (IsUnderway ctx.now i limit self.new) }
+        ensures done { OnOk result (self.new.done ≡ self.old.done + 1) }
+        ensures steps { OnOk result ((n : ℕ) → steps.old ≤ n + source_cost source.now * length self.old.values.extremal.items
+            → steps.new ≤ n + source_cost source.now * length self.new.values.extremal.items) }
+        ensures fault { IfErr result (IsFound (integer_matrix ctx.now.matrix) ctx.now.members (word_at ctx.now.members i) limit self.old.done) }
+    {
+        let _len = ctx.len();
+        let x = self.done;
+        if !put_polynomial(ctx, i, source, x, sums, steps) {
+            self.done = x + 1;
+            return Ok(());
+        }
+        let place = match self.values.keep(alloc, x, sums, limit) {
+            Ok(place) => place,
+            Err(PolyFault::TooBig { degree, value }) => {
+                return Err(StepFault::Coefficient { x, degree, value });
+            }
+            Err(PolyFault::NoMemory) => return Err(StepFault::NoMemory),
+        };
+        let value = middle(ctx, &self.values.pool[place as usize], i, x);
+        match self.mus.note(x, value) {
+            Ok(()) => {}
+            Err(_) => return Err(StepFault::NoMemory),
+        }
+        self.done = x + 1;
+        Ok(())
+    }
+}
