@@ -15,14 +15,16 @@ use Rattle.cox_hecke.proofs.SumLemmas.{same_or_not, not_same-is_same}
 use Rattle.cox_hecke.proofs.ElementLists.{below_or_not, below_list}
 use Rattle.cox_hecke.proofs.AllRows.{mu-exists, mu-unique}
 use Rattle.cox_hecke.proofs.Descended.{mu-below}
-use Rattle.cox_hecke.proofs.Polynomials.{kl_polynomial, kl_polynomial-is, kl_polynomial-low, kazhdan_lusztig-unique, kazhdan_lusztig-outside}
+use Rattle.cox_hecke.proofs.Polynomials.{kl_polynomial, kl_polynomial-is, kl_polynomial-low, kazhdan_lusztig-unique}
+use Rattle.cox_hecke.proofs.Polynomials.{kazhdan_lusztig-outside}
 use Rattle.cox_hecke.proofs.Polynomials.{kazhdan_lusztig-same}
 use Rattle.cox_row.proofs.MuLemmas.{mu-words}
 use Rattle.cox_klstep.specs.declared.making.TheConstants.{MU_LIMIT}
 use Rattle.cox_klstep.specs.Limits.{IsLargeCoefficient, IsLargeMu}
 use Rattle.cox_rows.specs.Beyond.{IsBeyond, coefficient, mu}
 
--- a property that can be told of each element, and that depends on the element alone: some word of a list has it, or no element that it names
+-- a property that can be told of each element, and that depends on the element alone: some word of a list has it, or none of the elements
+-- that it names
 module _ (A : IntegerMatrix) (g : IsAdmissible A) (P : List ℕ → Type 0) (same : (x y : List ℕ) → SameElement A x y → P x → P y)
     (tell : (x : List ℕ) → P x ⊎ (P x → ⊥)) where
   pub tell-listed : (words : List (List ℕ)) → ((y : List ℕ) × P y) ⊎ ((x : List ℕ) → occurrences A x words ≡ 1 → P x → ⊥)

@@ -166,7 +166,8 @@ module _ (e : Elements) (g : IsAdmissible (integer_matrix e.matrix)) (closed : I
     pub correction-needed : IsNeeded A w (word_at e.members (number_at numbers k))
     correction-needed =
         let c = are.each k l
-        in need-correction A g w (word_at e.members (number_at numbers k)) (word_at e.members (number_at numbers k)) d.letter c.0 is.least c.1
+        in need-correction A g w (word_at e.members (number_at numbers k)) (word_at e.members (number_at numbers k))
+        d.letter c.0 is.least c.1
         (itself (same-refl A g (word_at e.members (number_at numbers k))))
 
   -- where the shorter element and the corrections need nothing beyond the limits

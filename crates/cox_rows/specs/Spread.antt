@@ -17,8 +17,8 @@ pub record IsMovable (moved : List ℕ) (i : ℕ) (row : Row) : Type 0 where
 
 -- the one is the row of an element in a larger context, if the other is its row in a smaller one
 abbrev pub IsRenumbered : List ℕ → Row → Row → Type 0
-IsRenumbered moved before row = (A : IntegerMatrix) → (old new : List (List ℕ)) (w : List ℕ) → IsAdmissible A → IsClosed A old → IsClosed A new
-    → AreMoved old new moved → Contains old w → IsRowOf A old w before → IsRowOf A new w row
+IsRenumbered moved before row = (A : IntegerMatrix) → (old new : List (List ℕ)) (w : List ℕ) → IsAdmissible A → IsClosed A old
+    → IsClosed A new → AreMoved old new moved → Contains old w → IsRowOf A old w before → IsRowOf A new w row
 
 -- the row at the place j is one of those before the place n, with new numbers
 pub record IsFromBefore (rows : List (Option Row)) (moved : List ℕ) (n j : ℕ) (row : Row) : Type 0 where

@@ -3,19 +3,9 @@
 //! The row of w is made from that of sw, for the least left descent s of w, and from those of the corrections of the step. So these are made first,
 //! by recursion to smaller numbers. A member is settled when its row is held and no row of its Need is beyond the limits; that is noted, so that
 //! nothing is looked at twice.
-ghost use Rattle.std.specs.Prelude.{◌≡◌, ◌≢◌, ℕ, ◌<◌, ◌≤◌, ◌↔◌, [], true, length, IfSome, IfNone, IsSome, IsTrue, IfOk, IfErr, OnOk, pos, ◌≤ℤ◌, unsigned_abs, ◌⊎◌, false, slice_index, slice_index_or};
+ghost use Rattle.std.specs.Prelude.{◌≡◌, ◌≢◌, ℕ, ◌<◌, ◌≤◌, length, IfSome, IfNone, IsTrue, IfOk, IfErr, OnOk, unsigned_abs, false};
 ghost use Rattle.cox_base.specs.IntegerMatrix.{integer_matrix};
-ghost use Rattle.cox_base.specs.Matrix.{IsWord};
-ghost use Rattle.cox_base.specs.Bruhat.{IsBelow};
-ghost use Rattle.cox_poly.specs.Polynomial.{coefficient};
-ghost use Rattle.cox_hecke.specs.Row.{IsKazhdanLusztig, IsMu};
-ghost use Rattle.cox_context.specs.Members.{IsInUnion};
-ghost use Rattle.cox_context.specs.SortedList.{IsListOf};
-ghost use Rattle.cox_context.specs.Refusal.{IsRefusal};
-ghost use Rattle.cox_row.specs.Distinct.{HasDistinctPolynomials};
 ghost use Rattle.cox_hecke.specs.Needs.{IsNeeded};
-ghost use Rattle.cox_base.specs.Admissible.{IsAdmissible};
-ghost use Rattle.cox_context.specs.Closed.{IsClosed};
 ghost use Rattle.cox_context.specs.Numbers.{word_at};
 ghost use Rattle.cox_row.specs.Mus.{value_at};
 ghost use Rattle.cox_klstep.specs.StepOf.{IsDescentAt};
@@ -23,8 +13,7 @@ ghost use Rattle.cox_klstep.specs.NeedsOf.{HasNeeds, AreNeeds};
 ghost use Rattle.cox_klstep.specs.TablesOf.{AreTables};
 ghost use Rattle.cox_klstep.specs.Faults.{IsNarrowFault};
 ghost use Rattle.cox_rows.specs.Beyond.{NeedsBeyond};
-ghost use Rattle.cox_rows.specs.Holding.{Holding, Holds, IsHeldRow, AreRows, row_at, held};
-ghost use Rattle.cox_rows.specs.Extended.{IsExtended, IsLeft};
+ghost use Rattle.cox_rows.specs.Holding.{Holds, held};
 ghost use Rattle.cox_rows.specs.Faults.{IsRowsFault, IsFaultOfSome};
 ghost use Rattle.cox_rows.specs.Ensured.{IsEnsured, IsSettled, AreNeedsSmall};
 

@@ -1,5 +1,5 @@
 //! A context with rows of its members: look-ups, and contexts that grow.
-ghost use Rattle.std.specs.Prelude.{◌≡◌, ◌≢◌, ℕ, ◌<◌, ◌≤◌, ◌↔◌, [], true, length, IfSome, IfNone, IsSome, IsTrue, IfOk, IfErr, OnOk, pos, ◌≤ℤ◌, unsigned_abs, ◌⊎◌, false, slice_index, slice_index_or};
+ghost use Rattle.std.specs.Prelude.{◌≡◌, ◌≢◌, ℕ, ◌<◌, ◌≤◌, ◌↔◌, [], length, IfSome, IsSome, IsTrue, IfOk, IfErr, OnOk, pos, ◌≤ℤ◌};
 ghost use Rattle.cox_base.specs.IntegerMatrix.{integer_matrix};
 ghost use Rattle.cox_base.specs.Matrix.{IsWord};
 ghost use Rattle.cox_base.specs.Bruhat.{IsBelow};
@@ -9,20 +9,11 @@ ghost use Rattle.cox_context.specs.Members.{IsInUnion};
 ghost use Rattle.cox_context.specs.SortedList.{IsListOf};
 ghost use Rattle.cox_context.specs.Refusal.{IsRefusal};
 ghost use Rattle.cox_row.specs.Distinct.{HasDistinctPolynomials};
-ghost use Rattle.cox_hecke.specs.Needs.{IsNeeded};
 ghost use Rattle.cox_base.specs.Admissible.{IsAdmissible};
 ghost use Rattle.cox_context.specs.Closed.{IsClosed};
 ghost use Rattle.cox_context.specs.Numbers.{word_at};
-ghost use Rattle.cox_row.specs.Mus.{value_at};
-ghost use Rattle.cox_klstep.specs.StepOf.{IsDescentAt};
-ghost use Rattle.cox_klstep.specs.NeedsOf.{HasNeeds, AreNeeds};
-ghost use Rattle.cox_klstep.specs.TablesOf.{AreTables};
-ghost use Rattle.cox_klstep.specs.Faults.{IsNarrowFault};
-ghost use Rattle.cox_rows.specs.Beyond.{NeedsBeyond};
 ghost use Rattle.cox_rows.specs.Holding.{Holding, Holds, IsHeldRow, AreRows, row_at, held};
 ghost use Rattle.cox_rows.specs.Extended.{IsExtended, IsLeft};
-ghost use Rattle.cox_rows.specs.Faults.{IsRowsFault};
-ghost use Rattle.cox_rows.specs.Ensured.{IsEnsured, IsSettled, AreNeedsSmall};
 
 use crate::flags::{clear_at, spread_flags};
 use crate::held::Held;

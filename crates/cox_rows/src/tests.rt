@@ -1,5 +1,5 @@
 //! Rows in A 2, and a context that grows.
-ghost use Rattle.std.specs.Prelude.{◌≡◌, IfOk};
+ghost use Rattle.std.specs.Prelude.{IfOk};
 ghost use Rattle.cox_base.specs.Matrix.{IsWord};
 
 use crate::Rows;

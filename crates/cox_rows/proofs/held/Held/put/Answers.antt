@@ -9,4 +9,5 @@ returns-clause-kept c = rw (← c.self.view_is)
 
 pub returns-clause-others : goal.returns-clause-others
 returns-clause-others c = rw (← c.self.view_is)
-    (λ j apart h. held-at c.self.inside.rows.items j ∙ (rw (c.put_at.ensures.others j apart) at (sym (held-at c.put_at.new.rows.items j) ∙ h)))
+    (λ j apart h. held-at c.self.inside.rows.items j
+    ∙ (rw (c.put_at.ensures.others j apart) at (sym (held-at c.put_at.new.rows.items j) ∙ h)))

@@ -10,7 +10,8 @@ use Rattle.cox_klstep.specs.NeedsOf.{AreNeeds}
 use Rattle.cox_klstep.proofs.NeedLemmas.{listed-needs}
 use Rattle.cox_rows.specs.Holding.{Holds}
 use Rattle.cox_rows.specs.Faults.{IsRowsFault}
-use Rattle.cox_rows.proofs.EnsureLemmas.{ensured-needed, ensured-then, fault-needed, fault-own, under_way-start, under_way-rows, under_way-next}
+use Rattle.cox_rows.proofs.EnsureLemmas.{ensured-needed, ensured-then, fault-needed, fault-own}
+use Rattle.cox_rows.proofs.EnsureLemmas.{under_way-start, under_way-rows, under_way-next}
 use Rattle.cox_rows.proofs.EnsureLemmas.{lower-before, lower-needed, correction-before, correction-needed, needs-small}
 use Rattle.cox_rows.proofs.EnsureLemmas.{identity-needs, identity-small}
 use Rattle.cox_rows.proofs.rows.Rows.+ensuring.Goals as goal
