@@ -16,9 +16,11 @@ mod hand;
 mod making;
 mod missing;
 mod shelf;
+#[cfg(test)]
+mod tests;
 
 pub use bench::Bench;
-pub use filling::fill;
+pub use filling::{all_members, fill};
 pub use hand::Hand;
 pub use missing::Missing;
 pub use shelf::Shelf;
