@@ -6,3 +6,5 @@ pub mod Keeping
 pub mod Descended
 -- what a seat has seen when rows were made
 pub mod Growing
+-- the law of families
+pub mod GivenRows

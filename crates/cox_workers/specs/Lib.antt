@@ -10,3 +10,5 @@ pub mod Ready
 pub mod Work
 -- what a seat has seen when rows were made
 pub mod Filled
+-- families that are given to rows
+pub mod Families

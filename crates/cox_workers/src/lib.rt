@@ -8,17 +8,21 @@
 //! - `bench`, `hand`: what a worker works at, and what it keeps from row to row
 //! - `making`: one row, and those that it is made from
 //! - `filling`: all rows that are wanted, by several workers
+//! - `laws`: the law of families
 #![tactic(auto)]
 
 mod bench;
 mod filling;
 mod hand;
+pub mod laws;
 mod making;
 mod missing;
 mod shelf;
+#[cfg(test)]
+mod tests;
 
 pub use bench::Bench;
-pub use filling::fill;
+pub use filling::{all_members, fill};
 pub use hand::Hand;
 pub use missing::Missing;
 pub use shelf::Shelf;

@@ -1,0 +1,63 @@
+//! The rows of A 2 by one worker and by two, and a row of A 3 that was given up.
+use crate::{Bench, Hand, Missing, all_members, fill};
+use cox_base::Coxeter;
+use cox_context::Context;
+use cox_minroots::{MAX_SMALL_ROOTS, RootTable};
+use cox_outside::Open;
+use cox_row::{LowerRows, polynomial};
+use cox_row_store::{Claimed, RowState, RowStore};
+use std::test::Fail;
+
+/// How many rows there are.
+fn count<T>(rows: &[Option<T>]) -> usize {
+    rows.iter().filter(|row| row.is_some()).count()
+}
+
+#[test]
+fn makes_the_rows_of_a2(rt: HostRuntime) -> Result<(), Fail> {
+    let alloc = rt.alloc();
+    let g = Coxeter::named(b'A', 2)?;
+    let table = RootTable::build(alloc, &g, MAX_SMALL_ROOTS)?;
+    let context = Context::of_group(alloc, &table, 6)?;
+    assert_eq!(rt; context.len(), 6);
+    let (store, mut seat) = RowStore::new(alloc, &context, 2_147_483_647)?;
+    assert_eq!(rt; store.look(&mut seat, 0), RowState::Free);
+    let bench = Bench::new(alloc, &context, &store, 1);
+    let mut hand = Hand::new(&bench, &seat)?;
+    assert_eq!(rt; bench.ensure(&rt, &Open, &mut seat, &mut hand, 5), Ok(()));
+    let guard = store.read(&rt, &seat, 5);
+    let Some(found) = polynomial(&context, guard.row(), 5, 0) else {
+        panic!(rt; "e is below 121");
+    };
+    assert_eq!(rt; found.coefficient(0), 1);
+    assert_eq!(rt; found.coefficient(1), 0);
+    drop(guard);
+    drop(hand);
+    let all = all_members(alloc, &context)?;
+    let seat = fill(&rt, alloc, &context, &store, seat, all.as_slice(), 2, &Open);
+    let Ok(rows) = store.into_rows(&rt, seat) else {
+        panic!(rt; "out of memory");
+    };
+    assert_eq!(rt; count(rows.as_slice()), 6);
+    Ok(())
+}
+
+#[test]
+fn tells_of_a_row_that_was_given_up(rt: HostRuntime) -> Result<(), Fail> {
+    let alloc = rt.alloc();
+    let g = Coxeter::named(b'A', 3)?;
+    let table = RootTable::build(alloc, &g, MAX_SMALL_ROOTS)?;
+    let context = Context::of_group(alloc, &table, 24)?;
+    assert_eq!(rt; context.len(), 24);
+    let (store, mut seat) = RowStore::new(alloc, &context, 2_147_483_647)?;
+    assert_eq!(rt; store.claim(&mut seat, 2), Claimed::Won);
+    store.void(&mut seat, 2);
+    let bench = Bench::new(alloc, &context, &store, 1);
+    let mut hand = Hand::new(&bench, &seat)?;
+    assert_eq!(rt;
+        bench.ensure(&rt, &Open, &mut seat, &mut hand, 18),
+        Err(Missing::Void(2))
+    );
+    assert_eq!(rt; store.look(&mut seat, 18), RowState::Void);
+    Ok(())
+}

@@ -1,0 +1,102 @@
+//! A gate at which two workers have to meet.
+use cox_outside::{Gate, Point};
+use std::alloc::{AllocError, Global};
+use std::sync::Wait;
+use std::sync::atomic::AtomicU64;
+use std::sync::atomic::Ordering::SeqCst;
+use std::thread;
+
+/// How often a worker is held, at most, while the other does not come.
+const TURNS: u32 = 100_000_000;
+
+/// How often a worker has passed before a claim, and before a publication.
+#[derive(Drop)]
+struct Passes {
+    claims: AtomicU64,
+    publications: AtomicU64,
+}
+
+impl Passes {
+    fn new() -> Passes {
+        Passes {
+            claims: AtomicU64::new(0),
+            publications: AtomicU64::new(0),
+        }
+    }
+}
+
+/// It holds each worker at its first claim until the other has come to a claim, and at its second publication until the other has come to a
+/// publication. It counts the publications of each row, and the holds that ended before the other came.
+#[derive(Drop)]
+pub struct MeetingGate {
+    first: Passes,
+    second: Passes,
+    published: Vec<AtomicU64>,
+    late: AtomicU64,
+}
+
+impl MeetingGate {
+    /// A gate for two workers and so many rows.
+    pub fn new(alloc: Global, rows: u32) -> Result<MeetingGate, AllocError> {
+        let mut published = Vec::with_capacity(alloc, rows as usize)?;
+        for _ in 0..rows {
+            published.push(AtomicU64::new(0))?;
+        }
+        Ok(MeetingGate {
+            first: Passes::new(),
+            second: Passes::new(),
+            published,
+            late: AtomicU64::new(0),
+        })
+    }
+
+    /// How many rows were published once.
+    pub fn published_once(&self) -> usize {
+        self.published
+            .iter()
+            .filter(|passes| passes.load(SeqCst) == 1)
+            .count()
+    }
+
+    /// How many holds ended before the other worker came.
+    pub fn late(&self) -> u64 {
+        self.late.load(SeqCst)
+    }
+
+    /// Holds a worker until the other has come.
+    fn hold(&self, other: &AtomicU64) {
+        for _ in 0..TURNS {
+            if other.load(SeqCst) > 0 {
+                return;
+            }
+            thread::yield_now();
+        }
+        self.late.fetch_add(1, SeqCst);
+    }
+}
+
+impl Gate for MeetingGate {
+    fn pass<R: Wait>(&self, rt: &R, worker: u32, point: Point, row: u32) {
+        let _ = rt;
+        let (mine, other) = if worker == 1 {
+            (&self.first, &self.second)
+        } else {
+            (&self.second, &self.first)
+        };
+        match point {
+            Point::Claim => {
+                if mine.claims.fetch_add(1, SeqCst) == 0 {
+                    self.hold(&other.claims);
+                }
+            }
+            Point::Publish => {
+                if let Some(passes) = self.published.get(row as usize) {
+                    passes.fetch_add(1, SeqCst);
+                }
+                if mine.publications.fetch_add(1, SeqCst) == 1 {
+                    self.hold(&other.publications);
+                }
+            }
+        }
+    }
+}

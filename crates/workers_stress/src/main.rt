@@ -1,0 +1,101 @@
+//! A test of workers on the rows of A 4: whatever their number, the rows are the same; and where a gate has two workers meet, both publish rows.
+//!
+//! What is printed is the same by every schedule.
+//!
+//! - `gate`: a gate at which two workers have to meet
+#![tactic(auto)]
+
+ghost use Rattle.std.specs.Prelude.{◌≡◌, ◌≤◌};
+
+use cox_base::Coxeter;
+use cox_context::Context;
+use cox_minroots::{MAX_SMALL_ROOTS, RootTable};
+use cox_outside::{Gate, Open};
+use cox_row::Row;
+use cox_row_store::RowStore;
+use cox_workers::{all_members, fill};
+use gate::MeetingGate;
+use std::alloc::{AllocError, Global};
+use std::sync::Wait;
+use std::thread::Threads;
+
+mod gate;
+
+/// The greatest coefficient.
+const LIMIT: i64 = 2_147_483_647;
+
+/// How many rows there are, how many extremal members and values of mu they have together.
+#[derive(Clone, Copy, Debug, PartialEq, Eq)]
+struct Counts {
+    rows: usize,
+    extremal: usize,
+    mus: usize,
+}
+
+/// Makes all rows of a context by so many workers.
+fn all_rows<R: Threads + Wait + Sync, G: Gate + Sync>(
+    rt: &R,
+    alloc: Global,
+    context: &Context,
+    workers: u32,
+    gate: &G,
+) -> Result<Vec<Option<Row>>, AllocError>
+    requires { 1 ≤ workers }
+{
+    let all = all_members(alloc, context)?;
+    let (store, seat) = RowStore::new(alloc, context, LIMIT)?;
+    let seat = fill(
+        rt,
+        alloc,
+        context,
+        &store,
+        seat,
+        all.as_slice(),
+        workers,
+        gate,
+    );
+    let Ok(rows) = store.into_rows(rt, seat) else {
+        return Err(AllocError);
+    };
+    Ok(rows)
+}
+
+/// What the rows come to.
+fn count_all(rows: &[Option<Row>]) -> Counts {
+    let mut sum = Counts {
+        rows: 0,
+        extremal: 0,
+        mus: 0,
+    };
+    for row in rows {
+        if let Some(row) = row {
+            sum.rows = sum.rows.saturating_add(1);
+            sum.extremal = sum.extremal.saturating_add(row.extremal().len());
+            sum.mus = sum.mus.saturating_add(row.mu().len());
+        }
+    }
+    sum
+}
+
+fn main(rt: HostRuntime) -> anyhow::Result<()> {
+    let alloc = rt.alloc();
+    let group = Coxeter::named(b'A', 4)?;
+    let table = RootTable::build(alloc, &group, MAX_SMALL_ROOTS)?;
+    let context = Context::of_group(alloc, &table, 120)?;
+    for workers in [1, 2, 4, 16] {
+        let sum = count_all(all_rows(&rt, alloc, &context, workers, &Open)?.as_slice());
+        println!(rt;
+            "{} rows, {} extremal members, {} values of mu",
+            sum.rows, sum.extremal, sum.mus
+        )?;
+    }
+    let gate = MeetingGate::new(alloc, context.len())?;
+    let sum = count_all(all_rows(&rt, alloc, &context, 2, &gate)?.as_slice());
+    println!(rt;
+        "{} rows, {} published once, {} late",
+        sum.rows,
+        gate.published_once(),
+        gate.late()
+    )?;
+    Ok(())
+}
