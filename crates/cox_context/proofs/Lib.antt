@@ -42,3 +42,5 @@ pub mod SortedLemmas
 mod Listing
 -- Bruhat intervals as lists
 pub mod IntervalLemmas
+-- whether a group is too large
+pub mod GroupSizes

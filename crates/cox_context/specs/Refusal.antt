@@ -31,6 +31,10 @@ pub record IsLong (P : List ℕ → Type 0) (limit : ℕ) : Type 0 where
   pub member : P long
   pub letters : length long ≡ MAX_LETTERS + 1
 
+-- there are more than limit members, or one of the first limit + 1 has MAX_LETTERS + 1 letters
+abbrev pub IsTooLarge : (List ℕ → Type 0) → ℕ → Type 0
+IsTooLarge P limit = IsOver P limit ⊎ IsLong P limit
+
 -- what a fault says of the members with a property; out of memory says nothing
 abbrev pub IsRefusal : (List ℕ → Type 0) → ℕ → ContextFault → Type 0
 IsRefusal P limit (Size bound seen) = (bound ≡ limit) × (seen ≡ limit + 1) × IsOver P limit

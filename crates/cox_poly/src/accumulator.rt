@@ -182,6 +182,14 @@ impl Acc {
         }
     }
 
+    /// The coefficients, from the constant one up; zeros may end this list.
+    pub fn sums(&self) -> &[i128]
+        ensures sums { result.now ≡ self.now }
+        ensures size { length self.now ≡ DEGREES }
+    {
+        &self.sums
+    }
+
     /// The sum as a polynomial, if each coefficient is at most the limit in absolute value.
     ///
     /// `TooBig` comes exactly where a coefficient is above the limit in absolute value, with the

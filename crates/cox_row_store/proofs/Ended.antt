@@ -1,5 +1,5 @@
 -- The rows of a store that is ended: each is that of its member, and what was seen Published is there.
-use Rattle.std.proofs.Common.{◌≡◌, ◌≢◌, ℕ, ◌<◌, List, length, slice_index_or, Option, None, IfSome, subst, ℤ}
+use Rattle.std.proofs.Common.{◌≡◌, ℕ, ◌<◌, List, length, Option, IfSome, subst, ℤ}
 use Rattle.std.proofs.Common.{arith}
 use Rattle.cox_context.specs.Closed.{Elements}
 use Rattle.cox_fill_core.specs.declared.event.RowState.{RowState}

@@ -13,7 +13,7 @@ use Rattle.cox_shell.specs.CommandReply.{IsCommandReply}
 pub group-set : (state : State) (g : CoxeterMatrix) → HasFewSmallRoots (integer_matrix g) state.limits.roots
     → IsCommandReply (Group g) state (silence (with_group state g))
 group-set state g few =
-    (None, inr (not_both (integer_matrix g) state.limits.roots few, inr (λ none. none, inr (λ none. none, refl))), refl)
+    (None, inr (not_both (integer_matrix g) state.limits.roots few, inr (λ none. none, inr (λ none. none, inr (λ none. none, refl)))), refl)
 
 pub group-refused : (state : State) (g : CoxeterMatrix) → HasMoreSmallRoots (integer_matrix g) state.limits.roots
     → IsCommandReply (Group g) state (refusal state ManyRoots)

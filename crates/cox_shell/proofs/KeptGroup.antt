@@ -25,12 +25,14 @@ use Rattle.cox_command.specs.LineRefusal.{lacks_group, command_refusal, tokens_r
 use Rattle.cox_command.specs.CommandReading.{IsGiven, matrix_set, named_matrix, matrix_of}
 use Rattle.cox_shell.specs.Reply.{State, Reply, rank_of, with_group, refusal, silence}
 use Rattle.cox_shell.specs.declared.inquiry.Inquiry.{Inquiry}
-use Rattle.cox_shell.specs.declared.inquiry.Inquiry.TheVariants.{One, Two}
+use Rattle.cox_shell.specs.declared.inquiry.Inquiry.TheVariants.{One, Two, Plain, Work}
 use Rattle.cox_shell.specs.Question.{IsDecided}
 use Rattle.cox_shell.specs.CommandReply.{question_of, Answers, IsInquiryReply, RefusesGroup, IsCommandReply}
 use Rattle.cox_shell.proofs.Refusing.{IsDecided-all}
 use Rattle.cox_shell.specs.ContentReply.{IsContentReply}
 use Rattle.cox_shell.proofs.SetMatrices.{matrix_set-is}
+use Rattle.cox_outside.specs.Line.{content_of}
+use Rattle.cox_shell.specs.LineReply.{IsReply, content_refusal}
 
 -- a command on elements leaves the state
 inquiry-state : (inquiry : Inquiry) (state : State) (g : CoxeterMatrix) (reply : Reply)
@@ -66,6 +68,8 @@ module _ (state : State) (matrix : HasMatrix state) (reply : Reply) where
   by_command asks.Quit tokens accepted given is = unchanged (ap (λ (r : Reply). r.after) is)
   by_command (asks.One kind w) tokens accepted given is = unchanged (by_inquiry (One kind w) is)
   by_command (asks.Two kind y w) tokens accepted given is = unchanged (by_inquiry (Two kind y w) is)
+  by_command (asks.Plain kind) tokens accepted given is = unchanged (by_inquiry (Plain kind) is)
+  by_command (asks.Work start count) tokens accepted given is = unchanged (by_inquiry (Work start count) is)
   by_command (asks.Group g) tokens accepted given is =
       IsDecided-all (RefusesGroup state.limits g) state (λ answer. answer ≡ silence (with_group state g)) (λ r. HasMatrix r.after) (λ why. matrix)
       (λ r answer. rw answer (of_tokens tokens accepted given)) reply is
@@ -91,3 +95,11 @@ IsContentReply-matrix state content reply matrix is = by_refusal (line_refusal c
         (λ why. reply ≡ refusal state why) → HasMatrix reply.after
     by_refusal None e is = by_command state matrix reply is.0 (tokens_of content) e is.1 is.2
     by_refusal (Some why) e is = unchanged state matrix reply (ap (λ (r : Reply). r.after) is)
+
+-- so it stays by the reply to a line
+pub IsReply-matrix : (state : State) (line : List ℕ) (reply : Reply) → HasMatrix state → IsReply state line reply → HasMatrix reply.after
+IsReply-matrix state line reply matrix is = by_refusal (content_refusal (content_of line)) is where
+  by_refusal : (o : Option Refusal) → MatchOption o (IsContentReply state (content_of line) reply) (λ why. reply ≡ refusal state why)
+      → HasMatrix reply.after
+  by_refusal None is = IsContentReply-matrix state (content_of line) reply matrix is
+  by_refusal (Some why) is = unchanged state matrix reply (ap (λ (r : Reply). r.after) is)

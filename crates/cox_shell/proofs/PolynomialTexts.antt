@@ -37,7 +37,7 @@ pub same_text : (p r : List ℤ) → SameCoefficients p r → polynomial_text p 
 same_text p r same = ap terms_text (same_terms 0 p r same)
 
 -- the list of the first values of a function that is 0 beyond
-listed : (f : Coefficients) (a n k : ℕ) → ((i : ℕ) → n ≤ i → f (a + i) ≡ pos 0) → coefficient (map f (range_with_len a n)) k ≡ f (a + k)
+pub listed : (f : Coefficients) (a n k : ℕ) → ((i : ℕ) → n ≤ i → f (a + i) ≡ pos 0) → coefficient (map f (range_with_len a n)) k ≡ f (a + k)
 listed f a zero k beyond = sym (beyond k (omega arith))
 listed f a (suc n) zero beyond = let e : a + 0 ≡ a = omega arith in rw e refl
 listed f a (suc n) (suc k) beyond =

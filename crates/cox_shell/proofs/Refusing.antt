@@ -44,14 +44,14 @@ module _ (Refuses : Refusal → Type 0) where
         by_found None p q = unique one other p q
         by_found (Some why) p q = p ∙ sym q
 
-    -- a command has a reply
-    pub IsDecided-exists : ((why : Refusal) → Refuses why ⊎ (Refuses why → ⊥)) → (reply : Reply) × Is reply
+    -- a command has a reply, where it has one where it is not refused
+    pub IsDecided-exists : ((why : Refusal) → Refuses why ⊎ (Refuses why → ⊥)) → (IsRefused Refuses None → (reply : Reply) × Is reply)
         → (reply : Reply) × IsDecided state Refuses Is reply
     IsDecided-exists decided answer =
         let first = IsFirstRefusal-exists decided command_refusals in by_found first.0 first.1
       where
         by_found : (found : Option Refusal) → IsRefused Refuses found → (reply : Reply) × IsDecided state Refuses Is reply
-        by_found None is = (answer.0, (None, is, answer.1))
+        by_found None is = let a = answer is in (a.0, (None, is, a.1))
         by_found (Some why) is = (refusal state why, (Some why, is, refl))
 
     -- what holds of refusals, and of its answers, holds of its reply
@@ -67,11 +67,10 @@ module _ (Refuses : Refusal → Type 0) where
 abbrev pub HasOneText : Question → Type 0
 HasOneText question = (a b : List ℕ) → question.IsText a → question.IsText b → a ≡ b
 
--- a question can be answered: each cause of a refusal is decided, and there is a right text
+-- a question can be answered: each cause of a refusal is decided, and there is a right text where nothing refuses
 pub record IsAnswerable (question : Question) : Type 0 where
   pub decided : (why : Refusal) → question.Refuses why ⊎ (question.Refuses why → ⊥)
-  pub text : List ℕ
-  pub is_text : question.IsText text
+  pub answer : IsRefused question.Refuses None → (text : List ℕ) × question.IsText text
 
 -- the reply to a question is one ..
 pub IsReply-unique : (state : State) (question : Question) → HasOneText question → (one other : Reply)
@@ -84,4 +83,4 @@ IsReply-unique state question one_text = IsDecided-unique question.Refuses state
 pub IsReply-exists : (state : State) (question : Question) → IsAnswerable question
     → (reply : Reply) × IsDecided state question.Refuses (Answers state question) reply
 IsReply-exists state question can = IsDecided-exists question.Refuses state (Answers state question) can.decided
-    (answered state can.text, (can.text, can.is_text, refl))
+    (λ free. let line = can.answer free in (answered state line.0, (line.0, line.1, refl)))

@@ -12,13 +12,15 @@ use Rattle.cox_shell.specs.LineReply.{IsReply, content_refusal}
 use Rattle.cox_shell.specs.Answer.{AreReplies, texts, script_lines}
 use Rattle.cox_shell.specs.ScriptAnswer.{IsAnswer}
 use Rattle.cox_shell.proofs.ContentReply.{IsContentReply-unique}
+use Rattle.cox_shell.proofs.KeptGroup.{HasMatrix, IsReply-matrix}
 
 -- a line has at most one reply
-pub IsReply-unique : (state : State) (line : List ℕ) (one other : Reply) → IsReply state line one → IsReply state line other → one ≡ other
-IsReply-unique state line one other = by_refusal (content_refusal (content_of line)) where
+pub IsReply-unique : (state : State) (line : List ℕ) → HasMatrix state → (one other : Reply) → IsReply state line one
+    → IsReply state line other → one ≡ other
+IsReply-unique state line matrix one other = by_refusal (content_refusal (content_of line)) where
   by_refusal : (o : Option Refusal) → MatchOption o (IsContentReply state (content_of line) one) (λ why. one ≡ refusal state why)
       → MatchOption o (IsContentReply state (content_of line) other) (λ why. other ≡ refusal state why) → one ≡ other
-  by_refusal None p q = IsContentReply-unique state (content_of line) one other p q
+  by_refusal None p q = IsContentReply-unique state (content_of line) matrix one other p q
   by_refusal (Some why) p q = p ∙ sym q
 
 -- one more reply before the others, which does not end the run
@@ -51,39 +53,41 @@ AreReplies-rejoin state before after done rest line reply h =
     (subst (λ replies. AreReplies state (before ++ line ∷ after) replies) (sym (append_assoc done (reply ∷ []) rest)) h)
 
 -- The replies to the first lines are the first of the replies to all.
-pub AreReplies-prefix : (state : State) (first rest : List (List ℕ)) (some all : List Reply) → AreReplies state first some
+pub AreReplies-prefix : (state : State) → HasMatrix state → (first rest : List (List ℕ)) (some all : List Reply) → AreReplies state first some
     → AreReplies state (first ++ rest) all
     → (more : List Reply) × (all ≡ some ++ more)
-AreReplies-prefix state [] rest some all p q = (all, ap (λ l. l ++ all) (sym p))
-AreReplies-prefix state (line ∷ first) rest [] all p q = absurd p
-AreReplies-prefix state (line ∷ first) rest (one ∷ some) [] p q = absurd q
-AreReplies-prefix state (line ∷ first) rest (one ∷ some) (other ∷ all) p q =
-    let same : other ≡ one = IsReply-unique state line other one q.0 p.0 in
+AreReplies-prefix state matrix [] rest some all p q = (all, ap (λ l. l ++ all) (sym p))
+AreReplies-prefix state matrix (line ∷ first) rest [] all p q = absurd p
+AreReplies-prefix state matrix (line ∷ first) rest (one ∷ some) [] p q = absurd q
+AreReplies-prefix state matrix (line ∷ first) rest (one ∷ some) (other ∷ all) p q =
+    let same : other ≡ one = IsReply-unique state line matrix other one q.0 p.0 in
     let next : MatchBool one.quits (all ≡ []) (AreReplies one.after (first ++ rest) all) = subst
     (λ (r : Reply). MatchBool r.quits (all ≡ []) (AreReplies r.after (first ++ rest) all)) same q.1 in
     let tail : (more : List Reply) × (all ≡ some ++ more) =
     elim one.quits as (λ b. MatchBool b (some ≡ []) (AreReplies one.after first some)
     → MatchBool b (all ≡ []) (AreReplies one.after (first ++ rest) all) → (more : List Reply) × (all ≡ some ++ more)) [
       | true ↦ λ none nil. ([], nil ∙ ap (λ l. l ++ []) (sym none))
-      | false ↦ λ some_replies all_replies. AreReplies-prefix one.after first rest some all some_replies all_replies
+      | false ↦ λ some_replies all_replies. AreReplies-prefix one.after (IsReply-matrix state line one matrix p.0) first rest some all
+          some_replies all_replies
     ] p.1 next in
     (tail.0, ap (λ r. r ∷ all) same ∙ ap (λ l. one ∷ l) tail.1)
 
 -- The replies to lines are one.
-pub AreReplies-unique : (state : State) (lines : List (List ℕ)) (one other : List Reply) → AreReplies state lines one
+pub AreReplies-unique : (state : State) → HasMatrix state → (lines : List (List ℕ)) (one other : List Reply) → AreReplies state lines one
     → AreReplies state lines other → one ≡ other
-AreReplies-unique state [] one other p q = p ∙ sym q
-AreReplies-unique state (line ∷ lines) [] other p q = absurd p
-AreReplies-unique state (line ∷ lines) (reply ∷ one) [] p q = absurd q
-AreReplies-unique state (line ∷ lines) (reply ∷ one) (also ∷ other) p q =
-    let same : also ≡ reply = IsReply-unique state line also reply q.0 p.0 in
+AreReplies-unique state matrix [] one other p q = p ∙ sym q
+AreReplies-unique state matrix (line ∷ lines) [] other p q = absurd p
+AreReplies-unique state matrix (line ∷ lines) (reply ∷ one) [] p q = absurd q
+AreReplies-unique state matrix (line ∷ lines) (reply ∷ one) (also ∷ other) p q =
+    let same : also ≡ reply = IsReply-unique state line matrix also reply q.0 p.0 in
     let next : MatchBool reply.quits (other ≡ []) (AreReplies reply.after lines other) = subst
     (λ (r : Reply). MatchBool r.quits (other ≡ []) (AreReplies r.after lines other)) same q.1 in
     let tail : one ≡ other =
     elim reply.quits as (λ b. MatchBool b (one ≡ []) (AreReplies reply.after lines one)
     → MatchBool b (other ≡ []) (AreReplies reply.after lines other) → one ≡ other) [
       | true ↦ λ none nil. none ∙ sym nil
-      | false ↦ λ some_replies all_replies. AreReplies-unique reply.after lines one other some_replies all_replies
+      | false ↦ λ some_replies all_replies. AreReplies-unique reply.after (IsReply-matrix state line reply matrix p.0) lines one other
+          some_replies all_replies
     ] p.1 next in
     ap (λ l. reply ∷ l) tail ∙ ap (λ r. r ∷ other) (sym same)
 
@@ -94,7 +98,7 @@ IsPrefix-texts some more = (texts more, flat_map-append (λ (reply : Reply). rep
 -- a script has one answer
 pub IsAnswer-unique : (limits : Limits) (script one other : List ℕ) → IsAnswer limits script one → IsAnswer limits script other → one
     ≡ other
-IsAnswer-unique limits script one other p q = p.2 ∙ ap texts (AreReplies-unique (opening limits) (script_lines script) p.0 q.0 p.1 q.1)
+IsAnswer-unique limits script one other p q = p.2 ∙ ap texts (AreReplies-unique (opening limits) tt (script_lines script) p.0 q.0 p.1 q.1)
     ∙ sym q.2
 
 -- the text of the replies to the first of its lines is a prefix of it
@@ -103,5 +107,5 @@ pub IsPrefix-answer : (limits : Limits) (script text : List ℕ) (first : List (
     → IsPrefix (texts replies) text
 IsPrefix-answer limits script text first replies p are q =
     let all : AreReplies (opening limits) (first ++ p.0) q.0 = subst (λ lines. AreReplies (opening limits) lines q.0) p.1 q.1 in
-    let more = AreReplies-prefix (opening limits) first p.0 replies q.0 are all in
+    let more = AreReplies-prefix (opening limits) tt first p.0 replies q.0 are all in
     subst (λ t. IsPrefix (texts replies) t) (ap texts (sym more.1) ∙ sym q.2) (IsPrefix-texts replies more.0)

@@ -9,7 +9,7 @@ use Rattle.cox_shell.specs.LineReply.{IsReply, content_refusal}
 use Rattle.cox_shell.specs.Answer.{AreReplies, texts, script_lines}
 use Rattle.cox_shell.specs.ScriptAnswer.{IsAnswer}
 use Rattle.cox_shell.proofs.SomeReply.{IsContentReply-exists}
-use Rattle.cox_shell.proofs.KeptGroup.{HasMatrix, IsContentReply-matrix}
+use Rattle.cox_shell.proofs.KeptGroup.{HasMatrix, IsReply-matrix}
 
 -- each line has a reply, by which the group stays a Coxeter matrix
 record HasReply (state : State) (line : List ℕ) : Type 0 where
@@ -18,17 +18,16 @@ record HasReply (state : State) (line : List ℕ) : Type 0 where
   matrix : HasMatrix reply.after
 
 IsReply-exists : (state : State) (line : List ℕ) → HasMatrix state → HasReply state line
-IsReply-exists state line matrix = record { reply = found.0; is = found.1; matrix = found.2 } where
-  by_refusal : (o : Option Refusal)
-      → (reply : Reply) × MatchOption o (IsContentReply state (content_of line) reply) (λ why. reply ≡ refusal state why)
-      × HasMatrix reply.after
-  by_refusal None =
-      let some = IsContentReply-exists state (content_of line) matrix in
-      (some.0, some.1, IsContentReply-matrix state (content_of line) some.0 matrix some.1)
-  by_refusal (Some why) = (refusal state why, refl, matrix)
+IsReply-exists state line matrix =
+    record { reply = found.0; is = found.1; matrix = IsReply-matrix state line found.0 matrix found.1 }
+  where
+    by_refusal : (o : Option Refusal)
+        → (reply : Reply) × MatchOption o (IsContentReply state (content_of line) reply) (λ why. reply ≡ refusal state why)
+    by_refusal None = IsContentReply-exists state (content_of line) matrix
+    by_refusal (Some why) = (refusal state why, refl)
 
-  found : (reply : Reply) × IsReply state line reply × HasMatrix reply.after
-  found = by_refusal (content_refusal (content_of line))
+    found : (reply : Reply) × IsReply state line reply
+    found = by_refusal (content_refusal (content_of line))
 
 -- one more reply in front: others follow, or it ends the run
 in_front : (state : State) (line : List ℕ) (lines : List (List ℕ)) (has : HasReply state line)

@@ -12,11 +12,12 @@ use Rattle.cox_command.specs.declared.refusal.Refusal.TheVariants.{WrongCount, W
 use Rattle.cox_command.specs.declared.command.Command.{Command}
 use Rattle.cox_command.specs.declared.command.Command.TheVariants as asks
 use Rattle.cox_command.specs.declared.command_word.CommandWord.{CommandWord}
-use Rattle.cox_command.specs.declared.command_word.CommandWord.TheVariants.{Named, Matrix, Quit, One, Two}
+use Rattle.cox_command.specs.declared.command_word.CommandWord.TheVariants.{Named, Matrix, Quit, One, Two, Plain, Work}
 use Rattle.cox_command.specs.CommandWord.{command_word_of}
 use Rattle.cox_command.specs.Tokens.{tokens_of}
 use Rattle.cox_command.specs.LineRefusal.{has_wrong_count, has_wrong_number, needs_group, lacks_group, command_refusal, tokens_refusal}
-use Rattle.cox_command.specs.LineRefusal.{line_refusal}
+use Rattle.cox_command.specs.LineRefusal.{line_refusal, argument}
+use Rattle.cox_command.specs.Number.{value_of}
 use Rattle.cox_command.specs.CommandReading.{IsGivenBy, IsGiven, named_matrix, matrix_of, word_argument}
 use Rattle.cox_shell.specs.declared.inquiry.Inquiry.{Inquiry}
 use Rattle.cox_shell.specs.declared.inquiry.Inquiry.TheVariants as inquiry
@@ -50,7 +51,7 @@ pub group-reply : (state : State) (g : CoxeterMatrix) → IsAdmissible (integer_
     → (reply : Reply) × IsCommandReply (asks.Group g) state reply
 group-reply state g admissible =
     IsDecided-exists (RefusesGroup state.limits g) state (λ answer. answer ≡ silence (with_group state g))
-    (group-decided state.limits g admissible) (silence (with_group state g), refl)
+    (group-decided state.limits g admissible) (λ free. (silence (with_group state g), refl))
 
 -- the reply where a group is set
 in_group : (group : Option CoxeterMatrix) (Is : CoxeterMatrix → Reply → Type 0) → IfSome group IsCoxeterMatrix → (group ≡ None → ⊥)
@@ -104,6 +105,14 @@ module _ (state : State) (matrix : IfSome state.group IsCoxeterMatrix) where
       let found = some_reply (inquiry.Two kind (record { items = y }) (record { items = w }))
       (needed (Two kind) arguments state.group refl accepted) in
       (found.0, (asks.Two kind (record { items = y }) (record { items = w }), (refl, refl, refl), found.1))
+  by_word (Some (Plain kind)) arguments accepted =
+      let found = some_reply (inquiry.Plain kind) (needed (Plain kind) arguments state.group refl accepted) in
+      (found.0, (asks.Plain kind, refl, found.1))
+  by_word (Some Work) arguments accepted =
+      let start = value_of (argument arguments 0) in
+      let count = value_of (argument arguments 1) in
+      let found = some_reply (inquiry.Work start count) (needed Work arguments state.group refl accepted) in
+      (found.0, (asks.Work start count, (refl, refl, refl), found.1))
 
   by_tokens : (tokens : List (List ℕ)) → tokens_refusal tokens (rank_of state) ≡ None
       → (reply : Reply) × IsReplied (λ command. IsGiven command tokens (rank_of state)) state reply

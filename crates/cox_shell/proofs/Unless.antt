@@ -26,14 +26,14 @@ PutsPrefix-none text before after same = record { prefix = []; rest = text; part
 -- an interval within the limit is not refused
 pub large-allowed : (limits : Limits) (A : IntegerMatrix) (w : List ℕ) → (HasMoreThan limits.context (IsInInterval A w) → ⊥)
     → IsRefused (RefusesLarge limits A w) None
-large-allowed limits A w few = inr (λ none. none, inr (few, inr (λ none. none, refl)))
+large-allowed limits A w few = inr (λ none. none, inr (few, inr (λ none. none, inr (λ none. none, refl))))
 
 -- two elements are refused exactly where their R-polynomial is of too high a degree
 pub far-refused : (A : IntegerMatrix) (y w : List ℕ) (d : ℕ) → IsDeep A y w d → IsRefused (RefusesFar A y w) (Some FarApart)
 far-refused A y w d deep = inr (λ none. none, inr (λ none. none, inl ((d, deep), refl)))
 
 pub far-allowed : (A : IntegerMatrix) (y w : List ℕ) → ((d : ℕ) → IsDeep A y w d → ⊥) → IsRefused (RefusesFar A y w) None
-far-allowed A y w near = inr (λ none. none, inr (λ none. none, inr (λ deep. near deep.0 deep.1, refl)))
+far-allowed A y w near = inr (λ none. none, inr (λ none. none, inr (λ deep. near deep.0 deep.1, inr (λ none. none, refl))))
 
 -- a text that was put where nothing refuses
 pub PutsUnless-put : (put : Result Unit AllocError) (Refuses : Refusal → Type 0) (IsText : List ℕ → Type 0) (before after : List ℕ)

@@ -1,6 +1,6 @@
 -- What a run over the lines says of the whole run.
-use Rattle.std.proofs.Common.{◌≡◌, ◌<◌, ◌≤◌, ◌+◌, ℕ, Bool, true, false, inl, inr, Option, Some, None, List, [], ◌∷◌, ◌++◌, length, take}
-use Rattle.std.proofs.Common.{codes, refl, sym, ◌∙◌, subst, arith, length-append}
+use Rattle.std.proofs.Common.{◌≡◌, ◌<◌, ◌≤◌, ◌+◌, ℕ, Bool, true, false, inl, inr, Option, Some, None, List, [], ◌∷◌, ◌++◌, length, take, option_map, unwrap_or, ℤ, pos, unsigned_abs}
+use Rattle.std.proofs.Common.{codes, refl, sym, ◌∙◌, subst, arith, length-append, ap}
 use Rattle.std.specs.Bool.{MatchBool}
 use Rattle.std.specs.Option.{IfSome}
 use Rattle.std.specs.Io.KnownBytes.{prepend_known, IsAtEnd}
@@ -20,13 +20,20 @@ use Rattle.cox_shell.specs.Answer.{AreReplies, texts, has_quit, script_lines, by
 use Rattle.cox_shell.specs.Run.{Stand, stand}
 use Rattle.cox_shell.specs.Outcome.{Runs, WritesPrefix, WritesAll, StopsThere, AnswersAll}
 use Rattle.cox_shell.specs.Top.{usage_line, given_limits, WritesAnswer, StopsReading, AnswersWhole, AnswersWithin, AreRead}
-use Rattle.cox_shell.specs.Top.{AreDue, IsDue, WritesDue, IsOverRoom, TakesWithin}
+use Rattle.cox_shell.specs.Top.{AnswersGiven, AreDue, IsDue, WritesDue, IsOverRoom, TakesWithin}
 use Rattle.cox_shell.proofs.KnownValues.{IfSome-unmade, IfSome-follows}
+
+-- a number that is given, as an integer
+coefficient-given : (given : Option ℕ) (coef : ℤ) → option_map pos given ≡ Some coef → unwrap_or given 0 ≡ unsigned_abs coef
+coefficient-given None coef e = absurd (cc e)
+coefficient-given (Some n) coef e = let same : pos n ≡ coef = cc e in rw (← same) refl
 
 -- the limits of the options that arguments give are those that the arguments give
 pub limits-given : (options : Options) (arguments : List (List ℕ)) → given_number (codes "context") arguments ≡ Some options.context
+    → option_map pos (given_number (codes "coef") arguments) ≡ Some options.coef
     → given_number (codes "roots") arguments ≡ Some options.roots → limits_of options ≡ given_limits arguments
-limits-given options arguments context roots = rw (context, roots) refl
+limits-given options arguments context coef roots =
+    rw (context, roots, coefficient-given (given_number (codes "coef") arguments) options.coef coef) refl
 
 -- where a run begins
 abbrev pub beginning : Limits → Option (List ℕ) → Outlet → Stand
@@ -194,3 +201,17 @@ IsOverRoom-usage arguments script left room wrong small =
     IfSome-follows (λ count. count < length usage_line)
     (λ count. (text : List ℕ) × IsDue arguments script left text × (count < length text)) room
     (λ count less. (usage_line, IsDue-usage arguments script left wrong, less)) small
+
+-- at a read fault the lines that end among the bytes given were answered
+pub Runs-given : (limits : Limits) (script : Option (List ℕ)) (state : State) (reader : Reader) (supply : Supply) (old new : Outlet)
+    → Runs ReadFault (beginning limits script old) (stand state reader supply new) → AnswersGiven limits script supply.left old new
+Runs-given limits script state reader supply old new runs = record {
+  given = runs.given;
+  taken = runs.taken
+      ∙ ap (λ pending. prepend_known runs.given (prepend_known pending supply.left)) runs.none_pending
+      ∙ ap (prepend_known runs.given) (prepend_known-none supply.left);
+  replies = runs.replies;
+  are_replies = runs.are_replies;
+  none_quits = runs.none_quits;
+  writes = runs.writes;
+}

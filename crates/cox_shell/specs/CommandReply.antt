@@ -1,6 +1,5 @@
 -- The replies to commands, in the terms of Coxeter groups.
-use Rattle.std.specs.Prelude.{◌+◌, ℤ, map, ◌≡◌, ℕ, ◌↔◌, Bool, IsTrue, List, reverse, IsSomeAnd, decimal}
-use Rattle.std.specs.List.{range_with_len}
+use Rattle.std.specs.Prelude.{ℤ, ◌≡◌, ℕ, ◌↔◌, Bool, IsTrue, List, reverse, IsSomeAnd, decimal}
 use Rattle.cox_base.specs.Matrix.{CoxeterMatrix}
 use Rattle.cox_base.specs.IntegerMatrix.{IntegerMatrix, integer_matrix}
 use Rattle.cox_base.specs.ShortLex.{normal_form}
@@ -9,9 +8,10 @@ use Rattle.cox_base.specs.Bruhat.{IsBelow}
 use Rattle.cox_command.specs.declared.refusal.Refusal.{Refusal}
 use Rattle.cox_command.specs.declared.refusal.Refusal.TheVariants.{ManyRoots, LargeInterval, FarApart}
 use Rattle.cox_command.specs.declared.command.OneWord.{OneWord}
-use Rattle.cox_command.specs.declared.command.OneWord.TheVariants.{Compute, Length, Inverse, Descent, Coatoms, Betti}
+use Rattle.cox_command.specs.declared.command.OneWord.TheVariants.{Compute, Length, Inverse, Descent, Coatoms, Betti, Klbasis}
+use Rattle.cox_command.specs.declared.command.OneWord.TheVariants.{Ihbetti, Extremals}
 use Rattle.cox_command.specs.declared.command.TwoWord.{TwoWord}
-use Rattle.cox_command.specs.declared.command.TwoWord.TheVariants.{Inorder, Interval, Rpol}
+use Rattle.cox_command.specs.declared.command.TwoWord.TheVariants.{Inorder, Interval, Rpol, Pol, Mu}
 use Rattle.cox_command.specs.declared.command.Command.{Command}
 use Rattle.cox_command.specs.declared.command.Command.TheVariants as asks
 use Rattle.cox_poly.specs.PolynomialText.{polynomial_text}
@@ -23,9 +23,12 @@ use Rattle.cox_context.specs.SortedList.{IsListOf, HasMoreThan}
 use Rattle.cox_context.specs.Interval.{IsBetween, IsCoatom, counts_by_length}
 use Rattle.cox_print.specs.AnswerText.{element_text, descent_text, truth_text, numbers_text, elements_text}
 use Rattle.cox_shell.specs.declared.inquiry.Inquiry.{Inquiry}
-use Rattle.cox_shell.specs.declared.inquiry.Inquiry.TheVariants.{One, Two}
+use Rattle.cox_shell.specs.declared.inquiry.Inquiry.TheVariants.{One, Two, Plain, Work}
 use Rattle.cox_shell.specs.Reply.{Limits, State, Reply, with_group, refusal, silence, farewell, answered}
 use Rattle.cox_shell.specs.Question.{Question, IsDecided}
+use Rattle.cox_shell.specs.RowReply.{RefusesRow, coefficients_to, IsPolText, IsMuText, IsPairsText, IsExtremalBelow, IsIhbettiText}
+use Rattle.cox_shell.specs.GroupReply.{group_question}
+use Rattle.cox_shell.specs.WorkReply.{work_question}
 
 -- nothing refuses
 abbrev pub RefusesNone : Refusal → Type 0
@@ -56,7 +59,7 @@ IsOrderText A y w text = (truth : Bool) × (IsTrue truth ↔ IsBelow A y w) × (
 
 -- the coefficients of R(y,w) from degree 0 to l(w); there are none beyond
 abbrev pub r_coefficients : IntegerMatrix → List ℕ → List ℕ → List ℤ
-r_coefficients A y w = map (r_polynomial A y w) (range_with_len 0 (word_length A w + 1))
+r_coefficients A y w = coefficients_to (word_length A w) (r_polynomial A y w)
 
 -- R(y,w)
 abbrev pub IsRText : IntegerMatrix → List ℕ → List ℕ → List ℕ → Type 0
@@ -74,17 +77,24 @@ one_question Descent limits rank A w = record {
 }
 one_question Coatoms limits rank A w = record { Refuses = RefusesLarge limits A w; IsText = IsElementsText rank (IsCoatom A w) }
 one_question Betti limits rank A w = record { Refuses = RefusesLarge limits A w; IsText = IsCountsText A w }
+one_question Klbasis limits rank A w = record { Refuses = RefusesRow limits A w; IsText = IsPairsText rank A w (IsInInterval A w) }
+one_question Ihbetti limits rank A w = record { Refuses = RefusesRow limits A w; IsText = IsIhbettiText A w }
+one_question Extremals limits rank A w = record { Refuses = RefusesRow limits A w; IsText = IsPairsText rank A w (IsExtremalBelow A w) }
 
 -- what a command asks of the elements of y and w
 abbrev pub two_question : TwoWord → Limits → ℕ → IntegerMatrix → List ℕ → List ℕ → Question
 two_question Inorder limits rank A y w = record { Refuses = RefusesNone; IsText = IsOrderText A y w }
 two_question Interval limits rank A y w = record { Refuses = RefusesLarge limits A w; IsText = IsElementsText rank (IsBetween A y w) }
 two_question Rpol limits rank A y w = record { Refuses = RefusesFar A y w; IsText = IsRText A y w }
+two_question Pol limits rank A y w = record { Refuses = RefusesRow limits A w; IsText = IsPolText A y w }
+two_question Mu limits rank A y w = record { Refuses = RefusesRow limits A w; IsText = IsMuText A y w }
 
 -- what a command on elements asks of those of its words, in a group
 abbrev pub question_of : Inquiry → Limits → CoxeterMatrix → Question
 question_of (One kind w) limits g = one_question kind limits g.rank (integer_matrix g) w.items
 question_of (Two kind y w) limits g = two_question kind limits g.rank (integer_matrix g) y.items w.items
+question_of (Plain kind) limits g = group_question kind limits g.rank (integer_matrix g)
+question_of (Work start count) limits g = work_question start count limits g.rank (integer_matrix g)
 
 -- an answer to a question, which leaves the state
 abbrev pub Answers : State → Question → Reply → Type 0
@@ -107,3 +117,5 @@ IsCommandReply asks.Quit state reply = reply ≡ farewell state
 IsCommandReply (asks.Group g) state reply = IsDecided state (RefusesGroup state.limits g) (λ answer. answer ≡ silence (with_group state g)) reply
 IsCommandReply (asks.One kind w) state reply = IsInquiryReply (One kind w) state reply
 IsCommandReply (asks.Two kind y w) state reply = IsInquiryReply (Two kind y w) state reply
+IsCommandReply (asks.Plain kind) state reply = IsInquiryReply (Plain kind) state reply
+IsCommandReply (asks.Work start count) state reply = IsInquiryReply (Work start count) state reply

@@ -2,6 +2,12 @@
 pub mod Reply
 -- what a command asks
 pub mod Question
+-- what commands on rows of Kazhdan-Lusztig polynomials ask
+pub mod RowReply
+-- what commands on the whole group ask: W-graphs and cells
+pub mod GroupReply
+-- what `work` asks
+pub mod WorkReply
 -- the replies to commands, in the terms of Coxeter groups
 pub mod CommandReply
 -- the reply to the content of a line
@@ -26,3 +32,9 @@ pub mod Run
 pub mod Outcome
 -- what a whole run does
 pub mod Top
+-- rows that a session keeps
+pub mod Kept
+-- totals of rows that are summed up
+pub mod Summing
+-- whole groups, as they are listed
+pub mod GroupSize

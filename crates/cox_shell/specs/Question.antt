@@ -1,7 +1,7 @@
 -- What a command asks: which refusals have a cause, and which texts are right where none has.
 use Rattle.std.specs.Prelude.{◌≡◌, ◌⊎◌, ℕ, List, [], ◌∷◌, Option, None, Some, MatchOption}
 use Rattle.cox_command.specs.declared.refusal.Refusal.{Refusal}
-use Rattle.cox_command.specs.declared.refusal.Refusal.TheVariants.{ManyRoots, LargeInterval, FarApart}
+use Rattle.cox_command.specs.declared.refusal.Refusal.TheVariants.{ManyRoots, LargeInterval, FarApart, LargeRow}
 use Rattle.cox_shell.specs.Reply.{State, Reply, refusal}
 
 -- a command on elements, as what it asks of them
@@ -13,7 +13,7 @@ pub record Question : Type 1 where
 
 -- the order in which the refusals by the group and by elements are tried
 abbrev pub command_refusals : List Refusal
-command_refusals = ManyRoots ∷ LargeInterval ∷ FarApart ∷ []
+command_refusals = ManyRoots ∷ LargeInterval ∷ FarApart ∷ LargeRow ∷ []
 
 -- the first of these refusals that has a cause, if one has
 abbrev pub IsFirstRefusal : (Refusal → Type 0) → List Refusal → Option Refusal → Type 0

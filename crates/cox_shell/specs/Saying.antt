@@ -11,10 +11,11 @@ use Rattle.cox_context.specs.SortedList.{IsListOf, HasMoreThan}
 use Rattle.cox_context.specs.Numbers.{word_at}
 use Rattle.cox_command.specs.declared.refusal.Refusal.{Refusal}
 use Rattle.cox_command.specs.RefusalNumber.{refusal_number}
+use Rattle.cox_command.specs.ParseContract.{AreWorkNumbers}
 use Rattle.cox_shell.specs.declared.answers.unanswered.Unanswered.{Unanswered}
 use Rattle.cox_shell.specs.declared.answers.unanswered.Unanswered.TheVariants as unanswered
 use Rattle.cox_shell.specs.declared.inquiry.Inquiry.{Inquiry}
-use Rattle.cox_shell.specs.declared.inquiry.Inquiry.TheVariants.{One, Two}
+use Rattle.cox_shell.specs.declared.inquiry.Inquiry.TheVariants.{One, Two, Plain, Work}
 use Rattle.cox_shell.specs.Question.{IsRefused}
 use Rattle.cox_shell.specs.CommandReply.{RefusesLarge}
 use Rattle.cox_shell.specs.declared.session.Said.{Said}
@@ -38,10 +39,12 @@ pub record SaysPrefix (reply : Reply) (old new : State) (before after : List ℕ
   pub puts_prefix : PutsPrefix reply.text before after
   pub same_state : new ≡ old
 
--- the words of a command are over the letters of a group of this rank
+-- the words of a command are over the letters of a group of this rank, and its numbers are within their ranges
 abbrev pub HasLetters : ℕ → Inquiry → Type 0
 HasLetters rank (One kind w) = IsWord rank w.items
 HasLetters rank (Two kind y w) = IsWord rank y.items × IsWord rank w.items
+HasLetters rank (Plain kind) = Unit {0}
+HasLetters rank (Work start count) = AreWorkNumbers start count
 
 -- one of the right texts was put; where memory ran out, a prefix of one
 abbrev pub PutsSome : Result Unit AllocError → (List ℕ → Type 0) → List ℕ → List ℕ → Type 0

@@ -22,6 +22,7 @@ argument_texts arguments = map (λ argument. argument.now) arguments
 abbrev pub given_limits : List (List ℕ) → Limits
 given_limits arguments = record {
   context = unwrap_or (given_number (codes "context") arguments) 0;
+  coefficient = unwrap_or (given_number (codes "coef") arguments) 0;
   roots = unwrap_or (given_number (codes "roots") arguments) 0;
 }
 

@@ -103,6 +103,10 @@ impl Session {
             Command::Group(group) => self.set_group(&group, out),
             Command::One(kind, w) => self.answer_inquiry(&Inquiry::One(kind, w), out),
             Command::Two(kind, y, w) => self.answer_inquiry(&Inquiry::Two(kind, y, w), out),
+            Command::Plain(kind) => self.answer_inquiry(&Inquiry::Plain(kind), out),
+            Command::Work { start, count } => {
+                self.answer_inquiry(&Inquiry::Work { start, count }, out)
+            }
         }
     }
 
@@ -116,10 +120,7 @@ impl Session {
         prove!(group.rank() as usize <= MAX_RANK);
         match RootTable::build(*out.allocator(), group, self.options.roots()) {
             Ok(table) => {
-                self.workspace = Some(Workspace {
-                    table,
-                    options: self.options,
-                });
+                self.workspace = Some(Workspace::new(table, self.options));
                 Ok(Said::Answered)
             }
             Err(RootFault::TooMany { .. }) => self.refuse(Refusal::ManyRoots, out),
@@ -128,14 +129,14 @@ impl Session {
     }
 
     /// Answers a command on elements.
-    fn answer_inquiry(&self, inquiry: &Inquiry, out: &mut Vec<u8>) -> Result<Said, AllocError>
-        requires { IsSomeAnd (rank_of self.now) (λ n. HasLetters n inquiry.now) }
-        ensures ok { IfOk result (λ said. (reply : Reply) × IsInquiryReply inquiry.now self.now reply
-            × Says said reply self.now out.old.items out.new.items) }
-        ensures err { OnErr result ((reply : Reply) × IsInquiryReply inquiry.now self.now reply
-            × SaysPrefix reply self.now self.now out.old.items out.new.items) }
+    fn answer_inquiry(&mut self, inquiry: &Inquiry, out: &mut Vec<u8>) -> Result<Said, AllocError>
+        requires { IsSomeAnd (rank_of self.old) (λ n. HasLetters n inquiry.now) }
+        ensures ok { IfOk result (λ said. (reply : Reply) × IsInquiryReply inquiry.now self.old reply
+            × Says said reply self.new out.old.items out.new.items) }
+        ensures err { OnErr result ((reply : Reply) × IsInquiryReply inquiry.now self.old reply
+            × SaysPrefix reply self.old self.new out.old.items out.new.items) }
     {
-        match &self.workspace {
+        match &mut self.workspace {
             Some(work) => {
                 let put = put_answer(out, work, inquiry);
                 self.conclude(put, out)

@@ -1,5 +1,5 @@
 -- The shorter element of a member and its corrections: they come before it, and their rows are of its Need.
-use Rattle.std.proofs.Common.{ℕ, ◌<◌, List, ◌∷◌, length, slice_index_or, arith}
+use Rattle.std.proofs.Common.{ℕ, ◌<◌, List, ◌∷◌, length, arith}
 use Rattle.cox_base.specs.IntegerMatrix.{IntegerMatrix, integer_matrix}
 use Rattle.cox_base.specs.Admissible.{IsAdmissible}
 use Rattle.cox_base.specs.Element.{SameElement}

@@ -1,6 +1,5 @@
 -- The law of families: where each Published row was given its step family, each family given is the row of its element.
 use Rattle.std.proofs.Common.{◌≡◌, ⊎_elim, ℕ, zero, suc, ◌<◌, List, [], ◌∷◌, sym, subst, arith}
-use Rattle.std.specs.Prelude.{All}
 use Rattle.cox_base.specs.declared.side.Side.TheVariants.{Left}
 use Rattle.cox_base.specs.IntegerMatrix.{IntegerMatrix, integer_matrix}
 use Rattle.cox_base.specs.Admissible.{IsAdmissible}
@@ -22,7 +21,6 @@ module _ (needs : ℕ → List ℕ) (smaller : NeedsSmaller needs) (e : Elements
   where
     abbrev A : IntegerMatrix
     A = integer_matrix e.matrix
-
 
     good : IsGood needs (reached needs events)
     good = stays_good needs events

@@ -1,16 +1,14 @@
 -- What a seat has seen when rows were made: by one worker, and by two whose seats meet.
-use Rattle.std.proofs.Common.{◌≡◌, ◌⊎◌, inl, inr, ⊎_elim, ℕ, ◌+◌, ◌<◌, ◌≤◌, List, [], length, sym, ◌∙◌, arith}
-use Rattle.std.proofs.lemmas.Bool.{cases_lt}
+use Rattle.std.proofs.Common.{inl, inr, ⊎_elim, ℕ, ◌<◌, List, length, ◌∙◌}
 use Rattle.cox_context.specs.Closed.{Elements}
 use Rattle.cox_claims.specs.declared.seat.Seat.{Seat}
 use Rattle.cox_claims.specs.Knowledge.{SeesAll}
-use Rattle.cox_claims.specs.Seats.{view_of, IsSameSeat, HoldsNothing, HasSeen, HasSeenVoid}
+use Rattle.cox_claims.specs.Seats.{view_of, HoldsNothing, HasSeen, HasSeenVoid}
 use Rattle.cox_row.specs.Rising.{number_at}
 use Rattle.cox_row_store.specs.declared.store.RowStore.{RowStore}
 use Rattle.cox_row_store.specs.Stores.{IsSeat}
 use Rattle.cox_workers.specs.Work.{IsKept}
 use Rattle.cox_workers.specs.Filled.{IsSettled, IsGrown, IsFilled}
-use Rattle.cox_workers.proofs.Keeping.{sees-trans}
 
 pub grown_of : (e : Elements) (i : ℕ) (a b : Seat) → IsKept e i a b → IsGrown a b
 grown_of e i a b k = record { same = k.same; held = k.held; seen = k.seen }

@@ -1,12 +1,12 @@
 -- What a worker does to its seat: step after step, for a member and for those that it needs.
-use Rattle.std.proofs.Common.{◌≡◌, ◌≢◌, ◌⊎◌, inl, inr, ⊎_elim, ℕ, ◌<◌, true, false, ◌==◌, List, [], ◌∷◌, length, ℤ, refl, sym, ap, ◌∙◌, subst, arith}
+use Rattle.std.proofs.Common.{◌≡◌, ◌⊎◌, inl, inr, ⊎_elim, ℕ, ◌<◌, true, false, ◌==◌, List, [], ◌∷◌, length, ℤ, refl, sym, ap, ◌∙◌, subst}
 use Rattle.std.specs.Prelude.{Result, IfErr}
 use Rattle.std.proofs.lemmas.Result.{MatchResult-weaker}
 use Rattle.std.proofs.lemmas.Bool.{or_cases, or_parts, or_left, cond-true, cond-false, eqb-true, eq-eqb, false_from_ne_true}
 use Rattle.cox_base.specs.IntegerMatrix.{integer_matrix}
 use Rattle.cox_base.specs.Admissible.{IsAdmissible}
 use Rattle.cox_reflect.proofs.Elements.{same-refl}
-use Rattle.cox_hecke.specs.Needs.{IsNeeded, itself}
+use Rattle.cox_hecke.specs.Needs.{itself}
 use Rattle.cox_hecke.proofs.NeedLemmas.{needed-trans}
 use Rattle.cox_context.specs.Closed.{Elements}
 use Rattle.cox_context.specs.Numbers.{word_at}
@@ -17,7 +17,7 @@ use Rattle.cox_klstep.specs.Faults.{IsFault}
 use Rattle.cox_klstep.specs.NeedsOf.{HasNeeds}
 use Rattle.cox_claims.specs.declared.seat.Seat.{Seat}
 use Rattle.cox_claims.specs.declared.view.View.{View}
-use Rattle.cox_claims.specs.Knowledge.{among, without, holds, marked, saw_void, looked, won, published, voided, SeesAll, IsKnown, Looks, Loses, Wins, Publishes, Voids}
+use Rattle.cox_claims.specs.Knowledge.{among, without, holds, marked, saw_void, looked, SeesAll, Wins, Publishes, Voids}
 use Rattle.cox_claims.specs.Seats.{view_of, splits_of, IsSameSeat, HasSeenVoid, HasMarked}
 use Rattle.cox_claims.proofs.Rows.{among_else}
 use Rattle.cox_workers.specs.declared.missing.Missing.{Missing}

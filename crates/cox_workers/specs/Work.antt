@@ -1,5 +1,5 @@
 -- What a worker does to its seat while it makes the row of a member.
-use Rattle.std.specs.Prelude.{◌≡◌, ◌⊎◌, ℕ, ◌<◌, true, length, ℤ}
+use Rattle.std.specs.Prelude.{◌≡◌, ◌⊎◌, ℕ, ◌<◌, length, ℤ}
 use Rattle.cox_base.specs.IntegerMatrix.{integer_matrix}
 use Rattle.cox_hecke.specs.Needs.{IsNeeded}
 use Rattle.cox_context.specs.Closed.{Elements}

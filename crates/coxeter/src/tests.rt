@@ -97,6 +97,81 @@ const ANSWERS: &[(&str, &str, Status)] = &[
         "1 3 5 6 5 3 1\n3\n12132\n12321\n21321\n0\n1\n",
         Status::Done,
     ),
+    (
+        "type A 3\npol 2 2132\nmu 2 2132\npol e 2132\n",
+        "1+q\n1\n1+q\n",
+        Status::Done,
+    ),
+    (
+        "type A 3\npol 13 12321\npol 12 21\nmu 13 12321\nmu 121 12\n",
+        "1+q\n0\n1\n0\n",
+        Status::Done,
+    ),
+    (
+        "type A 4\npol e 1234321\nmu e 1234321\n",
+        "1+2q+q^2\n0\n",
+        Status::Done,
+    ),
+    (
+        "type A 3\nklbasis 2132\nihbetti 2132\nextremals 2132\n",
+        "14\ne:1+q\n1:1\n2:1+q\n3:1\n12:1\n13:1\n21:1\n23:1\n32:1\n121:1\n132:1\n213:1\n232:1\n2132:1\n1 4 6 4 1\n4\n2:1+q\n121:1\n232:1\n2132:1\n",
+        Status::Done,
+    ),
+    (
+        "type A 3\nextremals 2132\npol 2132 x\nextremals 2132\n",
+        "4\n2:1+q\n121:1\n232:1\n2132:1\nerror 16\n4\n2:1+q\n121:1\n232:1\n2132:1\n",
+        Status::Refused,
+    ),
+    (
+        "pol e 1\nlcells\nwork 7 1\nmatrix 2 5\ntype A 2\nlcells 1\nwork 65537 1\nwork 1\n",
+        "error 15\nerror 15\nerror 15\nerror 14\nerror 11\nerror 12\nerror 11\n",
+        Status::Refused,
+    ),
+    (
+        "type A 2\nlcells\nrcells\n",
+        "4\ne\n1 21\n2 12\n121\n4\ne\n1 12\n2 21\n121\n",
+        Status::Done,
+    ),
+    (
+        "type B 2\nlcells\nlrcells\n",
+        "4\ne\n1 21 121\n2 12 212\n1212\n3\ne\n1 2 12 21 121 212\n1212\n",
+        Status::Done,
+    ),
+    (
+        "type A 2\nlwgraph\n",
+        "6\ne - 1:1 2:1\n1 1 e:1 12:1 21:1\n2 2 e:1 12:1 21:1\n12 1 1:1 2:1 121:1\n21 2 1:1 2:1 121:1\n121 12 12:1 21:1\n",
+        Status::Done,
+    ),
+    (
+        "type A 2\nrwgraph\n",
+        "6\ne - 1:1 2:1\n1 1 e:1 12:1 21:1\n2 2 e:1 12:1 21:1\n12 2 1:1 2:1 121:1\n21 1 1:1 2:1 121:1\n121 12 12:1 21:1\n",
+        Status::Done,
+    ),
+    (
+        "matrix 3 3 3 3\nlcells\npol 1 121\nmatrix 2 0\nlcells\n",
+        "error 31\n1\nerror 31\n",
+        Status::Refused,
+    ),
+    (
+        "type A 2\nwork 7 1\ntype A 1\nwork 7 3\ntype B 2\nwork 0 1\n",
+        "words 1 entries 4 degree 0 sum 4\nwords 3 entries 3 degree 0 sum 3\nwords 1 entries 8 degree 0 sum 8\n",
+        Status::Done,
+    ),
+];
+
+/// Scripts, and the first line of what has to be written: numbers of cells from the literature, and of the members of an interval.
+const FIRST_LINES: &[(&str, &str)] = &[
+    ("type A 3\nlcells\n", "10\n"),
+    ("type A 3\nlrcells\n", "5\n"),
+    ("type B 3\nlcells\n", "14\n"),
+    ("type B 3\nlrcells\n", "6\n"),
+    ("type G 2\nlcells\n", "4\n"),
+    ("type A 4\nlcells\n", "26\n"),
+    ("type A 4\nlrcells\n", "7\n"),
+    (
+        "matrix 2 0\nklbasis 121212121212121212121212121212121212121212121\n",
+        "90\n",
+    ),
 ];
 
 /// The elements of A 3 in ShortLex order, as a list.
@@ -155,6 +230,36 @@ const OPTIONS: &[WithOptions] = &[
         "1\ne\nerror 31\n1\n",
         Status::Refused,
     ),
+    (
+        &["coxeter", "--coef", "1"],
+        "type A 4\npol e 1234321\nmu e 1234321\npol 1234321 1234321\npol e 1\n",
+        "error 32\nerror 32\nerror 32\n1\n",
+        Status::Refused,
+    ),
+    (
+        &["coxeter", "--coef", "9223372036854775807"],
+        "type A 4\npol e 1234321\n",
+        "1+2q+q^2\n",
+        Status::Done,
+    ),
+    (
+        &["coxeter", "--context", "14"],
+        "type A 3\nextremals 2132\npol e 12321\nextremals 2132\n",
+        "4\n2:1+q\n121:1\n232:1\n2132:1\nerror 31\n4\n2:1+q\n121:1\n232:1\n2132:1\n",
+        Status::Refused,
+    ),
+    (
+        &["coxeter", "--context", "7"],
+        "type B 2\nwork 0 1\nlcells\npol e 12\n",
+        "error 31\nerror 31\n1\n",
+        Status::Refused,
+    ),
+    (
+        &["coxeter", "--coef", "1"],
+        "type A 4\nlrcells\nlwgraph\ntype A 2\nlrcells\n",
+        "error 32\nerror 32\n3\ne\n1 2 12 21\n121\n",
+        Status::Refused,
+    ),
 ];
 
 /// Arguments that give no options.
@@ -165,6 +270,8 @@ const WRONG_ARGUMENTS: &[&[&str]] = &[
     &["coxeter", "--context"],
     &["coxeter", "--context", "0"],
     &["coxeter", "--context", "1048577"],
+    &["coxeter", "--coef", "0"],
+    &["coxeter", "--coef", "9223372036854775808"],
     &["coxeter", "--roots", "0"],
     &["coxeter", "--roots", "4097"],
     &["coxeter", "--context", "1", "--context", "2"],
@@ -189,6 +296,8 @@ const LONG_WORDS: &[(&str, &str, usize, &str, &str)] = &[
     ("matrix 2 0\nrpol e 1", "21", 1, "\n", "-1+2q-2q^2+q^3\n"),
     ("matrix 2 0\nrpol e ", "12", 20, "\n", "error 34\n"),
     ("matrix 2 0\ninorder 121 ", "12", 127, "\n", "true\n"),
+    ("matrix 2 0\npol e 1", "21", 22, "\n", "1\n"),
+    ("matrix 2 0\nmu e 1", "21", 22, "\n", "0\n"),
 ];
 
 /// Words of 255 letters that are their own normal forms: the group, letters, how often these are repeated, and the letter behind them.
@@ -247,7 +356,7 @@ fn plain(script: &[u8]) -> Run<'_> {
         piece: 1,
         failing_read: 0,
         failing_write: 0,
-        room: 200,
+        room: 300,
     }
 }
 
@@ -277,6 +386,20 @@ fn answers(rt: HostRuntime) -> Result<(), Fail> {
         let (ended, sink) = end_of(rt.alloc(), plain(script.as_bytes()))?;
         assert_eq!(rt; ended, *status, "at {script:?}");
         assert_eq!(rt; sink.bytes(), written.as_bytes(), "at {script:?}");
+    }
+    Ok(())
+}
+
+#[test]
+fn first_lines(rt: HostRuntime) -> Result<(), Fail> {
+    for (script, first) in FIRST_LINES {
+        let run = Run {
+            room: 10_000,
+            ..plain(script.as_bytes())
+        };
+        let (ended, sink) = end_of(rt.alloc(), run)?;
+        assert_eq!(rt; ended, Status::Done, "at {script:?}");
+        assert!(rt; sink.bytes().starts_with(first.as_bytes()), "at {script:?}");
     }
     Ok(())
 }

@@ -14,11 +14,11 @@ ghost use Rattle.cox_shell.specs.CommandReply.{RefusesLarge, IsElementsText, IsC
 ghost use Rattle.cox_shell.specs.Saying.{PutsSome, PutsUnless, GivesInterval, words_at};
 
 use crate::answers::unanswered::{Unanswered, unrefused};
-use crate::workspace::Workspace;
 use cox_base::{MAX_LETTERS, MAX_RANK, Word};
 use cox_command::Refusal;
 use cox_context::{Context, ContextFault};
 use cox_minroots::RootTable;
+use cox_options::Options;
 use cox_print::{NoMemory, put_count, put_next_element, put_numbers};
 use std::alloc::Global;
 
@@ -28,50 +28,67 @@ const LENGTHS: usize = MAX_LETTERS + 1;
 /// Puts the list of the elements x with y <= x <= w.
 pub fn put_interval(
     out: &mut Vec<u8>,
-    work: &Workspace,
+    table: &RootTable,
+    options: Options,
     y: &Word,
     w: &Word,
 ) -> Result<(), Unanswered>
-    requires first { IsWord work.now.table.rank y.now.items }
-    requires second { IsWord work.now.table.rank w.now.items }
-    ensures { PutsUnless result (RefusesLarge (limits_of work.now.options) (integer_matrix work.now.table) w.now.items)
-        (IsElementsText work.now.table.rank (IsBetween (integer_matrix work.now.table) y.now.items w.now.items)) out.old.items out.new.items }
+    requires first { IsWord table.now.rank y.now.items }
+    requires second { IsWord table.now.rank w.now.items }
+    ensures { PutsUnless result (RefusesLarge (limits_of options) (integer_matrix table.now) w.now.items)
+        (IsElementsText table.now.rank (IsBetween (integer_matrix table.now) y.now.items w.now.items)) out.old.items out.new.items }
 {
-    let context = interval_of(*out.allocator(), work, w)?;
-    unrefused(put_between(out, &work.table, &context, y))
+    let context = interval_of(*out.allocator(), table, options, w)?;
+    unrefused(put_between(out, table, &context, y))
 }
 
 /// Puts the list of the elements x < w with l(x) = l(w) - 1.
-pub fn put_coatoms(out: &mut Vec<u8>, work: &Workspace, w: &Word) -> Result<(), Unanswered>
-    requires word { IsWord work.now.table.rank w.now.items }
-    ensures { PutsUnless result (RefusesLarge (limits_of work.now.options) (integer_matrix work.now.table) w.now.items)
-        (IsElementsText work.now.table.rank (IsCoatom (integer_matrix work.now.table) w.now.items)) out.old.items out.new.items }
+pub fn put_coatoms(
+    out: &mut Vec<u8>,
+    table: &RootTable,
+    options: Options,
+    w: &Word,
+) -> Result<(), Unanswered>
+    requires word { IsWord table.now.rank w.now.items }
+    ensures { PutsUnless result (RefusesLarge (limits_of options) (integer_matrix table.now) w.now.items)
+        (IsElementsText table.now.rank (IsCoatom (integer_matrix table.now) w.now.items)) out.old.items out.new.items }
 {
-    let context = interval_of(*out.allocator(), work, w)?;
-    unrefused(put_shorter(out, &context, work.table.length(w)))
+    let context = interval_of(*out.allocator(), table, options, w)?;
+    unrefused(put_shorter(out, &context, table.length(w)))
 }
 
 /// Puts how many x <= w there are of each length.
-pub fn put_betti(out: &mut Vec<u8>, work: &Workspace, w: &Word) -> Result<(), Unanswered>
-    requires word { IsWord work.now.table.rank w.now.items }
-    ensures { PutsUnless result (RefusesLarge (limits_of work.now.options) (integer_matrix work.now.table) w.now.items)
-        (IsCountsText (integer_matrix work.now.table) w.now.items) out.old.items out.new.items }
+pub fn put_betti(
+    out: &mut Vec<u8>,
+    table: &RootTable,
+    options: Options,
+    w: &Word,
+) -> Result<(), Unanswered>
+    requires word { IsWord table.now.rank w.now.items }
+    ensures { PutsUnless result (RefusesLarge (limits_of options) (integer_matrix table.now) w.now.items)
+        (IsCountsText (integer_matrix table.now) w.now.items) out.old.items out.new.items }
 {
     prove!(w.len() <= MAX_LETTERS);
-    let context = interval_of(*out.allocator(), work, w)?;
-    unrefused(put_counts(out, &context, work.table.length(w)))
+    let context = interval_of(*out.allocator(), table, options, w)?;
+    unrefused(put_counts(out, &context, table.length(w)))
 }
 
 /// The interval from the identity to w. It is refused where it has more members than the options admit.
-fn interval_of(alloc: Global, work: &Workspace, w: &Word) -> Result<Context, Unanswered>
-    requires word { IsWord work.now.table.rank w.now.items }
-    ensures matrix { IfOk result (λ context. context.matrix ≡ work.now.table) }
-    ensures members { GivesInterval result (limits_of work.now.options) (integer_matrix work.now.table) w.now.items }
-    ensures group { IsCoxeterMatrix work.now.table }
+pub fn interval_of(
+    alloc: Global,
+    table: &RootTable,
+    options: Options,
+    w: &Word,
+) -> Result<Context, Unanswered>
+    requires word { IsWord table.now.rank w.now.items }
+    ensures matrix { IfOk result (λ context. context.matrix ≡ table.now) }
+    ensures few { IfOk result (λ context. length context.members ≤ options.context) }
+    ensures members { GivesInterval result (limits_of options) (integer_matrix table.now) w.now.items }
+    ensures group { IsCoxeterMatrix table.now }
 {
-    prove!(work.table.group().rank() as usize <= MAX_RANK);
+    prove!(table.group().rank() as usize <= MAX_RANK);
     prove!(w.len() <= MAX_LETTERS);
-    match Context::of_interval(alloc, &work.table, w, work.options.context()) {
+    match Context::of_interval(alloc, table, w, options.context()) {
         Ok(context) => Ok(context),
         Err(ContextFault::NoMemory) => Err(Unanswered::NoMemory),
         Err(ContextFault::Size { .. }) => Err(Unanswered::Refused(Refusal::LargeInterval)),

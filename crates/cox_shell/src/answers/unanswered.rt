@@ -1,9 +1,11 @@
 //! Why a command gets no answer.
 ghost use Rattle.std.specs.Prelude.{◌≡◌};
+ghost use Rattle.cox_shell.specs.Kept.{unanswered_by};
 ghost use Rattle.cox_shell.specs.Saying.{unrefused};
 ghost use Rattle.cox_shell.specs.declared.answers.unanswered.Unanswered.TheVariants.{NoMemory};
 
 use cox_command::Refusal;
+use cox_rows::RowsFault;
 use std::alloc::AllocError;
 
 /// Why a command got no answer.
@@ -30,5 +32,17 @@ pub fn unrefused(put: Result<(), AllocError>) -> Result<(), Unanswered>
     match put {
         Ok(()) => Ok(()),
         Err(_) => Err(Unanswered::NoMemory),
+    }
+}
+
+/// What a fault of rows leads to: a row is refused, or memory ran out.
+pub fn unanswered_by(fault: RowsFault) -> Unanswered
+    ensures { result ≡ unanswered_by fault }
+{
+    match fault {
+        RowsFault::Coefficient { .. } | RowsFault::Mu { .. } => {
+            Unanswered::Refused(Refusal::LargeRow)
+        }
+        RowsFault::NoMemory => Unanswered::NoMemory,
     }
 }

@@ -1,6 +1,7 @@
 -- The classes of the steps are the cells.
-use Rattle.std.proofs.Common.{◌≡◌, ℕ, length, arith}
+use Rattle.std.proofs.Common.{◌≡◌, ℕ, ◌<◌, List, [], length, All, get_or, arith}
 use Rattle.std.specs.Global.{Vec}
+use Rattle.std.proofs.lemmas.List.{get_or_default}
 use Rattle.std.proofs.lemmas.Result.{IfOk-weaker}
 use Rattle.cox_base.specs.IntegerMatrix.{integer_matrix}
 use Rattle.cox_context.specs.Members.{IsElement}
@@ -8,12 +9,26 @@ use Rattle.cox_context.specs.SortedList.{IsListOf}
 use Rattle.cox_scc.specs.Graph.{edges_of}
 use Rattle.cox_scc.specs.Reach.{HasEdge, AreClasses}
 use Rattle.cox_cells.specs.Cells.{AreCells}
-use Rattle.cox_cells.specs.Numbered.{AreClassLists, lists_of, words_of}
+use Rattle.cox_cells.specs.Numbered.{AreClassLists, AreGathered, lists_of, list_at, words_of}
 use Rattle.cox_cells.proofs.NumberedCells.{cells-are}
 use Rattle.cox_cells.proofs.components.cells.Goals as goal
 
-pub returns : goal.returns
-returns c = IfOk-weaker c.gather.result _ _ cells_of c.gather.ensures
+pub returns-clause-within : goal.returns-clause-within
+returns-clause-within c = IfOk-weaker c.gather.result _ _ (λ (cells : Vec (Vec ℕ)) lists. within cells.items lists.0 lists.1) c.gather.ensures
+  where
+    size : length c.deref.result.now ≡ length c.args.graph.now.members
+    size = omega (arith, c.deref.ensures.len, c.in_ok-classes.ensures.size, c.in_ok-steps.ensures.vertices)
+
+    within : (cells : List (Vec ℕ)) (places : List ℕ) → AreGathered c.deref.result.now (length c.deref.result.now) places (lists_of cells)
+        → All (All (λ i. i < length c.args.graph.now.members)) (lists_of cells)
+    within cells places h k d below m e inside =
+        let same : get_or (lists_of cells) k d ≡ list_at (lists_of cells) k = get_or_default (lists_of cells) k d [] below in
+        let size_of : m < length (list_at (lists_of cells) k) = rw same at inside in
+        rw (same, get_or_default (list_at (lists_of cells) k) m e 0 size_of)
+        (omega (arith, (h.each k below).before m size_of, size))
+
+pub returns-clause-cells : goal.returns-clause-cells
+returns-clause-cells c = IfOk-weaker c.gather.result _ _ cells_of c.gather.ensures
   where
     cells_of : (cells : Vec (Vec ℕ)) → AreClassLists c.deref.result.now (lists_of cells.items)
         → IsListOf (IsElement (integer_matrix c.args.graph.now.matrix)) c.args.graph.now.members

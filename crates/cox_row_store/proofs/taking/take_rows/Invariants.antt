@@ -1,5 +1,5 @@
 -- The rows taken so far are those of the cells that came, and there is room for the rest.
-use Rattle.std.proofs.Common.{◌≡◌, ◌++◌, length, vec_capacity}
+use Rattle.std.proofs.Common.{◌≡◌, ◌++◌, vec_capacity}
 use Rattle.std.specs.Vec.Iter.{into_iter_items}
 use Rattle.cox_row_store.specs.Taken.{TakesRows}
 use Rattle.cox_row_store.proofs.taking.take_rows.Given as goal

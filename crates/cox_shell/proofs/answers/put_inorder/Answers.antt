@@ -8,5 +8,5 @@ use Rattle.cox_shell.proofs.answers.put_inorder.Goals as goal
 
 pub returns : goal.returns
 returns c =
-    rw c.unrefused.ensures (PutsUnless-free _ (IsOrderText (integer_matrix c.args.work.now.table) c.args.y.now.items c.args.w.now.items)
+    rw c.unrefused.ensures (PutsUnless-free _ (IsOrderText (integer_matrix c.args.table.now) c.args.y.now.items c.args.w.now.items)
     (truth_text c.below.result) _ _ (c.below.result, c.below.ensures, refl) c.put_truth.ensures)

@@ -7,4 +7,4 @@ pub returns-in-Two-Rpol-default-default : goal.returns-in-Two-Rpol-default-defau
 returns-in-Two-Rpol-default-default c =
     let arm = c.in-Two-Rpol-default-default in
     let kind : arm.field-0 ≡ Rpol = grind (arith, arm.is, arm.field-0-is) in
-    rw (arm.is, kind) c.put_rpol.ensures
+    record { puts = rw (arm.is, kind) c.put_rpol.ensures; kept = c.requires.kept }

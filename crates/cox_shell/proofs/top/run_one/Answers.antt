@@ -4,7 +4,7 @@ use Rattle.cox_shell.specs.Reply.{opening}
 use Rattle.cox_shell.specs.Run.{stand}
 use Rattle.cox_shell.specs.Outcome.{Runs}
 use Rattle.cox_shell.specs.Top.{argument_texts, given_limits}
-use Rattle.cox_shell.proofs.Whole.{beginning, limits-given, Runs-beginning, AnswersAll-whole, Runs-within, Runs-takes, Runs-due, Runs-room}
+use Rattle.cox_shell.proofs.Whole.{Runs-given, beginning, limits-given, Runs-beginning, AnswersAll-whole, Runs-within, Runs-takes, Runs-due, Runs-room}
 use Rattle.cox_shell.proofs.Whole.{WritesDue-none, IsDue-usage, IsOverRoom-usage}
 use Rattle.cox_shell.proofs.top.run_one.Given as given
 use Rattle.cox_shell.proofs.top.run_one.Goals as goal
@@ -49,7 +49,8 @@ runs : (g : given.Over) (c : goal.After-drop-reader-inside-2 g)
     (stand c.run_lines.new.session c.run_lines.new.reader (g.S.Source.seen c.run_lines.new.source) (g.K.Sink.seen c.run_lines.new.sink))
 runs g c = Runs-beginning c.run_lines.result (given_limits (argument_texts c.args.words.now)) _ _ (g.S.Source.seen c.args.source.now) _ _
     (c.new-session.ensures
-    ∙ ap opening (limits-given c.in-Ok.options (argument_texts c.args.words.now) c.in-Ok.ensures.context c.in-Ok.ensures.roots)) c.in-Ok-new.ensures
+    ∙ ap opening (limits-given c.in-Ok.options (argument_texts c.args.words.now) c.in-Ok.ensures.context c.in-Ok.ensures.coef
+    c.in-Ok.ensures.roots)) c.in-Ok-new.ensures
     c.run_lines.ensures.runs
 
 pub returns-clause-done : goal.returns-clause-done
@@ -62,6 +63,9 @@ returns-clause-refused g c e = AnswersAll-whole _ _ _ _ _ (g.S.Source.seen c.run
 
 pub returns-clause-limit : goal.returns-clause-limit
 returns-clause-limit g c e = Runs-within _ _ _ _ _ (g.S.Source.seen c.run_lines.new.source) _ (rw e at (runs g c))
+
+pub returns-clause-given : goal.returns-clause-given
+returns-clause-given g c e = Runs-given _ _ _ _ (g.S.Source.seen c.run_lines.new.source) _ _ (rw e at (runs g c))
 
 pub returns-clause-prefix : goal.returns-clause-prefix
 returns-clause-prefix g c = Runs-due c.run_lines.result (argument_texts c.args.words.now) (g.S.Source.seen c.args.source.now).left _ _ _

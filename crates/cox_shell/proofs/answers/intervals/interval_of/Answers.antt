@@ -32,22 +32,23 @@ pub returns-in-Ok-clause-members : goal.returns-in-Ok-clause-members
 returns-in-Ok-clause-members c = (
   c.in-Ok.ensures.members,
   HasMoreThan-few (IsInInterval
-      (integer_matrix c.args.work.now.table) c.args.w.now.items) c.args.work.now.options.context c.in-Ok.context.members
+      (integer_matrix c.args.table.now) c.args.w.now.items) c.args.options.context c.in-Ok.context.members
       c.in-Ok.ensures.members (omega (arith, c.in-Ok.ensures.few, c.context.ensures.context)),
 )
 
 pub returns-in-Err-Size : goal.returns-in-Err-Size
 returns-in-Err-Size c =
-    let matrix : IsCoxeterMatrix c.args.work.now.table = rw c.group.ensures at c.rank.ensures.matrix in
-    let admissible = IsAdmissible-integer_matrix c.args.work.now.table matrix in
+    let matrix : IsCoxeterMatrix c.args.table.now = rw c.group.ensures at c.rank.ensures.matrix in
+    let admissible = IsAdmissible-integer_matrix c.args.table.now matrix in
     let refusal = rw c.context.ensures.context at (c.in-Err-Size.ensures {u = tt}).refused in
     record {
       matrix = tt;
+      few = tt;
       members = inr (
         λ none. none,
         inl (
           interval-size
-              (integer_matrix c.args.work.now.table) admissible c.args.work.now.options.context c.args.w.now.items (omega arith) _ _ _
+              (integer_matrix c.args.table.now) admissible c.args.options.context c.args.w.now.items (omega arith) _ _ _
               c.in-Err-Size.field-0-is refusal,
           refl,
         ),
@@ -57,8 +58,8 @@ returns-in-Err-Size c =
 
 pub unreachable-requires : goal.unreachable-requires
 unreachable-requires c =
-    let matrix : IsCoxeterMatrix c.args.work.now.table = rw c.group.ensures at c.rank.ensures.matrix in
-    let admissible = IsAdmissible-integer_matrix c.args.work.now.table matrix in
-    interval-long (integer_matrix c.args.work.now.table) admissible c.context.result c.args.w.now.items (omega arith) _
+    let matrix : IsCoxeterMatrix c.args.table.now = rw c.group.ensures at c.rank.ensures.matrix in
+    let admissible = IsAdmissible-integer_matrix c.args.table.now matrix in
+    interval-long (integer_matrix c.args.table.now) admissible c.context.result c.args.w.now.items (omega arith) _
     c.in-Err-Long.field-0-is
     (c.in-Err-Long.ensures {u = tt}).refused

@@ -6,9 +6,9 @@ use Rattle.cox_shell.proofs.answers.intervals.put_coatoms.Goals as goal
 
 pub returns : goal.returns
 returns c =
-    let A = integer_matrix c.args.work.now.table in
+    let A = integer_matrix c.args.table.now in
     let context = c.in_ok-context.context in
     let told = c.in_ok-context.ensures {u = tt} in
     let some = rw told.matrix at
     (c.put_shorter.ensures c.args.w.now.items (rw told.matrix told.members.0) (rw told.matrix c.length.ensures.length)) in
-    rw c.unrefused.ensures (PutsUnless-given (limits_of c.args.work.now.options) A c.args.w.now.items _ context _ _ _ told.members some)
+    rw c.unrefused.ensures (PutsUnless-given (limits_of c.args.options) A c.args.w.now.items _ context _ _ _ told.members some)

@@ -11,11 +11,11 @@ pub returns-in-Err-Deep : goal.returns-in-Err-Deep
 returns-in-Err-Deep c =
     let d = c.in-Err-Deep.field-0-0 in
     let deep = (c.r.ensures.deep d).0 (c.in-Err-Deep.is ∙ ap Err c.in-Err-Deep.field-0-is) in
-    (far-refused (integer_matrix c.args.work.now.table) c.args.y.now.items c.args.w.now.items d deep, refl)
+    (far-refused (integer_matrix c.args.table.now) c.args.y.now.items c.args.w.now.items d deep, refl)
 
 pub returns-in-Ok : goal.returns-in-Ok
 returns-in-Ok c =
-    let A = integer_matrix c.args.work.now.table in
+    let A = integer_matrix c.args.table.now in
     let near : (d : ℕ) → IsDeep A c.args.y.now.items c.args.w.now.items d → ⊥ =
     λ d deep. let bad : c.r.result ≡ Err (Deep d) = (c.r.ensures.deep d).1 deep in let good = c.in-Ok.is in cc in
     let value = c.in-Ok.ensures {u = tt} in

@@ -1,8 +1,7 @@
 -- The proof of `Session::set_group`.
-use Rattle.std.proofs.Common.{◌≡◌, Some, refl, ap, ap₂, ◌∙◌, sym}
+use Rattle.std.proofs.Common.{refl, ap, ◌∙◌}
 use Rattle.cox_base.specs.IntegerMatrix.{integer_matrix}
 use Rattle.cox_base.proofs.Admissible.{IsAdmissible-integer_matrix}
-use Rattle.cox_small.specs.SmallRoots.{HasMoreSmallRoots}
 use Rattle.cox_small.specs.RootCounts.{HasFewSmallRoots}
 use Rattle.cox_command.specs.declared.command.Command.TheVariants.{Group}
 use Rattle.cox_command.specs.declared.refusal.Refusal.TheVariants.{ManyRoots}
@@ -21,7 +20,7 @@ returns-in-Ok-clause-ok c =
     let limits = ap (λ (s : State). s.limits) c.self.view_is in (
       silence (with_group c.args.self.now c.args.group.now),
       group-set c.args.self.now c.args.group.now few,
-      Says-silence _ _ _ (rw (limits, c.in-Ok.ensures.group) refl),
+      Says-silence _ _ _ (rw (limits, c.new.ensures.table, c.in-Ok.ensures.group) refl),
     )
 
 pub returns-in-Err-TooMany-clause-ok : goal.returns-in-Err-TooMany-clause-ok

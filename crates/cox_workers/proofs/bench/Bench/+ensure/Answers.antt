@@ -1,5 +1,5 @@
 -- The worker's steps.
-use Rattle.std.proofs.Common.{◌≡◌, ◌<◌, refl, ap, ◌∙◌, rules, arith}
+use Rattle.std.proofs.Common.{◌≡◌, refl, ap, ◌∙◌, rules, arith}
 use Rattle.std.specs.Prelude.{IfErr}
 use Rattle.cox_klstep.proofs.NeedLemmas.{listed-needs}
 use Rattle.cox_row.specs.Rising.{number_at}
@@ -10,7 +10,6 @@ use Rattle.cox_workers.proofs.Keeping.{needs-map, kept-trans, kept-needed, resul
 use Rattle.cox_workers.proofs.Descended.{identity-needs, lower-before, lower-needed, correction-before, correction-needed}
 use Rattle.cox_workers.specs.Shelves.{IsOn}
 use Rattle.cox_workers.specs.Work.{IsNeededAt, IsMissing}
-use Rattle.cox_klstep.specs.StepOf.{IsDescentAt}
 use Rattle.cox_klstep.specs.NeedsOf.{AreNeeds}
 use Rattle.cox_base.specs.IntegerMatrix.{integer_matrix}
 use Rattle.cox_context.specs.Numbers.{word_at}

@@ -1,5 +1,5 @@
 -- The row of a member is made from those of members with smaller numbers; and what is known while these are taken, one after another.
-use Rattle.std.proofs.Common.{◌≡◌, ℕ, ◌<◌, ◌+◌, ◌*◌, slice_index_or}
+use Rattle.std.proofs.Common.{ℕ, ◌<◌, ◌+◌, ◌*◌}
 use Rattle.cox_workers.specs.Ready.{IsReady}
 use Rattle.cox_workers.specs.Shelves.{IsOn}
 use Rattle.cox_workers.specs.Work.{IsKept, VoidsNone}

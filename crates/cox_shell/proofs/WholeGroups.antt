@@ -1,0 +1,122 @@
+-- Whole groups among what is kept: when all elements are members, and what refuses them or their rows.
+use Rattle.std.proofs.Common.{◌≡◌, ◌⊎◌, ℕ, ◌≤◌, ◌<◌, List, [], ◌∷◌, length, Contains, Option, None, Some, is_some, true, inl, inr, refl, sym, ap, ◌∙◌, ⊎_elim}
+use Rattle.std.proofs.Common.{arith, subst, ℤ, pos}
+use Rattle.cox_base.specs.Matrix.{CoxeterMatrix, IsLetter}
+use Rattle.cox_base.specs.IntegerMatrix.{IntegerMatrix, integer_matrix}
+use Rattle.cox_base.specs.Admissible.{IsAdmissible}
+use Rattle.cox_base.specs.ShortLex.{normal_form}
+use Rattle.cox_reflect.proofs.Elements.{same-refl}
+use Rattle.cox_hecke.specs.Needs.{itself}
+use Rattle.cox_context.specs.Closed.{Elements, IsClosed}
+use Rattle.cox_context.specs.Members.{IsElement}
+use Rattle.cox_context.specs.SortedList.{IsListOf}
+use Rattle.cox_context.specs.Numbers.{word_at, IsNumberOf}
+use Rattle.cox_context.specs.Refusal.{IsTooLarge, IsRefusal}
+use Rattle.cox_context.specs.declared.fault.ContextFault.{ContextFault}
+use Rattle.cox_context.specs.declared.fault.ContextFault.TheVariants as context
+use Rattle.cox_context.proofs.Ideals.{element-tail}
+use Rattle.cox_context.proofs.ListLemmas.{contains-placed, placed-contains, contains-at}
+use Rattle.cox_context.proofs.Shifting.{first-member}
+use Rattle.cox_context.proofs.SortedLemmas.{HasMoreThan-over, HasMoreThan-few}
+use Rattle.cox_rows.specs.declared.fault.RowsFault.{RowsFault}
+use Rattle.cox_rows.specs.declared.fault.RowsFault.TheVariants.{Coefficient, Mu, NoMemory}
+use Rattle.cox_rows.specs.Holding.{Holding}
+use Rattle.cox_rows.specs.Faults.{IsFaultOfSome}
+use Rattle.cox_rows.specs.Beyond.{IsBeyond, NeedsBeyond, coefficient, mu}
+use Rattle.cox_command.specs.declared.refusal.Refusal.{Refusal}
+use Rattle.cox_command.specs.declared.refusal.Refusal.TheVariants.{LargeInterval, LargeRow}
+use Rattle.cox_shell.specs.Reply.{Limits}
+use Rattle.cox_shell.specs.Question.{IsRefused}
+use Rattle.cox_shell.specs.GroupReply.{RefusesGroupRows}
+use Rattle.cox_shell.specs.Kept.{AreOf, HoldsGroup}
+use Rattle.cox_shell.specs.GroupSize.{RefusesLargeGroup}
+
+module _ (A : IntegerMatrix) (g : IsAdmissible A) (members : List (List ℕ)) where
+  -- where each left shift of a member is one, all elements are members
+  pub whole-by_shifts : IsClosed A members
+      → ((i : ℕ) → i < length members → (s : ℕ) → IsLetter A.rank s → Contains members (normal_form A (s ∷ word_at members i)))
+      → IsListOf (IsElement A) members
+  whole-by_shifts closed shifts = record { rising = closed.rising; sound = closed.element; whole = go }
+    where
+      go : (word : List ℕ) → IsElement A word → Contains members word
+      go [] e = subst (Contains members) (first-member A g members closed) (contains-at members 0 (omega (arith, closed.some)))
+      go (s ∷ x) e =
+          let p = contains-placed members x (go x (element-tail A g s x e)) in
+          subst (Contains members) (ap (λ (y : List ℕ). normal_form A (s ∷ y)) p.is ∙ e.normal)
+          (shifts p.i p.within s (e.letters 0 0 (omega arith)))
+
+-- so many elements, none of them too long, are not refused
+pub not-too_large : (A : IntegerMatrix) (limit : ℕ) (members : List (List ℕ)) → IsClosed A members → IsListOf (IsElement A) members
+    → length members ≤ limit → IsTooLarge (IsElement A) limit → ⊥
+not-too_large A limit members closed all few (inl many) =
+    HasMoreThan-few (IsElement A) limit members all few (HasMoreThan-over (IsElement A) limit members all many)
+not-too_large A limit members closed all few (inr long) = omega (arith, closed.short long.long (all.whole long.long long.member), long.letters)
+
+-- a group that is refused, apart from memory that runs out
+pub group-too_large : (A : IntegerMatrix) (limit : ℕ) (fault : ContextFault) → (fault ≡ context.NoMemory → ⊥)
+    → IsRefusal (IsElement A) limit fault → IsTooLarge (IsElement A) limit
+group-too_large A limit (context.Size bound seen) memory refusal = inl refusal.2
+group-too_large A limit context.Long memory refusal = inr refusal
+group-too_large A limit context.NoMemory memory refusal = absurd (memory refl)
+
+-- the row of some member is beyond a limit
+pub fault-beyond : (e : Elements) (limit : ℤ) (fault : RowsFault) → (fault ≡ NoMemory → ⊥) → IsFaultOfSome e limit fault
+    → (i : ℕ) × (i < length e.members) × IsBeyond (integer_matrix e.matrix) limit (word_at e.members i)
+fault-beyond e limit (Coefficient x w degree value) memory h = (w, h.member, coefficient h.is.large)
+fault-beyond e limit (Mu x w value) memory h = (w, h.member, mu h.is.large)
+fault-beyond e limit NoMemory memory h = absurd (memory refl)
+
+module _ (limits : Limits) (A : IntegerMatrix) where
+  pub large-refused : IsTooLarge (IsElement A) limits.context → IsRefused (RefusesLargeGroup limits A) (Some LargeInterval)
+  large-refused large = inr (λ none. none, inl (large, refl))
+
+  pub large-allowed : (IsTooLarge (IsElement A) limits.context → ⊥) → IsRefused (RefusesLargeGroup limits A) None
+  large-allowed small = inr (λ none. none, inr (small, inr (λ none. none, inr (λ none. none, refl))))
+
+  -- nothing refuses the group
+  pub not-large : IsRefused (RefusesLargeGroup limits A) None → IsTooLarge (IsElement A) limits.context → ⊥
+  not-large (inl first) large = first.0
+  not-large (inr (none, inl second)) large = absurd (cc second.1)
+  not-large (inr (none, inr (small, rest))) large = small large
+
+  -- what refuses the group refuses its rows
+  pub large-rows_refused : (why : Refusal) → IsRefused (RefusesLargeGroup limits A) (Some why) → IsRefused (RefusesGroupRows limits A) (Some why)
+  large-rows_refused why (inl p) = absurd p.0
+  large-rows_refused why (inr (m, inl p)) = inr (λ none. none, inl (p.0, p.1))
+  large-rows_refused why (inr (m, inr (l, inl p))) = absurd p.0
+  large-rows_refused why (inr (m, inr (l, inr (f, inl p)))) = absurd p.0
+  large-rows_refused why (inr (m, inr (l, inr (f, inr (r, e))))) = absurd (cc e)
+
+  pub rows-refused : (IsTooLarge (IsElement A) limits.context → ⊥) → (w : List ℕ) → IsElement A w → IsBeyond A (pos limits.coefficient) w
+      → IsRefused (RefusesGroupRows limits A) (Some LargeRow)
+  rows-refused small w e beyond = inr (λ none. none, inr (small, inr (λ none. none, inl ((small, w, e, beyond), refl))))
+
+  pub rows-allowed : IsAdmissible A → (IsTooLarge (IsElement A) limits.context → ⊥) → (members : List (List ℕ)) → IsListOf (IsElement A) members
+      → ((i : ℕ) → i < length members → NeedsBeyond A (pos limits.coefficient) (word_at members i) → ⊥)
+      → IsRefused (RefusesGroupRows limits A) None
+  rows-allowed g small members all none =
+      inr (λ no. no, inr (small, inr (λ no. no, inr (within, refl))))
+    where
+      within : RefusesGroupRows limits A LargeRow → ⊥
+      within r = let p = contains-placed members r.1 (all.whole r.1 r.2) in
+          none p.i p.within (record { element = word_at members p.i; needed = itself (same-refl A g (word_at members p.i)); beyond = rw p.is r.3 })
+
+-- a word with a number is in the list
+pub number-contains : (words : List (List ℕ)) (word : List ℕ) (found : Option ℕ) → is_some found ≡ true → IsNumberOf words word found
+    → Contains words word
+number-contains words word None some none = absurd (cc some)
+number-contains words word (Some k) some number = placed-contains words word (record { i = k; within = number.0; is = number.1 })
+
+-- where the row of some member is beyond a limit, the rows of the group are refused
+pub fault-refused : (table : CoxeterMatrix) (limits : Limits) (rows : Holding) (fault : RowsFault) → AreOf table limits rows
+    → HoldsGroup (integer_matrix table) rows → (IsTooLarge (IsElement (integer_matrix table)) limits.context → ⊥) → (fault ≡ NoMemory → ⊥)
+    → IsFaultOfSome rows.elements rows.limit fault → IsRefused (RefusesGroupRows limits (integer_matrix table)) (Some LargeRow)
+fault-refused table limits rows fault of whole small memory is =
+    let found = fault-beyond rows.elements rows.limit fault memory is in by_member found.0 found.1 found.2
+  where
+    by_member : (i : ℕ) → i < length rows.elements.members
+        → IsBeyond (integer_matrix rows.elements.matrix) rows.limit (word_at rows.elements.members i)
+        → IsRefused (RefusesGroupRows limits (integer_matrix table)) (Some LargeRow)
+    by_member i within beyond = rows-refused limits (integer_matrix table) small (word_at rows.elements.members i)
+        (whole.sound (word_at rows.elements.members i) (contains-at rows.elements.members i within))
+        (rw (of.group, of.limit) at beyond)

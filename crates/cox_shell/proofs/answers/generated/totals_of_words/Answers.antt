@@ -1,0 +1,49 @@
+-- The proof of `totals_of_words`.
+use Rattle.std.proofs.Common.{◌≡◌, ◌+◌, ◌-◌, ◌*◌, ◌≤◌, suc, refl, sym, ◌∙◌, arith, rules}
+use Rattle.std.proofs.lemmas.Result.{err_from_is_err_and}
+use Rattle.cox_base.specs.IntegerMatrix.{integer_matrix}
+use Rattle.cox_reflect.proofs.Admissible.{IsAdmissible-integer_matrix}
+use Rattle.cox_command.specs.Generated.{generated_word, state_behind_word}
+use Rattle.cox_shell.specs.SessionLimits.{limits_of}
+use Rattle.cox_shell.specs.WorkReply.{generated_words}
+use Rattle.cox_shell.proofs.WorkTotals.{Reaches, reaches-more, reaches-all, reaches-err}
+use Rattle.cox_shell.proofs.answers.generated.totals_of_words.Goals as goal
+
+pub returns-in_err-row-clause-totals : goal.returns-in_err-row-clause-totals
+returns-in_err-row-clause-totals c =
+    let table = c.args.table.now in
+    let A = integer_matrix table in
+    let words = generated_words table.rank c.args.count c.args.start in
+    let k = c.loop.counter in
+    let left : c.args.count - k ≡ suc (c.args.count - (k + 1)) = omega arith in
+    let rank : c.rank-rank.result ≡ table.rank = c.rank-rank.ensures.rank ∙ rw c.group.ensures refl in
+    let p = err_from_is_err_and c.from_residual.result c.from_residual.ensures.1 in
+    rw (p.1, p.2) (reaches-err (limits_of c.args.options) A words (IsAdmissible-integer_matrix table c.totals_of_word.ensures.group)
+    (generated_word table.rank c.loop.state) _ _ c.totals_of_word.result _
+    (c.in_err-row.was {u = tt}) (rw left at c.loop.invariant.reaches) (rw (c.work_word-word.ensures.word, rank) at c.totals_of_word.ensures.totals))
+
+pub loop-preserved : goal.loop-preserved
+loop-preserved c =
+    let table = c.args.table.now in
+    let A = integer_matrix table in
+    let words = generated_words table.rank c.args.count c.args.start in
+    let k = c.loop.counter in
+    let left : c.args.count - k ≡ suc (c.args.count - (k + 1)) = omega arith in
+    let rank : c.rank-rank.result ≡ table.rank = c.rank-rank.ensures.rank ∙ rw c.group.ensures refl in
+    let told = c.in_ok-row.ensures {u = tt} in
+    let summed = rw (c.work_word-word.ensures.word, rank) at told.totals in
+    record {
+      few = rw c.add.ensures (omega (arith, c.loop.invariant.few, told.few));
+      range = c.work_word-word.ensures.most;
+      kept = told.kept;
+      reaches = rw (c.add.ensures, c.work_word-word.ensures.state)
+          (reaches-more (limits_of c.args.options) A words (generated_word table.rank c.loop.state) _ c.loop.totals c.in_ok-row.row
+          (rw left at c.loop.invariant.reaches) summed.0 summed.1);
+    }
+
+pub returns-clause-totals : goal.returns-clause-totals
+returns-clause-totals c =
+    let table = c.args.table.now in
+    let none : c.args.count - c.loop.counter ≡ 0 = omega arith in
+    reaches-all (limits_of c.args.options) (integer_matrix table) (generated_words table.rank c.args.count c.args.start) c.loop.totals
+    (rw none at c.loop.invariant.reaches)

@@ -1,0 +1,63 @@
+-- Rows that a session keeps of its group, and what asking for some of them leads to.
+use Rattle.std.specs.Prelude.{◌≡◌, ℕ, ◌<◌, ◌≤◌, List, length, Contains, Option, None, Some, IfSome, IsSomeAnd, Result, Ok, Err, ℤ, pos}
+use Rattle.cox_base.specs.Matrix.{CoxeterMatrix}
+use Rattle.cox_base.specs.IntegerMatrix.{IntegerMatrix, integer_matrix}
+use Rattle.cox_base.specs.ShortLex.{normal_form}
+use Rattle.cox_context.specs.Members.{IsElement}
+use Rattle.cox_context.specs.SortedList.{IsListOf}
+use Rattle.cox_context.specs.Numbers.{word_at}
+use Rattle.cox_options.specs.declared.options.Options.{Options}
+use Rattle.cox_rows.specs.Holding.{Holding, Holds}
+use Rattle.cox_command.specs.declared.refusal.Refusal.{Refusal}
+use Rattle.cox_shell.specs.declared.answers.unanswered.Unanswered.{Unanswered}
+use Rattle.cox_shell.specs.declared.answers.unanswered.Unanswered.TheVariants as unanswered
+use Rattle.cox_command.specs.declared.refusal.Refusal.TheVariants.{LargeRow}
+use Rattle.cox_rows.specs.declared.fault.RowsFault.{RowsFault}
+use Rattle.cox_rows.specs.declared.fault.RowsFault.TheVariants as fault
+use Rattle.cox_shell.specs.Reply.{Limits}
+use Rattle.cox_shell.specs.Question.{IsRefused}
+
+-- what contracts see of a workspace: the group that is set, and the options of the session
+pub record Work : Type 0 where
+  pub table : CoxeterMatrix
+  pub options : Options
+
+-- the rows are those of this group, within these limits
+pub record AreOf (g : CoxeterMatrix) (limits : Limits) (rows : Holding) : Type 0 where
+  pub group : rows.elements.matrix ≡ g
+  pub limit : rows.limit ≡ pos limits.coefficient
+  pub few : length rows.elements.members ≤ limits.context
+
+-- what is kept: such rows, if any
+abbrev pub AreKept : CoxeterMatrix → Limits → Option Holding → Type 0
+AreKept g limits kept = IfSome kept (AreOf g limits)
+
+-- the element of w is a member
+abbrev pub HoldsElement : IntegerMatrix → List ℕ → Holding → Type 0
+HoldsElement A w rows = Contains rows.elements.members (normal_form A w)
+
+-- the row of w is held, under the number i
+pub record HoldsRow (A : IntegerMatrix) (w : List ℕ) (i : ℕ) (rows : Holding) : Type 0 where
+  pub within : i < length rows.elements.members
+  pub word : word_at rows.elements.members i ≡ normal_form A w
+  pub held : Holds rows i
+
+-- the members are all elements of the group
+abbrev pub HoldsGroup : IntegerMatrix → Holding → Type 0
+HoldsGroup A rows = IsListOf (IsElement A) rows.elements.members
+
+-- the rows of all elements of the group are held
+pub record HoldsAll (A : IntegerMatrix) (rows : Holding) : Type 0 where
+  pub whole : HoldsGroup A rows
+  pub held : (i : ℕ) → i < length rows.elements.members → Holds rows i
+
+-- what was asked for is held then, and nothing refuses; or it is refused; or memory ran out
+abbrev pub Keeps : {X : Type 0} → Result X Unanswered → (Refusal → Type 0) → (X → Holding → Type 0) → Option Holding → Type 0
+Keeps (Ok x) Refuses Holds kept = IsRefused Refuses None × IsSomeAnd kept (Holds x)
+Keeps (Err (unanswered.Refused why)) Refuses Holds kept = IsRefused Refuses (Some why)
+Keeps (Err unanswered.NoMemory) Refuses Holds kept = Unit {0}
+
+-- what a fault of rows leads to
+abbrev pub unanswered_by : RowsFault → Unanswered
+unanswered_by fault.NoMemory = unanswered.NoMemory
+unanswered_by _ = unanswered.Refused LargeRow

@@ -1,0 +1,96 @@
+//! The rows that a session keeps of its group, and asks for.
+ghost use Rattle.std.specs.Prelude.{IfOk, OnOk};
+ghost use Rattle.cox_base.specs.Matrix.{IsWord};
+ghost use Rattle.cox_base.specs.Admissible.{IsCoxeterMatrix};
+ghost use Rattle.cox_base.specs.IntegerMatrix.{integer_matrix};
+ghost use Rattle.cox_context.specs.Members.{IsInInterval};
+ghost use Rattle.cox_context.specs.SortedList.{HasMoreThan};
+ghost use Rattle.cox_shell.specs.SessionLimits.{limits_of};
+ghost use Rattle.cox_shell.specs.CommandReply.{RefusesLarge};
+ghost use Rattle.cox_shell.specs.RowReply.{RefusesRow};
+ghost use Rattle.cox_shell.specs.Kept.{AreKept, AreOf, HoldsElement, HoldsRow, Keeps};
+
+use crate::answers::intervals::interval_of;
+use crate::answers::unanswered::{Unanswered, unanswered_by};
+use cox_base::Word;
+use cox_context::ContextFault;
+use cox_minroots::RootTable;
+use cox_options::Options;
+use cox_rows::Rows;
+use std::alloc::Global;
+
+/// Sees to it that the row of w is held among the rows that are kept, and tells its number there.
+///
+/// What is kept grows by the interval from the identity to w. Where both together are too large, that interval alone is kept from then on.
+pub fn keep_row(
+    alloc: Global,
+    kept: &mut Option<Rows>,
+    table: &RootTable,
+    options: Options,
+    w: &Word,
+) -> Result<u32, Unanswered>
+    requires word { IsWord table.now.rank w.now.items }
+    requires kept { AreKept table.now (limits_of options) kept.old }
+    ensures kept { AreKept table.now (limits_of options) kept.new }
+    ensures row { Keeps result (RefusesRow (limits_of options) (integer_matrix table.now) w.now.items)
+        (HoldsRow (integer_matrix table.now) w.now.items) kept.new }
+    ensures group { IsCoxeterMatrix table.now }
+{
+    keep_interval(alloc, kept, table, options, w)?;
+    let Some(rows) = kept else {
+        unreachable!();
+    };
+    let Some(i) = rows.context().number(&table.normal_form(w)) else {
+        unreachable!();
+    };
+    match rows.ensure(i) {
+        Ok(()) => Ok(i),
+        Err(fault) => Err(unanswered_by(fault)),
+    }
+}
+
+/// Sees to it that the interval from the identity to w is part of what is kept.
+fn keep_interval(
+    alloc: Global,
+    kept: &mut Option<Rows>,
+    table: &RootTable,
+    options: Options,
+    w: &Word,
+) -> Result<(), Unanswered>
+    requires word { IsWord table.now.rank w.now.items }
+    requires kept { AreKept table.now (limits_of options) kept.old }
+    ensures kept { AreKept table.now (limits_of options) kept.new }
+    ensures interval { Keeps result (RefusesLarge (limits_of options) (integer_matrix table.now) w.now.items)
+        (λ _ rows. HoldsElement (integer_matrix table.now) w.now.items rows) kept.new }
+    ensures group { IsCoxeterMatrix table.now }
+{
+    if let Some(rows) = kept.take() {
+        match extended(rows, table, options, w) {
+            Ok(rows) => {
+                *kept = Some(rows);
+                return Ok(());
+            }
+            Err(ContextFault::NoMemory) => return Err(Unanswered::NoMemory),
+            Err(_) => {}
+        }
+    }
+    let context = interval_of(alloc, table, options, w)?;
+    *kept = Some(Rows::new(alloc, context, options.coef())?);
+    Ok(())
+}
+
+/// The rows with the interval from the identity to w as part of their context.
+fn extended(rows: Rows, table: &RootTable, options: Options, w: &Word) -> Result<Rows, ContextFault>
+    requires word { IsWord table.now.rank w.now.items }
+    requires rows { AreOf table.now (limits_of options) rows }
+    ensures rows { IfOk result (AreOf table.now (limits_of options)) }
+    ensures member { IfOk result (HoldsElement (integer_matrix table.now) w.now.items) }
+    ensures small { OnOk result (¬ HasMoreThan options.context (IsInInterval (integer_matrix table.now) w.now.items)) }
+{
+    let mut rows = rows;
+    let _context = rows.context();
+    match rows.extend(table, w, options.context()) {
+        Ok(()) => Ok(rows),
+        Err(fault) => Err(fault),
+    }
+}

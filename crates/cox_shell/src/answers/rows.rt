@@ -1,0 +1,113 @@
+//! The answers on one polynomial of a row, and on mu.
+ghost use Rattle.std.specs.Prelude.{◌≡◌, ◌<◌, ℕ, List, length, IfSome, IfNone};
+ghost use Rattle.cox_base.specs.Matrix.{IsWord};
+ghost use Rattle.cox_base.specs.Admissible.{IsCoxeterMatrix};
+ghost use Rattle.cox_base.specs.IntegerMatrix.{integer_matrix};
+ghost use Rattle.cox_base.specs.Bruhat.{IsBelow};
+ghost use Rattle.std.specs.Fmt.{signed_decimal};
+ghost use Rattle.cox_poly.specs.Polynomial.{coefficient};
+ghost use Rattle.cox_poly.specs.Puts.{Puts};
+ghost use Rattle.cox_hecke.specs.Row.{IsKazhdanLusztig, IsMu};
+ghost use Rattle.cox_context.specs.Numbers.{word_at};
+ghost use Rattle.cox_rows.specs.Holding.{Holds};
+ghost use Rattle.cox_shell.specs.Kept.{AreKept};
+ghost use Rattle.cox_shell.specs.SessionLimits.{limits_of};
+ghost use Rattle.cox_shell.specs.RowReply.{RefusesRow, IsPolText, IsMuText};
+ghost use Rattle.cox_shell.specs.Saying.{PutsUnless};
+
+use crate::answers::kept::keep_row;
+use crate::answers::unanswered::{Unanswered, unrefused};
+use cox_base::Word;
+use cox_minroots::RootTable;
+use cox_options::Options;
+use cox_poly::Poly;
+use cox_poly::append::{put_number, put_text};
+use cox_print::NoMemory;
+use cox_rows::Rows;
+
+/// Puts P(y,w).
+pub fn put_pol(
+    out: &mut Vec<u8>,
+    kept: &mut Option<Rows>,
+    table: &RootTable,
+    options: Options,
+    y: &Word,
+    w: &Word,
+) -> Result<(), Unanswered>
+    requires first { IsWord table.now.rank y.now.items }
+    requires second { IsWord table.now.rank w.now.items }
+    requires kept { AreKept table.now (limits_of options) kept.old }
+    ensures puts { PutsUnless result (RefusesRow (limits_of options) (integer_matrix table.now) w.now.items)
+        (IsPolText (integer_matrix table.now) y.now.items w.now.items) out.old.items out.new.items }
+    ensures kept { AreKept table.now (limits_of options) kept.new }
+    ensures group { IsCoxeterMatrix table.now }
+{
+    let i = keep_row(*out.allocator(), kept, table, options, w)?;
+    let Some(rows) = kept else {
+        unreachable!();
+    };
+    match polynomial_at(rows, table, i, y) {
+        Some(polynomial) => unrefused(polynomial.put_text(out)),
+        None => unrefused(put_text(out, b"0")),
+    }
+}
+
+/// Puts mu(y,w).
+pub fn put_mu(
+    out: &mut Vec<u8>,
+    kept: &mut Option<Rows>,
+    table: &RootTable,
+    options: Options,
+    y: &Word,
+    w: &Word,
+) -> Result<(), Unanswered>
+    requires first { IsWord table.now.rank y.now.items }
+    requires second { IsWord table.now.rank w.now.items }
+    requires kept { AreKept table.now (limits_of options) kept.old }
+    ensures puts { PutsUnless result (RefusesRow (limits_of options) (integer_matrix table.now) w.now.items)
+        (IsMuText (integer_matrix table.now) y.now.items w.now.items) out.old.items out.new.items }
+    ensures kept { AreKept table.now (limits_of options) kept.new }
+    ensures group { IsCoxeterMatrix table.now }
+{
+    let i = keep_row(*out.allocator(), kept, table, options, w)?;
+    let Some(rows) = kept else {
+        unreachable!();
+    };
+    unrefused(put_value(out, mu_at(rows, table, i, y)))
+}
+
+/// P(y,w), for the member w with the number i; `None` where y <= w fails.
+fn polynomial_at<'a>(rows: &'a Rows, table: &RootTable, i: u32, y: &Word) -> Option<&'a Poly>
+    requires member { i < length rows.now.elements.members }
+    requires there { Holds rows.now i }
+    requires table { table.now ≡ rows.now.elements.matrix }
+    requires word { IsWord table.now.rank y.now.items }
+    ensures value { IfSome result (λ p. IsKazhdanLusztig (integer_matrix table.now) y.now.items (word_at rows.now.elements.members i) (coefficient p.now)) }
+    ensures none { IfNone result (¬ IsBelow (integer_matrix table.now) y.now.items (word_at rows.now.elements.members i)) }
+{
+    match rows.context().number(&table.normal_form(y)) {
+        Some(x) => rows.polynomial(i, x),
+        None => None,
+    }
+}
+
+/// mu(y,w), for the member w with the number i.
+fn mu_at(rows: &Rows, table: &RootTable, i: u32, y: &Word) -> i32
+    requires member { i < length rows.now.elements.members }
+    requires there { Holds rows.now i }
+    requires table { table.now ≡ rows.now.elements.matrix }
+    requires word { IsWord table.now.rank y.now.items }
+    ensures { IsMu (integer_matrix table.now) y.now.items (word_at rows.now.elements.members i) result }
+{
+    match rows.context().number(&table.normal_form(y)) {
+        Some(x) => rows.mu(i, x),
+        None => 0,
+    }
+}
+
+/// Puts a value of mu.
+fn put_value(out: &mut Vec<u8>, mu: i32) -> Result<(), NoMemory>
+    ensures { Puts result (signed_decimal mu) out.old.items out.new.items }
+{
+    put_number(out, i128::from(mu))
+}
