@@ -1,5 +1,6 @@
 """What the scripts beside this one share: which program they try, and the count of what differs."""
 import os
+import re
 import subprocess
 import sys
 
@@ -37,3 +38,21 @@ def short(value):
     """The value as text, without the middle of a long one."""
     text = repr(value)
     return text if len(text) <= 400 else f"{text[:200]} .. {text[-190:]}"
+
+
+def blocks(path):
+    """The blocks of a document: the line that each begins at, its mark, and its text."""
+    with open(os.path.join(TOP, path), encoding="utf-8") as document:
+        text = document.read()
+    for found in re.finditer(r"^```(\w*)\n(.*?)^```$", text, re.M | re.S):
+        yield text[: found.start()].count("\n") + 1, found.group(1), found.group(2)
+
+
+def examples(path, marks):
+    """The examples of a document with these marks: where each stands, its mark, its text, and what has to come out."""
+    listed = list(blocks(path))
+    for (line, mark, text), (_, next_mark, out) in zip(listed, listed[1:] + [(0, "", "")]):
+        if mark in marks:
+            if next_mark != "text":
+                sys.exit(f"{path}:{line}: what comes out of this example?")
+            yield f"{path}:{line}", mark, text, out

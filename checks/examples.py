@@ -8,32 +8,13 @@ marked `text`, which is what comes out. It prints what differs, and a last line 
 something differs. It needs Python 3 alone, and is no part of the gate.
 """
 import os
-import re
 import subprocess
 import sys
 import tempfile
 
-from common import TOP, Count, program
+from common import Count, examples, program
 
 DOCUMENTS = ["README.md", os.path.join("docs", "MANUAL.md")]
-
-
-def blocks(path):
-    """The blocks of a document: the line that each begins at, its mark, and its text."""
-    with open(os.path.join(TOP, path), encoding="utf-8") as document:
-        text = document.read()
-    for found in re.finditer(r"^```(\w*)\n(.*?)^```$", text, re.M | re.S):
-        yield text[: found.start()].count("\n") + 1, found.group(1), found.group(2)
-
-
-def examples(path):
-    """The examples of a document: where each stands, its mark, its text, and what has to come out."""
-    listed = list(blocks(path))
-    for (line, mark, text), (_, next_mark, out) in zip(listed, listed[1:] + [(0, "", "")]):
-        if mark in ("coxeter", "sh"):
-            if next_mark != "text":
-                sys.exit(f"{path}:{line}: what comes out of this example?")
-            yield f"{path}:{line}", mark, text, out
 
 
 def main():
@@ -41,7 +22,7 @@ def main():
     with tempfile.TemporaryDirectory() as folder:
         os.symlink(built, os.path.join(folder, "coxeter"))
         for document in DOCUMENTS:
-            for where, mark, text, out in examples(document):
+            for where, mark, text, out in examples(document, ("coxeter", "sh")):
                 words = ["./coxeter"] if mark == "coxeter" else ["sh"]
                 ran = subprocess.run(words, input=text.encode(), capture_output=True, cwd=folder, timeout=60)
                 count.check(where, (ran.stdout.decode(), ran.stderr), (out, b""))

@@ -1,0 +1,52 @@
+"""Pictures from the command line: python -m coxeter_shell hasse "A 3" 2132 --out h.svg"""
+import argparse
+import sys
+
+from . import pictures
+from .errors import CoxeterError
+from .group import SIDES, CoxeterGroup
+from .program import OPTIONS
+
+
+def arguments():
+    parser = argparse.ArgumentParser(prog="coxeter_shell", description="Pictures of Coxeter groups, as DOT, SVG or PNG.")
+    common = argparse.ArgumentParser(add_help=False)
+    common.add_argument("group", help='the group: "A 3", or "matrix 3 3 2 4"')
+    common.add_argument("--out", help="the file: .dot or .gv, or .svg or .png by graphviz; else DOT to standard output")
+    common.add_argument("--program", help="the path of the program coxeter")
+    for option in OPTIONS:
+        common.add_argument(f"--{option}", type=int, help="an option of the program")
+    kinds = parser.add_subparsers(dest="kind", metavar="KIND", required=True)
+    hasse = kinds.add_parser("hasse", parents=[common], help="the Hasse diagram of an interval in Bruhat order")
+    hasse.add_argument("words", nargs="+", metavar="word", help="the greatest element, or the least and the greatest")
+    graph = kinds.add_parser("wgraph", parents=[common], help="the W-graph of a finite group")
+    graph.add_argument("--side", choices=SIDES, default="left")
+    cells = kinds.add_parser("cells", parents=[common], help="the cells of a finite group")
+    cells.add_argument("--side", choices=list(pictures.CELLS), default="left")
+    given = parser.parse_args()
+    if given.kind == "hasse" and len(given.words) > 2:
+        hasse.error("give one word or two")
+    return given
+
+
+def main():
+    given = arguments()
+    options = {name: getattr(given, name) for name in OPTIONS}
+    try:
+        with CoxeterGroup(given.group, program=given.program, **options) as group:
+            if given.kind == "hasse":
+                text = pictures.hasse(group, given.words[-1], *given.words[:-1])
+            elif given.kind == "wgraph":
+                text = pictures.w_graph(group, given.side)
+            else:
+                text = pictures.cells(group, given.side)
+        if given.out is None:
+            sys.stdout.write(text)
+        else:
+            pictures.save(text, given.out)
+    except (CoxeterError, ValueError, OSError) as error:
+        sys.exit(f"coxeter_shell: {error}")
+
+
+if __name__ == "__main__":
+    main()

@@ -1,0 +1,100 @@
+"""What can go wrong."""
+
+# The refusals of the program, in the words of its manual.
+MEANINGS = {
+    10: "the program has no such command",
+    11: "the command takes another number of arguments",
+    12: "an argument should be a number and is none, or it is out of range",
+    13: "there is no such type",
+    14: "a label of the matrix is not 0, 2, 3, 4 or 6",
+    15: "no group is set",
+    16: "a word has a letter that the group doesn't have",
+    17: "a word has more than 255 letters",
+    18: "the line has more than 4,096 bytes",
+    19: "the line has a byte that is no printing ASCII character and no space",
+    21: "the group has more small roots than the option `roots` allows",
+    31: "the interval below the element, or the group, is infinite or has more members than the option `context` allows",
+    32: "a coefficient of a Kazhdan-Lusztig polynomial is beyond the option `coef`, or a value of mu is too large",
+    34: "R-polynomials are refused for elements whose lengths differ by more than 39",
+}
+
+STATUSES = {
+    2: "its arguments are wrong",
+    3: "it could not read its input",
+    4: "it could not write its answer",
+    5: "it ran out of memory",
+    6: "it was given more than 16,777,216 bytes of input",
+    70: "it could not be built",
+    127: "it has to be built, and the command `rt` is not on the PATH",
+}
+
+
+class CoxeterError(Exception):
+    """The errors of this package."""
+
+
+class Refusal(CoxeterError):
+    """The program refused a line. `number` is the refusal's number, `meaning` says it in words, `line` is the line.
+
+    The group is as it was before.
+    """
+
+    def __init__(self, number, line):
+        super().__init__(number, line)
+        self.number = number
+        self.line = line
+        self.meaning = MEANINGS.get(number, "a refusal that this package doesn't know")
+
+    def __str__(self):
+        return f"error {self.number}: {self.meaning} (the line was {shown(self.line)})"
+
+
+class ProgramNotFound(CoxeterError):
+    """There is no program to drive."""
+
+
+class ProgramError(CoxeterError):
+    """The program didn't do what it should. Its process has been ended, and the next question starts a new one."""
+
+
+class ProgramEnded(ProgramError):
+    """The program ended, or closed a pipe, before it had answered.
+
+    `status` is its exit status, negative for a signal, or None where the program had to be ended.
+    """
+
+    def __init__(self, line, status):
+        super().__init__(line, status)
+        self.line = line
+        self.status = status
+
+    def __str__(self):
+        if self.status is None:
+            how = "it closed a pipe, and had to be stopped"
+        elif self.status < 0:
+            how = f"by signal {-self.status}"
+        else:
+            how = f"exit status {self.status}"
+            how += f": {STATUSES[self.status]}" if self.status in STATUSES else ""
+        when = f"it had answered {shown(self.line)}" if self.line else "it was asked anything"
+        return f"the program ended before {when} ({how})"
+
+
+class UnexpectedAnswer(ProgramError):
+    """An answer that doesn't have the shape that it should have. `line` was asked, and `answer` is what came."""
+
+    def __init__(self, line, answer, why):
+        super().__init__(line, answer, why)
+        self.line = line
+        self.answer = answer
+        self.why = why
+
+    def __str__(self):
+        asked = shown(self.line) if self.line else "a blank line"
+        return f"an unexpected answer to {asked}: {self.why}; what came is {shown(self.answer)}"
+
+
+def shown(value):
+    """The value as text, without the middle of a long one."""
+    text = repr(value)
+    return text if len(text) <= 200 else f"{text[:150]} .. {text[-40:]}"

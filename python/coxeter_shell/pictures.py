@@ -1,0 +1,83 @@
+"""Pictures, as DOT texts: Hasse diagrams of Bruhat intervals, W-graphs and cells."""
+import os
+import shutil
+import subprocess
+
+from .errors import CoxeterError
+
+# What graphviz is asked to draw, by the end of a file's name. Files of the other two are DOT texts.
+DRAWN = {".svg": "svg", ".png": "png"}
+TEXTS = (".dot", ".gv")
+
+CELLS = {
+    "left": ("left", "iter_left_cells"),
+    "right": ("right", "iter_right_cells"),
+    "two-sided": ("left", "iter_two_sided_cells"),
+}
+
+
+def hasse(group, w, y=()):
+    """The Hasse diagram of the interval from y to w in Bruhat order. Elements of equal length stand side by side."""
+    covers = group.hasse_diagram(y, w)
+    lines = ["rankdir=BT", "node [shape=plaintext]"]
+    for length in sorted({len(x) for x in covers}):
+        names = " ".join(f"{name(group, x)};" for x in covers if len(x) == length)
+        lines.append(f"{{ rank=same; {names} }}")
+    lines += [f"{name(group, z)} -- {name(group, x)}" for x, below in covers.items() for z in below]
+    return dot("hasse", lines)
+
+
+def w_graph(group, side="left"):
+    """The W-graph for the left or the right descents. An edge with another value than 1 is labelled by it."""
+    graph = group.W_graph(side)
+    return dot("wgraph", [*(name(group, x) for x in graph), *edges(group, graph)])
+
+
+def cells(group, side="left"):
+    """The left, right or two-sided cells as clusters, with the edges of the W-graph (the left one for two-sided cells)."""
+    if side not in CELLS:
+        raise ValueError(f"the side is left, right or two-sided, not {side!r}")
+    of_graph, method = CELLS[side]
+    lines = []
+    for number, cell in enumerate(getattr(group, method)(), 1):
+        lines.append(f"subgraph cluster_{number} {{ {' '.join(f'{name(group, x)};' for x in cell)} }}")
+    return dot("cells", lines + edges(group, group.W_graph(of_graph)))
+
+
+def name(group, element):
+    """An element as a node of DOT: its normal form."""
+    return f'"{group.text(element)}"'
+
+
+def edges(group, graph):
+    """The edges of a W-graph in DOT."""
+    listed = []
+    for x, y, value in graph.edges():
+        listed.append(f"{name(group, x)} -- {name(group, y)}" + (f" [label={value}]" if value != 1 else ""))
+    return listed
+
+
+def dot(title, lines):
+    """A DOT text of an undirected graph."""
+    return "".join([f"graph {title} {{\n", *(f"  {line}\n" for line in lines), "}\n"])
+
+
+def save(text, path):
+    """Writes a picture into a file: the DOT text (.dot, .gv), or what graphviz draws (.svg, .png)."""
+    kind = os.path.splitext(path)[1].lower()
+    if kind not in DRAWN and kind not in TEXTS:
+        raise CoxeterError(f"{path}: the name of a picture ends in .dot, .gv, .svg or .png")
+    drawn = draw(text, DRAWN[kind]) if kind in DRAWN else text.encode("ascii")
+    with open(path, "wb") as out:
+        out.write(drawn)
+
+
+def draw(text, kind):
+    """What graphviz makes of a DOT text, as bytes. `kind` is svg, png or another kind that it knows."""
+    program = shutil.which("dot")
+    if program is None:
+        raise CoxeterError("the command `dot` of graphviz is not installed (Debian: the package graphviz)")
+    ran = subprocess.run([program, f"-T{kind}"], input=text.encode("ascii"), capture_output=True)
+    if ran.returncode:
+        raise CoxeterError(f"dot failed: {ran.stderr.decode(errors='replace').strip()}")
+    return ran.stdout

@@ -1,0 +1,332 @@
+"""One process of the program, driven through pipes.
+
+How the end of an answer is known is worked out here and nowhere else. After each question a second line is sent, a
+single TAB. The program answers `error 19` to it, whatever the group is and whether or not one is set: a TAB may not
+stand in a line, and nothing but the length of a line is judged before that. No question has this answer, since a line
+with such a character is refused here and never sent. So the lines before `error 19` are the answer to the question:
+none where `type` or `matrix` was accepted, one line `error N` where the question was refused, else a line or a list.
+"""
+import collections
+import importlib.metadata
+import json
+import os
+import re
+import shutil
+import subprocess
+import threading
+import urllib.parse
+import urllib.request
+import weakref
+
+from .errors import ProgramEnded, ProgramNotFound, Refusal, UnexpectedAnswer
+
+MARK = "\t"
+MARK_ANSWER = "error 19"
+
+# The most bytes that the program accepts: of a line, without its LF, and of its whole input.
+MOST_OF_LINE = 4096
+MOST_OF_INPUT = 16_777_216
+
+OPTIONS = ("context", "roots", "coef")
+
+# How many seconds a process that is told to end has for it.
+PATIENCE = 2
+
+
+class Program:
+    """A process of the program. It is started when first asked, and kept.
+
+    `group` is the `type` or `matrix` line that a new process begins with. `context`, `roots` and `coef` are
+    options of the program. The process is ended by `close`, at the end of a `with` block, and with the object; if it
+    ends otherwise, the next question starts a new one with the same group.
+    """
+
+    def __init__(self, path=None, *, group=None, **options):
+        for name in options:
+            if name not in OPTIONS:
+                raise TypeError(f"the program has no option {name!r}")
+        self.path = path
+        self.group = group
+        self.options = {name: value for name, value in options.items() if value is not None}
+        self._lock = threading.RLock()
+        self._process = self._end = self._owner = None
+        self._sent = 0  # bytes
+        self._asked = ""  # the last question
+        self._unread = None  # a weak reference to its answer, until that is read to its end
+        # Whether the group is set, and whether it is known what comes next from the process: an interrupt may come anywhere.
+        self._begun = self._sure = False
+
+    def ask(self, line):
+        """The lines of the answer to a line: none where `type`, `matrix` or a blank line is accepted."""
+        with self._lock:
+            return list(self.stream(line))
+
+    def stream(self, line):
+        """The lines of the answer to a line, as an iterator that reads them when they are needed."""
+        words = check_line(line)
+        with self._lock:
+            self.start()
+            answer = self._question(line)
+            if words and words[0] in ("type", "matrix"):
+                self._none(answer)
+                self.group = line
+            return answer
+
+    def start(self):
+        """Starts the process and sets the group, unless a process is there that can take one more question."""
+        with self._lock:
+            if self._process is not None and (self.foreign() or not self._begun or not self._sure):
+                self.close()
+            if self._process is not None:
+                self._read_rest()
+                if self._sent + MOST_OF_LINE + len("\n" + MARK + "\n") > MOST_OF_INPUT:
+                    self.close()
+            if self._process is None:
+                self._spawn()
+                self._none(self._question(""))
+                if self.group is not None:
+                    try:
+                        self._none(self._question(self.group))
+                    except Refusal:
+                        self.close()
+                        raise
+                self._begun = True
+
+    def close(self):
+        """Ends the process."""
+        with self._lock:
+            if self._process is None:
+                return
+            if self.foreign():
+                self._process = self._unread = None
+            elif self._unread is not None or not self._sure:
+                self._kill()
+            else:
+                self._stop()
+
+    def foreign(self):
+        """Whether the process belongs to the Python process that this one was forked from."""
+        return self._owner != os.getpid()
+
+    def __enter__(self):
+        return self
+
+    def __exit__(self, *_):
+        self.close()
+
+    def _spawn(self):
+        words = [find_program(self.path), *(f"--{name}={value}" for name, value in self.options.items())]
+        pipes = {"stdin": subprocess.PIPE, "stdout": subprocess.PIPE}
+        try:
+            # In a session of its own it is not reached by a Ctrl-C that is meant for Python.
+            process = subprocess.Popen(words, start_new_session=True, **pipes)
+        except OSError as error:
+            raise ProgramNotFound(f"the program {words[0]!r} can't be run: {error}") from error
+        self._process, self._owner, self._sent, self._unread, self._begun = process, os.getpid(), 0, None, False
+        self._end = weakref.finalize(self, end, process, self._owner)
+
+    def _stop(self):
+        """Ends the process, and gives its exit status, or None if it had to be killed."""
+        self._process = self._unread = None
+        return self._end() if self._end is not None else None
+
+    def _question(self, line):
+        """Sends a question and the mark behind it. Reads the first line of the answer, and raises it if it's a refusal."""
+        data = f"{line}\n{MARK}\n".encode("ascii")
+        answer = Answer(self, line)
+        self._sure = False
+        self._asked = line
+        self._unread = weakref.ref(answer)
+        self._sent += len(data)
+        try:
+            self._process.stdin.write(data)
+            self._process.stdin.flush()
+        except OSError as error:
+            told = self._told(line)
+            if told:
+                self.unexpected(line, told, "")
+            raise ProgramEnded(line, self._stop()) from error
+        except BaseException:
+            self._kill()
+            raise
+        self._sure = True
+        answer.begin()
+        return answer
+
+    def _told(self, line):
+        """What a process wrote that ended before its first question: the usage line, if its options are wrong."""
+        if self._begun or line:
+            return ""
+        return self._process.stdout.readline().decode("latin-1").rstrip("\n")
+
+    def _none(self, answer):
+        """Sees to it that an answer has no line."""
+        for line in answer:
+            self.unexpected(answer.line, line, "nothing should have come")
+
+    def _read_rest(self):
+        """Reads what is left of the last answer: into its iterator, unless that is gone."""
+        answer = self._unread and self._unread()
+        if answer is not None:
+            answer.keep_rest()
+        elif self._unread is not None:
+            while self.read_line() is not None:
+                pass
+
+    def read_line(self):
+        """The next line of the answer to the last question, None at its end."""
+        if self._unread is None:
+            return None
+        question, self._sure = self._asked, False
+        try:
+            data = self._process.stdout.readline()
+        except OSError as error:
+            raise ProgramEnded(question, self._stop()) from error
+        except BaseException:
+            self._kill()
+            raise
+        if not data.endswith(b"\n"):
+            raise ProgramEnded(question, self._stop())
+        line = data[:-1].decode("latin-1")
+        if not re.fullmatch("[ -~]+", line):
+            self.unexpected(question, line, "a line should be of printing ASCII characters and spaces")
+        if line == MARK_ANSWER:
+            self._unread = line = None
+        self._sure = True
+        return line
+
+    def _kill(self):
+        """Ends the process at once, in the middle of an answer."""
+        if self._process is not None:
+            self._process.kill()
+            self._stop()
+
+    def unexpected(self, question, answer, why):
+        """Ends the process, since its answers can't be trusted, and raises the error."""
+        with self._lock:
+            self._kill()
+        raise UnexpectedAnswer(question, answer, why if question else "this is not the program, or its options are wrong")
+
+
+class Answer:
+    """The lines of an answer, read when they are needed.
+
+    When the program is asked something else before the end, the lines that are left are read and kept first.
+    """
+
+    def __init__(self, program, line):
+        self.line = line
+        self._program = program
+        self._process = program._process
+        self._kept = collections.deque()
+        self._ended = False
+
+    def begin(self):
+        """Reads the first line, or raises the refusal."""
+        first = self._read()
+        if first is None:
+            return
+        if not first.startswith("error"):
+            self._kept.append(first)
+            return
+        refused = re.fullmatch("error ([1-9][0-9])", first)
+        more = self._read()
+        if refused is None or more is not None:
+            lines = [first] if more is None else [first, more]
+            self._program.unexpected(self.line, lines, "a refusal should be one line, `error` and a number")
+        raise Refusal(int(refused.group(1)), self.line)
+
+    def _read(self):
+        """The next line from the program, None at the end."""
+        if self._ended:
+            return None
+        if self._process is not self._program._process or self._program.foreign():
+            raise ProgramEnded(self.line, None)
+        line = self._program.read_line()
+        self._ended = line is None
+        return line
+
+    def __iter__(self):
+        return self
+
+    def __next__(self):
+        with self._program._lock:
+            line = self._kept.popleft() if self._kept else self._read()
+        if line is None:
+            raise StopIteration
+        return line
+
+    def keep_rest(self):
+        """Reads the lines that are left, so that the program can be asked something else."""
+        self._kept.extend(iter(self._read, None))
+
+
+def check_line(line):
+    """The parts of a line. Refuses what may not be sent, by the numbers that the program would refuse it by."""
+    if len(line.encode("utf-8", "surrogatepass")) > MOST_OF_LINE:
+        raise Refusal(18, line)
+    if not re.fullmatch("[ -~]*", line):
+        raise Refusal(19, line)
+    words = line.split()
+    if words == ["quit"]:
+        raise ValueError("`quit` ends the program before it answers: use close()")
+    return words
+
+
+def end(process, owner):
+    """Ends a process by the end of its input, or else by force. Gives its exit status, or None if it was forced."""
+    if owner != os.getpid():
+        return None
+    for pipe in (process.stdin, process.stdout):
+        try:
+            pipe.close()
+        except OSError:
+            pass
+    try:
+        return process.wait(PATIENCE)
+    except subprocess.TimeoutExpired:
+        process.kill()
+        process.wait()
+        return None
+
+
+def find_program(path=None):
+    """The path of the program.
+
+    It is `path`, else what the environment variable COXETER names, else the program built in the checkout that this
+    package lies in or was installed from, else `coxeter` on the PATH.
+    """
+    named = path or os.environ.get("COXETER")
+    if named:
+        found = shutil.which(named)
+        if found is None:
+            by = "" if path else ", which the environment variable COXETER names"
+            raise ProgramNotFound(f"there is no program {os.fspath(named)!r}{by}")
+        return found
+    unbuilt = ""
+    for checkout in checkouts():
+        built = os.path.join(checkout, "crates", "coxeter", "out", "coxeter")
+        if os.path.isfile(built) and os.access(built, os.X_OK):
+            return built
+        if os.path.isdir(os.path.join(checkout, "crates", "coxeter")):
+            unbuilt = f" It is not built yet in {checkout}: run ./coxeter </dev/null there once."
+    found = shutil.which("coxeter")
+    if found is None:
+        ways = "give its path by the argument `program` or by the environment variable COXETER, or put it on the PATH."
+        raise ProgramNotFound(f"the program coxeter was not found: {ways}{unbuilt}")
+    return found
+
+
+def checkouts():
+    """The folders that may be this package's checkout: the one that it lies in, and the one that pip installed it from."""
+    package = os.path.dirname(os.path.abspath(__file__))
+    yield os.path.dirname(os.path.dirname(package))
+    try:
+        installed = importlib.metadata.distribution("coxeter_shell")
+        if not os.path.samefile(installed.locate_file("coxeter_shell"), package):
+            return
+        url = urllib.parse.urlsplit(json.loads(installed.read_text("direct_url.json") or "{}").get("url", ""))
+    except (importlib.metadata.PackageNotFoundError, OSError, ValueError):
+        return
+    if url.scheme == "file":
+        yield os.path.dirname(os.path.normpath(urllib.request.url2pathname(url.path)))

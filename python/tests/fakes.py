@@ -1,0 +1,55 @@
+"""Programs that stand in for the real one and do something wrong."""
+import os
+import shlex
+import sys
+import tempfile
+
+# A stand-in says nothing to `type`, `matrix` and blank lines, and `error 19` to the line that marks the end of an answer.
+# To other lines it does what its own code says, with the line as `line`.
+FAKE = """
+import os, signal, sys, time
+def say(*lines):
+    sys.stdout.write("".join(line + chr(10) for line in lines))
+    sys.stdout.flush()
+for line in iter(sys.stdin.readline, ""):
+    line = line.rstrip(chr(10))
+    if line == chr(9):
+        say("error 19")
+    elif line.split(" ")[0] not in ("type", "matrix", ""):
+{code}
+"""
+
+
+class Fakes:
+    """A folder of programs, for a `with` block."""
+
+    def __init__(self):
+        self.folder = tempfile.TemporaryDirectory()
+        self.count = 0
+
+    def __enter__(self):
+        return self
+
+    def __exit__(self, *_):
+        self.folder.cleanup()
+
+    def python(self, source):
+        """A program that runs this Python source."""
+        return self.shell(f'exec {shlex.quote(sys.executable)} -c {shlex.quote(source)} "$@"')
+
+    def shell(self, source):
+        """A program that runs these commands of a shell."""
+        self.count += 1
+        path = os.path.join(self.folder.name, f"fake {self.count}")
+        with open(path, "w", encoding="utf-8") as out:
+            out.write(f"#!/bin/sh\n{source}\n")
+        os.chmod(path, 0o755)
+        return path
+
+    def fake(self, code):
+        """A stand-in with this code."""
+        return self.python(FAKE.format(code="".join(f"        {line}\n" for line in code.splitlines())))
+
+    def saying(self, *lines):
+        """A stand-in that answers these lines."""
+        return self.fake(f"say(*{lines!r})")
