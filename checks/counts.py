@@ -6,7 +6,10 @@
 Orders of finite groups, as the sum of the Betti numbers of a longest element, which is given by its word; the degrees of
 the group give both its order and these numbers (Humphreys, "Reflection Groups and Coxeter Groups", 1.11 and 3.15). And the
 numbers of small roots: with one less for `--roots` the group is refused by 21. A finite group has as many as reflections,
-affine A n has n(n+1) (Brink and Howlett 1993). It prints what differs, and a last line with counts; the exit status is 1
+affine A n has n(n+1) (Brink and Howlett 1993). And numbers of cells: the left cells of A n are as many as involutions
+(Kazhdan and Lusztig 1979), the cells of both sides as many as families of characters (Lusztig 1984); those of other types
+are in Geck and Pfeiffer's book. In A 3 the 6 pairs y <= w with P(y,w) other than 1 are those of Kazhdan and Lusztig's two
+singular Schubert varieties; and the numbers of `ihbetti w` are palindromes (Poincare duality). It prints what differs, and a last line with counts; the exit status is 1
 where something differs. It needs Python 3 alone, and is no part of the gate.
 """
 import subprocess
@@ -44,6 +47,17 @@ SMALL_ROOTS = [
 ]
 
 
+# the line that sets the group, and the numbers of its left cells and of its cells of both sides, where they are published
+CELLS = [
+    ("type A 3", 10, 5), ("type A 4", 26, 7), ("type A 5", 76, 11), ("type A 6", 232, 15), ("type B 2", 4, 3), ("type B 3", 14, 6),
+    ("type B 4", 50, None), ("type B 5", None, 16), ("type B 6", None, 26), ("type G 2", 4, 3), ("type D 4", 36, 11), ("type D 5", 126, 14),
+    ("type D 6", None, 27), ("type F 4", 72, 11), ("type E 6", None, 17),
+]
+
+# groups in which each element is asked for `ihbetti`: the line that sets it, its rank and a longest element
+DUAL = [("type A 4", 4, staircase(1, 4)), ("type B 3", 3, powers(3, 3)), ("type D 4", 4, powers(4, 3))]
+
+
 def text(letters, rank):
     """A word as it is written in a group of this rank."""
     return ("." if rank > 9 else "").join(map(str, letters))
@@ -71,6 +85,18 @@ def main():
     for group, roots in SMALL_ROOTS:
         for limit, wanted in ((roots - 1, ["error 21"]), (roots, [])):
             count.check(f"{group} with --roots {limit}", ask(built, ["--roots", str(limit)], f"{group}\n"), wanted)
+    for group, left, both in CELLS:
+        for command, wanted in (("lcells", left), ("rcells", left), ("lrcells", both)):
+            if wanted is not None:
+                count.check(f"{command} in {group}", ask(built, [], f"{group}\n{command}\n")[:1], [str(wanted)])
+    for group, rank, letters in DUAL:
+        elements = ask(built, [], f"{group}\ninterval e {text(letters, rank)}\n")[1:]
+        for element, answer in zip(elements, ask(built, [], f"{group}\n" + "".join(f"ihbetti {w}\n" for w in elements)), strict=True):
+            count.check(f"ihbetti {element} in {group}", answer.split(), answer.split()[::-1])
+    elements = ask(built, [], f"type A 3\ninterval e {text(staircase(1, 3), 3)}\n")[1:]
+    rows = ask(built, [], "type A 3\n" + "".join(f"klbasis {w}\n" for w in elements))
+    others = sum(1 for line in rows if ":" in line and not line.endswith(":1"))
+    count.check("pairs in A 3 with P other than 1", [str(others)], ["6"])
     count.end("counts")
 
 

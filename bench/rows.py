@@ -1,0 +1,135 @@
+#!/usr/bin/env python3
+"""How long rows of Kazhdan-Lusztig polynomials take, and how much memory.
+
+    bench/rows.py [--native FILE] [--instructions] [--groups "A 6,D 5"] [PROGRAM [PROGRAM]]
+                        the program of this repository, if none is named; two programs run in turn
+
+- All rows of a group: `mu e w` for the longest element w, so that the context is the whole group, and then for each w in ShortLex order. The
+  time of a run that asks `length w` in place of these is taken off.
+- `klbasis` of 123 repeated 20 times in the affine group of A 2.
+- `pol e w` of 300 scattered elements w of E 6, one after the other, of which each extends what is kept.
+
+`--native FILE` names a program that makes the same rows (called as FILE LETTER N, which writes a line `rows TIME` to standard error); it runs in turn
+with the others. Each figure is the least of five runs, or of one where a run takes more than ten seconds. Memory is the peak of the whole
+run, as the kernel tells it. With `--instructions` each row has millions of instructions in place of times, counted by valgrind's callgrind.
+"""
+import argparse
+import os
+import random
+import re
+import subprocess
+import sys
+
+from intervals import TOP, instructions
+
+RUNS = 5
+LONG = 10.0
+GROUPS = [("A", 6), ("D", 5), ("F", 4), ("B", 5), ("D", 6), ("E", 6)]
+AFFINE_A2 = "matrix 3 3 3 3"
+
+
+def run(words, script):
+    """The standard error of a run, its seconds of processor time, and its peak of memory in MiB. What it prints goes to /dev/null."""
+    command = ["/usr/bin/env", "python3", "-c", MEASURED] + words
+    ran = subprocess.run(command, input=script.encode(), stdout=subprocess.DEVNULL, stderr=subprocess.PIPE)
+    if ran.returncode != 0:
+        sys.exit(f"{words[0]} ended with status {ran.returncode}: {ran.stderr.decode()[-400:]}")
+    *told, figures = ran.stderr.decode().rstrip("\n").split("\n")
+    seconds, kib = figures.split()
+    return "\n".join(told), float(seconds), int(kib) / 1024
+
+
+# Runs a program with this one's streams, and tells its processor time and its peak of memory, which a parent would hide behind its own.
+MEASURED = """
+import resource, subprocess, sys
+ran = subprocess.run(sys.argv[1:])
+used = resource.getrusage(resource.RUSAGE_CHILDREN)
+print(used.ru_utime + used.ru_stime, used.ru_maxrss, file=sys.stderr)
+sys.exit(ran.returncode)
+"""
+
+
+def elements(program, letter, rank):
+    """All elements of a finite group in ShortLex order, by the interval of its longest element, which is found letter by letter."""
+    group = f"type {letter} {rank}"
+    word = "e"
+    while True:
+        asked = f"{group}\ndescent {word}\n"
+        right = subprocess.run([program], input=asked.encode(), stdout=subprocess.PIPE).stdout.decode().split()[3]
+        missing = [str(s) for s in range(1, rank + 1) if str(s) not in right]
+        if not missing:
+            break
+        word = ("" if word == "e" else word) + missing[0]
+    listed = subprocess.run([program], input=f"{group}\ninterval e {word}\n".encode(), stdout=subprocess.PIPE).stdout.decode().split("\n")
+    return group, listed[1:-1]
+
+
+def least(words, script, empty):
+    """The least time of several runs beyond that of the empty script, in seconds, and the peak of memory in MiB."""
+    first = run(words, script)
+    times, peaks = [first[1]], [first[2]]
+    if first[1] < LONG:
+        for _ in range(RUNS - 1):
+            again = run(words, script)
+            times.append(again[1])
+            peaks.append(again[2])
+    base = min(run(words, empty)[1] for _ in range(RUNS if first[1] < LONG else 1)) if empty else 0.0
+    return min(times) - base, min(peaks)
+
+
+def native(program, letter, rank):
+    """The native program's own time for its rows, in seconds, the least of several, and its peak of memory."""
+    best, peak = None, None
+    for _ in range(RUNS):
+        told, seconds, memory = run([program, letter, str(rank)], "")
+        found = re.search(r"rows ([0-9.]+)(µs|ms|s)", told)
+        value = float(found.group(1)) * {"µs": 1e-6, "ms": 1e-3, "s": 1.0}[found.group(2)]
+        best = value if best is None else min(best, value)
+        peak = memory if peak is None else min(peak, memory)
+        if seconds > LONG:
+            break
+    return best, peak
+
+
+def cases(program, groups):
+    """The rows of the table: a name, the script, the script to be taken off, and the group for the native program, if it makes these rows."""
+    for letter, rank in groups:
+        group, words = elements(program, letter, rank)
+        order = [words[-1]] + words
+        yield (f"all rows of {letter} {rank}", group + "\n" + "".join(f"mu e {w}\n" for w in order),
+               group + "\n" + "".join(f"length {w}\n" for w in order), (letter, rank))
+    yield "klbasis of 123 20 times, affine A 2", f"{AFFINE_A2}\nklbasis {'123' * 20}\n", f"{AFFINE_A2}\nlength {'123' * 20}\n", None
+    group, words = elements(program, "E", 6)
+    scattered = random.Random(6).sample(words, 300)
+    yield ("pol of 300 elements of E 6", group + "\n" + "".join(f"pol e {w}\n" for w in scattered),
+           group + "\n" + "".join(f"length {w}\n" for w in scattered), None)
+
+
+def main():
+    """Prints the table."""
+    parser = argparse.ArgumentParser(description=__doc__.splitlines()[0])
+    parser.add_argument("--native")
+    parser.add_argument("--instructions", action="store_true")
+    parser.add_argument("--groups")
+    parser.add_argument("programs", nargs="*")
+    given = parser.parse_args()
+    programs = [os.path.abspath(p) for p in given.programs] or [os.path.join(TOP, "crates", "coxeter", "out", "coxeter")]
+    groups = [(g.split()[0], int(g.split()[1])) for g in given.groups.split(",")] if given.groups else GROUPS
+    unit = "10^6 instructions" if given.instructions else "s"
+    heads = [f"{unit} {k + 1} | MiB {k + 1}" for k in range(len(programs))] + (["s native | MiB native"] if given.native else [])
+    print("| what | " + " | ".join(heads) + " |")
+    print("|---|" + "---|---|" * len(heads))
+    for name, script, empty, group in cases(programs[0], groups):
+        figures = []
+        for program in programs:
+            seconds, peak = least([program], script, empty)
+            if given.instructions:
+                seconds = (instructions(program, script) - instructions(program, empty)) / 1e6
+            figures.append(f"{seconds:.3f} | {peak:.1f}")
+        if given.native:
+            figures.append("{:.3f} | {:.1f}".format(*native(given.native, *group)) if group else " | ")
+        print(f"| {name} | " + " | ".join(figures) + " |", flush=True)
+
+
+if __name__ == "__main__":
+    main()
