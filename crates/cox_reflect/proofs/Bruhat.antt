@@ -1,6 +1,6 @@
 -- Bruhat order (Humphreys 5.9, 5.10): it is given by chains and by any reduced word, it is a partial order, and it lifts on both sides.
 use Rattle.std.proofs.Common.{◌≡◌, ℕ, ◌≤◌, ◌<◌, List, [], ◌∷◌, ◌++◌, reverse, ◌⊎◌, ◌↔◌, inl, inr, ⊎_elim, arith}
-use Rattle.std.proofs.lemmas.List.{reverse-reverse, reverse-append}
+use Rattle.std.proofs.lemmas.List.{reverse-reverse}
 use Rattle.cox_base.specs.Matrix.{IsLetter}
 use Rattle.cox_base.specs.IntegerMatrix.{IntegerMatrix}
 use Rattle.cox_base.specs.Admissible.{IsAdmissible}
@@ -11,11 +11,11 @@ use Rattle.cox_base.specs.Reduced.{IsReduced, IsLeftDescent, IsRightDescent}
 use Rattle.cox_base.specs.Bruhat.{IsSubword, kept, left_out, IsBelow}
 use Rattle.cox_reflect.specs.Subword.{HasSubword}
 use Rattle.cox_reflect.specs.Chain.{IsChain, no_step, last_step}
-use Rattle.cox_reflect.proofs.WordLemmas.{IsSubword-nil, IsSubword-reverse}
+use Rattle.cox_reflect.proofs.WordLemmas.{IsSubword-nil, IsSubword-reverse, reverse-push}
 use Rattle.cox_reflect.proofs.Elements.{same-refl, same-sym, same-trans, same-cons, same-square, same-reverse}
 use Rattle.cox_reflect.proofs.Search.{normal_form-same, word_length-length}
 use Rattle.cox_reflect.proofs.Lengths.{IsReduced-normal_form, IsReduced-reverse}
-use Rattle.cox_reflect.proofs.Roots.{left_descent-letter, left_descent_reverse, reverse_left_descent}
+use Rattle.cox_reflect.proofs.Roots.{left_descent-letter, descent-reverse, reverse-descent}
 use Rattle.cox_reflect.proofs.Deletion.{left_length}
 use Rattle.cox_reflect.proofs.Chains.{chain_upper, chain_lower, chain_join, chain-length, chain-same, descent_step, ascent_step}
 use Rattle.cox_reflect.proofs.Chains.{chain_subword, lift_chain, subword_chain}
@@ -147,19 +147,10 @@ module _ (A : IntegerMatrix) (g : IsAdmissible A) where
 
   -- ---- a letter on the right
 
-  descent-reverse : (u : List ℕ) (s : ℕ) → IsRightDescent A u s → IsLeftDescent A (reverse u) s
-  descent-reverse u s d = reverse_left_descent A g (reverse u) s (rw (reverse-reverse u) d)
-
-  reverse-descent : (u : List ℕ) (s : ℕ) → IsLeftDescent A (reverse u) s → IsRightDescent A u s
-  reverse-descent u s d = rw (reverse-reverse u) at (left_descent_reverse A g (reverse u) s d)
-
-  reverse-push : (u : List ℕ) (s : ℕ) → reverse (u ++ s ∷ []) ≡ s ∷ reverse u
-  reverse-push u s = reverse-append u (s ∷ [])
-
   pub lift_down_right : (y w : List ℕ) (s : ℕ) → IsRightDescent A w s → IsRightDescent A y s
       → IsBelow A y w ↔ IsBelow A (y ++ s ∷ []) (w ++ s ∷ [])
   lift_down_right y w s d e =
-      let left = lift_down (reverse y) (reverse w) s (descent-reverse w s d) (descent-reverse y s e)
+      let left = lift_down (reverse y) (reverse w) s (descent-reverse A g w s d) (descent-reverse A g y s e)
       in (
         λ b. (below_reverse (y ++ s ∷ []) (w ++ s ∷ [])).1 (rw (reverse-push y s, reverse-push w s) (left.0 ((below_reverse y w).0 b))),
         λ b. (below_reverse y w).1 (left.1 (rw (reverse-push y s, reverse-push w s) at ((below_reverse (y ++ s ∷ []) (w ++ s ∷ [])).0 b))),
@@ -168,7 +159,7 @@ module _ (A : IntegerMatrix) (g : IsAdmissible A) where
   pub lift_up_right : (y w : List ℕ) (s : ℕ) → IsRightDescent A w s → (IsRightDescent A y s → ⊥)
       → IsBelow A y w ↔ IsBelow A y (w ++ s ∷ [])
   lift_up_right y w s d e =
-      let left = lift_up (reverse y) (reverse w) s (descent-reverse w s d) (λ f. e (reverse-descent y s f))
+      let left = lift_up (reverse y) (reverse w) s (descent-reverse A g w s d) (λ f. e (reverse-descent A g y s f))
       in (
         λ b. (below_reverse y (w ++ s ∷ [])).1 (rw (reverse-push w s) (left.0 ((below_reverse y w).0 b))),
         λ b. (below_reverse y w).1 (left.1 (rw (reverse-push w s) at ((below_reverse y (w ++ s ∷ [])).0 b))),
@@ -176,7 +167,7 @@ module _ (A : IntegerMatrix) (g : IsAdmissible A) where
 
   pub below-push : (y w : List ℕ) (s : ℕ) → IsRightDescent A w s → IsBelow A y w → IsBelow A (y ++ s ∷ []) w
   below-push y w s d b =
-      (below_reverse (y ++ s ∷ []) w).1 (rw (reverse-push y s) (below-cons (reverse y) (reverse w) s (descent-reverse w s d)
+      (below_reverse (y ++ s ∷ []) w).1 (rw (reverse-push y s) (below-cons (reverse y) (reverse w) s (descent-reverse A g w s d)
       ((below_reverse y w).0 b)))
 
   -- the normal form of w has the same elements below it

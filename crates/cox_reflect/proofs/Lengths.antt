@@ -8,7 +8,7 @@ use Rattle.cox_base.specs.Element.{SameElement}
 use Rattle.cox_base.specs.ShortLex.{normal_form}
 use Rattle.cox_base.specs.Length.{word_length}
 use Rattle.cox_base.specs.Reduced.{IsReduced}
-use Rattle.cox_reflect.proofs.Elements.{same-append, same-cons, same-square, same-push_twice, same-reverse}
+use Rattle.cox_reflect.proofs.Elements.{same-sym, same-trans, same-equal, same-append, same-cons, same-square, same-push_twice, same-reverse}
 use Rattle.cox_reflect.proofs.Search.{normal_form-same, word_length-least, word_length-equal, word_length-length}
 
 pub word_length-is : (A : IntegerMatrix) (u : List ℕ) → word_length A u ≡ length (normal_form A u)
@@ -54,6 +54,14 @@ module _ (A : IntegerMatrix) (g : IsAdmissible A) where
   -- on the left it is as on the right for the reversed word
   pub word_length-cons_reverse : (s : ℕ) (u : List ℕ) → word_length A (s ∷ u) ≡ word_length A (reverse u ++ s ∷ [])
   word_length-cons_reverse s u = sym (word_length-reverse (s ∷ u)) ∙ ap (word_length A) (reverse-cons s u)
+
+  -- the identity is the element of length 0
+  pub empty_same : (x : List ℕ) → word_length A x ≡ 0 → SameElement A x []
+  empty_same x z = go (normal_form A x) refl
+    where
+      go : (n : List ℕ) → normal_form A x ≡ n → SameElement A x []
+      go [] e = same-trans A g (same-sym A g (normal_form-same A g x)) (same-equal A g e)
+      go (t ∷ n) e = absurd (omega (arith, z, word_length-is A x, ap length e))
 
   -- ---- reduced words
 

@@ -183,7 +183,7 @@ unfolding alternating
 length-alternating zero s t = refl
 length-alternating (suc k) s t = ap suc (length-alternating k s t)
 
-cond_not : (b : Bool) (t s : ℕ) → cond (not b) t s ≡ cond b s t
+pub cond_not : (b : Bool) (t s : ℕ) → cond (not b) t s ≡ cond b s t
 cond_not true t s = refl
 cond_not false t s = refl
 

@@ -4,7 +4,7 @@ use Rattle.std.proofs.Common.{neg_ℤ, ◌≤ℤ◌, ◌<ℤ◌, refl, ap, sym, 
 use Rattle.std.proofs.Math.Path.{fun_ext}
 use Rattle.std.proofs.lemmas.Bool.{cases_eq, cases_lt}
 use Rattle.std.proofs.lemmas.Int.{ints}
-use Rattle.std.proofs.lemmas.List.{append-nil}
+use Rattle.std.proofs.lemmas.List.{append-nil, reverse-reverse}
 use borrow.Author.Differences.{up}
 use Rattle.cox_base.specs.Matrix.{IsLetter}
 use Rattle.cox_base.specs.IntegerMatrix.{IntegerMatrix}
@@ -187,6 +187,12 @@ module _ (A : IntegerMatrix) (g : IsAdmissible A) where
 
   pub reverse_left_descent : (u : List ℕ) (s : ℕ) → IsRightDescent A (reverse u) s → IsLeftDescent A u s
   reverse_left_descent u s d = omega (arith, d, word_length-cons_reverse A g s u, word_length-reverse A g u)
+
+  pub descent-reverse : (u : List ℕ) (s : ℕ) → IsRightDescent A u s → IsLeftDescent A (reverse u) s
+  descent-reverse u s d = reverse_left_descent (reverse u) s (rw (reverse-reverse u) d)
+
+  pub reverse-descent : (u : List ℕ) (s : ℕ) → IsLeftDescent A (reverse u) s → IsRightDescent A u s
+  reverse-descent u s d = rw (reverse-reverse u) at (left_descent_reverse (reverse u) s d)
 
   pub left_descent_negative : (u : List ℕ) (s i : ℕ) → IsLetter A.rank s → act A (reverse u) (simple_root s) i <ℤ pos 0
       → IsLeftDescent A u s

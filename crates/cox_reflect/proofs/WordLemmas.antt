@@ -1,6 +1,6 @@
 -- Words over the letters of the rank, and subwords.
-use Rattle.std.proofs.Common.{ℕ, ◌≤◌, List, [], ◌∷◌, ◌++◌, length, reverse, arith}
-use Rattle.std.proofs.lemmas.List.{append-nil}
+use Rattle.std.proofs.Common.{◌≡◌, ℕ, ◌≤◌, List, [], ◌∷◌, ◌++◌, length, reverse, arith}
+use Rattle.std.proofs.lemmas.List.{append-nil, reverse-append}
 use mathlib.Core.List.{reverse-cons}
 use Rattle.std.proofs.lemmas.List.Elements.{All-nil, All-cons, All-head, All-tail, All-append}
 use Rattle.cox_base.specs.Matrix.{IsLetter, IsWord}
@@ -27,6 +27,10 @@ IsWord-reverse [] h = h
 IsWord-reverse {n} (s ∷ u) h =
     rw (reverse-cons s u) (IsWord-append (reverse u) (s ∷ []) (IsWord-reverse u (All-tail (IsLetter n) s u h))
     (IsWord-single (All-head (IsLetter n) s u h)))
+
+-- the reversed word of a word with a letter behind it
+pub reverse-push : (u : List ℕ) (s : ℕ) → reverse (u ++ s ∷ []) ≡ s ∷ reverse u
+reverse-push u s = reverse-append u (s ∷ [])
 
 -- ---- subwords
 
