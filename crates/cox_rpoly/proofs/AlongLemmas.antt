@@ -8,13 +8,12 @@ use Rattle.std.proofs.Math.Nat.{pow-le-pow_right}
 use Rattle.cox_base.specs.IntegerMatrix.{IntegerMatrix}
 use Rattle.cox_base.specs.Admissible.{IsAdmissible}
 use Rattle.cox_base.specs.Element.{SameElement}
-use Rattle.cox_base.specs.ShortLex.{normal_form}
 use Rattle.cox_base.specs.Length.{word_length}
 use Rattle.cox_base.specs.Reduced.{IsReduced, IsLeftDescent}
 use Rattle.cox_base.specs.Bruhat.{IsBelow}
-use Rattle.cox_reflect.proofs.Elements.{same-refl, same-sym, same-trans, same-cons, same-equal, same-square}
-use Rattle.cox_reflect.proofs.Search.{normal_form-same, word_length-equal, word_length-length}
-use Rattle.cox_reflect.proofs.Lengths.{word_length-is, cons-word_length, IsReduced-tail}
+use Rattle.cox_reflect.proofs.Elements.{same-refl, same-sym, same-trans, same-cons, same-square}
+use Rattle.cox_reflect.proofs.Search.{word_length-equal, word_length-length}
+use Rattle.cox_reflect.proofs.Lengths.{empty_same, cons-word_length, IsReduced-tail}
 use Rattle.cox_reflect.proofs.Roots.{left_descent-letter}
 use Rattle.cox_reflect.proofs.Deletion.{left_length}
 use Rattle.cox_reflect.proofs.Bruhat.{below-same, below-refl, below-trans, below-ascent, lift_down, lift_up}
@@ -194,13 +193,6 @@ module _ (A : IntegerMatrix) (g : IsAdmissible A) where
       in along-shorter A x s v (omega (arith, d, word_length-equal A g e, word_length-equal A g (same-cons A g s e)))
       ∙ along-itself (s ∷ x) v (IsReduced-tail A g s v r) (same-trans A g (same-cons A g s e) (same-square A g s v))
 
-  empty-same : (x : List ℕ) → word_length A x ≡ 0 → SameElement A x []
-  empty-same x e = go (normal_form A x) refl
-    where
-      go : (n : List ℕ) → normal_form A x ≡ n → SameElement A x []
-      go [] f = same-trans A g (same-sym A g (normal_form-same A g x)) (same-equal A g f)
-      go (t ∷ n) f = absurd (omega (arith, e, word_length-is A x, ap length f))
-
   up : (s : ℕ) (z v : List ℕ) → IsBelow A z v → IsBelow A z (s ∷ s ∷ v)
   up s z v b = below-same A g (same-refl A g z) (same-sym A g (same-square A g s v)) b
 
@@ -221,7 +213,7 @@ module _ (A : IntegerMatrix) (g : IsAdmissible A) where
       in still_not_below x s v r n not_below (below-trans A g (below-ascent A g x s l rising) b)
 
   pub along-not_below : (x v : List ℕ) → IsReduced A v → (IsBelow A x v → ⊥) → (k : ℕ) → r_along A x v k ≡ pos 0
-  along-not_below x [] r not_below k = ⊎_elim (λ e. absurd (not_below (below-refl A g (empty-same x e)))) other
+  along-not_below x [] r not_below k = ⊎_elim (λ e. absurd (not_below (below-refl A g (empty_same A g x e)))) other
       (cases_eq (word_length A x) 0)
     where
       other : (word_length A x ≡ 0 → ⊥) → r_along A x [] k ≡ pos 0
