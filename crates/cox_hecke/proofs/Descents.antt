@@ -5,7 +5,7 @@ use Rattle.std.proofs.Common.{refl, ap, sym, ◌∙◌, arith}
 use Rattle.std.specs.Prelude.{nat_lt}
 use Rattle.std.proofs.lemmas.Bool.{cases_lt}
 use Rattle.std.proofs.lemmas.Bool.Decides.{nat_tests}
-use Rattle.std.proofs.lemmas.List.{reverse-reverse, reverse-append}
+use Rattle.std.proofs.lemmas.List.{reverse-reverse}
 use mathlib.Core.List.{reverse-cons}
 use Rattle.cox_base.specs.Matrix.{IsLetter}
 use Rattle.cox_base.specs.IntegerMatrix.{IntegerMatrix}
@@ -17,7 +17,7 @@ use Rattle.cox_base.specs.Reduced.{IsReduced, IsLeftDescent, IsRightDescent}
 use Rattle.cox_reflect.proofs.Elements.{same-sym, same-trans, same-cons, same-push, same-square, same-push_twice, same-equal}
 use Rattle.cox_reflect.proofs.Search.{normal_form-same, word_length-equal, word_length-length}
 use Rattle.cox_reflect.proofs.Lengths.{word_length-is, word_length-cons_reverse, word_length-reverse, IsReduced-tail}
-use Rattle.cox_reflect.proofs.Roots.{left_descent-letter, left_descent_reverse, reverse_left_descent}
+use Rattle.cox_reflect.proofs.Roots.{left_descent-letter, left_descent_reverse}
 use Rattle.cox_reflect.proofs.Deletion.{left_length, right_length, sides_same}
 use Rattle.cox_hecke.specs.Operators.{shortens_left, shortens_right}
 
@@ -53,10 +53,7 @@ nat_lt-no m n l = ⊎_elim (λ h. absurd (l h)) (λ (h : n ≤ m). grind (arith,
 pub no-nat_lt : (m n : ℕ) → nat_lt m n ≡ false → m < n → ⊥
 no-nat_lt m n e l = grind (arith, nat_tests)
 
--- the reversed word of a word with a letter behind, or before, it
-pub reverse-push : (w : List ℕ) (s : ℕ) → reverse (w ++ s ∷ []) ≡ s ∷ reverse w
-reverse-push w s = reverse-append w (s ∷ [])
-
+-- the reversed word of a reversed word with a letter before it
 pub reverse-back : (w : List ℕ) (s : ℕ) → reverse (s ∷ reverse w) ≡ w ++ s ∷ []
 reverse-back w s = reverse-cons s (reverse w) ∙ ap (λ (u : List ℕ). u ++ s ∷ []) (reverse-reverse w)
 
@@ -159,19 +156,3 @@ module _ (A : IntegerMatrix) (g : IsAdmissible A) where
   some_right_descent x some =
       let d = some_left_descent (reverse x) (omega (arith, some, word_length-reverse A g x))
       in (d.0, rw (reverse-reverse x) at (left_descent_reverse A g (reverse x) d.0 d.1))
-
-  -- the identity is the element of length 0
-  pub empty_same : (x : List ℕ) → word_length A x ≡ 0 → SameElement A x []
-  empty_same x z = go (normal_form A x) refl
-    where
-      go : (n : List ℕ) → normal_form A x ≡ n → SameElement A x []
-      go [] e = same-trans A g (same-sym A g (normal_form-same A g x)) (same-equal A g e)
-      go (t ∷ n) e = absurd (omega (arith, z, word_length-is A x, ap length e))
-
-  -- ---- inverses
-
-  pub descent-reverse : (u : List ℕ) (s : ℕ) → IsRightDescent A u s → IsLeftDescent A (reverse u) s
-  descent-reverse u s d = reverse_left_descent A g (reverse u) s (rw (reverse-reverse u) d)
-
-  pub reverse-descent : (u : List ℕ) (s : ℕ) → IsLeftDescent A (reverse u) s → IsRightDescent A u s
-  reverse-descent u s d = rw (reverse-reverse u) at (left_descent_reverse A g (reverse u) s d)

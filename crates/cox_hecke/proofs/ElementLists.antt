@@ -12,14 +12,14 @@ use Rattle.cox_base.specs.Length.{word_length}
 use Rattle.cox_base.specs.Reduced.{IsLeftDescent}
 use Rattle.cox_base.specs.Bruhat.{IsBelow}
 use Rattle.cox_reflect.proofs.Elements.{same-refl, same-sym, same-trans, same-cons, same-square}
-use Rattle.cox_reflect.proofs.Lengths.{cons-word_length}
+use Rattle.cox_reflect.proofs.Lengths.{cons-word_length, empty_same}
 use Rattle.cox_reflect.proofs.Roots.{left_descent-letter}
 use Rattle.cox_reflect.proofs.Bruhat.{below-same, below-refl, below_identity, lift_down, lift_up}
 use Rattle.cox_hecke.specs.Family.{is_same}
 use Rattle.cox_hecke.specs.Operators.{shortens_left}
 use Rattle.cox_hecke.specs.Sums.{occurrences, ListsEach}
 use Rattle.cox_hecke.specs.Row.{LiesBetween}
-use Rattle.cox_hecke.proofs.Descents.{yes-nat_lt, no-nat_lt, shortens_left-same, shortens_left-back, some_left_descent, empty_same}
+use Rattle.cox_hecke.proofs.Descents.{yes-nat_lt, no-nat_lt, shortens_left-same, shortens_left-back, some_left_descent}
 use Rattle.cox_hecke.proofs.SumLemmas.{same-is_same, is_same-same, not_same-is_same, same_or_not}
 
 -- x and sx for each x of the list with sx > x

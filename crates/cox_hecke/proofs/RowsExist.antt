@@ -15,6 +15,7 @@ use Rattle.cox_reflect.proofs.Elements.{same-sym, same-trans, same-square}
 use Rattle.cox_reflect.proofs.Search.{normal_form-same, normal_form-equal, word_length-equal, word_length-length}
 use Rattle.cox_reflect.proofs.Roots.{left_descent-letter}
 use Rattle.cox_reflect.proofs.Bruhat.{below-refl, below-length}
+use Rattle.cox_reflect.proofs.Lengths.{empty_same}
 use Rattle.cox_poly.specs.Coefficients.{Coefficients, zero_polynomial, one_polynomial}
 use Rattle.cox_poly.specs.Products.{flip, product}
 use Rattle.cox_poly.specs.Size.{HasDegreeAtMost}
@@ -25,7 +26,7 @@ use Rattle.cox_hecke.specs.Family.{Family}
 use Rattle.cox_hecke.specs.Operators.{shortens_left}
 use Rattle.cox_hecke.specs.Sums.{bar_sum}
 use Rattle.cox_hecke.specs.Row.{IsRow}
-use Rattle.cox_hecke.proofs.Descents.{nat_lt-yes, shortens_left-back, some_left_descent, empty_same}
+use Rattle.cox_hecke.proofs.Descents.{nat_lt-yes, shortens_left-back, some_left_descent}
 use Rattle.cox_hecke.proofs.RPolynomials.{unit, unit-one, unit-respects, unit-other}
 use Rattle.cox_hecke.proofs.SumLemmas.{same-is_same}
 use Rattle.cox_hecke.proofs.ElementLists.{below_list}

@@ -10,13 +10,13 @@ use Rattle.cox_base.specs.Length.{word_length}
 use Rattle.cox_base.specs.Reduced.{IsReduced, IsRightDescent}
 use Rattle.cox_reflect.proofs.Elements.{same-push_twice}
 use Rattle.cox_reflect.proofs.Search.{word_length-equal}
-use Rattle.cox_reflect.proofs.Lengths.{IsReduced-tail}
+use Rattle.cox_reflect.proofs.Lengths.{IsReduced-tail, empty_same}
 use Rattle.cox_reflect.proofs.Roots.{descent-letter}
 use Rattle.cox_poly.specs.Coefficients.{Coefficients, times_q}
 use Rattle.cox_hecke.specs.Family.{Family, RespectsElements}
 use Rattle.cox_hecke.specs.Operators.{shortens_left, shortens_right}
 use Rattle.cox_hecke.proofs.Descents.{nat_lt-yes, Moves, right_moves, shortens_right-back, reduced-letter, reduced-rises}
-use Rattle.cox_hecke.proofs.Descents.{some_right_descent, empty_same}
+use Rattle.cox_hecke.proofs.Descents.{some_right_descent}
 use Rattle.cox_hecke.proofs.Signed.{left_signed, right_signed, left_back, family_times_q}
 use Rattle.cox_hecke.proofs.Signed.{left_signed-times_q, left_back-times_q, by_left-respects, by_right-respects, plus_signed, first_times_q}
 use Rattle.cox_hecke.proofs.Signed.{first_alone, minus_signed}
