@@ -1,6 +1,7 @@
 -- After a short step from b the root s b does not dominate e(s): some word makes s b negative and e(s) positive. By the pair -p, -r, which
 -- is 1 1, 1 2, 2 1, 1 3 or 3 1.
-use Rattle.std.proofs.Common.{◌≡◌, ℕ, zero, suc, ◌*◌, ◌≤◌, Bool, true, false, List, [], ◌∷◌, ℤ, pos, negsuc, ◌*ℤ◌, neg_ℤ, ◌≤ℤ◌, ◌<ℤ◌, ap, ◌∙◌, arith}
+use Rattle.std.proofs.Common.{◌≡◌, ℕ, zero, suc, ◌*◌, ◌≤◌, Bool, true, false, List, [], ◌∷◌, ℤ, pos, negsuc, ◌*ℤ◌, neg_ℤ, ◌≤ℤ◌, ◌<ℤ◌, ap}
+use Rattle.std.proofs.Common.{◌∙◌, arith}
 use Rattle.std.proofs.Math.Path.{fun_ext}
 use Rattle.std.proofs.Math.Nat.{mul-le-mul_left}
 use Rattle.std.proofs.lemmas.Int.{ints}
@@ -32,43 +33,18 @@ record Clears (P R : ℤ) : Type 0 where
   image_s : (turns P R moves (P, pos 1)).0 ≤ℤ pos 0
   image_b : (turns P R moves (P, pos 1)).1 ≤ℤ pos 0
 
+cleared : {P R : ℤ} (moves : List Bool) → pos 0 ≤ℤ (turns P R moves (pos 1, pos 0)).0 → pos 0 ≤ℤ (turns P R moves (pos 1, pos 0)).1
+    → (turns P R moves (P, pos 1)).0 ≤ℤ pos 0 → (turns P R moves (P, pos 1)).1 ≤ℤ pos 0 → Clears P R
+cleared moves s b image_s image_b =
+    record { moves = moves; simple_s = s; simple_b = b; image_s = image_s; image_b = image_b }
+
 clears : {P R : ℤ} → IsFinitePair P R → Clears P R
 unfolding turns turned
-clears one_one = record {
-  moves = true ∷ false ∷ [];
-  simple_s = le_z_yes tt;
-  simple_b = le_z_yes tt;
-  image_s = le_z_yes tt;
-  image_b = le_z_yes tt;
-}
-clears one_two = record {
-  moves = false ∷ true ∷ false ∷ [];
-  simple_s = le_z_yes tt;
-  simple_b = le_z_yes tt;
-  image_s = le_z_yes tt;
-  image_b = le_z_yes tt;
-}
-clears two_one = record {
-  moves = false ∷ true ∷ false ∷ [];
-  simple_s = le_z_yes tt;
-  simple_b = le_z_yes tt;
-  image_s = le_z_yes tt;
-  image_b = le_z_yes tt;
-}
-clears one_three = record {
-  moves = false ∷ true ∷ false ∷ true ∷ false ∷ [];
-  simple_s = le_z_yes tt;
-  simple_b = le_z_yes tt;
-  image_s = le_z_yes tt;
-  image_b = le_z_yes tt;
-}
-clears three_one = record {
-  moves = false ∷ true ∷ false ∷ true ∷ false ∷ [];
-  simple_s = le_z_yes tt;
-  simple_b = le_z_yes tt;
-  image_s = le_z_yes tt;
-  image_b = le_z_yes tt;
-}
+clears one_one = cleared (true ∷ false ∷ []) (le_z_yes tt) (le_z_yes tt) (le_z_yes tt) (le_z_yes tt)
+clears one_two = cleared (false ∷ true ∷ false ∷ []) (le_z_yes tt) (le_z_yes tt) (le_z_yes tt) (le_z_yes tt)
+clears two_one = cleared (false ∷ true ∷ false ∷ []) (le_z_yes tt) (le_z_yes tt) (le_z_yes tt) (le_z_yes tt)
+clears one_three = cleared (false ∷ true ∷ false ∷ true ∷ false ∷ []) (le_z_yes tt) (le_z_yes tt) (le_z_yes tt) (le_z_yes tt)
+clears three_one = cleared (false ∷ true ∷ false ∷ true ∷ false ∷ []) (le_z_yes tt) (le_z_yes tt) (le_z_yes tt) (le_z_yes tt)
 
 -- two numbers whose product is 1, 2 or 3
 more : (y : ℕ) → 1 ≤ suc y

@@ -1,5 +1,6 @@
 -- Combinations x e(s) + y b of a simple root and a root b with the coroot c: how s and the reflection of b change the coefficients x and y.
-use Rattle.std.proofs.Common.{◌≡◌, ℕ, Bool, true, false, List, [], ◌∷◌, ◌++◌, reverse, ℤ, pos, ◌+ℤ◌, ◌-ℤ◌, ◌*ℤ◌, neg_ℤ, refl, ap, sym, ◌∙◌, arith}
+use Rattle.std.proofs.Common.{◌≡◌, ℕ, Bool, true, false, List, [], ◌∷◌, ◌++◌, reverse, ℤ, pos, ◌+ℤ◌, ◌-ℤ◌, ◌*ℤ◌, neg_ℤ, refl, ap, sym}
+use Rattle.std.proofs.Common.{◌∙◌, arith}
 use Rattle.std.proofs.Math.Path.{fun_ext}
 use mathlib.Core.List.{reverse-cons}
 use Rattle.cox_base.specs.Matrix.{IsLetter}
@@ -10,7 +11,8 @@ use Rattle.cox_reflect.specs.WordAction.{act}
 use Rattle.cox_reflect.specs.Transpose.{transposed}
 use Rattle.cox_reflect.specs.DerivedWords.{reflection}
 use Rattle.cox_lemmas.proofs.Ring.{linears, multiply_out}
-use Rattle.cox_reflect.proofs.Action.{act-nil, act-cons, act-append, act-push, act-minus, act-fixed, pairing-minus, pairing-zero, pairing-simple_root, reverse-act}
+use Rattle.cox_reflect.proofs.Action.{act-nil, act-cons, act-append, act-push, act-minus, act-fixed, pairing-minus, pairing-zero}
+use Rattle.cox_reflect.proofs.Action.{pairing-simple_root, reverse-act}
 use Rattle.cox_reflect.proofs.Roots.{negated}
 use Rattle.cox_reflect.proofs.Exchange.{act-reflection, reflection-root}
 use Rattle.cox_reflect.proofs.Transposed.{IsAdmissible-transposed}

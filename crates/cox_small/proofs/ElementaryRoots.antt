@@ -1,6 +1,7 @@
 -- The small roots are the elementary ones: the positive roots that dominate no other positive root. So a small root stays small under a
 -- letter with a positive pairing.
-use Rattle.std.proofs.Common.{◌≡◌, ℕ, zero, suc, ◌+◌, ◌<◌, List, [], ◌∷◌, ◌++◌, length, ◌⊎◌, ◌↔◌, ℤ, pos, ◌+ℤ◌, ◌-ℤ◌, ◌*ℤ◌, neg_ℤ, ◌≤ℤ◌, ◌<ℤ◌, refl, ap, sym, ◌∙◌, inl, inr, ⊎_elim, arith, subst}
+use Rattle.std.proofs.Common.{◌≡◌, ℕ, zero, suc, ◌+◌, ◌<◌, List, [], ◌∷◌, ◌++◌, length, ◌⊎◌, ◌↔◌, ℤ, pos, ◌+ℤ◌, ◌-ℤ◌, ◌*ℤ◌, neg_ℤ, ◌≤ℤ◌}
+use Rattle.std.proofs.Common.{◌<ℤ◌, refl, ap, sym, ◌∙◌, inl, inr, ⊎_elim, arith, subst}
 use Rattle.std.proofs.lemmas.Int.{by_lt_z}
 use Rattle.std.proofs.lemmas.List.{length-append}
 use Rattle.cox_base.specs.Matrix.{IsLetter}
@@ -10,12 +11,14 @@ use Rattle.cox_reflect.specs.Action.{Vector, simple_root, pairing, minus, reflec
 use Rattle.cox_reflect.specs.WordAction.{act, IsNonnegative, IsNonpositive}
 use Rattle.cox_reflect.specs.Transpose.{transposed}
 use Rattle.cox_lemmas.proofs.Ring.{linears, multiply_out, product_nonnegative}
-use Rattle.cox_reflect.proofs.Action.{act-nil, act-push, act-single, act-minus, pairing-reflect, reflect-fixed, reflect-reflect, reflect-simple_root}
+use Rattle.cox_reflect.proofs.Action.{act-nil, act-push, act-single, act-minus, pairing-reflect, reflect-fixed, reflect-reflect}
+use Rattle.cox_reflect.proofs.Action.{reflect-simple_root}
 use Rattle.cox_reflect.proofs.Positivity.{LastLetter, no_letter, last_letter, last_letter_of, simple_root-nonnegative}
 use Rattle.cox_reflect.proofs.Transposed.{IsAdmissible-transposed}
 use Rattle.cox_small.specs.SmallRoots.{IsShortStep, IsSmall, simple, step, IsSmallRoot}
 use Rattle.cox_small.specs.Elementary.{IsRoot, Dominates, IsElementary}
-use Rattle.cox_small.proofs.RootPairs.{IsRootPair, root-sign, root-one_sign, root-act, root-reflect, root-simple, root-sign_changes, simple_or_stays, pair-root, pair-reflect, pair-simple, pair-equal}
+use Rattle.cox_small.proofs.RootPairs.{IsRootPair, root-sign, root-one_sign, root-act, root-reflect, root-simple, root-sign_changes}
+use Rattle.cox_small.proofs.RootPairs.{simple_or_stays, pair-root, pair-reflect, pair-simple, pair-equal}
 use Rattle.cox_small.proofs.SentRoots.{sending, shorter-sends}
 use Rattle.cox_small.proofs.Signs.{pairing-letter, negative-stays, positive-agrees}
 use Rattle.cox_small.proofs.Domination.{out-dominates}

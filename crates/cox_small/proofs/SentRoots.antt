@@ -1,6 +1,7 @@
 -- Words that make a positive root negative. Such a word bounds the root, and if the pairing of the root with e(s) is positive then
 -- a shorter word makes the image under s negative.
-use Rattle.std.proofs.Common.{◌≡◌, ℕ, suc, ◌+◌, ◌<◌, nat_abs, List, [], ◌∷◌, ◌++◌, length, reverse, ◌⊎◌, ℤ, pos, ◌-ℤ◌, ◌*ℤ◌, neg_ℤ, ◌≤ℤ◌, ◌<ℤ◌, ap, sym, ◌∙◌, ⊎_elim, arith}
+use Rattle.std.proofs.Common.{◌≡◌, ℕ, suc, ◌+◌, ◌<◌, nat_abs, List, [], ◌∷◌, ◌++◌, length, reverse, ◌⊎◌, ℤ, pos, ◌-ℤ◌, ◌*ℤ◌, neg_ℤ, ◌≤ℤ◌}
+use Rattle.std.proofs.Common.{◌<ℤ◌, ap, sym, ◌∙◌, ⊎_elim, arith}
 use Rattle.std.proofs.Math.Path.{fun_ext}
 use Rattle.std.proofs.lemmas.Int.{ints}
 use Rattle.cox_base.specs.Matrix.{IsLetter}
@@ -11,7 +12,8 @@ use Rattle.cox_reflect.specs.Action.{Vector, simple_root, pairing, minus, reflec
 use Rattle.cox_reflect.specs.WordAction.{act, IsNonnegative, IsNonpositive}
 use Rattle.cox_lemmas.proofs.Ring.{linears, product_nonnegative}
 use Rattle.cox_reflect.proofs.Sums.{letter_cases, simple_root-self}
-use Rattle.cox_reflect.proofs.Action.{act-nil, act-cons, act-push, act-single, act-minus, act-reverse, pairing-outside, reflect-minus, reflect-simple_root, reflect-outside, reflect-reflect}
+use Rattle.cox_reflect.proofs.Action.{act-nil, act-cons, act-push, act-single, act-minus, act-reverse, pairing-outside, reflect-minus}
+use Rattle.cox_reflect.proofs.Action.{reflect-simple_root, reflect-outside, reflect-reflect}
 use Rattle.cox_reflect.proofs.Elements.{same-act}
 use Rattle.cox_reflect.proofs.Search.{normal_form-same, word_length-length}
 use Rattle.cox_reflect.proofs.Lengths.{word_length-is}

@@ -13,7 +13,8 @@ use Rattle.cox_reflect.proofs.Sums.{letter_cases}
 use Rattle.cox_reflect.proofs.Action.{pairing-simple_root, pairing-reflect, pairing-outside, reflect-fixed, reflect-reflect}
 use Rattle.cox_reflect.proofs.Transposed.{IsAdmissible-transposed}
 use Rattle.cox_small.specs.Elementary.{IsRoot}
-use Rattle.cox_small.proofs.RootPairs.{IsRootPair, root-reflect, simple_or_stays, pair-root, pair-swap, pair-act, pair-reflect, pair-nonnegative, pair-nonpositive}
+use Rattle.cox_small.proofs.RootPairs.{IsRootPair, root-reflect, simple_or_stays, pair-root, pair-swap, pair-act, pair-reflect}
+use Rattle.cox_small.proofs.RootPairs.{pair-nonnegative, pair-nonpositive}
 use Rattle.cox_small.proofs.SentRoots.{sending, shorter-sends}
 
 module _ (A : IntegerMatrix) (g : IsAdmissible A) where
