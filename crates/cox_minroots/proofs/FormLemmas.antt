@@ -1,11 +1,11 @@
 -- Normal forms and descents of reduced words, by exchanges.
 use Rattle.std.proofs.Common.{◌≡◌, ℕ, zero, suc, ◌+◌, ◌-◌, ◌≤◌, ◌<◌, Bool, true, false, Option, None, Some, is_some, IfSome, IfNone}
-use Rattle.std.proofs.Common.{nat_lt, List, [], ◌∷◌, ◌++◌, length, reverse, filter, refl, ap, sym, ◌∙◌, ⊎_elim, arith, ltb-true, lt-ltb}
+use Rattle.std.proofs.Common.{nat_lt, List, [], ◌∷◌, ◌++◌, length, reverse, filter, refl, ap, sym, ◌∙◌, ⊎_elim, arith, lt-ltb}
 use Rattle.std.specs.List.{range_with_len, remove}
 use Rattle.std.proofs.Math.Path.{fun_ext}
-use Rattle.std.proofs.lemmas.Bool.{cases_lt}
+use Rattle.std.proofs.lemmas.Bool.{cases_lt, le-ltb}
 use Rattle.std.proofs.lemmas.List.{append-nil, append_assoc, length-append, reverse-append, reverse-reverse}
-use Rattle.std.proofs.lemmas.List.Elements.{All-nil, filter-append}
+use Rattle.std.proofs.lemmas.List.Elements.{All-nil}
 use Rattle.std.proofs.lemmas.List.Elements.{All-nil}
 use Rattle.cox_base.specs.declared.side.Side.TheVariants.{Right}
 use Rattle.cox_base.specs.Matrix.{IsLetter, IsWord}
@@ -15,6 +15,7 @@ use Rattle.cox_base.specs.Element.{SameElement}
 use Rattle.cox_base.specs.ShortLex.{letters, normal_form}
 use Rattle.cox_base.specs.Length.{word_length, left_descents, right_descents}
 use Rattle.cox_base.specs.Reduced.{IsReduced, IsLeftDescent, IsRightDescent}
+use Rattle.cox_lemmas.proofs.RangeFilters.{filter_range-yes, filter_range-no}
 use Rattle.cox_reflect.proofs.Sums.{letter_above}
 use Rattle.cox_reflect.proofs.Elements.{same-trans, same-reverse, same-push}
 use Rattle.cox_reflect.proofs.FormLemmas.{left_descents-word_at}
@@ -118,47 +119,23 @@ module _ (A : IntegerMatrix) (g : IsAdmissible A) where
 
 -- ---- the list of the right descents
 
-not_ltb : (m n : ℕ) → (m < n → ⊥) → nat_lt m n ≡ false
-not_ltb m n h = go (nat_lt m n) refl
-  where
-    go : (b : Bool) → nat_lt m n ≡ b → nat_lt m n ≡ false
-    go true e = absurd (h (ltb-true m n e))
-    go false e = e
-
 letters_above : {n : ℕ} (w : List ℕ) → IsWord n w → IsWord (suc n) w
 letters_above w h k d l = letter_above _ _ (h k d l)
 
-range-push : (a n : ℕ) → range_with_len a (suc n) ≡ range_with_len a n ++ (a + n) ∷ []
-range-push a zero = let e : a + 0 ≡ a = omega arith in rw e refl
-range-push a (suc n) =
-    let e : a + 1 + n ≡ a + suc n = omega arith in rw (← e) (ap (λ (xs : List ℕ). a ∷ xs) (range-push (a + 1) n))
-
 module _ (A : IntegerMatrix) (v : List ℕ) where
-  descents-push : (n : ℕ) → descents_to A v (suc n)
-      ≡ descents_to A v n ++ filter (λ s. nat_lt (word_length A (v ++ s ∷ [])) (word_length A v)) (suc n ∷ [])
-  unfolding descents_to
-  descents-push n =
-      let e : 1 + n ≡ suc n = omega arith
-      in ap (filter (λ s. nat_lt (word_length A (v ++ s ∷ [])) (word_length A v))) (rw e at (range-push 1 n))
-      ∙ filter-append (λ s. nat_lt (word_length A (v ++ s ∷ [])) (word_length A v)) (range_with_len 1 n) (suc n ∷ [])
-
   pub descents-none : descents_to A v 0 ≡ []
   unfolding descents_to
   descents-none = refl
 
   pub descents-yes : (s : ℕ) → 1 ≤ s → IsRightDescent A v s → descents_to A v s ≡ descents_to A v (s - 1) ++ s ∷ []
-  descents-yes zero l d = absurd (omega (arith, l))
-  descents-yes (suc n) l d =
-      let test = lt-ltb (word_length A (v ++ suc n ∷ [])) (word_length A v) d
-      in let before : suc n - 1 ≡ n = omega arith
-      in descents-push n ∙ rw (before, test) refl
+  unfolding descents_to
+  descents-yes s l d = filter_range-yes (λ t. nat_lt (word_length A (v ++ t ∷ [])) (word_length A v)) (s - 1) s (omega (arith, l))
+      (lt-ltb (word_length A (v ++ s ∷ [])) (word_length A v) d)
 
   pub descents-no : (s : ℕ) → 1 ≤ s → (IsRightDescent A v s → ⊥) → descents_to A v s ≡ descents_to A v (s - 1)
-  descents-no zero l none = absurd (omega (arith, l))
-  descents-no (suc n) l none =
-      let test = not_ltb (word_length A (v ++ suc n ∷ [])) (word_length A v) none
-      in let before : suc n - 1 ≡ n = omega arith
-      in descents-push n ∙ rw (before, test) (append-nil (descents_to A v n))
+  unfolding descents_to
+  descents-no s l none = filter_range-no (λ t. nat_lt (word_length A (v ++ t ∷ [])) (word_length A v)) (s - 1) s (omega (arith, l))
+      (le-ltb (word_length A (v ++ s ∷ [])) (word_length A v) (omega (arith, none)))
 
   pub descents-all : descents_to A v A.rank ≡ right_descents A v
   unfolding descents_to right_descents letters

@@ -10,23 +10,15 @@ use Rattle.cox_minroots.proofs.closure.add_steps.Goals.{else-product-ge1-via-els
 pub loop-s-init : goal.loop-s-init
 loop-s-init c = stepping-start _ _ _ c.requires.small c.requires.within
 
-pub turned-requires-clause-root : goal.turned-requires-clause-root
-turned-requires-clause-root c =
+pub turned-requires : goal.turned-requires
+turned-requires c =
     let letter : IsLetter c.args.g.now.rank c.loop-s.s
     = record { from_one = c.loop-s.auto.s; to_rank = omega (arith, c.loop-s-test.true, c.rank.ensures.rank) }
-    in (stepping-turns c.args.g.now c.rank.ensures.matrix (omega (arith, c.rank.ensures.rank, c.rank.ensures.limit)) c.args.roots.now
-    c.loop-s.roots c.args.i c.loop-s.s c.loop-s.invariant letter
+    in let pair = stepping-turns c.args.g.now c.rank.ensures.matrix (omega (arith, c.rank.ensures.rank, c.rank.ensures.limit))
+    c.args.roots.now c.loop-s.roots c.args.i c.loop-s.s c.loop-s.invariant letter
     c.at-root.result c.at-root.ensures c.product-product.result c.product-product.ensures c.requires.few c.if-product-ge1.true
-    c.if-product-le-LONGEST.true).0
-
-pub turned-requires-clause-coroot : goal.turned-requires-clause-coroot
-turned-requires-clause-coroot c =
-    let letter : IsLetter c.args.g.now.rank c.loop-s.s
-    = record { from_one = c.loop-s.auto.s; to_rank = omega (arith, c.loop-s-test.true, c.rank.ensures.rank) }
-    in (stepping-turns c.args.g.now c.rank.ensures.matrix (omega (arith, c.rank.ensures.rank, c.rank.ensures.limit)) c.args.roots.now
-    c.loop-s.roots c.args.i c.loop-s.s c.loop-s.invariant letter
-    c.at-root.result c.at-root.ensures c.product-product.result c.product-product.ensures c.requires.few c.if-product-ge1.true
-    c.if-product-le-LONGEST.true).1
+    c.if-product-le-LONGEST.true
+    in record { letter = letter; root = pair.0; coroot = pair.1 }
 
 pub loop-s-preserved : goal.loop-s-preserved
 loop-s-preserved c =

@@ -1,5 +1,6 @@
 -- The image of a small root is negative, out, or in the set.
 use Rattle.std.proofs.Common.{arith}
+use Rattle.cox_base.specs.Matrix.{IsLetter}
 use Rattle.cox_base.specs.IntegerMatrix.{integer_matrix}
 use Rattle.cox_reflect.proofs.Admissible.{IsAdmissible-integer_matrix}
 use Rattle.cox_minroots.proofs.Targets.{move-negative, read-out, read-turns, read-there, read-found}
@@ -19,21 +20,15 @@ returns-then-product-gt-LONGEST c =
     (record { from_one = c.requires.letter; to_rank = omega (arith, c.if-from-rank.false, c.from.ensures, c.rank.ensures.rank) })
     c.at-root.result c.at-root.ensures c.product.result c.product.ensures c.if-product-gt-LONGEST.true
 
-pub turned-requires-clause-root : goal.turned-requires-clause-root
-turned-requires-clause-root c =
-    (read-turns c.args.g.now c.rank.ensures.matrix (omega (arith, c.rank.ensures.rank, c.rank.ensures.limit)) c.args.roots.now
+pub turned-requires : goal.turned-requires
+turned-requires c =
+    let letter : IsLetter c.args.g.now.rank c.args.s
+    = record { from_one = c.requires.letter; to_rank = omega (arith, c.if-from-rank.false, c.from.ensures, c.rank.ensures.rank) }
+    in let pair = read-turns c.args.g.now c.rank.ensures.matrix (omega (arith, c.rank.ensures.rank, c.rank.ensures.limit)) c.args.roots.now
     c.requires.closed c.requires.few
-    c.args.i c.requires.within c.args.s
-    (record { from_one = c.requires.letter; to_rank = omega (arith, c.if-from-rank.false, c.from.ensures, c.rank.ensures.rank) })
-    c.at-root.result c.at-root.ensures c.product.result c.product.ensures c.if-i-s.false c.if-product-gt-LONGEST.false).0
-
-pub turned-requires-clause-coroot : goal.turned-requires-clause-coroot
-turned-requires-clause-coroot c =
-    (read-turns c.args.g.now c.rank.ensures.matrix (omega (arith, c.rank.ensures.rank, c.rank.ensures.limit)) c.args.roots.now
-    c.requires.closed c.requires.few
-    c.args.i c.requires.within c.args.s
-    (record { from_one = c.requires.letter; to_rank = omega (arith, c.if-from-rank.false, c.from.ensures, c.rank.ensures.rank) })
-    c.at-root.result c.at-root.ensures c.product.result c.product.ensures c.if-i-s.false c.if-product-gt-LONGEST.false).1
+    c.args.i c.requires.within c.args.s letter
+    c.at-root.result c.at-root.ensures c.product.result c.product.ensures c.if-i-s.false c.if-product-gt-LONGEST.false
+    in record { letter = letter; root = pair.0; coroot = pair.1 }
 
 pub unreachable-requires : goal.unreachable-requires
 unreachable-requires c =
