@@ -1,6 +1,6 @@
 -- Bruhat order and descents of members, by their left shifts.
 use Rattle.std.proofs.Common.{◌≡◌, ℕ, ◌≤◌, ◌<◌, Bool, true, min, List, [], ◌∷◌, ◌++◌, length, ◌*◌, Option, None, Some, ◌↔◌}
-use Rattle.std.proofs.Common.{IsTrue, ◌+◌, ◌-◌, IsBitSet, filter, refl, sym, ◌∙◌, ⊎_elim, arith, ltb-true, lt-ltb}
+use Rattle.std.proofs.Common.{IsTrue, Contains, ◌+◌, ◌-◌, IsBitSet, filter, refl, sym, ◌∙◌, ⊎_elim, arith, ltb-true, lt-ltb}
 use Rattle.std.proofs.lemmas.Bool.{cases_lt}
 use Rattle.cox_base.specs.Matrix.{IsLetter}
 use Rattle.cox_base.specs.IntegerMatrix.{IntegerMatrix}
@@ -24,6 +24,7 @@ use Rattle.cox_reflect.proofs.Roots.{left_descent-letter, descent-letter}
 use Rattle.cox_base.specs.ShortLex.{letters}
 use Rattle.cox_context.proofs.ListLemmas.{rising-place}
 use Rattle.cox_context.proofs.Places.{place-within}
+use Rattle.cox_context.proofs.RightShifts.{first-letter}
 use Rattle.cox_context.proofs.Shifting.{length-at, first-member, shift-less, right_shift-less, descent-member, right_descent-member}
 
 -- x ≤ w is settled by the member i and what is left of the word of w
@@ -67,7 +68,7 @@ module _ (A : IntegerMatrix) (g : IsAdmissible A) (words : List (List ℕ)) (clo
       }
 
   -- a letter of the word, and the left shift by it
-  pub settled-next : (x w rest v : List ℕ) (t i : ℕ) (found : Option ℕ) → IsLetter A.rank t → IsSettled A words x w rest i → rest ≡ t ∷ v
+  settled-next : (x w rest v : List ℕ) (t i : ℕ) (found : Option ℕ) → IsLetter A.rank t → IsSettled A words x w rest i → rest ≡ t ∷ v
       → IsReduced A rest
       → IsNumberOf words (normal_form A (t ∷ word_at words i)) found → IsSettled A words x w v (lesser i found)
   settled-next x w rest v t i None l c e r none =
@@ -81,6 +82,14 @@ module _ (A : IntegerMatrix) (g : IsAdmissible A) (words : List (List ℕ)) (clo
       let q : min i k ≡ i = omega (arith, more)
       in rw q (settled-up x w rest v t i c e r (λ d. omega (arith, more, (shift-less A g words closed t i k l c.within within shift).1 d))))
       (cases_lt k i)
+
+  -- the same for a member with a number, by its first letter and the number of the rest of its word
+  pub settled-step : (x w : List ℕ) (upper below t i : ℕ) (found : Option ℕ) → upper < length words
+      → word_at words upper ≡ t ∷ word_at words below → IsSettled A words x w (word_at words upper) i
+      → IsNumberOf words (normal_form A (t ∷ word_at words i)) found → IsSettled A words x w (word_at words below) (lesser i found)
+  settled-step x w upper below t i found l e c number =
+      settled-next x w (word_at words upper) (word_at words below) t i found
+      (first-letter A g words closed t (word_at words below) upper l e) c e (length-at A g words closed upper l) number
 
   pub settled-start : (i j : ℕ) → i < length words → IsSettled A words (word_at words i) (word_at words j) (word_at words j) i
   settled-start i j l = record { within = l; settles = (λ b. b, λ b. b) }
@@ -103,73 +112,66 @@ module _ (A : IntegerMatrix) (g : IsAdmissible A) (words : List (List ℕ)) (clo
           empty [] l = refl
           empty (s ∷ x) l = absurd (omega (arith, l))
 
+  -- whether a letter shortens a member, by the number that is found for the shift
+  lower-tells : (P : Type 0) (u : List ℕ) (i : ℕ) (found : Option ℕ) → (P → Contains words (normal_form A u))
+      → ((k : ℕ) → k < length words → word_at words k ≡ normal_form A u → (k < i) ↔ P) → IsNumberOf words (normal_form A u) found
+      → (is_lower i found ≡ true) ↔ P
+  lower-tells P u i None member less none = (λ f. absurd (cc), λ p. absurd (none (member p)))
+  lower-tells P u i (Some k) member less (within, shift) =
+      let by = less k within shift in (λ f. by.0 (ltb-true k i f), λ p. lt-ltb k i (by.1 p))
+
   pub lower-descent : (s i : ℕ) (found : Option ℕ) → IsLetter A.rank s → i < length words
       → IsNumberOf words (normal_form A (s ∷ word_at words i)) found
       → (is_lower i found ≡ true) ↔ IsLeftDescent A (word_at words i) s
-  lower-descent s i None l m none = (λ f. absurd (cc), λ d. absurd (none (descent-member A g words closed s i m d)))
-  lower-descent s i (Some k) l m (within, shift) =
-      let less = shift-less A g words closed s i k l m within shift in (λ f. less.0 (ltb-true k i f), λ d. lt-ltb k i (less.1 d))
+  lower-descent s i found l m h = lower-tells (IsLeftDescent A (word_at words i) s) (s ∷ word_at words i) i found
+      (descent-member A g words closed s i m) (λ k within shift. shift-less A g words closed s i k l m within shift) h
 
   pub lower-right_descent : (s i : ℕ) (found : Option ℕ) → IsLetter A.rank s → i < length words
       → IsNumberOf words (normal_form A (word_at words i ++ s ∷ [])) found
       → (is_lower i found ≡ true) ↔ IsRightDescent A (word_at words i) s
-  lower-right_descent s i None l m none = (λ f. absurd (cc), λ d. absurd (none (right_descent-member A g words closed s i m d)))
-  lower-right_descent s i (Some k) l m (within, shift) =
-      let less = right_shift-less A g words closed s i k l m within shift in (λ f. less.0 (ltb-true k i f), λ d. lt-ltb k i (less.1 d))
+  lower-right_descent s i found l m h = lower-tells (IsRightDescent A (word_at words i) s) (word_at words i ++ s ∷ []) i found
+      (right_descent-member A g words closed s i m) (λ k within shift. right_shift-less A g words closed s i k l m within shift) h
 
   -- the descents of the members, read off their shifts
-  pub left-sets : (table sets : List ℕ) → AreLeftShifts A words table → AreLoweringSets A.rank table (length words) sets
-      → AreSets (IsLeftDescent A) words sets
-  left-sets table sets h k = record {
+  sets-of : (P : List ℕ → ℕ → Type 0) (table sets : List ℕ) → AreLoweringSets A.rank table (length words) sets
+      → ((i s : ℕ) → P (word_at words i) s → IsLetter A.rank s)
+      → ((s i : ℕ) → IsLetter A.rank s → i < length words → (is_lower i (entry A.rank table s i) ≡ true) ↔ P (word_at words i) s)
+      → AreSets P words sets
+  sets-of P table sets k is_letter tells = record {
     size = k.size;
     bit = λ i b l. (
-      λ one. let p = ((k.each i l).bit b).0 one in (left i b l (omega (arith, p.0))).0 p.1,
-      λ d. let m = left_descent-letter A g (word_at words i) (b + 1) d in ((k.each i l).bit b).1
-          (omega (arith, m.to_rank), (left i b l m.to_rank).1 d),
+      λ one. let p = ((k.each i l).bit b).0 one in (tells (b + 1) i (letter b (omega (arith, p.0))) l).0 p.1,
+      λ d. let m = is_letter i (b + 1) d in ((k.each i l).bit b).1 (omega (arith, m.to_rank), (tells (b + 1) i m l).1 d),
     );
   }
     where
-      left : (i b : ℕ) → i < length words → b + 1 ≤ A.rank
-          → (is_lower i (entry A.rank table (b + 1) i) ≡ true) ↔ IsLeftDescent A (word_at words i) (b + 1)
-      left i b l m =
-          let letter : IsLetter A.rank (b + 1) = record { from_one = omega arith; to_rank = m }
-          in lower-descent (b + 1) i (entry A.rank table (b + 1) i) letter l (h.shift (b + 1) i letter l)
+      letter : (b : ℕ) → b + 1 ≤ A.rank → IsLetter A.rank (b + 1)
+      letter b m = record { from_one = omega arith; to_rank = m }
+
+  pub left-sets : (table sets : List ℕ) → AreLeftShifts A words table → AreLoweringSets A.rank table (length words) sets
+      → AreSets (IsLeftDescent A) words sets
+  left-sets table sets h k = sets-of (IsLeftDescent A) table sets k (λ i s. left_descent-letter A g (word_at words i) s)
+      (λ s i l m. lower-descent s i (entry A.rank table s i) l m (h.shift s i l m))
 
   pub right-sets : (table sets : List ℕ) → length table ≡ length words * A.rank → AreRightShifts A words table
       → AreLoweringSets A.rank table (length words) sets → AreSets (IsRightDescent A) words sets
-  right-sets table sets size h k = record {
-    size = k.size;
-    bit = λ i b l. (
-      λ one. let p = ((k.each i l).bit b).0 one in (right i b l (omega (arith, p.0))).0 p.1,
-      λ d. let m = descent-letter A g (word_at words i) (b + 1) d in ((k.each i l).bit b).1
-          (omega (arith, m.to_rank), (right i b l m.to_rank).1 d),
-    );
-  }
-    where
-      right : (i b : ℕ) → i < length words → b + 1 ≤ A.rank
-          → (is_lower i (entry A.rank table (b + 1) i) ≡ true) ↔ IsRightDescent A (word_at words i) (b + 1)
-      right i b l m =
-          let letter : IsLetter A.rank (b + 1) = record { from_one = omega arith; to_rank = m }
-          in lower-right_descent (b + 1) i (entry A.rank table (b + 1) i) letter l
-          (h.shift (b + 1) i letter l (rw size (place-within A.rank (length words) i (b + 1) letter l)))
+  right-sets table sets size h k = sets-of (IsRightDescent A) table sets k (λ i s. descent-letter A g (word_at words i) s)
+      (λ s i l m. lower-right_descent s i (entry A.rank table s i) l m
+      (h.shift s i l m (rw size (place-within A.rank (length words) i s l m))))
+
+-- the letters of a set whose bits tell a property of them
+letter-tells : {rank : ℕ} (P : ℕ → Type 0) (set s : ℕ) → ((k : ℕ) → IsBitSet set k ↔ P (k + 1)) → IsLetter rank s
+    → (has_letter set s ≡ true) ↔ P s
+letter-tells P set s h m =
+    let e : s - 1 + 1 ≡ s = omega (arith, m.from_one)
+    in let b : IsBitSet set (s - 1) ↔ P s = rw e at (h (s - 1))
+    in (λ t. b.0 ((has_letter-bit set s).0 t), λ p. (has_letter-bit set s).1 (b.1 p))
 
 -- the letters of a set that has the descents
 pub left-letters : (A : IntegerMatrix) (w : List ℕ) (set : ℕ) → ((k : ℕ) → IsBitSet set k ↔ IsLeftDescent A w (k + 1))
     → filter (has_letter set) (letters A.rank) ≡ left_descents A w
-left-letters A w set h = sym (left_descents-by A w (has_letter set) (λ s m. at s m))
-  where
-    at : (s : ℕ) → IsLetter A.rank s → (has_letter set s ≡ true) ↔ IsLeftDescent A w s
-    at s m =
-        let e : s - 1 + 1 ≡ s = omega (arith, m.from_one)
-        in let b : IsBitSet set (s - 1) ↔ IsLeftDescent A w s = rw e at (h (s - 1))
-        in (λ t. b.0 ((has_letter-bit set s).0 t), λ d. (has_letter-bit set s).1 (b.1 d))
+left-letters A w set h = sym (left_descents-by A w (has_letter set) (λ s m. letter-tells (IsLeftDescent A w) set s h m))
 
 pub right-letters : (A : IntegerMatrix) (w : List ℕ) (set : ℕ) → ((k : ℕ) → IsBitSet set k ↔ IsRightDescent A w (k + 1))
     → filter (has_letter set) (letters A.rank) ≡ right_descents A w
-right-letters A w set h = sym (right_descents-by A w (has_letter set) (λ s m. at s m))
-  where
-    at : (s : ℕ) → IsLetter A.rank s → (has_letter set s ≡ true) ↔ IsRightDescent A w s
-    at s m =
-        let e : s - 1 + 1 ≡ s = omega (arith, m.from_one)
-        in let b : IsBitSet set (s - 1) ↔ IsRightDescent A w s = rw e at (h (s - 1))
-        in (λ t. b.0 ((has_letter-bit set s).0 t), λ d. (has_letter-bit set s).1 (b.1 d))
+right-letters A w set h = sym (right_descents-by A w (has_letter set) (λ s m. letter-tells (IsRightDescent A w) set s h m))

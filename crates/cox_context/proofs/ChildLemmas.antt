@@ -48,13 +48,22 @@ member-of A (Some top) earlier word e m =
     record { element = e; either = ⊎_elim (λ b. inl b) (λ c. inr (rw e.normal at c)) m }
 
 -- what has no number is not there
-pub unfound : (words : List (List ℕ)) (word : List ℕ) (x : Option ℕ) → IsNumberOf words word x → is_some x ≡ false → Contains words word → ⊥
+unfound : (words : List (List ℕ)) (word : List ℕ) (x : Option ℕ) → IsNumberOf words word x → is_some x ≡ false → Contains words word → ⊥
 unfound words word None none e c = none c
 unfound words word (Some k) found e c = absurd (cc)
 
 pub found : (words : List (List ℕ)) (word : List ℕ) (x : Option ℕ) → IsNumberOf words word x → is_some x ≡ true → Contains words word
 found words word None none e = absurd (cc)
 found words word (Some k) (l, is) e = placed-contains words word (record { i = k; within = l; is = is })
+
+-- a shift that has no number lengthens its member
+pub unfound-ascent : (c : CoxeterMatrix) → IsCoxeterMatrix c → (words : List (List ℕ)) → IsClosed (integer_matrix c) words → (s i : ℕ)
+    → IsLetter c.rank s → i < length words → (x : Option ℕ) → IsNumberOf words (normal_form (integer_matrix c) (s ∷ word_at words i)) x
+    → is_some x ≡ false
+    → (Contains words (normal_form (integer_matrix c) (s ∷ word_at words i)) → ⊥) × IsAscent (integer_matrix c) words s i
+unfound-ascent c m words closed s i l within x number e =
+    let new : Contains words (normal_form (integer_matrix c) (s ∷ word_at words i)) → ⊥ = unfound words _ x number e
+    in (new, ascent c m words closed s i l within new)
 
 -- with s x is x an earlier member
 pub earlier-none : (A : IntegerMatrix) → IsAdmissible A → (words earlier : List (List ℕ)) (s i : ℕ) → IsClosed A earlier

@@ -18,7 +18,7 @@ use Rattle.cox_reflect.proofs.Admissible.{IsAdmissible-integer_matrix}
 use Rattle.cox_reflect.proofs.Lengths.{word_length-is, IsReduced-normal_form}
 use Rattle.cox_reflect.proofs.Deletion.{left_length}
 use Rattle.cox_reflect.proofs.Bruhat.{below-length, below-same, below-least}
-use Rattle.cox_reflect.proofs.Search.{word_length-length, normal_form-same}
+use Rattle.cox_reflect.proofs.Search.{word_length-length, word_length-equal, normal_form-same}
 use Rattle.cox_context.specs.declared.fault.ContextFault.{ContextFault}
 use Rattle.cox_context.specs.declared.fault.ContextFault.TheVariants.{Size, Long, NoMemory}
 use Rattle.cox_context.specs.declared.members.TheConstants.{MAX_MEMBERS}
@@ -31,7 +31,7 @@ use Rattle.cox_context.specs.Shifts.{entry}
 use Rattle.cox_context.specs.Refusal.{IsLong, IsRefusal}
 use Rattle.cox_context.proofs.ListLemmas.{contains-placed, placed-contains, contains-at, rising-place, rising-before}
 use Rattle.cox_context.proofs.SortedLemmas.{before-less}
-use Rattle.cox_context.proofs.Ideals.{IsIdeal, group-ideal, union-ideal, ideal-tailed, element-normal_form, element-length, element-nil}
+use Rattle.cox_context.proofs.Ideals.{IsIdeal, group-ideal, interval-ideal, union-ideal, ideal-tailed, element-normal_form, element-length, element-nil}
 use Rattle.cox_context.proofs.Ideals.{element-tail}
 use Rattle.cox_context.proofs.GrowthLemmas.{IsTailed, grown-length, grown-list}
 
@@ -303,3 +303,34 @@ form-same x y e matrix w top f =
     let g : IsAdmissible (integer_matrix y) = IsAdmissible-integer_matrix y matrix
     in let form : top ≡ normal_form (integer_matrix y) w = rw e f
     in (rw form (IsReduced-normal_form (integer_matrix y) g w), rw form (normal_form-same (integer_matrix y) g w))
+
+-- ---- an interval up to w, as it is found up to the normal form `top` of w in a copy x of the group z
+
+module _ (x z : CoxeterMatrix) (copy : x ≡ z) (matrix : IsCoxeterMatrix x) (w top : List ℕ) (form : top ≡ normal_form (integer_matrix z) w)
+  where
+    abbrev A : IntegerMatrix
+    A = integer_matrix x
+
+    g : IsAdmissible A
+    g = IsAdmissible-integer_matrix x matrix
+
+    same : IsReduced A top × SameElement A top w
+    same = form-same z x copy matrix w top form
+
+    module _ (earlier : List (List ℕ)) (identity : earlier ≡ [] ∷ []) where
+      pub interval-refused : {T : Type 0} (limit : ℕ) (r : Result T ContextFault)
+          → IfErr r (IsRefusal (IsInUnion (integer_matrix x) top earlier) limit)
+          → IfErr r (IsRefusal (IsInInterval (integer_matrix z) w) limit)
+      interval-refused limit r refused =
+          rw (← copy) (result-along (IsInUnion A top earlier) (IsInInterval A w) (union-interval A g w top earlier same.1 identity)
+          (interval-union A g w top earlier same.1) limit r refused)
+
+      pub interval-found : (words : List (List ℕ)) (letters low : ℕ) → letters ≡ length top
+          → IsGrown x.rank (IsInUnion (integer_matrix x) top earlier) letters low words
+          → IsListOf (IsInInterval (integer_matrix x) w) words
+      interval-found words letters low n h = interval-members A g w top earlier words letters low same.1 same.0 identity n h
+
+    pub interval-closed : (words : List (List ℕ)) → IsListOf (IsInInterval (integer_matrix x) w) words → length top ≤ MAX_LETTERS
+        → length words ≤ MAX_MEMBERS → IsClosed (integer_matrix x) words
+    interval-closed words are short few = list-closed A g (IsInInterval A w) words (interval-ideal A g w) are
+        (λ word p. omega (arith, interval-length A g w word p, word_length-equal A g same.1, same.0, short)) few

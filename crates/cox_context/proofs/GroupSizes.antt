@@ -1,6 +1,6 @@
 -- Whether a group has too many elements, or one that is too long, is decided; and where it has not, there is a list of all its elements.
-use Rattle.std.proofs.Common.{◌≡◌, ◌⊎◌, ℕ, zero, suc, ◌+◌, ◌-◌, ◌==◌, ◌<◌, ◌≤◌, Bool, true, false, List, [], ◌∷◌, length, filter, take, map}
-use Rattle.std.proofs.Common.{Contains, inl, inr, refl, sym, ap, ◌∙◌, ⊎_elim, arith, subst}
+use Rattle.std.proofs.Common.{◌≡◌, ◌⊎◌, ℕ, ◌+◌, ◌-◌, ◌<◌, ◌≤◌, List, [], ◌∷◌, length, take, map}
+use Rattle.std.proofs.Common.{Contains, inl, inr, sym, ◌∙◌, ⊎_elim, arith, subst}
 use Rattle.std.proofs.lemmas.Bool.{cases_lt, cases_eq}
 use Rattle.std.proofs.lemmas.List.{get_or-take, length-take-le}
 use Rattle.std.specs.declared.cmp.Ordering.TheVariants.{Less}
@@ -8,16 +8,16 @@ use Rattle.cox_base.specs.declared.limits.TheConstants.{MAX_LETTERS}
 use Rattle.cox_base.specs.IntegerMatrix.{IntegerMatrix}
 use Rattle.cox_base.specs.Admissible.{IsAdmissible}
 use Rattle.cox_base.specs.ShortLex.{normal_form, words_up_to, shortlex_cmp}
-use Rattle.cox_reflect.proofs.Members.{In, here, there, Each, Each-map, Each-weaker, In-map}
+use Rattle.cox_reflect.proofs.Members.{In, here, there, Each-map, Each-weaker, In-map}
 use Rattle.cox_reflect.proofs.Search.{IsWordWithin, Each-words_up_to, In-words_up_to, length-normal_form}
 use Rattle.cox_reflect.proofs.ShortLexFirst.{by_length, before-shortlex_cmp}
-use Rattle.cox_context.specs.SortedList.{IsListOf, HasMoreThan}
+use Rattle.cox_context.specs.SortedList.{IsListOf}
 use Rattle.cox_context.specs.Members.{IsElement}
 use Rattle.cox_context.specs.Numbers.{word_at}
 use Rattle.cox_context.specs.Refusal.{IsPrefixOf, IsOver, IsTooLarge}
 use Rattle.cox_context.proofs.Ideals.{element-normal_form, element-tail}
 use Rattle.cox_context.proofs.Listing.{listing}
-use Rattle.cox_context.proofs.ListLemmas.{contains-placed, placed-contains, contains-at}
+use Rattle.cox_context.proofs.ListLemmas.{contains-placed, contains-at}
 use Rattle.cox_context.proofs.SortedLemmas.{contains-in, in-contains, HasMoreThan-over, HasMoreThan-few}
 
 -- an element of at most n letters
@@ -49,14 +49,17 @@ module _ (P : List ℕ → Type 0) (words : List (List ℕ)) (n : ℕ) (are : Is
         let b : p.i < n = omega (arith, p.within, size) in
         subst P (sym (at p.i b) ∙ p.is) (are.sound (word_at words p.i) (contains-at words p.i (omega (arith, b, within))));
     first = λ word holds. let p = contains-placed words word (are.whole word holds) in
-        subst (λ (x : List ℕ). Contains (take n words) x ⊎ ((other : List ℕ) → Contains (take n words) other → shortlex_cmp other x ≡ Less)) p.is
-        (here_or_later p.i p.within);
+        subst
+        (λ (x : List ℕ). Contains (take n words) x ⊎ ((other : List ℕ) → Contains (take n words) other → shortlex_cmp other x ≡ Less))
+        p.is (here_or_later p.i p.within);
   }
 
 -- whether a list has a word of n letters
-with_length : (n : ℕ) (words : List (List ℕ)) → ((x : List ℕ) × In x words × (length x ≡ n)) ⊎ ((x : List ℕ) → In x words → length x ≡ n → ⊥)
+with_length : (n : ℕ) (words : List (List ℕ))
+    → ((x : List ℕ) × In x words × (length x ≡ n)) ⊎ ((x : List ℕ) → In x words → length x ≡ n → ⊥)
 with_length n [] = inr (λ x i e. elim i [ ])
-with_length n (w ∷ words) = ⊎_elim (λ (same : length w ≡ n). inl (w, here, same)) (λ other. more other (with_length n words)) (cases_eq (length w) n)
+with_length n (w ∷ words) =
+    ⊎_elim (λ (same : length w ≡ n). inl (w, here, same)) (λ other. more other (with_length n words)) (cases_eq (length w) n)
   where
     none : (length w ≡ n → ⊥) → ((x : List ℕ) → In x words → length x ≡ n → ⊥) → (x : List ℕ) → In x (w ∷ words) → length x ≡ n → ⊥
     none other rest x here e = other e

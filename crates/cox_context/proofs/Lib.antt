@@ -14,6 +14,8 @@ pub mod GrowthLemmas
 pub mod FaultLemmas
 -- the context of an interval or a group is closed downwards; a group with more elements has one of MAX_LETTERS + 1 letters
 pub mod ContextLemmas
+-- a context with the interval up to an element added
+pub mod Extensions
 -- where the entries of a table of shifts stand
 pub mod Places
 -- shifts of members: which are members, and which come before

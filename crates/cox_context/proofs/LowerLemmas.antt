@@ -1,5 +1,5 @@
 -- Walks from a member x by two letters t and s in turn, where s x is no member: down while the letters shorten, and up on the other side.
-use Rattle.std.proofs.Common.{◌≡◌, ℕ, suc, ◌+◌, ◌≤◌, ◌<◌, Bool, true, false, not, cond, List, ◌∷◌, ◌++◌, length, Contains, Some, refl, ap}
+use Rattle.std.proofs.Common.{◌≡◌, ℕ, suc, ◌+◌, ◌≤◌, ◌<◌, not, cond, List, ◌∷◌, ◌++◌, length, Contains, Some, refl, ap}
 use Rattle.std.proofs.Common.{sym, ◌∙◌, ⊎_elim, arith}
 use Rattle.cox_base.specs.Matrix.{CoxeterMatrix, IsLetter, label}
 use Rattle.cox_base.specs.IntegerMatrix.{IntegerMatrix, integer_matrix}
@@ -16,7 +16,7 @@ use Rattle.cox_reflect.proofs.Lengths.{word_length-is, word_length-cons, cons-wo
 use Rattle.cox_reflect.proofs.Deletion.{left_length}
 use Rattle.cox_reflect.proofs.Bruhat.{below-same, below-ascent}
 use Rattle.cox_reflect.proofs.OrderLemmas.{first-descent}
-use Rattle.cox_reflect.proofs.RankTwo.{is_even, alternating, alternating-zero, alternating-suc}
+use Rattle.cox_reflect.proofs.RankTwo.{is_even, alternating, alternating-zero, alternating-suc, cond_not}
 use Rattle.cox_context.specs.Closed.{IsClosed}
 use Rattle.cox_context.specs.Numbers.{word_at}
 use Rattle.cox_context.specs.Shifts.{IsLower}
@@ -31,10 +31,6 @@ pub record IsStep (A : IntegerMatrix) (words : List (List ℕ)) (s t i j at lett
   pub same : SameElement A (word_at words at) (alternating j s t ++ word_at words i)
   pub turn : letter ≡ cond (is_even j) t s
   pub next : other ≡ cond (is_even j) s t
-
-cond_not : (b : Bool) (t s : ℕ) → cond (not b) t s ≡ cond b s t
-cond_not true t s = refl
-cond_not false t s = refl
 
 module _ (A : IntegerMatrix) (g : IsAdmissible A) (words : List (List ℕ)) (s t i : ℕ) where
   pub step-start : i < length words → IsStep A words s t i 0 i t s

@@ -1,6 +1,6 @@
 -- Shifts of the members of a closed list.
 use Rattle.std.proofs.Common.{◌≡◌, ℕ, ◌+◌, ◌≤◌, ◌<◌, List, [], ◌∷◌, ◌++◌, length, Contains, ◌↔◌, Option, None, Some, IsSome, refl, ap, sym}
-use Rattle.std.proofs.Common.{◌∙◌, ⊎_elim, arith}
+use Rattle.std.proofs.Common.{◌∙◌, ◌⊎◌, ⊎_elim, arith}
 use Rattle.std.proofs.lemmas.Bool.{cases_order}
 use Rattle.std.proofs.lemmas.List.Elements.{All-head}
 use Rattle.cox_base.specs.Matrix.{IsLetter}
@@ -55,46 +55,30 @@ module _ (A : IntegerMatrix) (g : IsAdmissible A) (words : List (List ℕ)) (clo
       (same-cons A g s (same-trans A g (same-equal A g e) (normal_form-same A g (s ∷ word_at words i))))
       (same-square A g s (word_at words i))) ∙ (element-at i l).normal)
 
-  -- where s shortens x, the number of s x is less than that of x, and otherwise it is not
-  pub shift-less : (s : ℕ) (i k : ℕ) → IsLetter A.rank s → i < length words → k < length words
-      → word_at words k ≡ normal_form A (s ∷ word_at words i) → (k < i) ↔ IsLeftDescent A (word_at words i) s
-  shift-less s i k l m n e = (
+  -- where an element u has one letter less than x, its number is less than that of x, and where it has one more, it is not
+  shift-order : (u : List ℕ) (i k : ℕ) → i < length words → k < length words → word_at words k ≡ normal_form A u
+      → (word_length A u ≡ word_length A (word_at words i) + 1) ⊎ (word_length A (word_at words i) ≡ word_length A u + 1)
+      → (k < i) ↔ (word_length A u < word_length A (word_at words i))
+  shift-order u i k m n e sides = (
     λ less. ⊎_elim (λ up. absurd (omega (arith, up, size, length-at i m, rising-length words k i closed.rising (omega (arith, less)) m)))
-        (λ down. omega (arith, down)) (left_length A g s (word_at words i) l),
+        (λ down. omega (arith, down)) sides,
     λ d. ⊎_elim (λ (q : k ≡ i). absurd (omega (arith, d, size, length-at i m, ap (λ (j : ℕ). length (word_at words j)) q)))
         (λ side. ⊎_elim (λ below. below)
-        (λ above. absurd (omega (
-          arith,
-          d,
-          size,
-          length-at i m,
-          rising-length words i k closed.rising
-              (omega (arith, above)) n,
-        ))) side) (cases_order k i),
+        (λ above. absurd (omega (arith, d, size, length-at i m, rising-length words i k closed.rising (omega (arith, above)) n)))
+        side) (cases_order k i),
   )
     where
-      size : word_length A (s ∷ word_at words i) ≡ length (word_at words k)
-      size = word_length-is A (s ∷ word_at words i) ∙ sym (ap length e)
+      size : word_length A u ≡ length (word_at words k)
+      size = word_length-is A u ∙ sym (ap length e)
+
+  -- so the numbers of s x and x s tell whether s shortens x
+  pub shift-less : (s : ℕ) (i k : ℕ) → IsLetter A.rank s → i < length words → k < length words
+      → word_at words k ≡ normal_form A (s ∷ word_at words i) → (k < i) ↔ IsLeftDescent A (word_at words i) s
+  shift-less s i k l m n e = shift-order (s ∷ word_at words i) i k m n e (left_length A g s (word_at words i) l)
 
   pub right_shift-less : (s : ℕ) (i k : ℕ) → IsLetter A.rank s → i < length words → k < length words
       → word_at words k ≡ normal_form A (word_at words i ++ s ∷ []) → (k < i) ↔ IsRightDescent A (word_at words i) s
-  right_shift-less s i k l m n e = (
-    λ less. ⊎_elim (λ up. absurd (omega (arith, up, size, length-at i m, rising-length words k i closed.rising (omega (arith, less)) m)))
-        (λ down. omega (arith, down)) (right_length A g (word_at words i) s l),
-    λ d. ⊎_elim (λ (q : k ≡ i). absurd (omega (arith, d, size, length-at i m, ap (λ (j : ℕ). length (word_at words j)) q)))
-        (λ side. ⊎_elim (λ below. below)
-        (λ above. absurd (omega (
-          arith,
-          d,
-          size,
-          length-at i m,
-          rising-length words i k closed.rising
-              (omega (arith, above)) n,
-        ))) side) (cases_order k i),
-  )
-    where
-      size : word_length A (word_at words i ++ s ∷ []) ≡ length (word_at words k)
-      size = word_length-is A (word_at words i ++ s ∷ []) ∙ sym (ap length e)
+  right_shift-less s i k l m n e = shift-order (word_at words i ++ s ∷ []) i k m n e (right_length A g (word_at words i) s l)
 
   -- a shift that shortens a member is a member
   pub descent-member : (s : ℕ) (i : ℕ) → i < length words → IsLeftDescent A (word_at words i) s

@@ -16,7 +16,8 @@ use Rattle.cox_context.proofs.ListLemmas.{IsPlaced, contains-placed, contains-at
 -- ---- places
 
 -- a word that comes before another stands before it
-pub before-less : (words : List (List ℕ)) (i j : ℕ) → IsRising words → i < length words → IsBefore (word_at words i) (word_at words j) → i < j
+pub before-less : (words : List (List ℕ)) (i j : ℕ) → IsRising words → i < length words
+    → IsBefore (word_at words i) (word_at words j) → i < j
 before-less words i j r l b =
     ⊎_elim (λ (e : i ≡ j). absurd (IsBefore-irrefl (rw e at b)))
     (λ side. ⊎_elim (λ (less : i < j). less) (λ (more : j < i). absurd (IsBefore-asym b (rising-before words j i r more l))) side)

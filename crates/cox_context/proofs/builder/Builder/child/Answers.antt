@@ -1,41 +1,30 @@
 -- The child is the next member, or it is not meant, or it was found before, or an element below it was not.
-use Rattle.std.proofs.Common.{◌∷◌, Contains, sym, ◌∙◌}
+use Rattle.std.proofs.Common.{◌∷◌, sym, ◌∙◌}
 use Rattle.std.proofs.lemmas.Bool.{false≢true}
-use Rattle.cox_base.specs.IntegerMatrix.{integer_matrix}
-use Rattle.cox_base.specs.ShortLex.{normal_form}
 use Rattle.cox_context.specs.Numbers.{word_at}
 use Rattle.cox_context.specs.Growth.{above, known}
-use Rattle.cox_context.proofs.LowerLemmas.{IsAscent, ascent}
-use Rattle.cox_context.proofs.ChildLemmas.{unfound, found}
+use Rattle.cox_context.proofs.ChildLemmas.{unfound-ascent, found}
 use Rattle.cox_context.proofs.builder.Builder.child.Goals as goal
 
 pub returns-then-is_meant-clause-next : goal.returns-then-is_meant-clause-next
 returns-then-is_meant-clause-next c =
-    let new : Contains c.args.self.now.listing.members
-    (normal_form (integer_matrix c.args.family.now.group) (c.args.s ∷ word_at c.args.self.now.listing.members c.args.parent)) → ⊥ =
-    unfound c.args.self.now.listing.members _ c.left_shift.result c.left_shift.ensures (sym c.is_some.ensures ∙ c.if-is_some.false)
-    in let up : IsAscent (integer_matrix c.args.family.now.group) c.args.self.now.listing.members c.args.s c.args.parent =
-    ascent c.args.family.now.group c.requires.matrix c.args.self.now.listing.members c.requires.closed c.args.s c.args.parent
-    c.requires.letter c.requires.parent new
+    let up = unfound-ascent c.args.family.now.group c.requires.matrix c.args.self.now.listing.members c.requires.closed c.args.s
+    c.args.parent c.requires.letter c.requires.parent c.left_shift.result c.left_shift.ensures (sym c.is_some.ensures ∙ c.if-is_some.false)
     in record {
-      new = new;
+      new = up.0;
       meant = (c.is_meant.ensures (c.args.s ∷ word_at c.args.self.now.listing.members c.args.parent) c.args.s c.args.earlier.now.members
-          up.descent c.in-Ok.ensures.lower c.earlier_number-number.ensures).0 c.if-is_meant.true;
+          up.1.descent c.in-Ok.ensures.lower c.earlier_number-number.ensures).0 c.if-is_meant.true;
       numbers = c.in-Ok.ensures.lower;
       number = c.earlier_number-number.ensures;
     }
 
 pub returns-else-is_meant-clause-none : goal.returns-else-is_meant-clause-none
 returns-else-is_meant-clause-none c =
-    let new : Contains c.args.self.now.listing.members
-    (normal_form (integer_matrix c.args.family.now.group) (c.args.s ∷ word_at c.args.self.now.listing.members c.args.parent)) → ⊥ =
-    unfound c.args.self.now.listing.members _ c.left_shift.result c.left_shift.ensures (sym c.is_some.ensures ∙ c.if-is_some.false)
-    in let up : IsAscent (integer_matrix c.args.family.now.group) c.args.self.now.listing.members c.args.s c.args.parent =
-    ascent c.args.family.now.group c.requires.matrix c.args.self.now.listing.members c.requires.closed c.args.s c.args.parent
-    c.requires.letter c.requires.parent new
+    let up = unfound-ascent c.args.family.now.group c.requires.matrix c.args.self.now.listing.members c.requires.closed c.args.s
+    c.args.parent c.requires.letter c.requires.parent c.left_shift.result c.left_shift.ensures (sym c.is_some.ensures ∙ c.if-is_some.false)
     in above (λ b. false≢true (sym c.if-is_meant.false
     ∙ (c.is_meant.ensures (c.args.s ∷ word_at c.args.self.now.listing.members c.args.parent) c.args.s c.args.earlier.now.members
-    up.descent c.in-Ok.ensures.lower c.earlier_number-number.ensures).1 b))
+    up.1.descent c.in-Ok.ensures.lower c.earlier_number-number.ensures).1 b))
 
 pub returns-then-is_some-clause-none : goal.returns-then-is_some-clause-none
 returns-then-is_some-clause-none c =

@@ -3,9 +3,9 @@ use Rattle.std.proofs.Common.{◌≡◌, [], arith}
 use Rattle.std.proofs.lemmas.Bool.{eqb-true, eq-eqb}
 use Rattle.cox_base.specs.IntegerMatrix.{IntegerMatrix, integer_matrix}
 use Rattle.cox_context.specs.Numbers.{word_at}
-use Rattle.cox_context.proofs.Shifting.{length-at, first-member}
+use Rattle.cox_context.proofs.Shifting.{first-member}
 use Rattle.cox_context.proofs.RightShifts.{first-letter}
-use Rattle.cox_context.proofs.BelowLemmas.{settled-start, settled-next, settled-end}
+use Rattle.cox_context.proofs.BelowLemmas.{settled-start, settled-step, settled-end}
 use Rattle.cox_context.proofs.context.Context.below.Goals as goal
 
 pub left-requires-clause-letter : goal.left-requires-clause-letter
@@ -23,17 +23,10 @@ loop-upper-init c = record {
 
 pub loop-upper-preserved-in-Some : goal.loop-upper-preserved-in-Some
 loop-upper-preserved-in-Some c =
-    let A : IntegerMatrix = integer_matrix c.args.self.now.matrix
-    in let letter = first-letter A c.len.ensures.admissible c.args.self.now.members c.len.ensures.closed
-    c.link-link.result.first (word_at c.args.self.now.members c.link-link.result.rest) c.loop-upper.upper c.loop-upper.invariant.inside
-    c.link-link.ensures.word
-    in let next = settled-next A c.len.ensures.admissible c.args.self.now.members c.len.ensures.closed
-    (word_at c.args.self.now.members c.args.i) (word_at c.args.self.now.members c.args.j) (word_at c.args.self.now.members
-    c.loop-upper.upper)
-    (word_at c.args.self.now.members c.link-link.result.rest) c.link-link.result.first c.loop-upper.rest c.left.result letter
-    c.loop-upper.invariant.settled c.link-link.ensures.word
-    (length-at A c.len.ensures.admissible c.args.self.now.members c.len.ensures.closed c.loop-upper.upper c.loop-upper.invariant.inside)
-    c.left.ensures
+    let next = settled-step (integer_matrix c.args.self.now.matrix) c.len.ensures.admissible c.args.self.now.members c.len.ensures.closed
+    (word_at c.args.self.now.members c.args.i) (word_at c.args.self.now.members c.args.j) c.loop-upper.upper c.link-link.result.rest
+    c.link-link.result.first c.loop-upper.rest c.left.result c.loop-upper.invariant.inside c.link-link.ensures.word
+    c.loop-upper.invariant.settled c.left.ensures
     in record {
       inside = omega (arith, c.link-link.ensures.inward, c.loop-upper.invariant.inside);
       settled = rw c.min-rest.ensures (rw c.in-Some.is at next);
@@ -41,17 +34,10 @@ loop-upper-preserved-in-Some c =
 
 pub loop-upper-preserved : goal.loop-upper-preserved
 loop-upper-preserved c =
-    let A : IntegerMatrix = integer_matrix c.args.self.now.matrix
-    in let letter = first-letter A c.len.ensures.admissible c.args.self.now.members c.len.ensures.closed
-    c.link-link.result.first (word_at c.args.self.now.members c.link-link.result.rest) c.loop-upper.upper c.loop-upper.invariant.inside
-    c.link-link.ensures.word
-    in let next = settled-next A c.len.ensures.admissible c.args.self.now.members c.len.ensures.closed
-    (word_at c.args.self.now.members c.args.i) (word_at c.args.self.now.members c.args.j) (word_at c.args.self.now.members
-    c.loop-upper.upper)
-    (word_at c.args.self.now.members c.link-link.result.rest) c.link-link.result.first c.loop-upper.rest c.left.result letter
-    c.loop-upper.invariant.settled c.link-link.ensures.word
-    (length-at A c.len.ensures.admissible c.args.self.now.members c.len.ensures.closed c.loop-upper.upper c.loop-upper.invariant.inside)
-    c.left.ensures
+    let next = settled-step (integer_matrix c.args.self.now.matrix) c.len.ensures.admissible c.args.self.now.members c.len.ensures.closed
+    (word_at c.args.self.now.members c.args.i) (word_at c.args.self.now.members c.args.j) c.loop-upper.upper c.link-link.result.rest
+    c.link-link.result.first c.loop-upper.rest c.left.result c.loop-upper.invariant.inside c.link-link.ensures.word
+    c.loop-upper.invariant.settled c.left.ensures
     in record {
       inside = omega (arith, c.link-link.ensures.inward, c.loop-upper.invariant.inside);
       settled = rw c.in_default.is at next;
