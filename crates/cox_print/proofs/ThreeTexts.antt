@@ -10,8 +10,8 @@ pub Puts-first_of_three : (result : Result Unit AllocError) (a b c old new : Lis
 Puts-first_of_three result a b c old new failed put = Puts-first result (a ++ b) c old new failed (PutsPrefix-first a b old new put)
 
 -- out of memory at the second
-pub Puts-second_of_three : (result : Result Unit AllocError) (a b c old mid new : List ℕ) → mid ≡ old ++ a → IsErr result → PutsPrefix b mid new
-    → Puts result (a ++ b ++ c) old new
+pub Puts-second_of_three : (result : Result Unit AllocError) (a b c old mid new : List ℕ) → mid ≡ old ++ a → IsErr result
+    → PutsPrefix b mid new → Puts result (a ++ b ++ c) old new
 Puts-second_of_three result a b c old mid new first failed put =
     Puts-first result (a ++ b) c old new failed (PutsPrefix-second a b old mid new first put)
 
