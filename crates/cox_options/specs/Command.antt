@@ -1,6 +1,7 @@
 -- The command `coxeter`, by the definitions of `clap`.
 use Rattle.std.specs.Prelude.{ℕ, List, true, [], ◌∷◌, Some, codes, map, fold}
-use Rattle.cox_options.specs.declared.options.TheConstants.{MAX_CONTEXT, MAX_CONTEXT_TEXT, MAX_ROOTS, MAX_ROOTS_TEXT, MAX_COEF, MAX_COEF_TEXT}
+use Rattle.cox_options.specs.declared.options.TheConstants.{MAX_CONTEXT, MAX_CONTEXT_TEXT, MAX_ROOTS, MAX_ROOTS_TEXT, MAX_COEF}
+use Rattle.cox_options.specs.declared.options.TheConstants.{MAX_COEF_TEXT}
 use Rattle.clap.specs.Words.{App, Rule, Text, new_app, new_rule, with_rule}
 use Rattle.clap.specs.Simple.{on_top}
 use Rattle.clap.specs.declared.builder.action.ArgAction.TheVariants.{Set}
