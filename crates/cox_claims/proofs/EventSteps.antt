@@ -10,8 +10,8 @@ use Rattle.atomic_table.proofs.Lists.{set_else}
 use Rattle.cox_fill_core.specs.declared.event.RowState.{RowState}
 use Rattle.cox_fill_core.specs.declared.event.Event.{Event}
 use Rattle.cox_fill_core.specs.declared.event.Reply.{Reply}
-use Rattle.cox_fill_core.specs.Fill.{Fill, put, is_free, opening, after, reply, noticed, told as told_core}
-use Rattle.cox_fill_core.specs.Fill.{claimed as claimed_core, published as published_core, voided as voided_core}
+use Rattle.cox_fill_core.specs.Fill.{Fill, put, is_free, opening_core, after, reply, noticed, after_tell}
+use Rattle.cox_fill_core.specs.Fill.{after_claim, after_publication, after_void}
 use Rattle.cox_fill_core.specs.Good.{IsGood}
 use Rattle.cox_fill_core.proofs.Steps.{after_good}
 use Rattle.cox_fill_core.proofs.Marks.{all_replicate}
@@ -116,7 +116,7 @@ win_event rows s a i h is_zero =
     step_event rows s a i 1 (won (view a) i) (Event.Claim a i) Reply.Won h
     (wins rows s a i (view a) [] h.rule h.within h.at h.live is_zero)
     (λ c sh kept. subst (λ b. IsShown (put state i RowState.Claimed) (put view a (won (view a) i)) (length s.views)
-    (cond b (claimed_core c a i) (noticed c a i)))
+    (cond b (after_claim c a i) (noticed c a i)))
     (sym (free c sh)) (claim_shown state view (length s.views) c a i sh kept))
     (λ c sh. cond-true (is_free (c.state i)) Reply.Won (Reply.Lost (c.state i)) (free c sh))
 
@@ -132,7 +132,7 @@ lose_event rows s a i h not_zero =
     λ (c : Fill) (sh : Shows s c). ap is_free (sh.state_is i) ∙ not_free (state i) (taken_not_free (get_or s.words i 0) not_zero) in
     step_event rows s a i (get_or s.words i 0) w (Event.Claim a i) (Reply.Lost (state i)) h
     (learns rows s a i (view a) [] h.rule h.within h.at h.live)
-    (λ c sh kept. subst (λ b. IsShown (put state i (state i)) (put view a w) (length s.views) (cond b (claimed_core c a i) (noticed c a i)))
+    (λ c sh kept. subst (λ b. IsShown (put state i (state i)) (put view a w) (length s.views) (cond b (after_claim c a i) (noticed c a i)))
     (sym (taken c sh)) (told_state rows s a i h c sh kept))
     (λ c sh. cond-false (is_free (c.state i)) Reply.Won (Reply.Lost (c.state i)) (taken c sh) ∙ ap Reply.Lost (sh.state_is i))
 
@@ -187,7 +187,7 @@ publish_event rows s a i h mine =
     (changes rows s a i 2 (view a) w [] h.rule h.within (omega arith) h.at h.live (inr mine)
     (published_acts (view a) i (claimed_here rows s a i h mine)))
     (λ c sh kept. subst (λ b. IsShown (put state i RowState.Published) (put view a w) (length s.views)
-    (cond (b && true) (published_core c a i) c))
+    (cond (b && true) (after_publication c a i) c))
     (sym (held_core s a i mine c sh)) (publish_shown state view (length s.views) c a i sh (seat_there rows s a i h) h.live kept))
     (λ c sh. cond-true (c.holds a i) Reply.Made Reply.NotYours (held_core s a i mine c sh))
 
@@ -200,7 +200,7 @@ void_event rows s a i h mine =
     step_event rows s a i 3 w (Event.Void a i) Reply.Voided h
     (changes rows s a i 3 (view a) w [] h.rule h.within (omega arith) h.at h.live (inr mine)
     (voided_acts (view a) i (claimed_here rows s a i h mine)))
-    (λ c sh kept. subst (λ b. IsShown (put state i RowState.Void) (put view a w) (length s.views) (cond b (voided_core c a i) c))
+    (λ c sh kept. subst (λ b. IsShown (put state i RowState.Void) (put view a w) (length s.views) (cond b (after_void c a i) c))
     (sym (held_core s a i mine c sh)) (void_shown state view (length s.views) c a i sh kept))
     (λ c sh. cond-true (c.holds a i) Reply.Voided Reply.NotYours (held_core s a i mine c sh))
 
@@ -213,8 +213,8 @@ split_event rows s a k at live = record {
   rule = rule;
   good = λ c g _. after_good no_needs c (Event.Tell a (length s.views)) g;
   shown = λ c g sh.
-      subst (λ m. IsShown (state_at s.words) (view_at (old ++ new ∷ [])) m (told_core c a (length s.views))) (sym longer)
-      (subst (λ f. IsShown (state_at s.words) f (suc (length s.views)) (told_core c a (length s.views))) (sym views)
+      subst (λ m. IsShown (state_at s.words) (view_at (old ++ new ∷ [])) m (after_tell c a (length s.views))) (sym longer)
+      (subst (λ f. IsShown (state_at s.words) f (suc (length s.views)) (after_tell c a (length s.views))) (sym views)
       (split_shown (state_at s.words) (view_at s.views) (length s.views) c a sh live nobody
       (subst (IsKept (state_at s.words)) views rule.kept)));
   reply_is = λ c g sh. refl;
@@ -251,9 +251,9 @@ meet_event rows s a b k at live there alive ne idle = record {
   rule = rule;
   good = λ c g _. after_good no_needs c (Event.Tell b a) g;
   shown = λ c g sh.
-      subst (λ m. IsShown (state_at s.words) (view_at (set (set s.views a both) b nothing)) m (told_core c b a))
+      subst (λ m. IsShown (state_at s.words) (view_at (set (set s.views a both) b nothing)) m (after_tell c b a))
       (sym (length-set (set s.views a both) b nothing ∙ length-set s.views a both))
-      (subst (λ f. IsShown (state_at s.words) f (length s.views) (told_core c b a)) (sym views)
+      (subst (λ f. IsShown (state_at s.words) f (length s.views) (after_tell c b a)) (sym views)
       (meet_shown (state_at s.words) (view_at s.views) (length s.views) c a b sh here ne live alive idle
       (subst (IsKept (state_at s.words)) views rule.kept)));
   reply_is = λ c g sh. refl;
@@ -337,7 +337,7 @@ shows_core rows s k =
       },
     )
 
-start_shown : (rows : ℕ) → Shows (fresh_table rows) opening
+start_shown : (rows : ℕ) → Shows (fresh_table rows) opening_core
 start_shown rows =
     let k = start_rule rows in record {
       state_is = λ i. sym (ap (λ f. f i) (all_free rows));

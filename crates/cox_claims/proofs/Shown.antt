@@ -4,8 +4,8 @@ use Rattle.std.proofs.Common.{◌≡◌, ◌≢◌, ℕ, suc, ◌<◌, Bool, tru
 use Rattle.std.proofs.lemmas.Bool.{cases_eq, false≢true}
 use Rattle.std.proofs.lemmas.Bool.Decides.{nat_tests}
 use Rattle.cox_fill_core.specs.declared.event.RowState.{RowState}
-use Rattle.cox_fill_core.specs.Fill.{Fill, put, put_at, is_published, noticed, told as told_core, claimed as claimed_core}
-use Rattle.cox_fill_core.specs.Fill.{published as published_core, voided as voided_core}
+use Rattle.cox_fill_core.specs.Fill.{Fill, put, put_at, is_published, noticed, after_tell, after_claim}
+use Rattle.cox_fill_core.specs.Fill.{after_publication, after_void}
 use Rattle.cox_fill_core.proofs.Points.{put_here, put_else}
 use Rattle.cox_claims.specs.declared.view.View.{View}
 use Rattle.cox_claims.specs.Knowledge.{among, without, holds, saw_published, nothing, looked, won, published, voided, parted, told, joined}
@@ -101,19 +101,19 @@ without_put i xs j = ⊎_elim
 
 pub claim_shown : (state : ℕ → RowState) (view : ℕ → View) (made : ℕ) (c : Fill) (a i : ℕ) → IsShown state view made c
     → IsKept (put state i RowState.Claimed) (put view a (won (view a) i))
-    → IsShown (put state i RowState.Claimed) (put view a (won (view a) i)) made (claimed_core c a i)
+    → IsShown (put state i RowState.Claimed) (put view a (won (view a) i)) made (after_claim c a i)
 claim_shown state view made c a i s kept =
     acts_shown state view made c a i RowState.Claimed (won (view a) i) true s (λ j. grind (arith, nat_tests)) refl refl kept
 
 pub void_shown : (state : ℕ → RowState) (view : ℕ → View) (made : ℕ) (c : Fill) (a i : ℕ) → IsShown state view made c
     → IsKept (put state i RowState.Void) (put view a (voided (view a) i))
-    → IsShown (put state i RowState.Void) (put view a (voided (view a) i)) made (voided_core c a i)
+    → IsShown (put state i RowState.Void) (put view a (voided (view a) i)) made (after_void c a i)
 void_shown state view made c a i s kept =
     acts_shown state view made c a i RowState.Void (voided (view a) i) false s (without_put i (view a).held) refl refl kept
 
 pub publish_shown : (state : ℕ → RowState) (view : ℕ → View) (made : ℕ) (c : Fill) (a i : ℕ) → IsShown state view made c → a < made
     → (view a).spent ≡ false → IsKept (put state i RowState.Published) (put view a (published (view a) i))
-    → IsShown (put state i RowState.Published) (put view a (published (view a) i)) made (published_core c a i)
+    → IsShown (put state i RowState.Published) (put view a (published (view a) i)) made (after_publication c a i)
 publish_shown state view made c a i s lt live kept = record {
   state_is = λ j. let q = s.state_is j in grind (arith, nat_tests);
   holds_is = holds_put state view made c a i (published (view a) i) false s (without_put i (view a).held);
@@ -130,7 +130,7 @@ publish_shown state view made c a i s lt live kept = record {
 -- the next seat is told what seat a has seen
 pub split_shown : (state : ℕ → RowState) (view : ℕ → View) (made : ℕ) (c : Fill) (a : ℕ) → IsShown state view made c
     → (view a).spent ≡ false → (view made).held ≡ [] → IsKept state (put (put view a (parted (view a))) made (told (view a)))
-    → IsShown state (put (put view a (parted (view a))) made (told (view a))) (suc made) (told_core c a made)
+    → IsShown state (put (put view a (parted (view a))) made (told (view a))) (suc made) (after_tell c a made)
 split_shown state view made c a s live idle kept = record {
   state_is = s.state_is;
   holds_is = λ b j. at_put (λ v. c.holds b j ≡ holds v j) (put view a (parted (view a))) made (told (view a)) b
@@ -153,7 +153,7 @@ split_shown state view made c a s live idle kept = record {
 pub meet_shown : (state : ℕ → RowState) (view : ℕ → View) (made : ℕ) (c : Fill) (a b : ℕ) → IsShown state view made c → a < made → b ≢ a
     → (view a).spent ≡ false → (view b).spent ≡ false → (view b).held ≡ []
     → IsKept state (put (put view a (joined (view a) (view b))) b nothing)
-    → IsShown state (put (put view a (joined (view a) (view b))) b nothing) made (told_core c b a)
+    → IsShown state (put (put view a (joined (view a) (view b))) b nothing) made (after_tell c b a)
 meet_shown state view made c a b s lt ne live alive idle kept = record {
   state_is = s.state_is;
   holds_is = λ d j. at_put (λ v. c.holds d j ≡ holds v j) (put view a (joined (view a) (view b))) b nothing d

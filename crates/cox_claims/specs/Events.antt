@@ -7,7 +7,7 @@ use Rattle.atomic_table.specs.Table.{State, keeps, stepped}
 use Rattle.cox_fill_core.specs.declared.event.RowState.{RowState}
 use Rattle.cox_fill_core.specs.declared.event.Event.{Event}
 use Rattle.cox_fill_core.specs.declared.event.Reply.{Reply}
-use Rattle.cox_fill_core.specs.Fill.{Fill, opening, after, reply}
+use Rattle.cox_fill_core.specs.Fill.{Fill, opening_core, after, reply}
 use Rattle.cox_fill_core.specs.Good.{IsGood}
 use Rattle.cox_claims.specs.declared.view.View.{View}
 use Rattle.cox_claims.specs.declared.table.Claimed.{Claimed}
@@ -76,7 +76,7 @@ claim_reply (Claimed.Lost x) = Reply.Lost x
 -- of a table of this many rows
 pub record StepsAreEvents (rows : ℕ) : Type 0 where
   -- the fresh table keeps the rule and shows the opening
-  pub start : KeepsRule rows (fresh_table rows) × Shows (fresh_table rows) opening
+  pub start : KeepsRule rows (fresh_table rows) × Shows (fresh_table rows) opening_core
   -- every table under the rule shows a good core
   pub shows : (s : Table) → KeepsRule rows s → (c : Fill) × IsGood no_needs c × Shows s c
   -- a load of word i, and a compare-exchange of it from 0 to 1

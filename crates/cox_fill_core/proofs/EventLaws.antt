@@ -6,16 +6,16 @@ use Rattle.std.proofs.lemmas.Bool.Decides.{nat_tests}
 use Rattle.cox_fill_core.specs.declared.event.RowState.{RowState}
 use Rattle.cox_fill_core.specs.declared.event.Event.{Event}
 use Rattle.cox_fill_core.specs.declared.event.Reply.{Reply}
-use Rattle.cox_fill_core.specs.Fill.{Fill, put_at, is_published, opening, noticed, missing, publish_reply, after, reply, after_all}
+use Rattle.cox_fill_core.specs.Fill.{Fill, put_at, is_published, opening_core, noticed, missing, publish_reply, after, reply, after_all}
 use Rattle.cox_fill_core.specs.Good.{IsGood}
 use Rattle.cox_fill_core.specs.Laws.{HappenedFrom, reached, KeepsGood, StaysGood, MissesLeast, IsWonOnce, IsMadeByWinner}
-use Rattle.cox_fill_core.specs.Laws.{IsSettled, IsPublishedForGood, IsVoidForGood, SeenStays}
+use Rattle.cox_fill_core.specs.Laws.{IsForGood, IsPublishedForGood, IsVoidForGood, SeenStays}
 use Rattle.cox_fill_core.proofs.Points.{put_here, put_cases}
 use Rattle.cox_fill_core.proofs.Needs.{least_missing}
 use Rattle.cox_fill_core.proofs.Runs.{after_all-append}
 use Rattle.cox_fill_core.proofs.Steps.{claim_cases, void_cases, publish_cases, after_good}
 
-opening_good : (needs : ℕ → List ℕ) → IsGood needs opening
+opening_good : (needs : ℕ → List ℕ) → IsGood needs opening_core
 opening_good needs = record {
   claimed = λ i h. cc;
   held = λ a i h. cc;
@@ -29,7 +29,7 @@ all_good needs c [] g = g
 all_good needs c (e ∷ es) g = all_good needs (after needs c e) es (after_good needs c e g)
 
 pub stays_good : (needs : ℕ → List ℕ) → StaysGood needs
-stays_good needs es = all_good needs opening es (opening_good needs)
+stays_good needs es = all_good needs opening_core es (opening_good needs)
 
 -- ---- what stays, whatever comes
 
@@ -160,7 +160,7 @@ won_not_free needs c a i =
 -- the core after an event in the midst of a list
 reached-at : (needs : ℕ → List ℕ) (before later : List Event) (e : Event)
     → reached needs (before ++ e ∷ later) ≡ after_all needs (after needs (reached needs before) e) later
-reached-at needs before later e = after_all-append needs opening before (e ∷ later)
+reached-at needs before later e = after_all-append needs opening_core before (e ∷ later)
 
 pub won_once : (needs : ℕ → List ℕ) → IsWonOnce needs
 won_once needs before between a i won =
@@ -182,10 +182,10 @@ made_by_winner needs events a i made =
     let g = stays_good needs events in
     let w = made_earned needs (reached needs events) a i made in
     record {
-      won = ⊎_elim (λ k. cc) (λ h. h) (held_since needs opening events a i w.0);
-      not_voided = λ h. let v = voided_is_void needs opening events a i (opening_good needs) h in let k = g.held a i w.0 in cc;
+      won = ⊎_elim (λ k. cc) (λ h. h) (held_since needs opening_core events a i w.0);
+      not_voided = λ h. let v = voided_is_void needs opening_core events a i (opening_good needs) h in let k = g.held a i w.0 in cc;
       seen = w.1;
-      made = λ j n. ⊎_elim (λ k. cc) (λ h. h) (published_since needs opening events j (g.seen a j (w.1 j n)));
+      made = λ j n. ⊎_elim (λ k. cc) (λ h. h) (published_since needs opening_core events j (g.seen a j (w.1 j n)));
     }
 
 -- a row that nobody holds
@@ -194,7 +194,7 @@ nobody_holds needs c i g h b = false_from_ne_true (c.holds b i) (λ k. h (g.held
 
 -- a row with a final state is settled
 settled : (needs : ℕ → List ℕ) (events : List Event) (i : ℕ) (x : RowState) → x ≢ RowState.Free → x ≢ RowState.Claimed
-    → (reached needs events).state i ≡ x → IsSettled needs events i x
+    → (reached needs events).state i ≡ x → IsForGood needs events i x
 settled needs events i x f k h =
     let c = reached needs events in
     let unheld = nobody_holds needs c i (stays_good needs events) (λ e. k (sym h ∙ e)) in
@@ -208,7 +208,7 @@ settled needs events i x f k h =
 
 -- a row that an event ended is settled from then on
 ended : (needs : ℕ → List ℕ) (before later : List Event) (e : Event) (i : ℕ) (x : RowState) → x ≢ RowState.Free → x ≢ RowState.Claimed
-    → (after needs (reached needs before) e).state i ≡ x → IsSettled needs (before ++ e ∷ later) i x
+    → (after needs (reached needs before) e).state i ≡ x → IsForGood needs (before ++ e ∷ later) i x
 ended needs before later e i x f k h =
     settled needs (before ++ e ∷ later) i x f k
     (subst (λ c. c.state i ≡ x) (sym (reached-at needs before later e))
@@ -258,10 +258,10 @@ seen_stays_so needs = record {
   by_tell = λ events a b i h. subst (λ c. c.seen b i ≡ true) (sym (reached-snoc needs events (Event.Tell a b)))
       (seen_by_tell needs (reached needs events) a b i h);
   settled = λ before later a i h. settled needs (before ++ later) i RowState.Published (λ k. cc) (λ k. cc)
-      (subst (λ c. c.state i ≡ RowState.Published) (sym (after_all-append needs opening before later))
+      (subst (λ c. c.state i ≡ RowState.Published) (sym (after_all-append needs opening_core before later))
       (ended_stays needs (reached needs before) later i RowState.Published (stays_good needs before) (λ k. cc) (λ k. cc)
       ((stays_good needs before).seen a i h)));
-  stays = λ before later a i h. subst (λ c. c.seen a i ≡ true) (sym (after_all-append needs opening before later))
+  stays = λ before later a i h. subst (λ c. c.seen a i ≡ true) (sym (after_all-append needs opening_core before later))
       (seen_stays needs (reached needs before) later a i h);
 }
 

@@ -5,7 +5,7 @@ use Rattle.std.proofs.lemmas.Bool.{cases_lt}
 use Rattle.std.proofs.lemmas.List.{take_more, get_or-replicate, get_or_past, get_or_default, length-replicate}
 use Rattle.std.proofs.lemmas.List.Elements.{filter-append}
 use Rattle.cox_fill_core.specs.declared.event.RowState.{RowState}
-use Rattle.cox_fill_core.specs.Fill.{least, least_with, opening}
+use Rattle.cox_fill_core.specs.Fill.{least, least_with, opening_core}
 use Rattle.cox_fill_core.specs.Parts.{rows_at, NeedsLower, lesser_of, is_held_by, listed_fill}
 
 with_lesser : (x y : ℕ) (o : Option ℕ) → Some (least_with x (lesser_of o y)) ≡ Some (min (least_with x o) y)
@@ -53,7 +53,7 @@ marks_sized n m a lt = ap length (get_or-replicate n a (replicate m false) [] lt
 -- lists of nothing are the opening
 pub listed_fill-opening : (states : List RowState) (holders : List (Option ℕ)) (seen : List (List Bool)) (r a : ℕ)
     → states ≡ replicate r RowState.Free → holders ≡ replicate r None → seen ≡ replicate a (replicate r false)
-    → listed_fill states holders seen ≡ opening
+    → listed_fill states holders seen ≡ opening_core
 listed_fill-opening states holders seen r a p q s =
     ap (λ z. listed_fill z holders seen) p ∙ ap (λ z. listed_fill (replicate r RowState.Free) z seen) q ∙ ap
     (listed_fill (replicate r RowState.Free) (replicate r None)) s

@@ -6,7 +6,7 @@ use Rattle.std.proofs.lemmas.Bool.Decides.{nat_tests}
 use Rattle.cox_fill_core.specs.declared.event.RowState.{RowState}
 use Rattle.cox_fill_core.specs.declared.event.Event.{Event}
 use Rattle.cox_fill_core.specs.declared.event.Reply.{Reply}
-use Rattle.cox_fill_core.specs.Fill.{Fill, is_free, is_published, noticed, claimed, published, voided, told, missing}
+use Rattle.cox_fill_core.specs.Fill.{Fill, is_free, is_published, noticed, after_claim, after_publication, after_void, after_tell, missing}
 use Rattle.cox_fill_core.specs.Fill.{publish_reply, after, reply}
 use Rattle.cox_fill_core.specs.Good.{IsGood}
 use Rattle.cox_fill_core.proofs.Needs.{none_missing}
@@ -34,7 +34,7 @@ noticed_good needs c a i g = record {
   needed = g.needed;
 }
 
-claimed_good : (needs : ℕ → List ℕ) (c : Fill) (a i : ℕ) → c.state i ≡ RowState.Free → IsGood needs c → IsGood needs (claimed c a i)
+claimed_good : (needs : ℕ → List ℕ) (c : Fill) (a i : ℕ) → c.state i ≡ RowState.Free → IsGood needs c → IsGood needs (after_claim c a i)
 claimed_good needs c a i free g = record {
   claimed = λ j h. ⊎_elim (λ k. (a, grind (arith, nat_tests))) (λ k. let w = g.claimed j k.1 in (w.0, grind (arith, nat_tests)))
       (put_cases c.state i RowState.Claimed j RowState.Claimed h);
@@ -44,7 +44,7 @@ claimed_good needs c a i free g = record {
   needed = λ j k h n. grind (arith, nat_tests, g.needed j k, n);
 }
 
-voided_good : (needs : ℕ → List ℕ) (c : Fill) (a i : ℕ) → c.holds a i ≡ true → IsGood needs c → IsGood needs (voided c a i)
+voided_good : (needs : ℕ → List ℕ) (c : Fill) (a i : ℕ) → c.holds a i ≡ true → IsGood needs c → IsGood needs (after_void c a i)
 voided_good needs c a i mine g = record {
   claimed = λ j h. ⊎_elim (λ k. cc) (λ k. let w = g.claimed j k.1 in (w.0, grind (arith, nat_tests)))
       (put_cases c.state i RowState.Void j RowState.Claimed h);
@@ -55,7 +55,7 @@ voided_good needs c a i mine g = record {
 }
 
 published_good : (needs : ℕ → List ℕ) (c : Fill) (a i : ℕ) → c.holds a i ≡ true → ((j : ℕ) → Contains (needs i) j → c.seen a j ≡ true)
-    → IsGood needs c → IsGood needs (published c a i)
+    → IsGood needs c → IsGood needs (after_publication c a i)
 published_good needs c a i mine all g = record {
   claimed = λ j h. ⊎_elim (λ k. cc) (λ k. let w = g.claimed j k.1 in (w.0, grind (arith, nat_tests)))
       (put_cases c.state i RowState.Published j RowState.Claimed h);
@@ -68,7 +68,7 @@ published_good needs c a i mine all g = record {
       (put_cases c.state i RowState.Published j RowState.Published h);
 }
 
-told_good : (needs : ℕ → List ℕ) (c : Fill) (a b : ℕ) → IsGood needs c → IsGood needs (told c a b)
+told_good : (needs : ℕ → List ℕ) (c : Fill) (a b : ℕ) → IsGood needs c → IsGood needs (after_tell c a b)
 told_good needs c a b g = record {
   claimed = g.claimed;
   held = g.held;
@@ -95,26 +95,26 @@ by_publication false (Some j) P d c made other = other Reply.NotYours (λ e. cc)
 
 -- the two cases of a claim, of a publication and of a void, each with what is known there
 pub claim_cases : (needs : ℕ → List ℕ) (c : Fill) (a i : ℕ) (P : Fill → Reply → Type 0)
-    → (c.state i ≡ RowState.Free → P (claimed c a i) Reply.Won)
+    → (c.state i ≡ RowState.Free → P (after_claim c a i) Reply.Won)
     → (c.state i ≢ RowState.Free → P (noticed c a i) (Reply.Lost (c.state i)))
     → P (after needs c (Event.Claim a i)) (reply needs c (Event.Claim a i))
 claim_cases needs c a i P won lost =
-    by_test (is_free (c.state i)) P (claimed c a i) (noticed c a i) Reply.Won (Reply.Lost (c.state i))
+    by_test (is_free (c.state i)) P (after_claim c a i) (noticed c a i) Reply.Won (Reply.Lost (c.state i))
     (λ free. won (is_free-free (c.state i) free))
     (λ taken. lost (λ e. cc))
 
 pub void_cases : (needs : ℕ → List ℕ) (c : Fill) (a i : ℕ) (P : Fill → Reply → Type 0)
-    → (c.holds a i ≡ true → P (voided c a i) Reply.Voided)
+    → (c.holds a i ≡ true → P (after_void c a i) Reply.Voided)
     → (c.holds a i ≡ false → P c Reply.NotYours)
     → P (after needs c (Event.Void a i)) (reply needs c (Event.Void a i))
-void_cases needs c a i P mine other = by_test (c.holds a i) P (voided c a i) c Reply.Voided Reply.NotYours mine other
+void_cases needs c a i P mine other = by_test (c.holds a i) P (after_void c a i) c Reply.Voided Reply.NotYours mine other
 
 pub publish_cases : (needs : ℕ → List ℕ) (c : Fill) (a i : ℕ) (P : Fill → Reply → Type 0)
-    → (c.holds a i ≡ true → ((j : ℕ) → Contains (needs i) j → c.seen a j ≡ true) → P (published c a i) Reply.Made)
+    → (c.holds a i ≡ true → ((j : ℕ) → Contains (needs i) j → c.seen a j ≡ true) → P (after_publication c a i) Reply.Made)
     → ((r : Reply) → r ≢ Reply.Made → P c r)
     → P (after needs c (Event.Publish a i)) (reply needs c (Event.Publish a i))
 publish_cases needs c a i P made not_made =
-    by_publication (c.holds a i) (missing needs c a i) P (published c a i) c
+    by_publication (c.holds a i) (missing needs c a i) P (after_publication c a i) c
     (λ mine nothing. made mine (λ j. none_missing (c.seen a) (needs i) j nothing))
     not_made
 

@@ -12,8 +12,8 @@ pub record Fill : Type 0 where
   pub seen : ℕ → ℕ → Bool
 
 -- all rows are Free, and nobody holds or has seen a row
-abbrev pub opening : Fill
-opening = record { state = λ _. RowState.Free; holds = λ _ _. false; seen = λ _ _. false }
+abbrev pub opening_core : Fill
+opening_core = record { state = λ _. RowState.Free; holds = λ _ _. false; seen = λ _ _. false }
 
 -- f with the value x at i
 abbrev pub put : {X : Type 0} → (ℕ → X) → ℕ → X → ℕ → X
@@ -54,28 +54,29 @@ abbrev pub noticed : Fill → ℕ → ℕ → Fill
 noticed c a i = record c { seen = put_at c.seen a i (c.seen a i || is_published (c.state i)) }
 
 -- actor a claims row i, which is Free
-abbrev pub claimed : Fill → ℕ → ℕ → Fill
-claimed c a i = record c { state = put c.state i RowState.Claimed; holds = put_at c.holds a i true }
+abbrev pub after_claim : Fill → ℕ → ℕ → Fill
+after_claim c a i = record c { state = put c.state i RowState.Claimed; holds = put_at c.holds a i true }
 
 -- actor a, which holds row i, publishes it
-abbrev pub published : Fill → ℕ → ℕ → Fill
-published c a i = record { state = put c.state i RowState.Published; holds = put_at c.holds a i false; seen = put_at c.seen a i true }
+abbrev pub after_publication : Fill → ℕ → ℕ → Fill
+after_publication c a i =
+    record { state = put c.state i RowState.Published; holds = put_at c.holds a i false; seen = put_at c.seen a i true }
 
 -- actor a, which holds row i, voids it
-abbrev pub voided : Fill → ℕ → ℕ → Fill
-voided c a i = record c { state = put c.state i RowState.Void; holds = put_at c.holds a i false }
+abbrev pub after_void : Fill → ℕ → ℕ → Fill
+after_void c a i = record c { state = put c.state i RowState.Void; holds = put_at c.holds a i false }
 
 -- actor b has seen, beside its own, what actor a has
-abbrev pub told : Fill → ℕ → ℕ → Fill
-told c a b = record c { seen = put c.seen b (λ i. c.seen b i || c.seen a i) }
+abbrev pub after_tell : Fill → ℕ → ℕ → Fill
+after_tell c a b = record c { seen = put c.seen b (λ i. c.seen b i || c.seen a i) }
 
 -- the core after an event; `needs` gives the rows that a row needs
 abbrev pub after : (ℕ → List ℕ) → Fill → Event → Fill
-after needs c (Event.Claim a i) = if is_free (c.state i) then claimed c a i else noticed c a i
+after needs c (Event.Claim a i) = if is_free (c.state i) then after_claim c a i else noticed c a i
 after needs c (Event.Look a i) = noticed c a i
-after needs c (Event.Publish a i) = if can_publish needs c a i then published c a i else c
-after needs c (Event.Void a i) = if c.holds a i then voided c a i else c
-after needs c (Event.Tell a b) = told c a b
+after needs c (Event.Publish a i) = if can_publish needs c a i then after_publication c a i else c
+after needs c (Event.Void a i) = if c.holds a i then after_void c a i else c
+after needs c (Event.Tell a b) = after_tell c a b
 
 -- what a holder that publishes is told
 abbrev pub publish_reply : Option ℕ → Reply

@@ -3,7 +3,7 @@ use Rattle.std.specs.Prelude.{◌≡◌, ◌≢◌, ℕ, ◌≤◌, true, false,
 use Rattle.cox_fill_core.specs.declared.event.RowState.{RowState}
 use Rattle.cox_fill_core.specs.declared.event.Event.{Event}
 use Rattle.cox_fill_core.specs.declared.event.Reply.{Reply}
-use Rattle.cox_fill_core.specs.Fill.{Fill, opening, after, reply, after_all}
+use Rattle.cox_fill_core.specs.Fill.{Fill, opening_core, after, reply, after_all}
 use Rattle.cox_fill_core.specs.Good.{IsGood}
 
 -- among these events, from the core c on, e came and had the reply r
@@ -13,11 +13,11 @@ HappenedFrom needs c (x ∷ xs) e r = ((x ≡ e) × (reply needs c x ≡ r)) ⊎
 
 -- among these events, from the opening on, e came and had the reply r
 abbrev pub Happened : (ℕ → List ℕ) → List Event → Event → Reply → Type 0
-Happened needs events e r = HappenedFrom needs opening events e r
+Happened needs events e r = HappenedFrom needs opening_core events e r
 
 -- the core after these events, from the opening on
 abbrev pub reached : (ℕ → List ℕ) → List Event → Fill
-reached needs events = after_all needs opening events
+reached needs events = after_all needs opening_core events
 
 -- the reply to e after these events, from the opening on
 abbrev pub reply_after : (ℕ → List ℕ) → List Event → Event → Reply
@@ -25,7 +25,7 @@ reply_after needs events e = reply needs (reached needs events) e
 
 -- the opening is good, and each event keeps a good core state good
 pub record KeepsGood (needs : ℕ → List ℕ) : Type 0 where
-  pub start : IsGood needs opening
+  pub start : IsGood needs opening_core
   pub event : (c : Fill) (e : Event) → IsGood needs c → IsGood needs (after needs c e)
 
 -- each core state that events lead to is good
@@ -69,7 +69,7 @@ MissesLeast needs = (events : List Event) (a i j : ℕ)
     → IsLeastMissing needs events a i j
 
 -- after these events row i has the state x, and whoever asks is told so
-pub record IsSettled (needs : ℕ → List ℕ) (events : List Event) (i : ℕ) (x : RowState) : Type 0 where
+pub record IsForGood (needs : ℕ → List ℕ) (events : List Event) (i : ℕ) (x : RowState) : Type 0 where
   pub state : (reached needs events).state i ≡ x
   pub claim : (b : ℕ) → reply_after needs events (Event.Claim b i) ≡ Reply.Lost x
   pub look : (b : ℕ) → reply_after needs events (Event.Look b i) ≡ Reply.Seen x
@@ -80,13 +80,13 @@ pub record IsSettled (needs : ℕ → List ℕ) (events : List Event) (i : ℕ) 
 abbrev pub IsPublishedForGood : (ℕ → List ℕ) → Type 0
 IsPublishedForGood needs = (before later : List Event) (a i : ℕ)
     → reply_after needs before (Event.Publish a i) ≡ Reply.Made
-    → IsSettled needs (before ++ Event.Publish a i ∷ later) i RowState.Published
+    → IsForGood needs (before ++ Event.Publish a i ∷ later) i RowState.Published
 
 -- once voided, a row is Void for good
 abbrev pub IsVoidForGood : (ℕ → List ℕ) → Type 0
 IsVoidForGood needs = (before later : List Event) (a i : ℕ)
     → reply_after needs before (Event.Void a i) ≡ Reply.Voided
-    → IsSettled needs (before ++ Event.Void a i ∷ later) i RowState.Void
+    → IsForGood needs (before ++ Event.Void a i ∷ later) i RowState.Void
 
 -- an actor has seen a row Published once a claim or a look told it so, once it made the row itself, or once another that had seen
 -- it told it;
@@ -101,6 +101,6 @@ pub record SeenStays (needs : ℕ → List ℕ) : Type 0 where
   pub by_tell : (events : List Event) (a b i : ℕ) → (reached needs events).seen a i ≡ true
       → (reached needs (events ++ Event.Tell a b ∷ [])).seen b i ≡ true
   pub settled : (before later : List Event) (a i : ℕ) → (reached needs before).seen a i ≡ true
-      → IsSettled needs (before ++ later) i RowState.Published
+      → IsForGood needs (before ++ later) i RowState.Published
   pub stays : (before later : List Event) (a i : ℕ) → (reached needs before).seen a i ≡ true
       → (reached needs (before ++ later)).seen a i ≡ true

@@ -1,6 +1,6 @@
 //! The fill core as a program: `Core` takes events one by one, or as a list.
 ghost use Rattle.std.specs.Prelude.{◌≡◌, ◌≢◌, ℕ, ◌<◌, true, [], length, vec_len, slice_index_or, replicate, IfOk, OnOk, OnErr, All, Ok, None, IsTrue};
-ghost use Rattle.cox_fill_core.specs.Fill.{opening, missing, after, reply, after_all, replies};
+ghost use Rattle.cox_fill_core.specs.Fill.{opening_core, missing, after, reply, after_all, replies};
 ghost use Rattle.cox_fill_core.specs.Parts.{rows_at, given_needs, NeedsLower, is_held_by};
 ghost use Rattle.cox_fill_core.specs.declared.event.RowState.TheVariants.{Claimed, Free};
 
@@ -25,16 +25,16 @@ pub struct Core {
 }
 
 impl Core {
-    ghost use Rattle.cox_fill_core.specs.Machine.{fill_of, needs_of, rows_of, actors_of, IsInRange, HasSameShape, Takes};
+    ghost use Rattle.cox_fill_core.specs.Machine.{fill_of, needs_of, row_count, actor_count, IsEventInRange, HasSameShape, TakesEvent};
 
     /// A core in which all rows are Free. Row `i` needs the rows of `needs[i]`, which have smaller numbers.
     /// With the needs `[[], [0]]` there are two rows, and the second needs the first.
     pub fn new(alloc: Global, needs: &[Vec<u32>], actors: u32) -> Result<Core, NoMemory>
         requires { NeedsLower (given_needs needs.now) }
-        ensures opening { IfOk result (λ core. fill_of core ≡ opening) }
+        ensures opening { IfOk result (λ core. fill_of core ≡ opening_core) }
         ensures needs { IfOk result (λ core. needs_of core ≡ given_needs needs.now) }
-        ensures rows { IfOk result (λ core. rows_of core ≡ length needs.now) }
-        ensures actors { IfOk result (λ core. actors_of core ≡ actors) }
+        ensures rows { IfOk result (λ core. row_count core ≡ length needs.now) }
+        ensures actors { IfOk result (λ core. actor_count core ≡ actors) }
     {
         let rows = needs.len();
         Ok(Core {
@@ -48,21 +48,21 @@ impl Core {
 
     /// How many rows there are.
     pub fn rows(&self) -> usize
-        ensures { result ≡ rows_of self.now }
+        ensures { result ≡ row_count self.now }
     {
         self.needs.len()
     }
 
     /// How many actors there are.
     pub fn actors(&self) -> usize
-        ensures { result ≡ actors_of self.now }
+        ensures { result ≡ actor_count self.now }
     {
         self.seen.len()
     }
 
     /// The state of a row.
     pub fn state(&self, row: u32) -> RowState
-        requires { row < rows_of self.now }
+        requires { row < row_count self.now }
         ensures { result ≡ (fill_of self.now).state row }
     {
         self.states[row as usize]
@@ -70,15 +70,15 @@ impl Core {
 
     /// Whether the actor has seen the row Published.
     pub fn seen(&self, actor: u32, row: u32) -> bool
-        requires actor { actor < actors_of self.now }
-        requires row { row < rows_of self.now }
+        requires actor { actor < actor_count self.now }
+        requires row { row < row_count self.now }
         ensures { result ≡ (fill_of self.now).seen actor row }
     {
         self.seen[actor as usize].has(row)
     }
 
     fn holds(&self, actor: u32, row: u32) -> bool
-        requires { row < rows_of self.now }
+        requires { row < row_count self.now }
         ensures { result ≡ (fill_of self.now).holds actor row }
     {
         match self.holders[row as usize] {
@@ -89,8 +89,8 @@ impl Core {
 
     // The least row that this row needs and that the actor has not seen Published.
     fn missing(&self, actor: u32, row: u32) -> Option<u32>
-        requires actor { actor < actors_of self.now }
-        requires row { row < rows_of self.now }
+        requires actor { actor < actor_count self.now }
+        requires row { row < row_count self.now }
         ensures { result ≡ missing (needs_of self.now) (fill_of self.now) actor row }
     {
         least_missing(&self.needs[row as usize], &self.seen[actor as usize])
@@ -98,7 +98,7 @@ impl Core {
 
     /// Takes one event and says what it led to. It takes no memory, and never fails.
     pub fn step(&mut self, event: Event) -> Result<Reply, NoMemory>
-        requires { IsInRange self.old event }
+        requires { IsEventInRange self.old event }
         ensures reply { result ≡ Ok (reply (needs_of self.old) (fill_of self.old) event) }
         ensures state { fill_of self.new ≡ after (needs_of self.old) (fill_of self.old) event }
         ensures shape { HasSameShape self.old self.new }
@@ -108,7 +108,7 @@ impl Core {
 
     /// Takes the events in order and says what each led to. Out of memory, the core is as it was.
     pub fn run(&mut self, events: &[Event]) -> Result<Vec<Reply>, NoMemory>
-        requires { All (IsInRange self.old) events.now }
+        requires { All (IsEventInRange self.old) events.now }
         ensures replies { IfOk result (λ r. r.items ≡ replies (needs_of self.old) (fill_of self.old) events.now) }
         ensures state { OnOk result (fill_of self.new ≡ after_all (needs_of self.old) (fill_of self.old) events.now) }
         ensures shape { HasSameShape self.old self.new }
@@ -122,8 +122,8 @@ impl Core {
     }
 
     fn take(&mut self, event: Event) -> Reply
-        requires { IsInRange self.old event }
-        ensures { Takes self.old self.new event result }
+        requires { IsEventInRange self.old event }
+        ensures { TakesEvent self.old self.new event result }
     {
         match event {
             Event::Claim(actor, row) => self.claim(actor, row),
@@ -135,8 +135,8 @@ impl Core {
     }
 
     fn claim(&mut self, actor: u32, row: u32) -> Reply
-        requires { IsInRange self.old (Event.Claim actor row) }
-        ensures { Takes self.old self.new (Event.Claim actor row) result }
+        requires { IsEventInRange self.old (Event.Claim actor row) }
+        ensures { TakesEvent self.old self.new (Event.Claim actor row) result }
     {
         if self.states[row as usize] == RowState::Free {
             self.states[row as usize] = RowState::Claimed;
@@ -148,8 +148,8 @@ impl Core {
 
     // Tells the actor the state of the row.
     fn notice(&mut self, actor: u32, row: u32) -> RowState
-        requires { IsInRange self.old (Event.Look actor row) }
-        ensures { Takes self.old self.new (Event.Look actor row) (Reply.Seen result) }
+        requires { IsEventInRange self.old (Event.Look actor row) }
+        ensures { TakesEvent self.old self.new (Event.Look actor row) (Reply.Seen result) }
     {
         let state = self.states[row as usize];
         if state == RowState::Published {
@@ -159,8 +159,8 @@ impl Core {
     }
 
     fn publish(&mut self, actor: u32, row: u32) -> Reply
-        requires { IsInRange self.old (Event.Publish actor row) }
-        ensures { Takes self.old self.new (Event.Publish actor row) result }
+        requires { IsEventInRange self.old (Event.Publish actor row) }
+        ensures { TakesEvent self.old self.new (Event.Publish actor row) result }
     {
         if !self.holds(actor, row) {
             return Reply::NotYours;
@@ -175,8 +175,8 @@ impl Core {
     }
 
     fn void(&mut self, actor: u32, row: u32) -> Reply
-        requires { IsInRange self.old (Event.Void actor row) }
-        ensures { Takes self.old self.new (Event.Void actor row) result }
+        requires { IsEventInRange self.old (Event.Void actor row) }
+        ensures { TakesEvent self.old self.new (Event.Void actor row) result }
     {
         if !self.holds(actor, row) {
             return Reply::NotYours;
@@ -187,8 +187,8 @@ impl Core {
     }
 
     fn tell(&mut self, from: u32, to: u32) -> Reply
-        requires { IsInRange self.old (Event.Tell from to) }
-        ensures { Takes self.old self.new (Event.Tell from to) result }
+        requires { IsEventInRange self.old (Event.Tell from to) }
+        ensures { TakesEvent self.old self.new (Event.Tell from to) result }
     {
         tell(&mut self.seen, from, to);
         Reply::Told
