@@ -4,10 +4,10 @@ use Rattle.std.proofs.Common.{ap, arith}
 use Rattle.std.proofs.lemmas.Bool.{cases_lt}
 use Rattle.std.proofs.lemmas.List.Elements.{Contains-append_left, Contains-push}
 use Rattle.cox_scc.specs.Reach.{Reaches}
-use Rattle.cox_scc.specs.Walk.{IsChain}
+use Rattle.cox_scc.specs.Walk.{IsStackChain}
 use Rattle.cox_scc.proofs.Reaching.{Reaches-join, Reaches-same}
 
-module _ (IsEdge : ℕ → ℕ → Type 0) (stack : ℕ → ℕ) (size : ℕ) (parts : List ℕ) (chain : IsChain IsEdge stack size parts) where
+module _ (IsEdge : ℕ → ℕ → Type 0) (stack : ℕ → ℕ) (size : ℕ) (parts : List ℕ) (chain : IsStackChain IsEdge stack size parts) where
   up_by : (i k : ℕ) → i + k < size → Reaches IsEdge (stack i) (stack (i + k))
   up_by i zero within = let e : i + 0 ≡ i = omega arith in Reaches-same refl (ap stack e) (Reaches.itself (stack i))
   up_by i (suc k) within =
@@ -35,7 +35,7 @@ module _ (IsEdge : ℕ → ℕ → Type 0) (stack : ℕ → ℕ) (size : ℕ) (p
 
   -- a vertex that the last one reaches comes onto the stack, as a part of its own
   pub chain_enter : (v : ℕ) (taller : ℕ → ℕ) → ((p : ℕ) → p < size → taller p ≡ stack p) → taller size ≡ v
-      → ((p : ℕ) → p + 1 ≡ size → Reaches IsEdge (stack p) v) → IsChain IsEdge taller (size + 1) (parts ++ size ∷ [])
+      → ((p : ℕ) → p + 1 ≡ size → Reaches IsEdge (stack p) v) → IsStackChain IsEdge taller (size + 1) (parts ++ size ∷ [])
   chain_enter v taller same top reached = record {
     on = λ p within. ⊎_elim
         (λ lt. Reaches-same (same p (omega arith)) (same (p + 1) lt) (chain.on p lt))
@@ -52,7 +52,7 @@ module _ (IsEdge : ℕ → ℕ → Type 0) (stack : ℕ → ℕ) (size : ℕ) (p
   -- the vertex at `here` reaches the one at `low`: no part begins between them any more
   pub chain_join : (fewer : List ℕ) (here low : ℕ) → here < size → low < size → ((b : ℕ) → Contains parts b → b ≤ here)
       → ((b : ℕ) → Contains parts b → b ≤ low → Contains fewer b) → Reaches IsEdge (stack here) (stack low)
-      → IsChain IsEdge stack size fewer
+      → IsStackChain IsEdge stack size fewer
   chain_join fewer here low here_in low_in parts_low kept reached = record {
     on = chain.on;
     back = λ p within. ⊎_elim
@@ -67,7 +67,7 @@ module _ (IsEdge : ℕ → ℕ → Type 0) (stack : ℕ → ℕ) (size : ℕ) (p
 
   -- what stands above `low` leaves the stack
   pub chain_leave : (fewer : List ℕ) (shorter : ℕ → ℕ) (low : ℕ) → low ≤ size → ((p : ℕ) → p < low → shorter p ≡ stack p)
-      → ((b : ℕ) → Contains parts b → b < low → Contains fewer b) → IsChain IsEdge shorter low fewer
+      → ((b : ℕ) → Contains parts b → b < low → Contains fewer b) → IsStackChain IsEdge shorter low fewer
   chain_leave fewer shorter low le same kept = record {
     on = λ p within. Reaches-same (same p (omega arith)) (same (p + 1) within) (chain.on p (omega arith));
     back = λ p within. ⊎_elim (λ part. inl (kept (p + 1) part within))

@@ -7,13 +7,13 @@ use Rattle.std.proofs.lemmas.List.Elements.{Contains-append_left, Contains-push,
 use Rattle.cox_scc.specs.declared.search.Visit.{Visit}
 use Rattle.cox_scc.specs.declared.search.Visit.TheVariants.{Unseen, Open, Closed}
 use Rattle.cox_scc.specs.Reach.{Reaches, ReachEachOther}
-use Rattle.cox_scc.specs.Walk.{ArePlaced, AreFollowed, AreStacked, AreSettled, IsChain, LiesFrom, Stands, BecomeClass, CloseMembers}
+use Rattle.cox_scc.specs.Walk.{AreOnStack, AreFollowed, AreStacked, AreSettled, IsStackChain, LiesFrom, Stands, BecomeClass, CloseMembers}
 use Rattle.cox_scc.proofs.Stacks.{rising_below, rising_rest}
 use Rattle.cox_scc.proofs.Reaching.{Reaches-join, Reaches-keeps}
 use Rattle.cox_scc.proofs.Chains.{chain_up, chain_down}
 
 module _ (n low size least : ℕ) (visit later : ℕ → Visit) (class after stack : ℕ → ℕ) (low_in : low < size)
-    (become : BecomeClass stack low size least visit later class after) (placed : ArePlaced n visit stack size) where
+    (become : BecomeClass stack low size least visit later class after) (placed : AreOnStack n visit stack size) where
   -- what was closed still is, with its number
   stay_closed : (v : ℕ) → visit v ≡ Closed → (later v ≡ Closed) × (after v ≡ class v)
   stay_closed v is = ⊎_elim
@@ -26,7 +26,7 @@ module _ (n low size least : ℕ) (visit later : ℕ → Visit) (class after sta
   closed_cases : (v : ℕ) → later v ≡ Closed → Stands stack low size v ⊎ ((visit v ≡ Closed) × (after v ≡ class v))
   closed_cases v is = ⊎_elim (λ stands. inl stands) (λ kept. inr (sym kept.0 ∙ is, kept.1)) (become.others v)
 
-  pub placed_close : (shorter : ℕ → ℕ) → ((p : ℕ) → p < low → shorter p ≡ stack p) → ArePlaced n later shorter low
+  pub placed_close : (shorter : ℕ → ℕ) → ((p : ℕ) → p < low → shorter p ≡ stack p) → AreOnStack n later shorter low
   placed_close shorter same = record {
     found = λ v p v_in is. ⊎_elim
         (λ stands. let both : Closed ≡ Open p = sym (become.closed stands.place stands.above stands.below) ∙ ap later stands.is ∙ is in
@@ -110,8 +110,8 @@ stacked_close size low rest_parts rest stacked = record {
 
 -- the part was a class of vertices that reach each other, and no edge leads out of it but to closed vertices
 module _ (IsEdge : ℕ → ℕ → Type 0) (n low size least : ℕ) (visit later : ℕ → Visit) (class after stack : ℕ → ℕ) (low_in : low < size)
-    (become : BecomeClass stack low size least visit later class after) (placed : ArePlaced n visit stack size)
-    (parts : List ℕ) (chain : IsChain IsEdge stack size parts) (last : (b : ℕ) → Contains parts b → b ≤ low)
+    (become : BecomeClass stack low size least visit later class after) (placed : AreOnStack n visit stack size)
+    (parts : List ℕ) (chain : IsStackChain IsEdge stack size parts) (last : (b : ℕ) → Contains parts b → b ≤ low)
     (settled : AreSettled IsEdge n visit class)
     (ahead : (p b : ℕ) → low ≤ p → p < size → IsEdge (stack p) b → LiesFrom low (visit b))
     (in_range : (a b : ℕ) → a < n → IsEdge a b → b < n) where

@@ -4,14 +4,14 @@ use Rattle.std.proofs.lemmas.Bool.{cases_lt, cases_eq}
 use Rattle.std.proofs.lemmas.List.Elements.{Contains-append_left, Contains-push, Contains-push_cases}
 use Rattle.cox_scc.specs.declared.search.Visit.{Visit}
 use Rattle.cox_scc.specs.declared.search.Visit.TheVariants.{Unseen, Open, Closed}
-use Rattle.cox_scc.specs.Walk.{IsRising, ArePlaced, AreFollowed, AreStacked, AreSettled, LiesFrom}
+use Rattle.cox_scc.specs.Walk.{IsIncreasing, AreOnStack, AreFollowed, AreStacked, AreSettled, LiesFrom}
 use Rattle.cox_scc.proofs.Stacks.{rising_rest, rising_push}
 
 -- a vertex comes onto the stack
 module _ (n size v : ℕ) (visit later : ℕ → Visit) (stack taller : ℕ → ℕ)
     (now_open : later v ≡ Open size) (others : (w : ℕ) → w ≢ v → later w ≡ visit w)
     (top : taller size ≡ v) (same : (p : ℕ) → p < size → taller p ≡ stack p) (unseen : visit v ≡ Unseen) where
-  pub placed_enter : v < n → ArePlaced n visit stack size → ArePlaced n later taller (size + 1)
+  pub placed_enter : v < n → AreOnStack n visit stack size → AreOnStack n later taller (size + 1)
   placed_enter v_in placed = record {
     found = λ w p w_in is. ⊎_elim
         (λ e. let place_is : Open p ≡ Open size = sym is ∙ ap later e ∙ now_open in
@@ -105,7 +105,7 @@ stacked_enter size parts path stacked = record {
 }
 
 -- no part begins above `low` any more
-pub stacked_join : (size low : ℕ) (parts fewer path : List ℕ) → IsRising fewer → ((b : ℕ) → Contains fewer b → Contains parts b)
+pub stacked_join : (size low : ℕ) (parts fewer path : List ℕ) → IsIncreasing fewer → ((b : ℕ) → Contains fewer b → Contains parts b)
     → ((b : ℕ) → Contains parts b → b ≤ low → Contains fewer b) → AreStacked size parts path → AreStacked size fewer path
 stacked_join size low parts fewer path rise was kept stacked = record {
   parts_rise = rise;
@@ -131,7 +131,7 @@ pub followed_advance : (n : ℕ) (offset target : ℕ → ℕ) (visit : ℕ → 
     → later (stack here) ≡ next (stack here) + 1 → ((v : ℕ) → v ≢ stack here → later v ≡ next v) → here < size → Contains path here
     → next (stack here) < offset (stack here + 1)
     → ((b : ℕ) → Contains parts b → b ≤ here → LiesFrom b (visit (target (next (stack here)))))
-    → ArePlaced n visit stack size
+    → AreOnStack n visit stack size
     → AreFollowed n offset target visit next stack size parts path → AreFollowed n offset target visit later stack size parts path
 followed_advance n offset target visit next later stack size here parts path one_more others here_in on_path more lies placed followed =
     record {

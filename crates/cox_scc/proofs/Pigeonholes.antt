@@ -4,7 +4,7 @@ use Rattle.std.proofs.lemmas.Bool.{cases_lt, cases_eq}
 use Rattle.std.proofs.lemmas.Bool.Decides.{nat_tests}
 use Rattle.cox_scc.specs.declared.search.Visit.{Visit}
 use Rattle.cox_scc.specs.declared.search.Visit.TheVariants.{Unseen, Open, Closed}
-use Rattle.cox_scc.specs.Walk.{ArePlaced}
+use Rattle.cox_scc.specs.Walk.{AreOnStack}
 
 -- the last value takes the place of the one at q
 abbrev moved : (ℕ → ℕ) → ℕ → ℕ → ℕ → ℕ
@@ -62,7 +62,7 @@ place_of (Open place) = place
 place_of Closed = 0
 
 -- there are at most as many places on the stack as there are vertices
-pub stack_fits : (n : ℕ) (visit : ℕ → Visit) (stack : ℕ → ℕ) (size : ℕ) → ArePlaced n visit stack size → size ≤ n
+pub stack_fits : (n : ℕ) (visit : ℕ → Visit) (stack : ℕ → ℕ) (size : ℕ) → AreOnStack n visit stack size → size ≤ n
 unfolding place_of
 stack_fits n visit stack size placed =
     pigeonhole n size stack (λ v. place_of (visit v)) placed.vertex (λ p within. ap place_of (placed.visited p within))

@@ -4,24 +4,24 @@ use Rattle.std.proofs.Common.{subst, arith}
 use Rattle.std.proofs.lemmas.Bool.{cases_lt}
 use Rattle.std.proofs.lemmas.List.{get_or_append_left, get_or_default, get_or_push, get_or_read, length_push, take_all, take_more}
 use Rattle.std.proofs.lemmas.List.Elements.{Contains-get_or}
-use Rattle.cox_scc.specs.Walk.{IsRising}
+use Rattle.cox_scc.specs.Walk.{IsIncreasing}
 
 -- what comes before the last place is less
-pub rising_below : (xs : List ℕ) (x y : ℕ) → IsRising (xs ++ x ∷ []) → Contains xs y → y < x
+pub rising_below : (xs : List ℕ) (x y : ℕ) → IsIncreasing (xs ++ x ∷ []) → Contains xs y → y < x
 rising_below xs x y up (k, lt, is) =
     let low : get_or (xs ++ x ∷ []) k 0 ≡ y = get_or_append_left xs (x ∷ []) 0 k lt ∙ get_or_default xs k 0 y lt ∙ is in
     let high : get_or (xs ++ x ∷ []) (length xs) 0 ≡ x = get_or_push xs x 0 (length xs) refl in
     let h : get_or (xs ++ x ∷ []) k 0 < get_or (xs ++ x ∷ []) (length xs) 0 = up k (length xs) lt (omega (arith, length_push xs x)) in
     omega arith
 
-pub rising_rest : (xs : List ℕ) (x : ℕ) → IsRising (xs ++ x ∷ []) → IsRising xs
+pub rising_rest : (xs : List ℕ) (x : ℕ) → IsIncreasing (xs ++ x ∷ []) → IsIncreasing xs
 rising_rest xs x up i j lt within =
     let first : get_or (xs ++ x ∷ []) i 0 ≡ get_or xs i 0 = get_or_append_left xs (x ∷ []) 0 i (omega arith) in
     let second : get_or (xs ++ x ∷ []) j 0 ≡ get_or xs j 0 = get_or_append_left xs (x ∷ []) 0 j within in
     let h : get_or (xs ++ x ∷ []) i 0 < get_or (xs ++ x ∷ []) j 0 = up i j lt (omega (arith, length_push xs x)) in
     omega arith
 
-pub rising_push : (xs : List ℕ) (x : ℕ) → IsRising xs → ((y : ℕ) → Contains xs y → y < x) → IsRising (xs ++ x ∷ [])
+pub rising_push : (xs : List ℕ) (x : ℕ) → IsIncreasing xs → ((y : ℕ) → Contains xs y → y < x) → IsIncreasing (xs ++ x ∷ [])
 rising_push xs x up below i j lt within = ⊎_elim
     (λ inside. let second : get_or (xs ++ x ∷ []) j 0 ≡ get_or xs j 0 = get_or_append_left xs (x ∷ []) 0 j inside in
     let h : get_or xs i 0 < get_or xs j 0 = up i j lt inside in omega (arith, first))
@@ -36,7 +36,7 @@ rising_push xs x up below i j lt within = ⊎_elim
     first = get_or_append_left xs (x ∷ []) 0 i first_in
 
 -- no place is greater than the last one
-pub rising_last : (xs : List ℕ) (last y : ℕ) → length xs ≡ last + 1 → IsRising xs → Contains xs y → y ≤ get_or xs last 0
+pub rising_last : (xs : List ℕ) (last y : ℕ) → length xs ≡ last + 1 → IsIncreasing xs → Contains xs y → y ≤ get_or xs last 0
 rising_last xs last y count up (k, lt, is) =
     let y_is : get_or xs k 0 ≡ y = get_or_default xs k 0 y lt ∙ is in
     ⊎_elim (λ less. let h : get_or xs k 0 < get_or xs last 0 = up k last less (omega arith) in omega arith)

@@ -14,8 +14,8 @@ use Rattle.cox_scc.specs.declared.search.Visit.{Visit}
 use Rattle.cox_scc.specs.declared.search.Visit.TheVariants.{Unseen, Open, Closed}
 use Rattle.cox_scc.specs.Reach.{Reaches}
 use Rattle.cox_scc.specs.Sorted.{IsFrom}
-use Rattle.cox_scc.specs.Walk.{ArePlaced, AreFollowed, AreStacked, AreSettled, IsChain, LiesFrom, visit_of, IsWalk, LeadsIn, StaySeen}
-use Rattle.cox_scc.specs.Walk.{Enters, Joins, Meets, Closes, Finishes, work_left}
+use Rattle.cox_scc.specs.Walk.{AreOnStack, AreFollowed, AreStacked, AreSettled, IsStackChain, LiesFrom, visit_of, IsWalk, LeadsIn, StaySeen}
+use Rattle.cox_scc.specs.Walk.{Enters, Joins, Meets, ClosesClass, Finishes, work_left}
 use Rattle.cox_scc.proofs.Stacks.{rising_below, rising_last}
 use Rattle.cox_scc.proofs.Reaching.{Reaches-join, Reaches-step}
 use Rattle.cox_scc.proofs.Chains.{chain_down, chain_enter, chain_join, chain_leave}
@@ -62,12 +62,12 @@ module _ (old new : Search) (v : ℕ) (enters : Enters old new v) where
             ∙ length-set old.visits.items v (Open (vec_len old.stack)) ∙ sym old.visits.ok.0 ∙ walk.visits_count;
         classes_count = ap (λ z. z.len) enters.classes ∙ walk.classes_count;
         next_count = ap (λ z. z.len) enters.next ∙ walk.next_count;
-        placed = subst (ArePlaced n (visit_of new) (slice_index new.stack.items)) (sym taller)
+        placed = subst (AreOnStack n (visit_of new) (slice_index new.stack.items)) (sym taller)
             (placed_enter n size v (visit_of old) (visit_of new) (slice_index old.stack.items)
             (slice_index new.stack.items) opened others_stay top_is below_stays
             unseen v_in walk.placed);
-        chain = subst (λ z. IsChain (LeadsIn adjacency) (slice_index new.stack.items) z new.parts.items) (sym taller)
-            (subst (IsChain (LeadsIn adjacency) (slice_index new.stack.items) (size + 1)) (sym enters.parts)
+        chain = subst (λ z. IsStackChain (LeadsIn adjacency) (slice_index new.stack.items) z new.parts.items) (sym taller)
+            (subst (IsStackChain (LeadsIn adjacency) (slice_index new.stack.items) (size + 1)) (sym enters.parts)
             (chain_enter (LeadsIn adjacency) (slice_index old.stack.items) size old.parts.items walk.chain v
             (slice_index new.stack.items) below_stays
             top_is reached));
@@ -420,7 +420,7 @@ module _ (adjacency : Adjacency) (search : Search) (rest : List ℕ) (here : ℕ
 
   -- the last part begins at the end of the path: it is closed
   pub walk_close : (fewer : Vec ℕ) (new : Search) → search.parts.items ≡ fewer.items ++ here ∷ []
-      → Closes (record search { parts = fewer }) new here
+      → ClosesClass (record search { parts = fewer }) new here
       → IsWalk adjacency new rest
   walk_close fewer new parts_are closes =
       let n : ℕ = adjacency.vertices in
@@ -446,11 +446,11 @@ module _ (adjacency : Adjacency) (search : Search) (rest : List ℕ) (here : ℕ
         visits_count = closes.visits_count ∙ walk.visits_count;
         classes_count = closes.classes_count ∙ walk.classes_count;
         next_count = ap (λ z. z.len) closes.next ∙ walk.next_count;
-        placed = subst (ArePlaced n (visit_of new) shorter) (sym size_is)
+        placed = subst (AreOnStack n (visit_of new) shorter) (sym size_is)
             (placed_close n here size closes.least (visit_of search)
             (visit_of new) class after stack low_in closes.become walk.placed shorter same);
-        chain = subst (λ z. IsChain (LeadsIn adjacency) shorter z new.parts.items) (sym size_is)
-            (subst (IsChain (LeadsIn adjacency) shorter here) (sym parts_is)
+        chain = subst (λ z. IsStackChain (LeadsIn adjacency) shorter z new.parts.items) (sym size_is)
+            (subst (IsStackChain (LeadsIn adjacency) shorter here) (sym parts_is)
             (chain_leave (LeadsIn adjacency) stack size search.parts.items walk.chain fewer.items shorter here (omega arith) same kept));
         followed = subst (λ z. AreFollowed n offset target (visit_of new) (slice_index new.next.items) shorter z new.parts.items rest)
             (sym size_is)
@@ -469,7 +469,7 @@ module _ (adjacency : Adjacency) (search : Search) (rest : List ℕ) (here : ℕ
       }
 
 -- what is closed was seen
-pub close_seen : (old new : Search) (low : ℕ) → Closes old new low → StaySeen old new
+pub close_seen : (old new : Search) (low : ℕ) → ClosesClass old new low → StaySeen old new
 close_seen old new low closes v is = ⊎_elim
     (λ stands. let both : Closed ≡ Unseen = sym (closes.become.closed stands.place stands.above stands.below)
     ∙ ap (visit_of new) stands.is ∙ is in

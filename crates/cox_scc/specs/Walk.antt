@@ -23,17 +23,17 @@ LiesFrom b (Open place) = b ≤ place
 LiesFrom b Closed = ⊤
 
 -- the places go up
-abbrev pub IsRising : List ℕ → Type 0
-IsRising places = (i j : ℕ) → i < j → j < length places → slice_index places i < slice_index places j
+abbrev pub IsIncreasing : List ℕ → Type 0
+IsIncreasing places = (i j : ℕ) → i < j → j < length places → slice_index places i < slice_index places j
 
 -- the visits of vertices tell their places on the stack
-pub record ArePlaced (n : ℕ) (visit : ℕ → Visit) (stack : ℕ → ℕ) (size : ℕ) : Type 0 where
+pub record AreOnStack (n : ℕ) (visit : ℕ → Visit) (stack : ℕ → ℕ) (size : ℕ) : Type 0 where
   pub found : (v place : ℕ) → v < n → visit v ≡ Open place → (place < size) × (stack place ≡ v)
   pub vertex : (place : ℕ) → place < size → stack place < n
   pub visited : (place : ℕ) → place < size → visit (stack place) ≡ Open place
 
 -- each vertex on the stack reaches the next one, which reaches it back unless a part begins there
-pub record IsChain (IsEdge : ℕ → ℕ → Type 0) (stack : ℕ → ℕ) (size : ℕ) (parts : List ℕ) : Type 0 where
+pub record IsStackChain (IsEdge : ℕ → ℕ → Type 0) (stack : ℕ → ℕ) (size : ℕ) (parts : List ℕ) : Type 0 where
   pub on : (place : ℕ) → place + 1 < size → Reaches IsEdge (stack place) (stack (place + 1))
   pub back : (place : ℕ) → place + 1 < size → Contains parts (place + 1) ⊎ Reaches IsEdge (stack (place + 1)) (stack place)
 
@@ -49,8 +49,8 @@ pub record AreFollowed (n : ℕ) (offset target : ℕ → ℕ) (visit : ℕ → 
 
 -- parts and path go up the stack, and each part begins with a vertex of the path
 pub record AreStacked (size : ℕ) (parts path : List ℕ) : Type 0 where
-  pub parts_rise : IsRising parts
-  pub path_rises : IsRising path
+  pub parts_rise : IsIncreasing parts
+  pub path_rises : IsIncreasing path
   pub below : (place : ℕ) → Contains path place → place < size
   pub on_path : (b : ℕ) → Contains parts b → Contains path b
   pub first : 0 < size → Contains parts 0
@@ -77,8 +77,8 @@ pub record IsWalk (adjacency : Adjacency) (search : Search) (path : List ℕ) : 
   pub visits_count : vec_len search.visits ≡ adjacency.vertices
   pub classes_count : vec_len search.classes ≡ adjacency.vertices
   pub next_count : vec_len search.next ≡ adjacency.vertices
-  pub placed : ArePlaced adjacency.vertices (visit_of search) (slice_index search.stack.items) (vec_len search.stack)
-  pub chain : IsChain (LeadsIn adjacency) (slice_index search.stack.items) (vec_len search.stack) search.parts.items
+  pub placed : AreOnStack adjacency.vertices (visit_of search) (slice_index search.stack.items) (vec_len search.stack)
+  pub chain : IsStackChain (LeadsIn adjacency) (slice_index search.stack.items) (vec_len search.stack) search.parts.items
   pub followed : AreFollowed adjacency.vertices (slice_index adjacency.offsets.items) (slice_index adjacency.targets.items)
       (visit_of search)
       (slice_index search.next.items) (slice_index search.stack.items) (vec_len search.stack) search.parts.items path
@@ -124,7 +124,7 @@ pub record Enters (old new : Search) (vertex : ℕ) : Type 0 where
 
 -- the parts that begin after the place are joined to the one before
 pub record Joins (parts fewer : List ℕ) (place : ℕ) : Type 0 where
-  pub rise : IsRising fewer
+  pub rise : IsIncreasing fewer
   pub was : (b : ℕ) → Contains fewer b → Contains parts b × (b ≤ place)
   pub kept : (b : ℕ) → Contains parts b → b ≤ place → Contains fewer b
 
@@ -137,7 +137,7 @@ Meets (Open place) old new here target there =
 Meets Closed old new here target there = (new ≡ old) × (there ≡ here)
 
 -- the vertices from the place up become a class, and leave the stack
-pub record Closes (old new : Search) (low : ℕ) : Type 0 where
+pub record ClosesClass (old new : Search) (low : ℕ) : Type 0 where
   pub visits_count : vec_len new.visits ≡ vec_len old.visits
   pub classes_count : vec_len new.classes ≡ vec_len old.classes
   pub least : ℕ
@@ -151,7 +151,7 @@ pub record Closes (old new : Search) (low : ℕ) : Type 0 where
 -- the last part becomes a class where it begins at the place; else nothing changes
 abbrev pub Finishes : Search → Search → ℕ → Type 0
 Finishes old new here =
-    ((fewer : Vec ℕ) × (old.parts.items ≡ fewer.items ++ here ∷ []) × Closes (record old { parts = fewer }) new here)
+    ((fewer : Vec ℕ) × (old.parts.items ≡ fewer.items ++ here ∷ []) × ClosesClass (record old { parts = fewer }) new here)
     ⊎ ((slice_index old.parts.items (vec_len old.parts - 1) ≢ here) × (new ≡ old))
 
 -- what falls with each step: twice a bound on the edges that are left, and the vertices of the path

@@ -5,7 +5,7 @@
 //! vertex where the last part begins, that part is a class, and leaves the stack.
 ghost use Rattle.std.specs.Prelude.{◌≡◌, ◌≢◌, ℕ, ◌-◌, ◌+◌, ◌<◌, ◌≤◌, ◌^◌, ◌++◌, ◌∷◌, [], length, drop, slice_index, slice_index_or, IfOk, OnOk, IfNone, Contains, vec_len};
 ghost use Rattle.std.specs.Option.{option_to_list};
-ghost use Rattle.cox_scc.specs.Walk.{IsRising, Joins, CloseMembers};
+ghost use Rattle.cox_scc.specs.Walk.{IsIncreasing, Joins, CloseMembers};
 
 use crate::NoMemory;
 use crate::adjacency::Adjacency;
@@ -40,7 +40,7 @@ pub(crate) struct Search {
 }
 
 impl Search {
-    ghost use Rattle.cox_scc.specs.Walk.{visit_of, IsWalk, LeadsIn, StaySeen, Enters, Meets, Closes, Finishes, work_left};
+    ghost use Rattle.cox_scc.specs.Walk.{visit_of, IsWalk, LeadsIn, StaySeen, Enters, Meets, ClosesClass, Finishes, work_left};
 
     /// A pass that has seen no vertex.
     pub(crate) fn new(alloc: Global, adjacency: &Adjacency) -> Result<Search, NoMemory>
@@ -151,7 +151,7 @@ impl Search {
     fn meet(&mut self, here: u32, target: u32) -> Result<u32, NoMemory>
         requires room { vec_len self.old.stack < 2 ^ 32 }
         requires target { target < vec_len self.old.visits }
-        requires rise { IsRising self.old.parts.items }
+        requires rise { IsIncreasing self.old.parts.items }
         ensures { IfOk result (λ there. Meets (visit_of self.old target) self.old self.new here target there) }
     {
         match self.visits[target as usize] {
@@ -185,7 +185,7 @@ impl Search {
 
     // Joins the parts that begin after the place to the one before.
     fn join(&mut self, place: u32)
-        requires { IsRising self.old.parts.items }
+        requires { IsIncreasing self.old.parts.items }
         ensures others { self.new ≡ record self.old { parts = self.new.parts } }
         ensures joins { Joins self.old.parts.items self.new.parts.items place }
     {
@@ -198,7 +198,7 @@ impl Search {
         requires some { low < vec_len self.old.stack }
         requires vertices { (place : ℕ) → place < vec_len self.old.stack → slice_index self.old.stack.items place < vec_len self.old.visits }
         requires sized { vec_len self.old.classes ≡ vec_len self.old.visits }
-        ensures { Closes self.old self.new low }
+        ensures { ClosesClass self.old self.new low }
     {
         let low = low as usize;
         let least = least_of(&self.stack[low..]);
