@@ -79,7 +79,7 @@ ReadsNext Failed halt old new = MeetsFault old new × (halt ≡ Some stop.Failed
 ReadsNext Limit halt old new = MeetsLimit old new × (halt ≡ Some stop.Limit)
 
 -- What a reader does over a source with these bytes left before and after. One that had stopped says so again and does nothing.
-abbrev pub Answers : Next → Reader → Reader → Option (List ℕ) → Option (List ℕ) → Type 0
-Answers next old new left_old left_new = MatchOption old.stop
+abbrev pub AnswersNext : Next → Reader → Reader → Option (List ℕ) → Option (List ℕ) → Type 0
+AnswersNext next old new left_old left_new = MatchOption old.stop
     (ReadsNext next new.stop (ahead old.feed left_old) (ahead new.feed left_new))
     (λ halt. (stop_of next ≡ Some halt) × (new ≡ old) × (left_new ≡ left_old))

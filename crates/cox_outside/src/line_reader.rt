@@ -66,7 +66,7 @@ impl LineReader {
     ghost use Rattle.std.specs.Io.BufRead.{Rests};
     ghost use Rattle.cox_outside.specs.contracts.line_reader.LineReader.{the_row};
     ghost use Rattle.cox_outside.specs.Supply.{SourceCause};
-    ghost use Rattle.cox_outside.specs.Reader.{Answers, fresh_reader, tells_fault};
+    ghost use Rattle.cox_outside.specs.Reader.{AnswersNext, fresh_reader, tells_fault};
 
     /// A reader that has read nothing.
     pub fn new(alloc: Global) -> Result<LineReader, AllocError>
@@ -89,7 +89,7 @@ impl LineReader {
     /// The next line. After `End`, `Failed` or `Limit` it answers the same again and reads nothing.
     pub fn next<S: Source>(&mut self, source: &mut S) -> Next<'_>
         ensures* answers { sem 𝓛 (Rests the_row self.entry (λ new.
-            Answers result self.old new (S.seen source.old).left (S.seen source.new).left)) }
+            AnswersNext result self.old new (S.seen source.old).left (S.seen source.new).left)) }
         // A reader that has stopped leaves the source alone.
         ensures still { IsSome self.old.stop → source.new ≡ source.old }
         ensures cause { SourceCause (S.seen source.old) (S.seen source.new)
