@@ -9,7 +9,7 @@ use Rattle.clap.proofs.OnLiterals.{clap_on_literals}
 use Rattle.cox_options.specs.declared.options.TheConstants.{MAX_CONTEXT, MAX_ROOTS, MAX_COEF}
 use Rattle.cox_options.specs.Arguments.{given_number, is_refused, decimal_value}
 use Rattle.cox_options.specs.Command.{NumberOption, number_options}
-use Rattle.cox_options.specs.OneOption.{joined, named}
+use Rattle.cox_options.specs.OneOption.{joined_argument, named}
 
 -- what follows from either answer to the test of a range
 by_range : (most : ℕ) (text : List ℕ) (P : Type 0) → (is_unsigned_in 1 most text ≡ true → P) → (is_unsigned_in 1 most text ≡ false → P) → P
@@ -17,7 +17,7 @@ by_range most text P inside outside = ⊎_elim inside outside (cases_Bool (is_un
 
 -- `--NAME=N` is taken exactly when N writes a number of the range
 abbrev JoinedTaken : NumberOption → Type 0
-JoinedTaken option = (name text : List ℕ) → is_refused (name ∷ joined option text ∷ []) ≡ not (is_unsigned_in 1 option.most text)
+JoinedTaken option = (name text : List ℕ) → is_refused (name ∷ joined_argument option text ∷ []) ≡ not (is_unsigned_in 1 option.most text)
 
 pub joined_taken : All JoinedTaken number_options
 unfolding clap_on_literals
@@ -31,7 +31,7 @@ joined_taken = All-from_recursion JoinedTaken number_options (
 
 -- and gives that number
 abbrev JoinedNumber : NumberOption → Type 0
-JoinedNumber option = (name text : List ℕ) → given_number option.name (name ∷ joined option text ∷ []) ≡ Some (decimal_value text)
+JoinedNumber option = (name text : List ℕ) → given_number option.name (name ∷ joined_argument option text ∷ []) ≡ Some (decimal_value text)
 
 pub joined_number : All JoinedNumber number_options
 unfolding clap_on_literals

@@ -8,8 +8,8 @@ abbrev pub named : NumberOption → Text
 named option = codes "--" ++ option.name
 
 -- the argument `--NAME=TEXT`
-abbrev pub joined : NumberOption → Text → Text
-joined option text = named option ++ codes "=" ++ text
+abbrev pub joined_argument : NumberOption → Text → Text
+joined_argument option text = named option ++ codes "=" ++ text
 
 -- a number of the option's range
 abbrev pub IsInRange : NumberOption → ℕ → Type 0

@@ -4,7 +4,7 @@ ghost use Rattle.clap.specs.ValueTests.{is_unsigned_in};
 ghost use Rattle.cox_options.specs.declared.options.TheConstants.{MAX_CONTEXT, MAX_ROOTS, MAX_COEF};
 ghost use Rattle.cox_options.specs.Arguments.{IsTaken, is_refused, decimal_value, given_number};
 ghost use Rattle.cox_options.specs.Command.{number_options};
-ghost use Rattle.cox_options.specs.OneOption.{IsInRange, joined, named};
+ghost use Rattle.cox_options.specs.OneOption.{IsInRange, joined_argument, named};
 
 /// The program's name alone is taken, and gives each option its default.
 pub fn name_alone_gives_defaults()
@@ -17,9 +17,9 @@ pub fn name_alone_gives_defaults()
 /// For each option `--NAME=N` is taken exactly when N writes a number of its range, and gives that number.
 pub fn joined_number_is_given()
     ensures taken { All (λ option. (name text : List ℕ) →
-        is_refused (name ∷ joined option text ∷ []) ≡ not (is_unsigned_in 1 option.most text)) number_options }
+        is_refused (name ∷ joined_argument option text ∷ []) ≡ not (is_unsigned_in 1 option.most text)) number_options }
     ensures number { All (λ option. (name text : List ℕ) →
-        given_number option.name (name ∷ joined option text ∷ []) ≡ Some (decimal_value text)) number_options }
+        given_number option.name (name ∷ joined_argument option text ∷ []) ≡ Some (decimal_value text)) number_options }
 {}
 
 /// So is `--NAME N`, where N does not begin with a hyphen.
