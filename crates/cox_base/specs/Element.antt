@@ -18,8 +18,8 @@ unfoldable pub identity : Matrix
 identity i t = if i == t then pos 1 else pos 0
 
 -- the product of matrices of rank n
-unfoldable pub product : ℕ → Matrix → Matrix → Matrix
-product n M N i t = sum_to n (λ k. M i k *ℤ N k t)
+unfoldable pub matrix_product : ℕ → Matrix → Matrix → Matrix
+matrix_product n M N i t = sum_to n (λ k. M i k *ℤ N k t)
 
 -- M(s): the matrix of e(t) -> e(t) - a(s,t) e(s)
 unfoldable pub generator_matrix : IntegerMatrix → ℕ → Matrix
@@ -28,7 +28,7 @@ generator_matrix A s i t = identity i t -ℤ (A.entry s t *ℤ identity i s)
 -- M(u): the product of the matrices of the letters of u, in order
 unfoldable pub matrix : IntegerMatrix → List ℕ → Matrix
 matrix A [] = identity
-matrix A (s ∷ u) = product A.rank (generator_matrix A s) (matrix A u)
+matrix A (s ∷ u) = matrix_product A.rank (generator_matrix A s) (matrix A u)
 
 -- u and v name one element: M(u) = M(v), row by row and column by column
 pub record SameElement (A : IntegerMatrix) (u v : List ℕ) : Type 0 where

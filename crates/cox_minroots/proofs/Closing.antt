@@ -4,7 +4,7 @@ use Rattle.std.proofs.lemmas.Bool.{cases_lt}
 use Rattle.cox_base.specs.Matrix.{IsLetter}
 use Rattle.cox_base.specs.IntegerMatrix.{IntegerMatrix}
 use Rattle.cox_minroots.specs.declared.root.Root.{Root}
-use Rattle.cox_minroots.specs.Closure.{AreSmall, HasSimple, HasStep, IsLonger, IsClosed}
+use Rattle.cox_minroots.specs.Closure.{AreSmall, HasSimple, HasStep, IsLonger, AreAllSmall}
 use Rattle.cox_minroots.proofs.ClosureLemmas.{HasStep-longer, HasSimple-longer}
 
 -- the steps of the first i roots are done
@@ -30,6 +30,7 @@ closing-next A max old new i h l few small longer steps = record {
       (λ (after : i ≤ k). let e : k ≡ i = omega (arith, after, m) in rw e (steps s ls)) (cases_lt k i);
 }
 
-pub closing-end : (A : IntegerMatrix) (max : ℕ) (roots : List Root) (i : ℕ) → IsClosing A max roots i → length roots ≤ i → IsClosed A roots
+pub closing-end : (A : IntegerMatrix) (max : ℕ) (roots : List Root) (i : ℕ) → IsClosing A max roots i → length roots ≤ i
+    → AreAllSmall A roots
 closing-end A max roots i h l =
     record { small = h.small; simple = h.simple; steps = λ k s m ls. h.done k s (omega (arith, m, l)) ls }

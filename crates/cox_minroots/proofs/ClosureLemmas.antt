@@ -21,12 +21,12 @@ use Rattle.cox_small.proofs.Signs.{negative-agrees}
 use Rattle.cox_minroots.specs.declared.root.Root.{Root}
 use Rattle.cox_minroots.specs.Coordinates.{vector_of, weight, rise, CanTurn}
 use Rattle.cox_minroots.specs.RootLists.{no_root, root_at, root_of, coroot_of, IsInserted, there, last}
-use Rattle.cox_minroots.specs.Closure.{IsRow, AreSmall, HasSimple, HasStep, IsLonger, IsClosed}
+use Rattle.cox_minroots.specs.Closure.{AreCoordinatesUpTo, AreSmall, HasSimple, HasStep, IsLonger, AreAllSmall}
 use Rattle.cox_minroots.proofs.CoordinateLemmas.{vector_of-at, pairing-weight, turned-coordinates}
 
 -- ---- lists
 
-pub rows-equal : {m n : ℕ} (xs ys : List ℕ) → IsRow m xs → IsRow n ys → vector_of xs ≡ vector_of ys → xs ≡ ys
+pub rows-equal : {m n : ℕ} (xs ys : List ℕ) → AreCoordinatesUpTo m xs → AreCoordinatesUpTo n ys → vector_of xs ≡ vector_of ys → xs ≡ ys
 rows-equal xs ys h k e = ext_get_or 0 xs ys (h.full ∙ sym k.full) (λ i l. vector_of-at xs ys e i)
 
 -- a root of small lists is told by its vector
@@ -66,14 +66,14 @@ inserted-at {old} {r} (last c) = (length old, omega (arith, length-last old r), 
 
 -- ---- one more small root
 
-pub row-within : {m n : ℕ} (xs : List ℕ) → m ≤ n → IsRow m xs → IsRow n xs
+pub row-within : {m n : ℕ} (xs : List ℕ) → m ≤ n → AreCoordinatesUpTo m xs → AreCoordinatesUpTo n xs
 row-within xs l h = record { full = h.full; small = λ k. omega (arith, l, h.small k) }
 
 module _ (A : IntegerMatrix) (g : IsAdmissible A) where
   -- a list with a root of this vector has this very root
   same_pair : (roots : List Root) (r : Root) (m i : ℕ) → AreSmall A roots → IsSmall A (vector_of r.root) (vector_of r.coroot)
-      → IsRow m r.root
-      → IsRow m r.coroot → i < length roots → root_of roots i ≡ vector_of r.root → root_at roots i ≡ r
+      → AreCoordinatesUpTo m r.root
+      → AreCoordinatesUpTo m r.coroot → i < length roots → root_of roots i ≡ vector_of r.root → root_at roots i ≡ r
   same_pair roots r m i h small row corow l e =
       let other : IsSmall A (vector_of r.root) (coroot_of roots i) = rw e at (h.small i l)
       in root-equal (root_at roots i) r (rows-equal (root_at roots i).root r.root (h.row i l) row e)
@@ -83,7 +83,8 @@ module _ (A : IntegerMatrix) (g : IsAdmissible A) where
   contains-at roots r i l e = (i, l, get_or_default roots i r no_root l ∙ e)
 
   pub small-inserted : {old new : List Root} {r : Root} → AreSmall A old → IsSmall A (vector_of r.root) (vector_of r.coroot)
-      → IsRow (1 + 3 * length old) r.root → IsRow (1 + 3 * length old) r.coroot → IsInserted old r new → AreSmall A new
+      → AreCoordinatesUpTo (1 + 3 * length old) r.root → AreCoordinatesUpTo (1 + 3 * length old) r.coroot → IsInserted old r new
+      → AreSmall A new
   small-inserted h small row corow (there c) = h
   small-inserted {old} {new} {r} h small row corow (last absent) =
       record { small = smalls; different = differs; row = rows; corow = corows }
@@ -99,11 +100,11 @@ module _ (A : IntegerMatrix) (g : IsAdmissible A) where
       smalls : (i : ℕ) → i < length (old ++ r ∷ []) → IsSmall A (root_of (old ++ r ∷ []) i) (coroot_of (old ++ r ∷ []) i)
       smalls = at (λ i q. IsSmall A (vector_of q.root) (vector_of q.coroot)) h.small small
 
-      rows : (i : ℕ) → i < length (old ++ r ∷ []) → IsRow (1 + 3 * i) (root_at (old ++ r ∷ []) i).root
-      rows = at (λ i q. IsRow (1 + 3 * i) q.root) h.row row
+      rows : (i : ℕ) → i < length (old ++ r ∷ []) → AreCoordinatesUpTo (1 + 3 * i) (root_at (old ++ r ∷ []) i).root
+      rows = at (λ i q. AreCoordinatesUpTo (1 + 3 * i) q.root) h.row row
 
-      corows : (i : ℕ) → i < length (old ++ r ∷ []) → IsRow (1 + 3 * i) (root_at (old ++ r ∷ []) i).coroot
-      corows = at (λ i q. IsRow (1 + 3 * i) q.coroot) h.corow corow
+      corows : (i : ℕ) → i < length (old ++ r ∷ []) → AreCoordinatesUpTo (1 + 3 * i) (root_at (old ++ r ∷ []) i).coroot
+      corows = at (λ i q. AreCoordinatesUpTo (1 + 3 * i) q.coroot) h.corow corow
 
       new_one : (i : ℕ) → i < length old → root_of old i ≡ vector_of r.root → ⊥
       new_one i l e = absent (contains-at old r i l (same_pair old r (1 + 3 * length old) i h small row corow l e))
@@ -130,12 +131,12 @@ module _ (A : IntegerMatrix) (g : IsAdmissible A) where
   rise-positive s xs l n = rw (pairing-weight A g s xs l) (omega (arith, ints, n))
 
   -- the coordinates of the image under a step with a small rise
-  pub turns-by_rise : (s m : ℕ) (xs : List ℕ) → 1 ≤ rise A s xs → rise A s xs ≤ 3 → IsRow m xs → m + 3 < 65536 → CanTurn A s xs
+  pub turns-by_rise : (s m : ℕ) (xs : List ℕ) → 1 ≤ rise A s xs → rise A s xs ≤ 3 → AreCoordinatesUpTo m xs → m + 3 < 65536 → CanTurn A s xs
   turns-by_rise s m xs l h row few = record { positive = omega (arith, l); room = omega (arith, l, h, row.small (s - 1), few) }
 
   -- a row after its coordinate at s has risen
-  pub risen-row : (s m : ℕ) (xs : List ℕ) → s - 1 < MAX_RANK → 1 ≤ rise A s xs → rise A s xs ≤ 3 → IsRow m xs
-      → IsRow (m + 3) (set xs (s - 1) (weight A s xs - 3 * get_or xs (s - 1) 0))
+  pub risen-row : (s m : ℕ) (xs : List ℕ) → s - 1 < MAX_RANK → 1 ≤ rise A s xs → rise A s xs ≤ 3 → AreCoordinatesUpTo m xs
+      → AreCoordinatesUpTo (m + 3) (set xs (s - 1) (weight A s xs - 3 * get_or xs (s - 1) 0))
   risen-row s m xs within l h row =
       record { full = length-set xs (s - 1) (weight A s xs - 3 * get_or xs (s - 1) 0) ∙ row.full; small = below }
     where
@@ -229,10 +230,10 @@ module _ (A : IntegerMatrix) (g : IsAdmissible A) (fits : A.rank ≤ MAX_RANK) (
   place : s - 1 < MAX_RANK
   place = omega (arith, ls.from_one, ls.to_rank, fits)
 
-  row : IsRow (1 + 3 * i) (root_at roots i).root
+  row : AreCoordinatesUpTo (1 + 3 * i) (root_at roots i).root
   row = h.row i l
 
-  corow : IsRow (1 + 3 * i) (root_at roots i).coroot
+  corow : AreCoordinatesUpTo (1 + 3 * i) (root_at roots i).coroot
   corow = h.corow i l
 
   pub can_turn : 1 ≤ X * Y → X * Y ≤ 3 → length roots < 20000
@@ -276,10 +277,10 @@ module _ (A : IntegerMatrix) (g : IsAdmissible A) (fits : A.rank ≤ MAX_RANK) (
         small : IsSmall A (vector_of r.root) (vector_of r.coroot)
         small = rw (image, coimage) (step (short m n) (h.small i l))
 
-        row_there : IsRow (1 + 3 * length roots) r.root
+        row_there : AreCoordinatesUpTo (1 + 3 * length roots) r.root
         row_there = rw er (row-within _ (omega (arith, l)) (risen-row A g s (1 + 3 * i) (root_at roots i).root place f.0 u.0 row))
 
-        corow_there : IsRow (1 + 3 * length roots) r.coroot
+        corow_there : AreCoordinatesUpTo (1 + 3 * length roots) r.coroot
         corow_there =
             rw ec (row-within _ (omega (arith, l)) (risen-row (transposed A) gt s (1 + 3 * i) (root_at roots i).coroot place f.1 u.1 corow))
 
@@ -308,7 +309,7 @@ more-than A max roots h l = record {
   different = λ i j k m e. h.different i j k (omega (arith, l, m)) e;
 }
 
-module _ (A : IntegerMatrix) (g : IsAdmissible A) (roots : List Root) (h : IsClosed A roots) where
+module _ (A : IntegerMatrix) (g : IsAdmissible A) (roots : List Root) (h : AreAllSmall A roots) where
   pub closed-has : {b c : Vector} → IsSmall A b c → (i : ℕ) × (i < length roots) × (root_of roots i ≡ b)
   closed-has (simple {s = s} l) = (s - 1, omega (arith, l.from_one, l.to_rank, h.simple.within), h.simple.is s l)
   closed-has (step {s = s} {b = b} {c = c} q k) = go (closed-has k)

@@ -16,7 +16,7 @@ use Rattle.cox_reflect.proofs.Sums.{simple_root-self, simple_root-other}
 use Rattle.cox_reflect.proofs.Action.{reflect-other}
 use Rattle.cox_minroots.specs.declared.root.Kind.{Kind}
 use Rattle.cox_minroots.specs.declared.root.Kind.TheVariants.{OfRoot, OfCoroot}
-use Rattle.cox_minroots.specs.Coordinates.{vector_of, matrix_of, sum_of, weight, CanTurn}
+use Rattle.cox_minroots.specs.Coordinates.{vector_of, matrix_of_kind, nat_sum_to, weight, CanTurn}
 
 -- the coordinate at a letter
 pub vector_of-letter : (xs : List ℕ) (i : ℕ) → 1 ≤ i → vector_of xs i ≡ pos (get_or xs (i - 1) 0)
@@ -86,25 +86,26 @@ simple-coordinates_small xs s k e =
     (λ (other : suc k ≡ s → ⊥). omega (arith, ints, there, simple_root-other s (suc k) other)) (cases_eq (suc k) s)
 
 -- one more term of the sum of a loop over the letters
-pub sum_of-next : (t sum size x : ℕ) (f : ℕ → ℕ) → 1 ≤ t → sum ≡ sum_of (t - 1) f → size * x ≡ f t
-    → sum + size * x ≡ sum_of (t + 1 - 1) f
-unfolding sum_of
-sum_of-next zero sum size x f l e h = absurd (omega (arith, l))
-sum_of-next (suc t) sum size x f l e h =
+pub nat_sum_to-next : (t sum size x : ℕ) (f : ℕ → ℕ) → 1 ≤ t → sum ≡ nat_sum_to (t - 1) f → size * x ≡ f t
+    → sum + size * x ≡ nat_sum_to (t + 1 - 1) f
+unfolding nat_sum_to
+nat_sum_to-next zero sum size x f l e h = absurd (omega (arith, l))
+nat_sum_to-next (suc t) sum size x f l e h =
     let place : suc t + 1 - 1 ≡ suc t = omega arith
     in let before : suc t - 1 ≡ t = omega arith
-    in let start : sum ≡ sum_of t f = rw before at e
+    in let start : sum ≡ nat_sum_to t f = rw before at e
     in rw place (ap₂ (λ (a b : ℕ). a + b) start h)
 
-pub sum_of-bound : (t sum size x : ℕ) → 1 ≤ t → sum ≤ (t - 1) * 196605 → size ≤ 3 → x ≤ 65535
+pub nat_sum_to-bound : (t sum size x : ℕ) → 1 ≤ t → sum ≤ (t - 1) * 196605 → size ≤ 3 → x ≤ 65535
     → sum + size * x ≤ (t + 1 - 1) * 196605
-sum_of-bound t sum size x l h a b = omega (arith, l, h, mul-le-mul_right x a, b)
+nat_sum_to-bound t sum size x l h a b = omega (arith, l, h, mul-le-mul_right x a, b)
 
-pub sum_of-all : (kind : Kind) (A : IntegerMatrix) (s : ℕ) (xs : List ℕ) (m sum : ℕ) → m ≡ A.rank
-    → sum ≡ sum_of m (λ t. nat_abs ((matrix_of kind A).entry s t) * get_or xs (t - 1) 0) → sum ≡ weight (matrix_of kind A) s xs
+pub nat_sum_to-all : (kind : Kind) (A : IntegerMatrix) (s : ℕ) (xs : List ℕ) (m sum : ℕ) → m ≡ A.rank
+    → sum ≡ nat_sum_to m (λ t. nat_abs ((matrix_of_kind kind A).entry s t) * get_or xs (t - 1) 0)
+    → sum ≡ weight (matrix_of_kind kind A) s xs
 unfolding weight
-sum_of-all OfRoot A s xs m sum all e = rw (← all) e
-sum_of-all OfCoroot A s xs m sum all e = rw (← all) e
+nat_sum_to-all OfRoot A s xs m sum all e = rw (← all) e
+nat_sum_to-all OfCoroot A s xs m sum all e = rw (← all) e
 
 -- ---- the pairing, by the weight
 
@@ -157,8 +158,8 @@ module _ (A : IntegerMatrix) (g : IsAdmissible A) where
 
   sums : (s : ℕ) (xs : List ℕ) → IsLetter A.rank s → (n : ℕ) → n ≤ A.rank
       → sum_to n (λ t. A.entry s t *ℤ vector_of xs t)
-      ≡ pos (4 * counted n s (get_or xs (s - 1) 0)) -ℤ pos (sum_of n (λ t. nat_abs (A.entry s t) * get_or xs (t - 1) 0))
-  unfolding sum_to sum_of
+      ≡ pos (4 * counted n s (get_or xs (s - 1) 0)) -ℤ pos (nat_sum_to n (λ t. nat_abs (A.entry s t) * get_or xs (t - 1) 0))
+  unfolding sum_to nat_sum_to
   sums s xs ls zero h = rw (counted-above 0 s (get_or xs (s - 1) 0) (omega (arith, ls.from_one))) refl
   sums s xs ls (suc n) h = ⊎_elim (own (sums s xs ls n (omega arith))) (other (sums s xs ls n (omega arith))) (cases_eq (suc n) s)
     where
@@ -172,7 +173,7 @@ module _ (A : IntegerMatrix) (g : IsAdmissible A) where
       S = sum_to n (λ t. A.entry s t *ℤ vector_of xs t)
 
       W : ℕ
-      W = sum_of n (λ t. nat_abs (A.entry s t) * get_or xs (t - 1) 0)
+      W = nat_sum_to n (λ t. nat_abs (A.entry s t) * get_or xs (t - 1) 0)
 
       own : S ≡ pos (4 * counted n s (get_or xs (s - 1) 0)) -ℤ pos W → suc n ≡ s
           → S +ℤ (A.entry s (suc n) *ℤ vector_of xs (suc n))
@@ -204,7 +205,7 @@ module _ (A : IntegerMatrix) (g : IsAdmissible A) where
   unfolding pairing weight
   pairing-weight s xs ls =
       sums s xs ls A.rank (omega arith)
-      ∙ ap (λ (m : ℕ). pos (4 * m) -ℤ pos (sum_of A.rank (λ t. nat_abs (A.entry s t) * get_or xs (t - 1) 0)))
+      ∙ ap (λ (m : ℕ). pos (4 * m) -ℤ pos (nat_sum_to A.rank (λ t. nat_abs (A.entry s t) * get_or xs (t - 1) 0)))
       (counted-within A.rank s (get_or xs (s - 1) 0) ls.to_rank)
 
   -- the coordinates of the image under s

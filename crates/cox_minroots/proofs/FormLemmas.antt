@@ -18,7 +18,7 @@ use Rattle.cox_base.specs.Reduced.{IsReduced, IsLeftDescent, IsRightDescent}
 use Rattle.cox_lemmas.proofs.RangeFilters.{filter_range-yes, filter_range-no}
 use Rattle.cox_reflect.proofs.Sums.{letter_above}
 use Rattle.cox_reflect.proofs.Elements.{same-trans, same-reverse, same-push}
-use Rattle.cox_reflect.proofs.FormLemmas.{left_descents-word_at}
+use Rattle.cox_reflect.proofs.FormLemmas.{left_descents-word_on_side}
 use Rattle.cox_reflect.proofs.Search.{normal_form-equal, word_length-equal, word_length-length}
 use Rattle.cox_reflect.proofs.Roots.{reverse_left_descent, left_descent_reverse, left_descent-letter}
 use Rattle.cox_reflect.proofs.WordLemmas.{IsWord-append, IsWord-single}
@@ -64,7 +64,7 @@ module _ (A : IntegerMatrix) (g : IsAdmissible A) where
   -- the left descents of w, by a word of its inverse
   pub left_descents-inverse : (w v : List ℕ) → SameElement A v (reverse w) → right_descents A v ≡ left_descents A w
   left_descents-inverse w v e =
-      let back : left_descents A (reverse (reverse w)) ≡ right_descents A (reverse w) = left_descents-word_at A g Right (reverse w)
+      let back : left_descents A (reverse (reverse w)) ≡ right_descents A (reverse w) = left_descents-word_on_side A g Right (reverse w)
       in right_descents-same e ∙ sym (rw (reverse-reverse w) at back)
 
   -- what the code knows where it asks for an exchange

@@ -13,7 +13,7 @@ use Rattle.cox_small.specs.SmallRoots.{simple}
 use Rattle.cox_minroots.specs.declared.root.Root.{Root}
 use Rattle.cox_minroots.specs.Coordinates.{vector_of}
 use Rattle.cox_minroots.specs.RootLists.{no_root, root_at, root_of, IsInserted, there, last}
-use Rattle.cox_minroots.specs.Closure.{IsRow, AreSmall, HasSimple}
+use Rattle.cox_minroots.specs.Closure.{AreCoordinatesUpTo, AreSmall, HasSimple}
 use Rattle.cox_minroots.proofs.ClosureLemmas.{small-inserted, at_last, length-last, longer-inserted, HasSimple-longer}
 
 -- the simple roots of the letters below s
@@ -54,7 +54,7 @@ starting-next A g roots s r new h l e f n m a b put = record {
   simple = record { within = omega (arith, (new_last put).0); is = simple_at };
 }
   where
-    row : (xs : List ℕ) → length xs ≡ MAX_RANK → ((k : ℕ) → get_or xs k 0 ≤ 1) → IsRow (1 + 3 * length roots) xs
+    row : (xs : List ℕ) → length xs ≡ MAX_RANK → ((k : ℕ) → get_or xs k 0 ≤ 1) → AreCoordinatesUpTo (1 + 3 * length roots) xs
     row xs full low = record { full = full; small = λ k. omega (arith, low k) }
 
     -- e(s) is not here yet: the root with the number j is e(j + 1)

@@ -11,11 +11,11 @@ use Rattle.cox_small.specs.RootCounts.{HasFewSmallRoots}
 use Rattle.cox_small.proofs.Counting.{not_both}
 use Rattle.cox_minroots.specs.declared.root.Root.{Root}
 use Rattle.cox_minroots.specs.RootLists.{root_of, coroot_of}
-use Rattle.cox_minroots.specs.Closure.{IsClosed}
-use Rattle.cox_minroots.specs.Moves.{IsMove, IsTable, IsRootTable}
+use Rattle.cox_minroots.specs.Closure.{AreAllSmall}
+use Rattle.cox_minroots.specs.Moves.{IsMove, IsMoveTable, IsRootTable}
 use Rattle.cox_minroots.proofs.ClosureLemmas.{closed-has}
 
-pub root-table : (A : IntegerMatrix) → IsAdmissible A → (roots : List Root) (count : ℕ) (moves : List ℕ) → IsClosed A roots
+pub root-table : (A : IntegerMatrix) → IsAdmissible A → (roots : List Root) (count : ℕ) (moves : List ℕ) → AreAllSmall A roots
     → count ≡ length roots
     → length roots ≤ MAX_SMALL_ROOTS → length moves ≡ MAX_RANK * length roots
     → ((i s : ℕ) → i < length roots → IsLetter A.rank s
@@ -40,12 +40,12 @@ module _ (A : IntegerMatrix) (count : ℕ) (moves : List ℕ) (h : IsRootTable A
   pub not-more : HasMoreSmallRoots A count → ⊥
   not-more many =
       ∥∥₁_elim h.table (λ x y. absurd x)
-      (λ (t : IsTable A count moves). not_both A count (record { root = t.root; all = λ {b} k. t.all k }) many)
+      (λ (t : IsMoveTable A count moves). not_both A count (record { root = t.root; all = λ {b} k. t.all k }) many)
 
   pub not-fewer : (m : ℕ) → m < count → HasFewSmallRoots A m → ⊥
-  not-fewer m l few = ∥∥₁_elim h.table (λ x y. absurd x) (λ (t : IsTable A count moves). not_both A m few (more t))
+  not-fewer m l few = ∥∥₁_elim h.table (λ x y. absurd x) (λ (t : IsMoveTable A count moves). not_both A m few (more t))
     where
-      more : IsTable A count moves → HasMoreSmallRoots A m
+      more : IsMoveTable A count moves → HasMoreSmallRoots A m
       more t = record {
         root = t.root;
         small = λ i k. record { coroot = t.coroot i; small = t.small i (omega (arith, k, l)) };

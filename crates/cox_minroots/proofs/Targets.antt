@@ -26,7 +26,7 @@ use Rattle.cox_small.proofs.ElementaryRoots.{small-pair, small-positive, small-c
 use Rattle.cox_minroots.specs.declared.root.Root.{Root}
 use Rattle.cox_minroots.specs.Coordinates.{vector_of, weight, rise, CanTurn}
 use Rattle.cox_minroots.specs.RootLists.{no_root, root_at, root_of, coroot_of}
-use Rattle.cox_minroots.specs.Closure.{IsRow, IsClosed}
+use Rattle.cox_minroots.specs.Closure.{AreCoordinatesUpTo, AreAllSmall}
 use Rattle.cox_minroots.specs.declared.moves.TheConstants.{NEGATIVE, OUT}
 use Rattle.cox_minroots.specs.Moves.{IsMove}
 use Rattle.cox_minroots.proofs.CoordinateLemmas.{vector_of-letter, vector_of-at, pairing-weight}
@@ -34,7 +34,7 @@ use Rattle.cox_minroots.proofs.ClosureLemmas.{closed-has, negative-product, rise
 use Rattle.cox_minroots.proofs.ClosureLemmas.{turned-root, turned-coroot}
 
 -- where the image has coordinates of a row, the code can compute it
-can_turn_to : (A : IntegerMatrix) → IsAdmissible A → (s m : ℕ) (xs ys : List ℕ) → IsLetter A.rank s → IsRow m ys → m < 65536
+can_turn_to : (A : IntegerMatrix) → IsAdmissible A → (s m : ℕ) (xs ys : List ℕ) → IsLetter A.rank s → AreCoordinatesUpTo m ys → m < 65536
     → vector_of ys ≡ reflect A s (vector_of xs) → CanTurn A s xs
 unfolding reflect minus
 can_turn_to A g s m xs ys ls row small e = go at_s
@@ -57,7 +57,7 @@ record IsTarget (A : IntegerMatrix) (roots : List Root) (i s : ℕ) : Type 0 whe
   root : root_of roots number ≡ reflect A s (root_of roots i)
   coroot : coroot_of roots number ≡ reflect (transposed A) s (coroot_of roots i)
 
-module _ (A : IntegerMatrix) (g : IsAdmissible A) (fits : A.rank ≤ MAX_RANK) (roots : List Root) (h : IsClosed A roots) (i : ℕ)
+module _ (A : IntegerMatrix) (g : IsAdmissible A) (fits : A.rank ≤ MAX_RANK) (roots : List Root) (h : AreAllSmall A roots) (i : ℕ)
     (l : i < length roots) (s : ℕ) (ls : IsLetter A.rank s) where
   gt : IsAdmissible (transposed A)
   gt = IsAdmissible-transposed A g
@@ -202,7 +202,7 @@ module _ (A : IntegerMatrix) (g : IsAdmissible A) (fits : A.rank ≤ MAX_RANK) (
 -- ---- the same of what the code reads: the root itself, and the product
 
 module _ (x : CoxeterMatrix) (matrix : IsCoxeterMatrix x) (fits : x.rank ≤ MAX_RANK) (roots : List Root)
-    (h : IsClosed (integer_matrix x) roots)
+    (h : AreAllSmall (integer_matrix x) roots)
     (few : length roots ≤ MAX_SMALL_ROOTS) (i : ℕ) (l : i < length roots) (s : ℕ) (ls : IsLetter x.rank s) (root : Root)
     (at : root ≡ root_at roots i)
     (product : ℕ) (is : product ≡ rise (integer_matrix x) s root.root * rise (transposed (integer_matrix x)) s root.coroot) where

@@ -20,11 +20,11 @@ use Rattle.cox_reflect.proofs.Removal.{right_letter_goes}
 use Rattle.cox_small.specs.SmallRoots.{IsSmall}
 use Rattle.cox_small.proofs.Reading.{read-front, read-out}
 use Rattle.cox_minroots.specs.declared.moves.TheConstants.{NEGATIVE, OUT}
-use Rattle.cox_minroots.specs.Moves.{IsMove, IsTable, IsRootTable}
+use Rattle.cox_minroots.specs.Moves.{IsMove, IsMoveTable, IsRootTable}
 
 -- the word behind takes e(s) to the small root i
 pub record IsAt (A : IntegerMatrix) (count : ℕ) (moves : List ℕ) (behind : List ℕ) (s i : ℕ) : Type 0 where
-  pub table : IsTable A count moves
+  pub table : IsMoveTable A count moves
   pub is : act A behind (simple_root s) ≡ table.root i
 
 -- the last k letters of w take e(s) to the small root i
@@ -50,14 +50,14 @@ walk-start A count moves w s t lw ls r = record {
   letters = lw;
   letter = ls;
   reduced = r;
-  inside = ∥∥₁_elim t.table (hlevel le_prop) (λ (x : IsTable A count moves). (x.simple s ls).0);
-  reads = ∥∥₁_map t.table (λ (x : IsTable A count moves). start x);
+  inside = ∥∥₁_elim t.table (hlevel le_prop) (λ (x : IsMoveTable A count moves). (x.simple s ls).0);
+  reads = ∥∥₁_map t.table (λ (x : IsMoveTable A count moves). start x);
 }
   where
     nothing : drop (length w - 0) w ≡ []
     nothing = let e : length w - 0 ≡ length w = omega arith in rw e (drop-all w)
 
-    start : IsTable A count moves → IsAt A count moves (drop (length w - 0) w) s (s - 1)
+    start : IsMoveTable A count moves → IsAt A count moves (drop (length w - 0) w) s (s - 1)
     start x = record { table = x; is = rw nothing (act-nil A (simple_root s) ∙ sym (x.simple s ls).1) }
 
 module _ (A : IntegerMatrix) (g : IsAdmissible A) (fits : A.rank ≤ MAX_RANK) (moves w : List ℕ) (s k i : ℕ) (h : IsWalk A moves w s k i)
@@ -84,7 +84,7 @@ module _ (A : IntegerMatrix) (g : IsAdmissible A) (fits : A.rank ≤ MAX_RANK) (
       in rw (here, ← f, is_q, ← e) (sym (take-append-drop place w))
 
   module _ (move : ℕ) (is_move : move ≡ get_or moves (MAX_RANK * i + (q - 1)) 0) where
-    move_at : (t : IsTable A h.count moves) → IsMove A h.count t.root t.coroot i q move
+    move_at : (t : IsMoveTable A h.count moves) → IsMove A h.count t.root t.coroot i q move
     move_at t = rw is_move (t.move i q h.inside lq)
 
     pub walk-negative : move ≡ NEGATIVE → SameElement A (w ++ s ∷ []) (remove w place)

@@ -11,7 +11,7 @@ use Rattle.cox_minroots.specs.declared.fault.RootFault.TheVariants.{TooMany, NoM
 use Rattle.cox_minroots.specs.RootLists.{root_at, root_of, coroot_of}
 
 -- one coordinate for each letter up to the greatest rank, none of them above `most`
-pub record IsRow (most : ℕ) (xs : List ℕ) : Type 0 where
+pub record AreCoordinatesUpTo (most : ℕ) (xs : List ℕ) : Type 0 where
   pub full : length xs ≡ MAX_RANK
   pub small : (k : ℕ) → slice_index xs k ≤ most
 
@@ -19,8 +19,8 @@ pub record IsRow (most : ℕ) (xs : List ℕ) : Type 0 where
 pub record AreSmall (A : IntegerMatrix) (roots : List Root) : Type 0 where
   pub small : (i : ℕ) → i < length roots → IsSmall A (root_of roots i) (coroot_of roots i)
   pub different : (i j : ℕ) → i < j → j < length roots → root_of roots i ≡ root_of roots j → ⊥
-  pub row : (i : ℕ) → i < length roots → IsRow (1 + 3 * i) (root_at roots i).root
-  pub corow : (i : ℕ) → i < length roots → IsRow (1 + 3 * i) (root_at roots i).coroot
+  pub row : (i : ℕ) → i < length roots → AreCoordinatesUpTo (1 + 3 * i) (root_at roots i).root
+  pub corow : (i : ℕ) → i < length roots → AreCoordinatesUpTo (1 + 3 * i) (root_at roots i).coroot
 
 -- the simple roots up to that of the letter n come first
 pub record HasSimple (roots : List Root) (n : ℕ) : Type 0 where
@@ -38,7 +38,7 @@ pub record IsLonger (old new : List Root) : Type 0 where
   pub same : (i : ℕ) → i < length old → root_at new i ≡ root_at old i
 
 -- all the small roots, the simple ones first
-pub record IsClosed (A : IntegerMatrix) (roots : List Root) : Type 0 where
+pub record AreAllSmall (A : IntegerMatrix) (roots : List Root) : Type 0 where
   pub small : AreSmall A roots
   pub simple : HasSimple roots A.rank
   pub steps : (i s : ℕ) → i < length roots → IsLetter A.rank s → HasStep A roots i s

@@ -12,18 +12,18 @@ vector_of xs zero = pos 0
 vector_of xs (suc k) = pos (slice_index xs k)
 
 -- the matrix that moves roots, or coroots
-abbrev pub matrix_of : Kind → IntegerMatrix → IntegerMatrix
-matrix_of OfRoot A = A
-matrix_of OfCoroot A = transposed A
+abbrev pub matrix_of_kind : Kind → IntegerMatrix → IntegerMatrix
+matrix_of_kind OfRoot A = A
+matrix_of_kind OfCoroot A = transposed A
 
 -- f 1 + .. + f n
-unfoldable pub sum_of : ℕ → (ℕ → ℕ) → ℕ
-sum_of zero f = 0
-sum_of (suc n) f = sum_of n f + f (suc n)
+unfoldable pub nat_sum_to : ℕ → (ℕ → ℕ) → ℕ
+nat_sum_to zero f = 0
+nat_sum_to (suc n) f = nat_sum_to n f + f (suc n)
 
 -- |a(s,1)| x(1) + .. + |a(s,n)| x(n). As a(s,s) is 2 and no other entry of the row is above 0, p is 4 x(s) less this number.
 unfoldable pub weight : IntegerMatrix → ℕ → List ℕ → ℕ
-weight A s xs = sum_of A.rank (λ t. nat_abs (A.entry s t) * slice_index xs (t - 1))
+weight A s xs = nat_sum_to A.rank (λ t. nat_abs (A.entry s t) * slice_index xs (t - 1))
 
 -- -p where p is negative, else 0
 abbrev pub rise : IntegerMatrix → ℕ → List ℕ → ℕ

@@ -20,7 +20,7 @@ pub record IsMove (A : IntegerMatrix) (n : ℕ) (root coroot : ℕ → Vector) (
 
 -- The n small roots are numbered, e(s) with s - 1, and the table says where they go: at the root i and the letter s by its entry
 -- MAX_RANK * i + s - 1.
-pub record IsTable (A : IntegerMatrix) (n : ℕ) (moves : List ℕ) : Type 0 where
+pub record IsMoveTable (A : IntegerMatrix) (n : ℕ) (moves : List ℕ) : Type 0 where
   pub root : ℕ → Vector
   pub coroot : ℕ → Vector
   pub small : (i : ℕ) → i < n → IsSmall A (root i) (coroot i)
@@ -33,4 +33,4 @@ pub record IsTable (A : IntegerMatrix) (n : ℕ) (moves : List ℕ) : Type 0 whe
 pub record IsRootTable (A : IntegerMatrix) (count : ℕ) (moves : List ℕ) : Type 0 where
   pub few : count ≤ MAX_SMALL_ROOTS
   pub size : length moves ≡ MAX_RANK * count
-  pub table : ∥ IsTable A count moves ∥₁
+  pub table : ∥ IsMoveTable A count moves ∥₁

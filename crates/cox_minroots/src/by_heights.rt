@@ -6,7 +6,7 @@ ghost use Rattle.cox_base.specs.Bruhat.{IsBelow};
 ghost use Rattle.cox_base.specs.Reduced.{IsReduced};
 ghost use Rattle.cox_base.specs.ShortLex.{normal_form};
 ghost use Rattle.cox_reflect.specs.Height.{AreHeights};
-ghost use Rattle.cox_reflect.specs.Side.{word_at, descents_at};
+ghost use Rattle.cox_reflect.specs.Side.{word_on_side, descents_at};
 
 use cox_base::{Coxeter, MAX_LETTERS, Side, Word};
 use cox_reflect::{Heights, below_reduced};
@@ -14,7 +14,7 @@ use cox_reflect::{Heights, below_reduced};
 /// The heights whose left descents are the descents of w on that side.
 fn heights_at(g: &Coxeter, w: &Word, side: Side) -> Option<Heights>
     requires { IsWord g.now.rank w.now.items }
-    ensures { IfSome result (λ h. AreHeights (integer_matrix g.now) (word_at side w.now.items) h.values) }
+    ensures { IfSome result (λ h. AreHeights (integer_matrix g.now) (word_on_side side w.now.items) h.values) }
 {
     match side {
         Side::Left => Heights::of_word(g, w),
@@ -25,7 +25,7 @@ fn heights_at(g: &Coxeter, w: &Word, side: Side) -> Option<Heights>
 /// The normal form of the element that w names, or on the right of its inverse.
 pub(crate) fn normal_form(g: &Coxeter, w: &Word, side: Side) -> Option<Word>
     requires { IsWord g.now.rank w.now.items }
-    ensures form { IfSome result (λ form. form.items ≡ normal_form (integer_matrix g.now) (word_at side w.now.items)) }
+    ensures form { IfSome result (λ form. form.items ≡ normal_form (integer_matrix g.now) (word_on_side side w.now.items)) }
     ensures reduced { IfSome result (λ form. IsReduced (integer_matrix g.now) form.items) }
     ensures word { IfSome result (λ form. IsWord g.now.rank form.items) }
     ensures no_longer { IfSome result (λ form. length form.items ≤ length w.now.items) }

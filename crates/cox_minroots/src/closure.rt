@@ -3,7 +3,7 @@ ghost use Rattle.std.specs.Prelude.{◌≡◌, ℕ, ◌+◌, ◌<◌, ◌≤◌,
 ghost use Rattle.cox_base.specs.Matrix.{IsLetter};
 ghost use Rattle.cox_base.specs.IntegerMatrix.{integer_matrix};
 ghost use Rattle.cox_small.specs.SmallRoots.{HasMoreSmallRoots};
-ghost use Rattle.cox_minroots.specs.Closure.{AreSmall, HasSimple, HasStep, IsLonger, IsClosed, WhenTooMany};
+ghost use Rattle.cox_minroots.specs.Closure.{AreSmall, HasSimple, HasStep, IsLonger, AreAllSmall, WhenTooMany};
 
 use crate::RootFault;
 use crate::root::Root;
@@ -20,7 +20,7 @@ pub(crate) const LONGEST: u64 = 3;
 /// All the small roots, the simple ones first.
 pub(crate) fn close(alloc: Global, g: &Coxeter, max: u32) -> Result<Roots, RootFault>
     requires { max ≤ MAX_SMALL_ROOTS }
-    ensures closed { IfOk result (λ roots. IsClosed (integer_matrix g.now) roots) }
+    ensures closed { IfOk result (λ roots. AreAllSmall (integer_matrix g.now) roots) }
     ensures few { IfOk result (λ roots. length roots ≤ max) }
     ensures fault { IfErr result (WhenTooMany (λ seen. (seen ≡ max + 1) × HasMoreSmallRoots (integer_matrix g.now) max)) }
 {

@@ -2,7 +2,7 @@
 ghost use Rattle.std.specs.Prelude.{◌≡◌, ℕ, ◌+◌, ◌-◌, ◌*◌, ◌<◌, ◌≤◌, length, IfOk, slice_index};
 ghost use Rattle.cox_base.specs.Matrix.{IsLetter};
 ghost use Rattle.cox_base.specs.IntegerMatrix.{integer_matrix};
-ghost use Rattle.cox_minroots.specs.Closure.{IsClosed};
+ghost use Rattle.cox_minroots.specs.Closure.{AreAllSmall};
 ghost use Rattle.cox_minroots.specs.Moves.{IsMove};
 ghost use Rattle.cox_minroots.specs.RootLists.{root_of, coroot_of};
 
@@ -19,7 +19,7 @@ pub(crate) const OUT: u16 = 65535;
 
 /// The moves of all roots, MAX_RANK for each; those of letters past the rank mean nothing.
 pub(crate) fn moves(alloc: Global, g: &Coxeter, roots: &Roots) -> Result<Vec<u16>, AllocError>
-    requires closed { IsClosed (integer_matrix g.now) roots.now }
+    requires closed { AreAllSmall (integer_matrix g.now) roots.now }
     requires few { length roots.now ≤ MAX_SMALL_ROOTS }
     ensures size { IfOk result (λ moves. length moves.items ≡ MAX_RANK * length roots.now) }
     ensures moves { IfOk result (λ moves. (i s : ℕ) → i < length roots.now → IsLetter g.now.rank s
@@ -36,7 +36,7 @@ pub(crate) fn moves(alloc: Global, g: &Coxeter, roots: &Roots) -> Result<Vec<u16
 
 /// Where s takes the root `i`; OUT past the rank.
 fn move_of(g: &Coxeter, roots: &Roots, i: usize, s: u8) -> u16
-    requires closed { IsClosed (integer_matrix g.now) roots.now }
+    requires closed { AreAllSmall (integer_matrix g.now) roots.now }
     requires few { length roots.now ≤ MAX_SMALL_ROOTS }
     requires within { i < length roots.now }
     requires letter { 1 ≤ s }

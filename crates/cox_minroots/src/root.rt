@@ -4,7 +4,7 @@ ghost use Rattle.cox_base.specs.Matrix.{IsLetter};
 ghost use Rattle.cox_base.specs.IntegerMatrix.{integer_matrix};
 ghost use Rattle.cox_reflect.specs.Action.{simple_root};
 ghost use Rattle.cox_reflect.specs.Transpose.{transposed};
-ghost use Rattle.cox_minroots.specs.Coordinates.{vector_of, matrix_of, weight, rise, CanTurn};
+ghost use Rattle.cox_minroots.specs.Coordinates.{vector_of, matrix_of_kind, weight, rise, CanTurn};
 
 use cox_base::{Coxeter, MAX_RANK};
 
@@ -69,7 +69,7 @@ impl Root {
 fn size(g: &Coxeter, kind: Kind, s: u8, t: u8) -> u32
     requires s { IsLetter g.now.rank s }
     requires t { IsLetter g.now.rank t }
-    ensures value { result ≡ nat_abs ((matrix_of kind (integer_matrix g.now)).entry s t) }
+    ensures value { result ≡ nat_abs ((matrix_of_kind kind (integer_matrix g.now)).entry s t) }
     ensures small { result ≤ 3 }
 {
     let entry = match kind {
@@ -82,7 +82,7 @@ fn size(g: &Coxeter, kind: Kind, s: u8, t: u8) -> u32
 /// The weight of the coordinates at s.
 fn weight(g: &Coxeter, kind: Kind, x: &[u16; MAX_RANK], s: u8) -> u32
     requires { IsLetter g.now.rank s }
-    ensures value { result ≡ weight (matrix_of kind (integer_matrix g.now)) s x.now }
+    ensures value { result ≡ weight (matrix_of_kind kind (integer_matrix g.now)) s x.now }
     ensures small { result ≤ MAX_RANK * 196605 }
     ensures limit { g.now.rank ≤ MAX_RANK }
 {
@@ -96,7 +96,7 @@ fn weight(g: &Coxeter, kind: Kind, x: &[u16; MAX_RANK], s: u8) -> u32
 /// -p where p is negative, else 0.
 fn rise(g: &Coxeter, kind: Kind, x: &[u16; MAX_RANK], s: u8) -> u32
     requires { IsLetter g.now.rank s }
-    ensures value { result ≡ rise (matrix_of kind (integer_matrix g.now)) s x.now }
+    ensures value { result ≡ rise (matrix_of_kind kind (integer_matrix g.now)) s x.now }
     ensures small { result ≤ MAX_RANK * 196605 }
 {
     weight(g, kind, x, s).saturating_sub(4 * u32::from(x[s as usize - 1]))
@@ -105,8 +105,8 @@ fn rise(g: &Coxeter, kind: Kind, x: &[u16; MAX_RANK], s: u8) -> u32
 /// The coordinates of the image under s.
 fn turned(g: &Coxeter, kind: Kind, x: &[u16; MAX_RANK], s: u8) -> [u16; MAX_RANK]
     requires letter { IsLetter g.now.rank s }
-    requires turns { CanTurn (matrix_of kind (integer_matrix g.now)) s x.now }
-    ensures { result ≡ slice_set x.now (s - 1) (weight (matrix_of kind (integer_matrix g.now)) s x.now - 3 * slice_index x.now (s - 1)) }
+    requires turns { CanTurn (matrix_of_kind kind (integer_matrix g.now)) s x.now }
+    ensures { result ≡ slice_set x.now (s - 1) (weight (matrix_of_kind kind (integer_matrix g.now)) s x.now - 3 * slice_index x.now (s - 1)) }
 {
     let mut image = *x;
     let own = s as usize - 1;

@@ -11,7 +11,7 @@ use Rattle.cox_base.specs.Length.{word_length}
 use Rattle.cox_base.specs.Reduced.{IsReduced}
 use Rattle.cox_base.specs.Bruhat.{IsSubword, none, kept, left_out}
 use Rattle.cox_reflect.specs.DerivedWords.{reflection, IsWithoutOne, this_one, later_one}
-use Rattle.cox_reflect.specs.Chain.{IsStep, IsChain, no_step, last_step}
+use Rattle.cox_reflect.specs.Chain.{IsReflectionStep, IsChain, no_step, last_step}
 use Rattle.cox_reflect.proofs.Sums.{letter_cases}
 use Rattle.cox_reflect.proofs.WordLemmas.{IsSubword-refl, IsSubword-trans, IsSubword-without_one}
 use Rattle.cox_reflect.proofs.Elements.{same-refl, same-sym, same-trans, same-cons, same-append, same-square, same-outside}
@@ -24,7 +24,7 @@ use Rattle.cox_reflect.proofs.Deletion.{reflection-left, left_length}
 module _ (A : IntegerMatrix) (g : IsAdmissible A) where
   -- ---- chains and equal elements
 
-  pub step_upper : {x w w' : List ℕ} → IsStep A x w → SameElement A w w' → IsStep A x w'
+  pub step_upper : {x w w' : List ℕ} → IsReflectionStep A x w → SameElement A w w' → IsReflectionStep A x w'
   step_upper {x} {w} {w'} st e = record {
     y = st.y;
     s = st.s;
@@ -55,11 +55,11 @@ module _ (A : IntegerMatrix) (g : IsAdmissible A) where
 
   -- a letter that shortens w gives a step
   pub descent_step : (s : ℕ) (w : List ℕ) → IsLetter A.rank s → word_length A (s ∷ w) < word_length A w
-      → IsStep A (s ∷ w) w
+      → IsReflectionStep A (s ∷ w) w
   descent_step s w l d = record { y = reverse w; s = s; letter = l; same = reflection-left A g w s; shorter = d }
 
   pub ascent_step : (s : ℕ) (w : List ℕ) → IsLetter A.rank s → word_length A w < word_length A (s ∷ w)
-      → IsStep A w (s ∷ w)
+      → IsReflectionStep A w (s ∷ w)
   ascent_step s w l d = record {
     y = reverse w;
     s = s;
@@ -88,15 +88,15 @@ module _ (A : IntegerMatrix) (g : IsAdmissible A) where
   -- ---- multiplying by a letter
 
   -- the same reflection below s v
-  step_cons : (s : ℕ) {x v : List ℕ} → IsStep A x v → word_length A (s ∷ x) < word_length A (s ∷ v)
-      → IsStep A (s ∷ x) (s ∷ v)
+  step_cons : (s : ℕ) {x v : List ℕ} → IsReflectionStep A x v → word_length A (s ∷ x) < word_length A (s ∷ v)
+      → IsReflectionStep A (s ∷ x) (s ∷ v)
   step_cons s st l = record { y = st.y; s = st.s; letter = st.letter; same = same-cons A g s st.same; shorter = l }
 
-  lift_step : (s : ℕ) {x v : List ℕ} → IsStep A x v → IsChain A (s ∷ x) v ⊎ IsChain A (s ∷ x) (s ∷ v)
+  lift_step : (s : ℕ) {x v : List ℕ} → IsReflectionStep A x v → IsChain A (s ∷ x) v ⊎ IsChain A (s ∷ x) (s ∷ v)
   lift_step s {x} {v} st =
       ⊎_elim (λ l. ⊎_elim (up l) (down l) (left_length A g s v l)) foreign_letter (letter_cases A.rank s)
     where
-      one : IsStep A (s ∷ x) (s ∷ v) → IsChain A (s ∷ x) (s ∷ v)
+      one : IsReflectionStep A (s ∷ x) (s ∷ v) → IsChain A (s ∷ x) (s ∷ v)
       one q = last_step (no_step (same-refl A g (s ∷ x))) q
 
       foreign_letter : (IsLetter A.rank s → ⊥) → IsChain A (s ∷ x) v ⊎ IsChain A (s ∷ x) (s ∷ v)
@@ -141,7 +141,7 @@ module _ (A : IntegerMatrix) (g : IsAdmissible A) where
   -- ---- subwords of a reduced word
 
   -- the step from w to s w, where s w is reduced
-  reduced_step : (s : ℕ) (w : List ℕ) → IsReduced A (s ∷ w) → IsStep A w (s ∷ w)
+  reduced_step : (s : ℕ) (w : List ℕ) → IsReduced A (s ∷ w) → IsReflectionStep A w (s ∷ w)
   reduced_step s w h =
       ascent_step s w (All-head (IsLetter A.rank) s w (IsWord-reduced A g (s ∷ w) h)) (omega (arith, h, IsReduced-tail A g s w h))
 

@@ -10,7 +10,7 @@ use Rattle.std.proofs.lemmas.List.{reverse-reverse}
 use Rattle.cox_base.specs.Matrix.{IsLetter}
 use Rattle.cox_base.specs.IntegerMatrix.{IntegerMatrix}
 use Rattle.cox_base.specs.Admissible.{IsAdmissible}
-use Rattle.cox_base.specs.Element.{sum_to, identity, product, generator_matrix, matrix, SameElement}
+use Rattle.cox_base.specs.Element.{sum_to, identity, matrix_product, generator_matrix, matrix, SameElement}
 use Rattle.cox_reflect.specs.Action.{Vector, simple_root, pairing, minus, reflect}
 use Rattle.cox_reflect.specs.WordAction.{act}
 use Rattle.cox_lemmas.proofs.Ring.{linears, multiply_out}
@@ -49,7 +49,7 @@ generator-column A s i v l =
 -- M(u) has the images of the simple roots as its columns
 pub matrix-column : (A : IntegerMatrix) (u : List ℕ) (i t : ℕ) → IsLetter A.rank i
     → matrix A u i t ≡ act A u (simple_root t) i
-unfolding matrix product
+unfolding matrix matrix_product
 matrix-column A [] i t l = identity-simple_root i t ∙ sym (ap (λ (v : Vector). v i) (act-nil A (simple_root t)))
 matrix-column A (s ∷ u) i t l =
     sum_to-same A.rank (λ k. generator_matrix A s i k *ℤ matrix A u k t)

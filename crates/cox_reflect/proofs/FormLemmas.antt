@@ -11,7 +11,7 @@ use Rattle.cox_base.specs.ShortLex.{letters, normal_form}
 use Rattle.cox_base.specs.Length.{word_length, left_descents, right_descents}
 use Rattle.cox_base.specs.Reduced.{IsLeftDescent}
 use Rattle.cox_reflect.specs.Height.{AreHeights, AreOfShortElement, AreShortWith, IsLeastLeftDescent}
-use Rattle.cox_reflect.specs.Side.{word_at, descents_at}
+use Rattle.cox_reflect.specs.Side.{word_on_side, descents_at}
 use Rattle.cox_reflect.proofs.Admissible.{IsAdmissible-integer_matrix}
 use Rattle.cox_reflect.proofs.Lengths.{word_length-is, word_length-cons_reverse, word_length-reverse}
 use Rattle.cox_reflect.proofs.NormalForm.{normal_form-descent, normal_form-no_descent}
@@ -26,9 +26,9 @@ module _ (A : IntegerMatrix) (g : IsAdmissible A) where
       ap (λ (p : ℕ → Bool). filter p (letters A.rank))
       (fun_ext (λ s. rw (word_length-cons_reverse A g s (reverse u), reverse-reverse u, word_length-reverse A g u) refl))
 
-  pub left_descents-word_at : (side : Side) (u : List ℕ) → left_descents A (word_at side u) ≡ descents_at side A u
-  left_descents-word_at Left u = refl
-  left_descents-word_at Right u = left_descents-reverse u
+  pub left_descents-word_on_side : (side : Side) (u : List ℕ) → left_descents A (word_on_side side u) ≡ descents_at side A u
+  left_descents-word_on_side Left u = refl
+  left_descents-word_on_side Right u = left_descents-reverse u
 
 -- ---- reading
 

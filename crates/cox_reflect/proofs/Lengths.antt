@@ -8,7 +8,8 @@ use Rattle.cox_base.specs.Element.{SameElement}
 use Rattle.cox_base.specs.ShortLex.{normal_form}
 use Rattle.cox_base.specs.Length.{word_length}
 use Rattle.cox_base.specs.Reduced.{IsReduced}
-use Rattle.cox_reflect.proofs.Elements.{same-sym, same-trans, same-equal, same-append, same-cons, same-square, same-push_twice, same-reverse}
+use Rattle.cox_reflect.proofs.Elements.{same-sym, same-trans, same-equal, same-append, same-cons, same-square, same-push_twice}
+use Rattle.cox_reflect.proofs.Elements.{same-reverse}
 use Rattle.cox_reflect.proofs.Search.{normal_form-same, word_length-least, word_length-equal, word_length-length}
 
 pub word_length-is : (A : IntegerMatrix) (u : List ℕ) → word_length A u ≡ length (normal_form A u)

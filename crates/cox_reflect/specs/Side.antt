@@ -11,6 +11,6 @@ descents_at Left A u = left_descents A u
 descents_at Right A u = right_descents A u
 
 -- the word whose left descents are the descents of u on that side
-abbrev pub word_at : Side → List ℕ → List ℕ
-word_at Left u = u
-word_at Right u = reverse u
+abbrev pub word_on_side : Side → List ℕ → List ℕ
+word_on_side Left u = u
+word_on_side Right u = reverse u

@@ -5,7 +5,7 @@ ghost use Rattle.cox_base.specs.IntegerMatrix.{integer_matrix};
 ghost use Rattle.cox_base.specs.ShortLex.{normal_form};
 ghost use Rattle.cox_base.specs.Length.{word_length};
 ghost use Rattle.cox_reflect.specs.Height.{AreHeights};
-ghost use Rattle.cox_reflect.specs.Side.{word_at, descents_at};
+ghost use Rattle.cox_reflect.specs.Side.{word_on_side, descents_at};
 
 use crate::height_row::{descents_of, normal_form_of, of_reversed, of_word};
 use crate::wide_heights::{LETTERS_OF_128_BITS, WideHeights};
@@ -29,7 +29,7 @@ pub fn descents(g: &Coxeter, w: &Word, side: Side) -> Word
 pub(crate) fn heights_at(g: &Coxeter, w: &Word, side: Side) -> WideHeights
     requires letters { IsWord g.now.rank w.now.items }
     requires short { length w.now.items ≤ LETTERS_OF_128_BITS }
-    ensures { AreHeights (integer_matrix g.now) (word_at side w.now.items) result.values }
+    ensures { AreHeights (integer_matrix g.now) (word_on_side side w.now.items) result.values }
 {
     let heights = match side {
         Side::Left => of_word(g, w.as_slice()),

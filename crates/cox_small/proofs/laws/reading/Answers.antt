@@ -1,3 +1,4 @@
+-- What a letter does behind a reduced word.
 use Rattle.cox_reflect.proofs.Removal.{right_letter_goes}
 use Rattle.cox_small.proofs.Reading.{read-out, read-front}
 use Rattle.cox_small.proofs.laws.reading.Goals as goal

@@ -1,3 +1,4 @@
+-- Small roots are positive, with one coroot each, and are the elementary roots.
 use Rattle.cox_small.proofs.ElementaryRoots.{small-positive, small-coroot, small_as_elementary, small-closed}
 use Rattle.cox_small.proofs.laws.small_roots.Goals as goal
 

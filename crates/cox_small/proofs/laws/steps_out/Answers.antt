@@ -1,3 +1,4 @@
+-- A root out of the small roots dominates the simple root of the letter.
 use Rattle.cox_small.proofs.ElementaryRoots.{small-pair, small-positive}
 use Rattle.cox_small.proofs.Domination.{out-dominates}
 use Rattle.cox_small.proofs.laws.steps_out.Goals as goal
