@@ -17,18 +17,18 @@ use Rattle.cox_reflect.proofs.Search.{word_length-equal, word_length-length}
 use Rattle.cox_rpoly.specs.declared.terms.Link.{Link}
 use Rattle.cox_rpoly.specs.declared.terms.Link.TheVariants.{Shorter, Longer}
 use Rattle.cox_rpoly.specs.Element.{Naming, IsShortElement}
-use Rattle.cox_rpoly.specs.Layer.{IsMember, IsGrown, Extends, IsTimesAt, IsLongerLink, IsLink, AreLinks}
+use Rattle.cox_rpoly.specs.Layer.{IsInLayer, HasGained, Extends, IsTimesAt, IsLongerLink, IsLink, AreLinks}
 
 module _ {X : Type 0} where
   -- ---- one element more
 
-  pub IsGrown-All : (P : X → Type 0) (old new : List X) (x : X) → IsGrown old x new → All P old → P x → All P new
-  IsGrown-All P old new x (inl e) all here = rw e all
-  IsGrown-All P old new x (inr e) all here = rw e (All-append P old (x ∷ []) all (All-cons P x [] here (All-nil P)))
+  pub HasGained-All : (P : X → Type 0) (old new : List X) (x : X) → HasGained old x new → All P old → P x → All P new
+  HasGained-All P old new x (inl e) all here = rw e all
+  HasGained-All P old new x (inr e) all here = rw e (All-append P old (x ∷ []) all (All-cons P x [] here (All-nil P)))
 
-  pub IsGrown-Extends : (old new : List X) (x : X) → IsGrown old x new → Extends old new
-  IsGrown-Extends old new x (inl e) = record { kept = λ i y a. rw e a }
-  IsGrown-Extends old new x (inr e) = record {
+  pub HasGained-Extends : (old new : List X) (x : X) → HasGained old x new → Extends old new
+  HasGained-Extends old new x (inl e) = record { kept = λ i y a. rw e a }
+  HasGained-Extends old new x (inr e) = record {
     kept = λ i y a.
         rw e (record {
           within = omega (arith, a.within, length-append old (x ∷ []));
@@ -70,29 +70,29 @@ module _ {X : Type 0} (of : Naming X) where
     down : (s : ℕ) (x v : List ℕ) → IsBelow A x (s ∷ s ∷ v) → IsBelow A x v
     down s x v b = below-same A g (same-refl A g x) (same-square A g s v) b
 
-    pub IsMember-shorter : (s : ℕ) (v : List ℕ) (x moved : X) → IsReduced A (s ∷ v) → IsMember of A (s ∷ v) x
+    pub IsInLayer-shorter : (s : ℕ) (v : List ℕ) (x moved : X) → IsReduced A (s ∷ v) → IsInLayer of A (s ∷ v) x
         → ((u : List ℕ) → of A u x → IsLeftDescent A u s) → ((u : List ℕ) → of A u x → of A (s ∷ u) moved)
-        → IsMember of A v moved
-    IsMember-shorter s v x moved r m descent moves = record {
+        → IsInLayer of A v moved
+    IsInLayer-shorter s v x moved r m descent moves = record {
       word = s ∷ m.word;
       of_word = moves m.word m.of_word;
       below = down s (s ∷ m.word) v ((lift_down A g m.word (s ∷ v) s (first-descent s v r) (descent m.word m.of_word)).0 m.below);
       near = omega (arith, m.near, cons-word_length A g s m.word);
     }
 
-    pub IsMember-still : (s : ℕ) (v : List ℕ) (x : X) → IsReduced A (s ∷ v) → IsMember of A (s ∷ v) x
-        → ((u : List ℕ) → of A u x → IsLeftDescent A u s → ⊥) → IsMember of A v x
-    IsMember-still s v x r m ascent = record {
+    pub IsInLayer-still : (s : ℕ) (v : List ℕ) (x : X) → IsReduced A (s ∷ v) → IsInLayer of A (s ∷ v) x
+        → ((u : List ℕ) → of A u x → IsLeftDescent A u s → ⊥) → IsInLayer of A v x
+    IsInLayer-still s v x r m ascent = record {
       word = m.word;
       of_word = m.of_word;
       below = down s m.word v ((lift_up A g m.word (s ∷ v) s (first-descent s v r) (ascent m.word m.of_word)).0 m.below);
       near = omega (arith, m.near);
     }
 
-    pub IsMember-times : (s : ℕ) (v : List ℕ) (x moved : X) → IsMember of A (s ∷ v) x
+    pub IsInLayer-times : (s : ℕ) (v : List ℕ) (x moved : X) → IsInLayer of A (s ∷ v) x
         → ((u : List ℕ) → of A u x → IsLeftDescent A u s → ⊥) → ((u : List ℕ) → of A u x → of A (s ∷ u) moved)
-        → ((u : List ℕ) → of A u moved → IsBelow A u v) → IsMember of A v moved
-    IsMember-times s v x moved m ascent moves below = record {
+        → ((u : List ℕ) → of A u moved → IsBelow A u v) → IsInLayer of A v moved
+    IsInLayer-times s v x moved m ascent moves below = record {
       word = s ∷ m.word;
       of_word = moves m.word m.of_word;
       below = below (s ∷ m.word) (moves m.word m.of_word);
@@ -101,7 +101,7 @@ module _ {X : Type 0} (of : Naming X) where
 
     -- x is short, and so is s x where s does not shorten x
     pub IsShortElement-member : (s : ℕ) (v : List ℕ) (x : X) (limit : ℕ) → IsReduced A (s ∷ v) → length v + 1 ≤ limit
-        → IsMember of A (s ∷ v) x
+        → IsInLayer of A (s ∷ v) x
         → IsShortElement of A limit x
     IsShortElement-member s v x limit r short m = record {
       word = m.word;
@@ -110,11 +110,11 @@ module _ {X : Type 0} (of : Naming X) where
     }
 
     pub IsShortElement-times : (s : ℕ) (v : List ℕ) (x moved : X) (limit : ℕ) → IsReduced A (s ∷ v) → length v + 1 ≤ limit
-        → IsMember of A (s ∷ v) x
+        → IsInLayer of A (s ∷ v) x
         → ((u : List ℕ) → of A u x → IsLeftDescent A u s → ⊥) → ((u : List ℕ) → of A u x → of A (s ∷ u) moved)
         → IsShortElement of A limit moved
     IsShortElement-times s v x moved limit r short m ascent moves =
-        let still = IsMember-still s v x r m ascent
+        let still = IsInLayer-still s v x r m ascent
         in record {
           word = s ∷ still.word;
           of_word = moves still.word still.of_word;

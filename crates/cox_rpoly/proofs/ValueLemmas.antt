@@ -14,8 +14,8 @@ use Rattle.cox_rpoly.specs.declared.terms.Link.{Link}
 use Rattle.cox_rpoly.specs.declared.terms.Link.TheVariants.{Shorter, Longer}
 use Rattle.cox_rpoly.specs.RPolynomial.{r_along}
 use Rattle.cox_rpoly.specs.Element.{Naming}
-use Rattle.cox_rpoly.specs.Terms.{IsSmall, IsSmallAt, IsLinkWithin, numbered, linked_value, AreLinkedValues, AreOnes}
-use Rattle.cox_rpoly.specs.Layer.{IsMember, IsValue, AreValues, IsAt, IsLongerLink, IsLink, AreLinks}
+use Rattle.cox_rpoly.specs.Terms.{LeavesRoom, LeavesRoomAt, IsLinkWithin, numbered, linked_value, AreLinkedValues, AreOnes}
+use Rattle.cox_rpoly.specs.Layer.{IsInLayer, IsValue, AreLayerValues, IsAt, IsLongerLink, IsLink, AreLinks}
 use Rattle.cox_rpoly.proofs.AlongLemmas.{along-identity, along-shorter, along-longer, along-not_below, along-degree, along-norm}
 use Rattle.cox_rpoly.proofs.AlongLemmas.{longer-length}
 use Rattle.cox_rpoly.proofs.ElementLemmas.{SameDescents, below_identity-length}
@@ -28,25 +28,25 @@ some_of (x ∷ layer) k below = x
 module _ {X : Type 0} (of : Naming X) where
   -- the value of the element with a number
   value_at : (A : IntegerMatrix) (v : List ℕ) (layer : List X) (values : List (List ℤ)) (i : ℕ) (x : X)
-      → AreValues of A v layer values → IsAt layer i x
+      → AreLayerValues of A v layer values → IsAt layer i x
       → IsValue of A v x (numbered values i)
   value_at A v layer values i x all a = rw (a.is x) at (all.each i x a.within)
 
   module _ (A : IntegerMatrix) (g : IsAdmissible A) where
     -- where no letters are left
-    pub IsValue-end : SameDescents of A → (x : X) (p : List ℤ) → IsMember of A [] x → ((k : ℕ) → coefficient p k ≡ one_polynomial k)
+    pub IsValue-end : SameDescents of A → (x : X) (p : List ℤ) → IsInLayer of A [] x → ((k : ℕ) → coefficient p k ≡ one_polynomial k)
         → IsValue of A [] x p
     IsValue-end descents x p m one = record {
       at = λ u e k. one k ∙ sym
           (ap (λ (f : Coefficients). f k) (along-identity A u (below_identity-length of A g descents m.word x m.of_word m.below u e)));
     }
 
-    pub AreValues-end : SameDescents of A → (v : List ℕ) (layer : List X) (values : List (List ℤ)) {n : ℕ} → length v ≡ 0
-        → All (IsMember of A v) layer → n
+    pub AreLayerValues-end : SameDescents of A → (v : List ℕ) (layer : List X) (values : List (List ℤ)) {n : ℕ} → length v ≡ 0
+        → All (IsInLayer of A v) layer → n
         ≡ length layer
-        → AreOnes n values → AreValues of A v layer values
-    AreValues-end descents (s ∷ v) layer values none members count ones = absurd (omega (arith, none))
-    AreValues-end descents [] layer values none members count ones = record {
+        → AreOnes n values → AreLayerValues of A v layer values
+    AreLayerValues-end descents (s ∷ v) layer values none members count ones = absurd (omega (arith, none))
+    AreLayerValues-end descents [] layer values none members count ones = record {
       count = ones.count ∙ count;
       each = λ i x below.
           IsValue-end descents (get_or layer i x) (numbered values i) (members i x below)
@@ -54,9 +54,9 @@ module _ {X : Type 0} (of : Naming X) where
     }
 
     -- where at most 38 letters more are left than x has
-    IsSmall-value : (v : List ℕ) (x : X) (p : List ℤ) (w : List ℕ) → IsValue of A v x p → of A w x
-        → length v ≤ word_length A w + 38 → IsSmall p
-    IsSmall-value v x p w value e near = record {
+    LeavesRoom-value : (v : List ℕ) (x : X) (p : List ℤ) (w : List ℕ) → IsValue of A v x p → of A w x
+        → length v ≤ word_length A w + 38 → LeavesRoom p
+    LeavesRoom-value v x p w value e near = record {
       top = value.at w e MAX_DIFFERENCE ∙ along-degree A g w v 38 near MAX_DIFFERENCE (omega arith);
       small = λ k.
           let bound = HasNormAtMost-coefficient (r_along A w v) (3 ^ 38) (along-norm A g w v 38 near) k
@@ -64,21 +64,21 @@ module _ {X : Type 0} (of : Naming X) where
           in rw (value.at w e k) (omega (arith, bound, power));
     }
 
-    module _ (s : ℕ) (v : List ℕ) (x : X) (next : List X) (values : List (List ℤ)) (all : AreValues of A v next values) where
-      small_still : (i : ℕ) → IsMember of A (s ∷ v) x → IsLongerLink of A s x next i → IsSmallAt values i
+    module _ (s : ℕ) (v : List ℕ) (x : X) (next : List X) (values : List (List ℤ)) (all : AreLayerValues of A v next values) where
+      small_still : (i : ℕ) → IsInLayer of A (s ∷ v) x → IsLongerLink of A s x next i → LeavesRoomAt values i
       small_still i m l = record {
         within = omega (arith, l.at.within, all.count);
-        small = IsSmall-value v x (numbered values i) m.word (value_at A v next values i x all l.at) m.of_word (omega (arith, m.near));
+        small = LeavesRoom-value v x (numbered values i) m.word (value_at A v next values i x all l.at) m.of_word (omega (arith, m.near));
       }
 
-      pub IsLink-within : (l : Link) → IsMember of A (s ∷ v) x → IsLink of A s v x next l → IsLinkWithin values l
+      pub IsLink-within : (l : Link) → IsInLayer of A (s ∷ v) x → IsLink of A s v x next l → IsLinkWithin values l
       IsLink-within (Shorter i) m l = omega (arith, l.times.at.within, all.count)
       IsLink-within (Longer i None) m l = small_still i m l.0
       IsLink-within (Longer i (Some j)) m l = (
         small_still i m l.0,
         record {
           within = omega (arith, l.1.at.within, all.count);
-          small = IsSmall-value v l.1.moved (numbered values j) (s ∷ m.word) (value_at A v next values j l.1.moved all l.1.at)
+          small = LeavesRoom-value v l.1.moved (numbered values j) (s ∷ m.word) (value_at A v next values j l.1.moved all l.1.at)
               (l.1.moves m.word m.of_word)
               (omega (arith, m.near, longer-length A m.word s (l.0.ascent m.word m.of_word)));
         },
@@ -116,14 +116,15 @@ module _ {X : Type 0} (of : Naming X) where
 
     module _ (s : ℕ) (v : List ℕ) (layer next : List X) (links : List Link) (values : List (List ℤ))
         (are : AreLinks of A s v layer next links)
-        (all : AreValues of A v next values) where
-      pub AreLinks-within : All (IsMember of A (s ∷ v)) layer → All (IsLinkWithin values) links
+        (all : AreLayerValues of A v next values) where
+      pub AreLinks-within : All (IsInLayer of A (s ∷ v)) layer → All (IsLinkWithin values) links
       AreLinks-within members k d below =
           let inside : k < length layer = omega (arith, below, are.count)
           in let z : X = some_of layer k inside
           in IsLink-within s v (get_or layer k z) next values all (get_or links k d) (members k z inside) (are.each k z d inside)
 
-      pub AreLinks-values : (mine : List (List ℤ)) → IsReduced A v → AreLinkedValues links values mine → AreValues of A (s ∷ v) layer mine
+      pub AreLinks-values : (mine : List (List ℤ)) → IsReduced A v → AreLinkedValues links values mine
+          → AreLayerValues of A (s ∷ v) layer mine
       AreLinks-values mine r linked = record {
         count = linked.count ∙ are.count;
         each = λ i x below.

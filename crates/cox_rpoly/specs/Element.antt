@@ -37,5 +37,5 @@ abbrev pub IfMade : {T E : Type 0} → Result (Option T) E → (T → Type 0) �
 IfMade r P = IfOk r (λ o. IfSome o P)
 
 -- where memory is enough the value is made
-abbrev pub IsMade : {T E : Type 0} → Result (Option T) E → Type 0
-IsMade r = IfOk r (λ o. IsSome o)
+abbrev pub IsValueMade : {T E : Type 0} → Result (Option T) E → Type 0
+IsValueMade r = IfOk r (λ o. IsSome o)

@@ -14,7 +14,7 @@ use Rattle.cox_rpoly.specs.Element.{Naming}
 use Rattle.cox_rpoly.specs.Terms.{numbered}
 
 -- an element below v, whose length is not too far from that of v
-pub record IsMember {X : Type 0} (of : Naming X) (A : IntegerMatrix) (v : List ℕ) (x : X) : Type 0 where
+pub record IsInLayer {X : Type 0} (of : Naming X) (A : IntegerMatrix) (v : List ℕ) (x : X) : Type 0 where
   pub word : List ℕ
   pub of_word : of A word x
   pub below : IsBelow A word v
@@ -25,7 +25,8 @@ pub record IsValue {X : Type 0} (of : Naming X) (A : IntegerMatrix) (v : List �
   pub at : (u : List ℕ) → of A u x → (k : ℕ) → coefficient p k ≡ r_along A u v k
 
 -- one value an element
-pub record AreValues {X : Type 0} (of : Naming X) (A : IntegerMatrix) (v : List ℕ) (layer : List X) (values : List (List ℤ)) : Type 0 where
+pub record AreLayerValues {X : Type 0} (of : Naming X) (A : IntegerMatrix) (v : List ℕ) (layer : List X)
+    (values : List (List ℤ)) : Type 0 where
   pub count : length values ≡ length layer
   pub each : (i : ℕ) (x : X) → i < length layer → IsValue of A v (slice_index_or layer i x) (numbered values i)
 
@@ -35,8 +36,8 @@ pub record IsAt {X : Type 0} (layer : List X) (i : ℕ) (x : X) : Type 0 where
   pub is : (d : X) → slice_index_or layer i d ≡ x
 
 -- x was there, or is the last now
-abbrev pub IsGrown : {X : Type 0} → List X → X → List X → Type 0
-IsGrown old x new = (new ≡ old) ⊎ (new ≡ old ++ x ∷ [])
+abbrev pub HasGained : {X : Type 0} → List X → X → List X → Type 0
+HasGained old x new = (new ≡ old) ⊎ (new ≡ old ++ x ∷ [])
 
 -- those that were there have their numbers still
 pub record Extends {X : Type 0} (old new : List X) : Type 0 where

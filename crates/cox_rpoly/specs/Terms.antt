@@ -7,7 +7,7 @@ use Rattle.cox_rpoly.specs.declared.terms.Link.{Link}
 use Rattle.cox_rpoly.specs.declared.terms.Link.TheVariants.{Shorter, Longer}
 
 -- q times the polynomial fits, and its coefficients have room for sums of three
-pub record IsSmall (p : List ℤ) : Type 0 where
+pub record LeavesRoom (p : List ℤ) : Type 0 where
   pub top : coefficient p MAX_DIFFERENCE ≡ pos 0
   pub small : (k : ℕ) → unsigned_abs (coefficient p k) ≤ 2 ^ 61
 
@@ -15,15 +15,15 @@ pub record IsSmall (p : List ℤ) : Type 0 where
 abbrev pub numbered : List (List ℤ) → ℕ → List ℤ
 numbered ps i = slice_index_or ps i []
 
-pub record IsSmallAt (ps : List (List ℤ)) (i : ℕ) : Type 0 where
+pub record LeavesRoomAt (ps : List (List ℤ)) (i : ℕ) : Type 0 where
   pub within : i < length ps
-  pub small : IsSmall (numbered ps i)
+  pub small : LeavesRoom (numbered ps i)
 
 -- the link leads to polynomials that are there, and what is combined is small
 abbrev pub IsLinkWithin : List (List ℤ) → Link → Type 0
 IsLinkWithin ps (Shorter i) = i < length ps
-IsLinkWithin ps (Longer i None) = IsSmallAt ps i
-IsLinkWithin ps (Longer i (Some j)) = IsSmallAt ps i × IsSmallAt ps j
+IsLinkWithin ps (Longer i None) = LeavesRoomAt ps i
+IsLinkWithin ps (Longer i (Some j)) = LeavesRoomAt ps i × LeavesRoomAt ps j
 
 -- where s shortens x the value of s x, and else (q-1) times that of x and q times that of s x
 abbrev pub linked_value : List (List ℤ) → Link → Coefficients

@@ -8,8 +8,8 @@ ghost use Rattle.std.specs.Prelude.{ℕ, List, ◌≡◌, ◌+◌, ◌≤◌, �
 ghost use Rattle.cox_base.specs.Matrix.{IsLetter, IsWord};
 ghost use Rattle.cox_base.specs.IntegerMatrix.{integer_matrix};
 ghost use Rattle.cox_base.specs.Reduced.{IsReduced};
-ghost use Rattle.cox_rpoly.specs.Element.{IfMade, IsMade};
-ghost use Rattle.cox_rpoly.specs.Layer.{IsMember, AreValues, AreLinks, IsLink, IsAt, IsGrown, Extends};
+ghost use Rattle.cox_rpoly.specs.Element.{IfMade, IsValueMade};
+ghost use Rattle.cox_rpoly.specs.Layer.{IsInLayer, AreLayerValues, AreLinks, IsLink, IsAt, HasGained, Extends};
 
 use crate::NoMemory;
 use crate::elements::Element;
@@ -28,9 +28,9 @@ pub(crate) fn values<W: Words, E: Element>(
     requires letters { IsWord (W.matrix words.now).rank form.now }
     requires reduced { IsReduced (integer_matrix (W.matrix words.now)) form.now }
     requires short { length form.now ≤ W.longest words.now }
-    requires members { All (IsMember E.is_of (integer_matrix (W.matrix words.now)) form.now) layer.keys }
-    ensures values { IfMade result (λ values. AreValues E.is_of (integer_matrix (W.matrix words.now)) form.now layer.keys values.items) }
-    ensures sure { IsTrue E.is_sure → IsMade result }
+    requires members { All (IsInLayer E.is_of (integer_matrix (W.matrix words.now)) form.now) layer.keys }
+    ensures values { IfMade result (λ values. AreLayerValues E.is_of (integer_matrix (W.matrix words.now)) form.now layer.keys values.items) }
+    ensures sure { IsTrue E.is_sure → IsValueMade result }
 {
     let _rank = words.matrix().rank();
     let Some((&s, rest)) = form.split_first() else {
@@ -58,10 +58,10 @@ fn next_layer<W: Words, E: Element>(
     requires letters { IsWord (W.matrix words.now).rank rest.now }
     requires reduced { IsReduced (integer_matrix (W.matrix words.now)) (s ∷ rest.now) }
     requires short { length rest.now + 1 ≤ W.longest words.now }
-    requires members { All (IsMember E.is_of (integer_matrix (W.matrix words.now)) (s ∷ rest.now)) layer.now }
-    ensures members { IfMade result (λ r. All (IsMember E.is_of (integer_matrix (W.matrix words.now)) rest.now) r.0.keys) }
+    requires members { All (IsInLayer E.is_of (integer_matrix (W.matrix words.now)) (s ∷ rest.now)) layer.now }
+    ensures members { IfMade result (λ r. All (IsInLayer E.is_of (integer_matrix (W.matrix words.now)) rest.now) r.0.keys) }
     ensures links { IfMade result (λ r. AreLinks E.is_of (integer_matrix (W.matrix words.now)) s rest.now layer.now r.0.keys r.1.items) }
-    ensures sure { IsTrue E.is_sure → IsMade result }
+    ensures sure { IsTrue E.is_sure → IsValueMade result }
 {
     let mut next = IndexSet::new(alloc);
     let mut links = Vec::new(alloc);
@@ -86,12 +86,12 @@ fn link<W: Words, E: Element>(
     requires letters { IsWord (W.matrix words.now).rank rest.now }
     requires reduced { IsReduced (integer_matrix (W.matrix words.now)) (s ∷ rest.now) }
     requires short { length rest.now + 1 ≤ W.longest words.now }
-    requires member { IsMember E.is_of (integer_matrix (W.matrix words.now)) (s ∷ rest.now) x.now }
-    requires members { All (IsMember E.is_of (integer_matrix (W.matrix words.now)) rest.now) next.old.keys }
-    ensures members { IfMade result (λ _. All (IsMember E.is_of (integer_matrix (W.matrix words.now)) rest.now) next.new.keys) }
+    requires member { IsInLayer E.is_of (integer_matrix (W.matrix words.now)) (s ∷ rest.now) x.now }
+    requires members { All (IsInLayer E.is_of (integer_matrix (W.matrix words.now)) rest.now) next.old.keys }
+    ensures members { IfMade result (λ _. All (IsInLayer E.is_of (integer_matrix (W.matrix words.now)) rest.now) next.new.keys) }
     ensures extends { IfMade result (λ _. Extends next.old.keys next.new.keys) }
     ensures link { IfMade result (IsLink E.is_of (integer_matrix (W.matrix words.now)) s rest.now x.now next.new.keys) }
-    ensures sure { IsTrue E.is_sure → IsMade result }
+    ensures sure { IsTrue E.is_sure → IsValueMade result }
 {
     let _rank = words.matrix().rank();
     let Some(moved) = x.times(words, s, rest) else {
@@ -111,7 +111,7 @@ fn link<W: Words, E: Element>(
 /// The number of an element in a layer, which takes it up if it is not there.
 fn number<E: Element>(layer: &mut IndexSet<E>, x: E) -> Result<usize, NoMemory>
     ensures at { IfOk result (λ i. IsAt layer.new.keys i x) }
-    ensures grown { OnOk result (IsGrown layer.old.keys x layer.new.keys) }
+    ensures grown { OnOk result (HasGained layer.old.keys x layer.new.keys) }
 {
     let (number, _) = layer.insert_full(x)?;
     Ok(number)

@@ -7,7 +7,7 @@ ghost use Rattle.cox_base.specs.Reduced.{IsReduced};
 ghost use Rattle.cox_base.specs.Matrix.{IsWord};
 ghost use Rattle.cox_poly.specs.Polynomial.{coefficient, IsPolynomial};
 ghost use Rattle.cox_rpoly.specs.RPolynomial.{r_along, r_polynomial};
-ghost use Rattle.cox_rpoly.specs.Element.{IfMade, IsMade};
+ghost use Rattle.cox_rpoly.specs.Element.{IfMade, IsValueMade};
 ghost use Rattle.cox_rpoly.specs.Depth.{IsDeep};
 
 use crate::elements::Element;
@@ -82,7 +82,7 @@ fn along<W: Words, E: Element>(
     requires near { length form.now ≤ word_length (integer_matrix (W.matrix words.now)) y.now.items + MAX_DIFFERENCE }
     ensures value { IfMade result (λ p. (k : ℕ) → coefficient p k ≡ r_along (integer_matrix (W.matrix words.now)) y.now.items form.now k) }
     ensures normal { IfMade result IsPolynomial }
-    ensures sure { IsTrue E.is_sure → IsMade result }
+    ensures sure { IsTrue E.is_sure → IsValueMade result }
 {
     let Some(x) = E::of_word(words, y) else {
         return Ok(None);

@@ -2,7 +2,7 @@
 ghost use Rattle.std.specs.Prelude.{◌≡◌, ℕ, ◌+◌, ◌^◌, ◌<◌, ◌≤◌, pos, unsigned_abs, All, IfOk};
 ghost use Rattle.cox_poly.specs.Coefficients.{zero_polynomial, one_polynomial, plus, times_q, times_q_less_one};
 ghost use Rattle.cox_poly.specs.Polynomial.{coefficient};
-ghost use Rattle.cox_rpoly.specs.Terms.{IsSmall, IsLinkWithin, linked_value, AreLinkedValues, AreOnes};
+ghost use Rattle.cox_rpoly.specs.Terms.{LeavesRoom, IsLinkWithin, linked_value, AreLinkedValues, AreOnes};
 
 use crate::{MAX_DIFFERENCE, NoMemory};
 use std::alloc::Global;
@@ -77,8 +77,8 @@ fn linked(link: Link, next: &[Terms]) -> Terms
 
 /// (q - 1) f + q h, of a degree of at most [`MAX_DIFFERENCE`] too.
 fn combined(f: &Terms, h: &Terms) -> Terms
-    requires small_f { IsSmall f.now }
-    requires small_h { IsSmall h.now }
+    requires small_f { LeavesRoom f.now }
+    requires small_h { LeavesRoom h.now }
     ensures { (k : ℕ) → coefficient result k ≡ plus (times_q_less_one (coefficient f.now)) (times_q (coefficient h.now)) k }
 {
     let mut terms = [0; TERMS];

@@ -7,8 +7,8 @@ use Rattle.cox_base.specs.IntegerMatrix.{IntegerMatrix, integer_matrix}
 use Rattle.cox_base.specs.Matrix.{IsLetter}
 use Rattle.cox_reflect.proofs.Admissible.{IsAdmissible-integer_matrix}
 use Rattle.cox_reflect.proofs.Lengths.{IsReduced-tail}
-use Rattle.cox_rpoly.specs.Layer.{IsMember}
-use Rattle.cox_rpoly.proofs.ValueLemmas.{AreLinks-within, AreLinks-values, AreValues-end}
+use Rattle.cox_rpoly.specs.Layer.{IsInLayer}
+use Rattle.cox_rpoly.proofs.ValueLemmas.{AreLinks-within, AreLinks-values, AreLayerValues-end}
 use Rattle.cox_rpoly.proofs.layers.+values.Goals as goal
 
 pub returns-in_default-clause-values : goal.returns-in_default-clause-values
@@ -16,8 +16,8 @@ returns-in_default-clause-values g t c =
     let A : IntegerMatrix = integer_matrix (g.W.Words.matrix c.args.words.now)
     in let p : IsAdmissible A = IsAdmissible-integer_matrix (g.W.Words.matrix c.args.words.now)
     (rw c.matrix.ensures at c.rank-rank.ensures.matrix)
-    in AreValues-end g.E.Element.is_of A p (g.met.E.Element.same_descents A p) c.args.form.now c.args.layer.keys c.in_ok-ones.field-0.items
-    c.in_default.ensures.cases c.requires.members c.len.ensures.len c.in_ok-ones.ensures
+    in AreLayerValues-end g.E.Element.is_of A p (g.met.E.Element.same_descents A p) c.args.form.now c.args.layer.keys
+    c.in_ok-ones.field-0.items c.in_default.ensures.cases c.requires.members c.len.ensures.len c.in_ok-ones.ensures
 
 pub next_layer-requires-clause-letter : goal.next_layer-requires-clause-letter
 next_layer-requires-clause-letter g t c =
@@ -57,7 +57,7 @@ terms_of_links-requires g t c =
     let A : IntegerMatrix = integer_matrix (g.W.Words.matrix c.args.words.now)
     in let p : IsAdmissible A = IsAdmissible-integer_matrix (g.W.Words.matrix c.args.words.now)
     (rw c.matrix.ensures at c.rank-rank.ensures.matrix)
-    in let members : All (IsMember g.E.Element.is_of A (c.in-Some.field-0-0.now ∷ c.in-Some.rest.now)) c.as_slice.result.now
+    in let members : All (IsInLayer g.E.Element.is_of A (c.in-Some.field-0-0.now ∷ c.in-Some.rest.now)) c.as_slice.result.now
     = rw c.as_slice.ensures.keys (rw c.in-Some.ensures.cases.0 at c.requires.members)
     in rw (c.as_slice-2.ensures.value, c.as_slice-3.ensures.value)
     (AreLinks-within g.E.Element.is_of A p c.in-Some.field-0-0.now c.in-Some.rest.now c.as_slice.result.now c.in-Some-2.next.keys

@@ -5,8 +5,9 @@ use Rattle.cox_base.specs.Admissible.{IsAdmissible}
 use Rattle.cox_base.specs.IntegerMatrix.{IntegerMatrix, integer_matrix}
 use Rattle.cox_reflect.proofs.Admissible.{IsAdmissible-integer_matrix}
 use Rattle.cox_reflect.proofs.Lengths.{IsReduced-tail}
-use Rattle.cox_rpoly.specs.Layer.{IsMember}
-use Rattle.cox_rpoly.proofs.LayerLemmas.{IsGrown-All, IsGrown-Extends, Extends-trans, IsMember-shorter, IsMember-still, IsMember-times}
+use Rattle.cox_rpoly.specs.Layer.{IsInLayer}
+use Rattle.cox_rpoly.proofs.LayerLemmas.{HasGained-All, HasGained-Extends, Extends-trans, IsInLayer-shorter, IsInLayer-still}
+use Rattle.cox_rpoly.proofs.LayerLemmas.{IsInLayer-times}
 use Rattle.cox_rpoly.proofs.LayerLemmas.{IsShortElement-member, IsShortElement-times}
 use Rattle.cox_rpoly.proofs.layers.link.Goals as goal
 
@@ -24,14 +25,14 @@ returns-then-is_shortened-clause-members g c =
     let A : IntegerMatrix = integer_matrix (g.W.Words.matrix c.args.words.now)
     in let p : IsAdmissible A = IsAdmissible-integer_matrix (g.W.Words.matrix c.args.words.now)
     (rw c.matrix.ensures at c.rank-rank.ensures.matrix)
-    in IsGrown-All (IsMember g.E.Element.is_of A c.args.rest.now) c.args.next.now.keys c.number.new.layer.keys c.in-Some.moved
+    in HasGained-All (IsInLayer g.E.Element.is_of A c.args.rest.now) c.args.next.now.keys c.number.new.layer.keys c.in-Some.moved
     c.in_ok-number.ensures.grown c.requires.members
-    (IsMember-shorter g.E.Element.is_of A p c.args.s c.args.rest.now c.args.x.now c.in-Some.moved c.requires.reduced c.requires.member
+    (IsInLayer-shorter g.E.Element.is_of A p c.args.s c.args.rest.now c.args.x.now c.in-Some.moved c.requires.reduced c.requires.member
     (λ u e. (c.is_shortened.ensures u e).0 c.if-is_shortened.true) c.in-Some.ensures.times)
 
 pub returns-then-is_shortened-clause-extends : goal.returns-then-is_shortened-clause-extends
 returns-then-is_shortened-clause-extends g c =
-    IsGrown-Extends c.args.next.now.keys c.number.new.layer.keys c.in-Some.moved c.in_ok-number.ensures.grown
+    HasGained-Extends c.args.next.now.keys c.number.new.layer.keys c.in-Some.moved c.in_ok-number.ensures.grown
 
 pub is_below-requires-clause-reduced : goal.is_below-requires-clause-reduced
 is_below-requires-clause-reduced g c =
@@ -54,43 +55,43 @@ returns-in-Some-false-clause-members g c =
     let A : IntegerMatrix = integer_matrix (g.W.Words.matrix c.args.words.now)
     in let p : IsAdmissible A = IsAdmissible-integer_matrix (g.W.Words.matrix c.args.words.now)
     (rw c.matrix.ensures at c.rank-rank.ensures.matrix)
-    in IsGrown-All (IsMember g.E.Element.is_of A c.args.rest.now) c.args.next.now.keys c.number-2.new.layer.keys c.args.x.now
+    in HasGained-All (IsInLayer g.E.Element.is_of A c.args.rest.now) c.args.next.now.keys c.number-2.new.layer.keys c.args.x.now
     (rw c.copied.ensures at c.in_ok-still.ensures.grown) c.requires.members
-    (IsMember-still g.E.Element.is_of A p c.args.s c.args.rest.now c.args.x.now c.requires.reduced c.requires.member
+    (IsInLayer-still g.E.Element.is_of A p c.args.s c.args.rest.now c.args.x.now c.requires.reduced c.requires.member
     (λ u e d. absurd (false≢true (sym c.if-is_shortened.false ∙ (c.is_shortened.ensures u e).1 d))))
 
 pub returns-in-Some-false-clause-extends : goal.returns-in-Some-false-clause-extends
 returns-in-Some-false-clause-extends g c =
-    IsGrown-Extends c.args.next.now.keys c.number-2.new.layer.keys c.args.x.now (rw c.copied.ensures at c.in_ok-still.ensures.grown)
+    HasGained-Extends c.args.next.now.keys c.number-2.new.layer.keys c.args.x.now (rw c.copied.ensures at c.in_ok-still.ensures.grown)
 
 pub returns-in_ok-number-in-Some-true-clause-members : goal.returns-in_ok-number-in-Some-true-clause-members
 returns-in_ok-number-in-Some-true-clause-members g c =
     let A : IntegerMatrix = integer_matrix (g.W.Words.matrix c.args.words.now)
     in let p : IsAdmissible A = IsAdmissible-integer_matrix (g.W.Words.matrix c.args.words.now)
     (rw c.matrix.ensures at c.rank-rank.ensures.matrix)
-    in let still = IsGrown-All (IsMember g.E.Element.is_of A c.args.rest.now) c.args.next.now.keys c.number-2.new.layer.keys c.args.x.now
+    in let still = HasGained-All (IsInLayer g.E.Element.is_of A c.args.rest.now) c.args.next.now.keys c.number-2.new.layer.keys c.args.x.now
     (rw c.copied.ensures at c.in_ok-still.ensures.grown) c.requires.members
-    (IsMember-still g.E.Element.is_of A p c.args.s c.args.rest.now c.args.x.now c.requires.reduced c.requires.member
+    (IsInLayer-still g.E.Element.is_of A p c.args.s c.args.rest.now c.args.x.now c.requires.reduced c.requires.member
     (λ u e d. absurd (false≢true (sym c.if-is_shortened.false ∙ (c.is_shortened.ensures u e).1 d))))
-    in IsGrown-All (IsMember g.E.Element.is_of A c.args.rest.now) c.number-2.new.layer.keys c.number-in-Some-true.new.layer.keys
+    in HasGained-All (IsInLayer g.E.Element.is_of A c.args.rest.now) c.number-2.new.layer.keys c.number-in-Some-true.new.layer.keys
     c.in-Some.moved
     c.in_ok-number-in-Some-true.ensures.grown still
-    (IsMember-times g.E.Element.is_of A p c.args.s c.args.rest.now c.args.x.now c.in-Some.moved c.requires.member
+    (IsInLayer-times g.E.Element.is_of A p c.args.s c.args.rest.now c.args.x.now c.in-Some.moved c.requires.member
     (λ u e d. absurd (false≢true (sym c.if-is_shortened.false ∙ (c.is_shortened.ensures u e).1 d))) c.in-Some.ensures.times
     (λ u e. (c.in-Some-true.ensures.below u e).0 c.in-Some-true.field-0-test))
 
 pub returns-in_ok-number-in-Some-true-clause-extends : goal.returns-in_ok-number-in-Some-true-clause-extends
 returns-in_ok-number-in-Some-true-clause-extends g c =
     Extends-trans c.args.next.now.keys c.number-2.new.layer.keys c.number-in-Some-true.new.layer.keys
-    (IsGrown-Extends c.args.next.now.keys c.number-2.new.layer.keys c.args.x.now (rw c.copied.ensures at c.in_ok-still.ensures.grown))
-    (IsGrown-Extends c.number-2.new.layer.keys c.number-in-Some-true.new.layer.keys c.in-Some.moved
+    (HasGained-Extends c.args.next.now.keys c.number-2.new.layer.keys c.args.x.now (rw c.copied.ensures at c.in_ok-still.ensures.grown))
+    (HasGained-Extends c.number-2.new.layer.keys c.number-in-Some-true.new.layer.keys c.in-Some.moved
     c.in_ok-number-in-Some-true.ensures.grown)
 
 pub returns-in_ok-number-in-Some-true-clause-link : goal.returns-in_ok-number-in-Some-true-clause-link
 returns-in_ok-number-in-Some-true-clause-link g c = (
   record {
     ascent = λ u e d. absurd (false≢true (sym c.if-is_shortened.false ∙ (c.is_shortened.ensures u e).1 d));
-    at = (IsGrown-Extends c.number-2.new.layer.keys c.number-in-Some-true.new.layer.keys c.in-Some.moved
+    at = (HasGained-Extends c.number-2.new.layer.keys c.number-in-Some-true.new.layer.keys c.in-Some.moved
         c.in_ok-number-in-Some-true.ensures.grown).kept
         c.in_ok-still.still c.args.x.now (rw c.copied.ensures at c.in_ok-still.ensures.at);
   },

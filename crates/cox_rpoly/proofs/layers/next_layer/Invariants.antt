@@ -2,12 +2,12 @@
 use Rattle.cox_base.specs.IntegerMatrix.{integer_matrix}
 use Rattle.std.proofs.Common.{take}
 use Rattle.std.specs.Prelude.{All}
-use Rattle.cox_rpoly.specs.Layer.{IsMember, AreLinks}
+use Rattle.cox_rpoly.specs.Layer.{IsInLayer, AreLinks}
 use Rattle.cox_rpoly.proofs.layers.next_layer.Given as goal
 
 abbrev pub invariant-loop-x : goal.invariant-loop-x
 invariant-loop-x g l = record {
-  members : All (IsMember g.E.Element.is_of (integer_matrix (g.W.Words.matrix l.words)) l.rest) l.next.keys;
+  members : All (IsInLayer g.E.Element.is_of (integer_matrix (g.W.Words.matrix l.words)) l.rest) l.next.keys;
   links : AreLinks g.E.Element.is_of (integer_matrix (g.W.Words.matrix l.words)) l.s l.rest (take l.x-index l.layer) l.next.keys
       l.links.items;
 }
