@@ -25,10 +25,10 @@ use Rattle.cox_context.specs.Family.{IsMember, IsBelowTop, IsMeant}
 use Rattle.cox_context.specs.Growth.{IsGrowing, IsChild, IsOutside, IsNext, IsNoNext, known, above, outside, AreBelowTop, AreNumbers}
 use Rattle.cox_context.proofs.ListLemmas.{contains-placed, placed-contains, rising-place}
 use Rattle.cox_context.proofs.ListLemmas.{word_at-old, word_at-new, length-push, push_cases}
-use Rattle.cox_context.proofs.Places.{entry-old, entry-new, number_of-some}
+use Rattle.cox_context.proofs.Places.{entry-old, entry-new, entry_number-some}
 use Rattle.cox_context.specs.declared.builder.Child.{Child}
 use Rattle.cox_context.specs.declared.shifts.TheConstants.{NO_MEMBER}
-use Rattle.cox_context.specs.Shifts.{entry, number_of}
+use Rattle.cox_context.specs.Shifts.{entry, entry_number}
 use Rattle.cox_context.proofs.Ideals.{IsIdeal, ideal-member, ideal-tailed, element-normal_form, element-length}
 use Rattle.cox_context.proofs.GrowthLemmas.{growing-length}
 use Rattle.cox_context.proofs.NormalLemmas.{first-least}
@@ -292,9 +292,9 @@ module _ (c : CoxeterMatrix) (m : IsCoxeterMatrix c) (top : Option (ArrayVec ℕ
       here i e = entry-new 1 numbers 1 i (unwrap_or child.number NO_MEMBER) (omega (arith, e, n.size)) ∙ read child.number next.number
         where
           read : (z : Option ℕ) → IsNumberOf earlier (normal_form (integer_matrix c) (s ∷ word_at words j)) z
-              → number_of (unwrap_or z NO_MEMBER) ≡ z
+              → entry_number (unwrap_or z NO_MEMBER) ≡ z
           read None f = refl
-          read (Some k) f = number_of-some k (omega (arith, f.0, few))
+          read (Some k) f = entry_number-some k (omega (arith, f.0, few))
 
       is : IsNumberOf earlier (s ∷ word_at words j) child.number
       is = let e = ideal.element (s ∷ word_at words j) member in rw e.normal at next.number

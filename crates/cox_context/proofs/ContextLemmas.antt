@@ -31,7 +31,8 @@ use Rattle.cox_context.specs.Shifts.{entry}
 use Rattle.cox_context.specs.Refusal.{IsLong, IsRefusal}
 use Rattle.cox_context.proofs.ListLemmas.{contains-placed, placed-contains, contains-at, rising-place, rising-before}
 use Rattle.cox_context.proofs.SortedLemmas.{before-less}
-use Rattle.cox_context.proofs.Ideals.{IsIdeal, group-ideal, interval-ideal, union-ideal, ideal-tailed, element-normal_form, element-length, element-nil}
+use Rattle.cox_context.proofs.Ideals.{IsIdeal, group-ideal, interval-ideal, union-ideal, ideal-tailed, element-normal_form}
+use Rattle.cox_context.proofs.Ideals.{element-length, element-nil}
 use Rattle.cox_context.proofs.Ideals.{element-tail}
 use Rattle.cox_context.proofs.GrowthLemmas.{IsTailed, grown-length, grown-list}
 

@@ -20,7 +20,7 @@ use Rattle.cox_reflect.proofs.OrderLemmas.{first-descent, below-drop}
 use Rattle.cox_context.specs.Closed.{IsClosed}
 use Rattle.cox_context.specs.Numbers.{word_at}
 use Rattle.cox_context.specs.Shifts.{entry, IsLower}
-use Rattle.cox_context.specs.Growth.{AreLower, AreBelowTop, left_word}
+use Rattle.cox_context.specs.Growth.{AreLower, AreBelowTop, remaining_word}
 use Rattle.cox_context.proofs.ListLemmas.{rising-place}
 use Rattle.cox_context.proofs.Ideals.{contained-descent}
 use Rattle.cox_context.proofs.Shifting.{length-at, first-member}
@@ -59,7 +59,7 @@ module _ (A : IntegerMatrix) (g : IsAdmissible A) (words : List (List ℕ)) wher
 
   -- the letter t of the word of w, and the shift by it
   pub left-next : (y w rest v : List ℕ) (t : ℕ) (at shorter : Option ℕ) → rest ≡ t ∷ v → IsReduced A rest → IsLeft A words y w rest at
-      → IsLower A words (left_word words y at) t shorter → IsLeft A words y w v (option_or shorter at)
+      → IsLower A words (remaining_word words y at) t shorter → IsLeft A words y w v (option_or shorter at)
   left-next y w rest v t None None e r h none =
       let step = lift-by y t v (rw e at r) none in let old = rw e at h in (λ b. step.0 (old.0 b), λ b. old.1 (step.1 b))
   left-next y w rest v t None (Some k) e r h some =

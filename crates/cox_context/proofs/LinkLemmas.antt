@@ -7,7 +7,7 @@ use Rattle.std.proofs.Math.Seq.{get_or-append_seam}
 use Rattle.cox_context.specs.declared.members.Link.{Link}
 use Rattle.cox_context.specs.declared.members.TheConstants.{MAX_MEMBERS}
 use Rattle.cox_context.specs.Numbers.{word_at}
-use Rattle.cox_context.specs.Links.{words_from, words_of, link_at, AreLinks}
+use Rattle.cox_context.specs.Links.{words_from, linked_words, link_at, AreMemberLinks}
 use Rattle.cox_context.proofs.ListLemmas.{word_at-old, word_at-new, length-push}
 
 -- the word of a link behind these words
@@ -45,28 +45,28 @@ from-push : (words : List (List ℕ)) (links : List Link) (link : Link)
 from-push words [] link = refl
 from-push words (l ∷ links) link = from-push (words ++ linked words l ∷ []) links link
 
-pub words-size : (links : List Link) → length (words_of links) ≡ length links
+pub words-size : (links : List Link) → length (linked_words links) ≡ length links
 words-size [] = refl
 words-size (l ∷ links) = omega (arith, from-size ([] ∷ []) links)
 
-pub words-first : (links : List Link) → word_at (words_of links) 0 ≡ []
+pub words-first : (links : List Link) → word_at (linked_words links) 0 ≡ []
 words-first [] = refl
 words-first (l ∷ links) = from-old ([] ∷ []) links 0 (omega arith)
 
 pub words-link : (links : List Link) (i : ℕ) → 0 < i → i < length links → (link_at links i).rest < i
-    → word_at (words_of links) i ≡ (link_at links i).first ∷ word_at (words_of links) (link_at links i).rest
+    → word_at (linked_words links) i ≡ (link_at links i).first ∷ word_at (linked_words links) (link_at links i).rest
 words-link links zero l k inward = absurd (omega arith)
 words-link [] (suc i) l k inward = absurd (omega (arith, k))
 words-link (l ∷ links) (suc i) m k inward =
     let here : 1 + i ≡ suc i = omega arith in rw here at (from-at ([] ∷ []) links i (omega (arith, k)) (omega (arith, inward)))
 
 pub words-push : (links : List Link) (link : Link) → 1 ≤ length links
-    → words_of (links ++ link ∷ []) ≡ words_of links ++ (link.first ∷ word_at (words_of links) link.rest) ∷ []
+    → linked_words (links ++ link ∷ []) ≡ linked_words links ++ (link.first ∷ word_at (linked_words links) link.rest) ∷ []
 words-push [] link l = absurd (omega (arith, l))
 words-push (identity ∷ links) link l = from-push ([] ∷ []) links link
 
-pub links-push : (links : List Link) (link : Link) → AreLinks links → length links < MAX_MEMBERS → link.rest < length links
-    → link.letters ≡ length (word_at (words_of links) link.rest) + 1 → AreLinks (links ++ link ∷ [])
+pub links-push : (links : List Link) (link : Link) → AreMemberLinks links → length links < MAX_MEMBERS → link.rest < length links
+    → link.letters ≡ length (word_at (linked_words links) link.rest) + 1 → AreMemberLinks (links ++ link ∷ [])
 links-push links link h room inside letters = record {
   some = omega (arith, size, h.some);
   few = omega (arith, size, room);
@@ -83,7 +83,7 @@ links-push links link h room inside letters = record {
 }
   where
     words : List (List ℕ)
-    words = words_of links
+    words = linked_words links
 
     nothing : Link
     nothing = record { first = 0; letters = 0; rest = 0 }
@@ -98,9 +98,9 @@ links-push links link h room inside letters = record {
     new = get_or-append_seam links link [] nothing
 
     last : (i : ℕ) → i ≡ length links → (link_at (links ++ link ∷ []) i).letters
-        ≡ length (word_at (words_of links ++ (link.first ∷ word_at (words_of links) link.rest) ∷ []) i)
+        ≡ length (word_at (linked_words links ++ (link.first ∷ word_at (linked_words links) link.rest) ∷ []) i)
     last i e = rw (
-      word_at-new (words_of links) (link.first ∷ word_at (words_of links) link.rest) i (e ∙ sym (words-size links)),
+      word_at-new (linked_words links) (link.first ∷ word_at (linked_words links) link.rest) i (e ∙ sym (words-size links)),
       e,
       new,
     ) (omega (arith, letters))

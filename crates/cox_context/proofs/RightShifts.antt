@@ -14,9 +14,9 @@ use Rattle.cox_context.specs.declared.shifts.TheConstants.{NO_MEMBER}
 use Rattle.cox_context.specs.Members.{IsElement}
 use Rattle.cox_context.specs.Closed.{IsClosed}
 use Rattle.cox_context.specs.Numbers.{word_at, IsNumberOf}
-use Rattle.cox_context.specs.Shifts.{entry, number_of, AreRightShifts}
+use Rattle.cox_context.specs.Shifts.{entry, entry_number, AreRightShifts}
 use Rattle.cox_context.proofs.Ideals.{element-tail}
-use Rattle.cox_context.proofs.Places.{place-one, entry-old, entry-new, number_of-some}
+use Rattle.cox_context.proofs.Places.{place-one, entry-old, entry-new, entry_number-some}
 use Rattle.cox_context.proofs.Shifting.{element-at, right-parent}
 
 module _ (A : IntegerMatrix) (g : IsAdmissible A) (words : List (List ℕ)) (closed : IsClosed A words) where
@@ -45,7 +45,7 @@ module _ (A : IntegerMatrix) (g : IsAdmissible A) (words : List (List ℕ)) (clo
   -- one more entry
   pub right-push : (table : List ℕ) (s i : ℕ) (x : ℕ) → AreRightShifts A words table → IsLetter A.rank s
       → length table ≡ i * A.rank + (s - 1)
-      → IsNumberOf words (normal_form A (word_at words i ++ s ∷ [])) (number_of x) → AreRightShifts A words (table ++ x ∷ [])
+      → IsNumberOf words (normal_form A (word_at words i ++ s ∷ [])) (entry_number x) → AreRightShifts A words (table ++ x ∷ [])
   right-push table s i x h letter size n = record { shift = λ t j l m k. go t j l m k (cases_lt (j * A.rank + (t - 1)) (length table)) }
     where
       go : (t j : ℕ) → IsLetter A.rank t → j < length words → j * A.rank + (t - 1) < length (table ++ x ∷ [])
@@ -63,4 +63,4 @@ module _ (A : IntegerMatrix) (g : IsAdmissible A) (words : List (List ℕ)) (clo
       → AreRightShifts A words (table ++ unwrap_or x NO_MEMBER ∷ [])
   right-found table s i None h letter size n = right-push table s i NO_MEMBER h letter size n
   right-found table s i (Some k) h letter size n =
-      right-push table s i k h letter size (rw (number_of-some k (omega (arith, n.0, closed.few))) n)
+      right-push table s i k h letter size (rw (entry_number-some k (omega (arith, n.0, closed.few))) n)

@@ -12,7 +12,7 @@ use Rattle.cox_base.specs.Reduced.{IsLeftDescent}
 use Rattle.cox_context.specs.declared.shifts.TheConstants.{NO_MEMBER}
 use Rattle.cox_context.specs.Closed.{IsClosed}
 use Rattle.cox_context.specs.Numbers.{word_at, IsNumberOf}
-use Rattle.cox_context.specs.Shifts.{entry, number_of, AreLeftShifts, IsLower}
+use Rattle.cox_context.specs.Shifts.{entry, entry_number, AreLeftShifts, IsLower}
 use Rattle.cox_context.specs.Rows.{IsRowPushed}
 use Rattle.cox_context.specs.Growth.{AreLower, AreNumbers}
 use Rattle.cox_context.specs.Members.{IsElement}
@@ -25,8 +25,8 @@ use Rattle.cox_reflect.proofs.Elements.{same-sym, same-trans, same-equal, same-c
 use Rattle.cox_reflect.proofs.Search.{normal_form-same, normal_form-equal, word_length-length}
 use Rattle.cox_reflect.proofs.Lengths.{word_length-is}
 use Rattle.cox_reflect.proofs.Deletion.{left_length}
-use Rattle.cox_context.proofs.Places.{place-within, entry-is, entry-set_same, entry-set_other, entry-old, entry-new, number_of-some}
-use Rattle.cox_context.proofs.Places.{number_of-none}
+use Rattle.cox_context.proofs.Places.{place-within, entry-is, entry-set_same, entry-set_other, entry-old, entry-new, entry_number-some}
+use Rattle.cox_context.proofs.Places.{entry_number-none}
 
 -- the entries of the letters before t, the later ones being empty
 pub record AreLowerBefore (A : IntegerMatrix) (words : List (List ℕ)) (y : List ℕ) (t : ℕ) (lower : List ℕ) : Type 0 where
@@ -44,7 +44,7 @@ module _ (A : IntegerMatrix) (words : List (List ℕ)) (y : List ℕ) where
     size = omega (arith, l, length-replicate {A = ℕ} n NO_MEMBER);
     each = λ q k less. absurd (omega (arith, k.from_one, less));
     empty = λ q k more. sym (entry-is A.rank (replicate n NO_MEMBER) q 0)
-        ∙ number_of-none _ (get_or-replicate n (0 * A.rank + (q - 1)) NO_MEMBER 0 (omega (arith, k.from_one, k.to_rank, l)));
+        ∙ entry_number-none _ (get_or-replicate n (0 * A.rank + (q - 1)) NO_MEMBER 0 (omega (arith, k.from_one, k.to_rank, l)));
   }
 
   -- a letter that does not shorten
@@ -71,7 +71,7 @@ module _ (A : IntegerMatrix) (words : List (List ℕ)) (y : List ℕ) where
       place = omega arith
 
       here : entry A.rank (set lower (0 * A.rank + (t - 1)) k) t 0 ≡ Some k
-      here = entry-set_same A.rank lower t 0 k (row-within t lower lt h.size) ∙ number_of-some k small
+      here = entry-set_same A.rank lower t 0 k (row-within t lower lt h.size) ∙ entry_number-some k small
 
       other : (q : ℕ) → IsLetter A.rank q → (q ≡ t → ⊥) → entry A.rank (set lower (0 * A.rank + (t - 1)) k) q 0 ≡ entry A.rank lower q 0
       other q l ne = entry-set_other A.rank lower t 0 q 0 k lt l (λ both. ne both.0)
@@ -80,7 +80,7 @@ module _ (A : IntegerMatrix) (words : List (List ℕ)) (y : List ℕ) where
   lower-end t lower all h = record { size = h.size; each = λ q l. h.each q l (omega (arith, l.to_rank, all)) }
 
 -- the entry of a row alone, as a number
-pub row-entry : (rank : ℕ) (lower : List ℕ) (t : ℕ) → number_of (get_or lower (t - 1) 0) ≡ entry rank lower t 0
+pub row-entry : (rank : ℕ) (lower : List ℕ) (t : ℕ) → entry_number (get_or lower (t - 1) 0) ≡ entry rank lower t 0
 row-entry rank lower t = let e : 0 * rank + (t - 1) ≡ t - 1 = omega arith in rw e at (entry-is rank lower t 0)
 
 -- ---- the row of the member n, letter by letter
@@ -94,7 +94,7 @@ row-start rank n lower old e = record {
 }
 
 module _ (rank n : ℕ) (lower old table : List ℕ) (t next : ℕ) (q : next ≡ t + 1) (lt : IsLetter rank t)
-    (h : IsRowPushed rank n lower t old table) (x : ℕ) (is : number_of x ≡ entry rank lower t 0)
+    (h : IsRowPushed rank n lower t old table) (x : ℕ) (is : entry_number x ≡ entry rank lower t 0)
     (inside : (r k : ℕ) → IsLetter rank r → entry rank lower r 0 ≡ Some k → k < n) where
   -- the entry of the next letter comes last
   here : n * rank + (t - 1) ≡ length table
@@ -160,7 +160,7 @@ module _ (rank n : ℕ) (lower old table : List ℕ) (t next : ℕ) (q : next �
       last r j f e =
           let two : Some k ≡ Some j = sym some ∙ (rw e at f)
           in let same : j ≡ k = cc
-          in rw (e, same) (entry-set_same rank (table ++ x ∷ []) t k n there ∙ number_of-some n small)
+          in rw (e, same) (entry-set_same rank (table ++ x ∷ []) t k n there ∙ entry_number-some n small)
 
 -- ---- with the row the table has the shifts of one member more
 
@@ -276,7 +276,7 @@ shifts-start A g = record {
   where
     none : (s : ℕ) → IsLetter A.rank s → entry A.rank (replicate A.rank NO_MEMBER) s 0 ≡ None
     none s l = sym (entry-is A.rank (replicate A.rank NO_MEMBER) s 0)
-        ∙ number_of-none _ (get_or-replicate A.rank (0 * A.rank + (s - 1)) NO_MEMBER 0 (omega (arith, l.from_one, l.to_rank)))
+        ∙ entry_number-none _ (get_or-replicate A.rank (0 * A.rank + (s - 1)) NO_MEMBER 0 (omega (arith, l.from_one, l.to_rank)))
 
     absent : (s : ℕ) → IsLetter A.rank s → Contains ([] ∷ []) (normal_form A (s ∷ [])) → ⊥
     absent s l c =

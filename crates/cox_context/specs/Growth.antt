@@ -87,9 +87,9 @@ abbrev pub AreBelowTop : IntegerMatrix → Option (ArrayVec ℕ) → List (List 
 AreBelowTop A top words numbers = (i : ℕ) → i < length words → entry 1 numbers 1 i ≡ None → IsBelowTop A top (word_at words i)
 
 -- what is left of y: y itself, or the member with a number
-abbrev pub left_word : List (List ℕ) → List ℕ → Option ℕ → List ℕ
-left_word words y None = y
-left_word words y (Some i) = word_at words i
+abbrev pub remaining_word : List (List ℕ) → List ℕ → Option ℕ → List ℕ
+remaining_word words y None = y
+remaining_word words y (Some i) = word_at words i
 
 -- for each number that one of the first places has the last such place
 pub record AreLast (numbers : List ℕ) (done : ℕ) (moved : List ℕ) : Type 0 where

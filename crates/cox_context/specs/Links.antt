@@ -10,17 +10,17 @@ words_from words [] = words
 words_from words (link ∷ links) = words_from (words ++ (link.first ∷ word_at words link.rest) ∷ []) links
 
 -- the words of the members: the first link is that of the identity, whose word is empty
-abbrev pub words_of : List Link → List (List ℕ)
-words_of [] = []
-words_of (identity ∷ links) = words_from ([] ∷ []) links
+abbrev pub linked_words : List Link → List (List ℕ)
+linked_words [] = []
+linked_words (identity ∷ links) = words_from ([] ∷ []) links
 
 -- the link with a number
 abbrev pub link_at : List Link → ℕ → Link
 link_at links i = slice_index_or links i (record { first = 0; letters = 0; rest = 0 })
 
 -- each link leads to a member before it and has its number of letters
-pub record AreLinks (links : List Link) : Type 0 where
+pub record AreMemberLinks (links : List Link) : Type 0 where
   pub some : 1 ≤ length links
   pub few : length links ≤ MAX_MEMBERS
   pub inward : (i : ℕ) → 0 < i → i < length links → (link_at links i).rest < i
-  pub letters : (i : ℕ) → i < length links → (link_at links i).letters ≡ length (word_at (words_of links) i)
+  pub letters : (i : ℕ) → i < length links → (link_at links i).letters ≡ length (word_at (linked_words links) i)

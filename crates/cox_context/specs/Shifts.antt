@@ -10,12 +10,12 @@ use Rattle.cox_context.specs.Closed.{IsClosed}
 use Rattle.cox_context.specs.Numbers.{word_at, IsNumberOf}
 
 -- what an entry says: a number, or that there is no member
-abbrev pub number_of : ℕ → Option ℕ
-number_of n = if n == NO_MEMBER then None else Some n
+abbrev pub entry_number : ℕ → Option ℕ
+entry_number n = if n == NO_MEMBER then None else Some n
 
 -- the entry of member i for the letter s
 unfoldable pub entry : ℕ → List ℕ → ℕ → ℕ → Option ℕ
-entry rank table s i = number_of (slice_index table (i * rank + (s - 1)))
+entry rank table s i = entry_number (slice_index table (i * rank + (s - 1)))
 
 -- the table has the number of s x for each member x and each letter s
 pub record AreLeftShifts (A : IntegerMatrix) (members : List (List ℕ)) (table : List ℕ) : Type 0 where

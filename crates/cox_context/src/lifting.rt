@@ -10,7 +10,7 @@ ghost use Rattle.cox_base.specs.ShortLex.{normal_form};
 ghost use Rattle.cox_context.specs.Closed.{IsClosed};
 ghost use Rattle.cox_context.specs.Numbers.{IsNumberOf};
 ghost use Rattle.cox_context.specs.Shifts.{entry, AreLeftShifts, IsLower};
-ghost use Rattle.cox_context.specs.Growth.{AreLower, AreBelowTop, left_word};
+ghost use Rattle.cox_context.specs.Growth.{AreLower, AreBelowTop, remaining_word};
 ghost use Rattle.cox_context.specs.Family.{IsTop, IsBelowTop, IsMeant};
 
 use crate::family::Family;
@@ -133,7 +133,7 @@ fn shorter_left(
     requires member { IfSome at (λ i. i < length members.now) }
     requires letter { IsLetter g.now.rank t }
     ensures lower { (y : List ℕ) → AreLower (integer_matrix g.now) members.now y lower.now
-        → IsLower (integer_matrix g.now) members.now (left_word members.now y at) t result }
+        → IsLower (integer_matrix g.now) members.now (remaining_word members.now y at) t result }
     ensures member { IfSome result (λ k. k < length members.now) }
 {
     match at {

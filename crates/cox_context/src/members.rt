@@ -25,13 +25,13 @@ pub(crate) struct Members {
 
 impl Model for Members {
     ghost use Rattle.std.specs.Prelude.{ℕ, List};
-    ghost use Rattle.cox_context.specs.Links.{words_of, AreLinks};
+    ghost use Rattle.cox_context.specs.Links.{linked_words, AreMemberLinks};
 
     ghost Value = { List (List ℕ) };
 
-    ghost view = { λ m. words_of m.links.items };
+    ghost view = { λ m. linked_words m.links.items };
 
-    ghost invariant = { λ m. AreLinks m.links.items };
+    ghost invariant = { λ m. AreMemberLinks m.links.items };
 }
 
 impl Members {

@@ -30,7 +30,8 @@ grow-requires-clause-earlier c = rw c.in-Ok.ensures.members (identity-closed (in
 pub returns-in_err-grow-clause-refused : goal.returns-in_err-grow-clause-refused
 returns-in_err-grow-clause-refused c =
     let refused : IfErr c.from_residual-in_err-grow.result
-    (IsRefusal (IsInUnion (integer_matrix c.copy.result) c.normal_form-top.result.items c.in-Ok.identity.members) c.args.limit) = search rules
+    (IsRefusal (IsInUnion (integer_matrix c.copy.result) c.normal_form-top.result.items c.in-Ok.identity.members) c.args.limit)
+    = search rules
     in interval-refused c.copy.result c.args.group.now (c.copy.ensures ∙ c.group.ensures) c.in_ok-builder.ensures.matrix
     c.args.w.now.items c.normal_form-top.result.items c.normal_form-top.ensures.form
     c.in-Ok.identity.members c.in-Ok.ensures.members c.args.limit c.from_residual-in_err-grow.result refused

@@ -1,6 +1,6 @@
 -- One more link is one more word.
 use Rattle.std.proofs.Common.{◌≡◌, ◌<◌, ℕ, List, length, ap, arith}
-use Rattle.cox_context.specs.Links.{words_of, link_at}
+use Rattle.cox_context.specs.Links.{linked_words, link_at}
 use Rattle.cox_context.specs.Numbers.{word_at}
 use Rattle.cox_context.proofs.LinkLemmas.{words-size, words-push, links-push, link-read}
 use Rattle.cox_context.proofs.members.Members.push.Goals as goal
@@ -25,7 +25,7 @@ invariant_of-self-2 c =
     (arith, c.requires.member, words-size c.self.inside.links.items, ap (λ (words : List (List ℕ)). length words) c.self.view_is)
     in let read : link_at c.self.inside.links.items c.args.rest ≡ c.index.result.now
     = link-read c.self.inside.links.items c.args.rest c.index.result.now inside c.index.ensures
-    in let letters : c.index.result.now.letters ≡ length (word_at (words_of c.self.inside.links.items) c.args.rest) =
+    in let letters : c.index.result.now.letters ≡ length (word_at (linked_words c.self.inside.links.items) c.args.rest) =
     rw (← read) (c.self.invariant.letters c.args.rest inside)
     in rw c.in_ok-push.ensures.items (links-push c.self.inside.links.items _ c.self.invariant
     (omega (arith, c.requires.room, words-size c.self.inside.links.items, ap (λ (words : List (List ℕ)). length words) c.self.view_is))
