@@ -16,3 +16,7 @@ pub mod Behind
 pub mod Terms
 -- the first coefficient beyond a limit
 pub mod Limits
+-- for code: polynomials that stand one behind another
+pub mod Stored
+-- the fingerprint is that of a polynomial
+pub mod Fingerprints

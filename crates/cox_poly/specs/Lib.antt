@@ -14,3 +14,7 @@ pub mod Puts
 pub mod PolynomialText
 -- the terms of a polynomial, one after the other
 pub mod ListedText
+-- polynomials that stand one behind another
+pub mod PolyLists
+-- a number that equal polynomials have in common
+pub mod Fingerprint

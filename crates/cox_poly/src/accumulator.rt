@@ -1,10 +1,12 @@
 //! Sums of multiples of polynomials, in 128 bits a coefficient.
 ghost use Rattle.std.specs.Prelude.{◌≡◌, ◌≢◌, ◌↔◌, ℕ, ℤ, ◌+◌, ◌-◌, ◌^◌, ◌<◌, ◌≤◌, pos, ◌*ℤ◌, ◌<ℤ◌, ◌≤ℤ◌, unsigned_abs, length, false, IsTrue, OnOk, IfOk, IfErr, Err};
 ghost use Rattle.cox_poly.specs.Polynomial.{coefficient, IsPolynomial, SameCoefficients, IsTrimmedLength, coefficient_after};
+ghost use Rattle.cox_poly.specs.Fingerprint.{mixed, fingerprint};
 ghost use Rattle.cox_poly.specs.Limit.{IsWithin, AllWithin, IsFirstAbove};
 
 use crate::NoMemory;
 use crate::poly_fault::PolyFault;
+use crate::poly_view::PolyView;
 use crate::polynomial::Poly;
 use std::alloc::Global;
 use std::marker::Model;
@@ -121,7 +123,7 @@ fn erase(sums: &mut [i128])
 }
 
 // Whether the sums are the coefficients of the polynomial, as far as they go. The last ones, which differ most, are looked at first.
-fn agrees(sums: &[i128], p: &Poly) -> bool
+fn agrees(sums: &[i128], p: &PolyView<'_>) -> bool
     requires { length sums.now ≤ DEGREES }
     ensures { IsTrue result ↔ ((k : ℕ) → k < length sums.now → coefficient p.now k ≡ coefficient sums.now k) }
 {
@@ -133,6 +135,27 @@ fn agrees(sums: &[i128], p: &Poly) -> bool
         }
     }
     true
+}
+
+// The fingerprint of q p + c, from that of p.
+fn mixed(c: i128, h: u64) -> u64
+    ensures { result ≡ mixed c h }
+{
+    let low = (c.unsigned_abs() % (1 << 64)) as u64;
+    h.wrapping_mul(11_400_714_819_323_198_485).wrapping_add(low)
+}
+
+// The fingerprint of these sums.
+fn fingerprint(sums: &[i128]) -> u64
+    ensures { result ≡ fingerprint sums.now }
+{
+    let mut k = sums.len();
+    let mut h = 0;
+    while k > 0 {
+        k -= 1;
+        h = mixed(sums[k], h);
+    }
+    h
 }
 
 impl Acc {
@@ -157,17 +180,24 @@ impl Acc {
     /// Whether the sum is this polynomial.
     ///
     /// `1 + q` and `q` add up to `1 + 2q`, and not to `1 + 2q + q^2`.
-    pub fn is(&self, p: &Poly) -> bool
+    pub fn is(&self, p: &PolyView<'_>) -> bool
         ensures { IsTrue result ↔ SameCoefficients p.now self.now }
     {
         p.coefficients().len() <= self.used && agrees(&self.sums[..self.used], p)
+    }
+
+    /// A number that is the same for equal sums.
+    pub fn fingerprint(&self) -> u64
+        ensures { result ≡ fingerprint self.now }
+    {
+        fingerprint(&self.sums[..self.used])
     }
 
     /// Adds `factor * q^shift * p`. Each term of `q^shift * p` has a degree below [`DEGREES`], and no
     /// sum may come above `2^126` in absolute value.
     ///
     /// Three times `1 + q`, shifted by 2, makes 0 into `3q^2 + 3q^3`.
-    pub fn add_scaled(&mut self, p: &Poly, factor: i64, shift: u32)
+    pub fn add_scaled(&mut self, p: &PolyView<'_>, factor: i64, shift: u32)
         requires degrees { (k : ℕ) → DEGREES ≤ k + shift → coefficient p.now k ≡ pos 0 }
         requires room { (k : ℕ) →
             unsigned_abs (coefficient_after self.old p.now factor shift k) ≤ 2 ^ 126 }

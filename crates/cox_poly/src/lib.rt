@@ -8,6 +8,7 @@
 //! It stands on `itoa` for digits and `thiserror` for the fault.
 //!
 //! - `polynomial`: the polynomials;
+//! - `poly_view`, `poly_list`: polynomials whose coefficients another value keeps, and a list of many;
 //! - `accumulator`: the sums of 128 bits;
 //! - `poly_fault`: why a sum is no polynomial;
 //! - `append`: bytes and whole numbers in decimal, for all that is printed;
@@ -21,6 +22,8 @@ mod accumulator;
 pub mod append;
 pub mod laws;
 mod poly_fault;
+mod poly_list;
+mod poly_view;
 mod polynomial;
 mod polynomial_text;
 #[cfg(test)]
@@ -28,6 +31,8 @@ mod tests;
 
 pub use accumulator::{Acc, DEGREES};
 pub use poly_fault::PolyFault;
+pub use poly_list::PolyList;
+pub use poly_view::PolyView;
 pub use polynomial::Poly;
 
 /// Out of memory.

@@ -5,7 +5,7 @@ ghost use Rattle.cox_poly.specs.Puts.{Puts};
 ghost use Rattle.cox_poly.specs.PolynomialText.{polynomial_text};
 
 use crate::NoMemory;
-use crate::polynomial_text::put_polynomial;
+use crate::poly_view::PolyView;
 use std::alloc::{AllocError, Global};
 use std::marker::Model;
 
@@ -88,14 +88,18 @@ impl Poly {
         Ok(Poly { coefficients })
     }
 
+    /// The polynomial as others see it: it takes no memory.
+    pub fn view(&self) -> PolyView<'_>
+        ensures { result ≡ self.now }
+    {
+        PolyView::of_trimmed(&self.coefficients)
+    }
+
     /// The coefficient of `q^k`, which is 0 above the degree.
     pub fn coefficient(&self, k: u32) -> i64
         ensures { result ≡ coefficient self.now k }
     {
-        match self.coefficients.get(k as usize) {
-            Some(c) => *c,
-            None => 0,
-        }
+        self.view().coefficient(k)
     }
 
     /// The greatest `k` such that the coefficient of `q^k` is not 0, and `None` for the zero
@@ -106,12 +110,7 @@ impl Poly {
         ensures normal { IsPolynomial self.now }
         ensures small { HasSmallCoefficients self.now }
     {
-        let len = self.coefficients.len();
-        if len == 0 {
-            None
-        } else {
-            Some((len - 1) as u32)
-        }
+        self.view().degree()
     }
 
     // The polynomial with these coefficients, of which the last is not 0.
@@ -122,20 +121,12 @@ impl Poly {
         Poly { coefficients }
     }
 
-    // The coefficients from the constant one up, of which the last is not 0.
-    pub(crate) fn coefficients(&self) -> &[i64]
-        ensures list { result.now ≡ self.now }
-        ensures storable { IsStorable self.now }
-    {
-        &self.coefficients
-    }
-
     /// Appends the text: the terms by rising degree, as in `1+2q+q^2`, `-1+q` and `-2q^3`, and `0`
     /// for the zero polynomial.
     pub fn put_text(&self, out: &mut Vec<u8>) -> Result<(), NoMemory>
         ensures { Puts result (polynomial_text self.now) out.old.items out.new.items }
     {
-        put_polynomial(out, &self.coefficients)
+        self.view().put_text(out)
     }
 }
 

@@ -1,6 +1,6 @@
 //! Polynomials, their text, and accumulators, by hand.
 use crate::append::put_number;
-use crate::{Acc, Poly, PolyFault};
+use crate::{Acc, Poly, PolyFault, PolyList};
 use std::alloc::Global;
 use std::test::Fail;
 
@@ -54,7 +54,7 @@ fn sums(rt: HostRuntime) -> Result<(), Fail> {
     let alloc = rt.alloc();
     let p = Poly::of(alloc, &[1, 1])?;
     let mut sum = Acc::default();
-    sum.add_scaled(&p, 3, 2);
+    sum.add_scaled(&p.view(), 3, 2);
     let closed = sum.close(alloc, 3)?;
     assert_eq!(rt; text_of(alloc, &closed)?.as_str(), "3q^2+3q^3");
     let fault = PolyFault::TooBig {
@@ -62,6 +62,27 @@ fn sums(rt: HostRuntime) -> Result<(), Fail> {
         value: 3,
     };
     assert_eq!(rt; sum.close(alloc, 2).err(), Some(fault));
+    let first = sum.fingerprint();
+    assert!(rt; first != 0);
+    sum.clear();
+    assert_eq!(rt; sum.fingerprint(), 0);
+    Ok(())
+}
+
+#[test]
+fn lists(rt: HostRuntime) -> Result<(), Fail> {
+    let alloc = rt.alloc();
+    let mut list = PolyList::new(alloc);
+    for coefficients in [[1, 1].as_slice(), &[], &[0, -2]] {
+        list.push(&Poly::of(alloc, coefficients)?.view())?;
+    }
+    list.shrink_to_fit();
+    assert_eq!(rt; list.len(), 3);
+    assert_eq!(rt; list.at(0).degree(), Some(1));
+    assert_eq!(rt; list.at(1).degree(), None);
+    let mut out = Vec::new(alloc);
+    list.at(2).put_text(&mut out)?;
+    assert_eq!(rt; out.as_slice(), b"-2q".as_slice());
     Ok(())
 }
 
