@@ -6,7 +6,7 @@ use Rattle.std.specs.List.{AllByRecursion}
 use Rattle.clap.specs.Lexer.{strip_byte}
 use Rattle.clap.specs.ValueTests.{is_unsigned_in}
 use Rattle.clap.proofs.OnLiterals.{clap_on_literals}
-use Rattle.cox_options.specs.declared.options.TheConstants.{MAX_CONTEXT, MAX_ROOTS, MAX_COEF}
+use Rattle.cox_options.specs.declared.options.TheConstants.{MAX_CONTEXT, MAX_ROOTS, MAX_COEF, MAX_WORKERS}
 use Rattle.cox_options.specs.Arguments.{given_number, is_refused, decimal_value}
 use Rattle.cox_options.specs.Command.{NumberOption, number_options}
 use Rattle.cox_options.specs.OneOption.{joined_argument, named}
@@ -25,7 +25,10 @@ joined_taken = All-from_recursion JoinedTaken number_options (
   λ name text. by_range MAX_CONTEXT text _ (λ e. rw e refl) (λ e. rw e refl),
   (
     λ name text. by_range MAX_ROOTS text _ (λ e. rw e refl) (λ e. rw e refl),
-    (λ name text. by_range MAX_COEF text _ (λ e. rw e refl) (λ e. rw e refl), tt),
+    (
+      λ name text. by_range MAX_COEF text _ (λ e. rw e refl) (λ e. rw e refl),
+      (λ name text. by_range MAX_WORKERS text _ (λ e. rw e refl) (λ e. rw e refl), tt),
+    ),
   ),
 )
 
@@ -35,7 +38,8 @@ JoinedNumber option = (name text : List ℕ) → given_number option.name (name 
 
 pub joined_number : All JoinedNumber number_options
 unfolding clap_on_literals
-joined_number = All-from_recursion JoinedNumber number_options (λ name text. refl, (λ name text. refl, (λ name text. refl, tt)))
+joined_number = All-from_recursion JoinedNumber number_options
+    (λ name text. refl, (λ name text. refl, (λ name text. refl, (λ name text. refl, tt))))
 
 -- the word does not begin with a hyphen
 abbrev IsPlain : ℕ → List ℕ → Type 0
@@ -69,7 +73,10 @@ next_taken = each_plain NextTaken (
   λ name. (refl, λ x xs p. by_range MAX_CONTEXT (x ∷ xs) _ (λ e. rw (p.0, p.1, e) refl) (λ e. rw (p.0, p.1, e) refl)),
   (
     λ name. (refl, λ x xs p. by_range MAX_ROOTS (x ∷ xs) _ (λ e. rw (p.0, p.1, e) refl) (λ e. rw (p.0, p.1, e) refl)),
-    (λ name. (refl, λ x xs p. by_range MAX_COEF (x ∷ xs) _ (λ e. rw (p.0, p.1, e) refl) (λ e. rw (p.0, p.1, e) refl)), tt),
+    (
+      λ name. (refl, λ x xs p. by_range MAX_COEF (x ∷ xs) _ (λ e. rw (p.0, p.1, e) refl) (λ e. rw (p.0, p.1, e) refl)),
+      (λ name. (refl, λ x xs p. by_range MAX_WORKERS (x ∷ xs) _ (λ e. rw (p.0, p.1, e) refl) (λ e. rw (p.0, p.1, e) refl)), tt),
+    ),
   ),
 )
 
@@ -81,5 +88,8 @@ pub next_number : All (λ option. (name text : List ℕ) → slice_index text 0 
 unfolding clap_on_literals
 next_number = each_plain NextNumber (
   λ name. (refl, λ x xs p. rw (p.0, p.1) refl),
-  (λ name. (refl, λ x xs p. rw (p.0, p.1) refl), (λ name. (refl, λ x xs p. rw (p.0, p.1) refl), tt)),
+  (
+    λ name. (refl, λ x xs p. rw (p.0, p.1) refl),
+    (λ name. (refl, λ x xs p. rw (p.0, p.1) refl), (λ name. (refl, λ x xs p. rw (p.0, p.1) refl), tt)),
+  ),
 )

@@ -1,7 +1,7 @@
 -- The command `coxeter`, by the definitions of `clap`.
 use Rattle.std.specs.Prelude.{ℕ, List, true, [], ◌∷◌, Some, codes, map, fold}
 use Rattle.cox_options.specs.declared.options.TheConstants.{MAX_CONTEXT, MAX_CONTEXT_TEXT, MAX_ROOTS, MAX_ROOTS_TEXT, MAX_COEF}
-use Rattle.cox_options.specs.declared.options.TheConstants.{MAX_COEF_TEXT}
+use Rattle.cox_options.specs.declared.options.TheConstants.{MAX_COEF_TEXT, MAX_WORKERS, DEFAULT_WORKERS_TEXT}
 use Rattle.clap.specs.Words.{App, Rule, Text, new_app, new_rule, with_rule}
 use Rattle.clap.specs.Simple.{on_top}
 use Rattle.clap.specs.declared.builder.action.ArgAction.TheVariants.{Set}
@@ -19,6 +19,7 @@ number_options =
     record { name = codes "context"; most = MAX_CONTEXT; default = MAX_CONTEXT_TEXT.now }
     ∷ record { name = codes "roots"; most = MAX_ROOTS; default = MAX_ROOTS_TEXT.now }
     ∷ record { name = codes "coef"; most = MAX_COEF; default = MAX_COEF_TEXT.now }
+    ∷ record { name = codes "workers"; most = MAX_WORKERS; default = DEFAULT_WORKERS_TEXT.now }
     ∷ []
 
 -- the option as clap reads it, with a number of 64 bits

@@ -4,7 +4,8 @@ ghost use Rattle.clap.specs.Words.{rule_of, app_of};
 ghost use Rattle.cox_options.specs.Command.{number_rule, coxeter_app};
 
 use crate::options::{
-    MAX_COEF, MAX_COEF_TEXT, MAX_CONTEXT, MAX_CONTEXT_TEXT, MAX_ROOTS, MAX_ROOTS_TEXT,
+    DEFAULT_WORKERS_TEXT, MAX_COEF, MAX_COEF_TEXT, MAX_CONTEXT, MAX_CONTEXT_TEXT, MAX_ROOTS,
+    MAX_ROOTS_TEXT, MAX_WORKERS,
 };
 use clap::builder::ValueParser;
 use clap::{Arg, ArgAction, Command};
@@ -29,9 +30,16 @@ pub fn command<'a>(alloc: Global) -> Result<Command<'a>, AllocError>
     let context = number_option(alloc, "context", u64::from(MAX_CONTEXT), MAX_CONTEXT_TEXT);
     let roots = number_option(alloc, "roots", u64::from(MAX_ROOTS), MAX_ROOTS_TEXT);
     let coef = number_option(alloc, "coef", MAX_COEF, MAX_COEF_TEXT);
+    let workers = number_option(
+        alloc,
+        "workers",
+        u64::from(MAX_WORKERS),
+        DEFAULT_WORKERS_TEXT,
+    );
     Command::new(alloc, "coxeter")
         .disable_help_flag(true)
         .arg(context)?
         .arg(roots)?
-        .arg(coef)
+        .arg(coef)?
+        .arg(workers)
 }

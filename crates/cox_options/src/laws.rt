@@ -1,7 +1,7 @@
 //! What the command's definition gives.
 ghost use Rattle.std.specs.Prelude.{◌≡◌, ◌≢◌, ◌∷◌, [], ℕ, List, Some, All, IsSomeAnd, codes, not, slice_index};
 ghost use Rattle.clap.specs.ValueTests.{is_unsigned_in};
-ghost use Rattle.cox_options.specs.declared.options.TheConstants.{MAX_CONTEXT, MAX_ROOTS, MAX_COEF};
+ghost use Rattle.cox_options.specs.declared.options.TheConstants.{MAX_CONTEXT, MAX_ROOTS, MAX_COEF, DEFAULT_WORKERS};
 ghost use Rattle.cox_options.specs.Arguments.{IsTaken, is_refused, decimal_value, given_number};
 ghost use Rattle.cox_options.specs.Command.{number_options};
 ghost use Rattle.cox_options.specs.OneOption.{IsInRange, joined_argument, named};
@@ -12,6 +12,7 @@ pub fn name_alone_gives_defaults()
     ensures context { (name : List ℕ) → given_number (codes "context") (name ∷ []) ≡ Some MAX_CONTEXT }
     ensures roots { (name : List ℕ) → given_number (codes "roots") (name ∷ []) ≡ Some MAX_ROOTS }
     ensures coef { (name : List ℕ) → given_number (codes "coef") (name ∷ []) ≡ Some MAX_COEF }
+    ensures workers { (name : List ℕ) → given_number (codes "workers") (name ∷ []) ≡ Some DEFAULT_WORKERS }
 {}
 
 /// For each option `--NAME=N` is taken exactly when N writes a number of its range, and gives that number.

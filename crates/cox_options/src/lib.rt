@@ -30,5 +30,5 @@ mod reading;
 #[cfg(test)]
 mod tests;
 
-pub use options::{MAX_COEF, MAX_CONTEXT, MAX_ROOTS, Options};
+pub use options::{DEFAULT_WORKERS, MAX_COEF, MAX_CONTEXT, MAX_ROOTS, MAX_WORKERS, Options};
 pub use reading::{OptionFault, read, wrong_arguments};

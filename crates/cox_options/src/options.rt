@@ -1,6 +1,6 @@
 //! The options as values.
 ghost use Rattle.std.specs.Prelude.{◌≤◌, ◌≤ℤ◌, pos};
-ghost use Rattle.cox_options.specs.declared.options.TheConstants.{MAX_CONTEXT, MAX_ROOTS, MAX_COEF};
+ghost use Rattle.cox_options.specs.declared.options.TheConstants.{MAX_CONTEXT, MAX_ROOTS, MAX_COEF, MAX_WORKERS, DEFAULT_WORKERS};
 
 /// The greatest number that `--context` takes, and its default.
 pub const MAX_CONTEXT: u32 = 1_048_576;
@@ -20,6 +20,15 @@ pub const MAX_COEF: u64 = 9_223_372_036_854_775_807;
 /// The same in decimal digits.
 pub const MAX_COEF_TEXT: &str = "9223372036854775807";
 
+/// The greatest number that `--workers` takes.
+pub const MAX_WORKERS: u32 = 16;
+
+/// How many workers there are by default.
+pub const DEFAULT_WORKERS: u32 = 1;
+
+/// The same in decimal digits.
+pub const DEFAULT_WORKERS_TEXT: &str = "1";
+
 /// What the arguments ask for. Each field is within its range.
 #[derive(Clone, Copy, Debug, PartialEq, Eq)]
 pub struct Options {
@@ -29,9 +38,12 @@ pub struct Options {
     pub(crate) roots: u32,
     // How large a coefficient may be in absolute value, from 1 to `MAX_COEF`.
     pub(crate) coef: i64,
+    // How many workers make rows, from 1 to `MAX_WORKERS`.
+    pub(crate) workers: u32,
     ghost context_in_range: { (1 ≤ context) × (context ≤ MAX_CONTEXT) },
     ghost roots_in_range: { (1 ≤ roots) × (roots ≤ MAX_ROOTS) },
     ghost coef_in_range: { (pos 1 ≤ℤ coef) × (coef ≤ℤ pos MAX_COEF) },
+    ghost workers_in_range: { (1 ≤ workers) × (workers ≤ MAX_WORKERS) },
 }
 
 impl Options {
@@ -63,21 +75,32 @@ impl Options {
     {
         self.coef
     }
+
+    /// How many workers make rows, from 1 to `MAX_WORKERS`. No answer depends on it.
+    pub fn workers(&self) -> u32
+        ensures workers { result ≡ self.now.workers }
+        ensures least { 1 ≤ result }
+        ensures most { result ≤ MAX_WORKERS }
+    {
+        self.workers
+    }
 }
 
 impl Default for Options {
     ghost use Rattle.std.specs.Prelude.{◌≡◌};
 
-    /// Each option's default: the context `MAX_CONTEXT`, `MAX_ROOTS` roots, and coefficients up to `MAX_COEF`.
+    /// Each option's default: the context `MAX_CONTEXT`, `MAX_ROOTS` roots, coefficients up to `MAX_COEF`, and one worker.
     fn default() -> Options
         ensures context { result.context ≡ MAX_CONTEXT }
         ensures roots { result.roots ≡ MAX_ROOTS }
         ensures coef { result.coef ≡ pos MAX_COEF }
+        ensures workers { result.workers ≡ DEFAULT_WORKERS }
     {
         Options {
             context: MAX_CONTEXT,
             roots: MAX_ROOTS,
             coef: MAX_COEF as i64,
+            workers: DEFAULT_WORKERS,
         }
     }
 }

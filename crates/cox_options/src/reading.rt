@@ -4,7 +4,7 @@ ghost use Rattle.clap.specs.Words.{found_of, kind_of, one_text};
 ghost use Rattle.clap.specs.declared.error.kind.ErrorKind.TheVariants.{OutOfMemory};
 ghost use Rattle.cox_options.specs.Arguments.{IsTaken, IsUsage, decimal_value, given_number};
 ghost use Rattle.cox_options.specs.Found.{HasNumber};
-ghost use Rattle.cox_options.specs.declared.options.TheConstants.{MAX_CONTEXT, MAX_ROOTS, MAX_COEF};
+ghost use Rattle.cox_options.specs.declared.options.TheConstants.{MAX_CONTEXT, MAX_ROOTS, MAX_COEF, MAX_WORKERS};
 ghost use Rattle.cox_options.specs.declared.reading.OptionFault.TheVariants.{NoMemory, Usage};
 
 use crate::definition::command;
@@ -29,7 +29,7 @@ pub enum OptionFault {
 /// The options that the arguments `words` give. The first is the program's name; with no other each option has its default.
 ///
 /// For example `["coxeter", "--context", "23"]` gives the context 23, and so does `["coxeter", "--context=23"]`. The
-/// number of roots is `MAX_ROOTS` in both, and coefficients may go up to `MAX_COEF`. A number is written in decimal digits, where a plus may stand first.
+/// number of roots is `MAX_ROOTS` in both, coefficients may go up to `MAX_COEF`, and there is one worker. A number is written in decimal digits, where a plus may stand first.
 /// `Usage` comes only where the definition of the command refuses the arguments, and `Ok` only where it does not;
 /// `NoMemory` may come at any.
 pub fn read(alloc: Global, words: &[&str]) -> Result<Options, OptionFault>
@@ -37,6 +37,7 @@ pub fn read(alloc: Global, words: &[&str]) -> Result<Options, OptionFault>
     ensures context { IfOk result (λ options. given_number (codes "context") (map (λ word. word.now) words.now) ≡ Some options.context) }
     ensures roots { IfOk result (λ options. given_number (codes "roots") (map (λ word. word.now) words.now) ≡ Some options.roots) }
     ensures coef { IfOk result (λ options. option_map pos (given_number (codes "coef") (map (λ word. word.now) words.now)) ≡ Some options.coef) }
+    ensures workers { IfOk result (λ options. given_number (codes "workers") (map (λ word. word.now) words.now) ≡ Some options.workers) }
     ensures usage { result ≡ Err Usage → IsUsage (map (λ word. word.now) words.now) }
 {
     let Ok(command) = command(alloc) else {
@@ -60,14 +61,17 @@ fn options_in(matches: &ArgMatches<'_>) -> Options
     requires context { HasNumber (found_of matches.now) (codes "context") MAX_CONTEXT }
     requires roots { HasNumber (found_of matches.now) (codes "roots") MAX_ROOTS }
     requires coef { HasNumber (found_of matches.now) (codes "coef") MAX_COEF }
+    requires workers { HasNumber (found_of matches.now) (codes "workers") MAX_WORKERS }
     ensures context { option_map decimal_value (one_text (found_of matches.now) (codes "context")) ≡ Some result.context }
     ensures roots { option_map decimal_value (one_text (found_of matches.now) (codes "roots")) ≡ Some result.roots }
     ensures coef { option_map pos (option_map decimal_value (one_text (found_of matches.now) (codes "coef"))) ≡ Some result.coef }
+    ensures workers { option_map decimal_value (one_text (found_of matches.now) (codes "workers")) ≡ Some result.workers }
 {
     Options {
         context: matches.get_one::<u64>("context").unwrap() as u32,
         roots: matches.get_one::<u64>("roots").unwrap() as u32,
         coef: matches.get_one::<u64>("coef").unwrap() as i64,
+        workers: matches.get_one::<u64>("workers").unwrap() as u32,
     }
 }
 

@@ -85,8 +85,30 @@ fn reads_limits_of_coefficients(rt: HostRuntime) {
 }
 
 #[test]
+fn reads_workers(rt: HostRuntime) {
+    let rows: [(&[&str], u32); 7] = [
+        (&["coxeter"], 1),
+        (&["coxeter", "--workers", "2"], 2),
+        (&["coxeter", "--workers=16"], 16),
+        (&["coxeter", "--workers", "17"], 0),
+        (&["coxeter", "--workers", "0"], 0),
+        (&["coxeter", "--context", "9", "--workers", "3"], 3),
+        (&["coxeter", "--workers", "2", "--workers", "2"], 0),
+    ];
+    for (words, wanted) in rows {
+        let workers = match read(rt.alloc(), words) {
+            Ok(options) => options.workers(),
+            Err(OptionFault::Usage) => 0,
+            Err(OptionFault::NoMemory) => u32::MAX,
+        };
+        assert_eq!(rt; workers, wanted, "at {words:?}");
+    }
+}
+
+#[test]
 fn has_defaults(rt: HostRuntime) {
     assert_eq!(rt; Options::default().context(), MAX_CONTEXT);
     assert_eq!(rt; Options::default().roots(), MAX_ROOTS);
     assert_eq!(rt; Options::default().coef(), i64::MAX);
+    assert_eq!(rt; Options::default().workers(), DEFAULT_WORKERS);
 }

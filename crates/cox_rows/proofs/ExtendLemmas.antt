@@ -25,22 +25,21 @@ use Rattle.cox_rows.specs.Extended.{IsExtended}
 -- ---- settled members
 
 settled-carried : (old new : Holding) (moved : List ℕ) → new.elements.matrix ≡ old.elements.matrix → new.limit ≡ old.limit
-    → AreCarried old new moved → ((i : ℕ) → Holds old i → i < length old.elements.members) → (i : ℕ) → IsSettled old i
-    → IsSettled new (slice_index moved i)
-settled-carried old new moved matrix limit are members i h = record {
-  there = are.there i h.there;
-  small = λ n. h.small (rw (matrix, limit, are.numbers.word i (members i h.there)) at n);
+    → AreCarried old new moved → (i : ℕ) → IsSettled old i → IsSettled new (slice_index moved i)
+settled-carried old new moved matrix limit are i h = record {
+  member = are.numbers.within i h.member;
+  small = λ n. h.small (rw (matrix, limit, are.numbers.word i h.member) at n);
 }
 
 pub store-carried : (old new : Holding) (moved : List ℕ) (settled flags : List Bool) (tables : Option Tables)
     → new.elements.matrix ≡ old.elements.matrix → new.limit ≡ old.limit
-    → AreCarried old new moved → ((i : ℕ) → Holds old i → i < length old.elements.members) → IsStore old settled tables
+    → AreCarried old new moved → IsStore old settled tables
     → ((j : ℕ) → slice_index_or flags j false ≡ true
     → (i : ℕ) × (slice_index_or settled i false ≡ true) × (slice_index moved i ≡ j))
     → IsStore new flags None
-store-carried old new moved settled flags tables matrix limit are members store from = record {
+store-carried old new moved settled flags tables matrix limit are store from = record {
   known = λ j set. let i = from j set
-      in rw i.2 at (settled-carried old new moved matrix limit are members i.0 (store.known i.0 i.1));
+      in rw i.2 at (settled-carried old new moved matrix limit are i.0 (store.known i.0 i.1));
   usable = tt;
 }
 

@@ -18,3 +18,5 @@ pub mod SettledLemmas
 pub mod SpreadLemmas
 -- larger contexts
 pub mod ExtendLemmas
+-- rows of two lists
+pub mod BothLemmas

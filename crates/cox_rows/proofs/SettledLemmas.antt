@@ -11,7 +11,7 @@ use Rattle.cox_klstep.specs.declared.making.TheConstants.{MU_LIMIT}
 use Rattle.cox_klstep.specs.declared.fault.StepFault.{StepFault}
 use Rattle.cox_klstep.specs.declared.tables.Tables.{Tables}
 use Rattle.cox_klstep.specs.Faults.{IsNarrowFault}
-use Rattle.cox_rows.specs.Holding.{Holding, Holds, IsHeldRow}
+use Rattle.cox_rows.specs.Holding.{Holding, IsHeldRow}
 use Rattle.cox_rows.specs.Faults.{fault_of, IsRowsFault}
 use Rattle.cox_rows.specs.Ensured.{IsStore, IsSettled, AreNeedsSmall}
 use Rattle.cox_rows.proofs.NeedDecided.{needs_beyond-none}
@@ -27,9 +27,9 @@ module _ (h : Holding) (i : ℕ) (g : IsAdmissible (integer_matrix h.elements.ma
       (mu-fault (integer_matrix h.elements.matrix) g h.elements.members closed i is.member h.limit least row is.is is.within fault narrow)
 
   pub is_settled : AreNeedsSmall (integer_matrix h.elements.matrix) h.limit (word_at h.elements.members i)
-      → ((k : ℕ) → k < length row.mu.items → unsigned_abs (value_at row.mu.items k) ≤ MU_LIMIT) → Holds h i → IsSettled h i
-  is_settled needs small there = record {
-    there = there;
+      → ((k : ℕ) → k < length row.mu.items → unsigned_abs (value_at row.mu.items k) ≤ MU_LIMIT) → IsSettled h i
+  is_settled needs small = record {
+    member = is.member;
     small = needs_beyond-none (integer_matrix h.elements.matrix) g h.limit least (word_at h.elements.members i)
         (not_beyond (integer_matrix h.elements.matrix) g h.elements.members closed i is.member h.limit least row is.is is.within small)
         needs.shorter needs.corrected;

@@ -1,5 +1,5 @@
 -- How the rows that are held change while those of Need(w) are made.
-use Rattle.std.specs.Prelude.{◌≡◌, ◌⊎◌, ℕ, List, ◌∷◌, Bool, true, false, slice_index_or, Option, IfSome, ℤ}
+use Rattle.std.specs.Prelude.{◌≡◌, ◌⊎◌, ℕ, List, ◌∷◌, length, ◌<◌, Bool, true, false, slice_index_or, Option, IfSome, ℤ}
 use Rattle.cox_base.specs.declared.side.Side.TheVariants.{Left}
 use Rattle.cox_base.specs.IntegerMatrix.{IntegerMatrix, integer_matrix}
 use Rattle.cox_reflect.specs.Height.{IsLeastLeftDescent}
@@ -24,9 +24,9 @@ pub record AreNeedsSmall (A : IntegerMatrix) (limit : ℤ) (w : List ℕ) : Type
   pub shorter : (s : ℕ) → IsLeastLeftDescent A w s → ¬ NeedsBeyond A limit (s ∷ w)
   pub corrected : (s : ℕ) (u : List ℕ) (m : ℤ) → IsLeastLeftDescent A w s → IsCorrection Left A s (s ∷ w) u m → ¬ NeedsBeyond A limit u
 
--- the row of the member with the number i is there, and no row of its Need is beyond the limits
+-- no row of the Need of the member with the number i is beyond the limits
 pub record IsSettled (h : Holding) (i : ℕ) : Type 0 where
-  pub there : Holds h i
+  pub member : i < length h.elements.members
   pub small : ¬ NeedsBeyond (integer_matrix h.elements.matrix) h.limit (word_at h.elements.members i)
 
 -- which members are known to be settled, and the tables of the context, where there are some

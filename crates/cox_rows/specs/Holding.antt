@@ -1,5 +1,5 @@
 -- A context with rows of some of its members, as contracts see it.
-use Rattle.std.specs.Prelude.{◌≡◌, ℕ, ◌<◌, List, Bool, true, false, length, map, is_some, slice_index_or, Option, None, IfSome}
+use Rattle.std.specs.Prelude.{◌≡◌, ◌⊎◌, ℕ, ◌<◌, List, Bool, true, false, length, map, is_some, slice_index_or, Option, None, IfSome}
 use Rattle.std.specs.Prelude.{ℤ, pos, ◌≤ℤ◌}
 use Rattle.cox_context.specs.Closed.{Elements}
 use Rattle.cox_row.specs.declared.row.Row.{Row}
@@ -30,6 +30,12 @@ row_at rows i = slice_index_or rows i None
 pub record AreRows (e : Elements) (limit : ℤ) (rows : List (Option Row)) : Type 0 where
   pub least : pos 0 ≤ℤ limit
   pub each : (i : ℕ) → IfSome (row_at rows i) (IsHeldRow e limit i)
+
+-- the rows of both lists, each at its place
+pub record AreBoth (first second all : List (Option Row)) : Type 0 where
+  pub from : (i : ℕ) → (row_at all i ≡ row_at first i) ⊎ (row_at all i ≡ row_at second i)
+  pub first_there : (i : ℕ) → is_some (row_at first i) ≡ true → is_some (row_at all i) ≡ true
+  pub second_there : (i : ℕ) → is_some (row_at second i) ≡ true → is_some (row_at all i) ≡ true
 
 -- where there are rows
 abbrev pub held : List (Option Row) → List Bool

@@ -1,8 +1,8 @@
 //! How the rows of Need(i) are made.
 //!
 //! The row of w is made from that of sw, for the least left descent s of w, and from those of the corrections of the step. So these are made first,
-//! by recursion to smaller numbers. A member is settled when its row is held and no row of its Need is beyond the limits; that is noted, so that
-//! nothing is looked at twice.
+//! by recursion to smaller numbers. A member is settled when no row of its Need is beyond the limits; that is noted where its row is held, so that
+//! nothing is looked at twice. It stays so when rows are taken out and come back.
 ghost use Rattle.std.specs.Prelude.{◌≡◌, ◌≢◌, ℕ, ◌<◌, ◌≤◌, length, IfSome, IfNone, IsTrue, IfOk, IfErr, OnOk, unsigned_abs, false};
 ghost use Rattle.cox_base.specs.IntegerMatrix.{integer_matrix};
 ghost use Rattle.cox_hecke.specs.Needs.{IsNeeded};
@@ -146,12 +146,13 @@ impl Rows {
         }
     }
 
-    /// Whether the member with the number i is known to be settled.
+    /// Whether the member with the number i is known to be settled, and its row is held.
     fn is_settled(&self, i: u32) -> bool
-        ensures { IsTrue result → IsSettled self.now i }
+        ensures there { IsTrue result → Holds self.now i }
+        ensures small { IsTrue result → IsSettled self.now i }
     {
         match self.settled.get(i as usize) {
-            Some(settled) => *settled,
+            Some(settled) => *settled && self.has(i),
             None => false,
         }
     }

@@ -1,17 +1,7 @@
 //! Flags by number. One that is not there is not set.
-ghost use Rattle.std.specs.Prelude.{◌≡◌, ◌≢◌, ◌⊎◌, ℕ, ◌<◌, true, false, length, IfOk, OnOk, slice_index, slice_index_or};
+ghost use Rattle.std.specs.Prelude.{◌≡◌, ◌⊎◌, ℕ, ◌<◌, true, false, length, IfOk, OnOk, slice_index, slice_index_or};
 
 use std::alloc::{AllocError, Global};
-
-/// Clears a flag, if it is there.
-pub(crate) fn clear_at(flags: &mut Vec<bool>, i: usize)
-    ensures gone { slice_index_or flags.new.items i false ≡ false }
-    ensures others { (j : ℕ) → j ≢ i → slice_index_or flags.new.items j false ≡ slice_index_or flags.old.items j false }
-{
-    if i < flags.len() {
-        flags[i] = false;
-    }
-}
 
 /// The flags at their new places.
 pub(crate) fn spread_flags(

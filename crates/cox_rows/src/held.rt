@@ -1,5 +1,5 @@
 //! A context, and rows of some of its members.
-ghost use Rattle.std.specs.Prelude.{◌≡◌, ◌≢◌, ℕ, ◌<◌, ◌≤◌, ◌↔◌, [], length, IfSome, IsSome, IfOk, IfErr, OnOk, OnErr, Some, None, is_some, true, pos, ◌≤ℤ◌};
+ghost use Rattle.std.specs.Prelude.{◌≡◌, ◌≢◌, ◌⊎◌, ℕ, ◌<◌, ◌≤◌, ◌↔◌, [], length, IfSome, IsSome, IfOk, IfErr, OnOk, OnErr, Some, None, is_some, true, pos, ◌≤ℤ◌};
 ghost use Rattle.cox_base.specs.Admissible.{IsAdmissible};
 ghost use Rattle.cox_base.specs.IntegerMatrix.{integer_matrix};
 ghost use Rattle.cox_context.specs.Closed.{IsClosed};
@@ -7,7 +7,7 @@ ghost use Rattle.cox_base.specs.Matrix.{IsWord};
 ghost use Rattle.cox_context.specs.Members.{IsInUnion};
 ghost use Rattle.cox_context.specs.SortedList.{IsListOf};
 ghost use Rattle.cox_context.specs.Refusal.{IsRefusal};
-ghost use Rattle.cox_rows.specs.Holding.{Holding, Holds, IsHeldRow, AreRows, row_at, held};
+ghost use Rattle.cox_rows.specs.Holding.{Holding, Holds, IsHeldRow, AreBoth, row_at, held};
 ghost use Rattle.cox_rows.specs.Spread.{IsMovable, AreSpread, AreCarried};
 ghost use Rattle.cox_rows.specs.Extended.{IsLeft};
 
@@ -113,16 +113,18 @@ impl Held {
         (self.context, self.rows)
     }
 
-    /// A context with rows of its members.
-    pub(crate) fn adopt(context: Context, rows: Vec<Option<Row>>, limit: i64) -> Held
-        requires { AreRows context limit rows.items }
-        ensures { result ≡ record { elements = context; limit = limit; holds = held rows.items } }
+    /// Puts rows of members beside those that are there. It takes no memory.
+    pub(crate) fn adopt(&mut self, rows: Vec<Option<Row>>)
+        requires { (i : ℕ) → IfSome (row_at rows.items i) (IsHeldRow self.old.elements self.old.limit i) }
+        ensures elements { self.new.elements ≡ self.old.elements }
+        ensures limit { self.new.limit ≡ self.old.limit }
+        ensures kept { (i : ℕ) → Holds self.old i → Holds self.new i }
+        ensures added { (i : ℕ) → is_some (row_at rows.items i) ≡ true → Holds self.new i }
+        ensures others { (i : ℕ) → Holds self.new i → Holds self.old i ⊎ (is_some (row_at rows.items i) ≡ true) }
     {
-        Held {
-            context,
-            rows,
-            limit,
-        }
+        let alloc = *self.rows.allocator();
+        let old = mem::replace(&mut self.rows, Vec::new(alloc));
+        self.rows = both(old, rows);
     }
 
     /// Adds the elements x with x <= w to the context; the new number of each member that was there before. Without memory no row may be left.
@@ -216,6 +218,42 @@ fn make_room(rows: &mut Vec<Option<Row>>, i: usize) -> Result<(), AllocError>
         rows.push(None)?;
     }
     Ok(())
+}
+
+/// The rows of both lists, each at its place. It takes no memory: the longer list is kept.
+fn both(first: Vec<Option<Row>>, second: Vec<Option<Row>>) -> Vec<Option<Row>>
+    ensures { AreBoth first.items second.items result.items }
+{
+    if first.len() < second.len() {
+        with_rows(second, first)
+    } else {
+        with_rows(first, second)
+    }
+}
+
+/// A list of rows with those of a list that is not longer put at their places.
+fn with_rows(rows: Vec<Option<Row>>, more: Vec<Option<Row>>) -> Vec<Option<Row>>
+    requires { length more.items ≤ length rows.items }
+    ensures { AreBoth rows.items more.items result.items }
+{
+    let mut all = rows;
+    let mut more = more;
+    'places: for i in 0..more.len() {
+        if let Some(row) = take_at(&mut more, i) {
+            set_at(&mut all, i, row);
+        }
+    }
+    all
+}
+
+/// Puts a row at a place that is there.
+fn set_at(rows: &mut Vec<Option<Row>>, i: usize, row: Row)
+    requires { i < length rows.old.items }
+    ensures at { row_at rows.new.items i ≡ Some row }
+    ensures others { (j : ℕ) → j ≢ i → row_at rows.new.items j ≡ row_at rows.old.items j }
+    ensures count { length rows.new.items ≡ length rows.old.items }
+{
+    rows[i] = Some(row);
 }
 
 /// The rows at their new places, with new numbers.

@@ -1,5 +1,5 @@
 //! A context with rows of its members: look-ups, and contexts that grow.
-ghost use Rattle.std.specs.Prelude.{◌≡◌, ◌≢◌, ℕ, ◌<◌, ◌≤◌, ◌↔◌, [], length, IfSome, IsSome, IsTrue, IfOk, IfErr, OnOk, pos, ◌≤ℤ◌};
+ghost use Rattle.std.specs.Prelude.{◌≡◌, ◌≢◌, ◌⊎◌, true, is_some, ℕ, ◌<◌, ◌≤◌, ◌↔◌, [], length, IfSome, IsSome, IsTrue, IfOk, IfErr, OnOk, pos, ◌≤ℤ◌};
 ghost use Rattle.cox_base.specs.IntegerMatrix.{integer_matrix};
 ghost use Rattle.cox_base.specs.Matrix.{IsWord};
 ghost use Rattle.cox_base.specs.Bruhat.{IsBelow};
@@ -12,10 +12,10 @@ ghost use Rattle.cox_row.specs.Distinct.{HasDistinctPolynomials};
 ghost use Rattle.cox_base.specs.Admissible.{IsAdmissible};
 ghost use Rattle.cox_context.specs.Closed.{IsClosed};
 ghost use Rattle.cox_context.specs.Numbers.{word_at};
-ghost use Rattle.cox_rows.specs.Holding.{Holding, Holds, IsHeldRow, AreRows, row_at, held};
+ghost use Rattle.cox_rows.specs.Holding.{Holding, Holds, IsHeldRow, row_at, held};
 ghost use Rattle.cox_rows.specs.Extended.{IsExtended, IsLeft};
 
-use crate::flags::{clear_at, spread_flags};
+use crate::flags::spread_flags;
 use crate::held::Held;
 use cox_base::Word;
 use cox_context::{Context, ContextFault, MAX_MEMBERS};
@@ -150,7 +150,6 @@ impl Rows {
         ensures gone { ¬ Holds self.new i }
         ensures others { (j : ℕ) → j ≢ i → Holds self.new j ↔ Holds self.old j }
     {
-        clear_at(&mut self.settled, i as usize);
         self.held.take(i)
     }
 
@@ -163,23 +162,16 @@ impl Rows {
         self.held.into_parts()
     }
 
-    /// A context with rows of its members, each under its member's number. There may be fewer places than members.
-    pub fn adopt(
-        alloc: Global,
-        context: Context,
-        rows: Vec<Option<Row>>,
-        limit: i64,
-    ) -> Result<Rows, AllocError>
-        requires { AreRows context limit rows.items }
-        ensures { IfOk result (λ r. r ≡ record { elements = context; limit = limit; holds = held rows.items }) }
+    /// Holds these rows too, each under its member's number. There may be fewer places than members. It takes no memory.
+    pub fn adopt(&mut self, rows: Vec<Option<Row>>)
+        requires { (i : ℕ) → IfSome (row_at rows.items i) (IsHeldRow self.old.elements self.old.limit i) }
+        ensures elements { self.new.elements ≡ self.old.elements }
+        ensures limit { self.new.limit ≡ self.old.limit }
+        ensures kept { (i : ℕ) → Holds self.old i → Holds self.new i }
+        ensures added { (i : ℕ) → is_some (row_at rows.items i) ≡ true → Holds self.new i }
+        ensures others { (i : ℕ) → Holds self.new i → Holds self.old i ⊎ (is_some (row_at rows.items i) ≡ true) }
     {
-        let tables = Tables::of(alloc, &context)?;
-        Ok(Rows {
-            held: Held::adopt(context, rows, limit),
-            settled: Vec::new(alloc),
-            tables: Some(tables),
-            steps: Steps::new(),
-        })
+        self.held.adopt(rows);
     }
 
     /// Adds the elements x with x <= w to the context. The rows that are held stay, under their members' new numbers.

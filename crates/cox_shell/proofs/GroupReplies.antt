@@ -1,5 +1,5 @@
 -- The reply to a command that sets a group, where the number of its small roots is known.
-use Rattle.std.proofs.Common.{◌≡◌, ℕ, Some, None, inl, inr, refl, sym}
+use Rattle.std.proofs.Common.{Some, None, inl, inr, refl}
 use Rattle.cox_base.specs.Matrix.{CoxeterMatrix}
 use Rattle.cox_base.specs.IntegerMatrix.{integer_matrix}
 use Rattle.cox_small.specs.SmallRoots.{HasMoreSmallRoots}

@@ -1,5 +1,5 @@
 -- The texts of W-graphs and of cells, from the number of items on.
-use Rattle.std.proofs.Common.{◌≡◌, ℕ, zero, suc, ◌+◌, ◌≤◌, ◌<◌, nat_lt, subst, arith, false, true, List, [], ◌∷◌, ◌++◌, length, map, All, decimal, get_or, refl, sym, ap, ◌∙◌, ℤ}
+use Rattle.std.proofs.Common.{◌≡◌, ℕ, zero, suc, ◌+◌, ◌≤◌, ◌<◌, nat_lt, subst, arith, false, true, List, [], ◌∷◌, ◌++◌, length, map, All, decimal, get_or, sym, ap, ◌∙◌, ℤ}
 use Rattle.std.specs.List.{flat_map, range_with_len}
 use Rattle.std.proofs.lemmas.List.Elements.{All-nil, All-cons, All-filter}
 use Rattle.std.specs.Global.{Vec}

@@ -1,28 +1,17 @@
 -- The group that is set stays a Coxeter matrix.
-use Rattle.std.proofs.Common.{◌≡◌, ℕ, ◌+◌, ◌-◌, ◌*◌, ◌/◌, Bool, true, false, List, [], ◌∷◌, drop, map, length, Option, Some, None, IfSome}
-use Rattle.std.proofs.Common.{IsSomeAnd, MatchOption, refl, sym, ap, ◌∙◌, subst, arith, eqb-true, leb-true, length-drop}
-use Rattle.std.specs.Bool.{MatchBool}
-use Rattle.std.specs.List.{slice_index}
-use Rattle.std.proofs.lemmas.Bool.{and_parts, not-false}
-use Rattle.std.proofs.lemmas.List.{length-map}
-use Rattle.std.proofs.lemmas.List.Folds.{list_all-map}
-use Rattle.std.proofs.lemmas.List.Sums.{AllPass-from_list_all}
-use Rattle.cox_base.specs.Matrix.{CoxeterMatrix, is_label}
+use Rattle.std.proofs.Common.{◌≡◌, ℕ, List, [], ◌∷◌, Option, Some, None, IfSome}
+use Rattle.std.proofs.Common.{IsSomeAnd, MatchOption, refl, sym, ap, subst}
+use Rattle.cox_base.specs.Matrix.{CoxeterMatrix}
 use Rattle.cox_base.specs.Admissible.{IsCoxeterMatrix}
-use Rattle.cox_base.specs.NamedType.{type_matrix}
-use Rattle.cox_base.proofs.Rows.{type_matrix-IsCoxeterMatrix}
 use Rattle.cox_command.specs.declared.refusal.Refusal.{Refusal}
 use Rattle.cox_command.specs.declared.command.Command.{Command}
 use Rattle.cox_command.specs.declared.command.Command.TheVariants.{Nothing, Group}
 use Rattle.cox_command.specs.declared.command.Command.TheVariants as asks
 use Rattle.cox_command.specs.declared.command_word.CommandWord.{CommandWord}
-use Rattle.cox_command.specs.declared.command_word.CommandWord.TheVariants.{Named, Matrix}
 use Rattle.cox_command.specs.CommandWord.{command_word_of}
-use Rattle.cox_command.specs.Number.{value_of}
 use Rattle.cox_command.specs.Tokens.{tokens_of}
-use Rattle.cox_command.specs.LineRefusal.{argument, names_type, is_rank, has_wrong_count, has_wrong_number, has_no_type, has_wrong_label}
-use Rattle.cox_command.specs.LineRefusal.{lacks_group, command_refusal, tokens_refusal, line_refusal}
-use Rattle.cox_command.specs.CommandReading.{IsGiven, matrix_set, named_matrix, matrix_of}
+use Rattle.cox_command.specs.LineRefusal.{command_refusal, tokens_refusal, line_refusal}
+use Rattle.cox_command.specs.CommandReading.{IsGiven, matrix_set}
 use Rattle.cox_shell.specs.Reply.{State, Reply, rank_of, with_group, refusal, silence}
 use Rattle.cox_shell.specs.declared.inquiry.Inquiry.{Inquiry}
 use Rattle.cox_shell.specs.declared.inquiry.Inquiry.TheVariants.{One, Two, Plain, Work}

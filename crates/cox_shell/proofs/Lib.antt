@@ -22,6 +22,11 @@ pub mod Endings
 pub mod KnownValues
 -- what a run over the lines says of the whole
 pub mod Whole
+pub mod WholeRuns
+-- rows that workers made
+pub mod SharedRows
+-- two runs over one script
+pub mod SameAnswers
 -- what is due is a prefix of the answer
 pub mod Due
 -- what is said when a text was put

@@ -1,5 +1,5 @@
 -- Questions on rows have one right text at most, and can be answered.
-use Rattle.std.proofs.Common.{◌≡◌, ◌⊎◌, ℕ, ◌+◌, ◌≤◌, ◌<◌, ◌↔◌, zero, suc, Bool, true, false, List, [], ◌∷◌, ◌++◌, map, filter, inl, inr, refl, sym, ap, ◌∙◌, ⊎_elim, arith, ℤ, pos}
+use Rattle.std.proofs.Common.{◌≡◌, ◌⊎◌, ℕ, ◌≤◌, ◌<◌, ◌↔◌, zero, suc, Bool, true, false, List, [], ◌∷◌, ◌++◌, filter, inl, inr, refl, sym, ap, ◌∙◌, ⊎_elim, arith, pos}
 use Rattle.std.proofs.lemmas.Bool.{cases_lt, cases_eq}
 use Rattle.std.proofs.lemmas.Int.{ints}
 use Rattle.std.specs.Fmt.{signed_decimal}
@@ -9,25 +9,22 @@ use Rattle.cox_base.specs.Matrix.{IsLetter}
 use Rattle.cox_base.specs.Reduced.{IsLeftDescent, IsRightDescent}
 use Rattle.cox_base.specs.Length.{word_length}
 use Rattle.cox_row.specs.Extremal.{IsExtremal}
-use Rattle.cox_poly.specs.Products.{times_q_power}
 use Rattle.cox_poly.specs.PolynomialText.{polynomial_text}
 use Rattle.cox_reflect.proofs.Roots.{descent-letter, left_descent-letter}
 use Rattle.cox_hecke.specs.Family.{Family}
-use Rattle.cox_hecke.specs.Sums.{sum_over}
-use Rattle.cox_hecke.specs.Row.{IsRow, IsMu}
+use Rattle.cox_hecke.specs.Row.{IsRow}
 use Rattle.cox_hecke.proofs.AllRows.{row_of, row_of-is, row_of-value, mu-unique, mu-exists}
 use Rattle.cox_context.specs.Members.{IsInInterval}
-use Rattle.cox_context.specs.SortedList.{IsListOf, HasMoreThan}
+use Rattle.cox_context.specs.SortedList.{IsListOf}
 use Rattle.cox_context.proofs.SortedLemmas.{IsListOf-unique, IsListOf-filter}
 use Rattle.cox_context.proofs.IntervalLemmas.{interval-exists, interval-decided}
 use Rattle.cox_rows.proofs.NeedDecided.{tell-needs_beyond}
 use Rattle.cox_command.specs.declared.refusal.Refusal.{Refusal}
 use Rattle.cox_command.specs.declared.refusal.Refusal.TheVariants.{LargeInterval, LargeRow}
-use Rattle.cox_print.specs.AnswerText.{numbers_text, list_text, pair_text}
 use Rattle.cox_shell.specs.Reply.{Limits}
 use Rattle.cox_shell.specs.RowReply.{RefusesRow, coefficients_to, IsPolText, IsMuText, pairs_text, IsPairsText, IsExtremalBelow}
 use Rattle.cox_shell.specs.RowReply.{ihbetti_text, IsIhbettiText}
-use Rattle.cox_shell.proofs.Refusing.{HasOneText, IsAnswerable}
+use Rattle.cox_shell.proofs.Refusing.{IsAnswerable}
 
 -- a decision as a test
 abbrev is_left : {P : Type 0} → P ⊎ (P → ⊥) → Bool

@@ -1,8 +1,8 @@
 -- The texts of single polynomials of a row, and of mu.
-use Rattle.std.proofs.Common.{◌≡◌, ℕ, ◌+◌, ◌-◌, ◌*◌, ◌/◌, ◌%◌, ◌==◌, ◌<◌, ◌≤◌, Bool, true, false, if◌then◌else◌, List, [], length, Contains, codes, ◌↔◌}
+use Rattle.std.proofs.Common.{◌≡◌, ℕ, ◌-◌, ◌/◌, ◌%◌, ◌==◌, ◌<◌, Bool, true, false, if◌then◌else◌, List, [], length, Contains, codes, ◌↔◌}
 use Rattle.std.proofs.Common.{Option, None, Some, IfSome, IfNone, IsSome}
 use Rattle.std.specs.Borrow.{Bor}
-use Rattle.std.proofs.Common.{ℤ, pos, refl, sym, ap, ◌∙◌, arith}
+use Rattle.std.proofs.Common.{ℤ, pos, refl, sym, ap, ◌∙◌}
 use Rattle.std.specs.Fmt.{signed_decimal}
 use Rattle.cox_base.specs.IntegerMatrix.{IntegerMatrix}
 use Rattle.cox_base.specs.Admissible.{IsAdmissible}
@@ -17,12 +17,12 @@ use Rattle.cox_poly.specs.Coefficients.{Coefficients}
 use Rattle.cox_poly.specs.Polynomial.{coefficient}
 use Rattle.cox_poly.specs.PolynomialText.{polynomial_text}
 use Rattle.cox_hecke.specs.Row.{IsKazhdanLusztig, IsMu, middle_coefficient}
-use Rattle.cox_hecke.proofs.AllRows.{row_of, row_of-is, kazhdan_lusztig-value, mu-same, mu-by_row}
-use Rattle.cox_hecke.proofs.Polynomials.{kl_polynomial-row, kl_polynomial-low, kazhdan_lusztig-same}
+use Rattle.cox_hecke.proofs.AllRows.{row_of, row_of-is, mu-same, mu-by_row}
+use Rattle.cox_hecke.proofs.Polynomials.{kazhdan_lusztig-same}
 use Rattle.cox_context.specs.Closed.{IsClosed}
 use Rattle.cox_context.specs.Numbers.{word_at}
 use Rattle.cox_context.proofs.Shifting.{member-below}
-use Rattle.cox_shell.specs.RowReply.{coefficients_to, IsPolText, IsMuText}
+use Rattle.cox_shell.specs.RowReply.{IsPolText, IsMuText}
 use Rattle.cox_shell.proofs.PairTexts.{row-value, row-text}
 
 -- the middle coefficient of 0

@@ -11,25 +11,24 @@ use Rattle.cox_base.specs.ShortLex.{normal_form}
 use Rattle.cox_base.specs.Length.{word_length}
 use Rattle.cox_base.specs.Bruhat.{IsBelow}
 use Rattle.cox_reflect.proofs.Elements.{same-refl, same-sym}
-use Rattle.cox_reflect.proofs.Search.{normal_form-same, normal_form-equal}
+use Rattle.cox_reflect.proofs.Search.{normal_form-same}
 use Rattle.cox_reflect.proofs.Bruhat.{below-same}
 use Rattle.cox_poly.specs.Coefficients.{Coefficients}
 use Rattle.cox_poly.specs.Polynomial.{coefficient, HasDegreeBelow}
 use Rattle.cox_hecke.specs.Family.{Family}
 use Rattle.cox_hecke.specs.Row.{IsRow, IsKazhdanLusztig}
 use Rattle.cox_hecke.proofs.RowLemmas.{row-long, row-same}
-use Rattle.cox_hecke.proofs.AllRows.{row_of, row_of-value, kazhdan_lusztig-value}
+use Rattle.cox_hecke.proofs.AllRows.{row_of-value, kazhdan_lusztig-value}
 use Rattle.cox_context.specs.Closed.{IsClosed}
 use Rattle.cox_context.specs.Members.{IsInInterval}
 use Rattle.cox_context.specs.SortedList.{IsListOf}
 use Rattle.cox_context.specs.Numbers.{word_at}
 use Rattle.cox_context.proofs.ListLemmas.{contains-at}
 use Rattle.cox_context.proofs.SortedLemmas.{IsListOf-filter}
-use Rattle.cox_context.proofs.Shifting.{member-below}
 use Rattle.cox_context.proofs.IntervalLemmas.{is_below, is_below-tells}
 use Rattle.cox_row.proofs.Raising.{later-not_below}
 use Rattle.cox_shell.specs.RowReply.{coefficients_to}
-use Rattle.cox_shell.specs.WorkReply.{Totals, no_totals, both_totals, polynomial_totals, row_totals, AreTotalsOf}
+use Rattle.cox_shell.specs.WorkReply.{Totals, no_totals, both_totals, polynomial_totals, row_totals}
 
 -- ---- adding up totals
 

@@ -1,5 +1,5 @@
 -- Each line has a reply.
-use Rattle.std.proofs.Common.{◌≡◌, ℕ, Bool, ◌&&◌, true, false, if◌then◌else◌, List, [], ◌∷◌, Option, Some, None, IfSome, IsSomeAnd}
+use Rattle.std.proofs.Common.{◌≡◌, ℕ, Bool, ◌&&◌, true, false, List, [], ◌∷◌, Option, Some, None, IfSome, IsSomeAnd}
 use Rattle.std.proofs.Common.{MatchOption}
 use Rattle.std.proofs.Common.{◌⊎◌, inl, inr, ⊎_elim, refl, sym, true≢false}
 use Rattle.std.specs.Option.{option_map}

@@ -1,5 +1,5 @@
 -- Whole groups among what is kept: when all elements are members, and what refuses them or their rows.
-use Rattle.std.proofs.Common.{◌≡◌, ◌⊎◌, ℕ, ◌≤◌, ◌<◌, List, [], ◌∷◌, length, Contains, Option, None, Some, is_some, true, inl, inr, refl, sym, ap, ◌∙◌, ⊎_elim}
+use Rattle.std.proofs.Common.{◌≡◌, ℕ, ◌≤◌, ◌<◌, List, [], ◌∷◌, length, Contains, Option, None, Some, is_some, true, inl, inr, refl, ap, ◌∙◌}
 use Rattle.std.proofs.Common.{arith, subst, ℤ, pos}
 use Rattle.cox_base.specs.Matrix.{CoxeterMatrix, IsLetter}
 use Rattle.cox_base.specs.IntegerMatrix.{IntegerMatrix, integer_matrix}

@@ -24,7 +24,7 @@ use Rattle.cox_context.specs.Interval.{IsBetween, IsCoatom, counts_by_length}
 use Rattle.cox_print.specs.AnswerText.{element_text, descent_text, truth_text, numbers_text, elements_text}
 use Rattle.cox_shell.specs.declared.inquiry.Inquiry.{Inquiry}
 use Rattle.cox_shell.specs.declared.inquiry.Inquiry.TheVariants.{One, Two, Plain, Work}
-use Rattle.cox_shell.specs.Reply.{Limits, State, Reply, with_group, refusal, silence, farewell, answered}
+use Rattle.cox_shell.specs.Reply.{Limits, State, Reply, with_group, silence, farewell, answered}
 use Rattle.cox_shell.specs.Question.{Question, IsDecided}
 use Rattle.cox_shell.specs.RowReply.{RefusesRow, coefficients_to, IsPolText, IsMuText, IsPairsText, IsExtremalBelow, IsIhbettiText}
 use Rattle.cox_shell.specs.GroupReply.{group_question}

@@ -1,7 +1,7 @@
 -- Rows that a session keeps of its group, and what asking for some of them leads to.
-use Rattle.std.specs.Prelude.{◌≡◌, ℕ, ◌<◌, ◌≤◌, List, length, Contains, Option, None, Some, IfSome, IsSomeAnd, Result, Ok, Err, ℤ, pos}
+use Rattle.std.specs.Prelude.{◌≡◌, ℕ, ◌<◌, ◌≤◌, List, length, Contains, Option, None, Some, IfSome, IsSomeAnd, Result, Ok, Err, pos}
 use Rattle.cox_base.specs.Matrix.{CoxeterMatrix}
-use Rattle.cox_base.specs.IntegerMatrix.{IntegerMatrix, integer_matrix}
+use Rattle.cox_base.specs.IntegerMatrix.{IntegerMatrix}
 use Rattle.cox_base.specs.ShortLex.{normal_form}
 use Rattle.cox_context.specs.Members.{IsElement}
 use Rattle.cox_context.specs.SortedList.{IsListOf}
@@ -27,6 +27,11 @@ pub record AreOf (g : CoxeterMatrix) (limits : Limits) (rows : Holding) : Type 0
   pub group : rows.elements.matrix ≡ g
   pub limit : rows.limit ≡ pos limits.coefficient
   pub few : length rows.elements.members ≤ limits.context
+
+-- the context and the limit stayed
+pub record IsSameContext (old new : Holding) : Type 0 where
+  pub elements : new.elements ≡ old.elements
+  pub limit : new.limit ≡ old.limit
 
 -- what is kept: such rows, if any
 abbrev pub AreKept : CoxeterMatrix → Limits → Option Holding → Type 0

@@ -32,6 +32,8 @@ pub mod Run
 pub mod Outcome
 -- what a whole run does
 pub mod Top
+-- the contract of a whole run
+pub mod WholeRun
 -- rows that a session keeps
 pub mod Kept
 -- totals of rows that are summed up

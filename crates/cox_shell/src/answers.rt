@@ -10,6 +10,7 @@
 //! - `sums`: the polynomials of a row, summed up
 //! - `graphs`: W-graphs and cells
 //! - `generated`: rows of generated words
+//! - `ahead`: rows that workers make ahead of an answer
 ghost use Rattle.std.specs.Prelude.{◌≡◌};
 ghost use Rattle.cox_base.specs.Matrix.{IsWord};
 ghost use Rattle.cox_base.specs.Admissible.{IsCoxeterMatrix};
@@ -22,6 +23,7 @@ ghost use Rattle.cox_shell.specs.SessionLimits.{limits_of};
 ghost use Rattle.cox_shell.specs.CommandReply.{RefusesNone, IsOrderText, question_of};
 ghost use Rattle.cox_shell.specs.Saying.{HasLetters, PutsUnless, IsEnded};
 
+mod ahead;
 mod generated;
 mod graphs;
 mod intervals;

@@ -6,6 +6,7 @@ ghost use Rattle.cox_shell.specs.Reply.{Limits, Reply};
 ghost use Rattle.cox_shell.specs.Answer.{AreScriptReplies, texts};
 ghost use Rattle.cox_shell.specs.ScriptAnswer.{IsAnswer};
 ghost use Rattle.cox_shell.specs.Top.{AreDue};
+ghost use Rattle.cox_shell.specs.WholeRun.{DifferInWorkers, AnswersAlike};
 
 /// A script has an answer, within any limits.
 pub fn some_answer()
@@ -22,4 +23,9 @@ pub fn one_answer()
 pub fn due_begins_the_answer()
     ensures { (limits : Limits) → (script left text : List ℕ) → (replies : List Reply) → AreDue limits (Some script) (Some left) replies
         → IsAnswer limits script text → IsPrefix (texts replies) text }
+{}
+
+/// Two runs over one script whose arguments differ in `--workers` alone write the same bytes, where both end by `Done` or `Refused`.
+pub fn workers_change_nothing()
+    ensures { (one other : List (List ℕ)) (script : List ℕ) → DifferInWorkers one other → AnswersAlike one other script }
 {}

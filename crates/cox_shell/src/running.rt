@@ -8,6 +8,7 @@ ghost use Rattle.cox_shell.specs.Run.{stand};
 ghost use Rattle.cox_shell.specs.Status.{is_read_fault, is_write_fault};
 ghost use Rattle.cox_shell.specs.Outcome.{Runs};
 
+use crate::preparation::Preparation;
 use crate::serving::{Served, serve_line};
 use crate::session::Session;
 use crate::status::Status;
@@ -15,14 +16,16 @@ use cox_outside::{LineReader, Sink, Source};
 
 /// Serves line after line, until one ends the run, none is left, or something fails. What the buffer
 /// held is lost.
-pub fn run_lines<S: Source, K: Sink>(
+pub fn run_lines<P: Preparation, S: Source, K: Sink>(
+    preparation: &P,
     reader: &mut LineReader,
     session: &mut Session,
     buffer: &mut Vec<u8>,
     source: &mut S,
     sink: &mut K,
 ) -> Status
-    requires { reader.old ≡ fresh_reader }
+    requires fresh { reader.old ≡ fresh_reader }
+    requires ready { P.ready preparation.now }
     ensures runs { Runs result
         (stand session.old reader.old (S.seen source.old) (K.seen sink.old))
         (stand session.new reader.new (S.seen source.new) (K.seen sink.new)) }
@@ -31,7 +34,7 @@ pub fn run_lines<S: Source, K: Sink>(
 {
     let mut refused = false;
     'lines: while !reader.has_stopped() {
-        match serve_line(reader, session, buffer, source, sink) {
+        match serve_line(preparation, reader, session, buffer, source, sink) {
             Served::Answered => {}
             Served::Refused => refused = true,
             Served::Quit | Served::End => return at_the_end(refused),

@@ -6,6 +6,7 @@ ghost use Rattle.cox_outside.specs.Supply.{SourceCause};
 ghost use Rattle.cox_outside.specs.Outlet.{SinkCause};
 ghost use Rattle.cox_shell.specs.Run.{stand, Hears, Serves, heard_of, heard_failed, served_read_fault, served_write_fault};
 
+use crate::preparation::Preparation;
 use crate::session::{Said, Session};
 use cox_command::Refusal;
 use cox_outside::{LineReader, Next, Sink, Source, write_all};
@@ -47,14 +48,16 @@ pub enum Served {
 
 /// Serves the next line: its reply is written before this returns. What the buffer held
 /// is lost.
-pub fn serve_line<S: Source, K: Sink>(
+pub fn serve_line<P: Preparation, S: Source, K: Sink>(
+    preparation: &P,
     reader: &mut LineReader,
     session: &mut Session,
     buffer: &mut Vec<u8>,
     source: &mut S,
     sink: &mut K,
 ) -> Served
-    requires { reader.old.stop ≡ None }
+    requires going { reader.old.stop ≡ None }
+    requires ready { P.ready preparation.now }
     ensures serves { Serves result
         (stand session.old reader.old (S.seen source.old) (K.seen sink.old))
         (stand session.new reader.new (S.seen source.new) (K.seen sink.new)) }
@@ -62,7 +65,7 @@ pub fn serve_line<S: Source, K: Sink>(
     ensures sink_cause { SinkCause (K.seen sink.old) (K.seen sink.new) (served_write_fault result) }
 {
     buffer.clear();
-    let said = match hear_line(reader, session, buffer, source) {
+    let said = match hear_line(preparation, reader, session, buffer, source) {
         Heard::Line(said) => said,
         Heard::NoMemory => return Served::NoMemory,
         Heard::End => return Served::End,
@@ -79,8 +82,9 @@ pub fn serve_line<S: Source, K: Sink>(
     }
 }
 
-/// Reads the next line and puts its reply into the empty buffer.
-fn hear_line<S: Source>(
+/// Reads the next line, prepares the session for it, and puts its reply into the empty buffer.
+fn hear_line<P: Preparation, S: Source>(
+    preparation: &P,
     reader: &mut LineReader,
     session: &mut Session,
     buffer: &mut Vec<u8>,
@@ -88,12 +92,16 @@ fn hear_line<S: Source>(
 ) -> Heard
     requires going { reader.old.stop ≡ None }
     requires empty { buffer.old.items ≡ [] }
+    requires ready { P.ready preparation.now }
     ensures hears { Hears result session.old session.new reader.new.stop
         (ahead reader.old.feed (S.seen source.old).left) (ahead reader.new.feed (S.seen source.new).left) buffer.new.items }
     ensures cause { SourceCause (S.seen source.old) (S.seen source.new) (heard_failed result) }
 {
     match reader.next(source) {
-        Next::Line(line) => to_heard(session.answer(line, buffer)),
+        Next::Line(line) => {
+            preparation.prepare(*buffer.allocator(), session, line);
+            to_heard(session.answer(line, buffer))
+        }
         Next::Long(_) => to_heard(session.refuse(Refusal::LongLine, buffer)),
         Next::Byte(_) => to_heard(session.refuse(Refusal::ForeignByte, buffer)),
         Next::End => Heard::End,

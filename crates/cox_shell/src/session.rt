@@ -2,14 +2,18 @@
 
 use crate::answers::{Unanswered, put_answer};
 use crate::inquiry::Inquiry;
+use crate::workers::Workers;
 use crate::workspace::Workspace;
 use cox_base::{Coxeter, MAX_RANK};
 use cox_command::{Command, Refusal, parse};
 use cox_minroots::{RootFault, RootTable};
 use cox_options::Options;
+use cox_outside::Gate;
 use cox_print::{put_end, put_refusal};
-use std::alloc::AllocError;
+use std::alloc::{AllocError, Global};
 use std::marker::Model;
+use std::sync::Wait;
+use std::thread::Threads;
 
 /// What a session says to a line.
 #[derive(Clone, Copy, Debug, PartialEq, Eq)]
@@ -77,6 +81,53 @@ impl Session {
             Ok(command) => self.obey(command, out),
             Err(fault) => self.refuse(fault.refusal, out),
         }
+    }
+
+    /// Answers a line in the same way, with as many workers as the options say. Each of them passes the gate before each claim and each
+    /// publication of a row.
+    pub fn answer_with<R: Threads + Wait + Sync, G: Gate + Sync>(
+        &mut self,
+        rt: &R,
+        line: &[u8],
+        out: &mut Vec<u8>,
+        gate: &G,
+    ) -> Result<Said, AllocError>
+        requires size { length line.now < 2 ^ 32 }
+        ensures ok { IfOk result (λ said. (reply : Reply) × IsContentReply self.old line.now reply
+            × Says said reply self.new out.old.items out.new.items) }
+        ensures err { OnErr result ((reply : Reply) × IsContentReply self.old line.now reply
+            × SaysPrefix reply self.old self.new out.old.items out.new.items) }
+    {
+        self.make_ahead(rt, gate, *out.allocator(), line);
+        self.answer(line, out)
+    }
+
+    /// Makes the rows that a line asks for, if there is more than one worker. It changes nothing that an answer depends on.
+    pub(crate) fn make_ahead<R: Threads + Wait + Sync, G: Gate + Sync>(
+        &mut self,
+        rt: &R,
+        gate: &G,
+        alloc: Global,
+        line: &[u8],
+    )
+        requires size { length line.now < 2 ^ 32 }
+        ensures { self.new ≡ self.old }
+    {
+        let workers = self.options.workers();
+        if workers == 1 {
+            return;
+        }
+        let Ok(command) = parse(line, self.rank()) else {
+            return;
+        };
+        if let Some(work) = &mut self.workspace {
+            Workers::new(rt, gate, workers).make_ahead(alloc, work, &command);
+        }
+    }
+
+    /// A session with the same options, and no group.
+    pub(crate) fn renewed(&self) -> Session {
+        Session::new(self.options)
     }
 
     /// The rank of the group that is set.

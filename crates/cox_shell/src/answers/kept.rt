@@ -50,7 +50,7 @@ pub fn keep_row(
 }
 
 /// Sees to it that the interval from the identity to w is part of what is kept.
-fn keep_interval(
+pub fn keep_interval(
     alloc: Global,
     kept: &mut Option<Rows>,
     table: &RootTable,

@@ -49,7 +49,7 @@ pub fn keep_group(
 /// Sees to it that all elements of the group are members of what is kept.
 ///
 /// What is kept stays if they are already; else they alone are kept, with no rows yet.
-fn keep_elements(
+pub fn keep_elements(
     alloc: Global,
     kept: &mut Option<Rows>,
     table: &RootTable,

@@ -1,7 +1,7 @@
 -- The command that is built is the one of the definition: each call of `arg` adds the rule of the next option.
 use Rattle.std.proofs.Common.{◌≡◌, ◌∙◌, ap, ap₂, codes, ℕ}
 use Rattle.std.proofs.lemmas.Result.{IfOk-weaker}
-use Rattle.cox_options.specs.declared.options.TheConstants.{MAX_CONTEXT_TEXT, MAX_ROOTS_TEXT}
+use Rattle.cox_options.specs.declared.options.TheConstants.{MAX_CONTEXT_TEXT, MAX_ROOTS_TEXT, DEFAULT_WORKERS_TEXT}
 use Rattle.clap.specs.Words.{Rule, Text, app_of, new_app, with_rule}
 use Rattle.clap.specs.Simple.{app_of_fields}
 use Rattle.cox_options.specs.Command.{number_rule, without_help}
@@ -19,5 +19,7 @@ returns c =
     let roots = c.number_option-roots.ensures.rule ∙ ap (rule (codes "roots") MAX_ROOTS_TEXT.now) c.from-2.ensures in
     let one = c.in_ok-arg.ensures.shape c.number_option-context.ensures.local ∙ ap₂ with_rule start context in
     let two = c.in_ok-arg-2.ensures.shape c.number_option-roots.ensures.local ∙ ap₂ with_rule one roots in
-    IfOk-weaker c.arg-3.result _ _
-    (λ command added. added.shape c.number_option-coef.ensures.local ∙ ap₂ with_rule two c.number_option-coef.ensures.rule) c.arg-3.ensures
+    let three = c.in_ok-arg-3.ensures.shape c.number_option-coef.ensures.local ∙ ap₂ with_rule two c.number_option-coef.ensures.rule in
+    let workers = c.number_option-workers.ensures.rule ∙ ap (rule (codes "workers") DEFAULT_WORKERS_TEXT.now) c.from-3.ensures in
+    IfOk-weaker c.arg-4.result _ _
+    (λ command added. added.shape c.number_option-workers.ensures.local ∙ ap₂ with_rule three workers) c.arg-4.ensures

@@ -10,7 +10,7 @@ use Rattle.cox_options.proofs.reading.read.Goals as goal
 pub options_in-requires : goal.options_in-requires
 options_in-requires c =
     let numbers = options_read _ _ c.in-Ok-try_get_matches_from.ensures.parsed c.in-Ok.ensures in
-    record { context = numbers.0; roots = numbers.1.0; coef = numbers.1.1.0 }
+    record { context = numbers.0; roots = numbers.1.0; coef = numbers.1.1.0; workers = numbers.1.1.1.0 }
 
 pub returns-in-Ok-try_get_matches_from-clause-taken :
     goal.returns-in-Ok-try_get_matches_from-clause-taken
@@ -43,3 +43,11 @@ returns-in-Ok-try_get_matches_from-clause-coef c =
     ap (option_map pos) (given_read _ (map (λ word. word.now) c.args.words.now) (found_of c.in-Ok-try_get_matches_from.matches)
     (codes "coef") c.in-Ok.ensures found.0)
     ∙ c.options_in.ensures.coef
+
+pub returns-in-Ok-try_get_matches_from-clause-workers :
+    goal.returns-in-Ok-try_get_matches_from-clause-workers
+returns-in-Ok-try_get_matches_from-clause-workers c =
+    let found = c.in-Ok-try_get_matches_from.ensures.matches (ap is_simple c.in-Ok.ensures) in
+    given_read _ (map (λ word. word.now) c.args.words.now) (found_of c.in-Ok-try_get_matches_from.matches)
+    (codes "workers") c.in-Ok.ensures found.0
+    ∙ c.options_in.ensures.workers

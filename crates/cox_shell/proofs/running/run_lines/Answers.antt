@@ -14,8 +14,8 @@ going (Some halt) stopped is false_is = cc
 
 pub lines-init : goal.lines-init
 lines-init g c = record {
-  progress = Progress-start _ (ap (λ (r : Reader). r.stop) c.requires)
-      (rw c.requires (omega arith, omega arith));
+  progress = Progress-start _ (ap (λ (r : Reader). r.stop) c.requires.fresh)
+      (rw c.requires.fresh (omega arith, omega arith));
   source_faults = refl;
   same_sure = refl;
   sink_faults = refl;

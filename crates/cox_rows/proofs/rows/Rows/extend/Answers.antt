@@ -1,9 +1,8 @@
 -- A context that has w already is its union with the interval of w; and settled members stay settled under their new numbers.
-use Rattle.std.proofs.Common.{◌≡◌, ℕ, ◌<◌, length, sym, ◌∙◌}
+use Rattle.std.proofs.Common.{◌≡◌, sym, ◌∙◌}
 use Rattle.cox_base.specs.IntegerMatrix.{integer_matrix}
 use Rattle.cox_base.specs.ShortLex.{normal_form}
 use Rattle.cox_context.specs.Numbers.{IsNumberOf}
-use Rattle.cox_rows.specs.Holding.{Holds}
 use Rattle.cox_rows.proofs.ExtendLemmas.{union-nothing_new, contains-found, extended-same, store-carried}
 use Rattle.cox_rows.proofs.rows.Rows.extend.Goals as goal
 
@@ -25,9 +24,7 @@ returns-then-is_some-clause-extended c = extended-same c.args.self.now c.context
 
 pub invariant_of-self-in-Ok-1 : goal.invariant_of-self-in-Ok-1
 invariant_of-self-in-Ok-1 c =
-    let inside : (i : ℕ) → Holds c.self.inside.held i → i < length c.self.inside.held.elements.members
-    = rw c.self.view_is c.context-context.ensures.members
-    in rw c.take-tables.ensures.after (store-carried c.self.inside.held c.extend.new.self c.in-Ok.moved.items c.self.inside.settled.items
-    c.in-Ok-spread_flags.settled.items c.self.inside.tables c.in-Ok.ensures.matrix c.in-Ok.ensures.limit c.in-Ok.ensures.carried inside
+    rw c.take-tables.ensures.after (store-carried c.self.inside.held c.extend.new.self c.in-Ok.moved.items c.self.inside.settled.items
+    c.in-Ok-spread_flags.settled.items c.self.inside.tables c.in-Ok.ensures.matrix c.in-Ok.ensures.limit c.in-Ok.ensures.carried
     c.self.invariant (rw (c.as_slice.ensures.value, c.as_slice-in-Ok.ensures.value, c.replace-settled.ensures.value) at
     c.in-Ok-spread_flags.ensures))

@@ -2,7 +2,7 @@
 use Rattle.std.proofs.Common.{◌≡◌, subst}
 use Rattle.cox_base.specs.IntegerMatrix.{integer_matrix}
 use Rattle.cox_context.specs.Numbers.{word_at}
-use Rattle.cox_rows.specs.Holding.{Holding, Holds}
+use Rattle.cox_rows.specs.Holding.{Holding}
 use Rattle.cox_rows.specs.Faults.{IsRowsFault}
 use Rattle.cox_rows.specs.Ensured.{AreNeedsSmall}
 use Rattle.cox_rows.specs.Beyond.{NeedsBeyond}
@@ -20,28 +20,25 @@ pub invariant_of-self : goal.invariant_of-self
 invariant_of-self c =
     let needs : AreNeedsSmall (integer_matrix c.self.inside.held.elements.matrix) c.self.inside.held.limit
     (word_at c.self.inside.held.elements.members c.args.i) = rw c.self.view_is c.requires.needs
-    in let there : Holds c.self.inside.held c.args.i = rw c.self.view_is c.requires.there
     in store-set c.self.inside.held c.self.inside.settled.items c.set_at.new.flags.items c.self.inside.tables c.args.i c.set_at.ensures.at
     (is_settled c.self.inside.held c.args.i c.context-context.ensures.admissible c.context-context.ensures.closed
-    c.context-context.ensures.least c.in-Some.row.now c.in-Some.ensures.row needs c.in_default-large_mu.ensures.none there)
+    c.context-context.ensures.least c.in-Some.row.now c.in-Some.ensures.row needs c.in_default-large_mu.ensures.none)
     c.self.invariant
 
 pub invariant_of-self-2 : goal.invariant_of-self-2
 invariant_of-self-2 c =
     let needs : AreNeedsSmall (integer_matrix c.self.inside.held.elements.matrix) c.self.inside.held.limit
     (word_at c.self.inside.held.elements.members c.args.i) = rw c.self.view_is c.requires.needs
-    in let there : Holds c.self.inside.held c.args.i = rw c.self.view_is c.requires.there
     in store-set c.self.inside.held c.self.inside.settled.items c.set_at.new.flags.items c.self.inside.tables c.args.i c.set_at.ensures.at
     (is_settled c.self.inside.held c.args.i c.context-context.ensures.admissible c.context-context.ensures.closed
-    c.context-context.ensures.least c.in-Some.row.now c.in-Some.ensures.row needs c.in_default-large_mu.ensures.none there)
+    c.context-context.ensures.least c.in-Some.row.now c.in-Some.ensures.row needs c.in_default-large_mu.ensures.none)
     c.self.invariant
 
 pub returns-clause-small : goal.returns-clause-small
 returns-clause-small c =
     let needs : AreNeedsSmall (integer_matrix c.self.inside.held.elements.matrix) c.self.inside.held.limit
     (word_at c.self.inside.held.elements.members c.args.i) = rw c.self.view_is c.requires.needs
-    in let there : Holds c.self.inside.held c.args.i = rw c.self.view_is c.requires.there
     in let P : Holding → Type 0 = λ h. NeedsBeyond (integer_matrix h.elements.matrix) h.limit (word_at h.elements.members c.args.i) → ⊥
     in subst P c.self.view_is
     (is_settled c.self.inside.held c.args.i c.context-context.ensures.admissible c.context-context.ensures.closed
-    c.context-context.ensures.least c.in-Some.row.now c.in-Some.ensures.row needs c.in_default-large_mu.ensures.none there).small
+    c.context-context.ensures.least c.in-Some.row.now c.in-Some.ensures.row needs c.in_default-large_mu.ensures.none).small

@@ -1,13 +1,11 @@
 -- The proof of `put_generated`.
-use Rattle.std.proofs.Common.{◌≡◌, ◌∙◌, refl, sym, ap, rules, FitsSigned}
+use Rattle.std.proofs.Common.{◌≡◌, ap, rules, FitsSigned}
 use Rattle.std.specs.Int.{w128}
 use Rattle.std.proofs.lemmas.Int.{to_z-of_z}
-use Rattle.std.proofs.lemmas.Result.{err_from_is_err_and}
 use Rattle.cox_base.specs.IntegerMatrix.{integer_matrix}
-use Rattle.cox_print.specs.AnswerText.{work_text}
-use Rattle.cox_shell.specs.WorkReply.{Totals, generated_words}
+use Rattle.cox_shell.specs.WorkReply.{Totals}
 use Rattle.cox_shell.proofs.Unless.{PutsUnless-put}
-use Rattle.cox_shell.proofs.WorkTotals.{work-line, PutsUnless-unsummed}
+use Rattle.cox_shell.proofs.WorkTotals.{work-line}
 use Rattle.cox_shell.proofs.answers.generated.put_generated.Goals as goal
 
 pub returns-clause-puts : goal.returns-clause-puts

@@ -1,12 +1,12 @@
 -- The proof of `totals_of_words`.
-use Rattle.std.proofs.Common.{◌≡◌, ◌+◌, ◌-◌, ◌*◌, ◌≤◌, suc, refl, sym, ◌∙◌, arith, rules}
+use Rattle.std.proofs.Common.{◌≡◌, ◌+◌, ◌-◌, suc, refl, ◌∙◌, arith}
 use Rattle.std.proofs.lemmas.Result.{err_from_is_err_and}
 use Rattle.cox_base.specs.IntegerMatrix.{integer_matrix}
 use Rattle.cox_reflect.proofs.Admissible.{IsAdmissible-integer_matrix}
-use Rattle.cox_command.specs.Generated.{generated_word, state_behind_word}
+use Rattle.cox_command.specs.Generated.{generated_word}
 use Rattle.cox_shell.specs.SessionLimits.{limits_of}
 use Rattle.cox_shell.specs.WorkReply.{generated_words}
-use Rattle.cox_shell.proofs.WorkTotals.{Reaches, reaches-more, reaches-all, reaches-err}
+use Rattle.cox_shell.proofs.WorkTotals.{reaches-more, reaches-all, reaches-err}
 use Rattle.cox_shell.proofs.answers.generated.totals_of_words.Goals as goal
 
 pub returns-in_err-row-clause-totals : goal.returns-in_err-row-clause-totals

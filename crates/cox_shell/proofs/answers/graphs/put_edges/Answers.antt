@@ -1,6 +1,5 @@
 -- The proof of `put_edges`.
-use Rattle.std.proofs.Common.{◌≡◌, ◌++◌, ◌<◌, length, get_or, refl, arith, rules, pos, FitsSigned, w32, w64, subst, ap, ◌∙◌}
-use Rattle.std.specs.List.{flat_map}
+use Rattle.std.proofs.Common.{◌≡◌, ◌++◌, refl, arith, rules, pos, FitsSigned, w32, w64, subst, ap, ◌∙◌}
 use Rattle.std.proofs.lemmas.Int.{to_z-of_z}
 use Rattle.cox_base.specs.Matrix.{CoxeterMatrix}
 use Rattle.cox_poly.specs.Puts.{PutsPrefix}

@@ -1,6 +1,4 @@
 -- The proof of `put_graph`.
-use Rattle.std.proofs.Common.{◌≡◌, ◌∙◌, refl}
-use Rattle.cox_base.specs.IntegerMatrix.{integer_matrix}
 use Rattle.cox_shell.specs.SessionLimits.{limits_of}
 use Rattle.cox_shell.specs.Kept.{AreOf}
 use Rattle.cox_shell.proofs.Unless.{PutsUnless-put}

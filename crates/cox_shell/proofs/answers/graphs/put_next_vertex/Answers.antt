@@ -1,15 +1,15 @@
 -- The proof of `put_next_vertex`.
-use Rattle.std.proofs.Common.{◌≡◌, ◌++◌, ◌∷◌, [], List, refl, sym, ap, ◌∙◌, rules, pos, subst}
+use Rattle.std.proofs.Common.{◌∷◌, [], rules, pos, subst}
 use Rattle.std.specs.List.{flat_map}
 use Rattle.std.proofs.lemmas.List.{get_or_default}
 use Rattle.cox_base.specs.IntegerMatrix.{integer_matrix}
 use Rattle.cox_context.specs.Closed.{Elements}
 use Rattle.cox_poly.specs.Puts.{Puts}
-use Rattle.cox_poly.proofs.Behind.{PutsPrefix-first, PutsPrefix-second, Puts-failed, Puts-first, Puts-second}
+use Rattle.cox_poly.proofs.Behind.{Puts-first, Puts-second}
 use Rattle.cox_context.specs.Numbers.{word_at}
 use Rattle.cox_context.proofs.ListLemmas.{contains-at}
 use Rattle.cox_print.specs.AnswerText.{head_text, edge_text}
-use Rattle.cox_wgraph.specs.Listing.{Joined, descents}
+use Rattle.cox_wgraph.specs.Listing.{Joined}
 use Rattle.cox_wgraph.specs.Numbered.{joined_of}
 use Rattle.cox_shell.specs.GroupReply.{vertex_text}
 use Rattle.cox_shell.proofs.GroupTexts.{head-is, joined-are, descents-letters}

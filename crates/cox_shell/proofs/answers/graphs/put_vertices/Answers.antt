@@ -1,5 +1,5 @@
 -- The proof of `put_vertices`.
-use Rattle.std.proofs.Common.{◌≡◌, ◌++◌, ◌+◌, ◌<◌, length, get_or, decimal, refl, arith, rules}
+use Rattle.std.proofs.Common.{◌<◌, length, get_or, decimal, refl, arith, rules}
 use Rattle.std.specs.List.{flat_map}
 use Rattle.cox_base.specs.IntegerMatrix.{integer_matrix}
 use Rattle.cox_poly.proofs.Behind.{PutsPrefix-next, PutsPrefix-second, Puts-failed, Puts-first, append-next, append-all, append-second}

@@ -1,0 +1,20 @@
+-- What is held is what is there.
+use Rattle.std.proofs.Common.{◌≡◌, inl, inr, ⊎_elim, true, is_some, sym, ◌∙◌}
+use Rattle.cox_rows.specs.Holding.{row_at}
+use Rattle.cox_rows.proofs.HeldLemmas.{held-at}
+use Rattle.cox_rows.proofs.BothLemmas.{both-others}
+use Rattle.cox_rows.proofs.held.Held.adopt.Goals as goal
+
+pub returns-clause-kept : goal.returns-clause-kept
+returns-clause-kept c = rw (← c.self.view_is)
+    (λ i h. held-at c.both.result.items i
+    ∙ c.both.ensures.first_there i (rw c.replace-old.ensures.value (sym (held-at c.self.inside.rows.items i) ∙ h)))
+
+pub returns-clause-others : goal.returns-clause-others
+returns-clause-others c = rw (← c.self.view_is)
+    (λ i h. ⊎_elim
+    (λ (old : is_some (row_at c.replace-old.result.items i) ≡ true). inl (held-at c.self.inside.rows.items i
+    ∙ (rw c.replace-old.ensures.value at old)))
+    (λ (new : is_some (row_at c.args.rows.items i) ≡ true). inr new)
+    (both-others c.replace-old.result.items c.args.rows.items c.both.result.items c.both.ensures i
+    (sym (held-at c.both.result.items i) ∙ h)))

@@ -1,0 +1,130 @@
+-- The contract of a whole run, from the run over the lines, or from what was written of the usage line.
+use Rattle.std.proofs.Common.{◌≡◌, inl, inr, ◌<◌, ◌≤◌, ℕ, true, false, List, [], length, Option, None, Some, refl, sym, ◌∙◌, arith}
+use Rattle.std.specs.Prelude.{IfSome, IsSomeAnd}
+use Rattle.std.proofs.lemmas.List.{append-nil}
+use Rattle.cox_outside.specs.declared.limits.TheConstants.{INPUT_LIMIT}
+use Rattle.cox_outside.specs.FaultCount.{Rose, count_after}
+use Rattle.cox_outside.specs.Supply.{Supply, SourceCause}
+use Rattle.cox_outside.specs.Outlet.{Outlet, Writes, IsPrefix, SinkCause}
+use Rattle.cox_outside.specs.Reader.{Reader}
+use Rattle.cox_outside.proofs.Known.{prepend_known-none}
+use Rattle.cox_options.specs.Arguments.{IsTaken, IsUsage}
+use Rattle.cox_shell.specs.declared.status.Status.{Status}
+use Rattle.cox_shell.specs.declared.status.Status.TheVariants.{Done, Refused, Usage, ReadFault, WriteFault, NoMemory, InputLimit}
+use Rattle.cox_shell.specs.Reply.{State}
+use Rattle.cox_shell.specs.Run.{stand}
+use Rattle.cox_shell.specs.Status.{IsUnhindered, is_read_fault, is_write_fault}
+use Rattle.cox_shell.specs.Outcome.{Runs}
+use Rattle.cox_shell.specs.Top.{usage_line, given_limits, TakesWithin}
+use Rattle.cox_shell.specs.WholeRun.{IsRun}
+use Rattle.cox_shell.proofs.Whole.{beginning, Runs-given, AnswersAll-whole, Runs-within, Runs-takes, Runs-due, Runs-room}
+use Rattle.cox_shell.proofs.Whole.{WritesDue-none, IsDue-usage, IsOverRoom-usage}
+
+-- arguments are not both taken and wrong
+not-both : (arguments : List (List ℕ)) → IsTaken arguments → IsUsage arguments → ⊥
+not-both arguments right wrong = let bad : false ≡ true = sym right ∙ wrong in cc
+
+-- a script is not both within the limit and over it
+not-over : (script : Option (List ℕ)) → IfSome script (λ bytes. INPUT_LIMIT < length bytes)
+    → IsSomeAnd script (λ bytes. length bytes ≤ INPUT_LIMIT) → ⊥
+not-over None over within = within
+not-over (Some bytes) over within = omega (arith, over, within)
+
+-- a count after a fault has risen
+rose-told : (before now : ℕ) → now ≡ count_after true before → Rose before now
+rose-told before now e = omega (arith, e)
+
+-- nothing was read
+takes-none : (script : Option (List ℕ)) → TakesWithin script script
+takes-none script = ([], sym (prepend_known-none script), omega arith)
+
+no_fault : (supply : Supply) → SourceCause supply supply false
+no_fault supply = record { faults = refl; same_sure = refl; unsure = λ e. absurd (cc e) }
+
+-- ---- the run over the lines
+
+module _ (status : Status) (arguments : List (List ℕ)) (source : Supply) (state : State) (reader : Reader) (left : Supply) (old new : Outlet)
+    (right : IsTaken arguments) (runs : Runs status (beginning (given_limits arguments) source.left old) (stand state reader left new))
+    (reads : SourceCause source left (is_read_fault status)) (writes : SinkCause old new (is_write_fault status)) where
+  -- without faults and with a script within the limit nothing hinders the run
+  unhindered : ¬ Rose source.faults left.faults → ¬ Rose old.faults new.faults
+      → IsSomeAnd source.left (λ script. length script ≤ INPUT_LIMIT) → IsUnhindered status
+  unhindered no_read no_write within = (elim status as (λ (s : Status). status ≡ s → IsUnhindered s) [
+    | Done ↦ λ e. tt
+    | Refused ↦ λ e. tt
+    | Usage ↦ λ e. rw e at runs
+    | ReadFault ↦ λ e. no_read (rose-told source.faults left.faults (rw e at reads.faults))
+    | WriteFault ↦ λ e. no_write (rose-told old.faults new.faults (rw e at writes))
+    | NoMemory ↦ λ e. tt
+    | InputLimit ↦ λ e. not-over source.left (rw e at runs).over within
+  ]) refl
+
+  pub run-lines : IsRun status arguments source left old new
+  run-lines = record {
+    done = λ e. AnswersAll-whole (given_limits arguments) source.left old state reader left new false (rw e at runs);
+    refused = λ e. AnswersAll-whole (given_limits arguments) source.left old state reader left new true (rw e at runs);
+    limit = λ e. Runs-within (given_limits arguments) source.left old state reader left new (rw e at runs);
+    given = λ e. Runs-given (given_limits arguments) source.left state reader left old new (rw e at runs);
+    usage = λ e. absurd (rw e at runs);
+    usage_always = λ wrong. absurd (not-both arguments right wrong);
+    read_fault = reads;
+    write_fault = writes;
+    prefix = Runs-due status arguments source.left old state reader left new right runs;
+    room = λ e. Runs-room arguments source.left old state reader left new right (rw e at runs);
+    within = Runs-takes (given_limits arguments) source.left old state reader left new status runs;
+    complete = λ taken no_read no_write within. unhindered no_read no_write within;
+  }
+
+-- ---- memory ran out before anything was read
+
+pub run-none : (arguments : List (List ℕ)) (supply : Supply) (outlet : Outlet) → IsRun NoMemory arguments supply supply outlet outlet
+run-none arguments supply outlet = record {
+  done = λ e. absurd (cc e);
+  refused = λ e. absurd (cc e);
+  limit = λ e. absurd (cc e);
+  given = λ e. absurd (cc e);
+  usage = λ e. absurd (cc e);
+  usage_always = λ wrong. inr (inr refl);
+  read_fault = no_fault supply;
+  write_fault = refl;
+  prefix = WritesDue-none arguments supply.left outlet;
+  room = λ e. absurd (cc e);
+  within = takes-none supply.left;
+  complete = λ taken no_read no_write within. tt;
+}
+
+-- ---- the usage line
+
+module _ (arguments : List (List ℕ)) (supply : Supply) (old new : Outlet) (wrong : IsUsage arguments) where
+  pub run-usage : Writes usage_line old new → SinkCause old new false → IsRun Usage arguments supply supply old new
+  run-usage writes cause = record {
+    done = λ e. absurd (cc e);
+    refused = λ e. absurd (cc e);
+    limit = λ e. absurd (cc e);
+    given = λ e. absurd (cc e);
+    usage = λ e. (wrong, writes);
+    usage_always = λ wrong. inl refl;
+    read_fault = no_fault supply;
+    write_fault = cause;
+    prefix = (usage_line, usage_line, IsDue-usage arguments supply.left supply.left wrong, ([], sym (append-nil usage_line)), writes);
+    room = λ e. absurd (cc e);
+    within = takes-none supply.left;
+    complete = λ taken no_read no_write within. not-both arguments taken wrong;
+  }
+
+  pub run-usage_cut_off : (written : List ℕ) → IsPrefix written usage_line → Writes written old new
+      → IfSome old.room (λ count. count < length usage_line) → SinkCause old new true → IsRun WriteFault arguments supply supply old new
+  run-usage_cut_off written prefix writes full cause = record {
+    done = λ e. absurd (cc e);
+    refused = λ e. absurd (cc e);
+    limit = λ e. absurd (cc e);
+    given = λ e. absurd (cc e);
+    usage = λ e. absurd (cc e);
+    usage_always = λ wrong. inr (inl refl);
+    read_fault = no_fault supply;
+    write_fault = cause;
+    prefix = (usage_line, written, IsDue-usage arguments supply.left supply.left wrong, prefix, writes);
+    room = λ e. IsOverRoom-usage arguments supply.left supply.left old.room wrong full;
+    within = takes-none supply.left;
+    complete = λ taken no_read no_write within. not-both arguments taken wrong;
+  }
