@@ -1,5 +1,5 @@
 -- What a worker does to its seat: step after step, for a member and for those that it needs.
-use Rattle.std.proofs.Common.{◌≡◌, ◌⊎◌, inl, inr, ⊎_elim, ℕ, ◌<◌, true, false, ◌==◌, List, [], ◌∷◌, length, ℤ, refl, sym, ap, ◌∙◌, subst}
+use Rattle.std.proofs.Common.{◌≡◌, ◌⊎◌, inl, inr, ⊎_elim, ℕ, ◌<◌, Bool, true, false, ◌==◌, ◌||◌, List, [], ◌∷◌, length, ℤ, refl, sym, ap, ◌∙◌, subst}
 use Rattle.std.specs.Prelude.{Result, IfErr}
 use Rattle.std.proofs.lemmas.Result.{MatchResult-weaker}
 use Rattle.std.proofs.lemmas.Bool.{or_cases, or_parts, or_left, cond-true, cond-false, eqb-true, eq-eqb, false_from_ne_true}
@@ -17,22 +17,15 @@ use Rattle.cox_klstep.specs.Faults.{IsFault}
 use Rattle.cox_klstep.specs.NeedsOf.{HasNeeds}
 use Rattle.cox_claims.specs.declared.seat.Seat.{Seat}
 use Rattle.cox_claims.specs.declared.view.View.{View}
-use Rattle.cox_claims.specs.Knowledge.{among, without, holds, marked, saw_void, looked, SeesAll, Wins, Publishes, Voids}
+use Rattle.cox_claims.specs.Knowledge.{among, without, holds, marked, has_published, saw_void, looked, SeesAll, Wins, Publishes, Voids}
 use Rattle.cox_claims.specs.Seats.{view_of, splits_of, IsSameSeat, HasSeenVoid, HasMarked}
 use Rattle.cox_claims.proofs.Rows.{among_else}
 use Rattle.cox_workers.specs.declared.missing.Missing.{Missing}
 use Rattle.cox_workers.specs.declared.missing.Missing.TheVariants.{Void, Coefficient, Mu, NoMemory}
 use Rattle.cox_workers.specs.Faults.{missing_by}
-use Rattle.cox_workers.specs.Work.{IsNeededAt, IsKept, VoidsNone, IsVoid, IsBeyond, IsMissing, IsUnmade}
+use Rattle.cox_workers.specs.Work.{IsNeededAt, HasPublished, IsKept, VoidsNone, IsVoid, IsBeyond, IsMissing, IsUnmade}
 
 -- ---- views
-
--- a look changes no mark
-pub looked_marks : (v : View) (i : ℕ) (x : RowState) → (looked v i x).marks ≡ v.marks
-looked_marks v i RowState.Free = refl
-looked_marks v i RowState.Claimed = refl
-looked_marks v i RowState.Published = refl
-looked_marks v i RowState.Void = refl
 
 pub sees-refl : (v : View) → SeesAll v v
 sees-refl v = record { published = λ i h. h; void = λ i h. h; claimed = λ i h. h }
@@ -76,18 +69,22 @@ module _ (e : Elements) where
   kept-refl i a = record {
     same = record { table = refl; number = refl };
     splits = refl;
+    children = refl;
     held = refl;
     seen = sees-refl (view_of a);
     marks = λ j h. inl h;
+    made = λ j h. inl h;
   }
 
   pub kept-trans : (i : ℕ) (a b c : Seat) → IsKept e i a b → IsKept e i b c → IsKept e i a c
   kept-trans i a b c s t = record {
     same = record { table = t.same.table ∙ s.same.table; number = t.same.number ∙ s.same.number };
     splits = t.splits ∙ s.splits;
+    children = t.children ∙ s.children;
     held = t.held ∙ s.held;
     seen = sees-trans (view_of a) (view_of b) (view_of c) s.seen t.seen;
     marks = λ j h. ⊎_elim (λ (old : HasMarked b j). s.marks j old) (λ (n : IsNeededAt e i j). inr n) (t.marks j h);
+    made = λ j h. ⊎_elim (λ (old : HasPublished b j). s.made j old) (λ (n : IsNeededAt e i j). inr n) (t.made j h);
   }
 
   -- for a row that is needed, so for the row that needs it
@@ -95,9 +92,11 @@ module _ (e : Elements) where
   kept-needed g i u a b n k = record {
     same = k.same;
     splits = k.splits;
+    children = k.children;
     held = k.held;
     seen = k.seen;
     marks = λ j h. ⊎_elim (λ (old : HasMarked a j). inl old) (λ (m : IsNeededAt e u j). inr (needs-trans g i u j n m)) (k.marks j h);
+    made = λ j h. ⊎_elim (λ (old : HasPublished a j). inl old) (λ (m : IsNeededAt e u j). inr (needs-trans g i u j n m)) (k.made j h);
   }
 
   -- ---- why a row is not there
@@ -155,30 +154,49 @@ module _ (e : Elements) where
         number = ended.number ∙ kept.same.number ∙ claimed.number;
       }
 
+      children : (view_of c).children ≡ (view_of a).children
+      children = kept.children ∙ ap (λ v. v.children) wins.after
+
+      seen : SeesAll (view_of c) (view_of d) → SeesAll (view_of a) (view_of d)
+      seen after = sees-trans (view_of a) (view_of b) (view_of d) wins.kept (sees-trans (view_of b) (view_of c) (view_of d) kept.seen after)
+
       -- marks are those from before the claim, or on rows that are needed
       marks : (j : ℕ) → HasMarked c j → HasMarked a j ⊎ IsNeededAt e i j
       marks j h = ⊎_elim (λ (old : HasMarked b j). inl (ap (among j) (sym (ap (λ v. v.marks) wins.after)) ∙ old)) (λ (n : IsNeededAt e i j). inr n)
           (kept.marks j h)
 
+      -- so are the rows that were published
+      made : (j : ℕ) → HasPublished c j → HasPublished a j ⊎ IsNeededAt e i j
+      made j h = ⊎_elim (λ (old : HasPublished b j). inl (ap (among j) (sym (ap (λ v. v.made) wins.after)) ∙ old)) (λ (n : IsNeededAt e i j). inr n)
+          (kept.made j h)
+
+      -- and row i itself is needed
+      with_itself : (P : ℕ → Type 0) (j : ℕ) (rest : Bool) → (rest ≡ true → P j ⊎ IsNeededAt e i j) → ((i == j) || rest) ≡ true
+          → P j ⊎ IsNeededAt e i j
+      with_itself P j rest old h = ⊎_elim
+          (λ (this : (i == j) ≡ true). inr (subst (IsNeededAt e i) (eqb-true i j this) (needs_itself g i within)))
+          old (or_cases (i == j) rest h)
+
       pub published_kept : Publishes (view_of c) i (view_of d) → IsKept e i a d
       published_kept p = record {
         same = same;
         splits = ended-splits ∙ kept.splits ∙ claimed-splits;
+        children = ap (λ v. v.children) p.after ∙ children;
         held = ap (λ v. v.held) p.after ∙ held-again;
-        seen = sees-trans (view_of a) (view_of b) (view_of d) wins.kept (sees-trans (view_of b) (view_of c) (view_of d) kept.seen p.kept);
+        seen = seen p.kept;
         marks = λ j h. marks j (ap (λ v. among j v.marks) (sym p.after) ∙ h);
+        made = λ j h. with_itself (HasPublished a) j (has_published (view_of c) j) (made j) (ap (λ v. among j v.made) (sym p.after) ∙ h);
       }
 
       pub voided_kept : Voids (view_of c) i (view_of d) → IsKept e i a d
       voided_kept p = record {
         same = same;
         splits = ended-splits ∙ kept.splits ∙ claimed-splits;
+        children = ap (λ v. v.children) p.after ∙ children;
         held = ap (λ v. v.held) p.after ∙ held-again;
-        seen = sees-trans (view_of a) (view_of b) (view_of d) wins.kept (sees-trans (view_of b) (view_of c) (view_of d) kept.seen p.kept);
-        marks = λ j h. ⊎_elim
-            (λ (this : (i == j) ≡ true). inr (subst (IsNeededAt e i) (eqb-true i j this) (needs_itself g i within)))
-            (λ (old : HasMarked c j). marks j old)
-            (or_cases (i == j) (marked (view_of c) j) (ap (λ v. among j v.marks) (sym p.after) ∙ h));
+        seen = seen p.kept;
+        marks = λ j h. with_itself (HasMarked a) j (marked (view_of c) j) (marks j) (ap (λ v. among j v.marks) (sym p.after) ∙ h);
+        made = λ j h. made j (ap (λ v. among j v.made) (sym p.after) ∙ h);
       }
 
       -- row i was Claimed to the end, so it is not one that was seen Void

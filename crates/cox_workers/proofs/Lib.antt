@@ -2,6 +2,8 @@
 pub mod Guards
 -- what a worker does to its seat
 pub mod Keeping
+-- what work leaves
+pub mod Working
 -- a member's shorter element and corrections
 pub mod Descended
 -- what a seat has seen when rows were made

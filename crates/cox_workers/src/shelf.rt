@@ -52,6 +52,14 @@ impl<'a> Shelf<'a> {
         self.guards[member as usize] = Some(guard);
     }
 
+    /// The neighbour at a place of the row of a member, if that is on the shelf and has so many.
+    pub(crate) fn neighbour(&self, member: u32, place: usize) -> Option<u32>
+        ensures { IfSome result (λ u. u < length self.now.context.value.members) }
+    {
+        let row = self.get(member)?;
+        row.neighbours().get(place).copied()
+    }
+
     /// The row of a member, if it is on the shelf.
     pub fn get(&self, member: u32) -> Option<&Row>
         ensures row { IfSome result (λ row. IsRowAt self.now.context.value member row.now × IsRowWithin self.now.limit row.now) }
