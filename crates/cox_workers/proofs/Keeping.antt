@@ -1,5 +1,6 @@
 -- What a worker does to its seat: step after step, for a member and for those that it needs.
-use Rattle.std.proofs.Common.{◌≡◌, ◌⊎◌, inl, inr, ⊎_elim, ℕ, ◌<◌, Bool, true, false, ◌==◌, ◌||◌, List, [], ◌∷◌, length, ℤ, refl, sym, ap, ◌∙◌, subst}
+use Rattle.std.proofs.Common.{◌≡◌, ◌⊎◌, inl, inr, ⊎_elim, ℕ, ◌<◌, Bool, true, false, ◌==◌, ◌||◌, List, [], ◌∷◌, length, ℤ}
+use Rattle.std.proofs.Common.{refl, sym, ap, ◌∙◌, subst}
 use Rattle.std.specs.Prelude.{Result, IfErr}
 use Rattle.std.proofs.lemmas.Result.{MatchResult-weaker}
 use Rattle.std.proofs.lemmas.Bool.{or_cases, or_parts, or_left, cond-true, cond-false, eqb-true, eq-eqb, false_from_ne_true}
@@ -122,12 +123,14 @@ module _ (e : Elements) where
     void = h.void;
     mark = h.mark ∙ ap (among j) none;
   }
-  missing-needed g limit i u a b c (Coefficient x w degree value) n none h = beyond-needed g limit i u w (step.Coefficient x degree value) c n h
+  missing-needed g limit i u a b c (Coefficient x w degree value) n none h =
+      beyond-needed g limit i u w (step.Coefficient x degree value) c n h
   missing-needed g limit i u a b c (Mu x w value) n none h = beyond-needed g limit i u w (step.Mu x value) c n h
   missing-needed g limit i u a b c NoMemory n none h = h
 
   -- the same of a result
-  pub result-needed : {T : Type 0} → IsAdmissible (integer_matrix e.matrix) → (limit : ℤ) (i u : ℕ) (a b c : Seat) (result : Result T Missing)
+  pub result-needed : {T : Type 0} → IsAdmissible (integer_matrix e.matrix) → (limit : ℤ) (i u : ℕ) (a b c : Seat)
+      (result : Result T Missing)
       → IsNeededAt e i u → VoidsNone a b → IfErr result (IsMissing e limit u b c) → IfErr result (IsMissing e limit i a c)
   result-needed g limit i u a b c result n none h =
       MatchResult-weaker result h (λ x t. t) (λ m f. missing-needed g limit i u a b c m n none f)
@@ -135,7 +138,8 @@ module _ (e : Elements) where
   -- ---- a claim that is won, and what comes of it
 
   module _ (g : IsAdmissible (integer_matrix e.matrix)) (i : ℕ) (within : i < length e.members) (a b c d : Seat)
-      (claimed : IsSameSeat a b) (claimed-splits : splits_of b ≡ splits_of a) (wins : Wins (view_of a) i (view_of b)) (kept : IsKept e i b c)
+      (claimed : IsSameSeat a b) (claimed-splits : splits_of b ≡ splits_of a) (wins : Wins (view_of a) i (view_of b))
+      (kept : IsKept e i b c)
       (ended : IsSameSeat c d) (ended-splits : splits_of d ≡ splits_of c)
     where
       -- the row was not held before
@@ -162,13 +166,13 @@ module _ (e : Elements) where
 
       -- marks are those from before the claim, or on rows that are needed
       marks : (j : ℕ) → HasMarked c j → HasMarked a j ⊎ IsNeededAt e i j
-      marks j h = ⊎_elim (λ (old : HasMarked b j). inl (ap (among j) (sym (ap (λ v. v.marks) wins.after)) ∙ old)) (λ (n : IsNeededAt e i j). inr n)
-          (kept.marks j h)
+      marks j h = ⊎_elim (λ (old : HasMarked b j). inl (ap (among j) (sym (ap (λ v. v.marks) wins.after)) ∙ old))
+          (λ (n : IsNeededAt e i j). inr n) (kept.marks j h)
 
       -- so are the rows that were published
       made : (j : ℕ) → HasPublished c j → HasPublished a j ⊎ IsNeededAt e i j
-      made j h = ⊎_elim (λ (old : HasPublished b j). inl (ap (among j) (sym (ap (λ v. v.made) wins.after)) ∙ old)) (λ (n : IsNeededAt e i j). inr n)
-          (kept.made j h)
+      made j h = ⊎_elim (λ (old : HasPublished b j). inl (ap (among j) (sym (ap (λ v. v.made) wins.after)) ∙ old))
+          (λ (n : IsNeededAt e i j). inr n) (kept.made j h)
 
       -- and row i itself is needed
       with_itself : (P : ℕ → Type 0) (j : ℕ) (rest : Bool) → (rest ≡ true → P j ⊎ IsNeededAt e i j) → ((i == j) || rest) ≡ true
@@ -223,5 +227,6 @@ module _ (e : Elements) where
       pub unmade_missing : Voids (view_of c) i (view_of d) → HasSeenVoid d i → (limit : ℤ) (m : Missing) → IsUnmade e limit i b c m
           → IsMissing e limit i a d m
       unmade_missing p void limit m h = ⊎_elim (λ (other : IsMissing e limit i b c m). missing p limit m other)
-          (λ (own : (fault : StepFault) × (m ≡ missing_by fault i) × IsFault (integer_matrix e.matrix) e.members (word_at e.members i) limit fault).
+          (λ (own : (fault : StepFault) × (m ≡ missing_by fault i)
+          × IsFault (integer_matrix e.matrix) e.members (word_at e.members i) limit fault).
           subst (IsMissing e limit i a d) (sym own.1) (faulty void limit own.0 own.2)) h

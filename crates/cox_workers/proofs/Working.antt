@@ -14,7 +14,8 @@ use Rattle.cox_workers.proofs.Keeping.{kept-refl, kept-trans, kept-needed}
 
 module _ (bench : Bench) where
   -- a seat that has seen all that it had seen is as ready
-  pub ready_still : (a b : Seat) (h : Hand) → IsReady bench a h → IsSeat bench.store.now b → SeesAll (view_of a) (view_of b) → IsReady bench b h
+  pub ready_still : (a b : Seat) (h : Hand) → IsReady bench a h → IsSeat bench.store.now b → SeesAll (view_of a) (view_of b)
+      → IsReady bench b h
   ready_still a b h r own seen =
       record { own = own; shelf = r.shelf; tables = r.tables; seen = λ i on. seen.published i (r.seen i on) }
 

@@ -23,8 +23,8 @@ pub record IsNeededAt (e : Elements) (i j : ℕ) : Type 0 where
 abbrev pub HasPublished : Seat → ℕ → Type 0
 HasPublished seat j = has_published (view_of seat) j ≡ true
 
--- it is the same seat, and none was split from it; it holds what it held and has seen what it had seen, and has voided and published rows of
--- Need(w) alone, where w is member i
+-- it is the same seat, and none was split from it; it holds what it held and has seen what it had seen, and has voided and published rows
+-- of Need(w) alone, where w is member i
 pub record IsKept (e : Elements) (i : ℕ) (old new : Seat) : Type 0 where
   pub same : IsSameSeat old new
   pub splits : splits_of new ≡ splits_of old
@@ -57,7 +57,8 @@ IsMissing e limit i old new (Coefficient x w degree value) = IsBeyond e limit i 
 IsMissing e limit i old new (Mu x w value) = IsBeyond e limit i w (step.Mu x value) new
 IsMissing e limit i old new NoMemory = Unit {0}
 
--- why the row of member i, which the seat held, was not made: either some other row that it needs is missing, or it is beyond a limit itself
+-- why the row of member i, which the seat held, was not made: either some other row that it needs is missing, or it is itself
+-- beyond a limit
 abbrev pub IsUnmade : Elements → ℤ → ℕ → Seat → Seat → Missing → Type 0
 IsUnmade e limit i old new missing =
     IsMissing e limit i old new missing ⊎ ((fault : StepFault) × (missing ≡ missing_by fault i)

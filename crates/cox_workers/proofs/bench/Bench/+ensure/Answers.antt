@@ -19,7 +19,8 @@ use Rattle.cox_workers.proofs.bench.Bench.+ensure.Goals as goal
 
 pub ensure-returns-in-Lost-Void-clause-missing : goal.ensure-returns-in-Lost-Void-clause-missing
 ensure-returns-in-Lost-Void-clause-missing g t c =
-    looked_void c.args.self.now.context.now c.len-len.ensures.admissible c.args.i c.args.seat.now c.args.seat.now c.claim.new.seat c.requires.member refl
+    looked_void c.args.self.now.context.now c.len-len.ensures.admissible c.args.i c.args.seat.now c.args.seat.now c.claim.new.seat
+    c.requires.member refl
     (c.in-Lost-Void.ensures.step.after ∙ ap (looked (view_of c.args.seat.now) c.args.i) c.in-Lost-Void.field-0-is)
 
 pub ensure-returns-in-Ok-clause-work : goal.ensure-returns-in-Ok-clause-work
@@ -44,15 +45,18 @@ ensure-returns-in-Err-clause-work g t c = record {
 
 pub ensure-returns-in-Err-clause-missing : goal.ensure-returns-in-Err-clause-missing
 ensure-returns-in-Err-clause-missing g t c =
-    unmade_missing c.args.self.now.context.now c.len-len.ensures.admissible c.args.i c.requires.member c.args.seat.now c.claim.new.seat c.made.new.seat
+    unmade_missing c.args.self.now.context.now c.len-len.ensures.admissible c.args.i c.requires.member c.args.seat.now c.claim.new.seat
+    c.made.new.seat
     c.void.new.seat c.claim.ensures.seat c.claim.ensures.splits c.in-Won.ensures.step c.made.ensures.work.kept c.void.ensures.seat
-    c.void.ensures.splits c.void.ensures.step c.void.ensures.seen.0 (limit_of c.args.self.now.store.now) c.in-Err.missing c.in-Err.ensures.missing
+    c.void.ensures.splits c.void.ensures.step c.void.ensures.seen.0 (limit_of c.args.self.now.store.now) c.in-Err.missing
+    c.in-Err.ensures.missing
 
 -- ---- the rows that a row is made from
 
 pub made-row-requires-clause-needs : goal.made-row-requires-clause-needs
 made-row-requires-clause-needs g t c =
-    needs-map c.args.self.now.context.now (IsOn c.take_in.new.hand.shelf) (IsOn c.gather.new.hand.shelf) c.args.i c.gather.ensures.work.shelf
+    needs-map c.args.self.now.context.now (IsOn c.take_in.new.hand.shelf) (IsOn c.gather.new.hand.shelf) c.args.i
+    c.gather.ensures.work.shelf
     c.in_ok-take_in.ensures.needs
 
 pub made-returns-in-Ok-clause-needs : goal.made-returns-in-Ok-clause-needs
@@ -71,7 +75,8 @@ obtain-ensure-requires g t c = λ κs outlives.
 
 pub obtain-returns-in_err-ensure-clause-work : goal.obtain-returns-in_err-ensure-clause-work
 obtain-returns-in_err-ensure-clause-work g t c =
-    work-trans c.args.self.now c.args.u c.args.seat.now c.take_published.new.seat c.ensure.new.seat c.args.hand.now c.take_published.new.hand
+    work-trans c.args.self.now c.args.u c.args.seat.now c.take_published.new.seat c.ensure.new.seat c.args.hand.now
+    c.take_published.new.hand
     c.ensure.new.hand (c.take_published.ensures.work c.args.u) c.ensure.ensures.work
 
 pub obtain-returns-clause-work : goal.obtain-returns-clause-work
@@ -83,7 +88,8 @@ obtain-returns-clause-work g t c =
 pub take_in-returns-then-i-eq0-clause-needs : goal.take_in-returns-then-i-eq0-clause-needs
 take_in-returns-then-i-eq0-clause-needs g t c =
     let none : c.args.i ≡ 0 = omega arith
-    in rw none (identity-needs c.args.self.now.context.now c.len-len.ensures.admissible c.len-len.ensures.closed (IsOn c.args.hand.now.shelf))
+    in rw none (identity-needs c.args.self.now.context.now c.len-len.ensures.admissible c.len-len.ensures.closed
+    (IsOn c.args.hand.now.shelf))
 
 -- ---- the shorter element
 
@@ -101,7 +107,8 @@ take_in-returns-in_err-obtain-clause-work g t c =
     let e = c.args.self.now.context.now in
     let needed : IsNeededAt e c.args.i c.of-descent.result.lower = rw c.of-descent.ensures.number at
     (lower-needed e c.len-len.ensures.admissible c.len-len.ensures.closed c.of-descent.result c.of-descent.ensures.descent)
-    in work-needed c.args.self.now c.len-len.ensures.admissible c.args.i c.of-descent.result.lower c.args.seat.now c.obtain.new.seat c.args.hand.now
+    in work-needed c.args.self.now c.len-len.ensures.admissible c.args.i c.of-descent.result.lower c.args.seat.now c.obtain.new.seat
+    c.args.hand.now
     c.obtain.new.hand needed c.obtain.ensures.work
 
 pub take_in-returns-in_err-corrections-clause-work : goal.take_in-returns-in_err-corrections-clause-work
@@ -109,7 +116,8 @@ take_in-returns-in_err-corrections-clause-work g t c =
     let e = c.args.self.now.context.now in
     let needed : IsNeededAt e c.args.i c.of-descent.result.lower = rw c.of-descent.ensures.number at
     (lower-needed e c.len-len.ensures.admissible c.len-len.ensures.closed c.of-descent.result c.of-descent.ensures.descent)
-    in work-needed c.args.self.now c.len-len.ensures.admissible c.args.i c.of-descent.result.lower c.args.seat.now c.obtain.new.seat c.args.hand.now
+    in work-needed c.args.self.now c.len-len.ensures.admissible c.args.i c.of-descent.result.lower c.args.seat.now c.obtain.new.seat
+    c.args.hand.now
     c.obtain.new.hand needed c.obtain.ensures.work
 
 pub take_in-returns-in_err-obtain-clause-missing : goal.take_in-returns-in_err-obtain-clause-missing
@@ -119,7 +127,8 @@ take_in-returns-in_err-obtain-clause-missing g t c =
     let needed : IsNeededAt e c.args.i c.of-descent.result.lower = rw c.of-descent.ensures.number at
     (lower-needed e c.len-len.ensures.admissible c.len-len.ensures.closed c.of-descent.result c.of-descent.ensures.descent)
     in let why : IfErr c.from_residual.result (IsMissing e limit c.of-descent.result.lower c.args.seat.now c.obtain.new.seat) = search rules
-    in result-needed e c.len-len.ensures.admissible limit c.args.i c.of-descent.result.lower c.args.seat.now c.args.seat.now c.obtain.new.seat
+    in result-needed e c.len-len.ensures.admissible limit c.args.i c.of-descent.result.lower c.args.seat.now c.args.seat.now
+    c.obtain.new.seat
     c.from_residual.result needed refl why
 
 -- ---- the corrections
@@ -162,9 +171,11 @@ take_in-returns-in_err-obtain-2-clause-work g t c =
     let needed : IsNeededAt e c.args.i u = rw c.of-descent.ensures.number at
     (correction-needed e c.len-len.ensures.admissible c.len-len.ensures.closed d c.of-descent.ensures.descent items are
     c.corrections.u-index c.corrections-test.true)
-    in work-trans c.args.self.now c.args.i c.args.seat.now c.corrections.seat c.obtain-in-corrections.new.seat c.args.hand.now c.corrections.hand
+    in work-trans c.args.self.now c.args.i c.args.seat.now c.corrections.seat c.obtain-in-corrections.new.seat c.args.hand.now
+    c.corrections.hand
     c.obtain-in-corrections.new.hand c.corrections.invariant.work
-    (work-needed c.args.self.now c.len-len.ensures.admissible c.args.i u c.corrections.seat c.obtain-in-corrections.new.seat c.corrections.hand
+    (work-needed c.args.self.now c.len-len.ensures.admissible c.args.i u c.corrections.seat c.obtain-in-corrections.new.seat
+    c.corrections.hand
     c.obtain-in-corrections.new.hand needed c.obtain-in-corrections.ensures.work)
 
 pub take_in-corrections-preserved : goal.take_in-corrections-preserved
@@ -217,6 +228,7 @@ take_in-returns-clause-needs g t c =
     let are : AreNeeds (integer_matrix e.matrix) e.members d.letter (word_at e.members d.member) items =
     rw c.deref-u-items.ensures.value c.in_ok-corrections.ensures in
     rw c.of-descent.ensures.number at
-    (listed-needs e (IsOn c.corrections.hand.shelf) d items c.len-len.ensures.admissible c.len-len.ensures.closed c.of-descent.ensures.descent are
+    (listed-needs e (IsOn c.corrections.hand.shelf) d items c.len-len.ensures.admissible c.len-len.ensures.closed
+    c.of-descent.ensures.descent are
     (c.corrections.invariant.stay d.lower c.in_ok-obtain.ensures.here.0)
     (λ k l. c.corrections.invariant.taken k (omega (arith, l, c.corrections-test.false))))

@@ -7,6 +7,7 @@ pub returns-in-Won-clause-grown : goal.returns-in-Won-clause-grown
 returns-in-Won-clause-grown g c =
     let e = c.args.self.now.context.now in
     grown_of e c.args.member c.args.seat.now c.void.new.seat
-    (voided_kept e c.len-len.ensures.admissible c.args.member c.requires.member c.args.seat.now c.claim.new.seat c.claim.new.seat c.void.new.seat
+    (voided_kept e c.len-len.ensures.admissible c.args.member c.requires.member c.args.seat.now c.claim.new.seat c.claim.new.seat
+    c.void.new.seat
     c.claim.ensures.seat c.claim.ensures.splits c.in-Won.ensures.step (kept-refl e c.args.member c.claim.new.seat) c.void.ensures.seat
     c.void.ensures.splits c.void.ensures.step)
