@@ -3,7 +3,7 @@ use Rattle.std.proofs.Common.{◌≡◌, ◌⊎◌, inl, inr, ⊎_elim, ℕ, ◌
 use Rattle.std.proofs.Common.{refl, sym, ap, ◌∙◌, subst}
 use Rattle.std.specs.Prelude.{Result, IfErr}
 use Rattle.std.proofs.lemmas.Result.{MatchResult-weaker}
-use Rattle.std.proofs.lemmas.Bool.{or_cases, or_parts, or_left, cond-true, cond-false, eqb-true, eq-eqb, false_from_ne_true}
+use Rattle.std.proofs.lemmas.Bool.{or_cases, or_parts, or_left, or_right, cond-true, cond-false, eqb-true, eq-eqb, false_from_ne_true}
 use Rattle.cox_base.specs.IntegerMatrix.{integer_matrix}
 use Rattle.cox_base.specs.Admissible.{IsAdmissible}
 use Rattle.cox_reflect.proofs.Elements.{same-refl}
@@ -18,13 +18,14 @@ use Rattle.cox_klstep.specs.Faults.{IsFault}
 use Rattle.cox_klstep.specs.NeedsOf.{HasNeeds}
 use Rattle.cox_claims.specs.declared.seat.Seat.{Seat}
 use Rattle.cox_claims.specs.declared.view.View.{View}
-use Rattle.cox_claims.specs.Knowledge.{among, without, holds, marked, has_published, saw_void, looked, SeesAll, Wins, Publishes, Voids}
+use Rattle.cox_claims.specs.Knowledge.{among, without, holds, marked, has_published, has_voided, saw_void, looked}
+use Rattle.cox_claims.specs.Knowledge.{SeesAll, Wins, Publishes, Voids}
 use Rattle.cox_claims.specs.Seats.{view_of, splits_of, IsSameSeat, HasSeenVoid, HasMarked}
 use Rattle.cox_claims.proofs.Rows.{among_else}
 use Rattle.cox_workers.specs.declared.missing.Missing.{Missing}
 use Rattle.cox_workers.specs.declared.missing.Missing.TheVariants.{Void, Coefficient, Mu, NoMemory}
 use Rattle.cox_workers.specs.Faults.{missing_by}
-use Rattle.cox_workers.specs.Work.{IsNeededAt, HasPublished, IsKept, VoidsNone, IsVoid, IsBeyond, IsMissing, IsUnmade}
+use Rattle.cox_workers.specs.Work.{IsNeededAt, HasEnded, IsKept, VoidsNone, IsVoid, IsBeyond, IsMissing, IsUnmade}
 
 -- ---- views
 
@@ -74,7 +75,7 @@ module _ (e : Elements) where
     held = refl;
     seen = sees-refl (view_of a);
     marks = λ j h. inl h;
-    made = λ j h. inl h;
+    ended = λ j h. inl h;
   }
 
   pub kept-trans : (i : ℕ) (a b c : Seat) → IsKept e i a b → IsKept e i b c → IsKept e i a c
@@ -85,7 +86,7 @@ module _ (e : Elements) where
     held = t.held ∙ s.held;
     seen = sees-trans (view_of a) (view_of b) (view_of c) s.seen t.seen;
     marks = λ j h. ⊎_elim (λ (old : HasMarked b j). s.marks j old) (λ (n : IsNeededAt e i j). inr n) (t.marks j h);
-    made = λ j h. ⊎_elim (λ (old : HasPublished b j). s.made j old) (λ (n : IsNeededAt e i j). inr n) (t.made j h);
+    ended = λ j h. ⊎_elim (λ (old : HasEnded b j). s.ended j old) (λ (n : IsNeededAt e i j). inr n) (t.ended j h);
   }
 
   -- for a row that is needed, so for the row that needs it
@@ -97,7 +98,7 @@ module _ (e : Elements) where
     held = k.held;
     seen = k.seen;
     marks = λ j h. ⊎_elim (λ (old : HasMarked a j). inl old) (λ (m : IsNeededAt e u j). inr (needs-trans g i u j n m)) (k.marks j h);
-    made = λ j h. ⊎_elim (λ (old : HasPublished a j). inl old) (λ (m : IsNeededAt e u j). inr (needs-trans g i u j n m)) (k.made j h);
+    ended = λ j h. ⊎_elim (λ (old : HasEnded a j). inl old) (λ (m : IsNeededAt e u j). inr (needs-trans g i u j n m)) (k.ended j h);
   }
 
   -- ---- why a row is not there
@@ -169,10 +170,11 @@ module _ (e : Elements) where
       marks j h = ⊎_elim (λ (old : HasMarked b j). inl (ap (among j) (sym (ap (λ v. v.marks) wins.after)) ∙ old))
           (λ (n : IsNeededAt e i j). inr n) (kept.marks j h)
 
-      -- so are the rows that were published
-      made : (j : ℕ) → HasPublished c j → HasPublished a j ⊎ IsNeededAt e i j
-      made j h = ⊎_elim (λ (old : HasPublished b j). inl (ap (among j) (sym (ap (λ v. v.made) wins.after)) ∙ old))
-          (λ (n : IsNeededAt e i j). inr n) (kept.made j h)
+      -- so are the rows that were published or voided
+      ended-before : (j : ℕ) → HasEnded c j → HasEnded a j ⊎ IsNeededAt e i j
+      ended-before j h = ⊎_elim
+          (λ (old : HasEnded b j). inl (sym (ap (λ v. has_published v j || has_voided v j) wins.after) ∙ old))
+          (λ (n : IsNeededAt e i j). inr n) (kept.ended j h)
 
       -- and row i itself is needed
       with_itself : (P : ℕ → Type 0) (j : ℕ) (rest : Bool) → (rest ≡ true → P j ⊎ IsNeededAt e i j) → ((i == j) || rest) ≡ true
@@ -180,6 +182,27 @@ module _ (e : Elements) where
       with_itself P j rest old h = ⊎_elim
           (λ (this : (i == j) ≡ true). inr (subst (IsNeededAt e i) (eqb-true i j this) (needs_itself g i within)))
           old (or_cases (i == j) rest h)
+
+      -- a row that was published is row i, or was published before, or was voided before
+      ended_or_published : (j : ℕ) → (((i == j) || has_published (view_of c) j) || has_voided (view_of c) j) ≡ true
+          → HasEnded a j ⊎ IsNeededAt e i j
+      ended_or_published j h = ⊎_elim
+          (λ (made : ((i == j) || has_published (view_of c) j) ≡ true).
+          with_itself (HasEnded a) j (has_published (view_of c) j)
+          (λ m. ended-before j (or_left (has_published (view_of c) j) (has_voided (view_of c) j) m)) made)
+          (λ (void : has_voided (view_of c) j ≡ true).
+          ended-before j (or_right (has_published (view_of c) j) (has_voided (view_of c) j) void))
+          (or_cases ((i == j) || has_published (view_of c) j) (has_voided (view_of c) j) h)
+
+      ended_or_voided : (j : ℕ) → (has_published (view_of c) j || ((i == j) || has_voided (view_of c) j)) ≡ true
+          → HasEnded a j ⊎ IsNeededAt e i j
+      ended_or_voided j h = ⊎_elim
+          (λ (made : has_published (view_of c) j ≡ true).
+          ended-before j (or_left (has_published (view_of c) j) (has_voided (view_of c) j) made))
+          (λ (void : ((i == j) || has_voided (view_of c) j) ≡ true).
+          with_itself (HasEnded a) j (has_voided (view_of c) j)
+          (λ v. ended-before j (or_right (has_published (view_of c) j) (has_voided (view_of c) j) v)) void)
+          (or_cases (has_published (view_of c) j) ((i == j) || has_voided (view_of c) j) h)
 
       pub published_kept : Publishes (view_of c) i (view_of d) → IsKept e i a d
       published_kept p = record {
@@ -189,7 +212,7 @@ module _ (e : Elements) where
         held = ap (λ v. v.held) p.after ∙ held-again;
         seen = seen p.kept;
         marks = λ j h. marks j (ap (λ v. among j v.marks) (sym p.after) ∙ h);
-        made = λ j h. with_itself (HasPublished a) j (has_published (view_of c) j) (made j) (ap (λ v. among j v.made) (sym p.after) ∙ h);
+        ended = λ j h. ended_or_published j (ap (λ v. has_published v j || has_voided v j) (sym p.after) ∙ h);
       }
 
       pub voided_kept : Voids (view_of c) i (view_of d) → IsKept e i a d
@@ -200,7 +223,7 @@ module _ (e : Elements) where
         held = ap (λ v. v.held) p.after ∙ held-again;
         seen = seen p.kept;
         marks = λ j h. with_itself (HasMarked a) j (marked (view_of c) j) (marks j) (ap (λ v. among j v.marks) (sym p.after) ∙ h);
-        made = λ j h. made j (ap (λ v. among j v.made) (sym p.after) ∙ h);
+        ended = λ j h. ended_or_voided j (ap (λ v. has_published v j || has_voided v j) (sym p.after) ∙ h);
       }
 
       -- row i was Claimed to the end, so it is not one that was seen Void

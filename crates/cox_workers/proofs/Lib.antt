@@ -6,7 +6,7 @@ pub mod Keeping
 pub mod Working
 -- a member's shorter element and corrections
 pub mod Descended
--- what a seat has seen when rows were made
+-- what two seats that met have published and voided
 pub mod Growing
 -- the law of families
 pub mod GivenRows

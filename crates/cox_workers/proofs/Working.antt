@@ -10,7 +10,7 @@ use Rattle.cox_workers.specs.declared.bench.Bench.{Bench}
 use Rattle.cox_workers.specs.declared.hand.Hand.{Hand}
 use Rattle.cox_workers.specs.Ready.{IsReady, IsWorkFor}
 use Rattle.cox_workers.specs.Work.{IsNeededAt}
-use Rattle.cox_workers.proofs.Keeping.{kept-refl, kept-trans, kept-needed}
+use Rattle.cox_workers.proofs.Keeping.{kept-trans, kept-needed}
 
 module _ (bench : Bench) where
   -- a seat that has seen all that it had seen is as ready
@@ -18,9 +18,6 @@ module _ (bench : Bench) where
       → IsReady bench b h
   ready_still a b h r own seen =
       record { own = own; shelf = r.shelf; tables = r.tables; seen = λ i on. seen.published i (r.seen i on) }
-
-  pub work-refl : (i : ℕ) (a : Seat) (h : Hand) → IsReady bench a h → IsWorkFor bench i a a h h
-  work-refl i a h r = record { ready = r; kept = kept-refl bench.context.now i a; shelf = λ j on. on }
 
   pub work-trans : (i : ℕ) (a b c : Seat) (h k l : Hand) → IsWorkFor bench i a b h k → IsWorkFor bench i b c k l → IsWorkFor bench i a c h l
   work-trans i a b c h k l s t = record {
