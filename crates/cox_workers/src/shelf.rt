@@ -1,9 +1,8 @@
 //! Rows that a worker reads.
-ghost use Rattle.std.specs.Prelude.{◌≡◌, ◌≢◌, ℕ, ◌<◌, length, vec_len, IfOk, IfSome, IsSome, ◌↔◌, IsTrue, None, pos, ◌≤ℤ◌};
+ghost use Rattle.std.specs.Prelude.{◌≡◌, ◌≢◌, ℕ, ◌<◌, length, vec_len, IfOk, IfSome, IsSome, ◌↔◌, None, pos, ◌≤ℤ◌};
 ghost use Rattle.cox_row.specs.RowOf.{IsRowAt};
 ghost use Rattle.cox_row.specs.Within.{IsRowWithin};
 ghost use Rattle.cox_rowcell.specs.Guards.{place_of};
-ghost use Rattle.cox_rowcell.specs.RowFor.{IsRowFor};
 ghost use Rattle.cox_row_store.specs.Places.{place_at};
 ghost use Rattle.cox_workers.specs.Guarded.{guard_at, AreGuarded};
 
