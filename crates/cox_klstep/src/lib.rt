@@ -41,6 +41,7 @@ pub use identity::identity_row;
 pub use making::MU_LIMIT;
 pub use member::row;
 pub use needed::needs;
+pub use sides::{shift, shortens};
 pub use step::Descent;
 pub use steps::Steps;
 pub use tables::Tables;

@@ -11,8 +11,9 @@ use Rattle.cox_rowcell.specs.RowFor.{IsRowFor}
 use Rattle.cox_row_store.specs.Places.{place_at, ArePlaces}
 use Rattle.cox_row_store.specs.Taken.{row_at, AreTaken, TakesRows}
 
-pub are_taken : (e : Elements) (bound : ℤ) (view : View) (number rows : ℕ) (places : List Place) (states : List RowState) (out : List (Option Row))
-    → length e.members ≡ rows → length places ≡ rows → ArePlaces e bound places → Closes view number rows states → TakesRows places states out
+pub are_taken : (e : Elements) (bound : ℤ) (view : View) (number rows : ℕ) (places : List Place) (states : List RowState)
+    (out : List (Option Row)) → length e.members ≡ rows → length places ≡ rows → ArePlaces e bound places → Closes view number rows states
+    → TakesRows places states out
     → AreTaken e bound view out
 are_taken e bound view number rows places states out members cells placed ended taken = record {
   count = omega (arith, taken.count, cells, members);

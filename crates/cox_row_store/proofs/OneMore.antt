@@ -11,7 +11,8 @@ use Rattle.cox_rowcell.specs.RowFor.{IsRowFor}
 use Rattle.cox_row_store.specs.Taken.{row_at, TakesRows}
 
 -- what holds of each item, and of one more, by its number
-each_more : {X : Type 0} (xs : List X) (x d : X) (P : ℕ → X → Type 0) → ((i : ℕ) → i < length xs → P i (slice_index_or xs i d)) → P (length xs) x
+each_more : {X : Type 0} (xs : List X) (x d : X) (P : ℕ → X → Type 0) → ((i : ℕ) → i < length xs → P i (slice_index_or xs i d))
+    → P (length xs) x
     → (i : ℕ) → i < length (xs ++ x ∷ []) → P i (slice_index_or (xs ++ x ∷ []) i d)
 each_more xs x d P old new i within =
     ⊎_elim
@@ -23,14 +24,18 @@ each_more xs x d P old new i within =
 
 pub takes_more : (places : List Place) (states : List RowState) (rows : List (Option Row)) (p : Place) (row : Option Row)
     → TakesRows places states rows → IfSome row (IsRowFor p)
-    → (slice_index_or states (length rows) RowState.Free ≡ RowState.Published → row ≢ None) → TakesRows (places ++ p ∷ []) states (rows ++ row ∷ [])
+    → (slice_index_or states (length rows) RowState.Free ≡ RowState.Published → row ≢ None)
+    → TakesRows (places ++ p ∷ []) states (rows ++ row ∷ [])
 takes_more places states rows p row taken is there =
     let count : length (rows ++ row ∷ []) ≡ length (places ++ p ∷ []) =
     omega (arith, taken.count, length-append rows (row ∷ []), length-append places (p ∷ []))
     in record {
       count = count;
       each = λ i d within.
-          let old : (k : ℕ) → k < length rows → IfSome (row_at rows k) (IsRowFor (slice_index_or (places ++ p ∷ []) k d)) = λ k l. ⊎_elim (λ (less : k < length places). subst (λ q. IfSome (row_at rows k) (IsRowFor q)) (sym (get_or-append places (p ∷ []) d k less)) (taken.each k d less))
+          let old : (k : ℕ) → k < length rows → IfSome (row_at rows k) (IsRowFor (slice_index_or (places ++ p ∷ []) k d)) =
+          λ k l. ⊎_elim
+          (λ (less : k < length places).
+          subst (λ q. IfSome (row_at rows k) (IsRowFor q)) (sym (get_or-append places (p ∷ []) d k less)) (taken.each k d less))
           (λ (past : length places ≤ k). absurd (omega (arith, l, taken.count))) (cases_lt k (length places))
           in each_more rows row None (λ k r. IfSome r (IsRowFor (slice_index_or (places ++ p ∷ []) k d)))
           old

@@ -16,7 +16,8 @@ use Rattle.cox_fill_core.specs.Laws.{reached}
 use Rattle.cox_fill_core.proofs.EventLaws.{stays_good}
 use Rattle.cox_workers.specs.Families.{NeedsSmaller, IsGivenByStep, IsGiven, GivesRows}
 
-module _ (needs : ℕ → List ℕ) (smaller : NeedsSmaller needs) (e : Elements) (g : IsAdmissible (integer_matrix e.matrix)) (events : List Event)
+module _ (needs : ℕ → List ℕ) (smaller : NeedsSmaller needs) (e : Elements) (g : IsAdmissible (integer_matrix e.matrix))
+    (events : List Event)
     (given : ℕ → Family) (are : (i : ℕ) → (reached needs events).state i ≡ RowState.Published → IsGiven e needs given i)
   where
     abbrev A : IntegerMatrix

@@ -1,28 +1,40 @@
--- What a seat has seen when rows were made: by one worker, and by two whose seats meet.
-use Rattle.std.proofs.Common.{inl, inr, ⊎_elim, ℕ, ◌<◌, List, length, ◌∙◌}
+-- What two seats that met have published and voided.
+use Rattle.std.proofs.Common.{◌≡◌, ◌⊎◌, inl, inr, ⊎_elim, ℕ, ◌||◌, List, ◌++◌, true, sym, ap, ◌∙◌}
+use Rattle.std.proofs.lemmas.Bool.{or_cases, or_left, or_right}
 use Rattle.cox_context.specs.Closed.{Elements}
 use Rattle.cox_claims.specs.declared.seat.Seat.{Seat}
-use Rattle.cox_claims.specs.Knowledge.{SeesAll}
-use Rattle.cox_claims.specs.Seats.{view_of, HoldsNothing, HasSeen, HasSeenVoid}
-use Rattle.cox_row.specs.Rising.{number_at}
-use Rattle.cox_row_store.specs.declared.store.RowStore.{RowStore}
-use Rattle.cox_row_store.specs.Stores.{IsSeat}
-use Rattle.cox_workers.specs.Work.{IsKept}
-use Rattle.cox_workers.specs.Filled.{IsSettled, IsGrown, IsFilled}
+use Rattle.cox_claims.specs.Knowledge.{among, has_published, has_voided, parted, told, joined}
+use Rattle.cox_claims.specs.Seats.{view_of}
+use Rattle.cox_claims.proofs.Rows.{among-append}
+use Rattle.cox_workers.specs.Work.{HasEnded}
+use Rattle.cox_workers.specs.Filled.{IsNeededForSome}
 
-pub grown_of : (e : Elements) (i : ℕ) (a b : Seat) → IsKept e i a b → IsGrown a b
-grown_of e i a b k = record { same = k.same; held = k.held; seen = k.seen }
+-- a row that is in one of two lists
+in_both : {P : Type 0} (j : ℕ) (xs ys : List ℕ) → (among j xs ≡ true → P) → (among j ys ≡ true → P) → among j (xs ++ ys) ≡ true → P
+in_both j xs ys first second h = ⊎_elim first second (or_cases (among j xs) (among j ys) (sym (among-append j xs ys) ∙ h))
 
-pub filled_of : (store : RowStore) (Place : ℕ → Type 0) (wanted : List ℕ) (a b : Seat) → IsSeat store b → HoldsNothing a → IsGrown a b
-    → ((p : ℕ) → p < length wanted → Place p → IsSettled b (number_at wanted p)) → IsFilled store Place wanted a b
-filled_of store Place wanted a b own idle grown settled = record {
-  own = own;
-  same = grown.same;
-  idle = grown.held ∙ idle;
-  seen = grown.seen;
-  settled = settled;
-}
-
--- a seat that has seen all that another has seen has seen settled what that one has
-pub settled_on : (a b : Seat) (i : ℕ) → SeesAll (view_of a) (view_of b) → IsSettled a i → IsSettled b i
-settled_on a b i sees = ⊎_elim (λ (there : HasSeen a i). inl (sees.published i there)) (λ (void : HasSeenVoid a i). inr (sees.void i void))
+module _ (e : Elements) (wanted : List ℕ) where
+  -- seat b was split from a, which is then a'; both worked on, to c and d; and c met d, which made it r
+  pub met_ended : (a a' b c d r : Seat) → view_of a' ≡ parted (view_of a) → view_of b ≡ told (view_of a)
+      → view_of r ≡ joined (view_of c) (view_of d)
+      → ((j : ℕ) → HasEnded c j → HasEnded a' j ⊎ IsNeededForSome e wanted j)
+      → ((j : ℕ) → HasEnded d j → HasEnded b j ⊎ IsNeededForSome e wanted j)
+      → (j : ℕ) → HasEnded r j → HasEnded a j ⊎ IsNeededForSome e wanted j
+  met_ended a a' b c d r first second met mine theirs j h =
+      let of_mine : HasEnded c j → HasEnded a j ⊎ IsNeededForSome e wanted j = λ m. ⊎_elim
+      (λ (old : HasEnded a' j). inl (sym (ap (λ v. has_published v j || has_voided v j) first) ∙ old))
+      (λ (n : IsNeededForSome e wanted j). inr n) (mine j m)
+      in let of_theirs : HasEnded d j → HasEnded a j ⊎ IsNeededForSome e wanted j = λ m. ⊎_elim
+      (λ (old : HasEnded b j). let no = sym (ap (λ v. has_published v j || has_voided v j) second) ∙ old in cc)
+      (λ (n : IsNeededForSome e wanted j). inr n) (theirs j m)
+      in ⊎_elim
+      (λ (made : has_published (joined (view_of c) (view_of d)) j ≡ true).
+      in_both j (view_of c).made (view_of d).made
+      (λ m. of_mine (or_left (has_published (view_of c) j) (has_voided (view_of c) j) m))
+      (λ m. of_theirs (or_left (has_published (view_of d) j) (has_voided (view_of d) j) m)) made)
+      (λ (void : has_voided (joined (view_of c) (view_of d)) j ≡ true).
+      in_both j (view_of c).given_up (view_of d).given_up
+      (λ m. of_mine (or_right (has_published (view_of c) j) (has_voided (view_of c) j) m))
+      (λ m. of_theirs (or_right (has_published (view_of d) j) (has_voided (view_of d) j) m)) void)
+      (or_cases (has_published (joined (view_of c) (view_of d)) j) (has_voided (joined (view_of c) (view_of d)) j)
+      (sym (ap (λ v. has_published v j || has_voided v j) met) ∙ h))

@@ -1,8 +1,9 @@
 -- What a worker does to its seat: step after step, for a member and for those that it needs.
-use Rattle.std.proofs.Common.{◌≡◌, ◌⊎◌, inl, inr, ⊎_elim, ℕ, ◌<◌, true, false, ◌==◌, List, [], ◌∷◌, length, ℤ, refl, sym, ap, ◌∙◌, subst}
+use Rattle.std.proofs.Common.{◌≡◌, ◌⊎◌, inl, inr, ⊎_elim, ℕ, ◌<◌, Bool, true, false, ◌==◌, ◌||◌, List, [], ◌∷◌, length, ℤ}
+use Rattle.std.proofs.Common.{refl, sym, ap, ◌∙◌, subst}
 use Rattle.std.specs.Prelude.{Result, IfErr}
 use Rattle.std.proofs.lemmas.Result.{MatchResult-weaker}
-use Rattle.std.proofs.lemmas.Bool.{or_cases, or_parts, or_left, cond-true, cond-false, eqb-true, eq-eqb, false_from_ne_true}
+use Rattle.std.proofs.lemmas.Bool.{or_cases, or_parts, or_left, or_right, cond-true, cond-false, eqb-true, eq-eqb, false_from_ne_true}
 use Rattle.cox_base.specs.IntegerMatrix.{integer_matrix}
 use Rattle.cox_base.specs.Admissible.{IsAdmissible}
 use Rattle.cox_reflect.proofs.Elements.{same-refl}
@@ -17,22 +18,16 @@ use Rattle.cox_klstep.specs.Faults.{IsFault}
 use Rattle.cox_klstep.specs.NeedsOf.{HasNeeds}
 use Rattle.cox_claims.specs.declared.seat.Seat.{Seat}
 use Rattle.cox_claims.specs.declared.view.View.{View}
-use Rattle.cox_claims.specs.Knowledge.{among, without, holds, marked, saw_void, looked, SeesAll, Wins, Publishes, Voids}
+use Rattle.cox_claims.specs.Knowledge.{among, without, holds, marked, has_published, has_voided, saw_void, looked}
+use Rattle.cox_claims.specs.Knowledge.{SeesAll, Wins, Publishes, Voids}
 use Rattle.cox_claims.specs.Seats.{view_of, splits_of, IsSameSeat, HasSeenVoid, HasMarked}
 use Rattle.cox_claims.proofs.Rows.{among_else}
 use Rattle.cox_workers.specs.declared.missing.Missing.{Missing}
 use Rattle.cox_workers.specs.declared.missing.Missing.TheVariants.{Void, Coefficient, Mu, NoMemory}
 use Rattle.cox_workers.specs.Faults.{missing_by}
-use Rattle.cox_workers.specs.Work.{IsNeededAt, IsKept, VoidsNone, IsVoid, IsBeyond, IsMissing, IsUnmade}
+use Rattle.cox_workers.specs.Work.{IsNeededAt, HasEnded, IsKept, VoidsNone, IsVoid, IsBeyond, IsMissing, IsUnmade}
 
 -- ---- views
-
--- a look changes no mark
-pub looked_marks : (v : View) (i : ℕ) (x : RowState) → (looked v i x).marks ≡ v.marks
-looked_marks v i RowState.Free = refl
-looked_marks v i RowState.Claimed = refl
-looked_marks v i RowState.Published = refl
-looked_marks v i RowState.Void = refl
 
 pub sees-refl : (v : View) → SeesAll v v
 sees-refl v = record { published = λ i h. h; void = λ i h. h; claimed = λ i h. h }
@@ -76,18 +71,22 @@ module _ (e : Elements) where
   kept-refl i a = record {
     same = record { table = refl; number = refl };
     splits = refl;
+    children = refl;
     held = refl;
     seen = sees-refl (view_of a);
     marks = λ j h. inl h;
+    ended = λ j h. inl h;
   }
 
   pub kept-trans : (i : ℕ) (a b c : Seat) → IsKept e i a b → IsKept e i b c → IsKept e i a c
   kept-trans i a b c s t = record {
     same = record { table = t.same.table ∙ s.same.table; number = t.same.number ∙ s.same.number };
     splits = t.splits ∙ s.splits;
+    children = t.children ∙ s.children;
     held = t.held ∙ s.held;
     seen = sees-trans (view_of a) (view_of b) (view_of c) s.seen t.seen;
     marks = λ j h. ⊎_elim (λ (old : HasMarked b j). s.marks j old) (λ (n : IsNeededAt e i j). inr n) (t.marks j h);
+    ended = λ j h. ⊎_elim (λ (old : HasEnded b j). s.ended j old) (λ (n : IsNeededAt e i j). inr n) (t.ended j h);
   }
 
   -- for a row that is needed, so for the row that needs it
@@ -95,9 +94,11 @@ module _ (e : Elements) where
   kept-needed g i u a b n k = record {
     same = k.same;
     splits = k.splits;
+    children = k.children;
     held = k.held;
     seen = k.seen;
     marks = λ j h. ⊎_elim (λ (old : HasMarked a j). inl old) (λ (m : IsNeededAt e u j). inr (needs-trans g i u j n m)) (k.marks j h);
+    ended = λ j h. ⊎_elim (λ (old : HasEnded a j). inl old) (λ (m : IsNeededAt e u j). inr (needs-trans g i u j n m)) (k.ended j h);
   }
 
   -- ---- why a row is not there
@@ -123,12 +124,14 @@ module _ (e : Elements) where
     void = h.void;
     mark = h.mark ∙ ap (among j) none;
   }
-  missing-needed g limit i u a b c (Coefficient x w degree value) n none h = beyond-needed g limit i u w (step.Coefficient x degree value) c n h
+  missing-needed g limit i u a b c (Coefficient x w degree value) n none h =
+      beyond-needed g limit i u w (step.Coefficient x degree value) c n h
   missing-needed g limit i u a b c (Mu x w value) n none h = beyond-needed g limit i u w (step.Mu x value) c n h
   missing-needed g limit i u a b c NoMemory n none h = h
 
   -- the same of a result
-  pub result-needed : {T : Type 0} → IsAdmissible (integer_matrix e.matrix) → (limit : ℤ) (i u : ℕ) (a b c : Seat) (result : Result T Missing)
+  pub result-needed : {T : Type 0} → IsAdmissible (integer_matrix e.matrix) → (limit : ℤ) (i u : ℕ) (a b c : Seat)
+      (result : Result T Missing)
       → IsNeededAt e i u → VoidsNone a b → IfErr result (IsMissing e limit u b c) → IfErr result (IsMissing e limit i a c)
   result-needed g limit i u a b c result n none h =
       MatchResult-weaker result h (λ x t. t) (λ m f. missing-needed g limit i u a b c m n none f)
@@ -136,7 +139,8 @@ module _ (e : Elements) where
   -- ---- a claim that is won, and what comes of it
 
   module _ (g : IsAdmissible (integer_matrix e.matrix)) (i : ℕ) (within : i < length e.members) (a b c d : Seat)
-      (claimed : IsSameSeat a b) (claimed-splits : splits_of b ≡ splits_of a) (wins : Wins (view_of a) i (view_of b)) (kept : IsKept e i b c)
+      (claimed : IsSameSeat a b) (claimed-splits : splits_of b ≡ splits_of a) (wins : Wins (view_of a) i (view_of b))
+      (kept : IsKept e i b c)
       (ended : IsSameSeat c d) (ended-splits : splits_of d ≡ splits_of c)
     where
       -- the row was not held before
@@ -155,30 +159,71 @@ module _ (e : Elements) where
         number = ended.number ∙ kept.same.number ∙ claimed.number;
       }
 
+      children : (view_of c).children ≡ (view_of a).children
+      children = kept.children ∙ ap (λ v. v.children) wins.after
+
+      seen : SeesAll (view_of c) (view_of d) → SeesAll (view_of a) (view_of d)
+      seen after = sees-trans (view_of a) (view_of b) (view_of d) wins.kept (sees-trans (view_of b) (view_of c) (view_of d) kept.seen after)
+
       -- marks are those from before the claim, or on rows that are needed
       marks : (j : ℕ) → HasMarked c j → HasMarked a j ⊎ IsNeededAt e i j
-      marks j h = ⊎_elim (λ (old : HasMarked b j). inl (ap (among j) (sym (ap (λ v. v.marks) wins.after)) ∙ old)) (λ (n : IsNeededAt e i j). inr n)
-          (kept.marks j h)
+      marks j h = ⊎_elim (λ (old : HasMarked b j). inl (ap (among j) (sym (ap (λ v. v.marks) wins.after)) ∙ old))
+          (λ (n : IsNeededAt e i j). inr n) (kept.marks j h)
+
+      -- so are the rows that were published or voided
+      ended-before : (j : ℕ) → HasEnded c j → HasEnded a j ⊎ IsNeededAt e i j
+      ended-before j h = ⊎_elim
+          (λ (old : HasEnded b j). inl (sym (ap (λ v. has_published v j || has_voided v j) wins.after) ∙ old))
+          (λ (n : IsNeededAt e i j). inr n) (kept.ended j h)
+
+      -- and row i itself is needed
+      with_itself : (P : ℕ → Type 0) (j : ℕ) (rest : Bool) → (rest ≡ true → P j ⊎ IsNeededAt e i j) → ((i == j) || rest) ≡ true
+          → P j ⊎ IsNeededAt e i j
+      with_itself P j rest old h = ⊎_elim
+          (λ (this : (i == j) ≡ true). inr (subst (IsNeededAt e i) (eqb-true i j this) (needs_itself g i within)))
+          old (or_cases (i == j) rest h)
+
+      -- a row that was published is row i, or was published before, or was voided before
+      ended_or_published : (j : ℕ) → (((i == j) || has_published (view_of c) j) || has_voided (view_of c) j) ≡ true
+          → HasEnded a j ⊎ IsNeededAt e i j
+      ended_or_published j h = ⊎_elim
+          (λ (made : ((i == j) || has_published (view_of c) j) ≡ true).
+          with_itself (HasEnded a) j (has_published (view_of c) j)
+          (λ m. ended-before j (or_left (has_published (view_of c) j) (has_voided (view_of c) j) m)) made)
+          (λ (void : has_voided (view_of c) j ≡ true).
+          ended-before j (or_right (has_published (view_of c) j) (has_voided (view_of c) j) void))
+          (or_cases ((i == j) || has_published (view_of c) j) (has_voided (view_of c) j) h)
+
+      ended_or_voided : (j : ℕ) → (has_published (view_of c) j || ((i == j) || has_voided (view_of c) j)) ≡ true
+          → HasEnded a j ⊎ IsNeededAt e i j
+      ended_or_voided j h = ⊎_elim
+          (λ (made : has_published (view_of c) j ≡ true).
+          ended-before j (or_left (has_published (view_of c) j) (has_voided (view_of c) j) made))
+          (λ (void : ((i == j) || has_voided (view_of c) j) ≡ true).
+          with_itself (HasEnded a) j (has_voided (view_of c) j)
+          (λ v. ended-before j (or_right (has_published (view_of c) j) (has_voided (view_of c) j) v)) void)
+          (or_cases (has_published (view_of c) j) ((i == j) || has_voided (view_of c) j) h)
 
       pub published_kept : Publishes (view_of c) i (view_of d) → IsKept e i a d
       published_kept p = record {
         same = same;
         splits = ended-splits ∙ kept.splits ∙ claimed-splits;
+        children = ap (λ v. v.children) p.after ∙ children;
         held = ap (λ v. v.held) p.after ∙ held-again;
-        seen = sees-trans (view_of a) (view_of b) (view_of d) wins.kept (sees-trans (view_of b) (view_of c) (view_of d) kept.seen p.kept);
+        seen = seen p.kept;
         marks = λ j h. marks j (ap (λ v. among j v.marks) (sym p.after) ∙ h);
+        ended = λ j h. ended_or_published j (ap (λ v. has_published v j || has_voided v j) (sym p.after) ∙ h);
       }
 
       pub voided_kept : Voids (view_of c) i (view_of d) → IsKept e i a d
       voided_kept p = record {
         same = same;
         splits = ended-splits ∙ kept.splits ∙ claimed-splits;
+        children = ap (λ v. v.children) p.after ∙ children;
         held = ap (λ v. v.held) p.after ∙ held-again;
-        seen = sees-trans (view_of a) (view_of b) (view_of d) wins.kept (sees-trans (view_of b) (view_of c) (view_of d) kept.seen p.kept);
-        marks = λ j h. ⊎_elim
-            (λ (this : (i == j) ≡ true). inr (subst (IsNeededAt e i) (eqb-true i j this) (needs_itself g i within)))
-            (λ (old : HasMarked c j). marks j old)
-            (or_cases (i == j) (marked (view_of c) j) (ap (λ v. among j v.marks) (sym p.after) ∙ h));
+        seen = seen p.kept;
+        marks = λ j h. with_itself (HasMarked a) j (marked (view_of c) j) (marks j) (ap (λ v. among j v.marks) (sym p.after) ∙ h);
+        ended = λ j h. ended_or_voided j (ap (λ v. has_published v j || has_voided v j) (sym p.after) ∙ h);
       }
 
       -- row i was Claimed to the end, so it is not one that was seen Void
@@ -205,5 +250,6 @@ module _ (e : Elements) where
       pub unmade_missing : Voids (view_of c) i (view_of d) → HasSeenVoid d i → (limit : ℤ) (m : Missing) → IsUnmade e limit i b c m
           → IsMissing e limit i a d m
       unmade_missing p void limit m h = ⊎_elim (λ (other : IsMissing e limit i b c m). missing p limit m other)
-          (λ (own : (fault : StepFault) × (m ≡ missing_by fault i) × IsFault (integer_matrix e.matrix) e.members (word_at e.members i) limit fault).
+          (λ (own : (fault : StepFault) × (m ≡ missing_by fault i)
+          × IsFault (integer_matrix e.matrix) e.members (word_at e.members i) limit fault).
           subst (IsMissing e limit i a d) (sym own.1) (faulty void limit own.0 own.2)) h

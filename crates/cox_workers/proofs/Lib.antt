@@ -2,9 +2,11 @@
 pub mod Guards
 -- what a worker does to its seat
 pub mod Keeping
+-- what work leaves
+pub mod Working
 -- a member's shorter element and corrections
 pub mod Descended
--- what a seat has seen when rows were made
+-- what two seats that met have published and voided
 pub mod Growing
 -- the law of families
 pub mod GivenRows

@@ -19,8 +19,8 @@ use Rattle.cox_fill_core.specs.Laws.{reached}
 abbrev pub NeedsSmaller : (ℕ → List ℕ) → Type 0
 NeedsSmaller needs = (i j : ℕ) → Contains (needs i) j → j < i
 
--- the family given to row i is the step family of its element w by the least left descent s, over families given to rows that it needs: those
--- of v = sw and of the corrections of the step
+-- the family given to row i is the step family of its element w by the least left descent s, over families given to rows that it needs:
+-- those of v = sw and of the corrections of the step
 pub record IsGivenByStep (e : Elements) (needs : ℕ → List ℕ) (given : ℕ → Family) (i : ℕ) : Type 0 where
   pub letter : ℕ
   pub least : IsLeastLeftDescent (integer_matrix e.matrix) (word_at e.members i) letter

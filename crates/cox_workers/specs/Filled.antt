@@ -1,26 +1,35 @@
 -- What a seat has seen when rows were made.
 use Rattle.std.specs.Prelude.{◌≡◌, ◌⊎◌, ℕ, ◌<◌, List, length}
+use Rattle.cox_context.specs.Closed.{Elements}
 use Rattle.cox_claims.specs.declared.seat.Seat.{Seat}
 use Rattle.cox_claims.specs.Knowledge.{SeesAll}
 use Rattle.cox_claims.specs.Seats.{view_of, IsSameSeat, HoldsNothing, HasSeen, HasSeenVoid}
 use Rattle.cox_row.specs.Rising.{number_at}
 use Rattle.cox_row_store.specs.declared.store.RowStore.{RowStore}
-use Rattle.cox_row_store.specs.Stores.{IsSeat}
+use Rattle.cox_row_store.specs.Stores.{elements_of, IsSeat}
+use Rattle.cox_workers.specs.Work.{IsNeededAt, HasEnded}
 
 -- the seat has seen row i Published or Void
 abbrev pub IsSettled : Seat → ℕ → Type 0
 IsSettled seat i = HasSeen seat i ⊎ HasSeenVoid seat i
 
--- it is the same seat, it holds what it held, and has seen all that it had seen
-pub record IsGrown (old new : Seat) : Type 0 where
+-- row j is needed for one of the rows that are wanted
+abbrev pub IsNeededForSome : Elements → List ℕ → ℕ → Type 0
+IsNeededForSome e wanted j = (p : ℕ) × (p < length wanted) × IsNeededAt e (number_at wanted p) j
+
+-- it is the same seat, it holds what it held, has seen all that it had seen, and has published and voided rows alone that wanted ones need
+pub record IsGrown (e : Elements) (wanted : List ℕ) (old new : Seat) : Type 0 where
   pub same : IsSameSeat old new
   pub held : (view_of new).held ≡ (view_of old).held
   pub seen : SeesAll (view_of old) (view_of new)
+  pub ended : (j : ℕ) → HasEnded new j → HasEnded old j ⊎ IsNeededForSome e wanted j
 
--- a seat at the store that holds nothing came back as such, and has seen the rows at these places of the list Published or Void
+-- a seat at the store that holds nothing came back as such; it has seen the rows at these places of the list Published or Void, and has
+-- published and voided rows alone that wanted ones need
 pub record IsFilled (store : RowStore) (Place : ℕ → Type 0) (wanted : List ℕ) (old new : Seat) : Type 0 where
   pub own : IsSeat store new
   pub same : IsSameSeat old new
   pub idle : HoldsNothing new
   pub seen : SeesAll (view_of old) (view_of new)
+  pub ended : (j : ℕ) → HasEnded new j → HasEnded old j ⊎ IsNeededForSome (elements_of store) wanted j
   pub settled : (p : ℕ) → p < length wanted → Place p → IsSettled new (number_at wanted p)

@@ -1,4 +1,4 @@
--- When a worker can work.
+-- When a worker can work, and what its work leaves.
 use Rattle.std.specs.Prelude.{ℕ}
 use Rattle.cox_claims.specs.declared.seat.Seat.{Seat}
 use Rattle.cox_claims.specs.Seats.{HasSeen}
@@ -7,6 +7,7 @@ use Rattle.cox_row_store.specs.Stores.{limit_of, IsSeat}
 use Rattle.cox_workers.specs.declared.bench.Bench.{Bench}
 use Rattle.cox_workers.specs.declared.hand.Hand.{Hand}
 use Rattle.cox_workers.specs.Shelves.{IsOn, IsShelfOf}
+use Rattle.cox_workers.specs.Work.{IsKept}
 
 -- the seat is one at the store, the hand is for the rows of the store, and the seat has seen all rows Published that the hand reads
 pub record IsReady (bench : Bench) (seat : Seat) (hand : Hand) : Type 0 where
@@ -14,3 +15,9 @@ pub record IsReady (bench : Bench) (seat : Seat) (hand : Hand) : Type 0 where
   pub shelf : IsShelfOf bench.context.now (limit_of bench.store.now) hand.shelf
   pub tables : AreTables bench.context.now hand.tables
   pub seen : (i : ℕ) → IsOn hand.shelf i → HasSeen seat i
+
+-- what work for the row of member i leaves: the worker can go on, its seat is kept, and no row has left its shelf
+pub record IsWorkFor (bench : Bench) (i : ℕ) (old new : Seat) (from to : Hand) : Type 0 where
+  pub ready : IsReady bench new to
+  pub kept : IsKept bench.context.now i old new
+  pub shelf : (j : ℕ) → IsOn from.shelf j → IsOn to.shelf j

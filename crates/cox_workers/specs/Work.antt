@@ -1,5 +1,5 @@
 -- What a worker does to its seat while it makes the row of a member.
-use Rattle.std.specs.Prelude.{◌≡◌, ◌⊎◌, ℕ, ◌<◌, length, ℤ}
+use Rattle.std.specs.Prelude.{◌≡◌, ◌⊎◌, ℕ, ◌<◌, length, true, ◌||◌, ℤ}
 use Rattle.cox_base.specs.IntegerMatrix.{integer_matrix}
 use Rattle.cox_hecke.specs.Needs.{IsNeeded}
 use Rattle.cox_context.specs.Closed.{Elements}
@@ -8,7 +8,7 @@ use Rattle.cox_klstep.specs.declared.fault.StepFault.{StepFault}
 use Rattle.cox_klstep.specs.declared.fault.StepFault.TheVariants as step
 use Rattle.cox_klstep.specs.Faults.{IsFault}
 use Rattle.cox_claims.specs.declared.seat.Seat.{Seat}
-use Rattle.cox_claims.specs.Knowledge.{SeesAll, marked}
+use Rattle.cox_claims.specs.Knowledge.{SeesAll, marked, has_published, has_voided}
 use Rattle.cox_claims.specs.Seats.{view_of, splits_of, IsSameSeat, HasSeenVoid, HasMarked}
 use Rattle.cox_workers.specs.declared.missing.Missing.{Missing}
 use Rattle.cox_workers.specs.declared.missing.Missing.TheVariants.{Void, Coefficient, Mu, NoMemory}
@@ -19,13 +19,20 @@ pub record IsNeededAt (e : Elements) (i j : ℕ) : Type 0 where
   pub within : j < length e.members
   pub needed : IsNeeded (integer_matrix e.matrix) (word_at e.members i) (word_at e.members j)
 
--- it is the same seat; it holds what it held and has seen what it had seen, and has voided rows of Need(w) alone, where w is member i
+-- the seat published or voided row j, or one that it met did
+abbrev pub HasEnded : Seat → ℕ → Type 0
+HasEnded seat j = (has_published (view_of seat) j || has_voided (view_of seat) j) ≡ true
+
+-- it is the same seat, and none was split from it; it holds what it held and has seen what it had seen, and has voided and published rows
+-- of Need(w) alone, where w is member i
 pub record IsKept (e : Elements) (i : ℕ) (old new : Seat) : Type 0 where
   pub same : IsSameSeat old new
   pub splits : splits_of new ≡ splits_of old
+  pub children : (view_of new).children ≡ (view_of old).children
   pub held : (view_of new).held ≡ (view_of old).held
   pub seen : SeesAll (view_of old) (view_of new)
   pub marks : (j : ℕ) → HasMarked new j → HasMarked old j ⊎ IsNeededAt e i j
+  pub ended : (j : ℕ) → HasEnded new j → HasEnded old j ⊎ IsNeededAt e i j
 
 -- the seat has voided no row
 abbrev pub VoidsNone : Seat → Seat → Type 0
@@ -50,7 +57,8 @@ IsMissing e limit i old new (Coefficient x w degree value) = IsBeyond e limit i 
 IsMissing e limit i old new (Mu x w value) = IsBeyond e limit i w (step.Mu x value) new
 IsMissing e limit i old new NoMemory = Unit {0}
 
--- why the row of member i, which the seat held, was not made: either some other row that it needs is missing, or it is beyond a limit itself
+-- why the row of member i, which the seat held, was not made: either some other row that it needs is missing, or it is itself
+-- beyond a limit
 abbrev pub IsUnmade : Elements → ℤ → ℕ → Seat → Seat → Missing → Type 0
 IsUnmade e limit i old new missing =
     IsMissing e limit i old new missing ⊎ ((fault : StepFault) × (missing ≡ missing_by fault i)

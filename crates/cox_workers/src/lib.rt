@@ -7,12 +7,14 @@
 //! - `shelf`: rows that a worker reads
 //! - `bench`, `hand`: what a worker works at, and what it keeps from row to row
 //! - `making`: one row, and those that it is made from
+//! - `gathering`: rows that are there already and may serve
 //! - `filling`: all rows that are wanted, by several workers
 //! - `laws`: the law of families
 #![tactic(auto)]
 
 mod bench;
 mod filling;
+mod gathering;
 mod hand;
 pub mod laws;
 mod making;

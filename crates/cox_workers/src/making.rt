@@ -1,13 +1,11 @@
 //! One row, and those that it is made from.
-ghost use Rattle.std.specs.Prelude.{◌≡◌, ◌≢◌, ℕ, ◌<◌, ◌≤◌, length, OnOk, OnErr, IfOk, IfErr};
-ghost use Rattle.cox_base.specs.IntegerMatrix.{integer_matrix};
-ghost use Rattle.cox_context.specs.Numbers.{word_at};
+ghost use Rattle.std.specs.Prelude.{◌≡◌, ◌<◌, length, OnOk, OnErr, IfOk, IfErr};
 ghost use Rattle.cox_klstep.specs.NeedsOf.{HasNeeds};
 ghost use Rattle.cox_claims.specs.Knowledge.{Publishes};
-ghost use Rattle.cox_claims.specs.Seats.{view_of, splits_of, IsSameSeat, Holds, HasSeen, HasSeenVoid};
+ghost use Rattle.cox_claims.specs.Seats.{view_of, splits_of, IsSameSeat, Holds, HasSeen, HasSeenVoid, HasSeenClaimed};
 ghost use Rattle.cox_row.specs.RowOf.{IsRowAt};
 ghost use Rattle.cox_row.specs.Within.{IsRowWithin};
-ghost use Rattle.cox_row_store.specs.Stores.{elements_of, limit_of, IsSeat};
+ghost use Rattle.cox_row_store.specs.Stores.{limit_of, IsSeat};
 
 use crate::bench::Bench;
 use crate::hand::Hand;
@@ -20,7 +18,7 @@ use std::sync::Wait;
 use std::thread;
 
 impl<'a> Bench<'a> {
-    ghost use Rattle.cox_workers.specs.Ready.{IsReady};
+    ghost use Rattle.cox_workers.specs.Ready.{IsReady, IsWorkFor};
     ghost use Rattle.cox_workers.specs.Work.{IsKept, VoidsNone, IsMissing, IsUnmade};
     ghost use Rattle.cox_workers.specs.Shelves.{IsOn};
 
@@ -42,9 +40,7 @@ impl<'a> Bench<'a> {
     ) -> Result<(), Missing>
         requires ready { IsReady self.now seat.old hand.old }
         requires member { i < length self.now.context.now.members }
-        ensures ready { IsReady self.now seat.new hand.new }
-        ensures kept { IsKept self.now.context.now i seat.old seat.new }
-        ensures shelf { (j : ℕ) → IsOn hand.old.shelf j → IsOn hand.new.shelf j }
+        ensures work { IsWorkFor self.now i seat.old seat.new hand.old hand.new }
         ensures here { OnOk result (HasSeen seat.new i × VoidsNone seat.old seat.new) }
         ensures void { OnErr result (HasSeenVoid seat.new i) }
         ensures missing { IfErr result (IsMissing self.now.context.now (limit_of self.now.store.now) i seat.old seat.new) }
@@ -73,6 +69,7 @@ impl<'a> Bench<'a> {
     pub(crate) fn wait<R: Wait>(&self, rt: &R, seat: &mut Seat, i: u32) -> Result<(), Missing>
         requires own { IsSeat self.now.store.now seat.old }
         requires member { i < length self.now.context.now.members }
+        requires claimed { HasSeenClaimed seat.old i }
         ensures own { IsSeat self.now.store.now seat.new }
         ensures kept { IsKept self.now.context.now i seat.old seat.new }
         ensures here { OnOk result (HasSeen seat.new i × VoidsNone seat.old seat.new) }
@@ -102,9 +99,8 @@ impl<'a> Bench<'a> {
     ) -> Result<Row, Missing>
         requires ready { IsReady self.now seat.old hand.old }
         requires member { i < length self.now.context.now.members }
-        ensures ready { IsReady self.now seat.new hand.new }
-        ensures kept { IsKept self.now.context.now i seat.old seat.new }
-        ensures shelf { (j : ℕ) → IsOn hand.old.shelf j → IsOn hand.new.shelf j }
+        requires held { Holds seat.old i }
+        ensures work { IsWorkFor self.now i seat.old seat.new hand.old hand.new }
         ensures none { OnOk result (VoidsNone seat.old seat.new) }
         ensures row { IfOk result (IsRowAt self.now.context.now i) }
         ensures within { IfOk result (IsRowWithin (limit_of self.now.store.now)) }
@@ -112,6 +108,7 @@ impl<'a> Bench<'a> {
         ensures missing { IfErr result (IsUnmade self.now.context.now (limit_of self.now.store.now) i seat.old seat.new) }
     {
         self.take_in(rt, gate, seat, hand, i)?;
+        self.gather(rt, seat, hand, i);
         match row(
             self.alloc,
             self.context,
@@ -137,9 +134,8 @@ impl<'a> Bench<'a> {
     ) -> Result<(), Missing>
         requires ready { IsReady self.now seat.old hand.old }
         requires member { i < length self.now.context.now.members }
-        ensures ready { IsReady self.now seat.new hand.new }
-        ensures kept { IsKept self.now.context.now i seat.old seat.new }
-        ensures shelf { (j : ℕ) → IsOn hand.old.shelf j → IsOn hand.new.shelf j }
+        requires held { Holds seat.old i }
+        ensures work { IsWorkFor self.now i seat.old seat.new hand.old hand.new }
         ensures none { OnOk result (VoidsNone seat.old seat.new) }
         ensures needs { OnOk result (HasNeeds self.now.context.now (IsOn hand.new.shelf) i) }
         ensures missing { IfErr result (IsMissing self.now.context.now (limit_of self.now.store.now) i seat.old seat.new) }
@@ -170,18 +166,15 @@ impl<'a> Bench<'a> {
     ) -> Result<(), Missing>
         requires ready { IsReady self.now seat.old hand.old }
         requires member { u < length self.now.context.now.members }
-        ensures ready { IsReady self.now seat.new hand.new }
-        ensures kept { IsKept self.now.context.now u seat.old seat.new }
-        ensures shelf { (j : ℕ) → IsOn hand.old.shelf j → IsOn hand.new.shelf j }
+        ensures work { IsWorkFor self.now u seat.old seat.new hand.old hand.new }
         ensures here { OnOk result (IsOn hand.new.shelf u × VoidsNone seat.old seat.new) }
         ensures missing { IfErr result (IsMissing self.now.context.now (limit_of self.now.store.now) u seat.old seat.new) }
     {
-        if hand.shelf.has(u) {
+        if self.take_published(rt, seat, hand, u) {
             return Ok(());
         }
         self.ensure(rt, gate, seat, hand, u)?;
-        let guard = self.store.read(rt, seat, u);
-        hand.shelf.put(u, guard);
+        self.shelve(rt, seat, hand, u);
         Ok(())
     }
 

@@ -1,9 +1,8 @@
 //! Rows that a worker reads.
-ghost use Rattle.std.specs.Prelude.{◌≡◌, ◌≢◌, ℕ, ◌<◌, length, vec_len, IfOk, IfSome, IsSome, ◌↔◌, IsTrue, None, pos, ◌≤ℤ◌};
+ghost use Rattle.std.specs.Prelude.{◌≡◌, ◌≢◌, ℕ, ◌<◌, length, vec_len, IfOk, IfSome, IsSome, ◌↔◌, None, pos, ◌≤ℤ◌};
 ghost use Rattle.cox_row.specs.RowOf.{IsRowAt};
 ghost use Rattle.cox_row.specs.Within.{IsRowWithin};
 ghost use Rattle.cox_rowcell.specs.Guards.{place_of};
-ghost use Rattle.cox_rowcell.specs.RowFor.{IsRowFor};
 ghost use Rattle.cox_row_store.specs.Places.{place_at};
 ghost use Rattle.cox_workers.specs.Guarded.{guard_at, AreGuarded};
 
@@ -50,6 +49,14 @@ impl<'a> Shelf<'a> {
         ensures others { (i : ℕ) → i ≢ member → IsOn self.new i → IsOn self.old i }
     {
         self.guards[member as usize] = Some(guard);
+    }
+
+    /// The neighbour at a place of the row of a member, if that is on the shelf and has so many.
+    pub(crate) fn neighbour(&self, member: u32, place: usize) -> Option<u32>
+        ensures { IfSome result (λ u. u < length self.now.context.value.members) }
+    {
+        let row = self.get(member)?;
+        row.neighbours().get(place).copied()
     }
 
     /// The row of a member, if it is on the shelf.

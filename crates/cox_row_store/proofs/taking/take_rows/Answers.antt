@@ -11,8 +11,10 @@ loop-cell-preserved g c =
       all = append_assoc c.loop-cell.yielded (c.in-Some.cell ∷ []) (into_iter_items c.next.new.self)
           ∙ ap (λ rest. c.loop-cell.yielded ++ rest) (sym c.in-Some.ensures.steps.0) ∙ was.all;
       taken = rw c.push_reserved.ensures.items
-          (takes_more c.loop-cell.yielded c.args.states.now c.loop-cell.rows.items c.in-Some.cell c.take_row.result was.taken c.take_row.ensures.row
+          (takes_more c.loop-cell.yielded c.args.states.now c.loop-cell.rows.items c.in-Some.cell c.take_row.result was.taken
+          c.take_row.ensures.row
           (λ e. c.take_row.ensures.there
-          (subst (λ k. slice_index_or c.args.states.now k RowState.Free ≡ RowState.Published) (omega (arith, c.len.ensures, c.loop-cell.rows.ok)) e)));
+          (subst (λ k. slice_index_or c.args.states.now k RowState.Free ≡ RowState.Published)
+          (omega (arith, c.len.ensures, c.loop-cell.rows.ok)) e)));
       room = c.push_reserved.ensures.capacity ∙ was.room;
     }

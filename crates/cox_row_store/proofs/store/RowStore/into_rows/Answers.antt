@@ -10,5 +10,6 @@ pub returns-in-Ok-close-clause-rows : goal.returns-in-Ok-close-clause-rows
 returns-in-Ok-close-clause-rows g c =
     let store = c.args.self in
     are_taken (elements_of store) (limit_of store) (view_of c.args.seat) (number_of c.args.seat) (rows_of store.claims) store.cells.items
-    c.in-Ok-close.states.items c.take_rows.result.items store.a_row_each (omega (arith, store.cells.ok, store.a_cell_each)) store.placed c.in-Ok-close.ensures.states
+    c.in-Ok-close.states.items c.take_rows.result.items store.a_row_each (omega (arith, store.cells.ok, store.a_cell_each)) store.placed
+    c.in-Ok-close.ensures.states
     (rw c.deref.ensures.value at c.take_rows.ensures)

@@ -1,12 +1,14 @@
 -- The worker's steps.
-use Rattle.std.proofs.Common.{◌≡◌, refl, ap, ◌∙◌, rules, arith}
+use Rattle.std.proofs.Common.{◌≡◌, ◌<◌, ◌≤◌, ⊎_elim, refl, ap, ◌∙◌, subst, rules, arith}
+use Rattle.std.proofs.lemmas.Bool.{cases_lt}
 use Rattle.std.specs.Prelude.{IfErr}
 use Rattle.cox_klstep.proofs.NeedLemmas.{listed-needs}
 use Rattle.cox_row.specs.Rising.{number_at}
 use Rattle.cox_claims.specs.Knowledge.{looked}
 use Rattle.cox_claims.specs.Seats.{view_of, HasSeen}
 use Rattle.cox_row_store.specs.Stores.{limit_of}
-use Rattle.cox_workers.proofs.Keeping.{needs-map, kept-trans, kept-needed, result-needed, looked_void, published_kept, voided_kept, unmade_missing}
+use Rattle.cox_workers.proofs.Keeping.{needs-map, result-needed, looked_void, published_kept, voided_kept, unmade_missing}
+use Rattle.cox_workers.proofs.Working.{ready_still, work-trans, work-needed}
 use Rattle.cox_workers.proofs.Descended.{identity-needs, lower-before, lower-needed, correction-before, correction-needed}
 use Rattle.cox_workers.specs.Shelves.{IsOn}
 use Rattle.cox_workers.specs.Work.{IsNeededAt, IsMissing}
@@ -17,38 +19,77 @@ use Rattle.cox_workers.proofs.bench.Bench.+ensure.Goals as goal
 
 pub ensure-returns-in-Lost-Void-clause-missing : goal.ensure-returns-in-Lost-Void-clause-missing
 ensure-returns-in-Lost-Void-clause-missing g t c =
-    looked_void c.args.self.now.context.now c.len-len.ensures.admissible c.args.i c.args.seat.now c.args.seat.now c.claim.new.seat c.requires.member refl
+    looked_void c.args.self.now.context.now c.len-len.ensures.admissible c.args.i c.args.seat.now c.args.seat.now c.claim.new.seat
+    c.requires.member refl
     (c.in-Lost-Void.ensures.step.after ∙ ap (looked (view_of c.args.seat.now) c.args.i) c.in-Lost-Void.field-0-is)
 
-pub ensure-returns-in-Ok-clause-kept : goal.ensure-returns-in-Ok-clause-kept
-ensure-returns-in-Ok-clause-kept g t c =
-    published_kept c.args.self.now.context.now c.len-len.ensures.admissible c.args.i c.requires.member c.args.seat.now c.claim.new.seat c.made.new.seat
-    c.publish.new.seat c.claim.ensures.seat c.claim.ensures.splits c.in-Won.ensures.step c.made.ensures.kept c.publish.ensures.seat
-    c.publish.ensures.splits c.publish.ensures.step
+pub ensure-returns-in-Ok-clause-work : goal.ensure-returns-in-Ok-clause-work
+ensure-returns-in-Ok-clause-work g t c = record {
+  ready = ready_still c.args.self.now c.made.new.seat c.publish.new.seat c.made.new.hand c.made.ensures.work.ready c.publish.ensures.own
+      c.publish.ensures.step.kept;
+  kept = published_kept c.args.self.now.context.now c.len-len.ensures.admissible c.args.i c.requires.member c.args.seat.now c.claim.new.seat
+      c.made.new.seat c.publish.new.seat c.claim.ensures.seat c.claim.ensures.splits c.in-Won.ensures.step c.made.ensures.work.kept
+      c.publish.ensures.seat c.publish.ensures.splits c.publish.ensures.step;
+  shelf = c.made.ensures.work.shelf;
+}
 
-pub ensure-returns-in-Err-clause-kept : goal.ensure-returns-in-Err-clause-kept
-ensure-returns-in-Err-clause-kept g t c =
-    voided_kept c.args.self.now.context.now c.len-len.ensures.admissible c.args.i c.requires.member c.args.seat.now c.claim.new.seat c.made.new.seat
-    c.void.new.seat c.claim.ensures.seat c.claim.ensures.splits c.in-Won.ensures.step c.made.ensures.kept c.void.ensures.seat
-    c.void.ensures.splits c.void.ensures.step
+pub ensure-returns-in-Err-clause-work : goal.ensure-returns-in-Err-clause-work
+ensure-returns-in-Err-clause-work g t c = record {
+  ready = ready_still c.args.self.now c.made.new.seat c.void.new.seat c.made.new.hand c.made.ensures.work.ready c.void.ensures.own
+      c.void.ensures.step.kept;
+  kept = voided_kept c.args.self.now.context.now c.len-len.ensures.admissible c.args.i c.requires.member c.args.seat.now c.claim.new.seat
+      c.made.new.seat c.void.new.seat c.claim.ensures.seat c.claim.ensures.splits c.in-Won.ensures.step c.made.ensures.work.kept
+      c.void.ensures.seat c.void.ensures.splits c.void.ensures.step;
+  shelf = c.made.ensures.work.shelf;
+}
 
 pub ensure-returns-in-Err-clause-missing : goal.ensure-returns-in-Err-clause-missing
 ensure-returns-in-Err-clause-missing g t c =
-    unmade_missing c.args.self.now.context.now c.len-len.ensures.admissible c.args.i c.requires.member c.args.seat.now c.claim.new.seat c.made.new.seat
-    c.void.new.seat c.claim.ensures.seat c.claim.ensures.splits c.in-Won.ensures.step c.made.ensures.kept c.void.ensures.seat
-    c.void.ensures.splits c.void.ensures.step c.void.ensures.seen.0 (limit_of c.args.self.now.store.now) c.in-Err.missing c.in-Err.ensures.missing
+    unmade_missing c.args.self.now.context.now c.len-len.ensures.admissible c.args.i c.requires.member c.args.seat.now c.claim.new.seat
+    c.made.new.seat
+    c.void.new.seat c.claim.ensures.seat c.claim.ensures.splits c.in-Won.ensures.step c.made.ensures.work.kept c.void.ensures.seat
+    c.void.ensures.splits c.void.ensures.step c.void.ensures.seen.0 (limit_of c.args.self.now.store.now) c.in-Err.missing
+    c.in-Err.ensures.missing
 
 -- ---- the rows that a row is made from
 
+pub made-row-requires-clause-needs : goal.made-row-requires-clause-needs
+made-row-requires-clause-needs g t c =
+    needs-map c.args.self.now.context.now (IsOn c.take_in.new.hand.shelf) (IsOn c.gather.new.hand.shelf) c.args.i
+    c.gather.ensures.work.shelf
+    c.in_ok-take_in.ensures.needs
+
 pub made-returns-in-Ok-clause-needs : goal.made-returns-in-Ok-clause-needs
 made-returns-in-Ok-clause-needs g t c =
-    needs-map c.args.self.now.context.now (IsOn c.take_in.new.hand.shelf) (HasSeen c.take_in.new.seat) c.args.i c.take_in.ensures.ready.seen
-    c.in_ok-take_in.ensures.needs
+    needs-map c.args.self.now.context.now (IsOn c.take_in.new.hand.shelf) (HasSeen c.gather.new.seat) c.args.i
+    (λ j on. c.gather.ensures.work.ready.seen j (c.gather.ensures.work.shelf j on)) c.in_ok-take_in.ensures.needs
+
+-- ---- one row on the shelf
+
+pub obtain-returns-then-take_published-clause-work : goal.obtain-returns-then-take_published-clause-work
+obtain-returns-then-take_published-clause-work g t c = c.take_published.ensures.work c.args.u
+
+pub obtain-ensure-requires : goal.obtain-ensure-requires
+obtain-ensure-requires g t c = λ κs outlives.
+    (omega (arith, c.decreases), (outlives.0, (outlives.1, ((c.take_published.ensures.work c.args.u).ready, c.requires.member))))
+
+pub obtain-returns-in_err-ensure-clause-work : goal.obtain-returns-in_err-ensure-clause-work
+obtain-returns-in_err-ensure-clause-work g t c =
+    work-trans c.args.self.now c.args.u c.args.seat.now c.take_published.new.seat c.ensure.new.seat c.args.hand.now
+    c.take_published.new.hand
+    c.ensure.new.hand (c.take_published.ensures.work c.args.u) c.ensure.ensures.work
+
+pub obtain-returns-clause-work : goal.obtain-returns-clause-work
+obtain-returns-clause-work g t c =
+    let made = work-trans c.args.self.now c.args.u c.args.seat.now c.take_published.new.seat c.ensure.new.seat c.args.hand.now
+    c.take_published.new.hand c.ensure.new.hand (c.take_published.ensures.work c.args.u) c.ensure.ensures.work
+    in record { ready = c.shelve.ensures.ready; kept = made.kept; shelf = λ j on. c.shelve.ensures.shelf j (made.shelf j on) }
 
 pub take_in-returns-then-i-eq0-clause-needs : goal.take_in-returns-then-i-eq0-clause-needs
 take_in-returns-then-i-eq0-clause-needs g t c =
     let none : c.args.i ≡ 0 = omega arith
-    in rw none (identity-needs c.args.self.now.context.now c.len-len.ensures.admissible c.len-len.ensures.closed (IsOn c.args.hand.now.shelf))
+    in rw none (identity-needs c.args.self.now.context.now c.len-len.ensures.admissible c.len-len.ensures.closed
+    (IsOn c.args.hand.now.shelf))
 
 -- ---- the shorter element
 
@@ -61,12 +102,23 @@ take_in-obtain-requires g t c = λ κs outlives.
       (outlives.0, (outlives.1, (c.requires.ready, c.of-descent.ensures.descent.lower_within))),
     )
 
-pub take_in-returns-in_err-obtain-clause-kept : goal.take_in-returns-in_err-obtain-clause-kept
-take_in-returns-in_err-obtain-clause-kept g t c =
+pub take_in-returns-in_err-obtain-clause-work : goal.take_in-returns-in_err-obtain-clause-work
+take_in-returns-in_err-obtain-clause-work g t c =
     let e = c.args.self.now.context.now in
     let needed : IsNeededAt e c.args.i c.of-descent.result.lower = rw c.of-descent.ensures.number at
     (lower-needed e c.len-len.ensures.admissible c.len-len.ensures.closed c.of-descent.result c.of-descent.ensures.descent)
-    in kept-needed e c.len-len.ensures.admissible c.args.i c.of-descent.result.lower c.args.seat.now c.obtain.new.seat needed c.obtain.ensures.kept
+    in work-needed c.args.self.now c.len-len.ensures.admissible c.args.i c.of-descent.result.lower c.args.seat.now c.obtain.new.seat
+    c.args.hand.now
+    c.obtain.new.hand needed c.obtain.ensures.work
+
+pub take_in-returns-in_err-corrections-clause-work : goal.take_in-returns-in_err-corrections-clause-work
+take_in-returns-in_err-corrections-clause-work g t c =
+    let e = c.args.self.now.context.now in
+    let needed : IsNeededAt e c.args.i c.of-descent.result.lower = rw c.of-descent.ensures.number at
+    (lower-needed e c.len-len.ensures.admissible c.len-len.ensures.closed c.of-descent.result c.of-descent.ensures.descent)
+    in work-needed c.args.self.now c.len-len.ensures.admissible c.args.i c.of-descent.result.lower c.args.seat.now c.obtain.new.seat
+    c.args.hand.now
+    c.obtain.new.hand needed c.obtain.ensures.work
 
 pub take_in-returns-in_err-obtain-clause-missing : goal.take_in-returns-in_err-obtain-clause-missing
 take_in-returns-in_err-obtain-clause-missing g t c =
@@ -75,7 +127,8 @@ take_in-returns-in_err-obtain-clause-missing g t c =
     let needed : IsNeededAt e c.args.i c.of-descent.result.lower = rw c.of-descent.ensures.number at
     (lower-needed e c.len-len.ensures.admissible c.len-len.ensures.closed c.of-descent.result c.of-descent.ensures.descent)
     in let why : IfErr c.from_residual.result (IsMissing e limit c.of-descent.result.lower c.args.seat.now c.obtain.new.seat) = search rules
-    in result-needed e c.len-len.ensures.admissible limit c.args.i c.of-descent.result.lower c.args.seat.now c.args.seat.now c.obtain.new.seat
+    in result-needed e c.len-len.ensures.admissible limit c.args.i c.of-descent.result.lower c.args.seat.now c.args.seat.now
+    c.obtain.new.seat
     c.from_residual.result needed refl why
 
 -- ---- the corrections
@@ -91,11 +144,24 @@ take_in-obtain-requires-in-corrections g t c = λ κs outlives.
     c.corrections.u-index c.corrections-test.true
     in (
       omega (arith, before, c.of-descent.ensures.number, c.decreases),
-      (outlives.0, (outlives.1, (c.corrections.invariant.ready, are.within c.corrections.u-index c.corrections-test.true))),
+      (outlives.0, (outlives.1, (c.corrections.invariant.work.ready, are.within c.corrections.u-index c.corrections-test.true))),
     )
 
-pub take_in-returns-in_err-obtain-2-clause-kept : goal.take_in-returns-in_err-obtain-2-clause-kept
-take_in-returns-in_err-obtain-2-clause-kept g t c =
+pub take_in-corrections-init : goal.take_in-corrections-init
+take_in-corrections-init g t c =
+    let e = c.args.self.now.context.now in
+    let needed : IsNeededAt e c.args.i c.of-descent.result.lower = rw c.of-descent.ensures.number at
+    (lower-needed e c.len-len.ensures.admissible c.len-len.ensures.closed c.of-descent.result c.of-descent.ensures.descent)
+    in record {
+      work = work-needed c.args.self.now c.len-len.ensures.admissible c.args.i c.of-descent.result.lower c.args.seat.now c.obtain.new.seat
+          c.args.hand.now c.obtain.new.hand needed c.obtain.ensures.work;
+      none = c.in_ok-obtain.ensures.here.1;
+      stay = λ j on. on;
+      taken = λ k l. absurd (omega (arith, l));
+    }
+
+pub take_in-returns-in_err-obtain-2-clause-work : goal.take_in-returns-in_err-obtain-2-clause-work
+take_in-returns-in_err-obtain-2-clause-work g t c =
     let e = c.args.self.now.context.now in
     let d = c.of-descent.result in
     let items = c.deref-u-items.result.now in
@@ -105,9 +171,37 @@ take_in-returns-in_err-obtain-2-clause-kept g t c =
     let needed : IsNeededAt e c.args.i u = rw c.of-descent.ensures.number at
     (correction-needed e c.len-len.ensures.admissible c.len-len.ensures.closed d c.of-descent.ensures.descent items are
     c.corrections.u-index c.corrections-test.true)
-    in kept-trans e c.args.i c.args.seat.now c.corrections.seat c.obtain-in-corrections.new.seat c.corrections.invariant.kept
-    (kept-needed e c.len-len.ensures.admissible c.args.i u c.corrections.seat c.obtain-in-corrections.new.seat needed
-    c.obtain-in-corrections.ensures.kept)
+    in work-trans c.args.self.now c.args.i c.args.seat.now c.corrections.seat c.obtain-in-corrections.new.seat c.args.hand.now
+    c.corrections.hand
+    c.obtain-in-corrections.new.hand c.corrections.invariant.work
+    (work-needed c.args.self.now c.len-len.ensures.admissible c.args.i u c.corrections.seat c.obtain-in-corrections.new.seat
+    c.corrections.hand
+    c.obtain-in-corrections.new.hand needed c.obtain-in-corrections.ensures.work)
+
+pub take_in-corrections-preserved : goal.take_in-corrections-preserved
+take_in-corrections-preserved g t c =
+    let e = c.args.self.now.context.now in
+    let d = c.of-descent.result in
+    let items = c.deref-u-items.result.now in
+    let u = number_at items c.corrections.u-index in
+    let are : AreNeeds (integer_matrix e.matrix) e.members d.letter (word_at e.members d.member) items =
+    rw c.deref-u-items.ensures.value c.in_ok-corrections.ensures in
+    let needed : IsNeededAt e c.args.i u = rw c.of-descent.ensures.number at
+    (correction-needed e c.len-len.ensures.admissible c.len-len.ensures.closed d c.of-descent.ensures.descent items are
+    c.corrections.u-index c.corrections-test.true)
+    in let more = work-needed c.args.self.now c.len-len.ensures.admissible c.args.i u c.corrections.seat c.obtain-in-corrections.new.seat
+    c.corrections.hand c.obtain-in-corrections.new.hand needed c.obtain-in-corrections.ensures.work
+    in record {
+      work = work-trans c.args.self.now c.args.i c.args.seat.now c.corrections.seat c.obtain-in-corrections.new.seat c.args.hand.now
+          c.corrections.hand c.obtain-in-corrections.new.hand c.corrections.invariant.work more;
+      none = c.in_ok-obtain-2.ensures.here.1 ∙ c.corrections.invariant.none;
+      stay = λ j on. more.shelf j (c.corrections.invariant.stay j on);
+      taken = λ k l. ⊎_elim (λ (less : k < c.corrections.u-index). more.shelf (number_at items k) (c.corrections.invariant.taken k less))
+          (λ (past : c.corrections.u-index ≤ k).
+          let last : c.corrections.u-index ≡ k = omega (arith, l, past)
+          in subst (λ n. IsOn c.obtain-in-corrections.new.hand.shelf (number_at items n)) last c.in_ok-obtain-2.ensures.here.0)
+          (cases_lt k c.corrections.u-index);
+    }
 
 pub take_in-returns-in_err-obtain-2-clause-missing : goal.take_in-returns-in_err-obtain-2-clause-missing
 take_in-returns-in_err-obtain-2-clause-missing g t c =
@@ -134,6 +228,7 @@ take_in-returns-clause-needs g t c =
     let are : AreNeeds (integer_matrix e.matrix) e.members d.letter (word_at e.members d.member) items =
     rw c.deref-u-items.ensures.value c.in_ok-corrections.ensures in
     rw c.of-descent.ensures.number at
-    (listed-needs e (IsOn c.corrections.hand.shelf) d items c.len-len.ensures.admissible c.len-len.ensures.closed c.of-descent.ensures.descent are
+    (listed-needs e (IsOn c.corrections.hand.shelf) d items c.len-len.ensures.admissible c.len-len.ensures.closed
+    c.of-descent.ensures.descent are
     (c.corrections.invariant.stay d.lower c.in_ok-obtain.ensures.here.0)
     (λ k l. c.corrections.invariant.taken k (omega (arith, l, c.corrections-test.false))))

@@ -1,8 +1,8 @@
 -- The row of a member is made from those of members with smaller numbers; and what is known while these are taken, one after another.
 use Rattle.std.proofs.Common.{ℕ, ◌<◌, ◌+◌, ◌*◌}
-use Rattle.cox_workers.specs.Ready.{IsReady}
+use Rattle.cox_workers.specs.Ready.{IsWorkFor}
 use Rattle.cox_workers.specs.Shelves.{IsOn}
-use Rattle.cox_workers.specs.Work.{IsKept, VoidsNone}
+use Rattle.cox_workers.specs.Work.{VoidsNone}
 use Rattle.cox_row.specs.Rising.{number_at}
 use Rattle.cox_workers.proofs.bench.Bench.+ensure.Given as goal
 
@@ -20,10 +20,8 @@ decreases-obtain g l = 4 * l.u + 3
 
 abbrev pub invariant-take_in-corrections : goal.invariant-take_in-corrections
 invariant-take_in-corrections g l = record {
-  ready : IsReady l.self l.seat l.hand;
-  kept : IsKept l.self.context.now l.i l.fn.seat l.seat;
+  work : IsWorkFor l.self l.i l.fn.seat l.seat l.fn.hand l.hand;
   none : VoidsNone l.fn.seat l.seat;
   stay : (j : ℕ) → IsOn l.initial.hand.shelf j → IsOn l.hand.shelf j;
-  shelf : (j : ℕ) → IsOn l.fn.hand.shelf j → IsOn l.hand.shelf j;
   taken : (k : ℕ) → k < l.u-index → IsOn l.hand.shelf (number_at l.u-items k);
 }
