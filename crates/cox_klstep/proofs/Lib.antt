@@ -36,3 +36,5 @@ pub mod Chosen
 pub mod Candidates
 -- how many polynomials are added up
 pub mod StepCounts
+-- fingerprints of the polynomials of a pool
+pub mod PrintLemmas

@@ -18,3 +18,5 @@ pub mod Faults
 pub mod NeedsOf
 -- the tables of a context
 pub mod TablesOf
+-- fingerprints of polynomials
+pub mod Prints

@@ -30,4 +30,5 @@ pub record AreNeeds (A : IntegerMatrix) (members : List (List ℕ)) (s : ℕ) (w
 -- each of them.
 abbrev pub IsWithinSteps : Elements → ℕ → ℕ → ℕ → Row → Type 0
 IsWithinSteps e i old new row = (s : ℕ) (numbers : List ℕ) → IsLeastLeftDescent (integer_matrix e.matrix) (word_at e.members i) s
-    → AreNeeds (integer_matrix e.matrix) e.members s (word_at e.members i) numbers → new ≤ old + (2 + length numbers) * length row.extremal.items
+    → AreNeeds (integer_matrix e.matrix) e.members s (word_at e.members i) numbers
+    → new ≤ old + (2 + length numbers) * length row.extremal.items

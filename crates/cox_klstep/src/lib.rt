@@ -10,7 +10,7 @@
 //! - `step`, `sides`: the descent, the shorter element and the corrections
 //! - `sums`, `source`: the polynomial at one extremal member, by the recursion or from the inverse
 //! - `target`: the member, and its shifts that are shorter
-//! - `draft`, `values`, `mus`: a row that is being made
+//! - `draft`, `values`, `pool`, `mus`: a row that is being made
 //! - `making`: the row, candidate by candidate
 //! - `tables`, `steps`: lists of candidates and inverses, and how much was added up
 //! - `identity`: the row of the identity
@@ -25,6 +25,7 @@ mod making;
 mod member;
 mod mus;
 mod needed;
+mod pool;
 mod sides;
 mod source;
 mod step;

@@ -51,7 +51,7 @@ pub(crate) fn add(
     match polynomial(ctx, row, u, x) {
         Some(p) => {
             let _degree = p.degree();
-            sums.add_scaled(p, factor, shift);
+            sums.add_scaled(&p, factor, shift);
             steps.take();
             true
         }

@@ -10,7 +10,7 @@ use Rattle.cox_klstep.proofs.sums.add.Goals as goal
 
 pub add_scaled-requires-clause-degrees : goal.add_scaled-requires-clause-degrees
 add_scaled-requires-clause-degrees c = value-low (integer_matrix c.args.ctx.now.matrix) c.requires.admissible
-    (word_at c.args.ctx.now.members c.args.x) (word_at c.args.ctx.now.members c.args.u) c.in-Some.p.now c.args.shift
+    (word_at c.args.ctx.now.members c.args.x) (word_at c.args.ctx.now.members c.args.u) c.in-Some.p c.args.shift
     (omega (
       arith,
       length-at (integer_matrix c.args.ctx.now.matrix) c.requires.admissible c.args.ctx.now.members c.requires.closed
@@ -23,7 +23,7 @@ pub add_scaled-requires-clause-room : goal.add_scaled-requires-clause-room
 add_scaled-requires-clause-room c = λ k.
     let fits : FitsSigned w64 c.args.factor = search rules
     in rw (to_z-of_z w64 c.args.factor fits)
-    (let small = after-small c.args.sums.now c.in-Some.p.now c.args.factor c.args.shift k (2 ^ 125) (c.requires.room k)
+    (let small = after-small c.args.sums.now c.in-Some.p c.args.factor c.args.shift k (2 ^ 125) (c.requires.room k)
     c.degree-degree.ensures.small
     c.requires.factor in omega (arith, small))
 
@@ -32,13 +32,13 @@ returns-in-Some-clause-sum c = λ f is k.
     let fits : FitsSigned w64 c.args.factor = search rules
     in (simp (to_z-of_z w64 c.args.factor fits) at (c.add_scaled.ensures.sum k))
     ∙ sum-same (integer_matrix c.args.ctx.now.matrix) c.requires.admissible (word_at c.args.ctx.now.members c.args.x)
-    (word_at c.args.ctx.now.members c.args.u) c.args.sums.now c.in-Some.p.now c.args.factor c.args.shift f c.in-Some.ensures.value is k
+    (word_at c.args.ctx.now.members c.args.u) c.args.sums.now c.in-Some.p c.args.factor c.args.shift f c.in-Some.ensures.value is k
 
 pub returns-in-Some-clause-size : goal.returns-in-Some-clause-size
 returns-in-Some-clause-size c = λ n old k.
     let fits : FitsSigned w64 c.args.factor = search rules
     in let is = simp (to_z-of_z w64 c.args.factor fits) at (c.add_scaled.ensures.sum k)
-    in let small = after-small c.args.sums.now c.in-Some.p.now c.args.factor c.args.shift k (n * 2 ^ 94) (old k)
+    in let small = after-small c.args.sums.now c.in-Some.p c.args.factor c.args.shift k (n * 2 ^ 94) (old k)
     c.degree-degree.ensures.small
     c.requires.factor
     in rw is (omega (arith, small))
