@@ -38,3 +38,5 @@ pub mod Candidates
 pub mod StepCounts
 -- fingerprints of the polynomials of a pool
 pub mod PrintLemmas
+-- marks of the members whose inverses a row has
+pub mod MarkLemmas

@@ -12,7 +12,7 @@
 //! - `target`: the member, and its shifts that are shorter
 //! - `draft`, `values`, `pool`, `mus`: a row that is being made
 //! - `making`: the row, candidate by candidate
-//! - `tables`, `steps`: lists of candidates and inverses, and how much was added up
+//! - `tables`, `marks`, `steps`: lists of candidates and inverses, members that are marked, and how much was added up
 //! - `identity`: the row of the identity
 //! - `fault`: why a row is not made
 #![tactic(auto)]
@@ -22,6 +22,7 @@ mod draft;
 mod fault;
 mod identity;
 mod making;
+mod marks;
 mod member;
 mod mus;
 mod needed;
