@@ -35,7 +35,8 @@ shifted f zero = omega (arith, ints)
 shifted f (suc k) = rw (times_q_power_at f 1 (suc k) k (omega arith)) (omega (arith, ints))
 
 -- a polynomial once, to nothing
-pub added-once : (old new f : Coefficients) → ((k : ℕ) → old k ≡ pos 0) → ((k : ℕ) → new k ≡ plus old (scaled (pos 1) (times_q_power 0 f)) k)
+pub added-once : (old new f : Coefficients) → ((k : ℕ) → old k ≡ pos 0) →
+    ((k : ℕ) → new k ≡ plus old (scaled (pos 1) (times_q_power 0 f)) k)
     → (k : ℕ) → new k ≡ f k
 added-once old new f none e k = omega (arith, ints, none k, e k, once f k)
 

@@ -63,7 +63,8 @@ module _ (e : Elements) (g : IsAdmissible (integer_matrix e.matrix)) (target : T
         in omega (arith, order, k.3, m)
 
     -- it is not extremal
-    pub left-skip : (IsExtremal (integer_matrix e.matrix) (word_at e.members target.member) (word_at e.members (number_at numbers place)) → ⊥)
+    pub left-skip : (IsExtremal (integer_matrix e.matrix) (word_at e.members target.member)
+        (word_at e.members (number_at numbers place)) → ⊥)
         → AreLeft (integer_matrix e.matrix) e.members target.member numbers next done
     left-skip none = record {
       bound = left.bound;

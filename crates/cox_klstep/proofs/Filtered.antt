@@ -88,7 +88,8 @@ module _ (side : Side) (A : IntegerMatrix) (g : IsAdmissible A) (members : List 
   pub filtered-push : (p n : ℕ) (list : List Correction) (c : Correction) → n ≡ p + 1 → p < length numbers
       → IsDescent side A (word_at members (number_at numbers p)) s → c.number ≡ number_at numbers p → c.factor ≡ value_at values p
       → ((d : ℕ) → length (word_at members i) ≡ length (word_at members (number_at numbers p)) + 2 * d → c.shift ≡ d)
-      → AreFiltered side A members s (word_at members i) numbers p list → AreFiltered side A members s (word_at members i) numbers n (list ++ c ∷ [])
+      → AreFiltered side A members s (word_at members i) numbers p list → AreFiltered side A members s (word_at members i) numbers n
+      (list ++ c ∷ [])
   filtered-push p n list c e l d number factor shift h = record {
     rising = λ j k less m. ⊎_elim
         (λ (old : k < length list). rw (push-old list c _ j (omega (arith, less, old)), push-old list c _ k old) (h.rising j k less old))

@@ -36,3 +36,7 @@ pub mod Chosen
 pub mod Candidates
 -- how many polynomials are added up
 pub mod StepCounts
+-- fingerprints of the polynomials of a pool
+pub mod PrintLemmas
+-- marks of the members whose inverses a row has
+pub mod MarkLemmas

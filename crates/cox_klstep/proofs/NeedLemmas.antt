@@ -59,7 +59,8 @@ pub listed-needs : (e : Elements) (holds : ℕ → Type 0) (d : Descent) (number
 listed-needs e holds d numbers g closed descent are lower each = record {
   shorter = λ s j least l is.
       let same : s ≡ d.letter = omega (arith, least.least d.letter descent.least.descent, descent.least.least s least.descent)
-      in let place : j ≡ d.lower = rising-place e.members j d.lower closed.rising l descent.lower_within (rw (is, same) (sym descent.lower_is))
+      in let place : j ≡ d.lower = rising-place e.members j d.lower closed.rising l descent.lower_within
+      (rw (is, same) (sym descent.lower_is))
       in rw place lower;
   corrected = λ s u m least l c.
       let same : s ≡ d.letter = omega (arith, least.least d.letter descent.least.descent, descent.least.least s least.descent)

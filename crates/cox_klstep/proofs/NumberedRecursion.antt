@@ -46,7 +46,8 @@ module _ (side : Side) (A : IntegerMatrix) (g : IsAdmissible A) (members : List 
         (record { number = 0; factor = pos 0; shift = 0 }) d m)
         (numbered.each k m);
     once = λ u m c.
-        let below : IsBelow A u (word_at members i) = below-trans A g (mu-below A g u (times_letter side s (word_at members i)) m c.is_mu c.some)
+        let below : IsBelow A u (word_at members i) = below-trans A g (mu-below A g u (times_letter side s (word_at members i)) m
+        c.is_mu c.some)
         (lowered-below side A g s (word_at members i) descent)
         in let place = contains-placed members (normal_form A u) (member-below A g members closed u i inside below)
         in let same : SameElement A u (word_at members place.i) = rw place.is (same-sym A g (normal_form-same A g u))
@@ -126,8 +127,10 @@ module _ (side : Side) (A : IntegerMatrix) (g : IsAdmissible A) (members : List 
         → ((k : ℕ) → h k ≡ minus (plus a (times_q b)) (numbered_sum P list) k)
         → IsKazhdanLusztig A (word_at members x) (word_at members i) h
     sums-are P a b h gives is_a is_b is = numbered-recursion (word_at members x) P a b h d gives
-        (kazhdan_lusztig-same A g (word_at members shorter) (times_letter side s (word_at members x)) (word_at members lower) (times_letter side s (word_at members i)) a
+        (kazhdan_lusztig-same A g (word_at members shorter) (times_letter side s (word_at members x)) (word_at members lower)
+        (times_letter side s (word_at members i)) a
         shorter-same lower-same is_a)
-        (kazhdan_lusztig-same A g (word_at members x) (word_at members x) (word_at members lower) (times_letter side s (word_at members i)) b
+        (kazhdan_lusztig-same A g (word_at members x) (word_at members x) (word_at members lower)
+        (times_letter side s (word_at members i)) b
         (same-refl A g (word_at members x)) lower-same is_b)
         is

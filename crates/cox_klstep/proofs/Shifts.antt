@@ -64,7 +64,8 @@ module _ (A : IntegerMatrix) (g : IsAdmissible A) (members : List (List ℕ)) (c
         number : {y : List ℕ} → SameElement A (word_at members k) y → word_at members k ≡ normal_form A y
         number e = sym (element-at A g members closed k m).normal ∙ normal_form-equal A g e
 
-    pub shift-one : (k : ℕ) → k < i → IsShift A (word_at members i) (word_at members k) → IsMu A (word_at members k) (word_at members i) (pos 1)
+    pub shift-one : (k : ℕ) → k < i → IsShift A (word_at members i) (word_at members k) → IsMu A (word_at members k) (word_at members i)
+        (pos 1)
     shift-one k l h = ⊎_elim
         (λ d. mu-same A g (h.s ∷ word_at members i) (word_at members k) (word_at members i) (pos 1) (same-sym A g d.1)
         (mu-shift_left A g (word_at members i) h.s d.0))
@@ -172,14 +173,17 @@ module _ (A : IntegerMatrix) (g : IsAdmissible A) (members : List (List ℕ)) (c
             (λ k e l _. record { s = s; letter = letter; either = inr (shifted (word_at members i ++ s ∷ []) right k right_is e) })
 
         -- a shift by s between the start and the least one
-        between : (y : List ℕ) (found : Option ℕ) (old new k : ℕ) → IsNumberOf members (normal_form A y) found → IsLeastOf found start old new
+        between : (y : List ℕ) (found : Option ℕ) (old new k : ℕ) → IsNumberOf members (normal_form A y) found → IsLeastOf found start
+            old new
             → start ≤ k → k < new → k < length members → SameElement A (word_at members k) y → ⊥
         between y None old new k none e l m within same =
-            none (rw (sym (sym (element-at A g members closed k within).normal ∙ normal_form-equal A g same)) (contains-at members k within))
+            none (rw (sym (sym (element-at A g members closed k within).normal ∙ normal_form-equal A g same))
+            (contains-at members k within))
         between y (Some j) old new k n e l m within same =
             let is : k ≡ j = rising-place members k j closed.rising within n.0
             (sym (element-at A g members closed k within).normal ∙ normal_form-equal A g same ∙ sym n.1)
-            in ⊎_elim (λ x. omega (arith, x.2, m, is)) (λ x. ⊎_elim (λ d. omega (arith, d, l, is)) (λ d. omega (arith, d, x.0, m, is)) x.1) e
+            in ⊎_elim (λ x. omega (arith, x.2, m, is)) (λ x. ⊎_elim (λ d. omega (arith, d, l, is)) (λ d. omega (arith, d, x.0, m, is))
+            x.1) e
 
         none_by_s : (k : ℕ) → start ≤ k → k < third → IsShiftBy A s (word_at members i) (word_at members k) → ⊥
         none_by_s k l m e = ⊎_elim
@@ -202,7 +206,8 @@ module _ (A : IntegerMatrix) (g : IsAdmissible A) (members : List (List ℕ)) (c
       value = old.value;
       some = old.some;
       whole = λ u n u_less mu some. ⊎_elim (λ (less : u < q). old.whole u n less mu some)
-          (λ (more : q ≤ u). absurd (h.none u more (omega (arith, u_less, m)) (mu-shift (word_at members u) n mu some (bare u more u_less))))
+          (λ (more : q ≤ u). absurd (h.none u more (omega (arith, u_less, m))
+          (mu-shift (word_at members u) n mu some (bare u more u_less))))
           (cases_lt u q);
     }
 

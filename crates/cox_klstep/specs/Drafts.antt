@@ -50,7 +50,7 @@ pub record AreNoted (A : IntegerMatrix) (members : List (List ℕ)) (w : List �
 -- what a draft of the row of the member i has of the members done
 pub record IsUnderway (e : Elements) (i : ℕ) (limit : ℤ) (draft : Draft) : Type 0 where
   pub begun : AreBegun (integer_matrix e.matrix) e.members (word_at e.members i) limit draft.done draft.values.extremal.items
-      draft.values.places.items draft.values.pool.items
+      draft.values.places.items draft.values.pool
   pub noted : AreNoted (integer_matrix e.matrix) e.members (word_at e.members i) draft.done draft.mus.numbers.items draft.mus.values.items
   pub next : IsLeastShift (integer_matrix e.matrix) e.members i draft.done draft.next
 

@@ -18,3 +18,7 @@ pub mod Faults
 pub mod NeedsOf
 -- the tables of a context
 pub mod TablesOf
+-- marks of the members whose inverses a row has
+pub mod Marks
+-- fingerprints of polynomials
+pub mod Prints

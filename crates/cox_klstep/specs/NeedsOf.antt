@@ -26,8 +26,9 @@ pub record AreNeeds (A : IntegerMatrix) (members : List (List ℕ)) (s : ℕ) (w
   pub whole : (u : ℕ) (m : ℤ) → u < length members → IsCorrection Left A s (s ∷ w) (word_at members u) m
       → (k : ℕ) × (k < length numbers) × (number_at numbers k ≡ u)
 
--- For a row with so many extremal elements: at most 2 polynomials more than the step by the least left descent has corrections were added up at
--- each of them.
+-- For a row with so many extremal elements: at each of them at most 2 polynomials more were added up than the step by the least
+-- left descent has corrections.
 abbrev pub IsWithinSteps : Elements → ℕ → ℕ → ℕ → Row → Type 0
 IsWithinSteps e i old new row = (s : ℕ) (numbers : List ℕ) → IsLeastLeftDescent (integer_matrix e.matrix) (word_at e.members i) s
-    → AreNeeds (integer_matrix e.matrix) e.members s (word_at e.members i) numbers → new ≤ old + (2 + length numbers) * length row.extremal.items
+    → AreNeeds (integer_matrix e.matrix) e.members s (word_at e.members i) numbers
+    → new ≤ old + (2 + length numbers) * length row.extremal.items

@@ -2,10 +2,12 @@
 use Rattle.std.specs.Prelude.{◌≡◌, ℕ, ◌+◌, ◌<◌, List, length, reverse, slice_index_or, Option, None, Some}
 use Rattle.std.specs.Borrow.{Bor}
 use Rattle.cox_base.specs.IntegerMatrix.{integer_matrix}
+use Rattle.cox_base.specs.Element.{SameElement}
 use Rattle.cox_base.specs.ShortLex.{normal_form}
 use Rattle.cox_context.specs.Closed.{Elements}
 use Rattle.cox_context.specs.Numbers.{word_at, IsNumberOf}
 use Rattle.cox_row.specs.RowOf.{IsRowAt}
+use Rattle.cox_klstep.specs.Marks.{AreMarks}
 use Rattle.cox_klstep.specs.StepOf.{IsStep, AreNeeded}
 use Rattle.cox_klstep.specs.declared.source.Source.{Source}
 use Rattle.cox_klstep.specs.declared.step.Step.{Step}
@@ -20,8 +22,10 @@ pub record AreInverses (e : Elements) (numbers : List (Option ℕ)) : Type 0 whe
 abbrev pub IsSourceBy : Option (Bor Step) → Elements → ℕ → Source → Type 0
 IsSourceBy (Some step) e i source = (step.now.member ≡ i) × IsStep e step.now × IsRowAt e step.now.lower source.row.now
     × AreNeeded e step.now.corrections.items source.needed.now
-IsSourceBy None e i source = (slice_index_or source.numbers.now i None ≡ Some source.inverse) × IsRowAt e source.inverse source.row.now
-    × AreInverses e source.numbers.now
+IsSourceBy None e i source = (source.inverse < length e.members)
+    × SameElement (integer_matrix e.matrix) (word_at e.members i) (reverse (word_at e.members source.inverse))
+    × IsRowAt e source.inverse source.row.now
+    × AreMarks (integer_matrix e.matrix) e.members source.row.now.extremal.items (length source.row.now.extremal.items) source.marks.now
 
 abbrev pub IsSource : Elements → ℕ → Source → Type 0
 IsSource e i source = IsSourceBy source.step e i source

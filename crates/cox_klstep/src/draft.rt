@@ -48,12 +48,11 @@ impl Draft {
     pub(crate) fn shrink(&mut self)
         ensures extremal { self.new.values.extremal.items ≡ self.old.values.extremal.items }
         ensures places { self.new.values.places.items ≡ self.old.values.places.items }
-        ensures pool { self.new.values.pool.items ≡ self.old.values.pool.items }
+        ensures pool { self.new.values.pool ≡ self.old.values.pool }
         ensures numbers { self.new.mus.numbers.items ≡ self.old.mus.numbers.items }
     {
         self.values.extremal.shrink_to_fit();
         self.values.places.shrink_to_fit();
-        self.values.pool.shrink_to_fit();
         self.mus.numbers.shrink_to_fit();
     }
 
@@ -111,7 +110,7 @@ impl Draft {
             }
             Err(PolyFault::NoMemory) => return Err(StepFault::NoMemory),
         };
-        let value = middle(ctx, &self.values.pool[place as usize], i, x);
+        let value = middle(ctx, &self.values.pool.at(place as usize), i, x);
         match self.mus.note(x, value) {
             Ok(()) => {}
             Err(_) => return Err(StepFault::NoMemory),

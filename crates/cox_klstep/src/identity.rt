@@ -4,7 +4,7 @@ ghost use Rattle.cox_row.specs.RowOf.{IsRowAt};
 ghost use Rattle.cox_row.specs.Within.{IsRowWithin};
 
 use cox_context::Context;
-use cox_poly::Poly;
+use cox_poly::{Poly, PolyList};
 use cox_row::Row;
 use std::alloc::{AllocError, Global};
 
@@ -16,7 +16,7 @@ pub fn identity_row(alloc: Global, ctx: &Context) -> Result<Row, AllocError>
     let _len = ctx.len();
     let extremal = Vec::from_slice(alloc, &[0u32])?;
     let places = Vec::from_slice(alloc, &[0u32])?;
-    let mut pool = Vec::new(alloc);
-    pool.push(Poly::one(alloc)?)?;
+    let mut pool = PolyList::new(alloc);
+    pool.push(&Poly::one(alloc)?.view())?;
     Ok(Row::of_parts(extremal, places, pool, Vec::new(alloc), Vec::new(alloc)))
 }

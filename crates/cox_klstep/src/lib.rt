@@ -10,9 +10,9 @@
 //! - `step`, `sides`: the descent, the shorter element and the corrections
 //! - `sums`, `source`: the polynomial at one extremal member, by the recursion or from the inverse
 //! - `target`: the member, and its shifts that are shorter
-//! - `draft`, `values`, `mus`: a row that is being made
+//! - `draft`, `values`, `pool`, `mus`: a row that is being made
 //! - `making`: the row, candidate by candidate
-//! - `tables`, `steps`: lists of candidates and inverses, and how much was added up
+//! - `tables`, `marks`, `steps`: lists of candidates and inverses, members that are marked, and how much was added up
 //! - `identity`: the row of the identity
 //! - `fault`: why a row is not made
 #![tactic(auto)]
@@ -22,9 +22,11 @@ mod draft;
 mod fault;
 mod identity;
 mod making;
+mod marks;
 mod member;
 mod mus;
 mod needed;
+mod pool;
 mod sides;
 mod source;
 mod step;

@@ -68,7 +68,7 @@ pub(crate) fn make_row(
     Ok(Row::of_parts(
         draft.values.extremal,
         draft.values.places,
-        draft.values.pool,
+        draft.values.pool.into_list(),
         draft.mus.numbers,
         mu,
     ))

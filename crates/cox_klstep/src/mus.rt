@@ -9,7 +9,7 @@ ghost use Rattle.cox_context.specs.Numbers.{word_at};
 ghost use Rattle.cox_klstep.specs.Drafts.{AreNoted};
 
 use cox_context::Context;
-use cox_poly::Poly;
+use cox_poly::PolyView;
 use std::alloc::{AllocError, Global};
 
 /// Members so far for which mu is not 0, with its values.
@@ -44,7 +44,7 @@ impl Mus {
 }
 
 /// mu(x,w), for the members w and x with the numbers i and x, where the polynomial is P(x,w).
-pub(crate) fn middle(ctx: &Context, polynomial: &Poly, i: u32, x: u32) -> i64
+pub(crate) fn middle(ctx: &Context, polynomial: &PolyView<'_>, i: u32, x: u32) -> i64
     requires i { i < length ctx.now.members }
     requires x { x < length ctx.now.members }
     ensures { IsKazhdanLusztig (integer_matrix ctx.now.matrix) (word_at ctx.now.members x) (word_at ctx.now.members i) (coefficient polynomial.now)

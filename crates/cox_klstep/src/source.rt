@@ -1,17 +1,19 @@
 //! What the polynomials of a row come from.
-ghost use Rattle.std.specs.Prelude.{◌≡◌, ℕ, ◌+◌, ◌<◌, ◌≤◌, ◌↔◌, length, pos, false, IsTrue, slice_index_or, None, Some};
+ghost use Rattle.std.specs.Prelude.{◌≡◌, ℕ, ◌+◌, ◌<◌, ◌≤◌, ◌↔◌, length, pos, false, IsTrue, reverse};
 ghost use Rattle.cox_base.specs.IntegerMatrix.{integer_matrix};
+ghost use Rattle.cox_base.specs.Element.{SameElement};
 ghost use Rattle.cox_base.specs.Bruhat.{IsBelow};
 ghost use Rattle.cox_poly.specs.Polynomial.{coefficient};
 ghost use Rattle.cox_hecke.specs.Row.{IsKazhdanLusztig};
 ghost use Rattle.cox_context.specs.Numbers.{word_at};
 ghost use Rattle.cox_row.specs.RowOf.{IsRowAt};
 ghost use Rattle.cox_row.specs.Extremal.{IsExtremal};
-ghost use Rattle.cox_klstep.specs.SourceOf.{AreInverses, IsSource, source_cost};
+ghost use Rattle.cox_klstep.specs.Marks.{AreMarks};
+ghost use Rattle.cox_klstep.specs.SourceOf.{IsSource, source_cost};
 
 use crate::step::Step;
 use crate::steps::Steps;
-use crate::sums::{add, sum_up};
+use crate::sums::{add_known, sum_up};
 use cox_context::Context;
 use cox_poly::Acc;
 use cox_row::Row;
@@ -27,8 +29,8 @@ pub(crate) struct Source<'a> {
     pub(crate) needed: &'a [&'a Row],
     /// The number of the inverse, where there is no step.
     pub(crate) inverse: u32,
-    /// The numbers of the inverses of all members.
-    pub(crate) numbers: &'a [Option<u32>],
+    /// Marks of the members whose inverses the row has, where there is no step.
+    pub(crate) marks: &'a [u32],
 }
 
 /// The sums become those of P(x,w), for an extremal x; says whether x <= w.
@@ -57,7 +59,7 @@ pub(crate) fn put_polynomial(
             i,
             source.inverse,
             source.row,
-            source.numbers,
+            source.marks,
             x,
             sums,
             steps,
@@ -71,16 +73,18 @@ fn put_inverse(
     i: u32,
     member: u32,
     row: &Row,
-    numbers: &[Option<u32>],
+    marks: &[u32],
     x: u32,
     sums: &mut Acc,
     steps: &mut Steps,
 ) -> bool
     requires i { i < length ctx.now.members }
     requires x { x < length ctx.now.members }
-    requires member { slice_index_or numbers.now i None ≡ Some member }
+    requires extremal { IsExtremal (integer_matrix ctx.now.matrix) (word_at ctx.now.members i) (word_at ctx.now.members x) }
+    requires member { member < length ctx.now.members }
+    requires inverse { SameElement (integer_matrix ctx.now.matrix) (word_at ctx.now.members i) (reverse (word_at ctx.now.members member)) }
     requires row { IsRowAt ctx.now member row.now }
-    requires numbers { AreInverses ctx.now numbers.now }
+    requires marks { AreMarks (integer_matrix ctx.now.matrix) ctx.now.members row.now.extremal.items (length row.now.extremal.items) marks.now }
     requires clear { (k : ℕ) → coefficient sums.old k ≡ pos 0 }
     ensures below { IsTrue result ↔ IsBelow (integer_matrix ctx.now.matrix) (word_at ctx.now.members x) (word_at ctx.now.members i) }
     ensures value { IsTrue result → IsKazhdanLusztig (integer_matrix ctx.now.matrix) (word_at ctx.now.members x) (word_at ctx.now.members i) (coefficient sums.new) }
@@ -88,8 +92,13 @@ fn put_inverse(
     ensures none { result ≡ false → steps.new ≡ steps.old }
 {
     let _len = ctx.len();
-    match numbers[x as usize] {
-        Some(inverse) => add(ctx, row, member, inverse, 1, 0, sums, steps),
-        None => false,
+    let mark = marks[x as usize];
+    if mark == 0 {
+        return false;
     }
+    let k = mark as usize - 1;
+    let y = row.extremal()[k];
+    let known = row.polynomial_at(k);
+    add_known(ctx, &known, member, y, 1, 0, sums, steps);
+    true
 }

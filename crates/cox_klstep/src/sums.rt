@@ -18,7 +18,7 @@ use crate::sides::shift;
 use crate::step::{Correction, Step};
 use crate::steps::Steps;
 use cox_context::Context;
-use cox_poly::Acc;
+use cox_poly::{Acc, PolyView};
 use cox_row::{Row, polynomial};
 
 /// Adds factor q^shift P(x,u) to the sums, for the row of the member u, and says whether x <= u.
@@ -50,13 +50,40 @@ pub(crate) fn add(
 {
     match polynomial(ctx, row, u, x) {
         Some(p) => {
-            let _degree = p.degree();
-            sums.add_scaled(p, factor, shift);
-            steps.take();
+            add_known(ctx, &p, u, x, factor, shift, sums, steps);
             true
         }
         None => false,
     }
+}
+
+/// Adds factor q^shift P(x,u) to the sums, where the polynomial is P(x,u).
+pub(crate) fn add_known(
+    ctx: &Context,
+    p: &PolyView<'_>,
+    u: u32,
+    x: u32,
+    factor: i64,
+    shift: u32,
+    sums: &mut Acc,
+    steps: &mut Steps,
+)
+    requires admissible { IsAdmissible (integer_matrix ctx.now.matrix) }
+    requires closed { IsClosed (integer_matrix ctx.now.matrix) ctx.now.members }
+    requires u { u < length ctx.now.members }
+    requires value { IsKazhdanLusztig (integer_matrix ctx.now.matrix) (word_at ctx.now.members x) (word_at ctx.now.members u) (coefficient p.now) }
+    requires shift { shift ≤ 127 }
+    requires factor { unsigned_abs factor ≤ 2 ^ 31 }
+    requires room { (k : ℕ) → unsigned_abs (coefficient sums.old k) ≤ 2 ^ 125 }
+    ensures sum { (f : Coefficients) → IsKazhdanLusztig (integer_matrix ctx.now.matrix) (word_at ctx.now.members x) (word_at ctx.now.members u) f
+        → (k : ℕ) → coefficient sums.new k ≡ plus (coefficient sums.old) (scaled factor (times_q_power shift f)) k }
+    ensures size { (n : ℕ) → ((k : ℕ) → unsigned_abs (coefficient sums.old k) ≤ n * 2 ^ 94)
+        → (k : ℕ) → unsigned_abs (coefficient sums.new k) ≤ (n + 1) * 2 ^ 94 }
+    ensures steps { steps.new ≤ steps.old + 1 }
+{
+    let _degree = p.degree();
+    sums.add_scaled(p, factor, shift);
+    steps.take();
 }
 
 /// The sums become those of P(x,w), for an extremal x; says whether x <= w.

@@ -1,8 +1,8 @@
 //! The polynomials of a row that is being made.
-ghost use Rattle.std.specs.Prelude.{◌≡◌, ℕ, List, ◌+◌, ◌^◌, ◌<◌, ◌≤◌, ℤ, length, [], ◌∷◌, ◌++◌, Err, IfOk, OnOk, IfSome, IfNone};
+ghost use Rattle.std.specs.Prelude.{◌≡◌, ℕ, List, ◌+◌, ◌^◌, ◌<◌, ◌≤◌, ℤ, length, [], ◌∷◌, ◌++◌, Err, IfOk, OnOk};
 ghost use Rattle.cox_base.specs.IntegerMatrix.{IntegerMatrix};
 ghost use Rattle.cox_base.specs.Bruhat.{IsBelow};
-ghost use Rattle.cox_poly.specs.Polynomial.{coefficient, IsPolynomial, SameCoefficients};
+ghost use Rattle.cox_poly.specs.Polynomial.{coefficient, SameCoefficients};
 ghost use Rattle.cox_poly.specs.Limit.{AllWithin, IsFirstAbove};
 ghost use Rattle.cox_hecke.specs.Row.{IsKazhdanLusztig};
 ghost use Rattle.cox_context.specs.Numbers.{word_at};
@@ -10,7 +10,8 @@ ghost use Rattle.cox_row.specs.Extremal.{IsExtremal};
 ghost use Rattle.cox_row.specs.Polynomials.{polynomial_at};
 ghost use Rattle.cox_klstep.specs.Drafts.{IsPooled, AreBegun};
 
-use cox_poly::{Acc, Poly, PolyFault};
+use crate::pool::{Pool, print_of};
+use cox_poly::{Acc, PolyFault};
 use std::alloc::{AllocError, Global};
 
 /// Extremal members so far, each with the place of its polynomial in the pool.
@@ -18,18 +19,18 @@ use std::alloc::{AllocError, Global};
 pub(crate) struct Values {
     pub(crate) extremal: Vec<u32>,
     pub(crate) places: Vec<u32>,
-    pub(crate) pool: Vec<Poly>,
+    pub(crate) pool: Pool,
 }
 
 impl Values {
     /// No members.
     pub(crate) fn new(alloc: Global) -> Values
-        ensures { (A : IntegerMatrix) → (members : List (List ℕ)) (w : List ℕ) (limit : ℤ) → AreBegun A members w limit 0 result.extremal.items result.places.items result.pool.items }
+        ensures { (A : IntegerMatrix) → (members : List (List ℕ)) (w : List ℕ) (limit : ℤ) → AreBegun A members w limit 0 result.extremal.items result.places.items result.pool }
     {
         Values {
             extremal: Vec::new(alloc),
             places: Vec::new(alloc),
-            pool: Vec::new(alloc),
+            pool: Pool::new(alloc),
         }
     }
 
@@ -41,14 +42,14 @@ impl Values {
         sums: &Acc,
         limit: i64,
     ) -> Result<u32, PolyFault>
-        requires few { length self.old.pool.items ≤ x }
-        requires small { (j : ℕ) → j < length self.old.pool.items → AllWithin limit (polynomial_at self.old.pool.items j) }
-        ensures kept { IfOk result (λ _. (A : IntegerMatrix) → (members : List (List ℕ)) (w : List ℕ) → AreBegun A members w limit x self.old.extremal.items self.old.places.items self.old.pool.items
+        requires few { length self.old.pool ≤ x }
+        requires small { (j : ℕ) → j < length self.old.pool → AllWithin limit (polynomial_at self.old.pool j) }
+        ensures kept { IfOk result (λ _. (A : IntegerMatrix) → (members : List (List ℕ)) (w : List ℕ) → AreBegun A members w limit x self.old.extremal.items self.old.places.items self.old.pool
             → IsExtremal A w (word_at members x) → IsBelow A (word_at members x) w → IsKazhdanLusztig A (word_at members x) w (coefficient sums.now)
-            → AreBegun A members w limit (x + 1) self.new.extremal.items self.new.places.items self.new.pool.items) }
-        ensures within { IfOk result (λ place. place < length self.new.pool.items) }
+            → AreBegun A members w limit (x + 1) self.new.extremal.items self.new.places.items self.new.pool) }
+        ensures within { IfOk result (λ place. place < length self.new.pool) }
         ensures more { IfOk result (λ _. length self.new.extremal.items ≡ length self.old.extremal.items + 1) }
-        ensures polynomial { IfOk result (λ place. SameCoefficients (polynomial_at self.new.pool.items place) sums.now) }
+        ensures polynomial { IfOk result (λ place. SameCoefficients (polynomial_at self.new.pool place) sums.now) }
         ensures too_big { (d : ℕ) (v : ℤ) → result ≡ Err (PolyFault.TooBig d v) → IsFirstAbove limit sums.now d v }
     {
         let place = match place_of(alloc, &mut self.pool, sums, limit) {
@@ -65,7 +66,7 @@ impl Values {
     fn append(&mut self, x: u32, place: u32) -> Result<(), AllocError>
         ensures extremal { OnOk result (self.new.extremal.items ≡ self.old.extremal.items ++ x ∷ []) }
         ensures places { OnOk result (self.new.places.items ≡ self.old.places.items ++ place ∷ []) }
-        ensures pool { self.new.pool.items ≡ self.old.pool.items }
+        ensures pool { self.new.pool ≡ self.old.pool }
     {
         self.extremal.push(x)?;
         self.places.push(place)?;
@@ -74,13 +75,14 @@ impl Values {
 }
 
 /// The place of the polynomial with these sums in the pool, where it is put if it is new.
-fn place_of(alloc: Global, pool: &mut Vec<Poly>, sums: &Acc, limit: i64) -> Result<u32, PolyFault>
-    requires few { length pool.old.items < 2 ^ 32 }
-    requires small { (j : ℕ) → j < length pool.old.items → AllWithin limit (polynomial_at pool.old.items j) }
-    ensures place { IfOk result (IsPooled limit sums.now pool.old.items pool.new.items) }
+fn place_of(alloc: Global, pool: &mut Pool, sums: &Acc, limit: i64) -> Result<u32, PolyFault>
+    requires few { length pool.old < 2 ^ 32 }
+    requires small { (j : ℕ) → j < length pool.old → AllWithin limit (polynomial_at pool.old j) }
+    ensures place { IfOk result (IsPooled limit sums.now pool.old pool.new) }
     ensures too_big { (d : ℕ) (v : ℤ) → result ≡ Err (PolyFault.TooBig d v) → IsFirstAbove limit sums.now d v }
 {
-    if let Some(place) = known_place(pool.as_slice(), sums) {
+    let print = print_of(sums);
+    if let Some(place) = pool.place_of(sums, print) {
         return Ok(place);
     }
     let polynomial = match sums.close(alloc, limit) {
@@ -88,35 +90,8 @@ fn place_of(alloc: Global, pool: &mut Vec<Poly>, sums: &Acc, limit: i64) -> Resu
         Err(fault) => return Err(fault),
     };
     let place = pool.len() as u32;
-    match append(pool, polynomial) {
+    match pool.push(&polynomial, sums, print) {
         Ok(()) => Ok(place),
         Err(_) => Err(PolyFault::NoMemory),
     }
-}
-
-/// One polynomial more.
-fn append(pool: &mut Vec<Poly>, polynomial: Poly) -> Result<(), AllocError>
-    ensures { OnOk result (pool.new.items ≡ pool.old.items ++ polynomial ∷ []) }
-{
-    pool.push(polynomial)?;
-    Ok(())
-}
-
-/// The place of the polynomial with these sums in the pool, if it is there. The last ones are looked at first.
-fn known_place(pool: &[Poly], sums: &Acc) -> Option<u32>
-    requires few { length pool.now < 2 ^ 32 }
-    ensures found { IfSome result (λ k. (k < length pool.now) × SameCoefficients (polynomial_at pool.now k) sums.now) }
-    ensures trimmed { IfSome result (λ k. IsPolynomial (polynomial_at pool.now k)) }
-    ensures none { IfNone result ((j : ℕ) → j < length pool.now → ¬ SameCoefficients (polynomial_at pool.now j) sums.now) }
-{
-    let mut k = pool.len();
-    while k > 0 {
-        k -= 1;
-        let known = &pool[k];
-        let _degree = known.degree();
-        if sums.is(known) {
-            return Some(k as u32);
-        }
-    }
-    None
 }

@@ -7,12 +7,17 @@ ghost use Rattle.cox_print.specs.AnswerText.{element_text, pair_text, member_tex
 use crate::NoMemory;
 use crate::element::{put_element, put_next_element, put_set};
 use cox_base::{MAX_RANK, Word};
-use cox_poly::Poly;
+use cox_poly::PolyView;
 use cox_poly::append::{put_number, put_text};
 
 /// Appends the next pair of a list: the end of the line before, then an element, `:` and a polynomial, as in `12:1+q`. A list begins with
 /// `put_count`, the number of its pairs. `rank` is that of the group.
-pub fn put_next_pair(out: &mut Vec<u8>, rank: u32, x: &Word, p: &Poly) -> Result<(), NoMemory>
+pub fn put_next_pair(
+    out: &mut Vec<u8>,
+    rank: u32,
+    x: &Word,
+    p: &PolyView<'_>,
+) -> Result<(), NoMemory>
     requires rank { rank ≤ MAX_RANK }
     requires word { IsWord rank x.now.items }
     ensures { Puts result (10 ∷ pair_text rank x.now.items p.now) out.old.items out.new.items }

@@ -83,7 +83,8 @@ fn puts_items_of_lists(rt: HostRuntime) -> Result<(), Fail> {
     let mut out = Vec::new(rt.alloc());
     let (word, empty) = (read_word(b"12", 2)?, read_word(b"e", 2)?);
     put_count(&mut out, 1)?;
-    put_next_pair(&mut out, 2, &word, &Poly::of(rt.alloc(), &[1, 2])?)?;
+    let polynomial = Poly::of(rt.alloc(), &[1, 2])?;
+    put_next_pair(&mut out, 2, &word, &polynomial.view())?;
     put_end(&mut out)?;
     put_member(&mut out, 2, &empty, true)?;
     put_member(&mut out, 2, &word, false)?;

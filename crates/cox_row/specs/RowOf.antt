@@ -11,7 +11,7 @@ use Rattle.cox_row.specs.Mus.{AreMus}
 -- the row of w: its extremal elements with their polynomials, and its values of mu
 pub record IsRowOf (A : IntegerMatrix) (members : List (List ℕ)) (w : List ℕ) (row : Row) : Type 0 where
   pub extremal : AreExtremal A members w row.extremal.items
-  pub polynomials : HavePolynomials A members w row.extremal.items row.places.items row.pool.items
+  pub polynomials : HavePolynomials A members w row.extremal.items row.places.items row.pool
   pub mus : AreMus A members w row.neighbours.items row.mu.items
 
 -- the row of the member with the number i

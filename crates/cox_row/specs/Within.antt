@@ -6,4 +6,4 @@ use Rattle.cox_row.specs.Polynomials.{polynomial_at}
 
 -- no coefficient of a polynomial of the row is above the limit in absolute value
 abbrev pub IsRowWithin : ℤ → Row → Type 0
-IsRowWithin limit row = (j : ℕ) → j < length row.pool.items → AllWithin limit (polynomial_at row.pool.items j)
+IsRowWithin limit row = (j : ℕ) → j < length row.pool → AllWithin limit (polynomial_at row.pool j)

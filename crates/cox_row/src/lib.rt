@@ -11,6 +11,7 @@
 //! - `row`: the row, its parts, and new numbers for it when a context grows
 //! - `raised`: raising a member by the descents of another
 //! - `look_up`: the polynomial and mu of any member, and how many polynomials there are
+//! - `search`: the place of a number in a list that rises
 //! - `lower_rows`: rows that are at hand, by number
 #![tactic(auto)]
 
@@ -18,6 +19,7 @@ mod look_up;
 mod lower_rows;
 mod raised;
 mod row;
+mod search;
 
 pub use look_up::{mu, polynomial, pool_len};
 pub use lower_rows::LowerRows;

@@ -10,24 +10,23 @@ ghost use Rattle.cox_row.specs.Distinct.{HasDistinctPolynomials};
 
 use crate::Row;
 use crate::raised::raise_fully;
+use crate::search::place_of;
 use cox_context::Context;
-use cox_poly::Poly;
+use cox_poly::PolyView;
 
 /// P(x,w), for the row of the member w with the number i and the member x with the number x; `None` exactly where x <= w fails.
 ///
 /// In A 3 the row of 2132 has 1 + q at x = 2 and at x = e, and 1 at all other x <= w.
-pub fn polynomial<'a>(ctx: &Context, row: &'a Row, i: u32, x: u32) -> Option<&'a Poly>
+pub fn polynomial<'a>(ctx: &Context, row: &'a Row, i: u32, x: u32) -> Option<PolyView<'a>>
     requires i { i < length ctx.now.members }
     requires x { x < length ctx.now.members }
     requires row { IsRowAt ctx.now i row.now }
-    ensures value { IfSome result (λ p. IsKazhdanLusztig (integer_matrix ctx.now.matrix) (word_at ctx.now.members x) (word_at ctx.now.members i) (coefficient p.now)) }
+    ensures value { IfSome result (λ p. IsKazhdanLusztig (integer_matrix ctx.now.matrix) (word_at ctx.now.members x) (word_at ctx.now.members i) (coefficient p)) }
     ensures exactly { IsSome result ↔ IsBelow (integer_matrix ctx.now.matrix) (word_at ctx.now.members x) (word_at ctx.now.members i) }
 {
     let top = raise_fully(ctx, i, x)?;
-    match row.extremal.binary_search(&top) {
-        Ok(k) => Some(&row.pool[row.places[k] as usize]),
-        Err(_) => None,
-    }
+    let k = place_of(&row.extremal, top)?;
+    Some(row.pool.at(row.places[k] as usize))
 }
 
 /// mu(u,w), for the row of the member w with the number i and the member u with the number u.
@@ -38,9 +37,9 @@ pub fn mu(ctx: &Context, row: &Row, i: u32, u: u32) -> i32
     ensures { IsMu (integer_matrix ctx.now.matrix) (word_at ctx.now.members u) (word_at ctx.now.members i) result }
 {
     let _len = ctx.len();
-    match row.neighbours.binary_search(&u) {
-        Ok(k) => row.mu[k],
-        Err(_) => 0,
+    match place_of(&row.neighbours, u) {
+        Some(k) => row.mu[k],
+        None => 0,
     }
 }
 

@@ -30,7 +30,7 @@ module _ (A : IntegerMatrix) (g : IsAdmissible A) (members : List (List ℕ)) (c
     (inside : i < length members)
     (limit : ℤ) (least : pos 0 ≤ℤ limit) (row : Row) (is : IsRowOf A members (word_at members i) row) (within : IsRowWithin limit row) where
   pub none-coefficient : (x : List ℕ) (k : ℕ) (c : ℤ) → IsLargeCoefficient A limit x (word_at members i) k c → ⊥
-  none-coefficient x k c h = none-large A g members closed i inside limit least row.extremal.items row.places.items row.pool.items
+  none-coefficient x k c h = none-large A g members closed i inside limit least row.extremal.items row.places.items row.pool
       is.extremal is.polynomials within x k c h
 
   not_zero : (m : ℤ) → pos MU_LIMIT <ℤ pos (unsigned_abs m) → m ≡ pos 0 → ⊥

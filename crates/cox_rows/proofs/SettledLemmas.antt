@@ -1,5 +1,5 @@
 -- A member is settled where all that its row is made from is, and its row is held with small values of mu.
-use Rattle.std.proofs.Common.{◌≡◌, ◌⊎◌, ⊎_elim, ℕ, ◌<◌, ◌≤◌, List, Bool, true, false, length, pos, Option, slice_index_or, refl}
+use Rattle.std.proofs.Common.{◌≡◌, ◌⊎◌, ⊎_elim, ℕ, ◌<◌, ◌≤◌, List, Bool, true, false, length, pos, Option, Some, slice_index_or, refl}
 use Rattle.std.specs.Prelude.{unsigned_abs, ◌≤ℤ◌}
 use Rattle.cox_base.specs.IntegerMatrix.{integer_matrix}
 use Rattle.cox_base.specs.Admissible.{IsAdmissible}
@@ -11,7 +11,8 @@ use Rattle.cox_klstep.specs.declared.making.TheConstants.{MU_LIMIT}
 use Rattle.cox_klstep.specs.declared.fault.StepFault.{StepFault}
 use Rattle.cox_klstep.specs.declared.tables.Tables.{Tables}
 use Rattle.cox_klstep.specs.Faults.{IsNarrowFault}
-use Rattle.cox_rows.specs.Holding.{Holding, IsHeldRow}
+use Rattle.cox_klstep.specs.TablesOf.{AreTables}
+use Rattle.cox_rows.specs.Holding.{Holding, Holds, IsHeldRow}
 use Rattle.cox_rows.specs.Faults.{fault_of, IsRowsFault}
 use Rattle.cox_rows.specs.Ensured.{IsStore, IsSettled, AreNeedsSmall}
 use Rattle.cox_rows.proofs.NeedDecided.{needs_beyond-none}
@@ -42,4 +43,16 @@ pub store-set : (h : Holding) (old new : List Bool) (tables : Option Tables) (i 
 store-set h old new tables i at settled store = record {
   known = λ j t. ⊎_elim (λ (e : j ≡ i). rw e settled) (λ (before : slice_index_or old j false ≡ true). store.known j before) (at j t);
   usable = store.usable;
+}
+
+-- one row more, and other tables
+pub store-put : (h new : Holding) (settled : List Bool) (old : Option Tables) (tables : Tables) → new.elements ≡ h.elements
+    → new.limit ≡ h.limit → ((j : ℕ) → Holds h j → Holds new j) → IsStore h settled old → AreTables h.elements tables
+    → IsStore new settled (Some tables)
+store-put h new settled old tables elements limit kept store are = record {
+  known = λ j is. let s = store.known j is in record {
+    there = kept j s.there;
+    small = rw (elements, limit) s.small;
+  };
+  usable = rw elements are;
 }

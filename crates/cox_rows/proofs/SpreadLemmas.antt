@@ -76,10 +76,10 @@ row-within : (A : IntegerMatrix) (members : List (List ℕ)) (w : List ℕ) (lim
     → ((x : List ℕ) (k : ℕ) (c : ℤ) → IsLargeCoefficient A limit x w k c → ⊥) → IsRowWithin limit row
 row-within A members w limit row is none j l k =
     let place = is.polynomials.distinct.used j l
-    in by_lt_z limit (pos (unsigned_abs (coefficient (polynomial_at row.pool.items j) k)))
+    in by_lt_z limit (pos (unsigned_abs (coefficient (polynomial_at row.pool j) k)))
     (λ above. absurd (none (word_at members (number_at row.extremal.items place.0)) k
-    (coefficient (polynomial_at row.pool.items j) k) record {
-      polynomial = coefficient (polynomial_at row.pool.items j);
+    (coefficient (polynomial_at row.pool j) k) record {
+      polynomial = coefficient (polynomial_at row.pool j);
       is = rw place.2 at (is.polynomials.value place.0 (omega (arith, place.1, is.polynomials.size)));
       value = refl;
       above = above;

@@ -21,7 +21,7 @@ use cox_base::Word;
 use cox_context::{Context, ContextFault, MAX_MEMBERS};
 use cox_klstep::{Steps, Tables};
 use cox_minroots::RootTable;
-use cox_poly::Poly;
+use cox_poly::PolyView;
 use cox_row::{LowerRows, Row, mu, polynomial, pool_len};
 use std::alloc::{AllocError, Global};
 use std::marker::Model;
@@ -98,11 +98,11 @@ impl Rows {
     /// P(x,w), for the member w with the number i, whose row is held, and the member x with the number x; `None` exactly where x <= w fails.
     ///
     /// In A 3 that of `2` and `2132` is 1 + q.
-    pub fn polynomial(&self, i: u32, x: u32) -> Option<&Poly>
+    pub fn polynomial(&self, i: u32, x: u32) -> Option<PolyView<'_>>
         requires held { Holds self.now i }
         requires x { x < length self.now.elements.members }
         ensures value { IfSome result (λ p. IsKazhdanLusztig (integer_matrix self.now.elements.matrix)
-            (word_at self.now.elements.members x) (word_at self.now.elements.members i) (coefficient p.now)) }
+            (word_at self.now.elements.members x) (word_at self.now.elements.members i) (coefficient p)) }
         ensures exactly { IsSome result ↔ IsBelow (integer_matrix self.now.elements.matrix)
             (word_at self.now.elements.members x) (word_at self.now.elements.members i) }
     {

@@ -76,14 +76,14 @@ module _ (A : IntegerMatrix) (g : IsAdmissible A) where
     outside-below y i within none below = none (member-below A g members closed y i within below)
 
     -- of a member with the normal form of y
-    pub polynomials-member : (y : List ℕ) (x i : ℕ) (found : Option (Bor (List ℤ))) → word_at members x ≡ normal_form A y
-        → IfSome found (λ p. IsKazhdanLusztig A (word_at members x) (word_at members i) (coefficient p.now))
-        → IfSome found (λ p. IsKazhdanLusztig A y (word_at members i) (coefficient p.now))
+    pub polynomials-member : (y : List ℕ) (x i : ℕ) (found : Option (List ℤ)) → word_at members x ≡ normal_form A y
+        → IfSome found (λ p. IsKazhdanLusztig A (word_at members x) (word_at members i) (coefficient p))
+        → IfSome found (λ p. IsKazhdanLusztig A y (word_at members i) (coefficient p))
     polynomials-member y x i None e is = tt
     polynomials-member y x i (Some p) e is = kazhdan_lusztig-same A g (word_at members x) y (word_at members i) (word_at members i)
-        (coefficient p.now) (rw e (normal_form-same A g y)) (same-refl A g (word_at members i)) is
+        (coefficient p) (rw e (normal_form-same A g y)) (same-refl A g (word_at members i)) is
 
-    pub below-member : (y : List ℕ) (x i : ℕ) (found : Option (Bor (List ℤ))) → word_at members x ≡ normal_form A y
+    pub below-member : (y : List ℕ) (x i : ℕ) (found : Option (List ℤ)) → word_at members x ≡ normal_form A y
         → IsSome found ↔ IsBelow A (word_at members x) (word_at members i) → IfNone found (IsBelow A y (word_at members i) → ⊥)
     below-member y x i None e tells = λ below.
         absurd (cc (tells.1 (below-same A g (rw e (same-sym A g (normal_form-same A g y))) (same-refl A g (word_at members i)) below)))

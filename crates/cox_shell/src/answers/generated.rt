@@ -25,7 +25,7 @@ use cox_base::{MAX_RANK, Word};
 use cox_command::work_word;
 use cox_minroots::RootTable;
 use cox_options::Options;
-use cox_poly::Poly;
+use cox_poly::PolyView;
 use cox_print::put_work;
 use cox_rows::Rows;
 use std::alloc::Global;
@@ -64,7 +64,7 @@ impl RowTotals {
     }
 
     /// Those of one polynomial, which has a degree of at most `MAX_LETTERS`.
-    fn of(polynomial: &Poly) -> RowTotals
+    fn of(polynomial: &PolyView<'_>) -> RowTotals
         requires { HasDegreeBelow polynomial.now (MAX_LETTERS + 1) }
         ensures one { result.entries ≡ 1 }
         ensures totals { (n : ℕ) → HasDegreeBelow polynomial.now (n + 1) → result ≡ polynomial_totals (coefficients_to n (coefficient polynomial.now)) }
@@ -187,14 +187,14 @@ fn row_totals(rows: &Rows, i: u32) -> RowTotals
     let mut totals = RowTotals::none();
     for x in 0..i + 1 {
         if let Some(polynomial) = rows.polynomial(i, x) {
-            totals.add(&RowTotals::of(polynomial));
+            totals.add(&RowTotals::of(&polynomial));
         }
     }
     totals
 }
 
 /// The sum of the coefficients from degree 0 to this one, which is at most `MAX_LETTERS`.
-fn coefficient_sum(polynomial: &Poly, degree: u32) -> i128
+fn coefficient_sum(polynomial: &PolyView<'_>, degree: u32) -> i128
     requires { degree ≤ MAX_LETTERS }
     ensures sum { result ≡ sum_of (coefficients_to degree (coefficient polynomial.now)) }
     ensures small { unsigned_abs result ≤ 2 ^ 71 }

@@ -121,7 +121,7 @@ fn put_pairs(out: &mut Vec<u8>, rows: &Rows, i: u32, numbers: &[u32]) -> Result<
         let Some(polynomial) = rows.polynomial(i, x) else {
             unreachable!();
         };
-        put_next_pair(out, rank, &rows.context().word(x), polynomial)?;
+        put_next_pair(out, rank, &rows.context().word(x), &polynomial)?;
     }
     Ok(())
 }

@@ -20,7 +20,7 @@ use crate::answers::unanswered::{Unanswered, unrefused};
 use cox_base::Word;
 use cox_minroots::RootTable;
 use cox_options::Options;
-use cox_poly::Poly;
+use cox_poly::PolyView;
 use cox_poly::append::{put_number, put_text};
 use cox_print::NoMemory;
 use cox_rows::Rows;
@@ -77,12 +77,12 @@ pub fn put_mu(
 }
 
 /// P(y,w), for the member w with the number i; `None` where y <= w fails.
-fn polynomial_at<'a>(rows: &'a Rows, table: &RootTable, i: u32, y: &Word) -> Option<&'a Poly>
+fn polynomial_at<'a>(rows: &'a Rows, table: &RootTable, i: u32, y: &Word) -> Option<PolyView<'a>>
     requires member { i < length rows.now.elements.members }
     requires there { Holds rows.now i }
     requires table { table.now ≡ rows.now.elements.matrix }
     requires word { IsWord table.now.rank y.now.items }
-    ensures value { IfSome result (λ p. IsKazhdanLusztig (integer_matrix table.now) y.now.items (word_at rows.now.elements.members i) (coefficient p.now)) }
+    ensures value { IfSome result (λ p. IsKazhdanLusztig (integer_matrix table.now) y.now.items (word_at rows.now.elements.members i) (coefficient p)) }
     ensures none { IfNone result (¬ IsBelow (integer_matrix table.now) y.now.items (word_at rows.now.elements.members i)) }
 {
     match rows.context().number(&table.normal_form(y)) {

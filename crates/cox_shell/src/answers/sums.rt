@@ -98,5 +98,5 @@ fn add_member(sums: &mut Acc, rows: &Rows, i: u32, x: u32)
     };
     prove!(rows.context().length(i) as usize <= MAX_LETTERS);
     let _degree = polynomial.degree();
-    sums.add_scaled(polynomial, 1, rows.context().length(x));
+    sums.add_scaled(&polynomial, 1, rows.context().length(x));
 }

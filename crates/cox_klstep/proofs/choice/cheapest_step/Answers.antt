@@ -39,7 +39,12 @@ returns-clause-few g c = λ s numbers least are.
     in let first = rw (c.in_ok-first.ensures.side, c.in_ok-first.ensures.letter, c.in_ok-first.ensures.number)
     at c.in_ok-first.ensures.step.numbered
     in let mine = rw c.of-least.ensures.number at d.least
-    in let same : s ≡ c.of-least.result.letter = omega (arith, least.least c.of-least.result.letter mine.descent, mine.least s least.descent)
+    in let same : s ≡ c.of-least.result.letter = omega (
+      arith,
+      least.least c.of-least.result.letter mine.descent,
+      mine.least s
+          least.descent,
+    )
     in let few = c.cheapest-best.ensures.few c.in_ok-step.step.corrections.items n
     in let most = numbered-needs (integer_matrix c.args.ctx.now.matrix) c.args.ctx.now.members c.of-least.result.letter
     (word_at c.args.ctx.now.members c.of-least.result.member) c.in_ok-first.first.corrections.items numbers first

@@ -73,6 +73,7 @@ returns g c =
       few = λ list h.
           let few = numbered-few c.args.side (integer_matrix c.args.ctx.now.matrix) c.len-len.ensures.admissible c.args.ctx.now.members
           (word_at c.args.ctx.now.members c.args.descent.now.member) c.args.descent.now.lower c.args.descent.now.letter
-          c.requires.descent.lower_is c.row-row.result.now.neighbours.items c.row-row.result.now.mu.items row.mus list c.loop-u.count h counts
+          c.requires.descent.lower_is c.row-row.result.now.neighbours.items c.row-row.result.now.mu.items row.mus list c.loop-u.count h
+          counts
           in omega (arith, few, c.loop-u.invariant.bound);
     }

@@ -10,7 +10,8 @@ use Rattle.cox_klstep.proofs.making.fault_at.Goals as goal
 use Rattle.cox_klstep.proofs.making.fault_at.Goals.{in-Ok, in-Err-TooBig, in-Err-NoMemory}
 
 pub returns-then-not-put_polynomial-clause-none : goal.returns-then-not-put_polynomial-clause-none
-returns-then-not-put_polynomial-clause-none c = outside-none (integer_matrix c.args.ctx.now.matrix) c.len-len.ensures.admissible c.args.limit
+returns-then-not-put_polynomial-clause-none c = outside-none (integer_matrix c.args.ctx.now.matrix) c.len-len.ensures.admissible
+    c.args.limit
     (word_at c.args.ctx.now.members c.args.x) (word_at c.args.ctx.now.members c.args.i) c.requires.limit
     (λ b. let never = c.if-not-put_polynomial.ensures.below.1 (c.in-Some.ensures.2.to b) in cc)
 

@@ -1,49 +1,17 @@
--- P(x,u) has no term beyond the sums, and its coefficients have 64 bits.
-use Rattle.std.proofs.Common.{◌*◌, ◌^◌, FitsSigned, w64, rules, ◌∙◌, arith}
+-- Where x is not below u, P(x,u) is 0.
+use Rattle.std.proofs.Common.{FitsSigned, w64, rules}
 use Rattle.std.proofs.lemmas.Int.{to_z-of_z}
 use Rattle.cox_base.specs.IntegerMatrix.{integer_matrix}
 use Rattle.cox_context.specs.Numbers.{word_at}
-use Rattle.cox_context.proofs.ListLemmas.{contains-at}
-use Rattle.cox_context.proofs.Shifting.{length-at}
-use Rattle.cox_klstep.proofs.AddedSums.{after-small, value-low, sum-same, sum-none}
+use Rattle.cox_klstep.proofs.AddedSums.{sum-none}
 use Rattle.cox_klstep.proofs.sums.add.Goals as goal
-
-pub add_scaled-requires-clause-degrees : goal.add_scaled-requires-clause-degrees
-add_scaled-requires-clause-degrees c = value-low (integer_matrix c.args.ctx.now.matrix) c.requires.admissible
-    (word_at c.args.ctx.now.members c.args.x) (word_at c.args.ctx.now.members c.args.u) c.in-Some.p.now c.args.shift
-    (omega (
-      arith,
-      length-at (integer_matrix c.args.ctx.now.matrix) c.requires.admissible c.args.ctx.now.members c.requires.closed
-          c.args.u c.requires.u,
-      c.requires.closed.short (word_at c.args.ctx.now.members c.args.u) (contains-at c.args.ctx.now.members c.args.u c.requires.u),
-    ))
-    c.requires.shift c.in-Some.ensures.value
-
-pub add_scaled-requires-clause-room : goal.add_scaled-requires-clause-room
-add_scaled-requires-clause-room c = λ k.
-    let fits : FitsSigned w64 c.args.factor = search rules
-    in rw (to_z-of_z w64 c.args.factor fits)
-    (let small = after-small c.args.sums.now c.in-Some.p.now c.args.factor c.args.shift k (2 ^ 125) (c.requires.room k)
-    c.degree-degree.ensures.small
-    c.requires.factor in omega (arith, small))
-
-pub returns-in-Some-clause-sum : goal.returns-in-Some-clause-sum
-returns-in-Some-clause-sum c = λ f is k.
-    let fits : FitsSigned w64 c.args.factor = search rules
-    in (simp (to_z-of_z w64 c.args.factor fits) at (c.add_scaled.ensures.sum k))
-    ∙ sum-same (integer_matrix c.args.ctx.now.matrix) c.requires.admissible (word_at c.args.ctx.now.members c.args.x)
-    (word_at c.args.ctx.now.members c.args.u) c.args.sums.now c.in-Some.p.now c.args.factor c.args.shift f c.in-Some.ensures.value is k
-
-pub returns-in-Some-clause-size : goal.returns-in-Some-clause-size
-returns-in-Some-clause-size c = λ n old k.
-    let fits : FitsSigned w64 c.args.factor = search rules
-    in let is = simp (to_z-of_z w64 c.args.factor fits) at (c.add_scaled.ensures.sum k)
-    in let small = after-small c.args.sums.now c.in-Some.p.now c.args.factor c.args.shift k (n * 2 ^ 94) (old k)
-    c.degree-degree.ensures.small
-    c.requires.factor
-    in rw is (omega (arith, small))
 
 pub returns-in-None-clause-sum : goal.returns-in-None-clause-sum
 returns-in-None-clause-sum c = λ f is k. sum-none (integer_matrix c.args.ctx.now.matrix) c.requires.admissible
     (word_at c.args.ctx.now.members c.args.x) (word_at c.args.ctx.now.members c.args.u) c.args.sums.now c.args.factor c.args.shift f
     (λ below. let never = c.in-None.ensures.exactly.1 below in absurd (cc)) is k
+
+pub returns-in-Some-clause-sum : goal.returns-in-Some-clause-sum
+returns-in-Some-clause-sum c = λ f is k.
+    let fits : FitsSigned w64 c.args.factor = search rules
+    in simp (to_z-of_z w64 c.args.factor fits) at (c.add_known.ensures.sum f is k)

@@ -16,7 +16,8 @@ use Rattle.cox_klstep.proofs.sums.correct.Goals.{then-x-correction, else-x-corre
 pub take_off-requires-clause-shift : goal.take_off-requires-clause-shift
 take_off-requires-clause-shift c =
     let l : c.loop-k.k < length c.args.step.now.corrections.items = rw c.deref-correction-items.ensures.value at c.loop-k-test.true
-    in rw c.deref-correction-items.ensures.value (shift-low c.args.step.now.side (integer_matrix c.args.ctx.now.matrix) c.requires.admissible
+    in rw c.deref-correction-items.ensures.value (shift-low c.args.step.now.side (integer_matrix c.args.ctx.now.matrix)
+    c.requires.admissible
     c.args.ctx.now.members c.requires.closed c.args.step.now.member c.requires.step.within c.args.step.now.letter
     c.requires.step.descent c.args.step.now.corrections.items c.requires.step.numbered c.loop-k.k l)
 

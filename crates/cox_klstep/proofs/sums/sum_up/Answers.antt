@@ -16,18 +16,22 @@ shift-requires-clause-letter c = lowered-letter c.args.step.now.side (integer_ma
     c.args.step.now.letter (word_at c.args.ctx.now.members c.args.step.now.member) c.requires.step.descent
 
 pub unreachable-requires : goal.unreachable-requires
-unreachable-requires c = c.in_default.ensures (lowered-member c.args.step.now.side (integer_matrix c.args.ctx.now.matrix) c.len-len.ensures.admissible
+unreachable-requires c = c.in_default.ensures (lowered-member c.args.step.now.side (integer_matrix c.args.ctx.now.matrix)
+    c.len-len.ensures.admissible
     c.args.ctx.now.members c.len-len.ensures.closed c.args.step.now.letter c.args.x c.requires.x
     (extremal-descent c.args.step.now.side (integer_matrix c.args.ctx.now.matrix) c.args.step.now.letter
-    (word_at c.args.ctx.now.members c.args.step.now.member) (word_at c.args.ctx.now.members c.args.x) c.requires.extremal c.requires.step.descent))
+    (word_at c.args.ctx.now.members c.args.step.now.member) (word_at c.args.ctx.now.members c.args.x) c.requires.extremal
+    c.requires.step.descent))
 
 pub returns-then-not-add-clause-below : goal.returns-then-not-add-clause-below
 returns-then-not-add-clause-below c =
-    let lowered = below-lowered c.args.step.now.side (integer_matrix c.args.ctx.now.matrix) c.len-len.ensures.admissible c.args.ctx.now.members
+    let lowered = below-lowered c.args.step.now.side (integer_matrix c.args.ctx.now.matrix) c.len-len.ensures.admissible
+    c.args.ctx.now.members
     c.len-len.ensures.closed c.args.step.now.member c.requires.step.within c.args.step.now.letter c.requires.step.descent
     c.args.step.now.corrections.items c.requires.step.numbered c.args.x c.in-Some.shorter c.args.step.now.lower
     (extremal-descent c.args.step.now.side (integer_matrix c.args.ctx.now.matrix) c.args.step.now.letter
-    (word_at c.args.ctx.now.members c.args.step.now.member) (word_at c.args.ctx.now.members c.args.x) c.requires.extremal c.requires.step.descent) c.in-Some.ensures.1 c.requires.step.lower_is
+    (word_at c.args.ctx.now.members c.args.step.now.member) (word_at c.args.ctx.now.members c.args.x) c.requires.extremal
+    c.requires.step.descent) c.in-Some.ensures.1 c.requires.step.lower_is
     in (λ t. lowered.0 (c.if-not-add.ensures.below.0 t), λ b. c.if-not-add.ensures.below.1 (lowered.1 b))
 
 pub add-requires-2-clause-room : goal.add-requires-2-clause-room
@@ -42,11 +46,13 @@ correct-requires-clause-room c = λ k.
 
 pub returns-clause-below : goal.returns-clause-below
 returns-clause-below c =
-    let lowered = below-lowered c.args.step.now.side (integer_matrix c.args.ctx.now.matrix) c.len-len.ensures.admissible c.args.ctx.now.members
+    let lowered = below-lowered c.args.step.now.side (integer_matrix c.args.ctx.now.matrix) c.len-len.ensures.admissible
+    c.args.ctx.now.members
     c.len-len.ensures.closed c.args.step.now.member c.requires.step.within c.args.step.now.letter c.requires.step.descent
     c.args.step.now.corrections.items c.requires.step.numbered c.args.x c.in-Some.shorter c.args.step.now.lower
     (extremal-descent c.args.step.now.side (integer_matrix c.args.ctx.now.matrix) c.args.step.now.letter
-    (word_at c.args.ctx.now.members c.args.step.now.member) (word_at c.args.ctx.now.members c.args.x) c.requires.extremal c.requires.step.descent) c.in-Some.ensures.1 c.requires.step.lower_is
+    (word_at c.args.ctx.now.members c.args.step.now.member) (word_at c.args.ctx.now.members c.args.x) c.requires.extremal
+    c.requires.step.descent) c.in-Some.ensures.1 c.requires.step.lower_is
     in (λ t. lowered.0 (c.if-not-add.ensures.below.0 t), λ b. c.if-not-add.ensures.below.1 (lowered.1 b))
 
 pub returns-clause-value : goal.returns-clause-value
@@ -66,7 +72,8 @@ returns-clause-value c = λ _.
     c.len-len.ensures.closed c.args.step.now.member c.requires.step.within c.args.step.now.letter c.requires.step.descent
     c.args.step.now.corrections.items c.requires.step.numbered c.args.x c.in-Some.shorter c.args.step.now.lower
     (extremal-descent c.args.step.now.side (integer_matrix c.args.ctx.now.matrix) c.args.step.now.letter
-    (word_at c.args.ctx.now.members c.args.step.now.member) (word_at c.args.ctx.now.members c.args.x) c.requires.extremal c.requires.step.descent) c.in-Some.ensures.1 c.requires.step.lower_is
+    (word_at c.args.ctx.now.members c.args.step.now.member) (word_at c.args.ctx.now.members c.args.x) c.requires.extremal
+    c.requires.step.descent) c.in-Some.ensures.1 c.requires.step.lower_is
     P a b (coefficient c.correct.new.sums) gives is_a is_b
     (three-sums a b (numbered_sum P c.args.step.now.corrections.items) (coefficient c.args.sums.now) (coefficient c.add.new.sums)
     (coefficient c.add-2.new.sums) (coefficient c.correct.new.sums) c.requires.clear (c.add.ensures.sum a is_a) (c.add-2.ensures.sum b is_b)

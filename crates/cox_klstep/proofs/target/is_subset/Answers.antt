@@ -14,6 +14,7 @@ returns c = (
       let missing = least-missing c.args.wanted c.args.present (bit_and c.args.wanted (65535 - c.args.present)) (omega arith) (omega arith)
       refl (omega (arith, and_le_l c.args.wanted (65535 - c.args.present))) (λ e. omega (arith, e, some))
       in absurd (missing.lacks (h missing.bit missing.among)))
-      (λ (none : bit_and c.args.wanted (65535 - c.args.present) ≤ 0). eq-eqb (bit_and c.args.wanted (65535 - c.args.present)) 0 (omega arith))
+      (λ (none : bit_and c.args.wanted (65535 - c.args.present) ≤ 0). eq-eqb (bit_and c.args.wanted (65535 - c.args.present)) 0
+      (omega arith))
       (cases_lt 0 (bit_and c.args.wanted (65535 - c.args.present))),
 )

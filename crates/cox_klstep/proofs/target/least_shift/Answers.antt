@@ -6,12 +6,14 @@ use Rattle.cox_klstep.proofs.Shifts.{least-start, least-next, least-end}
 use Rattle.cox_klstep.proofs.target.least_shift.Goals as goal
 
 pub loop-s-init : goal.loop-s-init
-loop-s-init c = least-start (integer_matrix c.args.ctx.now.matrix) c.len-len.ensures.admissible c.args.ctx.now.members c.len-len.ensures.closed
+loop-s-init c = least-start (integer_matrix c.args.ctx.now.matrix) c.len-len.ensures.admissible c.args.ctx.now.members
+    c.len-len.ensures.closed
     c.args.i c.requires c.args.from
 
 pub loop-s-preserved : goal.loop-s-preserved
 loop-s-preserved c =
-    let rank : c.rank-rank.result ≡ c.args.ctx.now.matrix.rank = c.rank-rank.ensures.rank ∙ ap (λ (m : CoxeterMatrix). m.rank) c.matrix.ensures
+    let rank : c.rank-rank.result ≡ c.args.ctx.now.matrix.rank = c.rank-rank.ensures.rank ∙ ap (λ (m : CoxeterMatrix). m.rank)
+    c.matrix.ensures
     in let letter : IsLetter c.args.ctx.now.matrix.rank c.loop-s.s = record {
       from_one = c.loop-s.auto.s;
       to_rank = omega (arith, c.loop-s-test.true, rank);
@@ -22,6 +24,7 @@ loop-s-preserved c =
 
 pub returns : goal.returns
 returns c =
-    let rank : c.rank-rank.result ≡ c.args.ctx.now.matrix.rank = c.rank-rank.ensures.rank ∙ ap (λ (m : CoxeterMatrix). m.rank) c.matrix.ensures
+    let rank : c.rank-rank.result ≡ c.args.ctx.now.matrix.rank = c.rank-rank.ensures.rank ∙ ap (λ (m : CoxeterMatrix). m.rank)
+    c.matrix.ensures
     in least-end (integer_matrix c.args.ctx.now.matrix) c.len-len.ensures.admissible c.args.ctx.now.members c.len-len.ensures.closed
     c.args.i c.requires c.args.from c.loop-s.s c.loop-s.least (omega (arith, c.loop-s-test.false, rank)) c.loop-s.invariant

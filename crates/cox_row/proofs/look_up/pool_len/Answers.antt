@@ -13,9 +13,9 @@ overflow_cast-result c =
 
 pub returns : goal.returns
 returns c = (
-  c.args.row.now.pool.items,
+  c.args.row.now.pool,
   pool-polynomials (integer_matrix c.args.ctx.now.matrix) c.len-len.ensures.admissible c.args.ctx.now.members c.len-len.ensures.closed
-      c.args.i c.requires.i c.args.row.now.extremal.items c.args.row.now.places.items c.args.row.now.pool.items c.requires.row.extremal
+      c.args.i c.requires.i c.args.row.now.extremal.items c.args.row.now.places.items c.args.row.now.pool c.requires.row.extremal
       c.requires.row.polynomials,
   omega arith,
 )

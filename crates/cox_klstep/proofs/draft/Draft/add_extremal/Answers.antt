@@ -1,8 +1,7 @@
 -- The sums are those of P(x,w), or x is not below w.
-use Rattle.std.proofs.Common.{◌≡◌, [], length, Err, FitsSigned, w64, rules, refl, sym, ap, ◌∙◌, arith}
+use Rattle.std.proofs.Common.{◌≡◌, length, Err, FitsSigned, w64, rules, refl, sym, ap, ◌∙◌, arith}
 use Rattle.std.specs.Int.{w128}
 use Rattle.std.proofs.lemmas.Int.{to_z-of_z}
-use Rattle.std.proofs.lemmas.List.{get_or_default}
 use Rattle.cox_base.specs.IntegerMatrix.{integer_matrix}
 use Rattle.cox_poly.specs.Polynomial.{coefficient}
 use Rattle.cox_context.specs.Numbers.{word_at}
@@ -27,7 +26,8 @@ returns-then-not-put_polynomial-clause-underway c = record {
       (mu-zero (integer_matrix c.args.ctx.now.matrix) c.len-len.ensures.admissible
       (word_at c.args.ctx.now.members c.args.self.now.done) (word_at c.args.ctx.now.members c.args.i)
       (λ m mu some. let never = c.if-not-put_polynomial.ensures.below.1 (mu-below (integer_matrix c.args.ctx.now.matrix)
-      c.len-len.ensures.admissible (word_at c.args.ctx.now.members c.args.self.now.done) (word_at c.args.ctx.now.members c.args.i) m mu some)
+      c.len-len.ensures.admissible (word_at c.args.ctx.now.members c.args.self.now.done) (word_at c.args.ctx.now.members c.args.i) m mu
+      some)
       in cc)) c.requires.underway.noted;
   next = least-after (integer_matrix c.args.ctx.now.matrix) c.len-len.ensures.admissible c.args.ctx.now.members c.len-len.ensures.closed
       c.args.i c.requires.i c.args.self.now.done c.args.self.now.next c.requires.extremal c.requires.underway.next;
@@ -62,8 +62,7 @@ returns-clause-underway c =
     in let kept = simp (to_z-of_z w64 c.args.limit fits) at (c.in-Ok.ensures.kept (integer_matrix c.args.ctx.now.matrix)
     c.args.ctx.now.members (word_at c.args.ctx.now.members c.args.i))
     in let is = c.if-not-put_polynomial.ensures.value refl
-    in let at : c.index.result.now ≡ polynomial_at c.keep.new.self.pool.items c.in-Ok.place
-    = c.index.ensures ∙ get_or_default c.keep.new.self.pool.items c.in-Ok.place _ [] c.in-Ok.ensures.within
+    in let at : c.at.result ≡ polynomial_at c.keep.new.self.pool c.in-Ok.place = c.at.ensures
     in let mu = c.middle-value.ensures record {
       row = is.row;
       is = is.is;

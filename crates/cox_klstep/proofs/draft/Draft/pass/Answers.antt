@@ -49,7 +49,8 @@ returns-clause-passed c = λ limit h bare.
       begun = rw c.loop-self.invariant.values (begun-pass (integer_matrix c.args.ctx.now.matrix) c.args.ctx.now.members
           (word_at c.args.ctx.now.members c.args.i) limit c.args.self.now.done c.args.end _ _ _ c.requires.ahead bare h.begun);
       noted = noted-pass (integer_matrix c.args.ctx.now.matrix) c.len-len.ensures.admissible c.args.ctx.now.members
-          c.len-len.ensures.closed c.args.i c.requires.i old.0 c.args.end c.loop-self.self.next _ _ old.2.to c.loop-self-test.false old.2.next
+          c.len-len.ensures.closed c.args.i c.requires.i old.0 c.args.end c.loop-self.self.next _ _ old.2.to c.loop-self-test.false
+          old.2.next
           (λ x l m. bare x (omega (arith, l, old.1)) m) old.2.noted;
       next = least-later (integer_matrix c.args.ctx.now.matrix) c.len-len.ensures.admissible c.args.ctx.now.members
           c.len-len.ensures.closed c.args.i c.requires.i old.0 c.args.end c.loop-self.self.next old.2.to c.loop-self-test.false old.2.next;

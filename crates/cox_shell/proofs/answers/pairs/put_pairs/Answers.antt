@@ -27,7 +27,7 @@ returns-in_err-put_next_pair c = λ w p is row.
     let x = get_or numbers c.loop-x.x-index 0 in
     let line = pair_line e.matrix.rank (word_length A w) e.members p in
     let same : SameElement A (word_at e.members c.args.i) w = rw is (normal_form-same A g w) in
-    let text = pair-line A g w p row e.matrix.rank e.members x (word_at e.members c.args.i) c.in-Some.polynomial.now same
+    let text = pair-line A g w p row e.matrix.rank e.members x (word_at e.members c.args.i) c.in-Some.polynomial same
     (c.in-Some.ensures {u = tt}).value in
     let start : c.put_count.new.out.items ≡ c.args.out.now.items ++ decimal (length numbers) = c.in_ok-put_count.ensures {u = tt} in
     let prefix = PutsPrefix-next line numbers c.loop-x.x-index x 0 _ _ _ c.loop-x-test.true refl (c.loop-x.invariant w p is row)
@@ -43,7 +43,7 @@ loop-x-preserved c = λ w p is row.
     let x = get_or c.args.numbers.now c.loop-x.x-index 0 in
     let line = pair_line e.matrix.rank (word_length A w) e.members p in
     let same : SameElement A (word_at e.members c.args.i) w = rw is (normal_form-same A g w) in
-    let text = pair-line A g w p row e.matrix.rank e.members x (word_at e.members c.args.i) c.in-Some.polynomial.now same
+    let text = pair-line A g w p row e.matrix.rank e.members x (word_at e.members c.args.i) c.in-Some.polynomial same
     (c.in-Some.ensures {u = tt}).value in
     append-next line c.args.numbers.now c.loop-x.x-index x 0 _ _ _ c.loop-x-test.true refl (c.loop-x.invariant w p is row)
     (rw (c.word.ensures, c.context-in-loop-x.ensures.context, c.rank-rank.ensures.rank, c.matrix.ensures, c.context.ensures.context, text) at
