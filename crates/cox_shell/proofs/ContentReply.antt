@@ -41,7 +41,8 @@ IsCommandReply-unique : (first second : Command) → SameCommand first second �
 IsCommandReply-unique asks.Nothing asks.Nothing same state matrix one other p q = p ∙ sym q
 IsCommandReply-unique asks.Quit asks.Quit same state matrix one other p q = p ∙ sym q
 IsCommandReply-unique (asks.Group g) (asks.Group h) same state matrix one other p q =
-    IsDecided-unique (RefusesGroup state.limits g) state (λ answer. answer ≡ silence (with_group state g)) (λ a b e f. e ∙ sym f) one other p
+    IsDecided-unique (RefusesGroup state.limits g) state (λ answer. answer ≡ silence (with_group state g))
+    (λ a b e f. e ∙ sym f) one other p
     (rw (← same) at q)
 IsCommandReply-unique (asks.One kind w) (asks.One other_kind v) same state matrix one other p q =
     IsInquiryReply-unique (One kind w) state matrix one other p (rw (← same.0, ← same.1) at q)

@@ -78,13 +78,21 @@ module _ (limits : Limits) (A : IntegerMatrix) (g : IsAdmissible A) where
   group-list : IsRefused (RefusesGroupRows limits A) None → (words : List (List ℕ)) × IsListOf (IsElement A) words
   group-list free = ⊎_elim (λ large. absurd (not-large free large)) (λ small. (small.1, small.2)) (group-decided A g limits.context)
 
-  graph-answerable : (rank : ℕ) (side : Side) → IsAnswerable (record { Refuses = RefusesGroupRows limits A; IsText = IsGraphText rank side A })
+  graph-answerable : (rank : ℕ) (side : Side) → IsAnswerable (record {
+    Refuses = RefusesGroupRows limits A;
+    IsText = IsGraphText rank side A;
+  })
   graph-answerable rank side = record {
     decided = group_rows-decided;
-    answer = λ free. let list = group-list free in let vertices = some_listing A g side list.0 list.1 in (_, (vertices.0, vertices.1, refl));
+    answer = λ free. let list = group-list free in let vertices = some_listing A g side list.0
+        list.1 in (_, (vertices.0, vertices.1, refl));
   }
 
-  cells-answerable : (rank : ℕ) (kind : CellKind) → IsAnswerable (record { Refuses = RefusesGroupRows limits A; IsText = IsCellsText rank kind A })
+  cells-answerable : (rank : ℕ) (kind : CellKind) → IsAnswerable (record {
+    Refuses = RefusesGroupRows limits A;
+    IsText = IsCellsText rank
+        kind A;
+  })
   cells-answerable rank kind = record {
     decided = group_rows-decided;
     answer = λ free. let list = group-list free in (_, (_, some_list kind A g list.0 list.1, refl));

@@ -1,5 +1,6 @@
 -- The texts of W-graphs and of cells, from the number of items on.
-use Rattle.std.proofs.Common.{◌≡◌, ℕ, zero, suc, ◌+◌, ◌≤◌, ◌<◌, nat_lt, subst, arith, false, true, List, [], ◌∷◌, ◌++◌, length, map, All, decimal, get_or, sym, ap, ◌∙◌, ℤ}
+use Rattle.std.proofs.Common.{◌≡◌, ℕ, zero, suc, ◌+◌, ◌≤◌, ◌<◌, nat_lt, subst, arith, false, true, List, [], ◌∷◌, ◌++◌, length, map, All}
+use Rattle.std.proofs.Common.{decimal, get_or, sym, ap, ◌∙◌, ℤ}
 use Rattle.std.specs.List.{flat_map, range_with_len}
 use Rattle.std.proofs.lemmas.List.Elements.{All-nil, All-cons, All-filter}
 use Rattle.std.specs.Global.{Vec}
@@ -80,9 +81,11 @@ module _ (A : IntegerMatrix) (side : Side) (members : List (List ℕ)) (all : Is
   vertex-element i below =
       sym (get_or-map (λ (v : Vertex). v.element) vertices i no_vertex [] below) ∙ ap (λ words. word_at words i) elements-are
 
-  pub vertices-text : (rank : ℕ) → list_text (map (vertex_text rank) vertices) ≡ decimal (length members) ++ flat_map (vertex_line rank) vertices
+  pub vertices-text : (rank : ℕ) → list_text (map (vertex_text rank) vertices) ≡ decimal (length members) ++ flat_map
+      (vertex_line rank) vertices
   vertices-text rank =
-      ap (λ n. decimal n ++ flat_map (λ item. 10 ∷ item) (map (vertex_text rank) vertices)) (length-map vertices (vertex_text rank) ∙ vertices-count)
+      ap (λ n. decimal n ++ flat_map (λ item. 10 ∷ item) (map (vertex_text rank) vertices))
+      (length-map vertices (vertex_text rank) ∙ vertices-count)
       ∙ ap (λ t. decimal (length members) ++ t) (flat_map-map (λ item. 10 ∷ item) (vertex_text rank) vertices)
 
 -- the text of a vertex by its parts
@@ -105,7 +108,8 @@ pub descents-letters : (side : Side) (A : IntegerMatrix) (x : List ℕ) → IsWo
 unfolding left_descents right_descents letters
 descents-letters Sides.Left A x = All-filter (λ s. nat_lt (word_length A (s ∷ x)) (word_length A x)) (IsLetter A.rank) (letters A.rank)
     (all-letters A.rank 1 A.rank (omega arith) (omega arith))
-descents-letters Sides.Right A x = All-filter (λ s. nat_lt (word_length A (x ++ s ∷ [])) (word_length A x)) (IsLetter A.rank) (letters A.rank)
+descents-letters Sides.Right A x = All-filter (λ s. nat_lt (word_length A (x ++ s ∷ [])) (word_length A x)) (IsLetter A.rank)
+    (letters A.rank)
     (all-letters A.rank 1 A.rank (omega arith) (omega arith))
 
 -- the members of a cell by the first of them

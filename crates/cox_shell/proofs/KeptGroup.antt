@@ -60,7 +60,8 @@ module _ (state : State) (matrix : HasMatrix state) (reply : Reply) where
   by_command (asks.Plain kind) tokens accepted given is = unchanged (by_inquiry (Plain kind) is)
   by_command (asks.Work start count) tokens accepted given is = unchanged (by_inquiry (Work start count) is)
   by_command (asks.Group g) tokens accepted given is =
-      IsDecided-all (RefusesGroup state.limits g) state (λ answer. answer ≡ silence (with_group state g)) (λ r. HasMatrix r.after) (λ why. matrix)
+      IsDecided-all (RefusesGroup state.limits g) state (λ answer. answer ≡ silence (with_group state g)) (λ r. HasMatrix r.after)
+      (λ why. matrix)
       (λ r answer. rw answer (of_tokens tokens accepted given)) reply is
     where
       by_name : (o : Option CommandWord) (arguments : List (List ℕ)) → command_refusal o arguments (rank_of state) ≡ None

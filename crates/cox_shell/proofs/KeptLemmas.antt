@@ -83,7 +83,8 @@ module _ (limits : Limits) (A : IntegerMatrix) (w : List ℕ) where
   row-refused few beyond = inr (λ none. none, inr (few, inr (λ none. none, inl (beyond, refl))))
 
 -- a fault of rows is a row beyond a limit
-pub fault-beyond : (e : Elements) (limit : ℤ) (P : List ℕ → Type 0) (fault : RowsFault) → IsRowsFault e limit P fault → (fault ≡ NoMemory → ⊥)
+pub fault-beyond : (e : Elements) (limit : ℤ) (P : List ℕ → Type 0) (fault : RowsFault) → IsRowsFault e limit P fault
+    → (fault ≡ NoMemory → ⊥)
     → (z : List ℕ) × P z × IsBeyond (integer_matrix e.matrix) limit z
 fault-beyond e limit P (Coefficient x w degree value) is other = (word_at e.members w, is.one, coefficient is.is.large)
 fault-beyond e limit P (Mu x w value) is other = (word_at e.members w, is.one, mu is.is.large)

@@ -91,6 +91,7 @@ polynomial_totals-degree p d n is below =
     ) refl
 
 -- of the zero polynomial
-pub polynomial_totals-zero : (n : ℕ) → polynomial_totals (coefficients_to n (coefficient [])) ≡ record { entries = 1; degree = 0; sum = pos 0 }
+pub polynomial_totals-zero : (n : ℕ) → polynomial_totals (coefficients_to n (coefficient [])) ≡ record
+    { entries = 1; degree = 0; sum = pos 0 }
 polynomial_totals-zero n =
     rw (degree_from-zeros (coefficient []) 0 (n + 1) (λ k l. refl), sum_of-zeros (coefficient []) 0 (n + 1) (λ k l. refl)) refl

@@ -105,8 +105,16 @@ module _ (limits : Limits) (A : IntegerMatrix) (g : IsAdmissible A) where
 
       by_order : (b : Bool) → is_below A y w ≡ b → RefusesFar A y w FarApart ⊎ (RefusesFar A y w FarApart → ⊥)
       by_order true e = ⊎_elim
-          (λ (far : MAX_DIFFERENCE < d). inl (d, record { below = (is_below-tells A g y w).0 e; difference = omega (arith, far); above = far }))
-          (λ (near : d ≤ MAX_DIFFERENCE). inr (λ refuses. absurd (omega (arith, near, refuses.1.difference, refuses.1.above)))) (cases_lt MAX_DIFFERENCE d)
+          (λ (far : MAX_DIFFERENCE < d). inl (
+            d,
+            record {
+              below = (is_below-tells A g y w).0 e;
+              difference = omega (arith, far);
+              above = far;
+            },
+          ))
+          (λ (near : d ≤ MAX_DIFFERENCE). inr (λ refuses. absurd (omega (arith, near, refuses.1.difference, refuses.1.above))))
+          (cases_lt MAX_DIFFERENCE d)
       by_order false e = inr (λ refuses. true≢false (sym ((is_below-tells A g y w).1 refuses.1.below) ∙ e))
 
   far-decided : (y w : List ℕ) (why : Refusal) → RefusesFar A y w why ⊎ (RefusesFar A y w why → ⊥)

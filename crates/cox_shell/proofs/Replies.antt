@@ -53,7 +53,8 @@ AreReplies-rejoin state before after done rest line reply h =
     (subst (λ replies. AreReplies state (before ++ line ∷ after) replies) (sym (append_assoc done (reply ∷ []) rest)) h)
 
 -- The replies to the first lines are the first of the replies to all.
-pub AreReplies-prefix : (state : State) → HasMatrix state → (first rest : List (List ℕ)) (some all : List Reply) → AreReplies state first some
+pub AreReplies-prefix : (state : State) → HasMatrix state → (first rest : List (List ℕ)) (some all : List Reply)
+    → AreReplies state first some
     → AreReplies state (first ++ rest) all
     → (more : List Reply) × (all ≡ some ++ more)
 AreReplies-prefix state matrix [] rest some all p q = (all, ap (λ l. l ++ all) (sym p))

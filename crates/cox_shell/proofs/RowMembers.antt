@@ -43,7 +43,8 @@ filter-first test (suc n) (x ∷ members) fails = go (test x)
     go true e = ap (λ rest. x ∷ rest) e
     go false e = e
 
-module _ (A : IntegerMatrix) (g : IsAdmissible A) (members : List (List ℕ)) (closed : IsClosed A members) (i : ℕ) (inside : i < length members)
+module _ (A : IntegerMatrix) (g : IsAdmissible A) (members : List (List ℕ)) (closed : IsClosed A members) (i : ℕ)
+    (inside : i < length members)
   where
     -- no later member is below a member
     pub below-first : filter (λ x. is_below A x (word_at members i)) (take (i + 1) members)

@@ -1,5 +1,6 @@
 -- Questions on rows have one right text at most, and can be answered.
-use Rattle.std.proofs.Common.{◌≡◌, ◌⊎◌, ℕ, ◌≤◌, ◌<◌, ◌↔◌, zero, suc, Bool, true, false, List, [], ◌∷◌, ◌++◌, filter, inl, inr, refl, sym, ap, ◌∙◌, ⊎_elim, arith, pos}
+use Rattle.std.proofs.Common.{◌≡◌, ◌⊎◌, ℕ, ◌≤◌, ◌<◌, ◌↔◌, zero, suc, Bool, true, false, List, [], ◌∷◌, ◌++◌, filter, inl, inr, refl, sym}
+use Rattle.std.proofs.Common.{ap, ◌∙◌, ⊎_elim, arith, pos}
 use Rattle.std.proofs.lemmas.Bool.{cases_lt, cases_eq}
 use Rattle.std.proofs.lemmas.Int.{ints}
 use Rattle.std.specs.Fmt.{signed_decimal}
@@ -56,7 +57,8 @@ each-decided P decided (suc n) = go (each-decided P decided n) (decided (suc n))
   where
     one-more : ((s : ℕ) → IsLetter n s → P s) → P (suc n) → (s : ℕ) → IsLetter (suc n) s → P s
     one-more each last s l = ⊎_elim (λ (e : s ≡ suc n). rw e last)
-        (λ (other : s ≡ suc n → ⊥). each s (record { from_one = l.from_one; to_rank = omega (arith, l.to_rank, other) })) (cases_eq s (suc n))
+        (λ (other : s ≡ suc n → ⊥). each s (record { from_one = l.from_one; to_rank = omega (arith, l.to_rank, other) }))
+        (cases_eq s (suc n))
 
     go : ((s : ℕ) → IsLetter n s → P s) ⊎ (((s : ℕ) → IsLetter n s → P s) → ⊥) → P (suc n) ⊎ (P (suc n) → ⊥)
         → ((s : ℕ) → IsLetter (suc n) s → P s) ⊎ (((s : ℕ) → IsLetter (suc n) s → P s) → ⊥)
@@ -98,7 +100,16 @@ module _ (A : IntegerMatrix) (g : IsAdmissible A) where
       })
   listed limits w P keep text_of of = let members = interval-exists A g w in record {
     decided = row-decided limits w;
-    answer = λ free. (text_of (row_of A g w) (keep members.0), (row_of A g w, row_of-is A g w, keep members.0, of members.0 members.1, refl));
+    answer = λ free. (
+      text_of (row_of A g w) (keep members.0),
+      (
+        row_of A g w,
+        row_of-is A g w,
+        keep members.0,
+        of members.0 members.1,
+        refl,
+      ),
+    );
   }
 
   -- whether x is extremal for w is decided
@@ -123,7 +134,8 @@ module _ (A : IntegerMatrix) (g : IsAdmissible A) where
       (λ e. record { member = member; extremal = tells.0 e }, λ x. tells.1 x.extremal))
       (λ word x. x.member)
 
-  pub pol-answerable : (limits : Limits) (y w : List ℕ) → IsAnswerable (record { Refuses = RefusesRow limits A w; IsText = IsPolText A y w })
+  pub pol-answerable : (limits : Limits) (y w : List ℕ) → IsAnswerable (record
+      { Refuses = RefusesRow limits A w; IsText = IsPolText A y w })
   pol-answerable limits y w =
       record { decided = row-decided limits w; answer = λ free. (_, (row_of A g w, row_of-is A g w, refl)) }
 
@@ -140,5 +152,6 @@ module _ (A : IntegerMatrix) (g : IsAdmissible A) where
   extremals-answerable limits rank w =
       listed limits w (IsExtremalBelow A w) _ (pairs_text rank A w) (extremals-of w)
 
-  pub ihbetti-answerable : (limits : Limits) (w : List ℕ) → IsAnswerable (record { Refuses = RefusesRow limits A w; IsText = IsIhbettiText A w })
+  pub ihbetti-answerable : (limits : Limits) (w : List ℕ) → IsAnswerable (record
+      { Refuses = RefusesRow limits A w; IsText = IsIhbettiText A w })
   ihbetti-answerable limits w = listed limits w (IsInInterval A w) (λ xs. xs) (ihbetti_text A w) (λ xs are. are)

@@ -61,7 +61,8 @@ module _ (A : IntegerMatrix) (g : IsAdmissible A) where
     m,
     mu-by_row A g y w m (row_of A g w) (row_of-is A g w) (is.value
         ∙ ap (λ n. middle_coefficient (n - word_length A y) is.polynomial) (length-same w v e)
-        ∙ ap (middle_coefficient (word_length A w - word_length A y)) (row-value A g w (row_of A g w) (row_of-is A g w) y v is.polynomial (rw e (normal_form-same A g w)) is.is)),
+        ∙ ap (middle_coefficient (word_length A w - word_length A y)) (row-value A g w (row_of A g w) (row_of-is A g w) y v is.polynomial
+        (rw e (normal_form-same A g w)) is.is)),
     refl,
   )
 

@@ -141,7 +141,8 @@ module _ (A : IntegerMatrix) (g : IsAdmissible A) where
             (λ word there. (
               λ e. record {
                 element = closed.element word there;
-                below = below-same A g (same-refl A g word) (rw is (normal_form-same A g w)) ((is_below-tells A g word (word_at members i)).0 e);
+                below = below-same A g (same-refl A g word) (rw is (normal_form-same A g w))
+                    ((is_below-tells A g word (word_at members i)).0 e);
               },
               λ q. below_it-true word (lower word q.below),
             ))

@@ -7,7 +7,8 @@ use Rattle.cox_shell.specs.declared.status.Status.TheVariants.{Done, Refused, Us
 use Rattle.cox_shell.specs.Reply.{Reply, opening}
 use Rattle.cox_shell.specs.Answer.{AreScriptReplies, texts, has_refusal, script_lines}
 use Rattle.cox_shell.specs.Top.{given_limits, AnswersWhole}
-use Rattle.cox_shell.specs.WholeRun.{IsRun, IsWhole, DifferInWorkers, AnswersAlike}
+use Rattle.cox_shell.specs.WholeRun.{IsRun}
+use Rattle.cox_shell.specs.SameRuns.{IsWhole, DifferInWorkers, AnswersAlike}
 use Rattle.cox_shell.proofs.Replies.{AreReplies-unique}
 
 -- the status of a run that answered its script whole, by whether a reply is a refusal
@@ -20,7 +21,8 @@ module _ (arguments : List (List ℕ)) (script : List ℕ) (source left : Supply
   IsAnswered status = (replies : List Reply) × AreScriptReplies (given_limits arguments) script replies × Writes (texts replies) old new
       × (status ≡ whole_status (has_refusal replies))
 
-  from_whole : (refused : Bool) → AnswersWhole refused (given_limits arguments) source.left left.left old new → IsAnswered (whole_status refused)
+  from_whole : (refused : Bool) → AnswersWhole refused (given_limits arguments) source.left left.left old new
+      → IsAnswered (whole_status refused)
   from_whole refused h = (h.0.replies, rw known at h.0.are_replies, h.0.writes, ap whole_status (sym h.1))
 
   answered : (status : Status) → IsRun status arguments source left old new → IsWhole status → IsAnswered status

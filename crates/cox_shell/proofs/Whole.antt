@@ -1,5 +1,6 @@
 -- What a run over the lines says of the whole run.
-use Rattle.std.proofs.Common.{◌≡◌, ◌<◌, ◌≤◌, ◌+◌, ℕ, Bool, true, false, inl, inr, Option, Some, None, List, [], ◌∷◌, ◌++◌, length, take, option_map, unwrap_or, ℤ, pos, unsigned_abs}
+use Rattle.std.proofs.Common.{◌≡◌, ◌<◌, ◌≤◌, ◌+◌, ℕ, Bool, true, false, inl, inr, Option, Some, None, List, [], ◌∷◌, ◌++◌, length, take}
+use Rattle.std.proofs.Common.{option_map, unwrap_or, ℤ, pos, unsigned_abs}
 use Rattle.std.proofs.Common.{codes, refl, sym, ◌∙◌, subst, arith, length-append, ap}
 use Rattle.std.specs.Bool.{MatchBool}
 use Rattle.std.specs.Option.{IfSome}

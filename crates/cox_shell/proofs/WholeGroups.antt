@@ -50,7 +50,12 @@ pub not-too_large : (A : IntegerMatrix) (limit : ℕ) (members : List (List ℕ)
     → length members ≤ limit → IsTooLarge (IsElement A) limit → ⊥
 not-too_large A limit members closed all few (inl many) =
     HasMoreThan-few (IsElement A) limit members all few (HasMoreThan-over (IsElement A) limit members all many)
-not-too_large A limit members closed all few (inr long) = omega (arith, closed.short long.long (all.whole long.long long.member), long.letters)
+not-too_large A limit members closed all few (inr long) = omega (
+  arith,
+  closed.short long.long
+      (all.whole long.long long.member),
+  long.letters,
+)
 
 -- a group that is refused, apart from memory that runs out
 pub group-too_large : (A : IntegerMatrix) (limit : ℕ) (fault : ContextFault) → (fault ≡ context.NoMemory → ⊥)
@@ -80,7 +85,8 @@ module _ (limits : Limits) (A : IntegerMatrix) where
   not-large (inr (none, inr (small, rest))) large = small large
 
   -- what refuses the group refuses its rows
-  pub large-rows_refused : (why : Refusal) → IsRefused (RefusesLargeGroup limits A) (Some why) → IsRefused (RefusesGroupRows limits A) (Some why)
+  pub large-rows_refused : (why : Refusal) → IsRefused (RefusesLargeGroup limits A) (Some why)
+      → IsRefused (RefusesGroupRows limits A) (Some why)
   large-rows_refused why (inl p) = absurd p.0
   large-rows_refused why (inr (m, inl p)) = inr (λ none. none, inl (p.0, p.1))
   large-rows_refused why (inr (m, inr (l, inl p))) = absurd p.0
@@ -91,7 +97,8 @@ module _ (limits : Limits) (A : IntegerMatrix) where
       → IsRefused (RefusesGroupRows limits A) (Some LargeRow)
   rows-refused small w e beyond = inr (λ none. none, inr (small, inr (λ none. none, inl ((small, w, e, beyond), refl))))
 
-  pub rows-allowed : IsAdmissible A → (IsTooLarge (IsElement A) limits.context → ⊥) → (members : List (List ℕ)) → IsListOf (IsElement A) members
+  pub rows-allowed : IsAdmissible A → (IsTooLarge (IsElement A) limits.context → ⊥) → (members : List (List ℕ))
+      → IsListOf (IsElement A) members
       → ((i : ℕ) → i < length members → NeedsBeyond A (pos limits.coefficient) (word_at members i) → ⊥)
       → IsRefused (RefusesGroupRows limits A) None
   rows-allowed g small members all none =
@@ -99,7 +106,12 @@ module _ (limits : Limits) (A : IntegerMatrix) where
     where
       within : RefusesGroupRows limits A LargeRow → ⊥
       within r = let p = contains-placed members r.1 (all.whole r.1 r.2) in
-          none p.i p.within (record { element = word_at members p.i; needed = itself (same-refl A g (word_at members p.i)); beyond = rw p.is r.3 })
+          none p.i p.within (record {
+            element = word_at members p.i;
+            needed = itself
+                (same-refl A g (word_at members p.i));
+            beyond = rw p.is r.3;
+          })
 
 -- a word with a number is in the list
 pub number-contains : (words : List (List ℕ)) (word : List ℕ) (found : Option ℕ) → is_some found ≡ true → IsNumberOf words word found

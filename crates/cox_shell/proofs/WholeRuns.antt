@@ -43,7 +43,8 @@ no_fault supply = record { faults = refl; same_sure = refl; unsure = λ e. absur
 
 -- ---- the run over the lines
 
-module _ (status : Status) (arguments : List (List ℕ)) (source : Supply) (state : State) (reader : Reader) (left : Supply) (old new : Outlet)
+module _ (status : Status) (arguments : List (List ℕ)) (source : Supply) (state : State) (reader : Reader) (left : Supply)
+    (old new : Outlet)
     (right : IsTaken arguments) (runs : Runs status (beginning (given_limits arguments) source.left old) (stand state reader left new))
     (reads : SourceCause source left (is_read_fault status)) (writes : SinkCause old new (is_write_fault status)) where
   -- without faults and with a script within the limit nothing hinders the run

@@ -1,5 +1,6 @@
 -- The question of `work` has one right text at most, and can be answered.
-use Rattle.std.proofs.Common.{◌≡◌, ◌⊎◌, ℕ, ◌^◌, List, [], ◌∷◌, length, Option, None, Some, inl, inr, refl, sym, ap, ap₂, ◌∙◌, ⊎_elim, pos, unsigned_abs}
+use Rattle.std.proofs.Common.{◌≡◌, ◌⊎◌, ℕ, ◌^◌, List, [], ◌∷◌, length, Option, None, Some, inl, inr, refl, sym, ap, ap₂, ◌∙◌, ⊎_elim, pos}
+use Rattle.std.proofs.Common.{unsigned_abs}
 use Rattle.std.specs.Int.{int_rem_euclid}
 use Rattle.cox_base.specs.IntegerMatrix.{IntegerMatrix}
 use Rattle.cox_base.specs.Admissible.{IsAdmissible}
@@ -8,7 +9,8 @@ use Rattle.cox_context.specs.Members.{IsInInterval}
 use Rattle.cox_context.proofs.SortedLemmas.{IsListOf-unique}
 use Rattle.cox_context.proofs.IntervalLemmas.{interval-exists}
 use Rattle.cox_command.specs.declared.refusal.Refusal.{Refusal}
-use Rattle.cox_command.specs.declared.refusal.Refusal.TheVariants.{UnknownCommand, WrongCount, WrongNumber, UnknownType, WrongLabel, NoGroup}
+use Rattle.cox_command.specs.declared.refusal.Refusal.TheVariants.{UnknownCommand, WrongCount, WrongNumber, UnknownType, WrongLabel}
+use Rattle.cox_command.specs.declared.refusal.Refusal.TheVariants.{NoGroup}
 use Rattle.cox_command.specs.declared.refusal.Refusal.TheVariants.{ForeignLetter, LongWord, LongLine, ForeignByte, ManyRoots, LargeInterval}
 use Rattle.cox_command.specs.declared.refusal.Refusal.TheVariants.{FarApart, LargeRow}
 use Rattle.cox_print.specs.AnswerText.{work_text}
@@ -69,7 +71,8 @@ module _ (A : IntegerMatrix) (g : IsAdmissible A) where
         → IsRefused (RefusesRow limits A w) found ⊎ (IsRefused (RefusesRow limits A w) found → ⊥)
     refused-decided w found = by_first (IsFirstRefusal-exists (RefusesRow limits A w) (row-decided A g limits w) command_refusals) found
       where
-        one : (first found : Option Refusal) → IsRefused (RefusesRow limits A w) first → IsRefused (RefusesRow limits A w) found → first ≡ found
+        one : (first found : Option Refusal) → IsRefused (RefusesRow limits A w) first → IsRefused (RefusesRow limits A w) found
+            → first ≡ found
         one first found s t = IsFirstRefusal-unique (RefusesRow limits A w) command_refusals first found s t
 
         by_first : (first : Option Refusal) × IsRefused (RefusesRow limits A w) first → (found : Option Refusal)
@@ -84,11 +87,15 @@ module _ (A : IntegerMatrix) (g : IsAdmissible A) where
     work-decided : (words : List (List ℕ)) (why : Refusal) → RefusesWork limits A words why ⊎ (RefusesWork limits A words why → ⊥)
     work-decided [] why = inr (λ none. none)
     work-decided (w ∷ words) why = ⊎_elim (λ yes. inl (inl yes))
-        (λ no. ⊎_elim (λ free. ⊎_elim (λ rest. inl (inr (free, rest))) (λ none. inr (λ r. ⊎_elim no (λ p. none p.1) r)) (work-decided words why))
+        (λ no. ⊎_elim (λ free. ⊎_elim (λ rest. inl (inr (free, rest))) (λ none. inr (λ r. ⊎_elim no (λ p. none p.1) r))
+        (work-decided words why))
         (λ refused. inr (λ r. ⊎_elim no (λ p. refused p.0) r)) (refused-decided w None))
         (refused-decided w (Some why))
 
-    pub work-answerable : (words : List (List ℕ)) → IsAnswerable (record { Refuses = RefusesWork limits A words; IsText = IsWorkText A words })
+    pub work-answerable : (words : List (List ℕ)) → IsAnswerable (record {
+      Refuses = RefusesWork limits A words;
+      IsText = IsWorkText A words;
+    })
     work-answerable words = record {
       decided = work-decided words;
       answer = λ free. let totals = totals-exist words in (_, (totals.0, totals.1, refl));

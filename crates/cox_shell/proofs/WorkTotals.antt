@@ -1,5 +1,6 @@
 -- The totals of generated words, word by word: what was summed up so far, and what the words ahead decide.
-use Rattle.std.proofs.Common.{◌≡◌, ◌⊎◌, ℕ, zero, suc, ◌^◌, pos, unsigned_abs, List, [], ◌∷◌, length, Option, None, Some, Result, Ok, Err, inl, inr, refl, sym, ap, ⊎_elim}
+use Rattle.std.proofs.Common.{◌≡◌, ◌⊎◌, ℕ, zero, suc, ◌^◌, pos, unsigned_abs, List, [], ◌∷◌, length, Option, None, Some, Result, Ok, Err}
+use Rattle.std.proofs.Common.{inl, inr, refl, sym, ap, ⊎_elim}
 use Rattle.std.specs.Int.{int_rem_euclid}
 use Rattle.cox_base.specs.IntegerMatrix.{IntegerMatrix}
 use Rattle.cox_base.specs.Admissible.{IsAdmissible}

@@ -114,7 +114,8 @@ RefusesGroup limits g _ = ⊥
 abbrev pub IsCommandReply : Command → State → Reply → Type 0
 IsCommandReply asks.Nothing state reply = reply ≡ silence state
 IsCommandReply asks.Quit state reply = reply ≡ farewell state
-IsCommandReply (asks.Group g) state reply = IsDecided state (RefusesGroup state.limits g) (λ answer. answer ≡ silence (with_group state g)) reply
+IsCommandReply (asks.Group g) state reply = IsDecided state (RefusesGroup state.limits g)
+    (λ answer. answer ≡ silence (with_group state g)) reply
 IsCommandReply (asks.One kind w) state reply = IsInquiryReply (One kind w) state reply
 IsCommandReply (asks.Two kind y w) state reply = IsInquiryReply (Two kind y w) state reply
 IsCommandReply (asks.Plain kind) state reply = IsInquiryReply (Plain kind) state reply

@@ -34,6 +34,10 @@ pub mod Outcome
 pub mod Top
 -- the contract of a whole run
 pub mod WholeRun
+-- arguments that give limits
+pub mod GivenLimits
+-- two runs over one script
+pub mod SameRuns
 -- rows that a session keeps
 pub mod Kept
 -- totals of rows that are summed up

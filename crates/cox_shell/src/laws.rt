@@ -6,7 +6,7 @@ ghost use Rattle.cox_shell.specs.Reply.{Limits, Reply};
 ghost use Rattle.cox_shell.specs.Answer.{AreScriptReplies, texts};
 ghost use Rattle.cox_shell.specs.ScriptAnswer.{IsAnswer};
 ghost use Rattle.cox_shell.specs.Top.{AreDue};
-ghost use Rattle.cox_shell.specs.WholeRun.{DifferInWorkers, AnswersAlike};
+ghost use Rattle.cox_shell.specs.SameRuns.{DifferInWorkers, AnswersAlike};
 
 /// A script has an answer, within any limits.
 pub fn some_answer()

@@ -6,7 +6,8 @@ ghost use Rattle.cox_options.specs.Arguments.{IsUsage};
 ghost use Rattle.cox_outside.specs.Supply.{Supply};
 ghost use Rattle.cox_shell.specs.SessionLimits.{limits_of};
 ghost use Rattle.cox_shell.specs.Top.{argument_texts};
-ghost use Rattle.cox_shell.specs.WholeRun.{IsRun, GiveLimits};
+ghost use Rattle.cox_shell.specs.GivenLimits.{GiveLimits};
+ghost use Rattle.cox_shell.specs.WholeRun.{IsRun};
 
 use crate::preparation::{Preparation, RowsAhead, Unprepared};
 use crate::running::run_lines;

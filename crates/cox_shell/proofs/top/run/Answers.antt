@@ -6,5 +6,6 @@ use Rattle.cox_shell.proofs.top.run.Goals as goal
 pub returns-then-workers-gt1-clause-run : goal.returns-then-workers-gt1-clause-run
 returns-then-workers-gt1-clause-run g c = c.run_with.ensures (argument_texts c.args.words.now) (record {
   taken = c.in-Ok.ensures.taken;
-  limits_are = limits-given c.in-Ok.options (argument_texts c.args.words.now) c.in-Ok.ensures.context c.in-Ok.ensures.coef c.in-Ok.ensures.roots;
+  limits_are = limits-given c.in-Ok.options (argument_texts c.args.words.now) c.in-Ok.ensures.context c.in-Ok.ensures.coef
+      c.in-Ok.ensures.roots;
 })

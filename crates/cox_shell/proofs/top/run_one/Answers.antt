@@ -8,7 +8,8 @@ use Rattle.cox_shell.proofs.top.run_one.Goals as goal
 pub returns-in-Ok-clause-run : goal.returns-in-Ok-clause-run
 returns-in-Ok-clause-run g c = c.run_by.ensures (argument_texts c.args.words.now) (record {
   taken = c.in-Ok.ensures.taken;
-  limits_are = limits-given c.in-Ok.options (argument_texts c.args.words.now) c.in-Ok.ensures.context c.in-Ok.ensures.coef c.in-Ok.ensures.roots;
+  limits_are = limits-given c.in-Ok.options (argument_texts c.args.words.now) c.in-Ok.ensures.context c.in-Ok.ensures.coef
+      c.in-Ok.ensures.roots;
 })
 
 pub returns-in-Err-Usage-clause-run : goal.returns-in-Err-Usage-clause-run

@@ -19,7 +19,8 @@ of-requires c = λ k above.
     let closed = rw c.context.ensures.context at c.len.ensures.closed in
     let admissible = rw c.context.ensures.context at c.len.ensures.admissible in
     let short = closed.short (word_at members i) (contains-at members i c.requires.member) in
-    kazhdan_lusztig-low A admissible (word_at members i) (word_at members c.loop-x.x) c.in-Some.polynomial (c.in-Some.ensures {u = tt}).value k
+    kazhdan_lusztig-low A admissible (word_at members i) (word_at members c.loop-x.x) c.in-Some.polynomial
+    (c.in-Some.ensures {u = tt}).value k
     (omega (arith, above, short, length-at A admissible members closed i c.requires.member))
 
 pub loop-x-preserved : goal.loop-x-preserved
@@ -41,7 +42,8 @@ loop-x-preserved c =
             few = rw o.of.ensures.one (omega (arith, c.loop-x.invariant.few));
             totals = λ w p is row.
                 ap₂ both_totals (c.loop-x.invariant.totals w p is row)
-                (totals-is A admissible (word_at members i) w (word_at members x) p o.in-Some.polynomial o.of.result is row value o.of.ensures.totals)
+                (totals-is A admissible (word_at members i) w (word_at members x) p o.in-Some.polynomial o.of.result is row value
+                o.of.ensures.totals)
                 ∙ sym (first_totals-more A w p test members x within passes);
           })
       | in_default o ↦

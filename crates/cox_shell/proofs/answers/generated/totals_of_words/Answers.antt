@@ -20,7 +20,8 @@ returns-in_err-row-clause-totals c =
     let p = err_from_is_err_and c.from_residual.result c.from_residual.ensures.1 in
     rw (p.1, p.2) (reaches-err (limits_of c.args.options) A words (IsAdmissible-integer_matrix table c.totals_of_word.ensures.group)
     (generated_word table.rank c.loop.state) _ _ c.totals_of_word.result _
-    (c.in_err-row.was {u = tt}) (rw left at c.loop.invariant.reaches) (rw (c.work_word-word.ensures.word, rank) at c.totals_of_word.ensures.totals))
+    (c.in_err-row.was {u = tt}) (rw left at c.loop.invariant.reaches) (rw (c.work_word-word.ensures.word, rank) at
+    c.totals_of_word.ensures.totals))
 
 pub loop-preserved : goal.loop-preserved
 loop-preserved c =

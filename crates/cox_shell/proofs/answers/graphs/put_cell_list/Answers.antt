@@ -17,12 +17,14 @@ pub returns : goal.returns
 returns c =
     let context = c.args.context.now in
     let cells = c.args.cells.now in
-    let whole = append-all (cell_line context.matrix.rank context.members) cells c.loop-cell.cell-index _ _ (omega arith) c.loop-cell.invariant in
+    let whole = append-all (cell_line context.matrix.rank context.members) cells c.loop-cell.cell-index _ _
+    (omega arith) c.loop-cell.invariant in
     rw (cells-text context.matrix.rank context.members cells)
     (append-second (decimal (length cells)) _ _ _ _ (c.in_ok-put_count.ensures {u = tt}) whole)
 
 pub put_next_cell-requires : goal.put_next_cell-requires
-put_next_cell-requires c = rw c.deref.ensures.value (cell-within (λ i. i < length c.args.context.now.members) c.args.cells.now c.loop-cell.cell-index
+put_next_cell-requires c = rw c.deref.ensures.value (cell-within (λ i. i < length c.args.context.now.members) c.args.cells.now
+    c.loop-cell.cell-index
     c.cell-item.result c.loop-cell-test.true c.cell-item.is c.requires)
 
 pub returns-in_err-put_next_cell : goal.returns-in_err-put_next_cell

@@ -23,7 +23,8 @@ pub returns : goal.returns
 returns c =
     let edges = c.args.edges.now in
     let text = edge_at_text c.args.context.now.matrix.rank c.args.context.now.members in
-    rw (edges-text c.args.context.now.matrix.rank c.args.context.now.members edges) (append-all text edges c.loop-edge.edge-index _ _ (omega arith) c.loop-edge.invariant)
+    rw (edges-text c.args.context.now.matrix.rank c.args.context.now.members edges)
+    (append-all text edges c.loop-edge.edge-index _ _ (omega arith) c.loop-edge.invariant)
 
 pub returns-in_err-put_edge : goal.returns-in_err-put_edge
 returns-in_err-put_edge c =

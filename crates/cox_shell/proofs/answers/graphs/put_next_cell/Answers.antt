@@ -19,7 +19,8 @@ put_member-requires-clause-word c =
     let members = c.args.context.now.members in
     let parts : c.args.cell.now ≡ c.in-Some.field-0-0.now ∷ c.in-Some.others.now = (c.in-Some.ensures {u = tt}).cases.0 in
     let within = (rw parts at c.requires) 0 0 (omega arith) in
-    let element = c.len.ensures.closed.element (word_at members c.in-Some.field-0-0.now) (contains-at members c.in-Some.field-0-0.now within) in
+    let element = c.len.ensures.closed.element (word_at members c.in-Some.field-0-0.now)
+    (contains-at members c.in-Some.field-0-0.now within) in
     rw (c.word.ensures, c.rank-rank.ensures.rank, c.matrix.ensures) element.letters
 
 pub put_other_members-requires : goal.put_other_members-requires
@@ -36,7 +37,9 @@ returns c =
     let parts : c.args.cell.now ≡ first ∷ others = (c.in-Some.ensures {u = tt}).cases.0 in
     let put = rw (c.word.ensures, c.rank-rank.ensures.rank, c.matrix.ensures) at (c.in_ok-put_member.ensures {u = tt}) in
     rw (cell-parts rank members c.args.cell.now others first parts)
-    (Puts-second _ (10 ∷ []) (member_text rank (word_at members first) true ++ flat_map (λ y. member_text rank y false) (map (word_at members) others)) _ _ _
+    (Puts-second _ (10 ∷ []) (member_text rank (word_at members first) true ++ flat_map (λ y. member_text rank y false)
+    (map (word_at members) others)) _ _ _
     (c.in_ok-put_end.ensures {u = tt})
-    (Puts-second _ (member_text rank (word_at members first) true) (flat_map (λ y. member_text rank y false) (map (word_at members) others)) _ _ _ put
+    (Puts-second _ (member_text rank (word_at members first) true) (flat_map (λ y. member_text rank y false) (map (word_at members) others))
+    _ _ _ put
     c.put_other_members.ensures))

@@ -46,7 +46,9 @@ returns c = λ v is at.
     let first = rw (c.word.ensures, c.label.ensures, c.rank.ensures.rank, c.matrix.ensures, c.context-context.ensures, head)
     at (c.in_ok-put_head.ensures {u = tt}) in
     let edges = subst (λ (e : Elements). Puts c.put_edges.result (flat_map (λ (j : Joined). edge_text e.matrix.rank j.element j.value)
-    (joined_of e.members c.edges.result.now)) c.put_head.new.out.items c.put_edges.new.out.items) c.context-context.ensures c.put_edges.ensures in
+    (joined_of e.members c.edges.result.now)) c.put_head.new.out.items c.put_edges.new.out.items) c.context-context.ensures
+    c.put_edges.ensures in
     let last = rw joined at edges in
     Puts-second _ (10 ∷ []) (vertex_text rank v) _ _ _ (c.in_ok-put_end.ensures {u = tt})
-    (Puts-second _ (head_text rank v.element v.label) (flat_map (λ (j : Joined). edge_text rank j.element j.value) v.joined) _ _ _ first last)
+    (Puts-second _ (head_text rank v.element v.label) (flat_map (λ (j : Joined). edge_text rank j.element j.value) v.joined) _ _ _ first
+    last)

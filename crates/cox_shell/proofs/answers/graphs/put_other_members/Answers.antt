@@ -18,7 +18,8 @@ pub returns-in_err-put_member : goal.returns-in_err-put_member
 returns-in_err-put_member c =
     let others = c.args.others.now in
     let text = other_text c.args.context.now.matrix.rank c.args.context.now.members in
-    rw (others-text c.args.context.now.matrix.rank c.args.context.now.members others) (Puts-failed _ _ _ _ (search rules) (PutsPrefix-next text others c.loop-i.i-index
+    rw (others-text c.args.context.now.matrix.rank c.args.context.now.members others)
+    (Puts-failed _ _ _ _ (search rules) (PutsPrefix-next text others c.loop-i.i-index
     (get_or others c.loop-i.i-index 0) 0 _ _ _ c.loop-i-test.true refl c.loop-i.invariant
     (rw (c.word.ensures, c.rank-rank.ensures.rank, c.matrix.ensures) at (c.in_err-put_member.ensures {u = tt}))))
 
@@ -26,4 +27,5 @@ pub returns : goal.returns
 returns c =
     let others = c.args.others.now in
     let text = other_text c.args.context.now.matrix.rank c.args.context.now.members in
-    rw (others-text c.args.context.now.matrix.rank c.args.context.now.members others) (append-all text others c.loop-i.i-index _ _ (omega arith) c.loop-i.invariant)
+    rw (others-text c.args.context.now.matrix.rank c.args.context.now.members others)
+    (append-all text others c.loop-i.i-index _ _ (omega arith) c.loop-i.invariant)

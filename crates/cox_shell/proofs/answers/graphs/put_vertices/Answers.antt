@@ -47,6 +47,7 @@ returns c = λ vertices are.
     let A = integer_matrix graph.matrix in
     let count = vertices-count A c.args.side graph.members c.requires.whole vertices are in
     let start = rw c.len-count.ensures.len at (c.in_ok-put_count.ensures {u = tt}) in
-    let whole = append-all (vertex_line graph.matrix.rank) vertices c.loop-i.i _ _ (omega (arith, count)) (c.loop-i.invariant vertices are) in
+    let whole = append-all (vertex_line graph.matrix.rank) vertices c.loop-i.i _ _ (omega (arith, count))
+    (c.loop-i.invariant vertices are) in
     rw (vertices-text A c.args.side graph.members c.requires.whole vertices are graph.matrix.rank)
     (append-second (decimal (length graph.members)) _ _ _ _ start whole)

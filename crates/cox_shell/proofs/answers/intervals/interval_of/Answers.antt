@@ -16,14 +16,16 @@ use Rattle.cox_context.proofs.IntervalLemmas.{interval-refused}
 use Rattle.cox_shell.proofs.answers.intervals.interval_of.Goals as goal
 
 -- an interval that is refused for its size
-interval-size : (A : IntegerMatrix) → IsAdmissible A → (limit : ℕ) (w : List ℕ) → length w ≤ MAX_LETTERS → (fault : ContextFault) (bound seen : ℕ)
+interval-size : (A : IntegerMatrix) → IsAdmissible A → (limit : ℕ) (w : List ℕ) → length w ≤ MAX_LETTERS
+    → (fault : ContextFault) (bound seen : ℕ)
     → fault ≡ Size bound seen
     → IsRefusal (IsInInterval A w) limit fault → HasMoreThan limit (IsInInterval A w)
 interval-size A g limit w short fault bound seen is refusal = interval-refused A g limit w short fault refusal
     (λ memory. absurd (cc (is, memory)))
 
 -- none is refused for a long member
-interval-long : (A : IntegerMatrix) → IsAdmissible A → (limit : ℕ) (w : List ℕ) → length w ≤ MAX_LETTERS → (fault : ContextFault) → fault ≡ Long
+interval-long : (A : IntegerMatrix) → IsAdmissible A → (limit : ℕ) (w : List ℕ) → length w ≤ MAX_LETTERS → (fault : ContextFault)
+    → fault ≡ Long
     → IsRefusal (IsInInterval A w) limit fault → ⊥
 interval-long A g limit w short fault is refusal =
     let long = rw is at refusal in omega (arith, interval-length A g w long.long long.member, long.letters, word_length-length A g w)

@@ -6,6 +6,7 @@ use Rattle.cox_shell.proofs.answers.kept_group.has_shifts.Goals as goal
 
 pub loop-s-preserved : goal.loop-s-preserved
 loop-s-preserved c = λ t least below. ⊎_elim
-    (λ (same : t ≡ c.loop-s.s). rw same (number-contains c.args.context.now.members _ c.left.result (c.if-is_none.ensures {u = tt}) c.left.ensures))
+    (λ (same : t ≡ c.loop-s.s). rw same (number-contains c.args.context.now.members _ c.left.result
+    (c.if-is_none.ensures {u = tt}) c.left.ensures))
     (λ (other : t ≡ c.loop-s.s → ⊥). c.loop-s.invariant t least (omega (arith, below, other)))
     (cases_eq t c.loop-s.s)

@@ -7,4 +7,5 @@ use Rattle.cox_shell.proofs.answers.pairs.members_below.Given as goal
 
 abbrev pub invariant-loop-x : goal.invariant-loop-x
 invariant-loop-x l =
-    IsKept (λ x. is_below (integer_matrix l.rows.elements.matrix) x (word_at l.rows.elements.members l.i)) l.rows.elements.members l.x l.below.items
+    IsKept (λ x. is_below (integer_matrix l.rows.elements.matrix) x (word_at l.rows.elements.members l.i)) l.rows.elements.members l.x
+    l.below.items

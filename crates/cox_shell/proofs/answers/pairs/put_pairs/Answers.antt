@@ -31,7 +31,8 @@ returns-in_err-put_next_pair c = λ w p is row.
     (c.in-Some.ensures {u = tt}).value in
     let start : c.put_count.new.out.items ≡ c.args.out.now.items ++ decimal (length numbers) = c.in_ok-put_count.ensures {u = tt} in
     let prefix = PutsPrefix-next line numbers c.loop-x.x-index x 0 _ _ _ c.loop-x-test.true refl (c.loop-x.invariant w p is row)
-    (rw (c.word.ensures, c.context-in-loop-x.ensures.context, c.rank-rank.ensures.rank, c.matrix.ensures, c.context.ensures.context, text) at
+    (rw (c.word.ensures, c.context-in-loop-x.ensures.context, c.rank-rank.ensures.rank, c.matrix.ensures, c.context.ensures.context, text)
+    at
     (c.in_err-put_next_pair.ensures {u = tt})) in
     rw pairs-text (Puts-failed _ _ _ _ (search rules) (PutsPrefix-second (decimal (length numbers)) _ _ _ _ start prefix))
 
@@ -46,7 +47,8 @@ loop-x-preserved c = λ w p is row.
     let text = pair-line A g w p row e.matrix.rank e.members x (word_at e.members c.args.i) c.in-Some.polynomial same
     (c.in-Some.ensures {u = tt}).value in
     append-next line c.args.numbers.now c.loop-x.x-index x 0 _ _ _ c.loop-x-test.true refl (c.loop-x.invariant w p is row)
-    (rw (c.word.ensures, c.context-in-loop-x.ensures.context, c.rank-rank.ensures.rank, c.matrix.ensures, c.context.ensures.context, text) at
+    (rw (c.word.ensures, c.context-in-loop-x.ensures.context, c.rank-rank.ensures.rank, c.matrix.ensures, c.context.ensures.context, text)
+    at
     (c.in_ok-put_next_pair.ensures {u = tt}))
 
 pub returns : goal.returns

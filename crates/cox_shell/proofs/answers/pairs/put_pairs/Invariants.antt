@@ -14,4 +14,5 @@ abbrev pub invariant-loop-x : goal.invariant-loop-x
 invariant-loop-x l = (w : List ℕ) (p : Family) → word_at l.rows.elements.members l.i ≡ normal_form (integer_matrix l.rows.elements.matrix) w
     → IsRow (integer_matrix l.rows.elements.matrix) w p
     → l.out.items ≡ l.initial.out.items ++ flat_map
-    (pair_line l.rows.elements.matrix.rank (word_length (integer_matrix l.rows.elements.matrix) w) l.rows.elements.members p) (take l.x-index l.numbers)
+    (pair_line l.rows.elements.matrix.rank (word_length (integer_matrix l.rows.elements.matrix) w) l.rows.elements.members p)
+    (take l.x-index l.numbers)
