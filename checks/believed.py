@@ -1,9 +1,9 @@
 #!/usr/bin/env python3
-"""Which definitions the clauses of `run_one` unfold to: what a reader has to believe, beside the toolchain.
+"""Which definitions the clauses of `run` unfold to: what a reader has to believe, beside the toolchain.
 
     checks/believed.py [--list] [--kit KIT] [FUNCTION]
 
-It begins with the names in the clauses of FUNCTION (`run_one` if none is named) in crates/cox_shell/src/top.rt, and
+It begins with the names in the clauses of FUNCTION (`run` if none is named) in crates/cox_shell/src/top.rt, and
 follows them through the `use` lines and definitions of crates/*/specs. For each file it prints how many lines those of
 its definitions have that are reached, and which are not reached; with `--list` also which are. Then come the types of
 the code that are reached, and the names of std and of the kit's crates. With `--kit`, the folder of the toolchain, the
@@ -167,7 +167,7 @@ def main():
     words = argparse.ArgumentParser(description=__doc__.splitlines()[0])
     words.add_argument("--list", action="store_true", help="name the definitions that are reached")
     words.add_argument("--kit", help="the folder of the toolchain: follow the definitions of clap too")
-    words.add_argument("function", nargs="?", default="run_one", help="a function of top.rt (default: run_one)")
+    words.add_argument("function", nargs="?", default="run", help="a function of top.rt (default: run)")
     words = words.parse_args()
     listed = words.list
     crates = os.path.join(TOP, "crates")

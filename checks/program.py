@@ -65,6 +65,8 @@ ARGUMENTS = [
     (ANSWERED, [["--context=+24"], ["--context", "+24"], ["--context=0024"], ["--context", "+0024"]]),
     (ANSWERED, [["--"], ["--context=24", "--"], ["--context", "0" * 5000 + "24"]]),
     (ANSWERED, [["--roots", "6"], ["--roots=4096"], ["--roots=+6", "--context", "24"], ["--context=24", "--roots=06"]]),
+    (ANSWERED, [["--workers", "1"], ["--workers=16"], ["--workers=+2", "--context=24"], ["--roots=6", "--workers", "03"]]),
+    (WRONG, [["--workers"], ["--workers=0"], ["--workers", "17"], ["--workers=x"], ["--workers=2", "--workers=2"]]),
     (ANSWERED, [["--coef", "1"], ["--coef=9223372036854775807"], ["--coef=+5", "--roots=6"], ["--context=24", "--coef=05"]]),
     (WRONG, [["--coef"], ["--coef="], ["--coef", "0"], ["--coef=-1"], ["--coef=x"], ["--coef=1", "--coef=1"]]),
     (WRONG, [["--coef", "9223372036854775808"], ["--coef=18446744073709551617"]]),
@@ -82,7 +84,7 @@ ARGUMENTS = [
     (WRONG, [["--roots=0"], ["--roots", "4097"], ["--roots"], ["--roots=x"], ["--roots=6", "--roots=6"], ["--root", "6"]]),
     # no option of the program, or no option at all
     (WRONG, [["--foo"], ["--contexts", "23"], ["--con", "23"], ["--Context", "23"], ["-context", "23"]]),
-    (WRONG, [["-c", "23"], ["--context23"], ["--workers", "2"], ["--coefs", "5"], ["-x"], ["--="]]),
+    (WRONG, [["-c", "23"], ["--context23"], ["--worker", "2"], ["--coefs", "5"], ["-x"], ["--="]]),
     (WRONG, [["--help"], ["-h"], ["--version"], ["-V"], ["help"], ["script"], ["-"], [""], [" "], ["é"]]),
     (WRONG, [["--", "script"], ["--", "--"], ["--", "--context", "23"], ["--context", "23", "24"], ["x" * 100_000]]),
     # bytes that are no UTF-8

@@ -23,8 +23,8 @@ class CoxeterGroup:
         CoxeterGroup("A 3")
         CoxeterGroup([[1, 3, 2], [3, 1, 4], [2, 4, 1]])
 
-    In a matrix, infinity is 0 or math.inf. `program` is the path of the program; `context`, `roots` and
-    `coef` are options of the program. `progress=False` turns off the bars that tell how far a long list was read.
+    In a matrix, infinity is 0 or math.inf. `program` is the path of the program; `workers`, `context`, `roots`
+    and `coef` are options of the program. `progress=False` turns off the bars that tell how far a long list was read.
 
     A word is a text as the program reads it ("2132", "10.9.10", "e"), or a list or tuple of ints. Elements are tuples of
     ints, the letters of the normal form. A question that the program refuses raises a `Refusal`. For long lists there are

@@ -27,7 +27,7 @@ MARK_ANSWER = "error 19"
 MOST_OF_LINE = 4096
 MOST_OF_INPUT = 16_777_216
 
-OPTIONS = ("context", "roots", "coef")
+OPTIONS = ("workers", "context", "roots", "coef")
 
 # How many seconds a process that is told to end has for it.
 PATIENCE = 2
@@ -36,9 +36,9 @@ PATIENCE = 2
 class Program:
     """A process of the program. It is started when first asked, and kept.
 
-    `group` is the `type` or `matrix` line that a new process begins with. `context`, `roots` and `coef` are
-    options of the program. The process is ended by `close`, at the end of a `with` block, and with the object; if it
-    ends otherwise, the next question starts a new one with the same group.
+    `group` is the `type` or `matrix` line that a new process begins with. `workers`, `context`, `roots`
+    and `coef` are options of the program. The process is ended by `close`, at the end of a `with` block, and with the
+    object; if it ends otherwise, the next question starts a new one with the same group.
     """
 
     def __init__(self, path=None, *, group=None, **options):

@@ -113,7 +113,7 @@ class Groups(unittest.TestCase):
         with CoxeterGroup("A", 3, context=23) as group:
             with self.assertRaises(Refusal):
                 group.betti_numbers("121321")
-        with CoxeterGroup("A", 3, context=24, roots=6, coef=3) as group:
+        with CoxeterGroup("A", 3, workers=2, context=24, roots=6, coef=3) as group:
             self.assertEqual(group.betti_numbers("121321"), (1, 3, 5, 6, 5, 3, 1))
             self.assertEqual(Counter(map(len, group.left_cells())), {1: 2, 2: 2, 3: 6})
 

@@ -450,7 +450,7 @@ class Wrong(unittest.TestCase):
             self.assertIsInstance(error, UnexpectedAnswer)
 
     def test_wrong_arguments(self):
-        for options in ({"context": 0}, {"roots": "x"}, {"coef": -1}, {"roots": 4097}):
+        for options in ({"context": 0}, {"roots": "x"}, {"coef": -1}, {"roots": 4097}, {"workers": 17}):
             with CoxeterGroup("A", 3, **options) as group, self.assertRaises(ProgramError) as caught:
                 group.length("1")
             self.assertIn("its options are wrong", str(caught.exception))
