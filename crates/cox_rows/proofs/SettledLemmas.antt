@@ -12,7 +12,7 @@ use Rattle.cox_klstep.specs.declared.fault.StepFault.{StepFault}
 use Rattle.cox_klstep.specs.declared.tables.Tables.{Tables}
 use Rattle.cox_klstep.specs.Faults.{IsNarrowFault}
 use Rattle.cox_klstep.specs.TablesOf.{AreTables}
-use Rattle.cox_rows.specs.Holding.{Holding, Holds, IsHeldRow}
+use Rattle.cox_rows.specs.Holding.{Holding, IsHeldRow}
 use Rattle.cox_rows.specs.Faults.{fault_of, IsRowsFault}
 use Rattle.cox_rows.specs.Ensured.{IsStore, IsSettled, AreNeedsSmall}
 use Rattle.cox_rows.proofs.NeedDecided.{needs_beyond-none}
@@ -47,11 +47,10 @@ store-set h old new tables i at settled store = record {
 
 -- one row more, and other tables
 pub store-put : (h new : Holding) (settled : List Bool) (old : Option Tables) (tables : Tables) → new.elements ≡ h.elements
-    → new.limit ≡ h.limit → ((j : ℕ) → Holds h j → Holds new j) → IsStore h settled old → AreTables h.elements tables
-    → IsStore new settled (Some tables)
-store-put h new settled old tables elements limit kept store are = record {
+    → new.limit ≡ h.limit → IsStore h settled old → AreTables h.elements tables → IsStore new settled (Some tables)
+store-put h new settled old tables elements limit store are = record {
   known = λ j is. let s = store.known j is in record {
-    there = kept j s.there;
+    member = rw elements s.member;
     small = rw (elements, limit) s.small;
   };
   usable = rw elements are;

@@ -12,10 +12,10 @@ row-made-requires-clause-needs c =
 
 pub invariant_of-self : goal.invariant_of-self
 invariant_of-self c = store-put c.self-2.inside.held c.put.new.self c.self-2.inside.settled.items c.self-2.inside.tables
-    c.row-made.new.tables c.in_err-put-in-Ok.ensures.elements c.in_err-put-in-Ok.ensures.limit c.in_err-put-in-Ok.ensures.kept
+    c.row-made.new.tables c.in_err-put-in-Ok.ensures.elements c.in_err-put-in-Ok.ensures.limit
     c.self-2.invariant (rw c.context.ensures.context at c.row-made.ensures.tables)
 
 pub invariant_of-self-in-Ok : goal.invariant_of-self-in-Ok
 invariant_of-self-in-Ok c = store-put c.self-2.inside.held c.put.new.self c.self-2.inside.settled.items c.self-2.inside.tables
-    c.row-made.new.tables c.in_ok-put-in-Ok.ensures.elements c.in_ok-put-in-Ok.ensures.limit c.in_ok-put-in-Ok.ensures.kept
+    c.row-made.new.tables c.in_ok-put-in-Ok.ensures.elements c.in_ok-put-in-Ok.ensures.limit
     c.self-2.invariant (rw c.context.ensures.context at c.row-made.ensures.tables)
