@@ -47,8 +47,7 @@ store-set h old new tables i at settled store = record {
 
 -- one row more, and other tables
 pub store-put : (h new : Holding) (settled : List Bool) (old : Option Tables) (tables : Tables) → new.elements ≡ h.elements
-    → new.limit ≡ h.limit → IsStore h settled old → AreTables h.elements tables
-    → IsStore new settled (Some tables)
+    → new.limit ≡ h.limit → IsStore h settled old → AreTables h.elements tables → IsStore new settled (Some tables)
 store-put h new settled old tables elements limit store are = record {
   known = λ j is. let s = store.known j is in record {
     member = rw elements s.member;
