@@ -23,10 +23,8 @@ def program(words):
     return os.path.join(TOP, "crates", "coxeter", "out", "coxeter")
 
 
-def worker_counts(built):
-    """Arguments that set the number of workers: none, and 1, 2 and 16."""
-    counts = [["--workers", str(workers)] for workers in (1, 2, 16)]
-    return [[], *(it for it in counts if subprocess.run([built, *it], input=b"", capture_output=True).returncode == 0)]
+# Arguments that set the number of workers.
+WORKERS = [[], ["--workers", "1"], ["--workers", "2"], ["--workers", "16"]]
 
 
 class Count:

@@ -15,7 +15,7 @@ import subprocess
 import sys
 import tempfile
 
-from common import Count, program, worker_counts
+from common import WORKERS, Count, program
 from definitions import example
 
 HERE = os.path.dirname(os.path.abspath(__file__))
@@ -113,10 +113,10 @@ def main():
     count, built = Count(), program(sys.argv[1:])
     with tempfile.TemporaryDirectory() as folder:
         runs = Runs(built, folder)
-        for workers in worker_counts(built):
+        for workers in WORKERS:
             for name, text, arguments, status in SCRIPTS:
                 script, answers = example(text)
-                what = f"{name}, {' '.join(workers) or 'no option for workers'}"
+                what = f"{name}, {' '.join(workers) or 'one thread'}"
                 refusals(count, runs, what, script, workers + arguments, (status, answers, b""))
         refusals(count, runs, "wrong arguments", b"", ["--context", "0"], (BAD_USAGE, USAGE, b""))
     count.end("runs")

@@ -16,7 +16,7 @@ import sys
 import termios
 import time
 
-from common import Count, program, worker_counts
+from common import WORKERS, Count, program
 from definitions import Group, example, labels_of
 
 COXETER = program(sys.argv[1:])
@@ -261,7 +261,7 @@ def cells_of_f4():
     return example("type F 4\nlrcells\n")
 
 
-for workers in worker_counts(COXETER):
+for workers in WORKERS:
     for part in (odd_lines, long_words, dihedral, narrow_limits, many_lines, endless_line, slow_reader):
         part(workers)
 COUNT.end("checks")
