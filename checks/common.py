@@ -8,13 +8,23 @@ TOP = os.path.dirname(os.path.dirname(os.path.abspath(__file__)))
 
 
 def program(words):
-    """The program named by the script's arguments, else that of this checkout, which is built first if need be."""
+    """The program named by the script's arguments, else that of this checkout, which is built first if need be. With --help
+    the script says what it is for, and ends."""
+    if words in (["-h"], ["--help"]):
+        print(sys.modules["__main__"].__doc__.strip())
+        sys.exit(0)
     if words:
+        if not os.access(words[0], os.X_OK):
+            sys.exit(f"there is no program {words[0]}")
         return os.path.abspath(words[0])
     launcher = os.path.join(TOP, "coxeter")
     if subprocess.run([launcher], stdin=subprocess.DEVNULL, stdout=subprocess.DEVNULL).returncode:
         sys.exit("the program is not built")
     return os.path.join(TOP, "crates", "coxeter", "out", "coxeter")
+
+
+# Arguments that set the number of workers.
+WORKERS = [[], ["--workers", "1"], ["--workers", "2"], ["--workers", "16"]]
 
 
 class Count:

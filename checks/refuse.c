@@ -1,0 +1,85 @@
+// Refuses memory to the program that it is loaded into by LD_PRELOAD. A request is a call of malloc, calloc, realloc,
+// aligned_alloc, memalign or posix_memalign, or a thread that is to be started; requests are counted from 1, by all
+// threads together. The environment says which are refused:
+//
+//   REFUSE_FIRST=N   the first one that is refused; at 0, or without it, none is
+//   REFUSE_LAST=N    the last one
+//   REFUSE_COUNT=N   at the end the count of requests is written to the file descriptor N, as a line
+//
+// Built by: cc -shared -fPIC -O2 -o refuse.so refuse.c
+#define _GNU_SOURCE
+#include <dlfcn.h>
+#include <errno.h>
+#include <pthread.h>
+#include <stdatomic.h>
+#include <stdio.h>
+#include <stdlib.h>
+#include <sys/syscall.h>
+#include <unistd.h>
+
+extern void *__libc_malloc(size_t);
+extern void *__libc_calloc(size_t, size_t);
+extern void *__libc_realloc(void *, size_t);
+extern void *__libc_memalign(size_t, size_t);
+
+typedef int starting(pthread_t *, const pthread_attr_t *, void *(*)(void *), void *);
+
+static atomic_ulong requests;
+static unsigned long first, last;
+static int report = -1;
+static starting *start;
+
+static unsigned long number(const char *name) {
+    const char *text = getenv(name);
+    return text ? strtoul(text, NULL, 10) : 0;
+}
+
+// What the loader and the library ask for before the program begins is not counted.
+__attribute__((constructor)) static void begin(void) {
+    start = (starting *)dlsym(RTLD_NEXT, "pthread_create");
+    report = getenv("REFUSE_COUNT") ? (int)number("REFUSE_COUNT") : -1;
+    last = number("REFUSE_LAST");
+    first = number("REFUSE_FIRST");
+    atomic_store(&requests, 0);
+}
+
+__attribute__((destructor)) static void end(void) {
+    if (report >= 0)
+        dprintf(report, "%lu\n", atomic_load(&requests));
+    report = -1;
+}
+
+// A program that has threads may end by this, and then nothing is called at its end.
+void _exit(int status) {
+    end();
+    syscall(SYS_exit_group, status);
+    __builtin_unreachable();
+}
+
+static int refused(void) {
+    unsigned long request = atomic_fetch_add(&requests, 1) + 1;
+    return first != 0 && first <= request && request <= last;
+}
+
+static void *none(void) {
+    errno = ENOMEM;
+    return NULL;
+}
+
+void *malloc(size_t size) { return refused() ? none() : __libc_malloc(size); }
+void *calloc(size_t count, size_t size) { return refused() ? none() : __libc_calloc(count, size); }
+void *realloc(void *old, size_t size) { return refused() ? none() : __libc_realloc(old, size); }
+void *memalign(size_t align, size_t size) { return refused() ? none() : __libc_memalign(align, size); }
+void *aligned_alloc(size_t align, size_t size) { return refused() ? none() : __libc_memalign(align, size); }
+
+int posix_memalign(void **result, size_t align, size_t size) {
+    void *found = refused() ? NULL : __libc_memalign(align, size);
+    if (!found)
+        return ENOMEM;
+    *result = found;
+    return 0;
+}
+
+int pthread_create(pthread_t *thread, const pthread_attr_t *attributes, void *(*body)(void *), void *argument) {
+    return refused() ? EAGAIN : start(thread, attributes, body, argument);
+}
