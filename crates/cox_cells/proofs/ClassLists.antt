@@ -43,7 +43,8 @@ module _ (classes : List ℕ) (n : ℕ) where
     some = omega (arith, length-more list n);
     rising = λ j k less l. ⊎_elim
         (λ (old : k < length list). rw (number-old list n j (omega (arith, less, old)), number-old list n k old) (h.rising j k less old))
-        (λ (new : k ≡ length list). rw (number-old list n j (omega (arith, less, new)), number-new list n k new) (h.before j (omega (arith, less, new))))
+        (λ (new : k ≡ length list). rw (number-old list n j (omega (arith, less, new)), number-new list n k new)
+        (h.before j (omega (arith, less, new))))
         (number_cases list n k l);
     before = λ m l. ⊎_elim
         (λ (old : m < length list). omega (arith, number-old list n m old, h.before m old))
@@ -85,7 +86,8 @@ module _ (size : ℕ) (classes : List ℕ) (least : (i : ℕ) → i < size → I
         (push_cases lists (n ∷ []) k l);
     whole = λ i l. ⊎_elim
         (λ (old : i < n). rw (get_or-set_other places n (slice_index classes i) (length lists) 0
-        (λ e. let c = class-most i (omega (arith, old, inside)) in omega (arith, c, e, old))) (still i (number_at places (slice_index classes i)) (h.whole i old)))
+        (λ e. let c = class-most i (omega (arith, old, inside)) in omega (arith, c, e, old)))
+        (still i (number_at places (slice_index classes i)) (h.whole i old)))
         (λ (new : n ≤ i). let e : i ≡ n = omega (arith, new, l) in rw (e, own, get_or-set_same places n (length lists) 0 room) last)
         (cases_lt i n);
   }
@@ -118,7 +120,8 @@ module _ (size : ℕ) (classes : List ℕ) (least : (i : ℕ) → i < size → I
   class-is : (other : slice_index classes n ≢ n) → slice_index classes n ≡ least_at lists (number_at places (slice_index classes n))
   class-is other =
       let p = class-listed other in let c = least n inside
-      in sym c.member ∙ ap (slice_index classes) (sym p.is) ∙ (h.each (number_at places (slice_index classes n)) p.within).class p.place p.inside
+      in sym c.member ∙ ap (slice_index classes) (sym p.is) ∙ (h.each (number_at places (slice_index classes n)) p.within).class p.place
+      p.inside
 
   pub gathered-extend : slice_index classes n ≢ n → AreGathered classes (suc n) places
       (slice_set lists (number_at places (slice_index classes n)) (list_at lists (number_at places (slice_index classes n)) ++ n ∷ []))
@@ -130,7 +133,8 @@ module _ (size : ℕ) (classes : List ℕ) (least : (i : ℕ) → i < size → I
         each = λ k m. ⊎_elim
             (λ (e : k ≡ p). rw (e, at_p) (list-extend classes n (list_at lists p) (h.each p l) own))
             (λ (ne : k ≢ p). rw (at_other k ne) (list-more classes n (list_at lists k) (h.each k (within k m)))) (cases_eq k p);
-        in_order = λ j k less m. rw (least-same j (within j (omega (arith, less, m))), least-same k (within k m)) (h.in_order j k less (within k m));
+        in_order = λ j k less m. rw (least-same j (within j (omega (arith, less, m))), least-same k (within k m))
+            (h.in_order j k less (within k m));
         whole = λ i m. ⊎_elim
             (λ (old : i < n). still i (number_at places (slice_index classes i)) (h.whole i old))
             (λ (new : n ≤ i). let e : i ≡ n = omega (arith, new, m) in rw (e, p_is) last) (cases_lt i n);
@@ -156,7 +160,8 @@ module _ (size : ℕ) (classes : List ℕ) (least : (i : ℕ) → i < size → I
             place = q.place;
             inside = ⊎_elim
                 (λ (e : k ≡ p). rw (e, at_p) (let old : q.place < length (list_at lists p) = rw e at q.inside
-                in let longer : q.place < length (list_at lists p ++ n ∷ []) = omega (arith, old, length-more (list_at lists p) n) in longer))
+                in let longer : q.place < length (list_at lists p ++ n ∷ []) = omega (arith, old, length-more (list_at lists p) n) in
+                longer))
                 (λ (ne : k ≢ p). rw (at_other k ne) q.inside) (cases_eq k p);
             is = ⊎_elim
                 (λ (e : k ≡ p). let old : q.place < length (list_at lists p) = rw e at q.inside
@@ -169,6 +174,7 @@ module _ (size : ℕ) (classes : List ℕ) (least : (i : ℕ) → i < size → I
           last = record {
             within = omega (arith, l, length-set lists p (list_at lists p ++ n ∷ []));
             place = length (list_at lists p);
-            inside = rw at_p (let longer : length (list_at lists p) < length (list_at lists p ++ n ∷ []) = omega (arith, length-more (list_at lists p) n) in longer);
+            inside = rw at_p (let longer : length (list_at lists p) < length (list_at lists p ++ n ∷ []) = omega
+                (arith, length-more (list_at lists p) n) in longer);
             is = rw at_p (number-new (list_at lists p) n (length (list_at lists p)) refl);
           }

@@ -1,5 +1,6 @@
 -- Among finitely many elements it is decided whether a chain of steps leads from one to another.
-use Rattle.std.proofs.Common.{◌≡◌, ℕ, zero, suc, ◌+◌, ◌≤◌, ◌<◌, ◌⊎◌, inl, inr, Bool, true, false, ◌||◌, ◌&&◌, List, [], ◌∷◌, ℤ, pos, negsuc, refl}
+use Rattle.std.proofs.Common.{◌≡◌, ℕ, zero, suc, ◌+◌, ◌≤◌, ◌<◌, ◌⊎◌, inl, inr, Bool, true, false, ◌||◌, ◌&&◌, List, [], ◌∷◌, ℤ, pos}
+use Rattle.std.proofs.Common.{negsuc, refl}
 use Rattle.std.proofs.Common.{⊎_elim, nat_eq, arith}
 use Rattle.std.specs.Cmp.Lexicographic.{pointwise, bytes_decides}
 use Rattle.std.proofs.lemmas.Bool.{cases_lt}
@@ -149,7 +150,8 @@ module _ (A : IntegerMatrix) (g : IsAdmissible A) where
         (λ (direct : leads zs x c ≡ true). ⊎_elim
         (λ (on : leads zs c y ≡ true). or-first (leads zs x y) (leads zs x z && leads zs z y) (leads-join zs c x y i direct on))
         (λ (by : (leads zs c z && leads zs z y) ≡ true). let b = and-both (leads zs c z) (leads zs z y) by
-        in or-second (leads zs x y) (leads zs x z && leads zs z y) (both-and (leads zs x z) (leads zs z y) (leads-join zs c x z i direct b.0) b.1))
+        in or-second (leads zs x y) (leads zs x z && leads zs z y)
+        (both-and (leads zs x z) (leads zs z y) (leads-join zs c x z i direct b.0) b.1))
         (or-either (leads zs c y) (leads zs c z && leads zs z y) t))
         (λ (way : (leads zs x z && leads zs z c) ≡ true). let a = and-both (leads zs x z) (leads zs z c) way
         in or-second (leads zs x y) (leads zs x z && leads zs z y) (both-and (leads zs x z) (leads zs z y) a.0 (⊎_elim
@@ -171,7 +173,8 @@ module _ (A : IntegerMatrix) (g : IsAdmissible A) where
         in chain-join kind A (chain-of zs (λ w i. all w (there i)) x z (all z here) b.0) (chain-of zs (λ w i. all w (there i)) z y e b.1))
         (or-either (leads zs x y) (leads zs x z && leads zs z y) t)
 
-    pub leads-by : (zs : List (List ℕ)) → ((z : List ℕ) → IsElement A z → In z zs) → {x y : List ℕ} → Precedes kind A x y → leads zs x y ≡ true
+    pub leads-by : (zs : List (List ℕ)) → ((z : List ℕ) → IsElement A z → In z zs) → {x y : List ℕ} → Precedes kind A x y
+        → leads zs x y ≡ true
     leads-by zs all (Precedes.itself x) = leads-itself zs x
     leads-by zs all (Precedes.onward x y w s c) =
         leads-join zs y x w (all y s.neighbour.element) (leads-step zs x y (step-by x y s)) (leads-by zs all c)

@@ -63,7 +63,8 @@ module _ (kind : CellKind) (e : Elements) (all : IsListOf (IsElement (integer_ma
 
     -- and the other way round
     same-class : (i j : ℕ) → i < length e.members → j < length e.members
-        → IsInCell kind (integer_matrix e.matrix) (word_at e.members i) (word_at e.members j) → slice_index classes i ≡ slice_index classes j
+        → IsInCell kind (integer_matrix e.matrix) (word_at e.members i) (word_at e.members j)
+        → slice_index classes i ≡ slice_index classes j
     same-class i j l m c = (are i j l m).1 (reaches-by c.forth i j l m refl refl, reaches-by c.back j i m l refl refl)
 
     same-list : (j k : ℕ) → j < length lists → k < length lists → least_at lists j ≡ least_at lists k → j ≡ k
@@ -82,12 +83,14 @@ module _ (kind : CellKind) (e : Elements) (all : IsListOf (IsElement (integer_ma
     })
 
     words-list : (k : ℕ) → k < length lists
-        → IsListOf (IsInCell kind (integer_matrix e.matrix) (word_at e.members (least_at lists k))) (map (word_at e.members) (list_at lists k))
+        → IsListOf (IsInCell kind (integer_matrix e.matrix) (word_at e.members (least_at lists k)))
+        (map (word_at e.members) (list_at lists k))
     words-list k l = record {
       rising = λ i m less b.
           let n : m < length (list_at lists k) = omega (arith, b, length-map (list_at lists k) (word_at e.members))
           in rw (word-in k i (omega (arith, less, n)), word-in k m n)
-          (all.rising (number_at (list_at lists k) i) (number_at (list_at lists k) m) ((h.each k l).rising i m less n) ((h.each k l).before m n));
+          (all.rising (number_at (list_at lists k) i) (number_at (list_at lists k) m) ((h.each k l).rising i m less n)
+          ((h.each k l).before m n));
       sound = λ y c. sound y (contains-placed (map (word_at e.members) (list_at lists k)) y c);
       whole = λ y c. whole y c (contains-placed e.members y (all.whole y c.element));
     }
@@ -125,13 +128,20 @@ module _ (kind : CellKind) (e : Elements) (all : IsListOf (IsElement (integer_ma
       each = All-map (IsCell kind (integer_matrix e.matrix)) (map (word_at e.members)) lists
           (λ k d l. rw (get_or_default lists k d [] l) (cell-is k l));
       rising = λ j k less l.
-          let m : k < length lists = omega (arith, l, length-map (map (map (word_at e.members)) lists) first_of, length-map lists (map (word_at e.members)))
+          let m : k < length lists = omega (
+            arith,
+            l,
+            length-map (map (map (word_at e.members)) lists) first_of,
+            length-map lists
+                (map (word_at e.members)),
+          )
           in rw (first-at j (omega (arith, less, m)), first-at k m)
           (all.rising (least_at lists j) (least_at lists k) (h.in_order j k less m) (least-within k m));
       whole = λ x d. whole x (contains-placed e.members x (all.whole x d));
     }
       where
-        first-at : (k : ℕ) → k < length lists → word_at (map first_of (map (map (word_at e.members)) lists)) k ≡ word_at e.members (least_at lists k)
+        first-at : (k : ℕ) → k < length lists → word_at (map first_of (map (map (word_at e.members)) lists)) k ≡ word_at e.members
+            (least_at lists k)
         first-at k l =
             get_or-map first_of (map (map (word_at e.members)) lists) k [] [] (omega (arith, l, length-map lists (map (word_at e.members))))
             ∙ ap first_of (get_or-map (map (word_at e.members)) lists k [] [] l) ∙ first-word k l

@@ -20,7 +20,8 @@ pub record IsFirst (kind : CellKind) (A : IntegerMatrix) (x : List ℕ) : Type 0
 
 module _ (kind : CellKind) (A : IntegerMatrix) where
   -- the first word of a cell comes before the others
-  first-before : (cell : List (List ℕ)) → IsCell kind A cell → (y : List ℕ) → IsPlaced cell y → (first_of cell ≡ y) ⊎ IsBefore (first_of cell) y
+  first-before : (cell : List (List ℕ)) → IsCell kind A cell → (y : List ℕ) → IsPlaced cell y → (first_of cell ≡ y)
+      ⊎ IsBefore (first_of cell) y
   first-before cell c y p = ⊎_elim
       (λ (some : 0 < p.i). inr (rw (sym p.is) (rising-before cell 0 p.i c.all.rising some p.within)))
       (λ (none : p.i ≤ 0). let z : p.i ≡ 0 = omega arith in inl (rw z at p.is)) (cases_lt 0 p.i)
@@ -55,7 +56,8 @@ module _ (kind : CellKind) (A : IntegerMatrix) where
     firsts = record {
       rising = h.rising;
       sound = λ x c.
-          let p = contains-placed (map first_of cells) x c in let l : p.i < length cells = omega (arith, p.within, length-map cells first_of)
+          let p = contains-placed (map first_of cells) x c in let l : p.i < length cells = omega
+          (arith, p.within, length-map cells first_of)
           in rw (sym p.is ∙ word-of p.i l) (first-is (slice_index_or cells p.i []) (cell-at p.i l));
       whole = λ x f. listed x f (h.whole x f.element);
     }
@@ -66,7 +68,12 @@ module _ (kind : CellKind) (A : IntegerMatrix) where
             let same : slice_index_or cells k [] ≡ cell = get_or_default cells k [] cell l ∙ e
             in let c : IsCell kind A cell = rw (sym same) (cell-at k l)
             in placed-contains (map first_of cells) x
-            (record { i = k; within = omega (arith, l, length-map cells first_of); is = word-of k l ∙ ap first_of same ∙ only-first cell c x f there })
+            (record {
+              i = k;
+              within = omega (arith, l, length-map cells first_of);
+              is = word-of k l ∙ ap first_of same
+                  ∙ only-first cell c x f there;
+            })
 
   pub one_list : (cells others : List (List (List ℕ))) → AreCells kind A cells → AreCells kind A others → cells ≡ others
   one_list cells others p q = ext_get_or [] cells others size at

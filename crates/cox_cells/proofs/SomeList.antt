@@ -87,7 +87,8 @@ module _ (kind : CellKind) (A : IntegerMatrix) (g : IsAdmissible A) (elements : 
   }
     where
       words : map first_of (map cell_of firsts) ≡ firsts
-      words = ext_get_or [] (map first_of (map cell_of firsts)) firsts (length-map (map cell_of firsts) first_of ∙ length-map firsts cell_of)
+      words = ext_get_or [] (map first_of (map cell_of firsts)) firsts
+          (length-map (map cell_of firsts) first_of ∙ length-map firsts cell_of)
           (λ k l. let m : k < length firsts = omega (arith, l, length-map (map cell_of firsts) first_of, length-map firsts cell_of)
           in get_or-map first_of (map cell_of firsts) k [] [] (omega (arith, m, length-map firsts cell_of))
           ∙ ap first_of (get_or-map cell_of firsts k [] [] m) ∙ first-same (word_at firsts k) (first-at k m).passes)

@@ -24,7 +24,8 @@ module _ (kind : CellKind) (e : Elements) where
       last = λ k l. absurd (omega (arith, l));
     }
 
-    pub step-is : (k : ℕ) → k < length ends → HasOwn kind (integer_matrix e.matrix) (word_at e.members n) (word_at e.members (edge_at ends k).to)
+    pub step-is : (k : ℕ) → k < length ends → HasOwn kind (integer_matrix e.matrix) (word_at e.members n)
+        (word_at e.members (edge_at ends k).to)
         → IsNumberedStep kind e n (edge_at ends k).to
     step-is k l own = record { within = are.within k l; joined = ((edge_at ends k).value, are.edge k l); own = own }
 

@@ -81,7 +81,8 @@ module _ (e : Elements) (g : IsAdmissible (integer_matrix e.matrix)) where
 
 module _ (e : Elements) (g : IsAdmissible (integer_matrix e.matrix)) (closed : IsClosed (integer_matrix e.matrix) e.members) where
   -- the lengths of members
-  member-length : (i : ℕ) → i < length e.members → word_length (integer_matrix e.matrix) (word_at e.members i) ≡ length (word_at e.members i)
+  member-length : (i : ℕ) → i < length e.members → word_length (integer_matrix e.matrix) (word_at e.members i) ≡ length
+      (word_at e.members i)
   unfolding word_length
   member-length i l = ap length (closed.element (word_at e.members i) (contains-at e.members i l)).normal
 
@@ -93,7 +94,8 @@ module _ (e : Elements) (g : IsAdmissible (integer_matrix e.matrix)) (closed : I
   module _ (values : ℕ → ℕ → ℤ) (are : AreValues e values) where
     pub undirected : AreUndirected (length e.members) values
     undirected = record {
-      both = λ a b l m. edge-unique (integer_matrix e.matrix) g (word_at e.members a) (word_at e.members b) (values a b) (values b a) (are a b l m)
+      both = λ a b l m. edge-unique (integer_matrix e.matrix) g (word_at e.members a) (word_at e.members b) (values a b) (values b a)
+          (are a b l m)
           (edge-symmetric (integer_matrix e.matrix) g (word_at e.members b) (word_at e.members a) (values b a) (are b a m l));
       loops = λ a l. edge-loop (integer_matrix e.matrix) g (word_at e.members a) (values a a) (are a a l l);
     }
@@ -118,5 +120,6 @@ module _ (e : Elements) (g : IsAdmissible (integer_matrix e.matrix)) (closed : I
       where
         within : (k : ℕ) → k < length numbers → number_at numbers k < j
         within k m = ⊎_elim (λ (less : number_at numbers k < j). less)
-            (λ (h : j ≤ number_at numbers k). absurd (mus.some k m (mu-short (integer_matrix e.matrix) g (word_at e.members (number_at numbers k)) (word_at e.members j)
+            (λ (h : j ≤ number_at numbers k). absurd (mus.some k m
+            (mu-short (integer_matrix e.matrix) g (word_at e.members (number_at numbers k)) (word_at e.members j)
             (value_at list k) (no-shorter j (number_at numbers k) h (mus.within k m)) (mus.value k m)))) (cases_lt (number_at numbers k) j)

@@ -27,7 +27,8 @@ module _ (e : Elements) (g : IsAdmissible (integer_matrix e.matrix)) (ends : Lis
   start-is start first later = ⊎_elim
       (λ (some : 0 < i). let q : i - 1 + 1 ≡ i = omega (arith, some)
       in later some ∙ h.ends_at (i - 1) (omega (arith, l, h.size)) ∙ ap (start_of h.values (length e.members)) q)
-      (λ (none : i ≤ 0). let z : i ≡ 0 = omega arith in first z ∙ sym (total-zero (λ b. rank (h.values b) (length e.members))) ∙ ap (start_of h.values (length e.members)) (sym z)) (cases_lt 0 i)
+      (λ (none : i ≤ 0). let z : i ≡ 0 = omega arith in first z ∙ sym (total-zero (λ b. rank (h.values b) (length e.members)))
+      ∙ ap (start_of h.values (length e.members)) (sym z)) (cases_lt 0 i)
 
   pub end-is : slice_index_or ends i 0 ≡ start_of h.values (length e.members) i + rank (h.values i) (length e.members)
   end-is =
@@ -50,14 +51,16 @@ module _ (e : Elements) (g : IsAdmissible (integer_matrix e.matrix)) (ends : Lis
     count_is = omega (arith, start_is, end_is, end-is)
 
     size : length (take (end - start) (drop start edges)) ≡ rank (h.values i) (length e.members)
-    size = length-take-le (end - start) (drop start edges) (omega (arith, length-drop start edges, start_is, end_is, end-is, end-within)) ∙ count_is
+    size = length-take-le (end - start) (drop start edges) (omega (arith, length-drop start edges, start_is, end_is, end-is, end-within))
+        ∙ count_is
 
     -- the edge with a rank
     placed-at : (b : ℕ) → b < length e.members → h.values i b ≢ pos 0
         → edge_at (take (end - start) (drop start edges)) (rank (h.values i) b) ≡ record { to = b; value = h.values i b }
     placed-at b m some =
         let less : rank (h.values i) b < rank (h.values i) (length e.members) = rank-less (h.values i) b (length e.members) m some
-        in get_or-take (end - start) (drop start edges) (rank (h.values i) b) (record { to = 0; value = pos 0 }) (omega (arith, less, count_is))
+        in get_or-take (end - start) (drop start edges) (rank (h.values i) b) (record { to = 0; value = pos 0 })
+        (omega (arith, less, count_is))
         ∙ get_or-drop start edges (rank (h.values i) b) (record { to = 0; value = pos 0 })
         ∙ ap (λ n. edge_at edges (n + rank (h.values i) b)) start_is
         ∙ h.placed.at i b l m some less
@@ -91,7 +94,8 @@ module _ (e : Elements) (g : IsAdmissible (integer_matrix e.matrix)) (ends : Lis
       within = λ k m. let p = at k m in omega (arith, ap (λ (d : Edge). d.to) p.is, p.within);
       edge = λ k m. let p = at k m in rw p.is (edge_of p.to p.within p.some);
       whole = λ j m lj is.
-          let e_is : h.values i j ≡ m = edge-unique (integer_matrix e.matrix) g (word_at e.members i) (word_at e.members j) (h.values i j) m (h.are i j l lj) is.value
+          let e_is : h.values i j ≡ m = edge-unique (integer_matrix e.matrix) g (word_at e.members i) (word_at e.members j) (h.values i j)
+          m (h.are i j l lj) is.value
           in let some : h.values i j ≢ pos 0 = λ z. is.some (sym e_is ∙ z)
           in (
             rank (h.values i) j,
@@ -119,8 +123,10 @@ module _ (A : IntegerMatrix) (members : List (List ℕ)) (i : ℕ) (edges : List
 
   joined-at : (k : ℕ) → k < length edges → word_at (map (λ j. j.element) (joined_of members edges)) k ≡ word_at members (edge_at edges k).to
   joined-at k l =
-      get_or-map (λ (j : Joined). j.element) (joined_of members edges) k (record { element = []; value = pos 0 }) [] (omega (arith, l, length-map edges (joined_by members)))
-      ∙ ap (λ (j : Joined). j.element) (get_or-map (joined_by members) edges k (record { to = 0; value = pos 0 }) (record { element = []; value = pos 0 }) l)
+      get_or-map (λ (j : Joined). j.element) (joined_of members edges) k (record { element = []; value = pos 0 }) []
+      (omega (arith, l, length-map edges (joined_by members)))
+      ∙ ap (λ (j : Joined). j.element) (get_or-map (joined_by members) edges k (record { to = 0; value = pos 0 })
+      (record { element = []; value = pos 0 }) l)
 
   neighbour-at : (k : ℕ) → k < length edges → IsNeighbour A (word_at members i) (word_at members (edge_at edges k).to)
   neighbour-at k l = record {
@@ -135,7 +141,8 @@ module _ (A : IntegerMatrix) (members : List (List ℕ)) (i : ℕ) (edges : List
           let n : k < length edges = omega (arith, m, joined-size)
           in rw (joined-at j (omega (arith, less, n)), joined-at k n)
           (all.rising (edge_at edges j).to (edge_at edges k).to (h.rising j k less n) (h.within k n));
-      sound = λ y c. let p = contains-placed (map (λ j. j.element) (joined_of members edges)) y c in let n : p.i < length edges = omega (arith, p.within, joined-size)
+      sound = λ y c. let p = contains-placed (map (λ j. j.element) (joined_of members edges)) y c in let n : p.i < length edges = omega
+          (arith, p.within, joined-size)
           in rw (sym p.is ∙ joined-at p.i n) (neighbour-at p.i n);
       whole = λ y b. whole y b (contains-placed members y (all.whole y b.element)) b.joined;
     };

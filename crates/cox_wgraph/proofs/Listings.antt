@@ -1,5 +1,6 @@
 -- A finite group has one listing of its W-graph on each side.
-use Rattle.std.proofs.Common.{◌≡◌, ℕ, ◌<◌, Bool, true, false, not, List, [], ◌∷◌, length, map, filter, slice_index_or, ℤ, pos, refl, sym, ap}
+use Rattle.std.proofs.Common.{◌≡◌, ℕ, ◌<◌, Bool, true, false, not, List, [], ◌∷◌, length, map, filter, slice_index_or, ℤ, pos, refl, sym}
+use Rattle.std.proofs.Common.{ap}
 use Rattle.std.proofs.Common.{◌∙◌, ◌↔◌, arith}
 use Rattle.std.specs.Ordering.{int_eq}
 use Rattle.std.proofs.lemmas.Bool.Decides.{Decides-int_eq}
@@ -49,7 +50,8 @@ module _ (A : IntegerMatrix) (g : IsAdmissible A) where
           let same : IsEdgeValue A x j.element o.value = rw e (q.values k (record { element = []; value = pos 0 }) m)
           in joined-path j o e (edge-unique A g x j.element j.value o.value (p.values k (record { element = []; value = pos 0 }) l) same)
 
-  pub one_listing : (side : Side) (vertices others : List Vertex) → AreVertices side A vertices → AreVertices side A others → vertices ≡ others
+  pub one_listing : (side : Side) (vertices others : List Vertex) → AreVertices side A vertices → AreVertices side A others
+      → vertices ≡ others
   one_listing side vertices others p q = ext_get_or (record { element = []; label = []; joined = [] }) vertices others size at
     where
       words : map (λ (v : Vertex). v.element) vertices ≡ map (λ (v : Vertex). v.element) others

@@ -14,7 +14,8 @@ use Rattle.cox_cells.proofs.NumberedCells.{cells-are}
 use Rattle.cox_cells.proofs.components.cells.Goals as goal
 
 pub returns-clause-within : goal.returns-clause-within
-returns-clause-within c = IfOk-weaker c.gather.result _ _ (λ (cells : Vec (Vec ℕ)) lists. within cells.items lists.0 lists.1) c.gather.ensures
+returns-clause-within c = IfOk-weaker c.gather.result _ _ (λ (cells : Vec (Vec ℕ)) lists. within cells.items lists.0 lists.1)
+    c.gather.ensures
   where
     size : length c.deref.result.now ≡ length c.args.graph.now.members
     size = omega (arith, c.deref.ensures.len, c.in_ok-classes.ensures.size, c.in_ok-steps.ensures.vertices)

@@ -20,7 +20,8 @@ loop-i-preserved c =
     elim c.if-class-i.branch [
       | then-class-i+in_ok-begin w ↦
           let l : c.loop-i.i < length c.loop-i.places.items = omega (arith, c.loop-i.invariant.size, c.loop-i-test.true) in
-          let h : AreGathered c.args.classes.now (suc c.loop-i.i) (slice_set c.loop-i.places.items c.loop-i.i (length (lists_of c.loop-i.cells.items)))
+          let h : AreGathered c.args.classes.now (suc c.loop-i.i)
+          (slice_set c.loop-i.places.items c.loop-i.i (length (lists_of c.loop-i.cells.items)))
           (lists_of c.loop-i.cells.items ++ (c.loop-i.i ∷ []) ∷ []) =
           gathered-begin (length c.args.classes.now) c.args.classes.now c.requires.least c.loop-i.i c.loop-i-test.true c.loop-i.places.items
           (lists_of c.loop-i.cells.items) c.loop-i.invariant.gathered w.if-class-i.true l
@@ -38,10 +39,12 @@ loop-i-preserved c =
       | else-class-i+in_ok-extend w ↦
           let read : w.index.result.now ≡ number_at c.loop-i.places.items (slice_index c.args.classes.now c.loop-i.i) =
           get_or_read c.loop-i.places.items (slice_index c.args.classes.now c.loop-i.i) w.index.result.now
-          (let vertex = (c.requires.least c.loop-i.i c.loop-i-test.true).vertex in omega (arith, vertex, c.loop-i.invariant.size)) w.index.ensures 0 in
+          (let vertex = (c.requires.least c.loop-i.i c.loop-i-test.true).vertex in omega (arith, vertex, c.loop-i.invariant.size))
+          w.index.ensures 0 in
           record {
             gathered = rw (next, w.cells-is, w.places-is, w.in_ok-extend.ensures, read)
-                (gathered-extend (length c.args.classes.now) c.args.classes.now c.requires.least c.loop-i.i c.loop-i-test.true c.loop-i.places.items
+                (gathered-extend (length c.args.classes.now) c.args.classes.now c.requires.least c.loop-i.i c.loop-i-test.true
+                c.loop-i.places.items
                 (lists_of c.loop-i.cells.items) c.loop-i.invariant.gathered w.if-class-i.false);
             size = ap (λ (v : Vec ℕ). length v.items) w.places-is ∙ c.loop-i.invariant.size;
           }

@@ -19,7 +19,8 @@ loop-edge-preserved c =
     elim c.if-has_own.branch [
       | then-has_own+in_ok-add w ↦ record {
         vertices = ap vertices_of w.steps-is ∙ w.add.ensures.vertices ∙ c.loop-edge.invariant.vertices;
-        steps = rw (next, w.steps-is, w.in_ok-add.ensures.edges) (steps-add c.args.kind c.args.graph.now c.args.i c.edges-edge-items.result.now
+        steps = rw (next, w.steps-is, w.in_ok-add.ensures.edges)
+            (steps-add c.args.kind c.args.graph.now c.args.i c.edges-edge-items.result.now
             c.edges-edge-items.ensures.edges (edges_of c.loop-edge.steps) c.loop-edge.edge-index c.loop-edge-test.true
             (c.has_own.ensures.0 w.if-has_own.true) c.loop-edge.invariant.steps);
       }
@@ -27,7 +28,8 @@ loop-edge-preserved c =
         vertices = ap vertices_of w.steps-is ∙ c.loop-edge.invariant.vertices;
         steps = rw (next, w.steps-is) (steps-skip c.args.kind c.args.graph.now c.args.i c.edges-edge-items.result.now
             c.edges-edge-items.ensures.edges (edges_of c.loop-edge.steps) c.loop-edge.edge-index c.loop-edge-test.true
-            (λ own. let yes : IsTrue c.has_own.result = c.has_own.ensures.1 own in let no = w.if-has_own.false in absurd (cc)) c.loop-edge.invariant.steps);
+            (λ own. let yes : IsTrue c.has_own.result = c.has_own.ensures.1 own in let no = w.if-has_own.false in absurd (cc))
+            c.loop-edge.invariant.steps);
       }
     ]
 

@@ -14,7 +14,8 @@ returns c = (
         none = λ d. b.lacks ((c.label_set-2.ensures b.bit).1 d);
       },
   λ h.
-      let l = side-letter (integer_matrix c.args.graph.now.matrix) c.len-len.ensures.admissible c.args.side (word_at c.args.graph.now.members c.args.i)
+      let l = side-letter (integer_matrix c.args.graph.now.matrix) c.len-len.ensures.admissible c.args.side
+      (word_at c.args.graph.now.members c.args.i)
       h.letter h.descent in
       let e : h.letter - 1 + 1 ≡ h.letter = omega (arith, l.from_one)
       in c.has_beyond.ensures.1 (record {

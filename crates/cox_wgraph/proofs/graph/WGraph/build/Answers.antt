@@ -30,11 +30,13 @@ put_edges-requires-clause-none g c =
     let admissible : IsAdmissible (integer_matrix e.matrix) = rw c.requires.rows c.len-len.ensures.admissible in
     let len : c.len-len.result ≡ length e.members = rw c.requires.rows c.len-len.ensures.len
     in put-start e admissible c.count_edges.new.counts.items c.add_up-total.new.counts.items c.in_ok-edges.edges.items c.len-len.result len
-    c.count_edges.ensures c.add_up-total.ensures.sums (omega (arith, c.in_ok-edges.ensures.len, c.in_ok-edges.edges.ok.0, c.add_up-total.ensures.total))
+    c.count_edges.ensures c.add_up-total.ensures.sums (omega
+    (arith, c.in_ok-edges.ensures.len, c.in_ok-edges.edges.ok.0, c.add_up-total.ensures.total))
 
 pub invariant_of-result : goal.invariant_of-result
 invariant_of-result g c =
     let e = g.L.LowerRows.elements c.args.rows.now in
     let admissible : IsAdmissible (integer_matrix e.matrix) = rw c.requires.rows c.len-len.ensures.admissible in
     let len : c.len-len.result ≡ length e.members = rw c.requires.rows c.len-len.ensures.len
-    in rw (← c.requires.rows) (graph-of_put e admissible c.put_edges.new.next.items c.put_edges.new.edges.items c.len-len.result len c.put_edges.ensures)
+    in rw (← c.requires.rows) (graph-of_put e admissible c.put_edges.new.next.items c.put_edges.new.edges.items c.len-len.result len
+    c.put_edges.ensures)

@@ -13,7 +13,13 @@ part-requires-clause-start c =
     c.start-start.result c.start-start.ensures.first (rw c.deref.ensures.value at c.start-start.ensures.later) in
     let end : c.index.result.now ≡ slice_index_or c.self.inside.ends.items c.args.i 0 =
     get_or_read c.self.inside.ends.items c.args.i c.index.result.now (omega (arith, l, c.self.invariant.size)) c.index.ensures 0
-    in omega (arith, start, end, end-is e c.len-len.ensures.admissible c.self.inside.ends.items c.self.inside.edges.items c.self.invariant c.args.i l)
+    in omega (
+      arith,
+      start,
+      end,
+      end-is e c.len-len.ensures.admissible c.self.inside.ends.items c.self.inside.edges.items c.self.invariant
+          c.args.i l,
+    )
 
 pub part-requires-clause-end : goal.part-requires-clause-end
 part-requires-clause-end c =
@@ -22,7 +28,12 @@ part-requires-clause-end c =
     let end : c.index.result.now ≡ slice_index_or c.self.inside.ends.items c.args.i 0 =
     get_or_read c.self.inside.ends.items c.args.i c.index.result.now (omega (arith, l, c.self.invariant.size)) c.index.ensures 0
     in rw c.deref-2.ensures.value
-    (omega (arith, end, end-within e c.len-len.ensures.admissible c.self.inside.ends.items c.self.inside.edges.items c.self.invariant c.args.i l))
+    (omega (
+      arith,
+      end,
+      end-within e c.len-len.ensures.admissible c.self.inside.ends.items c.self.inside.edges.items c.self.invariant
+          c.args.i l,
+    ))
 
 pub returns-clause-edges : goal.returns-clause-edges
 returns-clause-edges c =
@@ -36,4 +47,5 @@ returns-clause-edges c =
     c.self.inside.edges.items c.self.invariant c.args.i l c.start-start.result c.index.result.now start end)
 
 pub returns-clause-joined : goal.returns-clause-joined
-returns-clause-joined c all = joined-of_edges (integer_matrix c.args.self.now.matrix) c.args.self.now.members c.args.i c.part.result.now (returns-clause-edges c) all
+returns-clause-joined c all = joined-of_edges (integer_matrix c.args.self.now.matrix) c.args.self.now.members c.args.i c.part.result.now
+    (returns-clause-edges c) all
