@@ -8,10 +8,13 @@
 //!
 //! - `arguments`: the arguments of the program, as texts
 //! - `tests`: whole runs over sources and sinks in memory
+//! - `given_up`: a test on a row that a worker gave up
 //! - `workers`: whole runs with several workers, one of them behind a gate
 #![tactic(auto)]
 
 mod arguments;
+#[cfg(test)]
+mod given_up;
 #[cfg(test)]
 mod tests;
 #[cfg(test)]

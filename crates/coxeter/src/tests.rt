@@ -1,13 +1,15 @@
 //! Whole runs over sources and sinks in memory, and the arguments of an environment.
 
 use crate::arguments::arguments_of;
-use cox_outside::{Got, MemorySink, MemorySource, Source};
+use cox_outside::{Got, MemorySink, MemorySource, Open, Source};
 use cox_shell::{Status, run_one};
 use std::alloc::{AllocError, Global};
 use std::env::FillError;
 use std::process::Abort;
 use std::rt::Env;
+use std::sync::Wait;
 use std::test::Fail;
+use std::thread::Threads;
 
 /// Scripts, what has to be written and how the run has to end.
 const ANSWERS: &[(&str, &str, Status)] = &[
@@ -168,6 +170,7 @@ const FIRST_LINES: &[(&str, &str)] = &[
     ("type G 2\nlcells\n", "4\n"),
     ("type A 4\nlcells\n", "26\n"),
     ("type A 4\nlrcells\n", "7\n"),
+    ("type F 4\nlrcells\n", "11\n"),
     (
         "matrix 2 0\nklbasis 121212121212121212121212121212121212121212121\n",
         "90\n",
@@ -283,6 +286,13 @@ const LONG_WORDS: &[(&str, &str, usize, &str, &str)] = &[
     ("matrix 2 0\ncompute ", "12", 128, "\n", "error 17\n"),
     ("matrix 3 0 0 0\nlength ", "123", 85, "\n", "255\n"),
     (
+        "matrix 9 0 0 0 0 0 0 0 0 0 0 0 0 0 0 0 0 0 0 0 0 0 0 0 0 0 0 0 0 0 0 0 0 0 0 0 0\nlength 123",
+        "456789123",
+        28,
+        "\n",
+        "255\n",
+    ),
+    (
         "matrix 3 0 0 0\nbetti 1",
         "21",
         5,
@@ -304,6 +314,12 @@ const LONG_WORDS: &[(&str, &str, usize, &str, &str)] = &[
 const LONGEST: &[(&str, &str, usize, &str)] = &[
     ("matrix 2 0\n", "12", 127, "1"),
     ("matrix 3 0 0 0\n", "123", 85, ""),
+    (
+        "matrix 9 0 0 0 0 0 0 0 0 0 0 0 0 0 0 0 0 0 0 0 0 0 0 0 0 0 0 0 0 0 0 0 0 0 0 0 0\n",
+        "123456789",
+        28,
+        "123",
+    ),
 ];
 
 /// Scripts by their first bytes, the size that they are filled up to, the byte for that, and their
@@ -348,6 +364,13 @@ struct Run<'a> {
     room: usize,
 }
 
+/// Arguments that set the number of workers.
+const WORKERS: &[&[&str]] = &[
+    &["coxeter", "--workers", "1"],
+    &["coxeter", "--workers", "2"],
+    &["coxeter", "--workers", "16"],
+];
+
 /// A run without options, in which nothing fails, and each call moves one byte.
 fn plain(script: &[u8]) -> Run<'_> {
     Run {
@@ -360,15 +383,36 @@ fn plain(script: &[u8]) -> Run<'_> {
     }
 }
 
-/// How a run ends, and the sink that it wrote to.
-fn end_of(alloc: Global, run: Run) -> Result<(Status, MemorySink), AllocError> {
+/// The source and the sink of a run.
+fn outside_of(alloc: Global, run: Run) -> Result<(MemorySource, MemorySink), AllocError> {
     let script = run.script.to_vec(alloc)?;
     let reads = one_call(alloc, run.failing_read)?;
     let writes = one_call(alloc, run.failing_write)?;
-    let mut source = MemorySource::new(script, run.piece.max(1), reads);
-    let mut sink = MemorySink::new(alloc, run.room, 1, writes)?;
+    let source = MemorySource::new(script, run.piece.max(1), reads);
+    Ok((source, MemorySink::new(alloc, run.room, 1, writes)?))
+}
+
+/// How a run ends, and the sink that it wrote to.
+fn end_of(alloc: Global, run: Run) -> Result<(Status, MemorySink), AllocError> {
+    let (mut source, mut sink) = outside_of(alloc, run)?;
     let status = run_one(alloc, run.words, &mut source, &mut sink);
     Ok((status, sink))
+}
+
+/// The same by one thread, and then by workers, so many as each of `WORKERS` says.
+fn ends_of<R: Threads + Wait + Sync>(
+    rt: &R,
+    alloc: Global,
+    run: Run,
+) -> Result<Vec<(Status, MemorySink)>, AllocError> {
+    let mut ends = Vec::new(alloc);
+    ends.push(end_of(alloc, run)?)?;
+    for words in WORKERS {
+        let (mut source, mut sink) = outside_of(alloc, run)?;
+        let status = cox_shell::run(rt, alloc, words, &mut source, &mut sink, &Open);
+        ends.push((status, sink))?;
+    }
+    Ok(ends)
 }
 
 /// The list of one call, or of none at 0.
@@ -394,7 +438,7 @@ fn answers(rt: HostRuntime) -> Result<(), Fail> {
 fn first_lines(rt: HostRuntime) -> Result<(), Fail> {
     for (script, first) in FIRST_LINES {
         let run = Run {
-            room: 10_000,
+            room: 20_000,
             ..plain(script.as_bytes())
         };
         let (ended, sink) = end_of(rt.alloc(), run)?;
@@ -486,6 +530,33 @@ fn r_of_long_words(rt: HostRuntime) -> Result<(), Fail> {
             written.as_bytes(),
             "{count} letters in {group}"
         );
+    }
+    Ok(())
+}
+
+/// In the infinite dihedral group 510 elements are below a word of 255 letters: all shorter ones, and itself.
+#[test]
+fn intervals_of_the_longest_word(rt: HostRuntime) -> Result<(), Fail> {
+    let alloc = rt.alloc();
+    let top = repeated(alloc, "12", 255)?;
+    let mut script = b"matrix 2 0\ncoatoms ".to_vec(alloc)?;
+    script.extend_from_slice(&top)?;
+    script.extend_from_slice(b"\nklbasis ")?;
+    script.extend_from_slice(&top)?;
+    let mut written = b"2\n".to_vec(alloc)?;
+    written.extend_from_slice(&repeated(alloc, "12", 254)?)?;
+    written.push(b'\n')?;
+    written.extend_from_slice(&repeated(alloc, "21", 254)?)?;
+    written.extend_from_slice(b"\n510\ne:1\n1:1\n2:1\n12:1\n")?;
+    let refused = b"error 31\nerror 31\n".as_slice();
+    for (context, written) in [("510", written.as_slice()), ("509", refused)] {
+        let run = Run {
+            words: &["coxeter", "--context", context],
+            room: 100_000,
+            ..plain(&script)
+        };
+        let (_, sink) = end_of(alloc, run)?;
+        assert!(rt; sink.bytes().starts_with(written), "{context} members");
     }
     Ok(())
 }
@@ -608,9 +679,10 @@ fn failing_reads(rt: HostRuntime) -> Result<(), Fail> {
             failing_read,
             ..plain(SCRIPT)
         };
-        let (ended, sink) = end_of(rt.alloc(), run)?;
-        assert_eq!(rt; ended, Status::ReadFault, "at read {failing_read}");
-        assert_eq!(rt; sink.bytes(), written, "at read {failing_read}");
+        for (ended, sink) in &ends_of(&rt, rt.alloc(), run)? {
+            assert_eq!(rt; *ended, Status::ReadFault, "at read {failing_read}");
+            assert_eq!(rt; sink.bytes(), written, "at read {failing_read}");
+        }
     }
     Ok(())
 }
@@ -623,20 +695,22 @@ fn failing_writes(rt: HostRuntime) -> Result<(), Fail> {
             failing_write: taken + 1,
             ..plain(SCRIPT)
         };
-        let (ended, sink) = end_of(rt.alloc(), run)?;
         let status = match taken {
             6 => Status::Done,
             _ => Status::WriteFault,
         };
-        assert_eq!(rt; ended, status, "after {taken} bytes");
-        assert_eq!(rt; sink.bytes(), &answer[..taken as usize]);
+        for (ended, sink) in &ends_of(&rt, rt.alloc(), run)? {
+            assert_eq!(rt; *ended, status, "after {taken} bytes");
+            assert_eq!(rt; sink.bytes(), &answer[..taken as usize]);
+        }
     }
     let run = Run {
         room: 5,
         ..plain(SCRIPT)
     };
-    let (ended, sink) = end_of(rt.alloc(), run)?;
-    assert_eq!(rt; ended, Status::WriteFault);
-    assert_eq!(rt; sink.bytes(), &answer[..5]);
+    for (ended, sink) in &ends_of(&rt, rt.alloc(), run)? {
+        assert_eq!(rt; *ended, Status::WriteFault);
+        assert_eq!(rt; sink.bytes(), &answer[..5]);
+    }
     Ok(())
 }
