@@ -20,7 +20,8 @@ use Rattle.cox_shell.specs.declared.serving.Served.TheVariants as now_served
 use Rattle.cox_shell.specs.Reply.{Reply}
 use Rattle.cox_shell.specs.Answer.{AreReplies, texts, has_quit, bytes_of}
 use Rattle.cox_shell.specs.Run.{Stand, IsServed, IsCutOff, Serves}
-use Rattle.cox_shell.specs.Outcome.{HasRead, WritesPrefix, WritesAll, StopsThere, AnswersAll, AnswersToFault, AnswersToLimit, Runs}
+use Rattle.cox_shell.specs.Outcome.{HasRead, WritesPrefix, WritesAll, StopsThere, IsCutShort, AnswersAll, AnswersToFault, AnswersToLimit}
+use Rattle.cox_shell.specs.Outcome.{Runs}
 use Rattle.cox_shell.proofs.KnownValues.{IfSome-made, IfSome-each, IfSome-follows}
 use Rattle.cox_shell.proofs.Replies.{AreReplies-one, AreReplies-quit}
 use Rattle.cox_shell.proofs.NoLines.{no_lines-end, no_lines-limit}
@@ -188,26 +189,32 @@ ends_at_fault refused old now next going p m same =
 
 -- a reply was cut off; where it needed more than there was room for, so did the replies
 pub ends_cut_off : (refused : Bool) (old now next : Stand) → now.stop ≡ None → Progress refused old now → (cut : IsCutOff now next)
-    → (part : WritesPrefix old next)
-    × (IfSome now.out.room (λ left. left < length cut.reply.text) → IfSome old.out.room (λ left. left < length (texts part.replies)))
+    → (short : IsCutShort old next)
+    × (IfSome now.out.room (λ left. left < length cut.reply.text) → IfSome old.out.room (λ left. left < length (texts short.part.replies)))
 ends_cut_off refused old now next going p cut =
     let lines : List (List ℕ) = p.lines ++ cut.taken.line ∷ [] in
     let replies : List Reply = p.done ++ cut.reply ∷ [] in
-    let joined : texts replies ≡ texts p.done ++ cut.reply.text = texts-push p.done cut.reply in (
+    let joined : texts replies ≡ texts p.done ++ cut.reply.text = texts-push p.done cut.reply in
+    let read : TakenLines lines next.stop old.ahead next.ahead =
+    TakenLines-append p.lines (cut.taken.line ∷ []) next.stop old.ahead now.ahead next.ahead
+    (going_lines refused old now going p) (TakenLines-one next.stop cut.taken.line now.ahead next.ahead cut.taken.takes) in (
       record {
-        lines = lines;
-        has_read = HasRead-taken lines next.stop old.ahead next.ahead
-            (TakenLines-append p.lines (cut.taken.line ∷ []) next.stop old.ahead now.ahead next.ahead
-            (going_lines refused old now going p) (TakenLines-one next.stop cut.taken.line now.ahead next.ahead cut.taken.takes));
-        replies = replies;
-        are_replies = p.says (cut.taken.line ∷ []) (cut.reply ∷ []) (AreReplies-one now.state cut.taken.line cut.reply cut.taken.is_reply);
-        prefix = texts p.done ++ cut.prefix;
-        is_prefix = (
-          cut.is_prefix.0,
-          joined ∙ ap (λ t. texts p.done ++ t) cut.is_prefix.1
-              ∙ sym (append_assoc (texts p.done) cut.prefix cut.is_prefix.0),
-        );
-        writes = Writes-append (texts p.done) cut.prefix old.out now.out next.out p.writes cut.writes;
+        part = record {
+          lines = lines;
+          has_read = HasRead-taken lines next.stop old.ahead next.ahead read;
+          replies = replies;
+          are_replies = p.says (cut.taken.line ∷ []) (cut.reply ∷ [])
+              (AreReplies-one now.state cut.taken.line cut.reply cut.taken.is_reply);
+          prefix = texts p.done ++ cut.prefix;
+          is_prefix = (
+            cut.is_prefix.0,
+            joined ∙ ap (λ t. texts p.done ++ t) cut.is_prefix.1
+                ∙ sym (append_assoc (texts p.done) cut.prefix cut.is_prefix.0),
+          );
+          writes = Writes-append (texts p.done) cut.prefix old.out now.out next.out p.writes cut.writes;
+        };
+        few = StopsThere-taken lines replies next.stop old.ahead next.ahead read
+            (as_many-push p.done p.lines cut.reply cut.taken.line p.as_many);
       },
       λ small. IfSome-made (λ left. left + length (texts p.done))
           (λ left. left < length (texts replies)) old.out.room now.out.room p.writes.room

@@ -1,7 +1,6 @@
 -- The texts of single polynomials of a row, and of mu.
 use Rattle.std.proofs.Common.{◌≡◌, ℕ, ◌-◌, ◌/◌, ◌%◌, ◌==◌, ◌<◌, Bool, true, false, if◌then◌else◌, List, [], length, Contains, codes, ◌↔◌}
 use Rattle.std.proofs.Common.{Option, None, Some, IfSome, IfNone, IsSome}
-use Rattle.std.specs.Borrow.{Bor}
 use Rattle.std.proofs.Common.{ℤ, pos, refl, sym, ap, ◌∙◌}
 use Rattle.std.specs.Fmt.{signed_decimal}
 use Rattle.cox_base.specs.IntegerMatrix.{IntegerMatrix}

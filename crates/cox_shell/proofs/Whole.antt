@@ -19,9 +19,9 @@ use Rattle.cox_shell.specs.Reply.{Limits, State, Reply, opening}
 use Rattle.cox_shell.specs.SessionLimits.{limits_of}
 use Rattle.cox_shell.specs.Answer.{AreReplies, texts, has_quit, script_lines, bytes_of}
 use Rattle.cox_shell.specs.Run.{Stand, stand}
-use Rattle.cox_shell.specs.Outcome.{Runs, WritesPrefix, WritesAll, StopsThere, AnswersAll}
+use Rattle.cox_shell.specs.Outcome.{Runs, WritesPrefix, WritesAll, StopsThere, IsCutShort, AnswersAll}
 use Rattle.cox_shell.specs.Top.{usage_line, given_limits, WritesAnswer, StopsReading, AnswersWhole, AnswersWithin, AreRead}
-use Rattle.cox_shell.specs.Top.{AnswersGiven, AreDue, IsDue, WritesDue, IsOverRoom, TakesWithin}
+use Rattle.cox_shell.specs.Top.{AnswersGiven, AreDue, StopsAtDue, IsDue, WritesDue, IsOverRoom, TakesWithin}
 use Rattle.cox_shell.proofs.KnownValues.{IfSome-unmade, IfSome-follows}
 
 -- a number that is given, as an integer
@@ -122,8 +122,8 @@ module _ (limits : Limits) (script : Option (List ℕ)) (old : Outlet) (state : 
   Runs-prefix Refused h = h.writes_prefix
   Runs-prefix Usage h = absurd h
   Runs-prefix ReadFault h = h.writes_prefix
-  Runs-prefix WriteFault h = h.0
-  Runs-prefix NoMemory h = h
+  Runs-prefix WriteFault h = h.0.part
+  Runs-prefix NoMemory h = h.part
   Runs-prefix InputLimit h = h.writes_prefix
 
   -- no more than the limit and one byte was read
@@ -144,6 +144,10 @@ module _ (limits : Limits) (script : Option (List ℕ)) (old : Outlet) (state : 
     ];
     are_replies = part.are_replies;
   }
+
+  -- where a write failed or memory ran out, little was read beyond the lines with these replies
+  pub IsCutShort-stops : IsCutShort begins ends → StopsAtDue limits script supply.left
+  IsCutShort-stops cut = (cut.part.replies, WritesPrefix-due cut.part, StopsThere-reading cut.part.replies cut.few)
 
 -- what is due for right arguments, and for wrong ones
 IsDue-replies : (arguments : List (List ℕ)) (script left : Option (List ℕ)) (replies : List Reply) → IsTaken arguments
@@ -168,16 +172,31 @@ Runs-due status arguments script old state reader supply new right runs =
       part.writes,
     )
 
+-- where nothing was read no reply is due
+AreDue-none : (limits : Limits) (script : Option (List ℕ)) → AreDue limits script script []
+AreDue-none limits script =
+    record { given = []; taken = sym (prepend_known-none script); lines = []; are_read = inl ([], refl); are_replies = refl }
+
+pub StopsAtDue-none : (limits : Limits) (script : Option (List ℕ)) → StopsAtDue limits script script
+StopsAtDue-none limits script = ([], AreDue-none limits script, ([], sym (prepend_known-none script), few script))
+  where
+    few : (known : Option (List ℕ)) → IfSome known (λ bytes. 0 < length (bytes_of (take 0 (script_lines bytes))) + CHUNK_SIZE)
+    few None = tt
+    few (Some bytes) = omega arith
+
 -- nothing was read, whatever the arguments are
 pub WritesDue-none : (arguments : List (List ℕ)) (script : Option (List ℕ)) (old : Outlet) → WritesDue arguments script script old old
 WritesDue-none arguments script old = by_arguments (is_refused arguments) refl
   where
-    nothing : AreDue (given_limits arguments) script script []
-    nothing = record { given = []; taken = sym (prepend_known-none script); lines = []; are_read = inl ([], refl); are_replies = refl }
-
     by_arguments : (b : Bool) → is_refused arguments ≡ b → WritesDue arguments script script old old
     by_arguments true wrong = (usage_line, [], IsDue-usage arguments script script wrong, (usage_line, refl), Writes-none old)
-    by_arguments false right = ([], [], IsDue-replies arguments script script [] right nothing, ([], refl), Writes-none old)
+    by_arguments false right = (
+      [],
+      [],
+      IsDue-replies arguments script script [] right (AreDue-none (given_limits arguments) script),
+      ([], refl),
+      Writes-none old,
+    )
 
 -- more was due than there was room for
 pub Runs-room : (arguments : List (List ℕ)) (script : Option (List ℕ)) (old : Outlet) (state : State) (reader : Reader) (supply : Supply)
@@ -185,12 +204,12 @@ pub Runs-room : (arguments : List (List ℕ)) (script : Option (List ℕ)) (old 
     → Runs WriteFault (beginning (given_limits arguments) script old) (stand state reader supply new)
     → IsOverRoom arguments script supply.left old.room
 Runs-room arguments script old state reader supply new right runs =
-    IfSome-follows (λ count. count < length (texts runs.0.replies))
+    IfSome-follows (λ count. count < length (texts runs.0.part.replies))
     (λ count. (text : List ℕ) × IsDue arguments script supply.left text × (count < length text)) old.room
     (λ count small. (
-      texts runs.0.replies,
-      IsDue-replies arguments script supply.left runs.0.replies right
-          (WritesPrefix-due (given_limits arguments) script old state reader supply new runs.0),
+      texts runs.0.part.replies,
+      IsDue-replies arguments script supply.left runs.0.part.replies right
+          (WritesPrefix-due (given_limits arguments) script old state reader supply new runs.0.part),
       small,
     )) runs.1
 

@@ -1,5 +1,5 @@
 -- The contract of a whole run, from the run over the lines, or from what was written of the usage line.
-use Rattle.std.proofs.Common.{◌≡◌, inl, inr, ◌<◌, ◌≤◌, ℕ, true, false, List, [], length, Option, None, Some, refl, sym, ◌∙◌, arith}
+use Rattle.std.proofs.Common.{◌≡◌, ⊎_elim, inl, inr, ◌<◌, ◌≤◌, ℕ, true, false, List, [], length, Option, None, Some, refl, sym, ◌∙◌, arith}
 use Rattle.std.specs.Prelude.{IfSome, IsSomeAnd}
 use Rattle.std.proofs.lemmas.List.{append-nil}
 use Rattle.cox_outside.specs.declared.limits.TheConstants.{INPUT_LIMIT}
@@ -18,7 +18,7 @@ use Rattle.cox_shell.specs.Outcome.{Runs}
 use Rattle.cox_shell.specs.Top.{usage_line, given_limits, TakesWithin}
 use Rattle.cox_shell.specs.WholeRun.{IsRun}
 use Rattle.cox_shell.proofs.Whole.{beginning, Runs-given, AnswersAll-whole, Runs-within, Runs-takes, Runs-due, Runs-room}
-use Rattle.cox_shell.proofs.Whole.{WritesDue-none, IsDue-usage, IsOverRoom-usage}
+use Rattle.cox_shell.proofs.Whole.{WritesDue-none, IsDue-usage, IsOverRoom-usage, IsCutShort-stops, StopsAtDue-none}
 
 -- arguments are not both taken and wrong
 not-both : (arguments : List (List ℕ)) → IsTaken arguments → IsUsage arguments → ⊥
@@ -72,6 +72,9 @@ module _ (status : Status) (arguments : List (List ℕ)) (source : Supply) (stat
     write_fault = writes;
     prefix = Runs-due status arguments source.left old state reader left new right runs;
     room = λ e. Runs-room arguments source.left old state reader left new right (rw e at runs);
+    stops = λ which taken. ⊎_elim
+        (λ (e : status ≡ WriteFault). IsCutShort-stops (given_limits arguments) source.left old state reader left new (rw e at runs).0)
+        (λ (e : status ≡ NoMemory). IsCutShort-stops (given_limits arguments) source.left old state reader left new (rw e at runs)) which;
     within = Runs-takes (given_limits arguments) source.left old state reader left new status runs;
     complete = λ taken no_read no_write within. unhindered no_read no_write within;
   }
@@ -90,6 +93,7 @@ run-none arguments supply outlet = record {
   write_fault = refl;
   prefix = WritesDue-none arguments supply.left outlet;
   room = λ e. absurd (cc e);
+  stops = λ which taken. StopsAtDue-none (given_limits arguments) supply.left;
   within = takes-none supply.left;
   complete = λ taken no_read no_write within. tt;
 }
@@ -109,6 +113,7 @@ module _ (arguments : List (List ℕ)) (supply : Supply) (old new : Outlet) (wro
     write_fault = cause;
     prefix = (usage_line, usage_line, IsDue-usage arguments supply.left supply.left wrong, ([], sym (append-nil usage_line)), writes);
     room = λ e. absurd (cc e);
+    stops = λ which taken. absurd (not-both arguments taken wrong);
     within = takes-none supply.left;
     complete = λ taken no_read no_write within. not-both arguments taken wrong;
   }
@@ -126,6 +131,7 @@ module _ (arguments : List (List ℕ)) (supply : Supply) (old new : Outlet) (wro
     write_fault = cause;
     prefix = (usage_line, written, IsDue-usage arguments supply.left supply.left wrong, prefix, writes);
     room = λ e. IsOverRoom-usage arguments supply.left supply.left old.room wrong full;
+    stops = λ which taken. absurd (not-both arguments taken wrong);
     within = takes-none supply.left;
     complete = λ taken no_read no_write within. not-both arguments taken wrong;
   }

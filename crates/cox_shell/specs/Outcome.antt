@@ -42,6 +42,11 @@ pub record StopsThere (replies : List Reply) (old new : Ahead) : Type 0 where
   pub few : length new.pending < CHUNK_SIZE
   pub size : IfSome (lines_ahead old) (λ lines. length taken ≤ length (bytes_of (take (length replies) lines)))
 
+-- a prefix of the replies to the first lines that were read was written, and fewer bytes than a chunk were read beyond these lines
+pub record IsCutShort (old new : Stand) : Type 0 where
+  pub part : WritesPrefix old new
+  pub few : StopsThere part.replies old.ahead new.ahead
+
 -- there was a reply that ends the run, or the input was read to its end, and was within the budget
 abbrev pub EndsAll : List Reply → Ahead → Ahead → Type 0
 EndsAll replies old new = MatchBool (has_quit replies) (StopsThere replies old new)
@@ -78,6 +83,6 @@ Runs Done old new = AnswersAll false old new
 Runs Refused old new = AnswersAll true old new
 Runs Usage old new = ⊥
 Runs ReadFault old new = AnswersToFault old new
-Runs WriteFault old new = (cut : WritesPrefix old new) × IfSome old.out.room (λ left. left < length (texts cut.replies))
-Runs NoMemory old new = WritesPrefix old new
+Runs WriteFault old new = (cut : IsCutShort old new) × IfSome old.out.room (λ left. left < length (texts cut.part.replies))
+Runs NoMemory old new = IsCutShort old new
 Runs InputLimit old new = AnswersToLimit old new

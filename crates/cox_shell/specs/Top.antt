@@ -74,6 +74,10 @@ pub record AreDue (limits : Limits) (script left : Option (List ℕ)) (replies :
   pub are_read : AreRead lines given left
   pub are_replies : AreReplies (opening limits) lines replies
 
+-- there are replies that are due, and fewer bytes than a chunk were read beyond the lines that have them
+abbrev pub StopsAtDue : Limits → Option (List ℕ) → Option (List ℕ) → Type 0
+StopsAtDue limits script left = (replies : List Reply) × AreDue limits script left replies × StopsReading replies script left
+
 -- what is due: the replies to lines that were read, or the usage line for wrong arguments
 abbrev pub IsDue : List (List ℕ) → Option (List ℕ) → Option (List ℕ) → List ℕ → Type 0
 IsDue arguments script left text = MatchBool (is_refused arguments) (text ≡ usage_line)

@@ -8,7 +8,8 @@ use Rattle.cox_options.specs.Arguments.{IsTaken, IsUsage}
 use Rattle.cox_shell.specs.declared.status.Status.{Status}
 use Rattle.cox_shell.specs.declared.status.Status.TheVariants.{Done, Refused, Usage, ReadFault, WriteFault, NoMemory, InputLimit}
 use Rattle.cox_shell.specs.Status.{IsUnhindered, is_read_fault, is_write_fault}
-use Rattle.cox_shell.specs.Top.{usage_line, given_limits, AnswersWhole, AnswersWithin, AnswersGiven, WritesDue, IsOverRoom, TakesWithin}
+use Rattle.cox_shell.specs.Top.{usage_line, given_limits, AnswersWhole, AnswersWithin, AnswersGiven, WritesDue, IsOverRoom, StopsAtDue}
+use Rattle.cox_shell.specs.Top.{TakesWithin}
 
 -- a run with these arguments ended by this status, between what was known of the source and the sink before it and what is known after it
 pub record IsRun (status : Status) (arguments : List (List ℕ)) (source left : Supply) (old new : Outlet) : Type 0 where
@@ -28,6 +29,10 @@ pub record IsRun (status : Status) (arguments : List (List ℕ)) (source left : 
   -- was room for, if the sink tells its room.
   pub prefix : WritesDue arguments source.left left.left old new
   pub room : status ≡ WriteFault → IsOverRoom arguments source.left left.left old.room
+  -- Where a write failed or memory ran out, less than a chunk was read beyond lines whose replies are due. One that ends the run is the
+  -- last.
+  pub stops : (status ≡ WriteFault) ⊎ (status ≡ NoMemory) → IsTaken arguments
+      → StopsAtDue (given_limits arguments) source.left left.left
   -- No more is read than the limit and one byte.
   pub within : TakesWithin source.left left.left
   -- Without faults a script within the limit is answered, if there is memory.
