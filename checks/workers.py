@@ -1,0 +1,45 @@
+#!/usr/bin/env python3
+"""Runs scripts over and over with 1 to 16 workers: the bytes and the status are the same each time.
+
+    checks/workers.py [--times N] [PROGRAM]
+
+Each script is run N times, 100 if nothing is said, with each number of workers. What has to come out is what the program
+writes with no option, which one thread answers. It prints what differs, and a last line with counts; the exit status is 1
+where something differs. It needs Python 3 alone, takes some minutes, and is no part of the gate.
+"""
+import argparse
+import subprocess
+
+from common import Count, program
+
+# Whole groups, whose rows several workers share; single rows, dealt out as chains; rows that are kept from line to line; and refusals.
+SCRIPTS = [
+    "type A 4\nlrcells\nwork 7 20\n",
+    "type B 3\nklbasis 123212\nlcells\npol e 321323\nrwgraph\nextremals 12321\n",
+    "matrix 3 3 3 3\nklbasis 123123123\nmu 1 123123\nihbetti 321321321\nlcells\ntype D 4\nlrcells\npol 3 3431234\n",
+]
+
+
+def main():
+    """Runs all of them."""
+    parser = argparse.ArgumentParser(description=__doc__, formatter_class=argparse.RawDescriptionHelpFormatter)
+    parser.add_argument("--times", type=int, default=100)
+    parser.add_argument("program", nargs="*")
+    given = parser.parse_args()
+    built = program(given.program)
+    count = Count()
+
+    def answer(script, *words):
+        ran = subprocess.run([built, *words], input=script.encode(), stdout=subprocess.PIPE)
+        return ran.returncode, ran.stdout
+
+    for script in SCRIPTS:
+        want = answer(script)
+        for workers in range(1, 17):
+            for _ in range(given.times):
+                count.check(f"{script!r} with {workers} workers", answer(script, "--workers", str(workers)), want)
+    count.end("runs")
+
+
+if __name__ == "__main__":
+    main()
