@@ -1,11 +1,11 @@
 -- how many labels stand before a row, and the places of labels
-pub mod Places
+pub mod LabelPlaces
 -- the labels and the entries of a Coxeter matrix, case by case
 pub mod Entries
 -- the integer matrix of a Coxeter matrix is admissible
-pub mod Admissible
+pub mod AdmissibleMatrices
 -- the labels of the named types, row by row
-pub mod Rows
+pub mod LabelRows
 -- the first element that passes a test
 pub mod Positions
 -- numerals of one and two digits

@@ -13,7 +13,7 @@ use Rattle.cox_fill_core.specs.declared.event.Reply.{Reply}
 use Rattle.cox_fill_core.specs.Fill.{Fill, put, is_free, opening_core, after, reply, noticed, after_tell}
 use Rattle.cox_fill_core.specs.Fill.{after_claim, after_publication, after_void}
 use Rattle.cox_fill_core.specs.Good.{IsGood}
-use Rattle.cox_fill_core.proofs.Steps.{after_good}
+use Rattle.cox_fill_core.proofs.EventCases.{after_good}
 use Rattle.cox_fill_core.proofs.Marks.{all_replicate}
 use Rattle.cox_claims.specs.declared.view.View.{View}
 use Rattle.cox_claims.specs.declared.table.Claimed.{Claimed}

@@ -10,7 +10,7 @@ use Rattle.cox_claims.specs.declared.view.View.{View}
 use Rattle.cox_claims.specs.Knowledge.{holds, saw_published, saw_void, saw_claimed, has_published, has_voided, caused, IsKnown}
 use Rattle.cox_claims.specs.Knowledge.{nothing, won, published, voided}
 use Rattle.cox_claims.specs.Rule.{IsKept}
-use Rattle.cox_claims.proofs.Rows.{among_else, among-without_same, among-without_other}
+use Rattle.cox_claims.proofs.RowTests.{among_else, among-without_same, among-without_other}
 
 -- a value of a changed function: the new one, or an old one
 pub at_put : {X : Type 0} (P : X → Type 0) (f : ℕ → X) (a : ℕ) (w : X) (b : ℕ) → (b ≡ a → P w) → (b ≢ a → P (f b)) → P (put f a w b)

@@ -1,5 +1,5 @@
 -- lists of rows as functions of rows
-pub mod Rows
+pub mod RowTests
 -- what a look, a split and a meeting do to a view
 pub mod Views
 -- the rule on states and views is kept

@@ -11,7 +11,7 @@ use Rattle.cox_claims.specs.declared.view.View.{View}
 use Rattle.cox_claims.specs.Knowledge.{among, without, holds, saw_published, nothing, looked, won, published, voided, parted, told, joined}
 use Rattle.cox_claims.specs.Rule.{IsKept}
 use Rattle.cox_claims.specs.Events.{IsShown}
-use Rattle.cox_claims.proofs.Rows.{among-without_same, among-without_other, among-append}
+use Rattle.cox_claims.proofs.RowTests.{among-without_same, among-without_other, among-append}
 use Rattle.cox_claims.proofs.Keeps.{at_put}
 use Rattle.cox_claims.proofs.Views.{looked_did}
 

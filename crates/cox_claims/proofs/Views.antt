@@ -5,7 +5,7 @@ use Rattle.cox_fill_core.specs.declared.event.RowState.{RowState}
 use Rattle.cox_claims.specs.declared.view.View.{View}
 use Rattle.cox_claims.specs.Knowledge.{among, saw_published, saw_void, saw_claimed, caused, IsKnown}
 use Rattle.cox_claims.specs.Knowledge.{SeesAll, nothing, looked, noted, won, published, voided, parted, told, joined}
-use Rattle.cox_claims.proofs.Rows.{among-append}
+use Rattle.cox_claims.proofs.RowTests.{among-append}
 
 -- ---- a look
 

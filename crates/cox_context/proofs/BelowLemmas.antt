@@ -23,7 +23,7 @@ use Rattle.cox_context.proofs.SetLemmas.{has_letter-bit}
 use Rattle.cox_reflect.proofs.Roots.{left_descent-letter, descent-letter}
 use Rattle.cox_base.specs.ShortLex.{letters}
 use Rattle.cox_context.proofs.ListLemmas.{rising-place}
-use Rattle.cox_context.proofs.Places.{place-within}
+use Rattle.cox_context.proofs.ShiftPlaces.{place-within}
 use Rattle.cox_context.proofs.RightShifts.{first-letter}
 use Rattle.cox_context.proofs.Shifting.{length-at, first-member, shift-less, right_shift-less, descent-member, right_descent-member}
 

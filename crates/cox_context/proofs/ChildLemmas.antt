@@ -21,11 +21,11 @@ use Rattle.cox_context.specs.declared.members.TheConstants.{MAX_MEMBERS}
 use Rattle.cox_context.specs.Members.{IsElement}
 use Rattle.cox_context.specs.Closed.{IsClosed}
 use Rattle.cox_context.specs.Numbers.{word_at, IsNumberOf}
-use Rattle.cox_context.specs.Family.{IsMember, IsBelowTop, IsMeant}
+use Rattle.cox_context.specs.WantedMembers.{IsMember, IsBelowTop, IsMeant}
 use Rattle.cox_context.specs.Growth.{IsGrowing, IsChild, IsOutside, IsNext, IsNoNext, known, above, outside, AreBelowTop, AreNumbers}
 use Rattle.cox_context.proofs.ListLemmas.{contains-placed, placed-contains, rising-place}
 use Rattle.cox_context.proofs.ListLemmas.{word_at-old, word_at-new, length-push, push_cases}
-use Rattle.cox_context.proofs.Places.{entry-old, entry-new, entry_number-some}
+use Rattle.cox_context.proofs.ShiftPlaces.{entry-old, entry-new, entry_number-some}
 use Rattle.cox_context.specs.declared.builder.Child.{Child}
 use Rattle.cox_context.specs.declared.shifts.TheConstants.{NO_MEMBER}
 use Rattle.cox_context.specs.Shifts.{entry, entry_number}

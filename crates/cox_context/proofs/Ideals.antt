@@ -18,7 +18,7 @@ use Rattle.cox_reflect.proofs.ShortLexFirst.{IsBefore-cons, normal_form-comes_fi
 use Rattle.cox_reflect.proofs.Bruhat.{below-trans, below-ascent, below-least}
 use Rattle.cox_context.specs.Members.{IsElement, IsInInterval, IsInUnion}
 use Rattle.cox_context.specs.Closed.{IsClosed}
-use Rattle.cox_context.specs.Family.{IsMember}
+use Rattle.cox_context.specs.WantedMembers.{IsMember}
 use Rattle.cox_context.proofs.GrowthLemmas.{IsTailed}
 
 -- a property of elements that goes over to each element below

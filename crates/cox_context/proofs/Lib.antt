@@ -11,19 +11,19 @@ pub mod Ideals
 -- a list of members as it grows, letter by letter and length by length
 pub mod GrowthLemmas
 -- why a context is refused
-pub mod FaultLemmas
+pub mod RefusalLemmas
 -- the context of an interval or a group is closed downwards; a group with more elements has one of MAX_LETTERS + 1 letters
 pub mod ContextLemmas
 -- a context with the interval up to an element added
 pub mod Extensions
 -- where the entries of a table of shifts stand
-pub mod Places
+pub mod ShiftPlaces
 -- shifts of members: which are members, and which come before
 pub mod Shifting
 -- two letters in turn behind an element
 pub mod Rounds
 -- the row of a new member
-pub mod RowLemmas
+pub mod ShiftRowLemmas
 -- walks of members by two letters in turn
 pub mod LowerLemmas
 -- new elements below the top

@@ -16,7 +16,7 @@ use Rattle.cox_context.specs.Closed.{IsClosed}
 use Rattle.cox_context.specs.Numbers.{word_at, IsNumberOf}
 use Rattle.cox_context.specs.Shifts.{entry, entry_number, AreRightShifts}
 use Rattle.cox_context.proofs.Ideals.{element-tail}
-use Rattle.cox_context.proofs.Places.{place-one, entry-old, entry-new, entry_number-some}
+use Rattle.cox_context.proofs.ShiftPlaces.{place-one, entry-old, entry-new, entry_number-some}
 use Rattle.cox_context.proofs.Shifting.{element-at, right-parent}
 
 module _ (A : IntegerMatrix) (g : IsAdmissible A) (words : List (List ℕ)) (closed : IsClosed A words) where

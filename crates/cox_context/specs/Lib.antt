@@ -9,7 +9,7 @@ pub mod Refusal
 -- what holds of the members of a context
 pub mod Closed
 -- the elements that a context is to have
-pub mod Family
+pub mod WantedMembers
 -- members by links to those before them
 pub mod Links
 -- words by their numbers in a list

@@ -11,7 +11,7 @@ ghost use Rattle.cox_base.specs.IntegerMatrix.{IntegerMatrix, integer_matrix};
 ghost use Rattle.cox_base.specs.ShortLex.{normal_form};
 ghost use Rattle.cox_base.specs.Reduced.{IsLeftDescent};
 ghost use Rattle.cox_context.specs.Closed.{IsClosed};
-ghost use Rattle.cox_context.specs.Family.{IsMember, IsTop};
+ghost use Rattle.cox_context.specs.WantedMembers.{IsMember, IsTop};
 ghost use Rattle.cox_context.specs.Numbers.{word_at, IsNumberOf};
 ghost use Rattle.cox_context.specs.Growth.{IsGrowing, IsGrown, IsNext, IsNoNext, AreBelowTop, AreNumbers, AreLast};
 ghost use Rattle.cox_context.specs.Refusal.{IsPrefixOf, IsRefusal};

@@ -1,7 +1,7 @@
 //! The group, or the interval, whose elements a context has as members.
 ghost use Rattle.std.specs.Prelude.{◌≡◌};
 ghost use Rattle.cox_base.specs.IntegerMatrix.{integer_matrix};
-ghost use Rattle.cox_context.specs.Family.{top_descents};
+ghost use Rattle.cox_context.specs.WantedMembers.{top_descents};
 
 use cox_base::{Coxeter, Word};
 

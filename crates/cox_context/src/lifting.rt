@@ -11,7 +11,7 @@ ghost use Rattle.cox_context.specs.Closed.{IsClosed};
 ghost use Rattle.cox_context.specs.Numbers.{IsNumberOf};
 ghost use Rattle.cox_context.specs.Shifts.{entry, AreLeftShifts, IsLower};
 ghost use Rattle.cox_context.specs.Growth.{AreLower, AreBelowTop, remaining_word};
-ghost use Rattle.cox_context.specs.Family.{IsTop, IsBelowTop, IsMeant};
+ghost use Rattle.cox_context.specs.WantedMembers.{IsTop, IsBelowTop, IsMeant};
 
 use crate::family::Family;
 use crate::members::{MAX_MEMBERS, Members};

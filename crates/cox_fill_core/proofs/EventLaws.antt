@@ -13,7 +13,7 @@ use Rattle.cox_fill_core.specs.Laws.{IsForGood, IsPublishedForGood, IsVoidForGoo
 use Rattle.cox_fill_core.proofs.Points.{put_here, put_cases}
 use Rattle.cox_fill_core.proofs.Needs.{least_missing}
 use Rattle.cox_fill_core.proofs.Runs.{after_all-append}
-use Rattle.cox_fill_core.proofs.Steps.{claim_cases, void_cases, publish_cases, after_good}
+use Rattle.cox_fill_core.proofs.EventCases.{claim_cases, void_cases, publish_cases, after_good}
 
 opening_good : (needs : ℕ → List ℕ) → IsGood needs opening_core
 opening_good needs = record {

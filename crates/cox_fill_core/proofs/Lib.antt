@@ -3,7 +3,7 @@ pub mod Points
 -- the least row that is missing
 pub mod Needs
 -- each event keeps a good core good
-pub mod Steps
+pub mod EventCases
 -- lists of events
 pub mod Runs
 -- the laws, by what one event can change

@@ -37,7 +37,7 @@ pub mod TurnedR
 -- the operators of the Hecke algebra, without the sign
 pub mod OperatorLaws
 -- P(x,w) as a value
-pub mod Polynomials
+pub mod PolynomialValues
 -- step families
 pub mod StepFamilies
 -- which rows are needed

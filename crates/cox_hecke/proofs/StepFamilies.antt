@@ -15,7 +15,7 @@ use Rattle.cox_hecke.proofs.LeftSteps.{left-recursion, left-corrections_exist}
 use Rattle.cox_hecke.proofs.RightSteps.{right-recursion, right-corrections_exist}
 use Rattle.cox_hecke.proofs.Descents.{nat_lt-yes}
 use Rattle.cox_hecke.proofs.Descended.{All-from}
-use Rattle.cox_hecke.proofs.Polynomials.{kl_polynomial, kl_polynomial-is_row}
+use Rattle.cox_hecke.proofs.PolynomialValues.{kl_polynomial, kl_polynomial-is_row}
 
 module _ (A : IntegerMatrix) (g : IsAdmissible A) where
   pub recursion : (side : Side) (w : List ℕ) (s : ℕ) → IsDescent side A w s → (p : Family) → IsRow A (times_letter side s w) p

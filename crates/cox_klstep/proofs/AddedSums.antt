@@ -13,7 +13,7 @@ use Rattle.cox_poly.specs.Polynomial.{coefficient, HasSmallCoefficients, coeffic
 use Rattle.cox_poly.proofs.Norms.{absolute_after}
 use Rattle.cox_poly.proofs.Coefficients.{times_q_power_at}
 use Rattle.cox_hecke.specs.Row.{IsKazhdanLusztig}
-use Rattle.cox_hecke.proofs.Polynomials.{kl_polynomial-value, kl_polynomial-low, kazhdan_lusztig-unique, kazhdan_lusztig-outside}
+use Rattle.cox_hecke.proofs.PolynomialValues.{kl_polynomial-value, kl_polynomial-low, kazhdan_lusztig-unique, kazhdan_lusztig-outside}
 
 -- terms of 0
 pub none-scaled : (c : ℤ) (n : ℕ) (f : Coefficients) → ((k : ℕ) → f k ≡ pos 0) → (k : ℕ) → scaled c (times_q_power n f) k ≡ pos 0

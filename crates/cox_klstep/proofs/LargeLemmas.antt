@@ -8,7 +8,7 @@ use Rattle.cox_base.specs.Bruhat.{IsBelow}
 use Rattle.cox_poly.specs.Polynomial.{coefficient}
 use Rattle.cox_poly.specs.Limit.{IsWithin, AllWithin, IsFirstAbove}
 use Rattle.cox_hecke.specs.Row.{IsKazhdanLusztig}
-use Rattle.cox_hecke.proofs.Polynomials.{kazhdan_lusztig-unique, kazhdan_lusztig-outside}
+use Rattle.cox_hecke.proofs.PolynomialValues.{kazhdan_lusztig-unique, kazhdan_lusztig-outside}
 use Rattle.cox_context.specs.Numbers.{word_at}
 use Rattle.cox_klstep.specs.Limits.{IsLargeCoefficient}
 use Rattle.cox_klstep.specs.Faults.{IsFault, IsFaultAt}

@@ -17,7 +17,7 @@ use Rattle.cox_hecke.specs.Step.{times_letter, IsDescent, AreCorrections, step, 
 use Rattle.cox_hecke.proofs.Descents.{nat_lt-yes}
 use Rattle.cox_hecke.proofs.AllRows.{row_of, row_of-is, mu-same, kazhdan_lusztig-value}
 use Rattle.cox_hecke.proofs.Descended.{mu-below}
-use Rattle.cox_hecke.proofs.Polynomials.{kazhdan_lusztig-same}
+use Rattle.cox_hecke.proofs.PolynomialValues.{kazhdan_lusztig-same}
 use Rattle.cox_hecke.proofs.StepFamilies.{recursion}
 use Rattle.cox_context.specs.Closed.{IsClosed}
 use Rattle.cox_context.specs.Numbers.{word_at}

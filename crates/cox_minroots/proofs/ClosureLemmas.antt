@@ -22,7 +22,7 @@ use Rattle.cox_minroots.specs.declared.root.Root.{Root}
 use Rattle.cox_minroots.specs.Coordinates.{vector_of, weight, rise, CanTurn}
 use Rattle.cox_minroots.specs.RootLists.{no_root, root_at, root_of, coroot_of, IsInserted, there, last}
 use Rattle.cox_minroots.specs.Closure.{AreCoordinatesUpTo, AreSmall, HasSimple, HasStep, IsLonger, AreAllSmall}
-use Rattle.cox_minroots.proofs.CoordinateLemmas.{vector_of-at, pairing-weight, turned-coordinates}
+use Rattle.cox_minroots.proofs.CoordinateLists.{vector_of-at, pairing-weight, turned-coordinates}
 
 -- ---- lists
 

@@ -1,5 +1,5 @@
 -- lists of coordinates: the pairing by the weight, and the image under a letter
-pub mod CoordinateLemmas
+pub mod CoordinateLists
 -- roots as the keys of a set
 pub mod RootKeys
 -- lists of small roots: one more root, short steps, and when the list has all of them
@@ -9,17 +9,17 @@ pub mod Stepping
 -- the list of the simple roots, letter by letter
 pub mod SimpleRoots
 -- the steps of all roots, one root after the other
-pub mod Closing
+pub mod ClosingLoop
 -- the image of a small root under a letter is in a list of all of them
 pub mod Targets
 -- the table, and the number of small roots
 pub mod TableLemmas
 -- a walk over the table, from the last letter of a reduced word to the first
-pub mod Walks
+pub mod TableWalks
 -- products of reduced words by letters
 pub mod ProductLemmas
 -- normal forms and descents of reduced words, by exchanges
-pub mod FormLemmas
+pub mod ExchangeForms
 -- Bruhat order by lifting
 pub mod Lifting
 -- words by the side

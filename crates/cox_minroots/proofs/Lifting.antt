@@ -17,7 +17,7 @@ use Rattle.cox_reflect.proofs.Lengths.{IsReduced-prefix}
 use Rattle.cox_reflect.proofs.WordLemmas.{IsWord-prefix, IsWord-back}
 use Rattle.cox_reflect.proofs.Bruhat.{below-same, below-refl, below-length, lift_down_right, lift_up_right, below_reverse}
 use Rattle.cox_minroots.proofs.ProductLemmas.{reduced-remove, word-remove}
-use Rattle.cox_minroots.proofs.FormLemmas.{exchanged-descent, put_in-no_descent}
+use Rattle.cox_minroots.proofs.ExchangeForms.{exchanged-descent, put_in-no_descent}
 
 -- y <= w exactly where the element of small is below that of large
 pub record IsLifted (A : IntegerMatrix) (y w small large : List ℕ) : Type 0 where

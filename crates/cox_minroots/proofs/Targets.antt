@@ -29,7 +29,7 @@ use Rattle.cox_minroots.specs.RootLists.{no_root, root_at, root_of, coroot_of}
 use Rattle.cox_minroots.specs.Closure.{AreCoordinatesUpTo, AreAllSmall}
 use Rattle.cox_minroots.specs.declared.moves.TheConstants.{NEGATIVE, OUT}
 use Rattle.cox_minroots.specs.Moves.{IsMove}
-use Rattle.cox_minroots.proofs.CoordinateLemmas.{vector_of-letter, vector_of-at, pairing-weight}
+use Rattle.cox_minroots.proofs.CoordinateLists.{vector_of-letter, vector_of-at, pairing-weight}
 use Rattle.cox_minroots.proofs.ClosureLemmas.{closed-has, negative-product, rise-negative, rise-positive, factors, short, root-equal}
 use Rattle.cox_minroots.proofs.ClosureLemmas.{turned-root, turned-coroot}
 

@@ -9,7 +9,7 @@ pub mod Polynomials
 -- for code: a search for the last coefficient that is not 0
 pub mod Measured
 -- for code: a multiple added to sums, coefficient by coefficient
-pub mod Sums
+pub mod AddedMultiples
 -- one text behind another
 pub mod Behind
 -- for code: the terms of a polynomial, one by one

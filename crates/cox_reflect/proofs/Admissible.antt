@@ -6,8 +6,8 @@ use Rattle.cox_base.specs.Admissible.{IsCoxeterMatrix, HasOrder}
 use Rattle.cox_base.specs.IntegerMatrix.{entry_of}
 use Rattle.cox_base.specs.Admissible.{order_two, order_three, order_four, order_back_four, order_six, order_back_six}
 use Rattle.cox_base.proofs.Entries.{label-above, label-symmetric, entry_of-above, entry_of-below}
-use Rattle.cox_base.proofs.Admissible.{HasOrder-integer_matrix}
-pub use Rattle.cox_base.proofs.Admissible.{IsAdmissible-integer_matrix}
+use Rattle.cox_base.proofs.AdmissibleMatrices.{HasOrder-integer_matrix}
+pub use Rattle.cox_base.proofs.AdmissibleMatrices.{IsAdmissible-integer_matrix}
 use Rattle.cox_reflect.proofs.RankTwo.{HasOrder-swap}
 
 HasOrder-unique : {a b : ℤ} {m k : ℕ} → HasOrder a b m → HasOrder a b k → m ≡ k

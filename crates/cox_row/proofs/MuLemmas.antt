@@ -6,7 +6,7 @@ use Rattle.cox_base.specs.Element.{SameElement}
 use Rattle.cox_reflect.proofs.Search.{word_length-equal}
 use Rattle.cox_hecke.specs.Row.{IsMu}
 use Rattle.cox_hecke.proofs.AllRows.{mu-exists}
-use Rattle.cox_hecke.proofs.Polynomials.{kazhdan_lusztig-same}
+use Rattle.cox_hecke.proofs.PolynomialValues.{kazhdan_lusztig-same}
 
 module _ (A : IntegerMatrix) (g : IsAdmissible A) where
   pub mu-words : {x y v w : List ℕ} (m : ℤ) → SameElement A x y → SameElement A v w → IsMu A x v m → IsMu A y w m

@@ -8,7 +8,7 @@ use Rattle.cox_base.specs.Bruhat.{IsBelow}
 use Rattle.cox_reflect.proofs.Elements.{same-sym}
 use Rattle.cox_reflect.proofs.Search.{normal_form-same}
 use Rattle.cox_poly.proofs.Polynomials.{same_polynomial}
-use Rattle.cox_hecke.proofs.Polynomials.{kazhdan_lusztig-unique}
+use Rattle.cox_hecke.proofs.PolynomialValues.{kazhdan_lusztig-unique}
 use Rattle.cox_context.specs.Closed.{IsClosed}
 use Rattle.cox_context.specs.Numbers.{word_at}
 use Rattle.cox_context.proofs.ListLemmas.{contains-placed}

@@ -12,7 +12,7 @@ use Rattle.cox_reflect.proofs.Search.{normal_form-same, normal_form-equal, word_
 use Rattle.cox_reflect.proofs.Deletion.{left_length, right_length}
 use Rattle.cox_reflect.proofs.Roots.{left_descent-letter, descent-letter}
 use Rattle.cox_reflect.proofs.Bruhat.{below-same, below-length, below-equal_length, below-cons, below-push}
-use Rattle.cox_hecke.proofs.Polynomials.{kazhdan_lusztig-same, kazhdan_lusztig-left, kazhdan_lusztig-right}
+use Rattle.cox_hecke.proofs.PolynomialValues.{kazhdan_lusztig-same, kazhdan_lusztig-left, kazhdan_lusztig-right}
 use Rattle.cox_context.specs.Closed.{IsClosed}
 use Rattle.cox_context.specs.Numbers.{word_at, IsNumberOf}
 use Rattle.cox_context.proofs.ListLemmas.{rising-place, rising-length}

@@ -15,9 +15,9 @@ use Rattle.cox_hecke.proofs.SumLemmas.{same_or_not, not_same-is_same}
 use Rattle.cox_hecke.proofs.ElementLists.{below_or_not, below_list}
 use Rattle.cox_hecke.proofs.AllRows.{mu-exists, mu-unique}
 use Rattle.cox_hecke.proofs.Descended.{mu-below}
-use Rattle.cox_hecke.proofs.Polynomials.{kl_polynomial, kl_polynomial-is, kl_polynomial-low, kazhdan_lusztig-unique}
-use Rattle.cox_hecke.proofs.Polynomials.{kazhdan_lusztig-outside}
-use Rattle.cox_hecke.proofs.Polynomials.{kazhdan_lusztig-same}
+use Rattle.cox_hecke.proofs.PolynomialValues.{kl_polynomial, kl_polynomial-is, kl_polynomial-low, kazhdan_lusztig-unique}
+use Rattle.cox_hecke.proofs.PolynomialValues.{kazhdan_lusztig-outside}
+use Rattle.cox_hecke.proofs.PolynomialValues.{kazhdan_lusztig-same}
 use Rattle.cox_row.proofs.MuLemmas.{mu-words}
 use Rattle.cox_klstep.specs.declared.making.TheConstants.{MU_LIMIT}
 use Rattle.cox_klstep.specs.Limits.{IsLargeCoefficient, IsLargeMu}

@@ -9,7 +9,7 @@ use Rattle.cox_reflect.proofs.Bruhat.{below-length}
 use Rattle.cox_reflect.proofs.Lengths.{word_length-is}
 use Rattle.cox_reflect.proofs.NormalForm.{normal_form-no_descent}
 use Rattle.cox_reflect.proofs.Search.{word_length-length}
-use Rattle.cox_rpoly.specs.Element.{Naming}
+use Rattle.cox_rpoly.specs.ElementValues.{Naming}
 
 -- the words of an element have the same descents
 abbrev pub SameDescents : {X : Type 0} → Naming X → IntegerMatrix → Type 0

@@ -18,7 +18,7 @@ use Rattle.cox_reflect.proofs.Bruhat.{below-equal_length, below-length, below-sa
 use Rattle.cox_reflect.proofs.Elements.{same-refl, same-sym, same-trans, same-equal, same-cons, same-square}
 use Rattle.cox_reflect.proofs.Lengths.{word_length-is}
 use Rattle.cox_reflect.proofs.Search.{normal_form-same, normal_form-equal, word_length-equal, IsWord-normal_form}
-use Rattle.cox_rpoly.specs.Element.{IsElementBelow, is_of_form}
+use Rattle.cox_rpoly.specs.ElementValues.{IsElementBelow, is_of_form}
 
 any-range : (s a n : ℕ) → a ≤ s → s < a + n → list_any (λ y. nat_eq y s) (range_with_len a n) ≡ true
 any-range s a zero from to = absurd (omega arith)

@@ -16,7 +16,7 @@ use Rattle.cox_reflect.proofs.Lengths.{word_length-cons, cons-word_length}
 use Rattle.cox_reflect.proofs.Search.{word_length-equal, word_length-length}
 use Rattle.cox_rpoly.specs.declared.terms.Link.{Link}
 use Rattle.cox_rpoly.specs.declared.terms.Link.TheVariants.{Shorter, Longer}
-use Rattle.cox_rpoly.specs.Element.{Naming, IsShortElement}
+use Rattle.cox_rpoly.specs.ElementValues.{Naming, IsShortElement}
 use Rattle.cox_rpoly.specs.Layer.{IsInLayer, HasGained, Extends, IsTimesAt, IsLongerLink, IsLink, AreLinks}
 
 module _ {X : Type 0} where

@@ -13,7 +13,7 @@ use Rattle.cox_poly.proofs.Norms.{HasNormAtMost-coefficient}
 use Rattle.cox_rpoly.specs.declared.terms.Link.{Link}
 use Rattle.cox_rpoly.specs.declared.terms.Link.TheVariants.{Shorter, Longer}
 use Rattle.cox_rpoly.specs.RPolynomial.{r_along}
-use Rattle.cox_rpoly.specs.Element.{Naming}
+use Rattle.cox_rpoly.specs.ElementValues.{Naming}
 use Rattle.cox_rpoly.specs.Terms.{LeavesRoom, LeavesRoomAt, IsLinkWithin, numbered, linked_value, AreLinkedValues, AreOnes}
 use Rattle.cox_rpoly.specs.Layer.{IsInLayer, IsValue, AreLayerValues, IsAt, IsLongerLink, IsLink, AreLinks}
 use Rattle.cox_rpoly.proofs.AlongLemmas.{along-identity, along-shorter, along-longer, along-not_below, along-degree, along-norm}

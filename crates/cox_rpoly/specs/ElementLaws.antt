@@ -14,7 +14,7 @@ use Rattle.cox_reflect.proofs.HeightLemmas.{descent_from_heights, heights_at_des
 use Rattle.cox_reflect.proofs.Roots.{left_descent-letter}
 use Rattle.cox_reflect.proofs.Elements.{same-trans, same-sym, same-equal, same-cons}
 use Rattle.cox_reflect.proofs.Search.{normal_form-same, word_length-equal}
-use Rattle.cox_rpoly.specs.Element.{is_of_heights, is_of_form}
+use Rattle.cox_rpoly.specs.ElementValues.{is_of_heights, is_of_form}
 
 pub same_heights : (x y : Heights) → pointwise int_eq x.values y.values ≡ true → x ≡ y
 same_heights x y t =

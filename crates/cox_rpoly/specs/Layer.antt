@@ -10,7 +10,7 @@ use Rattle.cox_rpoly.specs.declared.TheConstants.{MAX_DIFFERENCE}
 use Rattle.cox_rpoly.specs.declared.terms.Link.{Link}
 use Rattle.cox_rpoly.specs.declared.terms.Link.TheVariants.{Shorter, Longer}
 use Rattle.cox_rpoly.specs.RPolynomial.{r_along}
-use Rattle.cox_rpoly.specs.Element.{Naming}
+use Rattle.cox_rpoly.specs.ElementValues.{Naming}
 use Rattle.cox_rpoly.specs.Terms.{numbered}
 
 -- an element below v, whose length is not too far from that of v

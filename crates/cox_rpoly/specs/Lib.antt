@@ -3,7 +3,7 @@ pub mod RPolynomial
 -- where they are not computed
 pub mod Depth
 -- for code: elements and their words
-pub mod Element
+pub mod ElementValues
 -- for code: laws of elements
 pub mod ElementLaws
 -- for code: values by links

@@ -5,7 +5,7 @@ ghost use Rattle.cox_base.specs.IntegerMatrix.{IntegerMatrix, integer_matrix};
 ghost use Rattle.cox_base.specs.Admissible.{IsAdmissible};
 ghost use Rattle.cox_base.specs.Reduced.{IsReduced, IsLeftDescent};
 ghost use Rattle.cox_base.specs.Bruhat.{IsBelow};
-ghost use Rattle.cox_rpoly.specs.Element.{IsElementBelow, IsShortElement};
+ghost use Rattle.cox_rpoly.specs.ElementValues.{IsElementBelow, IsShortElement};
 
 use cox_base::{MAX_LETTERS, Word, copy_word};
 use cox_reflect::{Heights, Words, below_reduced};
@@ -68,7 +68,7 @@ pub(crate) trait Element: Eq + Hash + Drop {
 
 impl Element for Heights {
     ghost use Rattle.std.specs.Prelude.{false};
-    ghost use Rattle.cox_rpoly.specs.Element.{is_of_heights};
+    ghost use Rattle.cox_rpoly.specs.ElementValues.{is_of_heights};
     ghost use Rattle.cox_rpoly.specs.ElementLaws.{same_heights, same_descents_by_heights};
 
     ghost is_of = { is_of_heights };
@@ -105,7 +105,7 @@ impl Element for Heights {
 
 impl Element for Word {
     ghost use Rattle.std.specs.Prelude.{true};
-    ghost use Rattle.cox_rpoly.specs.Element.{is_of_form};
+    ghost use Rattle.cox_rpoly.specs.ElementValues.{is_of_form};
     ghost use Rattle.cox_rpoly.specs.ElementLaws.{same_form, same_descents_by_form};
 
     ghost is_of = { is_of_form };

@@ -8,7 +8,7 @@ ghost use Rattle.std.specs.Prelude.{ℕ, List, ◌≡◌, ◌+◌, ◌≤◌, �
 ghost use Rattle.cox_base.specs.Matrix.{IsLetter, IsWord};
 ghost use Rattle.cox_base.specs.IntegerMatrix.{integer_matrix};
 ghost use Rattle.cox_base.specs.Reduced.{IsReduced};
-ghost use Rattle.cox_rpoly.specs.Element.{IfMade, IsValueMade};
+ghost use Rattle.cox_rpoly.specs.ElementValues.{IfMade, IsValueMade};
 ghost use Rattle.cox_rpoly.specs.Layer.{IsInLayer, AreLayerValues, AreLinks, IsLink, IsAt, HasGained, Extends};
 
 use crate::NoMemory;

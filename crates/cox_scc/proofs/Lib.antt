@@ -5,7 +5,7 @@ pub mod Reaching
 -- lists of places
 pub mod Stacks
 -- vertices on the stack reach each other
-pub mod Chains
+pub mod StackLemmas
 -- what a step of the pass keeps
 pub mod Keeping
 -- a part that becomes a class
@@ -13,8 +13,8 @@ pub mod Closing
 -- the stack has at most as many places as there are vertices
 pub mod Pigeonholes
 -- the whole state of the pass
-pub mod Walks
+pub mod PassLemmas
 -- edges sorted by counting
-pub mod Counting
+pub mod EdgeCounting
 -- all vertices are closed
 pub mod AllClosed

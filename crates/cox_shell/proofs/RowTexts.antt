@@ -17,7 +17,7 @@ use Rattle.cox_poly.specs.Polynomial.{coefficient}
 use Rattle.cox_poly.specs.PolynomialText.{polynomial_text}
 use Rattle.cox_hecke.specs.Row.{IsKazhdanLusztig, IsMu, middle_coefficient}
 use Rattle.cox_hecke.proofs.AllRows.{row_of, row_of-is, mu-same, mu-by_row}
-use Rattle.cox_hecke.proofs.Polynomials.{kazhdan_lusztig-same}
+use Rattle.cox_hecke.proofs.PolynomialValues.{kazhdan_lusztig-same}
 use Rattle.cox_context.specs.Closed.{IsClosed}
 use Rattle.cox_context.specs.Numbers.{word_at}
 use Rattle.cox_context.proofs.Shifting.{member-below}

@@ -9,7 +9,7 @@ use Rattle.std.proofs.lemmas.List.Sums.{AllPass-from_list_all}
 use Rattle.cox_base.specs.Matrix.{CoxeterMatrix, is_label}
 use Rattle.cox_base.specs.Admissible.{IsCoxeterMatrix}
 use Rattle.cox_base.specs.NamedType.{type_matrix}
-use Rattle.cox_base.proofs.Rows.{type_matrix-IsCoxeterMatrix}
+use Rattle.cox_base.proofs.LabelRows.{type_matrix-IsCoxeterMatrix}
 use Rattle.cox_command.specs.declared.refusal.Refusal.{Refusal}
 use Rattle.cox_command.specs.declared.refusal.Refusal.TheVariants.{WrongCount, WrongNumber, NoGroup, UnknownType, WrongLabel}
 use Rattle.cox_command.specs.declared.command_word.CommandWord.{CommandWord}

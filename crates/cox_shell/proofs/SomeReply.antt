@@ -6,7 +6,7 @@ use Rattle.std.specs.Option.{option_map}
 use Rattle.cox_base.specs.Matrix.{CoxeterMatrix}
 use Rattle.cox_base.specs.Admissible.{IsCoxeterMatrix, IsAdmissible}
 use Rattle.cox_base.specs.IntegerMatrix.{integer_matrix}
-use Rattle.cox_base.proofs.Admissible.{IsAdmissible-integer_matrix}
+use Rattle.cox_base.proofs.AdmissibleMatrices.{IsAdmissible-integer_matrix}
 use Rattle.cox_command.specs.declared.refusal.Refusal.{Refusal}
 use Rattle.cox_command.specs.declared.refusal.Refusal.TheVariants.{WrongCount, WrongNumber, NoGroup, ManyRoots}
 use Rattle.cox_command.specs.declared.command.Command.{Command}

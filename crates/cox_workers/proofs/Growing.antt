@@ -5,7 +5,7 @@ use Rattle.cox_context.specs.Closed.{Elements}
 use Rattle.cox_claims.specs.declared.seat.Seat.{Seat}
 use Rattle.cox_claims.specs.Knowledge.{among, has_published, has_voided, parted, told, joined}
 use Rattle.cox_claims.specs.Seats.{view_of}
-use Rattle.cox_claims.proofs.Rows.{among-append}
+use Rattle.cox_claims.proofs.RowTests.{among-append}
 use Rattle.cox_workers.specs.Work.{HasEnded}
 use Rattle.cox_workers.specs.Filled.{IsNeededForSome}
 

@@ -21,7 +21,7 @@ use Rattle.cox_claims.specs.declared.view.View.{View}
 use Rattle.cox_claims.specs.Knowledge.{among, without, holds, marked, has_published, has_voided, saw_void, looked}
 use Rattle.cox_claims.specs.Knowledge.{SeesAll, Wins, Publishes, Voids}
 use Rattle.cox_claims.specs.Seats.{view_of, splits_of, IsSameSeat, HasSeenVoid, HasMarked}
-use Rattle.cox_claims.proofs.Rows.{among_else}
+use Rattle.cox_claims.proofs.RowTests.{among_else}
 use Rattle.cox_workers.specs.declared.missing.Missing.{Missing}
 use Rattle.cox_workers.specs.declared.missing.Missing.TheVariants.{Void, Coefficient, Mu, NoMemory}
 use Rattle.cox_workers.specs.Faults.{missing_by}

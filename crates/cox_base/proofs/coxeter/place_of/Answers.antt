@@ -1,7 +1,7 @@
 -- The proof of `place_of`.
 use Rattle.std.proofs.Common.{◌≡◌, ◌-◌, ◌+◌, arith, rules}
 use Rattle.cox_base.specs.Matrix.{labels_before, place}
-use Rattle.cox_base.proofs.Places.{labels_before-limit, labels_before-next, place-within}
+use Rattle.cox_base.proofs.LabelPlaces.{labels_before-limit, labels_before-next, place-within}
 use Rattle.cox_base.proofs.coxeter.place_of.Goals as goal
 
 pub loop-row-init : goal.loop-row-init

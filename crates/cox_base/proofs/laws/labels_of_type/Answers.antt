@@ -1,6 +1,6 @@
 -- The law `labels_of_type`.
 use Rattle.cox_base.specs.NamedType.{type_matrix}
-use Rattle.cox_base.proofs.Rows.{type_matrix-IsCoxeterMatrix, type_rank-limit, label-type_matrix}
+use Rattle.cox_base.proofs.LabelRows.{type_matrix-IsCoxeterMatrix, type_rank-limit, label-type_matrix}
 use Rattle.cox_base.proofs.laws.labels_of_type.Goals as goal
 
 pub returns-clause-matrix : goal.returns-clause-matrix

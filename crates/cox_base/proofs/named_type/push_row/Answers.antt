@@ -1,7 +1,7 @@
 -- The proof of `push_row`.
 use Rattle.std.proofs.Common.{◌+◌, ◌-◌, arith, lit<}
 use Rattle.cox_base.specs.NamedType.{type_label}
-use Rattle.cox_base.proofs.Rows.{length-with_row, with_row-more}
+use Rattle.cox_base.proofs.LabelRows.{length-with_row, with_row-more}
 use Rattle.cox_base.proofs.named_type.push_row.Goals as goal
 
 pub push-requires : goal.push-requires

@@ -1,6 +1,6 @@
 -- The entry is read at its place.
 use Rattle.std.proofs.Common.{sym, ◌∙◌}
-use Rattle.cox_context.proofs.Places.{entry-is, entry_number-none, entry_number-other}
+use Rattle.cox_context.proofs.ShiftPlaces.{entry-is, entry_number-none, entry_number-other}
 use Rattle.cox_context.proofs.shifts.entry.Goals as goal
 
 pub returns-then-number : goal.returns-then-number

@@ -1,5 +1,5 @@
 -- The entry of a member lies within the table.
-use Rattle.cox_context.proofs.Places.{place-within}
+use Rattle.cox_context.proofs.ShiftPlaces.{place-within}
 use Rattle.cox_context.proofs.shifts.left_shift.Goals as goal
 
 pub entry-requires-clause-within : goal.entry-requires-clause-within

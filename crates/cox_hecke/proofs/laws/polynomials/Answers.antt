@@ -1,6 +1,6 @@
 -- Each clause is a lemma on P(x,w).
-use Rattle.cox_hecke.proofs.Polynomials.{kazhdan_lusztig-exists, kazhdan_lusztig-unique, kazhdan_lusztig-same, kazhdan_lusztig-outside}
-use Rattle.cox_hecke.proofs.Polynomials.{kazhdan_lusztig-left, kazhdan_lusztig-right, kazhdan_lusztig-reverse}
+use Rattle.cox_hecke.proofs.PolynomialValues.{kazhdan_lusztig-exists, kazhdan_lusztig-unique, kazhdan_lusztig-same, kazhdan_lusztig-outside}
+use Rattle.cox_hecke.proofs.PolynomialValues.{kazhdan_lusztig-left, kazhdan_lusztig-right, kazhdan_lusztig-reverse}
 use Rattle.cox_hecke.proofs.laws.polynomials.Goals as goal
 
 pub returns-clause-exists : goal.returns-clause-exists

@@ -6,7 +6,7 @@ use Rattle.cox_base.specs.Element.{SameElement}
 use Rattle.cox_poly.specs.Polynomial.{coefficient}
 use Rattle.cox_poly.specs.Coefficients.{Coefficients}
 use Rattle.cox_context.specs.Numbers.{word_at}
-use Rattle.cox_hecke.proofs.Polynomials.{kl_polynomial, kl_polynomial-is}
+use Rattle.cox_hecke.proofs.PolynomialValues.{kl_polynomial, kl_polynomial-is}
 use Rattle.cox_row.specs.Rising.{number_at}
 use Rattle.cox_klstep.proofs.AddedSums.{added-once}
 use Rattle.cox_klstep.proofs.InverseLemmas.{inverse-value}

@@ -5,7 +5,7 @@ use Rattle.cox_base.specs.IntegerMatrix.{integer_matrix}
 use Rattle.cox_context.specs.Numbers.{word_at}
 use Rattle.cox_poly.specs.Polynomial.{coefficient}
 use Rattle.cox_klstep.specs.StepOf.{correction_at}
-use Rattle.cox_hecke.proofs.Polynomials.{kazhdan_lusztig-outside}
+use Rattle.cox_hecke.proofs.PolynomialValues.{kazhdan_lusztig-outside}
 use Rattle.cox_row.proofs.Raising.{later-not_below}
 use Rattle.cox_klstep.proofs.AddedSums.{none-scaled}
 use Rattle.cox_klstep.proofs.NumberedLists.{taken, passed}

@@ -3,7 +3,7 @@ use Rattle.std.proofs.Common.{ℕ, ◌<◌, length, arith}
 use Rattle.cox_base.specs.IntegerMatrix.{IntegerMatrix, integer_matrix}
 use Rattle.cox_poly.specs.Coefficients.{Coefficients}
 use Rattle.cox_poly.specs.Polynomial.{coefficient}
-use Rattle.cox_hecke.proofs.Polynomials.{kl_polynomial, kl_polynomial-is}
+use Rattle.cox_hecke.proofs.PolynomialValues.{kl_polynomial, kl_polynomial-is}
 use Rattle.cox_context.specs.Numbers.{word_at}
 use Rattle.cox_klstep.specs.Sums.{numbered_sum}
 use Rattle.cox_klstep.proofs.SideLemmas.{lowered-letter, lowered-member, extremal-descent}

@@ -2,7 +2,7 @@
 use Rattle.std.proofs.Common.{refl}
 use Rattle.cox_base.specs.IntegerMatrix.{integer_matrix}
 use Rattle.cox_minroots.proofs.ClosureLemmas.{more-than}
-use Rattle.cox_minroots.proofs.Closing.{closing-next}
+use Rattle.cox_minroots.proofs.ClosingLoop.{closing-next}
 use Rattle.cox_minroots.proofs.closure.close.Goals as goal
 
 pub returns-then-len-max-clause-fault : goal.returns-then-len-max-clause-fault

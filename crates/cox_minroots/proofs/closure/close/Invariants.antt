@@ -1,7 +1,7 @@
 -- The steps of the roots so far are in the set.
 use Rattle.std.proofs.Common.{◌+◌, ◌-◌}
 use Rattle.cox_base.specs.IntegerMatrix.{integer_matrix}
-use Rattle.cox_minroots.proofs.Closing.{IsClosing}
+use Rattle.cox_minroots.proofs.ClosingLoop.{IsClosing}
 use Rattle.cox_minroots.proofs.closure.close.Given as goal
 
 abbrev pub invariant-loop-i : goal.invariant-loop-i

@@ -2,7 +2,7 @@
 use Rattle.std.proofs.Common.{rules, ℕ, ◌-◌, ◌*◌, ◌≤◌, refl, ap₂, arith}
 use Rattle.cox_base.specs.IntegerMatrix.{integer_matrix}
 use Rattle.cox_minroots.specs.Coordinates.{nat_sum_to}
-use Rattle.cox_minroots.proofs.CoordinateLemmas.{nat_sum_to-next, nat_sum_to-bound, nat_sum_to-all}
+use Rattle.cox_minroots.proofs.CoordinateLists.{nat_sum_to-next, nat_sum_to-bound, nat_sum_to-all}
 use Rattle.cox_minroots.proofs.root.weight.Goals as goal
 
 pub loop-t-init : goal.loop-t-init

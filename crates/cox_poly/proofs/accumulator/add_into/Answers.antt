@@ -3,7 +3,7 @@ use Rattle.std.proofs.Common.{◌≡◌, ◌+◌, ◌+ℤ◌, ◌*ℤ◌, arith,
 use Rattle.std.specs.Int.{w128}
 use Rattle.std.proofs.lemmas.Int.{ints, to_z-of_z}
 use Rattle.cox_poly.specs.Polynomial.{coefficient}
-use Rattle.cox_poly.proofs.Sums.{Added-more, Added-room}
+use Rattle.cox_poly.proofs.AddedMultiples.{Added-more, Added-room}
 use Rattle.cox_poly.proofs.accumulator.add_into.Goals as goal
 
 -- the sum that is written fits, and is what it says

@@ -1,5 +1,5 @@
 -- The sums at the powers so far have what was added.
-use Rattle.cox_poly.proofs.Sums.{Added}
+use Rattle.cox_poly.proofs.AddedMultiples.{Added}
 use Rattle.cox_poly.proofs.accumulator.add_into.Given as goal
 
 abbrev pub invariant-loop-i : goal.invariant-loop-i

@@ -1,8 +1,8 @@
 -- The proof of `Coxeter::named`.
 use Rattle.std.proofs.Common.{◌≡◌, ◌+◌, ◌-◌, ◌∙◌, arith, rules, ap, sym, length}
 use Rattle.cox_base.specs.NamedType.{rows_above, type_label}
-use Rattle.cox_base.proofs.Places.{labels_before-small, labels_before-next}
-use Rattle.cox_base.proofs.Rows.{length-rows_above, rows_above-next, type_matrix-IsCoxeterMatrix, type_matrix-rows}
+use Rattle.cox_base.proofs.LabelPlaces.{labels_before-small, labels_before-next}
+use Rattle.cox_base.proofs.LabelRows.{length-rows_above, rows_above-next, type_matrix-IsCoxeterMatrix, type_matrix-rows}
 use Rattle.cox_base.proofs.coxeter.Coxeter.named.Goals as goal
 
 pub loop-s-init : goal.loop-s-init

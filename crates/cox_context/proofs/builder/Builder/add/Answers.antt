@@ -1,8 +1,8 @@
 -- A word more than the limit admits shows that there are too many members.
 use Rattle.std.proofs.Common.{◌∷◌, arith, refl}
-use Rattle.cox_context.specs.Family.{IsMember}
+use Rattle.cox_context.specs.WantedMembers.{IsMember}
 use Rattle.cox_context.specs.Numbers.{word_at}
-use Rattle.cox_context.proofs.FaultLemmas.{over-prefix}
+use Rattle.cox_context.proofs.RefusalLemmas.{over-prefix}
 use Rattle.cox_context.proofs.builder.Builder.add.Goals as goal
 
 pub returns-then-number-limit-clause-fault : goal.returns-then-number-limit-clause-fault

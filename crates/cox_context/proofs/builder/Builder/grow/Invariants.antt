@@ -1,7 +1,7 @@
 -- The list has the members of at most so many letters.
 use Rattle.std.proofs.Common.{◌≤◌, length}
 use Rattle.cox_base.specs.IntegerMatrix.{integer_matrix}
-use Rattle.cox_context.specs.Family.{IsMember}
+use Rattle.cox_context.specs.WantedMembers.{IsMember}
 use Rattle.cox_context.specs.Growth.{IsGrown, AreNumbers}
 use Rattle.cox_context.specs.Shifts.{AreLeftShifts}
 use Rattle.cox_context.proofs.builder.Builder.grow.Given as goal

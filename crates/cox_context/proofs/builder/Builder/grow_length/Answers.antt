@@ -3,7 +3,7 @@ use Rattle.std.proofs.Common.{ℕ, List, ◌+◌, ◌≡◌, arith}
 use Rattle.cox_base.specs.IntegerMatrix.{IntegerMatrix, integer_matrix}
 use Rattle.cox_base.specs.Admissible.{IsAdmissible}
 use Rattle.cox_reflect.proofs.Admissible.{IsAdmissible-integer_matrix}
-use Rattle.cox_context.specs.Family.{IsMember}
+use Rattle.cox_context.specs.WantedMembers.{IsMember}
 use Rattle.cox_context.proofs.Ideals.{ideal-member, ideal-tailed}
 use Rattle.cox_context.proofs.GrowthLemmas.{grown-end}
 use Rattle.cox_context.proofs.builder.Builder.grow_length.Goals as goal

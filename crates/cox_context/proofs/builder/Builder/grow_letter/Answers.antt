@@ -4,14 +4,14 @@ use Rattle.cox_base.specs.IntegerMatrix.{IntegerMatrix, integer_matrix}
 use Rattle.cox_base.specs.declared.limits.TheConstants.{MAX_LETTERS}
 use Rattle.cox_reflect.proofs.Admissible.{IsAdmissible-integer_matrix}
 use Rattle.cox_context.specs.Closed.{IsClosed}
-use Rattle.cox_context.specs.Family.{IsMember}
+use Rattle.cox_context.specs.WantedMembers.{IsMember}
 use Rattle.cox_context.specs.Growth.{IsGrowing}
 use Rattle.cox_context.specs.Refusal.{IsPrefixOf}
 use Rattle.cox_context.specs.Numbers.{word_at}
 use Rattle.cox_context.proofs.Ideals.{member-tailed}
 use Rattle.cox_context.proofs.GrowthLemmas.{IsTailed, growing-skip, growing-push, growing-prefix, growing-letter, push-length}
 use Rattle.cox_context.proofs.ChildLemmas.{member-closed, members-below, next-member, no-next-none, numbers-push}
-use Rattle.cox_context.proofs.RowLemmas.{shifts-push}
+use Rattle.cox_context.proofs.ShiftRowLemmas.{shifts-push}
 use Rattle.cox_context.proofs.builder.Builder.grow_letter.Goals as goal
 use Rattle.cox_context.proofs.builder.Builder.grow_letter.Goals.{in-Some+in_ok-add, in_default}
 

@@ -1,7 +1,7 @@
 -- Of the next length the list has the members that begin with s and come from a member before the parent.
 use Rattle.std.proofs.Common.{◌≤◌, length}
 use Rattle.cox_base.specs.IntegerMatrix.{integer_matrix}
-use Rattle.cox_context.specs.Family.{IsMember}
+use Rattle.cox_context.specs.WantedMembers.{IsMember}
 use Rattle.cox_context.specs.Growth.{IsGrowing, AreNumbers}
 use Rattle.cox_context.specs.Shifts.{AreLeftShifts}
 use Rattle.cox_context.proofs.builder.Builder.grow_letter.Given as goal

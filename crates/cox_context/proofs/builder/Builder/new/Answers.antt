@@ -2,10 +2,10 @@
 use Rattle.std.proofs.Common.{rules, ◌≡◌, ◌∷◌, []}
 use Rattle.cox_base.specs.IntegerMatrix.{integer_matrix}
 use Rattle.cox_reflect.proofs.Admissible.{IsAdmissible-integer_matrix}
-use Rattle.cox_context.specs.Family.{IsMember}
+use Rattle.cox_context.specs.WantedMembers.{IsMember}
 use Rattle.cox_context.proofs.GrowthLemmas.{grown-start}
 use Rattle.cox_context.proofs.Ideals.{ideal-member, ideal-tailed}
-use Rattle.cox_context.proofs.RowLemmas.{numbers-start}
+use Rattle.cox_context.proofs.ShiftRowLemmas.{numbers-start}
 use Rattle.cox_context.proofs.builder.Builder.new.Goals as goal
 
 pub returns-in-Ok-vec-clause-grown : goal.returns-in-Ok-vec-clause-grown

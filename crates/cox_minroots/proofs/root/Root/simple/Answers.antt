@@ -1,6 +1,6 @@
 -- A simple root has 1 at its letter, and 0 elsewhere.
 use Rattle.cox_base.specs.declared.limits.TheConstants.{MAX_RANK}
-use Rattle.cox_minroots.proofs.CoordinateLemmas.{simple-coordinates, simple-coordinates_small}
+use Rattle.cox_minroots.proofs.CoordinateLists.{simple-coordinates, simple-coordinates_small}
 use Rattle.cox_minroots.proofs.root.Root.simple.Goals as goal
 
 pub returns-clause-root : goal.returns-clause-root

@@ -2,8 +2,8 @@
 use Rattle.std.proofs.Common.{ℕ, ◌≡◌, ◌+◌, ◌-◌, List, length, ap, sym, ◌∙◌, arith, lit<}
 use Rattle.cox_base.specs.IntegerMatrix.{integer_matrix}
 use Rattle.cox_reflect.proofs.Admissible.{IsAdmissible-integer_matrix}
-use Rattle.cox_minroots.proofs.FormLemmas.{descents_to, descents-none, descents-yes, descents-no, descents-all, descents-letters}
-use Rattle.cox_minroots.proofs.FormLemmas.{some-descent, none-no_descent}
+use Rattle.cox_minroots.proofs.ExchangeForms.{descents_to, descents-none, descents-yes, descents-no, descents-all, descents-letters}
+use Rattle.cox_minroots.proofs.ExchangeForms.{some-descent, none-no_descent}
 use Rattle.cox_minroots.proofs.table.RootTable.descents_of.Goals as goal
 use Rattle.cox_minroots.proofs.table.RootTable.descents_of.Goals.{then-is_some, else-is_some}
 

@@ -4,7 +4,7 @@ use Rattle.cox_base.specs.declared.limits.TheConstants.{MAX_RANK}
 use Rattle.cox_base.specs.IntegerMatrix.{integer_matrix}
 use Rattle.cox_reflect.proofs.Admissible.{IsAdmissible-integer_matrix}
 use Rattle.cox_minroots.specs.Moves.{IsRootTable}
-use Rattle.cox_minroots.proofs.Walks.{walk-start, walk-negative, walk-out, walk-on, walk-end}
+use Rattle.cox_minroots.proofs.TableWalks.{walk-start, walk-negative, walk-out, walk-on, walk-end}
 use Rattle.cox_minroots.proofs.table.RootTable.exchanged.Goals as goal
 
 pub loop-done-init : goal.loop-done-init

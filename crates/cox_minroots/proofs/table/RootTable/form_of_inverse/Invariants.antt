@@ -1,7 +1,7 @@
 -- The normal form begins with the letters so far.
 use Rattle.std.proofs.Common.{length}
 use Rattle.cox_base.specs.IntegerMatrix.{integer_matrix}
-use Rattle.cox_minroots.proofs.FormLemmas.{IsBegun}
+use Rattle.cox_minroots.proofs.ExchangeForms.{IsBegun}
 use Rattle.cox_minroots.proofs.table.RootTable.form_of_inverse.Given as goal
 
 abbrev pub invariant-loop-s : goal.invariant-loop-s

@@ -5,7 +5,7 @@ use Rattle.cox_reflect.proofs.Admissible.{IsAdmissible-integer_matrix}
 use Rattle.cox_reflect.proofs.Elements.{same-reverse}
 use Rattle.cox_reflect.proofs.Search.{normal_form-equal}
 use Rattle.cox_reflect.proofs.Lengths.{IsReduced-normal_form}
-use Rattle.cox_minroots.proofs.FormLemmas.{same-inverse_twice}
+use Rattle.cox_minroots.proofs.ExchangeForms.{same-inverse_twice}
 use Rattle.cox_minroots.proofs.table.RootTable.inverse.Goals as goal
 
 pub returns-clause-form : goal.returns-clause-form

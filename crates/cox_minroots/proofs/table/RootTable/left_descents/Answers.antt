@@ -2,7 +2,7 @@
 use Rattle.std.proofs.Common.{◌∙◌}
 use Rattle.cox_base.specs.IntegerMatrix.{integer_matrix}
 use Rattle.cox_reflect.proofs.Admissible.{IsAdmissible-integer_matrix}
-use Rattle.cox_minroots.proofs.FormLemmas.{left_descents-inverse}
+use Rattle.cox_minroots.proofs.ExchangeForms.{left_descents-inverse}
 use Rattle.cox_minroots.proofs.table.RootTable.left_descents.Goals as goal
 
 pub returns-clause-descents : goal.returns-clause-descents

@@ -3,7 +3,7 @@ use Rattle.std.proofs.Common.{reverse, ◌∙◌}
 use Rattle.cox_base.specs.IntegerMatrix.{integer_matrix}
 use Rattle.cox_reflect.proofs.Admissible.{IsAdmissible-integer_matrix}
 use Rattle.cox_reflect.proofs.Lengths.{IsReduced-normal_form}
-use Rattle.cox_minroots.proofs.FormLemmas.{form-inverse}
+use Rattle.cox_minroots.proofs.ExchangeForms.{form-inverse}
 use Rattle.cox_minroots.proofs.table.RootTable.normal_form.Goals as goal
 
 pub returns-clause-form : goal.returns-clause-form

@@ -2,7 +2,7 @@
 use Rattle.std.proofs.Common.{◌∙◌}
 use Rattle.cox_base.specs.IntegerMatrix.{integer_matrix}
 use Rattle.cox_reflect.proofs.Admissible.{IsAdmissible-integer_matrix}
-use Rattle.cox_minroots.proofs.FormLemmas.{same-inverse_twice, right_descents-same}
+use Rattle.cox_minroots.proofs.ExchangeForms.{same-inverse_twice, right_descents-same}
 use Rattle.cox_minroots.proofs.table.RootTable.right_descents.Goals as goal
 
 pub returns-clause-descents : goal.returns-clause-descents

@@ -2,7 +2,7 @@
 use Rattle.std.proofs.Common.{◌+◌, ◌<◌, ◌≤◌, length, arith, FitsSigned, w64}
 use Rattle.std.proofs.lemmas.Bool.Decides.{nat_tests}
 use Rattle.cox_poly.specs.declared.accumulator.TheConstants.{DEGREES}
-use Rattle.cox_poly.proofs.Sums.{HasDegreeBelow-added, IsPolynomial-room}
+use Rattle.cox_poly.proofs.AddedMultiples.{HasDegreeBelow-added, IsPolynomial-room}
 use Rattle.cox_poly.proofs.accumulator.Acc.add_scaled.Goals as goal
 
 pub invariant_of-self : goal.invariant_of-self

@@ -1,7 +1,7 @@
 -- What is read is the next edge of the vertex at the end of the path, and where its edges end.
 use Rattle.std.proofs.Common.{arith}
-use Rattle.cox_scc.proofs.Walks.{here_in, vertex_read, in_next, edge_read, edge_is_next, in_offsets, offset_read, done_read, some_part}
-use Rattle.cox_scc.proofs.Walks.{HasFinished, walk_finish, walk_back, back_less}
+use Rattle.cox_scc.proofs.PassLemmas.{here_in, vertex_read, in_next, edge_read, edge_is_next, in_offsets, offset_read, done_read, some_part}
+use Rattle.cox_scc.proofs.PassLemmas.{HasFinished, walk_finish, walk_back, back_less}
 use Rattle.cox_scc.proofs.search.Search.step.Goals as goal
 
 pub index-requires : goal.index-requires

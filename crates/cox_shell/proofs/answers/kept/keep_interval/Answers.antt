@@ -1,6 +1,6 @@
 -- The proof of `keep_interval`.
 use Rattle.cox_base.specs.IntegerMatrix.{integer_matrix}
-use Rattle.cox_base.proofs.Admissible.{IsAdmissible-integer_matrix}
+use Rattle.cox_base.proofs.AdmissibleMatrices.{IsAdmissible-integer_matrix}
 use Rattle.cox_shell.specs.SessionLimits.{limits_of}
 use Rattle.cox_shell.proofs.Unless.{large-allowed}
 use Rattle.cox_shell.proofs.KeptLemmas.{interval-member}

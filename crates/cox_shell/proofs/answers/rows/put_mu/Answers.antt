@@ -2,7 +2,7 @@
 use Rattle.std.proofs.Common.{FitsSigned, rules, w32}
 use Rattle.std.proofs.lemmas.Int.{to_z-of_z}
 use Rattle.cox_base.specs.IntegerMatrix.{integer_matrix}
-use Rattle.cox_base.proofs.Admissible.{IsAdmissible-integer_matrix}
+use Rattle.cox_base.proofs.AdmissibleMatrices.{IsAdmissible-integer_matrix}
 use Rattle.cox_shell.specs.Kept.{HoldsRow}
 use Rattle.cox_shell.proofs.Unless.{PutsUnless-put}
 use Rattle.cox_shell.proofs.RowTexts.{mu-text}

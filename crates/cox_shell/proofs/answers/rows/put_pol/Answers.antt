@@ -1,6 +1,6 @@
 -- The proof of `put_pol`.
 use Rattle.cox_base.specs.IntegerMatrix.{integer_matrix}
-use Rattle.cox_base.proofs.Admissible.{IsAdmissible-integer_matrix}
+use Rattle.cox_base.proofs.AdmissibleMatrices.{IsAdmissible-integer_matrix}
 use Rattle.cox_shell.specs.Kept.{HoldsRow}
 use Rattle.cox_shell.proofs.Unless.{PutsUnless-put}
 use Rattle.cox_shell.proofs.RowTexts.{pol-text, pol-zero}

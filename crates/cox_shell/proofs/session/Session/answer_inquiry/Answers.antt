@@ -2,7 +2,7 @@
 use Rattle.std.proofs.Common.{◌≡◌, Option, Some, IfOk, OnErr, sym, ap, ◌∙◌, subst}
 use Rattle.std.specs.Option.{option_map}
 use Rattle.cox_base.specs.Matrix.{CoxeterMatrix}
-use Rattle.cox_base.proofs.Admissible.{IsAdmissible-integer_matrix}
+use Rattle.cox_base.proofs.AdmissibleMatrices.{IsAdmissible-integer_matrix}
 use Rattle.cox_shell.specs.Reply.{Limits, State, Reply}
 use Rattle.cox_shell.specs.Kept.{Work}
 use Rattle.cox_shell.specs.Saying.{Says, SaysPrefix, Concludes}

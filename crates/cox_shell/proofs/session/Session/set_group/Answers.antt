@@ -1,7 +1,7 @@
 -- The proof of `Session::set_group`.
 use Rattle.std.proofs.Common.{refl, ap, ◌∙◌}
 use Rattle.cox_base.specs.IntegerMatrix.{integer_matrix}
-use Rattle.cox_base.proofs.Admissible.{IsAdmissible-integer_matrix}
+use Rattle.cox_base.proofs.AdmissibleMatrices.{IsAdmissible-integer_matrix}
 use Rattle.cox_small.specs.RootCounts.{HasFewSmallRoots}
 use Rattle.cox_command.specs.declared.command.Command.TheVariants.{Group}
 use Rattle.cox_command.specs.declared.refusal.Refusal.TheVariants.{ManyRoots}

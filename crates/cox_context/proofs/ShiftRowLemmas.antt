@@ -25,8 +25,8 @@ use Rattle.cox_reflect.proofs.Elements.{same-sym, same-trans, same-equal, same-c
 use Rattle.cox_reflect.proofs.Search.{normal_form-same, normal_form-equal, word_length-length}
 use Rattle.cox_reflect.proofs.Lengths.{word_length-is}
 use Rattle.cox_reflect.proofs.Deletion.{left_length}
-use Rattle.cox_context.proofs.Places.{place-within, entry-is, entry-set_same, entry-set_other, entry-old, entry-new, entry_number-some}
-use Rattle.cox_context.proofs.Places.{entry_number-none}
+use Rattle.cox_context.proofs.ShiftPlaces.{place-within, entry-is, entry-set_same, entry-set_other, entry-old, entry-new, entry_number-some}
+use Rattle.cox_context.proofs.ShiftPlaces.{entry_number-none}
 
 -- the entries of the letters before t, the later ones being empty
 pub record AreLowerBefore (A : IntegerMatrix) (words : List (List ℕ)) (y : List ℕ) (t : ℕ) (lower : List ℕ) : Type 0 where

@@ -6,7 +6,7 @@ use Rattle.cox_base.specs.Matrix.{CoxeterMatrix, IsLetter, is_label, place, labe
 use Rattle.cox_base.specs.Admissible.{IsCoxeterMatrix, IsAdmissible, IsAdmissiblePair, HasOrder}
 use Rattle.cox_base.specs.IntegerMatrix.{integer_matrix, is_letter, entry_of, entry_above, entry_below}
 use Rattle.cox_base.specs.Admissible.{two, three, four, six, infinity, order_two, order_three, order_four, order_six}
-use Rattle.cox_base.proofs.Places.{place-within}
+use Rattle.cox_base.proofs.LabelPlaces.{place-within}
 use Rattle.cox_base.proofs.Entries.{label-above, entry_of-diagonal, entry_of-above, entry_of-below, entry_of-row_outside}
 use Rattle.cox_base.proofs.Entries.{entry_of-column_outside}
 

@@ -18,7 +18,7 @@ use Rattle.cox_scc.specs.Walk.{AreOnStack, AreFollowed, AreStacked, AreSettled, 
 use Rattle.cox_scc.specs.Walk.{Enters, Joins, Meets, ClosesClass, Finishes, work_left}
 use Rattle.cox_scc.proofs.Stacks.{rising_below, rising_last}
 use Rattle.cox_scc.proofs.Reaching.{Reaches-join, Reaches-step}
-use Rattle.cox_scc.proofs.Chains.{chain_down, chain_enter, chain_join, chain_leave}
+use Rattle.cox_scc.proofs.StackLemmas.{chain_down, chain_enter, chain_join, chain_leave}
 use Rattle.cox_scc.proofs.Keeping.{placed_enter, followed_enter, settled_enter, stacked_enter, stacked_join, followed_join}
 use Rattle.cox_scc.proofs.Keeping.{followed_advance, followed_retreat, stacked_retreat}
 use Rattle.cox_scc.proofs.Closing.{placed_close, followed_close, stacked_close, settled_close}

@@ -12,7 +12,7 @@ use Rattle.cox_base.specs.declared.limits.TheConstants.{MAX_RANK}
 use Rattle.cox_base.specs.Matrix.{is_label, labels_before, place, label}
 use Rattle.cox_base.specs.Admissible.{IsCoxeterMatrix}
 use Rattle.cox_base.specs.NamedType.{rows_above, is_type, type_rank, type_label, type_matrix}
-use Rattle.cox_base.proofs.Places.{labels_before-more, labels_before-all, place-row, place-next}
+use Rattle.cox_base.proofs.LabelPlaces.{labels_before-more, labels_before-all, place-row, place-next}
 use Rattle.cox_base.proofs.Entries.{label-above}
 
 -- a list with a part of a row behind it
