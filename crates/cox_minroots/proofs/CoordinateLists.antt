@@ -10,7 +10,7 @@ use Rattle.cox_base.specs.Matrix.{IsLetter}
 use Rattle.cox_base.specs.IntegerMatrix.{IntegerMatrix}
 use Rattle.cox_base.specs.Admissible.{two, three, four, back_four, six, back_six, infinity, IsAdmissible, IsAdmissiblePair}
 use Rattle.cox_base.specs.Element.{sum_to}
-use Rattle.cox_reflect.specs.Action.{Vector, simple_root, pairing, minus, reflect}
+use Rattle.cox_reflect.specs.Action.{Vector, simple_root, pairing, minus_multiple, reflect}
 use Rattle.cox_lemmas.proofs.Ring.{neg_mul, times_one}
 use Rattle.cox_reflect.proofs.Sums.{simple_root-self, simple_root-other}
 use Rattle.cox_reflect.proofs.Action.{reflect-other}
@@ -211,7 +211,7 @@ module _ (A : IntegerMatrix) (g : IsAdmissible A) where
   -- the coordinates of the image under s
   pub turned-coordinates : (s : ℕ) (xs : List ℕ) → IsLetter A.rank s → A.rank ≤ length xs → CanTurn A s xs
       → vector_of (set xs (s - 1) (weight A s xs - 3 * get_or xs (s - 1) 0)) ≡ reflect A s (vector_of xs)
-  unfolding reflect minus
+  unfolding reflect minus_multiple
   turned-coordinates s xs ls h c =
       vector_of-set xs s (weight A s xs - 3 * get_or xs (s - 1) 0) ls.from_one (omega (arith, ls.to_rank, h)) (reflect A s (vector_of xs))
       own

@@ -13,7 +13,7 @@ use Rattle.cox_minroots.specs.declared.closure.TheConstants.{MAX_SMALL_ROOTS}
 use Rattle.cox_base.specs.Matrix.{CoxeterMatrix, IsLetter}
 use Rattle.cox_base.specs.Admissible.{IsCoxeterMatrix, IsAdmissible}
 use Rattle.cox_base.specs.IntegerMatrix.{IntegerMatrix, integer_matrix}
-use Rattle.cox_reflect.specs.Action.{Vector, simple_root, pairing, minus, reflect}
+use Rattle.cox_reflect.specs.Action.{Vector, simple_root, pairing, minus_multiple, reflect}
 use Rattle.cox_reflect.specs.Transpose.{transposed}
 use Rattle.cox_lemmas.proofs.Ring.{linears, times_one}
 use Rattle.cox_reflect.proofs.Sums.{simple_root-self}
@@ -36,7 +36,7 @@ use Rattle.cox_minroots.proofs.ClosureLemmas.{turned-root, turned-coroot}
 -- where the image has coordinates of a row, the code can compute it
 can_turn_to : (A : IntegerMatrix) → IsAdmissible A → (s m : ℕ) (xs ys : List ℕ) → IsLetter A.rank s → AreCoordinatesUpTo m ys → m < 65536
     → vector_of ys ≡ reflect A s (vector_of xs) → CanTurn A s xs
-unfolding reflect minus
+unfolding reflect minus_multiple
 can_turn_to A g s m xs ys ls row small e = go at_s
   where
     at_s : pos (get_or ys (s - 1) 0) ≡ pos (get_or xs (s - 1) 0) -ℤ ((pos (4 * get_or xs (s - 1) 0) -ℤ pos (weight A s xs)) *ℤ pos 1)

@@ -7,28 +7,28 @@ use mathlib.Core.List.{reverse-cons}
 use Rattle.cox_base.specs.Matrix.{IsLetter}
 use Rattle.cox_base.specs.IntegerMatrix.{IntegerMatrix}
 use Rattle.cox_base.specs.Admissible.{IsAdmissible}
-use Rattle.cox_reflect.specs.Action.{Vector, simple_root, pairing, minus, reflect}
+use Rattle.cox_reflect.specs.Action.{Vector, simple_root, pairing, minus_multiple, reflect}
 use Rattle.cox_reflect.specs.WordAction.{act}
 use Rattle.cox_lemmas.proofs.Ring.{linears, multiply_out}
-use Rattle.cox_reflect.proofs.Sums.{letter_cases, simple_root-other, sum_to-minus, sum_to-zero, sum_to-simple_root, sum_to-other_root}
+use Rattle.cox_reflect.proofs.Sums.{letter_cases, simple_root-other, sum_to-minus_multiple, sum_to-zero, sum_to-simple_root, sum_to-other_root}
 
 -- ---- linearity
 
-pub pairing-minus : (A : IntegerMatrix) (s : ℕ) (v : Vector) (c : ℤ) (w : Vector)
-    → pairing A s (minus v c w) ≡ pairing A s v -ℤ (c *ℤ pairing A s w)
+pub pairing-minus_multiple : (A : IntegerMatrix) (s : ℕ) (v : Vector) (c : ℤ) (w : Vector)
+    → pairing A s (minus_multiple v c w) ≡ pairing A s v -ℤ (c *ℤ pairing A s w)
 unfolding pairing
-pairing-minus A s v c w = sum_to-minus A.rank (A.entry s) v c w
+pairing-minus_multiple A s v c w = sum_to-minus_multiple A.rank (A.entry s) v c w
 
-pub reflect-minus : (A : IntegerMatrix) (s : ℕ) (v : Vector) (c : ℤ) (w : Vector)
-    → reflect A s (minus v c w) ≡ minus (reflect A s v) c (reflect A s w)
-unfolding reflect minus
-reflect-minus A s v c w = fun_ext (λ i. rw (pairing-minus A s v c w) (simp multiply_out (omega (arith, linears))))
+pub reflect-minus_multiple : (A : IntegerMatrix) (s : ℕ) (v : Vector) (c : ℤ) (w : Vector)
+    → reflect A s (minus_multiple v c w) ≡ minus_multiple (reflect A s v) c (reflect A s w)
+unfolding reflect minus_multiple
+reflect-minus_multiple A s v c w = fun_ext (λ i. rw (pairing-minus_multiple A s v c w) (simp multiply_out (omega (arith, linears))))
 
-pub act-minus : (A : IntegerMatrix) (u : List ℕ) (v : Vector) (c : ℤ) (w : Vector)
-    → act A u (minus v c w) ≡ minus (act A u v) c (act A u w)
+pub act-minus_multiple : (A : IntegerMatrix) (u : List ℕ) (v : Vector) (c : ℤ) (w : Vector)
+    → act A u (minus_multiple v c w) ≡ minus_multiple (act A u v) c (act A u w)
 unfolding act
-act-minus A [] v c w = refl
-act-minus A (s ∷ u) v c w = ap (reflect A s) (act-minus A u v c w) ∙ reflect-minus A s (act A u v) c (act A u w)
+act-minus_multiple A [] v c w = refl
+act-minus_multiple A (s ∷ u) v c w = ap (reflect A s) (act-minus_multiple A u v c w) ∙ reflect-minus_multiple A s (act A u v) c (act A u w)
 
 pub act-cons : (A : IntegerMatrix) (s : ℕ) (u : List ℕ) (v : Vector) → act A (s ∷ u) v ≡ reflect A s (act A u v)
 unfolding act
@@ -52,11 +52,11 @@ act-push A u s x = act-append A u (s ∷ []) x ∙ ap (act A u) (act-single A s 
 
 -- a letter moves its own coordinate alone
 pub reflect-other : (A : IntegerMatrix) (s : ℕ) (v : Vector) (i : ℕ) → (i ≡ s → ⊥) → reflect A s v i ≡ v i
-unfolding reflect minus
+unfolding reflect minus_multiple
 reflect-other A s v i ne = rw (simple_root-other s i ne) (simp multiply_out (omega (arith, linears)))
 
 pub reflect-fixed : (A : IntegerMatrix) (s : ℕ) (v : Vector) → pairing A s v ≡ pos 0 → reflect A s v ≡ v
-unfolding reflect minus
+unfolding reflect minus_multiple
 reflect-fixed A s v e = fun_ext (λ i. rw e (simp multiply_out (omega (arith, linears))))
 
 pub pairing-zero : (A : IntegerMatrix) (s : ℕ) (v : Vector) → ((i : ℕ) → IsLetter A.rank i → v i ≡ pos 0)
@@ -85,7 +85,7 @@ module _ (A : IntegerMatrix) (g : IsAdmissible A) where
   pub pairing-reflect : (s : ℕ) (v : Vector) → pairing A s (reflect A s v) ≡ neg_ℤ (pairing A s v)
   unfolding reflect
   pairing-reflect s v =
-      pairing-minus A s v (pairing A s v) (simple_root s) ∙ ⊎_elim letter outside (letter_cases A.rank s)
+      pairing-minus_multiple A s v (pairing A s v) (simple_root s) ∙ ⊎_elim letter outside (letter_cases A.rank s)
     where
       letter : IsLetter A.rank s
           → pairing A s v -ℤ (pairing A s v *ℤ pairing A s (simple_root s)) ≡ neg_ℤ (pairing A s v)
@@ -97,9 +97,9 @@ module _ (A : IntegerMatrix) (g : IsAdmissible A) where
 
   -- s (s v) = v
   pub reflect-reflect : (s : ℕ) (v : Vector) → reflect A s (reflect A s v) ≡ v
-  unfolding reflect minus
+  unfolding reflect minus_multiple
   reflect-reflect s v =
-      ap (λ (c : ℤ). minus (reflect A s v) c (simple_root s)) (pairing-reflect s v)
+      ap (λ (c : ℤ). minus_multiple (reflect A s v) c (simple_root s)) (pairing-reflect s v)
       ∙ fun_ext (λ i. simp multiply_out (omega (arith, linears)))
 
   -- the reversed word undoes a word
@@ -113,7 +113,7 @@ module _ (A : IntegerMatrix) (g : IsAdmissible A) where
 
   -- s e(s) = -e(s)
   pub reflect-simple_root : (s : ℕ) → IsLetter A.rank s → reflect A s (simple_root s) ≡ (λ i. neg_ℤ (simple_root s i))
-  unfolding reflect minus
+  unfolding reflect minus_multiple
   reflect-simple_root s l =
       fun_ext (λ i. rw (pairing-simple_root s s, g.diagonal s l) (simp multiply_out (omega (arith, linears))))
 

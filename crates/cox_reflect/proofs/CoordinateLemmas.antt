@@ -13,7 +13,7 @@ use Rattle.cox_base.specs.Matrix.{CoxeterMatrix, IsLetter, IsWord}
 use Rattle.cox_base.specs.Admissible.{IsCoxeterMatrix, IsAdmissible}
 use Rattle.cox_base.specs.IntegerMatrix.{IntegerMatrix, integer_matrix, entry_of}
 use Rattle.cox_base.specs.Element.{sum_to, matrix}
-use Rattle.cox_reflect.specs.Action.{Vector, simple_root, pairing, minus, reflect}
+use Rattle.cox_reflect.specs.Action.{Vector, simple_root, pairing, minus_multiple, reflect}
 use Rattle.cox_reflect.specs.WordAction.{act, size}
 use Rattle.cox_reflect.specs.RootHeight.{at_letter}
 use Rattle.cox_reflect.proofs.Sums.{sum_to-same, simple_root-self, simple_root-other}
@@ -79,7 +79,7 @@ module _ (A : IntegerMatrix) (list : List ℤ) (v : Vector) (is : AreCoordinates
 
   AreCoordinates-reflect : (s : ℕ) (p x : ℤ) → IsLetter A.rank s → A.rank ≤ MAX_RANK → p ≡ pairing A s v → x ≡ at_letter list s -ℤ p
       → AreCoordinates A (set list (s - 1) x) (reflect A s v)
-  unfolding reflect minus
+  unfolding reflect minus_multiple
   AreCoordinates-reflect s p x l limit p_is x_is = record {
     count = length-set list (s - 1) x ∙ is.count;
     each = λ i k. ⊎_elim (own i) (other i k) (cases_eq i s);

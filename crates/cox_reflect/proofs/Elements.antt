@@ -11,11 +11,11 @@ use Rattle.cox_base.specs.Matrix.{IsLetter}
 use Rattle.cox_base.specs.IntegerMatrix.{IntegerMatrix}
 use Rattle.cox_base.specs.Admissible.{IsAdmissible}
 use Rattle.cox_base.specs.Element.{sum_to, identity, matrix_product, generator_matrix, matrix, SameElement}
-use Rattle.cox_reflect.specs.Action.{Vector, simple_root, pairing, minus, reflect}
+use Rattle.cox_reflect.specs.Action.{Vector, simple_root, pairing, minus_multiple, reflect}
 use Rattle.cox_reflect.specs.WordAction.{act}
 use Rattle.cox_lemmas.proofs.Ring.{linears, multiply_out}
-use Rattle.cox_reflect.proofs.Sums.{letter_cases, sum_to-same, minus-sum_to, sum_to-simple_root, simple_root-self, simple_root-other}
-use Rattle.cox_reflect.proofs.Action.{act-nil, act-cons, act-append, act-push, act-minus, act-outside, act-other_root, act-fixed}
+use Rattle.cox_reflect.proofs.Sums.{letter_cases, sum_to-same, minus_multiple-sum_to, sum_to-simple_root, simple_root-self, simple_root-other}
+use Rattle.cox_reflect.proofs.Action.{act-nil, act-cons, act-append, act-push, act-minus_multiple, act-outside, act-other_root, act-fixed}
 use Rattle.cox_reflect.proofs.Action.{act-reverse, reverse-act, reflect-reflect, reflect-outside}
 
 -- ---- the columns of the matrix of a word
@@ -39,11 +39,11 @@ sum_to-identity n i v l =
 
 generator-column : (A : IntegerMatrix) (s i : ℕ) (v : Vector) → IsLetter A.rank i
     → sum_to A.rank (λ k. generator_matrix A s i k *ℤ v k) ≡ reflect A s v i
-unfolding generator_matrix minus reflect pairing
+unfolding generator_matrix minus_multiple reflect pairing
 generator-column A s i v l =
-    sum_to-same A.rank (λ k. generator_matrix A s i k *ℤ v k) (λ k. minus (identity i) (identity i s) (A.entry s) k *ℤ v k)
+    sum_to-same A.rank (λ k. generator_matrix A s i k *ℤ v k) (λ k. minus_multiple (identity i) (identity i s) (A.entry s) k *ℤ v k)
     (λ k m. simp multiply_out (omega (arith, linears)))
-    ∙ minus-sum_to A.rank (identity i) (identity i s) (A.entry s) v
+    ∙ minus_multiple-sum_to A.rank (identity i) (identity i s) (A.entry s) v
     ∙ rw (sum_to-identity A.rank i v l, identity-simple_root i s) (simp multiply_out (omega (arith, linears)))
 
 -- M(u) has the images of the simple roots as its columns
@@ -59,10 +59,10 @@ matrix-column A (s ∷ u) i t l =
 -- x without its first n coordinates
 strip : ℕ → Vector → Vector
 strip zero x = x
-strip (suc n) x = minus (strip n x) (x (suc n)) (simple_root (suc n))
+strip (suc n) x = minus_multiple (strip n x) (x (suc n)) (simple_root (suc n))
 
 strip-above : (n : ℕ) (x : Vector) (i : ℕ) → n < i → strip n x i ≡ x i
-unfolding strip minus
+unfolding strip minus_multiple
 strip-above zero x i l = refl
 strip-above (suc n) x i l =
     let ne : i ≡ suc n → ⊥ = omega arith
@@ -70,7 +70,7 @@ strip-above (suc n) x i l =
     in rw (simple_root-other (suc n) i ne) (simp multiply_out (omega (arith, linears)))
 
 strip-inside : (n : ℕ) (x : Vector) (i : ℕ) → IsLetter n i → strip n x i ≡ pos 0
-unfolding strip minus
+unfolding strip minus_multiple
 strip-inside zero x i l = absurd (omega (arith, l.from_one, l.to_rank))
 strip-inside (suc n) x i l = ⊎_elim here (before (strip-inside n x i)) (cases_eq i (suc n))
   where
@@ -85,9 +85,9 @@ strip-inside (suc n) x i l = ⊎_elim here (before (strip-inside n x i)) (cases_
         let zero_there : strip n x i ≡ pos 0 = ih (record { from_one = l.from_one; to_rank = omega (arith, l.to_rank) })
         in rw (simple_root-other (suc n) i ne) (simp multiply_out (omega (arith, linears)))
 
-minus-cancel : (a b : Vector) (c : ℤ) (w : Vector) → minus a c w ≡ minus b c w → a ≡ b
-unfolding minus
-minus-cancel a b c w e = fun_ext (λ i. omega (arith, linears, ap (λ (v : Vector). v i) e))
+minus_multiple-cancel : (a b : Vector) (c : ℤ) (w : Vector) → minus_multiple a c w ≡ minus_multiple b c w → a ≡ b
+unfolding minus_multiple
+minus_multiple-cancel a b c w e = fun_ext (λ i. omega (arith, linears, ap (λ (v : Vector). v i) e))
 
 module _ (A : IntegerMatrix) (g : IsAdmissible A) where
   -- words of one element act alike on the simple roots ..
@@ -109,12 +109,12 @@ module _ (A : IntegerMatrix) (g : IsAdmissible A) where
   same-strip e x zero h = h
   same-strip {u} {v} e x (suc n) h =
       let root : act A u (simple_root (suc n)) ≡ act A v (simple_root (suc n)) = same-roots e (suc n)
-      in let both : minus (act A u (strip n x)) (x (suc n)) (act A v (simple_root (suc n))) ≡ minus (act A v (strip n x))
+      in let both : minus_multiple (act A u (strip n x)) (x (suc n)) (act A v (simple_root (suc n))) ≡ minus_multiple (act A v (strip n x))
       (x (suc n)) (act A v (simple_root (suc n)))
-      = ap (minus (act A u (strip n x)) (x (suc n))) (sym root)
-      ∙ sym (act-minus A u (strip n x) (x (suc n)) (simple_root (suc n))) ∙ h
-      ∙ act-minus A v (strip n x) (x (suc n)) (simple_root (suc n))
-      in same-strip e x n (minus-cancel (act A u (strip n x)) (act A v (strip n x)) (x (suc n)) (act A v (simple_root (suc n))) both)
+      = ap (minus_multiple (act A u (strip n x)) (x (suc n))) (sym root)
+      ∙ sym (act-minus_multiple A u (strip n x) (x (suc n)) (simple_root (suc n))) ∙ h
+      ∙ act-minus_multiple A v (strip n x) (x (suc n)) (simple_root (suc n))
+      in same-strip e x n (minus_multiple-cancel (act A u (strip n x)) (act A v (strip n x)) (x (suc n)) (act A v (simple_root (suc n))) both)
 
   pub same-act : {u v : List ℕ} → SameElement A u v → (x : Vector) → act A u x ≡ act A v x
   same-act {u} {v} e x =

@@ -10,14 +10,14 @@ use Rattle.cox_base.specs.Admissible.{IsAdmissible}
 use Rattle.cox_base.specs.Element.{SameElement}
 use Rattle.cox_base.specs.ShortLex.{normal_form}
 use Rattle.cox_base.specs.Length.{word_length}
-use Rattle.cox_reflect.specs.Action.{Vector, simple_root, pairing, minus, reflect}
+use Rattle.cox_reflect.specs.Action.{Vector, simple_root, pairing, minus_multiple, reflect}
 use Rattle.cox_reflect.specs.WordAction.{act, IsNonnegative, IsNonpositive}
 use Rattle.cox_reflect.specs.Exchange.{LeavesOneOut}
 use Rattle.cox_reflect.specs.DerivedWords.{reflection, IsWithoutOne, this_one, later_one}
 use Rattle.cox_lemmas.proofs.Ring.{linears, multiply_out}
 use Rattle.cox_reflect.proofs.Sums.{letter_cases, simple_root-self, simple_root-other}
-use Rattle.cox_reflect.proofs.Action.{act-nil, act-cons, act-single, act-append, act-push, act-minus, act-reverse, reverse-act}
-use Rattle.cox_reflect.proofs.Action.{reflect-reflect, reflect-outside, reflect-simple_root, pairing-minus, pairing-simple_root}
+use Rattle.cox_reflect.proofs.Action.{act-nil, act-cons, act-single, act-append, act-push, act-minus_multiple, act-reverse, reverse-act}
+use Rattle.cox_reflect.proofs.Action.{reflect-reflect, reflect-outside, reflect-simple_root, pairing-minus_multiple, pairing-simple_root}
 use Rattle.cox_reflect.proofs.Elements.{same-act, act-same, roots-same, same-refl, same-sym, same-trans, same-cons, same-append}
 use Rattle.cox_reflect.proofs.Search.{normal_form-same, word_length-least, word_length-equal}
 use Rattle.cox_reflect.proofs.Lengths.{word_length-is}
@@ -35,12 +35,12 @@ length-without_one (later_one w) = omega (arith, length-without_one w)
 module _ (A : IntegerMatrix) (g : IsAdmissible A) where
   -- the reflection x t x^-1, where x e(t) = e(s)
   reflection-act : (x : List ℕ) (t s : ℕ) → act A x (simple_root t) ≡ simple_root s → (v : Vector)
-      → act A (x ++ t ∷ reverse x) v ≡ minus v (pairing A t (act A (reverse x) v)) (simple_root s)
+      → act A (x ++ t ∷ reverse x) v ≡ minus_multiple v (pairing A t (act A (reverse x) v)) (simple_root s)
   unfolding reflect
   reflection-act x t s e v =
       act-append A x (t ∷ reverse x) v
       ∙ ap (act A x) (act-cons A t (reverse x) v)
-      ∙ act-minus A x (act A (reverse x) v) (pairing A t (act A (reverse x) v)) (simple_root t)
+      ∙ act-minus_multiple A x (act A (reverse x) v) (pairing A t (act A (reverse x) v)) (simple_root t)
       ∙ rw (reverse-act A g x v, e)
 
   -- with c for the coefficient at e(r), and a for a(s,r): the images of e(r) under s (x t x^-1) and under (x t x^-1) s
@@ -48,25 +48,25 @@ module _ (A : IntegerMatrix) (g : IsAdmissible A) where
       → act A (s ∷ (x ++ t ∷ reverse x)) (simple_root r) i
       ≡ (simple_root r i -ℤ (pairing A t (act A (reverse x) (simple_root r)) *ℤ simple_root s i))
       -ℤ ((A.entry s r -ℤ (pairing A t (act A (reverse x) (simple_root r)) *ℤ pos 2)) *ℤ simple_root s i)
-  unfolding reflect minus
+  unfolding reflect minus_multiple
   image_front x t s r i ls e =
       let c : ℤ = pairing A t (act A (reverse x) (simple_root r))
-      in let paired : pairing A s (minus (simple_root r) c (simple_root s)) ≡ A.entry s r -ℤ (c *ℤ pos 2)
-      = rw (pairing-minus A s (simple_root r) c (simple_root s), pairing-simple_root A g s r, pairing-simple_root A g s s, g.diagonal s ls)
+      in let paired : pairing A s (minus_multiple (simple_root r) c (simple_root s)) ≡ A.entry s r -ℤ (c *ℤ pos 2)
+      = rw (pairing-minus_multiple A s (simple_root r) c (simple_root s), pairing-simple_root A g s r, pairing-simple_root A g s s, g.diagonal s ls)
       in rw (act-cons A s (x ++ t ∷ reverse x) (simple_root r), reflection-act x t s e (simple_root r), paired)
 
   image_back : (x : List ℕ) (t s r i : ℕ) → IsLetter A.rank t → act A x (simple_root t) ≡ simple_root s
       → act A ((x ++ t ∷ reverse x) ++ s ∷ []) (simple_root r) i
       ≡ (simple_root r i -ℤ (A.entry s r *ℤ simple_root s i))
       -ℤ ((pairing A t (act A (reverse x) (simple_root r)) -ℤ (A.entry s r *ℤ pos 2)) *ℤ simple_root s i)
-  unfolding reflect minus
+  unfolding reflect minus_multiple
   image_back x t s r i lt e =
       let c : ℤ = pairing A t (act A (reverse x) (simple_root r))
       in let back : act A (reverse x) (simple_root s) ≡ simple_root t = ap (act A (reverse x)) (sym e) ∙ act-reverse A g x (simple_root t)
-      in let paired : pairing A t (act A (reverse x) (minus (simple_root r) (A.entry s r) (simple_root s))) ≡ c -ℤ (A.entry s r *ℤ pos 2)
+      in let paired : pairing A t (act A (reverse x) (minus_multiple (simple_root r) (A.entry s r) (simple_root s))) ≡ c -ℤ (A.entry s r *ℤ pos 2)
       = rw (
-        act-minus A (reverse x) (simple_root r) (A.entry s r) (simple_root s),
-        pairing-minus A t (act A (reverse x) (simple_root r)) (A.entry s r) (act A (reverse x) (simple_root s)),
+        act-minus_multiple A (reverse x) (simple_root r) (A.entry s r) (simple_root s),
+        pairing-minus_multiple A t (act A (reverse x) (simple_root r)) (A.entry s r) (act A (reverse x) (simple_root s)),
         back,
         pairing-simple_root A g t t,
         g.diagonal t lt,
@@ -74,7 +74,7 @@ module _ (A : IntegerMatrix) (g : IsAdmissible A) where
       in rw (
         act-push A (x ++ t ∷ reverse x) s (simple_root r),
         pairing-simple_root A g s r,
-        reflection-act x t s e (minus (simple_root r) (A.entry s r) (simple_root s)),
+        reflection-act x t s e (minus_multiple (simple_root r) (A.entry s r) (simple_root s)),
         paired,
       )
 

@@ -13,14 +13,14 @@ use Rattle.cox_base.specs.Element.{sum_to, matrix, SameElement}
 use Rattle.cox_base.specs.ShortLex.{normal_form}
 use Rattle.cox_base.specs.Length.{word_length}
 use Rattle.cox_base.specs.Reduced.{IsLeftDescent}
-use Rattle.cox_reflect.specs.Action.{Vector, simple_root, pairing, minus, reflect}
+use Rattle.cox_reflect.specs.Action.{Vector, simple_root, pairing, minus_multiple, reflect}
 use Rattle.cox_reflect.specs.WordAction.{act, IsNonpositive}
 use Rattle.cox_reflect.specs.RootHeight.{at_letter, height}
 use Rattle.cox_reflect.specs.Height.{AreHeights, AreOfShortElement, AreShortWith}
 use Rattle.cox_lemmas.proofs.Ring.{linears, multiply_out, one_times}
 use Rattle.cox_reflect.proofs.Sums.{letter_above, last_letter, letter_cases, sum_to-same, sum_to-simple_root, sum_to-other_root}
 use Rattle.cox_reflect.proofs.Sums.{simple_root-other}
-use Rattle.cox_reflect.proofs.Action.{act-nil, act-push, act-minus, act-outside, pairing-simple_root}
+use Rattle.cox_reflect.proofs.Action.{act-nil, act-push, act-minus_multiple, act-outside, pairing-simple_root}
 use Rattle.cox_reflect.proofs.Elements.{matrix-column, same-act, same-reverse, same-sym}
 use Rattle.cox_reflect.proofs.Search.{normal_form-same, word_length-length}
 use Rattle.cox_reflect.proofs.Lengths.{word_length-is, word_length-cons}
@@ -31,8 +31,8 @@ use Rattle.cox_reflect.proofs.Roots.{reverse_left_descent, left_descent-letter}
 
 -- ---- sums
 
-sum_to-minus_alone : (n : ℕ) (v : Vector) (c : ℤ) (w : Vector) → sum_to n (minus v c w) ≡ sum_to n v -ℤ (c *ℤ sum_to n w)
-unfolding sum_to minus
+sum_to-minus_alone : (n : ℕ) (v : Vector) (c : ℤ) (w : Vector) → sum_to n (minus_multiple v c w) ≡ sum_to n v -ℤ (c *ℤ sum_to n w)
+unfolding sum_to minus_multiple
 sum_to-minus_alone zero v c w = simp multiply_out (omega (arith, linears))
 sum_to-minus_alone (suc n) v c w = rw (sum_to-minus_alone n v c w) (simp multiply_out (omega (arith, linears)))
 
@@ -93,7 +93,7 @@ module _ (A : IntegerMatrix) (g : IsAdmissible A) where
       height-column A (s ∷ u) t
       ∙ ap (λ (w : List ℕ). sum_to A.rank (act A w (simple_root t))) (reverse-cons s u)
       ∙ ap (sum_to A.rank) (act-push A (reverse u) s (simple_root t)
-      ∙ act-minus A (reverse u) (simple_root t) (pairing A s (simple_root t)) (simple_root s))
+      ∙ act-minus_multiple A (reverse u) (simple_root t) (pairing A s (simple_root t)) (simple_root s))
       ∙ sum_to-minus_alone A.rank (act A (reverse u) (simple_root t)) (pairing A s (simple_root t)) (act A (reverse u) (simple_root s))
       ∙ rw (pairing-simple_root A g s t, height-column A u t, height-column A u s) refl
 

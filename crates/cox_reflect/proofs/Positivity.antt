@@ -12,11 +12,11 @@ use Rattle.cox_base.specs.Element.{SameElement}
 use Rattle.cox_base.specs.ShortLex.{normal_form}
 use Rattle.cox_base.specs.Length.{word_length}
 use Rattle.cox_base.specs.Reduced.{IsReduced}
-use Rattle.cox_reflect.specs.Action.{Vector, simple_root, minus}
+use Rattle.cox_reflect.specs.Action.{Vector, simple_root, minus_multiple}
 use Rattle.cox_reflect.specs.WordAction.{act, IsNonnegative}
 use Rattle.cox_lemmas.proofs.Ring.{linears, multiply_out, neg_mul, product_nonnegative}
 use Rattle.cox_reflect.proofs.Sums.{letter_cases, simple_root-self, simple_root-other}
-use Rattle.cox_reflect.proofs.Action.{act-nil, act-append, act-minus}
+use Rattle.cox_reflect.proofs.Action.{act-nil, act-append, act-minus_multiple}
 use Rattle.cox_reflect.proofs.Elements.{same-act, same-refl, same-sym, same-trans, same-equal, same-append, same-push}
 use Rattle.cox_reflect.proofs.Elements.{same-push_twice, same-square, same-outside}
 use Rattle.cox_reflect.proofs.Search.{normal_form-same, length-normal_form, word_length-least, word_length-equal, word_length-length}
@@ -203,16 +203,16 @@ module _ (A : IntegerMatrix) (g : IsAdmissible A) where
       → (shift r.count (pos 2) (A.entry t s) (A.entry s t) (A.entry t s)).1 ≤ℤ pos 0
       → IsNonnegative (act A r.prefix (simple_root s)) → IsNonnegative (act A r.prefix (simple_root t))
       → IsNonnegative (act A u (simple_root s))
-  unfolding moved minus
+  unfolding moved minus_multiple
   spread_nonnegative u s t r ls lt hx hy ps pt =
       let x : ℤ = (shift r.count (pos 2) (A.entry t s) (A.entry s t) (A.entry t s)).0
       in let y : ℤ = (shift r.count (pos 2) (A.entry t s) (A.entry s t) (A.entry t s)).1
-      in let e : act A u (simple_root s) ≡ minus (minus (act A r.prefix (simple_root s)) x (act A r.prefix (simple_root s))) y
+      in let e : act A u (simple_root s) ≡ minus_multiple (minus_multiple (act A r.prefix (simple_root s)) x (act A r.prefix (simple_root s))) y
       (act A r.prefix (simple_root t))
       = sym (same-act A g r.same (simple_root s)) ∙ act-append A r.prefix (alternating r.count s t) (simple_root s)
       ∙ ap (act A r.prefix) (act-alternating_root A g r.count s t ls lt)
-      ∙ act-minus A r.prefix (minus (simple_root s) x (simple_root s)) y (simple_root t)
-      ∙ ap (λ (v : Vector). minus v y (act A r.prefix (simple_root t))) (act-minus A r.prefix (simple_root s) x (simple_root s))
+      ∙ act-minus_multiple A r.prefix (minus_multiple (simple_root s) x (simple_root s)) y (simple_root t)
+      ∙ ap (λ (v : Vector). minus_multiple v y (act A r.prefix (simple_root t))) (act-minus_multiple A r.prefix (simple_root s) x (simple_root s))
       in λ i. rw e (combination_nonnegative x y (act A r.prefix (simple_root s) i) (act A r.prefix (simple_root t) i) hx hy (ps i) (pt i))
 
   positive_step : (x : List ℕ) (t s : ℕ) → Shorter (length (x ++ t ∷ [])) → IsReduced A (x ++ t ∷ [])

@@ -14,10 +14,10 @@ use Rattle.cox_base.specs.IntegerMatrix.{IntegerMatrix}
 use Rattle.cox_base.specs.Admissible.{two, three, four, back_four, six, IsAdmissible, IsAdmissiblePair, HasOrder, order_six, order_back_six}
 use Rattle.cox_base.specs.Admissible.{back_six, infinity, order_two, order_three, order_four, order_back_four}
 use Rattle.cox_base.specs.Element.{SameElement}
-use Rattle.cox_reflect.specs.Action.{Vector, simple_root, pairing, minus, reflect}
+use Rattle.cox_reflect.specs.Action.{Vector, simple_root, pairing, minus_multiple, reflect}
 use Rattle.cox_reflect.specs.WordAction.{act}
 use Rattle.cox_lemmas.proofs.Ring.{linears, multiply_out}
-use Rattle.cox_reflect.proofs.Action.{act-nil, act-cons, pairing-minus, pairing-simple_root}
+use Rattle.cox_reflect.proofs.Action.{act-nil, act-cons, pairing-minus_multiple, pairing-simple_root}
 use Rattle.cox_reflect.proofs.Elements.{act-same}
 
 abbrev pub is_even : ℕ → Bool
@@ -31,7 +31,7 @@ alternating (suc k) s t = cond (is_even k) t s ∷ alternating k s t
 
 -- v - x e(s) - y e(t)
 unfoldable pub moved : ℕ → ℕ → Vector → ℤ × ℤ → Vector
-moved s t v c = minus (minus v c.0 (simple_root s)) c.1 (simple_root t)
+moved s t v c = minus_multiple (minus_multiple v c.0 (simple_root s)) c.1 (simple_root t)
 
 -- the coefficients after one letter more, t or s; p and q are p(s,v) and p(t,v), a and b are a(s,t) and a(t,s)
 abbrev pub step : Bool → ℤ → ℤ → ℤ → ℤ → ℤ × ℤ → ℤ × ℤ
@@ -207,7 +207,7 @@ pub alternating-ends : (k m s t : ℕ) → m ≤ k → (x : List ℕ) × (altern
 alternating-ends k m s t l = let e : k - m + m ≡ k = omega arith in rw e at (alternating-add (k - m) m s t)
 
 moved-swap : (s t : ℕ) (v : Vector) (c d : ℤ × ℤ) → c.0 ≡ d.1 → c.1 ≡ d.0 → moved s t v c ≡ moved t s v d
-unfolding moved minus
+unfolding moved minus_multiple
 moved-swap s t v c d e f = fun_ext (λ i. rw (e, f) (omega (arith, linears)))
 
 moved-step_s : (v x y e f p a : ℤ)
@@ -230,25 +230,25 @@ module _ (A : IntegerMatrix) (g : IsAdmissible A) where
   unfolding moved
   pairing-moved r s t v c =
       rw (
-        pairing-minus A r (minus v c.0 (simple_root s)) c.1 (simple_root t),
-        pairing-minus A r v c.0 (simple_root s),
+        pairing-minus_multiple A r (minus_multiple v c.0 (simple_root s)) c.1 (simple_root t),
+        pairing-minus_multiple A r v c.0 (simple_root s),
         pairing-simple_root A g r s,
         pairing-simple_root A g r t,
       )
 
   moved-step : (even : Bool) (s t : ℕ) (v : Vector) (c : ℤ × ℤ) → IsLetter A.rank s → IsLetter A.rank t
       → reflect A (cond even t s) (moved s t v c) ≡ moved s t v (step even (pairing A s v) (pairing A t v) (A.entry s t) (A.entry t s) c)
-  unfolding moved reflect minus
+  unfolding moved reflect minus_multiple
   moved-step true s t v c l k =
-      ap (λ (p : ℤ). minus (moved s t v c) p (simple_root t)) (pairing-moved t s t v c)
+      ap (λ (p : ℤ). minus_multiple (moved s t v c) p (simple_root t)) (pairing-moved t s t v c)
       ∙ fun_ext (λ i. rw (g.diagonal t k) (moved-step_t (v i) c.0 c.1 (simple_root s i) (simple_root t i) (pairing A t v) (A.entry t s)))
   moved-step false s t v c l k =
-      ap (λ (p : ℤ). minus (moved s t v c) p (simple_root s)) (pairing-moved s s t v c)
+      ap (λ (p : ℤ). minus_multiple (moved s t v c) p (simple_root s)) (pairing-moved s s t v c)
       ∙ fun_ext (λ i. rw (g.diagonal s l) (moved-step_s (v i) c.0 c.1 (simple_root s i) (simple_root t i) (pairing A s v) (A.entry s t)))
 
   act-alternating : (k s t : ℕ) (v : Vector) → IsLetter A.rank s → IsLetter A.rank t
       → act A (alternating k s t) v ≡ moved s t v (shift k (pairing A s v) (pairing A t v) (A.entry s t) (A.entry t s))
-  unfolding moved minus
+  unfolding moved minus_multiple
   act-alternating zero s t v ls lt =
       rw (alternating-zero s t, act-nil A v) (fun_ext (λ i. simp multiply_out (omega (arith, linears))))
   act-alternating (suc k) s t v ls lt =

@@ -12,11 +12,11 @@ use Rattle.cox_base.specs.Admissible.{IsAdmissible}
 use Rattle.cox_base.specs.Element.{SameElement}
 use Rattle.cox_base.specs.Length.{word_length}
 use Rattle.cox_base.specs.Reduced.{IsLeftDescent, IsRightDescent}
-use Rattle.cox_reflect.specs.Action.{Vector, simple_root, minus, reflect}
+use Rattle.cox_reflect.specs.Action.{Vector, simple_root, minus_multiple, reflect}
 use Rattle.cox_reflect.specs.WordAction.{act, IsNonnegative, IsNonpositive}
 use Rattle.cox_lemmas.proofs.Ring.{linears, zero_times, times_zero}
 use Rattle.cox_reflect.proofs.Sums.{letter_cases, simple_root-self, simple_root-other}
-use Rattle.cox_reflect.proofs.Action.{act-push, act-minus, act-reverse, act-fixed, reflect-simple_root, reflect-other, act-other_root}
+use Rattle.cox_reflect.proofs.Action.{act-push, act-minus_multiple, act-reverse, act-fixed, reflect-simple_root, reflect-other, act-other_root}
 use Rattle.cox_reflect.proofs.Elements.{same-refl, same-append, same-outside, same-push_twice}
 use Rattle.cox_reflect.proofs.Search.{word_length-equal}
 use Rattle.cox_reflect.proofs.Lengths.{word_length-push, push-word_length, word_length-reverse, word_length-cons_reverse}
@@ -35,13 +35,13 @@ factor-one (negsuc c) d h e = absurd h.le
 unfoldable pub negated : Vector → Vector
 negated v i = neg_ℤ (v i)
 
-twice : (v : Vector) → negated v ≡ minus v (pos 2) v
-unfolding negated minus
+twice : (v : Vector) → negated v ≡ minus_multiple v (pos 2) v
+unfolding negated minus_multiple
 twice v = fun_ext (λ i. omega (arith, ints))
 
 pub act-negated : (A : IntegerMatrix) (u : List ℕ) (v : Vector) → act A u (negated v) ≡ negated (act A u v)
 unfolding negated
-act-negated A u v = ap (act A u) (twice v) ∙ act-minus A u v (pos 2) v ∙ sym (twice (act A u v))
+act-negated A u v = ap (act A u) (twice v) ∙ act-minus_multiple A u v (pos 2) v ∙ sym (twice (act A u v))
 
 -- s makes u longer, and the root is nonnegative; or s makes it shorter, and the root is nonpositive
 pub data SignOf (A : IntegerMatrix) (u : List ℕ) (s : ℕ) : Type 0 where
@@ -93,7 +93,7 @@ module _ (A : IntegerMatrix) (g : IsAdmissible A) where
   -- only e(s) changes its sign under s
   pub sign_changes : (x : List ℕ) (t s : ℕ) → IsNonnegative (act A x (simple_root t))
       → IsNonpositive (reflect A s (act A x (simple_root t))) → act A x (simple_root t) ≡ simple_root s
-  unfolding minus
+  unfolding minus_multiple
   sign_changes x t s h k = fun_ext (λ i. ⊎_elim (at_own i) (at_other i) (cases_eq i s))
     where
       b : Vector
@@ -103,16 +103,16 @@ module _ (A : IntegerMatrix) (g : IsAdmissible A) where
       other i ne = omega (arith, linears, h i, k i, reflect-other A s b i ne)
 
       -- b - b(s) e(s) is 0, so it is fixed
-      rest : (i : ℕ) → minus b (b s) (simple_root s) i ≡ pos 0
+      rest : (i : ℕ) → minus_multiple b (b s) (simple_root s) i ≡ pos 0
       rest i =
           ⊎_elim (λ (e : i ≡ s). rw (e, simple_root-self s) (omega (arith, ints)))
           (λ ne. rw (simple_root-other s i ne) (omega (arith, ints, other i ne))) (cases_eq i s)
 
       image : simple_root t t -ℤ (b s *ℤ act A (reverse x) (simple_root s) t) ≡ pos 0
       image =
-          ap (λ (v : Vector). minus v (b s) (act A (reverse x) (simple_root s)) t) (sym (act-reverse A g x (simple_root t)))
-          ∙ ap (λ (v : Vector). v t) (sym (act-minus A (reverse x) b (b s) (simple_root s)))
-          ∙ ap (λ (v : Vector). v t) (act-fixed A g (reverse x) (minus b (b s) (simple_root s)) (λ i l. rest i))
+          ap (λ (v : Vector). minus_multiple v (b s) (act A (reverse x) (simple_root s)) t) (sym (act-reverse A g x (simple_root t)))
+          ∙ ap (λ (v : Vector). v t) (sym (act-minus_multiple A (reverse x) b (b s) (simple_root s)))
+          ∙ ap (λ (v : Vector). v t) (act-fixed A g (reverse x) (minus_multiple b (b s) (simple_root s)) (λ i l. rest i))
           ∙ rest t
 
       factor : b s *ℤ act A (reverse x) (simple_root s) t ≡ pos 1

@@ -7,7 +7,7 @@ use Rattle.cox_base.specs.Matrix.{IsLetter}
 use Rattle.cox_base.specs.IntegerMatrix.{IntegerMatrix}
 use Rattle.cox_base.specs.Admissible.{two, three, four, back_four, six, IsAdmissible, IsAdmissiblePair, back_six, infinity}
 use Rattle.cox_base.specs.Element.{sum_to}
-use Rattle.cox_reflect.specs.Action.{Vector, simple_root, pairing, minus, reflect}
+use Rattle.cox_reflect.specs.Action.{Vector, simple_root, pairing, minus_multiple, reflect}
 use Rattle.cox_reflect.specs.WordAction.{act, size}
 use Rattle.cox_reflect.proofs.Sums.{letter_cases, simple_root-self, simple_root-other}
 use Rattle.cox_reflect.proofs.Action.{act-nil, act-cons}
@@ -35,37 +35,37 @@ size-prefix k (suc n) v l =
     before : (k ≤ n → size k v ≤ size n v) → (k ≡ suc n → ⊥) → size k v ≤ size n v + nat_abs (v (suc n))
     before prefix ne = let small = prefix (omega arith) in omega (arith, small)
 
-minus-other : (s i : ℕ) (v : Vector) (c : ℤ) → (i ≡ s → ⊥) → minus v c (simple_root s) i ≡ v i
-unfolding minus
-minus-other s i v c ne = rw (simple_root-other s i ne) (omega (arith, ints))
+minus_multiple-other : (s i : ℕ) (v : Vector) (c : ℤ) → (i ≡ s → ⊥) → minus_multiple v c (simple_root s) i ≡ v i
+unfolding minus_multiple
+minus_multiple-other s i v c ne = rw (simple_root-other s i ne) (omega (arith, ints))
 
-minus-self : (s : ℕ) (v : Vector) (c : ℤ) → minus v c (simple_root s) s ≡ v s -ℤ c
-unfolding minus
-minus-self s v c = rw (simple_root-self s) (omega (arith, ints))
+minus_multiple-self : (s : ℕ) (v : Vector) (c : ℤ) → minus_multiple v c (simple_root s) s ≡ v s -ℤ c
+unfolding minus_multiple
+minus_multiple-self s v c = rw (simple_root-self s) (omega (arith, ints))
 
-size-below : (n s : ℕ) (v : Vector) (c : ℤ) → n < s → size n (minus v c (simple_root s)) ≡ size n v
+size-below : (n s : ℕ) (v : Vector) (c : ℤ) → n < s → size n (minus_multiple v c (simple_root s)) ≡ size n v
 unfolding size
 size-below zero s v c l = refl
 size-below (suc n) s v c l =
     let ne : suc n ≡ s → ⊥ = omega arith
-    in rw (size-below n s v c (omega arith), minus-other s (suc n) v c ne)
+    in rw (size-below n s v c (omega arith), minus_multiple-other s (suc n) v c ne)
 
-pub size-minus : (n s : ℕ) (v : Vector) (c : ℤ) → size n (minus v c (simple_root s)) ≤ size n v + nat_abs c
+pub size-minus_multiple : (n s : ℕ) (v : Vector) (c : ℤ) → size n (minus_multiple v c (simple_root s)) ≤ size n v + nat_abs c
 unfolding size
-size-minus zero s v c = omega arith
-size-minus (suc n) s v c = ⊎_elim last (before (size-minus n s v c)) (cases_eq s (suc n))
+size-minus_multiple zero s v c = omega arith
+size-minus_multiple (suc n) s v c = ⊎_elim last (before (size-minus_multiple n s v c)) (cases_eq s (suc n))
   where
-    at_last : size n (minus v c (simple_root (suc n))) + nat_abs (minus v c (simple_root (suc n)) (suc n)) ≤ size n v + nat_abs
+    at_last : size n (minus_multiple v c (simple_root (suc n))) + nat_abs (minus_multiple v c (simple_root (suc n)) (suc n)) ≤ size n v + nat_abs
         (v (suc n)) + nat_abs c
-    at_last = rw (size-below n (suc n) v c (omega arith), minus-self (suc n) v c) (omega (arith, ints))
+    at_last = rw (size-below n (suc n) v c (omega arith), minus_multiple-self (suc n) v c) (omega (arith, ints))
 
     last : s ≡ suc n
-        → size n (minus v c (simple_root s)) + nat_abs (minus v c (simple_root s) (suc n)) ≤ size n v + nat_abs (v (suc n)) + nat_abs c
+        → size n (minus_multiple v c (simple_root s)) + nat_abs (minus_multiple v c (simple_root s) (suc n)) ≤ size n v + nat_abs (v (suc n)) + nat_abs c
     last e = rw e at_last
 
-    before : size n (minus v c (simple_root s)) ≤ size n v + nat_abs c → (s ≡ suc n → ⊥)
-        → size n (minus v c (simple_root s)) + nat_abs (minus v c (simple_root s) (suc n)) ≤ size n v + nat_abs (v (suc n)) + nat_abs c
-    before prefix ne = rw (minus-other s (suc n) v c (λ e. ne (sym e))) (omega (arith, prefix))
+    before : size n (minus_multiple v c (simple_root s)) ≤ size n v + nat_abs c → (s ≡ suc n → ⊥)
+        → size n (minus_multiple v c (simple_root s)) + nat_abs (minus_multiple v c (simple_root s) (suc n)) ≤ size n v + nat_abs (v (suc n)) + nat_abs c
+    before prefix ne = rw (minus_multiple-other s (suc n) v c (λ e. ne (sym e))) (omega (arith, prefix))
 
 size-simple_root_below : (n s : ℕ) → n < s → size n (simple_root s) ≡ 0
 unfolding size
@@ -127,7 +127,7 @@ module _ (A : IntegerMatrix) (g : IsAdmissible A) where
 
   pub size-reflect : (s : ℕ) (v : Vector) → size A.rank (reflect A s v) ≤ 4 * size A.rank v
   unfolding reflect
-  size-reflect s v = omega (arith, size-minus A.rank s v (pairing A s v), pairing-small s v)
+  size-reflect s v = omega (arith, size-minus_multiple A.rank s v (pairing A s v), pairing-small s v)
 
   pub size-act : (w : List ℕ) (s : ℕ) → size A.rank (act A w (simple_root s)) ≤ 4 ^ length w
   size-act [] s = rw (act-nil A (simple_root s)) (size-simple_root A.rank s)

@@ -5,7 +5,7 @@ use Rattle.std.proofs.lemmas.Bool.{cases_lt, cases_eq}
 use Rattle.std.proofs.lemmas.Int.{ints}
 use Rattle.cox_base.specs.Matrix.{IsLetter}
 use Rattle.cox_base.specs.Element.{sum_to}
-use Rattle.cox_reflect.specs.Action.{Vector, simple_root, minus}
+use Rattle.cox_reflect.specs.Action.{Vector, simple_root, minus_multiple}
 use Rattle.cox_lemmas.proofs.Ring.{linears, multiply_out}
 
 pub letter_above : (n s : ℕ) → IsLetter n s → IsLetter (suc n) s
@@ -43,18 +43,18 @@ sum_to-zero (suc n) f e =
     omega (arith, linears, sum_to-zero n f (λ t l. e t (letter_above n t l)), e (suc n) (last_letter n))
 
 -- a sum is linear
-pub sum_to-minus : (n : ℕ) (a : ℕ → ℤ) (v : Vector) (c : ℤ) (w : Vector)
-    → sum_to n (λ t. a t *ℤ minus v c w t) ≡ sum_to n (λ t. a t *ℤ v t) -ℤ (c *ℤ sum_to n (λ t. a t *ℤ w t))
-unfolding sum_to minus
-sum_to-minus zero a v c w = simp multiply_out (omega (arith, linears))
-sum_to-minus (suc n) a v c w = rw (sum_to-minus n a v c w) (simp multiply_out (omega (arith, linears)))
+pub sum_to-minus_multiple : (n : ℕ) (a : ℕ → ℤ) (v : Vector) (c : ℤ) (w : Vector)
+    → sum_to n (λ t. a t *ℤ minus_multiple v c w t) ≡ sum_to n (λ t. a t *ℤ v t) -ℤ (c *ℤ sum_to n (λ t. a t *ℤ w t))
+unfolding sum_to minus_multiple
+sum_to-minus_multiple zero a v c w = simp multiply_out (omega (arith, linears))
+sum_to-minus_multiple (suc n) a v c w = rw (sum_to-minus_multiple n a v c w) (simp multiply_out (omega (arith, linears)))
 
 -- the same with the vectors on the left
-pub minus-sum_to : (n : ℕ) (v : Vector) (c : ℤ) (w : Vector) (x : Vector)
-    → sum_to n (λ t. minus v c w t *ℤ x t) ≡ sum_to n (λ t. v t *ℤ x t) -ℤ (c *ℤ sum_to n (λ t. w t *ℤ x t))
-unfolding sum_to minus
-minus-sum_to zero v c w x = simp multiply_out (omega (arith, linears))
-minus-sum_to (suc n) v c w x = rw (minus-sum_to n v c w x) (simp multiply_out (omega (arith, linears)))
+pub minus_multiple-sum_to : (n : ℕ) (v : Vector) (c : ℤ) (w : Vector) (x : Vector)
+    → sum_to n (λ t. minus_multiple v c w t *ℤ x t) ≡ sum_to n (λ t. v t *ℤ x t) -ℤ (c *ℤ sum_to n (λ t. w t *ℤ x t))
+unfolding sum_to minus_multiple
+minus_multiple-sum_to zero v c w x = simp multiply_out (omega (arith, linears))
+minus_multiple-sum_to (suc n) v c w x = rw (minus_multiple-sum_to n v c w x) (simp multiply_out (omega (arith, linears)))
 
 -- of a sum against a simple root one term is left
 pub sum_to-simple_root : (n : ℕ) (a : ℕ → ℤ) (s : ℕ) → IsLetter n s → sum_to n (λ t. a t *ℤ simple_root s t) ≡ a s

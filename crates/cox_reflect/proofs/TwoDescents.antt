@@ -10,7 +10,7 @@ use Rattle.cox_base.specs.IntegerMatrix.{IntegerMatrix, integer_matrix}
 use Rattle.cox_base.specs.Admissible.{order_four, order_back_four, order_six, order_back_six}
 use Rattle.cox_base.specs.Element.{SameElement}
 use Rattle.cox_base.specs.Reduced.{IsReduced, IsLeftDescent, IsRightDescent}
-use Rattle.cox_reflect.specs.Action.{Vector, simple_root, minus}
+use Rattle.cox_reflect.specs.Action.{Vector, simple_root, minus_multiple}
 use Rattle.cox_reflect.proofs.Admissible.{IsAdmissible-integer_matrix, order_label}
 use Rattle.cox_reflect.proofs.Sums.{simple_root-self, simple_root-other}
 use Rattle.cox_reflect.proofs.Action.{act-nil}
@@ -78,7 +78,7 @@ moves order_back_six (suc (suc (suc (suc (suc k))))) l e f = omega (arith, l)
 
 -- what leaves e(s) where it is adds nothing to it
 moved-still : (s t : ℕ) (c : ℤ × ℤ) → (s ≡ t → ⊥) → moved s t (simple_root s) c ≡ simple_root s → (c.0 ≡ pos 0) × (c.1 ≡ pos 0)
-unfolding moved minus
+unfolding moved minus_multiple
 moved-still s t c ne e =
     let at_s : (pos 1 -ℤ (c.0 *ℤ pos 1)) -ℤ (c.1 *ℤ pos 0) ≡ pos 1 =
     rw (simple_root-self s, simple_root-other t s ne) at (ap (λ (v : Vector). v s) e)

@@ -16,9 +16,9 @@ unfoldable pub pairing : IntegerMatrix → ℕ → Vector → ℤ
 pairing A s v = sum_to A.rank (λ t. A.entry s t *ℤ v t)
 
 -- v - c w
-unfoldable pub minus : Vector → ℤ → Vector → Vector
-minus v c w i = v i -ℤ (c *ℤ w i)
+unfoldable pub minus_multiple : Vector → ℤ → Vector → Vector
+minus_multiple v c w i = v i -ℤ (c *ℤ w i)
 
 -- the image of v under the generator s
 unfoldable pub reflect : IntegerMatrix → ℕ → Vector → Vector
-reflect A s v = minus v (pairing A s v) (simple_root s)
+reflect A s v = minus_multiple v (pairing A s v) (simple_root s)

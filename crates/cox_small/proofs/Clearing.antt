@@ -8,7 +8,7 @@ use Rattle.std.proofs.lemmas.Int.{ints}
 use lib.Signed.{le_z_yes}
 use Rattle.cox_base.specs.IntegerMatrix.{IntegerMatrix}
 use Rattle.cox_base.specs.Admissible.{IsAdmissible}
-use Rattle.cox_reflect.specs.Action.{Vector, simple_root, pairing, minus, reflect}
+use Rattle.cox_reflect.specs.Action.{Vector, simple_root, pairing, minus_multiple, reflect}
 use Rattle.cox_reflect.specs.WordAction.{act, IsNonnegative, IsNonpositive}
 use Rattle.cox_reflect.specs.Transpose.{transposed}
 use Rattle.cox_lemmas.proofs.Ring.{linears, multiply_out, neg_mul, product_nonnegative}
@@ -72,7 +72,7 @@ factors (negsuc x) (negsuc y) n l h = finite_pair (suc x) (suc y) (omega (arith,
 module _ (A : IntegerMatrix) (g : IsAdmissible A) where
   pub short-not_dominates : (s : ℕ) {b c : Vector} → IsRootPair A b c → IsNonnegative b → IsShortStep A s b c
       → Dominates A (reflect A s b) (simple_root s) → ⊥
-  unfolding mix minus reflect
+  unfolding mix minus_multiple reflect
   short-not_dominates s {b} {c} h up q d =
       go (clears (factors (pairing A s b) (pairing (transposed A) s c) q.negative q.at_least_one q.at_most_three))
     where

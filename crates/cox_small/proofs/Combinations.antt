@@ -6,12 +6,12 @@ use mathlib.Core.List.{reverse-cons}
 use Rattle.cox_base.specs.Matrix.{IsLetter}
 use Rattle.cox_base.specs.IntegerMatrix.{IntegerMatrix}
 use Rattle.cox_base.specs.Admissible.{IsAdmissible}
-use Rattle.cox_reflect.specs.Action.{Vector, simple_root, pairing, minus, reflect}
+use Rattle.cox_reflect.specs.Action.{Vector, simple_root, pairing, minus_multiple, reflect}
 use Rattle.cox_reflect.specs.WordAction.{act}
 use Rattle.cox_reflect.specs.Transpose.{transposed}
 use Rattle.cox_reflect.specs.DerivedWords.{reflection}
 use Rattle.cox_lemmas.proofs.Ring.{linears, multiply_out}
-use Rattle.cox_reflect.proofs.Action.{act-nil, act-cons, act-append, act-push, act-minus, act-fixed, pairing-minus, pairing-zero}
+use Rattle.cox_reflect.proofs.Action.{act-nil, act-cons, act-append, act-push, act-minus_multiple, act-fixed, pairing-minus_multiple, pairing-zero}
 use Rattle.cox_reflect.proofs.Action.{pairing-simple_root, reverse-act}
 use Rattle.cox_reflect.proofs.Roots.{negated}
 use Rattle.cox_reflect.proofs.Exchange.{act-reflection, reflection-root}
@@ -39,8 +39,8 @@ nothing-at : (i : ℕ) → nothing i ≡ pos 0
 unfolding nothing
 nothing-at i = refl
 
-as_minus : (x : ℤ) (v : Vector) (y : ℤ) (w : Vector) → mix x v y w ≡ minus (minus nothing (neg_ℤ x) v) (neg_ℤ y) w
-unfolding mix minus nothing
+as_minus : (x : ℤ) (v : Vector) (y : ℤ) (w : Vector) → mix x v y w ≡ minus_multiple (minus_multiple nothing (neg_ℤ x) v) (neg_ℤ y) w
+unfolding mix minus_multiple nothing
 as_minus x v y w = fun_ext (λ i. simp multiply_out (omega (arith, linears)))
 
 module _ (A : IntegerMatrix) (g : IsAdmissible A) where
@@ -50,9 +50,9 @@ module _ (A : IntegerMatrix) (g : IsAdmissible A) where
 
   pub act-mix : (u : List ℕ) (x : ℤ) (v : Vector) (y : ℤ) (w : Vector) → act A u (mix x v y w) ≡ mix x (act A u v) y (act A u w)
   act-mix u x v y w =
-      ap (act A u) (as_minus x v y w) ∙ act-minus A u (minus nothing (neg_ℤ x) v) (neg_ℤ y) w
-      ∙ ap (λ (z : Vector). minus z (neg_ℤ y) (act A u w))
-      (act-minus A u nothing (neg_ℤ x) v ∙ ap (λ (z : Vector). minus z (neg_ℤ x) (act A u v)) (act-nothing u))
+      ap (act A u) (as_minus x v y w) ∙ act-minus_multiple A u (minus_multiple nothing (neg_ℤ x) v) (neg_ℤ y) w
+      ∙ ap (λ (z : Vector). minus_multiple z (neg_ℤ y) (act A u w))
+      (act-minus_multiple A u nothing (neg_ℤ x) v ∙ ap (λ (z : Vector). minus_multiple z (neg_ℤ x) (act A u v)) (act-nothing u))
       ∙ sym (as_minus x (act A u v) y (act A u w))
 
   -- <e(s), coroot of z e(t)> is the pairing of z^-1 e(s) with e(t)
@@ -81,12 +81,12 @@ module _ (A : IntegerMatrix) (g : IsAdmissible A) where
           ≡ pairing A t (act A (reverse z) (reflect A q (simple_root s)))
       step e f =
           rw (
-            pairing-minus (transposed A) s (act (transposed A) z (simple_root t))
+            pairing-minus_multiple (transposed A) s (act (transposed A) z (simple_root t))
                 (pairing (transposed A) q (act (transposed A) z (simple_root t))) (simple_root q),
             pairing-simple_root (transposed A) (IsAdmissible-transposed A g) s q,
             pairing-simple_root A g q s,
-            act-minus A (reverse z) (simple_root s) (A.entry q s) (simple_root q),
-            pairing-minus A t (act A (reverse z) (simple_root s)) (A.entry q s) (act A (reverse z) (simple_root q)),
+            act-minus_multiple A (reverse z) (simple_root s) (A.entry q s) (simple_root q),
+            pairing-minus_multiple A t (act A (reverse z) (simple_root s)) (A.entry q s) (act A (reverse z) (simple_root q)),
             e,
             f,
           )
@@ -114,22 +114,22 @@ module _ (A : IntegerMatrix) (g : IsAdmissible A) where
         let zero_there : pairing A s nothing ≡ pos 0 = pairing-zero A s nothing (λ i l. nothing-at i)
         in rw (
           as_minus x (simple_root s) y b,
-          pairing-minus A s (minus nothing (neg_ℤ x) (simple_root s)) (neg_ℤ y) b,
-          pairing-minus A s nothing (neg_ℤ x) (simple_root s),
+          pairing-minus_multiple A s (minus_multiple nothing (neg_ℤ x) (simple_root s)) (neg_ℤ y) b,
+          pairing-minus_multiple A s nothing (neg_ℤ x) (simple_root s),
           pairing-simple_root A g s s,
           g.diagonal s ls,
         )
         (simp multiply_out (omega (arith, linears, zero_there)))
 
     reflect-mix : (x y : ℤ) → reflect A s (mix x (simple_root s) y b) ≡ mix ((minus_p *ℤ y) -ℤ x) (simple_root s) y b
-    unfolding reflect minus mix
+    unfolding reflect minus_multiple mix
     reflect-mix x y = fun_ext (λ i. rw (pairing-mix x y) (simp multiply_out (omega (arith, linears))))
 
-    turn_simple : act A (reflection h.word h.letter) (simple_root s) ≡ minus (simple_root s) (pairing (transposed A) s c) b
+    turn_simple : act A (reflection h.word h.letter) (simple_root s) ≡ minus_multiple (simple_root s) (pairing (transposed A) s c) b
     unfolding reflect
     turn_simple =
         act-reflection A g h.word h.letter (simple_root s)
-        ∙ act-minus A h.word (act A (reverse h.word) (simple_root s)) (pairing A h.letter (act A (reverse h.word) (simple_root s)))
+        ∙ act-minus_multiple A h.word (act A (reverse h.word) (simple_root s)) (pairing A h.letter (act A (reverse h.word) (simple_root s)))
         (simple_root h.letter)
         ∙ rw (reverse-act A g h.word (simple_root s), ← (coroot-pairing h.word s h.letter), h.coimage, h.image) refl
 
@@ -137,7 +137,7 @@ module _ (A : IntegerMatrix) (g : IsAdmissible A) where
     turn_own = rw h.image at (reflection-root A g h.word h.letter h.inside)
 
     turn-mix : (x y : ℤ) → act A (reflection h.word h.letter) (mix x (simple_root s) y b) ≡ mix x (simple_root s) ((minus_r *ℤ x) -ℤ y) b
-    unfolding minus mix negated
+    unfolding minus_multiple mix negated
     turn-mix x y =
         act-mix (reflection h.word h.letter) x (simple_root s) y b
         ∙ rw (turn_simple, turn_own) (fun_ext (λ i. simp multiply_out (omega (arith, linears))))

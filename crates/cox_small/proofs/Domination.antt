@@ -8,12 +8,12 @@ use lib.Signed.{le_z_yes}
 use Rattle.cox_base.specs.Matrix.{IsLetter}
 use Rattle.cox_base.specs.IntegerMatrix.{IntegerMatrix}
 use Rattle.cox_base.specs.Admissible.{IsAdmissible}
-use Rattle.cox_reflect.specs.Action.{Vector, simple_root, pairing, minus, reflect}
+use Rattle.cox_reflect.specs.Action.{Vector, simple_root, pairing, minus_multiple, reflect}
 use Rattle.cox_reflect.specs.WordAction.{act, IsNonnegative, IsNonpositive}
 use Rattle.cox_reflect.specs.Transpose.{transposed}
 use Rattle.cox_lemmas.proofs.Ring.{linears, multiply_out, mul_neg, neg_mul, times_one, product_nonnegative}
 use Rattle.cox_reflect.proofs.Sums.{simple_root-self}
-use Rattle.cox_reflect.proofs.Action.{act-minus}
+use Rattle.cox_reflect.proofs.Action.{act-minus_multiple}
 use Rattle.cox_reflect.proofs.Positivity.{simple_root-nonnegative}
 use Rattle.cox_small.specs.Elementary.{IsRoot, Dominates}
 use Rattle.cox_small.proofs.RootPairs.{IsRootPair, root-sign, root-act, root-simple, pair-root}
@@ -126,12 +126,12 @@ module _ (A : IntegerMatrix) (g : IsAdmissible A) where
         )
 
     negative_there : IsNonnegative (act A w (simple_root s)) → IsNonpositive (act A w (mix x (simple_root s) y b))
-    unfolding mix minus reflect
+    unfolding mix minus_multiple reflect
     negative_there n i =
         rw (act-mix A g w x (simple_root s) y b)
         (combination-sent (pairing A s b) x y (act A w (simple_root s) i) (act A w b i) at_k.up
         (omega (arith, linears, at_k.growing, at_k.far, hp)) (n i)
-        (rw (ap (λ (v : Vector). v i) (act-minus A w b (pairing A s b) (simple_root s))) at (sent i)))
+        (rw (ap (λ (v : Vector). v i) (act-minus_multiple A w b (pairing A s b) (simple_root s))) at (sent i)))
 
     never : IsNonnegative (act A w (simple_root s)) → ⊥
     unfolding mix k

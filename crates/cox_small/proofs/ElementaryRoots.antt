@@ -7,11 +7,11 @@ use Rattle.std.proofs.lemmas.List.{length-append}
 use Rattle.cox_base.specs.Matrix.{IsLetter}
 use Rattle.cox_base.specs.IntegerMatrix.{IntegerMatrix}
 use Rattle.cox_base.specs.Admissible.{IsAdmissible}
-use Rattle.cox_reflect.specs.Action.{Vector, simple_root, pairing, minus, reflect}
+use Rattle.cox_reflect.specs.Action.{Vector, simple_root, pairing, minus_multiple, reflect}
 use Rattle.cox_reflect.specs.WordAction.{act, IsNonnegative, IsNonpositive}
 use Rattle.cox_reflect.specs.Transpose.{transposed}
 use Rattle.cox_lemmas.proofs.Ring.{linears, multiply_out, product_nonnegative}
-use Rattle.cox_reflect.proofs.Action.{act-nil, act-push, act-single, act-minus, pairing-reflect, reflect-fixed, reflect-reflect}
+use Rattle.cox_reflect.proofs.Action.{act-nil, act-push, act-single, act-minus_multiple, pairing-reflect, reflect-fixed, reflect-reflect}
 use Rattle.cox_reflect.proofs.Action.{reflect-simple_root}
 use Rattle.cox_reflect.proofs.Positivity.{LastLetter, no_letter, last_letter, last_letter_of, simple_root-nonnegative}
 use Rattle.cox_reflect.proofs.Transposed.{IsAdmissible-transposed}
@@ -85,9 +85,9 @@ module _ (A : IntegerMatrix) (g : IsAdmissible A) where
   -- where p is positive and s b dominates e(s), so does b
   dominates-simple : (s : ℕ) (b : Vector) → IsLetter A.rank s → pos 0 <ℤ pairing A s b → Dominates A (reflect A s b) (simple_root s)
       → Dominates A b (simple_root s)
-  unfolding reflect minus
+  unfolding reflect minus_multiple
   dominates-simple s b l up h = record {
-    follows = λ w n. ⊎_elim (λ q. h.follows w (λ i. rw (act-minus A w b (pairing A s b) (simple_root s))
+    follows = λ w n. ⊎_elim (λ q. h.follows w (λ i. rw (act-minus_multiple A w b (pairing A s b) (simple_root s))
         (omega (arith, linears, n i, product_nonnegative (pairing A s b) (act A w (simple_root s) i) (omega (arith, linears, up)) (q i)))))
         (λ q. q) (root-sign A g (root-act A g w (root-simple A g s l)));
   }

@@ -8,11 +8,11 @@ use Rattle.cox_base.specs.Matrix.{IsLetter}
 use Rattle.cox_base.specs.IntegerMatrix.{IntegerMatrix}
 use Rattle.cox_base.specs.Admissible.{IsAdmissible}
 use Rattle.cox_base.specs.ShortLex.{normal_form}
-use Rattle.cox_reflect.specs.Action.{Vector, simple_root, pairing, minus, reflect}
+use Rattle.cox_reflect.specs.Action.{Vector, simple_root, pairing, minus_multiple, reflect}
 use Rattle.cox_reflect.specs.WordAction.{act, IsNonnegative, IsNonpositive}
 use Rattle.cox_lemmas.proofs.Ring.{linears, product_nonnegative}
 use Rattle.cox_reflect.proofs.Sums.{letter_cases, simple_root-self}
-use Rattle.cox_reflect.proofs.Action.{act-nil, act-cons, act-push, act-single, act-minus, act-reverse, pairing-outside, reflect-minus}
+use Rattle.cox_reflect.proofs.Action.{act-nil, act-cons, act-push, act-single, act-minus_multiple, act-reverse, pairing-outside, reflect-minus_multiple}
 use Rattle.cox_reflect.proofs.Action.{reflect-simple_root, reflect-outside, reflect-reflect}
 use Rattle.cox_reflect.proofs.Elements.{same-act}
 use Rattle.cox_reflect.proofs.Search.{normal_form-same, word_length-length}
@@ -36,9 +36,9 @@ pub bound : IntegerMatrix → List ℕ → ℕ → ℕ
 bound A [] i = 0
 bound A (q ∷ w) i = bound A w i + nat_abs (act A (reverse w) (simple_root q) i)
 
-minus-zero : (v : Vector) (c : ℤ) (e : Vector) (s : ℕ) → e s ≡ pos 1 → minus v c e ≡ v → c ≡ pos 0
-unfolding minus
-minus-zero v c e s one h = let at_s = ap (λ (x : Vector). x s) h in let t : c *ℤ e s ≡ c = rw one (omega (arith, ints))
+minus_multiple-zero : (v : Vector) (c : ℤ) (e : Vector) (s : ℕ) → e s ≡ pos 1 → minus_multiple v c e ≡ v → c ≡ pos 0
+unfolding minus_multiple
+minus_multiple-zero v c e s one h = let at_s = ap (λ (x : Vector). x s) h in let t : c *ℤ e s ≡ c = rw one (omega (arith, ints))
     in omega (arith, linears, at_s, t)
 
 module _ (A : IntegerMatrix) (g : IsAdmissible A) where
@@ -110,9 +110,9 @@ module _ (A : IntegerMatrix) (g : IsAdmissible A) where
     back : b ≡ act A (reverse x) (simple_root q)
     back = sym (act-reverse A g x b) ∙ ap (act A (reverse x)) turns
 
-    image : act A x (reflect A s b) ≡ minus (simple_root q) (pairing A s b) (act A x (simple_root s))
+    image : act A x (reflect A s b) ≡ minus_multiple (simple_root q) (pairing A s b) (act A x (simple_root s))
     unfolding reflect
-    image = act-minus A x b (pairing A s b) (simple_root s) ∙ ap (λ (v : Vector). minus v (pairing A s b) (act A x (simple_root s))) turns
+    image = act-minus_multiple A x b (pairing A s b) (simple_root s) ∙ ap (λ (v : Vector). minus_multiple v (pairing A s b) (act A x (simple_root s))) turns
 
     -- q x s is shorter than q x, and takes s b to -e(q)
     descends : IsNonpositive (reflect A q (act A x (simple_root s)))
@@ -138,15 +138,15 @@ module _ (A : IntegerMatrix) (g : IsAdmissible A) where
 
     both_up : IsNonnegative (act A x (simple_root s)) → IsNonnegative (reflect A q (act A x (simple_root s)))
         → IsNonpositive (act A x (reflect A s b))
-    unfolding reflect minus
+    unfolding reflect minus_multiple
     both_up m n = ⊎_elim (λ k. absurd (never k)) (λ k. k) (root-sign A g (root-act A g x (root-reflect A g s r)))
       where
         turned : (i : ℕ) → reflect A q (act A x (reflect A s b)) i ≡ neg_ℤ (simple_root q i) -ℤ
             (pairing A s b *ℤ reflect A q (act A x (simple_root s)) i)
         turned i =
             ap (λ (v : Vector). reflect A q v i) image
-            ∙ ap (λ (v : Vector). v i) (reflect-minus A q (simple_root q) (pairing A s b) (act A x (simple_root s)))
-            ∙ ap (λ (v : Vector). minus v (pairing A s b) (reflect A q (act A x (simple_root s))) i) (reflect-simple_root A g q lq)
+            ∙ ap (λ (v : Vector). v i) (reflect-minus_multiple A q (simple_root q) (pairing A s b) (act A x (simple_root s)))
+            ∙ ap (λ (v : Vector). minus_multiple v (pairing A s b) (reflect A q (act A x (simple_root s))) i) (reflect-simple_root A g q lq)
 
         never : IsNonnegative (act A x (reflect A s b)) → ⊥
         never k =
@@ -160,7 +160,7 @@ module _ (A : IntegerMatrix) (g : IsAdmissible A) where
                   (reflect A q (act A x (simple_root s)) i) (omega (arith, linears, up)) (n i),
             )))
             in let same : reflect A s b ≡ b = sym (act-reverse A g x (reflect A s b)) ∙ ap (act A (reverse x)) e ∙ sym back
-            in let zero_there : pairing A s b ≡ pos 0 = minus-zero b (pairing A s b) (simple_root s) s (simple_root-self s) same
+            in let zero_there : pairing A s b ≡ pos 0 = minus_multiple-zero b (pairing A s b) (simple_root s) s (simple_root-self s) same
             in omega (arith, linears, zero_there, up)
 
     crossing : IsNonpositive (act A x (simple_root s)) → IsNonnegative (reflect A q (act A x (simple_root s))) → ⊥
