@@ -36,7 +36,7 @@ pub fn pieces_in(text: &[u8], rank: u32) -> Pieces<'_>
 }
 
 impl<'a> Pieces<'a> {
-    /// Takes the next piece.
+    /// Takes the next piece; `None` where none is left.
     pub fn take_next(&mut self) -> Option<&'a [u8]>
         ensures { MatchOption result (self.old ≡ []) (λ piece. self.old ≡ piece.now ∷ self.new) }
     {

@@ -4,7 +4,8 @@ use Rattle.std.proofs.Common.{sym, ap, ◌∙◌, ⊎_elim, arith, length-append
 use Rattle.std.proofs.lemmas.Bool.{cases_lt, cases_eq}
 use Rattle.std.proofs.lemmas.List.{get_or-set_same, get_or-set_other, length-set, get_or_append_left}
 use Rattle.std.proofs.Math.Seq.{get_or-append_seam}
-use Rattle.cox_context.proofs.ListLemmas.{word_at-old, word_at-new, length-push, push_cases}
+use Rattle.cox_lemmas.proofs.PushLemmas.{push-length, push_cases}
+use Rattle.cox_context.proofs.ListLemmas.{word_at-old, word_at-new}
 use Rattle.cox_row.specs.Rising.{number_at}
 use Rattle.cox_row.proofs.RisingLemmas.{few-rising}
 use Rattle.cox_scc.specs.Reach.{IsLeastOfClass}
@@ -94,7 +95,7 @@ module _ (size : ℕ) (classes : List ℕ) (least : (i : ℕ) → i < size → I
     where
       still : (i k : ℕ) → IsListed lists i k → IsListed (lists ++ (n ∷ []) ∷ []) i k
       still i k p = record {
-        within = omega (arith, p.within, length-push lists (n ∷ []));
+        within = omega (arith, p.within, push-length lists (n ∷ []));
         place = p.place;
         inside = rw (word_at-old lists (n ∷ []) k p.within) p.inside;
         is = rw (word_at-old lists (n ∷ []) k p.within) p.is;
@@ -102,7 +103,7 @@ module _ (size : ℕ) (classes : List ℕ) (least : (i : ℕ) → i < size → I
 
       last : IsListed (lists ++ (n ∷ []) ∷ []) n (length lists)
       last = record {
-        within = omega (arith, length-push lists (n ∷ []));
+        within = omega (arith, push-length lists (n ∷ []));
         place = 0;
         inside = rw (word_at-new lists (n ∷ []) (length lists) refl) (let one : 0 < length (n ∷ []) = omega arith in one);
         is = rw (word_at-new lists (n ∷ []) (length lists) refl) refl;

@@ -3,7 +3,7 @@ use Rattle.std.proofs.Common.{◌≡◌, ℕ, zero, suc, ◌+◌, ◌≤◌, ◌
 use Rattle.std.proofs.Common.{negsuc, refl}
 use Rattle.std.proofs.Common.{⊎_elim, nat_eq, arith}
 use Rattle.std.specs.Cmp.Lexicographic.{pointwise, bytes_decides}
-use Rattle.std.proofs.lemmas.Bool.{cases_lt}
+use Rattle.std.proofs.lemmas.Bool.{cases_lt, and_from, and_parts, or_cases, or_left, or_right}
 use Rattle.cox_base.specs.declared.side.Side.{Side}
 use Rattle.cox_base.specs.declared.side.Side.TheVariants as Sides
 use Rattle.cox_base.specs.Matrix.{IsLetter}
@@ -36,26 +36,6 @@ left-by : {P : Type 0} (d : P ⊎ (P → ⊥)) → P → is_left d ≡ true
 unfolding is_left
 left-by (inl p) x = refl
 left-by (inr q) x = absurd (q x)
-
-pub or-first : (a b : Bool) → a ≡ true → (a || b) ≡ true
-or-first true b e = refl
-or-first false b e = absurd (cc)
-
-pub or-second : (a b : Bool) → b ≡ true → (a || b) ≡ true
-or-second true b e = refl
-or-second false b e = e
-
-pub or-either : (a b : Bool) → (a || b) ≡ true → (a ≡ true) ⊎ (b ≡ true)
-or-either true b e = inl refl
-or-either false b e = inr e
-
-pub and-both : (a b : Bool) → (a && b) ≡ true → (a ≡ true) × (b ≡ true)
-and-both true b e = (refl, e)
-and-both false b e = absurd (cc)
-
-pub both-and : (a b : Bool) → a ≡ true → b ≡ true → (a && b) ≡ true
-both-and true b e f = f
-both-and false b e f = absurd (cc)
 
 -- some number below n has a property, or none has
 some-below : (n : ℕ) (P : ℕ → Type 0) → ((k : ℕ) → P k ⊎ (P k → ⊥)) → ((k : ℕ) × (k < n) × P k) ⊎ ((k : ℕ) → k < n → P k → ⊥)
@@ -116,12 +96,12 @@ module _ (A : IntegerMatrix) (g : IsAdmissible A) where
     step-of : (x y : List ℕ) → IsElement A y → is_step x y ≡ true → IsStep kind A x y
     unfolding is_step
     step-of x y e t =
-        let b = and-both (is_left (joined-or_not x y)) (is_left (own-or_not kind x y)) t
+        let b = and_parts (is_left (joined-or_not x y)) (is_left (own-or_not kind x y)) t
         in record { neighbour = record { element = e; joined = left-of (joined-or_not x y) b.0 }; own = left-of (own-or_not kind x y) b.1 }
 
     step-by : (x y : List ℕ) → IsStep kind A x y → is_step x y ≡ true
     unfolding is_step
-    step-by x y s = both-and (is_left (joined-or_not x y)) (is_left (own-or_not kind x y)) (left-by (joined-or_not x y) s.neighbour.joined)
+    step-by x y s = and_from (is_left (joined-or_not x y)) (is_left (own-or_not kind x y)) (left-by (joined-or_not x y) s.neighbour.joined)
         (left-by (own-or_not kind x y) s.own)
 
     -- whether a chain leads from x to y by way of some of the words
@@ -131,34 +111,34 @@ module _ (A : IntegerMatrix) (g : IsAdmissible A) where
 
     leads-itself : (zs : List (List ℕ)) (x : List ℕ) → leads zs x x ≡ true
     unfolding leads
-    leads-itself [] x = or-first (pointwise nat_eq x x) (is_step x x) ((bytes_decides x x).1 refl)
-    leads-itself (z ∷ zs) x = or-first (leads zs x x) (leads zs x z && leads zs z x) (leads-itself zs x)
+    leads-itself [] x = or_left (pointwise nat_eq x x) (is_step x x) ((bytes_decides x x).1 refl)
+    leads-itself (z ∷ zs) x = or_left (leads zs x x) (leads zs x z && leads zs z x) (leads-itself zs x)
 
     leads-step : (zs : List (List ℕ)) (x y : List ℕ) → is_step x y ≡ true → leads zs x y ≡ true
     unfolding leads
-    leads-step [] x y t = or-second (pointwise nat_eq x y) (is_step x y) t
-    leads-step (z ∷ zs) x y t = or-first (leads zs x y) (leads zs x z && leads zs z y) (leads-step zs x y t)
+    leads-step [] x y t = or_right (pointwise nat_eq x y) (is_step x y) t
+    leads-step (z ∷ zs) x y t = or_left (leads zs x y) (leads zs x z && leads zs z y) (leads-step zs x y t)
 
     leads-join : (zs : List (List ℕ)) (c x y : List ℕ) → In c zs → leads zs x c ≡ true → leads zs c y ≡ true → leads zs x y ≡ true
     unfolding leads
     leads-join [] c x y i s t = elim i [ ]
     leads-join (z ∷ zs) c x y here s t =
-        or-second (leads zs x y) (leads zs x z && leads zs z y) (both-and (leads zs x z) (leads zs z y)
-        (⊎_elim (λ e. e) (λ b. (and-both (leads zs x z) (leads zs z z) b).0) (or-either (leads zs x z) (leads zs x z && leads zs z z) s))
-        (⊎_elim (λ e. e) (λ b. (and-both (leads zs z z) (leads zs z y) b).1) (or-either (leads zs z y) (leads zs z z && leads zs z y) t)))
+        or_right (leads zs x y) (leads zs x z && leads zs z y) (and_from (leads zs x z) (leads zs z y)
+        (⊎_elim (λ e. e) (λ b. (and_parts (leads zs x z) (leads zs z z) b).0) (or_cases (leads zs x z) (leads zs x z && leads zs z z) s))
+        (⊎_elim (λ e. e) (λ b. (and_parts (leads zs z z) (leads zs z y) b).1) (or_cases (leads zs z y) (leads zs z z && leads zs z y) t)))
     leads-join (z ∷ zs) c x y (there i) s t = ⊎_elim
         (λ (direct : leads zs x c ≡ true). ⊎_elim
-        (λ (on : leads zs c y ≡ true). or-first (leads zs x y) (leads zs x z && leads zs z y) (leads-join zs c x y i direct on))
-        (λ (by : (leads zs c z && leads zs z y) ≡ true). let b = and-both (leads zs c z) (leads zs z y) by
-        in or-second (leads zs x y) (leads zs x z && leads zs z y)
-        (both-and (leads zs x z) (leads zs z y) (leads-join zs c x z i direct b.0) b.1))
-        (or-either (leads zs c y) (leads zs c z && leads zs z y) t))
-        (λ (way : (leads zs x z && leads zs z c) ≡ true). let a = and-both (leads zs x z) (leads zs z c) way
-        in or-second (leads zs x y) (leads zs x z && leads zs z y) (both-and (leads zs x z) (leads zs z y) a.0 (⊎_elim
+        (λ (on : leads zs c y ≡ true). or_left (leads zs x y) (leads zs x z && leads zs z y) (leads-join zs c x y i direct on))
+        (λ (by : (leads zs c z && leads zs z y) ≡ true). let b = and_parts (leads zs c z) (leads zs z y) by
+        in or_right (leads zs x y) (leads zs x z && leads zs z y)
+        (and_from (leads zs x z) (leads zs z y) (leads-join zs c x z i direct b.0) b.1))
+        (or_cases (leads zs c y) (leads zs c z && leads zs z y) t))
+        (λ (way : (leads zs x z && leads zs z c) ≡ true). let a = and_parts (leads zs x z) (leads zs z c) way
+        in or_right (leads zs x y) (leads zs x z && leads zs z y) (and_from (leads zs x z) (leads zs z y) a.0 (⊎_elim
         (λ (on : leads zs c y ≡ true). leads-join zs c z y i a.1 on)
-        (λ (by : (leads zs c z && leads zs z y) ≡ true). (and-both (leads zs c z) (leads zs z y) by).1)
-        (or-either (leads zs c y) (leads zs c z && leads zs z y) t))))
-        (or-either (leads zs x c) (leads zs x z && leads zs z c) s)
+        (λ (by : (leads zs c z && leads zs z y) ≡ true). (and_parts (leads zs c z) (leads zs z y) by).1)
+        (or_cases (leads zs c y) (leads zs c z && leads zs z y) t))))
+        (or_cases (leads zs x c) (leads zs x z && leads zs z c) s)
 
     pub chain-of : (zs : List (List ℕ)) → ((z : List ℕ) → In z zs → IsElement A z) → (x y : List ℕ) → IsElement A y → leads zs x y ≡ true
         → Precedes kind A x y
@@ -166,12 +146,12 @@ module _ (A : IntegerMatrix) (g : IsAdmissible A) where
     chain-of [] all x y e t = ⊎_elim
         (λ (s : pointwise nat_eq x y ≡ true). let q : x ≡ y = (bytes_decides x y).0 s in rw q (Precedes.itself y))
         (λ (s : is_step x y ≡ true). chain-step kind A x y (step-of x y e s))
-        (or-either (pointwise nat_eq x y) (is_step x y) t)
+        (or_cases (pointwise nat_eq x y) (is_step x y) t)
     chain-of (z ∷ zs) all x y e t = ⊎_elim
         (λ (s : leads zs x y ≡ true). chain-of zs (λ w i. all w (there i)) x y e s)
-        (λ (s : (leads zs x z && leads zs z y) ≡ true). let b = and-both (leads zs x z) (leads zs z y) s
+        (λ (s : (leads zs x z && leads zs z y) ≡ true). let b = and_parts (leads zs x z) (leads zs z y) s
         in chain-join kind A (chain-of zs (λ w i. all w (there i)) x z (all z here) b.0) (chain-of zs (λ w i. all w (there i)) z y e b.1))
-        (or-either (leads zs x y) (leads zs x z && leads zs z y) t)
+        (or_cases (leads zs x y) (leads zs x z && leads zs z y) t)
 
     pub leads-by : (zs : List (List ℕ)) → ((z : List ℕ) → IsElement A z → In z zs) → {x y : List ℕ} → Precedes kind A x y
         → leads zs x y ≡ true

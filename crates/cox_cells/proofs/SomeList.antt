@@ -4,6 +4,7 @@ use Rattle.std.proofs.Common.{◌∙◌, arith}
 use Rattle.std.specs.Cmp.Lexicographic.{pointwise, bytes_decides}
 use Rattle.std.proofs.lemmas.List.{ext_get_or, get_or-map, length-map, get_or_default}
 use Rattle.std.proofs.lemmas.List.Elements.{All-map}
+use Rattle.std.proofs.lemmas.Bool.{and_parts, and_from}
 use Rattle.cox_base.specs.IntegerMatrix.{IntegerMatrix}
 use Rattle.cox_base.specs.Admissible.{IsAdmissible}
 use Rattle.cox_context.specs.Members.{IsElement}
@@ -14,7 +15,7 @@ use Rattle.cox_context.proofs.SortedLemmas.{IsListOf-unique, IsListOf-filter, co
 use Rattle.cox_cells.specs.declared.kind.CellKind.{CellKind}
 use Rattle.cox_cells.specs.Cells.{Precedes, IsInCell, first_of, IsCell, AreCells}
 use Rattle.cox_cells.proofs.Chains.{cell-itself, cell-back, cell-join}
-use Rattle.cox_cells.proofs.Decided.{and-both, both-and, leads, chain-of, leads-by}
+use Rattle.cox_cells.proofs.Decided.{leads, chain-of, leads-by}
 
 -- an element that passes a test
 record Passes (A : IntegerMatrix) (test : List ℕ → Bool) (x : List ℕ) : Type 0 where
@@ -39,9 +40,9 @@ module _ (kind : CellKind) (A : IntegerMatrix) (g : IsAdmissible A) (elements : 
     where
       tells : (y : List ℕ) → IsElement A y → (is_with x y ≡ true) ↔ IsInCell kind A x y
       tells y e = (
-        λ t. let b = and-both (leads A g kind elements x y) (leads A g kind elements y x) t
+        λ t. let b = and_parts (leads A g kind elements x y) (leads A g kind elements y x) t
             in record { element = e; forth = chain x y e b.0; back = chain y x d b.1 },
-        λ c. both-and (leads A g kind elements x y) (leads A g kind elements y x) (leads-chain x y c.forth) (leads-chain y x c.back),
+        λ c. and_from (leads A g kind elements x y) (leads A g kind elements y x) (leads-chain x y c.forth) (leads-chain y x c.back),
       )
 
   abbrev is_first : List ℕ → Bool

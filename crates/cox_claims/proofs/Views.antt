@@ -5,7 +5,7 @@ use Rattle.cox_fill_core.specs.declared.event.RowState.{RowState}
 use Rattle.cox_claims.specs.declared.view.View.{View}
 use Rattle.cox_claims.specs.Knowledge.{among, saw_published, saw_void, saw_claimed, caused, IsKnown}
 use Rattle.cox_claims.specs.Knowledge.{SeesAll, nothing, looked, noted, won, published, voided, parted, told, joined}
-use Rattle.cox_claims.proofs.RowTests.{among-append}
+use Rattle.cox_claims.proofs.RowTests.{among-append, among_either}
 
 -- ---- a look
 
@@ -84,10 +84,6 @@ told_known v j y k = record {
   given_up = λ h. cc;
 }
 
--- a row that is in one of two lists
-in_both : {P : Type 0} (j : ℕ) (xs ys : List ℕ) → (among j xs ≡ true → P) → (among j ys ≡ true → P) → among j (xs ++ ys) ≡ true → P
-in_both j xs ys first second h = ⊎_elim first second (or_cases (among j xs) (among j ys) (sym (among-append j xs ys) ∙ h))
-
 in_first : (j : ℕ) (xs ys : List ℕ) → among j xs ≡ true → among j (xs ++ ys) ≡ true
 in_first j xs ys h = among-append j xs ys ∙ or_left (among j xs) (among j ys) h
 
@@ -97,11 +93,11 @@ in_second j xs ys h = among-append j xs ys ∙ or_right (among j xs) (among j ys
 pub joined_known : (v w : View) (j : ℕ) (y : RowState) → IsKnown v j y → IsKnown w j y → IsKnown (joined v w) j y
 joined_known v w j y k l = record {
   held = k.held;
-  published = in_both j v.published w.published k.published l.published;
-  void = in_both j v.voids w.voids k.void l.void;
-  claimed = in_both j v.claimed w.claimed k.claimed l.claimed;
-  made = in_both j v.made w.made k.made l.made;
-  given_up = in_both j v.given_up w.given_up k.given_up l.given_up;
+  published = among_either j v.published w.published k.published l.published;
+  void = among_either j v.voids w.voids k.void l.void;
+  claimed = among_either j v.claimed w.claimed k.claimed l.claimed;
+  made = among_either j v.made w.made k.made l.made;
+  given_up = among_either j v.given_up w.given_up k.given_up l.given_up;
 }
 
 pub joined_caused_first : (v w : View) (j : ℕ) (x : RowState) → caused v j x ≡ true → caused (joined v w) j x ≡ true

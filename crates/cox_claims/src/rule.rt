@@ -15,24 +15,28 @@ impl TableRule<(), View, u32> for Rule {
     ghost first = { λ _. newcomer };
 }
 
+/// A look: the seat is told the state of the row.
 pub struct LookPlay;
 
 impl Play<(), View> for LookPlay {
     ghost then = { TellsLook };
 }
 
+/// A claim: won where the row is Free, which the seat then holds; else the seat is told its state.
 pub struct ClaimPlay;
 
 impl Play<(), View> for ClaimPlay {
     ghost then = { TellsClaim };
 }
 
+/// The seat publishes a row that it holds.
 pub struct PublishPlay;
 
 impl Play<(), View> for PublishPlay {
     ghost then = { TellsPublish };
 }
 
+/// The seat gives up a row that it holds: the row is Void.
 pub struct VoidPlay;
 
 impl Play<(), View> for VoidPlay {

@@ -59,7 +59,9 @@ impl Claims {
     ghost use Rattle.cox_claims.specs.Seats.{view_of, number_of, splits_of, one_more_split, IsSameSeat, Holds, HoldsNothing, HasSeen, HasSeenVoid, HasMarked, Reads};
     ghost use Rattle.cox_claims.specs.Tables.{rows_of, IsSeatOf, Closes};
 
-    /// A table of this many rows, all Free, and its first seat.
+    /// A table of this many rows, all Free, and its first seat, which has the number 0 and has seen nothing.
+    ///
+    /// `NoMemory` comes where there is no memory for the table.
     pub fn new(alloc: Global, rows: u32) -> Result<(Claims, Seat), NoMemory>
         requires { 0 < rows }
         ensures seat { IfOk result (λ made. IsSeatOf made.0 made.1) }

@@ -2,6 +2,7 @@
 use Rattle.std.proofs.Common.{◌≡◌, ℕ, ◌+◌, ◌≤◌, ◌<◌, List, [], ◌∷◌, length, Contains, Option, None, Some, inl, refl, ap, sym, ◌∙◌}
 use Rattle.std.proofs.Common.{⊎_elim, arith, subst, true, false, is_some, unwrap_or, length-append, inr, ◌++◌}
 use Rattle.std.proofs.lemmas.Bool.{cases_lt, cases_order}
+use Rattle.cox_lemmas.proofs.PushLemmas.{push-length, push_cases}
 use Rattle.arrayvec.specs.ArrayVec.{ArrayVec}
 use Rattle.cox_base.specs.Matrix.{CoxeterMatrix, IsLetter}
 use Rattle.cox_base.specs.Admissible.{IsCoxeterMatrix, IsAdmissible}
@@ -19,18 +20,19 @@ use Rattle.cox_reflect.proofs.Lengths.{word_length-is}
 use Rattle.cox_reflect.proofs.Bruhat.{below-same, below-length, below-equal_length}
 use Rattle.cox_context.specs.declared.members.TheConstants.{MAX_MEMBERS}
 use Rattle.cox_context.specs.Members.{IsElement}
+use Rattle.cox_context.specs.Refusal.{IsPrefixOf}
 use Rattle.cox_context.specs.Closed.{IsClosed}
 use Rattle.cox_context.specs.Numbers.{word_at, IsNumberOf}
 use Rattle.cox_context.specs.WantedMembers.{IsMember, IsBelowTop, IsMeant}
 use Rattle.cox_context.specs.Growth.{IsGrowing, IsChild, IsOutside, IsNext, IsNoNext, known, above, outside, AreBelowTop, AreNumbers}
 use Rattle.cox_context.proofs.ListLemmas.{contains-placed, placed-contains, rising-place}
-use Rattle.cox_context.proofs.ListLemmas.{word_at-old, word_at-new, length-push, push_cases}
+use Rattle.cox_context.proofs.ListLemmas.{word_at-old, word_at-new}
 use Rattle.cox_context.proofs.ShiftPlaces.{entry-old, entry-new, entry_number-some}
 use Rattle.cox_context.specs.declared.builder.Child.{Child}
 use Rattle.cox_context.specs.declared.shifts.TheConstants.{NO_MEMBER}
 use Rattle.cox_context.specs.Shifts.{entry, entry_number}
-use Rattle.cox_context.proofs.Ideals.{IsIdeal, ideal-member, ideal-tailed, element-normal_form, element-length}
-use Rattle.cox_context.proofs.GrowthLemmas.{growing-length}
+use Rattle.cox_context.proofs.Ideals.{IsIdeal, ideal-member, ideal-tailed, member-tailed, element-normal_form, element-length}
+use Rattle.cox_context.proofs.GrowthLemmas.{IsTailed, growing-length, growing-push, growing-prefix, growing-skip, growing-push_length}
 use Rattle.cox_context.proofs.NormalLemmas.{first-least}
 use Rattle.cox_context.proofs.LowerLemmas.{IsAscent, ascent}
 
@@ -52,9 +54,10 @@ unfound : (words : List (List ℕ)) (word : List ℕ) (x : Option ℕ) → IsNum
 unfound words word None none e c = none c
 unfound words word (Some k) found e c = absurd (cc)
 
-pub found : (words : List (List ℕ)) (word : List ℕ) (x : Option ℕ) → IsNumberOf words word x → is_some x ≡ true → Contains words word
-found words word None none e = absurd (cc)
-found words word (Some k) (l, is) e = placed-contains words word (record { i = k; within = l; is = is })
+-- and what has one is
+pub found-contains : (words : List (List ℕ)) (word : List ℕ) (x : Option ℕ) → IsNumberOf words word x → is_some x ≡ true → Contains words word
+found-contains words word None none e = absurd (cc)
+found-contains words word (Some k) (l, is) e = placed-contains words word (record { i = k; within = l; is = is })
 
 -- a shift that has no number lengthens its member
 pub unfound-ascent : (c : CoxeterMatrix) → IsCoxeterMatrix c → (words : List (List ℕ)) → IsClosed (integer_matrix c) words → (s i : ℕ)
@@ -233,6 +236,9 @@ module _ (c : CoxeterMatrix) (m : IsCoxeterMatrix c) (top : Option (ArrayVec ℕ
   ideal : IsIdeal (integer_matrix c) (IsMember (integer_matrix c) top earlier)
   ideal = ideal-member (integer_matrix c) g top earlier before
 
+  tailed : IsTailed c.rank (IsMember (integer_matrix c) top earlier)
+  tailed = member-tailed c m top earlier before
+
   pub member-closed : k < MAX_LETTERS → length words ≤ MAX_MEMBERS → IsClosed (integer_matrix c) words
   member-closed = growing-closed (integer_matrix c) g (IsMember (integer_matrix c) top earlier) ideal k low high s j words h
 
@@ -248,7 +254,7 @@ module _ (c : CoxeterMatrix) (m : IsCoxeterMatrix c) (top : Option (ArrayVec ℕ
       absent (Some n) e found there = absurd (cc)
 
   -- the next child is a member
-  pub next-member : (child : Child) → IsLetter c.rank s → IsClosed (integer_matrix c) words → j < high
+  next-member : (child : Child) → IsLetter c.rank s → IsClosed (integer_matrix c) words → j < high
       → IsNext (integer_matrix c) words top earlier (s ∷ word_at words j) child
       → IsMember (integer_matrix c) top earlier (s ∷ word_at words j)
   next-member child letter closed inside next =
@@ -262,7 +268,7 @@ module _ (c : CoxeterMatrix) (m : IsCoxeterMatrix c) (top : Option (ArrayVec ℕ
       in rw normal at p
 
   -- a child that is not the next is none
-  pub no-next-none : j < high → IsNoNext (integer_matrix c) words top earlier (s ∷ word_at words j) (length (word_at words j))
+  no-next-none : j < high → IsNoNext (integer_matrix c) words top earlier (s ∷ word_at words j) (length (word_at words j))
       → IsMember (integer_matrix c) top earlier (s ∷ word_at words j) → ⊥
   no-next-none inside (known there) p =
       known-none (integer_matrix c) g (IsMember (integer_matrix c) top earlier) ideal k low high s j words h inside there p
@@ -270,13 +276,19 @@ module _ (c : CoxeterMatrix) (m : IsCoxeterMatrix c) (top : Option (ArrayVec ℕ
   no-next-none inside (outside o) p =
       outside-none (integer_matrix c) g (IsMember (integer_matrix c) top earlier) ideal k low high s j words h inside o p
 
-  -- its number among the earlier members is appended
-  pub numbers-push : (child : Child) (numbers : List ℕ) → length earlier ≤ MAX_MEMBERS → AreNumbers earlier words numbers
+  -- the list without it
+  pub growing-no_next : j < high → IsNoNext (integer_matrix c) words top earlier (s ∷ word_at words j) (length (word_at words j))
+      → IsGrowing c.rank (IsMember (integer_matrix c) top earlier) k low high s (j + 1) words
+  growing-no_next inside none =
+      growing-skip c.rank (IsMember (integer_matrix c) top earlier) tailed k low high s j words h inside (no-next-none inside none)
+
+  -- the number of the next child among the earlier members is appended
+  numbers-push : (child : Child) (numbers : List ℕ) → length earlier ≤ MAX_MEMBERS → AreNumbers earlier words numbers
       → IsNext (integer_matrix c) words top earlier (s ∷ word_at words j) child
       → IsMember (integer_matrix c) top earlier (s ∷ word_at words j)
       → AreNumbers earlier (words ++ (s ∷ word_at words j) ∷ []) (numbers ++ unwrap_or child.number NO_MEMBER ∷ [])
   numbers-push child numbers few n next member = record {
-    size = omega (arith, length-push words (s ∷ word_at words j), length-append numbers (x ∷ []), n.size);
+    size = omega (arith, push-length words (s ∷ word_at words j), length-append numbers (x ∷ []), n.size);
     each = λ i l. ⊎_elim (λ (below : i < length words). rw (word_at-old words (s ∷ word_at words j) i below, old i below) (n.each i below))
         (λ (last : i ≡ length words). rw (word_at-new words (s ∷ word_at words j) i last, here i last) is)
         (push_cases words (s ∷ word_at words j) i l);
@@ -298,3 +310,27 @@ module _ (c : CoxeterMatrix) (m : IsCoxeterMatrix c) (top : Option (ArrayVec ℕ
 
       is : IsNumberOf earlier (s ∷ word_at words j) child.number
       is = let e = ideal.element (s ∷ word_at words j) member in rw e.normal at next.number
+
+  -- the next child is appended: the list grows, it is a prefix of the members, and no word is too long
+  module _ (short : k < MAX_LETTERS) (few : length words ≤ MAX_MEMBERS) (child : Child) (letter : IsLetter c.rank s) (inside : j < high)
+      (n : IsNext (integer_matrix c) words top earlier (s ∷ word_at words j) child) where
+    member : IsMember (integer_matrix c) top earlier (s ∷ word_at words j)
+    member = next-member child letter (member-closed short few) inside n
+
+    pub growing-next : IsGrowing c.rank (IsMember (integer_matrix c) top earlier) k low high s (j + 1) (words ++ (s ∷ word_at words j) ∷ [])
+    growing-next = growing-push c.rank (IsMember (integer_matrix c) top earlier) tailed k low high s j words h inside member
+
+    pub prefix-next : IsPrefixOf (IsMember (integer_matrix c) top earlier) (words ++ (s ∷ word_at words j) ∷ [])
+    prefix-next = growing-prefix c.rank (IsMember (integer_matrix c) top earlier) tailed k low high s j words h inside member
+
+    pub short-next : (i : ℕ) → i < length words + 1 → length (word_at (words ++ (s ∷ word_at words j) ∷ []) i) ≤ MAX_LETTERS
+    short-next i l = omega (
+      arith,
+      growing-push_length c.rank (IsMember (integer_matrix c) top earlier) tailed k low high s j words h inside i l,
+      short,
+    )
+
+    -- its number among the earlier members is appended
+    pub numbers-next : (numbers : List ℕ) → length earlier ≤ MAX_MEMBERS → AreNumbers earlier words numbers
+        → AreNumbers earlier (words ++ (s ∷ word_at words j) ∷ []) (numbers ++ unwrap_or child.number NO_MEMBER ∷ [])
+    numbers-next numbers room are = numbers-push child numbers room are n member

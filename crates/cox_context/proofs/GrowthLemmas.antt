@@ -2,6 +2,7 @@
 use Rattle.std.proofs.Common.{◌≡◌, ℕ, ◌+◌, ◌≤◌, ◌<◌, List, [], ◌∷◌, ◌++◌, length, Contains, ◌⊎◌, inl, inr, Less, refl, ap, sym}
 use Rattle.std.proofs.Common.{◌∙◌, ⊎_elim, arith, subst}
 use Rattle.std.proofs.lemmas.Bool.{cases_lt, cases_order}
+use Rattle.cox_lemmas.proofs.PushLemmas.{push-length, push_cases}
 use Rattle.cox_base.specs.Matrix.{IsLetter}
 use Rattle.cox_base.specs.ShortLex.{shortlex_cmp}
 use Rattle.cox_reflect.proofs.ShortLexFirst.{IsBefore, by_length, IsBefore-cons, IsBefore-head, before-shortlex_cmp}
@@ -9,7 +10,7 @@ use Rattle.cox_context.specs.SortedList.{IsListOf}
 use Rattle.cox_context.specs.Refusal.{IsPrefixOf}
 use Rattle.cox_context.specs.Numbers.{word_at}
 use Rattle.cox_context.specs.Growth.{IsGrown, IsGrowing, IsChild, IsEarlier}
-use Rattle.cox_context.proofs.ListLemmas.{contains-placed, placed-contains, word_at-old, word_at-new, length-push, push_cases}
+use Rattle.cox_context.proofs.ListLemmas.{contains-placed, placed-contains, word_at-old, word_at-new}
 use Rattle.cox_context.proofs.ListLemmas.{rising-before, rising-push}
 
 -- the empty word has the property, and so has each word without its first letter, which is a letter
@@ -134,7 +135,7 @@ module _ (rank : ℕ) (P : List ℕ → Type 0) (closed : IsTailed rank P) where
         y = s ∷ word_at words j
 
         more : length (words ++ y ∷ []) ≡ length words + 1
-        more = length-push words y
+        more = push-length words y
 
         old : (i : ℕ) → i < high → word_at (words ++ y ∷ []) i ≡ word_at words i
         old i l = word_at-old words y i (omega (arith, l, h.end))
@@ -173,11 +174,11 @@ module _ (rank : ℕ) (P : List ℕ → Type 0) (closed : IsTailed rank P) where
             (word_at (words ++ y ∷ []) m ≡ t ∷ word_at (words ++ y ∷ []) i)
         found_here t i (e, f) = (length words, omega (arith, more), word_at-new words y (length words) refl ∙ rw (e, f, old j inside) refl)
 
-    pub push-length : j < high → (i : ℕ) → i < length words + 1 → length (word_at (words ++ (s ∷ word_at words j) ∷ []) i) ≤ k + 1
-    push-length inside i l =
+    pub growing-push_length : j < high → (i : ℕ) → i < length words + 1 → length (word_at (words ++ (s ∷ word_at words j) ∷ []) i) ≤ k + 1
+    growing-push_length inside i l =
         ⊎_elim (λ below. rw (word_at-old words (s ∷ word_at words j) i below) (growing-length i below))
         (λ last. rw (word_at-new words (s ∷ word_at words j) i last) (omega (arith, h.level j h.start inside)))
-        (push_cases words (s ∷ word_at words j) i (omega (arith, l, length-push words (s ∷ word_at words j))))
+        (push_cases words (s ∷ word_at words j) i (omega (arith, l, push-length words (s ∷ word_at words j))))
 
     -- .. and then the list is a prefix of the members
     pub growing-prefix : j < high → P (s ∷ word_at words j) → IsPrefixOf P (words ++ (s ∷ word_at words j) ∷ [])
@@ -205,7 +206,7 @@ module _ (rank : ℕ) (P : List ℕ → Type 0) (closed : IsTailed rank P) where
         beyond word after other c = let p = contains-placed all other c in rw (← p.is) (before-shortlex_cmp (after p.i p.within))
 
         length_next : (i : ℕ) → i < length all → length (word_at all i) ≤ k + 1
-        length_next i m = push-length inside i (omega (arith, m, length-push words (s ∷ word_at words j)))
+        length_next i m = growing-push_length inside i (omega (arith, m, push-length words (s ∷ word_at words j)))
 
         -- a word t x of k + 1 letters, with x the word i
         of_parent : (t i : ℕ) → low ≤ i → i < high → P (t ∷ word_at words i)

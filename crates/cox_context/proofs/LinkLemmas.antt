@@ -4,11 +4,12 @@ use Rattle.std.proofs.Common.{length-append, get_or}
 use Rattle.std.proofs.lemmas.Bool.{cases_lt}
 use Rattle.std.proofs.lemmas.List.{get_or_append_left, get_or_default}
 use Rattle.std.proofs.Math.Seq.{get_or-append_seam}
+use Rattle.cox_lemmas.proofs.PushLemmas.{push-length}
 use Rattle.cox_context.specs.declared.members.Link.{Link}
 use Rattle.cox_context.specs.declared.members.TheConstants.{MAX_MEMBERS}
 use Rattle.cox_context.specs.Numbers.{word_at}
 use Rattle.cox_context.specs.Links.{words_from, linked_words, link_at, AreMemberLinks}
-use Rattle.cox_context.proofs.ListLemmas.{word_at-old, word_at-new, length-push}
+use Rattle.cox_context.proofs.ListLemmas.{word_at-old, word_at-new}
 
 -- the word of a link behind these words
 abbrev linked : List (List ℕ) → Link → List ℕ
@@ -16,12 +17,12 @@ linked words link = link.first ∷ word_at words link.rest
 
 from-size : (words : List (List ℕ)) (links : List Link) → length (words_from words links) ≡ length words + length links
 from-size words [] = omega arith
-from-size words (l ∷ links) = omega (arith, from-size (words ++ linked words l ∷ []) links, length-push words (linked words l))
+from-size words (l ∷ links) = omega (arith, from-size (words ++ linked words l ∷ []) links, push-length words (linked words l))
 
 from-old : (words : List (List ℕ)) (links : List Link) (i : ℕ) → i < length words → word_at (words_from words links) i ≡ word_at words i
 from-old words [] i l = refl
 from-old words (link ∷ links) i l =
-    from-old (words ++ linked words link ∷ []) links i (omega (arith, l, length-push words (linked words link)))
+    from-old (words ++ linked words link ∷ []) links i (omega (arith, l, push-length words (linked words link)))
     ∙ word_at-old words (linked words link) i l
 
 from-at : (words : List (List ℕ)) (links : List Link) (i : ℕ) → i < length links → (link_at links i).rest < length words + i
@@ -29,14 +30,14 @@ from-at : (words : List (List ℕ)) (links : List Link) (i : ℕ) → i < length
     (link_at links i).rest
 from-at words [] i l k = absurd (omega (arith, l))
 from-at words (link ∷ links) zero l k =
-    let more = length-push words (linked words link)
+    let more = push-length words (linked words link)
     in let here : length words + 0 ≡ length words = omega arith
     in rw here (from-old (words ++ linked words link ∷ []) links (length words) (omega (arith, more))
     ∙ word_at-new words (linked words link) (length words) refl
     ∙ ap (λ (x : List ℕ). link.first ∷ x) (sym (from-old (words ++ linked words link ∷ []) links link.rest (omega (arith, k, more))
     ∙ word_at-old words (linked words link) link.rest (omega (arith, k)))))
 from-at words (link ∷ links) (suc i) l k =
-    let more = length-push words (linked words link)
+    let more = push-length words (linked words link)
     in let here : length words + suc i ≡ length (words ++ linked words link ∷ []) + i = omega (arith, more)
     in rw here (from-at (words ++ linked words link ∷ []) links i (omega (arith, l)) (omega (arith, k, more)))
 

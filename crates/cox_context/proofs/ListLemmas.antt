@@ -1,9 +1,9 @@
 -- Places and members of lists of words, and the order of their words.
-use Rattle.std.proofs.Common.{◌≡◌, ℕ, ◌+◌, ◌≤◌, ◌<◌, List, [], ◌∷◌, ◌++◌, length, Contains, ◌⊎◌, inl, inr, Less, refl, ◌∙◌}
-use Rattle.std.proofs.Common.{⊎_elim, arith, length-append}
-use Rattle.std.proofs.lemmas.Bool.{cases_lt, cases_order}
-use Rattle.std.proofs.lemmas.List.{get_or_default, get_or_append_left}
-use Rattle.std.proofs.Math.Seq.{get_or-append_seam}
+use Rattle.std.proofs.Common.{◌≡◌, ℕ, ◌+◌, ◌≤◌, ◌<◌, List, [], ◌∷◌, ◌++◌, length, Contains, ◌⊎◌, Less, refl, ◌∙◌}
+use Rattle.std.proofs.Common.{⊎_elim, arith}
+use Rattle.std.proofs.lemmas.Bool.{cases_order}
+use Rattle.std.proofs.lemmas.List.{get_or_default}
+use Rattle.cox_lemmas.proofs.PushLemmas.{push-old, push-new, push_cases}
 use Rattle.cox_base.specs.ShortLex.{shortlex_cmp}
 use Rattle.cox_reflect.proofs.ShortLexFirst.{IsBefore, IsBefore-irrefl, length-before, before-shortlex_cmp, shortlex_cmp-before}
 use Rattle.cox_context.specs.SortedList.{IsRising}
@@ -27,18 +27,10 @@ contains-at words i l = placed-contains words (word_at words i) (record { i = i;
 -- ---- a list with one more word
 
 pub word_at-old : (words : List (List ℕ)) (y : List ℕ) (i : ℕ) → i < length words → word_at (words ++ y ∷ []) i ≡ word_at words i
-word_at-old words y i l = get_or_append_left words (y ∷ []) [] i l
+word_at-old words y i l = push-old words y [] i l
 
 pub word_at-new : (words : List (List ℕ)) (y : List ℕ) (i : ℕ) → i ≡ length words → word_at (words ++ y ∷ []) i ≡ y
-word_at-new words y i e = rw e (get_or-append_seam words y [] [])
-
-pub length-push : (words : List (List ℕ)) (y : List ℕ) → length (words ++ y ∷ []) ≡ length words + 1
-length-push words y = length-append words (y ∷ [])
-
--- a place of the longer list is an old one, or the last
-pub push_cases : (words : List (List ℕ)) (y : List ℕ) (i : ℕ) → i < length (words ++ y ∷ []) → (i < length words) ⊎ (i ≡ length words)
-push_cases words y i l =
-    ⊎_elim (λ below. inl below) (λ above. inr (omega (arith, length-push words y, l, above))) (cases_lt i (length words))
+word_at-new words y i e = push-new words y [] i e
 
 -- ---- rising lists
 

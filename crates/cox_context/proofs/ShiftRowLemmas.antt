@@ -4,6 +4,7 @@ use Rattle.std.proofs.Common.{refl, ap, sym, ◌∙◌, ⊎_elim, arith, get_or,
 use Rattle.std.proofs.lemmas.Bool.{cases_lt, cases_eq}
 use Rattle.std.proofs.lemmas.List.{length-set, length-replicate, get_or-replicate}
 use Rattle.std.proofs.Math.ListN.{replicate}
+use Rattle.cox_lemmas.proofs.PushLemmas.{push-length, push_cases}
 use Rattle.cox_base.specs.Matrix.{IsLetter}
 use Rattle.cox_base.specs.IntegerMatrix.{IntegerMatrix}
 use Rattle.cox_base.specs.Admissible.{IsAdmissible}
@@ -16,7 +17,7 @@ use Rattle.cox_context.specs.Shifts.{entry, entry_number, AreLeftShifts, IsLower
 use Rattle.cox_context.specs.Rows.{IsRowPushed}
 use Rattle.cox_context.specs.Growth.{AreLower, AreNumbers}
 use Rattle.cox_context.specs.Members.{IsElement}
-use Rattle.cox_context.proofs.ListLemmas.{contains-placed, placed-contains, word_at-old, word_at-new, length-push, push_cases}
+use Rattle.cox_context.proofs.ListLemmas.{contains-placed, placed-contains, word_at-old, word_at-new}
 use Rattle.cox_context.proofs.ListLemmas.{rising-length, rising-place}
 use Rattle.cox_context.proofs.Shifting.{element-at, first-member}
 use Rattle.cox_context.proofs.Ideals.{element-length}
@@ -169,7 +170,7 @@ module _ (A : IntegerMatrix) (g : IsAdmissible A) (words : List (List ℕ)) (y :
   y_at = word_at-new words y (length words) refl
 
   more : length (words ++ y ∷ []) ≡ length words + 1
-  more = length-push words y
+  more = push-length words y
 
   y_element : IsElement A y
   y_element = rw y_at at (element-at A g (words ++ y ∷ []) closed (length words) (omega (arith, more)))

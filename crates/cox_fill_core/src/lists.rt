@@ -36,6 +36,7 @@ impl Model for Known {
 }
 
 impl Known {
+    /// Whether the actor has seen the row Published.
     pub fn has(&self, row: u32) -> bool
         requires { row < length self.now }
         ensures { result ≡ slice_index_or self.now row false }
@@ -43,6 +44,7 @@ impl Known {
         self.0[row as usize]
     }
 
+    // Notes that the actor has seen the row Published.
     fn add(&mut self, row: u32)
         requires { row < length self.old }
         ensures { self.new ≡ slice_set self.old row true }
@@ -59,6 +61,7 @@ impl Known {
     }
 }
 
+// Adds what is known in the other list.
 fn add_each(known: &mut [bool], other: &[bool])
     requires { length known.old ≡ length other.now }
     ensures { AddsMarks known.old other.now known.new }
@@ -70,6 +73,7 @@ fn add_each(known: &mut [bool], other: &[bool])
     }
 }
 
+/// The needs of each row, with memory of their own; `needs[i]` has those of row i. `NoMemory` comes where there is none for them.
 pub fn copy_needs(alloc: Global, needs: &[Vec<u32>]) -> Result<Vec<Needs>, NoMemory>
     ensures { IfOk result (λ copy. copy.items ≡ map vec_items needs.now) }
 {
@@ -80,6 +84,7 @@ pub fn copy_needs(alloc: Global, needs: &[Vec<u32>]) -> Result<Vec<Needs>, NoMem
     Ok(copy)
 }
 
+/// For each of so many actors what it knows of so many rows: it has seen none. `NoMemory` comes where there is no memory for that.
 pub fn unseen(alloc: Global, actors: u32, rows: usize) -> Result<Vec<Known>, NoMemory>
     ensures { IfOk result (λ seen. seen.items ≡ replicate actors (replicate rows false)) }
 {
@@ -90,7 +95,7 @@ pub fn unseen(alloc: Global, actors: u32, rows: usize) -> Result<Vec<Known>, NoM
     Ok(seen)
 }
 
-/// The least row that is needed and that is not known.
+/// The least row that is needed and that is not known; `None` where all of them are known.
 pub fn least_missing(needs: &Needs, known: &Known) -> Option<u32>
     requires { (j : ℕ) → Contains needs.now j → j < length known.now }
     ensures { result ≡ least (filter (λ j. not (slice_index_or known.now j false)) needs.now) }

@@ -217,18 +217,7 @@ module _ (A : IntegerMatrix) (g : IsAdmissible A) where
     far : (x : List ℕ) (p : Bool) → SameElement A (s ∷ x) (x ++ t ∷ []) → shortens_left A s x ≡ p → shortens_right A t x ≡ p
         → (k : ℕ) → by_left A shorter longer s (by_right A shorter longer t h) x k
         ≡ by_right A shorter longer t (by_left A shorter longer s h) x k
-    far x true e p q k =
-        rw (
-          sym (shortens_left-same A g s e),
-          shortens_right-same A g t e,
-          shortens_left-back A g s x l,
-          shortens_right-back A g t x m,
-          p,
-          q,
-          respected r (around x e),
-          respected r e,
-        ) refl
-    far x false e p q k =
+    far x b e p q k =
         rw (
           sym (shortens_left-same A g s e),
           shortens_right-same A g t e,

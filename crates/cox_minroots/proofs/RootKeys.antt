@@ -3,19 +3,12 @@ use Rattle.std.proofs.Common.{◌≡◌, ℕ, zero, suc, ◌<◌, Bool, true, fa
 use Rattle.std.proofs.Common.{Option, None, Some, is_some, MatchOption, position, refl, sym, ◌∙◌, true≢false, arith}
 use Rattle.std.specs.Cmp.Lexicographic.{pointwise, bytes_decides}
 use Rattle.std.specs.List.{list_any}
+use Rattle.std.proofs.lemmas.Bool.{and_parts, or_right}
 use Rattle.std.proofs.lemmas.List.Quantifiers.{position-Some}
 use Rattle.indexmap.specs.IndexSet.{insert_key}
 use Rattle.indexmap.proofs.CallerLemmas.{Contains-list_any}
 use Rattle.cox_minroots.specs.declared.root.Root.{Root}
 use Rattle.cox_minroots.specs.RootLists.{no_root, root_at, IsInserted, there, last}
-
-or-true : (b : Bool) → (b || true) ≡ true
-or-true true = refl
-or-true false = refl
-
-both : (a b : Bool) → (a && b) ≡ true → (a ≡ true) × (b ≡ true)
-both true b e = (refl, e)
-both false b e = absurd (true≢false (sym e))
 
 -- equality of roots
 abbrev pub same_root : Root → Root → Bool
@@ -24,9 +17,9 @@ same_root r q = pointwise nat_eq r.root q.root && pointwise nat_eq r.coroot q.co
 pub same_root-equal : (r q : Root) → same_root r q ≡ true → r ≡ q
 same_root-equal r q e =
     let a : r.root ≡ q.root
-    = (bytes_decides r.root q.root).0 (both (pointwise nat_eq r.root q.root) (pointwise nat_eq r.coroot q.coroot) e).0
+    = (bytes_decides r.root q.root).0 (and_parts (pointwise nat_eq r.root q.root) (pointwise nat_eq r.coroot q.coroot) e).0
     in let b : r.coroot ≡ q.coroot
-    = (bytes_decides r.coroot q.coroot).0 (both (pointwise nat_eq r.root q.root) (pointwise nat_eq r.coroot q.coroot) e).1
+    = (bytes_decides r.coroot q.coroot).0 (and_parts (pointwise nat_eq r.root q.root) (pointwise nat_eq r.coroot q.coroot) e).1
     in λ i. record { root = a i; coroot = b i }
 
 pub same_root-own : (r : Root) → same_root r r ≡ true
@@ -41,7 +34,7 @@ contains-found (x ∷ keys) r c = go c.0 c.1 c.2 (contains-found keys r)
         → (same_root r x || list_any (same_root r) keys) ≡ true
     go zero l e rest = let own : same_root r x ≡ true = rw e (same_root-own r) in rw own refl
     go (suc i) l e rest = let later : list_any (same_root r) keys ≡ true = rest (i, omega (arith, l), e)
-        in rw later (or-true (same_root r x))
+        in or_right (same_root r x) (list_any (same_root r) keys) later
 
 pub inserted : (keys : List Root) (r : Root) (next : List Root) → next ≡ insert_key same_root keys r → IsInserted keys r next
 inserted keys r next e = go (list_any (same_root r) keys) refl

@@ -57,7 +57,7 @@ pub Written-zero : {old out text : List ℕ} (p : List ℤ) (k : ℕ) (first : B
     → Written old out text (rest_text first (terms_from (k + 1) (drop (k + 1) p)))
 Written-zero p k first h e w = rw (terms_from-skip p k h e) at w
 
-int_eq-zero : (c : ℤ) → c ≢ pos 0 → int_eq c (pos 0) ≡ false
+pub int_eq-zero : (c : ℤ) → c ≢ pos 0 → int_eq c (pos 0) ≡ false
 int_eq-zero (pos zero) h = absurd (h refl)
 int_eq-zero (pos (suc n)) h = grind (arith, nat_tests)
 int_eq-zero (negsuc n) h = refl

@@ -5,7 +5,7 @@ ghost use Rattle.cox_poly.specs.Puts.{Puts};
 use crate::NoMemory;
 use itoa::Buffer;
 
-/// Appends these bytes.
+/// Appends these bytes. Out of memory, only the first of them may be there.
 pub fn put_text(out: &mut Vec<u8>, text: &[u8]) -> Result<(), NoMemory>
     ensures { Puts result text.now out.old.items out.new.items }
 {
@@ -13,7 +13,7 @@ pub fn put_text(out: &mut Vec<u8>, text: &[u8]) -> Result<(), NoMemory>
     Ok(())
 }
 
-/// Appends a whole number in decimal, with `-` before a negative one.
+/// Appends a whole number in decimal, with `-` before a negative one. Out of memory, only its first bytes may be there.
 pub fn put_number(out: &mut Vec<u8>, n: i128) -> Result<(), NoMemory>
     ensures { Puts result (signed_decimal n) out.old.items out.new.items }
 {

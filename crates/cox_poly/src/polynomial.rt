@@ -122,7 +122,7 @@ impl Poly {
     }
 
     /// Appends the text: the terms by rising degree, as in `1+2q+q^2`, `-1+q` and `-2q^3`, and `0`
-    /// for the zero polynomial.
+    /// for the zero polynomial. Out of memory, only its first bytes may be there.
     pub fn put_text(&self, out: &mut Vec<u8>) -> Result<(), NoMemory>
         ensures { Puts result (polynomial_text self.now) out.old.items out.new.items }
     {

@@ -1,5 +1,5 @@
 -- Settled members stay settled in a larger context; and a context that has w already is its union with the interval of w.
-use Rattle.std.proofs.Common.{◌≡◌, inr, ⊎_elim, ℕ, ◌<◌, List, length, Bool, true, false, Option, None, Some, is_some, refl}
+use Rattle.std.proofs.Common.{◌≡◌, inr, ⊎_elim, ℕ, ◌<◌, List, length, Bool, true, false, Option, None, refl}
 use Rattle.std.proofs.Common.{◌∙◌, arith, zero-add}
 use Rattle.std.specs.Prelude.{slice_index, slice_index_or, Contains}
 use Rattle.std.specs.List.{range_with_len}
@@ -14,8 +14,6 @@ use Rattle.cox_reflect.proofs.Bruhat.{below-same}
 use Rattle.cox_context.specs.Closed.{IsClosed}
 use Rattle.cox_context.specs.Members.{IsInUnion}
 use Rattle.cox_context.specs.SortedList.{IsListOf}
-use Rattle.cox_context.specs.Numbers.{IsNumberOf}
-use Rattle.cox_context.proofs.ListLemmas.{contains-at}
 use Rattle.cox_klstep.specs.declared.tables.Tables.{Tables}
 use Rattle.cox_rows.specs.Holding.{Holding, Holds}
 use Rattle.cox_rows.specs.Ensured.{IsSettled, IsStore}
@@ -55,11 +53,6 @@ module _ (A : IntegerMatrix) (g : IsAdmissible A) (members : List (List ℕ)) (c
         (below-same A g (same-refl A g word) (same-sym A g (normal_form-same A g w)) below))
         (λ (old : Contains members word). old) p.either;
   }
-
-pub contains-found : (members : List (List ℕ)) (word : List ℕ) (found : Option ℕ) → IsNumberOf members word found → is_some found ≡ true
-    → Contains members word
-contains-found members word None is some = absurd (cc)
-contains-found members word (Some k) is some = rw is.1 at (contains-at members k is.0)
 
 pub extended-same : (h : Holding) → ((i : ℕ) → Holds h i → i < length h.elements.members) → IsExtended h h
 extended-same h inside = record {

@@ -4,6 +4,7 @@ use Rattle.std.proofs.Common.{length, take, refl, sym, ap, ◌∙◌, subst, ari
 use Rattle.std.specs.Option.{IsSome, IfSome}
 use Rattle.std.specs.Io.KnownBytes.{prepend_known, IsAtEnd}
 use Rattle.std.proofs.lemmas.List.{append-nil, take_at}
+use Rattle.std.proofs.Math.Bool.{or-false}
 use Rattle.cox_outside.specs.declared.limits.TheConstants.{CHUNK_SIZE}
 use Rattle.cox_outside.specs.declared.line_reader.Stop.{Stop}
 use Rattle.cox_outside.specs.declared.line_reader.Stop.TheVariants as stop
@@ -26,7 +27,7 @@ use Rattle.cox_shell.proofs.KnownValues.{IfSome-made, IfSome-each, IfSome-follow
 use Rattle.cox_shell.proofs.Replies.{AreReplies-one, AreReplies-quit}
 use Rattle.cox_shell.proofs.NoLines.{no_lines-end, no_lines-limit}
 use Rattle.cox_shell.proofs.TakenLines.{TakenLines, TakenLines-one, TakenLines-append, HasRead-taken, HasRead-begun, HasRead-limit}
-use Rattle.cox_shell.proofs.Progress.{Progress, going_lines, texts-push, has_refusal-push, has_quit-push, as_many-push, or_false}
+use Rattle.cox_shell.proofs.Progress.{Progress, going_lines, texts-push, has_refusal-push, has_quit-push, as_many-push}
 
 -- the replies so far are those to the lines so far
 so_far : (refused : Bool) (old now : Stand) (p : Progress refused old now) → AreReplies old.state p.lines p.done
@@ -145,7 +146,7 @@ ends_at_quit refused old now next going p s =
             (IfSome-each (λ more. AreReplies old.state (lines ++ more) replies) (lines_ahead next.ahead) (λ more. all more));
         writes = written;
       };
-      refuses = has_refusal-push p.done s.reply refused false p.refuses s.refuses ∙ or_false refused;
+      refuses = has_refusal-push p.done s.reply refused false p.refuses s.refuses ∙ or-false refused;
       ends = rw quits (StopsThere-taken lines replies next.stop old.ahead next.ahead read
           (as_many-push p.done p.lines s.reply s.taken.line p.as_many));
     } where

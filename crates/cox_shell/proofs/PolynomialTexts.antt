@@ -1,8 +1,7 @@
 -- The text of an R-polynomial, by the list of its coefficients up to a degree.
-use Rattle.std.proofs.Common.{◌≡◌, ℕ, zero, suc, ◌+◌, ◌<◌, ◌≤◌, not, List, [], ◌∷◌, map, filter, length, ℤ, pos, refl, ap, sym, ◌∙◌, ⊎_elim}
+use Rattle.std.proofs.Common.{◌≡◌, ℕ, zero, suc, ◌+◌, ◌<◌, ◌≤◌, List, [], ◌∷◌, map, length, ℤ, pos, refl, ap, sym, ◌∙◌, ⊎_elim}
 use Rattle.std.proofs.Common.{arith}
-use Rattle.std.specs.List.{range_with_len, enumerate_from}
-use Rattle.std.specs.Ordering.{int_eq}
+use Rattle.std.specs.List.{range_with_len}
 use Rattle.std.proofs.lemmas.Bool.{cases_eq}
 use Rattle.cox_base.specs.IntegerMatrix.{IntegerMatrix}
 use Rattle.cox_base.specs.ShortLex.{normal_form}
@@ -10,15 +9,12 @@ use Rattle.cox_base.specs.Length.{word_length}
 use Rattle.cox_poly.specs.Coefficients.{Coefficients}
 use Rattle.cox_poly.specs.Polynomial.{coefficient, SameCoefficients}
 use Rattle.cox_poly.specs.PolynomialText.{terms_text, polynomial_text}
+use Rattle.cox_poly.proofs.Terms.{terms_from}
 use Rattle.cox_rpoly.specs.RPolynomial.{r_along, r_polynomial}
 use Rattle.cox_rpoly.proofs.AlongLemmas.{along-identity, along-other, along-shorter, along-longer, shortens}
 use Rattle.cox_rpoly.proofs.PolynomialLemmas.{r_polynomial-is}
 use Rattle.cox_reflect.proofs.Lengths.{word_length-is}
 use Rattle.cox_shell.specs.CommandReply.{r_coefficients}
-
--- the terms of a list whose first coefficient stands at a degree
-abbrev terms_from : ℕ → List ℤ → List (ℕ × ℤ)
-terms_from k p = filter (λ t. not (int_eq t.1 (pos 0))) (enumerate_from k p)
 
 -- zeros have no terms
 no_terms : (k : ℕ) (p : List ℤ) → ((i : ℕ) → coefficient p i ≡ pos 0) → terms_from k p ≡ []

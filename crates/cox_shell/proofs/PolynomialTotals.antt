@@ -1,13 +1,13 @@
 -- The totals of one polynomial: its degree, and the sum of its coefficients.
 use Rattle.std.proofs.Common.{◌≡◌, ◌≢◌, ℕ, zero, suc, ◌+◌, ◌≤◌, ◌<◌, max, List, [], map, refl, sym, ap, ◌∙◌, ⊎_elim, arith}
-use Rattle.std.proofs.Common.{ℤ, pos, negsuc, ◌+ℤ◌, Bool, true, false, if◌then◌else◌}
+use Rattle.std.proofs.Common.{ℤ, pos, ◌+ℤ◌, Bool, true, false, if◌then◌else◌}
 use Rattle.std.proofs.lemmas.Bool.{cases_lt, cases_eq}
-use Rattle.std.proofs.lemmas.Bool.Decides.{nat_tests}
 use Rattle.std.proofs.Math.IntN.{+ℤ_idl, +ℤ_idr, +ℤ_assoc}
 use Rattle.std.specs.List.{range_with_len}
 use Rattle.std.specs.Ordering.{int_eq}
 use Rattle.cox_poly.specs.Coefficients.{Coefficients}
 use Rattle.cox_poly.specs.Polynomial.{coefficient, HasDegreeBelow, IsDegree}
+use Rattle.cox_poly.proofs.Terms.{int_eq-zero}
 use Rattle.cox_shell.specs.RowReply.{coefficients_to}
 use Rattle.cox_shell.specs.WorkReply.{degree_from, sum_of, polynomial_totals}
 
@@ -49,12 +49,6 @@ degree_from-zeros f a (suc n) zeros =
     let first : f a ≡ pos 0 = zeros a (omega arith) in
     let e : suc a ≡ a + 1 = omega arith in
     rw (first, e, degree_from-zeros f (a + 1) n (λ k l. zeros k (omega (arith, l)))) refl
-
--- a number that is not 0
-int_eq-zero : (c : ℤ) → c ≢ pos 0 → int_eq c (pos 0) ≡ false
-int_eq-zero (pos zero) other = absurd (other refl)
-int_eq-zero (pos (suc n)) other = grind (arith, nat_tests)
-int_eq-zero (negsuc n) other = refl
 
 -- an earlier degree counts for nothing
 no_more : (b : Bool) (a d : ℕ) → a ≤ d → max (if b then 0 else a) d ≡ d

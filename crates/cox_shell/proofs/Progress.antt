@@ -5,6 +5,7 @@ use Rattle.std.specs.List.{list_any}
 use Rattle.std.proofs.lemmas.List.{append-nil, length_push}
 use Rattle.std.proofs.lemmas.List.Folds.{list_any-append}
 use Rattle.std.proofs.lemmas.Grind.{flat_map-append}
+use Rattle.std.proofs.Math.Bool.{or-false, or-true}
 use Rattle.cox_outside.specs.Feed.{HasFewPending}
 use Rattle.cox_outside.specs.Outlet.{Writes}
 use Rattle.cox_outside.proofs.Known.{Writes-none, Writes-append}
@@ -30,19 +31,11 @@ pub record Progress (refused : Bool) (old now : Stand) : Type 0 where
 pub texts-push : (done : List Reply) (reply : Reply) → texts (done ++ reply ∷ []) ≡ texts done ++ reply.text
 texts-push done reply = flat_map-append (λ (r : Reply). r.text) done (reply ∷ []) ∙ ap (λ l. texts done ++ l) (append-nil reply.text)
 
-pub or_false : (b : Bool) → (b || false) ≡ b
-or_false true = refl
-or_false false = refl
-
-or_true : (b : Bool) → (b || true) ≡ true
-or_true true = refl
-or_true false = refl
-
 any-push : (p : Reply → Bool) (done : List Reply) (reply : Reply) (before last : Bool) → list_any p done ≡ before → p reply ≡ last
     → list_any p (done ++ reply ∷ []) ≡ (before || last)
 any-push p done reply before last old new =
     list_any-append p done (reply ∷ []) ∙ ap (λ b. b || (p reply || false)) old ∙ ap (λ b. before || (b || false)) new
-    ∙ ap (λ b. before || b) (or_false last)
+    ∙ ap (λ b. before || b) (or-false last)
 
 -- of one more reply, whether it refuses, and whether it ends the run
 pub has_refusal-push : (done : List Reply) (reply : Reply) (before last : Bool) → has_refusal done ≡ before → is_refusal reply ≡ last
@@ -97,11 +90,11 @@ Progress-more before refused old now next going p s = record {
 -- it was answered
 pub Progress-answered : (refused : Bool) (old now next : Stand) → now.stop ≡ None → Progress refused old now
     → IsServed false false now next → Progress refused old next
-Progress-answered refused old now next going p s = subst (λ b. Progress b old next) (or_false refused)
+Progress-answered refused old now next going p s = subst (λ b. Progress b old next) (or-false refused)
     (Progress-more refused false old now next going p s)
 
 -- it was refused
 pub Progress-refused : (before : Bool) (old now next : Stand) → now.stop ≡ None → Progress before old now → IsServed true false now next
     → Progress true old next
-Progress-refused before old now next going p s = subst (λ b. Progress b old next) (or_true before)
+Progress-refused before old now next going p s = subst (λ b. Progress b old next) (or-true before)
     (Progress-more before true old now next going p s)

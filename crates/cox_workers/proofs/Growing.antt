@@ -1,17 +1,13 @@
 -- What two seats that met have published and voided.
-use Rattle.std.proofs.Common.{◌≡◌, ◌⊎◌, inl, inr, ⊎_elim, ℕ, ◌||◌, List, ◌++◌, true, sym, ap, ◌∙◌}
+use Rattle.std.proofs.Common.{◌≡◌, ◌⊎◌, inl, inr, ⊎_elim, ℕ, ◌||◌, List, true, sym, ap, ◌∙◌}
 use Rattle.std.proofs.lemmas.Bool.{or_cases, or_left, or_right}
 use Rattle.cox_context.specs.Closed.{Elements}
 use Rattle.cox_claims.specs.declared.seat.Seat.{Seat}
-use Rattle.cox_claims.specs.Knowledge.{among, has_published, has_voided, parted, told, joined}
+use Rattle.cox_claims.specs.Knowledge.{has_published, has_voided, parted, told, joined}
 use Rattle.cox_claims.specs.Seats.{view_of}
-use Rattle.cox_claims.proofs.RowTests.{among-append}
+use Rattle.cox_claims.proofs.RowTests.{among_either}
 use Rattle.cox_workers.specs.Work.{HasEnded}
 use Rattle.cox_workers.specs.Filled.{IsNeededForSome}
-
--- a row that is in one of two lists
-in_both : {P : Type 0} (j : ℕ) (xs ys : List ℕ) → (among j xs ≡ true → P) → (among j ys ≡ true → P) → among j (xs ++ ys) ≡ true → P
-in_both j xs ys first second h = ⊎_elim first second (or_cases (among j xs) (among j ys) (sym (among-append j xs ys) ∙ h))
 
 module _ (e : Elements) (wanted : List ℕ) where
   -- seat b was split from a, which is then a'; both worked on, to c and d; and c met d, which made it r
@@ -29,11 +25,11 @@ module _ (e : Elements) (wanted : List ℕ) where
       (λ (n : IsNeededForSome e wanted j). inr n) (theirs j m)
       in ⊎_elim
       (λ (made : has_published (joined (view_of c) (view_of d)) j ≡ true).
-      in_both j (view_of c).made (view_of d).made
+      among_either j (view_of c).made (view_of d).made
       (λ m. of_mine (or_left (has_published (view_of c) j) (has_voided (view_of c) j) m))
       (λ m. of_theirs (or_left (has_published (view_of d) j) (has_voided (view_of d) j) m)) made)
       (λ (void : has_voided (joined (view_of c) (view_of d)) j ≡ true).
-      in_both j (view_of c).given_up (view_of d).given_up
+      among_either j (view_of c).given_up (view_of d).given_up
       (λ m. of_mine (or_right (has_published (view_of c) j) (has_voided (view_of c) j) m))
       (λ m. of_theirs (or_right (has_published (view_of d) j) (has_voided (view_of d) j) m)) void)
       (or_cases (has_published (joined (view_of c) (view_of d)) j) (has_voided (joined (view_of c) (view_of d)) j)

@@ -3,7 +3,7 @@ use Rattle.std.proofs.Common.{◌∷◌, sym, ◌∙◌}
 use Rattle.std.proofs.lemmas.Bool.{false≢true}
 use Rattle.cox_context.specs.Numbers.{word_at}
 use Rattle.cox_context.specs.Growth.{above, known}
-use Rattle.cox_context.proofs.ChildLemmas.{unfound-ascent, found}
+use Rattle.cox_context.proofs.ChildLemmas.{unfound-ascent, found-contains}
 use Rattle.cox_context.proofs.builder.Builder.child.Goals as goal
 
 pub returns-then-is_meant-clause-next : goal.returns-then-is_meant-clause-next
@@ -28,4 +28,4 @@ returns-else-is_meant-clause-none c =
 
 pub returns-then-is_some-clause-none : goal.returns-then-is_some-clause-none
 returns-then-is_some-clause-none c =
-    known (found c.args.self.now.listing.members _ c.left_shift.result c.left_shift.ensures (sym c.is_some.ensures ∙ c.if-is_some.true))
+    known (found-contains c.args.self.now.listing.members _ c.left_shift.result c.left_shift.ensures (sym c.is_some.ensures ∙ c.if-is_some.true))

@@ -1,16 +1,15 @@
 -- A child is appended exactly where it is the next member.
-use Rattle.std.proofs.Common.{rules, ℕ, ◌≡◌, ◌≤◌, ◌<◌, ◌+◌, ◌∷◌, ◌++◌, [], List, length, arith}
+use Rattle.std.proofs.Common.{rules, ℕ, ◌≡◌, ◌≤◌, ◌+◌, ◌∷◌, ◌++◌, [], List, length, arith}
 use Rattle.cox_base.specs.IntegerMatrix.{IntegerMatrix, integer_matrix}
-use Rattle.cox_base.specs.declared.limits.TheConstants.{MAX_LETTERS}
 use Rattle.cox_reflect.proofs.Admissible.{IsAdmissible-integer_matrix}
+use Rattle.cox_context.specs.declared.members.TheConstants.{MAX_MEMBERS}
 use Rattle.cox_context.specs.Closed.{IsClosed}
 use Rattle.cox_context.specs.WantedMembers.{IsMember}
 use Rattle.cox_context.specs.Growth.{IsGrowing}
-use Rattle.cox_context.specs.Refusal.{IsPrefixOf}
 use Rattle.cox_context.specs.Numbers.{word_at}
 use Rattle.cox_context.proofs.Ideals.{member-tailed}
-use Rattle.cox_context.proofs.GrowthLemmas.{IsTailed, growing-skip, growing-push, growing-prefix, growing-letter, push-length}
-use Rattle.cox_context.proofs.ChildLemmas.{member-closed, members-below, next-member, no-next-none, numbers-push}
+use Rattle.cox_context.proofs.GrowthLemmas.{growing-letter}
+use Rattle.cox_context.proofs.ChildLemmas.{member-closed, members-below, growing-no_next, growing-next, prefix-next, short-next, numbers-next}
 use Rattle.cox_context.proofs.ShiftRowLemmas.{shifts-push}
 use Rattle.cox_context.proofs.builder.Builder.grow_letter.Goals as goal
 use Rattle.cox_context.proofs.builder.Builder.grow_letter.Goals.{in-Some+in_ok-add, in_default}
@@ -31,83 +30,57 @@ child-requires-clause-below c =
 
 pub returns-in_err-add-clause-fault : goal.returns-in_err-add-clause-fault
 returns-in_err-add-clause-fault c =
-    let A : IntegerMatrix = integer_matrix c.args.family.now.group
-    in let P : List ℕ → Type 0 = IsMember A c.args.family.now.top c.args.earlier.now.members
-    in let tailed : IsTailed c.args.family.now.group.rank P = member-tailed c.args.family.now.group c.requires.matrix
-    c.args.family.now.top c.args.earlier.now.members c.requires.earlier
-    in let y : List ℕ = c.args.s ∷ word_at c.loop-parent.self.listing.members c.loop-parent.parent
-    in let closed : IsClosed A c.loop-parent.self.listing.members = member-closed c.args.family.now.group c.requires.matrix
-    c.args.family.now.top c.args.earlier.now.members c.requires.earlier
-    c.args.letters c.args.low c.args.high c.args.s c.loop-parent.parent c.loop-parent.self.listing.members c.loop-parent.invariant.growing
-    c.requires.short (omega (arith, c.loop-parent.invariant.room, c.requires.limit))
-    in let member : P y = next-member c.args.family.now.group c.requires.matrix c.args.family.now.top c.args.earlier.now.members
-    c.requires.earlier
-    c.args.letters c.args.low c.args.high c.args.s c.loop-parent.parent c.loop-parent.self.listing.members c.loop-parent.invariant.growing
-    c.in-Some.child c.requires.letter closed c.loop-parent-test.true c.in-Some.ensures.next
-    in let prefix : IsPrefixOf P (c.loop-parent.self.listing.members ++ y ∷ [])
-    = growing-prefix c.args.family.now.group.rank P tailed c.args.letters c.args.low c.args.high c.args.s c.loop-parent.parent
-    c.loop-parent.self.listing.members c.loop-parent.invariant.growing c.loop-parent-test.true member
-    in let short : (i : ℕ) → i < length c.loop-parent.self.listing.members + 1 → length (word_at (c.loop-parent.self.listing.members
-    ++ y ∷ []) i) ≤ MAX_LETTERS
-    = λ i l. omega (
-      arith,
-      push-length c.args.family.now.group.rank P tailed c.args.letters c.args.low c.args.high c.args.s
-          c.loop-parent.parent c.loop-parent.self.listing.members c.loop-parent.invariant.growing c.loop-parent-test.true i l,
-      c.requires.short,
+    let few : length c.loop-parent.self.listing.members ≤ MAX_MEMBERS = omega (arith, c.loop-parent.invariant.room, c.requires.limit)
+    in let prefix = prefix-next c.args.family.now.group c.requires.matrix c.args.family.now.top c.args.earlier.now.members
+    c.requires.earlier c.args.letters c.args.low c.args.high c.args.s c.loop-parent.parent c.loop-parent.self.listing.members
+    c.loop-parent.invariant.growing c.requires.short few c.in-Some.child c.requires.letter c.loop-parent-test.true c.in-Some.ensures.next
+    in let short = short-next c.args.family.now.group c.requires.matrix c.args.family.now.top c.args.earlier.now.members
+    c.requires.earlier c.args.letters c.args.low c.args.high c.args.s c.loop-parent.parent c.loop-parent.self.listing.members
+    c.loop-parent.invariant.growing c.requires.short few c.in-Some.child c.requires.letter c.loop-parent-test.true c.in-Some.ensures.next
+    in search (
+      rules,
+      c.in_err-add.ensures.fault (integer_matrix c.args.family.now.group) c.args.family.now.top
+          c.args.earlier.now.members prefix short,
     )
-    in search (rules, c.in_err-add.ensures.fault A c.args.family.now.top c.args.earlier.now.members prefix short)
 
 pub loop-parent-preserved : goal.loop-parent-preserved
 loop-parent-preserved c =
     let A : IntegerMatrix = integer_matrix c.args.family.now.group
-    in let P : List ℕ → Type 0 = IsMember A c.args.family.now.top c.args.earlier.now.members
-    in let tailed : IsTailed c.args.family.now.group.rank P = member-tailed c.args.family.now.group c.requires.matrix
-    c.args.family.now.top c.args.earlier.now.members c.requires.earlier
-    in let y : List ℕ = c.args.s ∷ word_at c.loop-parent.self.listing.members c.loop-parent.parent
-    in let closed : IsClosed A c.loop-parent.self.listing.members = member-closed c.args.family.now.group c.requires.matrix
-    c.args.family.now.top c.args.earlier.now.members c.requires.earlier
-    c.args.letters c.args.low c.args.high c.args.s c.loop-parent.parent c.loop-parent.self.listing.members c.loop-parent.invariant.growing
-    c.requires.short (omega (arith, c.loop-parent.invariant.room, c.requires.limit))
     in elim c.match-child.branch [
       | in-Some+in_ok-add w ↦
-          let next = w.in-Some.ensures.next
-          in let member : P y = next-member c.args.family.now.group c.requires.matrix c.args.family.now.top c.args.earlier.now.members
-          c.requires.earlier
-          c.args.letters c.args.low c.args.high c.args.s c.loop-parent.parent c.loop-parent.self.listing.members
-          c.loop-parent.invariant.growing
-          w.in-Some.child c.requires.letter closed c.loop-parent-test.true next
-          in let growing : IsGrowing c.args.family.now.group.rank P c.args.letters c.args.low c.args.high c.args.s
-          (c.loop-parent.parent + 1)
-          (c.loop-parent.self.listing.members ++ y ∷ [])
-          = growing-push c.args.family.now.group.rank P tailed c.args.letters c.args.low c.args.high c.args.s c.loop-parent.parent
-          c.loop-parent.self.listing.members c.loop-parent.invariant.growing c.loop-parent-test.true member
+          let y : List ℕ = c.args.s ∷ word_at c.loop-parent.self.listing.members c.loop-parent.parent
+          in let next = w.in-Some.ensures.next
+          in let few : length c.loop-parent.self.listing.members ≤ MAX_MEMBERS = omega
+          (arith, c.loop-parent.invariant.room, c.requires.limit)
           in let room : length (c.loop-parent.self.listing.members ++ y ∷ []) ≤ c.args.limit
           = rw w.in_ok-add.ensures.added at w.in_ok-add.ensures.room
+          in let growing : IsGrowing c.args.family.now.group.rank (IsMember A c.args.family.now.top c.args.earlier.now.members)
+          c.args.letters c.args.low c.args.high c.args.s (c.loop-parent.parent + 1) (c.loop-parent.self.listing.members ++ y ∷ [])
+          = growing-next c.args.family.now.group c.requires.matrix c.args.family.now.top c.args.earlier.now.members c.requires.earlier
+          c.args.letters c.args.low c.args.high c.args.s c.loop-parent.parent c.loop-parent.self.listing.members
+          c.loop-parent.invariant.growing c.requires.short few w.in-Some.child c.requires.letter c.loop-parent-test.true next
           in let more : IsClosed A (c.loop-parent.self.listing.members ++ y ∷ []) = member-closed c.args.family.now.group c.requires.matrix
           c.args.family.now.top c.args.earlier.now.members c.requires.earlier c.args.letters c.args.low c.args.high c.args.s
-          (c.loop-parent.parent + 1)
-          (c.loop-parent.self.listing.members ++ y ∷ []) growing c.requires.short (omega (arith, room, c.requires.limit))
+          (c.loop-parent.parent + 1) (c.loop-parent.self.listing.members ++ y ∷ []) growing c.requires.short
+          (omega (arith, room, c.requires.limit))
           in rw w.self-is (record {
             growing = rw w.in_ok-add.ensures.added growing;
             left = rw w.in_ok-add.ensures.added (shifts-push A (IsAdmissible-integer_matrix c.args.family.now.group c.requires.matrix)
                 c.loop-parent.self.listing.members y more w.in-Some.child.lower c.loop-parent.self.listing.left.items _
                 c.loop-parent.invariant.left next.numbers
                 (rw w.rank.ensures.rank at w.in_ok-add.ensures.left));
-            numbers = rw (w.in_ok-add.ensures.added, w.in_ok-add.ensures.numbers) (numbers-push c.args.family.now.group c.requires.matrix
+            numbers = rw (w.in_ok-add.ensures.added, w.in_ok-add.ensures.numbers) (numbers-next c.args.family.now.group c.requires.matrix
                 c.args.family.now.top c.args.earlier.now.members c.requires.earlier c.args.letters c.args.low c.args.high c.args.s
-                c.loop-parent.parent c.loop-parent.self.listing.members c.loop-parent.invariant.growing w.in-Some.child
-                c.loop-parent.self.numbers.items c.requires.earlier.few c.loop-parent.invariant.numbers next member);
+                c.loop-parent.parent c.loop-parent.self.listing.members c.loop-parent.invariant.growing c.requires.short few
+                w.in-Some.child c.requires.letter c.loop-parent-test.true next c.loop-parent.self.numbers.items c.requires.earlier.few
+                c.loop-parent.invariant.numbers);
             room = w.in_ok-add.ensures.room;
           })
       | in_default w ↦
           rw w.self-is (record {
-            growing =
-                growing-skip c.args.family.now.group.rank P tailed c.args.letters c.args.low c.args.high c.args.s c.loop-parent.parent
-                c.loop-parent.self.listing.members c.loop-parent.invariant.growing c.loop-parent-test.true (no-next-none
-                c.args.family.now.group
-                c.requires.matrix c.args.family.now.top c.args.earlier.now.members c.requires.earlier c.args.letters c.args.low
-                c.args.high c.args.s c.loop-parent.parent
-                c.loop-parent.self.listing.members c.loop-parent.invariant.growing c.loop-parent-test.true w.in_default.ensures.none);
+            growing = growing-no_next c.args.family.now.group c.requires.matrix c.args.family.now.top c.args.earlier.now.members
+                c.requires.earlier c.args.letters c.args.low c.args.high c.args.s c.loop-parent.parent
+                c.loop-parent.self.listing.members c.loop-parent.invariant.growing c.loop-parent-test.true w.in_default.ensures.none;
             left = c.loop-parent.invariant.left;
             numbers = c.loop-parent.invariant.numbers;
             room = c.loop-parent.invariant.room;
@@ -116,11 +89,9 @@ loop-parent-preserved c =
 
 pub returns-clause-growing : goal.returns-clause-growing
 returns-clause-growing c =
-    let A : IntegerMatrix = integer_matrix c.args.family.now.group
-    in let P : List ℕ → Type 0 = IsMember A c.args.family.now.top c.args.earlier.now.members
-    in let tailed : IsTailed c.args.family.now.group.rank P = member-tailed c.args.family.now.group c.requires.matrix
-    c.args.family.now.top c.args.earlier.now.members c.requires.earlier
-    in let last : c.loop-parent.parent ≡ c.args.high = omega (arith, c.requires.growing.stop)
-    in growing-letter c.args.family.now.group.rank P tailed c.args.letters c.args.low c.args.high c.args.s
+    let last : c.loop-parent.parent ≡ c.args.high = omega (arith, c.requires.growing.stop)
+    in growing-letter c.args.family.now.group.rank (IsMember (integer_matrix c.args.family.now.group) c.args.family.now.top
+    c.args.earlier.now.members) (member-tailed c.args.family.now.group c.requires.matrix c.args.family.now.top
+    c.args.earlier.now.members c.requires.earlier) c.args.letters c.args.low c.args.high c.args.s
     c.loop-parent.self.listing.members
     c.requires.growing.stop (rw last at c.loop-parent.invariant.growing)

@@ -3,7 +3,8 @@ use Rattle.std.proofs.Common.{◌≡◌, sym, ◌∙◌}
 use Rattle.cox_base.specs.IntegerMatrix.{integer_matrix}
 use Rattle.cox_base.specs.ShortLex.{normal_form}
 use Rattle.cox_context.specs.Numbers.{IsNumberOf}
-use Rattle.cox_rows.proofs.ExtendLemmas.{union-nothing_new, contains-found, extended-same, store-carried}
+use Rattle.cox_context.proofs.ChildLemmas.{found-contains}
+use Rattle.cox_rows.proofs.ExtendLemmas.{union-nothing_new, extended-same, store-carried}
 use Rattle.cox_rows.proofs.rows.Rows.extend.Goals as goal
 
 pub returns-then-is_some-clause-members : goal.returns-then-is_some-clause-members
@@ -15,7 +16,7 @@ returns-then-is_some-clause-members c =
     = rw (c.context-context.ensures.context, form) at c.number.ensures
     in rw c.requires.matrix (union-nothing_new (integer_matrix c.args.self.now.elements.matrix) c.context-context.ensures.admissible
     c.args.self.now.elements.members c.context-context.ensures.closed c.args.w.now.items
-    (contains-found c.args.self.now.elements.members
+    (found-contains c.args.self.now.elements.members
     (normal_form (integer_matrix c.args.self.now.elements.matrix) c.args.w.now.items) c.number.result found
     (sym c.is_some.ensures ∙ c.if-is_some.true)))
 
