@@ -9,7 +9,7 @@ use Rattle.cox_context.proofs.ListLemmas.{word_at-old, word_at-new}
 use Rattle.cox_row.specs.Rising.{number_at}
 use Rattle.cox_row.proofs.RisingLemmas.{few-rising}
 use Rattle.cox_scc.specs.Reach.{IsLeastOfClass}
-use Rattle.cox_cells.specs.Numbered.{list_at, least_at, IsListed, IsClassList, AreGathered}
+use Rattle.cox_cells.specs.NumberedCells.{list_at, least_at, IsListed, IsClassList, AreGathered}
 
 -- ---- one list
 

@@ -19,7 +19,7 @@ use Rattle.cox_wgraph.proofs.EdgeLemmas.{edge-exists, edge-unique}
 use Rattle.cox_cells.specs.declared.kind.CellKind.{CellKind}
 use Rattle.cox_cells.specs.declared.kind.CellKind.TheVariants.{Left, Right, Both}
 use Rattle.cox_cells.specs.Cells.{HasOwnDescent, HasOwn, IsStep, Precedes}
-use Rattle.cox_cells.proofs.Chains.{chain-join, chain-step}
+use Rattle.cox_cells.proofs.StepChains.{chain-join, chain-step}
 
 -- ---- tests
 

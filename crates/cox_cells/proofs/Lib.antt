@@ -1,5 +1,5 @@
 -- chains of steps
-pub mod Chains
+pub mod StepChains
 -- a finite group has at most one list of cells
 pub mod OneList
 -- it is decided what a chain leads to

@@ -13,7 +13,7 @@ use Rattle.cox_row.specs.Rising.{number_at}
 use Rattle.cox_scc.specs.Reach.{HasEdge, Reaches, AreClasses}
 use Rattle.cox_cells.specs.declared.kind.CellKind.{CellKind}
 use Rattle.cox_cells.specs.Cells.{IsStep, Precedes, IsInCell, first_of, IsCell, AreCells}
-use Rattle.cox_cells.specs.Numbered.{IsNumberedStep, AreSteps, list_at, least_at, IsListed, AreGathered}
+use Rattle.cox_cells.specs.NumberedCells.{IsNumberedStep, AreSteps, list_at, least_at, IsListed, AreGathered}
 
 module _ (kind : CellKind) (e : Elements) (all : IsListOf (IsElement (integer_matrix e.matrix)) e.members) (edges : List (ℕ × ℕ))
     (steps : AreSteps kind e (length e.members) edges) where

@@ -11,7 +11,7 @@ use Rattle.cox_context.proofs.ListLemmas.{IsPlaced, contains-at, contains-placed
 use Rattle.cox_context.proofs.SortedLemmas.{IsListOf-unique}
 use Rattle.cox_cells.specs.declared.kind.CellKind.{CellKind}
 use Rattle.cox_cells.specs.Cells.{IsInCell, first_of, IsCell, AreCells}
-use Rattle.cox_cells.proofs.Chains.{cell-back}
+use Rattle.cox_cells.proofs.StepChains.{cell-back}
 
 -- no other element of its cell comes before x
 pub record IsFirst (kind : CellKind) (A : IntegerMatrix) (x : List ℕ) : Type 0 where

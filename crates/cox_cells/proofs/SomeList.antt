@@ -14,7 +14,7 @@ use Rattle.cox_context.proofs.ListLemmas.{contains-at, contains-placed}
 use Rattle.cox_context.proofs.SortedLemmas.{IsListOf-unique, IsListOf-filter, contains-in, in-contains}
 use Rattle.cox_cells.specs.declared.kind.CellKind.{CellKind}
 use Rattle.cox_cells.specs.Cells.{Precedes, IsInCell, first_of, IsCell, AreCells}
-use Rattle.cox_cells.proofs.Chains.{cell-itself, cell-back, cell-join}
+use Rattle.cox_cells.proofs.StepChains.{cell-itself, cell-back, cell-join}
 use Rattle.cox_cells.proofs.Decided.{leads, chain-of, leads-by}
 
 -- an element that passes a test

@@ -6,11 +6,11 @@ use Rattle.cox_base.specs.IntegerMatrix.{integer_matrix}
 use Rattle.cox_context.specs.Closed.{Elements}
 use Rattle.cox_context.specs.Numbers.{word_at}
 use Rattle.cox_wgraph.specs.declared.edge.Edge.{Edge}
-use Rattle.cox_wgraph.specs.Numbered.{edge_at, AreEdges}
+use Rattle.cox_wgraph.specs.NumberedEdges.{edge_at, AreEdges}
 use Rattle.cox_scc.specs.Reach.{HasEdge}
 use Rattle.cox_cells.specs.declared.kind.CellKind.{CellKind}
 use Rattle.cox_cells.specs.Cells.{HasOwn}
-use Rattle.cox_cells.specs.Numbered.{IsNumberedStep, AreSteps, AreStepsTo}
+use Rattle.cox_cells.specs.NumberedCells.{IsNumberedStep, AreSteps, AreStepsTo}
 
 module _ (kind : CellKind) (e : Elements) where
   pub steps-none : AreSteps kind e 0 []

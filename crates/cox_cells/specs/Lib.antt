@@ -1,4 +1,4 @@
 -- the preorders, and cells
 pub mod Cells
 -- cells by number
-pub mod Numbered
+pub mod NumberedCells

@@ -4,7 +4,7 @@ ghost use Rattle.cox_base.specs.IntegerMatrix.{integer_matrix};
 ghost use Rattle.cox_context.specs.Members.{IsElement};
 ghost use Rattle.cox_context.specs.SortedList.{IsListOf};
 ghost use Rattle.cox_cells.specs.Cells.{AreCells};
-ghost use Rattle.cox_cells.specs.Numbered.{lists_of, words_of};
+ghost use Rattle.cox_cells.specs.NumberedCells.{lists_of, words_of};
 
 use crate::CellKind;
 use crate::gathering::gather;

@@ -1,7 +1,7 @@
 //! The members of each class.
 ghost use Rattle.std.specs.Prelude.{◌≡◌, ℕ, ◌<◌, ◌^◌, ◌∷◌, ◌++◌, [], length, slice_index, slice_set, IfOk, OnOk};
 ghost use Rattle.cox_scc.specs.Reach.{IsLeastOfClass};
-ghost use Rattle.cox_cells.specs.Numbered.{AreClassLists, lists_of, list_at};
+ghost use Rattle.cox_cells.specs.NumberedCells.{AreClassLists, lists_of, list_at};
 
 use std::alloc::{AllocError, Global};
 

@@ -4,7 +4,7 @@ ghost use Rattle.cox_base.specs.IntegerMatrix.{integer_matrix};
 ghost use Rattle.cox_context.specs.Numbers.{word_at};
 ghost use Rattle.cox_scc.specs.Graph.{vertices_of, edges_of};
 ghost use Rattle.cox_cells.specs.Cells.{HasOwn, HasOwnDescent};
-ghost use Rattle.cox_cells.specs.Numbered.{AreSteps, HasBeyond};
+ghost use Rattle.cox_cells.specs.NumberedCells.{AreSteps, HasBeyond};
 
 use crate::CellKind;
 use cox_base::Side;

@@ -20,7 +20,7 @@ use Rattle.cox_row.specs.Mus.{AreMus}
 use Rattle.cox_klstep.specs.Faults.{IsFirstLarge}
 use Rattle.cox_klstep.specs.Drafts.{AreBegun, AreNoted}
 use Rattle.cox_klstep.proofs.Middles.{middle-even, noted-skip}
-use Rattle.cox_klstep.proofs.Keeping.{begun-keep}
+use Rattle.cox_klstep.proofs.FoundPolynomials.{begun-keep}
 use Rattle.cox_klstep.proofs.Finished.{finished-extremal, finished-mus}
 
 pub identity-within : (limit : ℤ) → pos 1 ≤ℤ limit → (j : ℕ) → j < length ((pos 1 ∷ []) ∷ [])

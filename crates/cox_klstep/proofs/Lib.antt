@@ -15,7 +15,7 @@ pub mod Filtered
 -- values of mu as they are found
 pub mod Middles
 -- polynomials as they are found
-pub mod Keeping
+pub mod FoundPolynomials
 -- coefficients above the limit
 pub mod LargeLemmas
 -- the row when each member is done
@@ -23,7 +23,7 @@ pub mod Finished
 -- the row of the identity
 pub mod IdentityRow
 -- when the rows that a row is made from are there
-pub mod NeedLemmas
+pub mod NeededRows
 -- inverses by number
 pub mod InverseLemmas
 -- lists of candidates

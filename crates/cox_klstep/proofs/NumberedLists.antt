@@ -24,7 +24,7 @@ use Rattle.cox_klstep.specs.declared.step.Correction.{Correction}
 use Rattle.cox_row.specs.Rising.{number_at}
 use Rattle.cox_klstep.specs.StepOf.{correction_at, AreNumbered}
 use Rattle.cox_klstep.specs.NeedsOf.{AreNeeds}
-use Rattle.cox_klstep.specs.Sums.{numbered_sum}
+use Rattle.cox_klstep.specs.CorrectionSums.{numbered_sum}
 
 -- one correction more
 pub numbered_sum-push : (P : ℕ → Coefficients) (list : List Correction) (k : ℕ) → k < length list → (d : ℕ)

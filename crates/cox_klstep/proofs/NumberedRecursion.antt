@@ -26,7 +26,7 @@ use Rattle.cox_context.proofs.Shifting.{member-below, length-at}
 use Rattle.cox_row.proofs.RisingLemmas.{few-rising}
 use Rattle.cox_klstep.specs.declared.step.Correction.{Correction}
 use Rattle.cox_klstep.specs.StepOf.{correction_at, AreNumbered}
-use Rattle.cox_klstep.specs.Sums.{GivesAt, numbered_sum}
+use Rattle.cox_klstep.specs.CorrectionSums.{GivesAt, numbered_sum}
 use Rattle.cox_klstep.proofs.SideLemmas.{lowered-below, descent-same, lifted-down}
 use Rattle.cox_klstep.proofs.NumberedLists.{named, named-sum, occurs-once}
 

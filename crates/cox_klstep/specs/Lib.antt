@@ -3,7 +3,7 @@ pub mod Limits
 -- the step by which a row is made
 pub mod StepOf
 -- sums of the polynomials of corrections
-pub mod Sums
+pub mod CorrectionSums
 -- the member whose row is made
 pub mod TargetOf
 -- what the polynomials of a row come from

@@ -12,7 +12,7 @@ ghost use Rattle.cox_context.specs.Numbers.{word_at};
 ghost use Rattle.cox_row.specs.Extremal.{IsExtremal};
 ghost use Rattle.cox_row.specs.RowOf.{IsRowAt};
 ghost use Rattle.cox_klstep.specs.StepOf.{IsStep, AreNeeded};
-ghost use Rattle.cox_klstep.specs.Sums.{GivesAt, numbered_sum};
+ghost use Rattle.cox_klstep.specs.CorrectionSums.{GivesAt, numbered_sum};
 
 use crate::sides::shift;
 use crate::step::{Correction, Step};

@@ -7,10 +7,10 @@ pub mod Numbers
 -- what the words give where one option is named
 pub mod OneNumber
 -- rows that a parse finds for options of a table
-pub mod Rows
+pub mod ParsedRows
 -- what is found on the way through words that are taken
 pub mod Walked
 -- and what stands at their end
-pub mod Finished
+pub mod EndOfWords
 -- words that are taken give each option a number of its range
 pub mod Taken

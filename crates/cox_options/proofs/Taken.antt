@@ -13,8 +13,8 @@ use Rattle.cox_options.specs.Command.{number_options}
 use Rattle.cox_options.specs.OneOption.{IsInRange}
 use Rattle.cox_options.specs.Arguments.{IsTaken, given_number}
 use Rattle.cox_options.proofs.Table.{IsTable-options}
-use Rattle.cox_options.proofs.Finished.{defaults_given, number_given, own_rows}
-use Rattle.cox_options.proofs.Rows.{none_of_both, table_command, table_rules}
+use Rattle.cox_options.proofs.EndOfWords.{defaults_given, number_given, own_rows}
+use Rattle.cox_options.proofs.ParsedRows.{none_of_both, table_command, table_rules}
 use Rattle.cox_options.proofs.Walked.{settled_given, walk_given}
 
 not_refused : (b : Bool) → not b ≡ false → b ≡ true

@@ -17,7 +17,7 @@ use Rattle.clap.specs.Walk.{to_positional, trailing, used_by_id, value, waits, w
 use Rattle.clap.specs.Walk.{word_met}
 use Rattle.clap.specs.declared.error.kind.ErrorKind.TheVariants.{UnknownArgument}
 use Rattle.cox_options.specs.Command.{NumberOption}
-use Rattle.cox_options.proofs.Rows.{AreGiven, none_of_both, no_rule, one_rule, rule, table_command, table_rules, used_given}
+use Rattle.cox_options.proofs.ParsedRows.{AreGiven, none_of_both, no_rule, one_rule, rule, table_command, table_rules, used_given}
 
 module _ (options : List NumberOption) where
   abbrev rules : List Rule

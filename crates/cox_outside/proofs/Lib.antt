@@ -2,6 +2,6 @@
 pub mod Known
 pub mod Lines
 pub mod Taking
-pub mod Keeping
+pub mod LineKeeping
 pub mod Showing
 pub mod Telling

@@ -24,13 +24,13 @@ use Rattle.cox_row.specs.Rising.{number_at}
 use Rattle.cox_klstep.specs.declared.step.Descent.{Descent}
 use Rattle.cox_klstep.specs.StepOf.{IsDescentAt}
 use Rattle.cox_klstep.specs.NeedsOf.{HasNeeds, AreNeeds}
-use Rattle.cox_klstep.proofs.NeedLemmas.{shorter-before}
+use Rattle.cox_klstep.proofs.NeededRows.{shorter-before}
 use Rattle.cox_rows.specs.Beyond.{NeedsBeyond}
 use Rattle.cox_rows.specs.Holding.{Holding, Holds}
 use Rattle.cox_rows.specs.declared.fault.RowsFault.{RowsFault}
-use Rattle.cox_rows.specs.Faults.{IsRowsFault}
+use Rattle.cox_rows.specs.RowsFaults.{IsRowsFault}
 use Rattle.cox_rows.specs.Ensured.{IsEnsured, AreNeedsSmall}
-use Rattle.cox_rows.proofs.FaultLemmas.{fault-weaker}
+use Rattle.cox_rows.proofs.RowsFaultLemmas.{fault-weaker}
 use Rattle.cox_rows.proofs.NeedCases.{least-unique, need-shorter, need-correction, correction-words}
 use Rattle.cox_rows.proofs.NeedDecided.{needs_beyond-same}
 

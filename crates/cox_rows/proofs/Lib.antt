@@ -9,7 +9,7 @@ pub mod HeldLemmas
 -- rows that are held are not beyond the limits
 pub mod RowBeyond
 -- faults of rows
-pub mod FaultLemmas
+pub mod RowsFaultLemmas
 -- how rows change while others are made
 pub mod EnsureLemmas
 -- settled members

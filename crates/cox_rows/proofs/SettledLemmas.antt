@@ -13,11 +13,11 @@ use Rattle.cox_klstep.specs.declared.tables.Tables.{Tables}
 use Rattle.cox_klstep.specs.Faults.{IsNarrowFault}
 use Rattle.cox_klstep.specs.TablesOf.{AreTables}
 use Rattle.cox_rows.specs.Holding.{Holding, IsHeldRow}
-use Rattle.cox_rows.specs.Faults.{fault_of, IsRowsFault}
+use Rattle.cox_rows.specs.RowsFaults.{fault_of, IsRowsFault}
 use Rattle.cox_rows.specs.Ensured.{IsStore, IsSettled, AreNeedsSmall}
 use Rattle.cox_rows.proofs.NeedDecided.{needs_beyond-none}
 use Rattle.cox_rows.proofs.RowBeyond.{not_beyond, mu-fault}
-use Rattle.cox_rows.proofs.FaultLemmas.{fault_of-is}
+use Rattle.cox_rows.proofs.RowsFaultLemmas.{fault_of-is}
 
 module _ (h : Holding) (i : ℕ) (g : IsAdmissible (integer_matrix h.elements.matrix))
     (closed : IsClosed (integer_matrix h.elements.matrix) h.elements.members) (least : pos 0 ≤ℤ h.limit) (row : Row)

@@ -3,7 +3,7 @@ pub mod Beyond
 -- a context with rows
 pub mod Holding
 -- why rows are not made
-pub mod Faults
+pub mod RowsFaults
 -- how rows change while others are made
 pub mod Ensured
 -- rows under new numbers

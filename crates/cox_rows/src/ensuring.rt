@@ -14,7 +14,7 @@ ghost use Rattle.cox_klstep.specs.TablesOf.{AreTables};
 ghost use Rattle.cox_klstep.specs.Faults.{IsNarrowFault};
 ghost use Rattle.cox_rows.specs.Beyond.{NeedsBeyond};
 ghost use Rattle.cox_rows.specs.Holding.{Holds, held};
-ghost use Rattle.cox_rows.specs.Faults.{IsRowsFault, IsFaultOfSome};
+ghost use Rattle.cox_rows.specs.RowsFaults.{IsRowsFault, IsFaultOfSome};
 ghost use Rattle.cox_rows.specs.Ensured.{IsEnsured, IsSettled, AreNeedsSmall};
 
 use crate::fault::fault_of;

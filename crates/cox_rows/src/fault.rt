@@ -1,7 +1,7 @@
 //! Why rows are not made.
 ghost use Rattle.std.specs.Prelude.{◌≡◌};
 ghost use Rattle.cox_rows.specs.declared.fault.RowsFault.TheVariants.{NoMemory};
-ghost use Rattle.cox_rows.specs.Faults.{fault_of};
+ghost use Rattle.cox_rows.specs.RowsFaults.{fault_of};
 
 use cox_klstep::StepFault;
 use std::alloc::AllocError;

@@ -20,9 +20,9 @@ use Rattle.cox_context.proofs.SortedLemmas.{IsListOf-unique}
 use Rattle.cox_print.specs.AnswerText.{head_text, edge_text, member_text, members_text, list_text}
 use Rattle.cox_wgraph.specs.declared.edge.Edge.{Edge}
 use Rattle.cox_wgraph.specs.Listing.{Joined, Vertex, descents, IsVertex, AreVertices, AreJoined}
-use Rattle.cox_wgraph.specs.Numbered.{joined_by, joined_of}
+use Rattle.cox_wgraph.specs.NumberedEdges.{joined_by, joined_of}
 use Rattle.cox_wgraph.proofs.Listings.{one_list}
-use Rattle.cox_cells.specs.Numbered.{lists_of, words_of}
+use Rattle.cox_cells.specs.NumberedCells.{lists_of, words_of}
 use Rattle.cox_shell.specs.GroupReply.{vertex_text}
 
 -- an edge, by the member that it leads to

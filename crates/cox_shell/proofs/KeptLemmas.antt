@@ -16,7 +16,7 @@ use Rattle.cox_context.proofs.Ideals.{element-normal_form}
 use Rattle.cox_context.proofs.SortedLemmas.{IsListOf-filter, HasMoreThan-few}
 use Rattle.cox_context.proofs.IntervalLemmas.{is_below, is_below-tells}
 use Rattle.cox_rows.specs.Beyond.{IsBeyond, NeedsBeyond, coefficient, mu}
-use Rattle.cox_rows.specs.Faults.{IsRowsFault}
+use Rattle.cox_rows.specs.RowsFaults.{IsRowsFault}
 use Rattle.cox_rows.specs.declared.fault.RowsFault.{RowsFault}
 use Rattle.cox_rows.specs.declared.fault.RowsFault.TheVariants.{Coefficient, Mu, NoMemory}
 use Rattle.cox_command.specs.declared.refusal.Refusal.{Refusal}

@@ -21,7 +21,7 @@ use Rattle.cox_context.proofs.SortedLemmas.{HasMoreThan-over, HasMoreThan-few}
 use Rattle.cox_rows.specs.declared.fault.RowsFault.{RowsFault}
 use Rattle.cox_rows.specs.declared.fault.RowsFault.TheVariants.{Coefficient, Mu, NoMemory}
 use Rattle.cox_rows.specs.Holding.{Holding}
-use Rattle.cox_rows.specs.Faults.{IsFaultOfSome}
+use Rattle.cox_rows.specs.RowsFaults.{IsFaultOfSome}
 use Rattle.cox_rows.specs.Beyond.{IsBeyond, NeedsBeyond, coefficient, mu}
 use Rattle.cox_command.specs.declared.refusal.Refusal.{Refusal}
 use Rattle.cox_command.specs.declared.refusal.Refusal.TheVariants.{LargeInterval, LargeRow}

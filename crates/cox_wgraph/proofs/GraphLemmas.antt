@@ -14,7 +14,7 @@ use Rattle.cox_context.specs.SortedList.{IsListOf}
 use Rattle.cox_wgraph.specs.declared.edge.Edge.{Edge}
 use Rattle.cox_wgraph.specs.Edges.{IsEdgeValue, IsEdge, IsJoined}
 use Rattle.cox_wgraph.specs.Listing.{Joined, IsNeighbour, AreJoined}
-use Rattle.cox_wgraph.specs.Numbered.{edge_at, AreEdges, joined_by, joined_of}
+use Rattle.cox_wgraph.specs.NumberedEdges.{edge_at, AreEdges, joined_by, joined_of}
 use Rattle.cox_wgraph.specs.Flat.{rank, start_of}
 use Rattle.cox_wgraph.specs.Building.{IsGraph}
 use Rattle.cox_wgraph.proofs.Ranks.{ranked, rank-up, rank-less, total-next, total-up, total-zero}

@@ -1,7 +1,7 @@
 -- ranks of edges, and where the edges of each vertex begin
 pub mod Ranks
 -- one edge more, and the edges between a vertex and those before it
-pub mod Steps
+pub mod OneMoreEdge
 -- the value of an edge
 pub mod EdgeLemmas
 -- edges are counted and put

@@ -3,7 +3,7 @@ pub mod Edges
 -- the W-graph of a finite group as it is listed
 pub mod Listing
 -- the edges of a member of a context, by number
-pub mod Numbered
+pub mod NumberedEdges
 -- edges in a flat list
 pub mod Flat
 -- a graph that is being built

@@ -8,7 +8,7 @@ ghost use Rattle.cox_context.specs.Members.{IsElement};
 ghost use Rattle.cox_context.specs.Numbers.{word_at};
 ghost use Rattle.cox_context.specs.SortedList.{IsListOf};
 ghost use Rattle.cox_wgraph.specs.Listing.{descents, AreJoined};
-ghost use Rattle.cox_wgraph.specs.Numbered.{AreEdges, joined_of};
+ghost use Rattle.cox_wgraph.specs.NumberedEdges.{AreEdges, joined_of};
 
 use crate::Edge;
 use crate::filling::{add_up, count_edges, put_edges};

@@ -1,11 +1,11 @@
 -- what a guard shows
 pub mod Guards
 -- what a worker does to its seat
-pub mod Keeping
+pub mod SeatSteps
 -- what work leaves
 pub mod Working
 -- a member's shorter element and corrections
-pub mod Descended
+pub mod NeedsByNumber
 -- what two seats that met have published and voided
 pub mod Growing
 -- the law of families

@@ -10,7 +10,7 @@ use Rattle.cox_workers.specs.declared.bench.Bench.{Bench}
 use Rattle.cox_workers.specs.declared.hand.Hand.{Hand}
 use Rattle.cox_workers.specs.Ready.{IsReady, IsWorkFor}
 use Rattle.cox_workers.specs.Work.{IsNeededAt}
-use Rattle.cox_workers.proofs.Keeping.{kept-trans, kept-needed}
+use Rattle.cox_workers.proofs.SeatSteps.{kept-trans, kept-needed}
 
 module _ (bench : Bench) where
   -- a seat that has seen all that it had seen is as ready

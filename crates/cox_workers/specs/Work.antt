@@ -12,7 +12,7 @@ use Rattle.cox_claims.specs.Knowledge.{SeesAll, marked, has_published, has_voide
 use Rattle.cox_claims.specs.Seats.{view_of, splits_of, IsSameSeat, HasSeenVoid, HasMarked}
 use Rattle.cox_workers.specs.declared.missing.Missing.{Missing}
 use Rattle.cox_workers.specs.declared.missing.Missing.TheVariants.{Void, Coefficient, Mu, NoMemory}
-use Rattle.cox_workers.specs.Faults.{missing_by}
+use Rattle.cox_workers.specs.MissingRows.{missing_by}
 
 -- the row of member j is one of Need(w), where w is member i
 pub record IsNeededAt (e : Elements) (i j : ℕ) : Type 0 where

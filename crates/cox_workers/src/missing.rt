@@ -1,6 +1,6 @@
 //! Why a row is not there.
 ghost use Rattle.std.specs.Prelude.{◌≡◌};
-ghost use Rattle.cox_workers.specs.Faults.{missing_by};
+ghost use Rattle.cox_workers.specs.MissingRows.{missing_by};
 
 use cox_klstep::StepFault;
 use std::alloc::AllocError;

@@ -9,7 +9,7 @@ use Rattle.cox_context.specs.SortedList.{IsListOf}
 use Rattle.cox_scc.specs.Graph.{edges_of}
 use Rattle.cox_scc.specs.Reach.{HasEdge, AreClasses}
 use Rattle.cox_cells.specs.Cells.{AreCells}
-use Rattle.cox_cells.specs.Numbered.{AreClassLists, AreGathered, lists_of, list_at, words_of}
+use Rattle.cox_cells.specs.NumberedCells.{AreClassLists, AreGathered, lists_of, list_at, words_of}
 use Rattle.cox_cells.proofs.NumberedCells.{cells-are}
 use Rattle.cox_cells.proofs.components.cells.Goals as goal
 

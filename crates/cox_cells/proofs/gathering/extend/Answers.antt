@@ -2,7 +2,7 @@
 use Rattle.std.proofs.Common.{◌≡◌, ℕ, ◌++◌, ◌∷◌, [], List, slice_set, ap, sym, ◌∙◌}
 use Rattle.std.specs.Global.{Vec}
 use Rattle.std.proofs.lemmas.List.{map-set, get_or-map}
-use Rattle.cox_cells.specs.Numbered.{lists_of, list_at}
+use Rattle.cox_cells.specs.NumberedCells.{lists_of, list_at}
 use Rattle.cox_cells.proofs.gathering.extend.Goals as goal
 
 pub returns : goal.returns

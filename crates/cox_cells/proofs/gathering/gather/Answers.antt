@@ -3,7 +3,7 @@ use Rattle.std.proofs.Common.{◌≡◌, ℕ, ◌+◌, ◌<◌, [], ◌∷◌, �
 use Rattle.std.specs.Global.{Vec}
 use Rattle.std.proofs.lemmas.List.{length-map, get_or_read}
 use Rattle.cox_row.specs.Rising.{number_at}
-use Rattle.cox_cells.specs.Numbered.{AreGathered, lists_of}
+use Rattle.cox_cells.specs.NumberedCells.{AreGathered, lists_of}
 use Rattle.cox_cells.proofs.ClassLists.{lists-few, gathered-begin, gathered-extend}
 use Rattle.cox_cells.proofs.gathering.gather.Goals as goal
 use Rattle.cox_cells.proofs.gathering.gather.Goals.{then-class-i+in_ok-begin, else-class-i+in_ok-extend}

@@ -1,6 +1,6 @@
 -- The vertices so far are in the lists of their classes.
 use Rattle.std.proofs.Common.{◌≡◌, length}
-use Rattle.cox_cells.specs.Numbered.{AreGathered, lists_of}
+use Rattle.cox_cells.specs.NumberedCells.{AreGathered, lists_of}
 use Rattle.cox_cells.proofs.gathering.gather.Given as goal
 
 abbrev pub invariant-loop-i : goal.invariant-loop-i

@@ -1,7 +1,7 @@
 -- The steps at the edges so far are added.
 use Rattle.std.proofs.Common.{◌≡◌}
 use Rattle.cox_scc.specs.Graph.{vertices_of, edges_of}
-use Rattle.cox_cells.specs.Numbered.{AreStepsTo}
+use Rattle.cox_cells.specs.NumberedCells.{AreStepsTo}
 use Rattle.cox_cells.proofs.steps.add_steps.Given as goal
 
 abbrev pub invariant-loop-edge : goal.invariant-loop-edge

@@ -6,7 +6,7 @@ use Rattle.std.proofs.lemmas.Bool.{cases_eq}
 use Rattle.std.proofs.lemmas.Bool.Decides.{nat_tests}
 use Rattle.std.proofs.lemmas.Nat.{and_le_l}
 use Rattle.cox_row.proofs.LetterBits.{none-missing, least-missing}
-use Rattle.cox_cells.specs.Numbered.{HasBeyond}
+use Rattle.cox_cells.specs.NumberedCells.{HasBeyond}
 use Rattle.cox_cells.proofs.steps.has_beyond.Goals as goal
 
 test-some : (n : ℕ) → n ≢ 0 → IsTrue (not (nat_eq n 0))

@@ -1,7 +1,7 @@
 -- The steps from the vertices so far are added.
 use Rattle.std.proofs.Common.{◌≡◌, length}
 use Rattle.cox_scc.specs.Graph.{vertices_of, edges_of}
-use Rattle.cox_cells.specs.Numbered.{AreSteps}
+use Rattle.cox_cells.specs.NumberedCells.{AreSteps}
 use Rattle.cox_cells.proofs.steps.steps.Given as goal
 
 abbrev pub invariant-loop-i : goal.invariant-loop-i

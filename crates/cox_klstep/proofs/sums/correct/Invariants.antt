@@ -6,7 +6,7 @@ use Rattle.cox_poly.specs.Coefficients.{Coefficients}
 use Rattle.cox_poly.specs.Products.{minus}
 use Rattle.cox_poly.specs.Polynomial.{coefficient}
 use Rattle.cox_context.specs.Numbers.{word_at}
-use Rattle.cox_klstep.specs.Sums.{GivesAt, numbered_sum}
+use Rattle.cox_klstep.specs.CorrectionSums.{GivesAt, numbered_sum}
 use Rattle.cox_klstep.proofs.sums.correct.Given as goal
 
 abbrev pub invariant-loop-k : goal.invariant-loop-k

@@ -5,7 +5,7 @@ use Rattle.cox_poly.specs.Coefficients.{Coefficients}
 use Rattle.cox_poly.specs.Polynomial.{coefficient}
 use Rattle.cox_hecke.proofs.PolynomialValues.{kl_polynomial, kl_polynomial-is}
 use Rattle.cox_context.specs.Numbers.{word_at}
-use Rattle.cox_klstep.specs.Sums.{numbered_sum}
+use Rattle.cox_klstep.specs.CorrectionSums.{numbered_sum}
 use Rattle.cox_klstep.proofs.SideLemmas.{lowered-letter, lowered-member, extremal-descent}
 use Rattle.cox_klstep.proofs.AddedSums.{three-sums}
 use Rattle.cox_klstep.proofs.NumberedRecursion.{below-lowered, sums-are}

@@ -1,7 +1,7 @@
 -- One more byte belongs to the line that has begun.
 use Rattle.std.proofs.Common.{arith, ◌∙◌}
 use Rattle.cox_outside.proofs.Taking.{TakesPart-push}
-use Rattle.cox_outside.proofs.Keeping.{KeepsLine-push}
+use Rattle.cox_outside.proofs.LineKeeping.{KeepsLine-push}
 use Rattle.cox_outside.proofs.line_scan.scan_line.Goals as goal
 
 pub scan-preserved : goal.scan-preserved

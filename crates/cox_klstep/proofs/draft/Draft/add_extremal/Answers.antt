@@ -11,7 +11,7 @@ use Rattle.cox_row.proofs.MuLemmas.{mu-zero}
 use Rattle.cox_row.proofs.RisingLemmas.{rising-few}
 use Rattle.cox_klstep.specs.SourceOf.{source_cost}
 use Rattle.cox_klstep.proofs.Middles.{noted-skip}
-use Rattle.cox_klstep.proofs.Keeping.{begun-skip}
+use Rattle.cox_klstep.proofs.FoundPolynomials.{begun-skip}
 use Rattle.cox_klstep.proofs.Shifts.{least-after}
 use Rattle.cox_klstep.proofs.PushLemmas.{steps-more}
 use Rattle.cox_klstep.proofs.draft.Draft.add_extremal.Goals as goal

@@ -3,7 +3,7 @@ use Rattle.std.proofs.Common.{◌+◌, ◌<◌, refl, arith}
 use Rattle.cox_base.specs.IntegerMatrix.{integer_matrix}
 use Rattle.cox_context.specs.Numbers.{word_at}
 use Rattle.cox_klstep.proofs.Shifts.{shift-one, noted-pass, least-later}
-use Rattle.cox_klstep.proofs.Keeping.{begun-pass}
+use Rattle.cox_klstep.proofs.FoundPolynomials.{begun-pass}
 use Rattle.cox_klstep.proofs.draft.Draft.pass.Goals as goal
 
 pub loop-self-init : goal.loop-self-init

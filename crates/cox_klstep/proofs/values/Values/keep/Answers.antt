@@ -1,7 +1,7 @@
 -- The member is put behind the others, with its place.
 use Rattle.std.proofs.Common.{FitsSigned, w64, rules}
 use Rattle.std.proofs.lemmas.Int.{to_z-of_z}
-use Rattle.cox_klstep.proofs.Keeping.{begun-keep}
+use Rattle.cox_klstep.proofs.FoundPolynomials.{begun-keep}
 use Rattle.cox_klstep.proofs.values.Values.keep.Goals as goal
 
 pub returns-in-Err-clause-too_big : goal.returns-in-Err-clause-too_big

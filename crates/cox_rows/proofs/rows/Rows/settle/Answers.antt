@@ -3,7 +3,7 @@ use Rattle.std.proofs.Common.{◌≡◌, subst}
 use Rattle.cox_base.specs.IntegerMatrix.{integer_matrix}
 use Rattle.cox_context.specs.Numbers.{word_at}
 use Rattle.cox_rows.specs.Holding.{Holding}
-use Rattle.cox_rows.specs.Faults.{IsRowsFault}
+use Rattle.cox_rows.specs.RowsFaults.{IsRowsFault}
 use Rattle.cox_rows.specs.Ensured.{AreNeedsSmall}
 use Rattle.cox_rows.specs.Beyond.{NeedsBeyond}
 use Rattle.cox_rows.proofs.SettledLemmas.{mu_fault-is, is_settled, store-set}

@@ -10,7 +10,7 @@ use Rattle.cox_context.specs.Numbers.{word_at}
 use Rattle.cox_context.proofs.ListLemmas.{contains-at}
 use Rattle.cox_print.specs.AnswerText.{head_text, edge_text}
 use Rattle.cox_wgraph.specs.Listing.{Joined}
-use Rattle.cox_wgraph.specs.Numbered.{joined_of}
+use Rattle.cox_wgraph.specs.NumberedEdges.{joined_of}
 use Rattle.cox_shell.specs.GroupReply.{vertex_text}
 use Rattle.cox_shell.proofs.GroupTexts.{head-is, joined-are, descents-letters}
 use Rattle.cox_shell.proofs.answers.graphs.put_next_vertex.Goals as goal

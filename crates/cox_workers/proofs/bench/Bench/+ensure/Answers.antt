@@ -2,14 +2,14 @@
 use Rattle.std.proofs.Common.{◌≡◌, ◌<◌, ◌≤◌, ⊎_elim, refl, ap, ◌∙◌, subst, rules, arith}
 use Rattle.std.proofs.lemmas.Bool.{cases_lt}
 use Rattle.std.specs.Prelude.{IfErr}
-use Rattle.cox_klstep.proofs.NeedLemmas.{listed-needs}
+use Rattle.cox_klstep.proofs.NeededRows.{listed-needs}
 use Rattle.cox_row.specs.Rising.{number_at}
 use Rattle.cox_claims.specs.Knowledge.{looked}
 use Rattle.cox_claims.specs.Seats.{view_of, HasSeen}
 use Rattle.cox_row_store.specs.Stores.{limit_of}
-use Rattle.cox_workers.proofs.Keeping.{needs-map, result-needed, looked_void, published_kept, voided_kept, unmade_missing}
+use Rattle.cox_workers.proofs.SeatSteps.{needs-map, result-needed, looked_void, published_kept, voided_kept, unmade_missing}
 use Rattle.cox_workers.proofs.Working.{ready_still, work-trans, work-needed}
-use Rattle.cox_workers.proofs.Descended.{identity-needs, lower-before, lower-needed, correction-before, correction-needed}
+use Rattle.cox_workers.proofs.NeedsByNumber.{identity-needs, lower-before, lower-needed, correction-before, correction-needed}
 use Rattle.cox_workers.specs.Shelves.{IsOn}
 use Rattle.cox_workers.specs.Work.{IsNeededAt, IsMissing}
 use Rattle.cox_klstep.specs.NeedsOf.{AreNeeds}

@@ -1,5 +1,5 @@
 -- A row that was won is given up, and the seat holds what it held.
-use Rattle.cox_workers.proofs.Keeping.{kept-refl, voided_kept}
+use Rattle.cox_workers.proofs.SeatSteps.{kept-refl, voided_kept}
 use Rattle.cox_workers.proofs.bench.Bench.give_up.Goals as goal
 
 pub returns-in-Won-clause-kept : goal.returns-in-Won-clause-kept

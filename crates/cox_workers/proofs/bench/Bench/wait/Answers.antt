@@ -1,5 +1,5 @@
 -- The row itself is Void, and the seat has marked nothing.
-use Rattle.cox_workers.proofs.Keeping.{looked_void}
+use Rattle.cox_workers.proofs.SeatSteps.{looked_void}
 use Rattle.cox_workers.proofs.bench.Bench.wait.Goals as goal
 
 pub returns-in-Void-clause-missing : goal.returns-in-Void-clause-missing

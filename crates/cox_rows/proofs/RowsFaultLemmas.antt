@@ -11,7 +11,7 @@ use Rattle.cox_reflect.proofs.Elements.{same-refl}
 use Rattle.cox_hecke.specs.Needs.{IsNeeded, itself}
 use Rattle.cox_rows.specs.declared.fault.RowsFault.{RowsFault}
 use Rattle.cox_rows.specs.declared.fault.RowsFault.TheVariants.{Coefficient, Mu, NoMemory}
-use Rattle.cox_rows.specs.Faults.{fault_of, IsRowFault, IsRowsFault, IsFaultOfSome}
+use Rattle.cox_rows.specs.RowsFaults.{fault_of, IsRowFault, IsRowsFault, IsFaultOfSome}
 use Rattle.cox_rows.specs.Beyond.{IsBeyond, NeedsBeyond, coefficient, mu}
 
 row_fault-weaker : (e : Elements) (limit : ℤ) (P Q : List ℕ → Type 0) (w : ℕ) (fault : StepFault) → ((u : List ℕ) → P u → Q u)

@@ -14,7 +14,7 @@ use Rattle.cox_row.specs.Rising.{number_at}
 use Rattle.cox_klstep.specs.declared.step.Descent.{Descent}
 use Rattle.cox_klstep.specs.StepOf.{IsDescentAt}
 use Rattle.cox_klstep.specs.NeedsOf.{HasNeeds, AreNeeds}
-use Rattle.cox_klstep.proofs.NeedLemmas.{shorter-before, all-needs}
+use Rattle.cox_klstep.proofs.NeededRows.{shorter-before, all-needs}
 use Rattle.cox_workers.specs.Work.{IsNeededAt}
 
 module _ (e : Elements) (g : IsAdmissible (integer_matrix e.matrix)) (closed : IsClosed (integer_matrix e.matrix) e.members) where

@@ -24,7 +24,7 @@ use Rattle.cox_options.specs.Command.{NumberOption}
 use Rattle.cox_options.specs.OneOption.{IsInRange}
 use Rattle.cox_options.specs.Arguments.{decimal_value}
 use Rattle.cox_options.proofs.Table.{IsTable, one_place}
-use Rattle.cox_options.proofs.Rows.{AreGiven, Finds-find, IsGiven, more_given, new_row, rule}
+use Rattle.cox_options.proofs.ParsedRows.{AreGiven, Finds-find, IsGiven, more_given, new_row, rule}
 
 -- where an option gets its default, no row goes
 row_kept : (id : Text) (o : NumberOption) (rows : List Row) → has_row id rows ≡ true → has_row id (with_default rows (rule o)) ≡ true

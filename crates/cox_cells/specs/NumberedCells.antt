@@ -6,7 +6,7 @@ use Rattle.cox_context.specs.Closed.{Elements}
 use Rattle.cox_context.specs.Numbers.{word_at}
 use Rattle.cox_wgraph.specs.declared.edge.Edge.{Edge}
 use Rattle.cox_wgraph.specs.Edges.{IsJoined}
-use Rattle.cox_wgraph.specs.Numbered.{edge_at}
+use Rattle.cox_wgraph.specs.NumberedEdges.{edge_at}
 use Rattle.cox_row.specs.Rising.{number_at, AreRising}
 use Rattle.cox_scc.specs.Reach.{HasEdge}
 use Rattle.cox_cells.specs.declared.kind.CellKind.{CellKind}

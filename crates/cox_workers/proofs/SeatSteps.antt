@@ -24,7 +24,7 @@ use Rattle.cox_claims.specs.Seats.{view_of, splits_of, IsSameSeat, HasSeenVoid, 
 use Rattle.cox_claims.proofs.RowTests.{among_else}
 use Rattle.cox_workers.specs.declared.missing.Missing.{Missing}
 use Rattle.cox_workers.specs.declared.missing.Missing.TheVariants.{Void, Coefficient, Mu, NoMemory}
-use Rattle.cox_workers.specs.Faults.{missing_by}
+use Rattle.cox_workers.specs.MissingRows.{missing_by}
 use Rattle.cox_workers.specs.Work.{IsNeededAt, HasEnded, IsKept, VoidsNone, IsVoid, IsBeyond, IsMissing, IsUnmade}
 
 -- ---- views
