@@ -9,7 +9,7 @@
 
 ghost use Rattle.std.specs.Prelude.{IfOk, All};
 ghost use Rattle.cox_claims.specs.Tables.{IsSeatOf};
-ghost use Rattle.claims_stress.specs.Jobs.{IsReady};
+ghost use Rattle.claims_stress.specs.Jobs.{IsJobReady};
 
 use cox_claims::{Claims, NoMemory, Seat};
 use std::alloc::{AllocError, Global};
@@ -29,7 +29,7 @@ const WORKERS: u32 = 8;
 fn jobs(alloc: Global, claims: &Claims, seat: &mut Seat) -> Result<Vec<Job>, NoMemory>
     requires { IsSeatOf claims.now seat.old }
     ensures own { IsSeatOf claims.now seat.new }
-    ensures ready { IfOk result (λ jobs. All (IsReady claims.now) jobs.items) }
+    ensures ready { IfOk result (λ jobs. All (IsJobReady claims.now) jobs.items) }
 {
     let mut jobs = Vec::new(alloc);
     for worker in 0..WORKERS {
@@ -46,7 +46,7 @@ fn reports<R: Threads + Sync>(
     claims: &Claims,
     jobs: Vec<Job>,
 ) -> Result<Vec<Result<Report, NoMemory>>, NoMemory>
-    requires { All (IsReady claims.now) jobs.items }
+    requires { All (IsJobReady claims.now) jobs.items }
 {
     thread::map_vec(rt, jobs, &|job| work::work(alloc, claims, job))
 }

@@ -1,7 +1,7 @@
 //! What one worker does: it claims each row, ends those that it wins, and watches that no ended row changes.
 ghost use Rattle.std.specs.Prelude.{◌≡◌, ◌<◌, length};
 ghost use Rattle.cox_claims.specs.Tables.{rows_of, IsSeatOf};
-ghost use Rattle.claims_stress.specs.Jobs.{IsReady};
+ghost use Rattle.claims_stress.specs.Jobs.{IsJobReady};
 
 use cox_claims::{Claimed, Claims, NoMemory, RowState, Seat};
 use std::alloc::Global;
@@ -32,7 +32,7 @@ pub fn is_ended(state: RowState) -> bool {
 
 /// Goes over all rows, up or down by the worker's number.
 pub fn work(alloc: Global, claims: &Claims, job: Job) -> Result<Report, NoMemory>
-    requires { IsReady claims.now job }
+    requires { IsJobReady claims.now job }
 {
     let Job { worker, mut seat } = job;
     let rows = claims.rows();

@@ -8,7 +8,7 @@ use Rattle.cox_context.specs.Closed.{Elements}
 use Rattle.cox_context.specs.Numbers.{word_at, IsNumberOf}
 use Rattle.cox_row.specs.RowOf.{IsRowAt}
 use Rattle.cox_klstep.specs.Marks.{AreMarks}
-use Rattle.cox_klstep.specs.StepOf.{IsStep, AreNeeded}
+use Rattle.cox_klstep.specs.StepOf.{IsRowStep, AreNeeded}
 use Rattle.cox_klstep.specs.declared.source.Source.{Source}
 use Rattle.cox_klstep.specs.declared.step.Step.{Step}
 
@@ -20,7 +20,7 @@ pub record AreInverses (e : Elements) (numbers : List (Option ℕ)) : Type 0 whe
 
 -- the row of the member i can be made by the step, or from the row of its inverse
 abbrev pub IsSourceBy : Option (Bor Step) → Elements → ℕ → Source → Type 0
-IsSourceBy (Some step) e i source = (step.now.member ≡ i) × IsStep e step.now × IsRowAt e step.now.lower source.row.now
+IsSourceBy (Some step) e i source = (step.now.member ≡ i) × IsRowStep e step.now × IsRowAt e step.now.lower source.row.now
     × AreNeeded e step.now.corrections.items source.needed.now
 IsSourceBy None e i source = (source.inverse < length e.members)
     × SameElement (integer_matrix e.matrix) (word_at e.members i) (reverse (word_at e.members source.inverse))

@@ -47,7 +47,7 @@ pub record IsDescentAt (e : Elements) (d : Descent) : Type 0 where
   pub lower_is : word_at e.members d.lower ≡ normal_form (integer_matrix e.matrix) (d.letter ∷ word_at e.members d.member)
 
 -- the step by which the row of the member with its number is made
-pub record IsStep (e : Elements) (step : Step) : Type 0 where
+pub record IsRowStep (e : Elements) (step : Step) : Type 0 where
   pub within : step.member < length e.members
   pub descent : IsDescent step.side (integer_matrix e.matrix) (word_at e.members step.member) step.letter
   pub lower_within : step.lower < length e.members

@@ -35,7 +35,7 @@ pub record IsMade (e : Elements) (set : ℕ) (tables : Tables) : Type 0 where
   pub candidates : IfSome (slice_get tables.candidates.items set) (λ list. AreCandidates e (length e.members) set list.items)
 
 -- one empty list more
-pub record IsGrown (old new : List (Vec ℕ)) : Type 0 where
+pub record HasOneListMore (old new : List (Vec ℕ)) : Type 0 where
   pub size : length new ≡ length old + 1
   pub kept : (k : ℕ) → k < length old → slice_get new k ≡ slice_get old k
   pub empty : IfSome (slice_get new (length old)) (λ list. list.items ≡ [])

@@ -6,7 +6,7 @@ ghost use Rattle.cox_reflect.specs.Height.{IsLeastLeftDescent};
 ghost use Rattle.cox_hecke.specs.Step.{times_letter, IsCorrection};
 ghost use Rattle.cox_context.specs.Numbers.{word_at};
 ghost use Rattle.cox_row.specs.RowOf.{IsRowAt};
-ghost use Rattle.cox_klstep.specs.StepOf.{AreNumbered, correction_at, IsLowering, IsStep};
+ghost use Rattle.cox_klstep.specs.StepOf.{AreNumbered, correction_at, IsLowering, IsRowStep};
 ghost use Rattle.cox_klstep.specs.NeedsOf.{HasNeeds, AreNeeds};
 ghost use Rattle.cox_klstep.specs.ChoiceOf.{IsChoice};
 ghost use Rattle.cox_klstep.specs.declared.step.Correction.{Correction};
@@ -39,7 +39,7 @@ pub(crate) fn cheapest_step<L: LowerRows>(
     requires lower { L.elements lower.now ≡ ctx.now }
     requires needs { HasNeeds ctx.now (L.holds lower.now) i }
     ensures member { IfOk result (λ step. step.member ≡ i) }
-    ensures step { IfOk result (IsStep ctx.now) }
+    ensures step { IfOk result (IsRowStep ctx.now) }
     ensures lower { IfOk result (λ step. L.holds lower.now step.lower) }
     ensures corrected { IfOk result (λ step. (k : ℕ) → k < length step.corrections.items → L.holds lower.now (correction_at step.corrections.items k).number) }
     ensures few { IfOk result (λ step. (s : ℕ) (numbers : List ℕ) → IsLeastLeftDescent (integer_matrix ctx.now.matrix) (word_at ctx.now.members i) s

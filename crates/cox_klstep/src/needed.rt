@@ -3,7 +3,7 @@ ghost use Rattle.std.specs.Prelude.{◌≡◌, ℕ, ◌<◌, length, IfOk};
 ghost use Rattle.cox_base.specs.IntegerMatrix.{integer_matrix};
 ghost use Rattle.cox_context.specs.Numbers.{word_at};
 ghost use Rattle.cox_row.specs.RowOf.{IsRowAt};
-ghost use Rattle.cox_klstep.specs.StepOf.{correction_at, IsDescentAt, IsStep, AreNeeded};
+ghost use Rattle.cox_klstep.specs.StepOf.{correction_at, IsDescentAt, IsRowStep, AreNeeded};
 ghost use Rattle.cox_klstep.specs.NeedsOf.{AreNeeds};
 
 use crate::step::{Descent, Step};
@@ -40,7 +40,7 @@ pub(crate) fn needed_rows<'a, L: LowerRows>(
     step: &Step,
     lower: &'a L,
 ) -> Result<Vec<&'a Row>, AllocError>
-    requires step { IsStep ctx.now step.now }
+    requires step { IsRowStep ctx.now step.now }
     requires lower { L.elements lower.now ≡ ctx.now }
     requires there { (k : ℕ) → k < length step.now.corrections.items → L.holds lower.now (correction_at step.now.corrections.items k).number }
     ensures { IfOk result (λ v. AreNeeded ctx.now step.now.corrections.items v.items) }

@@ -11,7 +11,7 @@ ghost use Rattle.cox_context.specs.Closed.{IsClosed};
 ghost use Rattle.cox_context.specs.Numbers.{word_at};
 ghost use Rattle.cox_row.specs.Extremal.{IsExtremal};
 ghost use Rattle.cox_row.specs.RowOf.{IsRowAt};
-ghost use Rattle.cox_klstep.specs.StepOf.{IsStep, AreNeeded};
+ghost use Rattle.cox_klstep.specs.StepOf.{IsRowStep, AreNeeded};
 ghost use Rattle.cox_klstep.specs.CorrectionSums.{GivesAt, numbered_sum};
 
 use crate::sides::shift;
@@ -96,7 +96,7 @@ pub(crate) fn sum_up(
     sums: &mut Acc,
     steps: &mut Steps,
 ) -> bool
-    requires step { IsStep ctx.now step.now }
+    requires step { IsRowStep ctx.now step.now }
     requires lower { IsRowAt ctx.now step.now.lower lower.now }
     requires needed { AreNeeded ctx.now step.now.corrections.items needed.now }
     requires x { x < length ctx.now.members }
@@ -123,7 +123,7 @@ pub(crate) fn sum_up(
 fn correct(ctx: &Context, step: &Step, needed: &[&Row], x: u32, sums: &mut Acc, steps: &mut Steps)
     requires admissible { IsAdmissible (integer_matrix ctx.now.matrix) }
     requires closed { IsClosed (integer_matrix ctx.now.matrix) ctx.now.members }
-    requires step { IsStep ctx.now step.now }
+    requires step { IsRowStep ctx.now step.now }
     requires needed { AreNeeded ctx.now step.now.corrections.items needed.now }
     requires x { x < length ctx.now.members }
     requires room { (k : ℕ) → unsigned_abs (coefficient sums.old k) ≤ 2 * 2 ^ 94 }

@@ -26,7 +26,7 @@ use Rattle.cox_klstep.specs.StepOf.{IsDescentAt}
 use Rattle.cox_klstep.specs.NeedsOf.{HasNeeds, AreNeeds}
 use Rattle.cox_klstep.proofs.NeededRows.{shorter-before}
 use Rattle.cox_rows.specs.Beyond.{NeedsBeyond}
-use Rattle.cox_rows.specs.Holding.{Holding, Holds}
+use Rattle.cox_rows.specs.Holding.{Holding, HasRow}
 use Rattle.cox_rows.specs.declared.fault.RowsFault.{RowsFault}
 use Rattle.cox_rows.specs.RowsFaults.{IsRowsFault}
 use Rattle.cox_rows.specs.Ensured.{IsEnsured, AreNeedsSmall}
@@ -44,7 +44,7 @@ ensured-trans w a b c f h = record {
   elements = h.elements ∙ f.elements;
   limit = h.limit ∙ f.limit;
   kept = λ j l. h.kept j (f.kept j l);
-  needed = λ j l. ⊎_elim (λ (old : Holds b j). f.needed j old)
+  needed = λ j l. ⊎_elim (λ (old : HasRow b j). f.needed j old)
       (λ (new : IsNeeded (integer_matrix b.elements.matrix) w (word_at b.elements.members j)). inr (rw f.elements at new)) (h.needed j l);
 }
 
@@ -55,14 +55,14 @@ ensured-needed a b w v g n h = record {
   elements = h.elements;
   limit = h.limit;
   kept = h.kept;
-  needed = λ j l. ⊎_elim (λ (old : Holds a j). inl old)
+  needed = λ j l. ⊎_elim (λ (old : HasRow a j). inl old)
       (λ (new : IsNeeded (integer_matrix a.elements.matrix) v (word_at a.elements.members j)).
       inr (needed-trans (integer_matrix a.elements.matrix) g w v (word_at a.elements.members j) n new)) (h.needed j l);
 }
 
 -- the row of w itself is made
 pub ensured-made : (a b : Holding) (i : ℕ) → IsAdmissible (integer_matrix a.elements.matrix) → b.elements ≡ a.elements → b.limit ≡ a.limit
-    → ((j : ℕ) → Holds a j → Holds b j) → ((j : ℕ) → j ≢ i → Holds b j → Holds a j) → IsEnsured (word_at a.elements.members i) a b
+    → ((j : ℕ) → HasRow a j → HasRow b j) → ((j : ℕ) → j ≢ i → HasRow b j → HasRow a j) → IsEnsured (word_at a.elements.members i) a b
 ensured-made a b i g elements limit kept others = record {
   elements = elements;
   limit = limit;
@@ -74,7 +74,7 @@ ensured-made a b i g elements limit kept others = record {
 
 pub ensured-then : (a b c : Holding) (i : ℕ) → IsAdmissible (integer_matrix a.elements.matrix)
     → IsEnsured (word_at a.elements.members i) a b → c.elements ≡ b.elements → c.limit ≡ b.limit
-    → ((j : ℕ) → Holds b j → Holds c j) → ((j : ℕ) → j ≢ i → Holds c j → Holds b j) → IsEnsured (word_at a.elements.members i) a c
+    → ((j : ℕ) → HasRow b j → HasRow c j) → ((j : ℕ) → j ≢ i → HasRow c j → HasRow b j) → IsEnsured (word_at a.elements.members i) a c
 ensured-then a b c i g h elements limit kept others = ensured-trans (word_at a.elements.members i) a b c h
     (subst (λ (e : Elements). IsEnsured (word_at e.members i) b c) h.elements
     (ensured-made b c i (rw h.elements g) elements limit kept others))
@@ -101,8 +101,8 @@ fault-own e limit w result g h = MatchResult-weaker result h (λ x t. t)
 -- From a to b the shorter element was ensured, and from b to h the first n of the numbers.
 pub record IsUnderWay (w : List ℕ) (a b h : Holding) (numbers : List ℕ) (n : ℕ) : Type 0 where
   pub rows : IsEnsured w a h
-  pub kept : (j : ℕ) → Holds b j → Holds h j
-  pub there : (k : ℕ) → k < n → Holds h (number_at numbers k)
+  pub kept : (j : ℕ) → HasRow b j → HasRow h j
+  pub there : (k : ℕ) → k < n → HasRow h (number_at numbers k)
   pub small : (k : ℕ) → k < n
       → NeedsBeyond (integer_matrix a.elements.matrix) a.limit (word_at a.elements.members (number_at numbers k)) → ⊥
 
@@ -123,7 +123,7 @@ under_way-rows w a b x y numbers n u g h needed rows = ensured-trans w a x y h.r
 pub under_way-next : (w : List ℕ) (a b x y : Holding) (numbers : List ℕ) (n u : ℕ) → IsAdmissible (integer_matrix a.elements.matrix)
     → IsUnderWay w a b x numbers n → number_at numbers n ≡ u
     → IsNeeded (integer_matrix a.elements.matrix) w (word_at a.elements.members u)
-    → IsEnsured (word_at x.elements.members u) x y → Holds y u
+    → IsEnsured (word_at x.elements.members u) x y → HasRow y u
     → (NeedsBeyond (integer_matrix x.elements.matrix) x.limit (word_at x.elements.members u) → ⊥)
     → IsUnderWay w a b y numbers (n + 1)
 under_way-next w a b x y numbers n u g h is needed rows there small = record {

@@ -15,7 +15,7 @@ use Rattle.cox_context.specs.Closed.{IsClosed}
 use Rattle.cox_context.specs.Members.{IsInUnion}
 use Rattle.cox_context.specs.SortedList.{IsListOf}
 use Rattle.cox_klstep.specs.declared.tables.Tables.{Tables}
-use Rattle.cox_rows.specs.Holding.{Holding, Holds}
+use Rattle.cox_rows.specs.Holding.{Holding, HasRow}
 use Rattle.cox_rows.specs.Ensured.{IsSettled, IsStore}
 use Rattle.cox_rows.specs.Spread.{AreCarried}
 use Rattle.cox_rows.specs.Extended.{IsExtended}
@@ -54,7 +54,7 @@ module _ (A : IntegerMatrix) (g : IsAdmissible A) (members : List (List ℕ)) (c
         (λ (old : Contains members word). old) p.either;
   }
 
-pub extended-same : (h : Holding) → ((i : ℕ) → Holds h i → i < length h.elements.members) → IsExtended h h
+pub extended-same : (h : Holding) → ((i : ℕ) → HasRow h i → i < length h.elements.members) → IsExtended h h
 extended-same h inside = record {
   moved = range_with_len 0 (length h.elements.members);
   carried = record {

@@ -9,15 +9,15 @@ use Rattle.cox_context.specs.Numbers.{word_at}
 use Rattle.cox_klstep.specs.declared.tables.Tables.{Tables}
 use Rattle.cox_klstep.specs.TablesOf.{AreTables}
 use Rattle.cox_rows.specs.Beyond.{NeedsBeyond}
-use Rattle.cox_rows.specs.Holding.{Holding, Holds}
+use Rattle.cox_rows.specs.Holding.{Holding, HasRow}
 
 -- the context and the limit stay, what is held stays, and what is new is needed by w
 pub record IsEnsured (w : List ℕ) (old new : Holding) : Type 0 where
   pub elements : new.elements ≡ old.elements
   pub limit : new.limit ≡ old.limit
-  pub kept : (j : ℕ) → Holds old j → Holds new j
-  pub needed : (j : ℕ) → Holds new j
-      → Holds old j ⊎ IsNeeded (integer_matrix old.elements.matrix) w (word_at old.elements.members j)
+  pub kept : (j : ℕ) → HasRow old j → HasRow new j
+  pub needed : (j : ℕ) → HasRow new j
+      → HasRow old j ⊎ IsNeeded (integer_matrix old.elements.matrix) w (word_at old.elements.members j)
 
 -- Need(w) has no row beyond the limits but, maybe, that of w itself
 pub record AreNeedsSmall (A : IntegerMatrix) (limit : ℤ) (w : List ℕ) : Type 0 where

@@ -13,8 +13,8 @@ pub record Holding : Type 0 where
   pub holds : List Bool
 
 -- the row of the member with the number i is there
-abbrev pub Holds : Holding → ℕ → Type 0
-Holds h i = slice_index_or h.holds i false ≡ true
+abbrev pub HasRow : Holding → ℕ → Type 0
+HasRow h i = slice_index_or h.holds i false ≡ true
 
 -- the row of the member with the number i, within the limit
 pub record IsHeldRow (e : Elements) (limit : ℤ) (i : ℕ) (row : Row) : Type 0 where

@@ -7,7 +7,7 @@ use Rattle.cox_context.specs.Numbers.{AreMoved}
 use Rattle.cox_row.specs.declared.row.Row.{Row}
 use Rattle.cox_row.specs.Rising.{AreWithin}
 use Rattle.cox_row.specs.RowOf.{IsRowOf}
-use Rattle.cox_rows.specs.Holding.{Holding, Holds, row_at}
+use Rattle.cox_rows.specs.Holding.{Holding, HasRow, row_at}
 
 -- each number of the row has a new one
 pub record IsMovable (moved : List ℕ) (i : ℕ) (row : Row) : Type 0 where
@@ -37,5 +37,5 @@ pub record AreSpread (rows : List (Option Row)) (moved : List ℕ) (n : ℕ) (sp
 -- the members have new numbers, and the rows of the old members are held under their new numbers, and no others
 pub record AreCarried (old new : Holding) (moved : List ℕ) : Type 0 where
   pub numbers : AreMoved old.elements.members new.elements.members moved
-  pub there : (i : ℕ) → Holds old i → Holds new (slice_index moved i)
-  pub only : (j : ℕ) → Holds new j → (i : ℕ) × Holds old i × (slice_index moved i ≡ j)
+  pub there : (i : ℕ) → HasRow old i → HasRow new (slice_index moved i)
+  pub only : (j : ℕ) → HasRow new j → (i : ℕ) × HasRow old i × (slice_index moved i ≡ j)

@@ -13,7 +13,7 @@ ghost use Rattle.cox_klstep.specs.NeedsOf.{HasNeeds, AreNeeds};
 ghost use Rattle.cox_klstep.specs.TablesOf.{AreTables};
 ghost use Rattle.cox_klstep.specs.Faults.{IsNarrowFault};
 ghost use Rattle.cox_rows.specs.Beyond.{NeedsBeyond};
-ghost use Rattle.cox_rows.specs.Holding.{Holds, held};
+ghost use Rattle.cox_rows.specs.Holding.{HasRow, held};
 ghost use Rattle.cox_rows.specs.RowsFaults.{IsRowsFault, IsFaultOfSome};
 ghost use Rattle.cox_rows.specs.Ensured.{IsEnsured, IsSettled, AreNeedsSmall};
 
@@ -33,7 +33,7 @@ impl Rows {
     pub fn ensure(&mut self, i: u32) -> Result<(), RowsFault>
         requires { i < length self.old.elements.members }
         ensures rows { IsEnsured (word_at self.old.elements.members i) self.old self.new }
-        ensures there { OnOk result (Holds self.new i) }
+        ensures there { OnOk result (HasRow self.new i) }
         ensures small { OnOk result (¬ NeedsBeyond (integer_matrix self.old.elements.matrix) self.old.limit (word_at self.old.elements.members i)) }
         ensures fault { IfErr result (IsRowsFault self.old.elements self.old.limit
             (IsNeeded (integer_matrix self.old.elements.matrix) (word_at self.old.elements.members i))) }
@@ -52,7 +52,7 @@ impl Rows {
     fn ensure_lower(&mut self, i: u32) -> Result<(), RowsFault>
         requires { i < length self.old.elements.members }
         ensures rows { IsEnsured (word_at self.old.elements.members i) self.old self.new }
-        ensures there { OnOk result (HasNeeds self.old.elements (Holds self.new) i) }
+        ensures there { OnOk result (HasNeeds self.old.elements (HasRow self.new) i) }
         ensures small { OnOk result (AreNeedsSmall (integer_matrix self.old.elements.matrix) self.old.limit (word_at self.old.elements.members i)) }
         ensures fault { IfErr result (IsRowsFault self.old.elements self.old.limit
             (IsNeeded (integer_matrix self.old.elements.matrix) (word_at self.old.elements.members i))) }
@@ -76,8 +76,8 @@ impl Rows {
     pub fn ensure_all(&mut self) -> Result<(), RowsFault>
         ensures elements { self.new.elements ≡ self.old.elements }
         ensures limit { self.new.limit ≡ self.old.limit }
-        ensures kept { (j : ℕ) → Holds self.old j → Holds self.new j }
-        ensures there { OnOk result ((i : ℕ) → i < length self.old.elements.members → Holds self.new i) }
+        ensures kept { (j : ℕ) → HasRow self.old j → HasRow self.new j }
+        ensures there { OnOk result ((i : ℕ) → i < length self.old.elements.members → HasRow self.new i) }
         ensures small { OnOk result ((i : ℕ) → i < length self.old.elements.members
             → ¬ NeedsBeyond (integer_matrix self.old.elements.matrix) self.old.limit (word_at self.old.elements.members i)) }
         ensures fault { IfErr result (IsFaultOfSome self.old.elements self.old.limit) }
@@ -91,7 +91,7 @@ impl Rows {
     /// The members that correct the step by a descent, where the row of the shorter element is there.
     fn corrections(&self, descent: &Descent) -> Result<Vec<u32>, AllocError>
         requires descent { IsDescentAt self.now.elements descent.now }
-        requires lower { Holds self.now descent.now.lower }
+        requires lower { HasRow self.now descent.now.lower }
         ensures { IfOk result (λ v. AreNeeds (integer_matrix self.now.elements.matrix) self.now.elements.members descent.now.letter (word_at self.now.elements.members descent.now.member) v.items) }
     {
         let alloc = *self.settled.allocator();
@@ -104,12 +104,12 @@ impl Rows {
     /// Makes the row of the member with the number i, unless it is there.
     fn make(&mut self, i: u32) -> Result<(), RowsFault>
         requires member { i < length self.old.elements.members }
-        requires needs { HasNeeds self.old.elements (Holds self.old) i }
+        requires needs { HasNeeds self.old.elements (HasRow self.old) i }
         ensures elements { self.new.elements ≡ self.old.elements }
         ensures limit { self.new.limit ≡ self.old.limit }
-        ensures kept { (j : ℕ) → Holds self.old j → Holds self.new j }
-        ensures others { (j : ℕ) → j ≢ i → Holds self.new j → Holds self.old j }
-        ensures there { OnOk result (Holds self.new i) }
+        ensures kept { (j : ℕ) → HasRow self.old j → HasRow self.new j }
+        ensures others { (j : ℕ) → j ≢ i → HasRow self.new j → HasRow self.old j }
+        ensures there { OnOk result (HasRow self.new i) }
         ensures fault { IfErr result (IsRowsFault self.old.elements self.old.limit (λ w. w ≡ word_at self.old.elements.members i)) }
     {
         if self.held.get(i).is_some() {
@@ -148,7 +148,7 @@ impl Rows {
 
     /// Whether the member with the number i is known to be settled, and its row is held.
     fn is_settled(&self, i: u32) -> bool
-        ensures there { IsTrue result → Holds self.now i }
+        ensures there { IsTrue result → HasRow self.now i }
         ensures small { IsTrue result → IsSettled self.now i }
     {
         match self.settled.get(i as usize) {
@@ -160,7 +160,7 @@ impl Rows {
     /// Notes that the member with the number i is settled, where all that its row is made from is; a value of mu may be too large.
     fn settle(&mut self, i: u32) -> Result<(), RowsFault>
         requires member { i < length self.old.elements.members }
-        requires there { Holds self.old i }
+        requires there { HasRow self.old i }
         requires needs { AreNeedsSmall (integer_matrix self.old.elements.matrix) self.old.limit (word_at self.old.elements.members i) }
         ensures same { self.new ≡ self.old }
         ensures small { OnOk result (¬ NeedsBeyond (integer_matrix self.old.elements.matrix) self.old.limit (word_at self.old.elements.members i)) }

@@ -7,7 +7,7 @@ ghost use Rattle.cox_base.specs.Matrix.{IsWord};
 ghost use Rattle.cox_context.specs.Members.{IsInUnion};
 ghost use Rattle.cox_context.specs.SortedList.{IsListOf};
 ghost use Rattle.cox_context.specs.Refusal.{IsRefusal};
-ghost use Rattle.cox_rows.specs.Holding.{Holding, Holds, IsHeldRow, AreBoth, row_at, held};
+ghost use Rattle.cox_rows.specs.Holding.{Holding, HasRow, IsHeldRow, AreBoth, row_at, held};
 ghost use Rattle.cox_rows.specs.Spread.{IsMovable, AreSpread, AreCarried};
 ghost use Rattle.cox_rows.specs.Extended.{IsLeft};
 
@@ -56,7 +56,7 @@ impl Held {
         ensures closed { IsClosed (integer_matrix self.now.elements.matrix) self.now.elements.members }
         ensures admissible { IsAdmissible (integer_matrix self.now.elements.matrix) }
         ensures least { pos 0 ≤ℤ self.now.limit }
-        ensures members { (i : ℕ) → Holds self.now i → i < length self.now.elements.members }
+        ensures members { (i : ℕ) → HasRow self.now i → i < length self.now.elements.members }
     {
         let _len = self.context.len();
         &self.context
@@ -72,7 +72,7 @@ impl Held {
     /// The row of the member with the number i, if it is there.
     pub(crate) fn get(&self, i: u32) -> Option<&Row>
         ensures row { IfSome result (λ r. IsHeldRow self.now.elements self.now.limit i r.now) }
-        ensures exactly { IsSome result ↔ Holds self.now i }
+        ensures exactly { IsSome result ↔ HasRow self.now i }
     {
         match self.rows.get(i as usize) {
             Some(Some(row)) => Some(row),
@@ -85,9 +85,9 @@ impl Held {
         requires { IsHeldRow self.old.elements self.old.limit i row }
         ensures elements { self.new.elements ≡ self.old.elements }
         ensures limit { self.new.limit ≡ self.old.limit }
-        ensures there { OnOk result (Holds self.new i) }
-        ensures kept { (j : ℕ) → Holds self.old j → Holds self.new j }
-        ensures others { (j : ℕ) → j ≢ i → Holds self.new j → Holds self.old j }
+        ensures there { OnOk result (HasRow self.new i) }
+        ensures kept { (j : ℕ) → HasRow self.old j → HasRow self.new j }
+        ensures others { (j : ℕ) → j ≢ i → HasRow self.new j → HasRow self.old j }
     {
         put_at(&mut self.rows, i as usize, row)
     }
@@ -95,11 +95,11 @@ impl Held {
     /// Takes the row of the member with the number i out, if it is there.
     pub(crate) fn take(&mut self, i: u32) -> Option<Row>
         ensures row { IfSome result (IsHeldRow self.old.elements self.old.limit i) }
-        ensures exactly { IsSome result ↔ Holds self.old i }
+        ensures exactly { IsSome result ↔ HasRow self.old i }
         ensures elements { self.new.elements ≡ self.old.elements }
         ensures limit { self.new.limit ≡ self.old.limit }
-        ensures gone { ¬ Holds self.new i }
-        ensures others { (j : ℕ) → j ≢ i → Holds self.new j ↔ Holds self.old j }
+        ensures gone { ¬ HasRow self.new i }
+        ensures others { (j : ℕ) → j ≢ i → HasRow self.new j ↔ HasRow self.old j }
     {
         take_at(&mut self.rows, i as usize)
     }
@@ -118,9 +118,9 @@ impl Held {
         requires { (i : ℕ) → IfSome (row_at rows.items i) (IsHeldRow self.old.elements self.old.limit i) }
         ensures elements { self.new.elements ≡ self.old.elements }
         ensures limit { self.new.limit ≡ self.old.limit }
-        ensures kept { (i : ℕ) → Holds self.old i → Holds self.new i }
-        ensures added { (i : ℕ) → is_some (row_at rows.items i) ≡ true → Holds self.new i }
-        ensures others { (i : ℕ) → Holds self.new i → Holds self.old i ⊎ (is_some (row_at rows.items i) ≡ true) }
+        ensures kept { (i : ℕ) → HasRow self.old i → HasRow self.new i }
+        ensures added { (i : ℕ) → is_some (row_at rows.items i) ≡ true → HasRow self.new i }
+        ensures others { (i : ℕ) → HasRow self.new i → HasRow self.old i ⊎ (is_some (row_at rows.items i) ≡ true) }
     {
         let alloc = *self.rows.allocator();
         let old = mem::replace(&mut self.rows, Vec::new(alloc));
@@ -176,7 +176,7 @@ fn take_at(rows: &mut Vec<Option<Row>>, i: usize) -> Option<Row>
 impl LowerRows for Held {
     ghost elements = { λ h. h.elements };
 
-    ghost holds = { λ h i. Holds h i };
+    ghost holds = { λ h i. HasRow h i };
 
     ghost limit = { λ h. h.limit };
 

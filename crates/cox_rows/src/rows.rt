@@ -12,7 +12,7 @@ ghost use Rattle.cox_row.specs.Distinct.{HasDistinctPolynomials};
 ghost use Rattle.cox_base.specs.Admissible.{IsAdmissible};
 ghost use Rattle.cox_context.specs.Closed.{IsClosed};
 ghost use Rattle.cox_context.specs.Numbers.{word_at};
-ghost use Rattle.cox_rows.specs.Holding.{Holding, Holds, IsHeldRow, row_at, held};
+ghost use Rattle.cox_rows.specs.Holding.{Holding, HasRow, IsHeldRow, row_at, held};
 ghost use Rattle.cox_rows.specs.Extended.{IsExtended, IsLeft};
 
 use crate::flags::spread_flags;
@@ -68,7 +68,7 @@ impl Rows {
         ensures closed { IsClosed (integer_matrix self.now.elements.matrix) self.now.elements.members }
         ensures admissible { IsAdmissible (integer_matrix self.now.elements.matrix) }
         ensures least { pos 0 ≤ℤ self.now.limit }
-        ensures members { (i : ℕ) → Holds self.now i → i < length self.now.elements.members }
+        ensures members { (i : ℕ) → HasRow self.now i → i < length self.now.elements.members }
     {
         self.held.context()
     }
@@ -82,7 +82,7 @@ impl Rows {
 
     /// Whether the row of the member with the number i is held.
     pub fn has(&self, i: u32) -> bool
-        ensures { IsTrue result ↔ Holds self.now i }
+        ensures { IsTrue result ↔ HasRow self.now i }
     {
         self.held.get(i).is_some()
     }
@@ -90,7 +90,7 @@ impl Rows {
     /// The row of the member with the number i; `None` exactly where it is not held.
     pub fn row(&self, i: u32) -> Option<&Row>
         ensures row { IfSome result (λ r. IsHeldRow self.now.elements self.now.limit i r.now) }
-        ensures exactly { IsSome result ↔ Holds self.now i }
+        ensures exactly { IsSome result ↔ HasRow self.now i }
     {
         self.held.get(i)
     }
@@ -99,7 +99,7 @@ impl Rows {
     ///
     /// In A 3 that of `2` and `2132` is 1 + q.
     pub fn polynomial(&self, i: u32, x: u32) -> Option<PolyView<'_>>
-        requires held { Holds self.now i }
+        requires held { HasRow self.now i }
         requires x { x < length self.now.elements.members }
         ensures value { IfSome result (λ p. IsKazhdanLusztig (integer_matrix self.now.elements.matrix)
             (word_at self.now.elements.members x) (word_at self.now.elements.members i) (coefficient p)) }
@@ -114,7 +114,7 @@ impl Rows {
 
     /// mu(u,w), for the member w with the number i, whose row is held, and the member u with the number u.
     pub fn mu(&self, i: u32, u: u32) -> i32
-        requires held { Holds self.now i }
+        requires held { HasRow self.now i }
         requires u { u < length self.now.elements.members }
         ensures { IsMu (integer_matrix self.now.elements.matrix) (word_at self.now.elements.members u)
             (word_at self.now.elements.members i) result }
@@ -127,7 +127,7 @@ impl Rows {
 
     /// How many polynomials P(x,w) with x <= w there are, each counted once, for the member w with the number i, whose row is held.
     pub fn pool_len(&self, i: u32) -> u32
-        requires { Holds self.now i }
+        requires { HasRow self.now i }
         ensures { HasDistinctPolynomials (integer_matrix self.now.elements.matrix) (word_at self.now.elements.members i) result }
     {
         match self.held.get(i) {
@@ -144,11 +144,11 @@ impl Rows {
     /// Takes the row of the member with the number i out; `None` exactly where it is not held. It takes no memory.
     pub fn take(&mut self, i: u32) -> Option<Row>
         ensures row { IfSome result (IsHeldRow self.old.elements self.old.limit i) }
-        ensures exactly { IsSome result ↔ Holds self.old i }
+        ensures exactly { IsSome result ↔ HasRow self.old i }
         ensures elements { self.new.elements ≡ self.old.elements }
         ensures limit { self.new.limit ≡ self.old.limit }
-        ensures gone { ¬ Holds self.new i }
-        ensures others { (j : ℕ) → j ≢ i → Holds self.new j ↔ Holds self.old j }
+        ensures gone { ¬ HasRow self.new i }
+        ensures others { (j : ℕ) → j ≢ i → HasRow self.new j ↔ HasRow self.old j }
     {
         self.held.take(i)
     }
@@ -167,9 +167,9 @@ impl Rows {
         requires { (i : ℕ) → IfSome (row_at rows.items i) (IsHeldRow self.old.elements self.old.limit i) }
         ensures elements { self.new.elements ≡ self.old.elements }
         ensures limit { self.new.limit ≡ self.old.limit }
-        ensures kept { (i : ℕ) → Holds self.old i → Holds self.new i }
-        ensures added { (i : ℕ) → is_some (row_at rows.items i) ≡ true → Holds self.new i }
-        ensures others { (i : ℕ) → Holds self.new i → Holds self.old i ⊎ (is_some (row_at rows.items i) ≡ true) }
+        ensures kept { (i : ℕ) → HasRow self.old i → HasRow self.new i }
+        ensures added { (i : ℕ) → is_some (row_at rows.items i) ≡ true → HasRow self.new i }
+        ensures others { (i : ℕ) → HasRow self.new i → HasRow self.old i ⊎ (is_some (row_at rows.items i) ≡ true) }
     {
         self.held.adopt(rows);
     }
@@ -220,7 +220,7 @@ impl Rows {
 impl LowerRows for Rows {
     ghost elements = { λ r. r.elements };
 
-    ghost holds = { λ r i. Holds r i };
+    ghost holds = { λ r i. HasRow r i };
 
     ghost limit = { λ r. r.limit };
 

@@ -26,7 +26,7 @@ use Rattle.cox_base.specs.Element.{SameElement}
 use Rattle.cox_reflect.proofs.Elements.{same-sym}
 use Rattle.cox_hecke.specs.Needs.{IsNeeded}
 use Rattle.cox_context.specs.Numbers.{IsNumberOf}
-use Rattle.cox_rows.specs.Holding.{Holding, Holds}
+use Rattle.cox_rows.specs.Holding.{Holding, HasRow}
 use Rattle.cox_rows.specs.Ensured.{IsEnsured}
 use Rattle.cox_rows.proofs.NeedDecided.{needs_beyond-same}
 use Rattle.cox_shell.specs.Kept.{AreOf, HoldsRow, Keeps, unanswered_by}
@@ -108,7 +108,7 @@ module _ (limits : Limits) (G : CoxeterMatrix) (g : IsAdmissible (integer_matrix
     few = rw ensured.elements of.few;
   }
 
-  pub holds-row : Holds new i → HoldsRow (integer_matrix G) w i new
+  pub holds-row : HasRow new i → HoldsRow (integer_matrix G) w i new
   holds-row there = record { within = rw ensured.elements number.0; word = rw ensured.elements number.1; held = there }
 
   same : SameElement A (word_at old.elements.members i) w

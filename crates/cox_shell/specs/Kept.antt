@@ -7,7 +7,7 @@ use Rattle.cox_context.specs.Members.{IsElement}
 use Rattle.cox_context.specs.SortedList.{IsListOf}
 use Rattle.cox_context.specs.Numbers.{word_at}
 use Rattle.cox_options.specs.declared.options.Options.{Options}
-use Rattle.cox_rows.specs.Holding.{Holding, Holds}
+use Rattle.cox_rows.specs.Holding.{Holding, HasRow}
 use Rattle.cox_command.specs.declared.refusal.Refusal.{Refusal}
 use Rattle.cox_shell.specs.declared.answers.unanswered.Unanswered.{Unanswered}
 use Rattle.cox_shell.specs.declared.answers.unanswered.Unanswered.TheVariants as unanswered
@@ -45,7 +45,7 @@ HoldsElement A w rows = Contains rows.elements.members (normal_form A w)
 pub record HoldsRow (A : IntegerMatrix) (w : List ℕ) (i : ℕ) (rows : Holding) : Type 0 where
   pub within : i < length rows.elements.members
   pub word : word_at rows.elements.members i ≡ normal_form A w
-  pub held : Holds rows i
+  pub held : HasRow rows i
 
 -- the members are all elements of the group
 abbrev pub HoldsGroup : IntegerMatrix → Holding → Type 0
@@ -54,13 +54,13 @@ HoldsGroup A rows = IsListOf (IsElement A) rows.elements.members
 -- the rows of all elements of the group are held
 pub record HoldsAll (A : IntegerMatrix) (rows : Holding) : Type 0 where
   pub whole : HoldsGroup A rows
-  pub held : (i : ℕ) → i < length rows.elements.members → Holds rows i
+  pub held : (i : ℕ) → i < length rows.elements.members → HasRow rows i
 
 -- what was asked for is held then, and nothing refuses; or it is refused; or memory ran out
 abbrev pub Keeps : {X : Type 0} → Result X Unanswered → (Refusal → Type 0) → (X → Holding → Type 0) → Option Holding → Type 0
-Keeps (Ok x) Refuses Holds kept = IsRefused Refuses None × IsSomeAnd kept (Holds x)
-Keeps (Err (unanswered.Refused why)) Refuses Holds kept = IsRefused Refuses (Some why)
-Keeps (Err unanswered.NoMemory) Refuses Holds kept = Unit {0}
+Keeps (Ok x) Refuses HasRow kept = IsRefused Refuses None × IsSomeAnd kept (HasRow x)
+Keeps (Err (unanswered.Refused why)) Refuses HasRow kept = IsRefused Refuses (Some why)
+Keeps (Err unanswered.NoMemory) Refuses HasRow kept = Unit {0}
 
 -- what a fault of rows leads to
 abbrev pub unanswered_by : RowsFault → Unanswered

@@ -14,11 +14,11 @@ use Rattle.cox_fill_core.specs.declared.event.Event.{Event}
 use Rattle.cox_fill_core.specs.Good.{IsGood}
 use Rattle.cox_fill_core.specs.Laws.{reached}
 use Rattle.cox_fill_core.proofs.EventLaws.{stays_good}
-use Rattle.cox_workers.specs.Families.{NeedsSmaller, IsGivenByStep, IsGiven, GivesRows}
+use Rattle.cox_workers.specs.Families.{NeedsSmaller, IsGivenByStep, IsFamilyGiven, GivesRows}
 
 module _ (needs : ℕ → List ℕ) (smaller : NeedsSmaller needs) (e : Elements) (g : IsAdmissible (integer_matrix e.matrix))
     (events : List Event)
-    (given : ℕ → Family) (are : (i : ℕ) → (reached needs events).state i ≡ RowState.Published → IsGiven e needs given i)
+    (given : ℕ → Family) (are : (i : ℕ) → (reached needs events).state i ≡ RowState.Published → IsFamilyGiven e needs given i)
   where
     abbrev A : IntegerMatrix
     A = integer_matrix e.matrix

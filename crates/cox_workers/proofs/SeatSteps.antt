@@ -25,7 +25,7 @@ use Rattle.cox_claims.proofs.RowTests.{among_else}
 use Rattle.cox_workers.specs.declared.missing.Missing.{Missing}
 use Rattle.cox_workers.specs.declared.missing.Missing.TheVariants.{Void, Coefficient, Mu, NoMemory}
 use Rattle.cox_workers.specs.MissingRows.{missing_by}
-use Rattle.cox_workers.specs.Work.{IsNeededAt, HasEnded, IsKept, VoidsNone, IsVoid, IsBeyond, IsMissing, IsUnmade}
+use Rattle.cox_workers.specs.Work.{IsNeededAt, HasEnded, IsSeatKept, VoidsNone, IsVoid, IsNeededBeyond, IsRowMissing, IsUnmade}
 
 -- ---- views
 
@@ -67,7 +67,7 @@ module _ (e : Elements) where
 
   -- ---- what is kept
 
-  pub kept-refl : (i : ℕ) (a : Seat) → IsKept e i a a
+  pub kept-refl : (i : ℕ) (a : Seat) → IsSeatKept e i a a
   kept-refl i a = record {
     same = record { table = refl; number = refl };
     splits = refl;
@@ -78,7 +78,7 @@ module _ (e : Elements) where
     ended = λ j h. inl h;
   }
 
-  pub kept-trans : (i : ℕ) (a b c : Seat) → IsKept e i a b → IsKept e i b c → IsKept e i a c
+  pub kept-trans : (i : ℕ) (a b c : Seat) → IsSeatKept e i a b → IsSeatKept e i b c → IsSeatKept e i a c
   kept-trans i a b c s t = record {
     same = record { table = t.same.table ∙ s.same.table; number = t.same.number ∙ s.same.number };
     splits = t.splits ∙ s.splits;
@@ -90,7 +90,7 @@ module _ (e : Elements) where
   }
 
   -- for a row that is needed, so for the row that needs it
-  pub kept-needed : IsAdmissible (integer_matrix e.matrix) → (i u : ℕ) (a b : Seat) → IsNeededAt e i u → IsKept e u a b → IsKept e i a b
+  pub kept-needed : IsAdmissible (integer_matrix e.matrix) → (i u : ℕ) (a b : Seat) → IsNeededAt e i u → IsSeatKept e u a b → IsSeatKept e i a b
   kept-needed g i u a b n k = record {
     same = k.same;
     splits = k.splits;
@@ -104,7 +104,7 @@ module _ (e : Elements) where
   -- ---- why a row is not there
 
   beyond-needed : IsAdmissible (integer_matrix e.matrix) → (limit : ℤ) (i u w : ℕ) (fault : StepFault) (b : Seat) → IsNeededAt e i u
-      → IsBeyond e limit u w fault b → IsBeyond e limit i w fault b
+      → IsNeededBeyond e limit u w fault b → IsNeededBeyond e limit i w fault b
   beyond-needed g limit i u w fault b n m = record { needed = needs-trans g i u w n m.needed; is = m.is; void = m.void }
 
   -- the row itself was found Void, and the seat voided nothing before
@@ -118,7 +118,7 @@ module _ (e : Elements) where
 
   -- for a row that is needed, so for the row that needs it, where the seat voided nothing before
   pub missing-needed : IsAdmissible (integer_matrix e.matrix) → (limit : ℤ) (i u : ℕ) (a b c : Seat) (m : Missing) → IsNeededAt e i u
-      → VoidsNone a b → IsMissing e limit u b c m → IsMissing e limit i a c m
+      → VoidsNone a b → IsRowMissing e limit u b c m → IsRowMissing e limit i a c m
   missing-needed g limit i u a b c (Void j) n none h = record {
     needed = needs-trans g i u j n h.needed;
     void = h.void;
@@ -132,7 +132,7 @@ module _ (e : Elements) where
   -- the same of a result
   pub result-needed : {T : Type 0} → IsAdmissible (integer_matrix e.matrix) → (limit : ℤ) (i u : ℕ) (a b c : Seat)
       (result : Result T Missing)
-      → IsNeededAt e i u → VoidsNone a b → IfErr result (IsMissing e limit u b c) → IfErr result (IsMissing e limit i a c)
+      → IsNeededAt e i u → VoidsNone a b → IfErr result (IsRowMissing e limit u b c) → IfErr result (IsRowMissing e limit i a c)
   result-needed g limit i u a b c result n none h =
       MatchResult-weaker result h (λ x t. t) (λ m f. missing-needed g limit i u a b c m n none f)
 
@@ -140,7 +140,7 @@ module _ (e : Elements) where
 
   module _ (g : IsAdmissible (integer_matrix e.matrix)) (i : ℕ) (within : i < length e.members) (a b c d : Seat)
       (claimed : IsSameSeat a b) (claimed-splits : splits_of b ≡ splits_of a) (wins : Wins (view_of a) i (view_of b))
-      (kept : IsKept e i b c)
+      (kept : IsSeatKept e i b c)
       (ended : IsSameSeat c d) (ended-splits : splits_of d ≡ splits_of c)
     where
       -- the row was not held before
@@ -204,7 +204,7 @@ module _ (e : Elements) where
           (λ v. ended-before j (or_right (has_published (view_of c) j) (has_voided (view_of c) j) v)) void)
           (or_cases (has_published (view_of c) j) ((i == j) || has_voided (view_of c) j) h)
 
-      pub published_kept : Publishes (view_of c) i (view_of d) → IsKept e i a d
+      pub published_kept : Publishes (view_of c) i (view_of d) → IsSeatKept e i a d
       published_kept p = record {
         same = same;
         splits = ended-splits ∙ kept.splits ∙ claimed-splits;
@@ -215,7 +215,7 @@ module _ (e : Elements) where
         ended = λ j h. ended_or_published j (ap (λ v. has_published v j || has_voided v j) (sym p.after) ∙ h);
       }
 
-      pub voided_kept : Voids (view_of c) i (view_of d) → IsKept e i a d
+      pub voided_kept : Voids (view_of c) i (view_of d) → IsSeatKept e i a d
       voided_kept p = record {
         same = same;
         splits = ended-splits ∙ kept.splits ∙ claimed-splits;
@@ -231,7 +231,7 @@ module _ (e : Elements) where
       marked_as_before p j void = ap (λ v. among j v.marks) p.after
           ∙ among_else i j (view_of c).marks (λ same. let no = p.known.void (subst (λ k. HasSeenVoid c k) same void) in cc)
 
-      missing : Voids (view_of c) i (view_of d) → (limit : ℤ) (m : Missing) → IsMissing e limit i b c m → IsMissing e limit i a d m
+      missing : Voids (view_of c) i (view_of d) → (limit : ℤ) (m : Missing) → IsRowMissing e limit i b c m → IsRowMissing e limit i a d m
       missing p limit (Void j) h = record {
         needed = h.needed;
         void = p.kept.void j h.void;
@@ -242,14 +242,14 @@ module _ (e : Elements) where
       missing p limit NoMemory h = h
 
       faulty : HasSeenVoid d i → (limit : ℤ) (fault : StepFault)
-          → IsFault (integer_matrix e.matrix) e.members (word_at e.members i) limit fault → IsMissing e limit i a d (missing_by fault i)
+          → IsFault (integer_matrix e.matrix) e.members (word_at e.members i) limit fault → IsRowMissing e limit i a d (missing_by fault i)
       faulty void limit (step.Coefficient x degree value) is = record { needed = needs_itself g i within; is = is; void = void }
       faulty void limit (step.Mu x value) is = record { needed = needs_itself g i within; is = is; void = void }
       faulty void limit step.NoMemory is = tt
 
       pub unmade_missing : Voids (view_of c) i (view_of d) → HasSeenVoid d i → (limit : ℤ) (m : Missing) → IsUnmade e limit i b c m
-          → IsMissing e limit i a d m
-      unmade_missing p void limit m h = ⊎_elim (λ (other : IsMissing e limit i b c m). missing p limit m other)
+          → IsRowMissing e limit i a d m
+      unmade_missing p void limit m h = ⊎_elim (λ (other : IsRowMissing e limit i b c m). missing p limit m other)
           (λ (own : (fault : StepFault) × (m ≡ missing_by fault i)
           × IsFault (integer_matrix e.matrix) e.members (word_at e.members i) limit fault).
-          subst (IsMissing e limit i a d) (sym own.1) (faulty void limit own.0 own.2)) h
+          subst (IsRowMissing e limit i a d) (sym own.1) (faulty void limit own.0 own.2)) h

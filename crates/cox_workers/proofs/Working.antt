@@ -8,14 +8,14 @@ use Rattle.cox_claims.specs.Seats.{view_of}
 use Rattle.cox_row_store.specs.Stores.{IsSeat}
 use Rattle.cox_workers.specs.declared.bench.Bench.{Bench}
 use Rattle.cox_workers.specs.declared.hand.Hand.{Hand}
-use Rattle.cox_workers.specs.Ready.{IsReady, IsWorkFor}
+use Rattle.cox_workers.specs.Ready.{IsWorkerReady, IsWorkFor}
 use Rattle.cox_workers.specs.Work.{IsNeededAt}
 use Rattle.cox_workers.proofs.SeatSteps.{kept-trans, kept-needed}
 
 module _ (bench : Bench) where
   -- a seat that has seen all that it had seen is as ready
-  pub ready_still : (a b : Seat) (h : Hand) → IsReady bench a h → IsSeat bench.store.now b → SeesAll (view_of a) (view_of b)
-      → IsReady bench b h
+  pub ready_still : (a b : Seat) (h : Hand) → IsWorkerReady bench a h → IsSeat bench.store.now b → SeesAll (view_of a) (view_of b)
+      → IsWorkerReady bench b h
   ready_still a b h r own seen =
       record { own = own; shelf = r.shelf; tables = r.tables; seen = λ i on. seen.published i (r.seen i on) }
 

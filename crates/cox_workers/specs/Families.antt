@@ -39,12 +39,12 @@ pub record IsGivenByStep (e : Elements) (needs : ℕ → List ℕ) (given : ℕ 
       (correction_sum (integer_matrix e.matrix) (word_at e.members i) (λ u. given (number u)) list x) k
 
 -- the family given to the row of the identity is its row, and that given to any other row is the step family
-abbrev pub IsGiven : Elements → (ℕ → List ℕ) → (ℕ → Family) → ℕ → Type 0
-IsGiven e needs given i =
+abbrev pub IsFamilyGiven : Elements → (ℕ → List ℕ) → (ℕ → Family) → ℕ → Type 0
+IsFamilyGiven e needs given i =
     ((word_at e.members i ≡ []) × IsRow (integer_matrix e.matrix) [] (given i)) ⊎ IsGivenByStep e needs given i
 
 -- after any events, where each Published row was given such a family, each of these families is the row of its element
 abbrev pub GivesRows : (ℕ → List ℕ) → Type 0
 GivesRows needs = (e : Elements) → IsAdmissible (integer_matrix e.matrix) → (events : List Event) (given : ℕ → Family)
-    → ((i : ℕ) → (reached needs events).state i ≡ RowState.Published → IsGiven e needs given i)
+    → ((i : ℕ) → (reached needs events).state i ≡ RowState.Published → IsFamilyGiven e needs given i)
     → (i : ℕ) → (reached needs events).state i ≡ RowState.Published → IsRow (integer_matrix e.matrix) (word_at e.members i) (given i)

@@ -10,15 +10,15 @@ use Rattle.cox_row_store.specs.Stores.{elements_of, IsSeat}
 use Rattle.cox_workers.specs.Work.{IsNeededAt, HasEnded}
 
 -- the seat has seen row i Published or Void
-abbrev pub IsSettled : Seat → ℕ → Type 0
-IsSettled seat i = HasSeen seat i ⊎ HasSeenVoid seat i
+abbrev pub HasSeenEnd : Seat → ℕ → Type 0
+HasSeenEnd seat i = HasSeen seat i ⊎ HasSeenVoid seat i
 
 -- row j is needed for one of the rows that are wanted
 abbrev pub IsNeededForSome : Elements → List ℕ → ℕ → Type 0
 IsNeededForSome e wanted j = (p : ℕ) × (p < length wanted) × IsNeededAt e (number_at wanted p) j
 
 -- it is the same seat, it holds what it held, has seen all that it had seen, and has published and voided rows alone that wanted ones need
-pub record IsGrown (e : Elements) (wanted : List ℕ) (old new : Seat) : Type 0 where
+pub record IsSeatGrown (e : Elements) (wanted : List ℕ) (old new : Seat) : Type 0 where
   pub same : IsSameSeat old new
   pub held : (view_of new).held ≡ (view_of old).held
   pub seen : SeesAll (view_of old) (view_of new)
@@ -32,4 +32,4 @@ pub record IsFilled (store : RowStore) (Place : ℕ → Type 0) (wanted : List �
   pub idle : HoldsNothing new
   pub seen : SeesAll (view_of old) (view_of new)
   pub ended : (j : ℕ) → HasEnded new j → HasEnded old j ⊎ IsNeededForSome (elements_of store) wanted j
-  pub settled : (p : ℕ) → p < length wanted → Place p → IsSettled new (number_at wanted p)
+  pub settled : (p : ℕ) → p < length wanted → Place p → HasSeenEnd new (number_at wanted p)

@@ -25,7 +25,7 @@ HasEnded seat j = (has_published (view_of seat) j || has_voided (view_of seat) j
 
 -- it is the same seat, and none was split from it; it holds what it held and has seen what it had seen, and has voided and published rows
 -- of Need(w) alone, where w is member i
-pub record IsKept (e : Elements) (i : ℕ) (old new : Seat) : Type 0 where
+pub record IsSeatKept (e : Elements) (i : ℕ) (old new : Seat) : Type 0 where
   pub same : IsSameSeat old new
   pub splits : splits_of new ≡ splits_of old
   pub children : (view_of new).children ≡ (view_of old).children
@@ -45,21 +45,21 @@ pub record IsVoid (e : Elements) (i j : ℕ) (old new : Seat) : Type 0 where
   pub mark : marked (view_of new) j ≡ marked (view_of old) j
 
 -- the row of w is needed, it is beyond a limit, and the seat has seen it Void
-pub record IsBeyond (e : Elements) (limit : ℤ) (i w : ℕ) (fault : StepFault) (new : Seat) : Type 0 where
+pub record IsNeededBeyond (e : Elements) (limit : ℤ) (i w : ℕ) (fault : StepFault) (new : Seat) : Type 0 where
   pub needed : IsNeededAt e i w
   pub is : IsFault (integer_matrix e.matrix) e.members (word_at e.members w) limit fault
   pub void : HasSeenVoid new w
 
 -- why the row of member i is not there
-abbrev pub IsMissing : Elements → ℤ → ℕ → Seat → Seat → Missing → Type 0
-IsMissing e limit i old new (Void j) = IsVoid e i j old new
-IsMissing e limit i old new (Coefficient x w degree value) = IsBeyond e limit i w (step.Coefficient x degree value) new
-IsMissing e limit i old new (Mu x w value) = IsBeyond e limit i w (step.Mu x value) new
-IsMissing e limit i old new NoMemory = Unit {0}
+abbrev pub IsRowMissing : Elements → ℤ → ℕ → Seat → Seat → Missing → Type 0
+IsRowMissing e limit i old new (Void j) = IsVoid e i j old new
+IsRowMissing e limit i old new (Coefficient x w degree value) = IsNeededBeyond e limit i w (step.Coefficient x degree value) new
+IsRowMissing e limit i old new (Mu x w value) = IsNeededBeyond e limit i w (step.Mu x value) new
+IsRowMissing e limit i old new NoMemory = Unit {0}
 
 -- why the row of member i, which the seat held, was not made: either some other row that it needs is missing, or it is itself
 -- beyond a limit
 abbrev pub IsUnmade : Elements → ℤ → ℕ → Seat → Seat → Missing → Type 0
 IsUnmade e limit i old new missing =
-    IsMissing e limit i old new missing ⊎ ((fault : StepFault) × (missing ≡ missing_by fault i)
+    IsRowMissing e limit i old new missing ⊎ ((fault : StepFault) × (missing ≡ missing_by fault i)
     × IsFault (integer_matrix e.matrix) e.members (word_at e.members i) limit fault)

@@ -17,12 +17,12 @@ pub struct Hand<'a> {
 }
 
 impl<'a> Hand<'a> {
-    ghost use Rattle.cox_workers.specs.Ready.{IsReady};
+    ghost use Rattle.cox_workers.specs.Ready.{IsWorkerReady};
 
     /// A hand for the worker at this bench. The rows that it reads it reads until it is let go.
     pub fn new(bench: &Bench<'a>, seat: &Seat) -> Result<Hand<'a>, AllocError>
         requires { IsSeat bench.now.store.now seat.now }
-        ensures { IfOk result (IsReady bench.now seat.now) }
+        ensures { IfOk result (IsWorkerReady bench.now seat.now) }
     {
         let _ = seat;
         Ok(Hand {

@@ -18,8 +18,8 @@ use std::sync::Wait;
 use std::thread;
 
 impl<'a> Bench<'a> {
-    ghost use Rattle.cox_workers.specs.Ready.{IsReady, IsWorkFor};
-    ghost use Rattle.cox_workers.specs.Work.{IsKept, VoidsNone, IsMissing, IsUnmade};
+    ghost use Rattle.cox_workers.specs.Ready.{IsWorkerReady, IsWorkFor};
+    ghost use Rattle.cox_workers.specs.Work.{IsSeatKept, VoidsNone, IsRowMissing, IsUnmade};
     ghost use Rattle.cox_workers.specs.Shelves.{IsOn};
 
     /// Sees to it that the row of the member with the number i is Published, with those that it is made from.
@@ -38,12 +38,12 @@ impl<'a> Bench<'a> {
         hand: &mut Hand<'a>,
         i: u32,
     ) -> Result<(), Missing>
-        requires ready { IsReady self.now seat.old hand.old }
+        requires ready { IsWorkerReady self.now seat.old hand.old }
         requires member { i < length self.now.context.now.members }
         ensures work { IsWorkFor self.now i seat.old seat.new hand.old hand.new }
         ensures here { OnOk result (HasSeen seat.new i × VoidsNone seat.old seat.new) }
         ensures void { OnErr result (HasSeenVoid seat.new i) }
-        ensures missing { IfErr result (IsMissing self.now.context.now (limit_of self.now.store.now) i seat.old seat.new) }
+        ensures missing { IfErr result (IsRowMissing self.now.context.now (limit_of self.now.store.now) i seat.old seat.new) }
     {
         let _len = self.context.len();
         gate.pass(rt, self.worker, Point::Claim, i);
@@ -71,10 +71,10 @@ impl<'a> Bench<'a> {
         requires member { i < length self.now.context.now.members }
         requires claimed { HasSeenClaimed seat.old i }
         ensures own { IsSeat self.now.store.now seat.new }
-        ensures kept { IsKept self.now.context.now i seat.old seat.new }
+        ensures kept { IsSeatKept self.now.context.now i seat.old seat.new }
         ensures here { OnOk result (HasSeen seat.new i × VoidsNone seat.old seat.new) }
         ensures void { OnErr result (HasSeenVoid seat.new i) }
-        ensures missing { IfErr result (IsMissing self.now.context.now (limit_of self.now.store.now) i seat.old seat.new) }
+        ensures missing { IfErr result (IsRowMissing self.now.context.now (limit_of self.now.store.now) i seat.old seat.new) }
     {
         let _len = self.context.len();
         for _ in rt.forever() {
@@ -97,7 +97,7 @@ impl<'a> Bench<'a> {
         hand: &mut Hand<'a>,
         i: u32,
     ) -> Result<Row, Missing>
-        requires ready { IsReady self.now seat.old hand.old }
+        requires ready { IsWorkerReady self.now seat.old hand.old }
         requires member { i < length self.now.context.now.members }
         requires held { Holds seat.old i }
         ensures work { IsWorkFor self.now i seat.old seat.new hand.old hand.new }
@@ -132,13 +132,13 @@ impl<'a> Bench<'a> {
         hand: &mut Hand<'a>,
         i: u32,
     ) -> Result<(), Missing>
-        requires ready { IsReady self.now seat.old hand.old }
+        requires ready { IsWorkerReady self.now seat.old hand.old }
         requires member { i < length self.now.context.now.members }
         requires held { Holds seat.old i }
         ensures work { IsWorkFor self.now i seat.old seat.new hand.old hand.new }
         ensures none { OnOk result (VoidsNone seat.old seat.new) }
         ensures needs { OnOk result (HasNeeds self.now.context.now (IsOn hand.new.shelf) i) }
-        ensures missing { IfErr result (IsMissing self.now.context.now (limit_of self.now.store.now) i seat.old seat.new) }
+        ensures missing { IfErr result (IsRowMissing self.now.context.now (limit_of self.now.store.now) i seat.old seat.new) }
     {
         let _len = self.context.len();
         if i == 0 {
@@ -164,11 +164,11 @@ impl<'a> Bench<'a> {
         hand: &mut Hand<'a>,
         u: u32,
     ) -> Result<(), Missing>
-        requires ready { IsReady self.now seat.old hand.old }
+        requires ready { IsWorkerReady self.now seat.old hand.old }
         requires member { u < length self.now.context.now.members }
         ensures work { IsWorkFor self.now u seat.old seat.new hand.old hand.new }
         ensures here { OnOk result (IsOn hand.new.shelf u × VoidsNone seat.old seat.new) }
-        ensures missing { IfErr result (IsMissing self.now.context.now (limit_of self.now.store.now) u seat.old seat.new) }
+        ensures missing { IfErr result (IsRowMissing self.now.context.now (limit_of self.now.store.now) u seat.old seat.new) }
     {
         if self.take_published(rt, seat, hand, u) {
             return Ok(());

@@ -10,7 +10,7 @@ ghost use Rattle.cox_poly.specs.Polynomial.{coefficient, HasDegreeBelow};
 ghost use Rattle.cox_context.specs.Numbers.{word_at};
 ghost use Rattle.cox_context.specs.declared.members.TheConstants.{MAX_MEMBERS};
 ghost use Rattle.cox_command.specs.ParseContract.{AreWorkNumbers};
-ghost use Rattle.cox_rows.specs.Holding.{Holds};
+ghost use Rattle.cox_rows.specs.Holding.{HasRow};
 ghost use Rattle.cox_shell.specs.Kept.{AreKept};
 ghost use Rattle.cox_shell.specs.SessionLimits.{limits_of};
 ghost use Rattle.cox_shell.specs.RowReply.{RefusesRow, coefficients_to};
@@ -178,7 +178,7 @@ fn totals_of_word(
 /// The totals of the P(x,w) of all members x <= w, for the member w with the number i.
 fn row_totals(rows: &Rows, i: u32) -> RowTotals
     requires member { i < length rows.now.elements.members }
-    requires there { Holds rows.now i }
+    requires there { HasRow rows.now i }
     ensures totals { (w : List ℕ) → word_at rows.now.elements.members i ≡ normal_form (integer_matrix rows.now.elements.matrix) w
         → AreTotalsOf (integer_matrix rows.now.elements.matrix) w result }
     ensures few { result.entries ≤ MAX_MEMBERS }

@@ -6,7 +6,7 @@ ghost use Rattle.cox_base.specs.IntegerMatrix.{integer_matrix};
 ghost use Rattle.cox_context.specs.Members.{IsElement};
 ghost use Rattle.cox_context.specs.SortedList.{IsListOf};
 ghost use Rattle.cox_context.specs.Numbers.{word_at};
-ghost use Rattle.cox_rows.specs.Holding.{Holds};
+ghost use Rattle.cox_rows.specs.Holding.{HasRow};
 ghost use Rattle.cox_poly.specs.Puts.{Puts};
 ghost use Rattle.cox_print.specs.AnswerText.{list_text, edge_text, member_text, members_text};
 ghost use Rattle.cox_wgraph.specs.Listing.{Vertex, IsVertex, AreVertices};
@@ -73,7 +73,7 @@ pub fn put_cells(
 /// Puts the W-graph of a group, from the rows of all its elements.
 fn put_group_graph(out: &mut Vec<u8>, rows: &Rows, side: Side) -> Result<(), NoMemory>
     requires whole { IsListOf (IsElement (integer_matrix rows.now.elements.matrix)) rows.now.elements.members }
-    requires held { (i : ℕ) → i < length rows.now.elements.members → Holds rows.now i }
+    requires held { (i : ℕ) → i < length rows.now.elements.members → HasRow rows.now i }
     ensures { PutsSome result (IsGraphText rows.now.elements.matrix.rank side (integer_matrix rows.now.elements.matrix)) out.old.items out.new.items }
 {
     prove!(rows.context().len() > 0);
@@ -84,7 +84,7 @@ fn put_group_graph(out: &mut Vec<u8>, rows: &Rows, side: Side) -> Result<(), NoM
 /// Puts the cells of a group, from the rows of all its elements.
 fn put_group_cells(out: &mut Vec<u8>, rows: &Rows, kind: CellKind) -> Result<(), NoMemory>
     requires whole { IsListOf (IsElement (integer_matrix rows.now.elements.matrix)) rows.now.elements.members }
-    requires held { (i : ℕ) → i < length rows.now.elements.members → Holds rows.now i }
+    requires held { (i : ℕ) → i < length rows.now.elements.members → HasRow rows.now i }
     ensures { PutsSome result (IsCellsText rows.now.elements.matrix.rank kind (integer_matrix rows.now.elements.matrix)) out.old.items out.new.items }
 {
     prove!(rows.context().len() > 0);

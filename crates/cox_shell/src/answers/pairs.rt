@@ -10,7 +10,7 @@ ghost use Rattle.cox_hecke.specs.Row.{IsRow};
 ghost use Rattle.cox_context.specs.Members.{IsInInterval};
 ghost use Rattle.cox_context.specs.SortedList.{IsListOf};
 ghost use Rattle.cox_context.specs.Numbers.{word_at};
-ghost use Rattle.cox_rows.specs.Holding.{Holds};
+ghost use Rattle.cox_rows.specs.Holding.{HasRow};
 ghost use Rattle.cox_poly.specs.Puts.{Puts};
 ghost use Rattle.cox_shell.specs.Kept.{AreKept};
 ghost use Rattle.cox_shell.specs.SessionLimits.{limits_of};
@@ -76,7 +76,7 @@ pub fn put_extremals(
 fn put_all_pairs(out: &mut Vec<u8>, rows: &Rows, i: u32) -> Result<(), NoMemory>
     requires group { IsCoxeterMatrix rows.now.elements.matrix }
     requires member { i < length rows.now.elements.members }
-    requires there { Holds rows.now i }
+    requires there { HasRow rows.now i }
     ensures { (w : List ℕ) → word_at rows.now.elements.members i ≡ normal_form (integer_matrix rows.now.elements.matrix) w
         → PutsSome result (IsPairsText rows.now.elements.matrix.rank (integer_matrix rows.now.elements.matrix) w
         (IsInInterval (integer_matrix rows.now.elements.matrix) w)) out.old.items out.new.items }
@@ -89,7 +89,7 @@ fn put_all_pairs(out: &mut Vec<u8>, rows: &Rows, i: u32) -> Result<(), NoMemory>
 fn put_extremal_pairs(out: &mut Vec<u8>, rows: &Rows, i: u32) -> Result<(), NoMemory>
     requires group { IsCoxeterMatrix rows.now.elements.matrix }
     requires member { i < length rows.now.elements.members }
-    requires there { Holds rows.now i }
+    requires there { HasRow rows.now i }
     ensures { (w : List ℕ) → word_at rows.now.elements.members i ≡ normal_form (integer_matrix rows.now.elements.matrix) w
         → PutsSome result (IsPairsText rows.now.elements.matrix.rank (integer_matrix rows.now.elements.matrix) w
         (IsExtremalBelow (integer_matrix rows.now.elements.matrix) w)) out.old.items out.new.items }
@@ -105,7 +105,7 @@ fn put_extremal_pairs(out: &mut Vec<u8>, rows: &Rows, i: u32) -> Result<(), NoMe
 fn put_pairs(out: &mut Vec<u8>, rows: &Rows, i: u32, numbers: &[u32]) -> Result<(), NoMemory>
     requires group { IsCoxeterMatrix rows.now.elements.matrix }
     requires member { i < length rows.now.elements.members }
-    requires there { Holds rows.now i }
+    requires there { HasRow rows.now i }
     requires members { All (λ x. x < length rows.now.elements.members) numbers.now }
     requires below { All (λ x. IsBelow (integer_matrix rows.now.elements.matrix) (word_at rows.now.elements.members x)
         (word_at rows.now.elements.members i)) numbers.now }

@@ -9,7 +9,7 @@ ghost use Rattle.cox_poly.specs.Polynomial.{coefficient};
 ghost use Rattle.cox_poly.specs.Puts.{Puts};
 ghost use Rattle.cox_hecke.specs.Row.{IsKazhdanLusztig, IsMu};
 ghost use Rattle.cox_context.specs.Numbers.{word_at};
-ghost use Rattle.cox_rows.specs.Holding.{Holds};
+ghost use Rattle.cox_rows.specs.Holding.{HasRow};
 ghost use Rattle.cox_shell.specs.Kept.{AreKept};
 ghost use Rattle.cox_shell.specs.SessionLimits.{limits_of};
 ghost use Rattle.cox_shell.specs.RowReply.{RefusesRow, IsPolText, IsMuText};
@@ -79,7 +79,7 @@ pub fn put_mu(
 /// P(y,w), for the member w with the number i; `None` where y <= w fails.
 fn polynomial_at<'a>(rows: &'a Rows, table: &RootTable, i: u32, y: &Word) -> Option<PolyView<'a>>
     requires member { i < length rows.now.elements.members }
-    requires there { Holds rows.now i }
+    requires there { HasRow rows.now i }
     requires table { table.now ≡ rows.now.elements.matrix }
     requires word { IsWord table.now.rank y.now.items }
     ensures value { IfSome result (λ p. IsKazhdanLusztig (integer_matrix table.now) y.now.items (word_at rows.now.elements.members i) (coefficient p)) }
@@ -94,7 +94,7 @@ fn polynomial_at<'a>(rows: &'a Rows, table: &RootTable, i: u32, y: &Word) -> Opt
 /// mu(y,w), for the member w with the number i.
 fn mu_at(rows: &Rows, table: &RootTable, i: u32, y: &Word) -> i32
     requires member { i < length rows.now.elements.members }
-    requires there { Holds rows.now i }
+    requires there { HasRow rows.now i }
     requires table { table.now ≡ rows.now.elements.matrix }
     requires word { IsWord table.now.rank y.now.items }
     ensures { IsMu (integer_matrix table.now) y.now.items (word_at rows.now.elements.members i) result }

@@ -14,7 +14,7 @@ ghost use Rattle.cox_hecke.specs.Row.{IsRow};
 ghost use Rattle.cox_context.specs.Members.{IsInInterval};
 ghost use Rattle.cox_context.specs.SortedList.{IsListOf};
 ghost use Rattle.cox_context.specs.Numbers.{word_at};
-ghost use Rattle.cox_rows.specs.Holding.{Holds};
+ghost use Rattle.cox_rows.specs.Holding.{HasRow};
 ghost use Rattle.cox_shell.specs.Kept.{AreKept};
 ghost use Rattle.cox_shell.specs.SessionLimits.{limits_of};
 ghost use Rattle.cox_shell.specs.RowReply.{RefusesRow, IsIhbettiText};
@@ -54,7 +54,7 @@ pub fn put_ihbetti(
 /// Puts the coefficients of the sum of q^l(x) P(x,w) over the members x <= w, for the member w with the number i.
 fn put_sums(out: &mut Vec<u8>, rows: &Rows, i: u32) -> Result<(), NoMemory>
     requires member { i < length rows.now.elements.members }
-    requires there { Holds rows.now i }
+    requires there { HasRow rows.now i }
     ensures { (w : List ℕ) → word_at rows.now.elements.members i ≡ normal_form (integer_matrix rows.now.elements.matrix) w
         → PutsSome result (IsIhbettiText (integer_matrix rows.now.elements.matrix) w) out.old.items out.new.items }
 {
@@ -66,7 +66,7 @@ fn put_sums(out: &mut Vec<u8>, rows: &Rows, i: u32) -> Result<(), NoMemory>
 /// The sum of q^l(x) P(x,w) over the members x <= w, for the member w with the number i.
 fn row_sums(rows: &Rows, i: u32) -> Acc
     requires member { i < length rows.now.elements.members }
-    requires there { Holds rows.now i }
+    requires there { HasRow rows.now i }
     ensures { (w : List ℕ) (p : Family) (members : List (List ℕ))
         → word_at rows.now.elements.members i ≡ normal_form (integer_matrix rows.now.elements.matrix) w
         → IsRow (integer_matrix rows.now.elements.matrix) w p → IsListOf (IsInInterval (integer_matrix rows.now.elements.matrix) w) members
@@ -84,7 +84,7 @@ fn row_sums(rows: &Rows, i: u32) -> Acc
 /// Adds q^l(x) P(x,w), for the members x and w with the numbers x and i. Nothing is added unless x <= w.
 fn add_member(sums: &mut Acc, rows: &Rows, i: u32, x: u32)
     requires member { i < length rows.now.elements.members }
-    requires there { Holds rows.now i }
+    requires there { HasRow rows.now i }
     requires x { x < length rows.now.elements.members }
     requires room { (k : ℕ) → unsigned_abs (coefficient sums.old k) ≤ 2 ^ 125 }
     ensures sum { (p : Family) → IsRow (integer_matrix rows.now.elements.matrix) (word_at rows.now.elements.members i) p

@@ -8,7 +8,7 @@ use Rattle.cox_row.specs.Rising.{number_at}
 use Rattle.cox_klstep.specs.StepOf.{IsDescentAt}
 use Rattle.cox_klstep.specs.NeedsOf.{AreNeeds}
 use Rattle.cox_klstep.proofs.NeededRows.{listed-needs}
-use Rattle.cox_rows.specs.Holding.{Holds}
+use Rattle.cox_rows.specs.Holding.{HasRow}
 use Rattle.cox_rows.specs.RowsFaults.{IsRowsFault}
 use Rattle.cox_rows.proofs.EnsureLemmas.{ensured-needed, ensured-then, fault-needed, fault-own}
 use Rattle.cox_rows.proofs.EnsureLemmas.{under_way-start, under_way-rows, under_way-next}
@@ -49,7 +49,7 @@ pub ensure_lower-returns-then-i-eq0-clause-there : goal.ensure_lower-returns-the
 ensure_lower-returns-then-i-eq0-clause-there t c =
     let e : c.args.i ≡ 0 = omega arith
     in rw e (identity-needs c.args.self.now.elements c.context-context.ensures.admissible c.context-context.ensures.closed
-    (Holds c.args.self.now))
+    (HasRow c.args.self.now))
 
 pub ensure_lower-returns-then-i-eq0-clause-small : goal.ensure_lower-returns-then-i-eq0-clause-small
 ensure_lower-returns-then-i-eq0-clause-small t c =
@@ -169,7 +169,7 @@ ensure_lower-returns-clause-there t c =
     in let are : AreNeeds (integer_matrix c.args.self.now.elements.matrix) c.args.self.now.elements.members c.of-descent.result.letter
     (word_at c.args.self.now.elements.members c.of-descent.result.member) c.deref-u-items.result.now
     = rw c.deref-u-items.ensures.value (rw c.ensure.ensures.rows.elements at c.in_ok-corrections.ensures)
-    in rw c.of-descent.ensures.number at (listed-needs c.args.self.now.elements (Holds c.each.self) c.of-descent.result
+    in rw c.of-descent.ensures.number at (listed-needs c.args.self.now.elements (HasRow c.each.self) c.of-descent.result
     c.deref-u-items.result.now c.context-context.ensures.admissible c.context-context.ensures.closed is are
     (c.each.invariant.kept c.of-descent.result.lower c.in_ok-ensure.ensures.there)
     (λ k l. c.each.invariant.there k (omega (arith, l))))

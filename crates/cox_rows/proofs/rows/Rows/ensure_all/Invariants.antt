@@ -3,15 +3,15 @@ use Rattle.std.proofs.Common.{◌≡◌, ℕ, ◌<◌}
 use Rattle.cox_base.specs.IntegerMatrix.{integer_matrix}
 use Rattle.cox_context.specs.Numbers.{word_at}
 use Rattle.cox_rows.specs.Beyond.{NeedsBeyond}
-use Rattle.cox_rows.specs.Holding.{Holds}
+use Rattle.cox_rows.specs.Holding.{HasRow}
 use Rattle.cox_rows.proofs.rows.Rows.ensure_all.Given as goal
 
 abbrev pub invariant-members : goal.invariant-members
 invariant-members l = record {
   elements : l.self.elements ≡ l.fn.self.elements;
   limit : l.self.limit ≡ l.fn.self.limit;
-  kept : (j : ℕ) → Holds l.fn.self j → Holds l.self j;
-  there : (k : ℕ) → k < l.i → Holds l.self k;
+  kept : (j : ℕ) → HasRow l.fn.self j → HasRow l.self j;
+  there : (k : ℕ) → k < l.i → HasRow l.self k;
   small : (k : ℕ) → k < l.i → NeedsBeyond (integer_matrix l.fn.self.elements.matrix) l.fn.self.limit
       (word_at l.fn.self.elements.members k) → ⊥;
 }

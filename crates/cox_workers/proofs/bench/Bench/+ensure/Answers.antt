@@ -11,7 +11,7 @@ use Rattle.cox_workers.proofs.SeatSteps.{needs-map, result-needed, looked_void, 
 use Rattle.cox_workers.proofs.Working.{ready_still, work-trans, work-needed}
 use Rattle.cox_workers.proofs.NeedsByNumber.{identity-needs, lower-before, lower-needed, correction-before, correction-needed}
 use Rattle.cox_workers.specs.Shelves.{IsOn}
-use Rattle.cox_workers.specs.Work.{IsNeededAt, IsMissing}
+use Rattle.cox_workers.specs.Work.{IsNeededAt, IsRowMissing}
 use Rattle.cox_klstep.specs.NeedsOf.{AreNeeds}
 use Rattle.cox_base.specs.IntegerMatrix.{integer_matrix}
 use Rattle.cox_context.specs.Numbers.{word_at}
@@ -126,7 +126,7 @@ take_in-returns-in_err-obtain-clause-missing g t c =
     let limit = limit_of c.args.self.now.store.now in
     let needed : IsNeededAt e c.args.i c.of-descent.result.lower = rw c.of-descent.ensures.number at
     (lower-needed e c.len-len.ensures.admissible c.len-len.ensures.closed c.of-descent.result c.of-descent.ensures.descent)
-    in let why : IfErr c.from_residual.result (IsMissing e limit c.of-descent.result.lower c.args.seat.now c.obtain.new.seat) = search rules
+    in let why : IfErr c.from_residual.result (IsRowMissing e limit c.of-descent.result.lower c.args.seat.now c.obtain.new.seat) = search rules
     in result-needed e c.len-len.ensures.admissible limit c.args.i c.of-descent.result.lower c.args.seat.now c.args.seat.now
     c.obtain.new.seat
     c.from_residual.result needed refl why
@@ -215,7 +215,7 @@ take_in-returns-in_err-obtain-2-clause-missing g t c =
     let needed : IsNeededAt e c.args.i u = rw c.of-descent.ensures.number at
     (correction-needed e c.len-len.ensures.admissible c.len-len.ensures.closed d c.of-descent.ensures.descent items are
     c.corrections.u-index c.corrections-test.true)
-    in let why : IfErr c.from_residual-in_err-obtain-2.result (IsMissing e limit u c.corrections.seat c.obtain-in-corrections.new.seat) =
+    in let why : IfErr c.from_residual-in_err-obtain-2.result (IsRowMissing e limit u c.corrections.seat c.obtain-in-corrections.new.seat) =
     search rules
     in result-needed e c.len-len.ensures.admissible limit c.args.i u c.args.seat.now c.corrections.seat c.obtain-in-corrections.new.seat
     c.from_residual-in_err-obtain-2.result needed c.corrections.invariant.none why
