@@ -16,3 +16,5 @@ pub mod Distinct
 pub mod LetterSets
 -- raising an element by the descents of another
 pub mod Raised
+-- lists with rows at some places
+pub mod RowLists

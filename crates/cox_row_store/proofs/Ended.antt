@@ -9,7 +9,8 @@ use Rattle.cox_row.specs.declared.row.Row.{Row}
 use Rattle.cox_rowcell.specs.Place.{Place}
 use Rattle.cox_rowcell.specs.RowFor.{IsRowFor}
 use Rattle.cox_row_store.specs.Places.{place_at, ArePlaces}
-use Rattle.cox_row_store.specs.Taken.{row_at, AreTaken, TakesRows}
+use Rattle.cox_row.specs.RowLists.{row_at}
+use Rattle.cox_row_store.specs.Taken.{AreTaken, TakesRows}
 
 pub are_taken : (e : Elements) (bound : ℤ) (view : View) (number rows : ℕ) (places : List Place) (states : List RowState)
     (out : List (Option Row)) → length e.members ≡ rows → length places ≡ rows → ArePlaces e bound places → Closes view number rows states

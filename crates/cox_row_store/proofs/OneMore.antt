@@ -8,7 +8,8 @@ use Rattle.cox_fill_core.specs.declared.event.RowState.{RowState}
 use Rattle.cox_row.specs.declared.row.Row.{Row}
 use Rattle.cox_rowcell.specs.Place.{Place}
 use Rattle.cox_rowcell.specs.RowFor.{IsRowFor}
-use Rattle.cox_row_store.specs.Taken.{row_at, TakesRows}
+use Rattle.cox_row.specs.RowLists.{row_at}
+use Rattle.cox_row_store.specs.Taken.{TakesRows}
 
 -- what holds of each item, and of one more, by its number
 each_more : {X : Type 0} (xs : List X) (x d : X) (P : ℕ → X → Type 0) → ((i : ℕ) → i < length xs → P i (slice_index_or xs i d))

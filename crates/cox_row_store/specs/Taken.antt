@@ -5,13 +5,10 @@ use Rattle.cox_fill_core.specs.declared.event.RowState.{RowState}
 use Rattle.cox_claims.specs.declared.view.View.{View}
 use Rattle.cox_claims.specs.Knowledge.{saw_published}
 use Rattle.cox_row.specs.declared.row.Row.{Row}
+use Rattle.cox_row.specs.RowLists.{row_at}
 use Rattle.cox_rowcell.specs.Place.{Place}
 use Rattle.cox_rowcell.specs.RowFor.{IsRowFor}
 use Rattle.cox_row_store.specs.Places.{place_at}
-
--- the row that is given back for member i, or none
-abbrev pub row_at : List (Option Row) → ℕ → Option Row
-row_at rows i = slice_index_or rows i None
 
 -- one entry for each member: its row, or none, and none only where this view has not seen the row Published
 pub record AreTaken (e : Elements) (bound : ℤ) (view : View) (rows : List (Option Row)) : Type 0 where

@@ -6,7 +6,8 @@ use Rattle.std.proofs.lemmas.List.{get_or_past}
 use Rattle.std.specs.Prelude.{IfSome, ℤ}
 use Rattle.cox_context.specs.Closed.{Elements}
 use Rattle.cox_row.specs.declared.row.Row.{Row}
-use Rattle.cox_rows.specs.Holding.{IsHeldRow, AreBoth, row_at}
+use Rattle.cox_row.specs.RowLists.{row_at}
+use Rattle.cox_rows.specs.Holding.{IsHeldRow, AreBoth}
 use Rattle.cox_rows.proofs.HeldLemmas.{not-there}
 
 -- the rows before the place n were put among the others

@@ -3,7 +3,8 @@ use Rattle.std.proofs.Common.{◌≡◌, ℕ, zero, suc, ◌<◌, List, [], ◌�
 use Rattle.std.specs.Prelude.{IfSome, slice_index_or, ℤ}
 use Rattle.cox_context.specs.Closed.{Elements}
 use Rattle.cox_row.specs.declared.row.Row.{Row}
-use Rattle.cox_rows.specs.Holding.{IsHeldRow, AreRows, row_at, held}
+use Rattle.cox_row.specs.RowLists.{row_at}
+use Rattle.cox_rows.specs.Holding.{IsHeldRow, AreRows, held}
 
 -- a place is held where a row is there
 pub held-at : (rows : List (Option Row)) (i : ℕ) → slice_index_or (held rows) i false ≡ is_some (row_at rows i)

@@ -17,7 +17,8 @@ use Rattle.cox_row.specs.Polynomials.{polynomial_at}
 use Rattle.cox_row.specs.RowOf.{IsRowOf}
 use Rattle.cox_row.specs.Within.{IsRowWithin}
 use Rattle.cox_klstep.specs.Limits.{IsLargeCoefficient}
-use Rattle.cox_rows.specs.Holding.{IsHeldRow, AreRows, row_at, held}
+use Rattle.cox_row.specs.RowLists.{row_at}
+use Rattle.cox_rows.specs.Holding.{IsHeldRow, AreRows, held}
 use Rattle.cox_rows.specs.Spread.{IsMovable, IsRenumbered, IsFromBefore, AreSpread}
 use Rattle.cox_rows.proofs.HeldLemmas.{held-at, row-there, not-there}
 use Rattle.cox_rows.proofs.RowBeyond.{none-coefficient}

@@ -1,8 +1,9 @@
 -- A context with rows of some of its members, as contracts see it.
-use Rattle.std.specs.Prelude.{◌≡◌, ◌⊎◌, ℕ, ◌<◌, List, Bool, true, false, length, map, is_some, slice_index_or, Option, None, IfSome}
+use Rattle.std.specs.Prelude.{◌≡◌, ◌⊎◌, ℕ, ◌<◌, List, Bool, true, false, length, map, is_some, slice_index_or, Option, IfSome}
 use Rattle.std.specs.Prelude.{ℤ, pos, ◌≤ℤ◌}
 use Rattle.cox_context.specs.Closed.{Elements}
 use Rattle.cox_row.specs.declared.row.Row.{Row}
+use Rattle.cox_row.specs.RowLists.{row_at}
 use Rattle.cox_row.specs.RowOf.{IsRowAt}
 use Rattle.cox_row.specs.Within.{IsRowWithin}
 
@@ -21,10 +22,6 @@ pub record IsHeldRow (e : Elements) (limit : ℤ) (i : ℕ) (row : Row) : Type 0
   pub member : i < length e.members
   pub is : IsRowAt e i row
   pub within : IsRowWithin limit row
-
--- the row at a place, if one is there
-abbrev pub row_at : List (Option Row) → ℕ → Option Row
-row_at rows i = slice_index_or rows i None
 
 -- each row that is there is that of the member with its number, within the limit
 pub record AreRows (e : Elements) (limit : ℤ) (rows : List (Option Row)) : Type 0 where

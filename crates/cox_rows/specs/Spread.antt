@@ -7,7 +7,8 @@ use Rattle.cox_context.specs.Numbers.{AreMoved}
 use Rattle.cox_row.specs.declared.row.Row.{Row}
 use Rattle.cox_row.specs.Rising.{AreWithin}
 use Rattle.cox_row.specs.RowOf.{IsRowOf}
-use Rattle.cox_rows.specs.Holding.{Holding, HasRow, row_at}
+use Rattle.cox_row.specs.RowLists.{row_at}
+use Rattle.cox_rows.specs.Holding.{Holding, HasRow}
 
 -- each number of the row has a new one
 pub record IsMovable (moved : List ℕ) (i : ℕ) (row : Row) : Type 0 where

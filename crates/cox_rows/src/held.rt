@@ -7,7 +7,8 @@ ghost use Rattle.cox_base.specs.Matrix.{IsWord};
 ghost use Rattle.cox_context.specs.Members.{IsInUnion};
 ghost use Rattle.cox_context.specs.SortedList.{IsListOf};
 ghost use Rattle.cox_context.specs.Refusal.{IsRefusal};
-ghost use Rattle.cox_rows.specs.Holding.{Holding, HasRow, IsHeldRow, AreBoth, row_at, held};
+ghost use Rattle.cox_row.specs.RowLists.{row_at};
+ghost use Rattle.cox_rows.specs.Holding.{Holding, HasRow, IsHeldRow, AreBoth, held};
 ghost use Rattle.cox_rows.specs.Spread.{IsMovable, AreSpread, AreCarried};
 ghost use Rattle.cox_rows.specs.Extended.{IsLeft};
 

@@ -12,7 +12,8 @@ ghost use Rattle.cox_row.specs.Distinct.{HasDistinctPolynomials};
 ghost use Rattle.cox_base.specs.Admissible.{IsAdmissible};
 ghost use Rattle.cox_context.specs.Closed.{IsClosed};
 ghost use Rattle.cox_context.specs.Numbers.{word_at};
-ghost use Rattle.cox_rows.specs.Holding.{Holding, HasRow, IsHeldRow, row_at, held};
+ghost use Rattle.cox_row.specs.RowLists.{row_at};
+ghost use Rattle.cox_rows.specs.Holding.{Holding, HasRow, IsHeldRow, held};
 ghost use Rattle.cox_rows.specs.Extended.{IsExtended, IsLeft};
 
 use crate::flags::spread_flags;

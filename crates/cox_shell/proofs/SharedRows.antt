@@ -9,7 +9,8 @@ use Rattle.cox_row.specs.declared.row.Row.{Row}
 use Rattle.cox_rowcell.specs.RowFor.{IsRowFor}
 use Rattle.cox_row_store.specs.Places.{place_at}
 use Rattle.cox_row_store.specs.Taken.{AreTaken}
-use Rattle.cox_rows.specs.Holding.{IsHeldRow, row_at}
+use Rattle.cox_row.specs.RowLists.{row_at}
+use Rattle.cox_rows.specs.Holding.{IsHeldRow}
 
 pub taken-held : (e made : Elements) (limit bound : ℤ) (view : View) (rows : List (Option Row)) → made ≡ e → bound ≡ limit
     → AreTaken made bound view rows → (i : ℕ) → IfSome (row_at rows i) (IsHeldRow e limit i)

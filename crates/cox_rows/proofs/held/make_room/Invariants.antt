@@ -1,6 +1,6 @@
 -- The places that are appended have no rows.
 use Rattle.std.proofs.Common.{◌≡◌, ℕ, ◌+◌, ◌-◌, length}
-use Rattle.cox_rows.specs.Holding.{row_at}
+use Rattle.cox_row.specs.RowLists.{row_at}
 use Rattle.cox_rows.proofs.held.make_room.Given as goal
 
 abbrev pub invariant-places : goal.invariant-places

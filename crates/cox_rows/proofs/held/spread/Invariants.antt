@@ -1,6 +1,6 @@
 -- The rows so far are at their new places, and the others at their old ones.
 use Rattle.std.proofs.Common.{◌≡◌, ℕ, ◌≤◌}
-use Rattle.cox_rows.specs.Holding.{row_at}
+use Rattle.cox_row.specs.RowLists.{row_at}
 use Rattle.cox_rows.specs.Spread.{AreSpread}
 use Rattle.cox_rows.proofs.held.spread.Given as goal
 
