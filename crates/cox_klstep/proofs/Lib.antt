@@ -22,7 +22,7 @@ pub mod LargeLemmas
 pub mod Finished
 -- the row of the identity
 pub mod IdentityRow
--- when the rows that a row is made from are there
+-- the rows that a row is made from: where they stand, and when they are there
 pub mod NeededRows
 -- inverses by number
 pub mod InverseLemmas

@@ -3,12 +3,15 @@ use Rattle.std.proofs.Common.{◌≡◌, ℕ, ◌<◌, ◌≤◌, List, ◌∷�
 use Rattle.std.proofs.lemmas.Bool.{cases_lt}
 use Rattle.cox_base.specs.IntegerMatrix.{IntegerMatrix, integer_matrix}
 use Rattle.cox_base.specs.Admissible.{IsAdmissible}
+use Rattle.cox_base.specs.Element.{SameElement}
 use Rattle.cox_base.specs.ShortLex.{normal_form}
 use Rattle.cox_base.specs.Length.{word_length}
 use Rattle.cox_base.specs.Reduced.{IsLeftDescent}
 use Rattle.cox_base.specs.Bruhat.{IsBelow}
+use Rattle.cox_reflect.proofs.Elements.{same-refl}
 use Rattle.cox_reflect.proofs.Search.{normal_form-same}
 use Rattle.cox_reflect.proofs.Bruhat.{below-refl, below-trans, below-descent, below-length}
+use Rattle.cox_hecke.specs.Needs.{IsNeeded, itself, shorter, corrected}
 use Rattle.cox_hecke.proofs.Descended.{mu-below}
 use Rattle.cox_context.specs.Closed.{Elements, IsClosed}
 use Rattle.cox_context.specs.Numbers.{word_at}
@@ -67,3 +70,36 @@ listed-needs e holds d numbers g closed descent are lower each = record {
       in let k = are.whole u m l (rw same at c)
       in rw (← k.2) (each k.0 k.1);
 }
+
+module _ (e : Elements) (g : IsAdmissible (integer_matrix e.matrix)) (closed : IsClosed (integer_matrix e.matrix) e.members) where
+  -- the row of the identity needs no other
+  pub identity-needs : (holds : ℕ → Type 0) → HasNeeds e holds 0
+  identity-needs holds = all-needs e holds 0 g closed closed.some (λ j l. absurd (omega (arith, l)))
+
+  -- the shorter element of a member and its corrections come before it, and their rows are of its Need
+  module _ (d : Descent) (is : IsDescentAt e d) where
+    abbrev A : IntegerMatrix
+    A = integer_matrix e.matrix
+
+    abbrev w : List ℕ
+    w = word_at e.members d.member
+
+    pub lower-same : SameElement A (word_at e.members d.lower) (d.letter ∷ w)
+    lower-same = rw is.lower_is (normal_form-same A g (d.letter ∷ w))
+
+    pub lower-before : d.lower < d.member
+    lower-before = shorter-before A g e.members closed d.member is.within d.letter d.lower is.least.descent is.lower_within
+        (below-refl A g lower-same)
+
+    pub lower-needed : IsNeeded A w (word_at e.members d.lower)
+    lower-needed = shorter (itself (same-refl A g w)) is.least lower-same
+
+    module _ (numbers : List ℕ) (are : AreNeeds A e.members d.letter w numbers) (k : ℕ) (l : k < length numbers) where
+      pub correction-before : number_at numbers k < d.member
+      correction-before =
+          let c = are.each k l
+          in shorter-before A g e.members closed d.member is.within d.letter (number_at numbers k) is.least.descent (are.within k l)
+          (mu-below A g (word_at e.members (number_at numbers k)) (d.letter ∷ w) c.0 c.1.is_mu c.1.some)
+
+      pub correction-needed : IsNeeded A w (word_at e.members (number_at numbers k))
+      correction-needed = corrected (itself (same-refl A g w)) is.least (are.each k l).1

@@ -11,7 +11,7 @@ use Rattle.cox_base.specs.ShortLex.{normal_form}
 use Rattle.cox_reflect.specs.Height.{IsLeastLeftDescent}
 use Rattle.cox_reflect.proofs.Elements.{same-refl, same-sym}
 use Rattle.cox_reflect.proofs.Search.{normal_form-same}
-use Rattle.cox_reflect.proofs.Bruhat.{below-same, below-refl}
+use Rattle.cox_reflect.proofs.Bruhat.{below-same}
 use Rattle.cox_hecke.specs.Step.{IsCorrection}
 use Rattle.cox_hecke.specs.Needs.{IsNeeded, itself}
 use Rattle.cox_hecke.proofs.Descended.{mu-below}
@@ -23,15 +23,15 @@ use Rattle.cox_context.proofs.Shifting.{member-below, first-member, length-at}
 use Rattle.cox_row.specs.Rising.{number_at}
 use Rattle.cox_klstep.specs.declared.step.Descent.{Descent}
 use Rattle.cox_klstep.specs.StepOf.{IsDescentAt}
-use Rattle.cox_klstep.specs.NeedsOf.{HasNeeds, AreNeeds}
-use Rattle.cox_klstep.proofs.NeededRows.{shorter-before}
+use Rattle.cox_klstep.specs.NeedsOf.{AreNeeds}
+use Rattle.cox_klstep.proofs.NeededRows.{lower-same}
 use Rattle.cox_rows.specs.Beyond.{NeedsBeyond}
 use Rattle.cox_rows.specs.Holding.{Holding, HasRow}
 use Rattle.cox_rows.specs.declared.fault.RowsFault.{RowsFault}
 use Rattle.cox_rows.specs.RowsFaults.{IsRowsFault}
 use Rattle.cox_rows.specs.Ensured.{IsEnsured, AreNeedsSmall}
 use Rattle.cox_rows.proofs.RowsFaultLemmas.{fault-weaker}
-use Rattle.cox_rows.proofs.NeedCases.{least-unique, need-shorter, need-correction, correction-words}
+use Rattle.cox_rows.proofs.NeedCases.{least-unique, correction-words}
 use Rattle.cox_rows.proofs.NeedDecided.{needs_beyond-same}
 
 -- ---- states
@@ -146,30 +146,6 @@ module _ (e : Elements) (g : IsAdmissible (integer_matrix e.matrix)) (closed : I
   abbrev w : List ℕ
   w = word_at e.members d.member
 
-  lower-same : SameElement A (word_at e.members d.lower) (d.letter ∷ w)
-  lower-same = rw is.lower_is (normal_form-same A g (d.letter ∷ w))
-
-  pub lower-before : d.lower < d.member
-  lower-before = shorter-before A g e.members closed d.member is.within d.letter d.lower is.least.descent is.lower_within
-      (below-refl A g lower-same)
-
-  pub lower-needed : IsNeeded A w (word_at e.members d.lower)
-  lower-needed = need-shorter A g w (word_at e.members d.lower) d.letter is.least (itself lower-same)
-
-  module _ (numbers : List ℕ) (are : AreNeeds A e.members d.letter w numbers) (k : ℕ) (l : k < length numbers) where
-    pub correction-before : number_at numbers k < d.member
-    correction-before =
-        let c = are.each k l
-        in shorter-before A g e.members closed d.member is.within d.letter (number_at numbers k) is.least.descent (are.within k l)
-        (mu-below A g (word_at e.members (number_at numbers k)) (d.letter ∷ w) c.0 c.1.is_mu c.1.some)
-
-    pub correction-needed : IsNeeded A w (word_at e.members (number_at numbers k))
-    correction-needed =
-        let c = are.each k l
-        in need-correction A g w (word_at e.members (number_at numbers k)) (word_at e.members (number_at numbers k))
-        d.letter c.0 is.least c.1
-        (itself (same-refl A g (word_at e.members (number_at numbers k))))
-
   -- where the shorter element and the corrections need nothing beyond the limits
   pub needs-small : (limit : ℤ) → pos 0 ≤ℤ limit → (numbers : List ℕ) → AreNeeds A e.members d.letter w numbers
       → (NeedsBeyond A limit (word_at e.members d.lower) → ⊥)
@@ -177,29 +153,23 @@ module _ (e : Elements) (g : IsAdmissible (integer_matrix e.matrix)) (closed : I
       → AreNeedsSmall A limit w
   needs-small limit least numbers are lower each = record {
     shorter = λ s f h. lower (needs_beyond-same A g limit least (d.letter ∷ w) (word_at e.members d.lower)
-        (same-sym A g lower-same) (rw (least-unique A g w d.letter s is.least f) at h));
+        (same-sym A g (lower-same e g closed d is)) (rw (least-unique A g w d.letter s is.least f) at h));
     corrected = λ s u m f c h.
         let c : IsCorrection Left A d.letter (d.letter ∷ w) u m = rw (least-unique A g w d.letter s is.least f) at c
         in let place = contains-placed e.members (normal_form A u) (member-below A g e.members closed u d.lower is.lower_within
-        (below-same A g (same-refl A g u) (same-sym A g lower-same) (mu-below A g u (d.letter ∷ w) m c.is_mu c.some)))
+        (below-same A g (same-refl A g u) (same-sym A g (lower-same e g closed d is)) (mu-below A g u (d.letter ∷ w) m c.is_mu c.some)))
         in let same : SameElement A u (word_at e.members place.i) = rw place.is (same-sym A g (normal_form-same A g u))
         in let k = are.whole place.i m place.within
         (correction-words A g d.letter (d.letter ∷ w) (d.letter ∷ w) u (word_at e.members place.i) m (same-refl A g (d.letter ∷ w)) same c)
         in each k.0 k.1 (rw k.2 (needs_beyond-same A g limit least u (word_at e.members place.i) same h));
   }
 
--- the identity needs nothing
+-- the identity needs nothing beyond the limits
 module _ (e : Elements) (g : IsAdmissible (integer_matrix e.matrix)) (closed : IsClosed (integer_matrix e.matrix) e.members) where
   no_descent : (s : ℕ) → IsLeastLeftDescent (integer_matrix e.matrix) (word_at e.members 0) s → ⊥
   no_descent s d =
       let zero = length-at (integer_matrix e.matrix) g e.members closed 0 closed.some
       in omega (arith, d.descent, zero, ap length (first-member (integer_matrix e.matrix) g e.members closed))
-
-  pub identity-needs : (holds : ℕ → Type 0) → HasNeeds e holds 0
-  identity-needs holds = record {
-    shorter = λ s j d. absurd (no_descent s d);
-    corrected = λ s u m d. absurd (no_descent s d);
-  }
 
   pub identity-small : (limit : ℤ) → AreNeedsSmall (integer_matrix e.matrix) limit (word_at e.members 0)
   identity-small limit = record {

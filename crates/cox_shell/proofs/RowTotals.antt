@@ -1,6 +1,6 @@
 -- The totals of a row, member by member.
-use Rattle.std.proofs.Common.{◌≡◌, ℕ, zero, suc, ◌+◌, ◌≤◌, ◌<◌, Bool, true, false, List, [], ◌∷◌, ◌++◌, length, filter, take, Contains}
-use Rattle.std.proofs.Common.{cond, refl, sym, ap, ◌∙◌, ⊎_elim, arith, ℤ, pos}
+use Rattle.std.proofs.Common.{◌≡◌, ℕ, ◌+◌, ◌≤◌, ◌<◌, Bool, true, false, List, [], ◌∷◌, ◌++◌, length, filter, take}
+use Rattle.std.proofs.Common.{refl, sym, ap, ◌∙◌, ⊎_elim, arith, ℤ, pos}
 use Rattle.std.proofs.Math.IntN.{+ℤ_idl, +ℤ_idr, +ℤ_assoc}
 use Rattle.std.proofs.lemmas.Bool.{cases_lt, false_from_ne_true}
 use Rattle.std.proofs.lemmas.List.{append-nil}
@@ -10,9 +10,8 @@ use Rattle.cox_base.specs.Admissible.{IsAdmissible}
 use Rattle.cox_base.specs.ShortLex.{normal_form}
 use Rattle.cox_base.specs.Length.{word_length}
 use Rattle.cox_base.specs.Bruhat.{IsBelow}
-use Rattle.cox_reflect.proofs.Elements.{same-refl, same-sym}
+use Rattle.cox_reflect.proofs.Elements.{same-sym}
 use Rattle.cox_reflect.proofs.Search.{normal_form-same}
-use Rattle.cox_reflect.proofs.Bruhat.{below-same}
 use Rattle.cox_poly.specs.Coefficients.{Coefficients}
 use Rattle.cox_poly.specs.Polynomial.{coefficient, HasDegreeBelow}
 use Rattle.cox_hecke.specs.Family.{Family}
@@ -23,11 +22,9 @@ use Rattle.cox_context.specs.Closed.{IsClosed}
 use Rattle.cox_context.specs.Members.{IsInInterval}
 use Rattle.cox_context.specs.SortedList.{IsListOf}
 use Rattle.cox_context.specs.Numbers.{word_at}
-use Rattle.cox_context.proofs.ListLemmas.{contains-at}
-use Rattle.cox_context.proofs.SortedLemmas.{IsListOf-filter}
 use Rattle.cox_context.proofs.IntervalLemmas.{is_below, is_below-tells}
-use Rattle.cox_row.proofs.Raising.{later-not_below}
 use Rattle.cox_shell.specs.RowReply.{coefficients_to}
+use Rattle.cox_shell.proofs.RowMembers.{below-first, interval-list}
 use Rattle.cox_shell.specs.WorkReply.{Totals, no_totals, both_totals, polynomial_totals, row_totals}
 
 -- ---- adding up totals
@@ -69,22 +66,6 @@ module _ (A : IntegerMatrix) (w : List ℕ) (p : Family) where
 
     pub first_totals-same : (k : ℕ) → k < length members → test (word_at members k) ≡ false → first_totals (k + 1) ≡ first_totals k
     first_totals-same k below fails = rw (filter_more test members k [] below, fails, append-nil) refl
-
--- where no later member passes, the first ones are all that do
-filter-first : (test : List ℕ → Bool) (n : ℕ) (members : List (List ℕ))
-    → ((k : ℕ) → n ≤ k → k < length members → test (word_at members k) ≡ false) → filter test (take n members) ≡ filter test members
-filter-first test zero [] fails = refl
-filter-first test zero (x ∷ members) fails =
-    let first : test x ≡ false = fails 0 (omega arith) (omega arith) in
-    rw first (filter-first test zero members (λ k l below. fails (suc k) (omega arith) (omega (arith, below))))
-filter-first test (suc n) [] fails = refl
-filter-first test (suc n) (x ∷ members) fails =
-    let rest = filter-first test n members (λ k l below. fails (suc k) (omega (arith, l)) (omega (arith, below))) in by_test (test x) rest
-  where
-    by_test : (b : Bool) → filter test (take n members) ≡ filter test members
-        → cond b (x ∷ filter test (take n members)) (filter test (take n members)) ≡ cond b (x ∷ filter test members) (filter test members)
-    by_test true rest = ap (λ xs. x ∷ xs) rest
-    by_test false rest = rest
 
 module _ (A : IntegerMatrix) (g : IsAdmissible A) where
   -- the row of w has no coefficient beyond degree l(w)
@@ -129,24 +110,4 @@ module _ (A : IntegerMatrix) (g : IsAdmissible A) where
     -- the members up to it have all that is below it
     pub interval-first : (w : List ℕ) → word_at members i ≡ normal_form A w
         → IsListOf (IsInInterval A w) (filter below_it (take (i + 1) members))
-    interval-first w is = rw (filter-first below_it (i + 1) members later) whole
-      where
-        later : (k : ℕ) → i + 1 ≤ k → k < length members → below_it (word_at members k) ≡ false
-        later k l inside =
-            below_it-false (word_at members k) (later-not_below A g members closed k i inside member (omega (arith, l)))
-
-        whole : IsListOf (IsInInterval A w) (filter below_it members)
-        whole = IsListOf-filter (Contains members) (IsInInterval A w) below_it members
-            (record { rising = closed.rising; sound = λ word there. there; whole = λ word there. there })
-            (λ word there. (
-              λ e. record {
-                element = closed.element word there;
-                below = below-same A g (same-refl A g word) (rw is (normal_form-same A g w))
-                    ((is_below-tells A g word (word_at members i)).0 e);
-              },
-              λ q. below_it-true word (lower word q.below),
-            ))
-            (λ word q. closed.down word (word_at members i) (contains-at members i member) q.element (lower word q.below))
-          where
-            lower : (word : List ℕ) → IsBelow A word w → IsBelow A word (word_at members i)
-            lower word below = below-same A g (same-refl A g word) (rw is (same-sym A g (normal_form-same A g w))) below
+    interval-first w is = rw (below-first A g members closed i member) (interval-list A g members closed i member w is)

@@ -1,7 +1,7 @@
 -- The shorter element is a member with a smaller number.
 use Rattle.std.proofs.Common.{arith}
+use Rattle.cox_klstep.proofs.NeededRows.{lower-before}
 use Rattle.cox_klstep.specs.StepOf.{IsDescentAt}
-use Rattle.cox_rows.proofs.EnsureLemmas.{lower-before}
 use Rattle.cox_shell.proofs.workers.+push_chain.Goals as goal
 
 pub push_chain-requires : goal.push_chain-requires

@@ -7,13 +7,13 @@ use Rattle.cox_context.specs.Numbers.{word_at}
 use Rattle.cox_row.specs.Rising.{number_at}
 use Rattle.cox_klstep.specs.StepOf.{IsDescentAt}
 use Rattle.cox_klstep.specs.NeedsOf.{AreNeeds}
-use Rattle.cox_klstep.proofs.NeededRows.{listed-needs}
+use Rattle.cox_klstep.proofs.NeededRows.{listed-needs, lower-before, lower-needed, correction-before, correction-needed, identity-needs}
 use Rattle.cox_rows.specs.Holding.{HasRow}
 use Rattle.cox_rows.specs.RowsFaults.{IsRowsFault}
 use Rattle.cox_rows.proofs.EnsureLemmas.{ensured-needed, ensured-then, fault-needed, fault-own}
 use Rattle.cox_rows.proofs.EnsureLemmas.{under_way-start, under_way-rows, under_way-next}
-use Rattle.cox_rows.proofs.EnsureLemmas.{lower-before, lower-needed, correction-before, correction-needed, needs-small}
-use Rattle.cox_rows.proofs.EnsureLemmas.{identity-needs, identity-small}
+use Rattle.cox_rows.proofs.EnsureLemmas.{needs-small}
+use Rattle.cox_rows.proofs.EnsureLemmas.{identity-small}
 use Rattle.cox_rows.proofs.rows.Rows.+ensuring.Goals as goal
 
 -- ---- the row and what it is made from

@@ -2,14 +2,14 @@
 use Rattle.std.proofs.Common.{◌≡◌, ◌<◌, ◌≤◌, ⊎_elim, refl, ap, ◌∙◌, subst, rules, arith}
 use Rattle.std.proofs.lemmas.Bool.{cases_lt}
 use Rattle.std.specs.Prelude.{IfErr}
-use Rattle.cox_klstep.proofs.NeededRows.{listed-needs}
+use Rattle.cox_klstep.proofs.NeededRows.{listed-needs, identity-needs, lower-before, correction-before}
 use Rattle.cox_row.specs.Rising.{number_at}
 use Rattle.cox_claims.specs.Knowledge.{looked}
 use Rattle.cox_claims.specs.Seats.{view_of, HasSeen}
 use Rattle.cox_row_store.specs.Stores.{limit_of}
 use Rattle.cox_workers.proofs.SeatSteps.{needs-map, result-needed, looked_void, published_kept, voided_kept, unmade_missing}
 use Rattle.cox_workers.proofs.Working.{ready_still, work-trans, work-needed}
-use Rattle.cox_workers.proofs.NeedsByNumber.{identity-needs, lower-before, lower-needed, correction-before, correction-needed}
+use Rattle.cox_workers.proofs.NeedsByNumber.{lower-needed_at, correction-needed_at}
 use Rattle.cox_workers.specs.Shelves.{IsOn}
 use Rattle.cox_workers.specs.Work.{IsNeededAt, IsRowMissing}
 use Rattle.cox_klstep.specs.NeedsOf.{AreNeeds}
@@ -106,7 +106,7 @@ pub take_in-returns-in_err-obtain-clause-work : goal.take_in-returns-in_err-obta
 take_in-returns-in_err-obtain-clause-work g t c =
     let e = c.args.self.now.context.now in
     let needed : IsNeededAt e c.args.i c.of-descent.result.lower = rw c.of-descent.ensures.number at
-    (lower-needed e c.len-len.ensures.admissible c.len-len.ensures.closed c.of-descent.result c.of-descent.ensures.descent)
+    (lower-needed_at e c.len-len.ensures.admissible c.len-len.ensures.closed c.of-descent.result c.of-descent.ensures.descent)
     in work-needed c.args.self.now c.len-len.ensures.admissible c.args.i c.of-descent.result.lower c.args.seat.now c.obtain.new.seat
     c.args.hand.now
     c.obtain.new.hand needed c.obtain.ensures.work
@@ -115,7 +115,7 @@ pub take_in-returns-in_err-corrections-clause-work : goal.take_in-returns-in_err
 take_in-returns-in_err-corrections-clause-work g t c =
     let e = c.args.self.now.context.now in
     let needed : IsNeededAt e c.args.i c.of-descent.result.lower = rw c.of-descent.ensures.number at
-    (lower-needed e c.len-len.ensures.admissible c.len-len.ensures.closed c.of-descent.result c.of-descent.ensures.descent)
+    (lower-needed_at e c.len-len.ensures.admissible c.len-len.ensures.closed c.of-descent.result c.of-descent.ensures.descent)
     in work-needed c.args.self.now c.len-len.ensures.admissible c.args.i c.of-descent.result.lower c.args.seat.now c.obtain.new.seat
     c.args.hand.now
     c.obtain.new.hand needed c.obtain.ensures.work
@@ -125,7 +125,7 @@ take_in-returns-in_err-obtain-clause-missing g t c =
     let e = c.args.self.now.context.now in
     let limit = limit_of c.args.self.now.store.now in
     let needed : IsNeededAt e c.args.i c.of-descent.result.lower = rw c.of-descent.ensures.number at
-    (lower-needed e c.len-len.ensures.admissible c.len-len.ensures.closed c.of-descent.result c.of-descent.ensures.descent)
+    (lower-needed_at e c.len-len.ensures.admissible c.len-len.ensures.closed c.of-descent.result c.of-descent.ensures.descent)
     in let why : IfErr c.from_residual.result (IsRowMissing e limit c.of-descent.result.lower c.args.seat.now c.obtain.new.seat) = search rules
     in result-needed e c.len-len.ensures.admissible limit c.args.i c.of-descent.result.lower c.args.seat.now c.args.seat.now
     c.obtain.new.seat
@@ -151,7 +151,7 @@ pub take_in-corrections-init : goal.take_in-corrections-init
 take_in-corrections-init g t c =
     let e = c.args.self.now.context.now in
     let needed : IsNeededAt e c.args.i c.of-descent.result.lower = rw c.of-descent.ensures.number at
-    (lower-needed e c.len-len.ensures.admissible c.len-len.ensures.closed c.of-descent.result c.of-descent.ensures.descent)
+    (lower-needed_at e c.len-len.ensures.admissible c.len-len.ensures.closed c.of-descent.result c.of-descent.ensures.descent)
     in record {
       work = work-needed c.args.self.now c.len-len.ensures.admissible c.args.i c.of-descent.result.lower c.args.seat.now c.obtain.new.seat
           c.args.hand.now c.obtain.new.hand needed c.obtain.ensures.work;
@@ -169,7 +169,7 @@ take_in-returns-in_err-obtain-2-clause-work g t c =
     let are : AreNeeds (integer_matrix e.matrix) e.members d.letter (word_at e.members d.member) items =
     rw c.deref-u-items.ensures.value c.in_ok-corrections.ensures in
     let needed : IsNeededAt e c.args.i u = rw c.of-descent.ensures.number at
-    (correction-needed e c.len-len.ensures.admissible c.len-len.ensures.closed d c.of-descent.ensures.descent items are
+    (correction-needed_at e c.len-len.ensures.admissible c.len-len.ensures.closed d c.of-descent.ensures.descent items are
     c.corrections.u-index c.corrections-test.true)
     in work-trans c.args.self.now c.args.i c.args.seat.now c.corrections.seat c.obtain-in-corrections.new.seat c.args.hand.now
     c.corrections.hand
@@ -187,7 +187,7 @@ take_in-corrections-preserved g t c =
     let are : AreNeeds (integer_matrix e.matrix) e.members d.letter (word_at e.members d.member) items =
     rw c.deref-u-items.ensures.value c.in_ok-corrections.ensures in
     let needed : IsNeededAt e c.args.i u = rw c.of-descent.ensures.number at
-    (correction-needed e c.len-len.ensures.admissible c.len-len.ensures.closed d c.of-descent.ensures.descent items are
+    (correction-needed_at e c.len-len.ensures.admissible c.len-len.ensures.closed d c.of-descent.ensures.descent items are
     c.corrections.u-index c.corrections-test.true)
     in let more = work-needed c.args.self.now c.len-len.ensures.admissible c.args.i u c.corrections.seat c.obtain-in-corrections.new.seat
     c.corrections.hand c.obtain-in-corrections.new.hand needed c.obtain-in-corrections.ensures.work
@@ -213,7 +213,7 @@ take_in-returns-in_err-obtain-2-clause-missing g t c =
     let are : AreNeeds (integer_matrix e.matrix) e.members d.letter (word_at e.members d.member) items =
     rw c.deref-u-items.ensures.value c.in_ok-corrections.ensures in
     let needed : IsNeededAt e c.args.i u = rw c.of-descent.ensures.number at
-    (correction-needed e c.len-len.ensures.admissible c.len-len.ensures.closed d c.of-descent.ensures.descent items are
+    (correction-needed_at e c.len-len.ensures.admissible c.len-len.ensures.closed d c.of-descent.ensures.descent items are
     c.corrections.u-index c.corrections-test.true)
     in let why : IfErr c.from_residual-in_err-obtain-2.result (IsRowMissing e limit u c.corrections.seat c.obtain-in-corrections.new.seat) =
     search rules
