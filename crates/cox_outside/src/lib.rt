@@ -18,7 +18,7 @@
 //!   told of a line, and lines one by one
 //! - `limits`: how long lines and inputs may be
 //! - `laws`: the laws that determine the lines of a text
-//! - `gate`: gates that workers pass, which tests use to hold them
+//! - `gate`, `meeting_gate`: gates that workers pass, which tests use to hold them; one at which two workers have to meet
 #![tactic(auto)]
 
 mod byte_feed;
@@ -29,6 +29,7 @@ mod limits;
 mod line_reader;
 mod line_scan;
 mod line_show;
+mod meeting_gate;
 mod memory_sink;
 mod memory_source;
 mod sink;
@@ -42,6 +43,7 @@ mod writing;
 pub use gate::{Gate, Open, Point};
 pub use limits::{CHUNK_SIZE, INPUT_LIMIT, LINE_LIMIT};
 pub use line_reader::{LineReader, Next, Stop};
+pub use meeting_gate::MeetingGate;
 pub use memory_sink::MemorySink;
 pub use memory_source::MemorySource;
 pub use sink::{Sink, Took};

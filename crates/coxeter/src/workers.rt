@@ -1,12 +1,9 @@
 //! Whole runs with several workers: they write the same bytes, and behind a gate two of them work at once.
-use cox_outside::{Gate, MemorySink, MemorySource, Open, Point};
+use cox_outside::{Gate, MeetingGate, MemorySink, MemorySource, Open};
 use cox_shell::{Session, Status, run, run_one};
 use std::alloc::{AllocError, Global};
 use std::sync::Wait;
-use std::sync::atomic::AtomicU64;
-use std::sync::atomic::Ordering::SeqCst;
 use std::test::Fail;
-use std::thread;
 use std::thread::Threads;
 
 /// Scripts that have to write the same with any number of workers.
@@ -16,88 +13,6 @@ const SCRIPTS: &[&str] = &[
     "pol e 1\nmatrix 2 5\ntype H 3\nfoo\ncompute\nmatrix 10\nmatrix 2\ntype A x\n",
     "type A 4\npol e 123\nquit\n",
 ];
-
-/// How often a worker is held, at most, while the other does not come.
-const TURNS: u32 = 100_000_000;
-
-/// How often a worker has passed before a claim, and before a publication.
-#[derive(Drop)]
-struct Passes {
-    claims: AtomicU64,
-    publications: AtomicU64,
-}
-
-impl Passes {
-    fn new() -> Passes {
-        Passes {
-            claims: AtomicU64::new(0),
-            publications: AtomicU64::new(0),
-        }
-    }
-}
-
-/// A gate for two workers. It holds each at its first claim until the other has come to a claim, and at its second publication
-/// until the other has come to one. It counts the publications of each row, and the holds that ended before the other came.
-#[derive(Drop)]
-struct Meeting {
-    first: Passes,
-    second: Passes,
-    published: Vec<AtomicU64>,
-    late: AtomicU64,
-}
-
-impl Meeting {
-    /// A gate for so many rows.
-    fn new(alloc: Global, rows: usize) -> Result<Meeting, AllocError> {
-        let mut published = Vec::new(alloc);
-        for _ in 0..rows {
-            published.push(AtomicU64::new(0))?;
-        }
-        Ok(Meeting {
-            first: Passes::new(),
-            second: Passes::new(),
-            published,
-            late: AtomicU64::new(0),
-        })
-    }
-
-    /// Holds a worker until the other has come.
-    fn hold(&self, other: &AtomicU64) {
-        for _ in 0..TURNS {
-            if other.load(SeqCst) > 0 {
-                return;
-            }
-            thread::yield_now();
-        }
-        self.late.fetch_add(1, SeqCst);
-    }
-}
-
-impl Gate for Meeting {
-    fn pass<R: Wait>(&self, rt: &R, worker: u32, point: Point, row: u32) {
-        let _ = rt;
-        let (mine, other) = if worker == 1 {
-            (&self.first, &self.second)
-        } else {
-            (&self.second, &self.first)
-        };
-        match point {
-            Point::Claim => {
-                if mine.claims.fetch_add(1, SeqCst) == 0 {
-                    self.hold(&other.claims);
-                }
-            }
-            Point::Publish => {
-                if let Some(passes) = self.published.get(row as usize) {
-                    passes.fetch_add(1, SeqCst);
-                }
-                if mine.publications.fetch_add(1, SeqCst) == 1 {
-                    self.hold(&other.publications);
-                }
-            }
-        }
-    }
-}
 
 /// How a run over a script with this number of workers ends, and the sink that it wrote to.
 fn run_by<R: Threads + Wait + Sync, G: Gate + Sync>(
@@ -139,13 +54,11 @@ fn write_the_same(rt: HostRuntime) -> Result<(), Fail> {
 #[test]
 fn meet_at_a_gate(rt: HostRuntime) -> Result<(), Fail> {
     let alloc = rt.alloc();
-    let gate = Meeting::new(alloc, 120)?;
+    let gate = MeetingGate::new(alloc, 120)?;
     let (status, _) = run_by(&rt, alloc, "type A 4\nlrcells\n", "2", &gate)?;
     assert_eq!(rt; status, Status::Done);
-    assert_eq!(rt; gate.late.load(SeqCst), 0);
-    for passes in &gate.published {
-        assert_eq!(rt; passes.load(SeqCst), 1);
-    }
+    assert_eq!(rt; gate.late(), 0);
+    assert_eq!(rt; gate.published_once(), 120);
     Ok(())
 }
 

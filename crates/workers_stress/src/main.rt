@@ -1,8 +1,6 @@
 //! A test of workers on the rows of A 4: whatever their number, the rows are the same; and where a gate has two workers meet, both publish rows.
 //!
 //! What is printed is the same by every schedule.
-//!
-//! - `gate`: a gate at which two workers have to meet
 #![tactic(auto)]
 
 ghost use Rattle.std.specs.Prelude.{◌≡◌, ◌≤◌};
@@ -10,16 +8,13 @@ ghost use Rattle.std.specs.Prelude.{◌≡◌, ◌≤◌};
 use cox_base::Coxeter;
 use cox_context::Context;
 use cox_minroots::{MAX_SMALL_ROOTS, RootTable};
-use cox_outside::{Gate, Open};
+use cox_outside::{Gate, MeetingGate, Open};
 use cox_row::Row;
 use cox_row_store::RowStore;
 use cox_workers::{all_members, fill};
-use gate::MeetingGate;
 use std::alloc::{AllocError, Global};
 use std::sync::Wait;
 use std::thread::Threads;
-
-mod gate;
 
 /// The greatest coefficient.
 const LIMIT: i64 = 2_147_483_647;

@@ -1,6 +1,7 @@
-//! A gate at which two workers have to meet.
-use cox_outside::{Gate, Point};
-use std::alloc::{AllocError, Global};
+//! A gate at which two workers have to meet, for tests.
+use crate::NoMemory;
+use crate::gate::{Gate, Point};
+use std::alloc::Global;
 use std::sync::Wait;
 use std::sync::atomic::AtomicU64;
 use std::sync::atomic::Ordering::SeqCst;
@@ -36,8 +37,8 @@ pub struct MeetingGate {
 }
 
 impl MeetingGate {
-    /// A gate for two workers and so many rows.
-    pub fn new(alloc: Global, rows: u32) -> Result<MeetingGate, AllocError> {
+    /// A gate for two workers and so many rows. `NoMemory` comes where there is no memory for the counts of the rows.
+    pub fn new(alloc: Global, rows: u32) -> Result<MeetingGate, NoMemory> {
         let mut published = Vec::with_capacity(alloc, rows as usize)?;
         for _ in 0..rows {
             published.push(AtomicU64::new(0))?;
