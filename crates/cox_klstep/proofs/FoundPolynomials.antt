@@ -1,6 +1,7 @@
 -- One extremal member more with its polynomial, or a member that is not extremal or not below w.
 use Rattle.std.proofs.Common.{◌≡◌, ◌≢◌, ◌⊎◌, inl, inr, ℕ, ◌+◌, ◌<◌, ◌≤◌, List, [], ◌∷◌, ◌++◌, length, ℤ, refl, sym, ◌∙◌, ⊎_elim, arith}
 use Rattle.std.proofs.lemmas.Bool.{cases_lt}
+use Rattle.cox_lemmas.proofs.PushLemmas.{push-length, push-old, push-new, push_cases}
 use Rattle.cox_base.specs.IntegerMatrix.{IntegerMatrix}
 use Rattle.cox_base.specs.Bruhat.{IsBelow}
 use Rattle.cox_poly.specs.Polynomial.{coefficient}
@@ -9,8 +10,8 @@ use Rattle.cox_context.specs.Numbers.{word_at}
 use Rattle.cox_row.specs.Rising.{number_at}
 use Rattle.cox_row.specs.Extremal.{IsExtremal}
 use Rattle.cox_row.specs.Polynomials.{polynomial_at, IsPool}
+use Rattle.cox_row.proofs.RisingLemmas.{each-push, rising-push, within-push, found-push}
 use Rattle.cox_klstep.specs.Drafts.{IsPooled, AreBegun}
-use Rattle.cox_klstep.proofs.PushLemmas.{push-length, push-old, push-new, push_cases}
 
 -- no member from one to another is extremal
 pub begun-pass : (A : IntegerMatrix) (members : List (List ℕ)) (w : List ℕ) (limit : ℤ) (q p : ℕ) (numbers places : List ℕ)
@@ -80,37 +81,11 @@ module _ (A : IntegerMatrix) (members : List (List ℕ)) (w : List ℕ) (limit :
           → IsKazhdanLusztig A (word_at members x) w (coefficient sums)
           → AreBegun A members w limit (x + 1) (numbers ++ x ∷ []) (places ++ place ∷ []) new
       begun-keep extremal below is = record {
-        rising = λ j k less l. ⊎_elim
-            (λ (old : k < length numbers). rw (push-old numbers x 0 j (omega (arith, less, old)), push-old numbers x 0 k old)
-            (h.rising j k less old))
-            (λ (last : k ≡ length numbers). rw (push-old numbers x 0 j (omega (arith, less, last)), push-new numbers x 0 k last)
-            (h.before j (omega (arith, less, last))))
-            (push_cases numbers x k l);
-        before = λ k l. ⊎_elim
-            (λ (old : k < length numbers). rw (push-old numbers x 0 k old) (omega (arith, h.before k old)))
-            (λ (last : k ≡ length numbers). rw (push-new numbers x 0 k last) (omega arith))
-            (push_cases numbers x k l);
-        extremal = λ k l. ⊎_elim
-            (λ (old : k < length numbers). rw (push-old numbers x 0 k old) (h.extremal k old))
-            (λ (last : k ≡ length numbers). rw (push-new numbers x 0 k last) extremal)
-            (push_cases numbers x k l);
-        below = λ k l. ⊎_elim
-            (λ (old : k < length numbers). rw (push-old numbers x 0 k old) (h.below k old))
-            (λ (last : k ≡ length numbers). rw (push-new numbers x 0 k last) below)
-            (push_cases numbers x k l);
-        whole = λ y l e b. ⊎_elim
-            (λ (less : y < x). let k = h.whole y less e b in (
-              k.0,
-              omega (arith, k.1, push-length numbers x),
-              push-old numbers x 0 k.0 k.1
-                  ∙ k.2,
-            ))
-            (λ (more : x ≤ y). (
-              length numbers,
-              omega (arith, push-length numbers x),
-              push-new numbers x 0 (length numbers) refl ∙ omega (arith, l, more),
-            ))
-            (cases_lt y x);
+        rising = rising-push numbers x h.rising h.before;
+        before = within-push numbers x h.before;
+        extremal = each-push (λ y. IsExtremal A w (word_at members y)) numbers x h.extremal extremal;
+        below = each-push (λ y. IsBelow A (word_at members y) w) numbers x h.below below;
+        whole = λ y l e b. found-push numbers x y (λ (less : y < x). h.whole y less e b) l;
         polynomials = record {
           size = omega (arith, h.polynomials.size, push-length numbers x, push-length places place);
           placed = λ k l. ⊎_elim

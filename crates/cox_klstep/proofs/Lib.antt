@@ -6,8 +6,6 @@ pub mod NumberedLists
 pub mod SideLemmas
 -- the recursion by numbers
 pub mod NumberedRecursion
--- lists with one more item
-pub mod PushLemmas
 -- least descents
 pub mod LeastDescents
 -- corrections among the neighbours

@@ -1,16 +1,17 @@
 -- The middle coefficient, and lists of the values of mu as they grow.
 use Rattle.std.proofs.Common.{◌≡◌, ◌≢◌, ℕ, ◌+◌, ◌/◌, ◌%◌, ◌==◌, ◌<◌, ◌≤◌, if◌then◌else◌, Bool, true, false, List, [], ◌∷◌, ◌++◌, length}
 use Rattle.std.proofs.Common.{ℤ, pos}
-use Rattle.std.proofs.Common.{refl, ◌∙◌, ⊎_elim, arith}
+use Rattle.std.proofs.Common.{refl, ⊎_elim, arith}
 use Rattle.std.proofs.lemmas.Bool.{cases_lt, eq-eqb, eqb-true}
+use Rattle.cox_lemmas.proofs.PushLemmas.{push-length, push-old, push-new, push_cases}
 use Rattle.cox_base.specs.IntegerMatrix.{IntegerMatrix}
 use Rattle.cox_base.specs.Admissible.{IsAdmissible}
 use Rattle.cox_poly.specs.Coefficients.{Coefficients}
 use Rattle.cox_hecke.specs.Row.{IsMu, middle_coefficient}
 use Rattle.cox_hecke.proofs.AllRows.{mu-unique}
 use Rattle.cox_context.specs.Numbers.{word_at}
+use Rattle.cox_row.proofs.RisingLemmas.{rising-push, within-push, found-push}
 use Rattle.cox_klstep.specs.Drafts.{AreNoted}
-use Rattle.cox_klstep.proofs.PushLemmas.{push-length, push-old, push-new, push_cases}
 
 pub middle-odd : (d : ℕ) (f : Coefficients) → d % 2 ≡ 1 → middle_coefficient d f ≡ f (d / 2)
 middle-odd d f e = rw (eq-eqb (d % 2) 1 e) refl
@@ -41,16 +42,8 @@ module _ (A : IntegerMatrix) (g : IsAdmissible A) (members : List (List ℕ)) (w
       → AreNoted A members w (x + 1) (numbers ++ x ∷ []) (values ++ m ∷ [])
   noted-push m some mu h = record {
     size = omega (arith, h.size, push-length numbers x, push-length values m);
-    rising = λ j k less l. ⊎_elim
-        (λ (old : k < length numbers). rw (push-old numbers x 0 j (omega (arith, less, old)), push-old numbers x 0 k old)
-        (h.rising j k less old))
-        (λ (new : k ≡ length numbers). rw (push-old numbers x 0 j (omega (arith, less, new)), push-new numbers x 0 k new)
-        (h.before j (omega (arith, less, new))))
-        (push_cases numbers x k l);
-    before = λ k l. ⊎_elim
-        (λ (old : k < length numbers). rw (push-old numbers x 0 k old) (omega (arith, h.before k old)))
-        (λ (new : k ≡ length numbers). rw (push-new numbers x 0 k new) (omega arith))
-        (push_cases numbers x k l);
+    rising = rising-push numbers x h.rising h.before;
+    before = within-push numbers x h.before;
     value = λ k l. ⊎_elim
         (λ (old : k < length numbers). rw (push-old numbers x 0 k old, push-old values m (pos 0) k (omega (arith, old, h.size)))
         (h.value k old))
@@ -60,14 +53,5 @@ module _ (A : IntegerMatrix) (g : IsAdmissible A) (members : List (List ℕ)) (w
         (λ (old : k < length numbers). rw (push-old values m (pos 0) k (omega (arith, old, h.size))) (h.some k old))
         (λ (new : k ≡ length numbers). rw (push-new values m (pos 0) k (omega (arith, new, h.size))) some)
         (push_cases numbers x k l);
-    whole = λ u n l mu_u some_u. ⊎_elim
-        (λ (less : u < x). let k = h.whole u n less mu_u some_u
-        in (k.0, omega (arith, k.1, push-length numbers x), push-old numbers x 0 k.0 k.1 ∙ k.2))
-        (λ (more : x ≤ u). (
-          length numbers,
-          omega (arith, push-length numbers x),
-          push-new numbers x 0 (length numbers) refl
-              ∙ omega (arith, l, more),
-        ))
-        (cases_lt u x);
+    whole = λ u n l mu_u some_u. found-push numbers x u (λ (less : u < x). h.whole u n less mu_u some_u) l;
   }

@@ -1,15 +1,15 @@
 -- Fingerprints of the polynomials of a pool: what they tell, and one more.
-use Rattle.std.proofs.Common.{◌≡◌, ◌≢◌, ℕ, ◌+◌, ◌/◌, ◌^◌, ◌<◌, ◌≤◌, List, [], ◌∷◌, ◌++◌, length, take, ℤ, Result, Ok, Err, sym, ap, ◌∙◌}
+use Rattle.std.proofs.Common.{◌≡◌, ◌≢◌, ℕ, ◌+◌, ◌/◌, ◌^◌, ◌<◌, List, [], ◌∷◌, ◌++◌, length, take, ℤ, Result, Ok, Err, sym, ap, ◌∙◌}
 use Rattle.std.proofs.Common.{⊎_elim, arith}
 use Rattle.std.specs.Result.{OnOk, OnErr}
 use Rattle.std.specs.declared.alloc.AllocError.{AllocError}
 use Rattle.std.proofs.lemmas.List.{get_or-take, length-take}
+use Rattle.cox_lemmas.proofs.PushLemmas.{push-length, push-old, push-new, push_cases}
 use Rattle.cox_poly.specs.Polynomial.{SameCoefficients}
 use Rattle.cox_poly.proofs.Fingerprints.{fingerprint-same}
 use Rattle.cox_row.specs.Rising.{number_at}
 use Rattle.cox_row.specs.Polynomials.{polynomial_at}
 use Rattle.cox_klstep.specs.Prints.{print_of, ArePrints}
-use Rattle.cox_klstep.proofs.PushLemmas.{push-length, push-old, push-new, push_cases}
 
 -- equal polynomials have one fingerprint
 pub print-same : (p r : List ℤ) → SameCoefficients p r → print_of p ≡ print_of r

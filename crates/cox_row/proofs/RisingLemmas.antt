@@ -1,10 +1,11 @@
 -- Numbers that rise: what a binary search says of them.
-use Rattle.std.proofs.Common.{◌≡◌, ℕ, zero, suc, ◌<◌, ◌≤◌, List, length, Result, Ok, Err, ap, ⊎_elim, arith}
+use Rattle.std.proofs.Common.{◌≡◌, ℕ, zero, suc, ◌+◌, ◌<◌, ◌≤◌, List, [], ◌∷◌, ◌++◌, length, refl, ◌∙◌, Result, Ok, Err, ap, ⊎_elim, arith}
 use Rattle.std.specs.Prelude.{MatchResult}
 use Rattle.std.specs.Ordering.{nat_cmp}
 use Rattle.std.specs.List.Sorted.{IsBinarySearchResult}
 use Rattle.std.proofs.lemmas.Bool.{cases_lt}
 use Rattle.std.proofs.lemmas.List.Sorted.{searched}
+use Rattle.cox_lemmas.proofs.PushLemmas.{push-length, push-old, push-new, push_cases}
 use Rattle.cox_row.specs.Rising.{number_at, AreRising, AreWithin}
 
 pub rising-most : (numbers : List ℕ) → AreRising numbers → (i j : ℕ) → i ≤ j → j < length numbers
@@ -37,3 +38,37 @@ few-rising f n (suc k) rising within =
 
 pub rising-few : (n : ℕ) (numbers : List ℕ) → AreRising numbers → AreWithin n numbers → length numbers ≤ n
 rising-few n numbers rising within = few-rising (number_at numbers) n (length numbers) rising within
+
+-- ---- one number more
+
+-- what holds of each number
+pub each-push : (P : ℕ → Type 0) (numbers : List ℕ) (x : ℕ) → ((k : ℕ) → k < length numbers → P (number_at numbers k)) → P x
+    → (k : ℕ) → k < length (numbers ++ x ∷ []) → P (number_at (numbers ++ x ∷ []) k)
+each-push P numbers x each last k l = ⊎_elim
+    (λ (old : k < length numbers). rw (push-old numbers x 0 k old) (each k old))
+    (λ (new : k ≡ length numbers). rw (push-new numbers x 0 k new) last)
+    (push_cases numbers x k l)
+
+-- the numbers rise where the new one is greater than each
+pub rising-push : (numbers : List ℕ) (x : ℕ) → AreRising numbers → AreWithin x numbers → AreRising (numbers ++ x ∷ [])
+rising-push numbers x rising within j k less l = ⊎_elim
+    (λ (old : k < length numbers). rw (push-old numbers x 0 j (omega (arith, less, old)), push-old numbers x 0 k old) (rising j k less old))
+    (λ (new : k ≡ length numbers).
+    rw (push-old numbers x 0 j (omega (arith, less, new)), push-new numbers x 0 k new) (within j (omega (arith, less, new))))
+    (push_cases numbers x k l)
+
+pub within-push : (numbers : List ℕ) (x : ℕ) → AreWithin x numbers → AreWithin (x + 1) (numbers ++ x ∷ [])
+within-push numbers x within =
+    each-push (λ y. y < x + 1) numbers x (λ k l. let less = within k l in omega (arith, less)) (omega arith)
+
+-- where a number up to the new one is found, if each lesser one is
+pub found-push : (numbers : List ℕ) (x y : ℕ) → (y < x → (k : ℕ) × (k < length numbers) × (number_at numbers k ≡ y)) → y < x + 1
+    → (k : ℕ) × (k < length (numbers ++ x ∷ [])) × (number_at (numbers ++ x ∷ []) k ≡ y)
+found-push numbers x y found l = ⊎_elim
+    (λ (less : y < x). let k = found less in (k.0, omega (arith, k.1, push-length numbers x), push-old numbers x 0 k.0 k.1 ∙ k.2))
+    (λ (more : x ≤ y). (
+      length numbers,
+      omega (arith, push-length numbers x),
+      push-new numbers x 0 (length numbers) refl ∙ omega (arith, l, more),
+    ))
+    (cases_lt y x)

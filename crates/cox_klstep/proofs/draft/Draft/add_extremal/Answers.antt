@@ -1,5 +1,5 @@
 -- The sums are those of P(x,w), or x is not below w.
-use Rattle.std.proofs.Common.{◌≡◌, length, Err, FitsSigned, w64, rules, refl, sym, ap, ◌∙◌, arith}
+use Rattle.std.proofs.Common.{◌≡◌, ◌≤◌, ◌+◌, ◌*◌, ℕ, length, Err, FitsSigned, w64, rules, refl, sym, ap, ◌∙◌, arith}
 use Rattle.std.specs.Int.{w128}
 use Rattle.std.proofs.lemmas.Int.{to_z-of_z}
 use Rattle.cox_base.specs.IntegerMatrix.{integer_matrix}
@@ -13,8 +13,11 @@ use Rattle.cox_klstep.specs.SourceOf.{source_cost}
 use Rattle.cox_klstep.proofs.Middles.{noted-skip}
 use Rattle.cox_klstep.proofs.FoundPolynomials.{begun-skip}
 use Rattle.cox_klstep.proofs.Shifts.{least-after}
-use Rattle.cox_klstep.proofs.PushLemmas.{steps-more}
 use Rattle.cox_klstep.proofs.draft.Draft.add_extremal.Goals as goal
+
+-- one step more
+steps-more : (cost n old new l m : ℕ) → m ≡ l + 1 → old ≤ n + cost * l → new ≤ old + cost → new ≤ n + cost * m
+steps-more cost n old new l m e h j = let more : cost * m ≡ cost * l + cost = rw e (grind arith) in omega (arith, more, h, j)
 
 pub returns-then-not-put_polynomial-clause-underway : goal.returns-then-not-put_polynomial-clause-underway
 returns-then-not-put_polynomial-clause-underway c = record {
