@@ -1,21 +1,21 @@
 -- Whole groups among what is kept: when all elements are members, and what refuses them or their rows.
-use Rattle.std.proofs.Common.{◌≡◌, ℕ, ◌≤◌, ◌<◌, List, [], ◌∷◌, length, Contains, Option, None, Some, is_some, true, inl, inr, refl, ap, ◌∙◌}
-use Rattle.std.proofs.Common.{arith, subst, ℤ, pos}
+use Rattle.std.proofs.Common.{◌≡◌, ℕ, ◌≤◌, ◌<◌, List, [], ◌∷◌, length, Contains, Option, None, Some, Err, inl, inr, refl, ap, ◌∙◌}
+use Rattle.std.proofs.Common.{arith, subst, pos}
 use Rattle.cox_base.specs.Matrix.{CoxeterMatrix, IsLetter}
 use Rattle.cox_base.specs.IntegerMatrix.{IntegerMatrix, integer_matrix}
 use Rattle.cox_base.specs.Admissible.{IsAdmissible}
 use Rattle.cox_base.specs.ShortLex.{normal_form}
 use Rattle.cox_reflect.proofs.Elements.{same-refl}
 use Rattle.cox_hecke.specs.Needs.{itself}
-use Rattle.cox_context.specs.Closed.{Elements, IsClosed}
+use Rattle.cox_context.specs.Closed.{IsClosed}
 use Rattle.cox_context.specs.Members.{IsElement}
 use Rattle.cox_context.specs.SortedList.{IsListOf}
-use Rattle.cox_context.specs.Numbers.{word_at, IsNumberOf}
+use Rattle.cox_context.specs.Numbers.{word_at}
 use Rattle.cox_context.specs.Refusal.{IsTooLarge, IsRefusal}
 use Rattle.cox_context.specs.declared.fault.ContextFault.{ContextFault}
 use Rattle.cox_context.specs.declared.fault.ContextFault.TheVariants as context
 use Rattle.cox_context.proofs.Ideals.{element-tail}
-use Rattle.cox_context.proofs.ListLemmas.{contains-placed, placed-contains, contains-at}
+use Rattle.cox_context.proofs.ListLemmas.{contains-placed, contains-at}
 use Rattle.cox_context.proofs.Shifting.{first-member}
 use Rattle.cox_context.proofs.SortedLemmas.{HasMoreThan-over, HasMoreThan-few}
 use Rattle.cox_rows.specs.declared.fault.RowsFault.{RowsFault}
@@ -28,7 +28,7 @@ use Rattle.cox_command.specs.declared.refusal.Refusal.TheVariants.{LargeInterval
 use Rattle.cox_shell.specs.Reply.{Limits}
 use Rattle.cox_shell.specs.Question.{IsRefused}
 use Rattle.cox_shell.specs.GroupReply.{RefusesGroupRows}
-use Rattle.cox_shell.specs.Kept.{AreOf, HoldsGroup}
+use Rattle.cox_shell.specs.Kept.{AreOf, HoldsGroup, HoldsAll, Keeps, unanswered_by}
 use Rattle.cox_shell.specs.GroupSize.{RefusesLargeGroup}
 
 module _ (A : IntegerMatrix) (g : IsAdmissible A) (members : List (List ℕ)) where
@@ -63,13 +63,6 @@ pub group-too_large : (A : IntegerMatrix) (limit : ℕ) (fault : ContextFault) �
 group-too_large A limit (context.Size bound seen) memory refusal = inl refusal.2
 group-too_large A limit context.Long memory refusal = inr refusal
 group-too_large A limit context.NoMemory memory refusal = absurd (memory refl)
-
--- the row of some member is beyond a limit
-pub fault-beyond : (e : Elements) (limit : ℤ) (fault : RowsFault) → (fault ≡ NoMemory → ⊥) → IsFaultOfSome e limit fault
-    → (i : ℕ) × (i < length e.members) × IsBeyond (integer_matrix e.matrix) limit (word_at e.members i)
-fault-beyond e limit (Coefficient x w degree value) memory h = (w, h.member, coefficient h.is.large)
-fault-beyond e limit (Mu x w value) memory h = (w, h.member, mu h.is.large)
-fault-beyond e limit NoMemory memory h = absurd (memory refl)
 
 module _ (limits : Limits) (A : IntegerMatrix) where
   pub large-refused : IsTooLarge (IsElement A) limits.context → IsRefused (RefusesLargeGroup limits A) (Some LargeInterval)
@@ -113,22 +106,23 @@ module _ (limits : Limits) (A : IntegerMatrix) where
             beyond = rw p.is r.3;
           })
 
--- a word with a number is in the list
-pub number-contains : (words : List (List ℕ)) (word : List ℕ) (found : Option ℕ) → is_some found ≡ true → IsNumberOf words word found
-    → Contains words word
-number-contains words word None some none = absurd (cc some)
-number-contains words word (Some k) some number = placed-contains words word (record { i = k; within = number.0; is = number.1 })
+-- where the row of a member is beyond a limit, the rows of the group are refused
+beyond-refused : (table : CoxeterMatrix) (limits : Limits) (rows : Holding) → AreOf table limits rows → HoldsGroup (integer_matrix table) rows
+    → (IsTooLarge (IsElement (integer_matrix table)) limits.context → ⊥) → (i : ℕ) → i < length rows.elements.members
+    → IsBeyond (integer_matrix rows.elements.matrix) rows.limit (word_at rows.elements.members i)
+    → IsRefused (RefusesGroupRows limits (integer_matrix table)) (Some LargeRow)
+beyond-refused table limits rows of whole small i within beyond =
+    rows-refused limits (integer_matrix table) small (word_at rows.elements.members i)
+    (whole.sound (word_at rows.elements.members i) (contains-at rows.elements.members i within)) (rw (of.group, of.limit) at beyond)
 
--- where the row of some member is beyond a limit, the rows of the group are refused
-pub fault-refused : (table : CoxeterMatrix) (limits : Limits) (rows : Holding) (fault : RowsFault) → AreOf table limits rows
-    → HoldsGroup (integer_matrix table) rows → (IsTooLarge (IsElement (integer_matrix table)) limits.context → ⊥) → (fault ≡ NoMemory → ⊥)
-    → IsFaultOfSome rows.elements rows.limit fault → IsRefused (RefusesGroupRows limits (integer_matrix table)) (Some LargeRow)
-fault-refused table limits rows fault of whole small memory is =
-    let found = fault-beyond rows.elements rows.limit fault memory is in by_member found.0 found.1 found.2
-  where
-    by_member : (i : ℕ) → i < length rows.elements.members
-        → IsBeyond (integer_matrix rows.elements.matrix) rows.limit (word_at rows.elements.members i)
-        → IsRefused (RefusesGroupRows limits (integer_matrix table)) (Some LargeRow)
-    by_member i within beyond = rows-refused limits (integer_matrix table) small (word_at rows.elements.members i)
-        (whole.sound (word_at rows.elements.members i) (contains-at rows.elements.members i within))
-        (rw (of.group, of.limit) at beyond)
+-- a fault is a cause of the refusal, unless memory ran out
+pub fault-refused : (table : CoxeterMatrix) (limits : Limits) (rows : Holding) → AreOf table limits rows
+    → HoldsGroup (integer_matrix table) rows → (IsTooLarge (IsElement (integer_matrix table)) limits.context → ⊥)
+    → (kept : Option Holding) (fault : RowsFault) → IsFaultOfSome rows.elements rows.limit fault
+    → Keeps {X = Unit {0}} (Err (unanswered_by fault)) (RefusesGroupRows limits (integer_matrix table))
+    (λ _ held. HoldsAll (integer_matrix table) held) kept
+fault-refused table limits rows of whole small kept (Coefficient x w degree value) is =
+    beyond-refused table limits rows of whole small w is.member (coefficient is.is.large)
+fault-refused table limits rows of whole small kept (Mu x w value) is =
+    beyond-refused table limits rows of whole small w is.member (mu is.is.large)
+fault-refused table limits rows of whole small kept NoMemory is = tt

@@ -58,9 +58,9 @@ pub record HoldsAll (A : IntegerMatrix) (rows : Holding) : Type 0 where
 
 -- what was asked for is held then, and nothing refuses; or it is refused; or memory ran out
 abbrev pub Keeps : {X : Type 0} → Result X Unanswered → (Refusal → Type 0) → (X → Holding → Type 0) → Option Holding → Type 0
-Keeps (Ok x) Refuses HasRow kept = IsRefused Refuses None × IsSomeAnd kept (HasRow x)
-Keeps (Err (unanswered.Refused why)) Refuses HasRow kept = IsRefused Refuses (Some why)
-Keeps (Err unanswered.NoMemory) Refuses HasRow kept = Unit {0}
+Keeps (Ok x) Refuses Holds kept = IsRefused Refuses None × IsSomeAnd kept (Holds x)
+Keeps (Err (unanswered.Refused why)) Refuses Holds kept = IsRefused Refuses (Some why)
+Keeps (Err unanswered.NoMemory) Refuses Holds kept = Unit {0}
 
 -- what a fault of rows leads to
 abbrev pub unanswered_by : RowsFault → Unanswered

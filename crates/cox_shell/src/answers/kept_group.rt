@@ -12,13 +12,13 @@ ghost use Rattle.cox_shell.specs.GroupReply.{RefusesGroupRows};
 ghost use Rattle.cox_shell.specs.GroupSize.{RefusesLargeGroup, GivesGroup};
 ghost use Rattle.cox_shell.specs.Kept.{AreKept, HoldsGroup, HoldsAll, Keeps};
 
-use crate::answers::unanswered::Unanswered;
+use crate::answers::unanswered::{Unanswered, unanswered_by};
 use cox_base::MAX_RANK;
 use cox_command::Refusal;
 use cox_context::{Context, ContextFault};
 use cox_minroots::RootTable;
 use cox_options::Options;
-use cox_rows::{Rows, RowsFault};
+use cox_rows::Rows;
 use std::alloc::Global;
 
 /// Sees to it that the rows of all elements of the group are held among the rows that are kept.
@@ -40,9 +40,7 @@ pub fn keep_group(
     };
     match rows.ensure_all() {
         Ok(()) => Ok(()),
-        Err(RowsFault::NoMemory) => Err(Unanswered::NoMemory),
-        Err(RowsFault::Coefficient { .. }) => Err(Unanswered::Refused(Refusal::LargeRow)),
-        Err(RowsFault::Mu { .. }) => Err(Unanswered::Refused(Refusal::LargeRow)),
+        Err(fault) => Err(unanswered_by(fault)),
     }
 }
 

@@ -19,34 +19,17 @@ returns-in-Ok-clause-rows c =
       record { whole = rw ensured.elements whole; held = λ i within. ensured.there i (rw ensured.elements at within) },
     )
 
-pub returns-in-Err-Coefficient : goal.returns-in-Err-Coefficient
-returns-in-Err-Coefficient c =
+pub returns-in-Err : goal.returns-in-Err
+returns-in-Err c =
     let A = integer_matrix c.args.table.now in
     let limits = limits_of c.args.options in
     let told = c.in_ok-keep_elements.ensures {u = tt} in
     let of : AreOf c.args.table.now limits c.in-Some.rows = rw c.in-Some.is at told.kept in
     let whole : HoldsGroup A c.in-Some.rows = rw c.in-Some.is at told.elements.1 in
-    let arm = c.in-Err-Coefficient in
-    let ensured = arm.ensures {u = tt} in
+    let ensured = c.in-Err.ensures {u = tt} in
     record {
       kept = record { group = rw ensured.elements of.group; limit = rw ensured.limit of.limit; few = rw ensured.elements of.few };
-      rows = fault-refused c.args.table.now limits c.in-Some.rows _ of whole (not-large limits A told.elements.0)
-          (λ memory. absurd (cc (arm.field-0-is, memory))) ensured.fault;
-      group = told.group;
-    }
-
-pub returns-in-Err-Mu : goal.returns-in-Err-Mu
-returns-in-Err-Mu c =
-    let A = integer_matrix c.args.table.now in
-    let limits = limits_of c.args.options in
-    let told = c.in_ok-keep_elements.ensures {u = tt} in
-    let of : AreOf c.args.table.now limits c.in-Some.rows = rw c.in-Some.is at told.kept in
-    let whole : HoldsGroup A c.in-Some.rows = rw c.in-Some.is at told.elements.1 in
-    let arm = c.in-Err-Mu in
-    let ensured = arm.ensures {u = tt} in
-    record {
-      kept = record { group = rw ensured.elements of.group; limit = rw ensured.limit of.limit; few = rw ensured.elements of.few };
-      rows = fault-refused c.args.table.now limits c.in-Some.rows _ of whole (not-large limits A told.elements.0)
-          (λ memory. absurd (cc (arm.field-0-is, memory))) ensured.fault;
+      rows = rw c.unanswered_by.ensures (fault-refused c.args.table.now limits c.in-Some.rows of whole (not-large limits A told.elements.0) _
+          c.in-Err.fault ensured.fault);
       group = told.group;
     }
