@@ -1,7 +1,7 @@
 //! Workers that make rows into a store that they share.
 //!
-//! The rows that are there are moved into the store first, and all come back afterwards. What the workers could not make, for want of
-//! memory, one thread makes; it also finds out whether a row is beyond a limit.
+//! The rows that are there are moved into the store first, and all come back afterwards. If the workers ran out of memory, one thread
+//! makes what is missing; it also finds out whether a row is beyond a limit.
 ghost use Rattle.std.specs.Prelude.{◌≡◌, ℕ, ◌<◌, ◌≤◌, length, IfOk};
 ghost use Rattle.cox_claims.specs.Seats.{HoldsNothing};
 ghost use Rattle.cox_row.specs.Rising.{AreWithin};
