@@ -1,5 +1,5 @@
--- Settled members stay settled in a larger context; and a context that has w already is its union with the interval of w.
-use Rattle.std.proofs.Common.{◌≡◌, inr, ⊎_elim, ℕ, ◌<◌, List, length, Bool, true, false, Option, None, Some, is_some, refl}
+-- Settled members stay settled in a larger context; a union with the interval of w has w; and a context that has w already is that union.
+use Rattle.std.proofs.Common.{◌≡◌, inl, inr, ⊎_elim, ℕ, ◌<◌, List, length, Bool, true, false, Option, None, Some, refl}
 use Rattle.std.proofs.Common.{◌∙◌, arith, zero-add}
 use Rattle.std.specs.Prelude.{slice_index, slice_index_or, Contains}
 use Rattle.std.specs.List.{range_with_len}
@@ -10,12 +10,13 @@ use Rattle.cox_base.specs.Bruhat.{IsBelow}
 use Rattle.cox_base.specs.ShortLex.{normal_form}
 use Rattle.cox_reflect.proofs.Elements.{same-refl, same-sym}
 use Rattle.cox_reflect.proofs.Search.{normal_form-same}
-use Rattle.cox_reflect.proofs.Bruhat.{below-same}
+use Rattle.cox_reflect.proofs.Bruhat.{below-same, below-refl}
 use Rattle.cox_context.specs.Closed.{IsClosed}
 use Rattle.cox_context.specs.Members.{IsInUnion}
 use Rattle.cox_context.specs.SortedList.{IsListOf}
 use Rattle.cox_context.specs.Numbers.{IsNumberOf}
 use Rattle.cox_context.proofs.ListLemmas.{contains-at}
+use Rattle.cox_context.proofs.Ideals.{element-normal_form}
 use Rattle.cox_klstep.specs.declared.tables.Tables.{Tables}
 use Rattle.cox_rows.specs.Holding.{Holding, Holds}
 use Rattle.cox_rows.specs.Ensured.{IsSettled, IsStore}
@@ -46,20 +47,23 @@ store-carried old new moved settled flags tables matrix limit are store from = r
 -- ---- nothing new
 
 module _ (A : IntegerMatrix) (g : IsAdmissible A) (members : List (List ℕ)) (closed : IsClosed A members) (w : List ℕ) where
-  pub union-nothing_new : Contains members (normal_form A w) → IsListOf (IsInUnion A w members) members
-  union-nothing_new member = record {
+  pub union-nothing_new : (i : ℕ) → IsNumberOf members (normal_form A w) (Some i) → IsListOf (IsInUnion A w members) members
+  union-nothing_new i is = record {
     rising = closed.rising;
     sound = λ word c. record { element = closed.element word c; either = inr c };
     whole = λ word p. ⊎_elim
-        (λ (below : IsBelow A word w). closed.down word (normal_form A w) member p.element
+        (λ (below : IsBelow A word w). closed.down word (normal_form A w) (rw is.1 at (contains-at members i is.0)) p.element
         (below-same A g (same-refl A g word) (same-sym A g (normal_form-same A g w)) below))
         (λ (old : Contains members word). old) p.either;
   }
 
-pub contains-found : (members : List (List ℕ)) (word : List ℕ) (found : Option ℕ) → IsNumberOf members word found → is_some found ≡ true
-    → Contains members word
-contains-found members word None is some = absurd (cc)
-contains-found members word (Some k) is some = rw is.1 at (contains-at members k is.0)
+-- ---- w itself
+
+pub union-has : (A : IntegerMatrix) (g : IsAdmissible A) (w : List ℕ) (old new : List (List ℕ)) → IsListOf (IsInUnion A w old) new
+    → Contains new (normal_form A w)
+union-has A g w old new are =
+    are.whole (normal_form A w)
+    (record { element = element-normal_form A g w; either = inl (below-refl A g (normal_form-same A g w)) })
 
 pub extended-same : (h : Holding) → ((i : ℕ) → Holds h i → i < length h.elements.members) → IsExtended h h
 extended-same h inside = record {
