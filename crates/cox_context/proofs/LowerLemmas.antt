@@ -1,5 +1,5 @@
 -- Walks from a member x by two letters t and s in turn, where s x is no member: down while the letters shorten, and up on the other side.
-use Rattle.std.proofs.Common.{◌≡◌, ℕ, suc, ◌+◌, ◌≤◌, ◌<◌, not, cond, List, ◌∷◌, ◌++◌, length, Contains, Some, refl, ap}
+use Rattle.std.proofs.Common.{◌≡◌, ℕ, suc, ◌+◌, ◌≤◌, ◌<◌, cond, List, ◌∷◌, ◌++◌, length, Contains, Some, refl, ap}
 use Rattle.std.proofs.Common.{sym, ◌∙◌, ⊎_elim, arith}
 use Rattle.cox_base.specs.Matrix.{CoxeterMatrix, IsLetter, label}
 use Rattle.cox_base.specs.IntegerMatrix.{IntegerMatrix, integer_matrix}

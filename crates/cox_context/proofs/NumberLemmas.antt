@@ -1,12 +1,15 @@
--- The number of a word, by shifts from its last letter to its first.
-use Rattle.std.proofs.Common.{◌≡◌, ℕ, zero, suc, ◌+◌, ◌-◌, ◌≤◌, ◌<◌, List, [], ◌∷◌, length, drop, get_or, drop-cons, Contains, ap, sym, ◌∙◌}
+-- The number of a normal form, by left shifts from its last letter to its first, and of any word, by right shifts.
+use Rattle.std.proofs.Common.{◌≡◌, ℕ, zero, suc, ◌+◌, ◌-◌, ◌≤◌, ◌<◌, List, [], ◌∷◌, ◌++◌, length, take, drop, get_or, drop-cons, Contains, ap, sym, ◌∙◌}
 use Rattle.std.proofs.Common.{⊎_elim, arith}
 use Rattle.std.proofs.lemmas.Bool.{cases_lt}
+use Rattle.std.proofs.lemmas.List.{take_more}
 use Rattle.std.proofs.lemmas.List.Elements.{All-head}
 use Rattle.cox_base.specs.Matrix.{IsLetter}
 use Rattle.cox_base.specs.IntegerMatrix.{IntegerMatrix}
 use Rattle.cox_base.specs.Admissible.{IsAdmissible}
 use Rattle.cox_base.specs.ShortLex.{normal_form}
+use Rattle.cox_reflect.proofs.Elements.{same-trans, same-equal, same-push}
+use Rattle.cox_reflect.proofs.Search.{normal_form-same, normal_form-equal}
 use Rattle.cox_context.specs.Closed.{IsClosed}
 use Rattle.cox_context.specs.Numbers.{word_at}
 use Rattle.cox_context.proofs.ListLemmas.{rising-length}
@@ -71,3 +74,11 @@ module _ (A : IntegerMatrix) (g : IsAdmissible A) (words : List (List ℕ)) (clo
       → word_at words k ≡ drop (length letters - (done + 1)) letters
   next-word letters done at k l e f =
       f ∙ ap (λ (x : List ℕ). get_or letters (length letters - 1 - done) 0 ∷ x) e ∙ sym (next-drop letters done l)
+
+  -- one more letter, by a right shift
+  pub right-word : (letters : List ℕ) (i at k : ℕ) → i < length letters → word_at words at ≡ normal_form A (take i letters)
+      → word_at words k ≡ normal_form A (word_at words at ++ get_or letters i 0 ∷ []) → word_at words k ≡ normal_form A (take (i + 1) letters)
+  right-word letters i at k l e f =
+      rw (take_more letters i 0 l)
+      (f ∙ normal_form-equal A g (same-push A g (get_or letters i 0)
+      (same-trans A g (same-equal A g e) (normal_form-same A g (take i letters)))))

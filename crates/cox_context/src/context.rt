@@ -220,10 +220,40 @@ impl Context {
         &self.group
     }
 
-    /// The number of a member; `None` exactly where the word is not the normal form of a member.
+    /// The number of the element that a word names; `None` exactly where it is no member. In A 2, with all six elements as members, that of `12121` is 2.
     ///
-    /// By shifts from the last letter of the word to the first: each is to lead to the member that begins with that letter.
-    pub fn number(&self, word: &Word) -> Option<u32>
+    /// By right shifts, letter by letter, and by the normal form where one of these leads to no member.
+    pub fn number_of(&self, group: &RootTable, word: &Word) -> Option<u32>
+        requires matrix { group.now ≡ self.now.matrix }
+        requires letters { IsWord group.now.rank word.now.items }
+        ensures { IsNumberOf self.now.members (normal_form (integer_matrix group.now) word.now.items) result }
+    {
+        prove!(self.len() > 0);
+        let letters = word.as_slice();
+        let mut at = 0;
+        for &s in letters {
+            let Some(longer) = self.right(s, at) else {
+                return self.number_by_form(group, word);
+            };
+            at = longer;
+        }
+        Some(at)
+    }
+
+    /// The same by the normal form.
+    #[cold]
+    fn number_by_form(&self, group: &RootTable, word: &Word) -> Option<u32>
+        requires matrix { group.now ≡ self.now.matrix }
+        requires letters { IsWord group.now.rank word.now.items }
+        ensures { IsNumberOf self.now.members (normal_form (integer_matrix group.now) word.now.items) result }
+    {
+        self.number(&group.normal_form(word))
+    }
+
+    /// The number of a member by its normal form; `None` exactly where the word is not the normal form of a member.
+    ///
+    /// By left shifts from the last letter of the word to the first: each is to lead to the member that begins with that letter.
+    fn number(&self, word: &Word) -> Option<u32>
         ensures { IsNumberOf self.now.members word.now.items result }
     {
         prove!(self.len() > 0);

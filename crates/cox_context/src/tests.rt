@@ -81,7 +81,7 @@ fn lists_an_interval_in_shortlex_order(rt: HostRuntime) -> Result<(), Fail> {
     assert_eq!(rt; context.len(), 24);
     for (i, text) in all.iter().enumerate() {
         let expected = word(&rt, &g, text)?;
-        assert_eq!(rt; context.number(&expected), Some(i as u32));
+        assert_eq!(rt; context.number_of(&g, &expected), Some(i as u32));
     }
     assert!(rt; &lengths(&rt, &context)[..7] == [1, 3, 5, 6, 5, 3, 1].as_slice());
     Ok(())
@@ -93,14 +93,16 @@ fn counts_small_intervals(rt: HostRuntime) -> Result<(), Fail> {
     let top = word(&rt, &g, b"2132")?;
     let context = Context::of_interval(rt.alloc(), &g, &top, MAX_MEMBERS)?;
     assert_eq!(rt; context.len(), 14);
-    let low = context.number(&word(&rt, &g, b"2")?).ok_or("no member")?;
+    let low = context
+        .number_of(&g, &word(&rt, &g, b"2")?)
+        .ok_or("no member")?;
     assert!(rt; low < context.len());
     let mut above = 0u32;
     for i in 0..context.len() {
         above = above.wrapping_add(context.below(low, i) as u32);
     }
     assert_eq!(rt; above, 10);
-    assert_eq!(rt; context.number(&word(&rt, &g, b"123")?), None);
+    assert_eq!(rt; context.number_of(&g, &word(&rt, &g, b"123")?), None);
     Ok(())
 }
 
@@ -173,7 +175,7 @@ fn has_words_of_255_letters(rt: HostRuntime) -> Result<(), Fail> {
     assert_eq!(rt; context.len(), 510);
     assert_eq!(rt; context.length(509), 255);
     assert!(rt; context.word(509).as_slice() == top.as_slice());
-    assert_eq!(rt; context.number(&top), Some(509));
+    assert_eq!(rt; context.number_of(&g, &top), Some(509));
     assert!(rt; context.below(1, 509) && !context.below(507, 508));
     Ok(())
 }
@@ -189,7 +191,9 @@ fn is_extended_by_an_interval(rt: HostRuntime) -> Result<(), Fail> {
     let moved = context.extend(&g, &second, 5)?;
     assert!(rt; moved.as_slice() == [0, 1, 2, 4].as_slice());
     assert_eq!(rt; context.len(), 5);
-    assert_eq!(rt; context.number(&second), Some(3));
+    assert_eq!(rt; context.number_of(&g, &second), Some(3));
+    let longer = word(&rt, &g, b"2121")?;
+    assert_eq!(rt; context.number_of(&g, &longer), Some(3));
     Ok(())
 }
 

@@ -1,5 +1,5 @@
--- Settled members stay settled in a larger context; and a context that has w already is its union with the interval of w.
-use Rattle.std.proofs.Common.{◌≡◌, inr, ⊎_elim, ℕ, ◌<◌, List, length, Bool, true, false, Option, None, refl}
+-- Settled members stay settled in a larger context; a union with the interval of w has w; and a context that has w already is that union.
+use Rattle.std.proofs.Common.{◌≡◌, inl, inr, ⊎_elim, ℕ, ◌<◌, List, length, Bool, true, false, Option, None, Some, refl}
 use Rattle.std.proofs.Common.{◌∙◌, arith, zero-add}
 use Rattle.std.specs.Prelude.{slice_index, slice_index_or, Contains}
 use Rattle.std.specs.List.{range_with_len}
@@ -10,10 +10,13 @@ use Rattle.cox_base.specs.Bruhat.{IsBelow}
 use Rattle.cox_base.specs.ShortLex.{normal_form}
 use Rattle.cox_reflect.proofs.Elements.{same-refl, same-sym}
 use Rattle.cox_reflect.proofs.Search.{normal_form-same}
-use Rattle.cox_reflect.proofs.Bruhat.{below-same}
+use Rattle.cox_reflect.proofs.Bruhat.{below-same, below-refl}
 use Rattle.cox_context.specs.Closed.{IsClosed}
 use Rattle.cox_context.specs.Members.{IsInUnion}
 use Rattle.cox_context.specs.SortedList.{IsListOf}
+use Rattle.cox_context.specs.Numbers.{IsNumberOf}
+use Rattle.cox_context.proofs.ListLemmas.{contains-at}
+use Rattle.cox_context.proofs.Ideals.{element-normal_form}
 use Rattle.cox_klstep.specs.declared.tables.Tables.{Tables}
 use Rattle.cox_rows.specs.Holding.{Holding, HasRow}
 use Rattle.cox_rows.specs.Ensured.{IsSettled, IsStore}
@@ -44,17 +47,25 @@ store-carried old new moved settled flags tables matrix limit are store from = r
 -- ---- nothing new
 
 module _ (A : IntegerMatrix) (g : IsAdmissible A) (members : List (List ℕ)) (closed : IsClosed A members) (w : List ℕ) where
-  pub union-nothing_new : Contains members (normal_form A w) → IsListOf (IsInUnion A w members) members
-  union-nothing_new member = record {
+  pub union-nothing_new : (i : ℕ) → IsNumberOf members (normal_form A w) (Some i) → IsListOf (IsInUnion A w members) members
+  union-nothing_new i is = record {
     rising = closed.rising;
     sound = λ word c. record { element = closed.element word c; either = inr c };
     whole = λ word p. ⊎_elim
-        (λ (below : IsBelow A word w). closed.down word (normal_form A w) member p.element
+        (λ (below : IsBelow A word w). closed.down word (normal_form A w) (rw is.1 at (contains-at members i is.0)) p.element
         (below-same A g (same-refl A g word) (same-sym A g (normal_form-same A g w)) below))
         (λ (old : Contains members word). old) p.either;
   }
 
-pub extended-same : (h : Holding) → ((i : ℕ) → HasRow h i → i < length h.elements.members) → IsExtended h h
+-- ---- w itself
+
+pub union-has : (A : IntegerMatrix) (g : IsAdmissible A) (w : List ℕ) (old new : List (List ℕ)) → IsListOf (IsInUnion A w old) new
+    → Contains new (normal_form A w)
+union-has A g w old new are =
+    are.whole (normal_form A w)
+    (record { element = element-normal_form A g w; either = inl (below-refl A g (normal_form-same A g w)) })
+
+pub extended-same : (h : Holding) → ((i : ℕ) → Holds h i → i < length h.elements.members) → IsExtended h h
 extended-same h inside = record {
   moved = range_with_len 0 (length h.elements.members);
   carried = record {

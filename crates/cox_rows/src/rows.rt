@@ -2,6 +2,7 @@
 ghost use Rattle.std.specs.Prelude.{◌≡◌, ◌≢◌, ◌⊎◌, true, is_some, ℕ, ◌<◌, ◌≤◌, ◌↔◌, [], length, IfSome, IsSome, IsTrue, IfOk, IfErr, OnOk, pos, ◌≤ℤ◌};
 ghost use Rattle.cox_base.specs.IntegerMatrix.{integer_matrix};
 ghost use Rattle.cox_base.specs.Matrix.{IsWord};
+ghost use Rattle.cox_base.specs.ShortLex.{normal_form};
 ghost use Rattle.cox_base.specs.Bruhat.{IsBelow};
 ghost use Rattle.cox_poly.specs.Polynomial.{coefficient};
 ghost use Rattle.cox_hecke.specs.Row.{IsKazhdanLusztig, IsMu};
@@ -11,7 +12,7 @@ ghost use Rattle.cox_context.specs.Refusal.{IsRefusal};
 ghost use Rattle.cox_row.specs.Distinct.{HasDistinctPolynomials};
 ghost use Rattle.cox_base.specs.Admissible.{IsAdmissible};
 ghost use Rattle.cox_context.specs.Closed.{IsClosed};
-ghost use Rattle.cox_context.specs.Numbers.{word_at};
+ghost use Rattle.cox_context.specs.Numbers.{word_at, IsNumberOf};
 ghost use Rattle.cox_row.specs.RowLists.{row_at};
 ghost use Rattle.cox_rows.specs.Holding.{Holding, HasRow, IsHeldRow, held};
 ghost use Rattle.cox_rows.specs.Extended.{IsExtended, IsLeft};
@@ -163,7 +164,7 @@ impl Rows {
         self.held.into_parts()
     }
 
-    /// Holds these rows too, each under its member's number. There may be fewer places than members. It takes no memory.
+    /// HasRow these rows too, each under its member's number. There may be fewer places than members. It takes no memory.
     pub fn adopt(&mut self, rows: Vec<Option<Row>>)
         requires { (i : ℕ) → IfSome (row_at rows.items i) (IsHeldRow self.old.elements self.old.limit i) }
         ensures elements { self.new.elements ≡ self.old.elements }
@@ -175,12 +176,12 @@ impl Rows {
         self.held.adopt(rows);
     }
 
-    /// Adds the elements x with x <= w to the context. The rows that are held stay, under their members' new numbers.
+    /// Adds the elements x with x <= w to the context, and tells the number of w there. The rows that are held stay, under their members' new numbers.
     ///
     /// `Size` where there are more than `limit` members then. After `Size` and `Long` all is as before; without memory no row may be left, and there may
-    /// be more members. In A 2 the interval of `12` has four elements, the last with the number 3; with that of `21` there are five, and its row has the
-    /// same number.
-    pub fn extend(&mut self, group: &RootTable, w: &Word, limit: u32) -> Result<(), ContextFault>
+    /// be more members. In A 2 the interval of `12` has four elements, the last with the number 3; with that of `21` there are five, the last with the
+    /// number 4, and the row of `12` has the same number.
+    pub fn extend(&mut self, group: &RootTable, w: &Word, limit: u32) -> Result<u32, ContextFault>
         requires matrix { group.now ≡ self.old.elements.matrix }
         requires letters { IsWord group.now.rank w.now.items }
         requires some { 1 ≤ limit }
@@ -189,13 +190,16 @@ impl Rows {
         ensures limit { self.new.limit ≡ self.old.limit }
         ensures members { OnOk result (IsListOf (IsInUnion (integer_matrix group.now) w.now.items self.old.elements.members) self.new.elements.members) }
         ensures few { OnOk result (length self.new.elements.members ≤ limit) }
+        ensures number { IfOk result (λ i. IsNumberOf self.new.elements.members (normal_form (integer_matrix group.now) w.now.items) (Some i)) }
         ensures extended { OnOk result (IsExtended self.old self.new) }
         ensures refused { IfErr result (IsRefusal (IsInUnion (integer_matrix group.now) w.now.items self.old.elements.members) limit) }
         ensures unchanged { IfErr result (IsLeft self.old self.new) }
     {
         let context = self.context();
-        if context.len() <= limit && context.number(&group.normal_form(w)).is_some() {
-            return Ok(());
+        if context.len() <= limit
+            && let Some(i) = context.number_of(group, w)
+        {
+            return Ok(i);
         }
         let alloc = *self.settled.allocator();
         let settled = mem::replace(&mut self.settled, Vec::new(alloc));
@@ -206,7 +210,10 @@ impl Rows {
                     return Err(ContextFault::NoMemory);
                 };
                 self.settled = settled;
-                Ok(())
+                match self.context().number_of(group, w) {
+                    Some(i) => Ok(i),
+                    None => unreachable!(),
+                }
             }
             Err(ContextFault::NoMemory) => Err(ContextFault::NoMemory),
             Err(fault) => {

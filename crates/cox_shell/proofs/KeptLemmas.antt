@@ -47,10 +47,7 @@ module _ (A : IntegerMatrix) (g : IsAdmissible A) (w : List ℕ) where
   pub interval-member : (members : List (List ℕ)) → IsListOf (IsInInterval A w) members → Contains members (normal_form A w)
   interval-member members are = are.whole (normal_form A w) in_interval
 
-  -- a union with its interval has w, and the interval is no larger
-  pub union-member : (old new : List (List ℕ)) → IsListOf (IsInUnion A w old) new → Contains new (normal_form A w)
-  union-member old new are = are.whole (normal_form A w) (record { element = in_interval.element; either = inl in_interval.below })
-
+  -- the interval is no larger than a union with it
   pub union-small : (limit : ℕ) (old new : List (List ℕ)) → IsListOf (IsInUnion A w old) new → length new ≤ limit
       → HasMoreThan limit (IsInInterval A w) → ⊥
   union-small limit old new are few = HasMoreThan-few (IsInInterval A w) limit (filter (λ x. is_below A x w) new)

@@ -1,11 +1,11 @@
 -- Rows that a session keeps of its group, and what asking for some of them leads to.
-use Rattle.std.specs.Prelude.{◌≡◌, ℕ, ◌<◌, ◌≤◌, List, length, Contains, Option, None, Some, IfSome, IsSomeAnd, Result, Ok, Err, pos}
+use Rattle.std.specs.Prelude.{◌≡◌, ℕ, ◌<◌, ◌≤◌, List, length, Option, None, Some, IfSome, IsSomeAnd, Result, Ok, Err, pos}
 use Rattle.cox_base.specs.Matrix.{CoxeterMatrix}
 use Rattle.cox_base.specs.IntegerMatrix.{IntegerMatrix}
 use Rattle.cox_base.specs.ShortLex.{normal_form}
 use Rattle.cox_context.specs.Members.{IsElement}
 use Rattle.cox_context.specs.SortedList.{IsListOf}
-use Rattle.cox_context.specs.Numbers.{word_at}
+use Rattle.cox_context.specs.Numbers.{word_at, IsNumberOf}
 use Rattle.cox_options.specs.declared.options.Options.{Options}
 use Rattle.cox_rows.specs.Holding.{Holding, HasRow}
 use Rattle.cox_command.specs.declared.refusal.Refusal.{Refusal}
@@ -37,9 +37,9 @@ pub record IsSameContext (old new : Holding) : Type 0 where
 abbrev pub AreKept : CoxeterMatrix → Limits → Option Holding → Type 0
 AreKept g limits kept = IfSome kept (AreOf g limits)
 
--- the element of w is a member
-abbrev pub HoldsElement : IntegerMatrix → List ℕ → Holding → Type 0
-HoldsElement A w rows = Contains rows.elements.members (normal_form A w)
+-- the element of w is a member, with the number i
+abbrev pub HoldsElement : IntegerMatrix → List ℕ → ℕ → Holding → Type 0
+HoldsElement A w i rows = IsNumberOf rows.elements.members (normal_form A w) (Some i)
 
 -- the row of w is held, under the number i
 pub record HoldsRow (A : IntegerMatrix) (w : List ℕ) (i : ℕ) (rows : Holding) : Type 0 where

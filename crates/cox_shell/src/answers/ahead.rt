@@ -68,11 +68,8 @@ impl<R: Threads + Wait + Sync, G: Gate + Sync> Workers<'_, R, G> {
         requires kept { AreKept table.now (limits_of options) kept.old }
         ensures { AreKept table.now (limits_of options) kept.new }
     {
-        keep_interval(alloc, kept, table, options, w)?;
+        let i = keep_interval(alloc, kept, table, options, w)?;
         let Some(rows) = kept else {
-            unreachable!();
-        };
-        let Some(i) = rows.context().number(&table.normal_form(w)) else {
             unreachable!();
         };
         match self.make_row(alloc, rows, i) {

@@ -154,7 +154,7 @@ fn members_above(
 {
     let count = context.len();
     let mut above = Vec::new(alloc);
-    let Some(low) = context.number(&table.normal_form(y)) else {
+    let Some(low) = context.number_of(table, y) else {
         return Ok(above);
     };
     for i in low..count {

@@ -1,18 +1,15 @@
 //! The rows that a session keeps of its group, and asks for.
-ghost use Rattle.std.specs.Prelude.{IfOk, OnOk};
 ghost use Rattle.cox_base.specs.Matrix.{IsWord};
 ghost use Rattle.cox_base.specs.Admissible.{IsCoxeterMatrix};
 ghost use Rattle.cox_base.specs.IntegerMatrix.{integer_matrix};
-ghost use Rattle.cox_context.specs.Members.{IsInInterval};
-ghost use Rattle.cox_context.specs.SortedList.{HasMoreThan};
 ghost use Rattle.cox_shell.specs.SessionLimits.{limits_of};
 ghost use Rattle.cox_shell.specs.CommandReply.{RefusesLarge};
 ghost use Rattle.cox_shell.specs.RowReply.{RefusesRow};
-ghost use Rattle.cox_shell.specs.Kept.{AreKept, AreOf, HoldsElement, HoldsRow, Keeps};
+ghost use Rattle.cox_shell.specs.Kept.{AreKept, HoldsElement, HoldsRow, Keeps};
 
 use crate::answers::intervals::interval_of;
 use crate::answers::unanswered::{Unanswered, unanswered_by};
-use cox_base::Word;
+use cox_base::{MAX_RANK, Word};
 use cox_context::ContextFault;
 use cox_minroots::RootTable;
 use cox_options::Options;
@@ -36,11 +33,8 @@ pub fn keep_row(
         (HoldsRow (integer_matrix table.now) w.now.items) kept.new }
     ensures group { IsCoxeterMatrix table.now }
 {
-    keep_interval(alloc, kept, table, options, w)?;
+    let i = keep_interval(alloc, kept, table, options, w)?;
     let Some(rows) = kept else {
-        unreachable!();
-    };
-    let Some(i) = rows.context().number(&table.normal_form(w)) else {
         unreachable!();
     };
     match rows.ensure(i) {
@@ -49,48 +43,37 @@ pub fn keep_row(
     }
 }
 
-/// Sees to it that the interval from the identity to w is part of what is kept.
+/// Sees to it that the interval from the identity to w is part of what is kept, and tells the number of w there.
 pub fn keep_interval(
     alloc: Global,
     kept: &mut Option<Rows>,
     table: &RootTable,
     options: Options,
     w: &Word,
-) -> Result<(), Unanswered>
+) -> Result<u32, Unanswered>
     requires word { IsWord table.now.rank w.now.items }
     requires kept { AreKept table.now (limits_of options) kept.old }
     ensures kept { AreKept table.now (limits_of options) kept.new }
     ensures interval { Keeps result (RefusesLarge (limits_of options) (integer_matrix table.now) w.now.items)
-        (λ _ rows. HoldsElement (integer_matrix table.now) w.now.items rows) kept.new }
+        (HoldsElement (integer_matrix table.now) w.now.items) kept.new }
     ensures group { IsCoxeterMatrix table.now }
 {
-    if let Some(rows) = kept.take() {
-        match extended(rows, table, options, w) {
-            Ok(rows) => {
-                *kept = Some(rows);
-                return Ok(());
+    prove!(table.group().rank() as usize <= MAX_RANK);
+    if let Some(rows) = kept {
+        let _context = rows.context();
+        match rows.extend(table, w, options.context()) {
+            Ok(i) => return Ok(i),
+            Err(ContextFault::NoMemory) => {
+                *kept = None;
+                return Err(Unanswered::NoMemory);
             }
-            Err(ContextFault::NoMemory) => return Err(Unanswered::NoMemory),
-            Err(_) => {}
+            Err(_) => *kept = None,
         }
     }
     let context = interval_of(alloc, table, options, w)?;
+    let Some(i) = context.number_of(table, w) else {
+        unreachable!();
+    };
     *kept = Some(Rows::new(alloc, context, options.coef())?);
-    Ok(())
-}
-
-/// The rows with the interval from the identity to w as part of their context.
-fn extended(rows: Rows, table: &RootTable, options: Options, w: &Word) -> Result<Rows, ContextFault>
-    requires word { IsWord table.now.rank w.now.items }
-    requires rows { AreOf table.now (limits_of options) rows }
-    ensures rows { IfOk result (AreOf table.now (limits_of options)) }
-    ensures member { IfOk result (HoldsElement (integer_matrix table.now) w.now.items) }
-    ensures small { OnOk result (¬ HasMoreThan options.context (IsInInterval (integer_matrix table.now) w.now.items)) }
-{
-    let mut rows = rows;
-    let _context = rows.context();
-    match rows.extend(table, w, options.context()) {
-        Ok(()) => Ok(rows),
-        Err(fault) => Err(fault),
-    }
+    Ok(i)
 }

@@ -85,7 +85,7 @@ fn polynomial_at<'a>(rows: &'a Rows, table: &RootTable, i: u32, y: &Word) -> Opt
     ensures value { IfSome result (λ p. IsKazhdanLusztig (integer_matrix table.now) y.now.items (word_at rows.now.elements.members i) (coefficient p)) }
     ensures none { IfNone result (¬ IsBelow (integer_matrix table.now) y.now.items (word_at rows.now.elements.members i)) }
 {
-    match rows.context().number(&table.normal_form(y)) {
+    match rows.context().number_of(table, y) {
         Some(x) => rows.polynomial(i, x),
         None => None,
     }
@@ -99,7 +99,7 @@ fn mu_at(rows: &Rows, table: &RootTable, i: u32, y: &Word) -> i32
     requires word { IsWord table.now.rank y.now.items }
     ensures { IsMu (integer_matrix table.now) y.now.items (word_at rows.now.elements.members i) result }
 {
-    match rows.context().number(&table.normal_form(y)) {
+    match rows.context().number_of(table, y) {
         Some(x) => rows.mu(i, x),
         None => 0,
     }

@@ -14,7 +14,7 @@ returns-in_default-clause-between c = λ w list.
     let A = integer_matrix c.args.context.now.matrix in
     let admissible = IsAdmissible-integer_matrix c.args.context.now.matrix c.requires.group in
     let closed : IsClosed A c.args.context.now.members = c.len-count.ensures.closed in
-    let outside = rw (c.normal_form.ensures.form, c.requires.table) at (c.in_default.ensures {u = tt}) in
+    let outside = rw c.requires.table at (c.in_default.ensures {u = tt}) in
     let none = none-above A admissible c.args.context.now.members closed c.args.y.now.items outside in
     rw (c.new-above.ensures.items, ← none) (between-of A admissible c.args.y.now.items w c.args.context.now.members list)
 
@@ -24,7 +24,7 @@ loop-i-init c =
     let admissible = IsAdmissible-integer_matrix c.args.context.now.matrix c.requires.group in
     let closed : IsClosed A c.args.context.now.members = c.len-count.ensures.closed in
     let found = c.in-Some.ensures {u = tt} in
-    let is = rw (c.normal_form.ensures.form, c.requires.table) at found.1 in
+    let is = rw c.requires.table at found.1 in
     rw c.new-above.ensures.items (IsKept-none (is_below A c.args.y.now.items) c.args.context.now.members c.in-Some.low
     (none-before A admissible c.args.context.now.members closed c.args.y.now.items c.in-Some.low found.0 is))
 
@@ -33,7 +33,7 @@ loop-i-preserved c =
     let A = integer_matrix c.args.context.now.matrix in
     let admissible = IsAdmissible-integer_matrix c.args.context.now.matrix c.requires.group in
     let closed : IsClosed A c.args.context.now.members = c.len-count.ensures.closed in
-    let is = rw (c.normal_form.ensures.form, c.requires.table) at (c.in-Some.ensures {u = tt}).1 in
+    let is = rw c.requires.table at (c.in-Some.ensures {u = tt}).1 in
     let says = c.below.ensures in
     let answer = above-answer A admissible c.args.context.now.members closed c.args.y.now.items c.in-Some.low c.loop-i.i c.below.result is
     says in

@@ -1,15 +1,51 @@
 -- The proof of `keep_interval`.
+use Rattle.std.proofs.Common.{◌∙◌, arith}
+use Rattle.std.proofs.lemmas.Int.{ints}
 use Rattle.cox_base.specs.IntegerMatrix.{integer_matrix}
 use Rattle.cox_base.proofs.AdmissibleMatrices.{IsAdmissible-integer_matrix}
 use Rattle.cox_shell.specs.SessionLimits.{limits_of}
+use Rattle.cox_shell.specs.Kept.{AreOf}
 use Rattle.cox_shell.proofs.Unless.{large-allowed}
-use Rattle.cox_shell.proofs.KeptLemmas.{interval-member}
+use Rattle.cox_shell.proofs.KeptLemmas.{interval-member, union-small}
 use Rattle.cox_shell.proofs.answers.kept.keep_interval.Goals as goal
+
+pub returns-in-Ok-clause-kept : goal.returns-in-Ok-clause-kept
+returns-in-Ok-clause-kept c =
+    let of : AreOf c.args.table.now (limits_of c.args.options) c.in-Some.rows = rw c.in-Some.is at c.requires.kept in
+    let grown = c.in-Ok.ensures {u = tt} in
+    record {
+      group = grown.matrix ∙ of.group;
+      limit = grown.limit ∙ of.limit;
+      few = omega (arith, grown.few, c.context.ensures.context);
+    }
+
+pub returns-in-Ok-clause-interval : goal.returns-in-Ok-clause-interval
+returns-in-Ok-clause-interval c =
+    let A = integer_matrix c.args.table.now in
+    let of : AreOf c.args.table.now (limits_of c.args.options) c.in-Some.rows = rw c.in-Some.is at c.requires.kept in
+    let admissible = rw of.group at c.context-context.ensures.admissible in
+    let grown = c.in-Ok.ensures {u = tt} in (
+      large-allowed (limits_of c.args.options) A c.args.w.now.items (union-small A admissible c.args.w.now.items c.args.options.context _ _
+          grown.members (omega (arith, grown.few, c.context.ensures.context))),
+      grown.number,
+    )
+
+pub unreachable-requires : goal.unreachable-requires
+unreachable-requires c =
+    let A = integer_matrix c.args.table.now in
+    let told = c.in_ok-context.ensures {u = tt} in
+    let admissible = IsAdmissible-integer_matrix c.args.table.now told.group in
+    c.in_default-number_of.ensures {u = tt} (interval-member A admissible c.args.w.now.items _ told.members.0)
+
+pub returns-clause-kept : goal.returns-clause-kept
+returns-clause-kept c =
+    let told = c.in_ok-context.ensures {u = tt} in
+    let made = c.in_ok-new.ensures {u = tt} in
+    rw made (record { group = told.matrix; limit = omega (arith, ints, c.coef.ensures.coef, c.coef.ensures.least, c.coef.ensures.most); few = told.few })
 
 pub returns-clause-interval : goal.returns-clause-interval
 returns-clause-interval c =
     let A = integer_matrix c.args.table.now in
     let told = c.in_ok-context.ensures {u = tt} in
     let made = c.in_ok-new.ensures {u = tt} in
-    let member = interval-member A (IsAdmissible-integer_matrix c.args.table.now told.group) c.args.w.now.items _ told.members.0 in
-    (large-allowed (limits_of c.args.options) A c.args.w.now.items told.members.1, rw made member)
+    (large-allowed (limits_of c.args.options) A c.args.w.now.items told.members.1, rw made (c.in-Some-number_of.ensures {u = tt}))

@@ -14,13 +14,13 @@ returns-in-Ok-clause-row c =
     let G = c.args.table.now in
     let limits = limits_of c.args.options in
     let w = c.args.w.now.items in
-    let i = c.in-Some-number.i in
+    let i = c.in_ok-i.i in
     let before = c.in-Some.rows in
-    let told = c.in_ok-keep_interval.ensures {u = tt} in
+    let told = c.in_ok-i.ensures {u = tt} in
     let admissible = IsAdmissible-integer_matrix G told.group in
     let of : AreOf G limits before = rw c.in-Some.is at told.kept in
     let number : IsNumberOf before.elements.members (normal_form (integer_matrix G) w) (Some i) =
-    rw (c.context.ensures.context, c.normal_form.ensures.form) at (c.in-Some-number.ensures {u = tt}) in
+    rw c.in-Some.is at told.interval.1 in
     let ensured = c.ensure.ensures.rows in
     let done = c.in-Ok.ensures {u = tt} in
     let few = large-free limits (integer_matrix G) w told.interval.0 in (
@@ -33,13 +33,13 @@ returns-in-Err c =
     let G = c.args.table.now in
     let limits = limits_of c.args.options in
     let w = c.args.w.now.items in
-    let i = c.in-Some-number.i in
+    let i = c.in_ok-i.i in
     let before = c.in-Some.rows in
-    let told = c.in_ok-keep_interval.ensures {u = tt} in
+    let told = c.in_ok-i.ensures {u = tt} in
     let admissible = IsAdmissible-integer_matrix G told.group in
     let of : AreOf G limits before = rw c.in-Some.is at told.kept in
     let number : IsNumberOf before.elements.members (normal_form (integer_matrix G) w) (Some i) =
-    rw (c.context.ensures.context, c.normal_form.ensures.form) at (c.in-Some-number.ensures {u = tt}) in
+    rw c.in-Some.is at told.interval.1 in
     let ensured = c.ensure.ensures.rows in
     let few = large-free limits (integer_matrix G) w told.interval.0 in
     record {
