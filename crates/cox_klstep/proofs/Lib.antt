@@ -18,6 +18,8 @@ pub mod Middles
 pub mod Keeping
 -- coefficients above the limit
 pub mod LargeLemmas
+-- members with a coefficient above the limit
+pub mod LargeFound
 -- the row when each member is done
 pub mod Finished
 -- the row of the identity

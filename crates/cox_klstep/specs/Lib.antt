@@ -1,5 +1,7 @@
 -- coefficients and values of mu beyond a limit
 pub mod Limits
+-- extremal members with a coefficient above the limit
+pub mod LargeMembers
 -- the step by which a row is made
 pub mod StepOf
 -- sums of the polynomials of corrections

@@ -14,13 +14,14 @@
 //! - `making`: the row, candidate by candidate
 //! - `tables`, `marks`, `steps`: lists of candidates and inverses, members that are marked, and how much was added up
 //! - `identity`: the row of the identity
-//! - `fault`: why a row is not made
+//! - `fault`, `large`: why a row is not made, and the members with a coefficient above the limit
 #![tactic(auto)]
 
 mod choice;
 mod draft;
 mod fault;
 mod identity;
+mod large;
 mod making;
 mod marks;
 mod member;

@@ -1,5 +1,5 @@
 -- The sums are P(x^-1,w^-1), which is P(x,w).
-use Rattle.std.proofs.Common.{◌≡◌, ◌+◌, ◌-◌, ◌<◌, length, refl, ◌∙◌, arith}
+use Rattle.std.proofs.Common.{◌≡◌, ◌+◌, ◌-◌, refl, ◌∙◌, arith}
 use Rattle.std.specs.Prelude.{reverse, slice_index_or}
 use Rattle.cox_base.specs.IntegerMatrix.{integer_matrix}
 use Rattle.cox_base.specs.Element.{SameElement}
