@@ -40,5 +40,5 @@ pub mod Candidates
 pub mod StepCounts
 -- fingerprints of the polynomials of a pool
 pub mod PrintLemmas
--- marks of the members whose inverses a row has
-pub mod MarkLemmas
+-- inverses as they are listed and sorted, and the row that they give
+pub mod TurnedLemmas

@@ -8,6 +8,8 @@ pub mod StepOf
 pub mod Sums
 -- the member whose row is made
 pub mod TargetOf
+-- the inverses of members
+pub mod Inverses
 -- what the polynomials of a row come from
 pub mod SourceOf
 -- which step is chosen
@@ -20,7 +22,5 @@ pub mod Faults
 pub mod NeedsOf
 -- the tables of a context
 pub mod TablesOf
--- marks of the members whose inverses a row has
-pub mod Marks
 -- fingerprints of polynomials
 pub mod Prints
