@@ -11,6 +11,7 @@ use Rattle.cox_row.specs.Rising.{number_at}
 use Rattle.cox_row.specs.Extremal.{IsExtremal}
 use Rattle.cox_row.specs.Polynomials.{polynomial_at, IsPool}
 use Rattle.cox_row.proofs.RisingLemmas.{each-push, rising-push, within-push, found-push}
+use Rattle.cox_klstep.specs.Limits.{IsWithinLimit}
 use Rattle.cox_klstep.specs.Drafts.{IsPooled, AreBegun}
 
 -- no member from one to another is extremal
@@ -22,22 +23,23 @@ begun-pass A members w limit q p numbers places pool l bare h = record {
   before = λ k m. omega (arith, h.before k m, l);
   extremal = h.extremal;
   below = h.below;
-  whole = λ y m e b. ⊎_elim (λ (less : y < q). h.whole y less e b) (λ (more : q ≤ y). absurd (bare y more m e)) (cases_lt y q);
+  whole = λ y m e b small. ⊎_elim (λ (less : y < q). h.whole y less e b small) (λ (more : q ≤ y). absurd (bare y more m e)) (cases_lt y q);
   polynomials = h.polynomials;
   small = h.small;
 }
 
 module _ (A : IntegerMatrix) (members : List (List ℕ)) (w : List ℕ) (limit : ℤ) (x : ℕ) (numbers places : List ℕ) (pool : List (List ℤ))
   where
-    pub begun-skip : (IsExtremal A w (word_at members x) → IsBelow A (word_at members x) w → ⊥)
+    pub begun-skip : (IsExtremal A w (word_at members x) → IsBelow A (word_at members x) w → IsWithinLimit A limit (word_at members x) w → ⊥)
         → AreBegun A members w limit x numbers places pool → AreBegun A members w limit (x + 1) numbers places pool
     begun-skip none h = record {
       rising = h.rising;
       before = λ k l. omega (arith, h.before k l);
       extremal = h.extremal;
       below = h.below;
-      whole = λ y l e b. ⊎_elim (λ (less : y < x). h.whole y less e b)
-          (λ (more : x ≤ y). let is : y ≡ x = omega (arith, l, more) in absurd (none (rw is at e) (rw is at b))) (cases_lt y x);
+      whole = λ y l e b small. ⊎_elim (λ (less : y < x). h.whole y less e b small)
+          (λ (more : x ≤ y). let is : y ≡ x = omega (arith, l, more) in absurd (none (rw is at e) (rw is at b) (rw is at small)))
+          (cases_lt y x);
       polynomials = h.polynomials;
       small = h.small;
     }
@@ -85,7 +87,7 @@ module _ (A : IntegerMatrix) (members : List (List ℕ)) (w : List ℕ) (limit :
         before = within-push numbers x h.before;
         extremal = each-push (λ y. IsExtremal A w (word_at members y)) numbers x h.extremal extremal;
         below = each-push (λ y. IsBelow A (word_at members y) w) numbers x h.below below;
-        whole = λ y l e b. found-push numbers x y (λ (less : y < x). h.whole y less e b) l;
+        whole = λ y l e b within. found-push numbers x y (λ (less : y < x). h.whole y less e b within) l;
         polynomials = record {
           size = omega (arith, h.polynomials.size, push-length numbers x, push-length places place);
           placed = λ k l. ⊎_elim

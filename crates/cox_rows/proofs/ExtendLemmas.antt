@@ -65,7 +65,7 @@ union-has A g w old new are =
     are.whole (normal_form A w)
     (record { element = element-normal_form A g w; either = inl (below-refl A g (normal_form-same A g w)) })
 
-pub extended-same : (h : Holding) → ((i : ℕ) → Holds h i → i < length h.elements.members) → IsExtended h h
+pub extended-same : (h : Holding) → ((i : ℕ) → HasRow h i → i < length h.elements.members) → IsExtended h h
 extended-same h inside = record {
   moved = range_with_len 0 (length h.elements.members);
   carried = record {
