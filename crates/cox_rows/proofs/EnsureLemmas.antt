@@ -6,12 +6,14 @@ use Rattle.std.proofs.lemmas.Result.{MatchResult-weaker}
 use Rattle.cox_base.specs.declared.side.Side.TheVariants.{Left}
 use Rattle.cox_base.specs.IntegerMatrix.{IntegerMatrix, integer_matrix}
 use Rattle.cox_base.specs.Admissible.{IsAdmissible}
+use Rattle.cox_base.specs.Bruhat.{IsBelow}
 use Rattle.cox_base.specs.Element.{SameElement}
+use Rattle.cox_base.specs.Reduced.{IsLeftDescent}
 use Rattle.cox_base.specs.ShortLex.{normal_form}
 use Rattle.cox_reflect.specs.Height.{IsLeastLeftDescent}
 use Rattle.cox_reflect.proofs.Elements.{same-refl, same-sym}
 use Rattle.cox_reflect.proofs.Search.{normal_form-same}
-use Rattle.cox_reflect.proofs.Bruhat.{below-same}
+use Rattle.cox_reflect.proofs.Bruhat.{below-same, below-refl, below-trans, below-descent}
 use Rattle.cox_hecke.specs.Step.{IsCorrection}
 use Rattle.cox_hecke.specs.Needs.{IsNeeded, itself}
 use Rattle.cox_hecke.proofs.Descended.{mu-below}
@@ -162,6 +164,29 @@ module _ (e : Elements) (g : IsAdmissible (integer_matrix e.matrix)) (closed : I
         in let k = are.whole place.i m place.within
         (correction-words A g d.letter (d.letter ∷ w) (d.letter ∷ w) u (word_at e.members place.i) m (same-refl A g (d.letter ∷ w)) same c)
         in each k.0 k.1 (rw k.2 (needs_beyond-same A g limit least u (word_at e.members place.i) same h));
+  }
+
+-- where no member before it needs a row beyond the limits, nothing that the row of a member is made from does
+module _ (e : Elements) (g : IsAdmissible (integer_matrix e.matrix)) (closed : IsClosed (integer_matrix e.matrix) e.members) (limit : ℤ)
+    (least : pos 0 ≤ℤ limit) (i : ℕ) (inside : i < length e.members)
+    (before : (j : ℕ) → j < i → NeedsBeyond (integer_matrix e.matrix) limit (word_at e.members j) → ⊥) where
+  small-below : (s : ℕ) (u : List ℕ) → IsLeftDescent (integer_matrix e.matrix) (word_at e.members i) s
+      → IsBelow (integer_matrix e.matrix) u (s ∷ word_at e.members i) → NeedsBeyond (integer_matrix e.matrix) limit u → ⊥
+  small-below s u d below h =
+      let A = integer_matrix e.matrix
+      in let place = contains-placed e.members (normal_form A u) (member-below A g e.members closed u i inside
+      (below-trans A g below (below-descent A g (word_at e.members i) s d)))
+      in let same : SameElement A u (word_at e.members place.i) = rw place.is (same-sym A g (normal_form-same A g u))
+      in before place.i (shorter-before A g e.members closed i inside s place.i d place.within
+      (below-same A g same (same-refl A g (s ∷ word_at e.members i)) below))
+      (needs_beyond-same A g limit least u (word_at e.members place.i) same h)
+
+  pub small-before : AreNeedsSmall (integer_matrix e.matrix) limit (word_at e.members i)
+  small-before = record {
+    shorter = λ s d. small-below s (s ∷ word_at e.members i) d.descent
+        (below-refl (integer_matrix e.matrix) g (same-refl (integer_matrix e.matrix) g (s ∷ word_at e.members i)));
+    corrected = λ s u m d c. small-below s u d.descent
+        (mu-below (integer_matrix e.matrix) g u (s ∷ word_at e.members i) m c.is_mu c.some);
   }
 
 -- the identity needs nothing beyond the limits

@@ -1,8 +1,9 @@
 //! How the rows of Need(i) are made.
 //!
 //! The row of w is made from that of sw, for the least left descent s of w, and from those of the corrections of the step. So these are made first,
-//! by recursion to smaller numbers. A member is settled when no row of its Need is beyond the limits; that is noted where its row is held, so that
-//! nothing is looked at twice. It stays so when rows are taken out and come back.
+//! by recursion to smaller numbers. Where all rows are asked for, they are made in the order of the members, and corrections are not looked for. A
+//! member is settled when no row of its Need is beyond the limits; that is noted where its row is held, so that nothing is looked at twice. It stays
+//! so when rows are taken out and come back.
 ghost use Rattle.std.specs.Prelude.{◌≡◌, ◌≢◌, ℕ, ◌<◌, ◌≤◌, length, IfSome, IfNone, IsTrue, IfOk, IfErr, OnOk, unsigned_abs, false};
 ghost use Rattle.cox_base.specs.IntegerMatrix.{integer_matrix};
 ghost use Rattle.cox_hecke.specs.Needs.{IsNeeded};
@@ -83,9 +84,30 @@ impl Rows {
         ensures fault { IfErr result (IsFaultOfSome self.old.elements self.old.limit) }
     {
         'members: for i in 0..self.context().len() {
-            self.ensure(i)?;
+            self.ensure_next(i)?;
         }
         Ok(())
+    }
+
+    /// Makes the row of the member with the number i, unless it is there, where those of all members before it are there and settled. The row is made
+    /// from those.
+    fn ensure_next(&mut self, i: u32) -> Result<(), RowsFault>
+        requires member { i < length self.old.elements.members }
+        requires before { (j : ℕ) → j < i → Holds self.old j }
+        requires settled { (j : ℕ) → j < i → ¬ NeedsBeyond (integer_matrix self.old.elements.matrix) self.old.limit (word_at self.old.elements.members j) }
+        ensures elements { self.new.elements ≡ self.old.elements }
+        ensures limit { self.new.limit ≡ self.old.limit }
+        ensures kept { (j : ℕ) → Holds self.old j → Holds self.new j }
+        ensures there { OnOk result (Holds self.new i) }
+        ensures small { OnOk result (¬ NeedsBeyond (integer_matrix self.old.elements.matrix) self.old.limit (word_at self.old.elements.members i)) }
+        ensures fault { IfErr result (IsFaultOfSome self.old.elements self.old.limit) }
+    {
+        let _context = self.context();
+        if self.is_settled(i) {
+            return Ok(());
+        }
+        self.make(i)?;
+        self.settle(i)
     }
 
     /// The members that correct the step by a descent, where the row of the shorter element is there.

@@ -16,6 +16,7 @@ use crate::status::Status;
 use cox_options::{OptionFault, Options, read};
 use cox_outside::{Gate, LineReader, Sink, Source, write_all};
 use std::alloc::Global;
+use std::mem;
 use std::sync::Wait;
 use std::thread::Threads;
 
@@ -115,6 +116,8 @@ fn with_rows<R: Threads + Wait + Sync, G: Gate + Sync>(
 }
 
 /// Answers the script that the source gives, into the sink, with these options and this preparation of lines.
+///
+/// The memory of the session, which has several pieces for each row, is not given back piece by piece: the process ends after the run.
 fn run_by<P: Preparation, S: Source, K: Sink>(
     preparation: &P,
     alloc: Global,
@@ -131,12 +134,14 @@ fn run_by<P: Preparation, S: Source, K: Sink>(
     };
     let mut session = Session::new(options);
     let mut buffer = Vec::new(alloc);
-    run_lines(
+    let status = run_lines(
         preparation,
         &mut reader,
         &mut session,
         &mut buffer,
         source,
         sink,
-    )
+    );
+    mem::forget(session);
+    status
 }

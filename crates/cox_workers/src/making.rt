@@ -107,8 +107,8 @@ impl<'a> Bench<'a> {
         ensures needs { OnOk result (HasNeeds self.now.context.now (HasSeen seat.new) i) }
         ensures missing { IfErr result (IsUnmade self.now.context.now (limit_of self.now.store.now) i seat.old seat.new) }
     {
-        self.take_in(rt, gate, seat, hand, i)?;
-        self.gather(rt, seat, hand, i);
+        let corrections = self.take_in(rt, gate, seat, hand, i)?;
+        self.gather(rt, seat, hand, i, corrections);
         match row(
             self.alloc,
             self.context,
@@ -122,7 +122,7 @@ impl<'a> Bench<'a> {
         }
     }
 
-    /// Puts the rows that the row of the member with the number i is made from on the shelf.
+    /// Puts the rows that the row of the member with the number i is made from on the shelf. Tells how many corrections the step to it has.
     #[cycle(ensure)]
     fn take_in<R: Wait, G: Gate>(
         &self,
@@ -131,7 +131,7 @@ impl<'a> Bench<'a> {
         seat: &mut Seat,
         hand: &mut Hand<'a>,
         i: u32,
-    ) -> Result<(), Missing>
+    ) -> Result<usize, Missing>
         requires ready { IsWorkerReady self.now seat.old hand.old }
         requires member { i < length self.now.context.now.members }
         requires held { Holds seat.old i }
@@ -142,7 +142,7 @@ impl<'a> Bench<'a> {
     {
         let _len = self.context.len();
         if i == 0 {
-            return Ok(());
+            return Ok(0);
         }
         let descent = Descent::of(self.context, i);
         self.obtain(rt, gate, seat, hand, descent.lower)?;
@@ -151,7 +151,7 @@ impl<'a> Bench<'a> {
         'corrections: for &u in corrections.iter() {
             self.obtain(rt, gate, seat, hand, u)?;
         }
-        Ok(())
+        Ok(corrections.len())
     }
 
     /// Puts the row of the member with the number u on the shelf, after those that it is made from.

@@ -9,9 +9,9 @@ pub returns-in_default : goal.returns-in_default
 returns-in_default g c arguments give = run-none arguments _ _
 
 pub returns : goal.returns
-returns g c arguments give = run-lines c.run_lines.result arguments (g.S.Source.seen c.args.source.now) _ _
-    (g.S.Source.seen c.run_lines.new.source) _ _
+returns g c arguments give = run-lines c.run_lines-status.result arguments (g.S.Source.seen c.args.source.now) _ _
+    (g.S.Source.seen c.run_lines-status.new.source) _ _
     give.taken
-    (Runs-beginning c.run_lines.result _ _ _ (g.S.Source.seen c.args.source.now) _ _
-    (c.new-session.ensures ∙ ap opening give.limits_are) c.in-Ok.ensures c.run_lines.ensures.runs)
-    c.run_lines.ensures.source_cause c.run_lines.ensures.sink_cause
+    (Runs-beginning c.run_lines-status.result _ _ _ (g.S.Source.seen c.args.source.now) _ _
+    (c.new-session.ensures ∙ ap opening give.limits_are) c.in-Ok.ensures c.run_lines-status.ensures.runs)
+    c.run_lines-status.ensures.source_cause c.run_lines-status.ensures.sink_cause

@@ -57,12 +57,12 @@ pub made-row-requires-clause-needs : goal.made-row-requires-clause-needs
 made-row-requires-clause-needs g t c =
     needs-map c.args.self.now.context.now (IsOn c.take_in.new.hand.shelf) (IsOn c.gather.new.hand.shelf) c.args.i
     c.gather.ensures.work.shelf
-    c.in_ok-take_in.ensures.needs
+    c.in_ok-corrections.ensures.needs
 
 pub made-returns-in-Ok-clause-needs : goal.made-returns-in-Ok-clause-needs
 made-returns-in-Ok-clause-needs g t c =
     needs-map c.args.self.now.context.now (IsOn c.take_in.new.hand.shelf) (HasSeen c.gather.new.seat) c.args.i
-    (λ j on. c.gather.ensures.work.ready.seen j (c.gather.ensures.work.shelf j on)) c.in_ok-take_in.ensures.needs
+    (λ j on. c.gather.ensures.work.ready.seen j (c.gather.ensures.work.shelf j on)) c.in_ok-corrections.ensures.needs
 
 -- ---- one row on the shelf
 
