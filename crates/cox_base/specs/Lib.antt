@@ -14,8 +14,10 @@ pub mod Element
 pub mod ShortLex
 -- the length of an element, and its descents
 pub mod Length
--- reduced words, and what a descent is
+-- reduced words
 pub mod Reduced
+-- descents
+pub mod Descents
 -- Bruhat order
 pub mod Bruhat
 -- words as they are written

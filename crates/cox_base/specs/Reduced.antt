@@ -1,16 +1,8 @@
--- Reduced words and descents (Humphreys 5.2, 5.4).
-use Rattle.std.specs.Prelude.{◌≡◌, ℕ, ◌<◌, List, [], ◌∷◌, ◌++◌, length}
+-- Reduced words (Humphreys 5.2).
+use Rattle.std.specs.Prelude.{◌≡◌, ℕ, List, length}
 use Rattle.cox_base.specs.IntegerMatrix.{IntegerMatrix}
 use Rattle.cox_base.specs.Length.{word_length}
 
 -- no word of the element is shorter
 abbrev pub IsReduced : IntegerMatrix → List ℕ → Type 0
 IsReduced A u = word_length A u ≡ length u
-
--- l(su) < l(u)
-abbrev pub IsLeftDescent : IntegerMatrix → List ℕ → ℕ → Type 0
-IsLeftDescent A u s = word_length A (s ∷ u) < word_length A u
-
--- l(us) < l(u)
-abbrev pub IsRightDescent : IntegerMatrix → List ℕ → ℕ → Type 0
-IsRightDescent A u s = word_length A (u ++ s ∷ []) < word_length A u

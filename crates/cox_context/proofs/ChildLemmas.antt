@@ -10,7 +10,7 @@ use Rattle.cox_base.specs.IntegerMatrix.{IntegerMatrix, integer_matrix}
 use Rattle.cox_base.specs.Element.{SameElement}
 use Rattle.cox_base.specs.ShortLex.{normal_form}
 use Rattle.cox_base.specs.Length.{word_length}
-use Rattle.cox_base.specs.Reduced.{IsLeftDescent}
+use Rattle.cox_base.specs.Descents.{IsLeftDescent}
 use Rattle.cox_base.specs.Bruhat.{IsBelow}
 use Rattle.cox_base.specs.declared.limits.TheConstants.{MAX_LETTERS}
 use Rattle.cox_reflect.proofs.Admissible.{IsAdmissible-integer_matrix}
@@ -22,7 +22,8 @@ use Rattle.cox_context.specs.declared.members.TheConstants.{MAX_MEMBERS}
 use Rattle.cox_context.specs.Members.{IsElement}
 use Rattle.cox_context.specs.Refusal.{IsPrefixOf}
 use Rattle.cox_context.specs.Closed.{IsClosed}
-use Rattle.cox_context.specs.Numbers.{word_at, IsNumberOf}
+use Rattle.cox_context.specs.Numbers.{word_at}
+use Rattle.cox_context.specs.Numbering.{IsNumberOf}
 use Rattle.cox_context.specs.WantedMembers.{IsMember, IsBelowTop, IsMeant}
 use Rattle.cox_context.specs.Growth.{IsGrowing, IsChild, IsOutside, IsNext, IsNoNext, known, above, outside, AreBelowTop, AreNumbers}
 use Rattle.cox_context.proofs.ListLemmas.{contains-placed, placed-contains, rising-place}
@@ -55,7 +56,8 @@ unfound words word None none e c = none c
 unfound words word (Some k) found e c = absurd (cc)
 
 -- and what has one is
-pub found-contains : (words : List (List ℕ)) (word : List ℕ) (x : Option ℕ) → IsNumberOf words word x → is_some x ≡ true → Contains words word
+pub found-contains : (words : List (List ℕ)) (word : List ℕ) (x : Option ℕ) → IsNumberOf words word x → is_some x ≡ true
+    → Contains words word
 found-contains words word None none e = absurd (cc)
 found-contains words word (Some k) (l, is) e = placed-contains words word (record { i = k; within = l; is = is })
 

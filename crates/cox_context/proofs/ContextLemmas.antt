@@ -12,7 +12,8 @@ use Rattle.cox_base.specs.Element.{SameElement}
 use Rattle.cox_base.specs.ShortLex.{normal_form}
 use Rattle.cox_base.specs.Length.{word_length}
 use Rattle.cox_base.specs.Bruhat.{IsBelow}
-use Rattle.cox_base.specs.Reduced.{IsReduced, IsLeftDescent}
+use Rattle.cox_base.specs.Reduced.{IsReduced}
+use Rattle.cox_base.specs.Descents.{IsLeftDescent}
 use Rattle.cox_reflect.proofs.Elements.{same-refl, same-sym}
 use Rattle.cox_reflect.proofs.Admissible.{IsAdmissible-integer_matrix}
 use Rattle.cox_reflect.proofs.Lengths.{word_length-is, IsReduced-normal_form}
@@ -22,13 +23,16 @@ use Rattle.cox_reflect.proofs.Search.{word_length-length, word_length-equal, nor
 use Rattle.cox_context.specs.declared.fault.ContextFault.{ContextFault}
 use Rattle.cox_context.specs.declared.fault.ContextFault.TheVariants.{Size, Long, NoMemory}
 use Rattle.cox_context.specs.declared.members.TheConstants.{MAX_MEMBERS}
-use Rattle.cox_context.specs.Members.{IsElement, IsInInterval, IsInUnion}
+use Rattle.cox_context.specs.Members.{IsElement, IsInInterval}
+use Rattle.cox_context.specs.Union.{IsInUnion}
 use Rattle.cox_context.specs.Closed.{IsClosed}
 use Rattle.cox_context.specs.SortedList.{IsListOf}
-use Rattle.cox_context.specs.Numbers.{word_at, IsNumberOf, AreMoved}
+use Rattle.cox_context.specs.Numbers.{word_at}
+use Rattle.cox_context.specs.Numbering.{IsNumberOf, AreMoved}
 use Rattle.cox_context.specs.Growth.{IsGrown, AreNumbers, AreLast}
 use Rattle.cox_context.specs.Shifts.{entry}
-use Rattle.cox_context.specs.Refusal.{IsLong, IsRefusal}
+use Rattle.cox_context.specs.Refusal.{IsLong}
+use Rattle.cox_context.specs.FaultMeaning.{IsRefusal}
 use Rattle.cox_context.proofs.ListLemmas.{contains-placed, placed-contains, contains-at, rising-place, rising-before}
 use Rattle.cox_context.proofs.SortedLemmas.{before-less}
 use Rattle.cox_context.proofs.Ideals.{IsIdeal, group-ideal, interval-ideal, union-ideal, ideal-tailed, element-normal_form}

@@ -12,12 +12,13 @@ use Rattle.cox_reflect.proofs.Admissible.{IsAdmissible-integer_matrix}
 use Rattle.cox_reflect.proofs.Search.{word_length-equal}
 use Rattle.cox_context.specs.declared.fault.ContextFault.{ContextFault}
 use Rattle.cox_context.specs.declared.members.TheConstants.{MAX_MEMBERS}
-use Rattle.cox_context.specs.Members.{IsInUnion}
+use Rattle.cox_context.specs.Union.{IsInUnion}
 use Rattle.cox_context.specs.Closed.{IsClosed, Elements}
 use Rattle.cox_context.specs.SortedList.{IsListOf}
-use Rattle.cox_context.specs.Numbers.{word_at, AreMoved}
+use Rattle.cox_context.specs.Numbers.{word_at}
+use Rattle.cox_context.specs.Numbering.{AreMoved}
 use Rattle.cox_context.specs.Growth.{IsGrown, AreNumbers, AreLast}
-use Rattle.cox_context.specs.Refusal.{IsRefusal}
+use Rattle.cox_context.specs.FaultMeaning.{IsRefusal}
 use Rattle.cox_context.proofs.ListLemmas.{contains-at, rising-length}
 use Rattle.cox_context.proofs.Ideals.{union-ideal}
 use Rattle.cox_context.proofs.ContextLemmas.{form-same, list-closed, result-along, union-from, union-length, union-members, moved-members}

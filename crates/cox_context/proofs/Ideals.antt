@@ -8,7 +8,7 @@ use Rattle.cox_base.specs.Admissible.{IsCoxeterMatrix, IsAdmissible}
 use Rattle.cox_base.specs.IntegerMatrix.{IntegerMatrix, integer_matrix}
 use Rattle.cox_base.specs.ShortLex.{normal_form, letters}
 use Rattle.cox_base.specs.Length.{word_length, left_descents}
-use Rattle.cox_base.specs.Reduced.{IsLeftDescent}
+use Rattle.cox_base.specs.Descents.{IsLeftDescent}
 use Rattle.cox_base.specs.Bruhat.{IsBelow}
 use Rattle.cox_reflect.proofs.Admissible.{IsAdmissible-integer_matrix}
 use Rattle.cox_reflect.proofs.Elements.{same-cons, same-refl}
@@ -16,7 +16,8 @@ use Rattle.cox_reflect.proofs.Search.{normal_form-same, normal_form-equal, word_
 use Rattle.cox_reflect.proofs.Lengths.{word_length-is}
 use Rattle.cox_reflect.proofs.ShortLexFirst.{IsBefore-cons, normal_form-comes_first, none-before_normal_form}
 use Rattle.cox_reflect.proofs.Bruhat.{below-trans, below-ascent, below-least}
-use Rattle.cox_context.specs.Members.{IsElement, IsInInterval, IsInUnion}
+use Rattle.cox_context.specs.Members.{IsElement, IsInInterval}
+use Rattle.cox_context.specs.Union.{IsInUnion}
 use Rattle.cox_context.specs.Closed.{IsClosed}
 use Rattle.cox_context.specs.WantedMembers.{IsMember}
 use Rattle.cox_context.proofs.GrowthLemmas.{IsTailed}

@@ -4,7 +4,7 @@ use Rattle.cox_base.specs.IntegerMatrix.{IntegerMatrix}
 use Rattle.cox_base.specs.Admissible.{IsAdmissible}
 use Rattle.cox_base.specs.Element.{SameElement}
 use Rattle.cox_base.specs.ShortLex.{normal_form}
-use Rattle.cox_base.specs.Reduced.{IsLeftDescent}
+use Rattle.cox_base.specs.Descents.{IsLeftDescent}
 use Rattle.cox_reflect.proofs.Elements.{same-trans, same-cons, same-square}
 use Rattle.cox_reflect.proofs.Search.{normal_form-same}
 use Rattle.cox_reflect.proofs.Lengths.{word_length-is, cons-word_length}

@@ -9,10 +9,11 @@ use Rattle.cox_base.specs.Matrix.{IsLetter}
 use Rattle.cox_base.specs.IntegerMatrix.{IntegerMatrix}
 use Rattle.cox_base.specs.Admissible.{IsAdmissible}
 use Rattle.cox_base.specs.ShortLex.{normal_form}
-use Rattle.cox_base.specs.Reduced.{IsLeftDescent}
+use Rattle.cox_base.specs.Descents.{IsLeftDescent}
 use Rattle.cox_context.specs.declared.shifts.TheConstants.{NO_MEMBER}
 use Rattle.cox_context.specs.Closed.{IsClosed}
-use Rattle.cox_context.specs.Numbers.{word_at, IsNumberOf}
+use Rattle.cox_context.specs.Numbers.{word_at}
+use Rattle.cox_context.specs.Numbering.{IsNumberOf}
 use Rattle.cox_context.specs.Shifts.{entry, entry_number, AreLeftShifts, IsLower}
 use Rattle.cox_context.specs.Rows.{IsRowPushed}
 use Rattle.cox_context.specs.Growth.{AreLower, AreNumbers}

@@ -9,7 +9,7 @@ use Rattle.cox_base.specs.Admissible.{IsAdmissible}
 use Rattle.cox_base.specs.Element.{SameElement}
 use Rattle.cox_base.specs.ShortLex.{normal_form}
 use Rattle.cox_base.specs.Length.{word_length}
-use Rattle.cox_base.specs.Reduced.{IsLeftDescent, IsRightDescent}
+use Rattle.cox_base.specs.Descents.{IsLeftDescent, IsRightDescent}
 use Rattle.cox_base.specs.Bruhat.{IsBelow}
 use Rattle.cox_reflect.proofs.Elements.{same-refl, same-sym, same-trans, same-equal, same-cons, same-square}
 use Rattle.cox_reflect.proofs.Search.{normal_form-same, normal_form-equal}
@@ -18,7 +18,8 @@ use Rattle.cox_reflect.proofs.Deletion.{left_length, right_length, sides_same}
 use Rattle.cox_reflect.proofs.Bruhat.{below-same, below-refl, below-trans, below-least, below-descent, below-ascent, below-push}
 use Rattle.cox_context.specs.Members.{IsElement}
 use Rattle.cox_context.specs.Closed.{IsClosed}
-use Rattle.cox_context.specs.Numbers.{word_at, IsNumberOf}
+use Rattle.cox_context.specs.Numbers.{word_at}
+use Rattle.cox_context.specs.Numbering.{IsNumberOf}
 use Rattle.cox_context.proofs.ListLemmas.{IsPlaced, contains-placed, contains-at, rising-length}
 use Rattle.cox_context.proofs.Ideals.{element-normal_form, element-length, element-nil, element-tail, below-tail}
 

@@ -10,7 +10,8 @@ use Rattle.cox_context.specs.declared.builder.Child.{Child}
 use Rattle.cox_context.specs.Members.{IsElement}
 use Rattle.cox_context.specs.WantedMembers.{IsBelowTop, IsMeant}
 use Rattle.cox_context.specs.SortedList.{IsRising}
-use Rattle.cox_context.specs.Numbers.{word_at, IsNumberOf}
+use Rattle.cox_context.specs.Numbers.{word_at}
+use Rattle.cox_context.specs.Numbering.{IsNumberOf}
 use Rattle.cox_context.specs.Shifts.{entry, IsLower}
 
 -- the list is that of the members of at most k letters, and those of k letters begin at low

@@ -2,10 +2,14 @@
 pub mod SortedList
 -- elements, and those below an element
 pub mod Members
+-- an interval and other words together
+pub mod Union
 -- Bruhat intervals
 pub mod Interval
 -- why a context is refused
 pub mod Refusal
+-- what a fault says
+pub mod FaultMeaning
 -- what holds of the members of a context
 pub mod Closed
 -- the elements that a context is to have
@@ -14,6 +18,8 @@ pub mod WantedMembers
 pub mod Links
 -- words by their numbers in a list
 pub mod Numbers
+-- numbers of words, and of the words of one list in another
+pub mod Numbering
 -- the tables of shifts
 pub mod Shifts
 -- a row of the table of left shifts

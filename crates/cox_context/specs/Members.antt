@@ -1,5 +1,5 @@
 -- The members of a context: elements, as their normal forms.
-use Rattle.std.specs.Prelude.{◌≡◌, ◌⊎◌, ℕ, List, Contains}
+use Rattle.std.specs.Prelude.{◌≡◌, ℕ, List}
 use Rattle.cox_base.specs.Matrix.{IsWord}
 use Rattle.cox_base.specs.IntegerMatrix.{IntegerMatrix}
 use Rattle.cox_base.specs.ShortLex.{normal_form}
@@ -14,8 +14,3 @@ pub record IsElement (A : IntegerMatrix) (word : List ℕ) : Type 0 where
 pub record IsInInterval (A : IntegerMatrix) (w word : List ℕ) : Type 0 where
   pub element : IsElement A word
   pub below : IsBelow A word w
-
--- an element x with x ≤ w, or one of the words
-pub record IsInUnion (A : IntegerMatrix) (w : List ℕ) (words : List (List ℕ)) (word : List ℕ) : Type 0 where
-  pub element : IsElement A word
-  pub either : IsBelow A word w ⊎ Contains words word

@@ -4,8 +4,6 @@ use Rattle.std.specs.declared.cmp.Ordering.TheVariants.{Less}
 use Rattle.cox_base.specs.ShortLex.{shortlex_cmp}
 use Rattle.cox_base.specs.declared.limits.TheConstants.{MAX_LETTERS}
 use Rattle.cox_context.specs.SortedList.{IsRising, IsListOf}
-use Rattle.cox_context.specs.declared.fault.ContextFault.{ContextFault}
-use Rattle.cox_context.specs.declared.fault.ContextFault.TheVariants.{Size, Long, NoMemory}
 
 -- the first words with a property, in ShortLex order: each other word with it comes after all of them
 pub record IsPrefixOf (P : List ℕ → Type 0) (words : List (List ℕ)) : Type 0 where
@@ -34,9 +32,3 @@ pub record IsLong (P : List ℕ → Type 0) (limit : ℕ) : Type 0 where
 -- there are more than limit members, or one of the first limit + 1 has MAX_LETTERS + 1 letters
 abbrev pub IsTooLarge : (List ℕ → Type 0) → ℕ → Type 0
 IsTooLarge P limit = IsOver P limit ⊎ IsLong P limit
-
--- what a fault says of the members with a property; out of memory says nothing
-abbrev pub IsRefusal : (List ℕ → Type 0) → ℕ → ContextFault → Type 0
-IsRefusal P limit (Size bound seen) = (bound ≡ limit) × (seen ≡ limit + 1) × IsOver P limit
-IsRefusal P limit Long = IsLong P limit
-IsRefusal P limit NoMemory = Unit {0}

@@ -8,7 +8,8 @@ use Rattle.cox_base.specs.Bruhat.{IsBelow}
 use Rattle.cox_base.specs.ShortLex.{normal_form}
 use Rattle.cox_base.specs.Length.{left_descents}
 use Rattle.cox_base.specs.Reduced.{IsReduced}
-use Rattle.cox_context.specs.Members.{IsElement, IsInUnion}
+use Rattle.cox_context.specs.Members.{IsElement}
+use Rattle.cox_context.specs.Union.{IsInUnion}
 
 -- an element of the group; or, where there is a top, one below it or one of the earlier members
 abbrev pub IsMember : IntegerMatrix → Option (ArrayVec ℕ) → List (List ℕ) → List ℕ → Type 0

@@ -9,12 +9,14 @@ ghost use Rattle.cox_base.specs.Matrix.{IsLetter};
 ghost use Rattle.cox_base.specs.Admissible.{IsCoxeterMatrix};
 ghost use Rattle.cox_base.specs.IntegerMatrix.{IntegerMatrix, integer_matrix};
 ghost use Rattle.cox_base.specs.ShortLex.{normal_form};
-ghost use Rattle.cox_base.specs.Reduced.{IsLeftDescent};
+ghost use Rattle.cox_base.specs.Descents.{IsLeftDescent};
 ghost use Rattle.cox_context.specs.Closed.{IsClosed};
 ghost use Rattle.cox_context.specs.WantedMembers.{IsMember, IsTop};
-ghost use Rattle.cox_context.specs.Numbers.{word_at, IsNumberOf};
+ghost use Rattle.cox_context.specs.Numbers.{word_at};
+ghost use Rattle.cox_context.specs.Numbering.{IsNumberOf};
 ghost use Rattle.cox_context.specs.Growth.{IsGrowing, IsGrown, IsNext, IsNoNext, AreBelowTop, AreNumbers, AreLast};
-ghost use Rattle.cox_context.specs.Refusal.{IsPrefixOf, IsRefusal};
+ghost use Rattle.cox_context.specs.Refusal.{IsPrefixOf};
+ghost use Rattle.cox_context.specs.FaultMeaning.{IsRefusal};
 ghost use Rattle.cox_context.specs.Shifts.{entry, AreLeftShifts};
 ghost use Rattle.cox_context.specs.Rows.{IsRowPushed};
 

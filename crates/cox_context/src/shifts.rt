@@ -5,7 +5,8 @@ ghost use Rattle.cox_base.specs.IntegerMatrix.{integer_matrix};
 ghost use Rattle.cox_base.specs.Admissible.{IsCoxeterMatrix};
 ghost use Rattle.cox_base.specs.ShortLex.{normal_form};
 ghost use Rattle.cox_context.specs.Closed.{IsClosed};
-ghost use Rattle.cox_context.specs.Numbers.{word_at, IsNumberOf};
+ghost use Rattle.cox_context.specs.Numbers.{word_at};
+ghost use Rattle.cox_context.specs.Numbering.{IsNumberOf};
 ghost use Rattle.cox_context.specs.Shifts.{entry, AreLeftShifts, IsLower};
 
 use crate::members::{MAX_MEMBERS, Members};

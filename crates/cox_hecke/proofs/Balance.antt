@@ -11,7 +11,8 @@ use Rattle.cox_base.specs.IntegerMatrix.{IntegerMatrix}
 use Rattle.cox_base.specs.Admissible.{IsAdmissible}
 use Rattle.cox_base.specs.Length.{word_length}
 use Rattle.cox_poly.specs.Coefficients.{Coefficients, zero_polynomial, one_polynomial, plus, times_q}
-use Rattle.cox_poly.specs.Products.{minus, scaled, times_q_power, flip, product}
+use Rattle.cox_poly.specs.Products.{times_q_power, flip, product}
+use Rattle.cox_poly.specs.Multiples.{minus, scaled}
 use Rattle.cox_poly.specs.Size.{HasDegreeAtMost}
 use Rattle.cox_poly.proofs.Coefficients.{times_q_power-zero, times_q_power-suc, flip_at, flip_above, flip-suc, flip-times_q}
 use Rattle.cox_poly.proofs.Products.{product-plus, product-negated, product-scaled, product-times_q}
@@ -19,7 +20,7 @@ use Rattle.cox_rpoly.specs.RPolynomial.{r_polynomial}
 use Rattle.cox_hecke.specs.Family.{Family}
 use Rattle.cox_hecke.specs.Operators.{shortens_left}
 use Rattle.cox_hecke.specs.Sums.{bar_sum}
-use Rattle.cox_hecke.specs.Step.{step}
+use Rattle.cox_hecke.specs.StepFamily.{step}
 use Rattle.cox_hecke.proofs.Descents.{Moves, left_moves}
 use Rattle.cox_hecke.proofs.BarSums.{step-shorter, step-longer}
 use Rattle.cox_hecke.proofs.SumLemmas.{sum_over-equal, sum_over-plus, sum_over-minus, sum_over-scaled, sum_over-times_q}

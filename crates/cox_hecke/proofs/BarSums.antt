@@ -7,17 +7,19 @@ use Rattle.cox_base.specs.Matrix.{IsLetter}
 use Rattle.cox_base.specs.IntegerMatrix.{IntegerMatrix}
 use Rattle.cox_base.specs.Admissible.{IsAdmissible}
 use Rattle.cox_base.specs.Length.{word_length}
-use Rattle.cox_base.specs.Reduced.{IsLeftDescent}
+use Rattle.cox_base.specs.Descents.{IsLeftDescent}
 use Rattle.cox_reflect.proofs.Elements.{same-refl, same-cons, same-square}
 use Rattle.cox_poly.specs.Coefficients.{Coefficients, plus, times_q, times_q_less_one}
-use Rattle.cox_poly.specs.Products.{negated, product}
+use Rattle.cox_poly.specs.Products.{product}
+use Rattle.cox_poly.specs.Multiples.{negated}
 use Rattle.cox_poly.proofs.Products.{product-plus, plus-product, negated-product, product-times_q, times_q-product}
 use Rattle.cox_rpoly.specs.RPolynomial.{r_polynomial}
 use Rattle.cox_rpoly.proofs.PolynomialLemmas.{r_polynomial-same}
 use Rattle.cox_hecke.specs.Family.{Family, RespectsElements}
 use Rattle.cox_hecke.specs.Operators.{shortens_left}
-use Rattle.cox_hecke.specs.Sums.{occurrences, IsClosedUnder, bar_sum}
-use Rattle.cox_hecke.specs.Step.{step}
+use Rattle.cox_hecke.specs.Sums.{occurrences, bar_sum}
+use Rattle.cox_hecke.specs.ClosedLists.{IsClosedUnder}
+use Rattle.cox_hecke.specs.StepFamily.{step}
 use Rattle.cox_hecke.proofs.Descents.{nat_lt-yes, nat_lt-no, yes-nat_lt, no-nat_lt, shortens_left-same, shortens_left-back}
 use Rattle.cox_hecke.proofs.Signed.{respected}
 use Rattle.cox_hecke.proofs.RPolynomials.{r-left_shorter, r-left_longer, r-left_moved}

@@ -15,7 +15,7 @@ use Rattle.cox_base.specs.IntegerMatrix.{IntegerMatrix}
 use Rattle.cox_base.specs.Admissible.{IsAdmissible}
 use Rattle.cox_base.specs.Element.{SameElement}
 use Rattle.cox_base.specs.Length.{word_length}
-use Rattle.cox_base.specs.Reduced.{IsLeftDescent, IsRightDescent}
+use Rattle.cox_base.specs.Descents.{IsLeftDescent, IsRightDescent}
 use Rattle.cox_base.specs.Bruhat.{IsBelow}
 use Rattle.cox_reflect.proofs.Elements.{same-sym, same-trans, same-cons, same-square, same-unreverse}
 use Rattle.cox_reflect.proofs.Roots.{left_descent-letter, descent-reverse, reverse-descent}
@@ -24,11 +24,13 @@ use Rattle.cox_reflect.proofs.Deletion.{left_length}
 use Rattle.cox_reflect.proofs.Bruhat.{below-length, below-equal_length}
 use Rattle.cox_reflect.proofs.WordLemmas.{reverse-push}
 use Rattle.cox_poly.specs.Coefficients.{Coefficients, times_q}
-use Rattle.cox_poly.specs.Products.{scaled, times_q_power}
+use Rattle.cox_poly.specs.Products.{times_q_power}
+use Rattle.cox_poly.specs.Multiples.{scaled}
 use Rattle.cox_hecke.specs.Family.{Family, RespectsElements}
 use Rattle.cox_hecke.specs.Operators.{shortens_left}
 use Rattle.cox_hecke.specs.Row.{IsRow, IsMu, middle_coefficient}
-use Rattle.cox_hecke.specs.Step.{step, Correction, IsCorrection, AreCorrections, correction_sum}
+use Rattle.cox_hecke.specs.Step.{IsCorrection}
+use Rattle.cox_hecke.specs.StepFamily.{step, Correction, AreCorrections, correction_sum}
 use Rattle.cox_hecke.proofs.Descents.{reverse-back, shortens_left-back}
 use Rattle.cox_hecke.proofs.Signed.{respected, at_inverses}
 use Rattle.cox_hecke.proofs.ElementLists.{below_or_not}

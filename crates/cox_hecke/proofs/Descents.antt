@@ -13,7 +13,8 @@ use Rattle.cox_base.specs.Admissible.{IsAdmissible}
 use Rattle.cox_base.specs.Element.{SameElement}
 use Rattle.cox_base.specs.ShortLex.{normal_form}
 use Rattle.cox_base.specs.Length.{word_length}
-use Rattle.cox_base.specs.Reduced.{IsReduced, IsLeftDescent, IsRightDescent}
+use Rattle.cox_base.specs.Reduced.{IsReduced}
+use Rattle.cox_base.specs.Descents.{IsLeftDescent, IsRightDescent}
 use Rattle.cox_reflect.proofs.Elements.{same-sym, same-trans, same-cons, same-push, same-square, same-push_twice, same-equal}
 use Rattle.cox_reflect.proofs.Search.{normal_form-same, word_length-equal, word_length-length}
 use Rattle.cox_reflect.proofs.Lengths.{word_length-is, word_length-cons_reverse, word_length-reverse, IsReduced-tail}

@@ -14,18 +14,20 @@ use Rattle.cox_base.specs.IntegerMatrix.{IntegerMatrix}
 use Rattle.cox_base.specs.Admissible.{IsAdmissible}
 use Rattle.cox_base.specs.Element.{SameElement}
 use Rattle.cox_base.specs.Length.{word_length}
-use Rattle.cox_base.specs.Reduced.{IsLeftDescent}
+use Rattle.cox_base.specs.Descents.{IsLeftDescent}
 use Rattle.cox_base.specs.Bruhat.{IsBelow}
 use Rattle.cox_reflect.proofs.Elements.{same-square}
 use Rattle.cox_reflect.proofs.Search.{word_length-equal}
 use Rattle.cox_reflect.proofs.Roots.{left_descent-letter}
 use Rattle.cox_poly.specs.Coefficients.{Coefficients}
-use Rattle.cox_poly.specs.Products.{minus, scaled, times_q_power}
+use Rattle.cox_poly.specs.Products.{times_q_power}
+use Rattle.cox_poly.specs.Multiples.{minus, scaled}
 use Rattle.cox_hecke.specs.Family.{Family, RespectsElements}
 use Rattle.cox_hecke.specs.Operators.{shortens_left}
 use Rattle.cox_hecke.specs.Sums.{occurrences, sum_over}
 use Rattle.cox_hecke.specs.Row.{IsRow}
-use Rattle.cox_hecke.specs.Step.{step, IsCorrection, Correction, corrected_elements, AreCorrections, correction_sum}
+use Rattle.cox_hecke.specs.Step.{IsCorrection}
+use Rattle.cox_hecke.specs.StepFamily.{step, Correction, corrected_elements, AreCorrections, correction_sum}
 use Rattle.cox_hecke.proofs.Descents.{nat_lt-yes, yes-nat_lt, shortens_left-back}
 use Rattle.cox_hecke.proofs.SumLemmas.{sum_over-lists}
 use Rattle.cox_hecke.proofs.ElementLists.{Tells, below_list, occurrences-filter}

@@ -16,9 +16,10 @@ use Rattle.cox_reflect.proofs.Search.{word_length-equal, word_length-length}
 use Rattle.cox_base.specs.Length.{word_length}
 use Rattle.cox_reflect.proofs.Lengths.{IsReduced-reverse, IsReduced-tail, empty_same}
 use Rattle.cox_poly.specs.Coefficients.{Coefficients, zero_polynomial, plus, times_q, times_q_less_one}
-use Rattle.cox_hecke.specs.Family.{Family, RespectsElements, basis, is_same}
-use Rattle.cox_hecke.specs.Operators.{shortens_left, left, right, left_inverse, right_inverse, left_word, right_word, left_inverse_word}
-use Rattle.cox_hecke.specs.Step.{step}
+use Rattle.cox_hecke.specs.Family.{Family, RespectsElements, is_same}
+use Rattle.cox_hecke.specs.Operators.{basis, shortens_left, left, right, left_inverse, right_inverse, left_word, right_word}
+use Rattle.cox_hecke.specs.Operators.{left_inverse_word}
+use Rattle.cox_hecke.specs.StepFamily.{step}
 use Rattle.cox_hecke.proofs.Descents.{shortens_left-same, shortens_left-back, reduced-letter, reduced-rises}
 use Rattle.cox_hecke.proofs.Signed.{at_inverses, at_inverses-respects, at_inverses-by_left, plus_signed, first_times_q, first_alone}
 use Rattle.cox_hecke.proofs.Signed.{minus_signed}

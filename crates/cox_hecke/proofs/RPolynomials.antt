@@ -16,7 +16,8 @@ use Rattle.cox_base.specs.Admissible.{IsAdmissible}
 use Rattle.cox_base.specs.Element.{SameElement}
 use Rattle.cox_base.specs.ShortLex.{normal_form}
 use Rattle.cox_base.specs.Length.{word_length}
-use Rattle.cox_base.specs.Reduced.{IsReduced, IsLeftDescent, IsRightDescent}
+use Rattle.cox_base.specs.Reduced.{IsReduced}
+use Rattle.cox_base.specs.Descents.{IsLeftDescent, IsRightDescent}
 use Rattle.cox_reflect.proofs.Elements.{same-refl, same-sym, same-trans, same-cons, same-push, same-square, same-push_twice, same-reverse}
 use Rattle.cox_reflect.proofs.Search.{normal_form-same, word_length-equal, word_length-length, IsWord-normal_form}
 use Rattle.cox_reflect.proofs.Lengths.{word_length-is, word_length-reverse, IsReduced-normal_form, IsReduced-reverse, cons-word_length}
@@ -24,7 +25,7 @@ use Rattle.cox_reflect.proofs.WordLemmas.{IsWord-reverse, reverse-push}
 use Rattle.cox_reflect.proofs.Roots.{left_descent-letter, descent-reverse, reverse-descent}
 use Rattle.cox_reflect.proofs.Lengths.{empty_same}
 use Rattle.cox_poly.specs.Coefficients.{Coefficients, zero_polynomial, one_polynomial, plus, times_q, times_q_less_one}
-use Rattle.cox_poly.specs.Products.{minus}
+use Rattle.cox_poly.specs.Multiples.{minus}
 use Rattle.cox_rpoly.specs.RPolynomial.{r_along, r_polynomial}
 use Rattle.cox_rpoly.proofs.AlongLemmas.{along-shorter, along-longer}
 use Rattle.cox_rpoly.proofs.PolynomialLemmas.{r_polynomial-is, r_polynomial-same}

@@ -10,17 +10,19 @@ use Rattle.cox_base.specs.declared.side.Side.TheVariants.{Left, Right}
 use Rattle.cox_base.specs.IntegerMatrix.{IntegerMatrix}
 use Rattle.cox_base.specs.Admissible.{IsAdmissible}
 use Rattle.cox_base.specs.Length.{word_length}
-use Rattle.cox_base.specs.Reduced.{IsRightDescent}
+use Rattle.cox_base.specs.Descents.{IsRightDescent}
 use Rattle.cox_reflect.proofs.Lengths.{word_length-reverse}
 use Rattle.cox_reflect.proofs.WordLemmas.{reverse-push}
 use Rattle.cox_reflect.proofs.Roots.{descent-reverse, reverse-descent}
 use Rattle.cox_poly.specs.Coefficients.{Coefficients, plus, times_q}
-use Rattle.cox_poly.specs.Products.{minus, scaled, times_q_power}
+use Rattle.cox_poly.specs.Products.{times_q_power}
+use Rattle.cox_poly.specs.Multiples.{minus, scaled}
 use Rattle.cox_hecke.specs.Family.{Family}
 use Rattle.cox_hecke.specs.Operators.{shortens_left, shortens_right}
 use Rattle.cox_hecke.specs.Sums.{occurrences}
 use Rattle.cox_hecke.specs.Row.{IsRow, IsMu}
-use Rattle.cox_hecke.specs.Step.{step, IsCorrection, Correction, corrected_elements, AreCorrections, correction_sum}
+use Rattle.cox_hecke.specs.Step.{IsCorrection}
+use Rattle.cox_hecke.specs.StepFamily.{step, Correction, corrected_elements, AreCorrections, correction_sum}
 use Rattle.cox_hecke.proofs.Descents.{reverse-back, shortens-reverse}
 use Rattle.cox_hecke.proofs.Signed.{at_inverses}
 use Rattle.cox_hecke.proofs.Inverses.{occurrences-reverse, row-reverse}

@@ -13,7 +13,8 @@ use Rattle.cox_reflect.proofs.Elements.{same-refl, same-sym}
 use Rattle.cox_reflect.proofs.Search.{word_length-equal}
 use Rattle.cox_reflect.proofs.Bruhat.{below-same, below-trans, below-length, below-equal_length}
 use Rattle.cox_poly.specs.Coefficients.{Coefficients, zero_polynomial, one_polynomial}
-use Rattle.cox_poly.specs.Products.{minus, flip, product}
+use Rattle.cox_poly.specs.Products.{flip, product}
+use Rattle.cox_poly.specs.Multiples.{minus}
 use Rattle.cox_poly.proofs.Coefficients.{flip_at}
 use Rattle.cox_poly.proofs.Products.{product_of_none, product-zero, one-product}
 use Rattle.cox_rpoly.specs.RPolynomial.{r_polynomial}

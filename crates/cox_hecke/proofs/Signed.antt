@@ -10,7 +10,7 @@ use Rattle.cox_base.specs.Element.{SameElement}
 use Rattle.cox_reflect.proofs.Elements.{same-trans, same-cons, same-push, same-square, same-push_twice, same-reverse}
 use Rattle.cox_reflect.proofs.WordLemmas.{reverse-push}
 use Rattle.cox_poly.specs.Coefficients.{Coefficients, plus, times_q, times_q_less_one}
-use Rattle.cox_poly.specs.Products.{minus, negated}
+use Rattle.cox_poly.specs.Multiples.{minus, negated}
 use Rattle.cox_hecke.specs.Family.{Family, RespectsElements}
 use Rattle.cox_hecke.specs.Operators.{shortens_left, shortens_right}
 use Rattle.cox_hecke.proofs.Descents.{shortens_left-same, shortens_right-same, shortens_left-back, shortens_right-back}

@@ -20,7 +20,7 @@ use Rattle.cox_hecke.specs.Family.{Family, RespectsElements, is_same}
 use Rattle.cox_hecke.specs.Operators.{shortens_left}
 use Rattle.cox_hecke.specs.Sums.{occurrences}
 use Rattle.cox_hecke.specs.Row.{IsRow}
-use Rattle.cox_hecke.specs.Step.{step}
+use Rattle.cox_hecke.specs.StepFamily.{step}
 use Rattle.cox_hecke.proofs.Descents.{Moves, left_moves, shortens_left-same, shortens_left-back}
 use Rattle.cox_hecke.proofs.SumLemmas.{sum_over-equal, sum_over-none, sum_over-one, same-is_same}
 use Rattle.cox_hecke.proofs.ElementLists.{Tells, Tells-ListsEach, below_list}

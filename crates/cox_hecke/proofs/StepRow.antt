@@ -13,20 +13,22 @@ use Rattle.cox_base.specs.IntegerMatrix.{IntegerMatrix}
 use Rattle.cox_base.specs.Admissible.{IsAdmissible}
 use Rattle.cox_base.specs.Element.{SameElement}
 use Rattle.cox_base.specs.Length.{word_length}
-use Rattle.cox_base.specs.Reduced.{IsLeftDescent}
+use Rattle.cox_base.specs.Descents.{IsLeftDescent}
 use Rattle.cox_base.specs.Bruhat.{IsBelow}
 use Rattle.cox_reflect.proofs.Elements.{same-refl, same-square}
 use Rattle.cox_reflect.proofs.Search.{word_length-equal}
 use Rattle.cox_reflect.proofs.Bruhat.{below-same, below-trans, below-descent, below-cons}
 use Rattle.cox_poly.specs.Coefficients.{Coefficients, zero_polynomial}
-use Rattle.cox_poly.specs.Products.{minus, scaled, times_q_power, product}
+use Rattle.cox_poly.specs.Products.{times_q_power, product}
+use Rattle.cox_poly.specs.Multiples.{minus, scaled}
 use Rattle.cox_poly.proofs.Products.{product-zero}
 use Rattle.cox_rpoly.specs.RPolynomial.{r_polynomial}
 use Rattle.cox_hecke.specs.Family.{Family, RespectsElements}
 use Rattle.cox_hecke.specs.Operators.{shortens_left}
-use Rattle.cox_hecke.specs.Sums.{occurrences, IsClosedUnder, sum_over, bar_sum}
+use Rattle.cox_hecke.specs.Sums.{occurrences, sum_over, bar_sum}
+use Rattle.cox_hecke.specs.ClosedLists.{IsClosedUnder}
 use Rattle.cox_hecke.specs.Row.{IsRow, middle_coefficient}
-use Rattle.cox_hecke.specs.Step.{step}
+use Rattle.cox_hecke.specs.StepFamily.{step}
 use Rattle.cox_hecke.proofs.Descents.{Moves, left_moves, yes-nat_lt, shortens_left-same, shortens_left-back}
 use Rattle.cox_hecke.proofs.Signed.{respected}
 use Rattle.cox_hecke.proofs.SumLemmas.{sum_over-equal, sum_over-none}

@@ -7,12 +7,13 @@ use Rattle.cox_base.specs.IntegerMatrix.{IntegerMatrix}
 use Rattle.cox_base.specs.Admissible.{IsAdmissible}
 use Rattle.cox_base.specs.ShortLex.{normal_form}
 use Rattle.cox_base.specs.Length.{word_length}
-use Rattle.cox_base.specs.Reduced.{IsLeftDescent}
+use Rattle.cox_base.specs.Descents.{IsLeftDescent}
 use Rattle.cox_reflect.proofs.Search.{IsWord-normal_form}
 use Rattle.cox_reflect.proofs.Lengths.{word_length-is, cons-word_length}
 use Rattle.cox_reflect.proofs.Deletion.{left_length}
 use Rattle.cox_poly.specs.Coefficients.{Coefficients, zero_polynomial, plus, times_q, times_q_less_one}
-use Rattle.cox_poly.specs.Products.{minus, negated, flip}
+use Rattle.cox_poly.specs.Products.{flip}
+use Rattle.cox_poly.specs.Multiples.{minus, negated}
 use Rattle.cox_poly.specs.Size.{HasDegreeAtMost}
 use Rattle.cox_poly.proofs.Coefficients.{flip_at, flip_above, flip-suc, flip-times_q}
 use Rattle.cox_rpoly.specs.RPolynomial.{r_along, r_polynomial}

@@ -1,10 +1,10 @@
 -- Combinations of the basis elements T(x) of the Hecke algebra, with polynomials in q as coefficients.
-use Rattle.std.specs.Prelude.{◌≡◌, ℕ, Bool, if◌then◌else◌, nat_eq, List}
+use Rattle.std.specs.Prelude.{◌≡◌, ℕ, Bool, nat_eq, List}
 use Rattle.std.specs.Cmp.Lexicographic.{pointwise}
 use Rattle.cox_base.specs.IntegerMatrix.{IntegerMatrix}
 use Rattle.cox_base.specs.Element.{SameElement}
 use Rattle.cox_base.specs.ShortLex.{normal_form}
-use Rattle.cox_poly.specs.Coefficients.{Coefficients, zero_polynomial, one_polynomial}
+use Rattle.cox_poly.specs.Coefficients.{Coefficients}
 
 -- A polynomial for each element x, which is given by its words: the coefficient of T(x). It may be other than 0 at infinitely many x.
 abbrev pub Family : Type 0
@@ -17,7 +17,3 @@ RespectsElements A h = (x y : List ℕ) → SameElement A x y → (k : ℕ) → 
 -- whether x and y name one element
 abbrev pub is_same : IntegerMatrix → List ℕ → List ℕ → Bool
 is_same A x y = pointwise nat_eq (normal_form A x) (normal_form A y)
-
--- T(w)
-abbrev pub basis : IntegerMatrix → List ℕ → Family
-basis A w x = if is_same A w x then one_polynomial else zero_polynomial

@@ -6,9 +6,13 @@ pub mod Operators
 pub mod Sign
 -- sums over lists of elements
 pub mod Sums
+-- lists of elements to which a letter can be applied
+pub mod ClosedLists
 -- rows, Kazhdan-Lusztig polynomials, mu
 pub mod Row
--- the right side of the recursion
+-- a step by a letter, and what corrects it
 pub mod Step
+-- the right side of the recursion
+pub mod StepFamily
 -- which rows the recursion asks for
 pub mod Needs

@@ -3,7 +3,7 @@ use Rattle.std.specs.Prelude.{ℕ, List, ◌∷◌, ℤ}
 use Rattle.cox_base.specs.declared.side.Side.TheVariants.{Left}
 use Rattle.cox_base.specs.IntegerMatrix.{IntegerMatrix}
 use Rattle.cox_base.specs.Element.{SameElement}
-use Rattle.cox_reflect.specs.Height.{IsLeastLeftDescent}
+use Rattle.cox_reflect.specs.LeastDescent.{IsLeastLeftDescent}
 use Rattle.cox_hecke.specs.Step.{IsCorrection}
 
 -- Need(w), a set of elements, each given by any of its words: w itself; and for each z in it with the least left descent s, sz and the

@@ -3,9 +3,9 @@
 use Rattle.std.specs.Prelude.{ℕ, Bool, if◌then◌else◌, nat_lt, List, [], ◌∷◌, ◌++◌}
 use Rattle.cox_base.specs.IntegerMatrix.{IntegerMatrix}
 use Rattle.cox_base.specs.Length.{word_length}
-use Rattle.cox_poly.specs.Coefficients.{plus, times_q, times_q_less_one}
-use Rattle.cox_poly.specs.Products.{minus}
-use Rattle.cox_hecke.specs.Family.{Family}
+use Rattle.cox_poly.specs.Coefficients.{plus, times_q, times_q_less_one, zero_polynomial, one_polynomial}
+use Rattle.cox_poly.specs.Multiples.{minus}
+use Rattle.cox_hecke.specs.Family.{Family, is_same}
 
 -- whether sx < x, and whether xs < x
 abbrev pub shortens_left : IntegerMatrix → ℕ → List ℕ → Bool
@@ -45,3 +45,7 @@ right_word A (s ∷ u) h = right_word A u (right A s h)
 abbrev pub left_inverse_word : IntegerMatrix → List ℕ → Family → Family
 left_inverse_word A [] h = h
 left_inverse_word A (s ∷ u) h = left_inverse A s (left_inverse_word A u h)
+
+-- T(w)
+abbrev pub basis : IntegerMatrix → List ℕ → Family
+basis A w x = if is_same A w x then one_polynomial else zero_polynomial

@@ -1,14 +1,11 @@
--- The right side of the recursion for rows (Kazhdan and Lusztig 1979, 2.2.c; Humphreys 7.11), for a descent of w on either side.
-use Rattle.std.specs.Prelude.{◌≡◌, ◌≢◌, ℕ, ◌-◌, ◌/◌, ◌<◌, Bool, if◌then◌else◌, nat_lt, List, [], ◌∷◌, ◌++◌, map, All, ℤ, pos}
+-- A step of the recursion for rows, by a letter on either side, and which elements correct it (Kazhdan and Lusztig 1979, 2.2.c;
+-- Humphreys 7.11).
+use Rattle.std.specs.Prelude.{◌≢◌, ℕ, ◌<◌, Bool, nat_lt, List, [], ◌∷◌, ◌++◌, ℤ, pos}
 use Rattle.cox_base.specs.declared.side.Side.{Side}
 use Rattle.cox_base.specs.declared.side.Side.TheVariants.{Left, Right}
 use Rattle.cox_base.specs.IntegerMatrix.{IntegerMatrix}
 use Rattle.cox_base.specs.Length.{word_length}
-use Rattle.cox_poly.specs.Coefficients.{zero_polynomial, plus, times_q}
-use Rattle.cox_poly.specs.Products.{minus, scaled, times_q_power}
-use Rattle.cox_hecke.specs.Family.{Family}
-use Rattle.cox_hecke.specs.Sums.{occurrences}
-use Rattle.cox_hecke.specs.Row.{IsRow, IsMu}
+use Rattle.cox_hecke.specs.Row.{IsMu}
 
 -- s x or x s
 abbrev pub times_letter : Side → ℕ → List ℕ → List ℕ
@@ -22,42 +19,8 @@ IsDescent side A x s = word_length A (times_letter side s x) < word_length A x
 abbrev pub shortens : Side → IntegerMatrix → ℕ → List ℕ → Bool
 shortens side A s x = nat_lt (word_length A (times_letter side s x)) (word_length A x)
 
--- (1 + T(s)) p or p (1 + T(s)): on the left, at x, p(sx) + q p(x) where sx < x, else q p(sx) + p(x)
-abbrev pub step : Side → IntegerMatrix → ℕ → Family → Family
-step side A s p x =
-    if shortens side A s x then plus (p (times_letter side s x)) (times_q (p x)) else plus (times_q (p (times_letter side s x))) (p x)
-
 -- A step from v by s is corrected by the u with su < u for which m = mu(u,v) is not 0.
 pub record IsCorrection (side : Side) (A : IntegerMatrix) (s : ℕ) (v u : List ℕ) (m : ℤ) : Type 0 where
   pub shortens : IsDescent side A u s
   pub is_mu : IsMu A u v m
   pub some : m ≢ pos 0
-
--- u with its mu(u,v)
-pub record Correction : Type 0 where
-  pub element : List ℕ
-  pub mu : ℤ
-
-abbrev pub corrected_elements : List Correction → List (List ℕ)
-corrected_elements list = map (λ c. c.element) list
-
--- the list has each of them once
-pub record AreCorrections (side : Side) (A : IntegerMatrix) (s : ℕ) (v : List ℕ) (list : List Correction) : Type 0 where
-  pub each : All (λ c. IsCorrection side A s v c.element c.mu) list
-  pub once : (u : List ℕ) (m : ℤ) → IsCorrection side A s v u m → occurrences A u (corrected_elements list) ≡ 1
-
--- the sum of mu(u,v) q^((l(w)-l(u))/2) P(x,u) over the corrections u; `rows u` is the row of u
-abbrev pub correction_sum : IntegerMatrix → List ℕ → (List ℕ → Family) → List Correction → Family
-correction_sum A w rows [] x = zero_polynomial
-correction_sum A w rows (c ∷ list) x =
-    plus (scaled c.mu (times_q_power ((word_length A w - word_length A c.element) / 2) (rows c.element x))) (correction_sum A w rows list x)
-
--- f is the step family of w by its descent s: (1 + T(s)) times the row of v = sw, without its corrections; and the same on the right
-pub record IsStepFamily (side : Side) (A : IntegerMatrix) (s : ℕ) (w : List ℕ) (f : Family) : Type 0 where
-  pub row : Family
-  pub is_row : IsRow A (times_letter side s w) row
-  pub list : List Correction
-  pub corrections : AreCorrections side A s (times_letter side s w) list
-  pub rows : List ℕ → Family
-  pub are_rows : All (λ c. IsRow A c.element (rows c.element)) list
-  pub value : (x : List ℕ) (k : ℕ) → f x k ≡ minus (step side A s row x) (correction_sum A w rows list x) k

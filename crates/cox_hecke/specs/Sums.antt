@@ -1,5 +1,5 @@
 -- Sums over finitely many elements, which are listed by words.
-use Rattle.std.specs.Prelude.{◌≡◌, ℕ, suc, ◌≤◌, if◌then◌else◌, List, [], ◌∷◌}
+use Rattle.std.specs.Prelude.{◌≡◌, ℕ, suc, if◌then◌else◌, List, [], ◌∷◌}
 use Rattle.cox_base.specs.IntegerMatrix.{IntegerMatrix}
 use Rattle.cox_poly.specs.Coefficients.{Coefficients, zero_polynomial, plus}
 use Rattle.cox_poly.specs.Products.{product}
@@ -15,11 +15,6 @@ occurrences A x (y ∷ words) = if is_same A x y then suc (occurrences A x words
 pub record ListsEach (A : IntegerMatrix) (P : List ℕ → Type 0) (words : List (List ℕ)) : Type 0 where
   pub once : (x : List ℕ) → P x → occurrences A x words ≡ 1
   pub no_other : (x : List ℕ) → ¬ P x → occurrences A x words ≡ 0
-
--- no element is named twice, and with each x the words name s x
-pub record IsClosedUnder (A : IntegerMatrix) (s : ℕ) (words : List (List ℕ)) : Type 0 where
-  pub once : (x : List ℕ) → occurrences A x words ≤ 1
-  pub closed : (x : List ℕ) → occurrences A (s ∷ x) words ≡ occurrences A x words
 
 -- the sum of f(y) over the words y
 abbrev pub sum_over : List (List ℕ) → Family → Coefficients

@@ -9,17 +9,21 @@ ghost use Rattle.cox_base.specs.IntegerMatrix.{IntegerMatrix};
 ghost use Rattle.cox_base.specs.Admissible.{IsAdmissible};
 ghost use Rattle.cox_base.specs.Element.{SameElement};
 ghost use Rattle.cox_base.specs.Length.{word_length};
-ghost use Rattle.cox_base.specs.Reduced.{IsReduced, IsLeftDescent, IsRightDescent};
+ghost use Rattle.cox_base.specs.Reduced.{IsReduced};
+ghost use Rattle.cox_base.specs.Descents.{IsLeftDescent, IsRightDescent};
 ghost use Rattle.cox_base.specs.Bruhat.{IsBelow};
 ghost use Rattle.cox_poly.specs.Coefficients.{Coefficients, plus, times_q, times_q_less_one};
-ghost use Rattle.cox_poly.specs.Products.{minus, flip};
+ghost use Rattle.cox_poly.specs.Products.{flip};
+ghost use Rattle.cox_poly.specs.Multiples.{minus};
 ghost use Rattle.cox_rpoly.specs.RPolynomial.{r_polynomial};
-ghost use Rattle.cox_hecke.specs.Family.{Family, RespectsElements, basis};
-ghost use Rattle.cox_hecke.specs.Operators.{left, right, left_inverse, right_inverse, left_word, right_word, left_inverse_word};
+ghost use Rattle.cox_hecke.specs.Family.{Family, RespectsElements};
+ghost use Rattle.cox_hecke.specs.Operators.{basis, left, right, left_inverse, right_inverse, left_word, right_word, left_inverse_word};
 ghost use Rattle.cox_hecke.specs.Sign.{times_sign};
-ghost use Rattle.cox_hecke.specs.Sums.{ListsEach, IsClosedUnder, bar_sum};
+ghost use Rattle.cox_hecke.specs.Sums.{ListsEach, bar_sum};
+ghost use Rattle.cox_hecke.specs.ClosedLists.{IsClosedUnder};
 ghost use Rattle.cox_hecke.specs.Row.{LiesBetween, IsRow, IsKazhdanLusztig, IsMu};
-ghost use Rattle.cox_hecke.specs.Step.{times_letter, IsDescent, step, Correction, AreCorrections, correction_sum, IsStepFamily};
+ghost use Rattle.cox_hecke.specs.Step.{times_letter, IsDescent};
+ghost use Rattle.cox_hecke.specs.StepFamily.{step, Correction, AreCorrections, correction_sum, IsStepFamily};
 ghost use Rattle.cox_hecke.specs.Needs.{IsNeeded};
 
 /// Left and right multiplication commute, and T(s) and q T(s)^-1 undo each other, but for the factor q (Humphreys 7.1 to 7.4).

@@ -8,7 +8,8 @@ use Rattle.cox_base.specs.Length.{word_length}
 use Rattle.cox_base.specs.Bruhat.{IsBelow}
 use Rattle.cox_lemmas.proofs.Ring.{neg_mul, times_zero}
 use Rattle.cox_poly.specs.Coefficients.{Coefficients, plus, times_q}
-use Rattle.cox_poly.specs.Products.{minus, scaled, times_q_power}
+use Rattle.cox_poly.specs.Products.{times_q_power}
+use Rattle.cox_poly.specs.Multiples.{minus, scaled}
 use Rattle.cox_poly.specs.Polynomial.{coefficient, HasSmallCoefficients, coefficient_after}
 use Rattle.cox_poly.proofs.Norms.{absolute_after}
 use Rattle.cox_poly.proofs.Coefficients.{times_q_power_at}

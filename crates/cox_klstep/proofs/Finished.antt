@@ -11,7 +11,8 @@ use Rattle.cox_hecke.proofs.Descended.{mu-below}
 use Rattle.cox_hecke.proofs.ElementLists.{below_or_not}
 use Rattle.cox_context.specs.Closed.{IsClosed}
 use Rattle.cox_context.specs.Numbers.{word_at}
-use Rattle.cox_row.specs.Extremal.{IsExtremal, AreExtremal}
+use Rattle.cox_row.specs.Extremal.{IsExtremal}
+use Rattle.cox_row.specs.ExtremalNumbers.{AreExtremal}
 use Rattle.cox_row.specs.Mus.{AreMus}
 use Rattle.cox_row.proofs.Raising.{later-not_below}
 use Rattle.cox_klstep.specs.Drafts.{AreBegun, AreNoted}
@@ -21,7 +22,8 @@ use Rattle.cox_row.specs.Mus.{value_at}
 use Rattle.cox_row.proofs.PoolLemmas.{kept}
 use Rattle.cox_poly.specs.Limit.{AllWithin}
 use Rattle.cox_klstep.specs.declared.making.TheConstants.{MU_LIMIT}
-use Rattle.cox_klstep.specs.Limits.{IsLargeMu, IsWithinLimit}
+use Rattle.cox_klstep.specs.Limits.{IsLargeMu}
+use Rattle.cox_klstep.specs.LargeMembers.{IsWithinLimit}
 use Rattle.cox_klstep.specs.Faults.{IsFault, IsNarrowFault}
 use Rattle.cox_klstep.proofs.LargeLemmas.{outside-none, within-none}
 use Rattle.cox_klstep.specs.declared.fault.StepFault.{StepFault}

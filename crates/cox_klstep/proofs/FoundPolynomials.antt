@@ -11,7 +11,7 @@ use Rattle.cox_row.specs.Rising.{number_at}
 use Rattle.cox_row.specs.Extremal.{IsExtremal}
 use Rattle.cox_row.specs.Polynomials.{polynomial_at, IsPool}
 use Rattle.cox_row.proofs.RisingLemmas.{each-push, rising-push, within-push, found-push}
-use Rattle.cox_klstep.specs.Limits.{IsWithinLimit}
+use Rattle.cox_klstep.specs.LargeMembers.{IsWithinLimit}
 use Rattle.cox_klstep.specs.Drafts.{IsPooled, AreBegun}
 
 -- no member from one to another is extremal
@@ -30,7 +30,8 @@ begun-pass A members w limit q p numbers places pool l bare h = record {
 
 module _ (A : IntegerMatrix) (members : List (List ℕ)) (w : List ℕ) (limit : ℤ) (x : ℕ) (numbers places : List ℕ) (pool : List (List ℤ))
   where
-    pub begun-skip : (IsExtremal A w (word_at members x) → IsBelow A (word_at members x) w → IsWithinLimit A limit (word_at members x) w → ⊥)
+    pub begun-skip : (IsExtremal A w (word_at members x) → IsBelow A (word_at members x) w → IsWithinLimit A limit (word_at members x) w
+        → ⊥)
         → AreBegun A members w limit x numbers places pool → AreBegun A members w limit (x + 1) numbers places pool
     begun-skip none h = record {
       rising = h.rising;

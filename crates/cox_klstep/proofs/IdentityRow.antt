@@ -15,10 +15,11 @@ use Rattle.cox_hecke.specs.Row.{IsKazhdanLusztig, IsMu}
 use Rattle.cox_hecke.proofs.AllRows.{row_of, row_of-is}
 use Rattle.cox_context.specs.Closed.{IsClosed}
 use Rattle.cox_context.specs.Numbers.{word_at}
-use Rattle.cox_row.specs.Extremal.{IsExtremal, AreExtremal}
+use Rattle.cox_row.specs.Extremal.{IsExtremal}
+use Rattle.cox_row.specs.ExtremalNumbers.{AreExtremal}
 use Rattle.cox_row.specs.Polynomials.{polynomial_at, HavePolynomials}
 use Rattle.cox_row.specs.Mus.{AreMus}
-use Rattle.cox_klstep.specs.Limits.{IsWithinLimit}
+use Rattle.cox_klstep.specs.LargeMembers.{IsWithinLimit}
 use Rattle.cox_klstep.specs.Faults.{IsFirstLarge}
 use Rattle.cox_klstep.specs.Drafts.{AreBegun, AreNoted}
 use Rattle.cox_klstep.proofs.Middles.{middle-even, noted-skip}

@@ -13,8 +13,8 @@ use Rattle.cox_row.specs.Extremal.{IsExtremal}
 use Rattle.cox_row.specs.Raised.{StandsFor}
 use Rattle.cox_row.proofs.Raising.{later-not_below}
 use Rattle.cox_klstep.specs.declared.large.LargeCoefficient.{LargeCoefficient}
-use Rattle.cox_klstep.specs.Limits.{IsLargeCoefficient, IsWithinLimit, IsLeastLarge}
-use Rattle.cox_klstep.specs.LargeMembers.{coefficient_at, fault_by, AreLarge}
+use Rattle.cox_klstep.specs.Limits.{IsLargeCoefficient}
+use Rattle.cox_klstep.specs.LargeMembers.{IsWithinLimit, IsLeastLarge, coefficient_at, fault_by, AreLarge}
 use Rattle.cox_klstep.specs.Faults.{IsFault}
 use Rattle.cox_klstep.proofs.LargeLemmas.{outside-none, large-to, least-from}
 use Rattle.cox_lemmas.proofs.PushLemmas.{push-length, push-old, push-new, push_cases}

@@ -10,7 +10,8 @@ use Rattle.cox_poly.specs.Limit.{IsWithin, AllWithin, IsFirstAbove}
 use Rattle.cox_hecke.specs.Row.{IsKazhdanLusztig}
 use Rattle.cox_hecke.proofs.PolynomialValues.{kazhdan_lusztig-exists, kazhdan_lusztig-unique, kazhdan_lusztig-outside}
 use Rattle.cox_row.specs.Raised.{StandsFor}
-use Rattle.cox_klstep.specs.Limits.{IsLargeCoefficient, IsWithinLimit, IsLeastLarge}
+use Rattle.cox_klstep.specs.Limits.{IsLargeCoefficient}
+use Rattle.cox_klstep.specs.LargeMembers.{IsWithinLimit, IsLeastLarge}
 
 not_both : (limit a b : ℤ) → a ≡ b → pos (unsigned_abs a) ≤ℤ limit → limit <ℤ pos (unsigned_abs b) → ⊥
 not_both limit a b e l h = let g : limit <ℤ pos (unsigned_abs a) = rw e h in omega (arith, ints, l, g)

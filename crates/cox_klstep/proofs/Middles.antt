@@ -11,7 +11,7 @@ use Rattle.cox_hecke.specs.Row.{IsMu, middle_coefficient}
 use Rattle.cox_hecke.proofs.AllRows.{mu-unique}
 use Rattle.cox_context.specs.Numbers.{word_at}
 use Rattle.cox_row.proofs.RisingLemmas.{rising-push, within-push, found-push}
-use Rattle.cox_klstep.specs.Limits.{IsWithinLimit}
+use Rattle.cox_klstep.specs.LargeMembers.{IsWithinLimit}
 use Rattle.cox_klstep.specs.Drafts.{AreNoted}
 
 pub middle-odd : (d : ℕ) (f : Coefficients) → d % 2 ≡ 1 → middle_coefficient d f ≡ f (d / 2)

@@ -9,11 +9,13 @@ use Rattle.cox_base.specs.Length.{word_length}
 use Rattle.cox_reflect.proofs.Elements.{same-sym, same-trans}
 use Rattle.cox_reflect.proofs.Search.{normal_form-equal}
 use Rattle.cox_poly.specs.Coefficients.{Coefficients}
-use Rattle.cox_poly.specs.Products.{scaled, times_q_power}
+use Rattle.cox_poly.specs.Products.{times_q_power}
+use Rattle.cox_poly.specs.Multiples.{scaled}
 use Rattle.cox_hecke.specs.Family.{Family, is_same}
 use Rattle.cox_hecke.specs.Sums.{occurrences}
-use Rattle.cox_hecke.specs.Step.{IsCorrection, AreCorrections}
-use Rattle.cox_hecke.specs.Step as hecke
+use Rattle.cox_hecke.specs.Step.{IsCorrection}
+use Rattle.cox_hecke.specs.StepFamily.{AreCorrections}
+use Rattle.cox_hecke.specs.StepFamily as hecke
 use Rattle.cox_hecke.proofs.SumLemmas.{same-is_same, not_same-is_same}
 use Rattle.cox_context.specs.Closed.{IsClosed}
 use Rattle.cox_context.specs.Numbers.{word_at}

@@ -8,7 +8,7 @@ use Rattle.cox_base.specs.IntegerMatrix.{IntegerMatrix, integer_matrix}
 use Rattle.cox_base.specs.Admissible.{IsAdmissible}
 use Rattle.cox_base.specs.Element.{SameElement}
 use Rattle.cox_base.specs.ShortLex.{normal_form}
-use Rattle.cox_base.specs.Reduced.{IsLeftDescent, IsRightDescent}
+use Rattle.cox_base.specs.Descents.{IsLeftDescent, IsRightDescent}
 use Rattle.cox_reflect.proofs.Elements.{same-sym, same-trans, same-cons, same-push, same-square, same-push_twice}
 use Rattle.cox_reflect.proofs.Search.{normal_form-same, normal_form-equal, word_length-equal}
 use Rattle.cox_reflect.proofs.Roots.{left_descent-letter, descent-letter}
@@ -16,7 +16,8 @@ use Rattle.cox_hecke.specs.Row.{IsMu}
 use Rattle.cox_hecke.proofs.AllRows.{mu-same}
 use Rattle.cox_hecke.proofs.Descended.{mu-left, mu-right, mu-shift_left, mu-shift_right}
 use Rattle.cox_context.specs.Closed.{Elements, IsClosed}
-use Rattle.cox_context.specs.Numbers.{word_at, IsNumberOf}
+use Rattle.cox_context.specs.Numbers.{word_at}
+use Rattle.cox_context.specs.Numbering.{IsNumberOf}
 use Rattle.cox_context.proofs.ListLemmas.{contains-at, rising-place}
 use Rattle.cox_context.proofs.Shifting.{element-at, shift-less, right_shift-less}
 use Rattle.cox_row.specs.Extremal.{IsExtremal}

@@ -2,7 +2,8 @@
 use Rattle.std.specs.Prelude.{ℕ, ◌<◌, List, [], ◌∷◌, length}
 use Rattle.cox_base.specs.IntegerMatrix.{IntegerMatrix}
 use Rattle.cox_poly.specs.Coefficients.{Coefficients, zero_polynomial, plus}
-use Rattle.cox_poly.specs.Products.{scaled, times_q_power}
+use Rattle.cox_poly.specs.Products.{times_q_power}
+use Rattle.cox_poly.specs.Multiples.{scaled}
 use Rattle.cox_hecke.specs.Row.{IsKazhdanLusztig}
 use Rattle.cox_context.specs.Numbers.{word_at}
 use Rattle.cox_klstep.specs.declared.step.Correction.{Correction}

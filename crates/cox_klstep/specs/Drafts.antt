@@ -11,8 +11,7 @@ use Rattle.cox_row.specs.Rising.{number_at, AreRising, AreWithin}
 use Rattle.cox_row.specs.Extremal.{IsExtremal}
 use Rattle.cox_row.specs.Polynomials.{polynomial_at, HavePolynomials}
 use Rattle.cox_row.specs.Mus.{value_at}
-use Rattle.cox_klstep.specs.Limits.{IsWithinLimit}
-use Rattle.cox_klstep.specs.LargeMembers.{AreLarge}
+use Rattle.cox_klstep.specs.LargeMembers.{IsWithinLimit, AreLarge}
 use Rattle.cox_klstep.specs.TargetOf.{IsLeastShift}
 use Rattle.cox_klstep.specs.declared.draft.Draft.{Draft}
 

@@ -5,10 +5,19 @@ use Rattle.cox_base.specs.Bruhat.{IsBelow}
 use Rattle.cox_context.specs.Numbers.{word_at}
 use Rattle.cox_row.specs.Rising.{number_at, AreRising, AreWithin}
 use Rattle.cox_row.specs.Extremal.{IsExtremal}
-use Rattle.cox_klstep.specs.Limits.{IsLargeCoefficient, IsLeastLarge}
+use Rattle.cox_klstep.specs.Limits.{IsLargeCoefficient}
 use Rattle.cox_klstep.specs.declared.fault.StepFault.{StepFault}
 use Rattle.cox_klstep.specs.declared.fault.StepFault.TheVariants.{Coefficient}
 use Rattle.cox_klstep.specs.declared.large.LargeCoefficient.{LargeCoefficient}
+
+-- no coefficient of P(x,w) is above the limit in absolute value
+abbrev pub IsWithinLimit : IntegerMatrix → ℤ → List ℕ → List ℕ → Type 0
+IsWithinLimit A limit x w = (k : ℕ) (c : ℤ) → ¬ IsLargeCoefficient A limit x w k c
+
+-- the coefficient of q^degree in P(x,w) is the value, which is above the limit in absolute value, and none of a lower degree is
+pub record IsLeastLarge (A : IntegerMatrix) (limit : ℤ) (x w : List ℕ) (degree : ℕ) (value : ℤ) : Type 0 where
+  pub large : IsLargeCoefficient A limit x w degree value
+  pub least : (k : ℕ) (c : ℤ) → k < degree → ¬ IsLargeCoefficient A limit x w k c
 
 -- the coefficient at a place
 abbrev pub coefficient_at : List LargeCoefficient → ℕ → LargeCoefficient

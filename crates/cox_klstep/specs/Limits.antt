@@ -11,15 +11,6 @@ pub record IsLargeCoefficient (A : IntegerMatrix) (limit : ℤ) (x w : List ℕ)
   pub value : polynomial k ≡ c
   pub above : limit <ℤ pos (unsigned_abs c)
 
--- no coefficient of P(x,w) is above the limit in absolute value
-abbrev pub IsWithinLimit : IntegerMatrix → ℤ → List ℕ → List ℕ → Type 0
-IsWithinLimit A limit x w = (k : ℕ) (c : ℤ) → ¬ IsLargeCoefficient A limit x w k c
-
--- the coefficient of q^degree in P(x,w) is the value, which is above the limit in absolute value, and none of a lower degree is
-pub record IsLeastLarge (A : IntegerMatrix) (limit : ℤ) (x w : List ℕ) (degree : ℕ) (value : ℤ) : Type 0 where
-  pub large : IsLargeCoefficient A limit x w degree value
-  pub least : (k : ℕ) (c : ℤ) → k < degree → ¬ IsLargeCoefficient A limit x w k c
-
 -- mu(x,w) is m, which is above the limit in absolute value
 pub record IsLargeMu (A : IntegerMatrix) (limit : ℤ) (x w : List ℕ) (m : ℤ) : Type 0 where
   pub is : IsMu A x w m

@@ -3,12 +3,12 @@ use Rattle.std.specs.Prelude.{◌≡◌, ℕ, ◌+◌, ◌*◌, ◌<◌, ◌≤�
 use Rattle.cox_base.specs.declared.side.Side.TheVariants.{Left}
 use Rattle.cox_base.specs.IntegerMatrix.{IntegerMatrix, integer_matrix}
 use Rattle.cox_base.specs.ShortLex.{normal_form}
-use Rattle.cox_reflect.specs.Height.{IsLeastLeftDescent}
+use Rattle.cox_reflect.specs.LeastDescent.{IsLeastLeftDescent}
 use Rattle.cox_hecke.specs.Step.{IsCorrection}
 use Rattle.cox_context.specs.Closed.{Elements}
 use Rattle.cox_context.specs.Numbers.{word_at}
 use Rattle.cox_row.specs.Rising.{number_at, AreRising, AreWithin}
-use Rattle.cox_row.specs.Extremal.{AreExtremal}
+use Rattle.cox_row.specs.ExtremalNumbers.{AreExtremal}
 
 -- the rows that the row of the member i is made from are there: that of the shorter element by its least left descent, and those of the
 -- corrections

@@ -5,7 +5,7 @@ use Rattle.cox_base.specs.declared.side.Side.{Side}
 use Rattle.cox_base.specs.IntegerMatrix.{IntegerMatrix, integer_matrix}
 use Rattle.cox_base.specs.ShortLex.{normal_form}
 use Rattle.cox_base.specs.Length.{word_length}
-use Rattle.cox_reflect.specs.Height.{IsLeastLeftDescent}
+use Rattle.cox_reflect.specs.LeastDescent.{IsLeastLeftDescent}
 use Rattle.cox_hecke.specs.Step.{times_letter, IsDescent, IsCorrection}
 use Rattle.cox_context.specs.Closed.{Elements}
 use Rattle.cox_context.specs.Numbers.{word_at}

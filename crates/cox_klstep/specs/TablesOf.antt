@@ -1,7 +1,7 @@
 -- What the tables of a context have.
 use Rattle.std.specs.Prelude.{◌≡◌, ◌⊎◌, ℕ, ◌<◌, List, [], length, slice_get, IfSome}
 use Rattle.cox_base.specs.IntegerMatrix.{integer_matrix}
-use Rattle.cox_base.specs.Reduced.{IsLeftDescent}
+use Rattle.cox_base.specs.Descents.{IsLeftDescent}
 use Rattle.std.specs.Prelude.{◌+◌, IsBitSet}
 use Rattle.std.specs.Global.{Vec}
 use Rattle.cox_context.specs.Closed.{Elements}

@@ -2,7 +2,7 @@
 ghost use Rattle.std.specs.Prelude.{◌≡◌, ℕ, ◌+◌, ◌<◌, ◌≤◌, List, length, IfOk, IfSome, ℤ};
 ghost use Rattle.cox_base.specs.Matrix.{IsLetter};
 ghost use Rattle.cox_base.specs.IntegerMatrix.{integer_matrix};
-ghost use Rattle.cox_reflect.specs.Height.{IsLeastLeftDescent};
+ghost use Rattle.cox_reflect.specs.LeastDescent.{IsLeastLeftDescent};
 ghost use Rattle.cox_hecke.specs.Step.{times_letter, IsCorrection};
 ghost use Rattle.cox_context.specs.Numbers.{word_at};
 ghost use Rattle.cox_row.specs.RowOf.{IsRowAt};

@@ -4,8 +4,7 @@ ghost use Rattle.cox_base.specs.IntegerMatrix.{IntegerMatrix, integer_matrix};
 ghost use Rattle.cox_context.specs.Numbers.{word_at};
 ghost use Rattle.cox_row.specs.Rising.{AreWithin};
 ghost use Rattle.cox_klstep.specs.Faults.{IsFault};
-ghost use Rattle.cox_klstep.specs.LargeMembers.{AreLarge, coefficient_at, fault_by};
-ghost use Rattle.cox_klstep.specs.Limits.{IsLeastLarge};
+ghost use Rattle.cox_klstep.specs.LargeMembers.{AreLarge, coefficient_at, fault_by, IsLeastLarge};
 
 use crate::StepFault;
 use cox_context::Context;

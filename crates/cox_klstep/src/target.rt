@@ -3,7 +3,8 @@ ghost use Rattle.std.specs.Prelude.{◌≡◌, ℕ, ◌+◌, ◌<◌, ◌↔◌,
 ghost use Rattle.cox_base.specs.Matrix.{IsLetter};
 ghost use Rattle.cox_base.specs.IntegerMatrix.{integer_matrix};
 ghost use Rattle.cox_base.specs.ShortLex.{normal_form};
-ghost use Rattle.cox_context.specs.Numbers.{word_at, IsNumberOf};
+ghost use Rattle.cox_context.specs.Numbers.{word_at};
+ghost use Rattle.cox_context.specs.Numbering.{IsNumberOf};
 ghost use Rattle.cox_row.specs.LetterSets.{IsSubset};
 ghost use Rattle.cox_klstep.specs.TargetOf.{IsTarget, IsLeastShift, IsLeastOf};
 

@@ -6,7 +6,8 @@ use Rattle.std.proofs.Math.Nat.{mul-le-mul_left}
 use Rattle.cox_poly.proofs.Coefficients.{times_q_power_at, times_q_power_below, times_q_power-suc}
 use Rattle.std.proofs.lemmas.Bool.{cases_lt}
 use Rattle.cox_poly.specs.Coefficients.{Coefficients, zero_polynomial, one_polynomial, plus, times_q, times_q_less_one}
-use Rattle.cox_poly.specs.Products.{minus, negated, scaled, times_q_power, without_constant, product}
+use Rattle.cox_poly.specs.Products.{times_q_power, without_constant, product}
+use Rattle.cox_poly.specs.Multiples.{minus, negated, scaled}
 use Rattle.cox_poly.specs.Size.{absolute_sum, HasNormAtMost}
 
 -- of sums, differences and multiples

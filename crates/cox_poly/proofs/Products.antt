@@ -3,7 +3,8 @@ use Rattle.std.proofs.Common.{◌≡◌, ℕ, zero, suc, ◌+◌, ◌≤◌, ref
 use Rattle.std.proofs.Common.{ℤ, pos, ◌+ℤ◌, ◌*ℤ◌, neg_ℤ}
 use Rattle.std.proofs.lemmas.Int.{ints}
 use Rattle.cox_poly.specs.Coefficients.{Coefficients, zero_polynomial, one_polynomial, plus, times_q}
-use Rattle.cox_poly.specs.Products.{negated, scaled, times_q_power, without_constant, product, terms_below}
+use Rattle.cox_poly.specs.Products.{times_q_power, without_constant, product}
+use Rattle.cox_poly.specs.Multiples.{negated, scaled}
 use Rattle.cox_poly.specs.Size.{HasDegreeAtMost}
 use Rattle.cox_poly.proofs.Coefficients.{times_q_power_at, times_q_power_below, times_q_power-suc}
 use Rattle.cox_lemmas.proofs.Ring.{multiply_out, mul_left_comm}
@@ -64,6 +65,12 @@ product-times_q f g (suc (suc k)) = omega (arith, ints, product-times_q (without
 pub times_q-product : (f g : Coefficients) (k : ℕ) → product (times_q f) g k ≡ times_q (product f g) k
 times_q-product f g zero = omega (arith, ints)
 times_q-product f g (suc k) = omega (arith, ints)
+
+-- the terms of f below q^n
+abbrev pub terms_below : ℕ → Coefficients → Coefficients
+terms_below zero f k = pos 0
+terms_below (suc n) f zero = f zero
+terms_below (suc n) f (suc k) = terms_below n (without_constant f) k
 
 -- one term more in front
 pub terms_below-product : (f g : Coefficients) (i k : ℕ) → product (terms_below (suc i) f) g k

@@ -2,6 +2,8 @@
 pub mod Coefficients
 -- their multiples and products
 pub mod Products
+-- differences and multiples
+pub mod Multiples
 -- bounds of their degree and of the sum of their absolute coefficients
 pub mod Size
 -- polynomials as lists of coefficients

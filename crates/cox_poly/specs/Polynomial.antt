@@ -3,7 +3,8 @@
 use Rattle.std.specs.Prelude.{◌≡◌, ◌≢◌, ℕ, ◌+◌, ◌-◌, ◌^◌, ◌<◌, ◌≤◌, List, length, slice_index_or}
 use Rattle.std.specs.Prelude.{ℤ, pos, unsigned_abs}
 use Rattle.cox_poly.specs.Coefficients.{plus}
-use Rattle.cox_poly.specs.Products.{scaled, times_q_power}
+use Rattle.cox_poly.specs.Products.{times_q_power}
+use Rattle.cox_poly.specs.Multiples.{scaled}
 
 -- the coefficient of q^k, which is 0 past the end of the list
 abbrev pub coefficient : List ℤ → ℕ → ℤ

@@ -1,16 +1,6 @@
--- Differences, multiples and products of polynomials, as functions from degrees to coefficients.
-use Rattle.std.specs.Prelude.{ℕ, zero, suc, ◌-◌, if◌then◌else◌, nat_le, ℤ, pos, ◌+ℤ◌, ◌-ℤ◌, ◌*ℤ◌, neg_ℤ}
+-- Products of polynomials, as functions from degrees to coefficients.
+use Rattle.std.specs.Prelude.{ℕ, zero, suc, ◌-◌, if◌then◌else◌, nat_le, ℤ, pos, ◌+ℤ◌, ◌*ℤ◌}
 use Rattle.cox_poly.specs.Coefficients.{Coefficients}
-
--- f - g, -f and c f
-abbrev pub minus : Coefficients → Coefficients → Coefficients
-minus f g k = f k -ℤ g k
-
-abbrev pub negated : Coefficients → Coefficients
-negated f k = neg_ℤ (f k)
-
-abbrev pub scaled : ℤ → Coefficients → Coefficients
-scaled c f k = c *ℤ f k
 
 -- q^n f: at k the coefficient of f at k - n, and 0 below n
 abbrev pub times_q_power : ℕ → Coefficients → Coefficients
@@ -24,12 +14,6 @@ without_constant f k = f (suc k)
 abbrev pub product : Coefficients → Coefficients → Coefficients
 product f g zero = f zero *ℤ g zero
 product f g (suc k) = f zero *ℤ g (suc k) +ℤ product (without_constant f) g k
-
--- the terms of f below q^n
-abbrev pub terms_below : ℕ → Coefficients → Coefficients
-terms_below zero f k = pos 0
-terms_below (suc n) f zero = f zero
-terms_below (suc n) f (suc k) = terms_below n (without_constant f) k
 
 -- q^n f(1/q), for f of a degree of at most n: at k the coefficient of f at n - k, and 0 above n
 abbrev pub flip : ℕ → Coefficients → Coefficients

@@ -10,7 +10,8 @@ use Rattle.cox_base.specs.Admissible.{IsAdmissible}
 use Rattle.cox_reflect.specs.Action.{Vector, simple_root, pairing, minus_multiple, reflect}
 use Rattle.cox_reflect.specs.WordAction.{act}
 use Rattle.cox_lemmas.proofs.Ring.{linears, multiply_out}
-use Rattle.cox_reflect.proofs.Sums.{letter_cases, simple_root-other, sum_to-minus_multiple, sum_to-zero, sum_to-simple_root, sum_to-other_root}
+use Rattle.cox_reflect.proofs.Sums.{letter_cases, simple_root-other, sum_to-minus_multiple, sum_to-zero, sum_to-simple_root}
+use Rattle.cox_reflect.proofs.Sums.{sum_to-other_root}
 
 -- ---- linearity
 

@@ -7,7 +7,8 @@ use Rattle.cox_base.specs.Admissible.{IsAdmissible}
 use Rattle.cox_base.specs.Element.{SameElement}
 use Rattle.cox_base.specs.ShortLex.{normal_form}
 use Rattle.cox_base.specs.Length.{word_length}
-use Rattle.cox_base.specs.Reduced.{IsReduced, IsLeftDescent, IsRightDescent}
+use Rattle.cox_base.specs.Reduced.{IsReduced}
+use Rattle.cox_base.specs.Descents.{IsLeftDescent, IsRightDescent}
 use Rattle.cox_base.specs.Bruhat.{IsSubword, kept, left_out, IsBelow}
 use Rattle.cox_reflect.specs.Subword.{HasSubword}
 use Rattle.cox_reflect.specs.Chain.{IsChain, no_step, last_step}

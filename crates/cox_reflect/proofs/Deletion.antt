@@ -10,7 +10,8 @@ use Rattle.cox_base.specs.Admissible.{IsAdmissible}
 use Rattle.cox_base.specs.Element.{SameElement}
 use Rattle.cox_base.specs.ShortLex.{normal_form}
 use Rattle.cox_base.specs.Length.{word_length}
-use Rattle.cox_base.specs.Reduced.{IsReduced, IsLeftDescent, IsRightDescent}
+use Rattle.cox_base.specs.Reduced.{IsReduced}
+use Rattle.cox_base.specs.Descents.{IsLeftDescent, IsRightDescent}
 use Rattle.cox_reflect.specs.Exchange.{LeavesOneOut, LeavesTwoOut}
 use Rattle.cox_reflect.specs.DerivedWords.{reflection, IsWithoutOne, this_one, later_one}
 use Rattle.cox_reflect.proofs.Elements.{act-same, same-sym, same-trans, same-cons, same-push, same-square, same-push_twice}

@@ -14,7 +14,8 @@ use Rattle.cox_base.specs.Element.{sum_to, identity, matrix_product, generator_m
 use Rattle.cox_reflect.specs.Action.{Vector, simple_root, pairing, minus_multiple, reflect}
 use Rattle.cox_reflect.specs.WordAction.{act}
 use Rattle.cox_lemmas.proofs.Ring.{linears, multiply_out}
-use Rattle.cox_reflect.proofs.Sums.{letter_cases, sum_to-same, minus_multiple-sum_to, sum_to-simple_root, simple_root-self, simple_root-other}
+use Rattle.cox_reflect.proofs.Sums.{letter_cases, sum_to-same, minus_multiple-sum_to, sum_to-simple_root, simple_root-self}
+use Rattle.cox_reflect.proofs.Sums.{simple_root-other}
 use Rattle.cox_reflect.proofs.Action.{act-nil, act-cons, act-append, act-push, act-minus_multiple, act-outside, act-other_root, act-fixed}
 use Rattle.cox_reflect.proofs.Action.{act-reverse, reverse-act, reflect-reflect, reflect-outside}
 
@@ -114,7 +115,8 @@ module _ (A : IntegerMatrix) (g : IsAdmissible A) where
       = ap (minus_multiple (act A u (strip n x)) (x (suc n))) (sym root)
       ∙ sym (act-minus_multiple A u (strip n x) (x (suc n)) (simple_root (suc n))) ∙ h
       ∙ act-minus_multiple A v (strip n x) (x (suc n)) (simple_root (suc n))
-      in same-strip e x n (minus_multiple-cancel (act A u (strip n x)) (act A v (strip n x)) (x (suc n)) (act A v (simple_root (suc n))) both)
+      in same-strip e x n (minus_multiple-cancel (act A u (strip n x)) (act A v (strip n x)) (x (suc n)) (act A v (simple_root (suc n)))
+      both)
 
   pub same-act : {u v : List ℕ} → SameElement A u v → (x : Vector) → act A u x ≡ act A v x
   same-act {u} {v} e x =

@@ -52,7 +52,12 @@ module _ (A : IntegerMatrix) (g : IsAdmissible A) where
   image_front x t s r i ls e =
       let c : ℤ = pairing A t (act A (reverse x) (simple_root r))
       in let paired : pairing A s (minus_multiple (simple_root r) c (simple_root s)) ≡ A.entry s r -ℤ (c *ℤ pos 2)
-      = rw (pairing-minus_multiple A s (simple_root r) c (simple_root s), pairing-simple_root A g s r, pairing-simple_root A g s s, g.diagonal s ls)
+      = rw (
+        pairing-minus_multiple A s (simple_root r) c (simple_root s),
+        pairing-simple_root A g s r,
+        pairing-simple_root A g s s,
+        g.diagonal s ls,
+      )
       in rw (act-cons A s (x ++ t ∷ reverse x) (simple_root r), reflection-act x t s e (simple_root r), paired)
 
   image_back : (x : List ℕ) (t s r i : ℕ) → IsLetter A.rank t → act A x (simple_root t) ≡ simple_root s
@@ -63,7 +68,8 @@ module _ (A : IntegerMatrix) (g : IsAdmissible A) where
   image_back x t s r i lt e =
       let c : ℤ = pairing A t (act A (reverse x) (simple_root r))
       in let back : act A (reverse x) (simple_root s) ≡ simple_root t = ap (act A (reverse x)) (sym e) ∙ act-reverse A g x (simple_root t)
-      in let paired : pairing A t (act A (reverse x) (minus_multiple (simple_root r) (A.entry s r) (simple_root s))) ≡ c -ℤ (A.entry s r *ℤ pos 2)
+      in let paired : pairing A t (act A (reverse x) (minus_multiple (simple_root r) (A.entry s r) (simple_root s)))
+      ≡ c -ℤ (A.entry s r *ℤ pos 2)
       = rw (
         act-minus_multiple A (reverse x) (simple_root r) (A.entry s r) (simple_root s),
         pairing-minus_multiple A t (act A (reverse x) (simple_root r)) (A.entry s r) (act A (reverse x) (simple_root s)),

@@ -10,7 +10,8 @@ use Rattle.cox_base.specs.Admissible.{IsAdmissible, HasOrder}
 use Rattle.cox_base.specs.Element.{SameElement}
 use Rattle.cox_base.specs.ShortLex.{normal_form}
 use Rattle.cox_base.specs.Length.{word_length}
-use Rattle.cox_base.specs.Reduced.{IsReduced, IsRightDescent}
+use Rattle.cox_base.specs.Reduced.{IsReduced}
+use Rattle.cox_base.specs.Descents.{IsRightDescent}
 use Rattle.cox_reflect.specs.Relations.{alternating_from, AreRelated, itself, turned, chained, joined, square, braided}
 use Rattle.cox_reflect.proofs.Elements.{same-refl, same-sym, same-trans, same-cons, same-push, same-append, same-equal}
 use Rattle.cox_reflect.proofs.Elements.{same-square, same-push_twice, same-drop_back}

@@ -9,8 +9,9 @@ use Rattle.cox_base.specs.Admissible.{IsCoxeterMatrix, IsAdmissible}
 use Rattle.cox_base.specs.IntegerMatrix.{IntegerMatrix, integer_matrix}
 use Rattle.cox_base.specs.ShortLex.{letters, normal_form}
 use Rattle.cox_base.specs.Length.{word_length, left_descents, right_descents}
-use Rattle.cox_base.specs.Reduced.{IsLeftDescent}
-use Rattle.cox_reflect.specs.Height.{AreHeights, AreOfShortElement, AreShortWith, IsLeastLeftDescent}
+use Rattle.cox_base.specs.Descents.{IsLeftDescent}
+use Rattle.cox_reflect.specs.Height.{AreHeights, AreOfShortElement, AreShortWith}
+use Rattle.cox_reflect.specs.LeastDescent.{IsLeastLeftDescent}
 use Rattle.cox_reflect.specs.Side.{word_on_side, descents_at}
 use Rattle.cox_reflect.proofs.Admissible.{IsAdmissible-integer_matrix}
 use Rattle.cox_reflect.proofs.Lengths.{word_length-is, word_length-cons_reverse, word_length-reverse}

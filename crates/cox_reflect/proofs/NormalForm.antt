@@ -5,7 +5,7 @@ use Rattle.cox_base.specs.IntegerMatrix.{IntegerMatrix}
 use Rattle.cox_base.specs.Admissible.{IsAdmissible}
 use Rattle.cox_base.specs.Element.{SameElement}
 use Rattle.cox_base.specs.ShortLex.{normal_form}
-use Rattle.cox_base.specs.Reduced.{IsLeftDescent}
+use Rattle.cox_base.specs.Descents.{IsLeftDescent}
 use Rattle.cox_reflect.proofs.Elements.{same-sym, same-trans, same-cons, same-equal, same-square}
 use Rattle.cox_reflect.proofs.Search.{normal_form-same, word_length-least}
 use Rattle.cox_reflect.proofs.Lengths.{word_length-is, cons-word_length}

@@ -6,10 +6,12 @@ use Rattle.std.proofs.lemmas.List.{take-append-drop}
 use Rattle.cox_base.specs.Matrix.{CoxeterMatrix, IsLetter, IsWord}
 use Rattle.cox_base.specs.Admissible.{IsCoxeterMatrix, IsAdmissible}
 use Rattle.cox_base.specs.IntegerMatrix.{IntegerMatrix, integer_matrix}
-use Rattle.cox_base.specs.Reduced.{IsReduced, IsLeftDescent}
+use Rattle.cox_base.specs.Reduced.{IsReduced}
+use Rattle.cox_base.specs.Descents.{IsLeftDescent}
 use Rattle.cox_base.specs.Bruhat.{IsBelow}
 use Rattle.cox_reflect.specs.RootHeight.{at_letter}
-use Rattle.cox_reflect.specs.Height.{AreHeights, AreOfShortElement, AreShortWith, IsLeastLeftDescent}
+use Rattle.cox_reflect.specs.Height.{AreHeights, AreOfShortElement, AreShortWith}
+use Rattle.cox_reflect.specs.LeastDescent.{IsLeastLeftDescent}
 use Rattle.cox_reflect.proofs.Elements.{same-refl, same-sym, same-trans, same-equal, same-square}
 use Rattle.cox_reflect.proofs.Search.{normal_form-same, word_length-equal, word_length-length}
 use Rattle.cox_reflect.proofs.Lengths.{IsReduced-back}

@@ -207,12 +207,14 @@ module _ (A : IntegerMatrix) (g : IsAdmissible A) where
   spread_nonnegative u s t r ls lt hx hy ps pt =
       let x : ℤ = (shift r.count (pos 2) (A.entry t s) (A.entry s t) (A.entry t s)).0
       in let y : ℤ = (shift r.count (pos 2) (A.entry t s) (A.entry s t) (A.entry t s)).1
-      in let e : act A u (simple_root s) ≡ minus_multiple (minus_multiple (act A r.prefix (simple_root s)) x (act A r.prefix (simple_root s))) y
+      in let e : act A u (simple_root s)
+      ≡ minus_multiple (minus_multiple (act A r.prefix (simple_root s)) x (act A r.prefix (simple_root s))) y
       (act A r.prefix (simple_root t))
       = sym (same-act A g r.same (simple_root s)) ∙ act-append A r.prefix (alternating r.count s t) (simple_root s)
       ∙ ap (act A r.prefix) (act-alternating_root A g r.count s t ls lt)
       ∙ act-minus_multiple A r.prefix (minus_multiple (simple_root s) x (simple_root s)) y (simple_root t)
-      ∙ ap (λ (v : Vector). minus_multiple v y (act A r.prefix (simple_root t))) (act-minus_multiple A r.prefix (simple_root s) x (simple_root s))
+      ∙ ap (λ (v : Vector). minus_multiple v y (act A r.prefix (simple_root t)))
+      (act-minus_multiple A r.prefix (simple_root s) x (simple_root s))
       in λ i. rw e (combination_nonnegative x y (act A r.prefix (simple_root s) i) (act A r.prefix (simple_root t) i) hx hy (ps i) (pt i))
 
   positive_step : (x : List ℕ) (t s : ℕ) → Shorter (length (x ++ t ∷ [])) → IsReduced A (x ++ t ∷ [])

@@ -11,12 +11,13 @@ use Rattle.cox_base.specs.IntegerMatrix.{IntegerMatrix}
 use Rattle.cox_base.specs.Admissible.{IsAdmissible}
 use Rattle.cox_base.specs.Element.{SameElement}
 use Rattle.cox_base.specs.Length.{word_length}
-use Rattle.cox_base.specs.Reduced.{IsLeftDescent, IsRightDescent}
+use Rattle.cox_base.specs.Descents.{IsLeftDescent, IsRightDescent}
 use Rattle.cox_reflect.specs.Action.{Vector, simple_root, minus_multiple, reflect}
 use Rattle.cox_reflect.specs.WordAction.{act, IsNonnegative, IsNonpositive}
 use Rattle.cox_lemmas.proofs.Ring.{linears, zero_times, times_zero}
 use Rattle.cox_reflect.proofs.Sums.{letter_cases, simple_root-self, simple_root-other}
-use Rattle.cox_reflect.proofs.Action.{act-push, act-minus_multiple, act-reverse, act-fixed, reflect-simple_root, reflect-other, act-other_root}
+use Rattle.cox_reflect.proofs.Action.{act-push, act-minus_multiple, act-reverse, act-fixed, reflect-simple_root, reflect-other}
+use Rattle.cox_reflect.proofs.Action.{act-other_root}
 use Rattle.cox_reflect.proofs.Elements.{same-refl, same-append, same-outside, same-push_twice}
 use Rattle.cox_reflect.proofs.Search.{word_length-equal}
 use Rattle.cox_reflect.proofs.Lengths.{word_length-push, push-word_length, word_length-reverse, word_length-cons_reverse}

@@ -55,16 +55,19 @@ unfolding size
 size-minus_multiple zero s v c = omega arith
 size-minus_multiple (suc n) s v c = ⊎_elim last (before (size-minus_multiple n s v c)) (cases_eq s (suc n))
   where
-    at_last : size n (minus_multiple v c (simple_root (suc n))) + nat_abs (minus_multiple v c (simple_root (suc n)) (suc n)) ≤ size n v + nat_abs
+    at_last : size n (minus_multiple v c (simple_root (suc n))) + nat_abs (minus_multiple v c (simple_root (suc n)) (suc n)) ≤ size n v
+        + nat_abs
         (v (suc n)) + nat_abs c
     at_last = rw (size-below n (suc n) v c (omega arith), minus_multiple-self (suc n) v c) (omega (arith, ints))
 
     last : s ≡ suc n
-        → size n (minus_multiple v c (simple_root s)) + nat_abs (minus_multiple v c (simple_root s) (suc n)) ≤ size n v + nat_abs (v (suc n)) + nat_abs c
+        → size n (minus_multiple v c (simple_root s)) + nat_abs (minus_multiple v c (simple_root s) (suc n)) ≤ size n v
+        + nat_abs (v (suc n)) + nat_abs c
     last e = rw e at_last
 
     before : size n (minus_multiple v c (simple_root s)) ≤ size n v + nat_abs c → (s ≡ suc n → ⊥)
-        → size n (minus_multiple v c (simple_root s)) + nat_abs (minus_multiple v c (simple_root s) (suc n)) ≤ size n v + nat_abs (v (suc n)) + nat_abs c
+        → size n (minus_multiple v c (simple_root s)) + nat_abs (minus_multiple v c (simple_root s) (suc n)) ≤ size n v
+        + nat_abs (v (suc n)) + nat_abs c
     before prefix ne = rw (minus_multiple-other s (suc n) v c (λ e. ne (sym e))) (omega (arith, prefix))
 
 size-simple_root_below : (n s : ℕ) → n < s → size n (simple_root s) ≡ 0

@@ -9,7 +9,8 @@ use Rattle.cox_base.specs.Admissible.{IsCoxeterMatrix, IsAdmissible, HasOrder, o
 use Rattle.cox_base.specs.IntegerMatrix.{IntegerMatrix, integer_matrix}
 use Rattle.cox_base.specs.Admissible.{order_four, order_back_four, order_six, order_back_six}
 use Rattle.cox_base.specs.Element.{SameElement}
-use Rattle.cox_base.specs.Reduced.{IsReduced, IsLeftDescent, IsRightDescent}
+use Rattle.cox_base.specs.Reduced.{IsReduced}
+use Rattle.cox_base.specs.Descents.{IsLeftDescent, IsRightDescent}
 use Rattle.cox_reflect.specs.Action.{Vector, simple_root, minus_multiple}
 use Rattle.cox_reflect.proofs.Admissible.{IsAdmissible-integer_matrix, order_label}
 use Rattle.cox_reflect.proofs.Sums.{simple_root-self, simple_root-other}

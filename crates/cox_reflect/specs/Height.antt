@@ -3,7 +3,6 @@ use Rattle.std.specs.Prelude.{◌≡◌, ℕ, ◌≤◌, List, ◌∷◌, ℤ}
 use Rattle.cox_base.specs.Matrix.{IsLetter}
 use Rattle.cox_base.specs.IntegerMatrix.{IntegerMatrix}
 use Rattle.cox_base.specs.Length.{word_length}
-use Rattle.cox_base.specs.Reduced.{IsLeftDescent}
 use Rattle.cox_reflect.specs.RootHeight.{at_letter, height}
 
 -- these are the heights of u: for each letter t that of u^-1 e(t)
@@ -22,8 +21,3 @@ pub record AreShortWith (A : IntegerMatrix) (limit s : ℕ) (heights : List ℤ)
   pub heights_of : AreHeights A word heights
   pub short : word_length A word ≤ limit
   pub next_short : word_length A (s ∷ word) ≤ limit
-
--- s is the least of the left descents of u
-pub record IsLeastLeftDescent (A : IntegerMatrix) (u : List ℕ) (s : ℕ) : Type 0 where
-  pub descent : IsLeftDescent A u s
-  pub least : (t : ℕ) → IsLeftDescent A u t → s ≤ t

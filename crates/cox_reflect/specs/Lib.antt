@@ -20,5 +20,7 @@ pub mod Subword
 pub mod RootHeight
 -- the heights of a word, and least left descents
 pub mod Height
+-- the least left descent
+pub mod LeastDescent
 -- descents by the side
 pub mod Side

@@ -6,10 +6,12 @@ ghost use Rattle.cox_base.specs.IntegerMatrix.{IntegerMatrix, integer_matrix};
 ghost use Rattle.cox_base.specs.Admissible.{IsAdmissible};
 ghost use Rattle.cox_base.specs.Bruhat.{IsBelow};
 ghost use Rattle.cox_base.specs.Length.{left_descents};
-ghost use Rattle.cox_base.specs.Reduced.{IsReduced, IsLeftDescent};
+ghost use Rattle.cox_base.specs.Reduced.{IsReduced};
+ghost use Rattle.cox_base.specs.Descents.{IsLeftDescent};
 ghost use Rattle.cox_base.specs.ShortLex.{normal_form};
 ghost use Rattle.cox_reflect.specs.RootHeight.{at_letter};
-ghost use Rattle.cox_reflect.specs.Height.{AreHeights, AreOfShortElement, AreShortWith, IsLeastLeftDescent};
+ghost use Rattle.cox_reflect.specs.Height.{AreHeights, AreOfShortElement, AreShortWith};
+ghost use Rattle.cox_reflect.specs.LeastDescent.{IsLeastLeftDescent};
 
 use cox_base::{Coxeter, MAX_LETTERS, MAX_RANK, Word};
 

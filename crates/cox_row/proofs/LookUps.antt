@@ -7,7 +7,8 @@ use Rattle.cox_poly.specs.Polynomial.{coefficient}
 use Rattle.cox_hecke.specs.Row.{IsKazhdanLusztig, IsMu}
 use Rattle.cox_context.specs.Numbers.{word_at}
 use Rattle.cox_row.specs.Rising.{number_at}
-use Rattle.cox_row.specs.Extremal.{IsExtremal, AreExtremal}
+use Rattle.cox_row.specs.Extremal.{IsExtremal}
+use Rattle.cox_row.specs.ExtremalNumbers.{AreExtremal}
 use Rattle.cox_row.specs.Polynomials.{polynomial_at, HavePolynomials}
 use Rattle.cox_row.specs.Mus.{value_at, AreMus}
 use Rattle.cox_row.specs.Raised.{StandsFor}

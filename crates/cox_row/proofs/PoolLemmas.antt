@@ -14,7 +14,7 @@ use Rattle.cox_context.specs.Numbers.{word_at}
 use Rattle.cox_context.proofs.ListLemmas.{contains-placed}
 use Rattle.cox_context.proofs.Shifting.{member-below}
 use Rattle.cox_row.specs.Rising.{number_at}
-use Rattle.cox_row.specs.Extremal.{AreExtremal}
+use Rattle.cox_row.specs.ExtremalNumbers.{AreExtremal}
 use Rattle.cox_row.specs.Polynomials.{polynomial_at, HavePolynomials}
 use Rattle.cox_row.specs.Distinct.{ArePolynomialsOf}
 use Rattle.cox_row.specs.Raised.{StandsFor}

@@ -14,7 +14,8 @@ use Rattle.cox_reflect.proofs.Roots.{left_descent-letter, descent-letter}
 use Rattle.cox_reflect.proofs.Bruhat.{below-same, below-length, below-equal_length, below-cons, below-push}
 use Rattle.cox_hecke.proofs.PolynomialValues.{kazhdan_lusztig-same, kazhdan_lusztig-left, kazhdan_lusztig-right}
 use Rattle.cox_context.specs.Closed.{IsClosed}
-use Rattle.cox_context.specs.Numbers.{word_at, IsNumberOf}
+use Rattle.cox_context.specs.Numbers.{word_at}
+use Rattle.cox_context.specs.Numbering.{IsNumberOf}
 use Rattle.cox_context.proofs.ListLemmas.{rising-place, rising-length}
 use Rattle.cox_context.proofs.Shifting.{element-at, length-at, member-below}
 use Rattle.cox_row.specs.Raised.{IsRaised, on_left, on_right, IsRaisedTo, raise_to, LeadsTo, StandsFor}

@@ -1,21 +1,9 @@
 -- Extremal elements: those to which the polynomials of a row are known from.
-use Rattle.std.specs.Prelude.{◌≡◌, ℕ, ◌<◌, List, length}
+use Rattle.std.specs.Prelude.{ℕ, List}
 use Rattle.cox_base.specs.IntegerMatrix.{IntegerMatrix}
-use Rattle.cox_base.specs.Reduced.{IsLeftDescent, IsRightDescent}
-use Rattle.cox_base.specs.Bruhat.{IsBelow}
-use Rattle.cox_context.specs.Numbers.{word_at}
-use Rattle.cox_row.specs.Rising.{number_at, AreRising, AreWithin}
+use Rattle.cox_base.specs.Descents.{IsLeftDescent, IsRightDescent}
 
 -- x is extremal for w: each left descent of w is one of x, and each right descent of w is one of x
 pub record IsExtremal (A : IntegerMatrix) (w x : List ℕ) : Type 0 where
   pub left : (s : ℕ) → IsLeftDescent A w s → IsLeftDescent A x s
   pub right : (s : ℕ) → IsRightDescent A w s → IsRightDescent A x s
-
--- the numbers of the extremal x ≤ w among the members, rising
-pub record AreExtremal (A : IntegerMatrix) (members : List (List ℕ)) (w : List ℕ) (numbers : List ℕ) : Type 0 where
-  pub rising : AreRising numbers
-  pub within : AreWithin (length members) numbers
-  pub extremal : (k : ℕ) → k < length numbers → IsExtremal A w (word_at members (number_at numbers k))
-  pub below : (k : ℕ) → k < length numbers → IsBelow A (word_at members (number_at numbers k)) w
-  pub whole : (x : ℕ) → x < length members → IsExtremal A w (word_at members x) → IsBelow A (word_at members x) w
-      → (k : ℕ) × (k < length numbers) × (number_at numbers k ≡ x)

@@ -2,6 +2,8 @@
 pub mod Rising
 -- extremal elements
 pub mod Extremal
+-- the numbers of the extremal elements of a row
+pub mod ExtremalNumbers
 -- the polynomials at extremal elements
 pub mod Polynomials
 -- the values of mu that are not 0

@@ -4,7 +4,7 @@ use Rattle.cox_base.specs.IntegerMatrix.{IntegerMatrix, integer_matrix}
 use Rattle.cox_context.specs.Closed.{Elements}
 use Rattle.cox_context.specs.Numbers.{word_at}
 use Rattle.cox_row.specs.declared.row.Row.{Row}
-use Rattle.cox_row.specs.Extremal.{AreExtremal}
+use Rattle.cox_row.specs.ExtremalNumbers.{AreExtremal}
 use Rattle.cox_row.specs.Polynomials.{HavePolynomials}
 use Rattle.cox_row.specs.Mus.{AreMus}
 

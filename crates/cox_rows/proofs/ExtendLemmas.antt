@@ -12,9 +12,9 @@ use Rattle.cox_reflect.proofs.Elements.{same-refl, same-sym}
 use Rattle.cox_reflect.proofs.Search.{normal_form-same}
 use Rattle.cox_reflect.proofs.Bruhat.{below-same, below-refl}
 use Rattle.cox_context.specs.Closed.{IsClosed}
-use Rattle.cox_context.specs.Members.{IsInUnion}
+use Rattle.cox_context.specs.Union.{IsInUnion}
 use Rattle.cox_context.specs.SortedList.{IsListOf}
-use Rattle.cox_context.specs.Numbers.{IsNumberOf}
+use Rattle.cox_context.specs.Numbering.{IsNumberOf}
 use Rattle.cox_context.proofs.ListLemmas.{contains-at}
 use Rattle.cox_context.proofs.Ideals.{element-normal_form}
 use Rattle.cox_klstep.specs.declared.tables.Tables.{Tables}

@@ -9,7 +9,8 @@ use Rattle.cox_base.specs.IntegerMatrix.{IntegerMatrix, integer_matrix}
 use Rattle.cox_base.specs.Admissible.{IsAdmissible}
 use Rattle.cox_poly.specs.Polynomial.{coefficient}
 use Rattle.cox_context.specs.Closed.{Elements, IsClosed}
-use Rattle.cox_context.specs.Numbers.{word_at, AreMoved}
+use Rattle.cox_context.specs.Numbers.{word_at}
+use Rattle.cox_context.specs.Numbering.{AreMoved}
 use Rattle.cox_context.proofs.ListLemmas.{contains-at}
 use Rattle.cox_row.specs.declared.row.Row.{Row}
 use Rattle.cox_row.specs.Rising.{number_at}

@@ -12,7 +12,8 @@ use Rattle.cox_base.specs.Admissible.{IsAdmissible}
 use Rattle.cox_base.specs.Element.{SameElement}
 use Rattle.cox_base.specs.Bruhat.{IsBelow}
 use Rattle.cox_base.specs.Length.{word_length, left_descents}
-use Rattle.cox_base.specs.Reduced.{IsReduced, IsLeftDescent}
+use Rattle.cox_base.specs.Reduced.{IsReduced}
+use Rattle.cox_base.specs.Descents.{IsLeftDescent}
 use Rattle.cox_base.specs.ShortLex.{letters, normal_form}
 use Rattle.cox_reflect.proofs.Bruhat.{below-equal_length, below-length, below-same}
 use Rattle.cox_reflect.proofs.Elements.{same-refl, same-sym, same-trans, same-equal, same-cons, same-square}

@@ -8,7 +8,8 @@ use Rattle.std.proofs.lemmas.List.Elements.{All-append, All-cons, All-nil}
 use Rattle.std.proofs.Math.Seq.{get_or-append_seam}
 use Rattle.cox_base.specs.IntegerMatrix.{IntegerMatrix}
 use Rattle.cox_base.specs.Admissible.{IsAdmissible}
-use Rattle.cox_base.specs.Reduced.{IsReduced, IsLeftDescent}
+use Rattle.cox_base.specs.Reduced.{IsReduced}
+use Rattle.cox_base.specs.Descents.{IsLeftDescent}
 use Rattle.cox_base.specs.Bruhat.{IsBelow}
 use Rattle.cox_reflect.proofs.Bruhat.{below-same, below-length, lift_down, lift_up}
 use Rattle.cox_reflect.proofs.Elements.{same-refl, same-square}

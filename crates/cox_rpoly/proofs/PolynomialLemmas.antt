@@ -5,9 +5,9 @@ use Rattle.cox_base.specs.Admissible.{IsAdmissible}
 use Rattle.cox_base.specs.Element.{SameElement}
 use Rattle.cox_base.specs.ShortLex.{normal_form}
 use Rattle.cox_base.specs.Length.{word_length}
-use Rattle.cox_base.specs.Reduced.{IsLeftDescent}
+use Rattle.cox_base.specs.Descents.{IsLeftDescent}
 use Rattle.cox_base.specs.Bruhat.{IsBelow}
-use Rattle.cox_reflect.specs.Height.{IsLeastLeftDescent}
+use Rattle.cox_reflect.specs.LeastDescent.{IsLeastLeftDescent}
 use Rattle.cox_reflect.proofs.Elements.{same-refl, same-sym, same-square}
 use Rattle.cox_reflect.proofs.Search.{normal_form-same, normal_form-equal, word_length-equal}
 use Rattle.cox_reflect.proofs.Lengths.{word_length-is, IsReduced-normal_form}

@@ -6,7 +6,8 @@ use Rattle.cox_rpoly.specs.declared.TheConstants.{MAX_DIFFERENCE}
 use Rattle.cox_base.specs.IntegerMatrix.{IntegerMatrix}
 use Rattle.cox_base.specs.Admissible.{IsAdmissible}
 use Rattle.cox_base.specs.Length.{word_length}
-use Rattle.cox_base.specs.Reduced.{IsReduced, IsLeftDescent}
+use Rattle.cox_base.specs.Reduced.{IsReduced}
+use Rattle.cox_base.specs.Descents.{IsLeftDescent}
 use Rattle.cox_poly.specs.Coefficients.{Coefficients, zero_polynomial, one_polynomial, plus, times_q, times_q_less_one}
 use Rattle.cox_poly.specs.Polynomial.{coefficient}
 use Rattle.cox_poly.proofs.Norms.{HasNormAtMost-coefficient}

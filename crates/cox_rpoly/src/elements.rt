@@ -3,7 +3,8 @@ ghost use Rattle.std.specs.Prelude.{◌≡◌, ℕ, List, Bool, true, false, ◌
 ghost use Rattle.cox_base.specs.Matrix.{IsLetter, IsWord};
 ghost use Rattle.cox_base.specs.IntegerMatrix.{IntegerMatrix, integer_matrix};
 ghost use Rattle.cox_base.specs.Admissible.{IsAdmissible};
-ghost use Rattle.cox_base.specs.Reduced.{IsReduced, IsLeftDescent};
+ghost use Rattle.cox_base.specs.Reduced.{IsReduced};
+ghost use Rattle.cox_base.specs.Descents.{IsLeftDescent};
 ghost use Rattle.cox_base.specs.Bruhat.{IsBelow};
 ghost use Rattle.cox_rpoly.specs.ElementValues.{IsElementBelow, IsShortElement};
 

@@ -8,7 +8,8 @@ use Rattle.cox_base.specs.Admissible.{IsAdmissible}
 use Rattle.cox_base.specs.ShortLex.{normal_form}
 use Rattle.cox_reflect.proofs.Search.{normal_form-same}
 use Rattle.cox_reflect.proofs.Bruhat.{below-refl}
-use Rattle.cox_context.specs.Members.{IsInInterval, IsInUnion}
+use Rattle.cox_context.specs.Members.{IsInInterval}
+use Rattle.cox_context.specs.Union.{IsInUnion}
 use Rattle.cox_context.specs.SortedList.{IsListOf, HasMoreThan}
 use Rattle.cox_context.specs.Closed.{Elements}
 use Rattle.cox_context.specs.Numbers.{word_at}
@@ -25,7 +26,7 @@ use Rattle.cox_base.specs.Matrix.{CoxeterMatrix}
 use Rattle.cox_base.specs.Element.{SameElement}
 use Rattle.cox_reflect.proofs.Elements.{same-sym}
 use Rattle.cox_hecke.specs.Needs.{IsNeeded}
-use Rattle.cox_context.specs.Numbers.{IsNumberOf}
+use Rattle.cox_context.specs.Numbering.{IsNumberOf}
 use Rattle.cox_rows.specs.Holding.{Holding, HasRow}
 use Rattle.cox_rows.specs.Ensured.{IsEnsured}
 use Rattle.cox_rows.proofs.NeedDecided.{needs_beyond-same}

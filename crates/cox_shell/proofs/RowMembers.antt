@@ -20,7 +20,8 @@ use Rattle.cox_context.proofs.ListLemmas.{IsPlaced, contains-placed, placed-cont
 use Rattle.cox_context.proofs.SortedLemmas.{IsListOf-filter}
 use Rattle.cox_context.proofs.IntervalLemmas.{is_below, is_below-tells}
 use Rattle.cox_context.proofs.Shifting.{element-at}
-use Rattle.cox_row.specs.Extremal.{IsExtremal, AreExtremal}
+use Rattle.cox_row.specs.Extremal.{IsExtremal}
+use Rattle.cox_row.specs.ExtremalNumbers.{AreExtremal}
 use Rattle.cox_row.specs.Rising.{number_at}
 use Rattle.cox_row.proofs.Raising.{later-not_below}
 use Rattle.cox_shell.specs.RowReply.{IsExtremalBelow}

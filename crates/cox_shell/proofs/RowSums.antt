@@ -14,7 +14,8 @@ use Rattle.cox_reflect.proofs.Elements.{same-refl, same-sym}
 use Rattle.cox_reflect.proofs.Bruhat.{below-same, below-length}
 use Rattle.cox_poly.specs.Coefficients.{Coefficients, plus}
 use Rattle.cox_poly.specs.Polynomial.{coefficient, coefficient_after}
-use Rattle.cox_poly.specs.Products.{scaled, times_q_power}
+use Rattle.cox_poly.specs.Products.{times_q_power}
+use Rattle.cox_poly.specs.Multiples.{scaled}
 use Rattle.cox_hecke.specs.Family.{Family}
 use Rattle.cox_hecke.specs.Sums.{sum_over}
 use Rattle.cox_hecke.specs.Row.{IsRow, IsKazhdanLusztig}

@@ -11,7 +11,8 @@ use Rattle.cox_context.specs.Closed.{IsClosed}
 use Rattle.cox_context.specs.Members.{IsElement}
 use Rattle.cox_context.specs.SortedList.{IsListOf}
 use Rattle.cox_context.specs.Numbers.{word_at}
-use Rattle.cox_context.specs.Refusal.{IsTooLarge, IsRefusal}
+use Rattle.cox_context.specs.Refusal.{IsTooLarge}
+use Rattle.cox_context.specs.FaultMeaning.{IsRefusal}
 use Rattle.cox_context.specs.declared.fault.ContextFault.{ContextFault}
 use Rattle.cox_context.specs.declared.fault.ContextFault.TheVariants as context
 use Rattle.cox_context.proofs.Ideals.{element-tail}
@@ -107,7 +108,8 @@ module _ (limits : Limits) (A : IntegerMatrix) where
           })
 
 -- where the row of a member is beyond a limit, the rows of the group are refused
-beyond-refused : (table : CoxeterMatrix) (limits : Limits) (rows : Holding) → AreOf table limits rows → HoldsGroup (integer_matrix table) rows
+beyond-refused : (table : CoxeterMatrix) (limits : Limits) (rows : Holding) → AreOf table limits rows
+    → HoldsGroup (integer_matrix table) rows
     → (IsTooLarge (IsElement (integer_matrix table)) limits.context → ⊥) → (i : ℕ) → i < length rows.elements.members
     → IsBeyond (integer_matrix rows.elements.matrix) rows.limit (word_at rows.elements.members i)
     → IsRefused (RefusesGroupRows limits (integer_matrix table)) (Some LargeRow)

@@ -5,7 +5,8 @@ use Rattle.cox_base.specs.IntegerMatrix.{IntegerMatrix}
 use Rattle.cox_base.specs.ShortLex.{normal_form}
 use Rattle.cox_context.specs.Members.{IsElement}
 use Rattle.cox_context.specs.SortedList.{IsListOf}
-use Rattle.cox_context.specs.Numbers.{word_at, IsNumberOf}
+use Rattle.cox_context.specs.Numbers.{word_at}
+use Rattle.cox_context.specs.Numbering.{IsNumberOf}
 use Rattle.cox_options.specs.declared.options.Options.{Options}
 use Rattle.cox_rows.specs.Holding.{Holding, HasRow}
 use Rattle.cox_command.specs.declared.refusal.Refusal.{Refusal}

@@ -11,7 +11,8 @@ use Rattle.cox_reflect.specs.WordAction.{act}
 use Rattle.cox_reflect.specs.Transpose.{transposed}
 use Rattle.cox_reflect.specs.DerivedWords.{reflection}
 use Rattle.cox_lemmas.proofs.Ring.{linears, multiply_out}
-use Rattle.cox_reflect.proofs.Action.{act-nil, act-cons, act-append, act-push, act-minus_multiple, act-fixed, pairing-minus_multiple, pairing-zero}
+use Rattle.cox_reflect.proofs.Action.{act-nil, act-cons, act-append, act-push, act-minus_multiple, act-fixed, pairing-minus_multiple}
+use Rattle.cox_reflect.proofs.Action.{pairing-zero}
 use Rattle.cox_reflect.proofs.Action.{pairing-simple_root, reverse-act}
 use Rattle.cox_reflect.proofs.Roots.{negated}
 use Rattle.cox_reflect.proofs.Exchange.{act-reflection, reflection-root}

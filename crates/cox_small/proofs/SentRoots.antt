@@ -12,7 +12,8 @@ use Rattle.cox_reflect.specs.Action.{Vector, simple_root, pairing, minus_multipl
 use Rattle.cox_reflect.specs.WordAction.{act, IsNonnegative, IsNonpositive}
 use Rattle.cox_lemmas.proofs.Ring.{linears, product_nonnegative}
 use Rattle.cox_reflect.proofs.Sums.{letter_cases, simple_root-self}
-use Rattle.cox_reflect.proofs.Action.{act-nil, act-cons, act-push, act-single, act-minus_multiple, act-reverse, pairing-outside, reflect-minus_multiple}
+use Rattle.cox_reflect.proofs.Action.{act-nil, act-cons, act-push, act-single, act-minus_multiple, act-reverse, pairing-outside}
+use Rattle.cox_reflect.proofs.Action.{reflect-minus_multiple}
 use Rattle.cox_reflect.proofs.Action.{reflect-simple_root, reflect-outside, reflect-reflect}
 use Rattle.cox_reflect.proofs.Elements.{same-act}
 use Rattle.cox_reflect.proofs.Search.{normal_form-same, word_length-length}
@@ -112,7 +113,8 @@ module _ (A : IntegerMatrix) (g : IsAdmissible A) where
 
     image : act A x (reflect A s b) ≡ minus_multiple (simple_root q) (pairing A s b) (act A x (simple_root s))
     unfolding reflect
-    image = act-minus_multiple A x b (pairing A s b) (simple_root s) ∙ ap (λ (v : Vector). minus_multiple v (pairing A s b) (act A x (simple_root s))) turns
+    image = act-minus_multiple A x b (pairing A s b) (simple_root s)
+        ∙ ap (λ (v : Vector). minus_multiple v (pairing A s b) (act A x (simple_root s))) turns
 
     -- q x s is shorter than q x, and takes s b to -e(q)
     descends : IsNonpositive (reflect A q (act A x (simple_root s)))

@@ -90,7 +90,8 @@ module _ (e : Elements) where
   }
 
   -- for a row that is needed, so for the row that needs it
-  pub kept-needed : IsAdmissible (integer_matrix e.matrix) → (i u : ℕ) (a b : Seat) → IsNeededAt e i u → IsSeatKept e u a b → IsSeatKept e i a b
+  pub kept-needed : IsAdmissible (integer_matrix e.matrix) → (i u : ℕ) (a b : Seat) → IsNeededAt e i u → IsSeatKept e u a b
+      → IsSeatKept e i a b
   kept-needed g i u a b n k = record {
     same = k.same;
     splits = k.splits;

@@ -4,11 +4,11 @@ use Rattle.cox_base.specs.declared.side.Side.TheVariants.{Left}
 use Rattle.cox_base.specs.IntegerMatrix.{integer_matrix}
 use Rattle.cox_base.specs.Admissible.{IsAdmissible}
 use Rattle.cox_base.specs.Element.{SameElement}
-use Rattle.cox_reflect.specs.Height.{IsLeastLeftDescent}
-use Rattle.cox_poly.specs.Products.{minus}
+use Rattle.cox_reflect.specs.LeastDescent.{IsLeastLeftDescent}
+use Rattle.cox_poly.specs.Multiples.{minus}
 use Rattle.cox_hecke.specs.Family.{Family}
 use Rattle.cox_hecke.specs.Row.{IsRow}
-use Rattle.cox_hecke.specs.Step.{step, Correction, AreCorrections, correction_sum}
+use Rattle.cox_hecke.specs.StepFamily.{step, Correction, AreCorrections, correction_sum}
 use Rattle.cox_context.specs.Closed.{Elements}
 use Rattle.cox_context.specs.Numbers.{word_at}
 use Rattle.cox_fill_core.specs.declared.event.RowState.{RowState}

@@ -1,7 +1,7 @@
 -- The members that the walk has come to, down and then up.
 use Rattle.std.proofs.Common.{◌≡◌, ◌+◌, ◌-◌, ◌≤◌, ◌∷◌, length}
 use Rattle.cox_base.specs.IntegerMatrix.{integer_matrix}
-use Rattle.cox_base.specs.Reduced.{IsLeftDescent}
+use Rattle.cox_base.specs.Descents.{IsLeftDescent}
 use Rattle.cox_context.specs.Numbers.{word_at}
 use Rattle.cox_context.proofs.LowerLemmas.{IsStep}
 use Rattle.cox_context.proofs.lower.walk.Given as goal

@@ -3,7 +3,7 @@ use Rattle.std.proofs.Common.{◌≡◌, ℕ, ◌+◌, ◌*◌, ◌^◌, ◌≤�
 use Rattle.std.specs.Prelude.{unsigned_abs}
 use Rattle.cox_base.specs.IntegerMatrix.{integer_matrix}
 use Rattle.cox_poly.specs.Coefficients.{Coefficients}
-use Rattle.cox_poly.specs.Products.{minus}
+use Rattle.cox_poly.specs.Multiples.{minus}
 use Rattle.cox_poly.specs.Polynomial.{coefficient}
 use Rattle.cox_context.specs.Numbers.{word_at}
 use Rattle.cox_klstep.specs.CorrectionSums.{GivesAt, numbered_sum}

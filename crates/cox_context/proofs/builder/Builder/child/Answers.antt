@@ -28,4 +28,5 @@ returns-else-is_meant-clause-none c =
 
 pub returns-then-is_some-clause-none : goal.returns-then-is_some-clause-none
 returns-then-is_some-clause-none c =
-    known (found-contains c.args.self.now.listing.members _ c.left_shift.result c.left_shift.ensures (sym c.is_some.ensures ∙ c.if-is_some.true))
+    known (found-contains c.args.self.now.listing.members _ c.left_shift.result c.left_shift.ensures
+    (sym c.is_some.ensures ∙ c.if-is_some.true))

@@ -9,7 +9,8 @@ use Rattle.cox_context.specs.Growth.{IsGrowing}
 use Rattle.cox_context.specs.Numbers.{word_at}
 use Rattle.cox_context.proofs.Ideals.{member-tailed}
 use Rattle.cox_context.proofs.GrowthLemmas.{growing-letter}
-use Rattle.cox_context.proofs.ChildLemmas.{member-closed, members-below, growing-no_next, growing-next, prefix-next, short-next, numbers-next}
+use Rattle.cox_context.proofs.ChildLemmas.{member-closed, members-below, growing-no_next, growing-next, prefix-next, short-next}
+use Rattle.cox_context.proofs.ChildLemmas.{numbers-next}
 use Rattle.cox_context.proofs.ShiftRowLemmas.{shifts-push}
 use Rattle.cox_context.proofs.builder.Builder.grow_letter.Goals as goal
 use Rattle.cox_context.proofs.builder.Builder.grow_letter.Goals.{in-Some+in_ok-add, in_default}

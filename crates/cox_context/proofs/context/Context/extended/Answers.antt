@@ -2,8 +2,8 @@
 use Rattle.std.proofs.Common.{rules, ◌≡◌, ◌∙◌, IfErr, ap, arith}
 use Rattle.cox_base.specs.IntegerMatrix.{integer_matrix}
 use Rattle.cox_context.specs.Closed.{Elements}
-use Rattle.cox_context.specs.Members.{IsInUnion}
-use Rattle.cox_context.specs.Refusal.{IsRefusal}
+use Rattle.cox_context.specs.Union.{IsInUnion}
+use Rattle.cox_context.specs.FaultMeaning.{IsRefusal}
 use Rattle.cox_context.proofs.Extensions.{extension, extension-refused, extension-found, extension-seen, extension-closed, extension-moved}
 use Rattle.cox_context.proofs.context.Context.extended.Goals as goal
 

@@ -2,8 +2,9 @@
 use Rattle.std.proofs.Common.{rules, ◌≡◌, ◌∙◌, length, IfErr, arith}
 use Rattle.cox_base.specs.IntegerMatrix.{integer_matrix}
 use Rattle.cox_reflect.proofs.Admissible.{IsAdmissible-integer_matrix}
-use Rattle.cox_context.specs.Members.{IsInInterval, IsInUnion}
-use Rattle.cox_context.specs.Refusal.{IsRefusal}
+use Rattle.cox_context.specs.Members.{IsInInterval}
+use Rattle.cox_context.specs.Union.{IsInUnion}
+use Rattle.cox_context.specs.FaultMeaning.{IsRefusal}
 use Rattle.cox_context.specs.SortedList.{IsListOf}
 use Rattle.cox_context.proofs.ResultLemmas.{made_members}
 use Rattle.cox_context.proofs.ContextLemmas.{form-same, identity-closed, interval-refused, interval-found, interval-closed}

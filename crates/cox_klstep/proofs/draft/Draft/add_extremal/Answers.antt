@@ -92,23 +92,27 @@ returns-clause-underway c =
 pub returns-in_err-note-in-Ok-clause-steps : goal.returns-in_err-note-in-Ok-clause-steps
 returns-in_err-note-in-Ok-clause-steps c = λ start before. cost-next c.args.ctx.now c.args.i (source_cost c.args.source.now) start
     c.args.self.now.done c.args.steps.now c.put_polynomial.new.steps c.put_polynomial.result c.requires.extremal
-    (omega (arith, c.requires.x, c.requires.i)) c.put_polynomial.ensures.below.0 c.put_polynomial.ensures.none c.put_polynomial.ensures.steps
+    (omega (arith, c.requires.x, c.requires.i)) c.put_polynomial.ensures.below.0 c.put_polynomial.ensures.none
+    c.put_polynomial.ensures.steps
     before
 
 pub returns-in_err-note-in-Err-TooBig-clause-steps : goal.returns-in_err-note-in-Err-TooBig-clause-steps
 returns-in_err-note-in-Err-TooBig-clause-steps c = λ start before. cost-next c.args.ctx.now c.args.i (source_cost c.args.source.now) start
     c.args.self.now.done c.args.steps.now c.put_polynomial.new.steps c.put_polynomial.result c.requires.extremal
-    (omega (arith, c.requires.x, c.requires.i)) c.put_polynomial.ensures.below.0 c.put_polynomial.ensures.none c.put_polynomial.ensures.steps
+    (omega (arith, c.requires.x, c.requires.i)) c.put_polynomial.ensures.below.0 c.put_polynomial.ensures.none
+    c.put_polynomial.ensures.steps
     before
 
 pub returns-in-Err-NoMemory-clause-steps : goal.returns-in-Err-NoMemory-clause-steps
 returns-in-Err-NoMemory-clause-steps c = λ start before. cost-next c.args.ctx.now c.args.i (source_cost c.args.source.now) start
     c.args.self.now.done c.args.steps.now c.put_polynomial.new.steps c.put_polynomial.result c.requires.extremal
-    (omega (arith, c.requires.x, c.requires.i)) c.put_polynomial.ensures.below.0 c.put_polynomial.ensures.none c.put_polynomial.ensures.steps
+    (omega (arith, c.requires.x, c.requires.i)) c.put_polynomial.ensures.below.0 c.put_polynomial.ensures.none
+    c.put_polynomial.ensures.steps
     before
 
 pub returns-clause-steps : goal.returns-clause-steps
 returns-clause-steps c = λ start before. cost-next c.args.ctx.now c.args.i (source_cost c.args.source.now) start
     c.args.self.now.done c.args.steps.now c.put_polynomial.new.steps c.put_polynomial.result c.requires.extremal
-    (omega (arith, c.requires.x, c.requires.i)) c.put_polynomial.ensures.below.0 c.put_polynomial.ensures.none c.put_polynomial.ensures.steps
+    (omega (arith, c.requires.x, c.requires.i)) c.put_polynomial.ensures.below.0 c.put_polynomial.ensures.none
+    c.put_polynomial.ensures.steps
     before

@@ -29,7 +29,8 @@ loop-self-preserved c = record {
       in let less : c.loop-self.self.next < c.args.i = omega (arith, c.loop-self-test.true, c.requires.end)
       in let from = old.2.next.from less
       in let noted = noted-pass (integer_matrix c.args.ctx.now.matrix) c.len-len.ensures.admissible c.args.ctx.now.members
-      c.len-len.ensures.closed c.args.i c.requires.i limit old.0 c.loop-self.self.next c.loop-self.self.next _ _ from (omega arith) old.2.next
+      c.len-len.ensures.closed c.args.i c.requires.i limit old.0 c.loop-self.self.next c.loop-self.self.next _ _ from (omega arith)
+      old.2.next
       (λ x l m. bare x (omega (arith, l, old.1)) (omega (arith, m, c.loop-self-test.true))) old.2.noted
       in (
         c.loop-self.self.next + 1,

@@ -11,4 +11,5 @@ abbrev pub invariant-loop-x : goal.invariant-loop-x
 invariant-loop-x l = (limit : ℤ) → pos 0 ≤ℤ limit
     → AreLarge (integer_matrix l.ctx.matrix) l.ctx.members (word_at l.ctx.members l.i) limit (l.i + 1) l.self.numbers.items
     l.self.coefficients.items
-    → (z k : ℕ) (c : ℤ) → z < l.x → IsLargeCoefficient (integer_matrix l.ctx.matrix) limit (word_at l.ctx.members z) (word_at l.ctx.members l.i) k c → ⊥
+    → (z k : ℕ) (c : ℤ) → z < l.x
+    → IsLargeCoefficient (integer_matrix l.ctx.matrix) limit (word_at l.ctx.members z) (word_at l.ctx.members l.i) k c → ⊥

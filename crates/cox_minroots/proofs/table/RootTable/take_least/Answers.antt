@@ -3,7 +3,8 @@ use Rattle.std.proofs.Common.{◌≡◌, ◌∷◌, [], ◌++◌, ◌-◌, arith
 use Rattle.cox_base.specs.IntegerMatrix.{integer_matrix}
 use Rattle.cox_reflect.proofs.Admissible.{IsAdmissible-integer_matrix}
 use Rattle.cox_base.specs.Element.{SameElement}
-use Rattle.cox_base.specs.Reduced.{IsReduced, IsRightDescent}
+use Rattle.cox_base.specs.Reduced.{IsReduced}
+use Rattle.cox_base.specs.Descents.{IsRightDescent}
 use Rattle.cox_base.specs.Matrix.{IsWord}
 use Rattle.cox_minroots.proofs.ProductLemmas.{reduced-remove, word-remove}
 use Rattle.cox_minroots.proofs.ExchangeForms.{exchanged-descent, form-least, form-none}

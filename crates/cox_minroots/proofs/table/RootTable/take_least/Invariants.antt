@@ -1,7 +1,7 @@
 -- No letter before s is a right descent.
 use Rattle.std.proofs.Common.{ℕ, ◌≡◌, ◌<◌, ◌≤◌}
 use Rattle.cox_base.specs.IntegerMatrix.{integer_matrix}
-use Rattle.cox_base.specs.Reduced.{IsRightDescent}
+use Rattle.cox_base.specs.Descents.{IsRightDescent}
 use Rattle.cox_minroots.proofs.table.RootTable.take_least.Given as goal
 
 abbrev pub invariant-loop-s : goal.invariant-loop-s

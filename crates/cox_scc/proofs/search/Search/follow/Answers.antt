@@ -1,7 +1,8 @@
 -- What is read is the next edge of the vertex at the end of the path, and following it keeps the walk.
 use Rattle.std.proofs.Common.{◌<◌, slice_index, subst, sym, arith}
 use Rattle.cox_scc.proofs.Pigeonholes.{stack_fits}
-use Rattle.cox_scc.proofs.PassLemmas.{here_in, vertex_read, in_next, edge_read, edge_is_next, edge_in, target_in, target_read, walk_follow_read}
+use Rattle.cox_scc.proofs.PassLemmas.{here_in, vertex_read, in_next, edge_read, edge_is_next, edge_in, target_in, target_read}
+use Rattle.cox_scc.proofs.PassLemmas.{walk_follow_read}
 use Rattle.cox_scc.proofs.search.Search.follow.Goals as goal
 
 pub index-requires : goal.index-requires

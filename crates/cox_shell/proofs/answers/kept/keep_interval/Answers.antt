@@ -41,7 +41,12 @@ pub returns-clause-kept : goal.returns-clause-kept
 returns-clause-kept c =
     let told = c.in_ok-context.ensures {u = tt} in
     let made = c.in_ok-new.ensures {u = tt} in
-    rw made (record { group = told.matrix; limit = omega (arith, ints, c.coef.ensures.coef, c.coef.ensures.least, c.coef.ensures.most); few = told.few })
+    rw made (record {
+      group = told.matrix;
+      limit = omega (arith, ints, c.coef.ensures.coef, c.coef.ensures.least, c.coef.ensures.most);
+      few
+          = told.few;
+    })
 
 pub returns-clause-interval : goal.returns-clause-interval
 returns-clause-interval c =

@@ -3,7 +3,7 @@ use Rattle.std.proofs.Common.{Some}
 use Rattle.cox_base.specs.IntegerMatrix.{integer_matrix}
 use Rattle.cox_base.specs.ShortLex.{normal_form}
 use Rattle.cox_base.proofs.AdmissibleMatrices.{IsAdmissible-integer_matrix}
-use Rattle.cox_context.specs.Numbers.{IsNumberOf}
+use Rattle.cox_context.specs.Numbering.{IsNumberOf}
 use Rattle.cox_shell.specs.SessionLimits.{limits_of}
 use Rattle.cox_shell.specs.Kept.{AreOf}
 use Rattle.cox_shell.proofs.KeptLemmas.{large-free, row-allowed, still-of, holds-row, still-small, still-refused}

@@ -29,7 +29,8 @@ returns-in-Err c =
     let ensured = c.in-Err.ensures {u = tt} in
     record {
       kept = record { group = rw ensured.elements of.group; limit = rw ensured.limit of.limit; few = rw ensured.elements of.few };
-      rows = rw c.unanswered_by.ensures (fault-refused c.args.table.now limits c.in-Some.rows of whole (not-large limits A told.elements.0) _
+      rows = rw c.unanswered_by.ensures
+          (fault-refused c.args.table.now limits c.in-Some.rows of whole (not-large limits A told.elements.0) _
           c.in-Err.fault ensured.fault);
       group = told.group;
     }

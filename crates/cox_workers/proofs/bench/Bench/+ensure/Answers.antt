@@ -126,7 +126,8 @@ take_in-returns-in_err-obtain-clause-missing g t c =
     let limit = limit_of c.args.self.now.store.now in
     let needed : IsNeededAt e c.args.i c.of-descent.result.lower = rw c.of-descent.ensures.number at
     (lower-needed_at e c.len-len.ensures.admissible c.len-len.ensures.closed c.of-descent.result c.of-descent.ensures.descent)
-    in let why : IfErr c.from_residual.result (IsRowMissing e limit c.of-descent.result.lower c.args.seat.now c.obtain.new.seat) = search rules
+    in let why : IfErr c.from_residual.result (IsRowMissing e limit c.of-descent.result.lower c.args.seat.now c.obtain.new.seat) = search
+    rules
     in result-needed e c.len-len.ensures.admissible limit c.args.i c.of-descent.result.lower c.args.seat.now c.args.seat.now
     c.obtain.new.seat
     c.from_residual.result needed refl why
