@@ -1,5 +1,5 @@
 //! Chooses the step by which the row of a member is made.
-ghost use Rattle.std.specs.Prelude.{◌≡◌, ℕ, ◌+◌, ◌<◌, ◌≤◌, List, length, IfOk, IfSome, ℤ};
+ghost use Rattle.std.specs.Prelude.{◌≡◌, ℕ, ◌+◌, ◌<◌, ◌≤◌, List, length, IfOk, IfSome, IsTrue, ℤ};
 ghost use Rattle.cox_base.specs.Matrix.{IsLetter};
 ghost use Rattle.cox_base.specs.IntegerMatrix.{integer_matrix};
 ghost use Rattle.cox_reflect.specs.LeastDescent.{IsLeastLeftDescent};
@@ -15,7 +15,7 @@ use crate::sides::{shift, shortens};
 use crate::step::{Descent, Step};
 use cox_base::Side;
 use cox_context::Context;
-use cox_row::LowerRows;
+use cox_row::{LowerRows, Row};
 use std::alloc::{AllocError, Global};
 
 /// A step to a member, and what it costs: the sum of the numbers of its corrections, each one more.
@@ -73,7 +73,7 @@ fn cheapest<L: LowerRows>(ctx: &Context, least: &Descent, lower: &L, most: usize
     let mut best = Choice {
         side: Side::Left,
         descent: *least,
-        cost: cost(ctx, Side::Left, least, lower, most).unwrap_or(u64::MAX),
+        cost: cost(ctx, Side::Left, least, lower, most, u64::MAX).unwrap_or(u64::MAX),
     };
     for s in 1..rank + 1 {
         best = cheaper(ctx, least.member, Side::Left, s, lower, most, &best);
@@ -112,42 +112,92 @@ fn cheaper<L: LowerRows>(
         letter: s,
         lower: shorter,
     };
-    match cost(ctx, side, &descent, lower, most) {
-        Some(cost) if cost < best.cost => Choice {
+    match cost(ctx, side, &descent, lower, most, best.cost) {
+        Some(cost) => Choice {
             side,
             descent,
             cost,
         },
-        _ => *best,
+        None => *best,
     }
 }
 
-/// What a step costs: the sum of the numbers of its corrections, each one more. `None` where a row is not there, or there are more than `most`
-/// corrections.
+/// What a step costs, if that is below a bound: the sum of the numbers of its corrections, each one more. `None` where it is not, where a row is not
+/// there, or where there are more than `most` corrections.
 fn cost<L: LowerRows>(
     ctx: &Context,
     side: Side,
     descent: &Descent,
     lower: &L,
     most: usize,
+    bound: u64,
 ) -> Option<u64>
     requires lower { L.elements lower.now ≡ ctx.now }
     requires descent { IsLowering ctx.now side descent.now }
     requires there { L.holds lower.now descent.now.lower }
     ensures { IfSome result (λ _. IsChoice ctx.now (L.holds lower.now) descent.now.member most side descent.now) }
 {
-    let _len = ctx.len();
     let row = lower.row(descent.lower);
+    let sum = correction_sum(ctx, side, descent, row, most, bound)?;
+    if has_corrections(ctx, side, descent, row, lower) {
+        Some(sum)
+    } else {
+        None
+    }
+}
+
+/// The sum of the numbers of the corrections of a step, each one more, if it is below a bound. `None` where it is not, or where there are more than
+/// `most` corrections. It looks at no other row, since most steps are out of the question by their sums.
+fn correction_sum(
+    ctx: &Context,
+    side: Side,
+    descent: &Descent,
+    row: &Row,
+    most: usize,
+    bound: u64,
+) -> Option<u64>
+    requires descent { IsLowering ctx.now side descent.now }
+    requires row { IsRowAt ctx.now descent.now.lower row.now }
+    ensures { IfSome result (λ _. (list : List Correction) → AreNumbered side (integer_matrix ctx.now.matrix) ctx.now.members descent.now.letter (word_at ctx.now.members descent.now.member) list
+        → length list ≤ most) }
+{
+    let _len = ctx.len();
     let mut count = 0;
     let mut sum = 0u64;
     for &u in row.neighbours().iter() {
         if shortens(ctx, side, descent.letter, u) {
-            if count >= most || !lower.has(u) {
+            sum = sum.saturating_add(u64::from(u) + 1);
+            if count >= most || sum >= bound {
                 return None;
             }
             count += 1;
-            sum = sum.saturating_add(u64::from(u) + 1);
         }
     }
-    Some(sum)
+    if sum < bound { Some(sum) } else { None }
+}
+
+/// Whether the rows of the corrections of a step are there.
+fn has_corrections<L: LowerRows>(
+    ctx: &Context,
+    side: Side,
+    descent: &Descent,
+    row: &Row,
+    lower: &L,
+) -> bool
+    requires lower { L.elements lower.now ≡ ctx.now }
+    requires descent { IsLowering ctx.now side descent.now }
+    requires row { IsRowAt ctx.now descent.now.lower row.now }
+    ensures { IsTrue result → (u : ℕ) (m : ℤ) → u < length ctx.now.members
+        → IsCorrection side (integer_matrix ctx.now.matrix) descent.now.letter (times_letter side descent.now.letter (word_at ctx.now.members descent.now.member)) (word_at ctx.now.members u) m
+        → L.holds lower.now u }
+{
+    let _len = ctx.len();
+    for &u in row.neighbours().iter() {
+        if shortens(ctx, side, descent.letter, u) {
+            if !lower.has(u) {
+                return false;
+            }
+        }
+    }
+    true
 }
