@@ -34,12 +34,6 @@ shifted : (f : Coefficients) (k : ℕ) → scaled (pos 1) (times_q_power 1 f) k 
 shifted f zero = omega (arith, ints)
 shifted f (suc k) = rw (times_q_power_at f 1 (suc k) k (omega arith)) (omega (arith, ints))
 
--- a polynomial once, to nothing
-pub added-once : (old new f : Coefficients) → ((k : ℕ) → old k ≡ pos 0) →
-    ((k : ℕ) → new k ≡ plus old (scaled (pos 1) (times_q_power 0 f)) k)
-    → (k : ℕ) → new k ≡ f k
-added-once old new f none e k = omega (arith, ints, none k, e k, once f k)
-
 -- from 0: P(sx,v), then q P(x,v), then the corrections
 pub three-sums : (a b c old first second third : Coefficients) → ((k : ℕ) → old k ≡ pos 0)
     → ((k : ℕ) → first k ≡ plus old (scaled (pos 1) (times_q_power 0 a)) k)

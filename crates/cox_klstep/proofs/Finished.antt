@@ -11,7 +11,7 @@ use Rattle.cox_hecke.proofs.Descended.{mu-below}
 use Rattle.cox_hecke.proofs.ElementLists.{below_or_not}
 use Rattle.cox_context.specs.Closed.{IsClosed}
 use Rattle.cox_context.specs.Numbers.{word_at}
-use Rattle.cox_row.specs.Extremal.{AreExtremal}
+use Rattle.cox_row.specs.Extremal.{IsExtremal, AreExtremal}
 use Rattle.cox_row.specs.Mus.{AreMus}
 use Rattle.cox_row.proofs.Raising.{later-not_below}
 use Rattle.cox_klstep.specs.Drafts.{AreBegun, AreNoted}
@@ -21,7 +21,7 @@ use Rattle.cox_row.specs.Mus.{value_at}
 use Rattle.cox_row.proofs.PoolLemmas.{kept}
 use Rattle.cox_poly.specs.Limit.{AllWithin}
 use Rattle.cox_klstep.specs.declared.making.TheConstants.{MU_LIMIT}
-use Rattle.cox_klstep.specs.Limits.{IsLargeCoefficient, IsLargeMu}
+use Rattle.cox_klstep.specs.Limits.{IsLargeMu, IsWithinLimit}
 use Rattle.cox_klstep.specs.Faults.{IsFault, IsNarrowFault}
 use Rattle.cox_klstep.proofs.LargeLemmas.{outside-none, within-none}
 use Rattle.cox_klstep.specs.declared.fault.StepFault.{StepFault}
@@ -31,25 +31,28 @@ module _ (A : IntegerMatrix) (g : IsAdmissible A) (members : List (List ℕ)) (c
     (inside : i < length members)
     (end : ℕ) (all : i < end) (last : end ≤ i + 1) where
   pub finished-extremal : (limit : ℤ) (numbers places : List ℕ) (pool : List (List ℤ))
+      → ((x : ℕ) → x < end → IsExtremal A (word_at members i) (word_at members x)
+      → IsBelow A (word_at members x) (word_at members i) → IsWithinLimit A limit (word_at members x) (word_at members i))
       → AreBegun A members (word_at members i) limit end numbers places pool → AreExtremal A members (word_at members i) numbers
-  finished-extremal limit numbers places pool h = record {
+  finished-extremal limit numbers places pool small h = record {
     rising = h.rising;
     within = λ k l. omega (arith, h.before k l, last, inside);
     extremal = h.extremal;
     below = h.below;
-    whole = λ x l e b. ⊎_elim (λ (less : x < end). h.whole x less e b)
+    whole = λ x l e b. ⊎_elim (λ (less : x < end). h.whole x less e b (small x less e b))
         (λ (more : end ≤ x). absurd (later-not_below A g members closed x i l inside (omega (arith, more, all)) b)) (cases_lt x end);
   }
 
-  pub finished-mus : (numbers : List ℕ) (values : List ℤ) → AreNoted A members (word_at members i) end numbers values
-      → AreMus A members (word_at members i) numbers values
-  finished-mus numbers values h = record {
+  pub finished-mus : (limit : ℤ) (numbers : List ℕ) (values : List ℤ)
+      → ((x : List ℕ) → IsWithinLimit A limit x (word_at members i))
+      → AreNoted A members (word_at members i) limit end numbers values → AreMus A members (word_at members i) numbers values
+  finished-mus limit numbers values small h = record {
     size = h.size;
     rising = h.rising;
     within = λ k l. omega (arith, h.before k l, last, inside);
     value = h.value;
     some = h.some;
-    whole = λ u m l mu some. ⊎_elim (λ (less : u < end). h.whole u m less mu some)
+    whole = λ u m l mu some. ⊎_elim (λ (less : u < end). h.whole u m less mu some (small (word_at members u)))
         (λ (more : end ≤ u). absurd (later-not_below A g members closed u i l inside (omega (arith, more, all))
         (mu-below A g (word_at members u) (word_at members i) m mu some))) (cases_lt u end);
   }
@@ -61,7 +64,7 @@ module _ (A : IntegerMatrix) (g : IsAdmissible A) (members : List (List ℕ)) (c
     (extremal : AreExtremal A members (word_at members i) numbers)
     (have : HavePolynomials A members (word_at members i) numbers places pool)
     (small : (j : ℕ) → j < length pool → AllWithin limit (polynomial_at pool j)) where
-  pub none-large : (x : List ℕ) (k : ℕ) (c : ℤ) → IsLargeCoefficient A limit x (word_at members i) k c → ⊥
+  pub none-large : (x : List ℕ) → IsWithinLimit A limit x (word_at members i)
   none-large x k c = ⊎_elim
       (λ (b : IsBelow A x (word_at members i)).
       let there = kept A g members closed i inside numbers places pool extremal have x b
@@ -74,8 +77,8 @@ module _ (A : IntegerMatrix) (g : IsAdmissible A) (members : List (List ℕ)) (c
 -- the first value of mu that is too large
 pub noted-fault : (A : IntegerMatrix) (g : IsAdmissible A) (members : List (List ℕ)) (w : List ℕ) (limit : ℤ) (end : ℕ)
     (numbers : List ℕ) (values : List ℤ)
-    (fault : StepFault) → AreNoted A members w end numbers values
-    → ((x : List ℕ) (k : ℕ) (c : ℤ) → IsLargeCoefficient A limit x w k c → ⊥) → IsNarrowFault numbers values fault
+    (fault : StepFault) → AreNoted A members w limit end numbers values
+    → ((x : List ℕ) → IsWithinLimit A limit x w) → IsNarrowFault numbers values fault
     → IsFault A members w limit fault
 noted-fault A g members w limit end numbers values (Coefficient x degree value) h none never = absurd never
 noted-fault A g members w limit end numbers values (Mu x value) h none (k, at) = record {
@@ -84,7 +87,7 @@ noted-fault A g members w limit end numbers values (Mu x value) h none (k, at) =
     above = at.above;
   };
   before = λ y m l large. first y m l large (h.whole y m (omega (arith, l, at.number, h.before k inside)) large.is
-      (not_zero m large.above));
+      (not_zero m large.above) (none (word_at members y)));
   small = λ y j c l. none (word_at members y) j c;
 }
   where

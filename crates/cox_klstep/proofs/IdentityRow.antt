@@ -4,6 +4,7 @@ use Rattle.std.specs.Prelude.{◌≤ℤ◌, ◌<ℤ◌}
 use Rattle.std.proofs.lemmas.Int.{ints}
 use Rattle.cox_base.specs.IntegerMatrix.{IntegerMatrix}
 use Rattle.cox_base.specs.Admissible.{IsAdmissible}
+use Rattle.cox_base.specs.Bruhat.{IsBelow}
 use Rattle.cox_base.specs.Length.{word_length}
 use Rattle.cox_reflect.proofs.Elements.{same-refl}
 use Rattle.cox_reflect.proofs.Bruhat.{below-refl}
@@ -14,14 +15,16 @@ use Rattle.cox_hecke.specs.Row.{IsKazhdanLusztig, IsMu}
 use Rattle.cox_hecke.proofs.AllRows.{row_of, row_of-is}
 use Rattle.cox_context.specs.Closed.{IsClosed}
 use Rattle.cox_context.specs.Numbers.{word_at}
-use Rattle.cox_row.specs.Extremal.{AreExtremal}
+use Rattle.cox_row.specs.Extremal.{IsExtremal, AreExtremal}
 use Rattle.cox_row.specs.Polynomials.{polynomial_at, HavePolynomials}
 use Rattle.cox_row.specs.Mus.{AreMus}
+use Rattle.cox_klstep.specs.Limits.{IsWithinLimit}
 use Rattle.cox_klstep.specs.Faults.{IsFirstLarge}
 use Rattle.cox_klstep.specs.Drafts.{AreBegun, AreNoted}
 use Rattle.cox_klstep.proofs.Middles.{middle-even, noted-skip}
 use Rattle.cox_klstep.proofs.Keeping.{begun-keep}
-use Rattle.cox_klstep.proofs.Finished.{finished-extremal, finished-mus}
+use Rattle.cox_klstep.proofs.LargeLemmas.{within-none}
+use Rattle.cox_klstep.proofs.Finished.{finished-extremal, finished-mus, none-large}
 
 pub identity-within : (limit : ℤ) → pos 1 ≤ℤ limit → (j : ℕ) → j < length ((pos 1 ∷ []) ∷ [])
     → AllWithin limit (polynomial_at ((pos 1 ∷ []) ∷ []) j)
@@ -55,7 +58,7 @@ module _ (A : IntegerMatrix) (g : IsAdmissible A) (members : List (List ℕ)) (c
     before = λ k l. absurd (omega (arith, l));
     extremal = λ k l. absurd (omega (arith, l));
     below = λ k l. absurd (omega (arith, l));
-    whole = λ x l e b. absurd (omega (arith, l));
+    whole = λ x l e b small. absurd (omega (arith, l));
     polynomials = record {
       size = refl;
       placed = λ k l. absurd (omega (arith, l));
@@ -84,25 +87,33 @@ module _ (A : IntegerMatrix) (g : IsAdmissible A) (members : List (List ℕ)) (c
     size = inr (refl, refl, λ j l. absurd (omega (arith, l)));
   } begun-start record { left = λ s d. d; right = λ s d. d } (below-refl A g (same-refl A g (word_at members 0))) is-one
 
-  noted : AreNoted A members (word_at members 0) 1 [] []
-  noted = noted-skip A g members (word_at members 0) 0 [] [] is-zero record {
+  noted : AreNoted A members (word_at members 0) (pos 1) 1 [] []
+  noted = noted-skip A g members (word_at members 0) (pos 1) 0 [] [] is-zero record {
     size = refl;
     rising = λ j k l m. absurd (omega (arith, m));
     before = λ k l. absurd (omega (arith, l));
     value = λ k l. absurd (omega (arith, l));
     some = λ k l. absurd (omega (arith, l));
-    whole = λ u m l mu some. absurd (omega (arith, l));
+    whole = λ u m l mu some small. absurd (omega (arith, l));
   }
+
+  extremal-within : (x : ℕ) → x < 1 → IsExtremal A (word_at members 0) (word_at members x)
+      → IsBelow A (word_at members x) (word_at members 0) → IsWithinLimit A (pos 1) (word_at members x) (word_at members 0)
+  extremal-within x l e b =
+      let first : x ≡ 0 = omega (arith, l)
+      in rw first (within-none A g (pos 1) (word_at members 0) (word_at members 0) (pos 1 ∷ []) is-one small)
 
   pub identity-extremal : AreExtremal A members (word_at members 0) (0 ∷ [])
   identity-extremal = finished-extremal A g members closed 0 closed.some 1 (omega arith) (omega arith) (pos 1) (0 ∷ []) (0 ∷ [])
-      ((pos 1 ∷ []) ∷ []) begun
+      ((pos 1 ∷ []) ∷ []) extremal-within begun
 
   pub identity-polynomials : HavePolynomials A members (word_at members 0) (0 ∷ []) (0 ∷ []) ((pos 1 ∷ []) ∷ [])
   identity-polynomials = begun.polynomials
 
   pub identity-mus : AreMus A members (word_at members 0) [] []
-  identity-mus = finished-mus A g members closed 0 closed.some 1 (omega arith) (omega arith) [] [] noted
+  identity-mus = finished-mus A g members closed 0 closed.some 1 (omega arith) (omega arith) (pos 1) [] []
+      (none-large A g members closed 0 closed.some (pos 1) (omega (arith, ints)) (0 ∷ []) (0 ∷ []) ((pos 1 ∷ []) ∷ []) identity-extremal
+      identity-polynomials (identity-within (pos 1) (omega (arith, ints)))) noted
 
   -- its one coefficient is above the limit 0
   pub identity-large : (limit : ℤ) → limit <ℤ pos 1 → IsFirstLarge A members (word_at members 0) limit 0 0 (pos 1)

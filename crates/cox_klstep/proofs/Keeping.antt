@@ -9,6 +9,7 @@ use Rattle.cox_context.specs.Numbers.{word_at}
 use Rattle.cox_row.specs.Rising.{number_at}
 use Rattle.cox_row.specs.Extremal.{IsExtremal}
 use Rattle.cox_row.specs.Polynomials.{polynomial_at, IsPool}
+use Rattle.cox_klstep.specs.Limits.{IsWithinLimit}
 use Rattle.cox_klstep.specs.Drafts.{IsPooled, AreBegun}
 use Rattle.cox_klstep.proofs.PushLemmas.{push-length, push-old, push-new, push_cases}
 
@@ -21,22 +22,23 @@ begun-pass A members w limit q p numbers places pool l bare h = record {
   before = λ k m. omega (arith, h.before k m, l);
   extremal = h.extremal;
   below = h.below;
-  whole = λ y m e b. ⊎_elim (λ (less : y < q). h.whole y less e b) (λ (more : q ≤ y). absurd (bare y more m e)) (cases_lt y q);
+  whole = λ y m e b small. ⊎_elim (λ (less : y < q). h.whole y less e b small) (λ (more : q ≤ y). absurd (bare y more m e)) (cases_lt y q);
   polynomials = h.polynomials;
   small = h.small;
 }
 
 module _ (A : IntegerMatrix) (members : List (List ℕ)) (w : List ℕ) (limit : ℤ) (x : ℕ) (numbers places : List ℕ) (pool : List (List ℤ))
   where
-    pub begun-skip : (IsExtremal A w (word_at members x) → IsBelow A (word_at members x) w → ⊥)
+    pub begun-skip : (IsExtremal A w (word_at members x) → IsBelow A (word_at members x) w → IsWithinLimit A limit (word_at members x) w → ⊥)
         → AreBegun A members w limit x numbers places pool → AreBegun A members w limit (x + 1) numbers places pool
     begun-skip none h = record {
       rising = h.rising;
       before = λ k l. omega (arith, h.before k l);
       extremal = h.extremal;
       below = h.below;
-      whole = λ y l e b. ⊎_elim (λ (less : y < x). h.whole y less e b)
-          (λ (more : x ≤ y). let is : y ≡ x = omega (arith, l, more) in absurd (none (rw is at e) (rw is at b))) (cases_lt y x);
+      whole = λ y l e b small. ⊎_elim (λ (less : y < x). h.whole y less e b small)
+          (λ (more : x ≤ y). let is : y ≡ x = omega (arith, l, more) in absurd (none (rw is at e) (rw is at b) (rw is at small)))
+          (cases_lt y x);
       polynomials = h.polynomials;
       small = h.small;
     }
@@ -98,8 +100,8 @@ module _ (A : IntegerMatrix) (members : List (List ℕ)) (w : List ℕ) (limit :
             (λ (old : k < length numbers). rw (push-old numbers x 0 k old) (h.below k old))
             (λ (last : k ≡ length numbers). rw (push-new numbers x 0 k last) below)
             (push_cases numbers x k l);
-        whole = λ y l e b. ⊎_elim
-            (λ (less : y < x). let k = h.whole y less e b in (
+        whole = λ y l e b within. ⊎_elim
+            (λ (less : y < x). let k = h.whole y less e b within in (
               k.0,
               omega (arith, k.1, push-length numbers x),
               push-old numbers x 0 k.0 k.1

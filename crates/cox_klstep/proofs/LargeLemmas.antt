@@ -1,4 +1,4 @@
--- Coefficients above the limit, read off the sums for an element that stands for x.
+-- Coefficients above the limit: read off sums, and moved from an element to one that stands for it.
 use Rattle.std.proofs.Common.{◌≡◌, ℕ, ◌<◌, List, ℤ, pos, sym, ◌∙◌, arith}
 use Rattle.std.specs.Prelude.{unsigned_abs, ◌<ℤ◌, ◌≤ℤ◌}
 use Rattle.std.proofs.lemmas.Int.{ints}
@@ -8,18 +8,15 @@ use Rattle.cox_base.specs.Bruhat.{IsBelow}
 use Rattle.cox_poly.specs.Polynomial.{coefficient}
 use Rattle.cox_poly.specs.Limit.{IsWithin, AllWithin, IsFirstAbove}
 use Rattle.cox_hecke.specs.Row.{IsKazhdanLusztig}
-use Rattle.cox_hecke.proofs.Polynomials.{kazhdan_lusztig-unique, kazhdan_lusztig-outside}
-use Rattle.cox_context.specs.Numbers.{word_at}
-use Rattle.cox_klstep.specs.Limits.{IsLargeCoefficient}
-use Rattle.cox_klstep.specs.Faults.{IsFault, IsFaultAt}
-use Rattle.cox_klstep.specs.declared.fault.StepFault.{StepFault}
-use Rattle.cox_klstep.specs.declared.fault.StepFault.TheVariants.{Coefficient, Mu, NoMemory}
+use Rattle.cox_hecke.proofs.Polynomials.{kazhdan_lusztig-exists, kazhdan_lusztig-unique, kazhdan_lusztig-outside}
+use Rattle.cox_row.specs.Raised.{StandsFor}
+use Rattle.cox_klstep.specs.Limits.{IsLargeCoefficient, IsWithinLimit, IsLeastLarge}
 
 not_both : (limit a b : ℤ) → a ≡ b → pos (unsigned_abs a) ≤ℤ limit → limit <ℤ pos (unsigned_abs b) → ⊥
 not_both limit a b e l h = let g : limit <ℤ pos (unsigned_abs a) = rw e h in omega (arith, ints, l, g)
 
 module _ (A : IntegerMatrix) (g : IsAdmissible A) (limit : ℤ) (x w : List ℕ) where
-  pub outside-none : pos 0 ≤ℤ limit → (IsBelow A x w → ⊥) → (k : ℕ) (c : ℤ) → IsLargeCoefficient A limit x w k c → ⊥
+  pub outside-none : pos 0 ≤ℤ limit → (IsBelow A x w → ⊥) → IsWithinLimit A limit x w
   outside-none l none k c h =
       not_both limit (pos 0) c (sym (kazhdan_lusztig-outside A g x w h.polynomial none h.is k) ∙ h.value) l h.above
 
@@ -28,24 +25,34 @@ module _ (A : IntegerMatrix) (g : IsAdmissible A) (limit : ℤ) (x w : List ℕ)
     at_most k c l h =
         not_both limit (coefficient sums k) c (kazhdan_lusztig-unique A g x w (coefficient sums) h.polynomial is h.is k ∙ h.value) l h.above
 
-    pub within-none : AllWithin limit sums → (k : ℕ) (c : ℤ) → IsLargeCoefficient A limit x w k c → ⊥
+    pub within-none : AllWithin limit sums → IsWithinLimit A limit x w
     within-none l k c h = at_most k c (l k) h
 
-    pub first-large : (d : ℕ) (v : ℤ) → IsFirstAbove limit sums d v → IsLargeCoefficient A limit x w d v
-        × ((k : ℕ) (c : ℤ) → k < d → IsLargeCoefficient A limit x w k c → ⊥)
-    first-large d v first = (
-      record { polynomial = coefficient sums; is = is; value = sym first.value; above = first.above },
-      λ k c l h. at_most k c (first.least k l) h,
-    )
+    pub least-large : (d : ℕ) (v : ℤ) → IsFirstAbove limit sums d v → IsLeastLarge A limit x w d v
+    least-large d v first = record {
+      large = record { polynomial = coefficient sums; is = is; value = sym first.value; above = first.above };
+      least = λ k c l h. at_most k c (first.least k l) h;
+    }
 
--- the fault at the first member that has one
-pub fault-first : (A : IntegerMatrix) (members : List (List ℕ)) (w : List ℕ) (limit : ℤ) (x : ℕ) (fault : StepFault)
-    → ((y k : ℕ) (c : ℤ) → y < x → IsLargeCoefficient A limit (word_at members y) w k c → ⊥)
-    → IsFaultAt A members w limit x fault → IsFault A members w limit fault
-fault-first A members w limit x (Coefficient y degree value) before (e, large, least) = record {
-  large = rw e large;
-  least = rw e least;
-  before = rw e before;
-}
-fault-first A members w limit x (Mu y value) before never = absurd never
-fault-first A members w limit x NoMemory before none = tt
+  -- y stands for x
+  module _ (y : List ℕ) (stands : StandsFor A w x y) where
+    pub large-to : (k : ℕ) (c : ℤ) → IsLargeCoefficient A limit x w k c → IsLargeCoefficient A limit y w k c
+    large-to k c h =
+        let f = kazhdan_lusztig-exists A g y w
+        in record {
+          polynomial = f.0;
+          is = f.1;
+          value = kazhdan_lusztig-unique A g x w f.0 h.polynomial (stands.same f.0 f.1) h.is k ∙ h.value;
+          above = h.above;
+        }
+
+    pub least-from : (d : ℕ) (v : ℤ) → IsLeastLarge A limit y w d v → IsLeastLarge A limit x w d v
+    least-from d v h = record {
+      large = record {
+        polynomial = h.large.polynomial;
+        is = stands.same h.large.polynomial h.large.is;
+        value = h.large.value;
+        above = h.large.above;
+      };
+      least = λ k c l large. h.least k c l (large-to k c large);
+    }

@@ -18,6 +18,8 @@ pub mod Middles
 pub mod Keeping
 -- coefficients above the limit
 pub mod LargeLemmas
+-- members with a coefficient above the limit
+pub mod LargeFound
 -- the row when each member is done
 pub mod Finished
 -- the row of the identity
@@ -38,5 +40,5 @@ pub mod Candidates
 pub mod StepCounts
 -- fingerprints of the polynomials of a pool
 pub mod PrintLemmas
--- marks of the members whose inverses a row has
-pub mod MarkLemmas
+-- inverses as they are listed and sorted, and the row that they give
+pub mod TurnedLemmas

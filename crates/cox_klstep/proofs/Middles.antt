@@ -9,6 +9,7 @@ use Rattle.cox_poly.specs.Coefficients.{Coefficients}
 use Rattle.cox_hecke.specs.Row.{IsMu, middle_coefficient}
 use Rattle.cox_hecke.proofs.AllRows.{mu-unique}
 use Rattle.cox_context.specs.Numbers.{word_at}
+use Rattle.cox_klstep.specs.Limits.{IsWithinLimit}
 use Rattle.cox_klstep.specs.Drafts.{AreNoted}
 use Rattle.cox_klstep.proofs.PushLemmas.{push-length, push-old, push-new, push_cases}
 
@@ -22,23 +23,31 @@ middle-even d f none = go (d % 2 == 1) refl
     go true e = absurd (none (eqb-true (d % 2) 1 e))
     go false e = refl
 
-module _ (A : IntegerMatrix) (g : IsAdmissible A) (members : List (List ℕ)) (w : List ℕ) (x : ℕ) (numbers : List ℕ) (values : List ℤ) where
-  -- mu(x,w) is 0
-  pub noted-skip : IsMu A (word_at members x) w (pos 0) → AreNoted A members w x numbers values
-      → AreNoted A members w (x + 1) numbers values
-  noted-skip none h = record {
+module _ (A : IntegerMatrix) (g : IsAdmissible A) (members : List (List ℕ)) (w : List ℕ) (limit : ℤ) (x : ℕ) (numbers : List ℕ)
+    (values : List ℤ) where
+  -- mu(x,w) is 0, or P(x,w) has a coefficient above the limit
+  noted-none : ((m : ℤ) → IsMu A (word_at members x) w m → m ≢ pos 0 → IsWithinLimit A limit (word_at members x) w → ⊥)
+      → AreNoted A members w limit x numbers values → AreNoted A members w limit (x + 1) numbers values
+  noted-none none h = record {
     size = h.size;
     rising = h.rising;
     before = λ k l. omega (arith, h.before k l);
     value = h.value;
     some = h.some;
-    whole = λ u m l mu some. ⊎_elim (λ (less : u < x). h.whole u m less mu some)
-        (λ (more : x ≤ u). let e : u ≡ x = omega (arith, l, more)
-        in absurd (some (mu-unique A g (word_at members x) w m (pos 0) (rw e at mu) none))) (cases_lt u x);
+    whole = λ u m l mu some small. ⊎_elim (λ (less : u < x). h.whole u m less mu some small)
+        (λ (more : x ≤ u). let e : u ≡ x = omega (arith, l, more) in absurd (none m (rw e at mu) some (rw e at small))) (cases_lt u x);
   }
 
-  pub noted-push : (m : ℤ) → m ≢ pos 0 → IsMu A (word_at members x) w m → AreNoted A members w x numbers values
-      → AreNoted A members w (x + 1) (numbers ++ x ∷ []) (values ++ m ∷ [])
+  pub noted-skip : IsMu A (word_at members x) w (pos 0) → AreNoted A members w limit x numbers values
+      → AreNoted A members w limit (x + 1) numbers values
+  noted-skip none h = noted-none (λ m mu some small. some (mu-unique A g (word_at members x) w m (pos 0) mu none)) h
+
+  pub noted-large : (IsWithinLimit A limit (word_at members x) w → ⊥) → AreNoted A members w limit x numbers values
+      → AreNoted A members w limit (x + 1) numbers values
+  noted-large large h = noted-none (λ m mu some small. large small) h
+
+  pub noted-push : (m : ℤ) → m ≢ pos 0 → IsMu A (word_at members x) w m → AreNoted A members w limit x numbers values
+      → AreNoted A members w limit (x + 1) (numbers ++ x ∷ []) (values ++ m ∷ [])
   noted-push m some mu h = record {
     size = omega (arith, h.size, push-length numbers x, push-length values m);
     rising = λ j k less l. ⊎_elim
@@ -60,8 +69,8 @@ module _ (A : IntegerMatrix) (g : IsAdmissible A) (members : List (List ℕ)) (w
         (λ (old : k < length numbers). rw (push-old values m (pos 0) k (omega (arith, old, h.size))) (h.some k old))
         (λ (new : k ≡ length numbers). rw (push-new values m (pos 0) k (omega (arith, new, h.size))) some)
         (push_cases numbers x k l);
-    whole = λ u n l mu_u some_u. ⊎_elim
-        (λ (less : u < x). let k = h.whole u n less mu_u some_u
+    whole = λ u n l mu_u some_u small. ⊎_elim
+        (λ (less : u < x). let k = h.whole u n less mu_u some_u small
         in (k.0, omega (arith, k.1, push-length numbers x), push-old numbers x 0 k.0 k.1 ∙ k.2))
         (λ (more : x ≤ u). (
           length numbers,

@@ -1,5 +1,5 @@
 -- What a list has at each place after one more item.
-use Rattle.std.proofs.Common.{◌≡◌, ◌⊎◌, inl, inr, ℕ, zero, suc, Some, ◌+◌, ◌*◌, ◌<◌, ◌≤◌, List, [], ◌∷◌, ◌++◌, length, get_or, refl, ap}
+use Rattle.std.proofs.Common.{◌≡◌, ◌⊎◌, inl, inr, ℕ, zero, suc, Some, ◌+◌, ◌<◌, ◌≤◌, List, [], ◌∷◌, ◌++◌, length, get_or, refl, ap}
 use Rattle.std.proofs.Common.{◌∙◌, ⊎_elim, length-append}
 use Rattle.std.proofs.Common.{arith}
 use Rattle.std.specs.List.{slice_get}
@@ -29,7 +29,3 @@ push-get_new [] x zero e = refl
 push-get_new [] x (suc k) e = absurd (omega (arith, e))
 push-get_new (y ∷ xs) x zero e = absurd (omega (arith, e))
 push-get_new (y ∷ xs) x (suc k) e = push-get_new xs x k (omega (arith, e))
-
--- one time more
-pub steps-more : (cost n old new l m : ℕ) → m ≡ l + 1 → old ≤ n + cost * l → new ≤ old + cost → new ≤ n + cost * m
-steps-more cost n old new l m e h j = let more : cost * m ≡ cost * l + cost = rw e (grind arith) in omega (arith, more, h, j)

@@ -38,13 +38,14 @@ pub record IsLeastUpTo (A : IntegerMatrix) (members : List (List ℕ)) (i start 
   pub none : (s k : ℕ) → IsLetter A.rank s → s < bound → start ≤ k → k < least → IsShiftBy A s (word_at members i) (word_at members k) → ⊥
 
 -- the values of mu are noted up to some member, and the next shift is the least from there on
-pub record IsNotedTo (e : Elements) (i end : ℕ) (draft : Draft) (q : ℕ) : Type 0 where
+pub record IsNotedTo (e : Elements) (i end : ℕ) (limit : ℤ) (draft : Draft) (q : ℕ) : Type 0 where
   pub to : q ≤ end
-  pub noted : AreNoted (integer_matrix e.matrix) e.members (word_at e.members i) q draft.mus.numbers.items draft.mus.values.items
+  pub noted : AreNoted (integer_matrix e.matrix) e.members (word_at e.members i) limit q draft.mus.numbers.items draft.mus.values.items
   pub next : IsLeastShift (integer_matrix e.matrix) e.members i q draft.next
 
 abbrev pub IsPassed : Elements → ℕ → ℕ → ℤ → Draft → Draft → Type 0
-IsPassed e i end limit old new = IsUnderway e i limit old → AreBare e i old.done end → (q : ℕ) × (old.done ≤ q) × IsNotedTo e i end new q
+IsPassed e i end limit old new = IsUnderway e i limit old → AreBare e i old.done end → (q : ℕ) × (old.done ≤ q)
+    × IsNotedTo e i end limit new q
 
 module _ (A : IntegerMatrix) (g : IsAdmissible A) (members : List (List ℕ)) (closed : IsClosed A members) (i : ℕ)
     (inside : i < length members)
@@ -196,16 +197,16 @@ module _ (A : IntegerMatrix) (g : IsAdmissible A) (members : List (List ℕ)) (c
     -- ---- the values of mu as they are found
 
     -- no member from q to p is extremal, and none is a shift
-    pub noted-pass : (q p least : ℕ) (numbers : List ℕ) (values : List ℤ) → q ≤ p → p ≤ least → IsLeastShift A members i q least
+    pub noted-pass : (limit : ℤ) (q p least : ℕ) (numbers : List ℕ) (values : List ℤ) → q ≤ p → p ≤ least → IsLeastShift A members i q least
         → ((x : ℕ) → q ≤ x → x < p → IsExtremal A (word_at members i) (word_at members x) → ⊥)
-        → AreNoted A members (word_at members i) q numbers values → AreNoted A members (word_at members i) p numbers values
-    noted-pass q p least numbers values l m h bare old = record {
+        → AreNoted A members (word_at members i) limit q numbers values → AreNoted A members (word_at members i) limit p numbers values
+    noted-pass limit q p least numbers values l m h bare old = record {
       size = old.size;
       rising = old.rising;
       before = λ k n. omega (arith, old.before k n, l);
       value = old.value;
       some = old.some;
-      whole = λ u n u_less mu some. ⊎_elim (λ (less : u < q). old.whole u n less mu some)
+      whole = λ u n u_less mu some small. ⊎_elim (λ (less : u < q). old.whole u n less mu some small)
           (λ (more : q ≤ u). absurd (h.none u more (omega (arith, u_less, m))
           (mu-shift (word_at members u) n mu some (bare u more u_less))))
           (cases_lt u q);

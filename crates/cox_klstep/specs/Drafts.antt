@@ -11,6 +11,8 @@ use Rattle.cox_row.specs.Rising.{number_at, AreRising, AreWithin}
 use Rattle.cox_row.specs.Extremal.{IsExtremal}
 use Rattle.cox_row.specs.Polynomials.{polynomial_at, HavePolynomials}
 use Rattle.cox_row.specs.Mus.{value_at}
+use Rattle.cox_klstep.specs.Limits.{IsWithinLimit}
+use Rattle.cox_klstep.specs.LargeMembers.{AreLarge}
 use Rattle.cox_klstep.specs.TargetOf.{IsLeastShift}
 use Rattle.cox_klstep.specs.declared.draft.Draft.{Draft}
 
@@ -24,7 +26,7 @@ pub record IsPooled (limit : ℤ) (sums : List ℤ) (old new : List (List ℤ)) 
   pub size : (length new ≡ length old) ⊎ ((length new ≡ length old + 1) × (place ≡ length old)
       × ((j : ℕ) → j < length old → polynomial_at old j ≢ polynomial_at new place))
 
--- the extremal x ≤ w with a number before end, with their polynomials, none of which has a coefficient above the limit
+-- the extremal x ≤ w with a number before end for which P(x,w) has no coefficient above the limit, with their polynomials
 pub record AreBegun (A : IntegerMatrix) (members : List (List ℕ)) (w : List ℕ) (limit : ℤ) (end : ℕ) (numbers places : List ℕ)
     (pool : List (List ℤ)) : Type 0 where
   pub rising : AreRising numbers
@@ -32,12 +34,12 @@ pub record AreBegun (A : IntegerMatrix) (members : List (List ℕ)) (w : List �
   pub extremal : (k : ℕ) → k < length numbers → IsExtremal A w (word_at members (number_at numbers k))
   pub below : (k : ℕ) → k < length numbers → IsBelow A (word_at members (number_at numbers k)) w
   pub whole : (x : ℕ) → x < end → IsExtremal A w (word_at members x) → IsBelow A (word_at members x) w
-      → (k : ℕ) × (k < length numbers) × (number_at numbers k ≡ x)
+      → IsWithinLimit A limit (word_at members x) w → (k : ℕ) × (k < length numbers) × (number_at numbers k ≡ x)
   pub polynomials : HavePolynomials A members w numbers places pool
   pub small : (j : ℕ) → j < length pool → AllWithin limit (polynomial_at pool j)
 
--- the u with a number before end for which mu(u,w) is not 0, with the values
-pub record AreNoted (A : IntegerMatrix) (members : List (List ℕ)) (w : List ℕ) (end : ℕ) (numbers : List ℕ) (values : List ℤ)
+-- the u with a number before end for which mu(u,w) is not 0 and P(u,w) has no coefficient above the limit, with the values
+pub record AreNoted (A : IntegerMatrix) (members : List (List ℕ)) (w : List ℕ) (limit : ℤ) (end : ℕ) (numbers : List ℕ) (values : List ℤ)
     : Type 0 where
   pub size : length values ≡ length numbers
   pub rising : AreRising numbers
@@ -45,13 +47,16 @@ pub record AreNoted (A : IntegerMatrix) (members : List (List ℕ)) (w : List �
   pub value : (k : ℕ) → k < length numbers → IsMu A (word_at members (number_at numbers k)) w (value_at values k)
   pub some : (k : ℕ) → k < length numbers → value_at values k ≢ pos 0
   pub whole : (u : ℕ) (m : ℤ) → u < end → IsMu A (word_at members u) w m → m ≢ pos 0
-      → (k : ℕ) × (k < length numbers) × (number_at numbers k ≡ u)
+      → IsWithinLimit A limit (word_at members u) w → (k : ℕ) × (k < length numbers) × (number_at numbers k ≡ u)
 
 -- what a draft of the row of the member i has of the members done
 pub record IsUnderway (e : Elements) (i : ℕ) (limit : ℤ) (draft : Draft) : Type 0 where
   pub begun : AreBegun (integer_matrix e.matrix) e.members (word_at e.members i) limit draft.done draft.values.extremal.items
       draft.values.places.items draft.values.pool
-  pub noted : AreNoted (integer_matrix e.matrix) e.members (word_at e.members i) draft.done draft.mus.numbers.items draft.mus.values.items
+  pub noted : AreNoted (integer_matrix e.matrix) e.members (word_at e.members i) limit draft.done draft.mus.numbers.items
+      draft.mus.values.items
+  pub large : AreLarge (integer_matrix e.matrix) e.members (word_at e.members i) limit draft.done draft.large.numbers.items
+      draft.large.coefficients.items
   pub next : IsLeastShift (integer_matrix e.matrix) e.members i draft.done draft.next
 
 -- no member from one to another is extremal for the member i

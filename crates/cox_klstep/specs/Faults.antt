@@ -21,19 +21,6 @@ pub record IsFirstLargeMu (A : IntegerMatrix) (members : List (List ℕ)) (w : L
   pub before : (y : ℕ) (m : ℤ) → y < x → ¬ IsLargeMu A (pos MU_LIMIT) (word_at members y) w m
   pub small : (y k : ℕ) (c : ℤ) → y < length members → ¬ IsLargeCoefficient A limit (word_at members y) w k c
 
--- the first large coefficient at the member x alone
-abbrev pub IsFaultAt : IntegerMatrix → List (List ℕ) → List ℕ → ℤ → ℕ → StepFault → Type 0
-IsFaultAt A members w limit x (Coefficient y degree value) = (y ≡ x) × IsLargeCoefficient A limit (word_at members x) w degree value
-    × ((k : ℕ) (c : ℤ) → k < degree → ¬ IsLargeCoefficient A limit (word_at members x) w k c)
-IsFaultAt A members w limit x (Mu y value) = ⊥
-IsFaultAt A members w limit x NoMemory = Unit {0}
-
--- what a fault on the way says of the row of w
-abbrev pub IsFound : IntegerMatrix → List (List ℕ) → List ℕ → ℤ → ℕ → StepFault → Type 0
-IsFound A members w limit x (Coefficient y degree value) = (y ≡ x) × IsLargeCoefficient A limit (word_at members x) w degree value
-IsFound A members w limit x (Mu y value) = ⊥
-IsFound A members w limit x NoMemory = Unit {0}
-
 -- what a fault says of the row of w; out of memory says nothing
 abbrev pub IsFault : IntegerMatrix → List (List ℕ) → List ℕ → ℤ → StepFault → Type 0
 IsFault A members w limit (Coefficient x degree value) = IsFirstLarge A members w limit x degree value

@@ -1,11 +1,15 @@
 -- coefficients and values of mu beyond a limit
 pub mod Limits
+-- extremal members with a coefficient above the limit
+pub mod LargeMembers
 -- the step by which a row is made
 pub mod StepOf
 -- sums of the polynomials of corrections
 pub mod Sums
 -- the member whose row is made
 pub mod TargetOf
+-- the inverses of members
+pub mod Inverses
 -- what the polynomials of a row come from
 pub mod SourceOf
 -- which step is chosen
@@ -18,7 +22,5 @@ pub mod Faults
 pub mod NeedsOf
 -- the tables of a context
 pub mod TablesOf
--- marks of the members whose inverses a row has
-pub mod Marks
 -- fingerprints of polynomials
 pub mod Prints

@@ -3,11 +3,11 @@ ghost use Rattle.std.specs.Prelude.{◌≡◌, ℕ, ◌+◌, ◌*◌, ◌<◌, �
 ghost use Rattle.cox_base.specs.IntegerMatrix.{integer_matrix};
 ghost use Rattle.cox_context.specs.Numbers.{word_at};
 ghost use Rattle.cox_row.specs.Extremal.{IsExtremal};
+ghost use Rattle.cox_klstep.specs.NeedsOf.{IsWithinCostTo};
 ghost use Rattle.cox_klstep.specs.SourceOf.{IsSource, source_cost};
 ghost use Rattle.cox_klstep.specs.Drafts.{IsUnderway, AreBare};
-ghost use Rattle.cox_klstep.specs.Faults.{IsFound};
 
-use crate::StepFault;
+use crate::large::{LargeCoefficient, LargeMembers};
 use crate::mus::{Mus, middle};
 use crate::source::{Source, put_polynomial};
 use crate::steps::Steps;
@@ -22,6 +22,8 @@ use std::alloc::{AllocError, Global};
 pub(crate) struct Draft {
     pub(crate) values: Values,
     pub(crate) mus: Mus,
+    /// Where this has a member, there is no row, and what the other fields have is no longer asked for.
+    pub(crate) large: LargeMembers,
     /// The members before this one are done.
     pub(crate) done: u32,
     /// The least number of a shift from there on, or that of w itself.
@@ -39,6 +41,7 @@ impl Draft {
         Draft {
             values: Values::new(alloc),
             mus: Mus::new(alloc),
+            large: LargeMembers::new(alloc),
             done: 0,
             next,
         }
@@ -64,7 +67,6 @@ impl Draft {
         ensures passed { OnOk result ((limit : ℤ) → IsUnderway ctx.now i limit self.old
             → AreBare ctx.now i self.old.done end → IsUnderway ctx.now i limit self.new) }
         ensures done { OnOk result (self.new.done ≡ end) }
-        ensures values { self.new.values ≡ self.old.values }
     {
         let _len = ctx.len();
         while self.next < end {
@@ -75,7 +77,7 @@ impl Draft {
         Ok(())
     }
 
-    /// One extremal member more.
+    /// One extremal member more. Its polynomial is not kept if it has a coefficient above the limit.
     pub(crate) fn add_extremal(
         &mut self,
         alloc: Global,
@@ -85,7 +87,7 @@ impl Draft {
         limit: i64,
         sums: &mut Acc,
         steps: &mut Steps,
-    ) -> Result<(), StepFault>
+    ) -> Result<(), AllocError>
         requires i { i < length ctx.now.members }
         requires source { IsSource ctx.now i source.now }
         requires x { self.old.done ≤ i }
@@ -93,27 +95,22 @@ impl Draft {
         requires underway { IsUnderway ctx.now i limit self.old }
         ensures underway { OnOk result (IsUnderway ctx.now i limit self.new) }
         ensures done { OnOk result (self.new.done ≡ self.old.done + 1) }
-        ensures steps { OnOk result ((n : ℕ) → steps.old ≤ n + source_cost source.now * length self.old.values.extremal.items
-            → steps.new ≤ n + source_cost source.now * length self.new.values.extremal.items) }
-        ensures fault { IfErr result (IsFound (integer_matrix ctx.now.matrix) ctx.now.members (word_at ctx.now.members i) limit self.old.done) }
+        ensures steps { (start : ℕ) → IsWithinCostTo ctx.now i (source_cost source.now) self.old.done start steps.old
+            → IsWithinCostTo ctx.now i (source_cost source.now) (self.old.done + 1) start steps.new }
     {
         let _len = ctx.len();
         let x = self.done;
-        if !put_polynomial(ctx, i, source, x, sums, steps) {
-            self.done = x + 1;
-            return Ok(());
-        }
-        let place = match self.values.keep(alloc, x, sums, limit) {
-            Ok(place) => place,
-            Err(PolyFault::TooBig { degree, value }) => {
-                return Err(StepFault::Coefficient { x, degree, value });
+        if put_polynomial(ctx, i, source, x, sums, steps) {
+            match self.values.keep(alloc, x, sums, limit) {
+                Ok(place) => {
+                    let value = middle(ctx, &self.values.pool.at(place as usize), i, x);
+                    self.mus.note(x, value)?;
+                }
+                Err(PolyFault::TooBig { degree, value }) => {
+                    self.large.note(x, LargeCoefficient { degree, value })?;
+                }
+                Err(PolyFault::NoMemory) => return Err(AllocError),
             }
-            Err(PolyFault::NoMemory) => return Err(StepFault::NoMemory),
-        };
-        let value = middle(ctx, &self.values.pool.at(place as usize), i, x);
-        match self.mus.note(x, value) {
-            Ok(()) => {}
-            Err(_) => return Err(StepFault::NoMemory),
         }
         self.done = x + 1;
         Ok(())

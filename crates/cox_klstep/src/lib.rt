@@ -8,21 +8,22 @@
 //! - `needed`: the rows that are asked for
 //! - `choice`: which step is taken
 //! - `step`, `sides`: the descent, the shorter element and the corrections
-//! - `sums`, `source`: the polynomial at one extremal member, by the recursion or from the inverse
+//! - `sums`, `source`: the polynomial at one extremal member, by the recursion
+//! - `turned`: the row from that of the inverse
 //! - `target`: the member, and its shifts that are shorter
 //! - `draft`, `values`, `pool`, `mus`: a row that is being made
 //! - `making`: the row, candidate by candidate
-//! - `tables`, `marks`, `steps`: lists of candidates and inverses, members that are marked, and how much was added up
+//! - `tables`, `steps`: lists of candidates and inverses, and how much was added up
 //! - `identity`: the row of the identity
-//! - `fault`: why a row is not made
+//! - `fault`, `large`: why a row is not made, and the members with a coefficient above the limit
 #![tactic(auto)]
 
 mod choice;
 mod draft;
 mod fault;
 mod identity;
+mod large;
 mod making;
-mod marks;
 mod member;
 mod mus;
 mod needed;
@@ -36,6 +37,7 @@ mod tables;
 mod target;
 #[cfg(test)]
 mod tests;
+mod turned;
 mod values;
 
 pub use fault::StepFault;

@@ -5,20 +5,20 @@ ghost use Rattle.cox_context.specs.Numbers.{word_at};
 ghost use Rattle.cox_row.specs.RowOf.{IsRowAt};
 ghost use Rattle.cox_row.specs.Within.{IsRowWithin};
 ghost use Rattle.cox_klstep.specs.TargetOf.{IsTarget};
+ghost use Rattle.cox_klstep.specs.NeedsOf.{IsWithinCost};
 ghost use Rattle.cox_klstep.specs.SourceOf.{IsSource, source_cost};
 ghost use Rattle.cox_klstep.specs.TablesOf.{AreCandidates};
-ghost use Rattle.cox_klstep.specs.Faults.{IsFault, IsFaultAt, IsNarrowFault};
-ghost use Rattle.cox_klstep.specs.Limits.{IsLargeCoefficient};
+ghost use Rattle.cox_klstep.specs.Faults.{IsFault, IsNarrowFault};
 
 use crate::StepFault;
 use crate::draft::Draft;
 use crate::mus::Mus;
-use crate::source::{Source, put_polynomial};
+use crate::source::Source;
 use crate::steps::Steps;
 use crate::target::{Target, is_subset};
 use cox_context::Context;
-use cox_poly::{Acc, PolyFault};
-use cox_row::{Row, raise_fully};
+use cox_poly::Acc;
+use cox_row::Row;
 use std::alloc::Global;
 
 /// The greatest absolute value of mu that a row keeps.
@@ -44,7 +44,7 @@ pub(crate) fn make_row(
     ensures row { IfOk result (IsRowAt ctx.now target.now.member) }
     ensures within { IfOk result (IsRowWithin limit) }
     ensures fault { IfErr result (IsFault (integer_matrix ctx.now.matrix) ctx.now.members (word_at ctx.now.members target.now.member) limit) }
-    ensures steps { IfOk result (λ r. steps.new ≤ steps.old + source_cost source.now * length r.extremal.items) }
+    ensures steps { IsWithinCost ctx.now target.now.member (source_cost source.now) steps.old steps.new }
 {
     let _len = ctx.len();
     let i = target.member;
@@ -53,12 +53,11 @@ pub(crate) fn make_row(
     for &x in candidates {
         if is_subset(target.right, ctx.right_descent_set(x)) {
             draft.pass(ctx, i, x)?;
-            match draft.add_extremal(alloc, ctx, i, source, limit, &mut sums, steps) {
-                Ok(()) => {}
-                Err(StepFault::NoMemory) => return Err(StepFault::NoMemory),
-                Err(_) => return Err(first_fault(alloc, ctx, i, source, limit, x, steps)),
-            }
+            draft.add_extremal(alloc, ctx, i, source, limit, &mut sums, steps)?;
         }
+    }
+    if let Some(fault) = draft.large.fault(ctx, i) {
+        return Err(fault);
     }
     let mu = match narrow(alloc, &draft.mus) {
         Ok(mu) => mu,
@@ -72,65 +71,6 @@ pub(crate) fn make_row(
         draft.mus.numbers,
         mu,
     ))
-}
-
-/// The first fault at the members up to x. Out of memory where there is none.
-fn first_fault(
-    alloc: Global,
-    ctx: &Context,
-    i: u32,
-    source: &Source,
-    limit: i64,
-    x: u32,
-    steps: &mut Steps,
-) -> StepFault
-    requires i { i < length ctx.now.members }
-    requires source { IsSource ctx.now i source.now }
-    requires x { x < length ctx.now.members }
-    requires limit { pos 0 ≤ℤ limit }
-    ensures { IsFault (integer_matrix ctx.now.matrix) ctx.now.members (word_at ctx.now.members i) limit result }
-{
-    let _len = ctx.len();
-    for y in 0..x + 1 {
-        if let Some(fault) = fault_at(alloc, ctx, i, source, limit, y, steps) {
-            return fault;
-        }
-    }
-    StepFault::NoMemory
-}
-
-/// The fault at one member, if there is one.
-fn fault_at(
-    alloc: Global,
-    ctx: &Context,
-    i: u32,
-    source: &Source,
-    limit: i64,
-    x: u32,
-    steps: &mut Steps,
-) -> Option<StepFault>
-    requires i { i < length ctx.now.members }
-    requires source { IsSource ctx.now i source.now }
-    requires x { x < length ctx.now.members }
-    requires limit { pos 0 ≤ℤ limit }
-    ensures some { IfSome result (IsFaultAt (integer_matrix ctx.now.matrix) ctx.now.members (word_at ctx.now.members i) limit x) }
-    ensures none { IfNone result ((k : ℕ) (c : ℤ) → ¬ IsLargeCoefficient (integer_matrix ctx.now.matrix) limit (word_at ctx.now.members x) (word_at ctx.now.members i) k c) }
-{
-    let _len = ctx.len();
-    let Some(top) = raise_fully(ctx, i, x) else {
-        return None;
-    };
-    let mut sums = Acc::new();
-    if !put_polynomial(ctx, i, source, top, &mut sums, steps) {
-        return None;
-    }
-    match sums.close(alloc, limit) {
-        Ok(_) => None,
-        Err(PolyFault::TooBig { degree, value }) => {
-            Some(StepFault::Coefficient { x, degree, value })
-        }
-        Err(PolyFault::NoMemory) => Some(StepFault::NoMemory),
-    }
 }
 
 /// The values of mu in fewer bits.

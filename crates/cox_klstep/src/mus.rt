@@ -22,7 +22,7 @@ pub(crate) struct Mus {
 impl Mus {
     /// No members.
     pub(crate) fn new(alloc: Global) -> Mus
-        ensures { (A : IntegerMatrix) → (members : List (List ℕ)) (w : List ℕ) → AreNoted A members w 0 result.numbers.items result.values.items }
+        ensures { (A : IntegerMatrix) → (members : List (List ℕ)) (w : List ℕ) (limit : ℤ) → AreNoted A members w limit 0 result.numbers.items result.values.items }
     {
         Mus {
             numbers: Vec::new(alloc),
@@ -32,8 +32,8 @@ impl Mus {
 
     /// One member more, with its value of mu, which may be 0.
     pub(crate) fn note(&mut self, x: u32, value: i64) -> Result<(), AllocError>
-        ensures { OnOk result ((A : IntegerMatrix) → (members : List (List ℕ)) (w : List ℕ) → IsAdmissible A → AreNoted A members w x self.old.numbers.items self.old.values.items
-            → IsMu A (word_at members x) w value → AreNoted A members w (x + 1) self.new.numbers.items self.new.values.items) }
+        ensures { OnOk result ((A : IntegerMatrix) → (members : List (List ℕ)) (w : List ℕ) (limit : ℤ) → IsAdmissible A → AreNoted A members w limit x self.old.numbers.items self.old.values.items
+            → IsMu A (word_at members x) w value → AreNoted A members w limit (x + 1) self.new.numbers.items self.new.values.items) }
     {
         if value != 0 {
             self.numbers.push(x)?;

@@ -58,7 +58,7 @@ pub(crate) fn add(
 }
 
 /// Adds factor q^shift P(x,u) to the sums, where the polynomial is P(x,u).
-pub(crate) fn add_known(
+fn add_known(
     ctx: &Context,
     p: &PolyView<'_>,
     u: u32,

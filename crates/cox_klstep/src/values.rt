@@ -51,6 +51,7 @@ impl Values {
         ensures more { IfOk result (λ _. length self.new.extremal.items ≡ length self.old.extremal.items + 1) }
         ensures polynomial { IfOk result (λ place. SameCoefficients (polynomial_at self.new.pool place) sums.now) }
         ensures too_big { (d : ℕ) (v : ℤ) → result ≡ Err (PolyFault.TooBig d v) → IsFirstAbove limit sums.now d v }
+        ensures unchanged { (d : ℕ) (v : ℤ) → result ≡ Err (PolyFault.TooBig d v) → self.new ≡ self.old }
     {
         let place = match place_of(alloc, &mut self.pool, sums, limit) {
             Ok(place) => place,
@@ -80,6 +81,7 @@ fn place_of(alloc: Global, pool: &mut Pool, sums: &Acc, limit: i64) -> Result<u3
     requires small { (j : ℕ) → j < length pool.old → AllWithin limit (polynomial_at pool.old j) }
     ensures place { IfOk result (IsPooled limit sums.now pool.old pool.new) }
     ensures too_big { (d : ℕ) (v : ℤ) → result ≡ Err (PolyFault.TooBig d v) → IsFirstAbove limit sums.now d v }
+    ensures unchanged { (d : ℕ) (v : ℤ) → result ≡ Err (PolyFault.TooBig d v) → pool.new ≡ pool.old }
 {
     let print = print_of(sums);
     if let Some(place) = pool.place_of(sums, print) {

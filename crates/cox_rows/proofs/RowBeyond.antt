@@ -65,5 +65,5 @@ module _ (A : IntegerMatrix) (g : IsAdmissible A) (members : List (List ℕ)) (c
     before = is.mus.within;
     value = is.mus.value;
     some = is.mus.some;
-    whole = is.mus.whole;
+    whole = λ u m l mu some within. is.mus.whole u m l mu some;
   }) none-coefficient h

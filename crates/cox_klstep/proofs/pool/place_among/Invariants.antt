@@ -1,5 +1,5 @@
 -- None of the polynomials from the place at hand to the end is the one that is looked for.
-use Rattle.std.proofs.Common.{ℕ, ◌<◌, ◌≤◌, length}
+use Rattle.std.proofs.Common.{ℕ, ◌<◌, ◌≤◌}
 use Rattle.cox_poly.specs.Polynomial.{SameCoefficients}
 use Rattle.cox_row.specs.Polynomials.{polynomial_at}
 use Rattle.cox_klstep.proofs.pool.place_among.Given as goal

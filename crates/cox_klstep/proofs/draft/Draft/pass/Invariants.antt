@@ -6,6 +6,7 @@ use Rattle.cox_klstep.proofs.draft.Draft.pass.Given as goal
 abbrev pub invariant-loop-self : goal.invariant-loop-self
 invariant-loop-self l = record {
   values : l.self.values ≡ l.initial.self.values;
+  large : l.self.large ≡ l.initial.self.large;
   done : l.self.done ≡ l.initial.self.done;
   passed : (limit : ℤ) → IsPassed l.ctx l.i l.end limit l.initial.self l.self;
 }
