@@ -93,12 +93,12 @@ impl Rows {
     /// from those.
     fn ensure_next(&mut self, i: u32) -> Result<(), RowsFault>
         requires member { i < length self.old.elements.members }
-        requires before { (j : ℕ) → j < i → Holds self.old j }
+        requires before { (j : ℕ) → j < i → HasRow self.old j }
         requires settled { (j : ℕ) → j < i → ¬ NeedsBeyond (integer_matrix self.old.elements.matrix) self.old.limit (word_at self.old.elements.members j) }
         ensures elements { self.new.elements ≡ self.old.elements }
         ensures limit { self.new.limit ≡ self.old.limit }
-        ensures kept { (j : ℕ) → Holds self.old j → Holds self.new j }
-        ensures there { OnOk result (Holds self.new i) }
+        ensures kept { (j : ℕ) → HasRow self.old j → HasRow self.new j }
+        ensures there { OnOk result (HasRow self.new i) }
         ensures small { OnOk result (¬ NeedsBeyond (integer_matrix self.old.elements.matrix) self.old.limit (word_at self.old.elements.members i)) }
         ensures fault { IfErr result (IsFaultOfSome self.old.elements self.old.limit) }
     {
