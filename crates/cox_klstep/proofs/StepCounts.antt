@@ -1,12 +1,11 @@
 -- How many polynomials are added up for a row.
-use Rattle.std.proofs.Common.{◌≡◌, ℕ, ◌+◌, ◌-◌, ◌*◌, ◌<◌, ◌≤◌, List, length, Bool, true, false, refl, ⊎_elim, arith}
+use Rattle.std.proofs.Common.{◌≡◌, ℕ, ◌+◌, ◌-◌, ◌*◌, ◌<◌, ◌≤◌, length, Bool, true, false, refl, ⊎_elim, arith}
 use Rattle.std.specs.Prelude.{IsTrue}
 use Rattle.std.proofs.lemmas.Bool.{cases_lt}
 use Rattle.cox_base.specs.IntegerMatrix.{integer_matrix}
 use Rattle.cox_base.specs.Bruhat.{IsBelow}
 use Rattle.cox_context.specs.Closed.{Elements}
 use Rattle.cox_context.specs.Numbers.{word_at}
-use Rattle.cox_row.specs.Rising.{number_at}
 use Rattle.cox_row.specs.Extremal.{IsExtremal}
 use Rattle.cox_row.proofs.RisingLemmas.{rising-most}
 use Rattle.cox_klstep.specs.NeedsOf.{IsWithinCost, IsWithinCostTo}

@@ -1,5 +1,5 @@
 -- Products of polynomials, as functions from degrees to coefficients.
-use Rattle.std.specs.Prelude.{ℕ, zero, suc, ◌-◌, if◌then◌else◌, nat_le, ℤ, pos, ◌+ℤ◌, ◌*ℤ◌}
+use Rattle.std.specs.Prelude.{ℕ, zero, suc, ◌-◌, if◌then◌else◌, nat_le, pos, ◌+ℤ◌, ◌*ℤ◌}
 use Rattle.cox_poly.specs.Coefficients.{Coefficients}
 
 -- q^n f: at k the coefficient of f at k - n, and 0 below n

@@ -1,5 +1,5 @@
 -- The sums are those of P(x,w), or x is not below w.
-use Rattle.std.proofs.Common.{◌≡◌, ◌<◌, length, Err, FitsSigned, w64, rules, refl, sym, ap, ◌∙◌, arith}
+use Rattle.std.proofs.Common.{◌≡◌, Err, FitsSigned, w64, rules, ap, ◌∙◌, arith}
 use Rattle.std.specs.Int.{w128}
 use Rattle.std.proofs.lemmas.Int.{to_z-of_z}
 use Rattle.cox_base.specs.IntegerMatrix.{integer_matrix}
