@@ -1,5 +1,6 @@
 -- The number of a normal form, by left shifts from its last letter to its first, and of any word, by right shifts.
-use Rattle.std.proofs.Common.{◌≡◌, ℕ, zero, suc, ◌+◌, ◌-◌, ◌≤◌, ◌<◌, List, [], ◌∷◌, ◌++◌, length, take, drop, get_or, drop-cons, Contains, ap, sym, ◌∙◌}
+use Rattle.std.proofs.Common.{◌≡◌, ℕ, zero, suc, ◌+◌, ◌-◌, ◌≤◌, ◌<◌, List, [], ◌∷◌, ◌++◌}
+use Rattle.std.proofs.Common.{length, take, drop, get_or, drop-cons, Contains, ap, sym, ◌∙◌}
 use Rattle.std.proofs.Common.{⊎_elim, arith}
 use Rattle.std.proofs.lemmas.Bool.{cases_lt}
 use Rattle.std.proofs.lemmas.List.{take_more}
@@ -77,7 +78,8 @@ module _ (A : IntegerMatrix) (g : IsAdmissible A) (words : List (List ℕ)) (clo
 
   -- one more letter, by a right shift
   pub right-word : (letters : List ℕ) (i at k : ℕ) → i < length letters → word_at words at ≡ normal_form A (take i letters)
-      → word_at words k ≡ normal_form A (word_at words at ++ get_or letters i 0 ∷ []) → word_at words k ≡ normal_form A (take (i + 1) letters)
+      → word_at words k ≡ normal_form A (word_at words at ++ get_or letters i 0 ∷ [])
+      → word_at words k ≡ normal_form A (take (i + 1) letters)
   right-word letters i at k l e f =
       rw (take_more letters i 0 l)
       (f ∙ normal_form-equal A g (same-push A g (get_or letters i 0)
