@@ -67,9 +67,28 @@ pub fn keep_interval(
                 *kept = None;
                 return Err(Unanswered::NoMemory);
             }
-            Err(_) => *kept = None,
+            Err(_) => {}
         }
     }
+    keep_alone(alloc, kept, table, options, w)
+}
+
+/// Keeps the interval from the identity to w alone, with no rows, and tells the number of w there. What was kept is given up first.
+#[inline(never)]
+fn keep_alone(
+    alloc: Global,
+    kept: &mut Option<Rows>,
+    table: &RootTable,
+    options: Options,
+    w: &Word,
+) -> Result<u32, Unanswered>
+    requires { IsWord table.now.rank w.now.items }
+    ensures kept { AreKept table.now (limits_of options) kept.new }
+    ensures interval { Keeps result (RefusesLarge (limits_of options) (integer_matrix table.now) w.now.items)
+        (HoldsElement (integer_matrix table.now) w.now.items) kept.new }
+    ensures group { IsCoxeterMatrix table.now }
+{
+    *kept = None;
     let context = interval_of(alloc, table, options, w)?;
     let Some(i) = context.number_of(table, w) else {
         unreachable!();
