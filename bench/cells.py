@@ -4,7 +4,7 @@
     bench/cells.py [--native FILE] [--instructions] [--groups "A 6,D 6"] [PROGRAM [PROGRAM]]
                         the program of this repository, if none is named; two programs run in turn
 
-- `lrcells` of a finite group: all rows, the W-graph and its cells. What is printed goes to /dev/null.
+- `lrcells` of a finite group: all rows, and then the cells. What is printed goes to /dev/null.
 - `work 7 100000` in A 4.
 
 `--native FILE` names a program that does the same (called as FILE LETTER N); it runs in turn with the others, and its whole time counts.

@@ -4,7 +4,7 @@
     bench/workers.py [--workers "1,2,4"] [--groups "D 6,A 7"] [--runs N] [PROGRAM]
                         the program of this repository, if none is named
 
-- `lrcells` of a finite group: all rows, which the workers share, and then the W-graph and its cells, by one thread.
+- `lrcells` of a finite group: all rows, which the workers share, and then the cells, by one thread.
 - `pol e w` in E 6, where w is the longest element but for its last letter: one row, with those that it needs.
 
 The numbers of workers run in turn. Each figure is the least of five runs: seconds of the clock, how many times faster that is than with the first

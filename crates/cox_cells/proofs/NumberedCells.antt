@@ -27,7 +27,7 @@ module _ (kind : CellKind) (e : Elements) (all : IsListOf (IsElement (integer_ma
   chain-of : {i j : ℕ} → Reaches (HasEdge edges) i j → Precedes kind (integer_matrix e.matrix) (word_at e.members i) (word_at e.members j)
   chain-of (Reaches.itself a) = Precedes.itself (word_at e.members a)
   chain-of (Reaches.onward a b c d r) =
-      Precedes.onward (word_at e.members a) (word_at e.members b) (word_at e.members c) (step-of a b (steps.step a b d).1) (chain-of r)
+      Precedes.onward (word_at e.members a) (word_at e.members b) (word_at e.members c) (step-of a b (steps.step a b d).2) (chain-of r)
 
   reaches-by : {x y : List ℕ} → Precedes kind (integer_matrix e.matrix) x y → (i j : ℕ) → i < length e.members → j < length e.members
       → word_at e.members i ≡ x → word_at e.members j ≡ y → Reaches (HasEdge edges) i j
@@ -39,7 +39,7 @@ module _ (kind : CellKind) (e : Elements) (all : IsListOf (IsElement (integer_ma
       go : IsPlaced e.members y → ((b : ℕ) → b < length e.members → word_at e.members b ≡ y → Reaches (HasEdge edges) b j)
           → Reaches (HasEdge edges) i j
       go b on = Reaches.onward i b.i j
-          (steps.all i b.i l (record { within = b.within; joined = rw (p, b.is) s.neighbour.joined; own = rw (p, b.is) s.own }))
+          (steps.all i b.i l b.within (record { within = b.within; joined = rw (p, b.is) s.neighbour.joined; own = rw (p, b.is) s.own }))
           (on b.i b.within b.is)
 
   module _ (classes places : List ℕ) (lists : List (List ℕ)) (are : AreClasses (HasEdge edges) (length e.members) classes)

@@ -1,69 +1,126 @@
--- Steps are added, one edge of a vertex after the other.
-use Rattle.std.proofs.Common.{◌≡◌, ℕ, suc, ◌≤◌, ◌<◌, List, [], ◌∷◌, ◌++◌, length, ap, ⊎_elim, arith}
+-- Steps are added, two at most for each value of mu of a row.
+use Rattle.std.proofs.Common.{◌≡◌, ℕ, suc, ◌≤◌, ◌<◌, List, [], ◌∷◌, ◌++◌, length, ℤ, inl, inr, ap, sym, ⊎_elim, arith}
 use Rattle.std.proofs.lemmas.Bool.{cases_lt}
 use Rattle.std.proofs.lemmas.List.Elements.{Contains-append_left, Contains-push, Contains-push_cases}
 use Rattle.cox_base.specs.IntegerMatrix.{integer_matrix}
-use Rattle.cox_context.specs.Closed.{Elements}
+use Rattle.cox_base.specs.Admissible.{IsAdmissible}
+use Rattle.cox_context.specs.Closed.{Elements, IsClosed}
 use Rattle.cox_context.specs.Numbers.{word_at}
-use Rattle.cox_wgraph.specs.declared.edge.Edge.{Edge}
-use Rattle.cox_wgraph.specs.NumberedEdges.{edge_at, AreEdges}
+use Rattle.cox_row.specs.Rising.{number_at}
+use Rattle.cox_row.specs.Mus.{value_at, AreMus}
+use Rattle.cox_wgraph.specs.Edges.{IsJoined}
+use Rattle.cox_wgraph.proofs.EdgeLemmas.{some-values, earlier, no-shorter, edge-of_mu, mu-of_edge, edge-symmetric}
 use Rattle.cox_scc.specs.Reach.{HasEdge}
 use Rattle.cox_cells.specs.declared.kind.CellKind.{CellKind}
 use Rattle.cox_cells.specs.Cells.{HasOwn}
-use Rattle.cox_cells.specs.NumberedCells.{IsNumberedStep, AreSteps, AreStepsTo}
+use Rattle.cox_cells.specs.NumberedCells.{IsNumberedStep, AreSteps, AreStepsTo, AddsStep}
 
 module _ (kind : CellKind) (e : Elements) where
   pub steps-none : AreSteps kind e 0 []
   steps-none = record { step = λ i j d. absurd (omega (arith, d.1)); all = λ i j l. absurd (omega (arith, l)) }
 
-  module _ (n : ℕ) (ends : List Edge) (are : AreEdges (integer_matrix e.matrix) e.members n ends) where
-    pub steps-begin : (edges : List (ℕ × ℕ)) → AreSteps kind e n edges → AreStepsTo kind e n ends 0 edges
+  -- ---- one step
+
+  pub adds-step : (i j : ℕ) (edges : List (ℕ × ℕ)) → HasOwn kind (integer_matrix e.matrix) (word_at e.members i) (word_at e.members j)
+      → AddsStep kind e i j edges (edges ++ (i, j) ∷ [])
+  adds-step i j edges own = record {
+    kept = λ a b d. Contains-append_left edges ((i, j) ∷ []) (a, b) d;
+    added = λ own. Contains-push edges (i, j);
+    others = λ a b d. ⊎_elim (λ old. inl old)
+        (λ (q : ◌≡◌ {A = ℕ × ℕ} (i, j) (a, b)). inr (sym (ap (λ (p : ℕ × ℕ). p.0) q), sym (ap (λ (p : ℕ × ℕ). p.1) q), own))
+        (Contains-push_cases edges (i, j) (a, b) d);
+  }
+
+  pub adds-none : (i j : ℕ) (edges : List (ℕ × ℕ))
+      → (HasOwn kind (integer_matrix e.matrix) (word_at e.members i) (word_at e.members j) → ⊥) → AddsStep kind e i j edges edges
+  adds-none i j edges none = record { kept = λ a b d. d; added = λ own. absurd (none own); others = λ a b d. inl d }
+
+  -- ---- the steps between a member and those before it
+
+  module _ (g : IsAdmissible (integer_matrix e.matrix)) (closed : IsClosed (integer_matrix e.matrix) e.members) (n : ℕ)
+      (inside : n < length e.members) (numbers : List ℕ) (values : List ℤ)
+      (mus : AreMus (integer_matrix e.matrix) e.members (word_at e.members n) numbers values) where
+    before : (k : ℕ) → k < length numbers → number_at numbers k < n
+    before k l = (earlier e g closed (some-values e g).0 (some-values e g).1 n numbers values inside mus).within k l
+
+    joined-up : (k : ℕ) → k < length numbers → IsJoined (integer_matrix e.matrix) (word_at e.members (number_at numbers k)) (word_at e.members n)
+    joined-up k l = (
+      value_at values k,
+      record {
+        value = edge-of_mu (integer_matrix e.matrix) g (word_at e.members (number_at numbers k)) (word_at e.members n) (value_at values k)
+            (no-shorter e g closed (number_at numbers k) n (omega (arith, before k l)) inside) (mus.value k l);
+        some = mus.some k l;
+      },
+    )
+
+    joined-back : (x y : List ℕ) → IsJoined (integer_matrix e.matrix) x y → IsJoined (integer_matrix e.matrix) y x
+    joined-back x y (m, h) = (m, record { value = edge-symmetric (integer_matrix e.matrix) g x y m h.value; some = h.some })
+
+    -- a member before it, or it itself, is joined to it only where it is listed
+    listed : (i : ℕ) → i ≤ n → IsJoined (integer_matrix e.matrix) (word_at e.members i) (word_at e.members n)
+        → (k : ℕ) × (k < length numbers) × (number_at numbers k ≡ i)
+    listed i l (m, h) = mus.whole i m (omega (arith, l, inside))
+        (mu-of_edge (integer_matrix e.matrix) g (word_at e.members i) (word_at e.members n) m (no-shorter e g closed i n l inside) h.value)
+        h.some
+
+    step-up : (k : ℕ) → k < length numbers
+        → HasOwn kind (integer_matrix e.matrix) (word_at e.members (number_at numbers k)) (word_at e.members n)
+        → IsNumberedStep kind e (number_at numbers k) n
+    step-up k l own = record { within = inside; joined = joined-up k l; own = own }
+
+    step-down : (k : ℕ) → k < length numbers
+        → HasOwn kind (integer_matrix e.matrix) (word_at e.members n) (word_at e.members (number_at numbers k))
+        → IsNumberedStep kind e n (number_at numbers k)
+    step-down k l own = record {
+      within = mus.within k l;
+      joined = joined-back (word_at e.members (number_at numbers k)) (word_at e.members n) (joined-up k l);
+      own = own;
+    }
+
+    pub steps-begin : (edges : List (ℕ × ℕ)) → AreSteps kind e n edges → AreStepsTo kind e n numbers 0 edges
     steps-begin edges h = record {
-      step = λ i j d. let s = h.step i j d in (omega (arith, s.0), s.1);
+      step = λ i j d. let s = h.step i j d in (omega (arith, s.0), omega (arith, s.1), s.2);
       all = h.all;
-      last = λ k l. absurd (omega (arith, l));
+      up = λ k l. absurd (omega (arith, l));
+      down = λ k l. absurd (omega (arith, l));
     }
 
-    pub step-is : (k : ℕ) → k < length ends → HasOwn kind (integer_matrix e.matrix) (word_at e.members n)
-        (word_at e.members (edge_at ends k).to)
-        → IsNumberedStep kind e n (edge_at ends k).to
-    step-is k l own = record { within = are.within k l; joined = ((edge_at ends k).value, are.edge k l); own = own }
-
-    pub steps-add : (edges : List (ℕ × ℕ)) (k : ℕ) → k < length ends
-        → HasOwn kind (integer_matrix e.matrix) (word_at e.members n) (word_at e.members (edge_at ends k).to)
-        → AreStepsTo kind e n ends k edges → AreStepsTo kind e n ends (suc k) (edges ++ (n, (edge_at ends k).to) ∷ [])
-    steps-add edges k l own h = record {
-      step = λ i j d. ⊎_elim (λ old. h.step i j old) (λ new. added i j new) (Contains-push_cases edges (n, (edge_at ends k).to) (i, j) d);
-      all = λ i j m s. Contains-append_left edges ((n, (edge_at ends k).to) ∷ []) (i, j) (h.all i j m s);
-      last = λ m b c s. ⊎_elim
-          (λ (less : m < k). Contains-append_left edges ((n, (edge_at ends k).to) ∷ []) (n, (edge_at ends m).to) (h.last m less c s))
-          (λ (here : k ≤ m). let q : m ≡ k = omega (arith, here, b) in rw q (Contains-push edges (n, (edge_at ends k).to))) (cases_lt m k);
-    }
-      where
-        added : (i j : ℕ) → ◌≡◌ {A = ℕ × ℕ} (n, (edge_at ends k).to) (i, j) → (i ≤ n) × IsNumberedStep kind e i j
-        added i j q =
-            let a : n ≡ i = ap (λ (p : ℕ × ℕ). p.0) q in let b : (edge_at ends k).to ≡ j = ap (λ (p : ℕ × ℕ). p.1) q
-            in (omega (arith, a), rw (← a, ← b) (step-is k l own))
-
-    pub steps-skip : (edges : List (ℕ × ℕ)) (k : ℕ) → k < length ends
-        → (HasOwn kind (integer_matrix e.matrix) (word_at e.members n) (word_at e.members (edge_at ends k).to) → ⊥)
-        → AreStepsTo kind e n ends k edges → AreStepsTo kind e n ends (suc k) edges
-    steps-skip edges k l none h = record {
-      step = h.step;
-      all = h.all;
-      last = λ m b c s. ⊎_elim (λ (less : m < k). h.last m less c s)
-          (λ (here : k ≤ m). let q : m ≡ k = omega (arith, here, b) in absurd (none (rw q at s.own))) (cases_lt m k);
+    -- the steps either way at the next of the list
+    pub steps-both : (old between new : List (ℕ × ℕ)) (k : ℕ) → k < length numbers
+        → AddsStep kind e (number_at numbers k) n old between → AddsStep kind e n (number_at numbers k) between new
+        → AreStepsTo kind e n numbers k old → AreStepsTo kind e n numbers (suc k) new
+    steps-both old between new k l first second h = record {
+      step = λ i j d. ⊎_elim
+          (λ (d : HasEdge between i j). ⊎_elim (λ (d : HasEdge old i j). h.step i j d)
+          (λ s. rw (s.0, s.1) (omega (arith, before k l), omega arith, step-up k l s.2)) (first.others i j d))
+          (λ s. rw (s.0, s.1) (omega arith, omega (arith, before k l), step-down k l s.2)) (second.others i j d);
+      all = λ i j a b s. second.kept i j (first.kept i j (h.all i j a b s));
+      up = λ m b c s. ⊎_elim
+          (λ (less : m < k). second.kept (number_at numbers m) n (first.kept (number_at numbers m) n (h.up m less c s)))
+          (λ (here : k ≤ m). let q : m ≡ k = omega (arith, here, b)
+          in rw q (second.kept (number_at numbers k) n (first.added (rw q at s.own)))) (cases_lt m k);
+      down = λ m b c s. ⊎_elim
+          (λ (less : m < k). second.kept n (number_at numbers m) (first.kept n (number_at numbers m) (h.down m less c s)))
+          (λ (here : k ≤ m). let q : m ≡ k = omega (arith, here, b) in rw q (second.added (rw q at s.own))) (cases_lt m k);
     }
 
-    pub steps-end : (edges : List (ℕ × ℕ)) (k : ℕ) → length ends ≤ k → AreStepsTo kind e n ends k edges → AreSteps kind e (suc n) edges
+    pub steps-end : (edges : List (ℕ × ℕ)) (k : ℕ) → length numbers ≤ k → AreStepsTo kind e n numbers k edges → AreSteps kind e (suc n) edges
     steps-end edges k l h = record {
-      step = λ i j d. let s = h.step i j d in (omega (arith, s.0), s.1);
-      all = λ i j m s. ⊎_elim (λ (less : i < n). h.all i j less s)
-          (λ (here : n ≤ i). let q : i ≡ n = omega (arith, here, m) in rw q (own j (rw q at s))) (cases_lt i n);
+      step = λ i j d. let s = h.step i j d in (omega (arith, s.0), omega (arith, s.1), s.2);
+      all = λ i j a b s. ⊎_elim
+          (λ (less : i < n). ⊎_elim (λ (lower : j < n). h.all i j less lower s)
+          (λ (last : n ≤ j). let q : j ≡ n = omega (arith, last, b) in rw q (from i (omega (arith, less)) (rw q at s))) (cases_lt j n))
+          (λ (last : n ≤ i). let q : i ≡ n = omega (arith, last, a) in rw q (to j (omega (arith, b)) (rw q at s))) (cases_lt i n);
     }
       where
-        own : (j : ℕ) → IsNumberedStep kind e n j → HasEdge edges n j
-        own j s =
-            let r = are.whole j s.joined.0 s.within s.joined.1 in
-            let to : IsNumberedStep kind e n (edge_at ends r.0).to = rw r.2 s
-            in rw r.2 at (h.last r.0 (omega (arith, r.1, l)) r.1 to)
+        from : (i : ℕ) → i ≤ n → IsNumberedStep kind e i n → HasEdge edges i n
+        from i m s =
+            let r = listed i m s.joined in
+            let up : IsNumberedStep kind e (number_at numbers r.0) n = rw r.2 s
+            in rw r.2 at (h.up r.0 (omega (arith, r.1, l)) r.1 up)
+
+        to : (j : ℕ) → j ≤ n → IsNumberedStep kind e n j → HasEdge edges n j
+        to j m s =
+            let r = listed j m (joined-back (word_at e.members n) (word_at e.members j) s.joined) in
+            let down : IsNumberedStep kind e n (number_at numbers r.0) = rw r.2 s
+            in rw r.2 at (h.down r.0 (omega (arith, r.1, l)) r.1 down)

@@ -1,12 +1,10 @@
 -- Steps, classes and cells by the numbers of their members.
-use Rattle.std.specs.Prelude.{◌≡◌, ℕ, ◌≤◌, ◌<◌, List, [], length, map, slice_index_or, slice_index, IsBitSet}
+use Rattle.std.specs.Prelude.{◌≡◌, ◌⊎◌, ℕ, ◌≤◌, ◌<◌, List, [], length, map, slice_index_or, slice_index, IsBitSet}
 use Rattle.std.specs.Global.{Vec}
 use Rattle.cox_base.specs.IntegerMatrix.{integer_matrix}
 use Rattle.cox_context.specs.Closed.{Elements}
 use Rattle.cox_context.specs.Numbers.{word_at}
-use Rattle.cox_wgraph.specs.declared.edge.Edge.{Edge}
 use Rattle.cox_wgraph.specs.Edges.{IsJoined}
-use Rattle.cox_wgraph.specs.NumberedEdges.{edge_at}
 use Rattle.cox_row.specs.Rising.{number_at, AreRising}
 use Rattle.cox_scc.specs.Reach.{HasEdge}
 use Rattle.cox_cells.specs.declared.kind.CellKind.{CellKind}
@@ -24,16 +22,24 @@ pub record IsNumberedStep (kind : CellKind) (e : Elements) (i j : ℕ) : Type 0 
   pub joined : IsJoined (integer_matrix e.matrix) (word_at e.members i) (word_at e.members j)
   pub own : HasOwn kind (integer_matrix e.matrix) (word_at e.members i) (word_at e.members j)
 
--- the edges are the steps from the members before n
+-- the edges are the steps between the members before n
 pub record AreSteps (kind : CellKind) (e : Elements) (n : ℕ) (edges : List (ℕ × ℕ)) : Type 0 where
-  pub step : (i j : ℕ) → HasEdge edges i j → (i < n) × IsNumberedStep kind e i j
-  pub all : (i j : ℕ) → i < n → IsNumberedStep kind e i j → HasEdge edges i j
+  pub step : (i j : ℕ) → HasEdge edges i j → (i < n) × (j < n) × IsNumberedStep kind e i j
+  pub all : (i j : ℕ) → i < n → j < n → IsNumberedStep kind e i j → HasEdge edges i j
 
--- .. and those from n to the members that its first edges lead to
-pub record AreStepsTo (kind : CellKind) (e : Elements) (n : ℕ) (ends : List Edge) (done : ℕ) (edges : List (ℕ × ℕ)) : Type 0 where
-  pub step : (i j : ℕ) → HasEdge edges i j → (i ≤ n) × IsNumberedStep kind e i j
-  pub all : (i j : ℕ) → i < n → IsNumberedStep kind e i j → HasEdge edges i j
-  pub last : (k : ℕ) → k < done → k < length ends → IsNumberedStep kind e n (edge_at ends k).to → HasEdge edges n (edge_at ends k).to
+-- .. and those between n and the first members of a list
+pub record AreStepsTo (kind : CellKind) (e : Elements) (n : ℕ) (numbers : List ℕ) (done : ℕ) (edges : List (ℕ × ℕ)) : Type 0 where
+  pub step : (i j : ℕ) → HasEdge edges i j → (i ≤ n) × (j ≤ n) × IsNumberedStep kind e i j
+  pub all : (i j : ℕ) → i < n → j < n → IsNumberedStep kind e i j → HasEdge edges i j
+  pub up : (k : ℕ) → k < done → k < length numbers → IsNumberedStep kind e (number_at numbers k) n → HasEdge edges (number_at numbers k) n
+  pub down : (k : ℕ) → k < done → k < length numbers → IsNumberedStep kind e n (number_at numbers k) → HasEdge edges n (number_at numbers k)
+
+-- the step from i to j is added, where some descent of i is none of j
+pub record AddsStep (kind : CellKind) (e : Elements) (i j : ℕ) (old new : List (ℕ × ℕ)) : Type 0 where
+  pub kept : (a b : ℕ) → HasEdge old a b → HasEdge new a b
+  pub added : HasOwn kind (integer_matrix e.matrix) (word_at e.members i) (word_at e.members j) → HasEdge new i j
+  pub others : (a b : ℕ) → HasEdge new a b
+      → HasEdge old a b ⊎ ((a ≡ i) × (b ≡ j) × HasOwn kind (integer_matrix e.matrix) (word_at e.members i) (word_at e.members j))
 
 -- the numbers of the members of each cell
 abbrev pub lists_of : List (Vec ℕ) → List (List ℕ)

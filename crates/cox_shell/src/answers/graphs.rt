@@ -88,8 +88,7 @@ fn put_group_cells(out: &mut Vec<u8>, rows: &Rows, kind: CellKind) -> Result<(),
     ensures { PutsSome result (IsCellsText rows.now.elements.matrix.rank kind (integer_matrix rows.now.elements.matrix)) out.old.items out.new.items }
 {
     prove!(rows.context().len() > 0);
-    let graph = WGraph::build(*out.allocator(), rows.context(), rows)?;
-    let cells = cells(*out.allocator(), &graph, kind)?;
+    let cells = cells(*out.allocator(), rows.context(), rows, kind)?;
     put_cell_list(out, rows.context(), &cells)
 }
 
