@@ -43,7 +43,8 @@ module _ (kind : CellKind) (e : Elements) where
     before : (k : ℕ) → k < length numbers → number_at numbers k < n
     before k l = (earlier e g closed (some-values e g).0 (some-values e g).1 n numbers values inside mus).within k l
 
-    joined-up : (k : ℕ) → k < length numbers → IsJoined (integer_matrix e.matrix) (word_at e.members (number_at numbers k)) (word_at e.members n)
+    joined-up : (k : ℕ) → k < length numbers
+        → IsJoined (integer_matrix e.matrix) (word_at e.members (number_at numbers k)) (word_at e.members n)
     joined-up k l = (
       value_at values k,
       record {
@@ -104,7 +105,8 @@ module _ (kind : CellKind) (e : Elements) where
           (λ (here : k ≤ m). let q : m ≡ k = omega (arith, here, b) in rw q (second.added (rw q at s.own))) (cases_lt m k);
     }
 
-    pub steps-end : (edges : List (ℕ × ℕ)) (k : ℕ) → length numbers ≤ k → AreStepsTo kind e n numbers k edges → AreSteps kind e (suc n) edges
+    pub steps-end : (edges : List (ℕ × ℕ)) (k : ℕ) → length numbers ≤ k → AreStepsTo kind e n numbers k edges
+        → AreSteps kind e (suc n) edges
     steps-end edges k l h = record {
       step = λ i j d. let s = h.step i j d in (omega (arith, s.0), omega (arith, s.1), s.2);
       all = λ i j a b s. ⊎_elim

@@ -10,7 +10,8 @@ use Rattle.cox_cells.proofs.steps.add_steps.Goals as goal
 pub loop-i-init : goal.loop-i-init
 loop-i-init g c =
     let e = c.args.context.now in
-    let mus : AreMus (integer_matrix e.matrix) e.members (word_at e.members c.args.j) c.neighbours-i-items.result.now c.row.result.now.mu.items
+    let mus : AreMus (integer_matrix e.matrix) e.members (word_at e.members c.args.j) c.neighbours-i-items.result.now
+    c.row.result.now.mu.items
     = rw c.neighbours-i-items.ensures (rw c.requires.rows at c.row.ensures.row).mus
     in record {
       vertices = refl;
@@ -21,7 +22,8 @@ loop-i-init g c =
 pub loop-i-preserved : goal.loop-i-preserved
 loop-i-preserved g c =
     let e = c.args.context.now in
-    let mus : AreMus (integer_matrix e.matrix) e.members (word_at e.members c.args.j) c.neighbours-i-items.result.now c.row.result.now.mu.items
+    let mus : AreMus (integer_matrix e.matrix) e.members (word_at e.members c.args.j) c.neighbours-i-items.result.now
+    c.row.result.now.mu.items
     = rw c.neighbours-i-items.ensures (rw c.requires.rows at c.row.ensures.row).mus in
     let next : c.loop-i.i-index + 1 ≡ suc c.loop-i.i-index = omega arith
     in record {
@@ -35,7 +37,8 @@ loop-i-preserved g c =
 pub returns-clause-steps : goal.returns-clause-steps
 returns-clause-steps g c =
     let e = c.args.context.now in
-    let mus : AreMus (integer_matrix e.matrix) e.members (word_at e.members c.args.j) c.neighbours-i-items.result.now c.row.result.now.mu.items
+    let mus : AreMus (integer_matrix e.matrix) e.members (word_at e.members c.args.j) c.neighbours-i-items.result.now
+    c.row.result.now.mu.items
     = rw c.neighbours-i-items.ensures (rw c.requires.rows at c.row.ensures.row).mus in
     let next : c.args.j + 1 ≡ suc c.args.j = omega arith
     in rw next (steps-end c.args.kind e c.len-len.ensures.admissible c.len-len.ensures.closed c.args.j c.requires.member
