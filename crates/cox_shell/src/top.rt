@@ -27,7 +27,8 @@ const USAGE: &[u8] = b"usage: coxeter [--workers N] [--context N] [--coef N] [--
 /// arguments, and begin with the program's name; the others give the options.
 ///
 /// What it writes does not depend on the workers: `IsRun` is the contract of [`run_one`] too, which has the same answers by one
-/// thread. Each worker passes the gate before each claim and each publication of a row.
+/// thread. Each worker passes the gate before each claim and each publication of a row. What the session takes of memory is not
+/// given back at the end: a process makes one run.
 pub fn run<R: Threads + Wait + Sync, S: Source, K: Sink, G: Gate + Sync>(
     rt: &R,
     alloc: Global,
@@ -49,7 +50,8 @@ pub fn run<R: Threads + Wait + Sync, S: Source, K: Sink, G: Gate + Sync>(
 }
 
 /// Answers the script that the source gives, into the sink. `words` are the arguments, and begin
-/// with the program's name; the others give the options. It takes no step on another thread, whatever they say.
+/// with the program's name; the others give the options. It takes no step on another thread, whatever they say. What the
+/// session takes of memory is not given back at the end: a process makes one run.
 pub fn run_one<S: Source, K: Sink>(
     alloc: Global,
     words: &[&str],
@@ -117,7 +119,7 @@ fn with_rows<R: Threads + Wait + Sync, G: Gate + Sync>(
 
 /// Answers the script that the source gives, into the sink, with these options and this preparation of lines.
 ///
-/// The memory of the session, which has several pieces for each row, is not given back piece by piece: the process ends after the run.
+/// The session is forgotten at the end: its memory has several pieces for each row, and the process ends after the run.
 fn run_by<P: Preparation, S: Source, K: Sink>(
     preparation: &P,
     alloc: Global,
