@@ -10,7 +10,8 @@
 - `pol e w` of 300 scattered elements w of E 6, one after the other, of which each extends what is kept.
 
 `--native FILE` names a program that makes the same rows (called as FILE LETTER N, which writes a line `rows TIME` to standard error); it runs in turn
-with the others. Each figure is the least of five runs, or of one where a run takes more than ten seconds. Memory is the peak of the whole
+with the others. Each figure is the least of five runs, of sixty where a run takes less than a tenth of a second, or of one where it takes more than
+ten seconds. Memory is the peak of the whole
 run, as the kernel tells it. With `--instructions` each row has millions of instructions in place of times, counted by valgrind's callgrind.
 """
 import argparse
@@ -23,6 +24,8 @@ import sys
 from intervals import TOP, instructions
 
 RUNS = 5
+SHORT_RUNS = 60
+SHORT = 0.1
 LONG = 10.0
 GROUPS = [("A", 6), ("D", 5), ("F", 4), ("B", 5), ("D", 6), ("E", 6)]
 AFFINE_A2 = "matrix 3 3 3 3"
@@ -64,30 +67,33 @@ def elements(program, letter, rank):
     return group, listed[1:-1]
 
 
+def runs_of(seconds):
+    """How many runs are made where one takes so many seconds."""
+    return 1 if seconds > LONG else RUNS if seconds > SHORT else SHORT_RUNS
+
+
 def least(words, script, empty):
     """The least time of several runs beyond that of the empty script, in seconds, and the peak of memory in MiB."""
     first = run(words, script)
     times, peaks = [first[1]], [first[2]]
-    if first[1] < LONG:
-        for _ in range(RUNS - 1):
-            again = run(words, script)
-            times.append(again[1])
-            peaks.append(again[2])
-    base = min(run(words, empty)[1] for _ in range(RUNS if first[1] < LONG else 1)) if empty else 0.0
+    for _ in range(runs_of(first[1]) - 1):
+        again = run(words, script)
+        times.append(again[1])
+        peaks.append(again[2])
+    base = min(run(words, empty)[1] for _ in range(runs_of(first[1]))) if empty else 0.0
     return min(times) - base, min(peaks)
 
 
 def native(program, letter, rank):
     """The native program's own time for its rows, in seconds, the least of several, and its peak of memory."""
-    best, peak = None, None
-    for _ in range(RUNS):
+    best, peak, made, wanted = None, None, 0, 1
+    while made < wanted:
         told, seconds, memory = run([program, letter, str(rank)], "")
+        made, wanted = made + 1, max(wanted, runs_of(seconds))
         found = re.search(r"rows ([0-9.]+)(µs|ms|s)", told)
         value = float(found.group(1)) * {"µs": 1e-6, "ms": 1e-3, "s": 1.0}[found.group(2)]
         best = value if best is None else min(best, value)
         peak = memory if peak is None else min(peak, memory)
-        if seconds > LONG:
-            break
     return best, peak
 
 
@@ -125,9 +131,9 @@ def main():
             seconds, peak = least([program], script, empty)
             if given.instructions:
                 seconds = (instructions(program, script) - instructions(program, empty)) / 1e6
-            figures.append(f"{seconds:.3f} | {peak:.1f}")
+            figures.append(f"{seconds:.4f} | {peak:.1f}")
         if given.native:
-            figures.append("{:.3f} | {:.1f}".format(*native(given.native, *group)) if group else " | ")
+            figures.append("{:.4f} | {:.1f}".format(*native(given.native, *group)) if group else " | ")
         print(f"| {name} | " + " | ".join(figures) + " |", flush=True)
 
 
