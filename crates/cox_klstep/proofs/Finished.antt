@@ -21,7 +21,7 @@ use Rattle.cox_row.specs.Rising.{number_at}
 use Rattle.cox_row.specs.Mus.{value_at}
 use Rattle.cox_row.proofs.PoolLemmas.{kept}
 use Rattle.cox_poly.specs.Limit.{AllWithin}
-use Rattle.cox_klstep.specs.declared.making.TheConstants.{MU_LIMIT}
+use Rattle.cox_row.specs.declared.row.TheConstants.{MU_LIMIT}
 use Rattle.cox_klstep.specs.Limits.{IsLargeMu}
 use Rattle.cox_klstep.specs.LargeMembers.{IsWithinLimit}
 use Rattle.cox_klstep.specs.Faults.{IsFault, IsNarrowFault}

@@ -5,7 +5,7 @@ use Rattle.cox_context.specs.Numbers.{word_at}
 use Rattle.cox_row.specs.Rising.{number_at}
 use Rattle.cox_row.specs.Mus.{value_at}
 use Rattle.cox_klstep.specs.Limits.{IsLargeCoefficient, IsLargeMu}
-use Rattle.cox_klstep.specs.declared.making.TheConstants.{MU_LIMIT}
+use Rattle.cox_row.specs.declared.row.TheConstants.{MU_LIMIT}
 use Rattle.cox_klstep.specs.declared.fault.StepFault.{StepFault}
 use Rattle.cox_klstep.specs.declared.fault.StepFault.TheVariants.{Coefficient, Mu, NoMemory}
 

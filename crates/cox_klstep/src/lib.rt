@@ -42,7 +42,6 @@ mod values;
 
 pub use fault::StepFault;
 pub use identity::identity_row;
-pub use making::MU_LIMIT;
 pub use member::row;
 pub use needed::needs;
 pub use sides::{shift, shortens};

@@ -3,7 +3,7 @@ ghost use Rattle.std.specs.Prelude.{◌≡◌, ℕ, ◌+◌, ◌*◌, ◌<◌, �
 ghost use Rattle.cox_base.specs.IntegerMatrix.{integer_matrix};
 ghost use Rattle.cox_context.specs.Numbers.{word_at};
 ghost use Rattle.cox_row.specs.RowOf.{IsRowAt};
-ghost use Rattle.cox_row.specs.Within.{IsRowWithin};
+ghost use Rattle.cox_row.specs.Within.{IsRowWithin, AreSmallMus};
 ghost use Rattle.cox_klstep.specs.TargetOf.{IsTarget};
 ghost use Rattle.cox_klstep.specs.NeedsOf.{IsWithinCost};
 ghost use Rattle.cox_klstep.specs.SourceOf.{IsSource, source_cost};
@@ -18,11 +18,8 @@ use crate::steps::Steps;
 use crate::target::{Target, is_subset};
 use cox_context::Context;
 use cox_poly::Acc;
-use cox_row::Row;
+use cox_row::{MU_LIMIT, Row};
 use std::alloc::Global;
-
-/// The greatest absolute value of mu that a row keeps.
-pub const MU_LIMIT: u64 = 2_147_483_647;
 
 /// The row of a member, from what its polynomials come from and the candidates up to the member for its left descents.
 ///
@@ -77,6 +74,7 @@ pub(crate) fn make_row(
 fn narrow(alloc: Global, mus: &Mus) -> Result<Vec<i32>, StepFault>
     requires { length mus.now.values.items ≡ length mus.now.numbers.items }
     ensures values { IfOk result (λ v. v.items ≡ mus.now.values.items) }
+    ensures small { IfOk result (λ v. AreSmallMus v.items) }
     ensures fault { IfErr result (IsNarrowFault mus.now.numbers.items mus.now.values.items) }
 {
     let Ok(mut narrowed) = Vec::with_capacity(alloc, mus.values.len()) else {

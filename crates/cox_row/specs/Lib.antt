@@ -10,7 +10,7 @@ pub mod Polynomials
 pub mod Mus
 -- the row of an element
 pub mod RowOf
--- rows within a limit
+-- rows within limits
 pub mod Within
 -- the polynomials of a row, each once
 pub mod Distinct

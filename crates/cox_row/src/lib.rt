@@ -8,7 +8,7 @@
 //! That a row is that of an element, `IsRowOf`, is a property of the row and of the members of a context. Each look-up requires it, and whoever
 //! makes a row has to prove it.
 //!
-//! - `row`: the row, its parts, and new numbers for it when a context grows
+//! - `row`: the row, its parts, the limit of mu, and new numbers for it when a context grows
 //! - `raised`: raising a member by the descents of another
 //! - `look_up`: the polynomial and mu of any member, and how many polynomials there are
 //! - `search`: the place of a number in a list that rises
@@ -24,4 +24,4 @@ mod search;
 pub use look_up::{mu, polynomial, pool_len};
 pub use lower_rows::LowerRows;
 pub use raised::{Raise, raise_fully, raise_once};
-pub use row::Row;
+pub use row::{MU_LIMIT, Row};

@@ -6,7 +6,7 @@ ghost use Rattle.cox_row.specs.Within.{IsRowWithin};
 
 use crate::Row;
 
-/// Rows of members of a context, each under its member's number. Some are there; the coefficients of each are within a limit.
+/// Rows of members of a context, each under its member's number. Some are there; each of these is within the limits.
 pub trait LowerRows {
     /// The Coxeter matrix and the members of the context.
     ghost elements: { Self → Elements };

@@ -19,7 +19,7 @@ use Rattle.cox_hecke.proofs.PolynomialValues.{kl_polynomial, kl_polynomial-is, k
 use Rattle.cox_hecke.proofs.PolynomialValues.{kazhdan_lusztig-outside}
 use Rattle.cox_hecke.proofs.PolynomialValues.{kazhdan_lusztig-same}
 use Rattle.cox_row.proofs.MuLemmas.{mu-words}
-use Rattle.cox_klstep.specs.declared.making.TheConstants.{MU_LIMIT}
+use Rattle.cox_row.specs.declared.row.TheConstants.{MU_LIMIT}
 use Rattle.cox_klstep.specs.Limits.{IsLargeCoefficient, IsLargeMu}
 use Rattle.cox_rows.specs.Beyond.{IsBeyond, coefficient, mu}
 

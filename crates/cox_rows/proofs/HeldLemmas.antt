@@ -30,10 +30,14 @@ not-there None e s = cc
 not-there (Some row) e s = cc
 
 -- what is held is the row of a member
+pub held-row : (e : Elements) (limit : ℤ) (rows : List (Option Row)) → AreRows e limit rows → (i : ℕ)
+    → slice_index_or (held rows) i false ≡ true → (row : Row) × IsHeldRow e limit i row
+held-row e limit rows are i some = go (row_at rows i) (are.each i) (sym (held-at rows i) ∙ some)
+  where
+    go : (found : Option Row) → IfSome found (IsHeldRow e limit i) → is_some found ≡ true → (row : Row) × IsHeldRow e limit i row
+    go None h t = absurd (cc)
+    go (Some row) h t = (row, h)
+
 pub held-member : (e : Elements) (limit : ℤ) (rows : List (Option Row)) → AreRows e limit rows → (i : ℕ)
     → slice_index_or (held rows) i false ≡ true → i < length e.members
-held-member e limit rows are i some = go (row_at rows i) (are.each i) (sym (held-at rows i) ∙ some)
-  where
-    go : (found : Option Row) → IfSome found (IsHeldRow e limit i) → is_some found ≡ true → i < length e.members
-    go None h t = absurd (cc)
-    go (Some row) h t = h.member
+held-member e limit rows are i some = (held-row e limit rows are i some).1.member

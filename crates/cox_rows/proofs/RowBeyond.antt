@@ -1,8 +1,8 @@
--- A row that is held is not beyond the limits, if no value of mu that it has is.
-use Rattle.std.proofs.Common.{◌≡◌, ℕ, ◌<◌, ◌≤◌, List, length, ℤ, pos, arith}
-use Rattle.std.specs.Prelude.{unsigned_abs, ◌<ℤ◌, ◌≤ℤ◌}
+-- A row within the limits is not beyond them, so no row that is held is.
+use Rattle.std.proofs.Common.{◌≡◌, ℕ, ◌<◌, List, length, true, false, Option, ℤ, pos, arith}
+use Rattle.std.specs.Prelude.{slice_index_or, unsigned_abs, ◌<ℤ◌, ◌≤ℤ◌}
 use Rattle.std.proofs.lemmas.Int.{ints}
-use Rattle.cox_base.specs.IntegerMatrix.{IntegerMatrix}
+use Rattle.cox_base.specs.IntegerMatrix.{IntegerMatrix, integer_matrix}
 use Rattle.cox_base.specs.Admissible.{IsAdmissible}
 use Rattle.cox_base.specs.ShortLex.{normal_form}
 use Rattle.cox_reflect.proofs.Elements.{same-refl, same-sym}
@@ -10,35 +10,34 @@ use Rattle.cox_reflect.proofs.Search.{normal_form-same}
 use Rattle.cox_hecke.specs.Row.{IsMu}
 use Rattle.cox_hecke.proofs.AllRows.{mu-unique}
 use Rattle.cox_hecke.proofs.Descended.{mu-below}
-use Rattle.cox_context.specs.Closed.{IsClosed}
+use Rattle.cox_context.specs.Closed.{Elements, IsClosed}
 use Rattle.cox_context.specs.Numbers.{word_at}
 use Rattle.cox_context.proofs.ListLemmas.{contains-placed}
 use Rattle.cox_context.proofs.Shifting.{member-below}
 use Rattle.cox_row.specs.declared.row.Row.{Row}
+use Rattle.cox_row.specs.declared.row.TheConstants.{MU_LIMIT}
 use Rattle.cox_row.specs.Mus.{value_at}
 use Rattle.cox_row.specs.RowOf.{IsRowOf}
 use Rattle.cox_row.specs.Within.{IsRowWithin}
 use Rattle.cox_row.proofs.MuLemmas.{mu-words}
-use Rattle.cox_klstep.specs.declared.making.TheConstants.{MU_LIMIT}
-use Rattle.cox_klstep.specs.declared.fault.StepFault.{StepFault}
 use Rattle.cox_klstep.specs.Limits.{IsLargeCoefficient, IsLargeMu}
-use Rattle.cox_klstep.specs.Faults.{IsFault, IsNarrowFault}
-use Rattle.cox_klstep.proofs.Finished.{none-large, noted-fault}
+use Rattle.cox_klstep.proofs.Finished.{none-large}
 use Rattle.cox_rows.specs.Beyond.{IsBeyond, coefficient, mu}
+use Rattle.cox_rows.specs.Holding.{AreRows, held}
+use Rattle.cox_rows.proofs.HeldLemmas.{held-row}
 
 module _ (A : IntegerMatrix) (g : IsAdmissible A) (members : List (List ℕ)) (closed : IsClosed A members) (i : ℕ)
     (inside : i < length members)
     (limit : ℤ) (least : pos 0 ≤ℤ limit) (row : Row) (is : IsRowOf A members (word_at members i) row) (within : IsRowWithin limit row) where
-  pub none-coefficient : (x : List ℕ) (k : ℕ) (c : ℤ) → IsLargeCoefficient A limit x (word_at members i) k c → ⊥
+  none-coefficient : (x : List ℕ) (k : ℕ) (c : ℤ) → IsLargeCoefficient A limit x (word_at members i) k c → ⊥
   none-coefficient x k c h = none-large A g members closed i inside limit least row.extremal.items row.places.items row.pool
-      is.extremal is.polynomials within x k c h
+      is.extremal is.polynomials within.coefficients x k c h
 
   not_zero : (m : ℤ) → pos MU_LIMIT <ℤ pos (unsigned_abs m) → m ≡ pos 0 → ⊥
   not_zero m l e = let zero : pos MU_LIMIT <ℤ pos 0 = rw e at l in omega (arith, ints, zero)
 
-  none-mu : ((k : ℕ) → k < length row.mu.items → unsigned_abs (value_at row.mu.items k) ≤ MU_LIMIT)
-      → (x : List ℕ) (m : ℤ) → IsLargeMu A (pos MU_LIMIT) x (word_at members i) m → ⊥
-  none-mu small x m h =
+  none-mu : (x : List ℕ) (m : ℤ) → IsLargeMu A (pos MU_LIMIT) x (word_at members i) m → ⊥
+  none-mu x m h =
       let place = contains-placed members (normal_form A x)
       (member-below A g members closed x i inside (mu-below A g x (word_at members i) m h.is (not_zero m h.above)))
       in let there : IsMu A (word_at members place.i) (word_at members i) m
@@ -48,22 +47,17 @@ module _ (A : IntegerMatrix) (g : IsAdmissible A) (members : List (List ℕ)) (c
       in let same : m ≡ value_at row.mu.items k.0
       = mu-unique A g (word_at members place.i) (word_at members i) m (value_at row.mu.items k.0) there value
       in let above : pos MU_LIMIT <ℤ pos (unsigned_abs (value_at row.mu.items k.0)) = rw same at h.above
-      in let few = small k.0 (omega (arith, k.1, is.mus.size))
+      in let few = within.mu k.0 (omega (arith, k.1, is.mus.size))
       in omega (arith, ints, above, few)
 
-  pub not_beyond : ((k : ℕ) → k < length row.mu.items → unsigned_abs (value_at row.mu.items k) ≤ MU_LIMIT)
-      → IsBeyond A limit (word_at members i) → ⊥
-  not_beyond small (coefficient {x} {k} {c} h) = none-coefficient x k c h
-  not_beyond small (mu {x} {m} h) = none-mu small x m h
+  pub not_beyond : IsBeyond A limit (word_at members i) → ⊥
+  not_beyond (coefficient {x} {k} {c} h) = none-coefficient x k c h
+  not_beyond (mu {x} {m} h) = none-mu x m h
 
-  -- the first value of mu that is too large
-  pub mu-fault : (fault : StepFault) → IsNarrowFault row.neighbours.items row.mu.items fault
-      → IsFault A members (word_at members i) limit fault
-  mu-fault fault h = noted-fault A g members (word_at members i) limit (length members) row.neighbours.items row.mu.items fault (record {
-    size = is.mus.size;
-    rising = is.mus.rising;
-    before = is.mus.within;
-    value = is.mus.value;
-    some = is.mus.some;
-    whole = λ u m l mu some within. is.mus.whole u m l mu some;
-  }) none-coefficient h
+-- what is held is not beyond the limits
+pub held-not_beyond : (e : Elements) (limit : ℤ) (rows : List (Option Row)) → IsAdmissible (integer_matrix e.matrix)
+    → IsClosed (integer_matrix e.matrix) e.members → AreRows e limit rows → (i : ℕ) → slice_index_or (held rows) i false ≡ true
+    → IsBeyond (integer_matrix e.matrix) limit (word_at e.members i) → ⊥
+held-not_beyond e limit rows g closed are i some =
+    let there = held-row e limit rows are i some
+    in not_beyond (integer_matrix e.matrix) g e.members closed i there.1.member limit are.least there.0 there.1.is there.1.within

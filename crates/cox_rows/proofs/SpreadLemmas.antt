@@ -2,7 +2,7 @@
 use Rattle.std.proofs.Common.{◌≡◌, ◌≢◌, ℕ, ◌+◌, ◌<◌, ◌≤◌, List, [], length, true, false, Option, None, Some, is_some, ℤ, pos}
 use Rattle.std.proofs.Common.{⊎_elim, refl, sym, ap, ◌∙◌, arith}
 use Rattle.std.specs.Prelude.{IfSome, slice_index, slice_index_or, unsigned_abs}
-use Rattle.std.proofs.lemmas.Int.{by_lt_z}
+use Rattle.std.proofs.lemmas.Int.{by_lt_z, ints}
 use Rattle.std.proofs.lemmas.Bool.{cases_lt, cases_eq}
 use Rattle.std.proofs.lemmas.List.{get_or_past}
 use Rattle.cox_base.specs.IntegerMatrix.{IntegerMatrix, integer_matrix}
@@ -13,16 +13,18 @@ use Rattle.cox_context.specs.Numbers.{word_at}
 use Rattle.cox_context.specs.Numbering.{AreMoved}
 use Rattle.cox_context.proofs.ListLemmas.{contains-at}
 use Rattle.cox_row.specs.declared.row.Row.{Row}
+use Rattle.cox_row.specs.declared.row.TheConstants.{MU_LIMIT}
 use Rattle.cox_row.specs.Rising.{number_at}
 use Rattle.cox_row.specs.Polynomials.{polynomial_at}
+use Rattle.cox_row.specs.Mus.{value_at}
 use Rattle.cox_row.specs.RowOf.{IsRowOf}
 use Rattle.cox_row.specs.Within.{IsRowWithin}
-use Rattle.cox_klstep.specs.Limits.{IsLargeCoefficient}
 use Rattle.cox_row.specs.RowLists.{row_at}
+use Rattle.cox_rows.specs.Beyond.{IsBeyond, coefficient as large_coefficient, mu as large_mu}
 use Rattle.cox_rows.specs.Holding.{IsHeldRow, AreRows, held}
 use Rattle.cox_rows.specs.Spread.{IsMovable, IsRenumbered, IsFromBefore, AreSpread}
 use Rattle.cox_rows.proofs.HeldLemmas.{held-at, row-there, not-there}
-use Rattle.cox_rows.proofs.RowBeyond.{none-coefficient}
+use Rattle.cox_rows.proofs.RowBeyond.{not_beyond}
 
 -- ---- one row after another
 
@@ -73,20 +75,27 @@ spread-some rows moved n spread next old row was renumbered at others kept h = r
 
 -- ---- the rows of the larger context
 
--- without a large coefficient, the row is within the limit
+-- a row that is not beyond the limits is within them
 row-within : (A : IntegerMatrix) (members : List (List ℕ)) (w : List ℕ) (limit : ℤ) (row : Row) → IsRowOf A members w row
-    → ((x : List ℕ) (k : ℕ) (c : ℤ) → IsLargeCoefficient A limit x w k c → ⊥) → IsRowWithin limit row
-row-within A members w limit row is none j l k =
-    let place = is.polynomials.distinct.used j l
-    in by_lt_z limit (pos (unsigned_abs (coefficient (polynomial_at row.pool j) k)))
-    (λ above. absurd (none (word_at members (number_at row.extremal.items place.0)) k
-    (coefficient (polynomial_at row.pool j) k) record {
-      polynomial = coefficient (polynomial_at row.pool j);
-      is = rw place.2 at (is.polynomials.value place.0 (omega (arith, place.1, is.polynomials.size)));
-      value = refl;
-      above = above;
-    }))
-    (λ small. small)
+    → (IsBeyond A limit w → ⊥) → IsRowWithin limit row
+row-within A members w limit row is none = record {
+  coefficients = λ j l k.
+      let place = is.polynomials.distinct.used j l
+      in by_lt_z limit (pos (unsigned_abs (coefficient (polynomial_at row.pool j) k)))
+      (λ above. absurd (none (large_coefficient {x = word_at members (number_at row.extremal.items place.0)} record {
+        polynomial = coefficient (polynomial_at row.pool j);
+        is = rw place.2 at (is.polynomials.value place.0 (omega (arith, place.1, is.polynomials.size)));
+        value = refl;
+        above = above;
+      })))
+      (λ small. small);
+  mu = λ k l. by_lt_z (pos MU_LIMIT) (pos (unsigned_abs (value_at row.mu.items k)))
+      (λ above. absurd (none (large_mu {x = word_at members (number_at row.neighbours.items k)} record {
+        is = is.mus.value k (omega (arith, l, is.mus.size));
+        above = above;
+      })))
+      (λ small. omega (arith, ints, small));
+}
 
 module _ (a e : Elements) (limit : ℤ) (g : IsAdmissible (integer_matrix a.matrix)) (same : e.matrix ≡ a.matrix)
     (from : IsClosed (integer_matrix a.matrix) a.members) (to : IsClosed (integer_matrix e.matrix) e.members) (moved : List ℕ)
@@ -114,7 +123,7 @@ module _ (a e : Elements) (limit : ℤ) (g : IsAdmissible (integer_matrix a.matr
         member = rw h.number at (are.within h.i old.member);
         is = rw (same, word) is;
         within = row-within (integer_matrix a.matrix) e.members (word_at a.members h.i) limit row is
-            (none-coefficient (integer_matrix a.matrix) g a.members from h.i old.member limit held_rows.least h.old old.is old.within);
+            (not_beyond (integer_matrix a.matrix) g a.members from h.i old.member limit held_rows.least h.old old.is old.within);
       }
 
   carried-at : (n j : ℕ) (found : Option Row) → IfSome found (IsFromBefore rows moved n j) → IfSome found (IsHeldRow e limit j)

@@ -3,7 +3,7 @@ use Rattle.std.specs.Prelude.{ℕ, List, ℤ, pos}
 use Rattle.cox_base.specs.IntegerMatrix.{IntegerMatrix}
 use Rattle.cox_hecke.specs.Needs.{IsNeeded}
 use Rattle.cox_klstep.specs.Limits.{IsLargeCoefficient, IsLargeMu}
-use Rattle.cox_klstep.specs.declared.making.TheConstants.{MU_LIMIT}
+use Rattle.cox_row.specs.declared.row.TheConstants.{MU_LIMIT}
 
 -- some P(x,w) has a coefficient above the limit in absolute value, or some mu(x,w) is above MU_LIMIT
 pub data IsBeyond (A : IntegerMatrix) (limit : ℤ) (w : List ℕ) : Type 0 where

@@ -17,13 +17,13 @@ pub record Holding : Type 0 where
 abbrev pub HasRow : Holding → ℕ → Type 0
 HasRow h i = slice_index_or h.holds i false ≡ true
 
--- the row of the member with the number i, within the limit
+-- the row of the member with the number i, within the limits
 pub record IsHeldRow (e : Elements) (limit : ℤ) (i : ℕ) (row : Row) : Type 0 where
   pub member : i < length e.members
   pub is : IsRowAt e i row
   pub within : IsRowWithin limit row
 
--- each row that is there is that of the member with its number, within the limit
+-- each row that is there is that of the member with its number, within the limits
 pub record AreRows (e : Elements) (limit : ℤ) (rows : List (Option Row)) : Type 0 where
   pub least : pos 0 ≤ℤ limit
   pub each : (i : ℕ) → IfSome (row_at rows i) (IsHeldRow e limit i)

@@ -4,15 +4,13 @@
 //! by recursion to smaller numbers. Where all rows are asked for, they are made in the order of the members, and corrections are not looked for. A
 //! member is settled when no row of its Need is beyond the limits; that is noted where its row is held, so that nothing is looked at twice. It stays
 //! so when rows are taken out and come back.
-ghost use Rattle.std.specs.Prelude.{◌≡◌, ◌≢◌, ℕ, ◌<◌, ◌≤◌, length, IfSome, IfNone, IsTrue, IfOk, IfErr, OnOk, unsigned_abs, false};
+ghost use Rattle.std.specs.Prelude.{◌≡◌, ◌≢◌, ℕ, ◌<◌, ◌≤◌, length, IsTrue, IfOk, IfErr, OnOk, false};
 ghost use Rattle.cox_base.specs.IntegerMatrix.{integer_matrix};
 ghost use Rattle.cox_hecke.specs.Needs.{IsNeeded};
 ghost use Rattle.cox_context.specs.Numbers.{word_at};
-ghost use Rattle.cox_row.specs.Mus.{value_at};
 ghost use Rattle.cox_klstep.specs.StepOf.{IsDescentAt};
 ghost use Rattle.cox_klstep.specs.NeedsOf.{HasNeeds, AreNeeds};
 ghost use Rattle.cox_klstep.specs.TablesOf.{AreTables};
-ghost use Rattle.cox_klstep.specs.Faults.{IsNarrowFault};
 ghost use Rattle.cox_rows.specs.Beyond.{NeedsBeyond};
 ghost use Rattle.cox_rows.specs.Holding.{HasRow, held};
 ghost use Rattle.cox_rows.specs.RowsFaults.{IsRowsFault, IsFaultOfSome};
@@ -21,8 +19,7 @@ ghost use Rattle.cox_rows.specs.Ensured.{IsEnsured, IsSettled, AreNeedsSmall};
 use crate::fault::fault_of;
 use crate::flags::set_at;
 use crate::{Rows, RowsFault};
-use cox_klstep::{Descent, MU_LIMIT, StepFault, Tables, needs, row};
-use cox_row::Row;
+use cox_klstep::{Descent, Tables, needs, row};
 use std::alloc::{AllocError, Global};
 
 impl Rows {
@@ -179,7 +176,7 @@ impl Rows {
         }
     }
 
-    /// Notes that the member with the number i is settled, where all that its row is made from is; a value of mu may be too large.
+    /// Notes that the member with the number i is settled, where its row is there and all that the row is made from is settled.
     fn settle(&mut self, i: u32) -> Result<(), RowsFault>
         requires member { i < length self.old.elements.members }
         requires there { HasRow self.old i }
@@ -189,30 +186,7 @@ impl Rows {
         ensures fault { IfErr result (IsRowsFault self.old.elements self.old.limit (λ w. w ≡ word_at self.old.elements.members i)) }
     {
         let _context = self.held.context();
-        let Some(row) = self.held.get(i) else {
-            unreachable!();
-        };
-        if let Some(fault) = large_mu(row) {
-            return Err(fault_of(fault, i));
-        }
         set_at(&mut self.settled, i as usize)?;
         Ok(())
     }
-}
-
-/// The first value of mu that is above its limit, if there is one.
-fn large_mu(row: &Row) -> Option<StepFault>
-    requires { length row.now.mu.items ≡ length row.now.neighbours.items }
-    ensures some { IfSome result (IsNarrowFault row.now.neighbours.items row.now.mu.items) }
-    ensures none { IfNone result ((k : ℕ) → k < length row.now.mu.items → unsigned_abs (value_at row.now.mu.items k) ≤ MU_LIMIT) }
-{
-    'values: for (k, value) in row.mu().iter().enumerate() {
-        if u64::from(value.unsigned_abs()) > MU_LIMIT {
-            return Some(StepFault::Mu {
-                x: row.neighbours()[k],
-                value: i64::from(*value),
-            });
-        }
-    }
-    None
 }

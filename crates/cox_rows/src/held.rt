@@ -7,7 +7,9 @@ ghost use Rattle.cox_base.specs.Matrix.{IsWord};
 ghost use Rattle.cox_context.specs.Union.{IsInUnion};
 ghost use Rattle.cox_context.specs.SortedList.{IsListOf};
 ghost use Rattle.cox_context.specs.FaultMeaning.{IsRefusal};
+ghost use Rattle.cox_context.specs.Numbers.{word_at};
 ghost use Rattle.cox_row.specs.RowLists.{row_at};
+ghost use Rattle.cox_rows.specs.Beyond.{IsBeyond};
 ghost use Rattle.cox_rows.specs.Holding.{Holding, HasRow, IsHeldRow, AreBoth, held};
 ghost use Rattle.cox_rows.specs.Spread.{IsMovable, AreSpread, AreCarried};
 ghost use Rattle.cox_rows.specs.Extended.{IsLeft};
@@ -58,6 +60,8 @@ impl Held {
         ensures admissible { IsAdmissible (integer_matrix self.now.elements.matrix) }
         ensures least { pos 0 ≤ℤ self.now.limit }
         ensures members { (i : ℕ) → HasRow self.now i → i < length self.now.elements.members }
+        ensures small { (i : ℕ) → HasRow self.now i
+            → ¬ IsBeyond (integer_matrix self.now.elements.matrix) self.now.limit (word_at self.now.elements.members i) }
     {
         let _len = self.context.len();
         &self.context

@@ -30,7 +30,7 @@ use std::alloc::{AllocError, Global};
 use std::marker::Model;
 use std::mem;
 
-/// A context, and the rows of some of its members. Every coefficient of a row that is held is within the limit.
+/// A context, and the rows of some of its members. Every row that is held is within the limits.
 #[derive(Drop)]
 pub struct Rows {
     pub(crate) held: Held,

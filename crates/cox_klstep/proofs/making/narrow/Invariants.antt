@@ -2,7 +2,7 @@
 use Rattle.std.proofs.Common.{◌≡◌, ℕ, ◌<◌, ◌≤◌, take}
 use Rattle.std.specs.Prelude.{unsigned_abs}
 use Rattle.cox_row.specs.Mus.{value_at}
-use Rattle.cox_klstep.specs.declared.making.TheConstants.{MU_LIMIT}
+use Rattle.cox_row.specs.declared.row.TheConstants.{MU_LIMIT}
 use Rattle.cox_klstep.proofs.making.narrow.Given as goal
 
 abbrev pub invariant-loop-k : goal.invariant-loop-k
