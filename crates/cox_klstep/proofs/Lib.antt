@@ -26,6 +26,10 @@ pub mod IdentityRow
 pub mod NeededRows
 -- inverses by number
 pub mod InverseLemmas
+-- numbers that are picked from a list
+pub mod Picked
+-- the corrections of the step by the least left descent, picked from the neighbours
+pub mod PickedNeeds
 -- lists of candidates
 pub mod CandidateLemmas
 -- shifts that are shorter

@@ -23,7 +23,6 @@ use Rattle.cox_base.specs.declared.side.Side.TheVariants.{Left}
 use Rattle.cox_klstep.specs.declared.step.Correction.{Correction}
 use Rattle.cox_row.specs.Rising.{number_at}
 use Rattle.cox_klstep.specs.StepOf.{correction_at, AreNumbered}
-use Rattle.cox_klstep.specs.NeedsOf.{AreNeeds}
 use Rattle.cox_klstep.specs.CorrectionSums.{numbered_sum}
 
 -- one correction more
@@ -95,18 +94,3 @@ module _ (A : IntegerMatrix) (g : IsAdmissible A) (members : List (List ℕ)) (c
       (occurs-once list (λ i m. within (suc i) (omega (arith, m))) (λ i i' m n. rising (suc i) (suc i') (omega (arith, m))
       (omega (arith, n)))
       k (omega (arith, l)) e)
-
--- the numbers of the corrections, in order
-pub needs-numbered : (A : IntegerMatrix) (members : List (List ℕ)) (s : ℕ) (w : List ℕ) (list : List Correction) (numbers : List ℕ)
-    → length numbers ≡ length list → ((k : ℕ) → k < length list → number_at numbers k ≡ (correction_at list k).number)
-    → AreNumbered Left A members s w list → AreNeeds A members s w numbers
-needs-numbered A members s w list numbers size same h = record {
-  rising = λ j k l m.
-      let inside : k < length list = omega (arith, m, size)
-      in rw (same j (omega (arith, l, inside)), same k inside) (h.rising j k l inside);
-  within = λ k l. let inside : k < length list = omega (arith, l, size) in rw (same k inside) (h.within k inside);
-  each = λ k l.
-      let inside : k < length list = omega (arith, l, size)
-      in ((correction_at list k).factor, rw (same k inside) (h.each k inside));
-  whole = λ u m l c. let k = h.whole u m l c in (k.0, omega (arith, k.1, size), same k.0 k.1 ∙ k.2);
-}

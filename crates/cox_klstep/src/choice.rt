@@ -148,7 +148,7 @@ fn cost<L: LowerRows>(
 
 /// The sum of the numbers of the corrections of a step, each one more, if it is below a bound. `None` where it is not, or where there are more than
 /// `most` corrections. It looks at no other row, since most steps are out of the question by their sums.
-fn correction_sum(
+pub fn correction_sum(
     ctx: &Context,
     side: Side,
     descent: &Descent,

@@ -16,6 +16,7 @@
 //! - `tables`, `steps`: lists of candidates and inverses, and how much was added up
 //! - `identity`: the row of the identity
 //! - `fault`, `large`: why a row is not made, and the members with a coefficient above the limit
+//! - `lists`: lists that grow
 #![tactic(auto)]
 
 mod choice;
@@ -23,6 +24,7 @@ mod draft;
 mod fault;
 mod identity;
 mod large;
+mod lists;
 mod making;
 mod member;
 mod mus;
@@ -40,6 +42,7 @@ mod tests;
 mod turned;
 mod values;
 
+pub use choice::correction_sum;
 pub use fault::StepFault;
 pub use identity::identity_row;
 pub use member::row;

@@ -1,36 +1,39 @@
 //! The rows that a row is made from.
-ghost use Rattle.std.specs.Prelude.{◌≡◌, ℕ, ◌<◌, length, IfOk};
+ghost use Rattle.std.specs.Prelude.{◌≡◌, ℕ, ◌<◌, length, IfOk, OnOk};
 ghost use Rattle.cox_base.specs.IntegerMatrix.{integer_matrix};
 ghost use Rattle.cox_context.specs.Numbers.{word_at};
 ghost use Rattle.cox_row.specs.RowOf.{IsRowAt};
 ghost use Rattle.cox_klstep.specs.StepOf.{correction_at, IsDescentAt, IsRowStep, AreNeeded};
 ghost use Rattle.cox_klstep.specs.NeedsOf.{AreNeeds};
 
+use crate::lists::push_if;
+use crate::sides::shortens;
 use crate::step::{Descent, Step};
 use cox_base::Side;
 use cox_context::Context;
 use cox_row::{LowerRows, Row};
 use std::alloc::{AllocError, Global};
 
-/// The members that correct the step to the member of the descent, rising by number.
+/// The members that correct the step to the member of the descent, rising by number, in place of what the list had.
 ///
 /// The row of that member is made from their rows and that of the shorter element.
 pub fn needs(
-    alloc: Global,
     ctx: &Context,
     descent: &Descent,
     lower: &Row,
-) -> Result<Vec<u32>, AllocError>
+    numbers: &mut Vec<u32>,
+) -> Result<(), AllocError>
     requires descent { IsDescentAt ctx.now descent.now }
     requires lower { IsRowAt ctx.now descent.now.lower lower.now }
-    ensures { IfOk result (λ v. AreNeeds (integer_matrix ctx.now.matrix) ctx.now.members descent.now.letter (word_at ctx.now.members descent.now.member) v.items) }
+    ensures { OnOk result (AreNeeds (integer_matrix ctx.now.matrix) ctx.now.members descent.now.letter (word_at ctx.now.members descent.now.member) numbers.new.items) }
 {
-    let step = Step::of(alloc, ctx, Side::Left, descent, lower)?;
-    let mut numbers = Vec::new(alloc);
-    for correction in step.corrections.iter() {
-        numbers.push(correction.number)?;
+    let _len = ctx.len();
+    numbers.clear();
+    for &u in lower.neighbours() {
+        let corrects = shortens(ctx, Side::Left, descent.letter, u);
+        push_if(numbers, u, corrects)?;
     }
-    Ok(numbers)
+    Ok(())
 }
 
 /// The rows of the corrections of a step.

@@ -117,7 +117,9 @@ impl Rows {
         let Some(lower) = self.held.get(descent.lower) else {
             unreachable!();
         };
-        needs(alloc, self.held.context(), descent, lower)
+        let mut numbers = Vec::new(alloc);
+        needs(self.held.context(), descent, lower, &mut numbers)?;
+        Ok(numbers)
     }
 
     /// Makes the row of the member with the number i, unless it is there.

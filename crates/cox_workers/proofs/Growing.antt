@@ -1,15 +1,29 @@
--- What two seats that met have published and voided.
+-- What a seat has published, voided and seen: step after step, and when it met another.
 use Rattle.std.proofs.Common.{◌≡◌, ◌⊎◌, inl, inr, ⊎_elim, ℕ, ◌||◌, List, true, sym, ap, ◌∙◌}
 use Rattle.std.proofs.lemmas.Bool.{or_cases, or_left, or_right}
 use Rattle.cox_context.specs.Closed.{Elements}
 use Rattle.cox_claims.specs.declared.seat.Seat.{Seat}
-use Rattle.cox_claims.specs.Knowledge.{has_published, has_voided, parted, told, joined}
-use Rattle.cox_claims.specs.Seats.{view_of}
+use Rattle.cox_claims.specs.Knowledge.{has_published, has_voided, parted, told, joined, SeesAll}
+use Rattle.cox_claims.specs.Seats.{view_of, HasSeen, HasSeenVoid}
 use Rattle.cox_claims.proofs.RowTests.{among_either}
 use Rattle.cox_workers.specs.Work.{HasEnded}
-use Rattle.cox_workers.specs.Filled.{IsNeededForSome}
+use Rattle.cox_workers.specs.Filled.{HasSeenEnd, IsNeededForSome, IsSeatGrown}
+use Rattle.cox_workers.proofs.SeatSteps.{sees-trans}
+
+-- a row that was seen Published or Void is seen so from then on
+pub ended-still : (a b : Seat) → SeesAll (view_of a) (view_of b) → (i : ℕ) → HasSeenEnd a i → HasSeenEnd b i
+ended-still a b seen i end =
+    ⊎_elim (λ (h : HasSeen a i). inl (seen.published i h)) (λ (h : HasSeenVoid a i). inr (seen.void i h)) end
 
 module _ (e : Elements) (wanted : List ℕ) where
+  pub grown-trans : (a b c : Seat) → IsSeatGrown e wanted a b → IsSeatGrown e wanted b c → IsSeatGrown e wanted a c
+  grown-trans a b c s t = record {
+    same = record { table = t.same.table ∙ s.same.table; number = t.same.number ∙ s.same.number };
+    held = t.held ∙ s.held;
+    seen = sees-trans (view_of a) (view_of b) (view_of c) s.seen t.seen;
+    ended = λ j h. ⊎_elim (λ (old : HasEnded b j). s.ended j old) (λ (n : IsNeededForSome e wanted j). inr n) (t.ended j h);
+  }
+
   -- seat b was split from a, which is then a'; both worked on, to c and d; and c met d, which made it r
   pub met_ended : (a a' b c d r : Seat) → view_of a' ≡ parted (view_of a) → view_of b ≡ told (view_of a)
       → view_of r ≡ joined (view_of c) (view_of d)

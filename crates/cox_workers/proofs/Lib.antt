@@ -6,7 +6,9 @@ pub mod SeatSteps
 pub mod Working
 -- a member's shorter element and corrections
 pub mod NeedsByNumber
--- what two seats that met have published and voided
+-- what a seat has published, voided and seen
 pub mod Growing
+-- places that are dealt out by turns
+pub mod Turns
 -- the law of families
 pub mod GivenRows

@@ -1,5 +1,6 @@
 -- What work leaves: a worker that can go on, a seat that is kept, and a shelf that has what it had.
 use Rattle.std.proofs.Common.{ℕ}
+use Rattle.std.specs.Global.{Vec}
 use Rattle.cox_base.specs.IntegerMatrix.{integer_matrix}
 use Rattle.cox_base.specs.Admissible.{IsAdmissible}
 use Rattle.cox_claims.specs.declared.seat.Seat.{Seat}
@@ -30,3 +31,12 @@ module _ (bench : Bench) where
   pub work-needed : IsAdmissible (integer_matrix bench.context.now.matrix) → (i u : ℕ) (a b : Seat) (h k : Hand)
       → IsNeededAt bench.context.now i u → IsWorkFor bench u a b h k → IsWorkFor bench i a b h k
   work-needed g i u a b h k n w = record { ready = w.ready; kept = kept-needed bench.context.now g i u a b n w.kept; shelf = w.shelf }
+
+  -- the same with another list of corrections in the hand
+  pub work-list : (i : ℕ) (a b : Seat) (h k : Hand) (list : Vec ℕ) → IsWorkFor bench i a b h k
+      → IsWorkFor bench i a b h (record { shelf = k.shelf; tables = k.tables; steps = k.steps; corrections = list })
+  work-list i a b h k list w = record {
+    ready = record { own = w.ready.own; shelf = w.ready.shelf; tables = w.ready.tables; seen = w.ready.seen };
+    kept = w.kept;
+    shelf = w.shelf;
+  }

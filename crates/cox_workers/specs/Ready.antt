@@ -1,5 +1,5 @@
 -- When a worker can work, and what its work leaves.
-use Rattle.std.specs.Prelude.{ℕ}
+use Rattle.std.specs.Prelude.{ℕ, Option, IfSome}
 use Rattle.cox_claims.specs.declared.seat.Seat.{Seat}
 use Rattle.cox_claims.specs.Seats.{HasSeen}
 use Rattle.cox_klstep.specs.TablesOf.{AreTables}
@@ -21,3 +21,8 @@ pub record IsWorkFor (bench : Bench) (i : ℕ) (old new : Seat) (from to : Hand)
   pub ready : IsWorkerReady bench new to
   pub kept : IsSeatKept bench.context.now i old new
   pub shelf : (j : ℕ) → IsOn from.shelf j → IsOn to.shelf j
+
+-- the seat is one at the store, and the worker can work with it, if it has a hand
+pub record IsSeatWith (bench : Bench) (seat : Seat) (hand : Option Hand) : Type 0 where
+  pub own : IsSeat bench.store.now seat
+  pub ready : IfSome hand (IsWorkerReady bench seat)

@@ -8,12 +8,14 @@ use cox_klstep::{Steps, Tables};
 use cox_row_store::Seat;
 use std::alloc::AllocError;
 
-/// What a worker keeps from row to row: rows that it reads, and tables.
+/// What a worker keeps from row to row: rows that it reads, tables, and a list that is used again.
 #[derive(Drop)]
 pub struct Hand<'a> {
     pub(crate) shelf: Shelf<'a>,
     pub(crate) tables: Tables,
     pub(crate) steps: Steps,
+    /// The corrections of one step after another. It is taken out while they are gone through.
+    pub(crate) corrections: Vec<u32>,
 }
 
 impl<'a> Hand<'a> {
@@ -29,6 +31,7 @@ impl<'a> Hand<'a> {
             shelf: Shelf::new(bench.alloc, bench.context, bench.store.limit())?,
             tables: Tables::of(bench.alloc, bench.context)?,
             steps: Steps::new(),
+            corrections: Vec::new(bench.alloc),
         })
     }
 }

@@ -8,6 +8,7 @@ ghost use Rattle.cox_row.specs.Within.{IsRowWithin};
 ghost use Rattle.cox_row_store.specs.Stores.{limit_of, IsSeat};
 
 use crate::bench::Bench;
+use crate::gathering::Budget;
 use crate::hand::Hand;
 use crate::missing::{Missing, missing_of};
 use cox_klstep::{Descent, needs, row};
@@ -15,7 +16,7 @@ use cox_outside::{Gate, Point};
 use cox_row::{LowerRows, Row};
 use cox_row_store::{Claimed, RowState, Seat};
 use std::sync::Wait;
-use std::thread;
+use std::{mem, thread};
 
 impl<'a> Bench<'a> {
     ghost use Rattle.cox_workers.specs.Ready.{IsWorkerReady, IsWorkFor};
@@ -107,8 +108,8 @@ impl<'a> Bench<'a> {
         ensures needs { OnOk result (HasNeeds self.now.context.now (HasSeen seat.new) i) }
         ensures missing { IfErr result (IsUnmade self.now.context.now (limit_of self.now.store.now) i seat.old seat.new) }
     {
-        let corrections = self.take_in(rt, gate, seat, hand, i)?;
-        self.gather(rt, seat, hand, i, corrections);
+        let budget = self.take_in(rt, gate, seat, hand, i)?;
+        self.gather(rt, seat, hand, i, budget);
         match row(
             self.alloc,
             self.context,
@@ -122,7 +123,7 @@ impl<'a> Bench<'a> {
         }
     }
 
-    /// Puts the rows that the row of the member with the number i is made from on the shelf. Tells how many corrections the step to it has.
+    /// Puts the rows that the row of the member with the number i is made from on the shelf. Tells what their corrections cost.
     #[cycle(ensure)]
     fn take_in<R: Wait, G: Gate>(
         &self,
@@ -131,7 +132,7 @@ impl<'a> Bench<'a> {
         seat: &mut Seat,
         hand: &mut Hand<'a>,
         i: u32,
-    ) -> Result<usize, Missing>
+    ) -> Result<Budget, Missing>
         requires ready { IsWorkerReady self.now seat.old hand.old }
         requires member { i < length self.now.context.now.members }
         requires held { Holds seat.old i }
@@ -142,16 +143,27 @@ impl<'a> Bench<'a> {
     {
         let _len = self.context.len();
         if i == 0 {
-            return Ok(0);
+            return Ok(Budget {
+                corrections: 0,
+                cost: 0,
+            });
         }
         let descent = Descent::of(self.context, i);
         self.obtain(rt, gate, seat, hand, descent.lower)?;
+        let mut corrections = mem::replace(&mut hand.corrections, Vec::new(self.alloc));
         let lower = hand.shelf.row(descent.lower);
-        let corrections = needs(self.alloc, self.context, &descent, lower)?;
+        needs(self.context, &descent, lower, &mut corrections)?;
+        let mut cost = 0u64;
         'corrections: for &u in corrections.iter() {
             self.obtain(rt, gate, seat, hand, u)?;
+            cost = cost.saturating_add(u64::from(u) + 1);
         }
-        Ok(corrections.len())
+        let budget = Budget {
+            corrections: corrections.len(),
+            cost,
+        };
+        hand.corrections = corrections;
+        Ok(budget)
     }
 
     /// Puts the row of the member with the number u on the shelf, after those that it is made from.

@@ -8,7 +8,7 @@ use Rattle.cox_claims.specs.Knowledge.{looked}
 use Rattle.cox_claims.specs.Seats.{view_of, HasSeen}
 use Rattle.cox_row_store.specs.Stores.{limit_of}
 use Rattle.cox_workers.proofs.SeatSteps.{needs-map, result-needed, looked_void, published_kept, voided_kept, unmade_missing}
-use Rattle.cox_workers.proofs.Working.{ready_still, work-trans, work-needed}
+use Rattle.cox_workers.proofs.Working.{ready_still, work-trans, work-needed, work-list}
 use Rattle.cox_workers.proofs.NeedsByNumber.{lower-needed_at, correction-needed_at}
 use Rattle.cox_workers.specs.Shelves.{IsOn}
 use Rattle.cox_workers.specs.Work.{IsNeededAt, IsRowMissing}
@@ -57,12 +57,12 @@ pub made-row-requires-clause-needs : goal.made-row-requires-clause-needs
 made-row-requires-clause-needs g t c =
     needs-map c.args.self.now.context.now (IsOn c.take_in.new.hand.shelf) (IsOn c.gather.new.hand.shelf) c.args.i
     c.gather.ensures.work.shelf
-    c.in_ok-corrections.ensures.needs
+    c.in_ok-budget.ensures.needs
 
 pub made-returns-in-Ok-clause-needs : goal.made-returns-in-Ok-clause-needs
 made-returns-in-Ok-clause-needs g t c =
     needs-map c.args.self.now.context.now (IsOn c.take_in.new.hand.shelf) (HasSeen c.gather.new.seat) c.args.i
-    (λ j on. c.gather.ensures.work.ready.seen j (c.gather.ensures.work.shelf j on)) c.in_ok-corrections.ensures.needs
+    (λ j on. c.gather.ensures.work.ready.seen j (c.gather.ensures.work.shelf j on)) c.in_ok-budget.ensures.needs
 
 -- ---- one row on the shelf
 
@@ -111,14 +111,15 @@ take_in-returns-in_err-obtain-clause-work g t c =
     c.args.hand.now
     c.obtain.new.hand needed c.obtain.ensures.work
 
-pub take_in-returns-in_err-corrections-clause-work : goal.take_in-returns-in_err-corrections-clause-work
-take_in-returns-in_err-corrections-clause-work g t c =
+pub take_in-returns-in_err-needs-clause-work : goal.take_in-returns-in_err-needs-clause-work
+take_in-returns-in_err-needs-clause-work g t c =
     let e = c.args.self.now.context.now in
     let needed : IsNeededAt e c.args.i c.of-descent.result.lower = rw c.of-descent.ensures.number at
     (lower-needed_at e c.len-len.ensures.admissible c.len-len.ensures.closed c.of-descent.result c.of-descent.ensures.descent)
-    in work-needed c.args.self.now c.len-len.ensures.admissible c.args.i c.of-descent.result.lower c.args.seat.now c.obtain.new.seat
-    c.args.hand.now
-    c.obtain.new.hand needed c.obtain.ensures.work
+    in work-list c.args.self.now c.args.i c.args.seat.now c.obtain.new.seat c.args.hand.now c.obtain.new.hand
+    c.replace-corrections.new.dest
+    (work-needed c.args.self.now c.len-len.ensures.admissible c.args.i c.of-descent.result.lower c.args.seat.now c.obtain.new.seat
+    c.args.hand.now c.obtain.new.hand needed c.obtain.ensures.work)
 
 pub take_in-returns-in_err-obtain-clause-missing : goal.take_in-returns-in_err-obtain-clause-missing
 take_in-returns-in_err-obtain-clause-missing g t c =
@@ -140,7 +141,7 @@ take_in-obtain-requires-in-corrections g t c = λ κs outlives.
     let d = c.of-descent.result in
     let items = c.deref-u-items.result.now in
     let are : AreNeeds (integer_matrix e.matrix) e.members d.letter (word_at e.members d.member) items =
-    rw c.deref-u-items.ensures.value c.in_ok-corrections.ensures in
+    rw c.deref-u-items.ensures.value c.in_ok-needs.ensures in
     let before = correction-before e c.len-len.ensures.admissible c.len-len.ensures.closed d c.of-descent.ensures.descent items are
     c.corrections.u-index c.corrections-test.true
     in (
@@ -154,8 +155,10 @@ take_in-corrections-init g t c =
     let needed : IsNeededAt e c.args.i c.of-descent.result.lower = rw c.of-descent.ensures.number at
     (lower-needed_at e c.len-len.ensures.admissible c.len-len.ensures.closed c.of-descent.result c.of-descent.ensures.descent)
     in record {
-      work = work-needed c.args.self.now c.len-len.ensures.admissible c.args.i c.of-descent.result.lower c.args.seat.now c.obtain.new.seat
-          c.args.hand.now c.obtain.new.hand needed c.obtain.ensures.work;
+      work = work-list c.args.self.now c.args.i c.args.seat.now c.obtain.new.seat c.args.hand.now c.obtain.new.hand
+          c.replace-corrections.new.dest
+          (work-needed c.args.self.now c.len-len.ensures.admissible c.args.i c.of-descent.result.lower c.args.seat.now c.obtain.new.seat
+          c.args.hand.now c.obtain.new.hand needed c.obtain.ensures.work);
       none = c.in_ok-obtain.ensures.here.1;
       stay = λ j on. on;
       taken = λ k l. absurd (omega (arith, l));
@@ -168,7 +171,7 @@ take_in-returns-in_err-obtain-2-clause-work g t c =
     let items = c.deref-u-items.result.now in
     let u = number_at items c.corrections.u-index in
     let are : AreNeeds (integer_matrix e.matrix) e.members d.letter (word_at e.members d.member) items =
-    rw c.deref-u-items.ensures.value c.in_ok-corrections.ensures in
+    rw c.deref-u-items.ensures.value c.in_ok-needs.ensures in
     let needed : IsNeededAt e c.args.i u = rw c.of-descent.ensures.number at
     (correction-needed_at e c.len-len.ensures.admissible c.len-len.ensures.closed d c.of-descent.ensures.descent items are
     c.corrections.u-index c.corrections-test.true)
@@ -186,7 +189,7 @@ take_in-corrections-preserved g t c =
     let items = c.deref-u-items.result.now in
     let u = number_at items c.corrections.u-index in
     let are : AreNeeds (integer_matrix e.matrix) e.members d.letter (word_at e.members d.member) items =
-    rw c.deref-u-items.ensures.value c.in_ok-corrections.ensures in
+    rw c.deref-u-items.ensures.value c.in_ok-needs.ensures in
     let needed : IsNeededAt e c.args.i u = rw c.of-descent.ensures.number at
     (correction-needed_at e c.len-len.ensures.admissible c.len-len.ensures.closed d c.of-descent.ensures.descent items are
     c.corrections.u-index c.corrections-test.true)
@@ -212,7 +215,7 @@ take_in-returns-in_err-obtain-2-clause-missing g t c =
     let items = c.deref-u-items.result.now in
     let u = number_at items c.corrections.u-index in
     let are : AreNeeds (integer_matrix e.matrix) e.members d.letter (word_at e.members d.member) items =
-    rw c.deref-u-items.ensures.value c.in_ok-corrections.ensures in
+    rw c.deref-u-items.ensures.value c.in_ok-needs.ensures in
     let needed : IsNeededAt e c.args.i u = rw c.of-descent.ensures.number at
     (correction-needed_at e c.len-len.ensures.admissible c.len-len.ensures.closed d c.of-descent.ensures.descent items are
     c.corrections.u-index c.corrections-test.true)
@@ -221,13 +224,17 @@ take_in-returns-in_err-obtain-2-clause-missing g t c =
     in result-needed e c.len-len.ensures.admissible limit c.args.i u c.args.seat.now c.corrections.seat c.obtain-in-corrections.new.seat
     c.from_residual-in_err-obtain-2.result needed c.corrections.invariant.none why
 
+pub take_in-returns-clause-work : goal.take_in-returns-clause-work
+take_in-returns-clause-work g t c = work-list c.args.self.now c.args.i c.args.seat.now c.corrections.seat c.args.hand.now
+    c.corrections.hand _ c.corrections.invariant.work
+
 pub take_in-returns-clause-needs : goal.take_in-returns-clause-needs
 take_in-returns-clause-needs g t c =
     let e = c.args.self.now.context.now in
     let d = c.of-descent.result in
     let items = c.deref-u-items.result.now in
     let are : AreNeeds (integer_matrix e.matrix) e.members d.letter (word_at e.members d.member) items =
-    rw c.deref-u-items.ensures.value c.in_ok-corrections.ensures in
+    rw c.deref-u-items.ensures.value c.in_ok-needs.ensures in
     rw c.of-descent.ensures.number at
     (listed-needs e (IsOn c.corrections.hand.shelf) d items c.len-len.ensures.admissible c.len-len.ensures.closed
     c.of-descent.ensures.descent are
