@@ -3,8 +3,7 @@ use Rattle.std.proofs.Common.{◌≡◌, ◌≢◌, ℕ, ◌<◌, List, [], vec_
 use Rattle.std.specs.Global.{Vec}
 use Rattle.cox_scc.specs.declared.adjacency.Adjacency.{Adjacency}
 use Rattle.cox_scc.specs.declared.search.Search.{Search}
-use Rattle.cox_scc.specs.declared.search.Visit.{Visit}
-use Rattle.cox_scc.specs.declared.search.Visit.TheVariants.{Unseen, Open, Closed}
+use Rattle.cox_scc.specs.Visits.{Visit, Unseen, Open, Closed}
 use Rattle.cox_scc.specs.Reach.{HasEdge, Reaches, AreClasses, IsLeastOfClass}
 use Rattle.cox_scc.specs.Sorted.{AreSorted}
 use Rattle.cox_scc.specs.Walk.{visit_of, IsWalk, LeadsIn}

@@ -1,11 +1,10 @@
 -- The last part of the stack becomes a class.
-use Rattle.std.proofs.Common.{◌≡◌, ◌≢◌, ℕ, ◌+◌, ◌<◌, ◌≤◌, ◌⊎◌, ◌↔◌, inl, inr, List, [], ◌∷◌, ◌++◌, Contains, ⊎_elim, subst, sym, refl}
-use Rattle.std.proofs.Common.{◌∙◌, ap, arith, ◌-◌, length, take, drop, slice_index, slice_index_or}
+use Rattle.std.proofs.Common.{◌≡◌, ◌≢◌, ℕ, ◌+◌, ◌<◌, ◌≤◌, ◌⊎◌, ◌↔◌, inl, inr, Bool, true, false, List, [], ◌∷◌, ◌++◌, Contains, ⊎_elim}
+use Rattle.std.proofs.Common.{subst, sym, refl, ◌∙◌, ap, arith, ◌-◌, length, take, drop, slice_index, slice_index_or}
 use Rattle.std.proofs.lemmas.Bool.{cases_lt}
 use Rattle.std.proofs.lemmas.List.{take_rest, get_or-drop, get_or_default, length-drop}
 use Rattle.std.proofs.lemmas.List.Elements.{Contains-append_left, Contains-push, Contains-push_cases}
-use Rattle.cox_scc.specs.declared.search.Visit.{Visit}
-use Rattle.cox_scc.specs.declared.search.Visit.TheVariants.{Unseen, Open, Closed}
+use Rattle.cox_scc.specs.Visits.{Visit, Unseen, Open, Closed, nowhere, visit_by}
 use Rattle.cox_scc.specs.Reach.{Reaches, ReachEachOther}
 use Rattle.cox_scc.specs.Walk.{AreOnStack, AreFollowed, AreStacked, AreSettled, IsStackChain, LiesFrom, Stands, BecomeClass, CloseMembers}
 use Rattle.cox_scc.proofs.Stacks.{rising_below, rising_rest}
@@ -202,19 +201,24 @@ module _ (IsEdge : ℕ → ℕ → Type 0) (n low size least : ℕ) (visit later
 pub slice_is : (slice stack : List ℕ) (low : ℕ) → slice ≡ stack → take (length slice - low) (drop low slice) ≡ drop low stack
 slice_is slice stack low is = take_rest slice low ∙ ap (drop low) is
 
--- closing the members of that slice makes a class of them
-pub become_class : (stack members others : List ℕ) (low size least : ℕ) (visits later : List Visit) (classes after : List ℕ)
+-- closing the members of that slice, which were seen, makes a class of them
+pub become_class : (stack members others : List ℕ) (low size least : ℕ) (seen : List Bool) (places later classes after : List ℕ)
     → size ≡ length stack → low ≤ size → members ≡ drop low stack → others ≡ drop low stack → Contains others least
-    → ((k : ℕ) → k < length others → least ≤ slice_index others k) → CloseMembers members least visits later classes after
-    → BecomeClass (slice_index stack) low size least (λ v. slice_index_or visits v Unseen) (λ v. slice_index_or later v Unseen)
-    (slice_index classes) (slice_index after)
-become_class stack members others low size least visits later classes after size_is low_le members_are others_are found low_bound close =
+    → ((k : ℕ) → k < length others → least ≤ slice_index others k)
+    → ((p : ℕ) → p < size → slice_index_or seen (slice_index stack p) false ≡ true)
+    → CloseMembers members least places later classes after
+    → BecomeClass (slice_index stack) low size least (λ v. visit_by (slice_index_or seen v false) (slice_index places v))
+    (λ v. visit_by (slice_index_or seen v false) (slice_index later v)) (slice_index classes) (slice_index after)
+become_class stack members others low size least seen places later classes after size_is low_le members_are others_are found low_bound
+    were_seen close =
     record {
-      closed = λ p above below. subst (λ z. slice_index_or later z Unseen ≡ Closed) (at members members_are p above)
-          (close.closed (p - low) (within members members_are p above below));
+      closed = λ p above below. ap (λ z. visit_by z (slice_index later (slice_index stack p))) (were_seen p below)
+          ∙ ap (visit_by true) (subst (λ z. slice_index later z ≡ nowhere) (at members members_are p above)
+          (close.closed (p - low) (within members members_are p above below)));
       number = λ p above below. subst (λ z. slice_index after z ≡ least) (at members members_are p above)
           (close.number (p - low) (within members members_are p above below));
-      others = λ v. ⊎_elim (λ is. inl (stands members members_are v is)) (λ kept. inr kept) (close.others v);
+      others = λ v. ⊎_elim (λ is. inl (stands members members_are v is))
+          (λ kept. inr (ap (visit_by (slice_index_or seen v false)) kept.0, kept.1)) (close.others v);
       member = stands others others_are least found;
       least_is = λ p above below. subst (λ z. least ≤ z) (at others others_are p above) (low_bound (p - low)
           (within others others_are p above below));

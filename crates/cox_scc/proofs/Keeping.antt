@@ -2,10 +2,16 @@
 use Rattle.std.proofs.Common.{◌≡◌, ◌≢◌, ℕ, ◌+◌, ◌<◌, ◌≤◌, inl, inr, List, [], ◌∷◌, ◌++◌, Contains, ⊎_elim, subst, sym, ◌∙◌, ap, arith}
 use Rattle.std.proofs.lemmas.Bool.{cases_lt, cases_eq}
 use Rattle.std.proofs.lemmas.List.Elements.{Contains-append_left, Contains-push, Contains-push_cases}
-use Rattle.cox_scc.specs.declared.search.Visit.{Visit}
-use Rattle.cox_scc.specs.declared.search.Visit.TheVariants.{Unseen, Open, Closed}
+use Rattle.cox_scc.specs.Visits.{Visit, Unseen, Open, Closed}
 use Rattle.cox_scc.specs.Walk.{IsIncreasing, AreOnStack, AreFollowed, AreStacked, AreSettled, LiesFrom}
 use Rattle.cox_scc.proofs.Stacks.{rising_rest, rising_push}
+use Rattle.cox_scc.proofs.VisitLemmas.{lies_lower}
+
+-- a vertex stands at one place of the stack
+pub same_place : (n : ℕ) (visit : ℕ → Visit) (stack : ℕ → ℕ) (size : ℕ) → AreOnStack n visit stack size → (p q : ℕ) → p < size → q < size
+    → stack p ≡ stack q → p ≡ q
+same_place n visit stack size placed p q p_in q_in is =
+    let both : Open p ≡ Open q = sym (placed.visited p p_in) ∙ ap visit is ∙ placed.visited q q_in in cc
 
 -- a vertex comes onto the stack
 module _ (n size v : ℕ) (visit later : ℕ → Visit) (stack taller : ℕ → ℕ)
@@ -115,56 +121,43 @@ stacked_join size low parts fewer path rise was kept stacked = record {
   first = λ some. kept 0 (stacked.first some) (omega arith);
 }
 
-pub followed_join : (n : ℕ) (offset target : ℕ → ℕ) (visit : ℕ → Visit) (next stack : ℕ → ℕ) (size : ℕ) (parts fewer path : List ℕ)
-    → ((b : ℕ) → Contains fewer b → Contains parts b)
-    → AreFollowed n offset target visit next stack size parts path → AreFollowed n offset target visit next stack size fewer path
-followed_join n offset target visit next stack size parts fewer path was followed = record {
-  begun = followed.begun;
-  within = followed.within;
-  fresh = followed.fresh;
-  ahead = λ b p e part. followed.ahead b p e (was b part);
-  whole = followed.whole;
-}
-
--- one more edge of the vertex at `here`, which is on the path, was followed
-pub followed_advance : (n : ℕ) (offset target : ℕ → ℕ) (visit : ℕ → Visit) (next later stack : ℕ → ℕ) (size here : ℕ) (parts path : List ℕ)
-    → later (stack here) ≡ next (stack here) + 1 → ((v : ℕ) → v ≢ stack here → later v ≡ next v) → here < size → Contains path here
-    → next (stack here) < offset (stack here + 1)
-    → ((b : ℕ) → Contains parts b → b ≤ here → LiesFrom b (visit (target (next (stack here)))))
+-- edges of the vertex at `here`, which is at the end of the path, were followed up to another one, to vertices that lie at `low` or above,
+-- and the parts were joined down to there
+pub followed_advance : (n : ℕ) (offset target : ℕ → ℕ) (visit : ℕ → Visit) (next later stack : ℕ → ℕ) (size here low : ℕ)
+    (parts fewer path : List ℕ)
+    → next (stack here) ≤ later (stack here) → ((v : ℕ) → v ≢ stack here → later v ≡ next v) → here < size → Contains path here
+    → later (stack here) ≤ offset (stack here + 1)
+    → ((e : ℕ) → next (stack here) ≤ e → e < later (stack here) → LiesFrom low (visit (target e)))
+    → ((b : ℕ) → Contains fewer b → Contains parts b × (b ≤ low))
     → AreOnStack n visit stack size
-    → AreFollowed n offset target visit next stack size parts path → AreFollowed n offset target visit later stack size parts path
-followed_advance n offset target visit next later stack size here parts path one_more others here_in on_path more lies placed followed =
+    → AreFollowed n offset target visit next stack size parts path → AreFollowed n offset target visit later stack size fewer path
+followed_advance n offset target visit next later stack size here low parts fewer path more others here_in on_path upto lies was placed
+    followed =
     record {
       begun = λ v v_in. ⊎_elim
           (λ e. let old : offset v ≤ next v = followed.begun v v_in in
           subst (λ z. offset z ≤ later z) (sym e) (
-          let was : offset (stack here) ≤ next (stack here) = subst (λ z. offset z ≤ next z) e old in
+          let old_here : offset (stack here) ≤ next (stack here) = subst (λ z. offset z ≤ next z) e old in
           omega arith))
           (λ ne. subst (λ z. offset v ≤ z) (sym (others v ne)) (followed.begun v v_in)) (cases_eq v (stack here));
       within = λ v v_in. ⊎_elim
-          (λ e. subst (λ z. later z ≤ offset (z + 1)) (sym e) (omega arith))
+          (λ e. subst (λ z. later z ≤ offset (z + 1)) (sym e) upto)
           (λ ne. subst (λ z. z ≤ offset (v + 1)) (sym (others v ne)) (followed.within v v_in)) (cases_eq v (stack here));
       fresh = λ v v_in is. ⊎_elim
           (λ e. let both : Open here ≡ Unseen = sym (placed.visited here here_in) ∙ ap visit (sym e) ∙ is in absurd (let no : ⊥ = cc in no))
           (λ ne. others v ne ∙ followed.fresh v v_in is) (cases_eq v (stack here));
-      ahead = λ b p e part le within from upto. ⊎_elim
+      ahead = λ b p e part le within from before. ⊎_elim
           (λ is. ⊎_elim
-          (λ lt. followed.ahead b p e part le within from (subst (λ z. e < next z) (sym is) lt))
-          (λ ge. let edge_is : e ≡ next (stack here) =
-          (let high : e < later (stack here) = subst (λ z. e < later z) is upto in omega arith) in
-          subst (λ z. LiesFrom b (visit (target z))) (sym edge_is) (lies b part (subst (λ z. b ≤ z) (same_place p within is) le)))
+          (λ lt. followed.ahead b p e (was b part).0 le within from (subst (λ z. e < next z) (sym is) lt))
+          (λ ge. lies_lower low b (visit (target e)) (was b part).1 (lies e ge (subst (λ z. e < later z) is before)))
           (cases_lt e (next (stack here))))
-          (λ ne. followed.ahead b p e part le within from (subst (λ z. e < z) (others (stack p) ne) upto))
+          (λ ne. followed.ahead b p e (was b part).0 le within from (subst (λ z. e < z) (others (stack p) ne) before))
           (cases_eq (stack p) (stack here));
       whole = λ p within. ⊎_elim
-          (λ is. inl (subst (Contains path) (sym (same_place p within is)) on_path))
+          (λ is. inl (subst (Contains path) (sym (same_place n visit stack size placed p here within here_in is)) on_path))
           (λ ne. ⊎_elim (λ on. inl on) (λ all. inr (others (stack p) ne ∙ all)) (followed.whole p within))
           (cases_eq (stack p) (stack here));
     }
-  where
-    same_place : (p : ℕ) → p < size → stack p ≡ stack here → p ≡ here
-    same_place p within is =
-        let both : Open p ≡ Open here = sym (placed.visited p within) ∙ ap visit is ∙ placed.visited here here_in in cc
 
 -- all edges of the vertex at `here` were followed, and it leaves the path
 pub followed_retreat : (n : ℕ) (offset target : ℕ → ℕ) (visit : ℕ → Visit) (next stack : ℕ → ℕ) (size here : ℕ) (parts rest : List ℕ)

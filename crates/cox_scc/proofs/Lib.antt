@@ -1,5 +1,9 @@
 -- edges of a graph
 pub mod Edges
+-- what is known of a vertex
+pub mod VisitLemmas
+-- the places of the vertices of a path
+pub mod Paths
 -- vertices that are reached
 pub mod Reaching
 -- lists of places

@@ -2,9 +2,9 @@
 use Rattle.std.proofs.Common.{◌≡◌, ◌≢◌, ℕ, zero, suc, ◌+◌, ◌<◌, ◌≤◌, cond, ◌==◌, ⊎_elim, sym, ◌∙◌, ap, arith}
 use Rattle.std.proofs.lemmas.Bool.{cases_lt, cases_eq}
 use Rattle.std.proofs.lemmas.Bool.Decides.{nat_tests}
-use Rattle.cox_scc.specs.declared.search.Visit.{Visit}
-use Rattle.cox_scc.specs.declared.search.Visit.TheVariants.{Unseen, Open, Closed}
+use Rattle.cox_scc.specs.Visits.{Visit, Unseen, Open, Closed}
 use Rattle.cox_scc.specs.Walk.{AreOnStack}
+use Rattle.cox_scc.proofs.Keeping.{placed_enter}
 
 -- the last value takes the place of the one at q
 abbrev moved : (ℕ → ℕ) → ℕ → ℕ → ℕ → ℕ
@@ -66,3 +66,13 @@ pub stack_fits : (n : ℕ) (visit : ℕ → Visit) (stack : ℕ → ℕ) (size :
 unfolding place_of
 stack_fits n visit stack size placed =
     pigeonhole n size stack (λ v. place_of (visit v)) placed.vertex (λ p within. ap place_of (placed.visited p within))
+
+-- there is room for a vertex that is not on the stack
+pub stack_room : (n : ℕ) (visit : ℕ → Visit) (stack : ℕ → ℕ) (size v : ℕ) → v < n → visit v ≡ Unseen → AreOnStack n visit stack size
+    → size < n
+stack_room n visit stack size v v_in unseen placed =
+    let fits : size + 1 ≤ n = stack_fits n (λ w. cond (w == v) (Open size) (visit w)) (λ p. cond (p == size) v (stack p)) (size + 1)
+    (placed_enter n size v visit (λ w. cond (w == v) (Open size) (visit w)) stack (λ p. cond (p == size) v (stack p))
+    (grind (arith, nat_tests)) (λ w ne. grind (arith, nat_tests)) (grind (arith, nat_tests)) (λ p lt. grind (arith, nat_tests))
+    unseen v_in placed)
+    in omega (arith, fits)

@@ -4,5 +4,7 @@ pub mod Reach
 pub mod Graph
 -- edges sorted by where they begin
 pub mod Sorted
+-- what the pass knows of a vertex
+pub mod Visits
 -- the depth-first pass
 pub mod Walk

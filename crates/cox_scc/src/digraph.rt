@@ -1,5 +1,5 @@
 //! Directed graphs as they are built: a number of vertices and a list of edges.
-ghost use Rattle.std.specs.Prelude.{◌≡◌, ℕ, ◌<◌, ◌++◌, ◌∷◌, [], length, slice_index_or, IfOk, OnOk, OnErr, Contains};
+ghost use Rattle.std.specs.Prelude.{◌≡◌, ℕ, ◌<◌, ◌++◌, ◌∷◌, [], length, slice_index_or, cond, IfOk, OnOk, OnErr, Contains};
 
 use crate::NoMemory;
 use std::alloc::Global;
@@ -34,7 +34,20 @@ impl Digraph {
         ensures edges { OnOk result (edges_of self.new ≡ edges_of self.old ++ (a, b) ∷ []) }
         ensures err { OnErr result (edges_of self.new ≡ edges_of self.old) }
     {
+        self.add_if(a, b, true)
+    }
+
+    /// Adds an edge from `a` to `b` where `holds`, with no branch on that. Out of memory, the graph is as it was.
+    pub fn add_if(&mut self, a: u32, b: u32, holds: bool) -> Result<(), NoMemory>
+        requires from { a < vertices_of self.old }
+        requires to { b < vertices_of self.old }
+        ensures vertices { vertices_of self.new ≡ vertices_of self.old }
+        ensures edges { OnOk result (edges_of self.new ≡ cond holds (edges_of self.old ++ (a, b) ∷ []) (edges_of self.old)) }
+        ensures err { OnErr result (edges_of self.new ≡ edges_of self.old) }
+    {
+        let count = self.edges.len() + usize::from(holds);
         self.edges.push((a, b))?;
+        self.edges.truncate(count);
         Ok(())
     }
 }

@@ -1,7 +1,0 @@
--- The ends of the new edge are vertices.
-use Rattle.cox_scc.proofs.Edges.{within-push}
-use Rattle.cox_scc.proofs.digraph.Digraph.add.Goals as goal
-
-pub invariant_of-self : goal.invariant_of-self
-invariant_of-self c =
-    record { within = within-push _ _ _ c.args.a c.args.b _ c.push.ensures.items c.requires.from c.requires.to c.args.self.now.within }
