@@ -12,3 +12,5 @@ pub mod ClassLists
 pub mod NumberedCells
 -- steps are added
 pub mod StepLemmas
+-- descents as sets
+pub mod DescentSets

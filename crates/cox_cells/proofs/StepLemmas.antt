@@ -1,5 +1,7 @@
 -- Steps are added, two at most for each value of mu of a row.
-use Rattle.std.proofs.Common.{◌≡◌, ℕ, suc, ◌≤◌, ◌<◌, List, [], ◌∷◌, ◌++◌, length, ℤ, inl, inr, ap, sym, ⊎_elim, arith}
+use Rattle.std.specs.Prelude.{IsTrue}
+use Rattle.std.proofs.Common.{◌≡◌, ◌↔◌, Bool, true, false, cond, ℕ, suc, ◌≤◌, ◌<◌, List, [], ◌∷◌, ◌++◌, length, ℤ, inl, inr, refl}
+use Rattle.std.proofs.Common.{ap, sym, ⊎_elim, arith}
 use Rattle.std.proofs.lemmas.Bool.{cases_lt}
 use Rattle.std.proofs.lemmas.List.Elements.{Contains-append_left, Contains-push, Contains-push_cases}
 use Rattle.cox_base.specs.IntegerMatrix.{integer_matrix}
@@ -13,7 +15,9 @@ use Rattle.cox_wgraph.proofs.EdgeLemmas.{some-values, earlier, no-shorter, edge-
 use Rattle.cox_scc.specs.Reach.{HasEdge}
 use Rattle.cox_cells.specs.declared.kind.CellKind.{CellKind}
 use Rattle.cox_cells.specs.Cells.{HasOwn}
-use Rattle.cox_cells.specs.NumberedCells.{IsNumberedStep, AreSteps, AreStepsTo, AddsStep}
+use Rattle.cox_cells.specs.declared.steps.Descents.{Descents}
+use Rattle.cox_cells.specs.NumberedCells.{IsNumberedStep, AreSteps, AreStepsTo, AddsStep, AreDescents, HasOwnLetter}
+use Rattle.cox_cells.proofs.DescentSets.{own-letters}
 
 module _ (kind : CellKind) (e : Elements) where
   pub steps-none : AreSteps kind e 0 []
@@ -21,7 +25,7 @@ module _ (kind : CellKind) (e : Elements) where
 
   -- ---- one step
 
-  pub adds-step : (i j : ℕ) (edges : List (ℕ × ℕ)) → HasOwn kind (integer_matrix e.matrix) (word_at e.members i) (word_at e.members j)
+  adds-step : (i j : ℕ) (edges : List (ℕ × ℕ)) → HasOwn kind (integer_matrix e.matrix) (word_at e.members i) (word_at e.members j)
       → AddsStep kind e i j edges (edges ++ (i, j) ∷ [])
   adds-step i j edges own = record {
     kept = λ a b d. Contains-append_left edges ((i, j) ∷ []) (a, b) d;
@@ -31,9 +35,19 @@ module _ (kind : CellKind) (e : Elements) where
         (Contains-push_cases edges (i, j) (a, b) d);
   }
 
-  pub adds-none : (i j : ℕ) (edges : List (ℕ × ℕ))
+  adds-none : (i j : ℕ) (edges : List (ℕ × ℕ))
       → (HasOwn kind (integer_matrix e.matrix) (word_at e.members i) (word_at e.members j) → ⊥) → AddsStep kind e i j edges edges
   adds-none i j edges none = record { kept = λ a b d. d; added = λ own. absurd (none own); others = λ a b d. inl d }
+
+  -- by a test
+  pub adds-if : IsAdmissible (integer_matrix e.matrix) → (i j : ℕ) (own others : Descents) (holds : Bool) (old new : List (ℕ × ℕ))
+      → AreDescents kind (integer_matrix e.matrix) (word_at e.members i) own
+      → AreDescents kind (integer_matrix e.matrix) (word_at e.members j) others
+      → IsTrue holds ↔ HasOwnLetter own others → new ≡ cond holds (old ++ (i, j) ∷ []) old → AddsStep kind e i j old new
+  adds-if g i j own others true old new mine theirs test is = rw is (adds-step i j old
+      ((own-letters (integer_matrix e.matrix) g kind (word_at e.members i) (word_at e.members j) own others mine theirs).0 (test.0 refl)))
+  adds-if g i j own others false old new mine theirs test is = rw is (adds-none i j old (λ h. let no : IsTrue false = test.1
+      ((own-letters (integer_matrix e.matrix) g kind (word_at e.members i) (word_at e.members j) own others mine theirs).1 h) in cc))
 
   -- ---- the steps between a member and those before it
 

@@ -1,13 +1,18 @@
 -- Steps, classes and cells by the numbers of their members.
-use Rattle.std.specs.Prelude.{◌≡◌, ◌⊎◌, ℕ, ◌≤◌, ◌<◌, List, [], length, map, slice_index_or, slice_index, IsBitSet}
+use Rattle.std.specs.Prelude.{◌≡◌, ◌⊎◌, ◌↔◌, ⊤, ℕ, ◌+◌, ◌≤◌, ◌<◌, List, [], length, map, slice_index_or, slice_index, IsBitSet}
 use Rattle.std.specs.Global.{Vec}
-use Rattle.cox_base.specs.IntegerMatrix.{integer_matrix}
+use Rattle.cox_base.specs.declared.side.Side.{Side}
+use Rattle.cox_base.specs.declared.side.Side.TheVariants as Sides
+use Rattle.cox_base.specs.IntegerMatrix.{IntegerMatrix, integer_matrix}
+use Rattle.cox_hecke.specs.Step.{IsDescent}
 use Rattle.cox_context.specs.Closed.{Elements}
 use Rattle.cox_context.specs.Numbers.{word_at}
 use Rattle.cox_wgraph.specs.Edges.{IsJoined}
 use Rattle.cox_row.specs.Rising.{number_at, AreRising}
 use Rattle.cox_scc.specs.Reach.{HasEdge}
 use Rattle.cox_cells.specs.declared.kind.CellKind.{CellKind}
+use Rattle.cox_cells.specs.declared.kind.CellKind.TheVariants.{Left, Right, Both}
+use Rattle.cox_cells.specs.declared.steps.Descents.{Descents}
 use Rattle.cox_cells.specs.Cells.{HasOwn}
 
 -- a set of letters has one that another set lacks: bit s - 1 is that of the letter s
@@ -15,6 +20,27 @@ pub record HasBeyond (set other : ℕ) : Type 0 where
   pub bit : ℕ
   pub among : IsBitSet set bit
   pub lacks : ¬ IsBitSet other bit
+
+-- the descents on a side count for the kind of cells
+abbrev pub Counts : CellKind → Side → Type 0
+Counts Left Sides.Left = ⊤
+Counts Left Sides.Right = ⊥
+Counts Right Sides.Left = ⊥
+Counts Right Sides.Right = ⊤
+Counts Both side = ⊤
+
+-- a set has the descents of x on a side, if they count: bit s - 1 is that of the letter s
+abbrev pub IsCountedSet : CellKind → Side → IntegerMatrix → List ℕ → ℕ → Type 0
+IsCountedSet kind side A x set = (k : ℕ) → IsBitSet set k ↔ (Counts kind side × IsDescent side A x (k + 1))
+
+-- the descents of x that count
+pub record AreDescents (kind : CellKind) (A : IntegerMatrix) (x : List ℕ) (descents : Descents) : Type 0 where
+  pub left : IsCountedSet kind Sides.Left A x descents.left
+  pub right : IsCountedSet kind Sides.Right A x descents.right
+
+-- some of the one descents on a side are none of the others
+abbrev pub HasOwnLetter : Descents → Descents → Type 0
+HasOwnLetter own others = HasBeyond own.left others.left ⊎ HasBeyond own.right others.right
 
 -- a step between members, by number
 pub record IsNumberedStep (kind : CellKind) (e : Elements) (i j : ℕ) : Type 0 where

@@ -1,20 +1,24 @@
 //! The steps between the members of a context, as a directed graph.
 //!
 //! The row of a member has its edges to the members before it. At each of them there may be a step either way.
-ghost use Rattle.std.specs.Prelude.{◌≡◌, ℕ, ◌+◌, ◌<◌, ◌↔◌, length, IfOk, OnOk, IsTrue, IsBitSet};
+ghost use Rattle.std.specs.Prelude.{◌≡◌, ℕ, ◌+◌, ◌<◌, ◌↔◌, length, IfOk, OnOk, IsTrue};
 ghost use Rattle.cox_base.specs.IntegerMatrix.{integer_matrix};
 ghost use Rattle.cox_context.specs.Numbers.{word_at};
-ghost use Rattle.cox_hecke.specs.Step.{IsDescent};
 ghost use Rattle.cox_scc.specs.Graph.{vertices_of, edges_of};
-ghost use Rattle.cox_cells.specs.Cells.{HasOwn, HasOwnDescent};
-ghost use Rattle.cox_cells.specs.NumberedCells.{AreSteps, AddsStep, HasBeyond};
+ghost use Rattle.cox_cells.specs.NumberedCells.{AreSteps, AreDescents, HasOwnLetter};
 
 use crate::CellKind;
-use cox_base::Side;
 use cox_context::Context;
 use cox_row::LowerRows;
 use cox_scc::Digraph;
 use std::alloc::{AllocError, Global};
+
+/// Descents of a member, as sets on each side: bit s - 1 for the letter s. On a side that does not count for the kind of cells, the set is empty.
+#[derive(Clone, Copy)]
+struct Descents {
+    left: u16,
+    right: u16,
+}
 
 /// The graph with an edge for each step, from the rows of all members.
 pub(crate) fn steps<L: LowerRows>(
@@ -52,74 +56,33 @@ fn add_steps<L: LowerRows>(
     ensures steps { OnOk result (AreSteps kind context.now (j + 1) (edges_of steps.new)) }
 {
     let _len = context.len();
+    let own = counted_descents(context, kind, j);
     for &i in rows.row(j).neighbours() {
-        add_step(steps, context, kind, i, j)?;
-        add_step(steps, context, kind, j, i)?;
+        let theirs = counted_descents(context, kind, i);
+        steps.add_if(i, j, has_own(theirs, own))?;
+        steps.add_if(j, i, has_own(own, theirs))?;
     }
     Ok(())
 }
 
-/// Adds the step from one member to another, if some descent of the one is none of the other.
-fn add_step(
-    steps: &mut Digraph,
-    context: &Context,
-    kind: CellKind,
-    i: u32,
-    j: u32,
-) -> Result<(), AllocError>
-    requires i { i < length context.now.members }
-    requires j { j < length context.now.members }
-    requires vertices { vertices_of steps.old ≡ length context.now.members }
-    ensures vertices { vertices_of steps.new ≡ vertices_of steps.old }
-    ensures adds { OnOk result (AddsStep kind context.now i j (edges_of steps.old) (edges_of steps.new)) }
-{
-    if !has_own(context, kind, i, j) {
-        return Ok(());
-    }
-    steps.add(i, j)?;
-    Ok(())
-}
-
-/// Whether some descent of the one member is none of the other.
-fn has_own(context: &Context, kind: CellKind, i: u32, j: u32) -> bool
-    requires i { i < length context.now.members }
-    requires j { j < length context.now.members }
-    ensures { IsTrue result ↔ HasOwn kind (integer_matrix context.now.matrix) (word_at context.now.members i) (word_at context.now.members j) }
-{
-    match kind {
-        CellKind::Left => has_own_descent(context, Side::Left, i, j),
-        CellKind::Right => has_own_descent(context, Side::Right, i, j),
-        CellKind::Both => {
-            has_own_descent(context, Side::Left, i, j)
-                || has_own_descent(context, Side::Right, i, j)
-        }
-    }
-}
-
-/// The same for the descents on one side.
-fn has_own_descent(context: &Context, side: Side, i: u32, j: u32) -> bool
-    requires i { i < length context.now.members }
-    requires j { j < length context.now.members }
-    ensures { IsTrue result ↔ HasOwnDescent side (integer_matrix context.now.matrix) (word_at context.now.members i) (word_at context.now.members j) }
-{
-    let _len = context.len();
-    has_beyond(descent_set(context, side, i), descent_set(context, side, j))
-}
-
-/// The descents of a member on a side, as a set: bit s - 1 for the letter s.
-fn descent_set(context: &Context, side: Side, i: u32) -> u16
+/// The descents of a member that count.
+fn counted_descents(context: &Context, kind: CellKind, i: u32) -> Descents
     requires { i < length context.now.members }
-    ensures { (k : ℕ) → IsBitSet result k ↔ IsDescent side (integer_matrix context.now.matrix) (word_at context.now.members i) (k + 1) }
+    ensures { AreDescents kind (integer_matrix context.now.matrix) (word_at context.now.members i) result }
 {
-    match side {
-        Side::Left => context.left_descent_set(i),
-        Side::Right => context.right_descent_set(i),
+    let left = context.left_descent_set(i);
+    let right = context.right_descent_set(i);
+    match kind {
+        CellKind::Left => Descents { left, right: 0 },
+        CellKind::Right => Descents { left: 0, right },
+        CellKind::Both => Descents { left, right },
     }
 }
 
-/// Whether a set of letters has one that another set lacks.
-fn has_beyond(set: u16, other: u16) -> bool
-    ensures { IsTrue result ↔ HasBeyond set other }
+/// Whether some of the descents on a side are none of the others. One test serves both sides: which way it goes is hard to predict.
+fn has_own(own: Descents, others: Descents) -> bool
+    ensures { IsTrue result ↔ HasOwnLetter own others }
 {
-    set & !other != 0
+    let beyond = (own.left & !others.left) | (own.right & !others.right);
+    beyond != 0
 }

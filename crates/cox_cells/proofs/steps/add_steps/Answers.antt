@@ -2,9 +2,10 @@
 use Rattle.std.proofs.Common.{◌≡◌, ◌+◌, suc, refl, ◌∙◌, arith}
 use Rattle.cox_base.specs.IntegerMatrix.{integer_matrix}
 use Rattle.cox_context.specs.Numbers.{word_at}
+use Rattle.cox_row.specs.Rising.{number_at}
 use Rattle.cox_row.specs.Mus.{AreMus}
 use Rattle.cox_scc.specs.Graph.{edges_of}
-use Rattle.cox_cells.proofs.StepLemmas.{steps-begin, steps-both, steps-end}
+use Rattle.cox_cells.proofs.StepLemmas.{adds-if, steps-begin, steps-both, steps-end}
 use Rattle.cox_cells.proofs.steps.add_steps.Goals as goal
 
 pub loop-i-init : goal.loop-i-init
@@ -25,13 +26,19 @@ loop-i-preserved g c =
     let mus : AreMus (integer_matrix e.matrix) e.members (word_at e.members c.args.j) c.neighbours-i-items.result.now
     c.row.result.now.mu.items
     = rw c.neighbours-i-items.ensures (rw c.requires.rows at c.row.ensures.row).mus in
+    let i = number_at c.neighbours-i-items.result.now c.loop-i.i-index in
+    let up = adds-if c.args.kind e c.len-len.ensures.admissible i c.args.j c.counted_descents-theirs.result c.counted_descents-own.result
+    c.has_own.result (edges_of c.loop-i.steps) (edges_of c.add_if.new.self) c.counted_descents-theirs.ensures
+    c.counted_descents-own.ensures c.has_own.ensures c.in_ok-add_if.ensures.edges in
+    let down = adds-if c.args.kind e c.len-len.ensures.admissible c.args.j i c.counted_descents-own.result c.counted_descents-theirs.result
+    c.has_own-in-loop-i.result (edges_of c.add_if.new.self) (edges_of c.add_if-in-loop-i.new.self) c.counted_descents-own.ensures
+    c.counted_descents-theirs.ensures c.has_own-in-loop-i.ensures c.in_ok-add_if-2.ensures.edges in
     let next : c.loop-i.i-index + 1 ≡ suc c.loop-i.i-index = omega arith
     in record {
-      vertices = c.add_step-in-loop-i.ensures.vertices ∙ c.add_step.ensures.vertices ∙ c.loop-i.invariant.vertices;
+      vertices = c.add_if-in-loop-i.ensures.vertices ∙ c.add_if.ensures.vertices ∙ c.loop-i.invariant.vertices;
       steps = rw next (steps-both c.args.kind e c.len-len.ensures.admissible c.len-len.ensures.closed c.args.j c.requires.member
-          c.neighbours-i-items.result.now c.row.result.now.mu.items mus (edges_of c.loop-i.steps) (edges_of c.add_step.new.steps)
-          (edges_of c.add_step-in-loop-i.new.steps) c.loop-i.i-index c.loop-i-test.true c.in_ok-add_step.ensures.adds
-          c.in_ok-add_step-2.ensures.adds c.loop-i.invariant.steps);
+          c.neighbours-i-items.result.now c.row.result.now.mu.items mus (edges_of c.loop-i.steps) (edges_of c.add_if.new.self)
+          (edges_of c.add_if-in-loop-i.new.self) c.loop-i.i-index c.loop-i-test.true up down c.loop-i.invariant.steps);
     }
 
 pub returns-clause-steps : goal.returns-clause-steps
