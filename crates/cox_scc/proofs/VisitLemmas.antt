@@ -16,10 +16,6 @@ pub seen_visit : (s : Bool) (place : ℕ) → s ≡ true → visit_by s place �
 seen_visit true place e = open-at (place == nowhere) place
 seen_visit false place e = absurd (let no : ⊥ = cc in no)
 
-pub visit_seen : (s : Bool) (place : ℕ) → visit_by s place ≢ Unseen → s ≡ true
-visit_seen true place some = refl
-visit_seen false place some = absurd (some refl)
-
 pub open_seen : (s : Bool) (place p : ℕ) → visit_by s place ≡ Open p → s ≡ true
 open_seen true place p is = refl
 open_seen false place p is = absurd (let no : ⊥ = cc in no)
