@@ -62,12 +62,13 @@ pub(crate) fn make_row(
     };
     draft.shrink();
     Ok(Row::of_parts(
+        alloc,
         draft.values.extremal,
         draft.values.places,
         draft.values.pool.into_list(),
         draft.mus.numbers,
         mu,
-    ))
+    )?)
 }
 
 /// The values of mu in fewer bits.
