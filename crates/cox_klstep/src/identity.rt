@@ -18,5 +18,12 @@ pub fn identity_row(alloc: Global, ctx: &Context) -> Result<Row, AllocError>
     let places = Vec::from_slice(alloc, &[0u32])?;
     let mut pool = PolyList::new(alloc);
     pool.push(&Poly::one(alloc)?.view())?;
-    Ok(Row::of_parts(extremal, places, pool, Vec::new(alloc), Vec::new(alloc)))
+    Ok(Row::of_parts(
+        alloc,
+        extremal,
+        places,
+        pool,
+        Vec::new(alloc),
+        Vec::new(alloc),
+    )?)
 }

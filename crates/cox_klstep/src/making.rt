@@ -16,6 +16,7 @@ use crate::mus::Mus;
 use crate::source::Source;
 use crate::steps::Steps;
 use crate::target::{Target, is_subset};
+use crate::values::Values;
 use cox_context::Context;
 use cox_poly::Acc;
 use cox_row::{MU_LIMIT, Row};
@@ -61,13 +62,13 @@ pub(crate) fn make_row(
         Err(fault) => return Err(fault),
     };
     draft.shrink();
-    Ok(Row::of_parts(
-        draft.values.extremal,
-        draft.values.places,
-        draft.values.pool.into_list(),
-        draft.mus.numbers,
-        mu,
-    ))
+    let Draft { values, mus, .. } = draft;
+    let Values {
+        extremal,
+        places,
+        pool,
+    } = values;
+    Ok(Row::of_parts(alloc, extremal, places, pool.into_list(), mus.numbers, mu)?)
 }
 
 /// The values of mu in fewer bits.

@@ -25,8 +25,8 @@ pub fn polynomial<'a>(ctx: &Context, row: &'a Row, i: u32, x: u32) -> Option<Pol
     ensures exactly { IsSome result ↔ IsBelow (integer_matrix ctx.now.matrix) (word_at ctx.now.members x) (word_at ctx.now.members i) }
 {
     let top = raise_fully(ctx, i, x)?;
-    let k = place_of(&row.extremal, top)?;
-    Some(row.pool.at(row.places[k] as usize))
+    let k = place_of(row.extremal(), top)?;
+    Some(row.pool().at(row.places()[k] as usize))
 }
 
 /// mu(u,w), for the row of the member w with the number i and the member u with the number u.
@@ -37,8 +37,8 @@ pub fn mu(ctx: &Context, row: &Row, i: u32, u: u32) -> i32
     ensures { IsMu (integer_matrix ctx.now.matrix) (word_at ctx.now.members u) (word_at ctx.now.members i) result }
 {
     let _len = ctx.len();
-    match place_of(&row.neighbours, u) {
-        Some(k) => row.mu[k],
+    match place_of(row.neighbours(), u) {
+        Some(k) => row.mu()[k],
         None => 0,
     }
 }
@@ -52,5 +52,5 @@ pub fn pool_len(ctx: &Context, row: &Row, i: u32) -> u32
     ensures { HasDistinctPolynomials (integer_matrix ctx.now.matrix) (word_at ctx.now.members i) result }
 {
     let _len = ctx.len();
-    row.pool.len() as u32
+    row.pool().len() as u32
 }
