@@ -12,5 +12,7 @@ pub mod ClassLists
 pub mod NumberedCells
 -- steps are added
 pub mod StepLemmas
+-- the neighbours of one member more
+pub mod NeighbourLists
 -- descents as sets
 pub mod DescentSets

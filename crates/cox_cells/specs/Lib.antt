@@ -2,3 +2,5 @@
 pub mod Cells
 -- cells by number
 pub mod NumberedCells
+-- the neighbours of members
+pub mod NeighbourLists

@@ -5,6 +5,7 @@
 //! graph, which `cox_scc` finds in linear time. The edges are read off the rows of all elements, each pair of elements once.
 //!
 //! - `kind`: left cells, right cells, and cells of both sides
+//! - `neighbours`: what is read of the rows, in one list
 //! - `steps`: the steps between the members of a context, as a directed graph
 //! - `gathering`: the members of each class
 //! - `components`: the cells
@@ -15,6 +16,7 @@ mod components;
 mod gathering;
 mod kind;
 pub mod laws;
+mod neighbours;
 mod steps;
 
 pub use components::cells;

@@ -5,9 +5,11 @@ ghost use Rattle.std.specs.Prelude.{◌≡◌, ℕ, ◌+◌, ◌<◌, ◌↔◌,
 ghost use Rattle.cox_base.specs.IntegerMatrix.{integer_matrix};
 ghost use Rattle.cox_context.specs.Numbers.{word_at};
 ghost use Rattle.cox_scc.specs.Graph.{vertices_of, edges_of};
+ghost use Rattle.cox_cells.specs.NeighbourLists.{HasNeighbours};
 ghost use Rattle.cox_cells.specs.NumberedCells.{AreSteps, AreDescents, HasOwnLetter};
 
 use crate::CellKind;
+use crate::neighbours::Neighbours;
 use cox_context::Context;
 use cox_row::LowerRows;
 use cox_scc::Digraph;
@@ -32,24 +34,24 @@ pub(crate) fn steps<L: LowerRows>(
     ensures vertices { IfOk result (λ steps. vertices_of steps ≡ length context.now.members) }
     ensures steps { IfOk result (λ steps. AreSteps kind context.now (length context.now.members) (edges_of steps)) }
 {
+    let neighbours = Neighbours::of(alloc, context, rows)?;
     let mut steps = Digraph::new(alloc, context.len())?;
     for j in 0..context.len() {
-        add_steps(&mut steps, context, rows, kind, j)?;
+        add_steps(&mut steps, context, neighbours.before(context, j), kind, j)?;
     }
     Ok(steps)
 }
 
-/// Adds the steps between a member and those before it.
-fn add_steps<L: LowerRows>(
+/// Adds the steps between a member and its neighbours before it.
+fn add_steps(
     steps: &mut Digraph,
     context: &Context,
-    rows: &L,
+    neighbours: &[u32],
     kind: CellKind,
     j: u32,
 ) -> Result<(), AllocError>
     requires member { j < length context.now.members }
-    requires rows { L.elements rows.now ≡ context.now }
-    requires there { L.holds rows.now j }
+    requires neighbours { HasNeighbours context.now j neighbours.now }
     requires vertices { vertices_of steps.old ≡ length context.now.members }
     requires steps { AreSteps kind context.now j (edges_of steps.old) }
     ensures vertices { vertices_of steps.new ≡ vertices_of steps.old }
@@ -57,7 +59,7 @@ fn add_steps<L: LowerRows>(
 {
     let _len = context.len();
     let own = counted_descents(context, kind, j);
-    for &i in rows.row(j).neighbours() {
+    for &i in neighbours {
         let theirs = counted_descents(context, kind, i);
         steps.add_if(i, j, has_own(theirs, own))?;
         steps.add_if(j, i, has_own(own, theirs))?;

@@ -5,7 +5,7 @@ use Rattle.cox_cells.specs.NumberedCells.{AreStepsTo}
 use Rattle.cox_cells.proofs.steps.add_steps.Given as goal
 
 abbrev pub invariant-loop-i : goal.invariant-loop-i
-invariant-loop-i g l = record {
+invariant-loop-i l = record {
   vertices : vertices_of l.steps ≡ vertices_of l.initial.steps;
-  steps : AreStepsTo l.kind l.context l.j l.i-items l.i-index (edges_of l.steps);
+  steps : AreStepsTo l.kind l.context l.j l.neighbours l.i-index (edges_of l.steps);
 }
