@@ -29,9 +29,10 @@ pub fn needs(
 {
     let _len = ctx.len();
     numbers.clear();
+    numbers.reserve(lower.neighbours().len())?;
     for &u in lower.neighbours() {
         let corrects = shortens(ctx, Side::Left, descent.letter, u);
-        push_if(numbers, u, corrects)?;
+        push_if(numbers, u, corrects);
     }
     Ok(())
 }
