@@ -37,8 +37,6 @@ mod steps;
 mod sums;
 mod tables;
 mod target;
-#[cfg(test)]
-mod tests;
 mod turned;
 mod values;
 

@@ -18,8 +18,6 @@ mod flags;
 mod held;
 pub mod laws;
 mod rows;
-#[cfg(test)]
-mod tests;
 
 pub use fault::RowsFault;
 pub use rows::Rows;

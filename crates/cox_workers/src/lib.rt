@@ -8,10 +8,12 @@
 //! - `bench`, `hand`: what a worker works at, and what it keeps from row to row
 //! - `making`: one row, and those that it is made from
 //! - `gathering`: rows that are there already and may serve
+//! - `ahead`: memory that a worker takes ahead
 //! - `filling`: all rows that are wanted, by several workers
 //! - `laws`: the law of families
 #![tactic(auto)]
 
+mod ahead;
 mod bench;
 mod filling;
 mod gathering;
@@ -20,8 +22,6 @@ pub mod laws;
 mod making;
 mod missing;
 mod shelf;
-#[cfg(test)]
-mod tests;
 
 pub use bench::Bench;
 pub use filling::{all_members, fill};

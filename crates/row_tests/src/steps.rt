@@ -1,18 +1,13 @@
 //! The row of the identity, and what the row of a generator is made from.
-use crate::{Descent, Steps, Tables, identity_row, needs};
-use cox_base::Coxeter;
-use cox_context::Context;
-use cox_minroots::{MAX_SMALL_ROOTS, RootTable};
+use crate::fixtures::elements;
+use cox_klstep::{Descent, Steps, Tables, identity_row, needs};
 use cox_row::{mu, polynomial, pool_len};
 use std::test::Fail;
 
 #[test]
 fn makes_the_row_of_the_identity(rt: HostRuntime) -> Result<(), Fail> {
     let alloc = rt.alloc();
-    let g = Coxeter::named(b'A', 2)?;
-    let table = RootTable::build(alloc, &g, MAX_SMALL_ROOTS)?;
-    let context = Context::of_group(alloc, &table, 6)?;
-    assert_eq!(rt; context.len(), 6);
+    let context = elements(&rt, alloc, b'A', 2, 6)?;
     let lowest = identity_row(alloc, &context)?;
     assert_eq!(rt; pool_len(&context, &lowest, 0), 1);
     assert_eq!(rt; mu(&context, &lowest, 0, 1), 0);

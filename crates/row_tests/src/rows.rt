@@ -1,29 +1,13 @@
-//! Rows in A 2, and a context that grows.
-ghost use Rattle.std.specs.Prelude.{IfOk};
-ghost use Rattle.cox_base.specs.Matrix.{IsWord};
-
-use crate::Rows;
-use cox_base::{Coxeter, MAX_LETTERS, Word, read_word};
+//! The rows of A 2, and a context that grows.
+use crate::fixtures::{elements, table, word};
 use cox_context::Context;
-use cox_minroots::{MAX_SMALL_ROOTS, RootTable};
-use std::process::Abort;
+use cox_rows::Rows;
 use std::test::Fail;
-
-/// The word that a text names.
-fn word(rt: &impl Abort, g: &RootTable, text: &[u8]) -> Result<Word, Fail>
-    ensures { IfOk result (λ w. IsWord g.now.rank w.items) }
-{
-    assert!(rt; text.len() <= MAX_LETTERS);
-    Ok(read_word(text, g.group().rank())?)
-}
 
 #[test]
 fn makes_the_rows_of_the_longest_element(rt: HostRuntime) -> Result<(), Fail> {
     let alloc = rt.alloc();
-    let g = Coxeter::named(b'A', 2)?;
-    let table = RootTable::build(alloc, &g, MAX_SMALL_ROOTS)?;
-    let context = Context::of_group(alloc, &table, 6)?;
-    assert_eq!(rt; context.len(), 6);
+    let context = elements(&rt, alloc, b'A', 2, 6)?;
     let mut rows = Rows::new(alloc, context, i64::MAX)?;
     assert!(rt; !rows.has(5));
     rows.ensure(5)?;
@@ -46,8 +30,7 @@ fn makes_the_rows_of_the_longest_element(rt: HostRuntime) -> Result<(), Fail> {
 #[test]
 fn keeps_rows_in_a_larger_context(rt: HostRuntime) -> Result<(), Fail> {
     let alloc = rt.alloc();
-    let g = Coxeter::named(b'A', 2)?;
-    let table = RootTable::build(alloc, &g, MAX_SMALL_ROOTS)?;
+    let table = table(alloc, b'A', 2)?;
     let context = Context::of_interval(alloc, &table, &word(&rt, &table, b"12")?, 4)?;
     assert_eq!(rt; context.len(), 4);
     let mut rows = Rows::new(alloc, context, i64::MAX)?;

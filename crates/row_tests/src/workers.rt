@@ -1,11 +1,9 @@
 //! The rows of A 2 by one worker and by two, and a row of A 3 that was given up.
-use crate::{Bench, Hand, Missing, all_members, fill};
-use cox_base::Coxeter;
-use cox_context::Context;
-use cox_minroots::{MAX_SMALL_ROOTS, RootTable};
+use crate::fixtures::elements;
 use cox_outside::Open;
 use cox_row::{LowerRows, polynomial};
 use cox_row_store::{Claimed, RowState, RowStore};
+use cox_workers::{Bench, Hand, Missing, all_members, fill};
 use std::test::Fail;
 
 /// How many rows there are.
@@ -16,10 +14,7 @@ fn count<T>(rows: &[Option<T>]) -> usize {
 #[test]
 fn makes_the_rows_of_a2(rt: HostRuntime) -> Result<(), Fail> {
     let alloc = rt.alloc();
-    let g = Coxeter::named(b'A', 2)?;
-    let table = RootTable::build(alloc, &g, MAX_SMALL_ROOTS)?;
-    let context = Context::of_group(alloc, &table, 6)?;
-    assert_eq!(rt; context.len(), 6);
+    let context = elements(&rt, alloc, b'A', 2, 6)?;
     let (store, mut seat) = RowStore::new(alloc, &context, 2_147_483_647)?;
     assert_eq!(rt; store.look(&mut seat, 0), RowState::Free);
     let bench = Bench::new(alloc, &context, &store, 1);
@@ -45,10 +40,7 @@ fn makes_the_rows_of_a2(rt: HostRuntime) -> Result<(), Fail> {
 #[test]
 fn tells_of_a_row_that_was_given_up(rt: HostRuntime) -> Result<(), Fail> {
     let alloc = rt.alloc();
-    let g = Coxeter::named(b'A', 3)?;
-    let table = RootTable::build(alloc, &g, MAX_SMALL_ROOTS)?;
-    let context = Context::of_group(alloc, &table, 24)?;
-    assert_eq!(rt; context.len(), 24);
+    let context = elements(&rt, alloc, b'A', 3, 24)?;
     let (store, mut seat) = RowStore::new(alloc, &context, 2_147_483_647)?;
     assert_eq!(rt; store.claim(&mut seat, 2), Claimed::Won);
     store.void(&mut seat, 2);

@@ -1,0 +1,40 @@
+//! Groups with all their elements.
+ghost use Rattle.std.specs.Prelude.{◌≡◌, ◌≤◌, length, IfOk};
+ghost use Rattle.cox_base.specs.Matrix.{IsWord};
+
+use cox_base::{Coxeter, MAX_LETTERS, Word, read_word};
+use cox_context::{Context, MAX_MEMBERS};
+use cox_minroots::{MAX_SMALL_ROOTS, RootTable};
+use std::alloc::Global;
+use std::process::Abort;
+use std::test::Fail;
+
+/// The table of small roots of a group.
+pub fn table(alloc: Global, letter: u8, n: u32) -> Result<RootTable, Fail> {
+    Ok(RootTable::build(alloc, &Coxeter::named(letter, n)?, MAX_SMALL_ROOTS)?)
+}
+
+/// All elements of a finite group, which are so many.
+pub fn elements(
+    rt: &impl Abort,
+    alloc: Global,
+    letter: u8,
+    n: u32,
+    order: u32,
+) -> Result<Context, Fail>
+    requires some { 1 ≤ order }
+    requires few { order ≤ MAX_MEMBERS }
+    ensures { IfOk result (λ context. length context.members ≡ order) }
+{
+    let context = Context::of_group(alloc, &table(alloc, letter, n)?, order)?;
+    assert!(rt; context.len() == order);
+    Ok(context)
+}
+
+/// The word that a text names.
+pub fn word(rt: &impl Abort, g: &RootTable, text: &[u8]) -> Result<Word, Fail>
+    ensures { IfOk result (λ w. IsWord g.now.rank w.items) }
+{
+    assert!(rt; text.len() <= MAX_LETTERS);
+    Ok(read_word(text, g.group().rank())?)
+}

@@ -1,0 +1,18 @@
+//! Tests of contexts, of rows in them, and of the workers that make rows. There is no code here, only tests.
+//!
+//! They stand apart from the crates that they test, since a crate with tests is proved twice.
+//!
+//! - `fixtures`: groups with all their elements
+//! - `steps`: the row of the identity, and what the row of a generator is made from
+//! - `rows`: the rows of A 2, and a context that grows
+//! - `workers`: the rows of A 2 by one worker and by two, and a row of A 3 that was given up
+#![tactic(auto)]
+
+#[cfg(test)]
+mod fixtures;
+#[cfg(test)]
+mod rows;
+#[cfg(test)]
+mod steps;
+#[cfg(test)]
+mod workers;
