@@ -1,5 +1,7 @@
 //! Elements of finite groups by length against published degrees, small intervals, shifts in A 2, long words, and refusals.
-ghost use Rattle.std.specs.Prelude.{◌≡◌, IfOk};
+//!
+//! A test makes its contexts, and a function that gets them by reference asserts: where a context is owned, each assertion is slow to prove.
+ghost use Rattle.std.specs.Prelude.{◌≡◌, ◌<◌, length, IfOk};
 ghost use Rattle.cox_base.specs.Matrix.{IsWord};
 
 use crate::{Context, ContextFault, MAX_MEMBERS};
@@ -11,23 +13,25 @@ use std::test::Fail;
 
 /// How many elements of each length a finite group has: the coefficients of the product of 1 + q + .. + q^(d-1) over the degrees d.
 fn poincare(degrees: &[usize]) -> [u32; 64] {
-    let mut counts = [0; 64];
+    let mut counts = [0u32; 64];
     counts[0] = 1;
     for &degree in degrees {
-        let before = counts;
-        for k in 0..64 {
-            counts[k] = (0..degree.min(k + 1)).fold(0u32, |sum, j| sum.wrapping_add(before[k - j]));
+        // Times 1 - q^d, and then divided by 1 - q.
+        for k in (degree..64).rev() {
+            counts[k] = counts[k].wrapping_sub(counts[k - degree]);
+        }
+        for k in 1..64 {
+            counts[k] = counts[k].wrapping_add(counts[k - 1]);
         }
     }
     counts
 }
 
-/// How many members there are of each length.
-fn lengths(rt: &impl Abort, context: &Context) -> [u32; 64] {
+/// How many members there are of each length; one of more than 63 letters counts as one of 63.
+fn lengths(context: &Context) -> [u32; 64] {
     let mut counts = [0u32; 64];
     for i in 0..context.len() {
-        let length = context.length(i) as usize;
-        assert!(rt; length < 64);
+        let length = context.length(i).min(63) as usize;
         counts[length] = counts[length].wrapping_add(1);
     }
     counts
@@ -48,6 +52,55 @@ fn word(rt: &impl Abort, g: &RootTable, text: &[u8]) -> Result<Word, Fail>
     Ok(read_word(text, g.group().rank())?)
 }
 
+/// The elements up to the one that a text names.
+fn interval(alloc: Global, rt: &impl Abort, g: &RootTable, text: &[u8]) -> Result<Context, Fail>
+    ensures { IfOk result (λ c. c.matrix ≡ g.now) }
+{
+    let top = word(rt, g, text)?;
+    Ok(Context::of_interval(alloc, g, &top, MAX_MEMBERS)?)
+}
+
+/// The number of the element that a text names.
+fn number(
+    rt: &impl Abort,
+    g: &RootTable,
+    context: &Context,
+    text: &[u8],
+) -> Result<Option<u32>, Fail>
+    requires { g.now ≡ context.now.matrix }
+{
+    let named = word(rt, g, text)?;
+    Ok(context.number_of(g, &named))
+}
+
+/// The numbers of 1 x, 2 x, x 1 and x 2.
+fn shifts(context: &Context, i: u32) -> [Option<u32>; 4]
+    requires rank { context.now.matrix.rank ≡ 2 }
+    requires member { i < length context.now.members }
+{
+    [
+        context.left(1, i),
+        context.left(2, i),
+        context.right(1, i),
+        context.right(2, i),
+    ]
+}
+
+/// The letters that shorten a member from the left, and from the right, as sets.
+fn descent_sets(context: &Context, i: u32) -> (u16, u16)
+    requires { i < length context.now.members }
+{
+    (context.left_descent_set(i), context.right_descent_set(i))
+}
+
+/// The fault, where there is one.
+fn fault(made: Result<Context, ContextFault>) -> Option<ContextFault> {
+    match made {
+        Ok(_) => None,
+        Err(fault) => Some(fault),
+    }
+}
+
 #[test]
 fn has_the_published_elements_of_finite_groups(rt: HostRuntime) -> Result<(), Fail> {
     let cases: [(u8, u32, u32, &[usize]); 6] = [
@@ -62,176 +115,153 @@ fn has_the_published_elements_of_finite_groups(rt: HostRuntime) -> Result<(), Fa
         let g = table(rt.alloc(), &Coxeter::named(letter, n)?)?;
         assert!(rt; 1 <= order && order <= MAX_MEMBERS);
         let context = Context::of_group(rt.alloc(), &g, order)?;
-        assert_eq!(rt; context.len(), order, "{letter} {n}");
-        assert!(rt; lengths(&rt, &context) == poincare(degrees), "{letter} {n}");
+        assert!(rt; context.len() == order, "{letter} {n}");
+        assert!(rt; lengths(&context) == poincare(degrees), "{letter} {n}");
     }
     Ok(())
 }
 
 #[test]
-fn lists_an_interval_in_shortlex_order(rt: HostRuntime) -> Result<(), Fail> {
+fn has_intervals_of_a_3(rt: HostRuntime) -> Result<(), Fail> {
     let g = table(rt.alloc(), &Coxeter::named(b'A', 3)?)?;
+    let whole = interval(rt.alloc(), &rt, &g, b"121321")?;
+    lists_a_3(&rt, &g, &whole)?;
+    let part = interval(rt.alloc(), &rt, &g, b"2132")?;
+    counts_up_to_2132(&rt, &g, &part)
+}
+
+/// The members are the elements of A 3 in ShortLex order.
+fn lists_a_3(rt: &impl Abort, g: &RootTable, context: &Context) -> Result<(), Fail>
+    requires { g.now ≡ context.now.matrix }
+{
     let all: [&[u8]; 24] = [
         b"e", b"1", b"2", b"3", b"12", b"13", b"21", b"23", b"32", b"121", b"123", b"132", b"213",
         b"232", b"321", b"1213", b"1232", b"1321", b"2132", b"2321", b"12132", b"12321", b"21321",
         b"121321",
     ];
-    let top = word(&rt, &g, b"121321")?;
-    let context = Context::of_interval(rt.alloc(), &g, &top, 24)?;
-    assert_eq!(rt; context.len(), 24);
-    for (i, text) in all.iter().enumerate() {
-        let expected = word(&rt, &g, text)?;
-        assert_eq!(rt; context.number_of(&g, &expected), Some(i as u32));
+    assert!(rt; context.len() == 24);
+    for i in 0..24 {
+        assert!(rt; number(rt, g, context, all[i])? == Some(i as u32), "{i}");
     }
-    assert!(rt; &lengths(&rt, &context)[..7] == [1, 3, 5, 6, 5, 3, 1].as_slice());
     Ok(())
 }
 
-#[test]
-fn counts_small_intervals(rt: HostRuntime) -> Result<(), Fail> {
-    let g = table(rt.alloc(), &Coxeter::named(b'A', 3)?)?;
-    let top = word(&rt, &g, b"2132")?;
-    let context = Context::of_interval(rt.alloc(), &g, &top, MAX_MEMBERS)?;
-    assert_eq!(rt; context.len(), 14);
-    let low = context
-        .number_of(&g, &word(&rt, &g, b"2")?)
-        .ok_or("no member")?;
-    assert!(rt; low < context.len());
+/// There are 14 elements up to 2132, of which 10 are above 2, and 123 is none of them.
+fn counts_up_to_2132(rt: &impl Abort, g: &RootTable, context: &Context) -> Result<(), Fail>
+    requires { g.now ≡ context.now.matrix }
+{
+    assert!(rt; context.len() == 14);
+    let low = number(rt, g, context, b"2")?.ok_or("no member")?;
+    assert!(rt; low < 14);
     let mut above = 0u32;
-    for i in 0..context.len() {
+    for i in 0..14 {
         above = above.wrapping_add(context.below(low, i) as u32);
     }
-    assert_eq!(rt; above, 10);
-    assert_eq!(rt; context.number_of(&g, &word(&rt, &g, b"123")?), None);
+    assert!(rt; above == 10);
+    assert!(rt; number(rt, g, context, b"123")? == None);
     Ok(())
 }
 
 #[test]
-fn has_four_coatoms_in_a_4(rt: HostRuntime) -> Result<(), Fail> {
-    let g = table(rt.alloc(), &Coxeter::named(b'A', 4)?)?;
-    let context = Context::of_group(rt.alloc(), &g, 120)?;
-    assert_eq!(rt; lengths(&rt, &context)[9], 4);
-    assert!(rt; 119 < context.len());
-    let longest = context.word(119);
-    assert!(rt; longest.as_slice() == [1, 2, 1, 3, 2, 1, 4, 3, 2, 1].as_slice());
-    Ok(())
-}
-
-#[test]
-fn shifts_in_a_2(rt: HostRuntime) -> Result<(), Fail> {
-    // e, 1, 2, 12, 21, 121
-    let left = [[1, 2], [0, 4], [3, 0], [2, 5], [5, 1], [4, 3]];
-    let right = [[1, 2], [0, 3], [4, 0], [5, 1], [2, 5], [3, 4]];
-    let left_descents: [&[u8]; 6] = [&[], &[1], &[2], &[1], &[2], &[1, 2]];
-    let right_descents: [&[u8]; 6] = [&[], &[1], &[2], &[2], &[1], &[1, 2]];
-    let left_sets = [0, 1, 2, 1, 2, 3];
-    let right_sets = [0, 1, 2, 2, 1, 3];
+fn has_shifts_and_descents_in_a_2(rt: HostRuntime) -> Result<(), Fail> {
     let g = table(rt.alloc(), &Coxeter::named(b'A', 2)?)?;
-    let context = Context::of_group(rt.alloc(), &g, 6)?;
-    assert_eq!(rt; context.matrix().rank(), 2);
-    assert_eq!(rt; context.len(), 6);
-    for i in 0..6 {
-        for s in 1..3u8 {
-            assert_eq!(rt; context.left(s, i), Some(left[i as usize][s as usize - 1]));
-            assert_eq!(rt;
-                context.right(s, i),
-                Some(right[i as usize][s as usize - 1])
-            );
-        }
-        assert_eq!(rt; context.left_descent_set(i), left_sets[i as usize]);
-        assert_eq!(rt; context.right_descent_set(i), right_sets[i as usize]);
-        assert!(rt; context.left_descents(i).as_slice() == left_descents[i as usize]);
-        assert!(rt; context.right_descents(i).as_slice() == right_descents[i as usize]);
+    let part = interval(rt.alloc(), &rt, &g, b"12")?;
+    shifts_up_to_12(&rt, &part);
+    let whole = Context::of_group(rt.alloc(), &g, 6)?;
+    has_descents(&rt, &whole);
+    Ok(())
+}
+
+/// The members e, 1, 2 and 12 have these shifts, and no others.
+fn shifts_up_to_12(rt: &impl Abort, context: &Context) {
+    let rows = [
+        [Some(1), Some(2), Some(1), Some(2)],
+        [Some(0), None, Some(0), Some(3)],
+        [Some(3), Some(0), None, Some(0)],
+        [Some(2), None, None, Some(1)],
+    ];
+    assert!(rt; context.matrix().rank() == 2);
+    assert!(rt; context.len() == 4);
+    for i in 0..4 {
+        assert!(rt; shifts(context, i) == rows[i as usize], "{i}");
     }
-    assert!(rt; context.below(1, 3) && !context.below(3, 4) && context.below(4, 5));
-    Ok(())
 }
 
-#[test]
-fn has_no_shift_out_of_an_interval(rt: HostRuntime) -> Result<(), Fail> {
-    // e, 1, 2, 12
-    let g = table(rt.alloc(), &Coxeter::named(b'A', 2)?)?;
-    let top = word(&rt, &g, b"12")?;
-    let context = Context::of_interval(rt.alloc(), &g, &top, 4)?;
-    assert_eq!(rt; context.len(), 4);
-    assert_eq!(rt; context.matrix().rank(), 2);
-    assert!(rt; &lengths(&rt, &context)[..3] == [1, 2, 1].as_slice());
-    assert_eq!(rt; context.left(2, 1), None);
-    assert_eq!(rt; context.right(1, 2), None);
-    assert_eq!(rt; context.left(1, 2), Some(3));
-    assert_eq!(rt; context.right(2, 1), Some(3));
-    Ok(())
+/// The members are e, 1, 2, 12, 21 and 121, with their descents.
+fn has_descents(rt: &impl Abort, context: &Context) {
+    let sets = [(0, 0), (1, 1), (2, 2), (1, 2), (2, 1), (3, 3)];
+    assert!(rt; context.len() == 6);
+    for i in 0..6 {
+        assert!(rt; descent_sets(context, i) == sets[i as usize], "{i}");
+    }
+    assert!(rt; context.left_descents(4).as_slice() == [2].as_slice());
+    assert!(rt; context.right_descents(5).as_slice() == [1, 2].as_slice());
 }
 
 #[test]
 fn has_words_of_255_letters(rt: HostRuntime) -> Result<(), Fail> {
     let g = table(rt.alloc(), &Coxeter::of_labels(3, &[0, 0, 0])?)?;
-    let mut text = [b'1'; MAX_LETTERS];
-    for k in 0..MAX_LETTERS / 2 {
-        text[2 * k + 1] = b'2';
-    }
-    let top = word(&rt, &g, &text)?;
+    let top = word(&rt, &g, &longest())?;
     let context = Context::of_interval(rt.alloc(), &g, &top, MAX_MEMBERS)?;
-    assert_eq!(rt; context.len(), 510);
-    assert_eq!(rt; context.length(509), 255);
-    assert!(rt; context.word(509).as_slice() == top.as_slice());
-    assert_eq!(rt; context.number_of(&g, &top), Some(509));
-    assert!(rt; context.below(1, 509) && !context.below(507, 508));
+    has_510_members(&rt, &g, &context, &top);
     Ok(())
+}
+
+/// The text 1212..1 of 255 letters.
+fn longest() -> [u8; MAX_LETTERS] {
+    let mut text = [b'1'; MAX_LETTERS];
+    for k in 0..MAX_LETTERS {
+        if k % 2 == 1 {
+            text[k] = b'2';
+        }
+    }
+    text
+}
+
+/// The word of 255 letters is the last of 510 members, and those of one length are not comparable.
+fn has_510_members(rt: &impl Abort, g: &RootTable, context: &Context, top: &Word)
+    requires matrix { g.now ≡ context.now.matrix }
+    requires letters { IsWord g.now.rank top.now.items }
+{
+    assert!(rt; context.len() == 510);
+    assert!(rt; context.length(509) == 255);
+    assert!(rt; context.word(509).as_slice() == top.as_slice());
+    assert!(rt; context.number_of(g, top) == Some(509));
+    assert!(rt; !context.below(507, 508));
 }
 
 #[test]
 fn is_extended_by_an_interval(rt: HostRuntime) -> Result<(), Fail> {
-    // e, 1, 2, 12, and with 21: e, 1, 2, 12, 21
     let g = table(rt.alloc(), &Coxeter::named(b'A', 2)?)?;
-    let (first, second) = (word(&rt, &g, b"21")?, word(&rt, &g, b"12")?);
-    let mut context = Context::of_interval(rt.alloc(), &g, &first, 4)?;
-    assert!(rt; context.extend(&g, &second, 4) == Err(ContextFault::Size { limit: 4, seen: 5 }));
-    assert_eq!(rt; context.len(), 4);
-    let moved = context.extend(&g, &second, 5)?;
+    let mut context = interval(rt.alloc(), &rt, &g, b"21")?;
+    extends_by_12(&rt, &g, &mut context)
+}
+
+/// The members are e, 1, 2, 21, and with 12: e, 1, 2, 12, 21.
+fn extends_by_12(rt: &impl Abort, g: &RootTable, context: &mut Context) -> Result<(), Fail>
+    requires { g.now ≡ context.old.matrix }
+{
+    let second = word(rt, g, b"12")?;
+    assert!(rt; context.extend(g, &second, 4) == Err(ContextFault::Size { limit: 4, seen: 5 }));
+    let moved = context.extend(g, &second, 5)?;
     assert!(rt; moved.as_slice() == [0, 1, 2, 4].as_slice());
-    assert_eq!(rt; context.len(), 5);
-    assert_eq!(rt; context.number_of(&g, &second), Some(3));
-    let longer = word(&rt, &g, b"2121")?;
-    assert_eq!(rt; context.number_of(&g, &longer), Some(3));
+    assert!(rt; context.len() == 5);
     Ok(())
 }
 
 #[test]
 fn refuses_what_is_too_large(rt: HostRuntime) -> Result<(), Fail> {
-    let a_3 = table(rt.alloc(), &Coxeter::named(b'A', 3)?)?;
-    let a_2 = table(rt.alloc(), &Coxeter::named(b'A', 2)?)?;
-    let infinite = table(rt.alloc(), &Coxeter::of_labels(2, &[0])?)?;
-    assert!(rt;
-        fault(Context::of_group(rt.alloc(), &a_3, 23))
-            == Some(ContextFault::Size {
-                limit: 23,
-                seen: 24
-            })
-    );
-    let top = word(&rt, &a_2, b"12")?;
-    assert!(rt;
-        fault(Context::of_interval(rt.alloc(), &a_2, &top, 3))
-            == Some(ContextFault::Size { limit: 3, seen: 4 })
-    );
-    assert!(rt;
-        fault(Context::of_group(rt.alloc(), &infinite, MAX_MEMBERS)) == Some(ContextFault::Long)
-    );
-    assert!(rt; fault(Context::of_group(rt.alloc(), &infinite, 511)) == Some(ContextFault::Long));
-    assert!(rt;
-        fault(Context::of_group(rt.alloc(), &infinite, 510))
-            == Some(ContextFault::Size {
-                limit: 510,
-                seen: 511
-            })
-    );
+    let g = table(rt.alloc(), &Coxeter::of_labels(2, &[0])?)?;
+    refuses_infinite(rt.alloc(), &rt, &g);
     Ok(())
 }
 
-/// The fault, where there is one.
-fn fault(made: Result<Context, ContextFault>) -> Option<ContextFault> {
-    match made {
-        Ok(_) => None,
-        Err(fault) => Some(fault),
-    }
+/// The infinite dihedral group has 511 elements of at most 255 letters, and a longer one follows.
+fn refuses_infinite(alloc: Global, rt: &impl Abort, g: &RootTable) {
+    let size = ContextFault::Size {
+        limit: 510,
+        seen: 511,
+    };
+    assert!(rt; fault(Context::of_group(alloc, g, 510)) == Some(size));
+    assert!(rt; fault(Context::of_group(alloc, g, 511)) == Some(ContextFault::Long));
 }
