@@ -29,8 +29,6 @@ mod lower;
 mod members;
 mod right_shifts;
 mod shifts;
-#[cfg(test)]
-mod tests;
 
 pub use context::Context;
 pub use fault::ContextFault;

@@ -10,8 +10,10 @@ use std::process::Abort;
 use std::test::Fail;
 
 /// The table of small roots of a group.
-pub fn table(alloc: Global, letter: u8, n: u32) -> Result<RootTable, Fail> {
-    Ok(RootTable::build(alloc, &Coxeter::named(letter, n)?, MAX_SMALL_ROOTS)?)
+pub fn table(alloc: Global, g: &Coxeter) -> Result<RootTable, Fail>
+    ensures { IfOk result (λ t. t ≡ g.now) }
+{
+    Ok(RootTable::build(alloc, g, MAX_SMALL_ROOTS)?)
 }
 
 /// All elements of a finite group, which are so many.
@@ -26,7 +28,7 @@ pub fn elements(
     requires few { order ≤ MAX_MEMBERS }
     ensures { IfOk result (λ context. length context.members ≡ order) }
 {
-    let context = Context::of_group(alloc, &table(alloc, letter, n)?, order)?;
+    let context = Context::of_group(alloc, &table(alloc, &Coxeter::named(letter, n)?)?, order)?;
     assert!(rt; context.len() == order);
     Ok(context)
 }

@@ -1,5 +1,6 @@
 //! The rows of A 2, and a context that grows.
 use crate::fixtures::{elements, table, word};
+use cox_base::Coxeter;
 use cox_context::Context;
 use cox_rows::Rows;
 use std::test::Fail;
@@ -30,7 +31,7 @@ fn makes_the_rows_of_the_longest_element(rt: HostRuntime) -> Result<(), Fail> {
 #[test]
 fn keeps_rows_in_a_larger_context(rt: HostRuntime) -> Result<(), Fail> {
     let alloc = rt.alloc();
-    let table = table(alloc, b'A', 2)?;
+    let table = table(alloc, &Coxeter::named(b'A', 2)?)?;
     let context = Context::of_interval(alloc, &table, &word(&rt, &table, b"12")?, 4)?;
     assert_eq!(rt; context.len(), 4);
     let mut rows = Rows::new(alloc, context, i64::MAX)?;

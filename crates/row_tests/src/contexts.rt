@@ -4,9 +4,10 @@
 ghost use Rattle.std.specs.Prelude.{◌≡◌, ◌<◌, length, IfOk};
 ghost use Rattle.cox_base.specs.Matrix.{IsWord};
 
-use crate::{Context, ContextFault, MAX_MEMBERS};
-use cox_base::{Coxeter, MAX_LETTERS, Word, read_word};
-use cox_minroots::{MAX_SMALL_ROOTS, RootTable};
+use crate::fixtures::{table, word};
+use cox_base::{Coxeter, MAX_LETTERS, Word};
+use cox_context::{Context, ContextFault, MAX_MEMBERS};
+use cox_minroots::RootTable;
 use std::alloc::Global;
 use std::process::Abort;
 use std::test::Fail;
@@ -35,21 +36,6 @@ fn lengths(context: &Context) -> [u32; 64] {
         counts[length] = counts[length].wrapping_add(1);
     }
     counts
-}
-
-/// The table of small roots of a group.
-fn table(alloc: Global, g: &Coxeter) -> Result<RootTable, Fail>
-    ensures { IfOk result (λ t. t ≡ g.now) }
-{
-    Ok(RootTable::build(alloc, g, MAX_SMALL_ROOTS)?)
-}
-
-/// The word that a text names.
-fn word(rt: &impl Abort, g: &RootTable, text: &[u8]) -> Result<Word, Fail>
-    ensures { IfOk result (λ w. IsWord g.now.rank w.items) }
-{
-    assert!(rt; text.len() <= MAX_LETTERS);
-    Ok(read_word(text, g.group().rank())?)
 }
 
 /// The elements up to the one that a text names.
