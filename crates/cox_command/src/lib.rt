@@ -27,8 +27,6 @@ mod no_arguments;
 mod number;
 mod parsing;
 mod refusal;
-#[cfg(test)]
-mod tests;
 mod tokens;
 mod word_arguments;
 mod work_arguments;

@@ -30,8 +30,6 @@ mod products;
 mod root;
 mod roots;
 mod table;
-#[cfg(test)]
-mod tests;
 mod words;
 
 pub use closure::MAX_SMALL_ROOTS;

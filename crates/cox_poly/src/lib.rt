@@ -26,8 +26,6 @@ mod poly_list;
 mod poly_view;
 mod polynomial;
 mod polynomial_text;
-#[cfg(test)]
-mod tests;
 
 pub use accumulator::{Acc, DEGREES};
 pub use poly_fault::PolyFault;

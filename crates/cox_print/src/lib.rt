@@ -13,8 +13,6 @@ mod element;
 mod items;
 mod line;
 mod putting;
-#[cfg(test)]
-mod tests;
 
 pub use cox_poly::NoMemory;
 pub use cox_poly::append::{put_number, put_text};

@@ -23,8 +23,6 @@ mod height_row;
 mod heights;
 pub mod laws;
 mod order;
-#[cfg(test)]
-mod tests;
 mod wide_heights;
 mod words;
 

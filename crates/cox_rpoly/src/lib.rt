@@ -20,8 +20,6 @@ mod layers;
 mod polynomial;
 mod r_fault;
 mod terms;
-#[cfg(test)]
-mod tests;
 
 pub use polynomial::r;
 pub use r_fault::RFault;

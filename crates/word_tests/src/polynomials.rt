@@ -1,15 +1,7 @@
 //! Polynomials, their text, and accumulators, by hand.
-use crate::append::put_number;
-use crate::{Acc, Poly, PolyFault, PolyList};
-use std::alloc::Global;
+use crate::fixtures::text_of;
+use cox_poly::{Acc, Poly, PolyFault, PolyList};
 use std::test::Fail;
-
-// The text of the polynomial.
-fn text_of(alloc: Global, p: &Poly) -> Result<String, Fail> {
-    let mut out = Vec::new(alloc);
-    p.put_text(&mut out)?;
-    Ok(String::from_utf8(out).ok().ok_or("not UTF-8")?)
-}
 
 #[test]
 fn texts(rt: HostRuntime) -> Result<(), Fail> {
@@ -83,20 +75,5 @@ fn lists(rt: HostRuntime) -> Result<(), Fail> {
     let mut out = Vec::new(alloc);
     list.at(2).put_text(&mut out)?;
     assert_eq!(rt; out.as_slice(), b"-2q".as_slice());
-    Ok(())
-}
-
-#[test]
-fn integers(rt: HostRuntime) -> Result<(), Fail> {
-    let mut out = Vec::new(rt.alloc());
-    put_number(
-        &mut out,
-        -170_141_183_460_469_231_731_687_303_715_884_105_728,
-    )?;
-    put_number(&mut out, 0)?;
-    assert_eq!(rt;
-        out.as_slice(),
-        b"-1701411834604692317316873037158841057280".as_slice()
-    );
     Ok(())
 }

@@ -1,26 +1,9 @@
 //! Counts of elements and of pairs in Bruhat order, and small words, against published values.
-ghost use Rattle.std.specs.Prelude.{◌≤◌, ◌^◌, ◌<◌, length, IfSome};
-ghost use Rattle.cox_base.specs.Matrix.{IsWord};
-
-use crate::{LETTERS_OF_128_BITS, below, descents, image, length, normal_form};
-use cox_base::{Coxeter, MAX_RANK, Side, Word, read_word};
+use crate::fixtures::{is_below, short_word};
+use cox_base::{Coxeter, MAX_RANK, Side};
+use cox_reflect::{descents, image, length, normal_form};
 use std::alloc::{AllocError, Global};
 use std::test::Fail;
-
-/// A word for which 128 bits suffice.
-fn short_word(g: &Coxeter, text: &[u8]) -> Option<Word>
-    ensures letters { IfSome result (λ w. IsWord g.now.rank w.items) }
-    ensures short { IfSome result (λ w. length w.items ≤ LETTERS_OF_128_BITS) }
-{
-    if text.len() > LETTERS_OF_128_BITS {
-        return None;
-    }
-    let word = read_word(text, g.rank()).ok()?;
-    if word.len() > LETTERS_OF_128_BITS {
-        return None;
-    }
-    Some(word)
-}
 
 /// Whether a text is the normal form of the element that it names.
 fn is_normal(g: &Coxeter, text: &[u8]) -> bool {
@@ -110,11 +93,6 @@ fn count_pairs(g: &Coxeter, elements: &[Vec<u8>]) -> u64 {
     count
 }
 
-/// y <= w, for texts of words.
-fn is_below(g: &Coxeter, y: &[u8], w: &[u8]) -> Option<bool> {
-    Some(below(g, &short_word(g, y)?, &short_word(g, w)?))
-}
-
 #[test]
 fn counts_pairs_in_order(rt: HostRuntime) -> Result<(), Fail> {
     for (n, pairs) in [(1, 3), (2, 19), (3, 213), (4, 3781)] {
@@ -135,28 +113,28 @@ fn counts_pairs_in_order(rt: HostRuntime) -> Result<(), Fail> {
 
 #[test]
 fn reduces_words(rt: HostRuntime) -> Result<(), Fail> {
-    let alternating = b"121212121212121212121212121212121212121212121212121212121212121";
-    let cases: [(u8, u32, &[u8], &[u8]); 9] = [
-        (b'A', 1, b"11", b"e"),
-        (b'A', 2, b"212", b"121"),
-        (b'A', 2, alternating, b"121"),
-        (b'B', 2, b"2121", b"1212"),
-        (b'B', 2, b"121212", b"21"),
-        (b'D', 4, b"4343", b"e"),
-        (b'E', 6, b"4242", b"24"),
-        (b'F', 4, b"3232", b"2323"),
+    let alternating = "121212121212121212121212121212121212121212121212121212121212121";
+    let cases: [(u8, u32, &str, &str); 9] = [
+        (b'A', 1, "11", "e"),
+        (b'A', 2, "212", "121"),
+        (b'A', 2, alternating, "121"),
+        (b'B', 2, "2121", "1212"),
+        (b'B', 2, "121212", "21"),
+        (b'D', 4, "4343", "e"),
+        (b'E', 6, "4242", "24"),
+        (b'F', 4, "3232", "2323"),
         (b'a', 1, alternating, alternating),
     ];
     for (letter, n, word, form) in cases {
         let g = Coxeter::named(letter, n)?;
-        let word = short_word(&g, word).ok_or("a word")?;
-        let form = read_word(form, g.rank())?;
+        let word = short_word(&g, word.as_bytes()).ok_or("a word")?;
+        let form = short_word(&g, form.as_bytes()).ok_or("a word")?;
+        let found = normal_form(&g, &word);
         assert_eq!(rt;
-            normal_form(&g, &word).as_slice(),
-            form.as_slice(),
+            (found.as_slice(), length(&g, &word) as usize),
+            (form.as_slice(), form.len()),
             "{letter} {n}"
         );
-        assert_eq!(rt; length(&g, &word) as usize, form.len(), "{letter} {n}");
     }
     Ok(())
 }
@@ -173,14 +151,13 @@ fn finds_descents(rt: HostRuntime) -> Result<(), Fail> {
     for (letter, n, word, left, right) in cases {
         let g = Coxeter::named(letter, n)?;
         let word = short_word(&g, word).ok_or("a word")?;
-        assert_eq!(rt;
-            descents(&g, &word, Side::Left).as_slice(),
-            left,
-            "{letter} {n}"
+        let found = (
+            descents(&g, &word, Side::Left),
+            descents(&g, &word, Side::Right),
         );
         assert_eq!(rt;
-            descents(&g, &word, Side::Right).as_slice(),
-            right,
+            (found.0.as_slice(), found.1.as_slice()),
+            (left, right),
             "{letter} {n}"
         );
     }
@@ -189,18 +166,18 @@ fn finds_descents(rt: HostRuntime) -> Result<(), Fail> {
 
 #[test]
 fn moves_roots(rt: HostRuntime) -> Result<(), Fail> {
-    let alternating = b"121212121212121212121212121212121212121212121212121212121212121";
-    let cases: [(u8, u32, &[u8], u8, i128, i128); 6] = [
-        (b'A', 2, b"e", 2, 0, 1),
-        (b'A', 2, b"21", 1, -1, -1),
-        (b'A', 2, b"12", 1, 0, 1),
-        (b'B', 2, b"2", 1, 1, 2),
-        (b'G', 2, b"2", 1, 1, 3),
+    let alternating = "121212121212121212121212121212121212121212121212121212121212121";
+    let cases: [(u8, u32, &str, u8, i128, i128); 6] = [
+        (b'A', 2, "e", 2, 0, 1),
+        (b'A', 2, "21", 1, -1, -1),
+        (b'A', 2, "12", 1, 0, 1),
+        (b'B', 2, "2", 1, 1, 2),
+        (b'G', 2, "2", 1, 1, 3),
         (b'a', 1, alternating, 2, 64, 63),
     ];
     for (letter, n, word, s, first, second) in cases {
         let g = Coxeter::named(letter, n)?;
-        let word = short_word(&g, word).ok_or("a word")?;
+        let word = short_word(&g, word.as_bytes()).ok_or("a word")?;
         assert!(rt; 1 <= s && u32::from(s) <= g.rank());
         let mut root = [0; MAX_RANK];
         root[0] = first;
