@@ -1,1 +1,2 @@
+-- what a worker needs
 pub mod Jobs

@@ -9,7 +9,8 @@ pub overflow_cast-result : goal.overflow_cast-result
 overflow_cast-result c =
     let few : length c.args.row.now.extremal.items ≤ length c.args.ctx.now.members
     = rising-few (length c.args.ctx.now.members) c.args.row.now.extremal.items c.requires.row.extremal.rising c.requires.row.extremal.within
-    in omega (arith, few, rw c.pool.ensures at c.len.ensures, c.requires.row.polynomials.size, c.requires.row.polynomials.distinct.few, c.len-len.ensures.closed.few)
+    in let polynomials = c.requires.row.polynomials
+    in omega (arith, few, rw c.pool.ensures at c.len.ensures, polynomials.size, polynomials.distinct.few, c.len-len.ensures.closed.few)
 
 pub returns : goal.returns
 returns c = (
