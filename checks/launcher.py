@@ -6,7 +6,9 @@
 It prints what differs, and a last line with counts; the exit status is 1 where something differs. It needs Python 3 alone.
 """
 import os
+import pty
 import shutil
+import signal
 import subprocess
 import sys
 import tempfile
@@ -14,17 +16,32 @@ import time
 
 TOP = os.path.dirname(os.path.dirname(os.path.abspath(__file__)))
 
-# 'Builds' a program that prints what the source said at the end of the build, its arguments, and its input, and ends with 7.
-# It first does what a file `meanwhile` says, if there is one, and fails where the source says so.
+# 'Builds' the program of the folder that it is run in: one that prints what the source said at the end of the build, its arguments,
+# and its input, and ends with 7, as `rt run` then does. It first does what a file `meanwhile` says, if there is one, and fails where
+# the source says so, or where it is run twice at once. Under `all` it writes down which crates it was to prove.
 RT = b"""#!/bin/sh
-echo "stand-in builds"
-[ "$1" = run ] || exit 1
-word=$(cat src/main.rt)
-if [ -e ../../meanwhile ]; then . ../../meanwhile; rm ../../meanwhile; fi
-[ "$word" = broken ] && exit 1
-mkdir -p out
-printf '#!/bin/sh\\necho "program of %s:$*"; cat; exit 7\\n' "$word" >out/coxeter
-chmod +x out/coxeter
+echo "stand-in works"
+for count; do :; done
+[ "$count" -gt 0 ] || exit 1
+case "$1 $2" in
+  "all check")
+    for folder in crates/*; do
+      mkdir -p "$folder/out/rlib"
+      echo "crate ${folder#crates/}: modules loaded=0"
+    done
+    cp crates.txt "${0%rt}proved" ;;
+  "run --jobs")
+    name=${PWD##*/}
+    mkdir ../building || exit 1
+    word=$(cat src/main.rt)
+    if [ -e ../../meanwhile ]; then . ../../meanwhile; rm ../../meanwhile; fi
+    rmdir ../building
+    [ "$word" = broken ] && exit 1
+    printf '#!/bin/sh\\necho "program of %s:$*"; cat; exit 7\\n' "$word" >"out/$name"
+    chmod +x "out/$name"
+    exit 7 ;;
+  *) exit 1 ;;
+esac
 """
 
 # What the first program answers when it is run with no arguments.
@@ -41,7 +58,7 @@ class Checkout:
         os.makedirs(self.tools, exist_ok=True)
         self.write(os.path.join(self.tools, b"rt"), RT)
         os.chmod(os.path.join(self.tools, b"rt"), 0o755)
-        os.makedirs(os.path.join(self.top, b"crates/coxeter/src"))
+        os.makedirs(self.top)
         shutil.copy(os.path.join(TOP, "coxeter").encode(), self.top)
         self.write(self.path(b"crates.txt"), b"coxeter:\n")
         self.source(b"one")
@@ -53,17 +70,25 @@ class Checkout:
         with open(path, "wb") as out:
             out.write(text)
 
-    def source(self, text):
-        self.write(self.path(b"crates/coxeter/src/main.rt"), text)
+    def source(self, text, crate=b"coxeter", file=b"main.rt"):
+        folder = os.path.join(self.top, b"crates", crate, b"src")
+        os.makedirs(folder, exist_ok=True)
+        self.write(os.path.join(folder, file), text)
 
-    def run(self, path=None, arguments=(), folder=None, tools=True, **environment):
+    def environment(self, tools=True, **more):
+        """The environment, with the stand-in on the PATH or no `rt` at all."""
         places = os.environb[b"PATH"].split(b":")
-        places = [it for it in places if not os.path.exists(os.path.join(it, b"rt"))]
-        places = [self.tools] * tools + places
-        environment = {name.encode(): value for name, value in environment.items()}
-        environment = {**os.environb, b"PATH": b":".join(places), **environment}
+        places = [self.tools] * tools + [it for it in places if not os.path.exists(os.path.join(it, b"rt"))]
+        return {**os.environb, b"PATH": b":".join(places), **{name.encode(): value for name, value in more.items()}}
+
+    def run(self, path=None, arguments=(), folder=None, **how):
         words = [path or self.path(b"coxeter"), *arguments]
-        return subprocess.run(words, input=b"input\n", capture_output=True, cwd=folder, env=environment)
+        return subprocess.run(words, input=b"input\n", capture_output=True, cwd=folder, env=self.environment(**how))
+
+    def begin(self, **how):
+        """Starts a run that goes on in a session of its own."""
+        pipes = {it: subprocess.PIPE for it in ("stdin", "stdout", "stderr")}
+        return subprocess.Popen([self.path(b"coxeter")], env=self.environment(), start_new_session=True, **{**pipes, **how})
 
 
 def check(what, ran, status, out, building):
@@ -74,6 +99,14 @@ def check(what, ran, status, out, building):
     if got != want:
         counts["differ"] += 1
         print(f"{what}: got the status, output and whether it builds {got}, want {want}")
+
+
+def say(what, got, want):
+    """Compares anything else."""
+    counts["tried"] += 1
+    if got != want:
+        counts["differ"] += 1
+        print(f"{what}: got {got}, want {want}")
 
 
 def changes(base):
@@ -127,23 +160,103 @@ def places(base):
     check("as bash reads it", here.run(b"bash", [here.path(b"coxeter")]), 7, ONE, False)
 
 
+def names(base):
+    """Runs the program that it has the name of."""
+    here = Checkout(base)
+    here.write(here.path(b"crates.txt"), b"coxeter:\ncoxcheck:\n")
+    here.source(b"six", b"coxcheck")
+    os.symlink(b"coxeter", here.path(b"coxcheck"))
+    other = os.path.join(base, b"other")
+    os.symlink(b"checkout/coxcheck", other)
+    check("another program", here.run(here.path(b"coxcheck")), 7, b"program of six:\ninput\n", False)
+    check("by a link with a name of its own", here.run(other), 7, b"program of six:\ninput\n", False)
+    check("the first one beside it", here.run(), 7, ONE, True)
+    say("the other one", here.run(here.path(b"coxcheck"), ["a"]).stdout, b"program of six:a\ninput\n")
+
+
 def failures(base):
     """Says so where it can't build."""
     here = Checkout(base)
     ran = here.run(tools=False)
     check("without rt", ran, 127, b"", False)
-    if b"README.md" not in ran.stderr:
-        counts["differ"] += 1
-        print(f"without rt: it says {ran.stderr!r}")
+    say("without rt it names the README", b"README.md" in ran.stderr, True)
     here.source(b"broken")
-    check("a source that can't be built", here.run(), 70, b"", True)
+    ran = here.run()
+    check("a source that can't be built", ran, 70, b"", True)
+    say("what rt says stands in a file", b"stand-in works" in ran.stderr, False)
+    with open(here.path(b"crates/coxeter/out/build.log"), "rb") as log:
+        say("the file that is named", (log.name in ran.stderr, log.read()), (True, b"stand-in works\n"))
     here.source(b"one")
     check("mended", here.run(), 7, ONE, True)
-    check("without rt, once it is built", here.run(tools=False), 7, ONE, False)
+    ran = here.run(tools=False)
+    check("without rt, once it is built", ran, 7, ONE, False)
+    say("it says nothing then", ran.stderr, b"")
+    here.source(b"two")
+    ran = here.run(tools=False)
+    check("without rt, when a source has changed", ran, 7, ONE, False)
+    say("it says that on a line", (ran.stderr.count(b"\n"), b"no command rt" in ran.stderr), (1, True))
+    check("with rt again", here.run(), 7, b"program of two:\ninput\n", True)
 
 
-for part in (changes, places, failures):
+def crates(base):
+    """Proves crates that stand on few others side by side, and only those of the program."""
+    here = Checkout(base)
+    lines = [b"".join(b"low%d " % it for it in range(1, number)) for number in range(1, 8)]
+    listed = b"".join(b"low%d: %b\n" % it for it in enumerate(lines, 1))
+    here.write(here.path(b"crates.txt"), b"# all\ncoxeter: low7 low2\n%bother: low1\n" % listed)
+    for crate in [b"other"] + [b"low%d" % number for number in range(1, 8)]:
+        here.source(b"//! Code.\n", crate, b"lib.rt")
+    ran = here.run()
+    check("a program of several crates", ran, 7, ONE, True)
+    with open(os.path.join(here.tools, b"proved"), "rb") as proved:
+        rows = proved.read().splitlines()
+    say("what is proved side by side", sorted(it.split(b":")[0] for it in rows), [b"all", *(b"low%d" % it for it in range(1, 6))])
+    say("what came of it", [os.path.exists(here.path(b"crates/low%d/out/rlib" % it)) for it in range(1, 8)], [True] * 5 + [False] * 2)
+    say("no folder is left", os.path.exists(here.path(b"crates/coxeter/out/side_by_side")), False)
+    here.source(b"two")
+    os.remove(os.path.join(here.tools, b"proved"))
+    check("another time", here.run(), 7, b"program of two:\ninput\n", True)
+    say("nothing is proved ahead then", os.path.exists(os.path.join(here.tools, b"proved")), False)
+
+
+def turns(base):
+    """Builds once where it is called twice, and again where it was interrupted."""
+    here = Checkout(base)
+    here.write(here.path(b"meanwhile"), b"sleep 3\n")
+    first = here.begin()
+    time.sleep(1)
+    second = here.run()
+    check("the second of two at once", second, 7, ONE, False)
+    say("it says that it waits", b"waiting" in second.stderr, True)
+    say("the first of them", (first.communicate(b"input\n")[0], first.returncode), (ONE, 7))
+    here.source(b"two")
+    here.write(here.path(b"meanwhile"), b"sleep 100\n")
+    cut = here.begin()
+    time.sleep(1)
+    os.killpg(cut.pid, signal.SIGINT)
+    say("one that is interrupted", (cut.communicate()[0], cut.returncode), (b"", 70))
+    os.rmdir(here.path(b"crates/building"))
+    os.remove(here.path(b"meanwhile"))
+    check("the one after it", here.run(), 7, b"program of two:\ninput\n", True)
+
+
+def progress(base):
+    """Says how far it is."""
+    here = Checkout(base)
+    work = b"echo 'crate coxeter: modules loaded=0'; sleep 5\n"
+    here.write(here.path(b"meanwhile"), work)
+    say("once it is done", b"coxeter: 1 of 1 crates proved in 0 min, about 1 min left\n" in here.run().stderr, True)
+    here.source(b"two")
+    here.write(here.path(b"meanwhile"), work)
+    terminal, end = pty.openpty()
+    here.begin(stdin=subprocess.DEVNULL, stderr=end).communicate()
+    os.close(end)
+    shown = os.read(terminal, 1 << 16)
+    say("on a terminal", [b"\r" + b"coxeter: %d of 1 crates" % it in shown for it in (0, 1)], [False, True])
+
+
+for part in (changes, places, names, failures, crates, turns, progress):
     with tempfile.TemporaryDirectory() as base:
         part(os.fsencode(base))
-print(f"{counts['tried']} runs, {counts['differ']} differ")
+print(f"{counts['tried']} things, {counts['differ']} differ")
 sys.exit(1 if counts["differ"] else 0)
