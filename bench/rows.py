@@ -7,7 +7,8 @@
 - All rows of a group: `mu e w` for the longest element w, so that the context is the whole group, and then for each w in ShortLex order. The
   time of a run that asks `length w` in place of these is taken off.
 - `klbasis` of 123 repeated 20 times in the affine group of A 2.
-- `pol e w` of 300 scattered elements w of E 6, one after the other, of which each extends what is kept.
+- `pol e w` of many elements w, one after the other: 300 scattered ones of E 6 at random, rising and falling in ShortLex order, all of D 5 and B 5
+  rising and falling, and the first 3,000 below 1234 repeated eight times in the affine group of A 3, rising. What is kept grows with each of them.
 
 `--native FILE` names a program that makes the same rows (called as FILE LETTER N, which writes a line `rows TIME` to standard error); it runs in turn
 with the others. Each figure is the least of five runs, of sixty where a run takes less than a tenth of a second, or of one where it takes more than
@@ -29,6 +30,7 @@ SHORT = 0.1
 LONG = 10.0
 GROUPS = [("A", 6), ("D", 5), ("F", 4), ("B", 5), ("D", 6), ("E", 6)]
 AFFINE_A2 = "matrix 3 3 3 3"
+AFFINE_A3 = "matrix 4 3 2 3 3 2 3"
 
 
 def run(words, script):
@@ -105,10 +107,25 @@ def cases(program, groups):
         yield (f"all rows of {letter} {rank}", group + "\n" + "".join(f"mu e {w}\n" for w in order),
                group + "\n" + "".join(f"length {w}\n" for w in order), (letter, rank))
     yield "klbasis of 123 20 times, affine A 2", f"{AFFINE_A2}\nklbasis {'123' * 20}\n", f"{AFFINE_A2}\nlength {'123' * 20}\n", None
+    for name, group, words in orders(program):
+        yield (f"pol of {name}", group + "\n" + "".join(f"pol e {w}\n" for w in words),
+               group + "\n" + "".join(f"length {w}\n" for w in words), None)
+
+
+def orders(program):
+    """Elements that are asked for one after the other: a name, the line that sets the group, and their words."""
     group, words = elements(program, "E", 6)
     scattered = random.Random(6).sample(words, 300)
-    yield ("pol of 300 elements of E 6", group + "\n" + "".join(f"pol e {w}\n" for w in scattered),
-           group + "\n" + "".join(f"length {w}\n" for w in scattered), None)
+    yield "300 elements of E 6, at random", group, scattered
+    place = {word: number for number, word in enumerate(words)}
+    scattered.sort(key=place.get)
+    named = [("300 elements of E 6", group, scattered)] + [(f"all of {it} 5", *elements(program, it, 5)) for it in "DB"]
+    for name, group, rising in named:
+        yield f"{name}, rising", group, rising
+        yield f"{name}, falling", group, rising[::-1]
+    asked = f"{AFFINE_A3}\ninterval e {'1234' * 8}\n"
+    listed = subprocess.run([program], input=asked.encode(), stdout=subprocess.PIPE).stdout.decode().split("\n")
+    yield "3,000 elements of affine A 3, rising", AFFINE_A3, listed[1:3001]
 
 
 def main():
