@@ -83,12 +83,18 @@ class Checkout:
 
     def run(self, path=None, arguments=(), folder=None, **how):
         words = [path or self.path(b"coxeter"), *arguments]
-        return subprocess.run(words, input=b"input\n", capture_output=True, cwd=folder, env=self.environment(**how))
+        ran = self.begin(words, cwd=folder, env=self.environment(**how))
+        try:
+            out, error = ran.communicate(b"input\n", timeout=60)
+        except subprocess.TimeoutExpired:
+            os.killpg(ran.pid, signal.SIGKILL)
+            out, error = ran.communicate()
+        return subprocess.CompletedProcess(words, ran.returncode, out, error)
 
-    def begin(self, **how):
+    def begin(self, words=None, **how):
         """Starts a run that goes on in a session of its own."""
-        pipes = {it: subprocess.PIPE for it in ("stdin", "stdout", "stderr")}
-        return subprocess.Popen([self.path(b"coxeter")], env=self.environment(), start_new_session=True, **{**pipes, **how})
+        how = {**{it: subprocess.PIPE for it in ("stdin", "stdout", "stderr")}, "env": self.environment(), **how}
+        return subprocess.Popen(words or [self.path(b"coxeter")], start_new_session=True, **how)
 
 
 def check(what, ran, status, out, building):
@@ -219,12 +225,21 @@ def crates(base):
     say("nothing is proved ahead then", os.path.exists(os.path.join(here.tools, b"proved")), False)
 
 
+def wait_for(path):
+    """Waits until this file or folder is there, half a minute at most."""
+    for _ in range(300):
+        if os.path.exists(path):
+            break
+        time.sleep(0.1)
+
+
 def turns(base):
     """Builds once where it is called twice, and again where it was interrupted."""
     here = Checkout(base)
-    here.write(here.path(b"meanwhile"), b"sleep 3\n")
+    building = here.path(b"crates/building")
+    here.write(here.path(b"meanwhile"), b"sleep 5\n")
     first = here.begin()
-    time.sleep(1)
+    wait_for(building)
     second = here.run()
     check("the second of two at once", second, 7, ONE, False)
     say("it says that it waits", b"waiting" in second.stderr, True)
@@ -232,12 +247,27 @@ def turns(base):
     here.source(b"two")
     here.write(here.path(b"meanwhile"), b"sleep 100\n")
     cut = here.begin()
-    time.sleep(1)
+    wait_for(building)
     os.killpg(cut.pid, signal.SIGINT)
     say("one that is interrupted", (cut.communicate()[0], cut.returncode), (b"", 70))
-    os.rmdir(here.path(b"crates/building"))
+    os.rmdir(building)
     os.remove(here.path(b"meanwhile"))
     check("the one after it", here.run(), 7, b"program of two:\ninput\n", True)
+
+
+def running(base):
+    """Leaves nothing behind when the program runs."""
+    here = Checkout(base)
+    here.write(here.path(b"meanwhile"), b"echo 'crate coxeter: modules loaded=0'\n")
+    first = here.begin()
+    say("a program that runs", first.stdout.readline(), b"program of one:\n")
+    here.source(b"two")
+    second = here.run()
+    check("a build meanwhile", second, 7, b"program of two:\ninput\n", True)
+    say("it does not wait", b"waiting" in second.stderr, False)
+    time.sleep(3)
+    rest, said = first.communicate(b"input\n")
+    say("the first one goes on", (rest, said.count(b"\n")), (b"input\n", 1))
 
 
 def progress(base):
@@ -255,7 +285,7 @@ def progress(base):
     say("on a terminal", [b"\r" + b"coxeter: %d of 1 crates" % it in shown for it in (0, 1)], [False, True])
 
 
-for part in (changes, places, names, failures, crates, turns, progress):
+for part in (changes, places, names, failures, crates, turns, running, progress):
     with tempfile.TemporaryDirectory() as base:
         part(os.fsencode(base))
 print(f"{counts['tried']} things, {counts['differ']} differ")
