@@ -6,8 +6,8 @@ use Rattle.cox_base.specs.declared.limits.TheConstants.{MAX_RANK, MAX_LETTERS}
 use Rattle.cox_base.specs.Matrix.{is_label}
 use Rattle.cox_base.specs.NamedType.{is_type}
 use Rattle.cox_base.specs.WordText.{pieces_of, first_foreign}
-use Rattle.cox_command.specs.Number.{is_number, is_number_in, value_of}
-use Rattle.cox_command.specs.Tokens.{tokens_of}
+use Rattle.cox_tokens.specs.Number.{is_number, is_number_in, value_of}
+use Rattle.cox_tokens.specs.Tokens.{tokens_of}
 use Rattle.cox_command.specs.CommandWord.{command_word_of}
 use Rattle.cox_command.specs.declared.limits.TheConstants.{MAX_START, MAX_COUNT}
 use Rattle.cox_command.specs.declared.refusal.Refusal.{Refusal}

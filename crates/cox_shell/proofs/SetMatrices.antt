@@ -14,15 +14,23 @@ use Rattle.cox_command.specs.declared.refusal.Refusal.{Refusal}
 use Rattle.cox_command.specs.declared.refusal.Refusal.TheVariants.{WrongCount, WrongNumber, NoGroup, UnknownType, WrongLabel}
 use Rattle.cox_command.specs.declared.command_word.CommandWord.{CommandWord}
 use Rattle.cox_command.specs.declared.command_word.CommandWord.TheVariants.{Named, Matrix}
-use Rattle.cox_command.specs.Number.{value_of}
+use Rattle.cox_tokens.specs.Number.{value_of}
 use Rattle.cox_command.specs.LineRefusal.{argument, names_type, is_rank, has_wrong_count, has_wrong_number, has_no_type, has_wrong_label}
 use Rattle.cox_command.specs.LineRefusal.{needs_group, command_refusal}
-use Rattle.cox_command.specs.CommandReading.{matrix_set, named_matrix, matrix_of}
+use Rattle.cox_command.specs.CommandReading.{matrix_set}
 
 -- what is known where no refusal of a list applies
 pub passed_over : (b : Bool) (why : Refusal) (rest : Option Refusal) → (if b then Some why else rest) ≡ None → (b ≡ false) × (rest ≡ None)
 passed_over true why rest none = absurd (cc none)
 passed_over false why rest none = (refl, none)
+
+-- the matrix that `type` sets
+abbrev pub named_matrix : List (List ℕ) → CoxeterMatrix
+named_matrix arguments = type_matrix (slice_index (argument arguments 0) 0) (value_of (argument arguments 1))
+
+-- the matrix that `matrix` sets
+abbrev pub matrix_of : List (List ℕ) → CoxeterMatrix
+matrix_of arguments = record { rank = value_of (argument arguments 0); labels = map value_of (drop 1 arguments) }
 
 -- the matrix of a type that there is
 named_matrix-is : (arguments : List (List ℕ)) → has_no_type Named arguments ≡ false → IsCoxeterMatrix (named_matrix arguments)
