@@ -2,7 +2,7 @@
 -- letters stand side by side; in a group of a greater rank single dots stand between them. The rank is that of the group.
 use Rattle.std.specs.Prelude.{ℕ, ◌+◌, ◌==◌, Bool, false, if◌then◌else◌, nat_le, List, [], ◌∷◌, ◌++◌, length, map, take, codes, decimal}
 use Rattle.std.specs.Prelude.{find, position, sum_by, Option, None, is_none}
-use Rattle.std.specs.List.{filter_map, flat_map, slice_split}
+use Rattle.std.specs.List.{filter_map, join_by, slice_split}
 use Rattle.std.specs.Option.{option_map}
 use Rattle.std.specs.Str.{bytes_eq}
 use Rattle.cox_base.specs.declared.limits.TheConstants.{MAX_DIGIT_RANK}
@@ -19,7 +19,7 @@ separator rank = if has_digits rank then [] else codes "."
 -- letters as they are written, or this text where there are none
 abbrev pub letters_or : List ℕ → ℕ → List ℕ → List ℕ
 letters_or none rank [] = none
-letters_or none rank (letter ∷ letters) = decimal letter ++ flat_map (λ next. separator rank ++ decimal next) letters
+letters_or none rank letters = join_by decimal (separator rank) letters
 
 -- a word as it is written
 abbrev pub word_text : ℕ → List ℕ → List ℕ

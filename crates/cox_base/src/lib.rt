@@ -25,8 +25,6 @@ mod pieces;
 mod reading;
 mod side;
 mod spelling;
-#[cfg(test)]
-mod tests;
 mod word;
 
 pub use coxeter::{Coxeter, Label};

@@ -1,5 +1,3 @@
--- how tokens follow one another in a line
-pub mod Pieces
 -- the arguments of `matrix`
 pub mod MatrixArguments
 -- a line gives at most one command

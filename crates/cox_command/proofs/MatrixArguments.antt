@@ -6,7 +6,7 @@ use Rattle.std.proofs.lemmas.List.Sums.{passes_at_first, list_all-from_AllPass}
 use Rattle.std.proofs.lemmas.List.Folds.{list_all_at, list_all-map}
 use Rattle.cox_base.specs.Matrix.{is_label}
 use Rattle.cox_base.specs.Table.{IsFirstBad}
-use Rattle.cox_command.specs.Number.{value_of}
+use Rattle.cox_tokens.specs.Number.{value_of}
 
 -- each label is admitted
 pub labels-admitted : (tokens : List (List ℕ)) (labels : List ℕ) → labels ≡ map value_of tokens → All (λ m. IsTrue (is_label m)) labels

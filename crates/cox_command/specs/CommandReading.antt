@@ -3,7 +3,7 @@ use Rattle.std.specs.Prelude.{◌≡◌, ℕ, List, [], ◌∷◌, drop, map, Op
 use Rattle.cox_base.specs.Matrix.{CoxeterMatrix}
 use Rattle.cox_base.specs.NamedType.{type_matrix}
 use Rattle.cox_base.specs.WordText.{word_of}
-use Rattle.cox_command.specs.Number.{value_of}
+use Rattle.cox_tokens.specs.Number.{value_of}
 use Rattle.cox_command.specs.CommandWord.{command_word_of}
 use Rattle.cox_command.specs.LineRefusal.{rank_or_zero, argument}
 use Rattle.cox_command.specs.declared.command.Command.{Command}
@@ -11,18 +11,11 @@ use Rattle.cox_command.specs.declared.command.Command.TheVariants as asks
 use Rattle.cox_command.specs.declared.command_word.CommandWord.{CommandWord}
 use Rattle.cox_command.specs.declared.command_word.CommandWord.TheVariants.{Named, Matrix, Quit, One, Two, Plain, Work}
 
--- the matrix that `matrix` sets: its rank, and its labels above the diagonal, row by row
-abbrev pub matrix_of : List (List ℕ) → CoxeterMatrix
-matrix_of arguments = record { rank = value_of (argument arguments 0); labels = map value_of (drop 1 arguments) }
-
--- the matrix that `type` sets
-abbrev pub named_matrix : List (List ℕ) → CoxeterMatrix
-named_matrix arguments = type_matrix (slice_index (argument arguments 0) 0) (value_of (argument arguments 1))
-
--- the matrix that a command word sets, if it sets one
+-- The matrix that a command word sets, if it sets one: `type` that of a named type, `matrix` one by its rank and its labels above the diagonal,
+-- row by row.
 abbrev pub matrix_set : CommandWord → List (List ℕ) → Option CoxeterMatrix
-matrix_set Named arguments = Some (named_matrix arguments)
-matrix_set Matrix arguments = Some (matrix_of arguments)
+matrix_set Named arguments = Some (type_matrix (slice_index (argument arguments 0) 0) (value_of (argument arguments 1)))
+matrix_set Matrix arguments = Some (record { rank = value_of (argument arguments 0); labels = map value_of (drop 1 arguments) })
 matrix_set _ arguments = None
 
 -- the word at a place among the arguments, in a group of this rank

@@ -1,7 +1,3 @@
--- the tokens of a line
-pub mod Tokens
--- numbers as they are written
-pub mod Number
 -- the numbers of refusals
 pub mod RefusalNumber
 -- the table of command words

@@ -6,8 +6,8 @@ use Rattle.cox_base.specs.declared.limits.TheConstants.{MAX_RANK, MAX_LETTERS}
 use Rattle.cox_base.specs.Matrix.{is_label}
 use Rattle.cox_base.specs.NamedType.{is_type}
 use Rattle.cox_base.specs.WordText.{pieces_of, first_foreign}
-use Rattle.cox_command.specs.Number.{is_number, is_number_in, value_of}
-use Rattle.cox_command.specs.Tokens.{tokens_of}
+use Rattle.cox_tokens.specs.Number.{is_number, is_number_in, value_of}
+use Rattle.cox_tokens.specs.Tokens.{tokens_of}
 use Rattle.cox_command.specs.CommandWord.{command_word_of}
 use Rattle.cox_command.specs.declared.limits.TheConstants.{MAX_START, MAX_COUNT}
 use Rattle.cox_command.specs.declared.refusal.Refusal.{Refusal}
@@ -28,10 +28,6 @@ argument arguments place = slice_index_or arguments place []
 abbrev pub is_rank : List ℕ → Bool
 is_rank token = is_number_in 1 MAX_RANK token
 
--- whether the arguments of `work` are a state of the generator, and how many words
-abbrev pub are_work_numbers : List (List ℕ) → Bool
-are_work_numbers arguments = is_number_in 0 MAX_START (argument arguments 0) && is_number_in 1 MAX_COUNT (argument arguments 1)
-
 -- Whether WrongCount applies: the number of arguments is not the command's. For `matrix` it is judged after the rank, if there is an
 -- argument at all.
 abbrev pub has_wrong_count : CommandWord → List (List ℕ) → Bool
@@ -44,11 +40,13 @@ has_wrong_count (Two word) arguments = not (length arguments == 2)
 has_wrong_count (Plain word) arguments = not (length arguments == 0)
 has_wrong_count Work arguments = not (length arguments == 2)
 
--- whether WrongNumber applies: a number argument is no number, or is outside its range
+-- Whether WrongNumber applies: a number argument is no number, or is outside its range. The numbers of `work` are a state of the generator
+-- and how many words.
 abbrev pub has_wrong_number : CommandWord → List (List ℕ) → Bool
 has_wrong_number Named arguments = not (is_number (argument arguments 1))
 has_wrong_number Matrix arguments = not (is_rank (argument arguments 0) && list_all is_number (drop 1 arguments))
-has_wrong_number Work arguments = not (are_work_numbers arguments)
+has_wrong_number Work arguments =
+    not (is_number_in 0 MAX_START (argument arguments 0) && is_number_in 1 MAX_COUNT (argument arguments 1))
 has_wrong_number _ arguments = false
 
 -- all commands but these need a group
@@ -57,10 +55,6 @@ needs_group Named = false
 needs_group Matrix = false
 needs_group Quit = false
 needs_group _ = true
-
--- whether NoGroup applies: the command needs a group and none is set
-abbrev pub lacks_group : CommandWord → Option ℕ → Bool
-lacks_group word rank = needs_group word && is_none rank
 
 -- whether a token and a number name a type
 abbrev pub names_type : List ℕ → ℕ → Bool
@@ -83,24 +77,19 @@ takes_words (One word) = true
 takes_words (Two word) = true
 takes_words _ = false
 
--- whether LongWord applies: a word argument has more pieces than a word may have letters
-abbrev pub has_long_word : CommandWord → List (List ℕ) → Option ℕ → Bool
-has_long_word word arguments rank =
-    takes_words word && list_any (λ token. nat_lt MAX_LETTERS (length (pieces_of (rank_or_zero rank) token))) arguments
-
--- whether ForeignLetter applies: a word argument is not `e` and has a piece that is no letter of the group
-abbrev pub has_foreign_letter : CommandWord → List (List ℕ) → Option ℕ → Bool
-has_foreign_letter word arguments rank = takes_words word && list_any (λ token. is_some (first_foreign (rank_or_zero rank) token)) arguments
-
--- whether a refusal applies to a command with these arguments, where the group that is set, if any, has this rank
+-- Whether a refusal applies to a command with these arguments, where the group that is set, if any, has this rank. NoGroup: the command needs
+-- a group, and none is set. LongWord: a word argument has more pieces than a word may have letters. ForeignLetter: a word argument is not `e`
+-- and has a piece that is no letter of the group.
 abbrev pub applies : CommandWord → List (List ℕ) → Option ℕ → Refusal → Bool
 applies verb arguments rank WrongCount = has_wrong_count verb arguments
 applies verb arguments rank WrongNumber = has_wrong_number verb arguments
-applies verb arguments rank NoGroup = lacks_group verb rank
+applies verb arguments rank NoGroup = needs_group verb && is_none rank
 applies verb arguments rank UnknownType = has_no_type verb arguments
 applies verb arguments rank WrongLabel = has_wrong_label verb arguments
-applies verb arguments rank LongWord = has_long_word verb arguments rank
-applies verb arguments rank ForeignLetter = has_foreign_letter verb arguments rank
+applies verb arguments rank LongWord =
+    takes_words verb && list_any (λ token. nat_lt MAX_LETTERS (length (pieces_of (rank_or_zero rank) token))) arguments
+applies verb arguments rank ForeignLetter =
+    takes_words verb && list_any (λ token. is_some (first_foreign (rank_or_zero rank) token)) arguments
 applies verb arguments rank _ = false
 
 -- the order in which they are tried, after UnknownCommand

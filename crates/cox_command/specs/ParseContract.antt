@@ -1,7 +1,7 @@
 -- What the calls that read a line answer.
 use Rattle.std.specs.Prelude.{◌≡◌, ◌≤◌, ℕ, List, Option, None, Some, Result, Ok, Err, IsSome, IsSomeAnd}
 use Rattle.cox_base.specs.Matrix.{IsWord}
-use Rattle.cox_command.specs.Tokens.{tokens_of}
+use Rattle.cox_tokens.specs.Tokens.{tokens_of}
 use Rattle.cox_command.specs.LineRefusal.{command_refusal, tokens_refusal, line_refusal}
 use Rattle.cox_command.specs.CommandReading.{IsGivenBy, IsGiven}
 use Rattle.cox_command.specs.declared.limits.TheConstants.{MAX_START, MAX_COUNT}

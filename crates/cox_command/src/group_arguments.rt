@@ -1,16 +1,15 @@
 //! The arguments that set a group.
 ghost use Rattle.std.specs.Prelude.{◌≡◌, ◌≤◌, ℕ, Option, Some, None, map, length, IfSome, is_some, if◌then◌else◌};
 ghost use Rattle.std.specs.List.{list_all};
-ghost use Rattle.cox_command.specs.Number.{is_number, value_of};
+ghost use Rattle.cox_tokens.specs.Number.{is_number, value_of};
 ghost use Rattle.cox_command.specs.LineRefusal.{is_rank};
 ghost use Rattle.cox_command.specs.ParseContract.{ReadsArguments};
 ghost use Rattle.cox_command.specs.declared.command_word.CommandWord.TheVariants.{Named, Matrix};
 
-use crate::number::{read_number, read_number_in};
-use crate::tokens::Tokens;
 use crate::{Command, Refusal};
 use arrayvec::ArrayVec;
 use cox_base::{Coxeter, MAX_LABELS, MAX_RANK};
+use cox_tokens::{Tokens, read_number, read_number_in};
 
 /// The arguments of `type`: a letter and a number.
 pub fn parse_type(arguments: Tokens) -> Result<Command, Refusal>

@@ -1,7 +1,7 @@
 //! Reads the commands of a script: what command a line gives, or why it is refused.
 //!
 //! `parse` is exact both ways: it answers the command that the grammar gives, and else the first refusal that applies, in a stated order.
-//! Grammar and causes are definitions of their own in `specs/`, one table or one test each. Nothing here takes memory.
+//! Grammar and causes are definitions of their own in `specs/`, one table or one test each. The parts of a line are those of `cox_tokens`. Nothing here takes memory.
 //!
 //! A new command with words, or without arguments, is a variant, a row in `command_word_of` and a row in `command_word`. One of another shape is also a variant of
 //! `Command` and `CommandWord`, a function that reads its arguments, and a case of each test in `specs/LineRefusal.antt` that speaks of it.
@@ -9,7 +9,6 @@
 //! - `command`: commands as values, and why a line gives none
 //! - `refusal`: refusals, and their numbers
 //! - `command_word`: the table of command words
-//! - `tokens`, `number`: the parts of a line
 //! - `no_arguments`, `group_arguments`, `word_arguments`, `work_arguments`: the arguments
 //! - `limits`: how far the numbers of `work` go
 //! - `parsing`: lines
@@ -24,10 +23,8 @@ mod group_arguments;
 mod laws;
 mod limits;
 mod no_arguments;
-mod number;
 mod parsing;
 mod refusal;
-mod tokens;
 mod word_arguments;
 mod work_arguments;
 

@@ -3,8 +3,8 @@ ghost use Rattle.std.specs.Prelude.{ℕ, Option};
 ghost use Rattle.cox_command.specs.ParseContract.{ReadsArguments};
 ghost use Rattle.cox_command.specs.declared.command_word.CommandWord.TheVariants.{Quit, Plain};
 
-use crate::tokens::Tokens;
 use crate::{Command, NoWord, Refusal};
+use cox_tokens::Tokens;
 
 /// `quit` has no arguments.
 pub fn parse_quit(arguments: Tokens) -> Result<Command, Refusal>

@@ -1,16 +1,16 @@
 //! Lines.
 ghost use Rattle.std.specs.Prelude.{◌<◌, ◌≤◌, ◌^◌, length, IfSome};
 ghost use Rattle.cox_command.specs.ParseContract.{ParsesAs, ReadsTokens, ReadsArguments};
-ghost use Rattle.cox_command.specs.Tokens.{tokens_of};
+ghost use Rattle.cox_tokens.specs.Tokens.{tokens_of};
 
 use crate::command_word::{CommandWord, command_word};
 use crate::group_arguments::{parse_matrix, parse_type};
 use crate::no_arguments::{parse_plain, parse_quit};
-use crate::tokens::{Tokens, first_token, tokens_in};
 use crate::word_arguments::{parse_one, parse_two};
 use crate::work_arguments::parse_work;
 use crate::{Command, LineFault, Refusal};
 use cox_base::MAX_RANK;
+use cox_tokens::{Tokens, first_token, tokens_in};
 
 /// Reads a line: the command that it gives, where the group that is set, if any, has this rank.
 ///

@@ -3,9 +3,9 @@ ghost use Rattle.std.specs.Prelude.{◌≤◌, IfSome};
 ghost use Rattle.cox_command.specs.ParseContract.{ReadsArguments};
 ghost use Rattle.cox_command.specs.declared.command_word.CommandWord.TheVariants.{One, Two};
 
-use crate::tokens::Tokens;
 use crate::{Command, OneWord, Refusal, TwoWord};
 use cox_base::{MAX_RANK, WordFault, read_word};
+use cox_tokens::Tokens;
 
 /// The argument of a command with one word.
 pub fn parse_one(kind: OneWord, arguments: Tokens, rank: Option<u32>) -> Result<Command, Refusal>

@@ -3,9 +3,8 @@ ghost use Rattle.cox_command.specs.ParseContract.{ReadsArguments};
 ghost use Rattle.cox_command.specs.declared.command_word.CommandWord.TheVariants.{Work};
 
 use crate::limits::{MAX_COUNT, MAX_START};
-use crate::number::read_number_in;
-use crate::tokens::Tokens;
 use crate::{Command, Refusal};
+use cox_tokens::{Tokens, read_number_in};
 
 /// The arguments of `work`: the generator's state before the first word, and how many words.
 pub fn parse_work(arguments: Tokens, rank: Option<u32>) -> Result<Command, Refusal>

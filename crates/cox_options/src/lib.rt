@@ -27,8 +27,6 @@ mod definition;
 pub mod laws;
 mod options;
 mod reading;
-#[cfg(test)]
-mod tests;
 
 pub use options::{DEFAULT_WORKERS, MAX_COEF, MAX_CONTEXT, MAX_ROOTS, MAX_WORKERS, Options};
 pub use reading::{OptionFault, read, wrong_arguments};

@@ -1,5 +1,6 @@
 -- The lines of a text, as lists of bytes.
-use Rattle.std.specs.Prelude.{ℕ, Bool, ◌||◌, ◌==◌, nat_lt, nat_le, if◌then◌else◌, List, [], ◌∷◌, length, take}
+use Rattle.std.specs.Prelude.{ℕ, ◌-◌, Bool, ◌||◌, ◌==◌, nat_lt, nat_le, if◌then◌else◌, List, [], length, take}
+use Rattle.std.specs.List.{slice_split}
 use Rattle.std.specs.Io.BufRead.{strip_last}
 
 -- the byte that ends a line
@@ -10,25 +11,15 @@ line_feed = 10
 abbrev pub carriage_return : ℕ
 carriage_return = 13
 
--- puts a byte before the first line, or makes it a line where there is none
-abbrev pub onto_first : ℕ → List (List ℕ) → List (List ℕ)
-onto_first byte [] = (byte ∷ []) ∷ []
-onto_first byte (line ∷ lines) = (byte ∷ line) ∷ lines
-
--- the lines of these bytes, without their ends: each ends by LF, and the last, where it is not empty, may end with the bytes
+-- The lines of these bytes, without their ends: what stands before, between and after its LFs, save that an LF at the end of the bytes ends
+-- the last line. So a last line that is not empty may end with the bytes; no bytes have no line.
 abbrev pub lines_of : List ℕ → List (List ℕ)
 lines_of [] = []
-lines_of (byte ∷ bytes) = if byte == line_feed then [] ∷ lines_of bytes else onto_first byte (lines_of bytes)
+lines_of bytes = slice_split (λ byte. byte == line_feed) (strip_last line_feed bytes)
 
--- puts a byte before the first line, where there is one
-abbrev pub into_first : ℕ → List (List ℕ) → List (List ℕ)
-into_first byte [] = []
-into_first byte (line ∷ lines) = (byte ∷ line) ∷ lines
-
--- those of these bytes' lines that end by LF
+-- those of these bytes' lines that end by LF: all but what stands after the last LF
 abbrev pub ended_lines : List ℕ → List (List ℕ)
-ended_lines [] = []
-ended_lines (byte ∷ bytes) = if byte == line_feed then [] ∷ ended_lines bytes else into_first byte (ended_lines bytes)
+ended_lines bytes = let parts = slice_split (λ byte. byte == line_feed) bytes in take (length parts - 1) parts
 
 -- the lines of a text of which at most so many bytes may be read: of a longer one those that end by LF within the limit
 abbrev pub lines_within : ℕ → List ℕ → List (List ℕ)

@@ -18,12 +18,12 @@ pub trait Gate {
     fn pass<R: Wait>(&self, rt: &R, worker: u32, point: Point, row: u32);
 }
 
-/// The gate that holds nobody.
+/// The gate that holds nobody: it is given no leave to wait.
 #[derive(Clone, Copy, Debug, Drop)]
 pub struct Open;
 
 impl Gate for Open {
-    fn pass<R: Wait>(&self, rt: &R, worker: u32, point: Point, row: u32) {
+    fn pass<R>(&self, rt: &R, worker: u32, point: Point, row: u32) {
         let _ = rt;
         let _ = worker;
         let _ = point;

@@ -7,7 +7,7 @@
 //! nothing but the count. The count rises by one exactly where a call tells of a fault. A [`LineReader`] hands out the lines of a source, and its contract says
 //! by the bytes that lie ahead which line comes, or why none does. Each call returns, whatever
 //! a source gives, since a reader hands out no more than `INPUT_LIMIT` bytes. The crate stands on std
-//! alone.
+//! alone. Its tests stand in the crate `word_tests`.
 //!
 //! - `source`, `sink`: the two traits, and what a read or a write answers
 //! - `writing`: all bytes of a slice into a sink
@@ -18,9 +18,11 @@
 //!   told of a line, and lines one by one
 //! - `limits`: how long lines and inputs may be
 //! - `laws`: the laws that determine the lines of a text
+//! - `arguments`: the arguments of a program, as texts
 //! - `gate`, `meeting_gate`: gates that workers pass, which tests use to hold them; one at which two workers have to meet
 #![tactic(auto)]
 
+mod arguments;
 mod byte_feed;
 mod calls;
 mod gate;
@@ -36,10 +38,9 @@ mod sink;
 mod source;
 mod std_sink;
 mod std_source;
-#[cfg(test)]
-mod tests;
 mod writing;
 
+pub use arguments::{arguments_of, texts};
 pub use gate::{Gate, Open, Point};
 pub use limits::{CHUNK_SIZE, INPUT_LIMIT, LINE_LIMIT};
 pub use line_reader::{LineReader, Next, Stop};

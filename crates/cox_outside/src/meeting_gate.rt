@@ -27,7 +27,7 @@ impl Passes {
 }
 
 /// It holds each worker at its first claim until the other has come to a claim, and at its second publication until the other has come to a
-/// publication. It counts the publications of each row, and the holds that ended before the other came.
+/// publication. It counts the claims, the publications of each row, and the holds that ended before the other came.
 #[derive(Drop)]
 pub struct MeetingGate {
     first: Passes,
@@ -57,6 +57,11 @@ impl MeetingGate {
             .iter()
             .filter(|passes| passes.load(SeqCst) == 1)
             .count()
+    }
+
+    /// How often a worker has passed before a claim.
+    pub fn claims(&self) -> u128 {
+        u128::from(self.first.claims.load(SeqCst)) + u128::from(self.second.claims.load(SeqCst))
     }
 
     /// How many holds ended before the other worker came.

@@ -1,7 +1,7 @@
 -- The texts of answers, as lists of bytes. The rank is that of the group.
 use Rattle.std.specs.Prelude.{ℕ, ℤ, ◌++◌, Bool, true, false, if◌then◌else◌, List, [], ◌∷◌, length, map, codes, decimal}
 use Rattle.std.specs.Fmt.{signed_decimal}
-use Rattle.std.specs.List.{flat_map}
+use Rattle.std.specs.List.{flat_map, join_by}
 use Rattle.cox_base.specs.WordText.{letters_or, word_text}
 use Rattle.cox_poly.specs.PolynomialText.{polynomial_text}
 
@@ -19,8 +19,7 @@ descent_text rank left right = codes "L " ++ set_text rank left ++ codes " R " +
 
 -- whole numbers, separated by one space
 abbrev pub numbers_text : List ℤ → List ℕ
-numbers_text [] = []
-numbers_text (n ∷ numbers) = signed_decimal n ++ flat_map (λ m. codes " " ++ signed_decimal m) numbers
+numbers_text numbers = join_by signed_decimal (codes " ") numbers
 
 -- a list: a line with the number of its items, then one line for each item; the last line's end is not part of it
 abbrev pub list_text : List (List ℕ) → List ℕ
@@ -40,8 +39,7 @@ member_text rank x first = if first then element_text rank x else codes " " ++ e
 
 -- the members of a cell, separated by one space
 abbrev pub members_text : ℕ → List (List ℕ) → List ℕ
-members_text rank [] = []
-members_text rank (x ∷ others) = member_text rank x true ++ flat_map (λ y. member_text rank y false) others
+members_text rank members = join_by (element_text rank) (codes " ") members
 
 -- an element of a W-graph and its label, which is a set of letters
 abbrev pub head_text : ℕ → List ℕ → List ℕ → List ℕ

@@ -6,12 +6,13 @@ use Rattle.std.proofs.lemmas.List.{append-nil, take_all, take-append-le}
 use Rattle.std.proofs.lemmas.Bool.{leb-true, cases_lt}
 use Rattle.std.proofs.Math.Seq.{take-append-add}
 use Rattle.cox_outside.specs.declared.limits.TheConstants.{INPUT_LIMIT}
-use Rattle.cox_outside.specs.Line.{line_feed, into_first, onto_first, ended_lines, lines_of, lines_within}
+use Rattle.cox_outside.specs.Line.{line_feed, ended_lines, lines_of, lines_within}
 use Rattle.cox_outside.specs.Outlet.{IsPrefix}
 use Rattle.cox_shell.specs.Reply.{Limits, Reply}
 use Rattle.cox_shell.specs.Answer.{texts, script_lines}
 use Rattle.cox_shell.specs.ScriptAnswer.{IsAnswer}
 use Rattle.cox_shell.specs.Top.{AreRead, AreDue}
+use Rattle.cox_outside.proofs.Lines.{onto_first, into_first, lines_of-byte, ended_lines-byte}
 use Rattle.cox_shell.proofs.Replies.{IsPrefix-answer}
 
 IsPrefix-trans : {X : Type 0} (first mid whole : List X) → IsPrefix first mid → IsPrefix mid whole → IsPrefix first whole
@@ -25,18 +26,24 @@ before_byte f byte ended whole onto true p = (p.0, ap (λ l. [] ∷ l) p.1)
 before_byte f byte [] whole onto false p = (f whole, refl)
 before_byte f byte (line ∷ ended) whole onto false p = (p.0, ap f p.1 ∙ onto line (ended ++ p.0))
 
+-- the same of equal lists
+along : {first first' whole whole' : List (List ℕ)} → first ≡ first' → whole ≡ whole' → IsPrefix first whole → IsPrefix first' whole'
+along p q (rest, e) = (rest, sym q ∙ e ∙ ap (λ l. l ++ rest) p)
+
 -- the lines that end within some bytes are the first of those of more bytes
 ended_lines-more : (bytes more : List ℕ) → IsPrefix (ended_lines bytes) (ended_lines (bytes ++ more))
 ended_lines-more [] more = (ended_lines more, refl)
 ended_lines-more (byte ∷ bytes) more =
-    before_byte (into_first byte) byte (ended_lines bytes) (ended_lines (bytes ++ more)) (λ line lines. refl) (byte == line_feed)
-    (ended_lines-more bytes more)
+    along (sym (ended_lines-byte byte bytes)) (sym (ended_lines-byte byte (bytes ++ more)))
+    (before_byte (into_first byte) byte (ended_lines bytes) (ended_lines (bytes ++ more)) (λ line lines. refl) (byte == line_feed)
+    (ended_lines-more bytes more))
 
 ended_lines-all : (bytes more : List ℕ) → IsPrefix (ended_lines bytes) (lines_of (bytes ++ more))
 ended_lines-all [] more = (lines_of more, refl)
 ended_lines-all (byte ∷ bytes) more =
-    before_byte (onto_first byte) byte (ended_lines bytes) (lines_of (bytes ++ more)) (λ line lines. refl) (byte == line_feed)
-    (ended_lines-all bytes more)
+    along (sym (ended_lines-byte byte bytes)) (sym (lines_of-byte byte (bytes ++ more)))
+    (before_byte (onto_first byte) byte (ended_lines bytes) (lines_of (bytes ++ more)) (λ line lines. refl) (byte == line_feed)
+    (ended_lines-all bytes more))
 
 -- the first of some bytes begin the first of more bytes
 take-more : (n : ℕ) (bytes more : List ℕ) → IsPrefix (take n bytes) (take n (bytes ++ more))

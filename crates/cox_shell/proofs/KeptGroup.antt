@@ -9,7 +9,7 @@ use Rattle.cox_command.specs.declared.command.Command.TheVariants.{Nothing, Grou
 use Rattle.cox_command.specs.declared.command.Command.TheVariants as asks
 use Rattle.cox_command.specs.declared.command_word.CommandWord.{CommandWord}
 use Rattle.cox_command.specs.CommandWord.{command_word_of}
-use Rattle.cox_command.specs.Tokens.{tokens_of}
+use Rattle.cox_tokens.specs.Tokens.{tokens_of}
 use Rattle.cox_command.specs.LineRefusal.{command_refusal, tokens_refusal, line_refusal}
 use Rattle.cox_command.specs.CommandReading.{IsGiven, matrix_set}
 use Rattle.cox_shell.specs.Reply.{State, Reply, rank_of, with_group, refusal, silence}

@@ -1,6 +1,6 @@
 -- The matrix that an accepted command sets is a Coxeter matrix.
 use Rattle.std.proofs.Common.{◌≡◌, ℕ, ◌+◌, ◌-◌, ◌*◌, ◌/◌, Bool, true, false, if◌then◌else◌, List, [], ◌∷◌, drop, map, length, Option}
-use Rattle.std.proofs.Common.{Some, None, refl, ◌∙◌, subst, arith, eqb-true, leb-true, length-drop}
+use Rattle.std.proofs.Common.{Some, None, is_none, ◌&&◌, refl, ◌∙◌, subst, arith, eqb-true, leb-true, length-drop}
 use Rattle.std.specs.List.{slice_index}
 use Rattle.std.proofs.lemmas.Bool.{and_parts, not-false}
 use Rattle.std.proofs.lemmas.List.{length-map}
@@ -14,15 +14,23 @@ use Rattle.cox_command.specs.declared.refusal.Refusal.{Refusal}
 use Rattle.cox_command.specs.declared.refusal.Refusal.TheVariants.{WrongCount, WrongNumber, NoGroup, UnknownType, WrongLabel}
 use Rattle.cox_command.specs.declared.command_word.CommandWord.{CommandWord}
 use Rattle.cox_command.specs.declared.command_word.CommandWord.TheVariants.{Named, Matrix}
-use Rattle.cox_command.specs.Number.{value_of}
+use Rattle.cox_tokens.specs.Number.{value_of}
 use Rattle.cox_command.specs.LineRefusal.{argument, names_type, is_rank, has_wrong_count, has_wrong_number, has_no_type, has_wrong_label}
-use Rattle.cox_command.specs.LineRefusal.{lacks_group, command_refusal}
-use Rattle.cox_command.specs.CommandReading.{matrix_set, named_matrix, matrix_of}
+use Rattle.cox_command.specs.LineRefusal.{needs_group, command_refusal}
+use Rattle.cox_command.specs.CommandReading.{matrix_set}
 
 -- what is known where no refusal of a list applies
 pub passed_over : (b : Bool) (why : Refusal) (rest : Option Refusal) → (if b then Some why else rest) ≡ None → (b ≡ false) × (rest ≡ None)
 passed_over true why rest none = absurd (cc none)
 passed_over false why rest none = (refl, none)
+
+-- the matrix that `type` sets
+abbrev pub named_matrix : List (List ℕ) → CoxeterMatrix
+named_matrix arguments = type_matrix (slice_index (argument arguments 0) 0) (value_of (argument arguments 1))
+
+-- the matrix that `matrix` sets
+abbrev pub matrix_of : List (List ℕ) → CoxeterMatrix
+matrix_of arguments = record { rank = value_of (argument arguments 0); labels = map value_of (drop 1 arguments) }
 
 -- the matrix of a type that there is
 named_matrix-is : (arguments : List (List ℕ)) → has_no_type Named arguments ≡ false → IsCoxeterMatrix (named_matrix arguments)
@@ -67,7 +75,7 @@ pub matrix_set-is : (word : CommandWord) (arguments : List (List ℕ)) (rank : O
 matrix_set-is word arguments rank g accepted set =
     let counted = passed_over (has_wrong_count word arguments) WrongCount _ accepted in
     let numbered = passed_over (has_wrong_number word arguments) WrongNumber _ counted.1 in
-    let grouped = passed_over (lacks_group word rank) NoGroup _ numbered.1 in
+    let grouped = passed_over (needs_group word && is_none rank) NoGroup _ numbered.1 in
     let typed = passed_over (has_no_type word arguments) UnknownType _ grouped.1 in
     let labelled = passed_over (has_wrong_label word arguments) WrongLabel _ typed.1 in
     tested-is word arguments g counted.0 numbered.0 typed.0 labelled.0 set

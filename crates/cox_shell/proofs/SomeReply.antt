@@ -14,11 +14,11 @@ use Rattle.cox_command.specs.declared.command.Command.TheVariants as asks
 use Rattle.cox_command.specs.declared.command_word.CommandWord.{CommandWord}
 use Rattle.cox_command.specs.declared.command_word.CommandWord.TheVariants.{Named, Matrix, Quit, One, Two, Plain, Work}
 use Rattle.cox_command.specs.CommandWord.{command_word_of}
-use Rattle.cox_command.specs.Tokens.{tokens_of}
-use Rattle.cox_command.specs.LineRefusal.{has_wrong_count, has_wrong_number, needs_group, lacks_group, command_refusal, tokens_refusal}
+use Rattle.cox_tokens.specs.Tokens.{tokens_of}
+use Rattle.cox_command.specs.LineRefusal.{has_wrong_count, has_wrong_number, needs_group, command_refusal, tokens_refusal}
 use Rattle.cox_command.specs.LineRefusal.{line_refusal, argument}
-use Rattle.cox_command.specs.Number.{value_of}
-use Rattle.cox_command.specs.CommandReading.{IsGivenBy, IsGiven, named_matrix, matrix_of, word_argument}
+use Rattle.cox_tokens.specs.Number.{value_of}
+use Rattle.cox_command.specs.CommandReading.{IsGivenBy, IsGiven, word_argument}
 use Rattle.cox_shell.specs.declared.inquiry.Inquiry.{Inquiry}
 use Rattle.cox_shell.specs.declared.inquiry.Inquiry.TheVariants as inquiry
 use Rattle.cox_small.proofs.Counting.{not_both}
@@ -29,7 +29,7 @@ use Rattle.cox_shell.specs.CommandReply.{question_of, Answers, IsInquiryReply, R
 use Rattle.cox_shell.specs.ContentReply.{IsContentReply}
 use Rattle.cox_shell.proofs.Refusing.{IsDecided-exists, IsReply-exists}
 use Rattle.cox_shell.proofs.Questions.{question-answerable}
-use Rattle.cox_shell.proofs.SetMatrices.{passed_over, matrix_set-is}
+use Rattle.cox_shell.proofs.SetMatrices.{named_matrix, matrix_of, passed_over, matrix_set-is}
 
 -- a command on elements has a reply in a group
 pub inquiry-reply : (inquiry : Inquiry) (state : State) (g : CoxeterMatrix) → IsAdmissible (integer_matrix g)
@@ -67,7 +67,7 @@ needed word arguments (Some g) needs accepted none = absurd (cc none)
 needed word arguments None needs accepted none =
     let counted = (passed_over (has_wrong_count word arguments) WrongCount _ accepted).1 in
     let numbered = (passed_over (has_wrong_number word arguments) WrongNumber _ counted).1 in
-    lacking (needs_group word) needs (passed_over (lacks_group word None) NoGroup _ numbered).0
+    lacking (needs_group word) needs (passed_over (needs_group word && true) NoGroup _ numbered).0
   where
     lacking : (b : Bool) → b ≡ true → (b && true) ≡ false → ⊥
     lacking true needs has = true≢false has

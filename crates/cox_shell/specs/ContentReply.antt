@@ -1,6 +1,6 @@
 -- The reply to a line by its content.
 use Rattle.std.specs.Prelude.{◌≡◌, ℕ, List, MatchOption}
-use Rattle.cox_command.specs.Tokens.{tokens_of}
+use Rattle.cox_tokens.specs.Tokens.{tokens_of}
 use Rattle.cox_command.specs.LineRefusal.{line_refusal}
 use Rattle.cox_command.specs.CommandReading.{IsGiven}
 use Rattle.cox_command.specs.declared.command.Command.{Command}

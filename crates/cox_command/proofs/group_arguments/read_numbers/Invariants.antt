@@ -2,7 +2,7 @@
 use Rattle.std.proofs.Common.{◌≡◌, ◌+◌, ◌≤◌, ◌++◌, length, map}
 use Rattle.std.specs.List.{list_all}
 use Rattle.cox_base.specs.declared.limits.TheConstants.{MAX_LABELS}
-use Rattle.cox_command.specs.Number.{is_number, value_of}
+use Rattle.cox_tokens.specs.Number.{is_number, value_of}
 use Rattle.cox_command.proofs.group_arguments.read_numbers.Given as goal
 
 abbrev pub invariant-loop-token : goal.invariant-loop-token

@@ -1,6 +1,6 @@
 -- The proof of `Session::answer`.
 use Rattle.std.proofs.Common.{◌≡◌, None, Some}
-use Rattle.cox_command.specs.Tokens.{tokens_of}
+use Rattle.cox_tokens.specs.Tokens.{tokens_of}
 use Rattle.cox_command.specs.LineRefusal.{line_refusal}
 use Rattle.cox_command.specs.CommandReading.{IsGiven}
 use Rattle.cox_shell.specs.Reply.{rank_of}

@@ -1,7 +1,7 @@
 //! The tokens of a line.
 ghost use Rattle.std.specs.Prelude.{◌≡◌, ◌≢◌, ◌==◌, ◌+◌, ◌∷◌, [], ◌<◌, ◌≤◌, ◌^◌, length, MatchOption, IfSome};
 ghost use Rattle.std.specs.List.{prefix_len, position_or_len};
-ghost use Rattle.cox_command.specs.Tokens.{is_space, tokens_of};
+ghost use Rattle.cox_tokens.specs.Tokens.{is_space, tokens_of};
 
 use std::marker::Model;
 
@@ -13,7 +13,7 @@ pub struct Tokens<'a> {
 
 impl<'a> Model for Tokens<'a> {
     ghost use Rattle.std.specs.Prelude.{ℕ, ◌+◌, ◌<◌, ◌^◌, List, length};
-    ghost use Rattle.cox_command.specs.Tokens.{tokens_of};
+    ghost use Rattle.cox_tokens.specs.Tokens.{tokens_of};
 
     ghost Value = { List (List ℕ) };
 

@@ -1,5 +1,5 @@
-//! Values from the published diagrams and by hand.
-use crate::{Coxeter, WordFault, read_word, shortlex};
+//! Coxeter matrices and words: values from the published diagrams and by hand.
+use cox_base::{Coxeter, WordFault, read_word, shortlex};
 use std::alloc::{AllocError, Global};
 use std::cmp::Ordering;
 use std::test::Fail;

@@ -1,7 +1,7 @@
 -- The proof of `read_number`.
 use Rattle.std.proofs.Common.{◌≤◌, ◌^◌, arith, rules}
 use Rattle.std.proofs.Math.Nat.{pow-le-pow_right}
-use Rattle.cox_command.proofs.number.read_number.Goals as goal
+use Rattle.cox_tokens.proofs.number.read_number.Goals as goal
 
 pub overflow_mul-value : goal.overflow_mul-value
 overflow_mul-value c =

@@ -7,7 +7,7 @@ use Rattle.std.proofs.lemmas.List.{length-drop, get_or-drop, drop_all, length-ta
 use Rattle.std.proofs.lemmas.List.Sums.{prefix_len_stops, prefix_len-le-length, fails_before_first, passes_at_first}
 use Rattle.std.proofs.lemmas.List.Splits.{slice_split_first, slice_split_none}
 use Rattle.std.proofs.Math.Seq.{take-length, drop-length}
-use Rattle.cox_command.specs.Tokens.{is_space, tokens_of}
+use Rattle.cox_tokens.specs.Tokens.{is_space, tokens_of}
 
 -- a line that begins with a space
 tokens_of-space : (x : ℕ) (xs : List ℕ) → is_space x ≡ true → tokens_of (x ∷ xs) ≡ tokens_of xs

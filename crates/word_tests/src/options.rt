@@ -1,5 +1,5 @@
-//! Words, and what they give.
-use super::*;
+//! Arguments, and the options that they give.
+use cox_options::{DEFAULT_WORKERS, MAX_CONTEXT, MAX_ROOTS, OptionFault, Options, read};
 use std::alloc::Global;
 
 /// The context and the number of roots that the words give, or zeros where they give no options.

@@ -1,15 +1,9 @@
-//! Worked examples: which lines come of which bytes, and what the forms in memory and over std's
-//! streams do.
+//! Lines: which come of which bytes. And what sources and sinks in memory and over std's streams do.
 
-use crate::limits::{INPUT_LIMIT, LINE_LIMIT};
-use crate::line_reader::{LineReader, Next};
-use crate::memory_sink::MemorySink;
-use crate::memory_source::MemorySource;
-use crate::sink::{Sink, Took};
-use crate::source::{Got, Source};
-use crate::std_sink::StdSink;
-use crate::std_source::StdSource;
-use crate::writing::{WriteFailed, write_all};
+use cox_outside::{
+    Got, INPUT_LIMIT, LINE_LIMIT, LineReader, MemorySink, MemorySource, Next, Sink, Source,
+    StdSink, StdSource, Took, WriteFailed, write_all,
+};
 use std::alloc::{AllocError, Global};
 use std::process::Abort;
 use std::test::Fail;

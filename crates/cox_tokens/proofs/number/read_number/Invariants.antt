@@ -2,8 +2,8 @@
 use Rattle.std.proofs.Common.{◌≡◌, ◌<◌, ◌^◌, take, true}
 use Rattle.std.specs.List.{list_all}
 use Rattle.std.specs.Char.{is_ascii_digit}
-use Rattle.cox_command.specs.Number.{value_of}
-use Rattle.cox_command.proofs.number.read_number.Given as goal
+use Rattle.cox_tokens.specs.Number.{value_of}
+use Rattle.cox_tokens.proofs.number.read_number.Given as goal
 
 abbrev pub invariant-loop-byte : goal.invariant-loop-byte
 invariant-loop-byte l = record {

@@ -1,9 +1,9 @@
 //! Numbers as they are written.
 ghost use Rattle.std.specs.Prelude.{◌≡◌, ◌<◌, ◌^◌, if◌then◌else◌, Some, None, IfSome};
-ghost use Rattle.cox_command.specs.Number.{is_number, is_number_in, value_of};
+ghost use Rattle.cox_tokens.specs.Number.{is_number, is_number_in, value_of};
 
 /// The most decimal digits that a number may have.
-pub(crate) const MAX_DIGITS: usize = 9;
+pub const MAX_DIGITS: usize = 9;
 
 /// The value of a number of 1 to `MAX_DIGITS` decimal digits.
 pub fn read_number(token: &[u8]) -> Option<u32>

@@ -1,8 +1,8 @@
 -- The proof of `first_token`.
 use Rattle.std.proofs.Common.{arith}
 use Rattle.std.proofs.lemmas.Bool.Decides.{nat_tests}
-use Rattle.cox_command.proofs.Pieces.{tokens_of-next, tokens_of-none, token-some}
-use Rattle.cox_command.proofs.tokens.first_token.Goals as goal
+use Rattle.cox_tokens.proofs.Pieces.{tokens_of-next, tokens_of-none, token-some}
+use Rattle.cox_tokens.proofs.tokens.first_token.Goals as goal
 
 pub returns-then-is_empty-clause-tokens : goal.returns-then-is_empty-clause-tokens
 returns-then-is_empty-clause-tokens c =

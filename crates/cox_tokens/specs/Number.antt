@@ -2,7 +2,7 @@
 use Rattle.std.specs.Prelude.{ℕ, ◌+◌, ◌-◌, ◌*◌, Bool, ◌&&◌, nat_le, List, length, fold}
 use Rattle.std.specs.List.{list_all}
 use Rattle.std.specs.Char.{is_ascii_digit}
-use Rattle.cox_command.specs.declared.number.TheConstants.{MAX_DIGITS}
+use Rattle.cox_tokens.specs.declared.number.TheConstants.{MAX_DIGITS}
 
 -- whether a token is a number
 abbrev pub is_number : List ℕ → Bool

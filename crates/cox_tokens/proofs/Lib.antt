@@ -1,0 +1,2 @@
+-- how tokens follow one another in a line
+pub mod Pieces

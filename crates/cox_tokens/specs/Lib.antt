@@ -1,0 +1,4 @@
+-- the tokens of a line
+pub mod Tokens
+-- numbers as they are written
+pub mod Number
