@@ -7,9 +7,9 @@ use Rattle.cox_base.specs.IntegerMatrix.{IntegerMatrix}
 use Rattle.cox_base.specs.ShortLex.{normal_form}
 use Rattle.cox_base.specs.Bruhat.{IsBelow}
 use Rattle.cox_context.specs.declared.builder.Child.{Child}
-use Rattle.cox_context.specs.Members.{IsElement}
+use Rattle.cox_base.specs.Members.{IsElement}
 use Rattle.cox_context.specs.WantedMembers.{IsBelowTop, IsMeant}
-use Rattle.cox_context.specs.SortedList.{IsRising}
+use Rattle.cox_base.specs.SortedList.{IsRising}
 use Rattle.cox_context.specs.Numbers.{word_at}
 use Rattle.cox_context.specs.Numbering.{IsNumberOf}
 use Rattle.cox_context.specs.Shifts.{entry, IsLower}

@@ -1,11 +1,7 @@
--- lists of elements in ShortLex order
-pub mod SortedList
--- elements, and those below an element
-pub mod Members
 -- an interval and other words together
 pub mod Union
--- Bruhat intervals
-pub mod Interval
+-- when elements are too many, or too long
+pub mod TooLarge
 -- why a context is refused
 pub mod Refusal
 -- what a fault says

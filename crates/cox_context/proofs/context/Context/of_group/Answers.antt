@@ -5,8 +5,8 @@ use Rattle.cox_base.specs.IntegerMatrix.{IntegerMatrix, integer_matrix}
 use Rattle.cox_base.specs.Admissible.{IsAdmissible}
 use Rattle.cox_base.specs.declared.limits.TheConstants.{MAX_LETTERS}
 use Rattle.cox_reflect.proofs.Admissible.{IsAdmissible-integer_matrix}
-use Rattle.cox_context.specs.Members.{IsElement}
-use Rattle.cox_context.specs.SortedList.{IsListOf}
+use Rattle.cox_base.specs.Members.{IsElement}
+use Rattle.cox_base.specs.SortedList.{IsListOf}
 use Rattle.cox_context.proofs.ResultLemmas.{made_members}
 use Rattle.cox_context.proofs.Ideals.{group-ideal, ideal-tailed}
 use Rattle.cox_context.proofs.GrowthLemmas.{grown-list, grown-length}

@@ -2,10 +2,10 @@
 use Rattle.std.proofs.Common.{rules, ◌≡◌, ◌∙◌, length, IfErr, arith}
 use Rattle.cox_base.specs.IntegerMatrix.{integer_matrix}
 use Rattle.cox_reflect.proofs.Admissible.{IsAdmissible-integer_matrix}
-use Rattle.cox_context.specs.Members.{IsInInterval}
+use Rattle.cox_base.specs.Members.{IsInInterval}
 use Rattle.cox_context.specs.Union.{IsInUnion}
 use Rattle.cox_context.specs.FaultMeaning.{IsRefusal}
-use Rattle.cox_context.specs.SortedList.{IsListOf}
+use Rattle.cox_base.specs.SortedList.{IsListOf}
 use Rattle.cox_context.proofs.ResultLemmas.{made_members}
 use Rattle.cox_context.proofs.ContextLemmas.{form-same, identity-closed, interval-refused, interval-found, interval-closed}
 use Rattle.cox_context.proofs.context.Context.of_interval.Goals as goal
