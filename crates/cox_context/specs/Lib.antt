@@ -18,6 +18,8 @@ pub mod Numbers
 pub mod Numbering
 -- the tables of shifts
 pub mod Shifts
+-- left shifts as they are lent
+pub mod LentShifts
 -- a row of the table of left shifts
 pub mod Rows
 -- sets of letters

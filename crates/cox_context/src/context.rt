@@ -184,12 +184,11 @@ impl Context {
         ensures made { IfOk result (λ c. c ≡ record { matrix = group; members = listing.members }) }
         ensures fault { IfErr result (λ fault. fault ≡ ContextFault.NoMemory) }
     {
-        let left = listing.left.as_slice();
-        let Ok(right) = right_shifts(alloc, &group, &listing.members, left) else {
+        let Ok(right) = right_shifts(alloc, &listing.shifts(&group)) else {
             return Err(ContextFault::NoMemory);
         };
         let (rank, count) = (group.rank(), listing.members.len());
-        let Ok(left_descents) = lowering_sets(alloc, left, rank, count) else {
+        let Ok(left_descents) = lowering_sets(alloc, listing.left.as_slice(), rank, count) else {
             return Err(ContextFault::NoMemory);
         };
         let Ok(right_descents) = lowering_sets(alloc, right.as_slice(), rank, count) else {

@@ -73,6 +73,10 @@ new-requires-3 c = record {
       (IsAdmissible-integer_matrix c.copy.result c.in-Ok.ensures.matrix));
 }
 
-pub grow-requires-clause-earlier : goal.grow-requires-clause-earlier
-grow-requires-clause-earlier c = rw c.in-Ok.ensures.members (identity-closed (integer_matrix c.copy.result)
-    (IsAdmissible-integer_matrix c.copy.result c.in-Ok.ensures.matrix))
+pub grow-requires-clause-search : goal.grow-requires-clause-search
+grow-requires-clause-search c = record {
+  top = tt;
+  earlier = rw c.in-Ok.ensures.members (identity-closed (integer_matrix c.copy.result)
+      (IsAdmissible-integer_matrix c.copy.result c.in-Ok.ensures.matrix));
+  earlier_left = c.in-Ok.ensures.left;
+}
