@@ -12,14 +12,22 @@ pub mod Admissible
 pub mod Element
 -- the ShortLex order of words, and the normal form
 pub mod ShortLex
--- the length of an element, and its descents
+-- the length of an element
 pub mod Length
 -- reduced words
 pub mod Reduced
--- descents
+-- shifts and descents on a side
+pub mod SideDescents
+-- left descents and right descents
 pub mod Descents
 -- Bruhat order
 pub mod Bruhat
+-- elements, and those below an element
+pub mod Members
+-- lists of elements in ShortLex order
+pub mod SortedList
+-- Bruhat intervals
+pub mod Interval
 -- words as they are written
 pub mod WordText
 -- what reading a word answers

@@ -12,8 +12,8 @@ use Rattle.cox_base.specs.Admissible.{IsAdmissible}
 use Rattle.cox_base.specs.Length.{word_length}
 use Rattle.cox_reflect.proofs.Members.{In, here, there}
 use Rattle.cox_reflect.proofs.Roots.{left_descent-letter, descent-letter}
-use Rattle.cox_hecke.specs.Step.{times_letter, IsDescent}
-use Rattle.cox_context.specs.Members.{IsElement}
+use Rattle.cox_base.specs.SideDescents.{times_letter, IsDescent}
+use Rattle.cox_base.specs.Members.{IsElement}
 use Rattle.cox_wgraph.specs.Edges.{IsEdgeValue, IsJoined}
 use Rattle.cox_wgraph.proofs.EdgeLemmas.{edge-exists, edge-unique}
 use Rattle.cox_cells.specs.declared.kind.CellKind.{CellKind}

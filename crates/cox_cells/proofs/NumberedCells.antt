@@ -5,8 +5,8 @@ use Rattle.std.proofs.lemmas.List.{get_or-map, length-map, get_or_default}
 use Rattle.std.proofs.lemmas.List.Elements.{All-map}
 use Rattle.cox_base.specs.IntegerMatrix.{integer_matrix}
 use Rattle.cox_context.specs.Closed.{Elements}
-use Rattle.cox_context.specs.Members.{IsElement}
-use Rattle.cox_context.specs.SortedList.{IsListOf}
+use Rattle.cox_base.specs.Members.{IsElement}
+use Rattle.cox_base.specs.SortedList.{IsListOf}
 use Rattle.cox_context.specs.Numbers.{word_at}
 use Rattle.cox_context.proofs.ListLemmas.{IsPlaced, contains-at, contains-placed, placed-contains, rising-place}
 use Rattle.cox_row.specs.Rising.{number_at}

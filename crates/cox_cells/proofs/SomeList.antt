@@ -7,11 +7,12 @@ use Rattle.std.proofs.lemmas.List.Elements.{All-map}
 use Rattle.std.proofs.lemmas.Bool.{and_parts, and_from}
 use Rattle.cox_base.specs.IntegerMatrix.{IntegerMatrix}
 use Rattle.cox_base.specs.Admissible.{IsAdmissible}
-use Rattle.cox_context.specs.Members.{IsElement}
-use Rattle.cox_context.specs.SortedList.{IsListOf}
+use Rattle.cox_base.specs.Members.{IsElement}
+use Rattle.cox_base.specs.SortedList.{IsListOf}
 use Rattle.cox_context.specs.Numbers.{word_at}
 use Rattle.cox_context.proofs.ListLemmas.{contains-at, contains-placed}
-use Rattle.cox_context.proofs.SortedLemmas.{IsListOf-unique, IsListOf-filter, contains-in, in-contains}
+use Rattle.cox_reflect.proofs.Listing.{contains-in, in-contains}
+use Rattle.cox_context.proofs.SortedLemmas.{IsListOf-unique, IsListOf-filter}
 use Rattle.cox_cells.specs.declared.kind.CellKind.{CellKind}
 use Rattle.cox_cells.specs.Cells.{Precedes, IsInCell, first_of, IsCell, AreCells}
 use Rattle.cox_cells.proofs.StepChains.{cell-itself, cell-back, cell-join}

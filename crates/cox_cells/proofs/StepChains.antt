@@ -1,7 +1,7 @@
 -- Chains of steps are joined; and elements of one cell.
 use Rattle.std.proofs.Common.{ℕ, List}
 use Rattle.cox_base.specs.IntegerMatrix.{IntegerMatrix}
-use Rattle.cox_context.specs.Members.{IsElement}
+use Rattle.cox_base.specs.Members.{IsElement}
 use Rattle.cox_cells.specs.declared.kind.CellKind.{CellKind}
 use Rattle.cox_cells.specs.Cells.{IsStep, Precedes, IsInCell}
 

@@ -3,9 +3,9 @@ use Rattle.std.specs.Prelude.{◌⊎◌, ℕ, ◌<◌, List, length, map, Contai
 use Rattle.cox_base.specs.declared.side.Side.{Side}
 use Rattle.cox_base.specs.declared.side.Side.TheVariants as Sides
 use Rattle.cox_base.specs.IntegerMatrix.{IntegerMatrix}
-use Rattle.cox_hecke.specs.Step.{IsDescent}
-use Rattle.cox_context.specs.Members.{IsElement}
-use Rattle.cox_context.specs.SortedList.{IsRising, IsListOf}
+use Rattle.cox_base.specs.SideDescents.{IsDescent}
+use Rattle.cox_base.specs.Members.{IsElement}
+use Rattle.cox_base.specs.SortedList.{IsRising, IsListOf}
 use Rattle.cox_context.specs.Numbers.{word_at}
 use Rattle.cox_wgraph.specs.Listing.{IsNeighbour}
 use Rattle.cox_cells.specs.declared.kind.CellKind.{CellKind}

@@ -1,8 +1,8 @@
 //! The cells.
 ghost use Rattle.std.specs.Prelude.{◌≡◌, ℕ, ◌<◌, length, All, IfOk};
 ghost use Rattle.cox_base.specs.IntegerMatrix.{integer_matrix};
-ghost use Rattle.cox_context.specs.Members.{IsElement};
-ghost use Rattle.cox_context.specs.SortedList.{IsListOf};
+ghost use Rattle.cox_base.specs.Members.{IsElement};
+ghost use Rattle.cox_base.specs.SortedList.{IsListOf};
 ghost use Rattle.cox_cells.specs.Cells.{AreCells};
 ghost use Rattle.cox_cells.specs.NumberedCells.{lists_of, words_of};
 

@@ -2,8 +2,8 @@
 ghost use Rattle.std.specs.Prelude.{◌≡◌, ℕ, List};
 ghost use Rattle.cox_base.specs.IntegerMatrix.{IntegerMatrix};
 ghost use Rattle.cox_base.specs.Admissible.{IsAdmissible};
-ghost use Rattle.cox_context.specs.Members.{IsElement};
-ghost use Rattle.cox_context.specs.SortedList.{IsListOf};
+ghost use Rattle.cox_base.specs.Members.{IsElement};
+ghost use Rattle.cox_base.specs.SortedList.{IsListOf};
 ghost use Rattle.cox_cells.specs.declared.kind.CellKind.{CellKind};
 ghost use Rattle.cox_cells.specs.Cells.{AreCells};
 

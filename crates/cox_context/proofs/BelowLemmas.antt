@@ -2,20 +2,21 @@
 use Rattle.std.proofs.Common.{◌≡◌, ℕ, ◌≤◌, ◌<◌, Bool, true, min, List, [], ◌∷◌, ◌++◌, length, ◌*◌, Option, None, Some, ◌↔◌}
 use Rattle.std.proofs.Common.{IsTrue, Contains, ◌+◌, ◌-◌, IsBitSet, filter, refl, sym, ◌∙◌, ⊎_elim, arith, ltb-true, lt-ltb}
 use Rattle.std.proofs.lemmas.Bool.{cases_lt}
+use Rattle.cox_base.specs.declared.side.Side.{Side}
 use Rattle.cox_base.specs.Matrix.{IsLetter}
 use Rattle.cox_base.specs.IntegerMatrix.{IntegerMatrix}
 use Rattle.cox_base.specs.Admissible.{IsAdmissible}
 use Rattle.cox_base.specs.Element.{SameElement}
 use Rattle.cox_base.specs.ShortLex.{normal_form}
-use Rattle.cox_base.specs.Length.{left_descents, right_descents}
-use Rattle.cox_base.specs.Reduced.{IsReduced}
+use Rattle.cox_base.specs.SideDescents.{IsDescent, descent_set}
 use Rattle.cox_base.specs.Descents.{IsLeftDescent, IsRightDescent}
+use Rattle.cox_base.specs.Reduced.{IsReduced}
 use Rattle.cox_base.specs.Bruhat.{IsBelow}
 use Rattle.cox_reflect.proofs.Elements.{same-refl, same-sym}
 use Rattle.cox_reflect.proofs.Search.{normal_form-same, word_length-length}
 use Rattle.cox_reflect.proofs.Bruhat.{below-same, below-refl, below-length, lift_down, lift_up}
 use Rattle.cox_reflect.proofs.OrderLemmas.{first-descent, below-drop}
-use Rattle.cox_reflect.proofs.DescentLists.{left_descents-by, right_descents-by}
+use Rattle.cox_reflect.proofs.DescentLists.{descent_set-by}
 use Rattle.cox_context.specs.Closed.{IsClosed}
 use Rattle.cox_context.specs.Numbers.{word_at}
 use Rattle.cox_context.specs.Numbering.{IsNumberOf}
@@ -169,11 +170,7 @@ letter-tells P set s h m =
     in let b : IsBitSet set (s - 1) ↔ P s = rw e at (h (s - 1))
     in (λ t. b.0 ((has_letter-bit set s).0 t), λ p. (has_letter-bit set s).1 (b.1 p))
 
--- the letters of a set that has the descents
-pub left-letters : (A : IntegerMatrix) (w : List ℕ) (set : ℕ) → ((k : ℕ) → IsBitSet set k ↔ IsLeftDescent A w (k + 1))
-    → filter (has_letter set) (letters A.rank) ≡ left_descents A w
-left-letters A w set h = sym (left_descents-by A w (has_letter set) (λ s m. letter-tells (IsLeftDescent A w) set s h m))
-
-pub right-letters : (A : IntegerMatrix) (w : List ℕ) (set : ℕ) → ((k : ℕ) → IsBitSet set k ↔ IsRightDescent A w (k + 1))
-    → filter (has_letter set) (letters A.rank) ≡ right_descents A w
-right-letters A w set h = sym (right_descents-by A w (has_letter set) (λ s m. letter-tells (IsRightDescent A w) set s h m))
+-- the letters of a set that has the descents on a side
+pub set-letters : (side : Side) (A : IntegerMatrix) (w : List ℕ) (set : ℕ) → ((k : ℕ) → IsBitSet set k ↔ IsDescent side A w (k + 1))
+    → filter (has_letter set) (letters A.rank) ≡ descent_set side A w
+set-letters side A w set h = sym (descent_set-by A side w (has_letter set) (λ s m. letter-tells (IsDescent side A w) set s h m))

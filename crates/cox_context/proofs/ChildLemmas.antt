@@ -18,8 +18,9 @@ use Rattle.cox_reflect.proofs.Elements.{same-refl, same-sym, same-trans, same-co
 use Rattle.cox_reflect.proofs.Search.{normal_form-same, normal_form-equal, word_length-equal}
 use Rattle.cox_reflect.proofs.Lengths.{word_length-is}
 use Rattle.cox_reflect.proofs.Bruhat.{below-same, below-length, below-equal_length}
+use Rattle.cox_reflect.proofs.NormalElements.{element-normal_form, element-length}
 use Rattle.cox_context.specs.declared.members.TheConstants.{MAX_MEMBERS}
-use Rattle.cox_context.specs.Members.{IsElement}
+use Rattle.cox_base.specs.Members.{IsElement}
 use Rattle.cox_context.specs.Refusal.{IsPrefixOf}
 use Rattle.cox_context.specs.Closed.{IsClosed}
 use Rattle.cox_context.specs.Numbers.{word_at}
@@ -32,7 +33,7 @@ use Rattle.cox_context.proofs.ShiftPlaces.{entry-old, entry-new, entry_number-so
 use Rattle.cox_context.specs.declared.builder.Child.{Child}
 use Rattle.cox_context.specs.declared.shifts.TheConstants.{NO_MEMBER}
 use Rattle.cox_context.specs.Shifts.{entry, entry_number}
-use Rattle.cox_context.proofs.Ideals.{IsIdeal, ideal-member, ideal-tailed, member-tailed, element-normal_form, element-length}
+use Rattle.cox_context.proofs.Ideals.{IsIdeal, ideal-member, ideal-tailed, member-tailed}
 use Rattle.cox_context.proofs.GrowthLemmas.{IsTailed, growing-length, growing-push, growing-prefix, growing-skip, growing-push_length}
 use Rattle.cox_context.proofs.NormalLemmas.{first-least}
 use Rattle.cox_context.proofs.LowerLemmas.{IsAscent, ascent}

@@ -20,13 +20,14 @@ use Rattle.cox_reflect.proofs.Lengths.{word_length-is, IsReduced-normal_form}
 use Rattle.cox_reflect.proofs.Deletion.{left_length}
 use Rattle.cox_reflect.proofs.Bruhat.{below-length, below-same, below-least}
 use Rattle.cox_reflect.proofs.Search.{word_length-length, word_length-equal, normal_form-same}
+use Rattle.cox_reflect.proofs.NormalElements.{element-normal_form, element-word, element-length}
 use Rattle.cox_context.specs.declared.fault.ContextFault.{ContextFault}
 use Rattle.cox_context.specs.declared.fault.ContextFault.TheVariants.{Size, Long, NoMemory}
 use Rattle.cox_context.specs.declared.members.TheConstants.{MAX_MEMBERS}
-use Rattle.cox_context.specs.Members.{IsElement, IsInInterval}
+use Rattle.cox_base.specs.Members.{IsElement, IsInInterval}
 use Rattle.cox_context.specs.Union.{IsInUnion}
 use Rattle.cox_context.specs.Closed.{IsClosed}
-use Rattle.cox_context.specs.SortedList.{IsListOf}
+use Rattle.cox_base.specs.SortedList.{IsListOf}
 use Rattle.cox_context.specs.Numbers.{word_at}
 use Rattle.cox_context.specs.Numbering.{IsNumberOf, AreMoved}
 use Rattle.cox_context.specs.Growth.{IsGrown, AreNumbers, AreLast}
@@ -35,8 +36,8 @@ use Rattle.cox_context.specs.Refusal.{IsLong}
 use Rattle.cox_context.specs.FaultMeaning.{IsRefusal}
 use Rattle.cox_context.proofs.ListLemmas.{contains-placed, placed-contains, contains-at, rising-place, rising-before}
 use Rattle.cox_context.proofs.SortedLemmas.{before-less}
-use Rattle.cox_context.proofs.Ideals.{IsIdeal, group-ideal, interval-ideal, union-ideal, ideal-tailed, element-normal_form}
-use Rattle.cox_context.proofs.Ideals.{element-length, element-nil}
+use Rattle.cox_context.proofs.Ideals.{IsIdeal, group-ideal, interval-ideal, union-ideal, ideal-tailed}
+use Rattle.cox_context.proofs.Ideals.{element-nil}
 use Rattle.cox_context.proofs.Ideals.{element-tail}
 use Rattle.cox_context.proofs.GrowthLemmas.{IsTailed, grown-length, grown-list}
 
@@ -264,7 +265,7 @@ module _ (A : IntegerMatrix) (g : IsAdmissible A) where
       long (i, l, q) m =
           let from : low ≤ i = ⊎_elim (λ (less : i < low). absurd (omega (arith, h.shorter i less, ap length q, m)))
           (λ (more : low ≤ i). more) (cases_lt i low)
-          in let d : IsLeftDescent A x t = rw q at (all i t from l (All-head (IsLetter A.rank) t x e.letters))
+          in let d : IsLeftDescent A x t = rw q at (all i t from l (All-head (IsLetter A.rank) t x (element-word A g (t ∷ x) e)))
           in omega (arith, d, element-length A g (t ∷ x) e, element-length A g x (element-tail A g t x e))
 
       go : length x ≤ MAX_LETTERS → length (t ∷ x) ≤ MAX_LETTERS

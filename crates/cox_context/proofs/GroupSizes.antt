@@ -11,14 +11,17 @@ use Rattle.cox_base.specs.ShortLex.{normal_form, words_up_to, shortlex_cmp}
 use Rattle.cox_reflect.proofs.Members.{In, here, there, Each-map, Each-weaker, In-map}
 use Rattle.cox_reflect.proofs.Search.{IsWordWithin, Each-words_up_to, In-words_up_to, length-normal_form}
 use Rattle.cox_reflect.proofs.ShortLexFirst.{by_length, before-shortlex_cmp}
-use Rattle.cox_context.specs.SortedList.{IsListOf}
-use Rattle.cox_context.specs.Members.{IsElement}
+use Rattle.cox_base.specs.SortedList.{IsListOf}
+use Rattle.cox_base.specs.Members.{IsElement}
 use Rattle.cox_context.specs.Numbers.{word_at}
-use Rattle.cox_context.specs.Refusal.{IsPrefixOf, IsOver, IsTooLarge}
-use Rattle.cox_context.proofs.Ideals.{element-normal_form, element-tail}
-use Rattle.cox_context.proofs.Listing.{listing}
+use Rattle.cox_context.specs.TooLarge.{IsTooLarge}
+use Rattle.cox_context.specs.Refusal.{IsPrefixOf, IsOver, IsLong}
+use Rattle.cox_reflect.proofs.NormalElements.{element-normal_form, element-word}
+use Rattle.cox_reflect.proofs.Listing.{listing, contains-in, in-contains}
+use Rattle.cox_context.proofs.Ideals.{element-tail}
 use Rattle.cox_context.proofs.ListLemmas.{contains-placed, contains-at}
-use Rattle.cox_context.proofs.SortedLemmas.{contains-in, in-contains, HasMoreThan-over, HasMoreThan-few}
+use Rattle.cox_context.proofs.SortedLemmas.{HasMoreThan-few}
+use Rattle.cox_context.proofs.RefusalLemmas.{too_large-found}
 
 -- an element of at most n letters
 abbrev IsShort : IntegerMatrix → ℕ → List ℕ → Type 0
@@ -78,7 +81,7 @@ module _ (A : IntegerMatrix) (g : IsAdmissible A) where
       (Each-weaker (λ w (h : IsWordWithin A.rank n w). (element-normal_form A g w, omega (arith, length-normal_form A g w, h.size)))
       (Each-words_up_to A.rank n)))
       (λ word p. subst (λ (x : List ℕ). In x (map (normal_form A) (words_up_to A.rank n))) p.0.normal
-      (In-map (normal_form A) (In-words_up_to A.rank n word p.0.letters p.1)))
+      (In-map (normal_form A) (In-words_up_to A.rank n word (element-word A g word p.0) p.1)))
 
   -- where an element has more than n letters, one has n + 1
   longer : (n : ℕ) (word : List ℕ) → IsElement A word → n < length word → (x : List ℕ) × IsElement A x × (length x ≡ n + 1)
@@ -97,43 +100,58 @@ module _ (A : IntegerMatrix) (g : IsAdmissible A) where
       (λ (near : length x ≤ n). near) (cases_lt n (length x))))
       (with_length (n + 1) list.0)
 
-  pub group-decided : (limit : ℕ) → IsTooLarge (IsElement A) limit
-      ⊎ ((IsTooLarge (IsElement A) limit → ⊥) × (words : List (List ℕ)) × IsListOf (IsElement A) words)
-  group-decided limit = by_count (cases_lt limit (length list.0)) (long-decided MAX_LETTERS)
-    where
-      list : (words : List (List ℕ)) × IsListOf (IsShort A MAX_LETTERS) words
-      list = short-exists MAX_LETTERS
+  module _ (limit : ℕ) where
+    list : (words : List (List ℕ)) × IsListOf (IsShort A MAX_LETTERS) words
+    list = short-exists MAX_LETTERS
 
-      -- the first words of at most MAX_LETTERS letters are the first of all
-      over : limit < length list.0 → IsOver (IsElement A) limit
-      over many = record {
-        prefix = take (limit + 1) list.0;
-        first = record {
-          rising = prefix.rising;
-          sound = λ word c. (prefix.sound word c).0;
-          first = λ word e. ⊎_elim (λ (far : MAX_LETTERS < length word). inr (λ other c.
-              before-shortlex_cmp {v = other} {w = word} (by_length (omega (arith, far, (prefix.sound other c).1)))))
-              (λ (near : length word ≤ MAX_LETTERS). prefix.first word (e, near)) (cases_lt MAX_LETTERS (length word));
-        };
-        count = size (IsShort A MAX_LETTERS) list.0 (limit + 1) list.1 (omega (arith, many));
-        short = λ word c. (prefix.sound word c).1;
-      }
-        where
-          prefix : IsPrefixOf (IsShort A MAX_LETTERS) (take (limit + 1) list.0)
-          prefix = taken (IsShort A MAX_LETTERS) list.0 (limit + 1) list.1 (omega (arith, many))
+    whole : ((x : List ℕ) → IsElement A x → length x ≤ MAX_LETTERS) → IsListOf (IsElement A) list.0
+    whole short = record { rising = list.1.rising; sound = λ w c. (list.1.sound w c).0; whole = λ w e. list.1.whole w (e, short w e) }
 
-      whole : ((x : List ℕ) → IsElement A x → length x ≤ MAX_LETTERS) → IsListOf (IsElement A) list.0
-      whole short = record { rising = list.1.rising; sound = λ w c. (list.1.sound w c).0; whole = λ w e. list.1.whole w (e, short w e) }
+    -- the first words of at most MAX_LETTERS letters are the first of all
+    over : limit < length list.0 → IsOver (IsElement A) limit
+    over many = record {
+      prefix = take (limit + 1) list.0;
+      first = record {
+        rising = prefix.rising;
+        sound = λ word c. (prefix.sound word c).0;
+        first = λ word e. ⊎_elim (λ (far : MAX_LETTERS < length word). inr (λ other c.
+            before-shortlex_cmp {v = other} {w = word} (by_length (omega (arith, far, (prefix.sound other c).1)))))
+            (λ (near : length word ≤ MAX_LETTERS). prefix.first word (e, near)) (cases_lt MAX_LETTERS (length word));
+      };
+      count = size (IsShort A MAX_LETTERS) list.0 (limit + 1) list.1 (omega (arith, many));
+      short = λ word c. (prefix.sound word c).1;
+    }
+      where
+        prefix : IsPrefixOf (IsShort A MAX_LETTERS) (take (limit + 1) list.0)
+        prefix = taken (IsShort A MAX_LETTERS) list.0 (limit + 1) list.1 (omega (arith, many))
 
-      allowed : length list.0 ≤ limit → ((x : List ℕ) → IsElement A x → length x ≤ MAX_LETTERS) → IsTooLarge (IsElement A) limit → ⊥
-      allowed few short (inl many) =
-          HasMoreThan-few (IsElement A) limit list.0 (whole short) few (HasMoreThan-over (IsElement A) limit list.0 (whole short) many)
-      allowed few short (inr long) = omega (arith, short long.long long.member, long.letters)
+    -- what is found, and that nothing is
+    found-or-none : (IsOver (IsElement A) limit ⊎ IsLong (IsElement A) limit)
+        ⊎ ((length list.0 ≤ limit) × ((x : List ℕ) → IsElement A x → length x ≤ MAX_LETTERS))
+    found-or-none = by_count (cases_lt limit (length list.0)) (long-decided MAX_LETTERS)
+      where
+        by_count : (limit < length list.0) ⊎ (length list.0 ≤ limit)
+            → ((x : List ℕ) × IsElement A x × (length x ≡ MAX_LETTERS + 1)) ⊎ ((x : List ℕ) → IsElement A x → length x ≤ MAX_LETTERS)
+            → (IsOver (IsElement A) limit ⊎ IsLong (IsElement A) limit)
+            ⊎ ((length list.0 ≤ limit) × ((x : List ℕ) → IsElement A x → length x ≤ MAX_LETTERS))
+        by_count (inl many) long = inl (inl (over many))
+        by_count (inr few) (inl (x, e, letters)) =
+            inl (inr (record { words = list.0; are = list.1; count = few; long = x; member = e; letters = letters }))
+        by_count (inr few) (inr short) = inr (few, short)
 
-      by_count : (limit < length list.0) ⊎ (length list.0 ≤ limit)
-          → ((x : List ℕ) × IsElement A x × (length x ≡ MAX_LETTERS + 1)) ⊎ ((x : List ℕ) → IsElement A x → length x ≤ MAX_LETTERS)
-          → IsTooLarge (IsElement A) limit ⊎ ((IsTooLarge (IsElement A) limit → ⊥) × (words : List (List ℕ)) × IsListOf (IsElement A) words)
-      by_count (inl many) long = inl (inl (over many))
-      by_count (inr few) (inl (x, e, letters)) =
-          inl (inr (record { words = list.0; are = list.1; count = few; long = x; member = e; letters = letters }))
-      by_count (inr few) (inr short) = inr (allowed few short, list.0, whole short)
+    not-large : length list.0 ≤ limit → ((x : List ℕ) → IsElement A x → length x ≤ MAX_LETTERS) → IsTooLarge (IsElement A) limit → ⊥
+    not-large few short (inl many) = HasMoreThan-few (IsElement A) limit list.0 (whole short) few many
+    not-large few short (inr long) = omega (arith, short long.0 long.1, long.2)
+
+    -- the group is too large exactly where that is found by its first elements
+    pub group-found : IsTooLarge (IsElement A) limit → IsOver (IsElement A) limit ⊎ IsLong (IsElement A) limit
+    group-found large = ⊎_elim (λ (found : IsOver (IsElement A) limit ⊎ IsLong (IsElement A) limit). found)
+        (λ (none : (length list.0 ≤ limit) × ((x : List ℕ) → IsElement A x → length x ≤ MAX_LETTERS)).
+        absurd (not-large none.0 none.1 large)) found-or-none
+
+    pub group-decided : IsTooLarge (IsElement A) limit
+        ⊎ ((IsTooLarge (IsElement A) limit → ⊥) × (words : List (List ℕ)) × IsListOf (IsElement A) words)
+    group-decided = ⊎_elim (λ (found : IsOver (IsElement A) limit ⊎ IsLong (IsElement A) limit).
+        inl (too_large-found (IsElement A) limit found))
+        (λ (none : (length list.0 ≤ limit) × ((x : List ℕ) → IsElement A x → length x ≤ MAX_LETTERS)).
+        inr (not-large none.0 none.1, list.0, whole none.1)) found-or-none

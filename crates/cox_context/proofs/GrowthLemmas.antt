@@ -6,7 +6,7 @@ use Rattle.cox_lemmas.proofs.PushLemmas.{push-length, push_cases}
 use Rattle.cox_base.specs.Matrix.{IsLetter}
 use Rattle.cox_base.specs.ShortLex.{shortlex_cmp}
 use Rattle.cox_reflect.proofs.ShortLexFirst.{IsBefore, by_length, IsBefore-cons, IsBefore-head, before-shortlex_cmp}
-use Rattle.cox_context.specs.SortedList.{IsListOf}
+use Rattle.cox_base.specs.SortedList.{IsListOf}
 use Rattle.cox_context.specs.Refusal.{IsPrefixOf}
 use Rattle.cox_context.specs.Numbers.{word_at}
 use Rattle.cox_context.specs.Growth.{IsGrown, IsGrowing, IsChild, IsEarlier}

@@ -7,8 +7,9 @@ use Rattle.cox_base.specs.Matrix.{CoxeterMatrix, IsLetter}
 use Rattle.cox_base.specs.Admissible.{IsCoxeterMatrix, IsAdmissible}
 use Rattle.cox_base.specs.IntegerMatrix.{IntegerMatrix, integer_matrix}
 use Rattle.cox_base.specs.ShortLex.{normal_form, letters}
-use Rattle.cox_base.specs.Length.{word_length, left_descents}
-use Rattle.cox_base.specs.Descents.{IsLeftDescent}
+use Rattle.cox_base.specs.Length.{word_length}
+use Rattle.cox_base.specs.SideDescents.{descent_set}
+use Rattle.cox_base.specs.Descents.{IsLeftDescent, left_descents}
 use Rattle.cox_base.specs.Bruhat.{IsBelow}
 use Rattle.cox_reflect.proofs.Admissible.{IsAdmissible-integer_matrix}
 use Rattle.cox_reflect.proofs.Elements.{same-cons, same-refl}
@@ -16,10 +17,11 @@ use Rattle.cox_reflect.proofs.Search.{normal_form-same, normal_form-equal, word_
 use Rattle.cox_reflect.proofs.Lengths.{word_length-is}
 use Rattle.cox_reflect.proofs.ShortLexFirst.{IsBefore-cons, normal_form-comes_first, none-before_normal_form}
 use Rattle.cox_reflect.proofs.Bruhat.{below-trans, below-ascent, below-least}
-use Rattle.cox_context.specs.Members.{IsElement, IsInInterval}
+use Rattle.cox_base.specs.Members.{IsElement, IsInInterval}
 use Rattle.cox_context.specs.Union.{IsInUnion}
 use Rattle.cox_context.specs.Closed.{IsClosed}
 use Rattle.cox_context.specs.WantedMembers.{IsMember}
+use Rattle.cox_reflect.proofs.NormalElements.{element-word, element-length}
 use Rattle.cox_context.proofs.GrowthLemmas.{IsTailed}
 
 -- a property of elements that goes over to each element below
@@ -29,14 +31,8 @@ pub record IsIdeal (A : IntegerMatrix) (P : List ℕ → Type 0) : Type 0 where
   pub least : P []
 
 module _ (A : IntegerMatrix) (g : IsAdmissible A) where
-  pub element-normal_form : (u : List ℕ) → IsElement A (normal_form A u)
-  element-normal_form u = record { letters = IsWord-normal_form A g u; normal = normal_form-equal A g (normal_form-same A g u) }
-
-  pub element-length : (u : List ℕ) → IsElement A u → word_length A u ≡ length u
-  element-length u e = word_length-is A u ∙ ap length e.normal
-
   pub element-nil : IsElement A []
-  element-nil = record { letters = All-nil (IsLetter A.rank); normal = empty (normal_form A []) (length-normal_form A g []) }
+  element-nil = record { normal = empty (normal_form A []) (length-normal_form A g []) }
     where
       empty : (n : List ℕ) → length n ≤ 0 → n ≡ []
       empty [] l = refl
@@ -45,7 +41,6 @@ module _ (A : IntegerMatrix) (g : IsAdmissible A) where
   -- the rest of a normal form behind its first letter is one
   pub element-tail : (s : ℕ) (x : List ℕ) → IsElement A (s ∷ x) → IsElement A x
   element-tail s x e = record {
-    letters = All-tail (IsLetter A.rank) s x e.letters;
     normal = ⊎_elim (λ same. same)
         (λ before. absurd (none-before_normal_form A g {w = s ∷ normal_form A x} {u = s ∷ x} (same-cons A g s (normal_form-same A g x))
         (rw e.normal (IsBefore-cons s before))))
@@ -53,11 +48,11 @@ module _ (A : IntegerMatrix) (g : IsAdmissible A) where
   }
 
   pub below-tail : (s : ℕ) (x : List ℕ) → IsElement A (s ∷ x) → IsBelow A x (s ∷ x)
-  below-tail s x e =
-      below-ascent A g x s (All-head (IsLetter A.rank) s x e.letters) (omega (arith, element-length (s ∷ x) e, word_length-length A g x))
+  below-tail s x e = below-ascent A g x s (All-head (IsLetter A.rank) s x (element-word A g (s ∷ x) e))
+      (omega (arith, element-length A g (s ∷ x) e, word_length-length A g x))
 
   pub contained-descent : (w : List ℕ) (s : ℕ) → Contains (left_descents A w) s → IsLeftDescent A w s
-  unfolding left_descents
+  unfolding descent_set
   contained-descent w s c =
       let test : ℕ → Bool = λ t. nat_lt (word_length A (t ∷ w)) (word_length A w)
       in ltb-true (word_length A (s ∷ w)) (word_length A w)
@@ -90,7 +85,7 @@ module _ (A : IntegerMatrix) (g : IsAdmissible A) where
   pub ideal-tailed : (P : List ℕ → Type 0) → IsIdeal A P → IsTailed A.rank P
   ideal-tailed P i = record {
     least = i.least;
-    letter = λ s x p. All-head (IsLetter A.rank) s x (i.element (s ∷ x) p).letters;
+    letter = λ s x p. All-head (IsLetter A.rank) s x (element-word A g (s ∷ x) (i.element (s ∷ x) p));
     tail = λ s x p. i.down x (s ∷ x) p (element-tail s x (i.element (s ∷ x) p)) (below-tail s x (i.element (s ∷ x) p));
   }
 

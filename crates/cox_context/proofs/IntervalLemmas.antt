@@ -15,17 +15,17 @@ use Rattle.cox_reflect.proofs.Members.{In, Each-map, Each-weaker, In-map}
 use Rattle.cox_reflect.proofs.Search.{normal_form-same, normal_form-equal, word_length-length}
 use Rattle.cox_reflect.proofs.Lengths.{word_length-is, IsReduced-normal_form, IsReduced-tail}
 use Rattle.cox_reflect.proofs.Bruhat.{below-same, below-length, below_identity, lift_down, lift_up}
-use Rattle.cox_context.specs.SortedList.{IsListOf, HasMoreThan}
-use Rattle.cox_context.specs.Members.{IsInInterval}
-use Rattle.cox_context.specs.Interval.{IsBetween, IsCoatom}
+use Rattle.cox_base.specs.SortedList.{IsListOf, HasMoreThan}
+use Rattle.cox_base.specs.Members.{IsInInterval}
+use Rattle.cox_base.specs.Interval.{IsBetween, IsCoatom}
 use Rattle.cox_context.specs.FaultMeaning.{IsRefusal}
 use Rattle.cox_context.specs.declared.fault.ContextFault.{ContextFault}
 use Rattle.cox_context.specs.declared.fault.ContextFault.TheVariants.{Size, Long, NoMemory}
 use Rattle.cox_reflect.proofs.OrderLemmas.{first-descent, below-drop}
+use Rattle.cox_reflect.proofs.NormalElements.{element-normal_form}
+use Rattle.cox_reflect.proofs.Listing.{listing, subwords, Each-subwords, In-subwords}
 use Rattle.cox_context.proofs.ContextLemmas.{interval-length}
-use Rattle.cox_context.proofs.Ideals.{element-normal_form}
-use Rattle.cox_context.proofs.Listing.{listing, subwords, Each-subwords, In-subwords}
-use Rattle.cox_context.proofs.SortedLemmas.{IsListOf-filter, HasMoreThan-over, HasMoreThan-few}
+use Rattle.cox_context.proofs.SortedLemmas.{IsListOf-filter, HasMoreThan-listed, HasMoreThan-over, HasMoreThan-few}
 
 -- whether y is below the element of a reduced word, by lifting, letter by letter of it
 unfoldable pub below_along : IntegerMatrix → List ℕ → List ℕ → Bool
@@ -115,7 +115,7 @@ module _ (A : IntegerMatrix) (g : IsAdmissible A) where
       ((HasMoreThan limit (IsInInterval A w) → ⊥) × (words : List (List ℕ)) × IsListOf (IsInInterval A w) words)
   interval-decided limit w =
       let c = interval-exists w
-      in ⊎_elim (λ (many : limit < length c.0). inl (c.0, c.1, many))
+      in ⊎_elim (λ (many : limit < length c.0). inl (HasMoreThan-listed (IsInInterval A w) limit c.0 c.1 many))
       (λ (few : length c.0 ≤ limit). inr (HasMoreThan-few (IsInInterval A w) limit c.0 c.1 few, c.0, c.1))
       (cases_lt limit (length c.0))
 
@@ -123,8 +123,7 @@ module _ (A : IntegerMatrix) (g : IsAdmissible A) where
   pub interval-refused : (limit : ℕ) (w : List ℕ) → length w ≤ MAX_LETTERS → (fault : ContextFault)
       → IsRefusal (IsInInterval A w) limit fault → (fault ≡ NoMemory → ⊥)
       → HasMoreThan limit (IsInInterval A w)
-  interval-refused limit w short (Size bound seen) refusal memory =
-      let c = interval-exists w in HasMoreThan-over (IsInInterval A w) limit c.0 c.1 refusal.2
+  interval-refused limit w short (Size bound seen) refusal memory = HasMoreThan-over (IsInInterval A w) limit refusal.2
   interval-refused limit w short Long refusal memory =
       absurd (omega (arith, short, interval-length A g w refusal.long refusal.member, refusal.letters, word_length-length A g w))
   interval-refused limit w short NoMemory refusal memory = absurd (memory refl)

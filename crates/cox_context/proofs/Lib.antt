@@ -40,8 +40,6 @@ pub mod NumberLemmas
 pub mod RightShifts
 -- lists in ShortLex order
 pub mod SortedLemmas
--- words in any order, listed in ShortLex order
-mod Listing
 -- Bruhat intervals as lists
 pub mod IntervalLemmas
 -- whether a group is too large

@@ -9,9 +9,8 @@ use Rattle.arrayvec.specs.ArrayVec.{ArrayVec}
 use Rattle.cox_base.specs.Matrix.{IsWord}
 use Rattle.cox_base.specs.IntegerMatrix.{IntegerMatrix}
 use Rattle.cox_base.specs.Admissible.{IsAdmissible}
-use Rattle.cox_base.specs.Length.{left_descents}
+use Rattle.cox_base.specs.Descents.{IsLeftDescent, left_descents}
 use Rattle.cox_base.specs.Reduced.{IsReduced}
-use Rattle.cox_base.specs.Descents.{IsLeftDescent}
 use Rattle.cox_base.specs.Bruhat.{IsBelow}
 use Rattle.cox_reflect.proofs.Elements.{same-refl, same-sym, same-trans, same-cons, same-square, same-equal}
 use Rattle.cox_reflect.proofs.Search.{normal_form-same, word_length-length}

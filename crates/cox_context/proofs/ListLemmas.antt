@@ -6,7 +6,7 @@ use Rattle.std.proofs.lemmas.List.{get_or_default}
 use Rattle.cox_lemmas.proofs.PushLemmas.{push-old, push-new, push_cases}
 use Rattle.cox_base.specs.ShortLex.{shortlex_cmp}
 use Rattle.cox_reflect.proofs.ShortLexFirst.{IsBefore, IsBefore-irrefl, length-before, before-shortlex_cmp, shortlex_cmp-before}
-use Rattle.cox_context.specs.SortedList.{IsRising}
+use Rattle.cox_base.specs.SortedList.{IsRising}
 use Rattle.cox_context.specs.Numbers.{word_at}
 
 -- a word of the list has a place

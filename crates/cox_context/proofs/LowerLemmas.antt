@@ -18,11 +18,11 @@ use Rattle.cox_reflect.proofs.Deletion.{left_length}
 use Rattle.cox_reflect.proofs.Bruhat.{below-same, below-ascent}
 use Rattle.cox_reflect.proofs.OrderLemmas.{first-descent}
 use Rattle.cox_reflect.proofs.RankTwo.{is_even, alternating, alternating-zero, alternating-suc, cond_not}
+use Rattle.cox_reflect.proofs.NormalElements.{element-normal_form}
 use Rattle.cox_context.specs.Closed.{IsClosed}
 use Rattle.cox_context.specs.Numbers.{word_at}
 use Rattle.cox_context.specs.Shifts.{IsLower}
 use Rattle.cox_context.specs.Growth.{IsOutside}
-use Rattle.cox_context.proofs.Ideals.{element-normal_form}
 use Rattle.cox_context.proofs.Shifting.{element-at, length-at, descent-member}
 use Rattle.cox_context.proofs.Rounds.{steps-below, descent-steps, steps-descent, round-end, descent-label}
 

@@ -9,7 +9,7 @@ use Rattle.cox_reflect.proofs.Elements.{same-trans, same-cons, same-square}
 use Rattle.cox_reflect.proofs.Search.{normal_form-same}
 use Rattle.cox_reflect.proofs.Lengths.{word_length-is, cons-word_length}
 use Rattle.cox_reflect.proofs.ShortLexFirst.{IsBefore-head, none-before_normal_form}
-use Rattle.cox_context.specs.Members.{IsElement}
+use Rattle.cox_base.specs.Members.{IsElement}
 
 module _ (A : IntegerMatrix) (g : IsAdmissible A) where
   -- no lesser letter shortens it

@@ -11,6 +11,7 @@ use Rattle.cox_base.specs.Admissible.{IsAdmissible}
 use Rattle.cox_base.specs.ShortLex.{normal_form}
 use Rattle.cox_reflect.proofs.Elements.{same-trans, same-equal, same-push}
 use Rattle.cox_reflect.proofs.Search.{normal_form-same, normal_form-equal}
+use Rattle.cox_reflect.proofs.NormalElements.{element-word}
 use Rattle.cox_context.specs.Closed.{IsClosed}
 use Rattle.cox_context.specs.Numbers.{word_at}
 use Rattle.cox_context.proofs.ListLemmas.{rising-length}
@@ -28,7 +29,7 @@ module _ (A : IntegerMatrix) (g : IsAdmissible A) (words : List (List ℕ)) (clo
       in contains-drop k x (closed.down x (s ∷ x) c (element-tail A g s x e) (below-tail A g s x e))
 
   pub contained-letter : (s : ℕ) (x : List ℕ) → Contains words (s ∷ x) → IsLetter A.rank s
-  contained-letter s x c = All-head (IsLetter A.rank) s x (closed.element (s ∷ x) c).letters
+  contained-letter s x c = All-head (IsLetter A.rank) s x (element-word A g (s ∷ x) (closed.element (s ∷ x) c))
 
   contained-normal : (s : ℕ) (x : List ℕ) → Contains words (s ∷ x) → normal_form A (s ∷ x) ≡ s ∷ x
   contained-normal s x c = (closed.element (s ∷ x) c).normal

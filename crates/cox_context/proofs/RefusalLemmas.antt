@@ -1,11 +1,12 @@
 -- Why a context is refused.
-use Rattle.std.proofs.Common.{◌≡◌, ℕ, ◌+◌, ◌≤◌, ◌<◌, List, [], ◌∷◌, ◌++◌, length, arith}
+use Rattle.std.proofs.Common.{◌≡◌, ◌⊎◌, inl, inr, ℕ, ◌+◌, ◌≤◌, ◌<◌, List, [], ◌∷◌, ◌++◌, length, arith}
 use Rattle.cox_lemmas.proofs.PushLemmas.{push-length}
 use Rattle.cox_base.specs.declared.limits.TheConstants.{MAX_LETTERS}
-use Rattle.cox_context.specs.Refusal.{IsPrefixOf}
+use Rattle.cox_context.specs.TooLarge.{IsTooLarge}
 use Rattle.cox_context.specs.Numbers.{word_at}
-use Rattle.cox_context.specs.Refusal.{IsOver}
+use Rattle.cox_context.specs.Refusal.{IsPrefixOf, IsOver, IsLong}
 use Rattle.cox_context.proofs.ListLemmas.{contains-placed}
+use Rattle.cox_context.proofs.SortedLemmas.{HasMoreThan-over}
 
 -- a prefix with one word more than the limit
 pub over-prefix : (P : List ℕ → Type 0) (limit : ℕ) (words : List (List ℕ)) (word : List ℕ) → length words ≡ limit
@@ -18,3 +19,8 @@ over-prefix P limit words word count prefix short = record {
   short = λ other c. let p = contains-placed (words ++ word ∷ []) other c in rw (← p.is)
       (short p.i (omega (arith, p.within, push-length words word)));
 }
+
+-- what is found makes the elements too many, or one too long
+pub too_large-found : (P : List ℕ → Type 0) (limit : ℕ) → IsOver P limit ⊎ IsLong P limit → IsTooLarge P limit
+too_large-found P limit (inl over) = inl (HasMoreThan-over P limit over)
+too_large-found P limit (inr long) = inr (long.long, long.member, omega (arith, long.letters))

@@ -10,8 +10,9 @@ use Rattle.cox_base.specs.Admissible.{IsAdmissible}
 use Rattle.cox_base.specs.ShortLex.{normal_form}
 use Rattle.cox_reflect.proofs.Elements.{same-trans, same-equal, same-cons, same-square}
 use Rattle.cox_reflect.proofs.Search.{normal_form-same, normal_form-equal}
+use Rattle.cox_reflect.proofs.NormalElements.{element-word}
 use Rattle.cox_context.specs.declared.shifts.TheConstants.{NO_MEMBER}
-use Rattle.cox_context.specs.Members.{IsElement}
+use Rattle.cox_base.specs.Members.{IsElement}
 use Rattle.cox_context.specs.Closed.{IsClosed}
 use Rattle.cox_context.specs.Numbers.{word_at}
 use Rattle.cox_context.specs.Numbering.{IsNumberOf}
@@ -23,7 +24,7 @@ use Rattle.cox_context.proofs.Shifting.{element-at, right-parent}
 module _ (A : IntegerMatrix) (g : IsAdmissible A) (words : List (List ℕ)) (closed : IsClosed A words) where
   pub first-letter : (t : ℕ) (x : List ℕ) (i : ℕ) → i < length words → word_at words i ≡ t ∷ x → IsLetter A.rank t
   first-letter t x i l e =
-      let elem : IsElement A (t ∷ x) = rw e at (element-at A g words closed i l) in All-head (IsLetter A.rank) t x elem.letters
+      let elem : IsElement A (t ∷ x) = rw e at (element-at A g words closed i l) in All-head (IsLetter A.rank) t x (element-word A g (t ∷ x) elem)
 
   -- the first letter of a member takes it to the word without that letter
   pub first-off : (t : ℕ) (x : List ℕ) (i : ℕ) → i < length words → word_at words i ≡ t ∷ x → normal_form A (t ∷ word_at words i) ≡ x

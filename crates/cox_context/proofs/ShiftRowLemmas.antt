@@ -17,16 +17,16 @@ use Rattle.cox_context.specs.Numbering.{IsNumberOf}
 use Rattle.cox_context.specs.Shifts.{entry, entry_number, AreLeftShifts, IsLower}
 use Rattle.cox_context.specs.Rows.{IsRowPushed}
 use Rattle.cox_context.specs.Growth.{AreLower, AreNumbers}
-use Rattle.cox_context.specs.Members.{IsElement}
+use Rattle.cox_base.specs.Members.{IsElement}
 use Rattle.cox_context.proofs.ListLemmas.{contains-placed, placed-contains, word_at-old, word_at-new}
 use Rattle.cox_context.proofs.ListLemmas.{rising-length, rising-place}
 use Rattle.cox_context.proofs.Shifting.{element-at, first-member}
-use Rattle.cox_context.proofs.Ideals.{element-length}
 use Rattle.cox_base.specs.Length.{word_length}
 use Rattle.cox_reflect.proofs.Elements.{same-sym, same-trans, same-equal, same-cons, same-square}
 use Rattle.cox_reflect.proofs.Search.{normal_form-same, normal_form-equal, word_length-length}
 use Rattle.cox_reflect.proofs.Lengths.{word_length-is}
 use Rattle.cox_reflect.proofs.Deletion.{left_length}
+use Rattle.cox_reflect.proofs.NormalElements.{element-length}
 use Rattle.cox_context.proofs.ShiftPlaces.{place-within, entry-is, entry-set_same, entry-set_other, entry-old, entry-new, entry_number-some}
 use Rattle.cox_context.proofs.ShiftPlaces.{entry_number-none}
 

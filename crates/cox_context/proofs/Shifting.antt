@@ -16,12 +16,13 @@ use Rattle.cox_reflect.proofs.Search.{normal_form-same, normal_form-equal}
 use Rattle.cox_reflect.proofs.Lengths.{word_length-is}
 use Rattle.cox_reflect.proofs.Deletion.{left_length, right_length, sides_same}
 use Rattle.cox_reflect.proofs.Bruhat.{below-same, below-refl, below-trans, below-least, below-descent, below-ascent, below-push}
-use Rattle.cox_context.specs.Members.{IsElement}
+use Rattle.cox_reflect.proofs.NormalElements.{element-normal_form, element-word, element-length}
+use Rattle.cox_base.specs.Members.{IsElement}
 use Rattle.cox_context.specs.Closed.{IsClosed}
 use Rattle.cox_context.specs.Numbers.{word_at}
 use Rattle.cox_context.specs.Numbering.{IsNumberOf}
 use Rattle.cox_context.proofs.ListLemmas.{IsPlaced, contains-placed, contains-at, rising-length}
-use Rattle.cox_context.proofs.Ideals.{element-normal_form, element-length, element-nil, element-tail, below-tail}
+use Rattle.cox_context.proofs.Ideals.{element-nil, element-tail, below-tail}
 
 module _ (A : IntegerMatrix) (g : IsAdmissible A) (words : List (List ℕ)) (closed : IsClosed A words) where
   pub element-at : (i : ℕ) → i < length words → IsElement A (word_at words i)
@@ -103,7 +104,7 @@ module _ (A : IntegerMatrix) (g : IsAdmissible A) (words : List (List ℕ)) (clo
       elem = rw e at (element-at i within)
 
       letter : IsLetter A.rank t
-      letter = All-head (IsLetter A.rank) t x elem.letters
+      letter = All-head (IsLetter A.rank) t x (element-word A g (t ∷ x) elem)
 
       p : IsPlaced words (normal_form A (t ∷ z))
       p = contains-placed words (normal_form A (t ∷ z)) c

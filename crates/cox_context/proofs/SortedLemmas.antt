@@ -1,14 +1,15 @@
 -- Lists in ShortLex order: one list for each property, what a test keeps of it, and how many words it has.
 use Rattle.std.proofs.Common.{◌≡◌, ℕ, zero, suc, ◌-◌, ◌≤◌, ◌<◌, Bool, true, false, List, [], ◌∷◌, length, filter, get_or}
-use Rattle.std.proofs.Common.{Contains, ◌↔◌, Less, refl, sym, ⊎_elim, arith, subst}
+use Rattle.std.proofs.Common.{Contains, ◌↔◌, Less, refl, sym, ⊎_elim, arith}
 use Rattle.std.proofs.lemmas.Bool.{cases_lt, cases_order}
 use Rattle.std.proofs.lemmas.List.{ext_get_or, get_or_default}
-use Rattle.std.proofs.lemmas.List.Elements.{All-contains, All-filter, All-contains_itself, filter_passes}
+use Rattle.std.proofs.lemmas.List.Elements.{All-contains, All-filter, All-contains_itself, All-from_get_or, filter_passes}
 use Rattle.std.proofs.lemmas.List.Kept.{AllPairs-filter}
 use Rattle.cox_base.specs.ShortLex.{shortlex_cmp}
 use Rattle.cox_reflect.proofs.Members.{In, here, there}
+use Rattle.cox_reflect.proofs.Listing.{contains-in, in-contains}
 use Rattle.cox_reflect.proofs.ShortLexFirst.{IsBefore, IsBefore-asym, IsBefore-irrefl}
-use Rattle.cox_context.specs.SortedList.{IsRising, IsListOf, HasMoreThan}
+use Rattle.cox_base.specs.SortedList.{IsRising, IsListOf, HasMoreThan}
 use Rattle.cox_context.specs.Numbers.{word_at}
 use Rattle.cox_context.specs.Refusal.{IsOver}
 use Rattle.cox_context.proofs.ListLemmas.{IsPlaced, contains-placed, contains-at, rising-before}
@@ -76,18 +77,6 @@ IsListOf-unique P xs ys a b =
 
 -- ---- what a test keeps
 
-pub contains-in : {word : List ℕ} (words : List (List ℕ)) → Contains words word → In word words
-contains-in {word} words (i, l, e) = subst (λ (x : List ℕ). In x words) e (read words i l)
-  where
-    read : (words : List (List ℕ)) (i : ℕ) → i < length words → In (get_or words i word) words
-    read [] i l = absurd (omega (arith, l))
-    read (x ∷ words) zero l = here
-    read (x ∷ words) (suc i) l = there (read words i (omega (arith, l)))
-
-pub in-contains : {word : List ℕ} {words : List (List ℕ)} → In word words → Contains words word
-in-contains here = (0, omega arith, refl)
-in-contains (there i) = let c = in-contains i in (suc c.0, omega (arith, c.1), c.2)
-
 In-filter : {word : List ℕ} (test : List ℕ → Bool) {words : List (List ℕ)} → In word words → test word ≡ true → In word (filter test words)
 In-filter test here t = rw t here
 In-filter {word} test (there {y = y} {xs = words} i) t = go (test y) refl (In-filter test i t)
@@ -113,14 +102,21 @@ IsListOf-filter P Q test xs a tells narrower = record {
 
 -- ---- more than so many words
 
+pub HasMoreThan-listed : (P : List ℕ → Type 0) (limit : ℕ) (xs : List (List ℕ)) → IsListOf P xs → limit < length xs → HasMoreThan limit P
+HasMoreThan-listed P limit xs a many =
+    (xs, a.rising, All-from_get_or P xs [] (λ i l. a.sound (word_at xs i) (contains-at xs i l)), many)
+
 -- a prefix of limit + 1 words ..
-pub HasMoreThan-over : (P : List ℕ → Type 0) (limit : ℕ) (xs : List (List ℕ)) → IsListOf P xs → IsOver P limit → HasMoreThan limit P
-HasMoreThan-over P limit xs a over =
-    let size : length over.prefix ≤ length xs =
-    no-longer over.prefix xs over.first.rising a.rising (λ word c. a.whole word (over.first.sound word c))
-    in (xs, a, omega (arith, size, over.count))
+pub HasMoreThan-over : (P : List ℕ → Type 0) (limit : ℕ) → IsOver P limit → HasMoreThan limit P
+HasMoreThan-over P limit over = (
+  over.prefix,
+  over.first.rising,
+  All-from_get_or P over.prefix [] (λ i l. over.first.sound (word_at over.prefix i) (contains-at over.prefix i l)),
+  omega (arith, over.count),
+)
 
 -- .. which a list of no more than limit words rules out
 pub HasMoreThan-few : (P : List ℕ → Type 0) (limit : ℕ) (xs : List (List ℕ)) → IsListOf P xs → length xs ≤ limit → HasMoreThan limit P → ⊥
-HasMoreThan-few P limit xs a few (ys, b, many) =
-    let e : xs ≡ ys = IsListOf-unique P xs ys a b in let less : limit < length xs = rw e many in omega (arith, few, less)
+HasMoreThan-few P limit xs a few (ys, rising, all, many) =
+    let size : length ys ≤ length xs = no-longer ys xs rising a.rising (λ word c. a.whole word (All-contains P ys word all c))
+    in omega (arith, few, many, size)

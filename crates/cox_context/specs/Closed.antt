@@ -5,8 +5,8 @@ use Rattle.cox_base.specs.IntegerMatrix.{IntegerMatrix}
 use Rattle.cox_base.specs.Bruhat.{IsBelow}
 use Rattle.cox_base.specs.declared.limits.TheConstants.{MAX_LETTERS}
 use Rattle.cox_context.specs.declared.members.TheConstants.{MAX_MEMBERS}
-use Rattle.cox_context.specs.SortedList.{IsRising}
-use Rattle.cox_context.specs.Members.{IsElement}
+use Rattle.cox_base.specs.SortedList.{IsRising}
+use Rattle.cox_base.specs.Members.{IsElement}
 
 -- what contracts see of a context: the Coxeter matrix of its group, and its members
 pub record Elements : Type 0 where

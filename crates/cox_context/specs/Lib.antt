@@ -1,11 +1,7 @@
--- lists of elements in ShortLex order
-pub mod SortedList
--- elements, and those below an element
-pub mod Members
 -- an interval and other words together
 pub mod Union
--- Bruhat intervals
-pub mod Interval
+-- when elements are too many, or too long
+pub mod TooLarge
 -- why a context is refused
 pub mod Refusal
 -- what a fault says
@@ -22,6 +18,8 @@ pub mod Numbers
 pub mod Numbering
 -- the tables of shifts
 pub mod Shifts
+-- left shifts as they are lent
+pub mod LentShifts
 -- a row of the table of left shifts
 pub mod Rows
 -- sets of letters

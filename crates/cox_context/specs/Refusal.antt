@@ -1,9 +1,9 @@
--- Why a context is refused: exactly by its first members in ShortLex order.
+-- Why a context is refused, as it is found: by its first members in ShortLex order.
 use Rattle.std.specs.Prelude.{◌≡◌, ◌⊎◌, ℕ, ◌+◌, ◌≤◌, List, length, Contains}
 use Rattle.std.specs.declared.cmp.Ordering.TheVariants.{Less}
 use Rattle.cox_base.specs.ShortLex.{shortlex_cmp}
 use Rattle.cox_base.specs.declared.limits.TheConstants.{MAX_LETTERS}
-use Rattle.cox_context.specs.SortedList.{IsRising, IsListOf}
+use Rattle.cox_base.specs.SortedList.{IsRising, IsListOf}
 
 -- the first words with a property, in ShortLex order: each other word with it comes after all of them
 pub record IsPrefixOf (P : List ℕ → Type 0) (words : List (List ℕ)) : Type 0 where
@@ -28,7 +28,3 @@ pub record IsLong (P : List ℕ → Type 0) (limit : ℕ) : Type 0 where
   pub long : List ℕ
   pub member : P long
   pub letters : length long ≡ MAX_LETTERS + 1
-
--- there are more than limit members, or one of the first limit + 1 has MAX_LETTERS + 1 letters
-abbrev pub IsTooLarge : (List ℕ → Type 0) → ℕ → Type 0
-IsTooLarge P limit = IsOver P limit ⊎ IsLong P limit

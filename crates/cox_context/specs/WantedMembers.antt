@@ -6,9 +6,9 @@ use Rattle.cox_base.specs.Matrix.{IsWord}
 use Rattle.cox_base.specs.IntegerMatrix.{IntegerMatrix}
 use Rattle.cox_base.specs.Bruhat.{IsBelow}
 use Rattle.cox_base.specs.ShortLex.{normal_form}
-use Rattle.cox_base.specs.Length.{left_descents}
+use Rattle.cox_base.specs.Descents.{left_descents}
 use Rattle.cox_base.specs.Reduced.{IsReduced}
-use Rattle.cox_context.specs.Members.{IsElement}
+use Rattle.cox_base.specs.Members.{IsElement}
 use Rattle.cox_context.specs.Union.{IsInUnion}
 
 -- an element of the group; or, where there is a top, one below it or one of the earlier members

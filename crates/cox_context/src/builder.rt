@@ -11,10 +11,10 @@ ghost use Rattle.cox_base.specs.IntegerMatrix.{IntegerMatrix, integer_matrix};
 ghost use Rattle.cox_base.specs.ShortLex.{normal_form};
 ghost use Rattle.cox_base.specs.Descents.{IsLeftDescent};
 ghost use Rattle.cox_context.specs.Closed.{IsClosed};
-ghost use Rattle.cox_context.specs.WantedMembers.{IsMember, IsTop};
+ghost use Rattle.cox_context.specs.WantedMembers.{IsMember};
 ghost use Rattle.cox_context.specs.Numbers.{word_at};
 ghost use Rattle.cox_context.specs.Numbering.{IsNumberOf};
-ghost use Rattle.cox_context.specs.Growth.{IsGrowing, IsGrown, IsNext, IsNoNext, AreBelowTop, AreNumbers, AreLast};
+ghost use Rattle.cox_context.specs.Growth.{IsSearch, AreTabled, IsGrowing, IsGrown, IsNext, IsNoNext, AreBelowTop, AreNumbers, AreLast};
 ghost use Rattle.cox_context.specs.Refusal.{IsPrefixOf};
 ghost use Rattle.cox_context.specs.FaultMeaning.{IsRefusal};
 ghost use Rattle.cox_context.specs.Shifts.{entry, AreLeftShifts};
@@ -25,7 +25,7 @@ use crate::family::Family;
 use crate::lifting::is_meant;
 use crate::lower::lower_members;
 use crate::members::{MAX_MEMBERS, Members};
-use crate::shifts::{NO_MEMBER, entry, left_shift, number_at, place};
+use crate::shifts::{LeftShifts, NO_MEMBER, entry, number_at, place};
 use cox_base::{Coxeter, MAX_LETTERS, MAX_RANK};
 use std::alloc::{AllocError, Global};
 
@@ -62,6 +62,15 @@ impl Listing {
         let left = vec![in alloc; NO_MEMBER; rank as usize]?;
         Ok(Listing { members, left })
     }
+
+    /// The left shifts, as they are lent.
+    pub(crate) fn shifts<'a>(&'a self, group: &'a Coxeter) -> LeftShifts<'a>
+        requires closed { IsClosed (integer_matrix group.now) self.now.members }
+        requires left { AreLeftShifts (integer_matrix group.now) self.now.members self.now.left.items }
+        ensures { result ≡ record { matrix = group.now; members = self.now.members } }
+    {
+        LeftShifts::new(group, &self.members, self.left.as_slice())
+    }
 }
 
 impl Builder {
@@ -73,8 +82,7 @@ impl Builder {
     ) -> Result<Builder, ContextFault>
         requires earlier { IsClosed (integer_matrix family.now.group) earlier.now.members }
         ensures grown { IfOk result (λ b. IsGrown family.now.group.rank (IsMember (integer_matrix family.now.group) family.now.top earlier.now.members) 0 0 b.listing.members) }
-        ensures left { IfOk result (λ b. AreLeftShifts (integer_matrix family.now.group) b.listing.members b.listing.left.items) }
-        ensures numbers { IfOk result (λ b. AreNumbers earlier.now.members b.listing.members b.numbers.items) }
+        ensures tabled { IfOk result (λ b. AreTabled (integer_matrix family.now.group) earlier.now.members b.listing.members b.listing.left.items b.numbers.items) }
         ensures one { IfOk result (λ b. length b.listing.members ≡ 1) }
         ensures matrix { IsCoxeterMatrix family.now.group }
         ensures fault { IfErr result (λ fault. fault ≡ ContextFault.NoMemory) }
@@ -97,18 +105,14 @@ impl Builder {
         letters: u32,
         limit: u32,
     ) -> Result<u32, ContextFault>
-        requires top { IsTop (integer_matrix family.now.group) family.now.top }
-        requires earlier { IsClosed (integer_matrix family.now.group) earlier.now.members }
-        requires earlier_left { AreLeftShifts (integer_matrix family.now.group) earlier.now.members earlier.now.left.items }
+        requires search { IsSearch (integer_matrix family.now.group) family.now.top earlier.now.members earlier.now.left.items }
         requires short { letters ≤ MAX_LETTERS }
         requires limit { limit ≤ MAX_MEMBERS }
         requires room { length self.old.listing.members ≤ limit }
         requires grown { IsGrown family.now.group.rank (IsMember (integer_matrix family.now.group) family.now.top earlier.now.members) 0 0 self.old.listing.members }
-        requires left { AreLeftShifts (integer_matrix family.now.group) self.old.listing.members self.old.listing.left.items }
-        requires numbers { AreNumbers earlier.now.members self.old.listing.members self.old.numbers.items }
+        requires tabled { AreTabled (integer_matrix family.now.group) earlier.now.members self.old.listing.members self.old.listing.left.items self.old.numbers.items }
         ensures grown { IfOk result (λ low. IsGrown family.now.group.rank (IsMember (integer_matrix family.now.group) family.now.top earlier.now.members) letters low self.new.listing.members) }
-        ensures left { OnOk result (AreLeftShifts (integer_matrix family.now.group) self.new.listing.members self.new.listing.left.items) }
-        ensures numbers { OnOk result (AreNumbers earlier.now.members self.new.listing.members self.new.numbers.items) }
+        ensures tabled { OnOk result (AreTabled (integer_matrix family.now.group) earlier.now.members self.new.listing.members self.new.listing.left.items self.new.numbers.items) }
         ensures room { OnOk result (length self.new.listing.members ≤ limit) }
         ensures fault { IfErr result (IsRefusal (IsMember (integer_matrix family.now.group) family.now.top earlier.now.members) limit) }
     {
@@ -130,18 +134,14 @@ impl Builder {
         low: u32,
         limit: u32,
     ) -> Result<(), ContextFault>
-        requires top { IsTop (integer_matrix family.now.group) family.now.top }
-        requires earlier { IsClosed (integer_matrix family.now.group) earlier.now.members }
-        requires earlier_left { AreLeftShifts (integer_matrix family.now.group) earlier.now.members earlier.now.left.items }
+        requires search { IsSearch (integer_matrix family.now.group) family.now.top earlier.now.members earlier.now.left.items }
         requires short { letters < MAX_LETTERS }
         requires limit { limit ≤ MAX_MEMBERS }
         requires room { length self.old.listing.members ≤ limit }
         requires grown { IsGrown family.now.group.rank (IsMember (integer_matrix family.now.group) family.now.top earlier.now.members) letters low self.old.listing.members }
-        requires left { AreLeftShifts (integer_matrix family.now.group) self.old.listing.members self.old.listing.left.items }
-        requires numbers { AreNumbers earlier.now.members self.old.listing.members self.old.numbers.items }
+        requires tabled { AreTabled (integer_matrix family.now.group) earlier.now.members self.old.listing.members self.old.listing.left.items self.old.numbers.items }
         ensures grown { OnOk result (IsGrown family.now.group.rank (IsMember (integer_matrix family.now.group) family.now.top earlier.now.members) (letters + 1) (length self.old.listing.members) self.new.listing.members) }
-        ensures left { OnOk result (AreLeftShifts (integer_matrix family.now.group) self.new.listing.members self.new.listing.left.items) }
-        ensures numbers { OnOk result (AreNumbers earlier.now.members self.new.listing.members self.new.numbers.items) }
+        ensures tabled { OnOk result (AreTabled (integer_matrix family.now.group) earlier.now.members self.new.listing.members self.new.listing.left.items self.new.numbers.items) }
         ensures room { OnOk result (length self.new.listing.members ≤ limit) }
         ensures fault { IfErr result (IsRefusal (IsMember (integer_matrix family.now.group) family.now.top earlier.now.members) limit) }
     {
@@ -165,19 +165,15 @@ impl Builder {
         limit: u32,
     ) -> Result<(), ContextFault>
         requires matrix { IsCoxeterMatrix family.now.group }
-        requires top { IsTop (integer_matrix family.now.group) family.now.top }
-        requires earlier { IsClosed (integer_matrix family.now.group) earlier.now.members }
-        requires earlier_left { AreLeftShifts (integer_matrix family.now.group) earlier.now.members earlier.now.left.items }
+        requires search { IsSearch (integer_matrix family.now.group) family.now.top earlier.now.members earlier.now.left.items }
         requires short { letters < MAX_LETTERS }
         requires letter { IsLetter family.now.group.rank s }
         requires limit { limit ≤ MAX_MEMBERS }
         requires room { length self.old.listing.members ≤ limit }
         requires growing { IsGrowing family.now.group.rank (IsMember (integer_matrix family.now.group) family.now.top earlier.now.members) letters low high s low self.old.listing.members }
-        requires left { AreLeftShifts (integer_matrix family.now.group) self.old.listing.members self.old.listing.left.items }
-        requires numbers { AreNumbers earlier.now.members self.old.listing.members self.old.numbers.items }
+        requires tabled { AreTabled (integer_matrix family.now.group) earlier.now.members self.old.listing.members self.old.listing.left.items self.old.numbers.items }
         ensures growing { OnOk result (IsGrowing family.now.group.rank (IsMember (integer_matrix family.now.group) family.now.top earlier.now.members) letters low high (s + 1) low self.new.listing.members) }
-        ensures left { OnOk result (AreLeftShifts (integer_matrix family.now.group) self.new.listing.members self.new.listing.left.items) }
-        ensures numbers { OnOk result (AreNumbers earlier.now.members self.new.listing.members self.new.numbers.items) }
+        ensures tabled { OnOk result (AreTabled (integer_matrix family.now.group) earlier.now.members self.new.listing.members self.new.listing.left.items self.new.numbers.items) }
         ensures room { OnOk result (length self.new.listing.members ≤ limit) }
         ensures fault { IfErr result (IsRefusal (IsMember (integer_matrix family.now.group) family.now.top earlier.now.members) limit) }
     {
@@ -192,28 +188,25 @@ impl Builder {
     /// The child y = s x of the member x with this number, where y is a member and was not found before.
     fn child(&self, family: &Family, earlier: &Listing, s: u8, parent: u32) -> Option<Child>
         requires matrix { IsCoxeterMatrix family.now.group }
-        requires top { IsTop (integer_matrix family.now.group) family.now.top }
-        requires earlier { IsClosed (integer_matrix family.now.group) earlier.now.members }
-        requires earlier_left { AreLeftShifts (integer_matrix family.now.group) earlier.now.members earlier.now.left.items }
+        requires search { IsSearch (integer_matrix family.now.group) family.now.top earlier.now.members earlier.now.left.items }
         requires closed { IsClosed (integer_matrix family.now.group) self.now.listing.members }
-        requires left { AreLeftShifts (integer_matrix family.now.group) self.now.listing.members self.now.listing.left.items }
-        requires numbers { AreNumbers earlier.now.members self.now.listing.members self.now.numbers.items }
+        requires tabled { AreTabled (integer_matrix family.now.group) earlier.now.members self.now.listing.members self.now.listing.left.items self.now.numbers.items }
         requires below { AreBelowTop (integer_matrix family.now.group) family.now.top self.now.listing.members self.now.numbers.items }
         requires letter { IsLetter family.now.group.rank s }
         requires parent { parent < length self.now.listing.members }
         ensures next { IfSome result (IsNext (integer_matrix family.now.group) self.now.listing.members family.now.top earlier.now.members (s ∷ word_at self.now.listing.members parent)) }
         ensures none { IfNone result (IsNoNext (integer_matrix family.now.group) self.now.listing.members family.now.top earlier.now.members (s ∷ word_at self.now.listing.members parent) (length (word_at self.now.listing.members parent))) }
     {
-        let (members, left) = (&self.listing.members, self.listing.left.as_slice());
-        if left_shift(&family.group, members, left, s, parent).is_some() {
+        let shifts = self.listing.shifts(&family.group);
+        if shifts.shift(s, parent).is_some() {
             return None;
         }
-        let Ok(lower) = lower_members(&family.group, members, left, s, parent) else {
+        let Ok(lower) = lower_members(&shifts, s, parent) else {
             return None;
         };
         let number = self.earlier_number(family, earlier, s, parent);
         let numbers = self.numbers.as_slice();
-        if is_meant(family, members, left, numbers, &lower, number) {
+        if is_meant(family, &shifts, numbers, &lower, number) {
             Some(Child { lower, number })
         } else {
             None
@@ -235,13 +228,7 @@ impl Builder {
         ensures { IsNumberOf earlier.now.members (normal_form (integer_matrix family.now.group) (s ∷ word_at self.now.listing.members parent)) result }
     {
         let before = number_at(self.numbers.as_slice(), parent)?;
-        left_shift(
-            &family.group,
-            &earlier.members,
-            earlier.left.as_slice(),
-            s,
-            before,
-        )
+        earlier.shifts(&family.group).shift(s, before)
     }
 
     /// Appends the member y = s x, the child of the member x with this number, if the limit admits one more.

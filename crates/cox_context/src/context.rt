@@ -4,13 +4,12 @@ ghost use Rattle.cox_base.specs.Matrix.{IsLetter, IsWord};
 ghost use Rattle.cox_base.specs.Admissible.{IsAdmissible};
 ghost use Rattle.cox_base.specs.IntegerMatrix.{integer_matrix};
 ghost use Rattle.cox_base.specs.ShortLex.{normal_form};
-ghost use Rattle.cox_base.specs.Length.{left_descents, right_descents};
-ghost use Rattle.cox_base.specs.Descents.{IsLeftDescent, IsRightDescent};
+ghost use Rattle.cox_base.specs.Descents.{IsLeftDescent, IsRightDescent, left_descents, right_descents};
 ghost use Rattle.cox_base.specs.Bruhat.{IsBelow};
-ghost use Rattle.cox_context.specs.Members.{IsElement, IsInInterval};
+ghost use Rattle.cox_base.specs.Members.{IsElement, IsInInterval};
 ghost use Rattle.cox_context.specs.Union.{IsInUnion};
 ghost use Rattle.cox_context.specs.Closed.{IsClosed};
-ghost use Rattle.cox_context.specs.SortedList.{IsListOf};
+ghost use Rattle.cox_base.specs.SortedList.{IsListOf};
 ghost use Rattle.cox_context.specs.Numbers.{word_at};
 ghost use Rattle.cox_context.specs.Numbering.{IsNumberOf, AreMoved};
 ghost use Rattle.cox_context.specs.FaultMeaning.{IsRefusal};
@@ -185,12 +184,11 @@ impl Context {
         ensures made { IfOk result (λ c. c ≡ record { matrix = group; members = listing.members }) }
         ensures fault { IfErr result (λ fault. fault ≡ ContextFault.NoMemory) }
     {
-        let left = listing.left.as_slice();
-        let Ok(right) = right_shifts(alloc, &group, &listing.members, left) else {
+        let Ok(right) = right_shifts(alloc, &listing.shifts(&group)) else {
             return Err(ContextFault::NoMemory);
         };
         let (rank, count) = (group.rank(), listing.members.len());
-        let Ok(left_descents) = lowering_sets(alloc, left, rank, count) else {
+        let Ok(left_descents) = lowering_sets(alloc, listing.left.as_slice(), rank, count) else {
             return Err(ContextFault::NoMemory);
         };
         let Ok(right_descents) = lowering_sets(alloc, right.as_slice(), rank, count) else {

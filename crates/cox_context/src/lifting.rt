@@ -2,79 +2,62 @@
 ghost use Rattle.std.specs.Prelude.{◌≡◌, ℕ, List, ◌<◌, ◌≤◌, ◌↔◌, IsTrue, IfSome, length, Contains, None};
 ghost use Rattle.arrayvec.specs.ArrayVec.{ArrayVec};
 ghost use Rattle.cox_base.specs.Matrix.{IsLetter, IsWord};
-ghost use Rattle.cox_base.specs.Admissible.{IsCoxeterMatrix};
 ghost use Rattle.cox_base.specs.IntegerMatrix.{integer_matrix};
 ghost use Rattle.cox_base.specs.Reduced.{IsReduced};
 ghost use Rattle.cox_base.specs.Descents.{IsLeftDescent};
 ghost use Rattle.cox_base.specs.Bruhat.{IsBelow};
 ghost use Rattle.cox_base.specs.ShortLex.{normal_form};
-ghost use Rattle.cox_context.specs.Closed.{IsClosed};
 ghost use Rattle.cox_context.specs.Numbering.{IsNumberOf};
-ghost use Rattle.cox_context.specs.Shifts.{entry, AreLeftShifts, IsLower};
+ghost use Rattle.cox_context.specs.Shifts.{entry, IsLower};
 ghost use Rattle.cox_context.specs.Growth.{AreLower, AreBelowTop, remaining_word};
 ghost use Rattle.cox_context.specs.WantedMembers.{IsTop, IsBelowTop, IsMeant};
 
 use crate::family::Family;
-use crate::members::{MAX_MEMBERS, Members};
-use crate::shifts::{entry, lower_shift, number_at};
-use cox_base::{Coxeter, MAX_RANK, Word};
+use crate::members::MAX_MEMBERS;
+use crate::shifts::{LeftShifts, entry, number_at};
+use cox_base::{MAX_RANK, Word};
 
 /// Whether y is meant, for an element y other than the identity with these elements t y and this number among the earlier members.
 pub(crate) fn is_meant(
     family: &Family,
-    members: &Members,
-    left: &[u32],
+    shifts: &LeftShifts,
     numbers: &[u32],
     lower: &[u32],
     number: Option<u32>,
 ) -> bool
-    requires matrix { IsCoxeterMatrix family.now.group }
-    requires top { IsTop (integer_matrix family.now.group) family.now.top }
-    requires closed { IsClosed (integer_matrix family.now.group) members.now }
-    requires left { AreLeftShifts (integer_matrix family.now.group) members.now left.now }
-    requires below { AreBelowTop (integer_matrix family.now.group) family.now.top members.now numbers.now }
-    requires count { length numbers.now ≡ length members.now }
-    requires size { family.now.group.rank ≤ length lower.now }
-    requires inside { (t k : ℕ) → IsLetter family.now.group.rank t → entry family.now.group.rank lower.now t 0 ≡ Some k → k < length members.now }
-    ensures { (y : List ℕ) (s : ℕ) (earlier : List (List ℕ)) → IsLeftDescent (integer_matrix family.now.group) y s
-        → AreLower (integer_matrix family.now.group) members.now y lower.now → IsNumberOf earlier (normal_form (integer_matrix family.now.group) y) number
-        → (IsTrue result ↔ IsMeant (integer_matrix family.now.group) family.now.top earlier y) }
+    requires group { family.now.group ≡ shifts.now.matrix }
+    requires top { IsTop (integer_matrix shifts.now.matrix) family.now.top }
+    requires below { AreBelowTop (integer_matrix shifts.now.matrix) family.now.top shifts.now.members numbers.now }
+    requires count { length numbers.now ≡ length shifts.now.members }
+    requires size { shifts.now.matrix.rank ≤ length lower.now }
+    requires inside { (t k : ℕ) → IsLetter shifts.now.matrix.rank t → entry shifts.now.matrix.rank lower.now t 0 ≡ Some k → k < length shifts.now.members }
+    ensures { (y : List ℕ) (s : ℕ) (earlier : List (List ℕ)) → IsLeftDescent (integer_matrix shifts.now.matrix) y s
+        → AreLower (integer_matrix shifts.now.matrix) shifts.now.members y lower.now → IsNumberOf earlier (normal_form (integer_matrix shifts.now.matrix) y) number
+        → (IsTrue result ↔ IsMeant (integer_matrix shifts.now.matrix) family.now.top earlier y) }
 {
     match number {
         Some(_) => true,
-        None => is_below_top(family, members, left, numbers, lower),
+        None => is_below_top(family, shifts, numbers, lower),
     }
 }
 
 /// Whether y is below the top, where there is one, for an element y other than the identity with these elements t y.
-fn is_below_top(
-    family: &Family,
-    members: &Members,
-    left: &[u32],
-    numbers: &[u32],
-    lower: &[u32],
-) -> bool
-    requires matrix { IsCoxeterMatrix family.now.group }
-    requires top { IsTop (integer_matrix family.now.group) family.now.top }
-    requires closed { IsClosed (integer_matrix family.now.group) members.now }
-    requires left { AreLeftShifts (integer_matrix family.now.group) members.now left.now }
-    requires below { AreBelowTop (integer_matrix family.now.group) family.now.top members.now numbers.now }
-    requires count { length numbers.now ≡ length members.now }
-    requires size { family.now.group.rank ≤ length lower.now }
-    requires inside { (t k : ℕ) → IsLetter family.now.group.rank t → entry family.now.group.rank lower.now t 0 ≡ Some k → k < length members.now }
-    ensures { (y : List ℕ) (s : ℕ) → IsLeftDescent (integer_matrix family.now.group) y s → AreLower (integer_matrix family.now.group) members.now y lower.now
-        → (IsTrue result ↔ IsBelowTop (integer_matrix family.now.group) family.now.top y) }
+fn is_below_top(family: &Family, shifts: &LeftShifts, numbers: &[u32], lower: &[u32]) -> bool
+    requires group { family.now.group ≡ shifts.now.matrix }
+    requires top { IsTop (integer_matrix shifts.now.matrix) family.now.top }
+    requires below { AreBelowTop (integer_matrix shifts.now.matrix) family.now.top shifts.now.members numbers.now }
+    requires count { length numbers.now ≡ length shifts.now.members }
+    requires size { shifts.now.matrix.rank ≤ length lower.now }
+    requires inside { (t k : ℕ) → IsLetter shifts.now.matrix.rank t → entry shifts.now.matrix.rank lower.now t 0 ≡ Some k → k < length shifts.now.members }
+    ensures { (y : List ℕ) (s : ℕ) → IsLeftDescent (integer_matrix shifts.now.matrix) y s → AreLower (integer_matrix shifts.now.matrix) shifts.now.members y lower.now
+        → (IsTrue result ↔ IsBelowTop (integer_matrix shifts.now.matrix) family.now.top y) }
 {
     match &family.top {
         None => true,
         Some(top) => {
-            prove!(members.len() <= MAX_MEMBERS);
-            shares_descent(
-                family.group.rank(),
-                family.descents.as_slice(),
-                lower,
-                numbers,
-            ) || lifts(&family.group, members, left, lower, top)
+            prove!(shifts.members().len() <= MAX_MEMBERS);
+            shares_descent(shifts.rank(), family.descents.as_slice(), lower, numbers)
+                || lifts(shifts, lower, top)
         }
     }
 }
@@ -99,46 +82,34 @@ fn shares_descent(rank: u32, descents: &[u8], lower: &[u32], numbers: &[u32]) ->
 }
 
 /// Whether y is below the element of a reduced word: by lifting (Humphreys 5.9), each letter of it that shortens what is left of y is taken off.
-fn lifts(g: &Coxeter, members: &Members, left: &[u32], lower: &[u32], top: &Word) -> bool
-    requires matrix { IsCoxeterMatrix g.now }
-    requires closed { IsClosed (integer_matrix g.now) members.now }
-    requires left { AreLeftShifts (integer_matrix g.now) members.now left.now }
-    requires size { g.now.rank ≤ length lower.now }
-    requires inside { (t k : ℕ) → IsLetter g.now.rank t → entry g.now.rank lower.now t 0 ≡ Some k → k < length members.now }
-    requires letters { IsWord g.now.rank top.now.items }
-    requires reduced { IsReduced (integer_matrix g.now) top.now.items }
-    ensures { (y : List ℕ) (s : ℕ) → IsLeftDescent (integer_matrix g.now) y s → AreLower (integer_matrix g.now) members.now y lower.now
-        → (IsTrue result ↔ IsBelow (integer_matrix g.now) y top.now.items) }
+fn lifts(shifts: &LeftShifts, lower: &[u32], top: &Word) -> bool
+    requires size { shifts.now.matrix.rank ≤ length lower.now }
+    requires inside { (t k : ℕ) → IsLetter shifts.now.matrix.rank t → entry shifts.now.matrix.rank lower.now t 0 ≡ Some k → k < length shifts.now.members }
+    requires letters { IsWord shifts.now.matrix.rank top.now.items }
+    requires reduced { IsReduced (integer_matrix shifts.now.matrix) top.now.items }
+    ensures { (y : List ℕ) (s : ℕ) → IsLeftDescent (integer_matrix shifts.now.matrix) y s → AreLower (integer_matrix shifts.now.matrix) shifts.now.members y lower.now
+        → (IsTrue result ↔ IsBelow (integer_matrix shifts.now.matrix) y top.now.items) }
 {
+    let _rank = shifts.rank();
     let mut at = None;
     for &t in top.as_slice() {
-        at = shorter_left(g, members, left, lower, at, t).or(at);
+        at = shorter_left(shifts, lower, at, t).or(at);
     }
     at == Some(0)
 }
 
 /// The number of what is left of y after t is taken off, where t shortens it; y itself is left where no member is given.
-fn shorter_left(
-    g: &Coxeter,
-    members: &Members,
-    left: &[u32],
-    lower: &[u32],
-    at: Option<u32>,
-    t: u8,
-) -> Option<u32>
-    requires matrix { IsCoxeterMatrix g.now }
-    requires closed { IsClosed (integer_matrix g.now) members.now }
-    requires left { AreLeftShifts (integer_matrix g.now) members.now left.now }
-    requires size { g.now.rank ≤ length lower.now }
-    requires inside { (t k : ℕ) → IsLetter g.now.rank t → entry g.now.rank lower.now t 0 ≡ Some k → k < length members.now }
-    requires member { IfSome at (λ i. i < length members.now) }
-    requires letter { IsLetter g.now.rank t }
-    ensures lower { (y : List ℕ) → AreLower (integer_matrix g.now) members.now y lower.now
-        → IsLower (integer_matrix g.now) members.now (remaining_word members.now y at) t result }
-    ensures member { IfSome result (λ k. k < length members.now) }
+fn shorter_left(shifts: &LeftShifts, lower: &[u32], at: Option<u32>, t: u8) -> Option<u32>
+    requires size { shifts.now.matrix.rank ≤ length lower.now }
+    requires inside { (t k : ℕ) → IsLetter shifts.now.matrix.rank t → entry shifts.now.matrix.rank lower.now t 0 ≡ Some k → k < length shifts.now.members }
+    requires member { IfSome at (λ i. i < length shifts.now.members) }
+    requires letter { IsLetter shifts.now.matrix.rank t }
+    ensures lower { (y : List ℕ) → AreLower (integer_matrix shifts.now.matrix) shifts.now.members y lower.now
+        → IsLower (integer_matrix shifts.now.matrix) shifts.now.members (remaining_word shifts.now.members y at) t result }
+    ensures member { IfSome result (λ k. k < length shifts.now.members) }
 {
     match at {
-        None => entry(lower, g.rank(), t, 0),
-        Some(i) => lower_shift(g, members, left, t, i),
+        None => entry(lower, shifts.rank(), t, 0),
+        Some(i) => shifts.lower(t, i),
     }
 }

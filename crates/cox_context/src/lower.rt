@@ -5,41 +5,29 @@
 ghost use Rattle.std.specs.Prelude.{◌≡◌, ◌<◌, ◌≤◌, ◌∷◌, length, Contains, IfOk, OnErr};
 ghost use Rattle.cox_base.specs.Matrix.{IsLetter};
 ghost use Rattle.cox_base.specs.IntegerMatrix.{integer_matrix};
-ghost use Rattle.cox_base.specs.Admissible.{IsCoxeterMatrix};
 ghost use Rattle.cox_base.specs.ShortLex.{normal_form};
-ghost use Rattle.cox_context.specs.Closed.{IsClosed};
 ghost use Rattle.cox_context.specs.Numbers.{word_at};
-ghost use Rattle.cox_context.specs.Shifts.{AreLeftShifts, IsLower};
+ghost use Rattle.cox_context.specs.Shifts.{IsLower};
 ghost use Rattle.cox_context.specs.Growth.{AreLower, IsOutside};
 
-use crate::members::Members;
-use crate::shifts::{NO_MEMBER, left_shift, lower_shift};
-use cox_base::{Coxeter, MAX_RANK};
+use crate::shifts::{LeftShifts, NO_MEMBER};
+use cox_base::MAX_RANK;
 
 /// An element below y is not among the members.
 #[derive(Clone, Copy)]
 pub(crate) struct Outside;
 
 /// The numbers of the t y, in the order of the letters, for y = s x with the member x of the number i.
-pub(crate) fn lower_members(
-    g: &Coxeter,
-    members: &Members,
-    left: &[u32],
-    s: u8,
-    i: u32,
-) -> Result<[u32; MAX_RANK], Outside>
-    requires matrix { IsCoxeterMatrix g.now }
-    requires closed { IsClosed (integer_matrix g.now) members.now }
-    requires left { AreLeftShifts (integer_matrix g.now) members.now left.now }
-    requires letter { IsLetter g.now.rank s }
-    requires member { i < length members.now }
-    requires new { ¬ (Contains members.now (normal_form (integer_matrix g.now) (s ∷ word_at members.now i))) }
-    ensures lower { IfOk result (AreLower (integer_matrix g.now) members.now (s ∷ word_at members.now i)) }
-    ensures outside { OnErr result (IsOutside (integer_matrix g.now) members.now (s ∷ word_at members.now i) (length (word_at members.now i))) }
+pub(crate) fn lower_members(shifts: &LeftShifts, s: u8, i: u32) -> Result<[u32; MAX_RANK], Outside>
+    requires letter { IsLetter shifts.now.matrix.rank s }
+    requires member { i < length shifts.now.members }
+    requires new { ¬ (Contains shifts.now.members (normal_form (integer_matrix shifts.now.matrix) (s ∷ word_at shifts.now.members i))) }
+    ensures lower { IfOk result (AreLower (integer_matrix shifts.now.matrix) shifts.now.members (s ∷ word_at shifts.now.members i)) }
+    ensures outside { OnErr result (IsOutside (integer_matrix shifts.now.matrix) shifts.now.members (s ∷ word_at shifts.now.members i) (length (word_at shifts.now.members i))) }
 {
     let mut lower = [NO_MEMBER; MAX_RANK];
-    for t in 1..g.rank() as u8 + 1 {
-        if let Some(k) = lower_member(g, members, left, s, t, i)? {
+    for t in 1..shifts.rank() as u8 + 1 {
+        if let Some(k) = lower_member(shifts, s, t, i)? {
             lower[t as usize - 1] = k;
         }
     }
@@ -47,51 +35,33 @@ pub(crate) fn lower_members(
 }
 
 /// The number of t y, where t shortens y.
-fn lower_member(
-    g: &Coxeter,
-    members: &Members,
-    left: &[u32],
-    s: u8,
-    t: u8,
-    i: u32,
-) -> Result<Option<u32>, Outside>
-    requires matrix { IsCoxeterMatrix g.now }
-    requires closed { IsClosed (integer_matrix g.now) members.now }
-    requires left { AreLeftShifts (integer_matrix g.now) members.now left.now }
-    requires letter_s { IsLetter g.now.rank s }
-    requires letter_t { IsLetter g.now.rank t }
-    requires member { i < length members.now }
-    requires new { ¬ (Contains members.now (normal_form (integer_matrix g.now) (s ∷ word_at members.now i))) }
-    ensures lower { IfOk result (IsLower (integer_matrix g.now) members.now (s ∷ word_at members.now i) t) }
-    ensures outside { OnErr result (IsOutside (integer_matrix g.now) members.now (s ∷ word_at members.now i) (length (word_at members.now i))) }
+fn lower_member(shifts: &LeftShifts, s: u8, t: u8, i: u32) -> Result<Option<u32>, Outside>
+    requires letter_s { IsLetter shifts.now.matrix.rank s }
+    requires letter_t { IsLetter shifts.now.matrix.rank t }
+    requires member { i < length shifts.now.members }
+    requires new { ¬ (Contains shifts.now.members (normal_form (integer_matrix shifts.now.matrix) (s ∷ word_at shifts.now.members i))) }
+    ensures lower { IfOk result (IsLower (integer_matrix shifts.now.matrix) shifts.now.members (s ∷ word_at shifts.now.members i) t) }
+    ensures outside { OnErr result (IsOutside (integer_matrix shifts.now.matrix) shifts.now.members (s ∷ word_at shifts.now.members i) (length (word_at shifts.now.members i))) }
 {
+    let _rank = shifts.rank();
     if t == s {
         return Ok(Some(i));
     }
-    walk(g, members, left, s, t, i)
+    walk(shifts, s, t, i)
 }
 
 /// The number of t y, where t shortens y and is not s.
-fn walk(
-    g: &Coxeter,
-    members: &Members,
-    left: &[u32],
-    s: u8,
-    t: u8,
-    i: u32,
-) -> Result<Option<u32>, Outside>
-    requires matrix { IsCoxeterMatrix g.now }
-    requires closed { IsClosed (integer_matrix g.now) members.now }
-    requires left { AreLeftShifts (integer_matrix g.now) members.now left.now }
-    requires letter_s { IsLetter g.now.rank s }
-    requires letter_t { IsLetter g.now.rank t }
+fn walk(shifts: &LeftShifts, s: u8, t: u8, i: u32) -> Result<Option<u32>, Outside>
+    requires letter_s { IsLetter shifts.now.matrix.rank s }
+    requires letter_t { IsLetter shifts.now.matrix.rank t }
     requires apart { ¬ (t ≡ s) }
-    requires member { i < length members.now }
-    requires new { ¬ (Contains members.now (normal_form (integer_matrix g.now) (s ∷ word_at members.now i))) }
-    ensures lower { IfOk result (IsLower (integer_matrix g.now) members.now (s ∷ word_at members.now i) t) }
-    ensures outside { OnErr result (IsOutside (integer_matrix g.now) members.now (s ∷ word_at members.now i) (length (word_at members.now i))) }
+    requires member { i < length shifts.now.members }
+    requires new { ¬ (Contains shifts.now.members (normal_form (integer_matrix shifts.now.matrix) (s ∷ word_at shifts.now.members i))) }
+    ensures lower { IfOk result (IsLower (integer_matrix shifts.now.matrix) shifts.now.members (s ∷ word_at shifts.now.members i) t) }
+    ensures outside { OnErr result (IsOutside (integer_matrix shifts.now.matrix) shifts.now.members (s ∷ word_at shifts.now.members i) (length (word_at shifts.now.members i))) }
 {
-    let order = g.label(t, s);
+    let _rank = shifts.rank();
+    let order = shifts.label(t, s);
     if order == 0 {
         return Ok(None);
     }
@@ -99,7 +69,7 @@ fn walk(
     let mut letter = t;
     let mut other = s;
     'down: for _down in 1..order {
-        let Some(lower) = lower_shift(g, members, left, letter, at) else {
+        let Some(lower) = shifts.lower(letter, at) else {
             return Ok(None);
         };
         at = lower;
@@ -108,7 +78,7 @@ fn walk(
         letter = next;
     }
     'up: for _up in 1..order {
-        let Some(higher) = left_shift(g, members, left, letter, at) else {
+        let Some(higher) = shifts.shift(letter, at) else {
             return Err(Outside);
         };
         at = higher;

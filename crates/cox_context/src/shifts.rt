@@ -1,6 +1,6 @@
 //! Tables of shifts: for each member, in order, one entry for each letter.
 ghost use Rattle.std.specs.Prelude.{◌≡◌, ◌+◌, ◌-◌, ◌*◌, ◌<◌, ◌≤◌, ◌∷◌, length};
-ghost use Rattle.cox_base.specs.Matrix.{IsLetter};
+ghost use Rattle.cox_base.specs.Matrix.{IsLetter, label};
 ghost use Rattle.cox_base.specs.IntegerMatrix.{integer_matrix};
 ghost use Rattle.cox_base.specs.Admissible.{IsCoxeterMatrix};
 ghost use Rattle.cox_base.specs.ShortLex.{normal_form};
@@ -11,6 +11,7 @@ ghost use Rattle.cox_context.specs.Shifts.{entry, AreLeftShifts, IsLower};
 
 use crate::members::{MAX_MEMBERS, Members};
 use cox_base::{Coxeter, MAX_RANK};
+use std::marker::Model;
 
 /// The entry where there is no member.
 pub(crate) const NO_MEMBER: u32 = u32::MAX;
@@ -50,32 +51,85 @@ pub(crate) fn number_at(numbers: &[u32], i: u32) -> Option<u32>
     entry(numbers, 1, 1, i)
 }
 
-/// The number of s x for the member x with the number i, where it is a member.
-pub(crate) fn left_shift(g: &Coxeter, members: &Members, left: &[u32], s: u8, i: u32) -> Option<u32>
-    requires left { AreLeftShifts (integer_matrix g.now) members.now left.now }
-    requires letter { IsLetter g.now.rank s }
-    requires member { i < length members.now }
-    ensures { IsNumberOf members.now (normal_form (integer_matrix g.now) (s ∷ word_at members.now i)) result }
-{
-    prove!(members.len() <= MAX_MEMBERS);
-    entry(left, g.rank(), s, i)
+/// Members of a group, closed downwards in Bruhat order, with the table of their left shifts, as they are lent. Contracts see the Coxeter matrix and
+/// the members.
+#[derive(Drop)]
+pub(crate) struct LeftShifts<'a> {
+    group: &'a Coxeter,
+    members: &'a Members,
+    table: &'a [u32],
 }
 
-/// The number of s x for the member x with the number i, where s shortens x.
-pub(crate) fn lower_shift(
-    g: &Coxeter,
-    members: &Members,
-    left: &[u32],
-    s: u8,
-    i: u32,
-) -> Option<u32>
-    requires matrix { IsCoxeterMatrix g.now }
-    requires closed { IsClosed (integer_matrix g.now) members.now }
-    requires left { AreLeftShifts (integer_matrix g.now) members.now left.now }
-    requires letter { IsLetter g.now.rank s }
-    requires member { i < length members.now }
-    ensures { IsLower (integer_matrix g.now) members.now (word_at members.now i) s result }
-{
-    let shift = left_shift(g, members, left, s, i)?;
-    if shift < i { Some(shift) } else { None }
+impl<'a> Model for LeftShifts<'a> {
+    ghost use Rattle.cox_base.specs.IntegerMatrix.{integer_matrix};
+    ghost use Rattle.cox_context.specs.Closed.{Elements};
+    ghost use Rattle.cox_context.specs.LentShifts.{HaveLeftShifts};
+
+    ghost Value = { Elements };
+
+    ghost view = { λ s. record { matrix = s.group.now; members = s.members.now } };
+
+    ghost invariant = { λ s. HaveLeftShifts (integer_matrix s.group.now) s.members.now s.table.now };
+}
+
+impl<'a> LeftShifts<'a> {
+    /// The members with their table.
+    pub(crate) fn new(group: &'a Coxeter, members: &'a Members, table: &'a [u32]) -> LeftShifts<'a>
+        requires closed { IsClosed (integer_matrix group.now) members.now }
+        requires left { AreLeftShifts (integer_matrix group.now) members.now table.now }
+        ensures { result ≡ record { matrix = group.now; members = members.now } }
+    {
+        LeftShifts {
+            group,
+            members,
+            table,
+        }
+    }
+
+    /// The rank of the group.
+    pub(crate) fn rank(&self) -> u32
+        ensures rank { result ≡ self.now.matrix.rank }
+        ensures limit { result ≤ MAX_RANK }
+        ensures matrix { IsCoxeterMatrix self.now.matrix }
+        ensures closed { IsClosed (integer_matrix self.now.matrix) self.now.members }
+    {
+        self.group.rank()
+    }
+
+    /// m(s,t), as `Coxeter::label` tells it.
+    pub(crate) fn label(&self, s: u8, t: u8) -> u32
+        requires s { IsLetter self.now.matrix.rank s }
+        requires t { IsLetter self.now.matrix.rank t }
+        ensures { result ≡ label self.now.matrix s t }
+    {
+        self.group.label(s, t)
+    }
+
+    /// The members.
+    pub(crate) fn members(&self) -> &'a Members
+        ensures { result.now ≡ self.now.members }
+    {
+        self.members
+    }
+
+    /// The number of s x for the member x with the number i, where it is a member.
+    pub(crate) fn shift(&self, s: u8, i: u32) -> Option<u32>
+        requires letter { IsLetter self.now.matrix.rank s }
+        requires member { i < length self.now.members }
+        ensures { IsNumberOf self.now.members (normal_form (integer_matrix self.now.matrix) (s ∷ word_at self.now.members i)) result }
+    {
+        prove!(self.members.len() <= MAX_MEMBERS);
+        entry(self.table, self.group.rank(), s, i)
+    }
+
+    /// The number of s x for the member x with the number i, where s shortens x.
+    pub(crate) fn lower(&self, s: u8, i: u32) -> Option<u32>
+        requires letter { IsLetter self.now.matrix.rank s }
+        requires member { i < length self.now.members }
+        ensures { IsLower (integer_matrix self.now.matrix) self.now.members (word_at self.now.members i) s result }
+    {
+        let _rank = self.rank();
+        let shift = self.shift(s, i)?;
+        if shift < i { Some(shift) } else { None }
+    }
 }

@@ -17,7 +17,8 @@ use Rattle.cox_rpoly.specs.RPolynomial.{r_polynomial}
 use Rattle.cox_rpoly.proofs.PolynomialLemmas.{r_polynomial-same}
 use Rattle.cox_hecke.specs.Family.{Family, RespectsElements}
 use Rattle.cox_hecke.specs.Operators.{shortens_left}
-use Rattle.cox_hecke.specs.Sums.{occurrences, bar_sum}
+use Rattle.cox_hecke.specs.Sums.{bar_sum}
+use Rattle.cox_hecke.specs.ListedElements.{occurrences}
 use Rattle.cox_hecke.specs.ClosedLists.{IsClosedUnder}
 use Rattle.cox_hecke.specs.StepFamily.{step}
 use Rattle.cox_hecke.proofs.Descents.{nat_lt-yes, nat_lt-no, yes-nat_lt, no-nat_lt, shortens_left-same, shortens_left-back}

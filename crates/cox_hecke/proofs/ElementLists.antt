@@ -1,26 +1,34 @@
 -- Lists of the elements below w, each once, by a descent s of w: x and sx for each x below sw with sx > x. And of those between two
--- elements.
-use Rattle.std.proofs.Common.{◌≡◌, ℕ, zero, suc, Bool, true, false, not, if◌then◌else◌, List, [], ◌∷◌, ◌⊎◌, inl, inr, ⊎_elim, filter}
-use Rattle.std.proofs.Common.{refl, ap, sym, ◌∙◌, arith}
+-- elements, also in ShortLex order.
+use Rattle.std.proofs.Common.{◌≡◌, ℕ, zero, suc, ◌<◌, Bool, true, false, not, if◌then◌else◌, List, [], ◌∷◌, ◌⊎◌, inl, inr, ⊎_elim, filter}
+use Rattle.std.proofs.Common.{refl, ap, sym, ◌∙◌, arith, subst, map, length, get_or, Contains}
 use Rattle.std.specs.Prelude.{◌==◌}
-use Rattle.std.proofs.lemmas.Bool.{false≢true}
+use Rattle.std.proofs.lemmas.Bool.{cases_order, false≢true}
+use Rattle.std.proofs.lemmas.List.{get_or_default}
 use Rattle.cox_base.specs.Matrix.{IsLetter}
 use Rattle.cox_base.specs.IntegerMatrix.{IntegerMatrix}
 use Rattle.cox_base.specs.Admissible.{IsAdmissible}
 use Rattle.cox_base.specs.Element.{SameElement}
 use Rattle.cox_base.specs.Length.{word_length}
 use Rattle.cox_base.specs.Descents.{IsLeftDescent}
+use Rattle.cox_base.specs.ShortLex.{normal_form}
 use Rattle.cox_base.specs.Bruhat.{IsBelow}
+use Rattle.cox_base.specs.Members.{IsElement}
+use Rattle.cox_base.specs.SortedList.{IsRising, IsListOf}
+use Rattle.cox_base.specs.Interval.{IsBetween}
 use Rattle.cox_reflect.proofs.Elements.{same-refl, same-sym, same-trans, same-cons, same-square}
+use Rattle.cox_reflect.proofs.Members.{In, here, there, Each-map, Each-from, In-map}
+use Rattle.cox_reflect.proofs.Search.{normal_form-same, normal_form-equal}
 use Rattle.cox_reflect.proofs.Lengths.{cons-word_length, empty_same}
+use Rattle.cox_reflect.proofs.ShortLexFirst.{IsBefore-irrefl, shortlex_cmp-before}
+use Rattle.cox_reflect.proofs.NormalElements.{element-normal_form, element-unique}
+use Rattle.cox_reflect.proofs.Listing.{listing, in-contains}
 use Rattle.cox_reflect.proofs.Roots.{left_descent-letter}
 use Rattle.cox_reflect.proofs.Bruhat.{below-same, below-refl, below_identity, lift_down, lift_up}
-use Rattle.cox_hecke.specs.Family.{is_same}
+use Rattle.cox_hecke.specs.ListedElements.{is_same, occurrences, ListsEach, LiesBetween}
 use Rattle.cox_hecke.specs.Operators.{shortens_left}
-use Rattle.cox_hecke.specs.Sums.{occurrences, ListsEach}
-use Rattle.cox_hecke.specs.Row.{LiesBetween}
 use Rattle.cox_hecke.proofs.Descents.{yes-nat_lt, no-nat_lt, shortens_left-same, shortens_left-back, some_left_descent}
-use Rattle.cox_hecke.proofs.SumLemmas.{same-is_same, is_same-same, not_same-is_same, same_or_not}
+use Rattle.cox_hecke.proofs.SumLemmas.{same-is_same, is_same-same, not_same-is_same, same_or_not, occurrences-at}
 
 -- x and sx for each x of the list with sx > x
 abbrev pub paired : IntegerMatrix → ℕ → List (List ℕ) → List (List ℕ)
@@ -174,5 +182,94 @@ module _ (A : IntegerMatrix) (g : IsAdmissible A) where
       go y (inl b) (inr c) = inr (count y ∙ rw (above-yes x y b) c.0, λ (i : LiesBetween A x w y). c.1 i.below)
       go y (inr n) c = inr (count y ∙ rw (above-no x y n) refl, λ (i : LiesBetween A x w y). n i.above)
 
-  pub between_listed : (x w : List ℕ) → (words : List (List ℕ)) × ListsEach A (LiesBetween A x w) words
-  between_listed x w = let list = between_list x w in (list.0, Tells-ListsEach A (LiesBetween A x w) list.0 list.1)
+  -- ---- the same in ShortLex order
+
+  -- what a list names is the element of one of its words
+  named_or_none : (y : List ℕ) (words : List (List ℕ))
+      → (occurrences A y words ≡ 0) ⊎ ((z : List ℕ) × In z words × SameElement A y z)
+  named_or_none y [] = inl refl
+  named_or_none y (z ∷ words) = go (is_same A y z) refl (named_or_none y words)
+    where
+      go : (b : Bool) → is_same A y z ≡ b → (occurrences A y words ≡ 0) ⊎ ((x : List ℕ) × In x words × SameElement A y x)
+          → (occurrences A y (z ∷ words) ≡ 0) ⊎ ((x : List ℕ) × In x (z ∷ words) × SameElement A y x)
+      go true t rest = inr (z, here, is_same-same A g y z t)
+      go false t (inl absent) = inl (rw t absent)
+      go false t (inr found) = inr (found.0, there found.1, found.2)
+
+  -- and each of its words is named
+  in-named : {z : List ℕ} {words : List (List ℕ)} → In z words → occurrences A z words ≡ 0 → ⊥
+  in-named {z} (here {xs = words}) e =
+      let f : suc (occurrences A z words) ≡ 0 = rw (same-is_same A g (same-refl A g z)) at e in omega (arith, f)
+  in-named {z} (there {y = y} {xs = words} i) e = go (is_same A z y) e (in-named i)
+    where
+      go : (b : Bool) → (if b then suc (occurrences A z words) else occurrences A z words) ≡ 0 → (occurrences A z words ≡ 0 → ⊥) → ⊥
+      go true e rest = omega (arith, e)
+      go false e rest = rest e
+
+  between-same : (x w : List ℕ) {y z : List ℕ} → SameElement A y z → LiesBetween A x w y → LiesBetween A x w z
+  between-same x w e b = record {
+    above = below-same A g (same-refl A g x) e b.above;
+    below = below-same A g e (same-refl A g w) b.below;
+  }
+
+  -- there is a list in ShortLex order of what is between x and w ..
+  pub sorted_between : (x w : List ℕ) → (words : List (List ℕ)) × IsListOf (IsBetween A x w) words
+  sorted_between x w = listing (IsBetween A x w) (map (normal_form A) list.0)
+      (Each-map (IsBetween A x w) (normal_form A) (Each-from list.0 between))
+      (λ y b. ⊎_elim (λ (none : occurrences A y list.0 ≡ 0). absurd (omega (
+        arith,
+        none,
+        (Tells-ListsEach A (LiesBetween A x w) list.0
+            list.1).once y (record { above = b.above; below = b.below }),
+      )))
+      (λ (found : (z : List ℕ) × In z list.0 × SameElement A y z). subst (λ (z : List ℕ). In z (map (normal_form A) list.0))
+      (normal_form-equal A g (same-sym A g found.2) ∙ b.element.normal) (In-map (normal_form A) found.1))
+      (named_or_none y list.0))
+    where
+      list : (words : List (List ℕ)) × Tells A (λ y. LiesBetween A x w y) words
+      list = between_list x w
+
+      between : (y : List ℕ) → In y list.0 → IsBetween A x w (normal_form A y)
+      between y i =
+          let b : LiesBetween A x w y = ⊎_elim (λ c. c.1) (λ n. absurd (in-named i n.0)) (list.1 y)
+          in let c = between-same x w (same-sym A g (normal_form-same A g y)) b
+          in record { element = element-normal_form A g y; above = c.above; below = c.below }
+
+  -- .. and such a list names each element once
+  pub sorted-once : (x w : List ℕ) (words : List (List ℕ)) → IsListOf (IsBetween A x w) words → (y : List ℕ) → LiesBetween A x w y
+      → occurrences A y words ≡ 1
+  sorted-once x w words are y b = occurrences-at A g words y found.0 found.1 (rw at (same-sym A g (normal_form-same A g y))) only
+    where
+      n : List ℕ
+      n = normal_form A y
+
+      found : Contains words n
+      found =
+          let c = between-same x w (same-sym A g (normal_form-same A g y)) b
+          in are.whole n (record { element = element-normal_form A g y; above = c.above; below = c.below })
+
+      at : get_or words found.0 [] ≡ n
+      at = get_or_default words found.0 [] n found.1 ∙ found.2
+
+      apart : (i j : ℕ) → i < j → j < length words → get_or words i [] ≡ get_or words j [] → ⊥
+      apart i j l m e = IsBefore-irrefl (rw e at (shortlex_cmp-before (get_or words i []) (get_or words j []) (are.rising i j l m)))
+
+      only : (j : ℕ) → j < length words → SameElement A y (get_or words j []) → j ≡ found.0
+      only j l same =
+          let member = are.sound (get_or words j []) (j, l, get_or_default words j (get_or words j []) [] l)
+          in let equal : get_or words j [] ≡ get_or words found.0 [] =
+          element-unique A g (get_or words j []) n member.element (element-normal_form A g y)
+          (same-trans A g (same-sym A g same) (same-sym A g (normal_form-same A g y))) ∙ sym at
+          in ⊎_elim (λ (e : j ≡ found.0). e)
+          (λ side. ⊎_elim (λ (less : j < found.0). absurd (apart j found.0 less found.1 equal))
+          (λ (more : found.0 < j). absurd (apart found.0 j more l (sym equal))) side)
+          (cases_order j found.0)
+
+  pub sorted-lists : (x w : List ℕ) (words : List (List ℕ)) → IsListOf (IsBetween A x w) words → ListsEach A (LiesBetween A x w) words
+  sorted-lists x w words are = record {
+    once = sorted-once x w words are;
+    no_other = λ y n. ⊎_elim (λ (none : occurrences A y words ≡ 0). none)
+        (λ (found : (z : List ℕ) × In z words × SameElement A y z). let b = are.sound found.0 (in-contains found.1)
+        in absurd (n (between-same x w (same-sym A g found.2) (record { above = b.above; below = b.below }))))
+        (named_or_none y words);
+  }

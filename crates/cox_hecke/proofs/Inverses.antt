@@ -8,16 +8,21 @@ use Rattle.cox_base.specs.Admissible.{IsAdmissible}
 use Rattle.cox_base.specs.Element.{SameElement}
 use Rattle.cox_base.specs.Length.{word_length}
 use Rattle.cox_base.specs.Bruhat.{IsBelow}
+use Rattle.cox_base.specs.SortedList.{IsListOf}
+use Rattle.cox_base.specs.Interval.{IsBetween}
 use Rattle.cox_reflect.proofs.Elements.{same-reverse}
 use Rattle.cox_reflect.proofs.Lengths.{word_length-reverse}
 use Rattle.cox_reflect.proofs.Bruhat.{below_reverse}
 use Rattle.cox_poly.specs.Coefficients.{Coefficients}
 use Rattle.cox_poly.specs.Products.{flip, product}
-use Rattle.cox_hecke.specs.Family.{Family, is_same}
-use Rattle.cox_hecke.specs.Sums.{occurrences, ListsEach, bar_sum}
-use Rattle.cox_hecke.specs.Row.{LiesBetween, IsRow}
+use Rattle.cox_hecke.specs.Family.{Family}
+use Rattle.cox_hecke.specs.Sums.{bar_sum}
+use Rattle.cox_hecke.specs.Row.{IsRow}
+use Rattle.cox_hecke.specs.ListedElements.{is_same, occurrences, LiesBetween}
 use Rattle.cox_hecke.proofs.Signed.{at_inverses, at_inverses-respects}
 use Rattle.cox_hecke.proofs.SumLemmas.{same_or_not, same-is_same, not_same-is_same}
+use Rattle.cox_hecke.proofs.ElementLists.{sorted-once}
+use Rattle.cox_hecke.proofs.RowLemmas.{row-bar}
 use Rattle.cox_hecke.proofs.RPolynomials.{r-inverse}
 
 module _ (A : IntegerMatrix) (g : IsAdmissible A) where
@@ -58,26 +63,16 @@ module _ (A : IntegerMatrix) (g : IsAdmissible A) where
       sums x (y ∷ words) k =
           omega (arith, ints, sums x words k, ap (λ (f : Coefficients). product f (p (reverse y)) k) (r-inverse A g x y))
 
-      each : (x : List ℕ) (between : List (List ℕ)) → ListsEach A (LiesBetween A x (reverse w)) between
-          → ListsEach A (LiesBetween A (reverse x) w) (map reverse between)
-      each x between list = record {
-        once = λ y b. occurrences-reverse y between ∙ list.once (reverse y)
-            (record { above = below-unreverse_both x y b.above; below = (below_reverse A g y w).0 b.below });
-        no_other = λ y n. occurrences-reverse y between ∙ list.no_other (reverse y)
-            (λ c. n (record { above = below-reverse_both x y c.above; below = (below_reverse A g y w).1 c.below }));
-      }
-        where
-          below-unreverse_both : (x y : List ℕ) → IsBelow A (reverse x) y → IsBelow A x (reverse y)
-          below-unreverse_both x y b = below-unreverse b
+      once : (x : List ℕ) (between : List (List ℕ)) → IsListOf (IsBetween A x (reverse w)) between → (y : List ℕ)
+          → LiesBetween A (reverse x) w y → occurrences A y (map reverse between) ≡ 1
+      once x between are y b = occurrences-reverse y between ∙ sorted-once A g x (reverse w) between are (reverse y)
+          (record { above = below-unreverse b.above; below = (below_reverse A g y w).0 b.below })
 
-          below-reverse_both : (x y : List ℕ) → IsBelow A x (reverse y) → IsBelow A (reverse x) y
-          below-reverse_both x y b = unreverse-below b
-
-      bar : (x : List ℕ) (between : List (List ℕ)) → IsBelow A x (reverse w) → ListsEach A (LiesBetween A x (reverse w)) between → (k : ℕ)
+      bar : (x : List ℕ) (between : List (List ℕ)) → IsBelow A x (reverse w) → IsListOf (IsBetween A x (reverse w)) between → (k : ℕ)
           → flip (word_length A (reverse w) - word_length A x) (at_inverses p x) k ≡ bar_sum A between (at_inverses p) x k
-      bar x between b list k =
+      bar x between b are k =
           ap (λ (n : ℕ). flip n (p (reverse x)) k) difference
-          ∙ row.bar (reverse x) (map reverse between) (unreverse-below b) (each x between list) k ∙ sums x between k
+          ∙ row-bar A g w p row (reverse x) (map reverse between) (unreverse-below b) (once x between are) k ∙ sums x between k
         where
           difference : word_length A (reverse w) - word_length A x ≡ word_length A w - word_length A (reverse x)
           difference = rw (word_length-reverse A g w, word_length-reverse A g x) refl

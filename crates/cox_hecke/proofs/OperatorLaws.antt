@@ -16,7 +16,8 @@ use Rattle.cox_reflect.proofs.Search.{word_length-equal, word_length-length}
 use Rattle.cox_base.specs.Length.{word_length}
 use Rattle.cox_reflect.proofs.Lengths.{IsReduced-reverse, IsReduced-tail, empty_same}
 use Rattle.cox_poly.specs.Coefficients.{Coefficients, zero_polynomial, plus, times_q, times_q_less_one}
-use Rattle.cox_hecke.specs.Family.{Family, RespectsElements, is_same}
+use Rattle.cox_hecke.specs.Family.{Family, RespectsElements}
+use Rattle.cox_hecke.specs.ListedElements.{is_same}
 use Rattle.cox_hecke.specs.Operators.{basis, shortens_left, left, right, left_inverse, right_inverse, left_word, right_word}
 use Rattle.cox_hecke.specs.Operators.{left_inverse_word}
 use Rattle.cox_hecke.specs.StepFamily.{step}

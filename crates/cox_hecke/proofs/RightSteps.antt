@@ -19,8 +19,8 @@ use Rattle.cox_poly.specs.Products.{times_q_power}
 use Rattle.cox_poly.specs.Multiples.{minus, scaled}
 use Rattle.cox_hecke.specs.Family.{Family}
 use Rattle.cox_hecke.specs.Operators.{shortens_left, shortens_right}
-use Rattle.cox_hecke.specs.Sums.{occurrences}
 use Rattle.cox_hecke.specs.Row.{IsRow, IsMu}
+use Rattle.cox_hecke.specs.ListedElements.{occurrences}
 use Rattle.cox_hecke.specs.Step.{IsCorrection}
 use Rattle.cox_hecke.specs.StepFamily.{step, Correction, corrected_elements, AreCorrections, correction_sum}
 use Rattle.cox_hecke.proofs.Descents.{reverse-back, shortens-reverse}

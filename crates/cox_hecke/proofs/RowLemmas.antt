@@ -19,11 +19,12 @@ use Rattle.cox_poly.proofs.Coefficients.{flip_at}
 use Rattle.cox_poly.proofs.Products.{product_of_none, product-zero, one-product}
 use Rattle.cox_rpoly.specs.RPolynomial.{r_polynomial}
 use Rattle.cox_rpoly.proofs.PolynomialLemmas.{r_polynomial-not_below, r_polynomial-equal}
-use Rattle.cox_hecke.specs.Family.{Family, RespectsElements, is_same}
-use Rattle.cox_hecke.specs.Sums.{occurrences, bar_sum}
-use Rattle.cox_hecke.specs.Row.{LiesBetween, IsRow}
+use Rattle.cox_hecke.specs.Family.{Family, RespectsElements}
+use Rattle.cox_hecke.specs.Sums.{bar_sum}
+use Rattle.cox_hecke.specs.Row.{IsRow}
+use Rattle.cox_hecke.specs.ListedElements.{is_same, occurrences, LiesBetween}
 use Rattle.cox_hecke.proofs.SumLemmas.{sum_over-equal, sum_over-none, sum_over-one, sum_over-lists, same-is_same}
-use Rattle.cox_hecke.proofs.ElementLists.{Tells-ListsEach, below_list, below_or_not, between_list}
+use Rattle.cox_hecke.proofs.ElementLists.{Tells-ListsEach, below_list, below_or_not, sorted_between, sorted-once}
 use Rattle.cox_hecke.proofs.BarSums.{bar_term-respects}
 use Rattle.cox_hecke.proofs.Balance.{Balanced, Balanced-minus, bar_sum-minus, flip-none}
 
@@ -87,6 +88,15 @@ module _ (A : IntegerMatrix) (g : IsAdmissible A) where
     pub row-other : (x : List ℕ) → word_length A w ≤ word_length A x → (SameElement A x w → ⊥) → (k : ℕ) → p x k ≡ pos 0
     row-other x l n = row.outside x (λ b. n (below-equal_length A g b (omega (arith, l, below-length A g b))))
 
+    -- the last condition, over any list that names each element between x and w once
+    pub row-bar : (x : List ℕ) (words : List (List ℕ)) → IsBelow A x w
+        → ((y : List ℕ) → LiesBetween A x w y → occurrences A y words ≡ 1)
+        → (k : ℕ) → flip (word_length A w - word_length A x) (p x) k ≡ bar_sum A words p x k
+    row-bar x words b once k =
+        let list = sorted_between A g x w
+        in row.bar x list.0 b list.1 k
+        ∙ bar_sum-lists w p row.outside row.element x list.0 words (sorted-once A g x w list.0 list.1) once k
+
     pub row-balanced : (words : List (List ℕ)) → ((y : List ℕ) → IsBelow A y w → occurrences A y words ≡ 1)
         → Balanced A (word_length A w) p (bar_sum A words p)
     row-balanced words once = record {
@@ -105,10 +115,7 @@ module _ (A : IntegerMatrix) (g : IsAdmissible A) where
         turned : (x : List ℕ) (d : ℕ) → word_length A w ≡ word_length A x + d → IsBelow A x w → flip d (p x) ≡ bar_sum A words p x
         turned x d e b =
             let difference : word_length A w - word_length A x ≡ d = omega (arith, e)
-            in let list = between_list A g x w
-            in let each = Tells-ListsEach A (LiesBetween A x w) list.0 list.1
-            in λ i k. (ap (λ (d : ℕ). flip d (p x) k) (sym difference) ∙ row.bar x list.0 b each k
-            ∙ bar_sum-lists w p row.outside row.element x list.0 words each.once (λ y c. once y c.below) k) i
+            in λ i k. (ap (λ (d : ℕ). flip d (p x) k) (sym difference) ∙ row-bar x words b (λ y c. once y c.below) k) i
 
   -- and back
   pub row-from : (w : List ℕ) (f : Family) (words : List (List ℕ)) → RespectsElements A f
@@ -120,9 +127,10 @@ module _ (A : IntegerMatrix) (g : IsAdmissible A) where
     outside = outside;
     top = top;
     degree = degree;
-    bar = λ x between b each k.
+    bar = λ x between b are k.
         ap (λ (h : Coefficients). h k) (balanced.turned x (word_length A w - word_length A x) (omega (arith, below-length A g b)))
-        ∙ bar_sum-lists w f outside respects x words between (λ y c. once y c.below) each.once k;
+        ∙ bar_sum-lists w f outside respects x words between (λ y c. once y c.below)
+        (sorted-once A g x w between are) k;
   }
 
   -- a row of w is that of each of its words

@@ -9,7 +9,8 @@ use Rattle.cox_poly.specs.Coefficients.{Coefficients, plus, times_q}
 use Rattle.cox_poly.specs.Multiples.{minus}
 use Rattle.cox_hecke.specs.Family.{Family}
 use Rattle.cox_hecke.specs.Row.{IsRow}
-use Rattle.cox_hecke.specs.Step.{times_letter, IsDescent, shortens}
+use Rattle.cox_base.specs.SideDescents.{times_letter, IsDescent}
+use Rattle.cox_hecke.specs.StepFamily.{shortens}
 use Rattle.cox_hecke.specs.StepFamily.{step, Correction, AreCorrections, correction_sum, IsStepFamily}
 use Rattle.cox_hecke.proofs.AllRows.{row_of, row_of-is}
 use Rattle.cox_hecke.proofs.LeftSteps.{left-recursion, left-corrections_exist}

@@ -16,10 +16,10 @@ use Rattle.cox_reflect.proofs.Bruhat.{below-same, below-trans, below-length, bel
 use Rattle.cox_poly.specs.Coefficients.{Coefficients, zero_polynomial, one_polynomial, plus, times_q}
 use Rattle.cox_poly.specs.Products.{times_q_power}
 use Rattle.cox_poly.proofs.Coefficients.{times_q_power_at, times_q_power_below}
-use Rattle.cox_hecke.specs.Family.{Family, RespectsElements, is_same}
+use Rattle.cox_hecke.specs.Family.{Family, RespectsElements}
 use Rattle.cox_hecke.specs.Operators.{shortens_left}
-use Rattle.cox_hecke.specs.Sums.{occurrences}
 use Rattle.cox_hecke.specs.Row.{IsRow}
+use Rattle.cox_hecke.specs.ListedElements.{is_same, occurrences}
 use Rattle.cox_hecke.specs.StepFamily.{step}
 use Rattle.cox_hecke.proofs.Descents.{Moves, left_moves, shortens_left-same, shortens_left-back}
 use Rattle.cox_hecke.proofs.SumLemmas.{sum_over-equal, sum_over-none, sum_over-one, same-is_same}

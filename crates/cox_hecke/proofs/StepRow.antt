@@ -25,9 +25,10 @@ use Rattle.cox_poly.proofs.Products.{product-zero}
 use Rattle.cox_rpoly.specs.RPolynomial.{r_polynomial}
 use Rattle.cox_hecke.specs.Family.{Family, RespectsElements}
 use Rattle.cox_hecke.specs.Operators.{shortens_left}
-use Rattle.cox_hecke.specs.Sums.{occurrences, sum_over, bar_sum}
+use Rattle.cox_hecke.specs.Sums.{sum_over, bar_sum}
 use Rattle.cox_hecke.specs.ClosedLists.{IsClosedUnder}
 use Rattle.cox_hecke.specs.Row.{IsRow, middle_coefficient}
+use Rattle.cox_hecke.specs.ListedElements.{occurrences}
 use Rattle.cox_hecke.specs.StepFamily.{step}
 use Rattle.cox_hecke.proofs.Descents.{Moves, left_moves, yes-nat_lt, shortens_left-same, shortens_left-back}
 use Rattle.cox_hecke.proofs.Signed.{respected}

@@ -15,8 +15,9 @@ use Rattle.cox_reflect.proofs.Search.{normal_form-same, normal_form-equal}
 use Rattle.cox_poly.specs.Coefficients.{zero_polynomial, plus, times_q}
 use Rattle.cox_poly.specs.Multiples.{minus, scaled}
 use Rattle.cox_lemmas.proofs.Ring.{mul_add}
-use Rattle.cox_hecke.specs.Family.{Family, RespectsElements, is_same}
-use Rattle.cox_hecke.specs.Sums.{occurrences, sum_over}
+use Rattle.cox_hecke.specs.Family.{Family, RespectsElements}
+use Rattle.cox_hecke.specs.Sums.{sum_over}
+use Rattle.cox_hecke.specs.ListedElements.{is_same, occurrences}
 
 -- ---- linear
 

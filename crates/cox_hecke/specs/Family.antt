@@ -1,9 +1,7 @@
 -- Combinations of the basis elements T(x) of the Hecke algebra, with polynomials in q as coefficients.
-use Rattle.std.specs.Prelude.{◌≡◌, ℕ, Bool, nat_eq, List}
-use Rattle.std.specs.Cmp.Lexicographic.{pointwise}
+use Rattle.std.specs.Prelude.{◌≡◌, ℕ, List}
 use Rattle.cox_base.specs.IntegerMatrix.{IntegerMatrix}
 use Rattle.cox_base.specs.Element.{SameElement}
-use Rattle.cox_base.specs.ShortLex.{normal_form}
 use Rattle.cox_poly.specs.Coefficients.{Coefficients}
 
 -- A polynomial for each element x, which is given by its words: the coefficient of T(x). It may be other than 0 at infinitely many x.
@@ -13,7 +11,3 @@ Family = List ℕ → Coefficients
 -- one polynomial for each element, whichever of its words is taken
 abbrev pub RespectsElements : IntegerMatrix → Family → Type 0
 RespectsElements A h = (x y : List ℕ) → SameElement A x y → (k : ℕ) → h x k ≡ h y k
-
--- whether x and y name one element
-abbrev pub is_same : IntegerMatrix → List ℕ → List ℕ → Bool
-is_same A x y = pointwise nat_eq (normal_form A x) (normal_form A y)

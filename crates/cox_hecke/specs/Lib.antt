@@ -6,6 +6,8 @@ pub mod Operators
 pub mod Sign
 -- sums over lists of elements
 pub mod Sums
+-- lists that name elements by any of their words
+pub mod ListedElements
 -- lists of elements to which a letter can be applied
 pub mod ClosedLists
 -- rows, Kazhdan-Lusztig polynomials, mu

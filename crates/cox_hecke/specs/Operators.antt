@@ -5,7 +5,8 @@ use Rattle.cox_base.specs.IntegerMatrix.{IntegerMatrix}
 use Rattle.cox_base.specs.Length.{word_length}
 use Rattle.cox_poly.specs.Coefficients.{plus, times_q, times_q_less_one, zero_polynomial, one_polynomial}
 use Rattle.cox_poly.specs.Multiples.{minus}
-use Rattle.cox_hecke.specs.Family.{Family, is_same}
+use Rattle.cox_hecke.specs.Family.{Family}
+use Rattle.cox_hecke.specs.ListedElements.{is_same}
 
 -- whether sx < x, and whether xs < x
 abbrev pub shortens_left : IntegerMatrix → ℕ → List ℕ → Bool

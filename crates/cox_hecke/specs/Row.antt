@@ -3,15 +3,12 @@ use Rattle.std.specs.Prelude.{◌≡◌, ℕ, ◌+◌, ◌-◌, ◌*◌, ◌/◌
 use Rattle.cox_base.specs.IntegerMatrix.{IntegerMatrix}
 use Rattle.cox_base.specs.Length.{word_length}
 use Rattle.cox_base.specs.Bruhat.{IsBelow}
+use Rattle.cox_base.specs.SortedList.{IsListOf}
+use Rattle.cox_base.specs.Interval.{IsBetween}
 use Rattle.cox_poly.specs.Coefficients.{Coefficients, one_polynomial}
 use Rattle.cox_poly.specs.Products.{flip}
 use Rattle.cox_hecke.specs.Family.{Family, RespectsElements}
-use Rattle.cox_hecke.specs.Sums.{ListsEach, bar_sum}
-
--- x ≤ y ≤ w
-pub record LiesBetween (A : IntegerMatrix) (x w y : List ℕ) : Type 0 where
-  pub above : IsBelow A x y
-  pub below : IsBelow A y w
+use Rattle.cox_hecke.specs.Sums.{bar_sum}
 
 -- p is the row of w: p(w) = 1; 2 deg p(x) + 1 ≤ l(w) - l(x) where x is shorter than w; p(x) = 0 unless x ≤ w; and for each x ≤ w,
 -- with d = l(w) - l(x), q^d p(x)(1/q) is the sum of R(x,y) p(y) over the y with x ≤ y ≤ w.
@@ -21,7 +18,7 @@ pub record IsRow (A : IntegerMatrix) (w : List ℕ) (p : Family) : Type 0 where
   pub outside : (x : List ℕ) → ¬ IsBelow A x w → (k : ℕ) → p x k ≡ pos 0
   pub top : (k : ℕ) → p w k ≡ one_polynomial k
   pub degree : (x : List ℕ) (k : ℕ) → word_length A x < word_length A w → word_length A w ≤ word_length A x + 2 * k → p x k ≡ pos 0
-  pub bar : (x : List ℕ) (between : List (List ℕ)) → IsBelow A x w → ListsEach A (LiesBetween A x w) between
+  pub bar : (x : List ℕ) (between : List (List ℕ)) → IsBelow A x w → IsListOf (IsBetween A x w) between
       → (k : ℕ) → flip (word_length A w - word_length A x) (p x) k ≡ bar_sum A between p x k
 
 -- f is P(x,w): what the row of w has at x

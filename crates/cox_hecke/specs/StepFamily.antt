@@ -1,5 +1,5 @@
 -- The right side of the recursion for rows (Kazhdan and Lusztig 1979, 2.2.c; Humphreys 7.11), for a descent of w on either side.
-use Rattle.std.specs.Prelude.{◌≡◌, ℕ, ◌-◌, ◌/◌, if◌then◌else◌, List, [], ◌∷◌, map, All, ℤ}
+use Rattle.std.specs.Prelude.{◌≡◌, ℕ, ◌-◌, ◌/◌, Bool, nat_lt, if◌then◌else◌, List, [], ◌∷◌, map, All, ℤ}
 use Rattle.cox_base.specs.declared.side.Side.{Side}
 use Rattle.cox_base.specs.IntegerMatrix.{IntegerMatrix}
 use Rattle.cox_base.specs.Length.{word_length}
@@ -7,9 +7,14 @@ use Rattle.cox_poly.specs.Coefficients.{zero_polynomial, plus, times_q}
 use Rattle.cox_poly.specs.Products.{times_q_power}
 use Rattle.cox_poly.specs.Multiples.{minus, scaled}
 use Rattle.cox_hecke.specs.Family.{Family}
-use Rattle.cox_hecke.specs.Sums.{occurrences}
 use Rattle.cox_hecke.specs.Row.{IsRow}
-use Rattle.cox_hecke.specs.Step.{times_letter, shortens, IsCorrection}
+use Rattle.cox_hecke.specs.ListedElements.{occurrences}
+use Rattle.cox_base.specs.SideDescents.{times_letter}
+use Rattle.cox_hecke.specs.Step.{IsCorrection}
+
+-- whether s shortens x on the side
+abbrev pub shortens : Side → IntegerMatrix → ℕ → List ℕ → Bool
+shortens side A s x = nat_lt (word_length A (times_letter side s x)) (word_length A x)
 
 -- (1 + T(s)) p or p (1 + T(s)): on the left, at x, p(sx) + q p(x) where sx < x, else q p(sx) + p(x)
 abbrev pub step : Side → IntegerMatrix → ℕ → Family → Family

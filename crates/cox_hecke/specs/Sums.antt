@@ -1,20 +1,10 @@
 -- Sums over finitely many elements, which are listed by words.
-use Rattle.std.specs.Prelude.{◌≡◌, ℕ, suc, if◌then◌else◌, List, [], ◌∷◌}
+use Rattle.std.specs.Prelude.{ℕ, List, [], ◌∷◌}
 use Rattle.cox_base.specs.IntegerMatrix.{IntegerMatrix}
 use Rattle.cox_poly.specs.Coefficients.{Coefficients, zero_polynomial, plus}
 use Rattle.cox_poly.specs.Products.{product}
 use Rattle.cox_rpoly.specs.RPolynomial.{r_polynomial}
-use Rattle.cox_hecke.specs.Family.{Family, is_same}
-
--- how many of the words name the element of x
-abbrev pub occurrences : IntegerMatrix → List ℕ → List (List ℕ) → ℕ
-occurrences A x [] = 0
-occurrences A x (y ∷ words) = if is_same A x y then suc (occurrences A x words) else occurrences A x words
-
--- the words name the elements that have the property P, each once, and no others
-pub record ListsEach (A : IntegerMatrix) (P : List ℕ → Type 0) (words : List (List ℕ)) : Type 0 where
-  pub once : (x : List ℕ) → P x → occurrences A x words ≡ 1
-  pub no_other : (x : List ℕ) → ¬ P x → occurrences A x words ≡ 0
+use Rattle.cox_hecke.specs.Family.{Family}
 
 -- the sum of f(y) over the words y
 abbrev pub sum_over : List (List ℕ) → Family → Coefficients

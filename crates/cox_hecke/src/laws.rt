@@ -12,6 +12,8 @@ ghost use Rattle.cox_base.specs.Length.{word_length};
 ghost use Rattle.cox_base.specs.Reduced.{IsReduced};
 ghost use Rattle.cox_base.specs.Descents.{IsLeftDescent, IsRightDescent};
 ghost use Rattle.cox_base.specs.Bruhat.{IsBelow};
+ghost use Rattle.cox_base.specs.SortedList.{IsListOf};
+ghost use Rattle.cox_base.specs.Interval.{IsBetween};
 ghost use Rattle.cox_poly.specs.Coefficients.{Coefficients, plus, times_q, times_q_less_one};
 ghost use Rattle.cox_poly.specs.Products.{flip};
 ghost use Rattle.cox_poly.specs.Multiples.{minus};
@@ -19,10 +21,11 @@ ghost use Rattle.cox_rpoly.specs.RPolynomial.{r_polynomial};
 ghost use Rattle.cox_hecke.specs.Family.{Family, RespectsElements};
 ghost use Rattle.cox_hecke.specs.Operators.{basis, left, right, left_inverse, right_inverse, left_word, right_word, left_inverse_word};
 ghost use Rattle.cox_hecke.specs.Sign.{times_sign};
-ghost use Rattle.cox_hecke.specs.Sums.{ListsEach, bar_sum};
+ghost use Rattle.cox_hecke.specs.Sums.{bar_sum};
 ghost use Rattle.cox_hecke.specs.ClosedLists.{IsClosedUnder};
-ghost use Rattle.cox_hecke.specs.Row.{LiesBetween, IsRow, IsKazhdanLusztig, IsMu};
-ghost use Rattle.cox_hecke.specs.Step.{times_letter, IsDescent};
+ghost use Rattle.cox_hecke.specs.Row.{IsRow, IsKazhdanLusztig, IsMu};
+ghost use Rattle.cox_hecke.specs.ListedElements.{ListsEach, LiesBetween};
+ghost use Rattle.cox_base.specs.SideDescents.{times_letter, IsDescent};
 ghost use Rattle.cox_hecke.specs.StepFamily.{step, Correction, AreCorrections, correction_sum, IsStepFamily};
 ghost use Rattle.cox_hecke.specs.Needs.{IsNeeded};
 
@@ -104,17 +107,23 @@ pub fn r_polynomials()
         → (k : ℕ) → flip d (r_polynomial A x w) k ≡ times_sign d (r_polynomial A x w) k }
 {}
 
-/// There is a list of the elements between any two.
+/// There is a list of the elements between any two in ShortLex order. Such a list names each of them once, and no other.
 pub fn lists()
-    ensures { (A : IntegerMatrix) → IsAdmissible A → (x w : List ℕ) → (words : List (List ℕ)) × ListsEach A (LiesBetween A x w) words }
+    ensures exists { (A : IntegerMatrix) → IsAdmissible A → (x w : List ℕ) → (words : List (List ℕ)) × IsListOf (IsBetween A x w) words }
+    ensures names { (A : IntegerMatrix) → IsAdmissible A → (x w : List ℕ) (words : List (List ℕ)) → IsListOf (IsBetween A x w) words
+        → ListsEach A (LiesBetween A x w) words }
 {}
 
-/// Each element has exactly one row, whichever of its words is taken (Kazhdan and Lusztig 1979, theorem 1.1; Humphreys 7.9 to 7.11).
+/// Each element has exactly one row, whichever of its words is taken (Kazhdan and Lusztig 1979, theorem 1.1; Humphreys 7.9 to 7.11). The
+/// sums of R(x,y) p(y) are the same over any list that names each element between x and w once, by any of its words.
 pub fn rows()
     ensures unique { (A : IntegerMatrix) → IsAdmissible A → (w : List ℕ) (p r : Family) → IsRow A w p → IsRow A w r
         → (x : List ℕ) (k : ℕ) → p x k ≡ r x k }
     ensures exists { (A : IntegerMatrix) → IsAdmissible A → (w : List ℕ) → (p : Family) × IsRow A w p }
     ensures same { (A : IntegerMatrix) → IsAdmissible A → (v w : List ℕ) (p : Family) → SameElement A v w → IsRow A v p → IsRow A w p }
+    ensures any_list { (A : IntegerMatrix) → IsAdmissible A → (w : List ℕ) (p : Family) → IsRow A w p
+        → (x : List ℕ) (words : List (List ℕ)) → IsBelow A x w → ListsEach A (LiesBetween A x w) words
+        → (k : ℕ) → flip (word_length A w - word_length A x) (p x) k ≡ bar_sum A words p x k }
 {}
 
 /// There is exactly one P(x,w). It depends on the elements alone, and is 0 unless x <= w. P(sx,w) = P(x,w) for each left descent s of w,

@@ -9,7 +9,8 @@ use Rattle.cox_base.specs.Element.{SameElement}
 use Rattle.cox_base.specs.ShortLex.{normal_form}
 use Rattle.cox_reflect.proofs.Elements.{same-refl, same-sym}
 use Rattle.cox_reflect.proofs.Search.{normal_form-same}
-use Rattle.cox_hecke.specs.Step.{times_letter, IsDescent, IsCorrection}
+use Rattle.cox_base.specs.SideDescents.{times_letter, IsDescent}
+use Rattle.cox_hecke.specs.Step.{IsCorrection}
 use Rattle.cox_context.specs.Numbers.{word_at}
 use Rattle.cox_row.specs.Rising.{number_at}
 use Rattle.cox_row.specs.Mus.{AreMus}

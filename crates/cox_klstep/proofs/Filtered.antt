@@ -10,7 +10,8 @@ use Rattle.cox_base.specs.ShortLex.{normal_form}
 use Rattle.cox_base.specs.Length.{word_length}
 use Rattle.cox_reflect.proofs.Elements.{same-refl, same-sym}
 use Rattle.cox_reflect.proofs.Search.{normal_form-same, word_length-equal}
-use Rattle.cox_hecke.specs.Step.{times_letter, IsDescent, IsCorrection}
+use Rattle.cox_base.specs.SideDescents.{times_letter, IsDescent}
+use Rattle.cox_hecke.specs.Step.{IsCorrection}
 use Rattle.cox_hecke.proofs.AllRows.{row_of, row_of-is}
 use Rattle.cox_hecke.proofs.Descended.{mu-odd}
 use Rattle.cox_context.specs.Closed.{IsClosed}

@@ -11,8 +11,8 @@ use Rattle.cox_reflect.proofs.Search.{normal_form-equal}
 use Rattle.cox_poly.specs.Coefficients.{Coefficients}
 use Rattle.cox_poly.specs.Products.{times_q_power}
 use Rattle.cox_poly.specs.Multiples.{scaled}
-use Rattle.cox_hecke.specs.Family.{Family, is_same}
-use Rattle.cox_hecke.specs.Sums.{occurrences}
+use Rattle.cox_hecke.specs.Family.{Family}
+use Rattle.cox_hecke.specs.ListedElements.{is_same, occurrences}
 use Rattle.cox_hecke.specs.StepFamily as hecke
 use Rattle.cox_hecke.proofs.SumLemmas.{same-is_same, not_same-is_same}
 use Rattle.cox_context.specs.Closed.{IsClosed}

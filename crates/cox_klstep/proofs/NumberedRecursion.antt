@@ -13,7 +13,7 @@ use Rattle.cox_reflect.proofs.Bruhat.{below-same, below-trans}
 use Rattle.cox_poly.specs.Coefficients.{Coefficients, plus, times_q}
 use Rattle.cox_poly.specs.Multiples.{minus}
 use Rattle.cox_hecke.specs.Row.{IsKazhdanLusztig}
-use Rattle.cox_hecke.specs.Step.{times_letter, IsDescent}
+use Rattle.cox_base.specs.SideDescents.{times_letter, IsDescent}
 use Rattle.cox_hecke.specs.StepFamily.{AreCorrections, step, correction_sum}
 use Rattle.cox_hecke.proofs.Descents.{nat_lt-yes}
 use Rattle.cox_hecke.proofs.AllRows.{row_of, row_of-is, mu-same, kazhdan_lusztig-value}

@@ -2,7 +2,8 @@
 use Rattle.std.specs.Prelude.{◌≡◌, ℕ, ◌<◌, ◌≤◌, List, length, ℤ}
 use Rattle.cox_base.specs.declared.side.Side.{Side}
 use Rattle.cox_base.specs.IntegerMatrix.{integer_matrix}
-use Rattle.cox_hecke.specs.Step.{times_letter, IsCorrection}
+use Rattle.cox_base.specs.SideDescents.{times_letter}
+use Rattle.cox_hecke.specs.Step.{IsCorrection}
 use Rattle.cox_context.specs.Closed.{Elements}
 use Rattle.cox_context.specs.Numbers.{word_at}
 use Rattle.cox_klstep.specs.declared.step.Correction.{Correction}

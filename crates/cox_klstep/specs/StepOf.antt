@@ -6,7 +6,8 @@ use Rattle.cox_base.specs.IntegerMatrix.{IntegerMatrix, integer_matrix}
 use Rattle.cox_base.specs.ShortLex.{normal_form}
 use Rattle.cox_base.specs.Length.{word_length}
 use Rattle.cox_reflect.specs.LeastDescent.{IsLeastLeftDescent}
-use Rattle.cox_hecke.specs.Step.{times_letter, IsDescent, IsCorrection}
+use Rattle.cox_base.specs.SideDescents.{times_letter, IsDescent}
+use Rattle.cox_hecke.specs.Step.{IsCorrection}
 use Rattle.cox_context.specs.Closed.{Elements}
 use Rattle.cox_context.specs.Numbers.{word_at}
 use Rattle.cox_row.specs.declared.row.Row.{Row}

@@ -3,7 +3,8 @@ ghost use Rattle.std.specs.Prelude.{◌≡◌, ℕ, ◌+◌, ◌<◌, ◌≤◌,
 ghost use Rattle.cox_base.specs.Matrix.{IsLetter};
 ghost use Rattle.cox_base.specs.IntegerMatrix.{integer_matrix};
 ghost use Rattle.cox_reflect.specs.LeastDescent.{IsLeastLeftDescent};
-ghost use Rattle.cox_hecke.specs.Step.{times_letter, IsCorrection};
+ghost use Rattle.cox_base.specs.SideDescents.{times_letter};
+ghost use Rattle.cox_hecke.specs.Step.{IsCorrection};
 ghost use Rattle.cox_context.specs.Numbers.{word_at};
 ghost use Rattle.cox_row.specs.RowOf.{IsRowAt};
 ghost use Rattle.cox_klstep.specs.StepOf.{AreNumbered, correction_at, IsLowering, IsRowStep};

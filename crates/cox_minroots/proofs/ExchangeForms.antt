@@ -13,9 +13,10 @@ use Rattle.cox_base.specs.IntegerMatrix.{IntegerMatrix}
 use Rattle.cox_base.specs.Admissible.{IsAdmissible}
 use Rattle.cox_base.specs.Element.{SameElement}
 use Rattle.cox_base.specs.ShortLex.{letters, normal_form}
-use Rattle.cox_base.specs.Length.{word_length, left_descents, right_descents}
+use Rattle.cox_base.specs.Length.{word_length}
+use Rattle.cox_base.specs.SideDescents.{descent_set}
+use Rattle.cox_base.specs.Descents.{IsLeftDescent, IsRightDescent, left_descents, right_descents}
 use Rattle.cox_base.specs.Reduced.{IsReduced}
-use Rattle.cox_base.specs.Descents.{IsLeftDescent, IsRightDescent}
 use Rattle.cox_lemmas.proofs.RangeFilters.{filter_range-yes, filter_range-no}
 use Rattle.cox_reflect.proofs.Sums.{letter_above}
 use Rattle.cox_reflect.proofs.Elements.{same-trans, same-reverse, same-push}
@@ -57,7 +58,7 @@ module _ (A : IntegerMatrix) (g : IsAdmissible A) where
   same-inverse_twice w v u e f = same-trans A g f (rw (reverse-reverse w) at (same-reverse A g e))
 
   pub right_descents-same : {u v : List ℕ} → SameElement A u v → right_descents A u ≡ right_descents A v
-  unfolding right_descents
+  unfolding descent_set
   right_descents-same {u} {v} e =
       ap (λ (p : ℕ → Bool). filter p (letters A.rank))
       (fun_ext (λ s. rw (word_length-equal A g (same-push A g s e), word_length-equal A g e) refl))
@@ -139,7 +140,7 @@ module _ (A : IntegerMatrix) (v : List ℕ) where
       (le-ltb (word_length A (v ++ s ∷ [])) (word_length A v) (omega (arith, none)))
 
   pub descents-all : descents_to A v A.rank ≡ right_descents A v
-  unfolding descents_to right_descents letters
+  unfolding descents_to descent_set letters
   descents-all = refl
 
   -- letters up to n, at most n of them

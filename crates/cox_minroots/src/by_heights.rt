@@ -6,7 +6,8 @@ ghost use Rattle.cox_base.specs.Bruhat.{IsBelow};
 ghost use Rattle.cox_base.specs.Reduced.{IsReduced};
 ghost use Rattle.cox_base.specs.ShortLex.{normal_form};
 ghost use Rattle.cox_reflect.specs.Height.{AreHeights};
-ghost use Rattle.cox_reflect.specs.Side.{word_on_side, descents_at};
+ghost use Rattle.cox_base.specs.SideDescents.{descent_set};
+ghost use Rattle.cox_reflect.specs.Side.{word_on_side};
 
 use cox_base::{Coxeter, MAX_LETTERS, Side, Word};
 use cox_reflect::{Heights, below_reduced};
@@ -38,7 +39,7 @@ pub(crate) fn normal_form(g: &Coxeter, w: &Word, side: Side) -> Option<Word>
 /// The descents on that side, rising.
 pub(crate) fn descents(g: &Coxeter, w: &Word, side: Side) -> Option<Word>
     requires { IsWord g.now.rank w.now.items }
-    ensures descents { IfSome result (λ found. found.items ≡ descents_at side (integer_matrix g.now) w.now.items) }
+    ensures descents { IfSome result (λ found. found.items ≡ descent_set side (integer_matrix g.now) w.now.items) }
     ensures word { IfSome result (λ found. IsWord g.now.rank found.items) }
     ensures few { IfSome result (λ found. length found.items ≤ g.now.rank) }
 {

@@ -3,7 +3,8 @@ ghost use Rattle.std.specs.Prelude.{◌≡◌, ℕ, ◌+◌, ◌≤◌, ◌<◌,
 ghost use Rattle.cox_base.specs.Matrix.{IsLetter, IsWord};
 ghost use Rattle.cox_base.specs.IntegerMatrix.{integer_matrix};
 ghost use Rattle.cox_base.specs.Element.{SameElement};
-ghost use Rattle.cox_base.specs.Length.{word_length, left_descents, right_descents};
+ghost use Rattle.cox_base.specs.Length.{word_length};
+ghost use Rattle.cox_base.specs.Descents.{left_descents, right_descents};
 ghost use Rattle.cox_base.specs.Reduced.{IsReduced};
 ghost use Rattle.cox_base.specs.ShortLex.{normal_form};
 

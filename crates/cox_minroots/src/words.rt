@@ -3,7 +3,7 @@ ghost use Rattle.std.specs.Prelude.{◌≡◌, ◌≤◌, ◌↔◌, length, IsT
 ghost use Rattle.cox_base.specs.Matrix.{IsWord};
 ghost use Rattle.cox_base.specs.IntegerMatrix.{integer_matrix};
 ghost use Rattle.cox_base.specs.Bruhat.{IsBelow};
-ghost use Rattle.cox_base.specs.Length.{left_descents};
+ghost use Rattle.cox_base.specs.Descents.{left_descents};
 ghost use Rattle.cox_base.specs.ShortLex.{normal_form};
 
 use crate::RootTable;

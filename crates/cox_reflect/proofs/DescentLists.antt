@@ -8,8 +8,10 @@ use Rattle.cox_base.specs.Matrix.{IsLetter}
 use Rattle.cox_base.specs.IntegerMatrix.{IntegerMatrix}
 use Rattle.cox_base.specs.Admissible.{IsAdmissible}
 use Rattle.cox_base.specs.ShortLex.{letters, normal_form}
-use Rattle.cox_base.specs.Length.{word_length, left_descents, right_descents}
-use Rattle.cox_base.specs.Descents.{IsLeftDescent, IsRightDescent}
+use Rattle.cox_base.specs.Length.{word_length}
+use Rattle.cox_base.specs.declared.side.Side.{Side}
+use Rattle.cox_base.specs.SideDescents.{times_letter, IsDescent, descent_set}
+use Rattle.cox_base.specs.Descents.{left_descents}
 use Rattle.cox_reflect.proofs.Roots.{left_descent-letter}
 use Rattle.cox_reflect.proofs.NormalForm.{normal_form-descent, normal_form-no_descent}
 
@@ -61,27 +63,20 @@ test-agrees : (m n : ℕ) (b : Bool) → (b ≡ true) ↔ (m < n) → nat_lt m n
 test-agrees m n b h = one_answer (nat_lt m n) b (ltb-true m n, lt-ltb m n) h
 
 module _ (A : IntegerMatrix) where
-  pub left_descents-by : (u : List ℕ) (test : ℕ → Bool)
-      → ((s : ℕ) → IsLetter A.rank s → (test s ≡ true) ↔ IsLeftDescent A u s)
-      → left_descents A u ≡ filter test (letters A.rank)
-  unfolding left_descents letters
-  left_descents-by u test h =
-      filter-range (λ s. nat_lt (word_length A (s ∷ u)) (word_length A u)) test 1 A.rank
-      (λ s l k. test-agrees (word_length A (s ∷ u)) (word_length A u) (test s) (h s (record { from_one = l; to_rank = omega arith })))
-
-  pub right_descents-by : (u : List ℕ) (test : ℕ → Bool)
-      → ((s : ℕ) → IsLetter A.rank s → (test s ≡ true) ↔ IsRightDescent A u s)
-      → right_descents A u ≡ filter test (letters A.rank)
-  unfolding right_descents letters
-  right_descents-by u test h =
-      filter-range (λ s. nat_lt (word_length A (u ++ s ∷ [])) (word_length A u)) test 1 A.rank
-      (λ s l k. test-agrees (word_length A (u ++ s ∷ [])) (word_length A u) (test s) (h s (record { from_one = l; to_rank = omega arith })))
+  pub descent_set-by : (side : Side) (u : List ℕ) (test : ℕ → Bool)
+      → ((s : ℕ) → IsLetter A.rank s → (test s ≡ true) ↔ IsDescent side A u s)
+      → descent_set side A u ≡ filter test (letters A.rank)
+  unfolding descent_set letters
+  descent_set-by side u test h =
+      filter-range (λ s. nat_lt (word_length A (times_letter side s u)) (word_length A u)) test 1 A.rank
+      (λ s l k. test-agrees (word_length A (times_letter side s u)) (word_length A u) (test s)
+      (h s (record { from_one = l; to_rank = omega arith })))
 
 module _ (A : IntegerMatrix) (g : IsAdmissible A) where
   -- the normal form by the list of left descents
   pub normal_form-left_descents : (u : List ℕ) (s : ℕ) (rest : List ℕ) → left_descents A u ≡ s ∷ rest
       → normal_form A u ≡ s ∷ normal_form A (s ∷ u)
-  unfolding left_descents letters
+  unfolding descent_set letters
   normal_form-left_descents u s rest e =
       let f = filter-first (λ t. nat_lt (word_length A (t ∷ u)) (word_length A u)) 1 A.rank s rest e
       in normal_form-descent A g u s (ltb-true (word_length A (s ∷ u)) (word_length A u) f.passes)
@@ -89,7 +84,7 @@ module _ (A : IntegerMatrix) (g : IsAdmissible A) where
       ∙ lt-ltb (word_length A (t ∷ u)) (word_length A u) d))
 
   pub normal_form-no_left_descents : (u : List ℕ) → left_descents A u ≡ [] → normal_form A u ≡ []
-  unfolding left_descents letters
+  unfolding descent_set letters
   normal_form-no_left_descents u e =
       normal_form-no_descent A g u
       (λ s d. let l = left_descent-letter A g u s d in

@@ -8,11 +8,12 @@ use Rattle.cox_base.specs.Matrix.{CoxeterMatrix}
 use Rattle.cox_base.specs.Admissible.{IsCoxeterMatrix, IsAdmissible}
 use Rattle.cox_base.specs.IntegerMatrix.{IntegerMatrix, integer_matrix}
 use Rattle.cox_base.specs.ShortLex.{letters, normal_form}
-use Rattle.cox_base.specs.Length.{word_length, left_descents, right_descents}
-use Rattle.cox_base.specs.Descents.{IsLeftDescent}
+use Rattle.cox_base.specs.Length.{word_length}
+use Rattle.cox_base.specs.Descents.{IsLeftDescent, left_descents, right_descents}
 use Rattle.cox_reflect.specs.Height.{AreHeights, AreOfShortElement, AreShortWith}
 use Rattle.cox_reflect.specs.LeastDescent.{IsLeastLeftDescent}
-use Rattle.cox_reflect.specs.Side.{word_on_side, descents_at}
+use Rattle.cox_base.specs.SideDescents.{descent_set}
+use Rattle.cox_reflect.specs.Side.{word_on_side}
 use Rattle.cox_reflect.proofs.Admissible.{IsAdmissible-integer_matrix}
 use Rattle.cox_reflect.proofs.Lengths.{word_length-is, word_length-cons_reverse, word_length-reverse}
 use Rattle.cox_reflect.proofs.NormalForm.{normal_form-descent, normal_form-no_descent}
@@ -22,12 +23,12 @@ use Rattle.cox_reflect.proofs.HeightLemmas.{AreShortWith-descent}
 
 module _ (A : IntegerMatrix) (g : IsAdmissible A) where
   left_descents-reverse : (u : List ℕ) → left_descents A (reverse u) ≡ right_descents A u
-  unfolding left_descents right_descents
+  unfolding descent_set
   left_descents-reverse u =
       ap (λ (p : ℕ → Bool). filter p (letters A.rank))
       (fun_ext (λ s. rw (word_length-cons_reverse A g s (reverse u), reverse-reverse u, word_length-reverse A g u) refl))
 
-  pub left_descents-word_on_side : (side : Side) (u : List ℕ) → left_descents A (word_on_side side u) ≡ descents_at side A u
+  pub left_descents-word_on_side : (side : Side) (u : List ℕ) → left_descents A (word_on_side side u) ≡ descent_set side A u
   left_descents-word_on_side Left u = refl
   left_descents-word_on_side Right u = left_descents-reverse u
 

@@ -6,14 +6,15 @@ use Rattle.std.specs.Bool.{Decides}
 use Rattle.std.proofs.lemmas.Bool.{cases_eq, false_from_ne_true}
 use Rattle.std.proofs.lemmas.List.Elements.{All-filter, All-cons, All-nil}
 use Rattle.cox_lemmas.proofs.RangeFilters.{filter_range-yes, filter_range-no, length-filter_range}
+use Rattle.cox_base.specs.declared.side.Side.TheVariants.{Left}
 use Rattle.cox_base.specs.Matrix.{IsLetter, IsWord}
 use Rattle.cox_base.specs.IntegerMatrix.{IntegerMatrix}
 use Rattle.cox_base.specs.Admissible.{IsAdmissible}
 use Rattle.cox_base.specs.ShortLex.{letters}
-use Rattle.cox_base.specs.Length.{left_descents}
+use Rattle.cox_base.specs.Descents.{left_descents}
 use Rattle.cox_reflect.specs.RootHeight.{at_letter}
 use Rattle.cox_reflect.specs.Height.{AreHeights}
-use Rattle.cox_reflect.proofs.DescentLists.{left_descents-by}
+use Rattle.cox_reflect.proofs.DescentLists.{descent_set-by}
 use Rattle.cox_reflect.proofs.HeightLemmas.{descent_from_heights, heights_at_descent}
 
 pub at_letter-set_same : (xs : List ℤ) (t : ℕ) (v : ℤ) → 1 ≤ t → t ≤ length xs → at_letter (set xs (t - 1) v) t ≡ v
@@ -87,7 +88,7 @@ pub negative_letters-descents : (A : IntegerMatrix) (g : IsAdmissible A) (u : Li
     → negative_letters heights A.rank ≡ left_descents A u
 unfolding negative_letters letters
 negative_letters-descents A g u heights a =
-    sym (left_descents-by A u (λ t. int_lt (at_letter heights t) (pos 0)) (λ t l. (
+    sym (descent_set-by A Left u (λ t. int_lt (at_letter heights t) (pos 0)) (λ t l. (
       λ h. descent_from_heights A g u heights t a l ((Decides-int_lt (at_letter heights t) (pos 0)).0 h),
       λ d. (Decides-int_lt (at_letter heights t) (pos 0)).1 (heights_at_descent A g u heights t a d),
     )))

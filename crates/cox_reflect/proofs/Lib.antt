@@ -62,3 +62,7 @@ pub mod OrderLemmas
 pub mod BackwardTurns
 -- coordinates of roots, in 128 bits
 pub mod CoordinateLemmas
+-- elements as their normal forms
+pub mod NormalElements
+-- words in any order can be listed in ShortLex order; the subwords of a word
+pub mod Listing

@@ -22,5 +22,5 @@ pub mod RootHeight
 pub mod Height
 -- the least left descent
 pub mod LeastDescent
--- descents by the side
+-- words by the side of their descents
 pub mod Side

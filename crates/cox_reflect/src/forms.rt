@@ -5,7 +5,8 @@ ghost use Rattle.cox_base.specs.IntegerMatrix.{integer_matrix};
 ghost use Rattle.cox_base.specs.ShortLex.{normal_form};
 ghost use Rattle.cox_base.specs.Length.{word_length};
 ghost use Rattle.cox_reflect.specs.Height.{AreHeights};
-ghost use Rattle.cox_reflect.specs.Side.{word_on_side, descents_at};
+ghost use Rattle.cox_base.specs.SideDescents.{descent_set};
+ghost use Rattle.cox_reflect.specs.Side.{word_on_side};
 
 use crate::height_row::{descents_of, normal_form_of, of_reversed, of_word};
 use crate::wide_heights::{LETTERS_OF_128_BITS, WideHeights};
@@ -17,7 +18,7 @@ use cox_base::{Coxeter, MAX_RANK, Side, Word};
 pub fn descents(g: &Coxeter, w: &Word, side: Side) -> Word
     requires letters { IsWord g.now.rank w.now.items }
     requires short { length w.now.items ≤ LETTERS_OF_128_BITS }
-    ensures descents { result.items ≡ descents_at side (integer_matrix g.now) w.now.items }
+    ensures descents { result.items ≡ descent_set side (integer_matrix g.now) w.now.items }
     ensures word { IsWord g.now.rank result.items }
     ensures few { length result.items ≤ g.now.rank }
     ensures limit { g.now.rank ≤ MAX_RANK }

@@ -3,7 +3,7 @@ ghost use Rattle.std.specs.Prelude.{◌≡◌, ℕ, ◌≤◌, ◌↔◌, length
 ghost use Rattle.cox_base.specs.Matrix.{CoxeterMatrix, IsWord};
 ghost use Rattle.cox_base.specs.IntegerMatrix.{integer_matrix};
 ghost use Rattle.cox_base.specs.Bruhat.{IsBelow};
-ghost use Rattle.cox_base.specs.Length.{left_descents};
+ghost use Rattle.cox_base.specs.Descents.{left_descents};
 ghost use Rattle.cox_base.specs.ShortLex.{normal_form};
 
 use crate::wide_heights::LETTERS_OF_128_BITS;

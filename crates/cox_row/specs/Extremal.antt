@@ -1,9 +1,10 @@
 -- Extremal elements: those to which the polynomials of a row are known from.
 use Rattle.std.specs.Prelude.{ℕ, List}
+use Rattle.cox_base.specs.declared.side.Side.TheVariants.{Left, Right}
 use Rattle.cox_base.specs.IntegerMatrix.{IntegerMatrix}
-use Rattle.cox_base.specs.Descents.{IsLeftDescent, IsRightDescent}
+use Rattle.cox_base.specs.SideDescents.{IsDescent}
 
 -- x is extremal for w: each left descent of w is one of x, and each right descent of w is one of x
 pub record IsExtremal (A : IntegerMatrix) (w x : List ℕ) : Type 0 where
-  pub left : (s : ℕ) → IsLeftDescent A w s → IsLeftDescent A x s
-  pub right : (s : ℕ) → IsRightDescent A w s → IsRightDescent A x s
+  pub left : (s : ℕ) → IsDescent Left A w s → IsDescent Left A x s
+  pub right : (s : ℕ) → IsDescent Right A w s → IsDescent Right A x s

@@ -10,7 +10,7 @@ use Rattle.cox_base.specs.Element.{SameElement}
 use Rattle.cox_base.specs.Length.{word_length}
 use Rattle.cox_base.specs.Bruhat.{IsBelow}
 use Rattle.cox_reflect.proofs.Elements.{same-refl}
-use Rattle.cox_hecke.specs.Sums.{occurrences}
+use Rattle.cox_hecke.specs.ListedElements.{occurrences}
 use Rattle.cox_hecke.proofs.SumLemmas.{same_or_not, not_same-is_same}
 use Rattle.cox_hecke.proofs.ElementLists.{below_or_not, below_list}
 use Rattle.cox_hecke.proofs.AllRows.{mu-exists, mu-unique}

@@ -11,7 +11,7 @@ use Rattle.cox_base.specs.Element.{SameElement}
 use Rattle.cox_base.specs.Length.{word_length}
 use Rattle.cox_reflect.specs.LeastDescent.{IsLeastLeftDescent}
 use Rattle.cox_reflect.proofs.Elements.{same-refl}
-use Rattle.cox_hecke.specs.Sums.{occurrences}
+use Rattle.cox_hecke.specs.ListedElements.{occurrences}
 use Rattle.cox_hecke.specs.Step.{IsCorrection}
 use Rattle.cox_hecke.specs.StepFamily.{Correction, AreCorrections, corrected_elements}
 use Rattle.cox_hecke.specs.Needs.{IsNeeded, itself}

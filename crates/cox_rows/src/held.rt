@@ -5,7 +5,7 @@ ghost use Rattle.cox_base.specs.IntegerMatrix.{integer_matrix};
 ghost use Rattle.cox_context.specs.Closed.{IsClosed};
 ghost use Rattle.cox_base.specs.Matrix.{IsWord};
 ghost use Rattle.cox_context.specs.Union.{IsInUnion};
-ghost use Rattle.cox_context.specs.SortedList.{IsListOf};
+ghost use Rattle.cox_base.specs.SortedList.{IsListOf};
 ghost use Rattle.cox_context.specs.FaultMeaning.{IsRefusal};
 ghost use Rattle.cox_context.specs.Numbers.{word_at};
 ghost use Rattle.cox_row.specs.RowLists.{row_at};

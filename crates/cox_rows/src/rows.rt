@@ -7,7 +7,7 @@ ghost use Rattle.cox_base.specs.Bruhat.{IsBelow};
 ghost use Rattle.cox_poly.specs.Polynomial.{coefficient};
 ghost use Rattle.cox_hecke.specs.Row.{IsKazhdanLusztig, IsMu};
 ghost use Rattle.cox_context.specs.Union.{IsInUnion};
-ghost use Rattle.cox_context.specs.SortedList.{IsListOf};
+ghost use Rattle.cox_base.specs.SortedList.{IsListOf};
 ghost use Rattle.cox_context.specs.FaultMeaning.{IsRefusal};
 ghost use Rattle.cox_row.specs.Distinct.{HasDistinctPolynomials};
 ghost use Rattle.cox_base.specs.Admissible.{IsAdmissible};

@@ -11,9 +11,10 @@ use Rattle.cox_base.specs.IntegerMatrix.{IntegerMatrix}
 use Rattle.cox_base.specs.Admissible.{IsAdmissible}
 use Rattle.cox_base.specs.Element.{SameElement}
 use Rattle.cox_base.specs.Bruhat.{IsBelow}
-use Rattle.cox_base.specs.Length.{word_length, left_descents}
+use Rattle.cox_base.specs.Length.{word_length}
+use Rattle.cox_base.specs.SideDescents.{descent_set}
+use Rattle.cox_base.specs.Descents.{IsLeftDescent, left_descents}
 use Rattle.cox_base.specs.Reduced.{IsReduced}
-use Rattle.cox_base.specs.Descents.{IsLeftDescent}
 use Rattle.cox_base.specs.ShortLex.{letters, normal_form}
 use Rattle.cox_reflect.proofs.Bruhat.{below-equal_length, below-length, below-same}
 use Rattle.cox_reflect.proofs.Elements.{same-refl, same-sym, same-trans, same-equal, same-cons, same-square}
@@ -45,7 +46,7 @@ module _ (A : IntegerMatrix) (g : IsAdmissible A) where
   -- a letter is in the list of descents exactly where it is one
   pub found-descent : (u : List ℕ) (s : ℕ) (found : Bool) → IsLetter A.rank s → found ≡ list_any (λ y. nat_eq y s) (left_descents A u)
       → (found ≡ true) ↔ IsLeftDescent A u s
-  unfolding left_descents letters
+  unfolding descent_set letters
   found-descent u s found l is = (
     λ h. ltb-true (word_length A (s ∷ u)) (word_length A u) (sym same ∙ h),
     λ d. same ∙ lt-ltb (word_length A (s ∷ u)) (word_length A u) d,

@@ -4,11 +4,12 @@ use Rattle.std.proofs.lemmas.Int.{ints}
 use Rattle.cox_base.specs.IntegerMatrix.{IntegerMatrix}
 use Rattle.cox_base.specs.Admissible.{IsAdmissible}
 use Rattle.cox_base.specs.declared.side.Side.{Side}
-use Rattle.cox_context.specs.Members.{IsElement}
-use Rattle.cox_context.specs.SortedList.{IsListOf}
-use Rattle.cox_context.specs.Refusal.{IsTooLarge}
+use Rattle.cox_base.specs.SideDescents.{descent_set}
+use Rattle.cox_base.specs.Members.{IsElement}
+use Rattle.cox_base.specs.SortedList.{IsListOf}
+use Rattle.cox_context.specs.TooLarge.{IsTooLarge}
 use Rattle.cox_context.proofs.GroupSizes.{group-decided}
-use Rattle.cox_context.proofs.SortedLemmas.{contains-in, in-contains}
+use Rattle.cox_reflect.proofs.Listing.{contains-in, in-contains}
 use Rattle.cox_reflect.proofs.Members.{In, here, there}
 use Rattle.cox_rows.specs.Beyond.{IsBeyond}
 use Rattle.cox_rows.proofs.BeyondLemmas.{tell-beyond}
@@ -44,7 +45,7 @@ some-decided P decided (x ∷ words) = ⊎_elim (λ (p : P x). inl (x, here, p))
 module _ (limits : Limits) (A : IntegerMatrix) (g : IsAdmissible A) where
   graph-one : (rank : ℕ) (side : Side) (a b : List ℕ) → IsGraphText rank side A a → IsGraphText rank side A b → a ≡ b
   graph-one rank side a b p q =
-      p.2 ∙ ap (λ vertices. list_text (map (vertex_text rank) vertices)) (one_listing A g side p.0 q.0 p.1 q.1) ∙ sym q.2
+      p.2 ∙ ap (λ vertices. list_text (map (vertex_text rank (descent_set side A)) vertices)) (one_listing A g p.0 q.0 p.1 q.1) ∙ sym q.2
 
   cells-one : (rank : ℕ) (kind : CellKind) (a b : List ℕ) → IsCellsText rank kind A a → IsCellsText rank kind A b → a ≡ b
   cells-one rank kind a b p q =
@@ -84,7 +85,7 @@ module _ (limits : Limits) (A : IntegerMatrix) (g : IsAdmissible A) where
   })
   graph-answerable rank side = record {
     decided = group_rows-decided;
-    answer = λ free. let list = group-list free in let vertices = some_listing A g side list.0
+    answer = λ free. let list = group-list free in let vertices = some_listing A g list.0
         list.1 in (_, (vertices.0, vertices.1, refl));
   }
 

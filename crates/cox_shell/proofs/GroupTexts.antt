@@ -8,18 +8,18 @@ use Rattle.std.proofs.lemmas.List.{length-map, get_or-map}
 use Rattle.std.proofs.lemmas.List.Folds.{flat_map-map}
 use Rattle.cox_base.specs.Matrix.{IsWord, IsLetter}
 use Rattle.cox_base.specs.ShortLex.{letters}
-use Rattle.cox_base.specs.Length.{word_length, left_descents, right_descents}
+use Rattle.cox_base.specs.Length.{word_length}
+use Rattle.cox_base.specs.SideDescents.{times_letter, descent_set}
 use Rattle.cox_base.specs.declared.side.Side.{Side}
-use Rattle.cox_base.specs.declared.side.Side.TheVariants as Sides
 use Rattle.cox_base.specs.IntegerMatrix.{IntegerMatrix}
 use Rattle.cox_base.specs.Admissible.{IsAdmissible}
-use Rattle.cox_context.specs.Members.{IsElement}
-use Rattle.cox_context.specs.SortedList.{IsListOf}
+use Rattle.cox_base.specs.Members.{IsElement}
+use Rattle.cox_base.specs.SortedList.{IsListOf}
 use Rattle.cox_context.specs.Numbers.{word_at}
 use Rattle.cox_context.proofs.SortedLemmas.{IsListOf-unique}
 use Rattle.cox_print.specs.AnswerText.{head_text, edge_text, member_text, members_text, list_text}
 use Rattle.cox_wgraph.specs.declared.edge.Edge.{Edge}
-use Rattle.cox_wgraph.specs.Listing.{Joined, Vertex, descents, IsVertex, AreVertices, AreJoined}
+use Rattle.cox_wgraph.specs.Listing.{Joined, Vertex, AreVertices, AreJoined}
 use Rattle.cox_wgraph.specs.NumberedEdges.{joined_by, joined_of}
 use Rattle.cox_wgraph.proofs.Listings.{one_list}
 use Rattle.cox_cells.specs.NumberedCells.{lists_of, words_of}
@@ -62,14 +62,14 @@ cells-text rank members cells =
     ∙ ap (λ t. decimal (length cells) ++ t) items
 
 -- a vertex, behind the end of the line before
-abbrev pub vertex_line : ℕ → Vertex → List ℕ
-vertex_line rank v = 10 ∷ vertex_text rank v
+abbrev pub vertex_line : ℕ → (List ℕ → List ℕ) → Vertex → List ℕ
+vertex_line rank label v = 10 ∷ vertex_text rank label v
 
 abbrev pub no_vertex : Vertex
-no_vertex = record { element = []; label = []; joined = [] }
+no_vertex = record { element = []; joined = [] }
 
-module _ (A : IntegerMatrix) (side : Side) (members : List (List ℕ)) (all : IsListOf (IsElement A) members) (vertices : List Vertex)
-    (are : AreVertices side A vertices) where
+module _ (A : IntegerMatrix) (members : List (List ℕ)) (all : IsListOf (IsElement A) members) (vertices : List Vertex)
+    (are : AreVertices A vertices) where
   -- the vertices are the members
   elements-are : map (λ (v : Vertex). v.element) vertices ≡ members
   elements-are = IsListOf-unique (IsElement A) (map (λ (v : Vertex). v.element) vertices) members are.elements all
@@ -81,22 +81,23 @@ module _ (A : IntegerMatrix) (side : Side) (members : List (List ℕ)) (all : Is
   vertex-element i below =
       sym (get_or-map (λ (v : Vertex). v.element) vertices i no_vertex [] below) ∙ ap (λ words. word_at words i) elements-are
 
-  pub vertices-text : (rank : ℕ) → list_text (map (vertex_text rank) vertices) ≡ decimal (length members) ++ flat_map
-      (vertex_line rank) vertices
-  vertices-text rank =
-      ap (λ n. decimal n ++ flat_map (λ item. 10 ∷ item) (map (vertex_text rank) vertices))
-      (length-map vertices (vertex_text rank) ∙ vertices-count)
-      ∙ ap (λ t. decimal (length members) ++ t) (flat_map-map (λ item. 10 ∷ item) (vertex_text rank) vertices)
+  pub vertices-text : (rank : ℕ) (label : List ℕ → List ℕ) → list_text (map (vertex_text rank label) vertices)
+      ≡ decimal (length members) ++ flat_map (vertex_line rank label) vertices
+  vertices-text rank label =
+      ap (λ n. decimal n ++ flat_map (λ item. 10 ∷ item) (map (vertex_text rank label) vertices))
+      (length-map vertices (vertex_text rank label) ∙ vertices-count)
+      ∙ ap (λ t. decimal (length members) ++ t) (flat_map-map (λ item. 10 ∷ item) (vertex_text rank label) vertices)
 
 -- the text of a vertex by its parts
-module _ (A : IntegerMatrix) (g : IsAdmissible A) (side : Side) (members : List (List ℕ)) (i : ℕ) (v : Vertex) (is : IsVertex side A v)
-    (at : v.element ≡ word_at members i) where
-  pub head-is : (rank : ℕ) → head_text rank (word_at members i) (descents side A (word_at members i)) ≡ head_text rank v.element v.label
-  head-is rank = ap (λ x. head_text rank x (descents side A x)) (sym at) ∙ ap (head_text rank v.element) (sym is.label)
+pub head-is : (members : List (List ℕ)) (i : ℕ) (v : Vertex) → v.element ≡ word_at members i → (rank : ℕ) (label : List ℕ → List ℕ)
+    → head_text rank (word_at members i) (label (word_at members i)) ≡ head_text rank v.element (label v.element)
+head-is members i v at rank label = ap (λ x. head_text rank x (label x)) (sym at)
 
-  pub joined-are : (edges : List Edge) → AreJoined A (word_at members i) (joined_of members edges) → joined_of members edges ≡ v.joined
-  joined-are edges are = one_list A g (word_at members i) (joined_of members edges) v.joined are
-      (subst (λ (x : List ℕ). AreJoined A x v.joined) at is.joined)
+pub joined-are : (A : IntegerMatrix) → IsAdmissible A → (members : List (List ℕ)) (i : ℕ) (v : Vertex) → AreJoined A v.element v.joined
+    → v.element ≡ word_at members i
+    → (edges : List Edge) → AreJoined A (word_at members i) (joined_of members edges) → joined_of members edges ≡ v.joined
+joined-are A g members i v is at edges are = one_list A g (word_at members i) (joined_of members edges) v.joined are
+    (subst (λ (x : List ℕ). AreJoined A x v.joined) at is)
 
 -- descents are letters
 all-letters : (n a m : ℕ) → 1 ≤ a → a + m ≤ n + 1 → All (IsLetter n) (range_with_len a m)
@@ -104,13 +105,10 @@ all-letters n a zero least most = All-nil (IsLetter n)
 all-letters n a (suc m) least most = All-cons (IsLetter n) a (range_with_len (a + 1) m)
     (record { from_one = least; to_rank = omega (arith, most) }) (all-letters n (a + 1) m (omega arith) (omega (arith, most)))
 
-pub descents-letters : (side : Side) (A : IntegerMatrix) (x : List ℕ) → IsWord A.rank (descents side A x)
-unfolding left_descents right_descents letters
-descents-letters Sides.Left A x = All-filter (λ s. nat_lt (word_length A (s ∷ x)) (word_length A x)) (IsLetter A.rank) (letters A.rank)
-    (all-letters A.rank 1 A.rank (omega arith) (omega arith))
-descents-letters Sides.Right A x = All-filter (λ s. nat_lt (word_length A (x ++ s ∷ [])) (word_length A x)) (IsLetter A.rank)
-    (letters A.rank)
-    (all-letters A.rank 1 A.rank (omega arith) (omega arith))
+pub descents-letters : (side : Side) (A : IntegerMatrix) (x : List ℕ) → IsWord A.rank (descent_set side A x)
+unfolding descent_set letters
+descents-letters side A x = All-filter (λ s. nat_lt (word_length A (times_letter side s x)) (word_length A x)) (IsLetter A.rank)
+    (letters A.rank) (all-letters A.rank 1 A.rank (omega arith) (omega arith))
 
 -- the members of a cell by the first of them
 pub cell-parts : (rank : ℕ) (members : List (List ℕ)) (cell others : List ℕ) (first : ℕ) → cell ≡ first ∷ others

@@ -8,12 +8,11 @@ use Rattle.cox_base.specs.Admissible.{IsAdmissible}
 use Rattle.cox_base.specs.ShortLex.{normal_form}
 use Rattle.cox_reflect.proofs.Search.{normal_form-same}
 use Rattle.cox_reflect.proofs.Bruhat.{below-refl}
-use Rattle.cox_context.specs.Members.{IsInInterval}
+use Rattle.cox_base.specs.Members.{IsInInterval}
 use Rattle.cox_context.specs.Union.{IsInUnion}
-use Rattle.cox_context.specs.SortedList.{IsListOf, HasMoreThan}
+use Rattle.cox_base.specs.SortedList.{IsListOf, HasMoreThan}
 use Rattle.cox_context.specs.Closed.{Elements}
 use Rattle.cox_context.specs.Numbers.{word_at}
-use Rattle.cox_context.proofs.Ideals.{element-normal_form}
 use Rattle.cox_context.proofs.SortedLemmas.{IsListOf-filter, HasMoreThan-few}
 use Rattle.cox_context.proofs.IntervalLemmas.{is_below, is_below-tells}
 use Rattle.cox_rows.specs.Beyond.{IsBeyond, NeedsBeyond, coefficient, mu}
@@ -25,6 +24,7 @@ use Rattle.cox_command.specs.declared.refusal.Refusal.TheVariants.{LargeRow}
 use Rattle.cox_base.specs.Matrix.{CoxeterMatrix}
 use Rattle.cox_base.specs.Element.{SameElement}
 use Rattle.cox_reflect.proofs.Elements.{same-sym}
+use Rattle.cox_reflect.proofs.NormalElements.{element-normal_form}
 use Rattle.cox_hecke.specs.Needs.{IsNeeded}
 use Rattle.cox_context.specs.Numbering.{IsNumberOf}
 use Rattle.cox_rows.specs.Holding.{Holding, HasRow}

@@ -10,7 +10,7 @@ use mir.Syntax.{w128}
 use Rattle.cox_base.specs.declared.limits.TheConstants.{MAX_LETTERS}
 use Rattle.cox_context.specs.declared.members.TheConstants.{MAX_MEMBERS}
 use Rattle.cox_context.specs.Numbers.{word_at}
-use Rattle.cox_context.specs.Interval.{count_of_length, counts_by_length}
+use Rattle.cox_base.specs.Interval.{count_of_length, counts_by_length}
 
 -- no more are counted than were seen
 pub count-most : (members : List (List ℕ)) (i k : ℕ) → count_of_length (take i members) k ≤ i

@@ -1,5 +1,5 @@
 -- Each question has one right text at most, and can be answered: each cause of a refusal is decided, and there is a right text.
-use Rattle.std.proofs.Common.{◌≡◌, ◌⊎◌, ℕ, ◌-◌, ◌<◌, ◌≤◌, ◌↔◌, Bool, true, false, IsTrue, List, inl, inr, refl, sym, ap, ◌∙◌}
+use Rattle.std.proofs.Common.{◌≡◌, ◌⊎◌, ℕ, ◌+◌, ◌<◌, ◌≤◌, ◌↔◌, Bool, true, false, IsTrue, List, inl, inr, refl, sym, ap, ◌∙◌}
 use Rattle.std.proofs.Common.{⊎_elim, arith}
 use Rattle.std.proofs.Common.{true≢false}
 use Rattle.std.proofs.lemmas.Bool.{cases_lt}
@@ -16,9 +16,9 @@ use Rattle.cox_command.specs.declared.command.OneWord.TheVariants.{Compute, Leng
 use Rattle.cox_command.specs.declared.command.OneWord.TheVariants.{Klbasis, Ihbetti, Extremals}
 use Rattle.cox_command.specs.declared.command.TwoWord.{TwoWord}
 use Rattle.cox_command.specs.declared.command.TwoWord.TheVariants.{Inorder, Interval, Rpol, Pol, Mu}
-use Rattle.cox_context.specs.Members.{IsInInterval}
-use Rattle.cox_context.specs.SortedList.{IsListOf}
-use Rattle.cox_context.specs.Interval.{IsBetween, IsCoatom, counts_by_length}
+use Rattle.cox_base.specs.Members.{IsInInterval}
+use Rattle.cox_base.specs.SortedList.{IsListOf}
+use Rattle.cox_base.specs.Interval.{IsBetween, IsCoatom, counts_by_length}
 use Rattle.cox_context.proofs.SortedLemmas.{IsListOf-unique}
 use Rattle.cox_context.proofs.IntervalLemmas.{is_below, is_below-tells, interval-exists, between-of, coatoms-of, interval-decided}
 use Rattle.cox_print.specs.AnswerText.{truth_text, numbers_text, elements_text}
@@ -100,22 +100,12 @@ module _ (limits : Limits) (A : IntegerMatrix) (g : IsAdmissible A) where
   deep-decided : (y w : List ℕ) → RefusesFar A y w FarApart ⊎ (RefusesFar A y w FarApart → ⊥)
   deep-decided y w = by_order (is_below A y w) refl
     where
-      d : ℕ
-      d = word_length A w - word_length A y
-
       by_order : (b : Bool) → is_below A y w ≡ b → RefusesFar A y w FarApart ⊎ (RefusesFar A y w FarApart → ⊥)
       by_order true e = ⊎_elim
-          (λ (far : MAX_DIFFERENCE < d). inl (
-            d,
-            record {
-              below = (is_below-tells A g y w).0 e;
-              difference = omega (arith, far);
-              above = far;
-            },
-          ))
-          (λ (near : d ≤ MAX_DIFFERENCE). inr (λ refuses. absurd (omega (arith, near, refuses.1.difference, refuses.1.above))))
-          (cases_lt MAX_DIFFERENCE d)
-      by_order false e = inr (λ refuses. true≢false (sym ((is_below-tells A g y w).1 refuses.1.below) ∙ e))
+          (λ (far : word_length A y + MAX_DIFFERENCE < word_length A w). inl ((is_below-tells A g y w).0 e, far))
+          (λ (near : word_length A w ≤ word_length A y + MAX_DIFFERENCE). inr (λ refuses. absurd (omega (arith, near, refuses.1))))
+          (cases_lt (word_length A y + MAX_DIFFERENCE) (word_length A w))
+      by_order false e = inr (λ refuses. true≢false (sym ((is_below-tells A g y w).1 refuses.0) ∙ e))
 
   far-decided : (y w : List ℕ) (why : Refusal) → RefusesFar A y w why ⊎ (RefusesFar A y w why → ⊥)
   far-decided y w FarApart = deep-decided y w

@@ -13,8 +13,8 @@ use Rattle.cox_reflect.proofs.Elements.{same-refl, same-sym, same-cons, same-pus
 use Rattle.cox_reflect.proofs.Search.{normal_form-same, word_length-equal}
 use Rattle.cox_reflect.proofs.Bruhat.{below-same}
 use Rattle.cox_context.specs.Closed.{IsClosed}
-use Rattle.cox_context.specs.Members.{IsInInterval}
-use Rattle.cox_context.specs.SortedList.{IsListOf, IsRising}
+use Rattle.cox_base.specs.Members.{IsInInterval}
+use Rattle.cox_base.specs.SortedList.{IsListOf, IsRising}
 use Rattle.cox_context.specs.Numbers.{word_at}
 use Rattle.cox_context.proofs.ListLemmas.{IsPlaced, contains-placed, placed-contains, contains-at}
 use Rattle.cox_context.proofs.SortedLemmas.{IsListOf-filter}

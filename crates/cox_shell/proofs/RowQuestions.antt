@@ -15,8 +15,8 @@ use Rattle.cox_reflect.proofs.Roots.{descent-letter, left_descent-letter}
 use Rattle.cox_hecke.specs.Family.{Family}
 use Rattle.cox_hecke.specs.Row.{IsRow}
 use Rattle.cox_hecke.proofs.AllRows.{row_of, row_of-is, row_of-value, mu-unique, mu-exists}
-use Rattle.cox_context.specs.Members.{IsInInterval}
-use Rattle.cox_context.specs.SortedList.{IsListOf}
+use Rattle.cox_base.specs.Members.{IsInInterval}
+use Rattle.cox_base.specs.SortedList.{IsListOf}
 use Rattle.cox_context.proofs.SortedLemmas.{IsListOf-unique, IsListOf-filter}
 use Rattle.cox_context.proofs.IntervalLemmas.{interval-exists, interval-decided}
 use Rattle.cox_rows.proofs.NeedDecided.{tell-needs_beyond}

@@ -21,8 +21,8 @@ use Rattle.cox_hecke.specs.Sums.{sum_over}
 use Rattle.cox_hecke.specs.Row.{IsRow, IsKazhdanLusztig}
 use Rattle.cox_hecke.proofs.AllRows.{row_of, row_of-is}
 use Rattle.cox_context.specs.Closed.{IsClosed}
-use Rattle.cox_context.specs.Members.{IsInInterval}
-use Rattle.cox_context.specs.SortedList.{IsListOf}
+use Rattle.cox_base.specs.Members.{IsInInterval}
+use Rattle.cox_base.specs.SortedList.{IsListOf}
 use Rattle.cox_context.specs.Numbers.{word_at}
 use Rattle.cox_context.proofs.SortedLemmas.{IsListOf-unique}
 use Rattle.cox_context.proofs.IntervalLemmas.{is_below, is_below-tells}

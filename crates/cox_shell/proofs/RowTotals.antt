@@ -19,8 +19,8 @@ use Rattle.cox_hecke.specs.Row.{IsRow, IsKazhdanLusztig}
 use Rattle.cox_hecke.proofs.RowLemmas.{row-long, row-same}
 use Rattle.cox_hecke.proofs.AllRows.{row_of-value, kazhdan_lusztig-value}
 use Rattle.cox_context.specs.Closed.{IsClosed}
-use Rattle.cox_context.specs.Members.{IsInInterval}
-use Rattle.cox_context.specs.SortedList.{IsListOf}
+use Rattle.cox_base.specs.Members.{IsInInterval}
+use Rattle.cox_base.specs.SortedList.{IsListOf}
 use Rattle.cox_context.specs.Numbers.{word_at}
 use Rattle.cox_context.proofs.IntervalLemmas.{is_below, is_below-tells}
 use Rattle.cox_shell.specs.RowReply.{coefficients_to}

@@ -1,13 +1,14 @@
 -- Texts that are put unless a command is refused.
 use Rattle.std.proofs.Common.{◌≡◌, ℕ, List, [], ◌∷◌, ◌++◌, None, Some, Result, Ok, Err, IsOk, inl, inr, refl, sym, ap, ◌∙◌}
-use Rattle.std.proofs.Common.{append_assoc}
+use Rattle.std.proofs.Common.{◌-◌, append_assoc, arith}
 use Rattle.std.proofs.lemmas.List.{append-nil}
 use Rattle.std.specs.declared.alloc.AllocError.{AllocError}
 use Rattle.cox_base.specs.IntegerMatrix.{IntegerMatrix}
+use Rattle.cox_base.specs.Length.{word_length}
 use Rattle.cox_command.specs.declared.refusal.Refusal.{Refusal}
 use Rattle.cox_command.specs.declared.refusal.Refusal.TheVariants.{FarApart}
-use Rattle.cox_context.specs.Members.{IsInInterval}
-use Rattle.cox_context.specs.SortedList.{HasMoreThan}
+use Rattle.cox_base.specs.Members.{IsInInterval}
+use Rattle.cox_base.specs.SortedList.{HasMoreThan}
 use Rattle.cox_rpoly.specs.Depth.{IsDeep}
 use Rattle.cox_poly.specs.Puts.{PutsPrefix, Puts}
 use Rattle.cox_poly.proofs.Behind.{PutsPrefix-first, PutsPrefix-second}
@@ -30,10 +31,20 @@ large-allowed limits A w few = inr (λ none. none, inr (few, inr (λ none. none,
 
 -- two elements are refused exactly where their R-polynomial is of too high a degree
 pub far-refused : (A : IntegerMatrix) (y w : List ℕ) (d : ℕ) → IsDeep A y w d → IsRefused (RefusesFar A y w) (Some FarApart)
-far-refused A y w d deep = inr (λ none. none, inr (λ none. none, inl ((d, deep), refl)))
+far-refused A y w d deep = inr (λ none. none, inr (λ none. none, inl ((deep.below, omega (arith, deep.difference, deep.above)), refl)))
 
 pub far-allowed : (A : IntegerMatrix) (y w : List ℕ) → ((d : ℕ) → IsDeep A y w d → ⊥) → IsRefused (RefusesFar A y w) None
-far-allowed A y w near = inr (λ none. none, inr (λ none. none, inr (λ deep. near deep.0 deep.1, inr (λ none. none, refl))))
+far-allowed A y w near = inr (
+  λ none. none,
+  inr (
+    λ none. none,
+    inr (
+      λ far. near (word_length A w - word_length A y)
+          (record { below = far.0; difference = omega (arith, far.1); above = omega (arith, far.1) }),
+      inr (λ none. none, refl),
+    ),
+  ),
+)
 
 -- a text that was put where nothing refuses
 pub PutsUnless-put : (put : Result Unit AllocError) (Refuses : Refusal → Type 0) (IsText : List ℕ → Type 0) (before after : List ℕ)

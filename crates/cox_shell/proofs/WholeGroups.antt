@@ -8,17 +8,19 @@ use Rattle.cox_base.specs.ShortLex.{normal_form}
 use Rattle.cox_reflect.proofs.Elements.{same-refl}
 use Rattle.cox_hecke.specs.Needs.{itself}
 use Rattle.cox_context.specs.Closed.{IsClosed}
-use Rattle.cox_context.specs.Members.{IsElement}
-use Rattle.cox_context.specs.SortedList.{IsListOf}
+use Rattle.cox_base.specs.Members.{IsElement}
+use Rattle.cox_base.specs.SortedList.{IsListOf}
 use Rattle.cox_context.specs.Numbers.{word_at}
-use Rattle.cox_context.specs.Refusal.{IsTooLarge}
+use Rattle.cox_context.specs.TooLarge.{IsTooLarge}
 use Rattle.cox_context.specs.FaultMeaning.{IsRefusal}
 use Rattle.cox_context.specs.declared.fault.ContextFault.{ContextFault}
 use Rattle.cox_context.specs.declared.fault.ContextFault.TheVariants as context
 use Rattle.cox_context.proofs.Ideals.{element-tail}
 use Rattle.cox_context.proofs.ListLemmas.{contains-placed, contains-at}
 use Rattle.cox_context.proofs.Shifting.{first-member}
-use Rattle.cox_context.proofs.SortedLemmas.{HasMoreThan-over, HasMoreThan-few}
+use Rattle.cox_reflect.proofs.NormalElements.{element-word}
+use Rattle.cox_context.proofs.SortedLemmas.{HasMoreThan-few}
+use Rattle.cox_context.proofs.RefusalLemmas.{too_large-found}
 use Rattle.cox_rows.specs.declared.fault.RowsFault.{RowsFault}
 use Rattle.cox_rows.specs.declared.fault.RowsFault.TheVariants.{Coefficient, Mu, NoMemory}
 use Rattle.cox_rows.specs.Holding.{Holding}
@@ -44,25 +46,24 @@ module _ (A : IntegerMatrix) (g : IsAdmissible A) (members : List (List ℕ)) wh
       go (s ∷ x) e =
           let p = contains-placed members x (go x (element-tail A g s x e)) in
           subst (Contains members) (ap (λ (y : List ℕ). normal_form A (s ∷ y)) p.is ∙ e.normal)
-          (shifts p.i p.within s (e.letters 0 0 (omega arith)))
+          (shifts p.i p.within s (element-word A g (s ∷ x) e 0 0 (omega arith)))
 
 -- so many elements, none of them too long, are not refused
 pub not-too_large : (A : IntegerMatrix) (limit : ℕ) (members : List (List ℕ)) → IsClosed A members → IsListOf (IsElement A) members
     → length members ≤ limit → IsTooLarge (IsElement A) limit → ⊥
 not-too_large A limit members closed all few (inl many) =
-    HasMoreThan-few (IsElement A) limit members all few (HasMoreThan-over (IsElement A) limit members all many)
+    HasMoreThan-few (IsElement A) limit members all few many
 not-too_large A limit members closed all few (inr long) = omega (
   arith,
-  closed.short long.long
-      (all.whole long.long long.member),
-  long.letters,
+  closed.short long.0 (all.whole long.0 long.1),
+  long.2,
 )
 
 -- a group that is refused, apart from memory that runs out
 pub group-too_large : (A : IntegerMatrix) (limit : ℕ) (fault : ContextFault) → (fault ≡ context.NoMemory → ⊥)
     → IsRefusal (IsElement A) limit fault → IsTooLarge (IsElement A) limit
-group-too_large A limit (context.Size bound seen) memory refusal = inl refusal.2
-group-too_large A limit context.Long memory refusal = inr refusal
+group-too_large A limit (context.Size bound seen) memory refusal = too_large-found (IsElement A) limit (inl refusal.2)
+group-too_large A limit context.Long memory refusal = too_large-found (IsElement A) limit (inr refusal)
 group-too_large A limit context.NoMemory memory refusal = absurd (memory refl)
 
 module _ (limits : Limits) (A : IntegerMatrix) where

@@ -4,8 +4,9 @@ use Rattle.std.specs.List.{flat_map}
 use Rattle.cox_base.specs.declared.side.Side.{Side}
 use Rattle.cox_base.specs.declared.side.Side.TheVariants as Sides
 use Rattle.cox_base.specs.IntegerMatrix.{IntegerMatrix}
-use Rattle.cox_context.specs.Members.{IsElement}
-use Rattle.cox_context.specs.Refusal.{IsTooLarge}
+use Rattle.cox_base.specs.SideDescents.{descent_set}
+use Rattle.cox_base.specs.Members.{IsElement}
+use Rattle.cox_context.specs.TooLarge.{IsTooLarge}
 use Rattle.cox_rows.specs.Beyond.{IsBeyond}
 use Rattle.cox_wgraph.specs.Listing.{Vertex, AreVertices}
 use Rattle.cox_cells.specs.declared.kind.CellKind.{CellKind}
@@ -19,7 +20,7 @@ use Rattle.cox_print.specs.AnswerText.{list_text, members_text, head_text, edge_
 use Rattle.cox_shell.specs.Reply.{Limits}
 use Rattle.cox_shell.specs.Question.{Question}
 
--- the group has more elements than the limit, or one of the first of them has too many letters; or else the row of some element has a
+-- the group has more elements than the limit, or one of too many letters; or else the row of some element has a
 -- coefficient, or a value of mu, above its limit
 abbrev pub RefusesGroupRows : Limits → IntegerMatrix → Refusal → Type 0
 RefusesGroupRows limits A LargeInterval = IsTooLarge (IsElement A) limits.context
@@ -28,12 +29,13 @@ RefusesGroupRows limits A LargeRow =
 RefusesGroupRows limits A _ = ⊥
 
 -- a vertex of the W-graph: the element, its label, and each element that is joined to it, with the value of the edge
-abbrev pub vertex_text : ℕ → Vertex → List ℕ
-vertex_text rank v = head_text rank v.element v.label ++ flat_map (λ j. edge_text rank j.element j.value) v.joined
+abbrev pub vertex_text : ℕ → (List ℕ → List ℕ) → Vertex → List ℕ
+vertex_text rank label v = head_text rank v.element (label v.element) ++ flat_map (λ j. edge_text rank j.element j.value) v.joined
 
--- the W-graph, with the descents on a side as labels
+-- the W-graph, with the descent sets on a side as labels
 abbrev pub IsGraphText : ℕ → Side → IntegerMatrix → List ℕ → Type 0
-IsGraphText rank side A text = (vertices : List Vertex) × AreVertices side A vertices × (text ≡ list_text (map (vertex_text rank) vertices))
+IsGraphText rank side A text = (vertices : List Vertex) × AreVertices A vertices
+    × (text ≡ list_text (map (vertex_text rank (descent_set side A)) vertices))
 
 -- the cells
 abbrev pub IsCellsText : ℕ → CellKind → IntegerMatrix → List ℕ → Type 0

@@ -2,9 +2,9 @@
 use Rattle.std.specs.Prelude.{Result, Ok, Err, Some}
 use Rattle.cox_base.specs.IntegerMatrix.{IntegerMatrix}
 use Rattle.cox_context.specs.Closed.{Elements}
-use Rattle.cox_context.specs.Members.{IsElement}
-use Rattle.cox_context.specs.Refusal.{IsTooLarge}
-use Rattle.cox_context.specs.SortedList.{IsListOf}
+use Rattle.cox_base.specs.Members.{IsElement}
+use Rattle.cox_context.specs.TooLarge.{IsTooLarge}
+use Rattle.cox_base.specs.SortedList.{IsListOf}
 use Rattle.cox_command.specs.declared.refusal.Refusal.{Refusal}
 use Rattle.cox_command.specs.declared.refusal.Refusal.TheVariants.{LargeInterval}
 use Rattle.cox_shell.specs.declared.answers.unanswered.Unanswered.{Unanswered}
@@ -12,7 +12,7 @@ use Rattle.cox_shell.specs.declared.answers.unanswered.Unanswered.TheVariants as
 use Rattle.cox_shell.specs.Question.{IsRefused}
 use Rattle.cox_shell.specs.Reply.{Limits}
 
--- the group has more elements than the limit, or one of the first of them has too many letters
+-- the group has more elements than the limit, or one of too many letters
 abbrev pub RefusesLargeGroup : Limits → IntegerMatrix → Refusal → Type 0
 RefusesLargeGroup limits A LargeInterval = IsTooLarge (IsElement A) limits.context
 RefusesLargeGroup limits A _ = ⊥

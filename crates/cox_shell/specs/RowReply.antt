@@ -10,8 +10,8 @@ use Rattle.cox_poly.specs.PolynomialText.{polynomial_text}
 use Rattle.cox_hecke.specs.Family.{Family}
 use Rattle.cox_hecke.specs.Sums.{sum_over}
 use Rattle.cox_hecke.specs.Row.{IsRow, IsMu}
-use Rattle.cox_context.specs.Members.{IsInInterval}
-use Rattle.cox_context.specs.SortedList.{IsListOf, HasMoreThan}
+use Rattle.cox_base.specs.Members.{IsInInterval}
+use Rattle.cox_base.specs.SortedList.{IsListOf, HasMoreThan}
 use Rattle.cox_row.specs.Extremal.{IsExtremal}
 use Rattle.cox_rows.specs.Beyond.{NeedsBeyond}
 use Rattle.cox_command.specs.declared.refusal.Refusal.{Refusal}

@@ -5,9 +5,9 @@ use Rattle.std.specs.declared.alloc.AllocError.{AllocError}
 use Rattle.cox_poly.specs.Puts.{PutsPrefix, Puts}
 use Rattle.cox_base.specs.Matrix.{IsWord}
 use Rattle.cox_base.specs.IntegerMatrix.{IntegerMatrix}
-use Rattle.cox_context.specs.Members.{IsInInterval}
+use Rattle.cox_base.specs.Members.{IsInInterval}
 use Rattle.cox_context.specs.Closed.{Elements}
-use Rattle.cox_context.specs.SortedList.{IsListOf, HasMoreThan}
+use Rattle.cox_base.specs.SortedList.{IsListOf, HasMoreThan}
 use Rattle.cox_context.specs.Numbers.{word_at}
 use Rattle.cox_command.specs.declared.refusal.Refusal.{Refusal}
 use Rattle.cox_command.specs.RefusalNumber.{refusal_number}

@@ -7,8 +7,8 @@ use Rattle.cox_base.specs.IntegerMatrix.{IntegerMatrix}
 use Rattle.cox_base.specs.Length.{word_length}
 use Rattle.cox_hecke.specs.Family.{Family}
 use Rattle.cox_hecke.specs.Row.{IsRow}
-use Rattle.cox_context.specs.Members.{IsInInterval}
-use Rattle.cox_context.specs.SortedList.{IsListOf}
+use Rattle.cox_base.specs.Members.{IsInInterval}
+use Rattle.cox_base.specs.SortedList.{IsListOf}
 use Rattle.cox_command.specs.declared.refusal.Refusal.{Refusal}
 use Rattle.cox_command.specs.Generated.{generated_word, state_behind_word}
 use Rattle.cox_print.specs.AnswerText.{work_text}

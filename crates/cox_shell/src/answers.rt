@@ -15,7 +15,7 @@ ghost use Rattle.std.specs.Prelude.{◌≡◌};
 ghost use Rattle.cox_base.specs.Matrix.{IsWord};
 ghost use Rattle.cox_base.specs.Admissible.{IsCoxeterMatrix};
 ghost use Rattle.cox_base.specs.IntegerMatrix.{integer_matrix};
-ghost use Rattle.cox_base.specs.Length.{left_descents, right_descents};
+ghost use Rattle.cox_base.specs.Descents.{left_descents, right_descents};
 ghost use Rattle.cox_poly.specs.Puts.{Puts};
 ghost use Rattle.cox_print.specs.AnswerText.{descent_text};
 ghost use Rattle.cox_shell.specs.Kept.{AreKept};

@@ -7,10 +7,10 @@ use Rattle.std.proofs.lemmas.List.Elements.{All-map}
 use Rattle.cox_base.specs.IntegerMatrix.{IntegerMatrix, integer_matrix}
 use Rattle.cox_base.specs.Admissible.{IsAdmissible}
 use Rattle.cox_context.specs.Closed.{Elements}
-use Rattle.cox_context.specs.Members.{IsElement}
+use Rattle.cox_base.specs.Members.{IsElement}
 use Rattle.cox_context.specs.Numbers.{word_at}
 use Rattle.cox_context.proofs.ListLemmas.{IsPlaced, contains-at, contains-placed, placed-contains}
-use Rattle.cox_context.specs.SortedList.{IsListOf}
+use Rattle.cox_base.specs.SortedList.{IsListOf}
 use Rattle.cox_wgraph.specs.declared.edge.Edge.{Edge}
 use Rattle.cox_wgraph.specs.Edges.{IsEdgeValue, IsEdge, IsJoined}
 use Rattle.cox_wgraph.specs.Listing.{Joined, IsNeighbour, AreJoined}

@@ -1,4 +1,4 @@
--- A finite group has one listing of its W-graph on each side.
+-- A finite group has one listing of its W-graph.
 use Rattle.std.proofs.Common.{◌≡◌, ℕ, ◌<◌, Bool, true, false, not, List, [], ◌∷◌, length, map, filter, slice_index_or, ℤ, pos, refl, sym}
 use Rattle.std.proofs.Common.{ap}
 use Rattle.std.proofs.Common.{◌∙◌, ◌↔◌, arith}
@@ -6,14 +6,13 @@ use Rattle.std.specs.Ordering.{int_eq}
 use Rattle.std.proofs.lemmas.Bool.Decides.{Decides-int_eq}
 use Rattle.std.proofs.lemmas.List.{ext_get_or, get_or-map, length-map}
 use Rattle.std.proofs.lemmas.List.Elements.{All-map}
-use Rattle.cox_base.specs.declared.side.Side.{Side}
 use Rattle.cox_base.specs.IntegerMatrix.{IntegerMatrix}
 use Rattle.cox_base.specs.Admissible.{IsAdmissible}
-use Rattle.cox_context.specs.Members.{IsElement}
-use Rattle.cox_context.specs.SortedList.{IsListOf}
+use Rattle.cox_base.specs.Members.{IsElement}
+use Rattle.cox_base.specs.SortedList.{IsListOf}
 use Rattle.cox_context.proofs.SortedLemmas.{IsListOf-unique, IsListOf-filter}
 use Rattle.cox_wgraph.specs.Edges.{IsEdgeValue}
-use Rattle.cox_wgraph.specs.Listing.{Joined, IsNeighbour, AreJoined, Vertex, descents, IsVertex, AreVertices}
+use Rattle.cox_wgraph.specs.Listing.{Joined, IsNeighbour, AreJoined, Vertex, AreVertices}
 use Rattle.cox_wgraph.proofs.EdgeLemmas.{edge-exists, edge-unique}
 
 -- ---- one listing
@@ -24,8 +23,8 @@ no_joined = record { element = []; value = pos 0 }
 joined-path : (j k : Joined) → j.element ≡ k.element → j.value ≡ k.value → j ≡ k
 joined-path j k e f = λ i. record { element = e i; value = f i }
 
-vertex-path : (v w : Vertex) → v.element ≡ w.element → v.label ≡ w.label → v.joined ≡ w.joined → v ≡ w
-vertex-path v w e f h = λ i. record { element = e i; label = f i; joined = h i }
+vertex-path : (v w : Vertex) → v.element ≡ w.element → v.joined ≡ w.joined → v ≡ w
+vertex-path v w e h = λ i. record { element = e i; joined = h i }
 
 module _ (A : IntegerMatrix) (g : IsAdmissible A) where
   pub one_list : (x : List ℕ) (list other : List Joined) → AreJoined A x list → AreJoined A x other → list ≡ other
@@ -50,9 +49,9 @@ module _ (A : IntegerMatrix) (g : IsAdmissible A) where
           let same : IsEdgeValue A x j.element o.value = rw e (q.values k (record { element = []; value = pos 0 }) m)
           in joined-path j o e (edge-unique A g x j.element j.value o.value (p.values k (record { element = []; value = pos 0 }) l) same)
 
-  pub one_listing : (side : Side) (vertices others : List Vertex) → AreVertices side A vertices → AreVertices side A others
+  pub one_listing : (vertices others : List Vertex) → AreVertices A vertices → AreVertices A others
       → vertices ≡ others
-  one_listing side vertices others p q = ext_get_or (record { element = []; label = []; joined = [] }) vertices others size at
+  one_listing vertices others p q = ext_get_or (record { element = []; joined = [] }) vertices others size at
     where
       words : map (λ (v : Vertex). v.element) vertices ≡ map (λ (v : Vertex). v.element) others
       words = IsListOf-unique (IsElement A) _ _ p.elements q.elements
@@ -60,20 +59,19 @@ module _ (A : IntegerMatrix) (g : IsAdmissible A) where
       size : length vertices ≡ length others
       size = sym (length-map vertices (λ (v : Vertex). v.element)) ∙ ap length words ∙ length-map others (λ (v : Vertex). v.element)
 
-      at : (k : ℕ) → k < length vertices → slice_index_or vertices k (record { element = []; label = []; joined = [] })
-          ≡ slice_index_or others k (record { element = []; label = []; joined = [] })
+      at : (k : ℕ) → k < length vertices → slice_index_or vertices k (record { element = []; joined = [] })
+          ≡ slice_index_or others k (record { element = []; joined = [] })
       at k l =
           let m : k < length others = omega (arith, l, size) in
-          let v : Vertex = slice_index_or vertices k (record { element = []; label = []; joined = [] }) in
-          let w : Vertex = slice_index_or others k (record { element = []; label = []; joined = [] }) in
+          let v : Vertex = slice_index_or vertices k (record { element = []; joined = [] }) in
+          let w : Vertex = slice_index_or others k (record { element = []; joined = [] }) in
           let e : v.element ≡ w.element =
-          sym (get_or-map (λ (v : Vertex). v.element) vertices k (record { element = []; label = []; joined = [] }) [] l)
+          sym (get_or-map (λ (v : Vertex). v.element) vertices k (record { element = []; joined = [] }) [] l)
           ∙ ap (λ (ws : List (List ℕ)). slice_index_or ws k []) words
-          ∙ get_or-map (λ (v : Vertex). v.element) others k (record { element = []; label = []; joined = [] }) [] m in
-          let a : IsVertex side A v = p.each k (record { element = []; label = []; joined = [] }) l in
-          let b : IsVertex side A w = q.each k (record { element = []; label = []; joined = [] }) m in
-          let c : AreJoined A v.element w.joined = rw e b.joined
-          in vertex-path v w e (a.label ∙ ap (descents side A) e ∙ sym b.label) (one_list v.element v.joined w.joined a.joined c)
+          ∙ get_or-map (λ (v : Vertex). v.element) others k (record { element = []; joined = [] }) [] m in
+          let a : AreJoined A v.element v.joined = p.each k (record { element = []; joined = [] }) l in
+          let b : AreJoined A w.element w.joined = q.each k (record { element = []; joined = [] }) m in
+          let c : AreJoined A v.element w.joined = rw e b in vertex-path v w e (one_list v.element v.joined w.joined a c)
 
   -- ---- some listing
 
@@ -129,22 +127,19 @@ module _ (A : IntegerMatrix) (g : IsAdmissible A) where
             (edge-unique A g x y n.joined.0 (value x y) n.joined.1.value (value-is x y) ∙ (Decides-int_eq (value x y) (pos 0)).0 t)),
       )
 
-  abbrev vertex : Side → List (List ℕ) → List ℕ → Vertex
-  vertex side elements x = record { element = x; label = descents side A x; joined = joined_list elements x }
+  abbrev vertex : List (List ℕ) → List ℕ → Vertex
+  vertex elements x = record { element = x; joined = joined_list elements x }
 
-  vertex-words : (side : Side) (elements xs : List (List ℕ)) → map (λ (v : Vertex). v.element) (map (vertex side elements) xs) ≡ xs
-  vertex-words side elements [] = refl
-  vertex-words side elements (x ∷ xs) = ap (λ (zs : List (List ℕ)). x ∷ zs) (vertex-words side elements xs)
+  vertex-words : (elements xs : List (List ℕ)) → map (λ (v : Vertex). v.element) (map (vertex elements) xs) ≡ xs
+  vertex-words elements [] = refl
+  vertex-words elements (x ∷ xs) = ap (λ (zs : List (List ℕ)). x ∷ zs) (vertex-words elements xs)
 
-  pub some_listing : (side : Side) (elements : List (List ℕ)) → IsListOf (IsElement A) elements
-      → (vertices : List Vertex) × AreVertices side A vertices
-  some_listing side elements all = (
-    map (vertex side elements) elements,
+  pub some_listing : (elements : List (List ℕ)) → IsListOf (IsElement A) elements → (vertices : List Vertex) × AreVertices A vertices
+  some_listing elements all = (
+    map (vertex elements) elements,
     record {
-      elements = rw (vertex-words side elements elements) all;
-      each = All-map (IsVertex side A) (vertex side elements) elements (λ k d l. record {
-        label = refl;
-        joined = joined-are elements (slice_index_or elements k d) all;
-      });
+      elements = rw (vertex-words elements elements) all;
+      each = All-map (λ v. AreJoined A v.element v.joined) (vertex elements) elements
+          (λ k d l. joined-are elements (slice_index_or elements k d) all);
     },
   )

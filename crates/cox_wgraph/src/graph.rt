@@ -2,12 +2,12 @@
 ghost use Rattle.std.specs.Prelude.{◌≡◌, ℕ, ◌+◌, ◌-◌, ◌≤◌, ◌<◌, ◌↔◌, length, take, drop, slice_index_or, IfOk, IsBitSet};
 ghost use Rattle.cox_base.specs.Admissible.{IsAdmissible};
 ghost use Rattle.cox_base.specs.IntegerMatrix.{integer_matrix};
-ghost use Rattle.cox_hecke.specs.Step.{IsDescent};
+ghost use Rattle.cox_base.specs.SideDescents.{IsDescent, descent_set};
 ghost use Rattle.cox_context.specs.Closed.{IsClosed};
-ghost use Rattle.cox_context.specs.Members.{IsElement};
+ghost use Rattle.cox_base.specs.Members.{IsElement};
 ghost use Rattle.cox_context.specs.Numbers.{word_at};
-ghost use Rattle.cox_context.specs.SortedList.{IsListOf};
-ghost use Rattle.cox_wgraph.specs.Listing.{descents, AreJoined};
+ghost use Rattle.cox_base.specs.SortedList.{IsListOf};
+ghost use Rattle.cox_wgraph.specs.Listing.{AreJoined};
 ghost use Rattle.cox_wgraph.specs.NumberedEdges.{AreEdges, joined_of};
 
 use crate::Edge;
@@ -87,7 +87,7 @@ impl<'a> WGraph<'a> {
     /// In A 2 the vertex 3, which is 12, has the left label 1 and the right label 2.
     pub fn label(&self, side: Side, i: u32) -> Word
         requires { i < length self.now.members }
-        ensures { result.items ≡ descents side (integer_matrix self.now.matrix) (word_at self.now.members i) }
+        ensures { result.items ≡ descent_set side (integer_matrix self.now.matrix) (word_at self.now.members i) }
     {
         match side {
             Side::Left => self.context.left_descents(i),

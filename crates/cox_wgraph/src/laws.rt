@@ -1,12 +1,11 @@
 //! The laws of W-graphs, for every admissible integer matrix A. Each function does nothing: its clauses are theorems.
 ghost use Rattle.std.specs.Prelude.{◌≡◌, ◌⊎◌, ℕ, List, ℤ, pos};
-ghost use Rattle.cox_base.specs.declared.side.Side.{Side};
 ghost use Rattle.cox_base.specs.IntegerMatrix.{IntegerMatrix};
 ghost use Rattle.cox_base.specs.Admissible.{IsAdmissible};
 ghost use Rattle.cox_base.specs.Element.{SameElement};
 ghost use Rattle.cox_hecke.specs.Row.{IsMu};
-ghost use Rattle.cox_context.specs.Members.{IsElement};
-ghost use Rattle.cox_context.specs.SortedList.{IsListOf};
+ghost use Rattle.cox_base.specs.Members.{IsElement};
+ghost use Rattle.cox_base.specs.SortedList.{IsListOf};
 ghost use Rattle.cox_wgraph.specs.Edges.{IsEdgeValue};
 ghost use Rattle.cox_wgraph.specs.Listing.{Joined, Vertex, AreJoined, AreVertices};
 
@@ -21,12 +20,12 @@ pub fn edges()
         → IsEdgeValue A x y m → IsEdgeValue A v w m }
 {}
 
-/// The W-graph of a finite group, given by the list of its elements, has exactly one listing on each side.
+/// The W-graph of a finite group, given by the list of its elements, has exactly one listing.
 pub fn listings()
-    ensures exists { (A : IntegerMatrix) → IsAdmissible A → (side : Side) (elements : List (List ℕ)) → IsListOf (IsElement A) elements
-        → (vertices : List Vertex) × AreVertices side A vertices }
-    ensures unique { (A : IntegerMatrix) → IsAdmissible A → (side : Side) (vertices others : List Vertex) → AreVertices side A vertices
-        → AreVertices side A others → vertices ≡ others }
+    ensures exists { (A : IntegerMatrix) → IsAdmissible A → (elements : List (List ℕ)) → IsListOf (IsElement A) elements
+        → (vertices : List Vertex) × AreVertices A vertices }
+    ensures unique { (A : IntegerMatrix) → IsAdmissible A → (vertices others : List Vertex) → AreVertices A vertices
+        → AreVertices A others → vertices ≡ others }
     ensures one_list { (A : IntegerMatrix) → IsAdmissible A → (x : List ℕ) (list other : List Joined) → AreJoined A x list → AreJoined A x other
         → list ≡ other }
 {}

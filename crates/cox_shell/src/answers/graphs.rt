@@ -3,13 +3,14 @@ ghost use Rattle.std.specs.Prelude.{◌≡◌, ℕ, ◌<◌, ◌∷◌, false, L
 ghost use Rattle.std.specs.List.{flat_map};
 ghost use Rattle.cox_base.specs.Admissible.{IsCoxeterMatrix};
 ghost use Rattle.cox_base.specs.IntegerMatrix.{integer_matrix};
-ghost use Rattle.cox_context.specs.Members.{IsElement};
-ghost use Rattle.cox_context.specs.SortedList.{IsListOf};
+ghost use Rattle.cox_base.specs.SideDescents.{descent_set};
+ghost use Rattle.cox_base.specs.Members.{IsElement};
+ghost use Rattle.cox_base.specs.SortedList.{IsListOf};
 ghost use Rattle.cox_context.specs.Numbers.{word_at};
 ghost use Rattle.cox_rows.specs.Holding.{HasRow};
 ghost use Rattle.cox_poly.specs.Puts.{Puts};
 ghost use Rattle.cox_print.specs.AnswerText.{list_text, edge_text, member_text, members_text};
-ghost use Rattle.cox_wgraph.specs.Listing.{Vertex, IsVertex, AreVertices};
+ghost use Rattle.cox_wgraph.specs.Listing.{Vertex, AreJoined, AreVertices};
 ghost use Rattle.cox_wgraph.specs.NumberedEdges.{joined_of};
 ghost use Rattle.cox_cells.specs.NumberedCells.{lists_of, words_of};
 ghost use Rattle.cox_shell.specs.Kept.{AreKept};
@@ -95,8 +96,9 @@ fn put_group_cells(out: &mut Vec<u8>, rows: &Rows, kind: CellKind) -> Result<(),
 /// Puts the list of the vertices of the W-graph of a group, each with its label and its edges.
 fn put_vertices(out: &mut Vec<u8>, graph: &WGraph, side: Side) -> Result<(), NoMemory>
     requires whole { IsListOf (IsElement (integer_matrix graph.now.matrix)) graph.now.members }
-    ensures { (vertices : List Vertex) → AreVertices side (integer_matrix graph.now.matrix) vertices
-        → Puts result (list_text (map (vertex_text graph.now.matrix.rank) vertices)) out.old.items out.new.items }
+    ensures { (vertices : List Vertex) → AreVertices (integer_matrix graph.now.matrix) vertices
+        → let label = descent_set side (integer_matrix graph.now.matrix)
+        in Puts result (list_text (map (vertex_text graph.now.matrix.rank label) vertices)) out.old.items out.new.items }
 {
     let count = graph.len();
     put_count(out, count as usize)?;
@@ -110,8 +112,9 @@ fn put_vertices(out: &mut Vec<u8>, graph: &WGraph, side: Side) -> Result<(), NoM
 fn put_next_vertex(out: &mut Vec<u8>, graph: &WGraph, side: Side, i: u32) -> Result<(), NoMemory>
     requires whole { IsListOf (IsElement (integer_matrix graph.now.matrix)) graph.now.members }
     requires member { i < length graph.now.members }
-    ensures { (v : Vertex) → IsVertex side (integer_matrix graph.now.matrix) v → v.element ≡ word_at graph.now.members i
-        → Puts result (10 ∷ vertex_text graph.now.matrix.rank v) out.old.items out.new.items }
+    ensures { (v : Vertex) → AreJoined (integer_matrix graph.now.matrix) v.element v.joined → v.element ≡ word_at graph.now.members i
+        → let label = descent_set side (integer_matrix graph.now.matrix)
+        in Puts result (10 ∷ vertex_text graph.now.matrix.rank label v) out.old.items out.new.items }
 {
     let context = graph.context();
     prove!(graph.len() > 0);

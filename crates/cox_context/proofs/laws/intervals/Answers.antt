@@ -2,7 +2,7 @@
 use Rattle.cox_base.specs.IntegerMatrix.{integer_matrix}
 use Rattle.cox_reflect.proofs.Admissible.{IsAdmissible-integer_matrix}
 use Rattle.cox_reflect.proofs.Bruhat.{below-trans}
-use Rattle.cox_context.specs.Members.{IsInInterval}
+use Rattle.cox_base.specs.Members.{IsInInterval}
 use Rattle.cox_context.proofs.SortedLemmas.{IsListOf-unique}
 use Rattle.cox_context.proofs.IntervalLemmas.{interval-exists}
 use Rattle.cox_context.proofs.laws.intervals.Goals as goal

@@ -17,23 +17,23 @@ either n (Some x) b h k = h
 pub loop-t-init : goal.loop-t-init
 loop-t-init c = record {
   inside = tt;
-  settled = λ y lower. rw c.as_slice-t-items.ensures.value (left-start (integer_matrix c.args.g.now)
-      (IsAdmissible-integer_matrix c.args.g.now c.requires.matrix) c.args.members.now y c.args.top.now.items);
+  settled = λ y lower. rw c.as_slice-t-items.ensures.value (left-start (integer_matrix c.args.shifts.now.matrix)
+      (IsAdmissible-integer_matrix c.args.shifts.now.matrix c.rank-rank.ensures.matrix) c.args.shifts.now.members y c.args.top.now.items);
 }
 
 pub loop-t-preserved : goal.loop-t-preserved
 loop-t-preserved c = record {
-  inside = rw c.or-at.ensures (either (length c.args.members.now) c.shorter_left.result c.loop-t.at c.shorter_left.ensures.member
+  inside = rw c.or-at.ensures (either (length c.args.shifts.now.members) c.shorter_left.result c.loop-t.at c.shorter_left.ensures.member
       c.loop-t.invariant.inside);
   settled = λ y lower.
-      let A : IntegerMatrix = integer_matrix c.args.g.now
-      in let g : IsAdmissible A = IsAdmissible-integer_matrix c.args.g.now c.requires.matrix
+      let A : IntegerMatrix = integer_matrix c.args.shifts.now.matrix
+      in let g : IsAdmissible A = IsAdmissible-integer_matrix c.args.shifts.now.matrix c.rank-rank.ensures.matrix
       in let more : c.loop-t.t-index < length c.as_slice-t-items.result.now = c.loop-t-test.true
       in let t : ℕ = slice_index c.as_slice-t-items.result.now c.loop-t.t-index
       in let rest : drop c.loop-t.t-index c.as_slice-t-items.result.now ≡ t ∷ drop (c.loop-t.t-index + 1) c.as_slice-t-items.result.now
       = rw (add-one, drop-cons c.as_slice-t-items.result.now c.loop-t.t-index 0)
       in let whole : IsReduced A c.as_slice-t-items.result.now = rw c.as_slice-t-items.ensures.value c.requires.reduced
-      in rw c.or-at.ensures (left-next A g c.args.members.now y c.args.top.now.items (drop c.loop-t.t-index c.as_slice-t-items.result.now)
+      in rw c.or-at.ensures (left-next A g c.args.shifts.now.members y c.args.top.now.items (drop c.loop-t.t-index c.as_slice-t-items.result.now)
       (drop (c.loop-t.t-index + 1) c.as_slice-t-items.result.now) t c.loop-t.at c.shorter_left.result rest
       (IsReduced-drop A g c.loop-t.t-index c.as_slice-t-items.result.now whole) (c.loop-t.invariant.settled y lower)
       (c.shorter_left.ensures.lower y lower));
@@ -41,6 +41,6 @@ loop-t-preserved c = record {
 
 pub returns : goal.returns
 returns c = λ y s d lower.
-    left-answer (integer_matrix c.args.g.now) (IsAdmissible-integer_matrix c.args.g.now c.requires.matrix) c.args.members.now y
-    c.args.top.now.items (drop c.loop-t.t-index c.as_slice-t-items.result.now) s c.loop-t.at c.eq.result c.eq.ensures c.requires.closed d
+    left-answer (integer_matrix c.args.shifts.now.matrix) (IsAdmissible-integer_matrix c.args.shifts.now.matrix c.rank-rank.ensures.matrix) c.args.shifts.now.members y
+    c.args.top.now.items (drop c.loop-t.t-index c.as_slice-t-items.result.now) s c.loop-t.at c.eq.result c.eq.ensures c.rank-rank.ensures.closed d
     (drop_all c.loop-t.t-index c.as_slice-t-items.result.now (omega arith)) (c.loop-t.invariant.settled y lower)

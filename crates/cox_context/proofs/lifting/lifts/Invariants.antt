@@ -7,7 +7,7 @@ use Rattle.cox_context.proofs.lifting.lifts.Given as goal
 
 abbrev pub invariant-loop-t : goal.invariant-loop-t
 invariant-loop-t l = record {
-  inside : IfSome l.at (λ i. i < length l.members);
-  settled : (y : List ℕ) → AreLower (integer_matrix l.g) l.members y l.lower
-      → IsLeft (integer_matrix l.g) l.members y l.top.items (drop l.t-index l.t-items) l.at;
+  inside : IfSome l.at (λ i. i < length l.shifts.members);
+  settled : (y : List ℕ) → AreLower (integer_matrix l.shifts.matrix) l.shifts.members y l.lower
+      → IsLeft (integer_matrix l.shifts.matrix) l.shifts.members y l.top.items (drop l.t-index l.t-items) l.at;
 }

@@ -6,4 +6,4 @@ use Rattle.cox_context.proofs.ShiftRowLemmas.{AreLowerBefore}
 use Rattle.cox_context.proofs.lower.lower_members.Given as goal
 
 abbrev pub invariant-loop-t : goal.invariant-loop-t
-invariant-loop-t l = AreLowerBefore (integer_matrix l.g) l.members (l.s ∷ word_at l.members l.i) l.t l.lower
+invariant-loop-t l = AreLowerBefore (integer_matrix l.shifts.matrix) l.shifts.members (l.s ∷ word_at l.shifts.members l.i) l.t l.lower

@@ -6,6 +6,6 @@ use Rattle.cox_context.proofs.right_shifts.push_row.Given as goal
 
 abbrev pub invariant-loop-s : goal.invariant-loop-s
 invariant-loop-s l = record {
-  size : length l.table.items ≡ l.i * l.g.rank + (l.s - 1);
-  shifts : AreRightShifts (integer_matrix l.g) l.members l.table.items;
+  size : length l.table.items ≡ l.i * l.shifts.matrix.rank + (l.s - 1);
+  shifts : AreRightShifts (integer_matrix l.shifts.matrix) l.shifts.members l.table.items;
 }

@@ -6,6 +6,6 @@ use Rattle.cox_context.proofs.right_shifts.right_shifts.Given as goal
 
 abbrev pub invariant-loop-i : goal.invariant-loop-i
 invariant-loop-i l = record {
-  size : length l.table.items ≡ l.i * l.g.rank;
-  shifts : AreRightShifts (integer_matrix l.g) l.members l.table.items;
+  size : length l.table.items ≡ l.i * l.shifts.matrix.rank;
+  shifts : AreRightShifts (integer_matrix l.shifts.matrix) l.shifts.members l.table.items;
 }

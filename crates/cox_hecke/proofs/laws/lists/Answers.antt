@@ -1,6 +1,9 @@
--- The elements below w are listed by a descent, and those above x are picked out.
-use Rattle.cox_hecke.proofs.ElementLists.{between_listed}
+-- The elements between two, listed in ShortLex order.
+use Rattle.cox_hecke.proofs.ElementLists.{sorted_between, sorted-lists}
 use Rattle.cox_hecke.proofs.laws.lists.Goals as goal
 
-pub returns : goal.returns
-returns c = between_listed
+pub returns-clause-exists : goal.returns-clause-exists
+returns-clause-exists c = sorted_between
+
+pub returns-clause-names : goal.returns-clause-names
+returns-clause-names c = sorted-lists

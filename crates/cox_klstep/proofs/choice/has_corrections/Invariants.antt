@@ -1,7 +1,7 @@
 -- The rows of the corrections so far are there.
 use Rattle.std.proofs.Common.{ℕ, ◌<◌}
 use Rattle.cox_base.specs.IntegerMatrix.{integer_matrix}
-use Rattle.cox_hecke.specs.Step.{IsDescent}
+use Rattle.cox_base.specs.SideDescents.{IsDescent}
 use Rattle.cox_context.specs.Numbers.{word_at}
 use Rattle.cox_row.specs.Rising.{number_at}
 use Rattle.cox_klstep.proofs.choice.has_corrections.Given as goal

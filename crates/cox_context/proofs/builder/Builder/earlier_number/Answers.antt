@@ -23,16 +23,16 @@ returns-in_err-before c =
     (ascent c.args.family.now.group c.requires.matrix c.args.self.now.listing.members c.requires.closed c.args.s c.args.parent
     c.requires.letter c.requires.parent c.requires.new) none)
 
-pub left_shift-requires-clause-member : goal.left_shift-requires-clause-member
-left_shift-requires-clause-member c =
+pub shift-requires-clause-member : goal.shift-requires-clause-member
+shift-requires-clause-member c =
     let read : entry 1 c.args.self.now.numbers.items 1 c.args.parent ≡ Some c.in_ok-before.before =
     sym (rw c.as_slice.ensures.value at c.in_ok-before.ensures)
     in let found = rw read at (c.requires.numbers.each c.args.parent c.requires.parent)
-    in found.0
+    in rw c.shifts.ensures found.0
 
 pub returns : goal.returns
 returns c =
     let read : entry 1 c.args.self.now.numbers.items 1 c.args.parent ≡ Some c.in_ok-before.before =
     sym (rw c.as_slice.ensures.value at c.in_ok-before.ensures)
     in let found = rw read at (c.requires.numbers.each c.args.parent c.requires.parent)
-    in rw found.1 at c.left_shift.ensures
+    in let shift = rw c.shifts.ensures at c.shift.ensures in rw found.1 at shift

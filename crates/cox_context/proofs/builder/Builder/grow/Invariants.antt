@@ -2,15 +2,13 @@
 use Rattle.std.proofs.Common.{◌≤◌, length}
 use Rattle.cox_base.specs.IntegerMatrix.{integer_matrix}
 use Rattle.cox_context.specs.WantedMembers.{IsMember}
-use Rattle.cox_context.specs.Growth.{IsGrown, AreNumbers}
-use Rattle.cox_context.specs.Shifts.{AreLeftShifts}
+use Rattle.cox_context.specs.Growth.{IsGrown, AreTabled}
 use Rattle.cox_context.proofs.builder.Builder.grow.Given as goal
 
 abbrev pub invariant-loop-known : goal.invariant-loop-known
 invariant-loop-known l = record {
   grown : IsGrown l.family.group.rank (IsMember
       (integer_matrix l.family.group) l.family.top l.earlier.members) l.known l.low l.self.listing.members;
-  left : AreLeftShifts (integer_matrix l.family.group) l.self.listing.members l.self.listing.left.items;
-  numbers : AreNumbers l.earlier.members l.self.listing.members l.self.numbers.items;
+  tabled : AreTabled (integer_matrix l.family.group) l.earlier.members l.self.listing.members l.self.listing.left.items l.self.numbers.items;
   room : length l.self.listing.members ≤ l.limit;
 }

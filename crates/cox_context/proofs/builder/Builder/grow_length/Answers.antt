@@ -16,6 +16,6 @@ returns-clause-grown c =
     in let last : c.loop-s.s ≡ c.args.family.now.group.rank + 1 = omega (arith, c.rank-rank.ensures.rank)
     in rw (← c.len-high.ensures.len)
     (grown-end c.args.family.now.group.rank P
-    (ideal-tailed A g P (ideal-member A g c.args.family.now.top c.args.earlier.now.members c.requires.earlier)) c.args.letters
+    (ideal-tailed A g P (ideal-member A g c.args.family.now.top c.args.earlier.now.members c.requires.search.earlier)) c.args.letters
     c.args.low c.len-high.result c.loop-s.s
     c.loop-s.self.listing.members last c.loop-s.invariant.growing)

@@ -17,26 +17,26 @@ use Rattle.cox_context.proofs.builder.Builder.grow_letter.Goals.{in-Some+in_ok-a
 
 pub child-requires-clause-closed : goal.child-requires-clause-closed
 child-requires-clause-closed c =
-    member-closed c.args.family.now.group c.requires.matrix c.args.family.now.top c.args.earlier.now.members c.requires.earlier
+    member-closed c.args.family.now.group c.requires.matrix c.args.family.now.top c.args.earlier.now.members c.requires.search.earlier
     c.args.letters c.args.low c.args.high c.args.s
     c.loop-parent.parent c.loop-parent.self.listing.members c.loop-parent.invariant.growing c.requires.short
     (omega (arith, c.loop-parent.invariant.room, c.requires.limit))
 
 pub child-requires-clause-below : goal.child-requires-clause-below
 child-requires-clause-below c =
-    members-below c.args.family.now.group c.requires.matrix c.args.family.now.top c.args.earlier.now.members c.requires.earlier
+    members-below c.args.family.now.group c.requires.matrix c.args.family.now.top c.args.earlier.now.members c.requires.search.earlier
     c.args.letters c.args.low c.args.high c.args.s
     c.loop-parent.parent c.loop-parent.self.listing.members c.loop-parent.invariant.growing c.loop-parent.self.numbers.items
-    c.loop-parent.invariant.numbers
+    c.loop-parent.invariant.tabled.numbers
 
 pub returns-in_err-add-clause-fault : goal.returns-in_err-add-clause-fault
 returns-in_err-add-clause-fault c =
     let few : length c.loop-parent.self.listing.members ≤ MAX_MEMBERS = omega (arith, c.loop-parent.invariant.room, c.requires.limit)
     in let prefix = prefix-next c.args.family.now.group c.requires.matrix c.args.family.now.top c.args.earlier.now.members
-    c.requires.earlier c.args.letters c.args.low c.args.high c.args.s c.loop-parent.parent c.loop-parent.self.listing.members
+    c.requires.search.earlier c.args.letters c.args.low c.args.high c.args.s c.loop-parent.parent c.loop-parent.self.listing.members
     c.loop-parent.invariant.growing c.requires.short few c.in-Some.child c.requires.letter c.loop-parent-test.true c.in-Some.ensures.next
     in let short = short-next c.args.family.now.group c.requires.matrix c.args.family.now.top c.args.earlier.now.members
-    c.requires.earlier c.args.letters c.args.low c.args.high c.args.s c.loop-parent.parent c.loop-parent.self.listing.members
+    c.requires.search.earlier c.args.letters c.args.low c.args.high c.args.s c.loop-parent.parent c.loop-parent.self.listing.members
     c.loop-parent.invariant.growing c.requires.short few c.in-Some.child c.requires.letter c.loop-parent-test.true c.in-Some.ensures.next
     in search (
       rules,
@@ -57,33 +57,34 @@ loop-parent-preserved c =
           = rw w.in_ok-add.ensures.added at w.in_ok-add.ensures.room
           in let growing : IsGrowing c.args.family.now.group.rank (IsMember A c.args.family.now.top c.args.earlier.now.members)
           c.args.letters c.args.low c.args.high c.args.s (c.loop-parent.parent + 1) (c.loop-parent.self.listing.members ++ y ∷ [])
-          = growing-next c.args.family.now.group c.requires.matrix c.args.family.now.top c.args.earlier.now.members c.requires.earlier
+          = growing-next c.args.family.now.group c.requires.matrix c.args.family.now.top c.args.earlier.now.members c.requires.search.earlier
           c.args.letters c.args.low c.args.high c.args.s c.loop-parent.parent c.loop-parent.self.listing.members
           c.loop-parent.invariant.growing c.requires.short few w.in-Some.child c.requires.letter c.loop-parent-test.true next
           in let more : IsClosed A (c.loop-parent.self.listing.members ++ y ∷ []) = member-closed c.args.family.now.group c.requires.matrix
-          c.args.family.now.top c.args.earlier.now.members c.requires.earlier c.args.letters c.args.low c.args.high c.args.s
+          c.args.family.now.top c.args.earlier.now.members c.requires.search.earlier c.args.letters c.args.low c.args.high c.args.s
           (c.loop-parent.parent + 1) (c.loop-parent.self.listing.members ++ y ∷ []) growing c.requires.short
           (omega (arith, room, c.requires.limit))
           in rw w.self-is (record {
             growing = rw w.in_ok-add.ensures.added growing;
-            left = rw w.in_ok-add.ensures.added (shifts-push A (IsAdmissible-integer_matrix c.args.family.now.group c.requires.matrix)
-                c.loop-parent.self.listing.members y more w.in-Some.child.lower c.loop-parent.self.listing.left.items _
-                c.loop-parent.invariant.left next.numbers
-                (rw w.rank.ensures.rank at w.in_ok-add.ensures.left));
-            numbers = rw (w.in_ok-add.ensures.added, w.in_ok-add.ensures.numbers) (numbers-next c.args.family.now.group c.requires.matrix
-                c.args.family.now.top c.args.earlier.now.members c.requires.earlier c.args.letters c.args.low c.args.high c.args.s
-                c.loop-parent.parent c.loop-parent.self.listing.members c.loop-parent.invariant.growing c.requires.short few
-                w.in-Some.child c.requires.letter c.loop-parent-test.true next c.loop-parent.self.numbers.items c.requires.earlier.few
-                c.loop-parent.invariant.numbers);
+            tabled = record {
+              left = rw w.in_ok-add.ensures.added (shifts-push A (IsAdmissible-integer_matrix c.args.family.now.group c.requires.matrix)
+                  c.loop-parent.self.listing.members y more w.in-Some.child.lower c.loop-parent.self.listing.left.items _
+                  c.loop-parent.invariant.tabled.left next.numbers
+                  (rw w.rank.ensures.rank at w.in_ok-add.ensures.left));
+              numbers = rw (w.in_ok-add.ensures.added, w.in_ok-add.ensures.numbers) (numbers-next c.args.family.now.group c.requires.matrix
+                  c.args.family.now.top c.args.earlier.now.members c.requires.search.earlier c.args.letters c.args.low c.args.high c.args.s
+                  c.loop-parent.parent c.loop-parent.self.listing.members c.loop-parent.invariant.growing c.requires.short few
+                  w.in-Some.child c.requires.letter c.loop-parent-test.true next c.loop-parent.self.numbers.items c.requires.search.earlier.few
+                  c.loop-parent.invariant.tabled.numbers);
+            };
             room = w.in_ok-add.ensures.room;
           })
       | in_default w ↦
           rw w.self-is (record {
             growing = growing-no_next c.args.family.now.group c.requires.matrix c.args.family.now.top c.args.earlier.now.members
-                c.requires.earlier c.args.letters c.args.low c.args.high c.args.s c.loop-parent.parent
+                c.requires.search.earlier c.args.letters c.args.low c.args.high c.args.s c.loop-parent.parent
                 c.loop-parent.self.listing.members c.loop-parent.invariant.growing c.loop-parent-test.true w.in_default.ensures.none;
-            left = c.loop-parent.invariant.left;
-            numbers = c.loop-parent.invariant.numbers;
+            tabled = c.loop-parent.invariant.tabled;
             room = c.loop-parent.invariant.room;
           })
     ]
@@ -93,6 +94,6 @@ returns-clause-growing c =
     let last : c.loop-parent.parent ≡ c.args.high = omega (arith, c.requires.growing.stop)
     in growing-letter c.args.family.now.group.rank (IsMember (integer_matrix c.args.family.now.group) c.args.family.now.top
     c.args.earlier.now.members) (member-tailed c.args.family.now.group c.requires.matrix c.args.family.now.top
-    c.args.earlier.now.members c.requires.earlier) c.args.letters c.args.low c.args.high c.args.s
+    c.args.earlier.now.members c.requires.search.earlier) c.args.letters c.args.low c.args.high c.args.s
     c.loop-parent.self.listing.members
     c.requires.growing.stop (rw last at c.loop-parent.invariant.growing)

@@ -17,8 +17,11 @@ returns-in-Ok-vec-clause-grown c =
     (ideal-tailed A g (IsMember A c.args.family.now.top c.args.earlier.now.members)
     (ideal-member A g c.args.family.now.top c.args.earlier.now.members c.requires.earlier)))
 
-pub returns-in-Ok-vec-clause-numbers : goal.returns-in-Ok-vec-clause-numbers
-returns-in-Ok-vec-clause-numbers c =
+pub returns-in-Ok-vec-clause-tabled : goal.returns-in-Ok-vec-clause-tabled
+returns-in-Ok-vec-clause-tabled c =
     let all : c.in-Ok-vec.numbers.items ≡ 0 ∷ [] = c.in-Ok-vec.ensures.items_if_clones_equal (search rules)
-    in rw (c.in-Ok.ensures.members, all) (numbers-start (integer_matrix c.args.family.now.group)
-    (IsAdmissible-integer_matrix c.args.family.now.group c.rank-rank.ensures.matrix) c.args.earlier.now.members c.requires.earlier)
+    in record {
+      left = c.in-Ok.ensures.left;
+      numbers = rw (c.in-Ok.ensures.members, all) (numbers-start (integer_matrix c.args.family.now.group)
+          (IsAdmissible-integer_matrix c.args.family.now.group c.rank-rank.ensures.matrix) c.args.earlier.now.members c.requires.earlier);
+    }

@@ -51,5 +51,5 @@ returns-clause-moved c =
     extension-found h c.grow.new.self.listing.members c.len-3.result c.length-longest.result c.max-letters.result
     c.in_ok-grow.field-0 c.len-3.ensures.len c.length-longest.ensures.length (omega (arith, c.max-letters.ensures))
     (omega (arith, c.max-letters.ensures, c.len-4.ensures.value)) c.in_ok-grow.ensures.grown)
-    c.in_ok-grow.ensures.numbers (rw c.len-5.ensures.len at c.in-Ok.ensures.size)
+    c.in_ok-grow.ensures.tabled.numbers (rw c.len-5.ensures.len at c.in-Ok.ensures.size)
     (rw c.as_slice.ensures.value at c.in-Ok.ensures.last))

@@ -5,8 +5,8 @@ use Rattle.cox_base.specs.IntegerMatrix.{IntegerMatrix, integer_matrix}
 use Rattle.cox_base.specs.Admissible.{IsAdmissible}
 use Rattle.cox_base.specs.declared.limits.TheConstants.{MAX_LETTERS}
 use Rattle.cox_reflect.proofs.Admissible.{IsAdmissible-integer_matrix}
-use Rattle.cox_context.specs.Members.{IsElement}
-use Rattle.cox_context.specs.SortedList.{IsListOf}
+use Rattle.cox_base.specs.Members.{IsElement}
+use Rattle.cox_base.specs.SortedList.{IsListOf}
 use Rattle.cox_context.proofs.ResultLemmas.{made_members}
 use Rattle.cox_context.proofs.Ideals.{group-ideal, ideal-tailed}
 use Rattle.cox_context.proofs.GrowthLemmas.{grown-list, grown-length}
@@ -73,6 +73,10 @@ new-requires-3 c = record {
       (IsAdmissible-integer_matrix c.copy.result c.in-Ok.ensures.matrix));
 }
 
-pub grow-requires-clause-earlier : goal.grow-requires-clause-earlier
-grow-requires-clause-earlier c = rw c.in-Ok.ensures.members (identity-closed (integer_matrix c.copy.result)
-    (IsAdmissible-integer_matrix c.copy.result c.in-Ok.ensures.matrix))
+pub grow-requires-clause-search : goal.grow-requires-clause-search
+grow-requires-clause-search c = record {
+  top = tt;
+  earlier = rw c.in-Ok.ensures.members (identity-closed (integer_matrix c.copy.result)
+      (IsAdmissible-integer_matrix c.copy.result c.in-Ok.ensures.matrix));
+  earlier_left = c.in-Ok.ensures.left;
+}

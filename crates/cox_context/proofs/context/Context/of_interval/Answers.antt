@@ -2,31 +2,31 @@
 use Rattle.std.proofs.Common.{rules, ◌≡◌, ◌∙◌, length, IfErr, arith}
 use Rattle.cox_base.specs.IntegerMatrix.{integer_matrix}
 use Rattle.cox_reflect.proofs.Admissible.{IsAdmissible-integer_matrix}
-use Rattle.cox_context.specs.Members.{IsInInterval}
+use Rattle.cox_base.specs.Members.{IsInInterval}
 use Rattle.cox_context.specs.Union.{IsInUnion}
 use Rattle.cox_context.specs.FaultMeaning.{IsRefusal}
-use Rattle.cox_context.specs.SortedList.{IsListOf}
+use Rattle.cox_base.specs.SortedList.{IsListOf}
 use Rattle.cox_context.proofs.ResultLemmas.{made_members}
 use Rattle.cox_context.proofs.ContextLemmas.{form-same, identity-closed, interval-refused, interval-found, interval-closed}
 use Rattle.cox_context.proofs.context.Context.of_interval.Goals as goal
 
-pub grow-requires-clause-top : goal.grow-requires-clause-top
-grow-requires-clause-top c = (
-  rw (c.copy.ensures ∙ c.group.ensures) c.normal_form-top.ensures.word,
-  (form-same c.args.group.now c.copy.result (c.copy.ensures ∙ c.group.ensures) c.in_ok-builder.ensures.matrix c.args.w.now.items
-      c.normal_form-top.result.items
-      c.normal_form-top.ensures.form).0,
-)
+pub grow-requires-clause-search : goal.grow-requires-clause-search
+grow-requires-clause-search c = record {
+  top = (
+    rw (c.copy.ensures ∙ c.group.ensures) c.normal_form-top.ensures.word,
+    (form-same c.args.group.now c.copy.result (c.copy.ensures ∙ c.group.ensures) c.in_ok-builder.ensures.matrix c.args.w.now.items
+        c.normal_form-top.result.items c.normal_form-top.ensures.form).0,
+  );
+  earlier = rw c.in-Ok.ensures.members (identity-closed (integer_matrix c.copy.result)
+      (IsAdmissible-integer_matrix c.copy.result c.in-Ok.ensures.matrix));
+  earlier_left = c.in-Ok.ensures.left;
+}
 
 pub new-requires-2 : goal.new-requires-2
 new-requires-2 c = record {
   earlier = rw c.in-Ok.ensures.members (identity-closed (integer_matrix c.copy.result)
       (IsAdmissible-integer_matrix c.copy.result c.in-Ok.ensures.matrix));
 }
-
-pub grow-requires-clause-earlier : goal.grow-requires-clause-earlier
-grow-requires-clause-earlier c = rw c.in-Ok.ensures.members (identity-closed (integer_matrix c.copy.result)
-    (IsAdmissible-integer_matrix c.copy.result c.in-Ok.ensures.matrix))
 
 pub returns-in_err-grow-clause-refused : goal.returns-in_err-grow-clause-refused
 returns-in_err-grow-clause-refused c =

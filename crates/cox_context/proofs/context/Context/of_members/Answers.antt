@@ -9,17 +9,19 @@ pub invariant_of-result : goal.invariant_of-result
 invariant_of-result c =
     let A : IntegerMatrix = integer_matrix c.args.group
     in let g : IsAdmissible A = IsAdmissible-integer_matrix c.args.group c.rank-rank.ensures.matrix
+    in let size = rw c.shifts.ensures at c.in-Ok.ensures.size
+    in let shifts = rw c.shifts.ensures at c.in-Ok.ensures.shifts
     in record {
       closed = c.requires.closed;
       left_shifts = c.requires.left;
-      right_size = c.in-Ok.ensures.size;
-      right_shifts = c.in-Ok.ensures.shifts;
+      right_size = size;
+      right_shifts = shifts;
       left_bits =
           left-sets A g c.args.listing.members c.requires.closed c.args.listing.left.items c.in-Ok-lowering_sets.left_descents.items
           c.requires.left
-          (rw (c.rank-rank.ensures.rank, c.len-count.ensures.len, c.as_slice-left.ensures.value) at c.in-Ok-lowering_sets.ensures);
+          (rw (c.rank-rank.ensures.rank, c.len-count.ensures.len, c.as_slice.ensures.value) at c.in-Ok-lowering_sets.ensures);
       right_bits =
           right-sets A g c.args.listing.members c.requires.closed c.in-Ok.right.items
-          c.in-Ok-lowering_sets-2.right_descents.items c.in-Ok.ensures.size c.in-Ok.ensures.shifts
-          (rw (c.rank-rank.ensures.rank, c.len-count.ensures.len, c.as_slice.ensures.value) at c.in-Ok-lowering_sets-2.ensures);
+          c.in-Ok-lowering_sets-2.right_descents.items size shifts
+          (rw (c.rank-rank.ensures.rank, c.len-count.ensures.len, c.as_slice-2.ensures.value) at c.in-Ok-lowering_sets-2.ensures);
     }

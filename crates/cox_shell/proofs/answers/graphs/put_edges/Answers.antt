@@ -2,6 +2,7 @@
 use Rattle.std.proofs.Common.{◌≡◌, ◌++◌, refl, arith, rules, pos, FitsSigned, w32, w64, subst, ap, ◌∙◌}
 use Rattle.std.proofs.lemmas.Int.{to_z-of_z}
 use Rattle.cox_base.specs.Matrix.{CoxeterMatrix}
+use Rattle.cox_reflect.proofs.NormalElements.{element-word}
 use Rattle.cox_poly.specs.Puts.{PutsPrefix}
 use Rattle.cox_print.specs.AnswerText.{edge_text}
 use Rattle.cox_poly.proofs.Behind.{PutsPrefix-next, Puts-failed, append-all, append-next}
@@ -17,7 +18,8 @@ put_edge-requires-clause-word c =
     let to = (edge_at c.args.edges.now c.loop-edge.edge-index).to in
     let within = c.requires c.loop-edge.edge-index (record { to = 0; value = pos 0 }) c.loop-edge-test.true in
     let element = c.len.ensures.closed.element (word_at members to) (contains-at members to within) in
-    rw (c.word.ensures, c.rank-rank.ensures.rank, c.matrix.ensures) element.letters
+    rw (c.word.ensures, c.rank-rank.ensures.rank, c.matrix.ensures)
+    (element-word _ c.len.ensures.admissible _ element)
 
 pub returns : goal.returns
 returns c =

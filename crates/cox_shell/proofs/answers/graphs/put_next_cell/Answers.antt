@@ -2,6 +2,7 @@
 use Rattle.std.proofs.Common.{◌≡◌, ◌++◌, ◌∷◌, [], ◌<◌, false, true, length, map, rules, arith}
 use Rattle.std.specs.List.{flat_map}
 use Rattle.std.proofs.lemmas.List.Elements.{All-rest}
+use Rattle.cox_reflect.proofs.NormalElements.{element-word}
 use Rattle.cox_poly.proofs.Behind.{Puts-first, Puts-second}
 use Rattle.cox_context.specs.Numbers.{word_at}
 use Rattle.cox_context.proofs.ListLemmas.{contains-at}
@@ -21,7 +22,8 @@ put_member-requires-clause-word c =
     let within = (rw parts at c.requires) 0 0 (omega arith) in
     let element = c.len.ensures.closed.element (word_at members c.in-Some.field-0-0.now)
     (contains-at members c.in-Some.field-0-0.now within) in
-    rw (c.word.ensures, c.rank-rank.ensures.rank, c.matrix.ensures) element.letters
+    rw (c.word.ensures, c.rank-rank.ensures.rank, c.matrix.ensures)
+    (element-word _ c.len.ensures.admissible _ element)
 
 pub put_other_members-requires : goal.put_other_members-requires
 put_other_members-requires c =

@@ -1,5 +1,6 @@
 -- The proof of `put_other_members`.
 use Rattle.std.proofs.Common.{get_or, refl, arith, rules}
+use Rattle.cox_reflect.proofs.NormalElements.{element-word}
 use Rattle.cox_poly.proofs.Behind.{PutsPrefix-next, Puts-failed, append-all}
 use Rattle.cox_context.specs.Numbers.{word_at}
 use Rattle.cox_context.proofs.ListLemmas.{contains-at}
@@ -12,7 +13,8 @@ put_member-requires-clause-word c =
     let i = get_or c.args.others.now c.loop-i.i-index 0 in
     let within = c.requires c.loop-i.i-index 0 c.loop-i-test.true in
     let element = c.len.ensures.closed.element (word_at members i) (contains-at members i within) in
-    rw (c.word.ensures, c.rank-rank.ensures.rank, c.matrix.ensures) element.letters
+    rw (c.word.ensures, c.rank-rank.ensures.rank, c.matrix.ensures)
+    (element-word _ c.len.ensures.admissible _ element)
 
 pub returns-in_err-put_member : goal.returns-in_err-put_member
 returns-in_err-put_member c =

@@ -1,7 +1,7 @@
 -- What the loop of `counts` keeps.
 use Rattle.std.proofs.Common.{◌≡◌, ℕ, ◌+◌, ◌<◌, pos, length, take, slice_index_or}
 use Rattle.cox_base.specs.declared.limits.TheConstants.{MAX_LETTERS}
-use Rattle.cox_context.specs.Interval.{count_of_length}
+use Rattle.cox_base.specs.Interval.{count_of_length}
 use Rattle.cox_shell.proofs.answers.intervals.counts.Given as goal
 
 abbrev pub invariant-loop-i : goal.invariant-loop-i

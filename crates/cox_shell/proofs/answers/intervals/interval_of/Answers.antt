@@ -5,8 +5,8 @@ use Rattle.cox_base.specs.IntegerMatrix.{IntegerMatrix, integer_matrix}
 use Rattle.cox_base.specs.Admissible.{IsCoxeterMatrix, IsAdmissible}
 use Rattle.cox_reflect.proofs.Admissible.{IsAdmissible-integer_matrix}
 use Rattle.cox_reflect.proofs.Search.{word_length-length}
-use Rattle.cox_context.specs.Members.{IsInInterval}
-use Rattle.cox_context.specs.SortedList.{HasMoreThan}
+use Rattle.cox_base.specs.Members.{IsInInterval}
+use Rattle.cox_base.specs.SortedList.{HasMoreThan}
 use Rattle.cox_context.specs.FaultMeaning.{IsRefusal}
 use Rattle.cox_context.specs.declared.fault.ContextFault.{ContextFault}
 use Rattle.cox_context.specs.declared.fault.ContextFault.TheVariants.{Size, Long}

@@ -2,7 +2,7 @@
 use Rattle.std.proofs.Common.{refl, rules, arith}
 use Rattle.cox_base.specs.IntegerMatrix.{integer_matrix}
 use Rattle.cox_base.specs.Length.{word_length}
-use Rattle.cox_context.specs.Interval.{counts_by_length}
+use Rattle.cox_base.specs.Interval.{counts_by_length}
 use Rattle.cox_print.specs.AnswerText.{numbers_text}
 use Rattle.cox_shell.proofs.LengthCounts.{counts-prefix}
 use Rattle.cox_shell.proofs.answers.intervals.put_counts.Goals as goal

@@ -1,6 +1,7 @@
 -- The proof of `put_members`.
 use Rattle.std.proofs.Common.{◌≡◌, ◌++◌, length, get_or, decimal, refl, arith, rules}
 use Rattle.std.specs.List.{flat_map}
+use Rattle.cox_reflect.proofs.NormalElements.{element-word}
 use Rattle.cox_poly.proofs.Behind.{PutsPrefix-next, PutsPrefix-second, Puts-failed, Puts-first, append-all, append-second}
 use Rattle.cox_context.specs.Numbers.{word_at}
 use Rattle.cox_context.proofs.ListLemmas.{contains-at}
@@ -19,7 +20,8 @@ put_next_element-requires-clause-word c =
     let i = get_or c.args.numbers.now c.loop-i.i-index 0 in
     let within = c.requires c.loop-i.i-index 0 c.loop-i-test.true in
     let element = c.len.ensures.closed.element (word_at members i) (contains-at members i within) in
-    rw (c.word.ensures, c.rank-rank.ensures.rank, c.matrix.ensures) element.letters
+    rw (c.word.ensures, c.rank-rank.ensures.rank, c.matrix.ensures)
+    (element-word _ c.len.ensures.admissible _ element)
 
 pub returns-in_err-put_next_element : goal.returns-in_err-put_next_element
 returns-in_err-put_next_element c =

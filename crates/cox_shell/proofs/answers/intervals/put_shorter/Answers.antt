@@ -3,8 +3,8 @@ use Rattle.std.proofs.Common.{◌+◌, ◌==◌, filter, length, refl, rules}
 use Rattle.cox_base.specs.IntegerMatrix.{integer_matrix}
 use Rattle.cox_base.specs.Length.{word_length}
 use Rattle.cox_reflect.proofs.Admissible.{IsAdmissible-integer_matrix}
-use Rattle.cox_context.specs.SortedList.{IsListOf}
-use Rattle.cox_context.specs.Interval.{IsCoatom}
+use Rattle.cox_base.specs.SortedList.{IsListOf}
+use Rattle.cox_base.specs.Interval.{IsCoatom}
 use Rattle.cox_context.proofs.IntervalLemmas.{coatoms-of}
 use Rattle.cox_poly.proofs.Behind.{Puts-failed}
 use Rattle.cox_print.specs.AnswerText.{elements_text}

@@ -1,13 +1,23 @@
 -- The proof of `put_extremal_pairs`.
 use Rattle.std.proofs.Common.{refl}
+use Rattle.std.proofs.lemmas.List.Elements.{All-from_get_or}
 use Rattle.cox_base.specs.IntegerMatrix.{integer_matrix}
+use Rattle.cox_base.specs.Bruhat.{IsBelow}
 use Rattle.cox_reflect.proofs.Admissible.{IsAdmissible-integer_matrix}
 use Rattle.cox_hecke.proofs.AllRows.{row_of, row_of-is}
 use Rattle.cox_context.specs.Closed.{IsClosed}
+use Rattle.cox_context.specs.Numbers.{word_at}
 use Rattle.cox_shell.specs.RowReply.{pairs_text}
 use Rattle.cox_shell.specs.Saying.{words_at}
 use Rattle.cox_shell.proofs.RowMembers.{extremal-list}
 use Rattle.cox_shell.proofs.answers.pairs.put_extremal_pairs.Goals as goal
+
+pub put_pairs-requires-clause-below : goal.put_pairs-requires-clause-below
+put_pairs-requires-clause-below c =
+    let e = c.args.rows.now.elements in
+    let extremal = (c.in-Some.ensures {u = tt}).row.is.extremal in
+    rw c.extremal.ensures (All-from_get_or (λ x. IsBelow (integer_matrix e.matrix) (word_at e.members x) (word_at e.members c.args.i))
+    c.in-Some.row.now.extremal.items 0 extremal.below)
 
 pub returns : goal.returns
 returns c = λ w is.

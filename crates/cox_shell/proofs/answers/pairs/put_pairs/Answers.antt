@@ -6,8 +6,11 @@ use Rattle.cox_base.specs.Element.{SameElement}
 use Rattle.cox_base.specs.Length.{word_length}
 use Rattle.cox_reflect.proofs.Admissible.{IsAdmissible-integer_matrix}
 use Rattle.cox_reflect.proofs.Search.{normal_form-same}
+use Rattle.cox_reflect.proofs.NormalElements.{element-word}
 use Rattle.cox_poly.proofs.Behind.{PutsPrefix-next, PutsPrefix-second, Puts-failed, Puts-first, append-all, append-second, append-next}
+use Rattle.cox_context.specs.Closed.{IsClosed}
 use Rattle.cox_context.specs.Numbers.{word_at}
+use Rattle.cox_context.proofs.ListLemmas.{contains-at}
 use Rattle.cox_shell.proofs.PairTexts.{pair_line, pairs-text, pair-line}
 use Rattle.cox_shell.proofs.answers.pairs.put_pairs.Goals as goal
 
@@ -17,6 +20,17 @@ returns-in_err-put_count c = λ w p is row.
     let numbers = c.args.numbers.now in
     let line = pair_line e.matrix.rank (word_length (integer_matrix e.matrix) w) e.members p in
     rw pairs-text (Puts-first _ (decimal (length numbers)) (flat_map line numbers) _ _ (search rules) c.in_err-put_count.ensures)
+
+pub put_next_pair-requires-clause-word : goal.put_next_pair-requires-clause-word
+put_next_pair-requires-clause-word c =
+    let e = c.args.rows.now.elements in
+    let g = IsAdmissible-integer_matrix e.matrix c.requires.group in
+    let x = get_or c.args.numbers.now c.loop-x.x-index 0 in
+    let within = c.requires.members c.loop-x.x-index 0 c.loop-x-test.true in
+    let closed : IsClosed (integer_matrix e.matrix) e.members = rw c.context-2.ensures.context at c.len.ensures.closed in
+    let element = closed.element (word_at e.members x) (contains-at e.members x within) in
+    rw (c.word.ensures, c.context-in-loop-x.ensures.context, c.rank-rank.ensures.rank, c.matrix.ensures, c.context.ensures.context)
+    (element-word (integer_matrix e.matrix) g _ element)
 
 pub returns-in_err-put_next_pair : goal.returns-in_err-put_next_pair
 returns-in_err-put_next_pair c = λ w p is row.

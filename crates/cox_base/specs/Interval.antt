@@ -4,7 +4,7 @@ use Rattle.std.specs.List.{range_with_len}
 use Rattle.cox_base.specs.IntegerMatrix.{IntegerMatrix}
 use Rattle.cox_base.specs.Length.{word_length}
 use Rattle.cox_base.specs.Bruhat.{IsBelow}
-use Rattle.cox_context.specs.Members.{IsElement}
+use Rattle.cox_base.specs.Members.{IsElement}
 
 -- an element x with y ≤ x ≤ w
 pub record IsBetween (A : IntegerMatrix) (y w word : List ℕ) : Type 0 where

@@ -1,5 +1,5 @@
 -- Lists of elements in ShortLex order.
-use Rattle.std.specs.Prelude.{◌≡◌, ℕ, ◌<◌, List, [], length, slice_index_or, Contains}
+use Rattle.std.specs.Prelude.{◌≡◌, ℕ, ◌<◌, List, [], length, slice_index_or, All, Contains}
 use Rattle.std.specs.declared.cmp.Ordering.TheVariants.{Less}
 use Rattle.cox_base.specs.ShortLex.{shortlex_cmp}
 
@@ -13,6 +13,6 @@ pub record IsListOf (P : List ℕ → Type 0) (words : List (List ℕ)) : Type 0
   pub sound : (word : List ℕ) → Contains words word → P word
   pub whole : (word : List ℕ) → P word → Contains words word
 
--- there are more than so many words with a property
+-- there are more than so many words with a property: a list has more of them, each once
 abbrev pub HasMoreThan : ℕ → (List ℕ → Type 0) → Type 0
-HasMoreThan limit P = (words : List (List ℕ)) × IsListOf P words × (limit < length words)
+HasMoreThan limit P = (words : List (List ℕ)) × IsRising words × All P words × (limit < length words)

@@ -1,13 +1,26 @@
 -- Words in any order can be listed in ShortLex order; and the subwords of a word.
-use Rattle.std.proofs.Common.{◌≡◌, ℕ, zero, suc, ◌<◌, List, [], ◌∷◌, ◌++◌, map, length, ◌⊎◌, inl, inr, refl, ⊎_elim, arith}
+use Rattle.std.proofs.Common.{◌≡◌, ℕ, zero, suc, ◌<◌, List, [], ◌∷◌, ◌++◌, map, length, get_or, Contains, ◌⊎◌, inl, inr}
+use Rattle.std.proofs.Common.{refl, ⊎_elim, arith, subst}
 use Rattle.std.proofs.lemmas.Cmp.{nat_cmp_total, nat_list_cmp_total, on_total, then_total}
 use Rattle.cox_base.specs.Bruhat.{IsSubword, none, kept, left_out}
 use Rattle.cox_reflect.proofs.Members.{In, here, there, Each, more, none as nothing, Each-append, Each-from, Each-in, Each-map}
 use Rattle.cox_reflect.proofs.Members.{Each-weaker, In-append_left, In-append_right, In-map}
 use Rattle.cox_reflect.proofs.ShortLexFirst.{IsBefore, before_cases, before-shortlex_cmp, shortlex_cmp-before}
-use Rattle.cox_context.specs.SortedList.{IsRising, IsListOf}
-use Rattle.cox_context.specs.Numbers.{word_at}
-use Rattle.cox_context.proofs.SortedLemmas.{contains-in, in-contains}
+use Rattle.cox_base.specs.SortedList.{IsRising, IsListOf}
+
+-- ---- what a list contains, by its places and by its words
+
+pub contains-in : {word : List ℕ} (words : List (List ℕ)) → Contains words word → In word words
+contains-in {word} words (i, l, e) = subst (λ (x : List ℕ). In x words) e (read words i l)
+  where
+    read : (words : List (List ℕ)) (i : ℕ) → i < length words → In (get_or words i word) words
+    read [] i l = absurd (omega (arith, l))
+    read (x ∷ words) zero l = here
+    read (x ∷ words) (suc i) l = there (read words i (omega (arith, l)))
+
+pub in-contains : {word : List ℕ} {words : List (List ℕ)} → In word words → Contains words word
+in-contains here = (0, omega arith, refl)
+in-contains (there i) = let c = in-contains i in (suc c.0, omega (arith, c.1), c.2)
 
 -- ---- listing words
 
@@ -21,7 +34,7 @@ data Rises : List (List ℕ) → Type 0 where
   rises_none : Rises []
   rises_more : {x : List ℕ} {xs : List (List ℕ)} → Each (IsBefore x) xs → Rises xs → Rises (x ∷ xs)
 
-in-at : (words : List (List ℕ)) (i : ℕ) → i < length words → In (word_at words i) words
+in-at : (words : List (List ℕ)) (i : ℕ) → i < length words → In (get_or words i []) words
 in-at [] i l = absurd (omega (arith, l))
 in-at (x ∷ words) zero l = here
 in-at (x ∷ words) (suc i) l = there (in-at words i (omega (arith, l)))
