@@ -24,7 +24,7 @@ use Rattle.cox_poly.specs.Limit.{AllWithin}
 use Rattle.cox_row.specs.declared.row.TheConstants.{MU_LIMIT}
 use Rattle.cox_klstep.specs.Limits.{IsLargeMu}
 use Rattle.cox_klstep.specs.LargeMembers.{IsWithinLimit}
-use Rattle.cox_klstep.specs.Faults.{IsFault, IsNarrowFault}
+use Rattle.cox_klstep.specs.Faults.{IsFault, IsNarrowFault, IsFirstLargeMu, IsAboveAt}
 use Rattle.cox_klstep.proofs.LargeLemmas.{outside-none, within-none}
 use Rattle.cox_klstep.specs.declared.fault.StepFault.{StepFault}
 use Rattle.cox_klstep.specs.declared.fault.StepFault.TheVariants.{Coefficient, Mu, NoMemory}
@@ -77,13 +77,11 @@ module _ (A : IntegerMatrix) (g : IsAdmissible A) (members : List (List ℕ)) (c
       (below_or_not A g x (word_at members i))
 
 -- the first value of mu that is too large
-pub noted-fault : (A : IntegerMatrix) (g : IsAdmissible A) (members : List (List ℕ)) (w : List ℕ) (limit : ℤ) (end : ℕ)
-    (numbers : List ℕ) (values : List ℤ)
-    (fault : StepFault) → AreNoted A members w limit end numbers values
-    → ((x : List ℕ) → IsWithinLimit A limit x w) → IsNarrowFault numbers values fault
-    → IsFault A members w limit fault
-noted-fault A g members w limit end numbers values (Coefficient x degree value) h none never = absurd never
-noted-fault A g members w limit end numbers values (Mu x value) h none (k, at) = record {
+first-above : (A : IntegerMatrix) (g : IsAdmissible A) (members : List (List ℕ)) (w : List ℕ) (limit : ℤ) (end : ℕ)
+    (numbers : List ℕ) (values : List ℤ) (x : ℕ) (value : ℤ) (k : ℕ) → AreNoted A members w limit end numbers values
+    → ((u : List ℕ) → IsWithinLimit A limit u w) → IsAboveAt numbers values x value k
+    → IsFirstLargeMu A members w limit x value
+first-above A g members w limit end numbers values x value k h none at = record {
   large = record {
     is = rw (at.number, at.is) (h.value k (omega (arith, at.within, h.size)));
     above = at.above;
@@ -112,4 +110,17 @@ noted-fault A g members w limit end numbers values (Mu x value) h none (k, at) =
         (λ (same : j ≤ k). let e : j ≡ k = omega arith
         in let n : number_at numbers k ≡ y = rw e at is in omega (arith, n, l, at.number)) (cases_lt k j))
         (cases_lt j k)
-noted-fault A g members w limit end numbers values NoMemory h none nothing = tt
+
+-- what a fault of the values of mu says of the row of the member i
+pub noted-fault : (A : IntegerMatrix) (g : IsAdmissible A) (members : List (List ℕ)) (i : ℕ) (limit : ℤ) (end : ℕ)
+    (numbers : List ℕ) (values : List ℤ)
+    (fault : StepFault) → AreNoted A members (word_at members i) limit end numbers values
+    → ((x : List ℕ) → IsWithinLimit A limit x (word_at members i)) → IsNarrowFault i numbers values fault
+    → IsFault A members limit (λ w. w ≡ i) fault
+noted-fault A g members i limit end numbers values (Coefficient x u degree value) h none never = absurd never
+noted-fault A g members i limit end numbers values (Mu x u value) h none (is, (k, at)) = (
+  is,
+  rw is
+      (first-above A g members (word_at members i) limit end numbers values x value k h none at),
+)
+noted-fault A g members i limit end numbers values NoMemory h none nothing = tt

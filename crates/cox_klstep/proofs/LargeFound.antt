@@ -106,11 +106,11 @@ module _ (A : IntegerMatrix) (g : IsAdmissible A) (members : List (List ℕ)) (c
   pub fault-first : (k : ℕ) → k < length numbers
       → StandsFor A (word_at members i) (word_at members x) (word_at members (number_at numbers k))
       → ((y j : ℕ) (c : ℤ) → y < x → IsLargeCoefficient A limit (word_at members y) (word_at members i) j c → ⊥)
-      → IsFault A members (word_at members i) limit (fault_by x (coefficient_at coefficients k))
+      → IsFault A members limit (λ w. w ≡ i) (fault_by x i (coefficient_at coefficients k))
   fault-first k l stands before =
       let first = least-from A g limit (word_at members x) (word_at members i) (word_at members (number_at numbers k)) stands _ _
       (are.least k l)
-      in record { large = first.large; least = first.least; before = before }
+      in (refl, record { large = first.large; least = first.least; before = before })
 
   -- x has the polynomial of an extremal member that is not among the numbers
   pub fault-none : (top : ℕ) → top < length members → IsExtremal A (word_at members i) (word_at members top)

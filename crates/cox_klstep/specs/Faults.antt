@@ -21,11 +21,11 @@ pub record IsFirstLargeMu (A : IntegerMatrix) (members : List (List ℕ)) (w : L
   pub before : (y : ℕ) (m : ℤ) → y < x → ¬ IsLargeMu A (pos MU_LIMIT) (word_at members y) w m
   pub small : (y k : ℕ) (c : ℤ) → y < length members → ¬ IsLargeCoefficient A limit (word_at members y) w k c
 
--- what a fault says of the row of w; out of memory says nothing
-abbrev pub IsFault : IntegerMatrix → List (List ℕ) → List ℕ → ℤ → StepFault → Type 0
-IsFault A members w limit (Coefficient x degree value) = IsFirstLarge A members w limit x degree value
-IsFault A members w limit (Mu x value) = IsFirstLargeMu A members w limit x value
-IsFault A members w limit NoMemory = Unit {0}
+-- what a fault says: the member that it names has the property, and its row is beyond a limit; out of memory says nothing
+abbrev pub IsFault : IntegerMatrix → List (List ℕ) → ℤ → (ℕ → Type 0) → StepFault → Type 0
+IsFault A members limit P (Coefficient x w degree value) = P w × IsFirstLarge A members (word_at members w) limit x degree value
+IsFault A members limit P (Mu x w value) = P w × IsFirstLargeMu A members (word_at members w) limit x value
+IsFault A members limit P NoMemory = Unit {0}
 
 -- the value at the place k is above the limit, and that of the number x; those before it are not
 pub record IsAboveAt (numbers : List ℕ) (values : List ℤ) (x : ℕ) (value : ℤ) (k : ℕ) : Type 0 where
@@ -35,8 +35,8 @@ pub record IsAboveAt (numbers : List ℕ) (values : List ℤ) (x : ℕ) (value :
   pub above : pos MU_LIMIT <ℤ pos (unsigned_abs value)
   pub before : (j : ℕ) → j < k → unsigned_abs (value_at values j) ≤ MU_LIMIT
 
--- what a fault says of a list of values of mu with their numbers
-abbrev pub IsNarrowFault : List ℕ → List ℤ → StepFault → Type 0
-IsNarrowFault numbers values (Coefficient x degree value) = ⊥
-IsNarrowFault numbers values (Mu x value) = (k : ℕ) × IsAboveAt numbers values x value k
-IsNarrowFault numbers values NoMemory = Unit {0}
+-- what a fault of the row of the member w says of a list of values of mu with their numbers
+abbrev pub IsNarrowFault : ℕ → List ℕ → List ℤ → StepFault → Type 0
+IsNarrowFault w numbers values (Coefficient x u degree value) = ⊥
+IsNarrowFault w numbers values (Mu x u value) = (u ≡ w) × ((k : ℕ) × IsAboveAt numbers values x value k)
+IsNarrowFault w numbers values NoMemory = Unit {0}

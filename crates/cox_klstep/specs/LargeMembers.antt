@@ -23,9 +23,9 @@ pub record IsLeastLarge (A : IntegerMatrix) (limit : ℤ) (x w : List ℕ) (degr
 abbrev pub coefficient_at : List LargeCoefficient → ℕ → LargeCoefficient
 coefficient_at list k = slice_index_or list k (record { degree = 0; value = pos 0 })
 
--- the fault that tells of a coefficient at the member x
-abbrev pub fault_by : ℕ → LargeCoefficient → StepFault
-fault_by x coefficient = Coefficient x coefficient.degree coefficient.value
+-- the fault of the row of the member w that tells of a coefficient at the member x
+abbrev pub fault_by : ℕ → ℕ → LargeCoefficient → StepFault
+fault_by x w coefficient = Coefficient x w coefficient.degree coefficient.value
 
 -- the extremal x ≤ w with a number before end for which P(x,w) has a coefficient above the limit, each with the first one
 pub record AreLarge (A : IntegerMatrix) (members : List (List ℕ)) (w : List ℕ) (limit : ℤ) (end : ℕ) (numbers : List ℕ)

@@ -5,24 +5,28 @@ ghost use Rattle.cox_klstep.specs.declared.fault.StepFault.TheVariants.{NoMemory
 use std::alloc::AllocError;
 use thiserror::Error;
 
-/// Why a row is not made.
+/// Why a row is not made: the row of a member w is beyond a limit, or memory ran out.
 #[derive(Clone, Copy, Debug, PartialEq, Eq, Error)]
 pub enum StepFault {
     /// A coefficient of P(x,w) is above the limit in absolute value.
-    #[error("the coefficient {value} at degree {degree} of member {x} is above the limit")]
+    #[error("the coefficient {value} at degree {degree} of member {x} in the row of member {w} is above the limit")]
     Coefficient {
-        /// The number of x.
+        /// The number of x, the first member with such a coefficient.
         x: u32,
+        /// The number of w.
+        w: u32,
         /// The least power of `q` with such a coefficient.
         degree: u32,
         /// The coefficient, with its sign.
         value: i128,
     },
-    /// No coefficient is above the limit, but mu(x,w) has more than 32 bits.
-    #[error("the value {value} of mu at member {x} is above the limit")]
+    /// No coefficient of the row of w is above the limit, but mu(x,w) is above [`MU_LIMIT`](cox_row::MU_LIMIT) in absolute value.
+    #[error("the value {value} of mu at member {x} in the row of member {w} is above the limit")]
     Mu {
         /// The number of x, the first with such a value.
         x: u32,
+        /// The number of w.
+        w: u32,
         /// The value of mu, with its sign.
         value: i64,
     },

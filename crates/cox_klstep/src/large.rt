@@ -57,7 +57,7 @@ impl LargeMembers {
         requires size { length self.now.coefficients.items ≡ length self.now.numbers.items }
         ensures some { IfSome result (λ fault. (limit : ℤ) → pos 0 ≤ℤ limit
             → AreLarge (integer_matrix ctx.now.matrix) ctx.now.members (word_at ctx.now.members i) limit (i + 1) self.now.numbers.items self.now.coefficients.items
-            → IsFault (integer_matrix ctx.now.matrix) ctx.now.members (word_at ctx.now.members i) limit fault) }
+            → IsFault (integer_matrix ctx.now.matrix) ctx.now.members limit (λ w. w ≡ i) fault) }
         ensures none { IfNone result (self.now.numbers.items ≡ []) }
     {
         let _len = ctx.len();
@@ -68,21 +68,22 @@ impl LargeMembers {
         for x in 0..first {
             if let Some(top) = raise_fully(ctx, i, x) {
                 if let Ok(k) = self.numbers.binary_search(&top) {
-                    return Some(self.fault_at(k, x));
+                    return Some(self.fault_at(k, x, i));
                 }
             }
         }
-        Some(self.fault_at(0, first))
+        Some(self.fault_at(0, first, i))
     }
 
-    /// The fault at a member that has the polynomial of the one at the place k.
-    fn fault_at(&self, k: usize, x: u32) -> StepFault
+    /// The fault of the row of the member w at a member x that has the polynomial of the one at the place k.
+    fn fault_at(&self, k: usize, x: u32, w: u32) -> StepFault
         requires { k < length self.now.coefficients.items }
-        ensures { result ≡ fault_by x (coefficient_at self.now.coefficients.items k) }
+        ensures { result ≡ fault_by x w (coefficient_at self.now.coefficients.items k) }
     {
         let coefficient = self.coefficients[k];
         StepFault::Coefficient {
             x,
+            w,
             degree: coefficient.degree,
             value: coefficient.value,
         }

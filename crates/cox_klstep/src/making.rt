@@ -41,7 +41,7 @@ pub(crate) fn make_row(
     requires limit { pos 0 ≤ℤ limit }
     ensures row { IfOk result (IsRowAt ctx.now target.now.member) }
     ensures within { IfOk result (IsRowWithin limit) }
-    ensures fault { IfErr result (IsFault (integer_matrix ctx.now.matrix) ctx.now.members (word_at ctx.now.members target.now.member) limit) }
+    ensures fault { IfErr result (IsFault (integer_matrix ctx.now.matrix) ctx.now.members limit (λ w. w ≡ target.now.member)) }
     ensures steps { IsWithinCost ctx.now target.now.member (source_cost source.now) steps.old steps.new }
 {
     let _len = ctx.len();
@@ -57,7 +57,7 @@ pub(crate) fn make_row(
     if let Some(fault) = draft.large.fault(ctx, i) {
         return Err(fault);
     }
-    let mu = match narrow(alloc, &draft.mus) {
+    let mu = match narrow(alloc, i, &draft.mus) {
         Ok(mu) => mu,
         Err(fault) => return Err(fault),
     };
@@ -71,12 +71,12 @@ pub(crate) fn make_row(
     Ok(Row::of_parts(alloc, extremal, places, pool.into_list(), mus.numbers, mu)?)
 }
 
-/// The values of mu in fewer bits.
-fn narrow(alloc: Global, mus: &Mus) -> Result<Vec<i32>, StepFault>
+/// The values of mu of the row of the member w in fewer bits.
+fn narrow(alloc: Global, w: u32, mus: &Mus) -> Result<Vec<i32>, StepFault>
     requires { length mus.now.values.items ≡ length mus.now.numbers.items }
     ensures values { IfOk result (λ v. v.items ≡ mus.now.values.items) }
     ensures small { IfOk result (λ v. AreSmallMus v.items) }
-    ensures fault { IfErr result (IsNarrowFault mus.now.numbers.items mus.now.values.items) }
+    ensures fault { IfErr result (IsNarrowFault w mus.now.numbers.items mus.now.values.items) }
 {
     let Ok(mut narrowed) = Vec::with_capacity(alloc, mus.values.len()) else {
         return Err(StepFault::NoMemory);
@@ -85,6 +85,7 @@ fn narrow(alloc: Global, mus: &Mus) -> Result<Vec<i32>, StepFault>
         if value.unsigned_abs() > MU_LIMIT {
             return Err(StepFault::Mu {
                 x: mus.numbers[k],
+                w,
                 value: *value,
             });
         }

@@ -29,10 +29,11 @@ use Rattle.cox_klstep.specs.NeedsOf.{AreNeeds}
 use Rattle.cox_klstep.proofs.NeededRows.{lower-same, shorter-before}
 use Rattle.cox_rows.specs.Beyond.{NeedsBeyond}
 use Rattle.cox_rows.specs.Holding.{Holding, HasRow}
-use Rattle.cox_rows.specs.declared.fault.RowsFault.{RowsFault}
-use Rattle.cox_rows.specs.RowsFaults.{IsRowsFault}
+use Rattle.cox_klstep.specs.declared.fault.StepFault.{StepFault}
+use Rattle.cox_klstep.specs.Faults.{IsFault}
+use Rattle.cox_rows.specs.RowsFaults.{IsRowsFault, IsFaultOfSome}
 use Rattle.cox_rows.specs.Ensured.{IsEnsured, AreNeedsSmall}
-use Rattle.cox_rows.proofs.RowsFaultLemmas.{fault-weaker}
+use Rattle.cox_rows.proofs.RowsFaultLemmas.{fault-weaker, fault-of_member}
 use Rattle.cox_rows.proofs.NeedCases.{least-unique, correction-words}
 use Rattle.cox_rows.proofs.NeedDecided.{needs_beyond-same}
 
@@ -83,7 +84,7 @@ ensured-then a b c i g h elements limit kept others = ensured-trans (word_at a.e
 
 -- ---- faults
 
-pub fault-needed : {T : Type 0} (e : Elements) (limit : ℤ) (w v : List ℕ) (result : Result T RowsFault)
+pub fault-needed : {T : Type 0} (e : Elements) (limit : ℤ) (w v : List ℕ) (result : Result T StepFault)
     → IsAdmissible (integer_matrix e.matrix) → IsNeeded (integer_matrix e.matrix) w v
     → IfErr result (IsRowsFault e limit (IsNeeded (integer_matrix e.matrix) v))
     → IfErr result (IsRowsFault e limit (IsNeeded (integer_matrix e.matrix) w))
@@ -91,12 +92,18 @@ fault-needed e limit w v result g n h = MatchResult-weaker result h (λ x t. t)
     (λ fault f. fault-weaker e limit (IsNeeded (integer_matrix e.matrix) v) (IsNeeded (integer_matrix e.matrix) w) fault
     (λ u m. needed-trans (integer_matrix e.matrix) g w v u n m) f)
 
-pub fault-own : {T : Type 0} (e : Elements) (limit : ℤ) (w : List ℕ) (result : Result T RowsFault)
-    → IsAdmissible (integer_matrix e.matrix) → IfErr result (IsRowsFault e limit (λ u. u ≡ w))
-    → IfErr result (IsRowsFault e limit (IsNeeded (integer_matrix e.matrix) w))
-fault-own e limit w result g h = MatchResult-weaker result h (λ x t. t)
-    (λ fault f. fault-weaker e limit (λ u. u ≡ w) (IsNeeded (integer_matrix e.matrix) w) fault
-    (λ u is. rw is (itself (same-refl (integer_matrix e.matrix) g w))) f)
+pub fault-own : {T : Type 0} (e : Elements) (limit : ℤ) (i : ℕ) (result : Result T StepFault)
+    → IsAdmissible (integer_matrix e.matrix) → i < length e.members
+    → IfErr result (IsFault (integer_matrix e.matrix) e.members limit (λ w. w ≡ i))
+    → IfErr result (IsRowsFault e limit (IsNeeded (integer_matrix e.matrix) (word_at e.members i)))
+fault-own e limit i result g within h = MatchResult-weaker result h (λ x t. t)
+    (λ fault f. fault-of_member e limit (IsNeeded (integer_matrix e.matrix) (word_at e.members i)) i fault within
+    (itself (same-refl (integer_matrix e.matrix) g (word_at e.members i))) f)
+
+pub fault-some : {T : Type 0} (e : Elements) (limit : ℤ) (i : ℕ) (result : Result T StepFault) → i < length e.members
+    → IfErr result (IsFault (integer_matrix e.matrix) e.members limit (λ w. w ≡ i)) → IfErr result (IsFaultOfSome e limit)
+fault-some e limit i result within h = MatchResult-weaker result h (λ x t. t)
+    (λ fault f. fault-of_member e limit (λ w. Unit {0}) i fault within tt f)
 
 -- ---- the corrections, one after another
 

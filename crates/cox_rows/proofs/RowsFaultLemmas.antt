@@ -1,71 +1,37 @@
--- Faults of rows: by a weaker property, and what they say of Need(w).
-use Rattle.std.proofs.Common.{◌≢◌, ℕ, ◌<◌, List, length, ℤ, refl}
-use Rattle.cox_base.specs.IntegerMatrix.{integer_matrix}
+-- Faults of rows: by a weaker property, and as rows beyond the limits.
+use Rattle.std.proofs.Common.{◌≡◌, ◌≢◌, ℕ, ◌<◌, List, length, ℤ, refl}
+use Rattle.cox_base.specs.IntegerMatrix.{IntegerMatrix, integer_matrix}
 use Rattle.cox_context.specs.Closed.{Elements}
 use Rattle.cox_context.specs.Numbers.{word_at}
 use Rattle.cox_klstep.specs.declared.fault.StepFault.{StepFault}
-use Rattle.cox_klstep.specs.declared.fault.StepFault.TheVariants as step
-use Rattle.cox_base.specs.Admissible.{IsAdmissible}
-use Rattle.cox_reflect.proofs.Elements.{same-refl}
-use Rattle.cox_hecke.specs.Needs.{IsNeeded, itself}
-use Rattle.cox_rows.specs.declared.fault.RowsFault.{RowsFault}
-use Rattle.cox_rows.specs.declared.fault.RowsFault.TheVariants.{Coefficient, Mu, NoMemory}
-use Rattle.cox_rows.specs.RowsFaults.{IsRowFault, IsRowsFault, IsFaultOfSome}
-use Rattle.cox_rows.specs.Beyond.{IsBeyond, NeedsBeyond, coefficient, mu}
+use Rattle.cox_klstep.specs.declared.fault.StepFault.TheVariants.{Coefficient, Mu, NoMemory}
+use Rattle.cox_klstep.specs.Faults.{IsFault}
+use Rattle.cox_rows.specs.RowsFaults.{IsMemberWith, IsRowsFault}
+use Rattle.cox_rows.specs.Beyond.{IsBeyond, coefficient, mu}
 
-row_fault-weaker : (e : Elements) (limit : ℤ) (P Q : List ℕ → Type 0) (w : ℕ) (fault : StepFault) → ((u : List ℕ) → P u → Q u)
-    → IsRowFault e limit P w fault → IsRowFault e limit Q w fault
-row_fault-weaker e limit P Q w fault weaker h = record { member = h.member; one = weaker (word_at e.members w) h.one; is = h.is }
+-- by a weaker property of numbers
+number_fault-weaker : (A : IntegerMatrix) (members : List (List ℕ)) (limit : ℤ) (P Q : ℕ → Type 0) (fault : StepFault)
+    → ((w : ℕ) → P w → Q w) → IsFault A members limit P fault → IsFault A members limit Q fault
+number_fault-weaker A members limit P Q (Coefficient x w degree value) weaker h = (weaker w h.0, h.1)
+number_fault-weaker A members limit P Q (Mu x w value) weaker h = (weaker w h.0, h.1)
+number_fault-weaker A members limit P Q NoMemory weaker h = tt
 
-pub fault-weaker : (e : Elements) (limit : ℤ) (P Q : List ℕ → Type 0) (fault : RowsFault) → ((u : List ℕ) → P u → Q u)
+-- by a weaker property of elements
+pub fault-weaker : (e : Elements) (limit : ℤ) (P Q : List ℕ → Type 0) (fault : StepFault) → ((u : List ℕ) → P u → Q u)
     → IsRowsFault e limit P fault → IsRowsFault e limit Q fault
-fault-weaker e limit P Q (Coefficient x w degree value) weaker h = row_fault-weaker e limit P Q w (step.Coefficient x degree value) weaker h
-fault-weaker e limit P Q (Mu x w value) weaker h = row_fault-weaker e limit P Q w (step.Mu x value) weaker h
-fault-weaker e limit P Q NoMemory weaker h = tt
+fault-weaker e limit P Q fault weaker h = number_fault-weaker (integer_matrix e.matrix) e.members limit (IsMemberWith e P)
+    (IsMemberWith e Q) fault (λ w m. record { member = m.member; one = weaker (word_at e.members w) m.one }) h
 
--- ---- what a fault says of Need(w)
+-- the fault of the row of one member that has the property
+pub fault-of_member : (e : Elements) (limit : ℤ) (P : List ℕ → Type 0) (i : ℕ) (fault : StepFault) → i < length e.members
+    → P (word_at e.members i) → IsFault (integer_matrix e.matrix) e.members limit (λ w. w ≡ i) fault → IsRowsFault e limit P fault
+fault-of_member e limit P i fault within one h = number_fault-weaker (integer_matrix e.matrix) e.members limit (λ w. w ≡ i)
+    (IsMemberWith e P) fault (λ w is. rw is (record { member = within; one = one })) h
 
-row_fault-beyond : (e : Elements) (limit : ℤ) (P : List ℕ → Type 0) (w : ℕ) (fault : StepFault) → fault ≢ step.NoMemory
-    → IsRowFault e limit P w fault → IsBeyond (integer_matrix e.matrix) limit (word_at e.members w)
-row_fault-beyond e limit P w (step.Coefficient x degree value) some h = coefficient h.is.large
-row_fault-beyond e limit P w (step.Mu x value) some h = mu h.is.large
-row_fault-beyond e limit P w step.NoMemory some h = absurd (some refl)
-
--- a fault of the rows of Need(w), but for memory, is a row of it beyond the limits
-pub fault-needs_beyond : (e : Elements) (limit : ℤ) (w : List ℕ) (fault : RowsFault) → fault ≢ NoMemory
-    → IsRowsFault e limit (IsNeeded (integer_matrix e.matrix) w) fault → NeedsBeyond (integer_matrix e.matrix) limit w
-fault-needs_beyond e limit w (Coefficient x u degree value) some h = record {
-  element = word_at e.members u;
-  needed = h.one;
-  beyond = row_fault-beyond e limit (IsNeeded (integer_matrix e.matrix) w) u (step.Coefficient x degree value) (λ f. cc) h;
-}
-fault-needs_beyond e limit w (Mu x u value) some h = record {
-  element = word_at e.members u;
-  needed = h.one;
-  beyond = row_fault-beyond e limit (IsNeeded (integer_matrix e.matrix) w) u (step.Mu x value) (λ f. cc) h;
-}
-fault-needs_beyond e limit w NoMemory some h = absurd (some refl)
-
--- the same for the row of some member
-pub fault-of_some : (e : Elements) (limit : ℤ) (fault : RowsFault) → IsAdmissible (integer_matrix e.matrix) → fault ≢ NoMemory
-    → IsFaultOfSome e limit fault
-    → (w : ℕ) × (w < length e.members) × NeedsBeyond (integer_matrix e.matrix) limit (word_at e.members w)
-fault-of_some e limit (Coefficient x u degree value) g some h = (
-  u,
-  h.member,
-  record {
-    element = word_at e.members u;
-    needed = itself (same-refl (integer_matrix e.matrix) g (word_at e.members u));
-    beyond = row_fault-beyond e limit (λ w. Unit {0}) u (step.Coefficient x degree value) (λ f. cc) h;
-  },
-)
-fault-of_some e limit (Mu x u value) g some h = (
-  u,
-  h.member,
-  record {
-    element = word_at e.members u;
-    needed = itself (same-refl (integer_matrix e.matrix) g (word_at e.members u));
-    beyond = row_fault-beyond e limit (λ w. Unit {0}) u (step.Mu x value) (λ f. cc) h;
-  },
-)
-fault-of_some e limit NoMemory g some h = absurd (some refl)
+-- a fault, but for memory, is a row beyond the limits
+pub fault-beyond : (e : Elements) (limit : ℤ) (P : List ℕ → Type 0) (fault : StepFault) → fault ≢ NoMemory
+    → IsRowsFault e limit P fault
+    → (w : ℕ) × IsMemberWith e P w × IsBeyond (integer_matrix e.matrix) limit (word_at e.members w)
+fault-beyond e limit P (Coefficient x w degree value) some h = (w, h.0, coefficient h.1.large)
+fault-beyond e limit P (Mu x w value) some h = (w, h.0, mu h.1.large)
+fault-beyond e limit P NoMemory some h = absurd (some refl)

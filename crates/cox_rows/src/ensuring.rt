@@ -11,15 +11,15 @@ ghost use Rattle.cox_context.specs.Numbers.{word_at};
 ghost use Rattle.cox_klstep.specs.StepOf.{IsDescentAt};
 ghost use Rattle.cox_klstep.specs.NeedsOf.{HasNeeds, AreNeeds};
 ghost use Rattle.cox_klstep.specs.TablesOf.{AreTables};
+ghost use Rattle.cox_klstep.specs.Faults.{IsFault};
 ghost use Rattle.cox_rows.specs.Beyond.{NeedsBeyond};
 ghost use Rattle.cox_rows.specs.Holding.{HasRow, held};
 ghost use Rattle.cox_rows.specs.RowsFaults.{IsRowsFault, IsFaultOfSome};
 ghost use Rattle.cox_rows.specs.Ensured.{IsEnsured, IsSettled, AreNeedsSmall};
 
-use crate::fault::fault_of;
+use crate::Rows;
 use crate::flags::set_at;
-use crate::{Rows, RowsFault};
-use cox_klstep::{Descent, Tables, needs, row};
+use cox_klstep::{Descent, StepFault, Tables, needs, row};
 use std::alloc::{AllocError, Global};
 
 impl Rows {
@@ -28,7 +28,7 @@ impl Rows {
     /// `Coefficient` or `Mu` where the row of an element of Need(z) is beyond a limit; what was made before that is held. In A 2, with all six elements
     /// as members, the rows that `121` needs are those of `121`, `21`, `1` and the identity.
     #[cycle(ensuring)]
-    pub fn ensure(&mut self, i: u32) -> Result<(), RowsFault>
+    pub fn ensure(&mut self, i: u32) -> Result<(), StepFault>
         requires { i < length self.old.elements.members }
         ensures rows { IsEnsured (word_at self.old.elements.members i) self.old self.new }
         ensures there { OnOk result (HasRow self.new i) }
@@ -47,7 +47,7 @@ impl Rows {
 
     /// Makes the rows that the row of the member with the number i is made from, and what they need.
     #[cycle(ensuring)]
-    fn ensure_lower(&mut self, i: u32) -> Result<(), RowsFault>
+    fn ensure_lower(&mut self, i: u32) -> Result<(), StepFault>
         requires { i < length self.old.elements.members }
         ensures rows { IsEnsured (word_at self.old.elements.members i) self.old self.new }
         ensures there { OnOk result (HasNeeds self.old.elements (HasRow self.new) i) }
@@ -71,7 +71,7 @@ impl Rows {
     /// Makes all rows that are not there, in the order of the members.
     ///
     /// A fault is that of the row of some member.
-    pub fn ensure_all(&mut self) -> Result<(), RowsFault>
+    pub fn ensure_all(&mut self) -> Result<(), StepFault>
         ensures elements { self.new.elements ≡ self.old.elements }
         ensures limit { self.new.limit ≡ self.old.limit }
         ensures kept { (j : ℕ) → HasRow self.old j → HasRow self.new j }
@@ -88,7 +88,7 @@ impl Rows {
 
     /// Makes the row of the member with the number i, unless it is there, where those of all members before it are there and settled. The row is made
     /// from those.
-    fn ensure_next(&mut self, i: u32) -> Result<(), RowsFault>
+    fn ensure_next(&mut self, i: u32) -> Result<(), StepFault>
         requires member { i < length self.old.elements.members }
         requires before { (j : ℕ) → j < i → HasRow self.old j }
         requires settled { (j : ℕ) → j < i → ¬ NeedsBeyond (integer_matrix self.old.elements.matrix) self.old.limit (word_at self.old.elements.members j) }
@@ -123,7 +123,7 @@ impl Rows {
     }
 
     /// Makes the row of the member with the number i, unless it is there.
-    fn make(&mut self, i: u32) -> Result<(), RowsFault>
+    fn make(&mut self, i: u32) -> Result<(), StepFault>
         requires member { i < length self.old.elements.members }
         requires needs { HasNeeds self.old.elements (HasRow self.old) i }
         ensures elements { self.new.elements ≡ self.old.elements }
@@ -131,7 +131,7 @@ impl Rows {
         ensures kept { (j : ℕ) → HasRow self.old j → HasRow self.new j }
         ensures others { (j : ℕ) → j ≢ i → HasRow self.new j → HasRow self.old j }
         ensures there { OnOk result (HasRow self.new i) }
-        ensures fault { IfErr result (IsRowsFault self.old.elements self.old.limit (λ w. w ≡ word_at self.old.elements.members i)) }
+        ensures fault { IfErr result (IsFault (integer_matrix self.old.elements.matrix) self.old.elements.members self.old.limit (λ w. w ≡ i)) }
     {
         if self.held.get(i).is_some() {
             return Ok(());
@@ -152,7 +152,7 @@ impl Rows {
                 self.held.put(i, row)?;
                 Ok(())
             }
-            Err(fault) => Err(fault_of(fault, i)),
+            Err(fault) => Err(fault),
         }
     }
 
@@ -179,13 +179,13 @@ impl Rows {
     }
 
     /// Notes that the member with the number i is settled, where its row is there and all that the row is made from is settled.
-    fn settle(&mut self, i: u32) -> Result<(), RowsFault>
+    fn settle(&mut self, i: u32) -> Result<(), StepFault>
         requires member { i < length self.old.elements.members }
         requires there { HasRow self.old i }
         requires needs { AreNeedsSmall (integer_matrix self.old.elements.matrix) self.old.limit (word_at self.old.elements.members i) }
         ensures same { self.new ≡ self.old }
         ensures small { OnOk result (¬ NeedsBeyond (integer_matrix self.old.elements.matrix) self.old.limit (word_at self.old.elements.members i)) }
-        ensures fault { IfErr result (IsRowsFault self.old.elements self.old.limit (λ w. w ≡ word_at self.old.elements.members i)) }
+        ensures fault { IfErr result (IsFault (integer_matrix self.old.elements.matrix) self.old.elements.members self.old.limit (λ w. w ≡ i)) }
     {
         let _context = self.held.context();
         set_at(&mut self.settled, i as usize)?;

@@ -8,16 +8,13 @@
 //! - `ensuring`: how rows are made
 //! - `held`: rows by number
 //! - `flags`: flags by number
-//! - `fault`: why rows are not made
 //! - `laws`: whether Need(w) has a row beyond a limit can be told
 #![tactic(auto)]
 
 mod ensuring;
-mod fault;
 mod flags;
 mod held;
 pub mod laws;
 mod rows;
 
-pub use fault::RowsFault;
 pub use rows::Rows;

@@ -126,8 +126,8 @@ module _ (e : Elements) where
     mark = h.mark ∙ ap (among j) none;
   }
   missing-needed g limit i u a b c (Coefficient x w degree value) n none h =
-      beyond-needed g limit i u w (step.Coefficient x degree value) c n h
-  missing-needed g limit i u a b c (Mu x w value) n none h = beyond-needed g limit i u w (step.Mu x value) c n h
+      beyond-needed g limit i u w (step.Coefficient x w degree value) c n h
+  missing-needed g limit i u a b c (Mu x w value) n none h = beyond-needed g limit i u w (step.Mu x w value) c n h
   missing-needed g limit i u a b c NoMemory n none h = h
 
   -- the same of a result
@@ -243,14 +243,22 @@ module _ (e : Elements) where
       missing p limit NoMemory h = h
 
       faulty : HasSeenVoid d i → (limit : ℤ) (fault : StepFault)
-          → IsFault (integer_matrix e.matrix) e.members (word_at e.members i) limit fault → IsRowMissing e limit i a d (missing_by fault i)
-      faulty void limit (step.Coefficient x degree value) is = record { needed = needs_itself g i within; is = is; void = void }
-      faulty void limit (step.Mu x value) is = record { needed = needs_itself g i within; is = is; void = void }
+          → IsFault (integer_matrix e.matrix) e.members limit (λ w. w ≡ i) fault → IsRowMissing e limit i a d (missing_by fault)
+      faulty void limit (step.Coefficient x w degree value) is = record {
+        needed = rw is.0 (needs_itself g i within);
+        is = (refl, is.1);
+        void = rw is.0 void;
+      }
+      faulty void limit (step.Mu x w value) is = record {
+        needed = rw is.0 (needs_itself g i within);
+        is = (refl, is.1);
+        void = rw is.0 void;
+      }
       faulty void limit step.NoMemory is = tt
 
       pub unmade_missing : Voids (view_of c) i (view_of d) → HasSeenVoid d i → (limit : ℤ) (m : Missing) → IsUnmade e limit i b c m
           → IsRowMissing e limit i a d m
       unmade_missing p void limit m h = ⊎_elim (λ (other : IsRowMissing e limit i b c m). missing p limit m other)
-          (λ (own : (fault : StepFault) × (m ≡ missing_by fault i)
-          × IsFault (integer_matrix e.matrix) e.members (word_at e.members i) limit fault).
+          (λ (own : (fault : StepFault) × (m ≡ missing_by fault)
+          × IsFault (integer_matrix e.matrix) e.members limit (λ w. w ≡ i) fault).
           subst (IsRowMissing e limit i a d) (sym own.1) (faulty void limit own.0 own.2)) h

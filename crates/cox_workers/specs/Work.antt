@@ -47,19 +47,19 @@ pub record IsVoid (e : Elements) (i j : ℕ) (old new : Seat) : Type 0 where
 -- the row of w is needed, it is beyond a limit, and the seat has seen it Void
 pub record IsNeededBeyond (e : Elements) (limit : ℤ) (i w : ℕ) (fault : StepFault) (new : Seat) : Type 0 where
   pub needed : IsNeededAt e i w
-  pub is : IsFault (integer_matrix e.matrix) e.members (word_at e.members w) limit fault
+  pub is : IsFault (integer_matrix e.matrix) e.members limit (λ u. u ≡ w) fault
   pub void : HasSeenVoid new w
 
 -- why the row of member i is not there
 abbrev pub IsRowMissing : Elements → ℤ → ℕ → Seat → Seat → Missing → Type 0
 IsRowMissing e limit i old new (Void j) = IsVoid e i j old new
-IsRowMissing e limit i old new (Coefficient x w degree value) = IsNeededBeyond e limit i w (step.Coefficient x degree value) new
-IsRowMissing e limit i old new (Mu x w value) = IsNeededBeyond e limit i w (step.Mu x value) new
+IsRowMissing e limit i old new (Coefficient x w degree value) = IsNeededBeyond e limit i w (step.Coefficient x w degree value) new
+IsRowMissing e limit i old new (Mu x w value) = IsNeededBeyond e limit i w (step.Mu x w value) new
 IsRowMissing e limit i old new NoMemory = Unit {0}
 
 -- why the row of member i, which the seat held, was not made: either some other row that it needs is missing, or it is itself
 -- beyond a limit
 abbrev pub IsUnmade : Elements → ℤ → ℕ → Seat → Seat → Missing → Type 0
 IsUnmade e limit i old new missing =
-    IsRowMissing e limit i old new missing ⊎ ((fault : StepFault) × (missing ≡ missing_by fault i)
-    × IsFault (integer_matrix e.matrix) e.members (word_at e.members i) limit fault)
+    IsRowMissing e limit i old new missing ⊎ ((fault : StepFault) × (missing ≡ missing_by fault)
+    × IsFault (integer_matrix e.matrix) e.members limit (λ w. w ≡ i) fault)

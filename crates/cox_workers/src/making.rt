@@ -119,7 +119,7 @@ impl<'a> Bench<'a> {
             &mut hand.steps,
         ) {
             Ok(row) => Ok(row),
-            Err(fault) => Err(missing_of(fault, i)),
+            Err(fault) => Err(missing_of(fault)),
         }
     }
 

@@ -49,18 +49,23 @@ impl From<AllocError> for Missing {
     }
 }
 
-/// The fault of the row of the member with the number w.
-pub(crate) fn missing_of(fault: StepFault, w: u32) -> Missing
-    ensures { result ≡ missing_by fault w }
+/// The fault of a row.
+pub(crate) fn missing_of(fault: StepFault) -> Missing
+    ensures { result ≡ missing_by fault }
 {
     match fault {
-        StepFault::Coefficient { x, degree, value } => Missing::Coefficient {
+        StepFault::Coefficient {
+            x,
+            w,
+            degree,
+            value,
+        } => Missing::Coefficient {
             x,
             w,
             degree,
             value,
         },
-        StepFault::Mu { x, value } => Missing::Mu { x, w, value },
+        StepFault::Mu { x, w, value } => Missing::Mu { x, w, value },
         StepFault::NoMemory => Missing::NoMemory,
     }
 }

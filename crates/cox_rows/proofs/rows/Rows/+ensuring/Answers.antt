@@ -9,6 +9,7 @@ use Rattle.cox_klstep.specs.StepOf.{IsDescentAt}
 use Rattle.cox_klstep.specs.NeedsOf.{AreNeeds}
 use Rattle.cox_klstep.proofs.NeededRows.{listed-needs, lower-before, lower-needed, correction-before, correction-needed, identity-needs}
 use Rattle.cox_rows.specs.Holding.{HasRow}
+use Rattle.cox_klstep.specs.Faults.{IsFault}
 use Rattle.cox_rows.specs.RowsFaults.{IsRowsFault}
 use Rattle.cox_rows.proofs.EnsureLemmas.{ensured-needed, ensured-then, fault-needed, fault-own}
 use Rattle.cox_rows.proofs.EnsureLemmas.{under_way-start, under_way-rows, under_way-next}
@@ -25,10 +26,10 @@ ensure-returns-in_err-make-clause-rows t c =
 
 pub ensure-returns-in_err-make-clause-fault : goal.ensure-returns-in_err-make-clause-fault
 ensure-returns-in_err-make-clause-fault t c =
-    let own : IfErr c.from_residual-in_err-make.result (IsRowsFault c.ensure_lower.new.self.elements c.ensure_lower.new.self.limit
-    (λ w. w ≡ word_at c.ensure_lower.new.self.elements.members c.args.i)) = search rules
-    in fault-own c.args.self.now.elements c.args.self.now.limit (word_at c.args.self.now.elements.members c.args.i)
-    c.from_residual-in_err-make.result c.context-context.ensures.admissible
+    let own : IfErr c.from_residual-in_err-make.result (IsFault (integer_matrix c.ensure_lower.new.self.elements.matrix)
+    c.ensure_lower.new.self.elements.members c.ensure_lower.new.self.limit (λ w. w ≡ c.args.i)) = search rules
+    in fault-own c.args.self.now.elements c.args.self.now.limit c.args.i
+    c.from_residual-in_err-make.result c.context-context.ensures.admissible c.requires
     (rw (c.ensure_lower.ensures.rows.elements, c.ensure_lower.ensures.rows.limit) at own)
 
 pub ensure-returns-clause-rows : goal.ensure-returns-clause-rows
@@ -38,8 +39,8 @@ ensure-returns-clause-rows t c = rw c.settle.ensures.same
 
 pub ensure-returns-clause-fault : goal.ensure-returns-clause-fault
 ensure-returns-clause-fault t c =
-    fault-own c.args.self.now.elements c.args.self.now.limit (word_at c.args.self.now.elements.members c.args.i)
-    c.settle.result c.context-context.ensures.admissible
+    fault-own c.args.self.now.elements c.args.self.now.limit c.args.i
+    c.settle.result c.context-context.ensures.admissible c.requires
     (rw (c.make.ensures.elements ∙ c.ensure_lower.ensures.rows.elements, c.make.ensures.limit ∙ c.ensure_lower.ensures.rows.limit)
     at c.settle.ensures.fault)
 
