@@ -1,5 +1,5 @@
 -- How a run that has come so far ends.
-use Rattle.std.proofs.Common.{◌≡◌, ◌<◌, ◌≤◌, ◌+◌, ℕ, Bool, true, false, cond, ◌⊎◌, inl, inr, Option, Some, None, List, [], ◌∷◌, ◌++◌}
+use Rattle.std.proofs.Common.{◌≡◌, ◌<◌, ◌≤◌, ◌+◌, ℕ, Bool, true, false, cond, Option, Some, None, Err, List, [], ◌∷◌, ◌++◌}
 use Rattle.std.proofs.Common.{length, take, refl, sym, ap, ◌∙◌, subst, arith, append_assoc, length-append}
 use Rattle.std.specs.Option.{IsSome, IfSome}
 use Rattle.std.specs.Io.KnownBytes.{prepend_known, IsAtEnd}
@@ -16,11 +16,13 @@ use Rattle.cox_outside.proofs.Known.{Writes-append}
 use Rattle.cox_outside.proofs.Taking.{Takes-none, Takes-append, over_limit}
 use Rattle.cox_outside.proofs.Lines.{ended_lines-none}
 use Rattle.cox_shell.specs.declared.status.Status.TheVariants.{Done, Refused}
-use Rattle.cox_shell.specs.declared.serving.Served.{Served}
-use Rattle.cox_shell.specs.declared.serving.Served.TheVariants as now_served
+use Rattle.cox_shell.specs.declared.status.Stopped.{Stopped}
+use Rattle.cox_shell.specs.declared.status.Stopped.TheVariants as why
+use Rattle.cox_shell.specs.Status.{is_read_fault, is_write_fault}
+use Rattle.cox_shell.specs.Stopping.{status_of}
 use Rattle.cox_shell.specs.Reply.{Reply}
 use Rattle.cox_shell.specs.Answer.{AreReplies, texts, has_quit, bytes_of}
-use Rattle.cox_shell.specs.Run.{Stand, IsServed, IsCutOff, Serves}
+use Rattle.cox_shell.specs.Run.{Stand, IsServed, IsCutOff, Serves, stopped_read_fault, stopped_write_fault}
 use Rattle.cox_shell.specs.Outcome.{HasRead, WritesPrefix, WritesAll, StopsThere, IsCutShort, AnswersAll, AnswersToFault, AnswersToLimit}
 use Rattle.cox_shell.specs.Outcome.{Runs}
 use Rattle.cox_shell.proofs.KnownValues.{IfSome-made, IfSome-each, IfSome-follows}
@@ -89,7 +91,7 @@ meets_end refused old now next p read m same =
     }
 
 -- the input has ended
-ends_at_end : (refused : Bool) (old now next : Stand) → now.stop ≡ None → Progress refused old now → MeetsEnd now.ahead next.ahead
+pub ends_at_end : (refused : Bool) (old now next : Stand) → now.stop ≡ None → Progress refused old now → MeetsEnd now.ahead next.ahead
     → next.out ≡ now.out → AnswersAll refused old next
 ends_at_end refused old now next going p m same =
     meets_end refused old now next p
@@ -224,23 +226,38 @@ ends_cut_off refused old now next going p cut =
           (λ left less. omega (arith, ap length joined, length-append (texts p.done) cut.reply.text)) small),
     )
 
--- the run came to its end
-pub ends_whole : (refused : Bool) (served : Served) (old now next : Stand) → now.stop ≡ None → (served ≡ now_served.Quit)
-    ⊎ (served ≡ now_served.End) → Progress refused old now → Serves served now next
-    → AnswersAll refused old next
-ends_whole refused now_served.Quit old now next going which p s = ends_at_quit refused old now next going p s
-ends_whole refused now_served.End old now next going which p s = ends_at_end refused old now next going p s.0.0 s.1
-ends_whole refused now_served.Answered old now next going which p s = elim which [ inl e ↦ cc | inr e ↦ cc ]
-ends_whole refused now_served.Refused old now next going which p s = elim which [ inl e ↦ cc | inr e ↦ cc ]
-ends_whole refused now_served.ReadFault old now next going which p s = elim which [ inl e ↦ cc | inr e ↦ cc ]
-ends_whole refused now_served.WriteFault old now next going which p s = elim which [ inl e ↦ cc | inr e ↦ cc ]
-ends_whole refused now_served.NoMemory old now next going which p s = elim which [ inl e ↦ cc | inr e ↦ cc ]
-ends_whole refused now_served.InputLimit old now next going which p s = elim which [ inl e ↦ cc | inr e ↦ cc ]
-
 -- which status it ends by
 pub Runs-whole : (refused : Bool) (old new : Stand) → AnswersAll refused old new → Runs (cond refused Refused Done) old new
 Runs-whole true old new h = h
 Runs-whole false old new h = h
+
+-- why the run stopped says how it ends
+pub ends_stopping : (stopped : Stopped) (refused : Bool) (old now next : Stand) → now.stop ≡ None → Progress refused old now
+    → Serves (Err stopped) now next → Runs (status_of stopped refused) old next
+ends_stopping why.End refused old now next going p s =
+    Runs-whole refused old next (ends_at_end refused old now next going p s.0.0 s.1)
+ends_stopping why.ReadFault refused old now next going p s = ends_at_fault refused old now next going p s.0.0 s.1
+ends_stopping why.WriteFault refused old now next going p s =
+    let part = ends_cut_off refused old now next going p s.0 in (part.0, part.1 s.1)
+ends_stopping why.NoMemory refused old now next going p s = (ends_cut_off refused old now next going p s).0
+ends_stopping why.InputLimit refused old now next going p s = ends_at_limit refused old now next going p s.0.0 s.1
+
+-- a fault stops the run exactly where the status tells it
+pub stopping-read_fault : (stopped : Stopped) (refused : Bool) → is_read_fault (status_of stopped refused) ≡ stopped_read_fault (Err stopped)
+stopping-read_fault why.End true = refl
+stopping-read_fault why.End false = refl
+stopping-read_fault why.ReadFault refused = refl
+stopping-read_fault why.WriteFault refused = refl
+stopping-read_fault why.NoMemory refused = refl
+stopping-read_fault why.InputLimit refused = refl
+
+pub stopping-write_fault : (stopped : Stopped) (refused : Bool) → is_write_fault (status_of stopped refused) ≡ stopped_write_fault (Err stopped)
+stopping-write_fault why.End true = refl
+stopping-write_fault why.End false = refl
+stopping-write_fault why.ReadFault refused = refl
+stopping-write_fault why.WriteFault refused = refl
+stopping-write_fault why.NoMemory refused = refl
+stopping-write_fault why.InputLimit refused = refl
 
 -- a line costs some of the budget
 pub budget-served : (refused quits : Bool) (now next : Stand) → IsServed refused quits now next → next.ahead.budget < now.ahead.budget

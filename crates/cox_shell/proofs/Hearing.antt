@@ -1,6 +1,6 @@
 -- What is heard of a line.
-use Rattle.std.proofs.Common.{◌≡◌, ◌<◌, ◌≤◌, ◌+◌, ℕ, false, cond, nat_lt, Option, Some, None, List, [], length, refl, sym, subst, arith}
-use Rattle.std.specs.Prelude.{Result, Ok, Err, IfOk}
+use Rattle.std.proofs.Common.{◌≡◌, ◌<◌, ◌≤◌, ◌+◌, ℕ, false, cond, nat_lt, Option, Some, None, List, [], length, refl, sym, ap, subst, arith}
+use Rattle.std.specs.Prelude.{Result, Ok, Err, IfOk, IsSomeAnd, true}
 use Rattle.std.specs.List.{position}
 use Rattle.std.specs.Option.{MatchOption, option_map, is_some}
 use Rattle.std.specs.declared.alloc.AllocError.{AllocError}
@@ -13,11 +13,17 @@ use Rattle.cox_outside.specs.Reader.{TakesNext}
 use Rattle.cox_command.specs.declared.refusal.Refusal.{Refusal}
 use Rattle.cox_command.specs.declared.refusal.Refusal.TheVariants.{LongLine, ForeignByte}
 use Rattle.cox_shell.specs.declared.session.Said.{Said}
+use Rattle.cox_shell.specs.declared.session.Said.TheVariants.{Answered, Refused, Quit}
+use Rattle.cox_command.specs.RefusalNumber.{refusal_number}
+use Rattle.cox_outside.specs.Outlet.{Writes}
 use Rattle.cox_shell.specs.Reply.{State, Reply, refusal}
 use Rattle.cox_shell.specs.ContentReply.{IsContentReply}
 use Rattle.cox_shell.specs.LineReply.{content_refusal}
 use Rattle.cox_shell.specs.Saying.{Says}
-use Rattle.cox_shell.specs.Run.{Hears, TakesReplied, heard_of}
+use Rattle.cox_shell.specs.declared.status.Stopped.{Stopped}
+use Rattle.cox_shell.specs.declared.status.Stopped.TheVariants as why
+use Rattle.cox_outside.proofs.Known.{Writes-none}
+use Rattle.cox_shell.specs.Run.{Stand, Hears, Serves, TakesReplied, heard_of}
 
 -- a long content is refused so
 pub content_refusal-long : (content : List ℕ) → LINE_LIMIT < length content → content_refusal content ≡ Some LongLine
@@ -35,19 +41,71 @@ content_refusal-foreign content place short =
       found_some (Some before) e = refl
 
 -- what a session says to a line that is refused by its bytes
-pub hears_refused : (said : Result Said AllocError) (why : Refusal) (line : List ℕ) (state : State) (halt : Option Stop) (old new : Ahead)
+pub hears_refused : (said : Result Said AllocError) (why : Refusal) (line : List ℕ) (state next : State) (halt : Option Stop) (old new : Ahead)
     (before after : List ℕ)
     → content_refusal (content_of line) ≡ Some why → TakesNext halt line old new → before ≡ []
-    → IfOk said (λ told. Says told (refusal state why) state before after) → Hears (heard_of said) state state halt old new after
-hears_refused said why line state halt old new before after refused takes empty says =
-    let reply : Reply = refusal state why in
-    let taken : TakesReplied reply state halt old new = record {
+    → IfOk said (λ told. (reply : Reply) × (reply ≡ refusal state why) × Says told reply next before after)
+    → Hears (heard_of said) state next halt old new after
+hears_refused said why line state next halt old new before after refused takes empty says =
+    elim said as (λ s. IfOk s (λ told. (reply : Reply) × (reply ≡ refusal state why) × Says told reply next before after)
+    → Hears (heard_of s) state next halt old new after) [
+      | Ok told ↦ λ s. (s.0, taken s.0 s.1, subst (λ b. Says told s.0 next b after) empty s.2)
+      | Err error ↦ λ s. (refusal state why, taken (refusal state why) refl)
+    ] says
+  where
+    taken : (reply : Reply) → reply ≡ refusal state why → TakesReplied reply state halt old new
+    taken reply is = record {
       line = line;
       takes = takes;
       is_reply = subst (λ o. MatchOption o (IsContentReply state (content_of line) reply) (λ n. reply ≡ refusal state n))
-          (sym refused) refl;
-    } in
-    elim said as (λ s. IfOk s (λ told. Says told reply state before after) → Hears (heard_of s) state state halt old new after) [
-      | Ok told ↦ λ s. (reply, taken, subst (λ b. Says told reply state b after) empty s)
-      | Err error ↦ λ s. (reply, taken)
-    ] says
+          (sym refused) is;
+    }
+
+-- where nothing was heard, or there was no memory, nothing is written
+pub Hears-serves : (stopped : Stopped) (old new : Stand) (buffer : List ℕ)
+    → Hears (Err stopped) old.state new.state new.stop old.ahead new.ahead buffer → new.out ≡ old.out → Serves (Err stopped) old new
+Hears-serves why.End old new buffer h same = (h.0, same)
+Hears-serves why.ReadFault old new buffer h same = (h.0, same)
+Hears-serves why.WriteFault old new buffer h same = absurd h
+Hears-serves why.NoMemory old new buffer h same = record {
+  reply = h.0;
+  taken = h.1;
+  prefix = [];
+  is_prefix = (h.0.text, refl);
+  writes = rw same (Writes-none old.out);
+}
+Hears-serves why.InputLimit old new buffer h same = (h.0, same)
+
+-- a refusal is told
+told : (found : Option Refusal) (P : Refusal → Type 0) → IsSomeAnd found P → is_some found ≡ true
+told None P is = absurd is
+told (Some why) P is = refl
+
+-- a reply that was said is served once it is written
+pub Says-serves : (said : Said) (old new : Stand) (reply : Reply) (buffer : List ℕ)
+    → TakesReplied reply old.state new.stop old.ahead new.ahead → Says said reply new.state [] buffer → Writes reply.text old.out new.out
+    → Serves (Ok said) old new
+Says-serves Answered old new reply buffer taken says writes = record {
+  reply = reply;
+  taken = taken;
+  writes = writes;
+  state_after = says.state_after;
+  refuses = ap is_some says.tells.0;
+  quitting = says.tells.1;
+}
+Says-serves (Refused number) old new reply buffer taken says writes = record {
+  reply = reply;
+  taken = taken;
+  writes = writes;
+  state_after = says.state_after;
+  refuses = told reply.refused (λ why. number ≡ refusal_number why) says.tells.0;
+  quitting = says.tells.1;
+}
+Says-serves Quit old new reply buffer taken says writes = record {
+  reply = reply;
+  taken = taken;
+  writes = writes;
+  state_after = says.state_after;
+  refuses = ap is_some says.tells.0;
+  quitting = says.tells.1;
+}

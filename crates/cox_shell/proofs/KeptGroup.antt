@@ -13,11 +13,12 @@ use Rattle.cox_tokens.specs.Tokens.{tokens_of}
 use Rattle.cox_command.specs.LineRefusal.{command_refusal, tokens_refusal, line_refusal}
 use Rattle.cox_command.specs.CommandReading.{IsGiven, matrix_set}
 use Rattle.cox_shell.specs.Reply.{State, Reply, rank_of, with_group, refusal, silence}
-use Rattle.cox_shell.specs.declared.inquiry.Inquiry.{Inquiry}
-use Rattle.cox_shell.specs.declared.inquiry.Inquiry.TheVariants.{One, Two, Plain, Work}
-use Rattle.cox_shell.specs.Question.{IsDecided}
-use Rattle.cox_shell.specs.CommandReply.{question_of, Answers, IsInquiryReply, RefusesGroup, IsCommandReply}
-use Rattle.cox_shell.proofs.Refusing.{IsDecided-all}
+use Rattle.cox_answers.specs.declared.inquiry.Inquiry.{Inquiry}
+use Rattle.cox_answers.specs.declared.inquiry.Inquiry.TheVariants.{One, Two, Plain, Work}
+use Rattle.cox_shell.specs.CommandReply.{IsDecided}
+use Rattle.cox_answers.specs.InquiryQuestion.{question_of}
+use Rattle.cox_shell.specs.CommandReply.{Answers, IsInquiryReply, RefusesGroup, IsCommandReply}
+use Rattle.cox_shell.proofs.DecidedReplies.{IsDecided-all}
 use Rattle.cox_shell.specs.ContentReply.{IsContentReply}
 use Rattle.cox_shell.proofs.SetMatrices.{matrix_set-is}
 use Rattle.cox_outside.specs.Line.{content_of}

@@ -6,7 +6,8 @@ use Rattle.std.proofs.lemmas.Grind.{flat_map-append}
 use Rattle.cox_outside.specs.Line.{content_of}
 use Rattle.cox_outside.specs.Outlet.{IsPrefix}
 use Rattle.cox_command.specs.declared.refusal.Refusal.{Refusal}
-use Rattle.cox_shell.specs.Reply.{Limits, State, Reply, refusal, opening}
+use Rattle.cox_answers.specs.Limits.{Limits}
+use Rattle.cox_shell.specs.Reply.{State, Reply, refusal, opening}
 use Rattle.cox_shell.specs.ContentReply.{IsContentReply}
 use Rattle.cox_shell.specs.LineReply.{IsReply, content_refusal}
 use Rattle.cox_shell.specs.Answer.{AreReplies, texts, script_lines}

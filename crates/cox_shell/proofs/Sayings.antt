@@ -4,17 +4,20 @@ use Rattle.std.proofs.Common.{refl, sym, ap, ◌∙◌}
 use Rattle.std.proofs.lemmas.List.{append-nil}
 use Rattle.std.specs.declared.alloc.AllocError.{AllocError}
 use Rattle.cox_base.specs.Matrix.{CoxeterMatrix}
-use Rattle.cox_shell.specs.declared.inquiry.Inquiry.{Inquiry}
+use Rattle.cox_answers.specs.declared.inquiry.Inquiry.{Inquiry}
 use Rattle.cox_poly.specs.Puts.{PutsPrefix}
-use Rattle.cox_shell.specs.declared.answers.unanswered.Unanswered.{Unanswered}
-use Rattle.cox_shell.specs.declared.answers.unanswered.Unanswered.TheVariants as unanswered
+use Rattle.cox_answers.specs.declared.answers.unanswered.Unanswered.{Unanswered}
+use Rattle.cox_answers.specs.declared.answers.unanswered.Unanswered.TheVariants as unanswered
 use Rattle.cox_shell.specs.declared.session.Said.{Said}
 use Rattle.cox_shell.specs.declared.session.Said.TheVariants.{Answered, Quit}
 use Rattle.cox_shell.specs.Reply.{State, Reply, refusal, silence, farewell, answered}
-use Rattle.cox_shell.specs.Question.{Question, IsDecided}
-use Rattle.cox_shell.specs.CommandReply.{question_of, Answers, IsInquiryReply}
-use Rattle.cox_shell.proofs.Unless.{PutsPrefix-none}
-use Rattle.cox_shell.specs.Saying.{Says, SaysPrefix, PutsUnless, IsEnded, Concludes}
+use Rattle.cox_answers.specs.Question.{Question}
+use Rattle.cox_shell.specs.CommandReply.{IsDecided}
+use Rattle.cox_answers.specs.InquiryQuestion.{question_of}
+use Rattle.cox_shell.specs.CommandReply.{Answers, IsInquiryReply}
+use Rattle.cox_answers.proofs.Unless.{PutsPrefix-none}
+use Rattle.cox_shell.specs.Saying.{Says, SaysPrefix, Concludes}
+use Rattle.cox_answers.specs.Putting.{PutsUnless, IsEnded}
 
 -- nothing is said to a line that is answered nothing
 pub Says-silence : (state new : State) (out : List ℕ) → new ≡ state → Says Answered (silence state) new out out

@@ -1,10 +1,11 @@
 -- What is given back at the end of a store of rows are rows of the members, within the limit.
-use Rattle.std.proofs.Common.{◌≡◌, ℕ, ◌<◌, ◌≤◌, List, length, Option, None, Some, ℤ, ⊎_elim, subst, arith}
+use Rattle.std.proofs.Common.{◌≡◌, ℕ, ◌<◌, ◌≤◌, List, length, Option, None, Some, ℤ, ⊎_elim, subst, refl, true, is_some, arith}
 use Rattle.std.specs.Prelude.{IfSome}
 use Rattle.std.proofs.lemmas.Bool.{cases_lt}
 use Rattle.std.proofs.lemmas.List.{get_or_past}
 use Rattle.cox_context.specs.Closed.{Elements}
 use Rattle.cox_claims.specs.declared.view.View.{View}
+use Rattle.cox_claims.specs.Knowledge.{saw_published}
 use Rattle.cox_row.specs.declared.row.Row.{Row}
 use Rattle.cox_rowcell.specs.RowFor.{IsRowFor}
 use Rattle.cox_row_store.specs.Places.{place_at}
@@ -27,3 +28,12 @@ taken-held e made limit bound view rows same bounds taken i =
     held = ⊎_elim (λ (l : i < length made.members). row-held (row_at rows i) l (taken.each i l))
         (λ (past : length made.members ≤ i). rw (get_or_past rows i None (omega (arith, taken.count, past))) tt)
         (cases_lt i (length made.members))
+
+-- a row that was seen Published is given back
+pub taken-back : (made : Elements) (bound : ℤ) (view : View) (rows : List (Option Row)) → AreTaken made bound view rows → (i : ℕ)
+    → i < length made.members → saw_published view i ≡ true → is_some (row_at rows i) ≡ true
+taken-back made bound view rows taken i within seen = there (row_at rows i) (taken.whole i within seen)
+  where
+    there : (found : Option Row) → (found ≡ None → ⊥) → is_some found ≡ true
+    there None some = absurd (some refl)
+    there (Some row) some = refl

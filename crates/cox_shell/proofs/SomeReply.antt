@@ -19,16 +19,18 @@ use Rattle.cox_command.specs.LineRefusal.{has_wrong_count, has_wrong_number, nee
 use Rattle.cox_command.specs.LineRefusal.{line_refusal, argument}
 use Rattle.cox_tokens.specs.Number.{value_of}
 use Rattle.cox_command.specs.CommandReading.{IsGivenBy, IsGiven, word_argument}
-use Rattle.cox_shell.specs.declared.inquiry.Inquiry.{Inquiry}
-use Rattle.cox_shell.specs.declared.inquiry.Inquiry.TheVariants as inquiry
+use Rattle.cox_answers.specs.declared.inquiry.Inquiry.{Inquiry}
+use Rattle.cox_answers.specs.declared.inquiry.Inquiry.TheVariants as inquiry
 use Rattle.cox_small.proofs.Counting.{not_both}
 use Rattle.cox_small.proofs.Deciding.{HasMoreSmallRoots-decided}
-use Rattle.cox_shell.specs.Reply.{Limits, State, Reply, rank_of, with_group, refusal, silence, farewell}
-use Rattle.cox_shell.specs.Question.{IsDecided}
-use Rattle.cox_shell.specs.CommandReply.{question_of, Answers, IsInquiryReply, RefusesGroup, IsCommandReply}
+use Rattle.cox_answers.specs.Limits.{Limits}
+use Rattle.cox_shell.specs.Reply.{State, Reply, rank_of, with_group, refusal, silence, farewell}
+use Rattle.cox_shell.specs.CommandReply.{IsDecided}
+use Rattle.cox_answers.specs.InquiryQuestion.{question_of}
+use Rattle.cox_shell.specs.CommandReply.{Answers, IsInquiryReply, RefusesGroup, IsCommandReply}
 use Rattle.cox_shell.specs.ContentReply.{IsContentReply}
-use Rattle.cox_shell.proofs.Refusing.{IsDecided-exists, IsReply-exists}
-use Rattle.cox_shell.proofs.Questions.{question-answerable}
+use Rattle.cox_shell.proofs.DecidedReplies.{IsDecided-exists, IsReply-exists}
+use Rattle.cox_answers.proofs.Questions.{question-answerable}
 use Rattle.cox_shell.proofs.SetMatrices.{named_matrix, matrix_of, passed_over, matrix_set-is}
 
 -- a command on elements has a reply in a group

@@ -15,8 +15,9 @@ use Rattle.cox_options.specs.Arguments.{is_refused, given_number, IsTaken, IsUsa
 use Rattle.cox_options.specs.declared.options.Options.{Options}
 use Rattle.cox_shell.specs.declared.status.Status.{Status}
 use Rattle.cox_shell.specs.declared.status.Status.TheVariants.{Done, Refused, Usage, ReadFault, WriteFault, NoMemory, InputLimit}
-use Rattle.cox_shell.specs.Reply.{Limits, State, Reply, opening}
-use Rattle.cox_shell.specs.SessionLimits.{limits_of}
+use Rattle.cox_answers.specs.Limits.{Limits}
+use Rattle.cox_shell.specs.Reply.{State, Reply, opening}
+use Rattle.cox_answers.specs.SessionLimits.{limits_of}
 use Rattle.cox_shell.specs.Answer.{AreReplies, texts, has_quit, script_lines, bytes_of}
 use Rattle.cox_shell.specs.Run.{Stand, stand}
 use Rattle.cox_shell.specs.Outcome.{Runs, WritesPrefix, WritesAll, StopsThere, IsCutShort, AnswersAll}

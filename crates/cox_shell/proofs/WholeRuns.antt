@@ -13,7 +13,8 @@ use Rattle.cox_shell.specs.declared.status.Status.{Status}
 use Rattle.cox_shell.specs.declared.status.Status.TheVariants.{Done, Refused, Usage, ReadFault, WriteFault, NoMemory, InputLimit}
 use Rattle.cox_shell.specs.Reply.{State}
 use Rattle.cox_shell.specs.Run.{stand}
-use Rattle.cox_shell.specs.Status.{IsUnhindered, is_read_fault, is_write_fault}
+use Rattle.cox_shell.specs.Status.{is_read_fault, is_write_fault}
+use Rattle.cox_shell.specs.Unhindered.{IsUnhindered}
 use Rattle.cox_shell.specs.Outcome.{Runs}
 use Rattle.cox_shell.specs.Top.{usage_line, given_limits, TakesWithin}
 use Rattle.cox_shell.specs.WholeRun.{IsRun}
@@ -47,19 +48,6 @@ module _ (status : Status) (arguments : List (List ℕ)) (source : Supply) (stat
     (old new : Outlet)
     (right : IsTaken arguments) (runs : Runs status (beginning (given_limits arguments) source.left old) (stand state reader left new))
     (reads : SourceCause source left (is_read_fault status)) (writes : SinkCause old new (is_write_fault status)) where
-  -- without faults and with a script within the limit nothing hinders the run
-  unhindered : ¬ Rose source.faults left.faults → ¬ Rose old.faults new.faults
-      → IsSomeAnd source.left (λ script. length script ≤ INPUT_LIMIT) → IsUnhindered status
-  unhindered no_read no_write within = (elim status as (λ (s : Status). status ≡ s → IsUnhindered s) [
-    | Done ↦ λ e. tt
-    | Refused ↦ λ e. tt
-    | Usage ↦ λ e. rw e at runs
-    | ReadFault ↦ λ e. no_read (rose-told source.faults left.faults (rw e at reads.faults))
-    | WriteFault ↦ λ e. no_write (rose-told old.faults new.faults (rw e at writes))
-    | NoMemory ↦ λ e. tt
-    | InputLimit ↦ λ e. not-over source.left (rw e at runs).over within
-  ]) refl
-
   pub run-lines : IsRun status arguments source left old new
   run-lines = record {
     done = λ e. AnswersAll-whole (given_limits arguments) source.left old state reader left new false (rw e at runs);
@@ -76,7 +64,6 @@ module _ (status : Status) (arguments : List (List ℕ)) (source : Supply) (stat
         (λ (e : status ≡ WriteFault). IsCutShort-stops (given_limits arguments) source.left old state reader left new (rw e at runs).0)
         (λ (e : status ≡ NoMemory). IsCutShort-stops (given_limits arguments) source.left old state reader left new (rw e at runs)) which;
     within = Runs-takes (given_limits arguments) source.left old state reader left new status runs;
-    complete = λ taken no_read no_write within. unhindered no_read no_write within;
   }
 
 -- ---- memory ran out before anything was read
@@ -95,7 +82,6 @@ run-none arguments supply outlet = record {
   room = λ e. absurd (cc e);
   stops = λ which taken. StopsAtDue-none (given_limits arguments) supply.left;
   within = takes-none supply.left;
-  complete = λ taken no_read no_write within. tt;
 }
 
 -- ---- the usage line
@@ -115,7 +101,6 @@ module _ (arguments : List (List ℕ)) (supply : Supply) (old new : Outlet) (wro
     room = λ e. absurd (cc e);
     stops = λ which taken. absurd (not-both arguments taken wrong);
     within = takes-none supply.left;
-    complete = λ taken no_read no_write within. not-both arguments taken wrong;
   }
 
   pub run-usage_cut_off : (written : List ℕ) → IsPrefix written usage_line → Writes written old new
@@ -133,5 +118,21 @@ module _ (arguments : List (List ℕ)) (supply : Supply) (old new : Outlet) (wro
     room = λ e. IsOverRoom-usage arguments supply.left supply.left old.room wrong full;
     stops = λ which taken. absurd (not-both arguments taken wrong);
     within = takes-none supply.left;
-    complete = λ taken no_read no_write within. not-both arguments taken wrong;
   }
+
+-- ---- without faults
+
+-- without faults a script within the limit is answered, or memory runs out
+pub run-unhindered : (status : Status) (arguments : List (List ℕ)) (source left : Supply) (old new : Outlet)
+    → IsRun status arguments source left old new → IsTaken arguments → ¬ Rose source.faults left.faults → ¬ Rose old.faults new.faults
+    → IsSomeAnd source.left (λ script. length script ≤ INPUT_LIMIT) → IsUnhindered status
+run-unhindered Done arguments source left old new run right no_read no_write within = tt
+run-unhindered Refused arguments source left old new run right no_read no_write within = tt
+run-unhindered Usage arguments source left old new run right no_read no_write within = not-both arguments right (run.usage refl).0
+run-unhindered ReadFault arguments source left old new run right no_read no_write within =
+    no_read (rose-told source.faults left.faults run.read_fault.faults)
+run-unhindered WriteFault arguments source left old new run right no_read no_write within =
+    no_write (rose-told old.faults new.faults run.write_fault)
+run-unhindered NoMemory arguments source left old new run right no_read no_write within = tt
+run-unhindered InputLimit arguments source left old new run right no_read no_write within =
+    not-over source.left (run.limit refl).2 within

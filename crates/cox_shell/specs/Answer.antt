@@ -3,7 +3,8 @@ use Rattle.std.specs.Prelude.{◌≡◌, ℕ, Bool, List, [], ◌∷◌, ◌++�
 use Rattle.std.specs.List.{flat_map, list_any}
 use Rattle.cox_outside.specs.declared.limits.TheConstants.{INPUT_LIMIT}
 use Rattle.cox_outside.specs.Line.{line_feed, lines_within}
-use Rattle.cox_shell.specs.Reply.{Limits, State, Reply, opening, is_refusal}
+use Rattle.cox_answers.specs.Limits.{Limits}
+use Rattle.cox_shell.specs.Reply.{State, Reply, opening, is_refusal}
 use Rattle.cox_shell.specs.LineReply.{IsReply}
 
 -- these are the replies to the lines, in order, up to one that ends the run

@@ -5,15 +5,7 @@ use Rattle.cox_base.specs.Matrix.{CoxeterMatrix}
 use Rattle.cox_command.specs.declared.refusal.Refusal.{Refusal}
 use Rattle.cox_command.specs.RefusalNumber.{refusal_number}
 use Rattle.cox_print.specs.AnswerText.{refusal_text}
-
--- what the options of a session limit
-pub record Limits : Type 0 where
-  -- how many members an interval or a group may have
-  pub context : ℕ
-  -- how large a coefficient of a row may be, in absolute value
-  pub coefficient : ℕ
-  -- how many small roots a group may have
-  pub roots : ℕ
+use Rattle.cox_answers.specs.Limits.{Limits}
 
 -- the state of a session: its limits, and the Coxeter matrix of the group that is set, if one is
 pub record State : Type 0 where

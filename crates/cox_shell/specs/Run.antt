@@ -8,10 +8,9 @@ use Rattle.cox_outside.specs.Ahead.{Ahead, ahead}
 use Rattle.cox_outside.specs.Reader.{Reader, TakesNext, ReadsNext}
 use Rattle.std.specs.declared.alloc.AllocError.{AllocError}
 use Rattle.cox_shell.specs.declared.session.Said.{Said}
-use Rattle.cox_shell.specs.declared.serving.Heard.{Heard}
-use Rattle.cox_shell.specs.declared.serving.Heard.TheVariants as heard
-use Rattle.cox_shell.specs.declared.serving.Served.{Served}
-use Rattle.cox_shell.specs.declared.serving.Served.TheVariants.{Answered, Refused, Quit, End, InputLimit, ReadFault, WriteFault, NoMemory}
+use Rattle.cox_shell.specs.declared.session.Said.TheVariants.{Answered, Refused, Quit}
+use Rattle.cox_shell.specs.declared.status.Stopped.{Stopped}
+use Rattle.cox_shell.specs.declared.status.Stopped.TheVariants.{End, ReadFault, WriteFault, NoMemory, InputLimit}
 use Rattle.cox_shell.specs.Reply.{State, Reply, is_refusal}
 use Rattle.cox_shell.specs.LineReply.{IsReply}
 use Rattle.cox_shell.specs.Saying.{Says}
@@ -27,24 +26,19 @@ pub record Stand : Type 0 where
 abbrev pub stand : State → Reader → Supply → Outlet → Stand
 stand state reader supply outlet = record { state = state; stop = reader.stop; ahead = ahead reader.feed supply.left; out = outlet }
 
--- what was heard of a line to which this was said
-abbrev pub heard_of : Result Said AllocError → Heard
-heard_of (Ok said) = heard.Line said
-heard_of (Err error) = heard.NoMemory
-
--- whether a read failed
-abbrev pub heard_failed : Heard → Bool
-heard_failed heard.Failed = true
-heard_failed other = false
+-- what was said to a line, or that there was no memory for its reply
+abbrev pub heard_of : Result Said AllocError → Result Said Stopped
+heard_of (Ok said) = Ok said
+heard_of (Err error) = Err NoMemory
 
 -- whether a read failed, and whether a write did
-abbrev pub served_read_fault : Served → Bool
-served_read_fault ReadFault = true
-served_read_fault other = false
+abbrev pub stopped_read_fault : Result Said Stopped → Bool
+stopped_read_fault (Err ReadFault) = true
+stopped_read_fault other = false
 
-abbrev pub served_write_fault : Served → Bool
-served_write_fault WriteFault = true
-served_write_fault other = false
+abbrev pub stopped_write_fault : Result Said Stopped → Bool
+stopped_write_fault (Err WriteFault) = true
+stopped_write_fault other = false
 
 -- a line was taken, which has this reply
 pub record TakesReplied (reply : Reply) (state : State) (halt : Option Stop) (old new : Ahead) : Type 0 where
@@ -53,13 +47,14 @@ pub record TakesReplied (reply : Reply) (state : State) (halt : Option Stop) (ol
   pub is_reply : IsReply state line reply
 
 -- what hearing the next line did: its reply stands in the buffer, or memory ran out for it, or no line was there
-abbrev pub Hears : Heard → State → State → Option Stop → Ahead → Ahead → List ℕ → Type 0
-Hears (heard.Line said) before after halt old new buffer = (reply : Reply) × TakesReplied reply before halt old new
+abbrev pub Hears : Result Said Stopped → State → State → Option Stop → Ahead → Ahead → List ℕ → Type 0
+Hears (Ok said) before after halt old new buffer = (reply : Reply) × TakesReplied reply before halt old new
     × Says said reply after [] buffer
-Hears heard.NoMemory before after halt old new buffer = (reply : Reply) × TakesReplied reply before halt old new
-Hears heard.End before after halt old new buffer = ReadsNext next.End halt old new × (buffer ≡ []) × (after ≡ before)
-Hears heard.Failed before after halt old new buffer = ReadsNext next.Failed halt old new × (buffer ≡ []) × (after ≡ before)
-Hears heard.Limit before after halt old new buffer = ReadsNext next.Limit halt old new × (buffer ≡ []) × (after ≡ before)
+Hears (Err NoMemory) before after halt old new buffer = (reply : Reply) × TakesReplied reply before halt old new
+Hears (Err End) before after halt old new buffer = ReadsNext next.End halt old new × (buffer ≡ []) × (after ≡ before)
+Hears (Err ReadFault) before after halt old new buffer = ReadsNext next.Failed halt old new × (buffer ≡ []) × (after ≡ before)
+Hears (Err InputLimit) before after halt old new buffer = ReadsNext next.Limit halt old new × (buffer ≡ []) × (after ≡ before)
+Hears (Err WriteFault) before after halt old new buffer = ⊥
 
 -- a line was taken and its reply written, which is a refusal or not, and ends the run or not
 pub record IsServed (refused quits : Bool) (old new : Stand) : Type 0 where
@@ -79,12 +74,12 @@ pub record IsCutOff (old new : Stand) : Type 0 where
   pub writes : Writes prefix old.out new.out
 
 -- what serving the next line did
-abbrev pub Serves : Served → Stand → Stand → Type 0
-Serves Answered old new = IsServed false false old new
-Serves Refused old new = IsServed true false old new
-Serves Quit old new = IsServed false true old new
-Serves End old new = ReadsNext next.End new.stop old.ahead new.ahead × (new.out ≡ old.out)
-Serves InputLimit old new = ReadsNext next.Limit new.stop old.ahead new.ahead × (new.out ≡ old.out)
-Serves ReadFault old new = ReadsNext next.Failed new.stop old.ahead new.ahead × (new.out ≡ old.out)
-Serves WriteFault old new = (cut : IsCutOff old new) × IfSome old.out.room (λ left. left < length cut.reply.text)
-Serves NoMemory old new = IsCutOff old new
+abbrev pub Serves : Result Said Stopped → Stand → Stand → Type 0
+Serves (Ok Answered) old new = IsServed false false old new
+Serves (Ok (Refused number)) old new = IsServed true false old new
+Serves (Ok Quit) old new = IsServed false true old new
+Serves (Err End) old new = ReadsNext next.End new.stop old.ahead new.ahead × (new.out ≡ old.out)
+Serves (Err InputLimit) old new = ReadsNext next.Limit new.stop old.ahead new.ahead × (new.out ≡ old.out)
+Serves (Err ReadFault) old new = ReadsNext next.Failed new.stop old.ahead new.ahead × (new.out ≡ old.out)
+Serves (Err WriteFault) old new = (cut : IsCutOff old new) × IfSome old.out.room (λ left. left < length cut.reply.text)
+Serves (Err NoMemory) old new = IsCutOff old new

@@ -1,6 +1,7 @@
 -- The text that answers a script.
 use Rattle.std.specs.Prelude.{◌≡◌, ℕ, List}
-use Rattle.cox_shell.specs.Reply.{Limits, Reply}
+use Rattle.cox_answers.specs.Limits.{Limits}
+use Rattle.cox_shell.specs.Reply.{Reply}
 use Rattle.cox_shell.specs.Answer.{AreScriptReplies, texts}
 
 -- the answer to a script, within these limits

@@ -1,13 +1,11 @@
 -- The contract of a whole run: what each status says of what was read and written.
-use Rattle.std.specs.Prelude.{◌≡◌, ℕ, ◌≤◌, ◌⊎◌, true, false, List, length, IsSomeAnd}
-use Rattle.cox_outside.specs.declared.limits.TheConstants.{INPUT_LIMIT}
-use Rattle.cox_outside.specs.FaultCount.{Rose}
+use Rattle.std.specs.Prelude.{◌≡◌, ℕ, ◌⊎◌, true, false, List}
 use Rattle.cox_outside.specs.Supply.{Supply, SourceCause}
 use Rattle.cox_outside.specs.Outlet.{Outlet, Writes, SinkCause}
 use Rattle.cox_options.specs.Arguments.{IsTaken, IsUsage}
 use Rattle.cox_shell.specs.declared.status.Status.{Status}
 use Rattle.cox_shell.specs.declared.status.Status.TheVariants.{Done, Refused, Usage, ReadFault, WriteFault, NoMemory, InputLimit}
-use Rattle.cox_shell.specs.Status.{IsUnhindered, is_read_fault, is_write_fault}
+use Rattle.cox_shell.specs.Status.{is_read_fault, is_write_fault}
 use Rattle.cox_shell.specs.Top.{usage_line, given_limits, AnswersWhole, AnswersWithin, AnswersGiven, WritesDue, IsOverRoom, StopsAtDue}
 use Rattle.cox_shell.specs.Top.{TakesWithin}
 
@@ -35,6 +33,3 @@ pub record IsRun (status : Status) (arguments : List (List ℕ)) (source left : 
       → StopsAtDue (given_limits arguments) source.left left.left
   -- No more is read than the limit and one byte.
   pub within : TakesWithin source.left left.left
-  -- Without faults a script within the limit is answered, if there is memory.
-  pub complete : IsTaken arguments → ¬ Rose source.faults left.faults → ¬ Rose old.faults new.faults
-      → IsSomeAnd source.left (λ script. length script ≤ INPUT_LIMIT) → IsUnhindered status

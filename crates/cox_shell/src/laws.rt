@@ -1,11 +1,19 @@
 //! Laws on answers, over the definitions alone.
 
-ghost use Rattle.std.specs.Prelude.{◌≡◌, ℕ, List, Some};
-ghost use Rattle.cox_outside.specs.Outlet.{IsPrefix};
-ghost use Rattle.cox_shell.specs.Reply.{Limits, Reply};
+ghost use Rattle.std.specs.Prelude.{◌≡◌, ◌≤◌, ℕ, List, length, Some, IsSomeAnd};
+ghost use Rattle.cox_outside.specs.declared.limits.TheConstants.{INPUT_LIMIT};
+ghost use Rattle.cox_outside.specs.FaultCount.{Rose};
+ghost use Rattle.cox_outside.specs.Supply.{Supply};
+ghost use Rattle.cox_outside.specs.Outlet.{Outlet, IsPrefix};
+ghost use Rattle.cox_options.specs.Arguments.{IsTaken};
+ghost use Rattle.cox_answers.specs.Limits.{Limits};
+ghost use Rattle.cox_shell.specs.Reply.{Reply};
 ghost use Rattle.cox_shell.specs.Answer.{AreScriptReplies, texts};
 ghost use Rattle.cox_shell.specs.ScriptAnswer.{IsAnswer};
 ghost use Rattle.cox_shell.specs.Top.{AreDue};
+ghost use Rattle.cox_shell.specs.declared.status.Status.{Status};
+ghost use Rattle.cox_shell.specs.Unhindered.{IsUnhindered};
+ghost use Rattle.cox_shell.specs.WholeRun.{IsRun};
 ghost use Rattle.cox_shell.specs.SameRuns.{DifferInWorkers, AnswersAlike};
 
 /// A script has an answer, within any limits.
@@ -28,4 +36,11 @@ pub fn due_begins_the_answer()
 /// Two runs over one script whose arguments differ in `--workers` alone write the same bytes, where both end by `Done` or `Refused`.
 pub fn workers_change_nothing()
     ensures { (one other : List (List ℕ)) (script : List ℕ) → DifferInWorkers one other → AnswersAlike one other script }
+{}
+
+/// Without faults a script within the limit is answered whole, unless memory runs out.
+pub fn complete()
+    ensures { (status : Status) (arguments : List (List ℕ)) (source left : Supply) (old new : Outlet) → IsRun status arguments source left old new
+        → IsTaken arguments → ¬ Rose source.faults left.faults → ¬ Rose old.faults new.faults
+        → IsSomeAnd source.left (λ script. length script ≤ INPUT_LIMIT) → IsUnhindered status }
 {}

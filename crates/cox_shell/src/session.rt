@@ -1,15 +1,14 @@
 //! The session, which answers the contents of lines.
 
-use crate::answers::{Unanswered, put_answer};
-use crate::inquiry::Inquiry;
-use crate::workers::Workers;
-use crate::workspace::Workspace;
+use crate::workers::{ByWorkers, make_rows};
+use cox_answers::{Inquiry, OneThread, RowMaker, Unanswered, Workspace};
 use cox_base::{Coxeter, MAX_RANK};
 use cox_command::{Command, Refusal, parse};
 use cox_minroots::{RootFault, RootTable};
 use cox_options::Options;
 use cox_outside::Gate;
 use cox_print::{put_end, put_refusal};
+use cox_rows::Rows;
 use std::alloc::{AllocError, Global};
 use std::marker::Model;
 use std::sync::Wait;
@@ -26,45 +25,62 @@ pub enum Said {
     Quit,
 }
 
-/// A session: its options, and what commands on elements work with, once a group is set. It answers lines one by one, each by the lines before.
+/// What was given of a line.
+#[derive(Clone, Copy)]
+pub enum Given<'a> {
+    /// Its content, of bytes from 0x20 to 0x7E.
+    Content(&'a [u8]),
+    /// Why its bytes are refused.
+    Unread(Refusal),
+}
+
+/// What a session works with.
+#[derive(Drop)]
+pub enum Stage {
+    /// Its options, while no group is set.
+    Opened(Options),
+    /// The group that is set, with the options.
+    Set(Workspace),
+}
+
+/// A session, which answers lines one by one, each by the lines before.
 ///
-/// Contracts see the limits that the options give, and the Coxeter matrix of the group.
+/// Contracts see the limits that its options give, and the Coxeter matrix of the group that is set.
 #[derive(Drop)]
 pub struct Session {
-    options: Options,
-    workspace: Option<Workspace>,
+    stage: Stage,
 }
 
 impl Model for Session {
-    ghost use Rattle.std.specs.Prelude.{◌≡◌, IfSome};
-    ghost use Rattle.std.specs.Option.{option_map};
     ghost use Rattle.cox_shell.specs.Reply.{State};
-    ghost use Rattle.cox_shell.specs.SessionLimits.{limits_of};
+    ghost use Rattle.cox_shell.specs.SessionState.{state_of};
 
     ghost Value = { State };
 
-    ghost view = { λ s. record { limits = limits_of s.options; group = option_map (λ work. work.table) s.workspace } };
-
-    ghost invariant = { λ s. IfSome s.workspace (λ work. limits_of work.options ≡ limits_of s.options) };
+    ghost view = { λ s. state_of s.stage };
 }
 
 impl Session {
+    ghost use Rattle.std.specs.Thread.{IsSync};
+    ghost use Rattle.cox_row.specs.Rising.{AreWithin};
+    ghost use Rattle.cox_answers.specs.Kept.{IsMore};
     ghost use Rattle.std.specs.Prelude.{◌≡◌, ◌<◌, ◌≤◌, ◌^◌, length, IfOk, OnErr, IfSome, IsSomeAnd};
     ghost use Rattle.cox_command.specs.declared.command.Command.TheVariants.{Group};
     ghost use Rattle.cox_command.specs.ParseContract.{HasWordsOf};
     ghost use Rattle.cox_shell.specs.Reply.{Reply, opening, with_group, refusal, rank_of};
-    ghost use Rattle.cox_shell.specs.SessionLimits.{limits_of};
+    ghost use Rattle.cox_answers.specs.SessionLimits.{limits_of};
     ghost use Rattle.cox_shell.specs.ContentReply.{IsContentReply};
     ghost use Rattle.cox_shell.specs.CommandReply.{IsCommandReply, IsInquiryReply};
-    ghost use Rattle.cox_shell.specs.Saying.{HasLetters, Says, SaysPrefix, Concludes};
+    ghost use Rattle.cox_shell.specs.GivenReply.{IsShort, IsGivenReply};
+    ghost use Rattle.cox_answers.specs.Putting.{HasLetters};
+    ghost use Rattle.cox_shell.specs.Saying.{Says, SaysPrefix, Concludes};
 
     /// A session with these options, and no group.
     pub fn new(options: Options) -> Session
         ensures { result ≡ opening (limits_of options) }
     {
         Session {
-            options,
-            workspace: None,
+            stage: Stage::Opened(options),
         }
     }
 
@@ -77,14 +93,11 @@ impl Session {
         ensures err { OnErr result ((reply : Reply) × IsContentReply self.old line.now reply
             × SaysPrefix reply self.old self.new out.old.items out.new.items) }
     {
-        match parse(line, self.rank()) {
-            Ok(command) => self.obey(command, out),
-            Err(fault) => self.refuse(fault.refusal, out),
-        }
+        self.answer_content(&OneThread, line, out)
     }
 
-    /// Answers a line in the same way, with as many workers as the options say. Each of them passes the gate before each claim and each
-    /// publication of a row.
+    /// Answers a line in the same way, with as many workers as the options say where rows are made. Each of them passes the gate before each claim and
+    /// each publication of a row.
     pub fn answer_with<R: Threads + Wait + Sync, G: Gate + Sync>(
         &mut self,
         rt: &R,
@@ -98,36 +111,57 @@ impl Session {
         ensures err { OnErr result ((reply : Reply) × IsContentReply self.old line.now reply
             × SaysPrefix reply self.old self.new out.old.items out.new.items) }
     {
-        self.make_ahead(rt, gate, *out.allocator(), line);
-        self.answer(line, out)
-    }
-
-    /// Makes the rows that a line asks for, if there is more than one worker. It changes nothing that an answer depends on.
-    pub(crate) fn make_ahead<R: Threads + Wait + Sync, G: Gate + Sync>(
-        &mut self,
-        rt: &R,
-        gate: &G,
-        alloc: Global,
-        line: &[u8],
-    )
-        requires size { length line.now < 2 ^ 32 }
-        ensures { self.new ≡ self.old }
-    {
-        let workers = self.options.workers();
+        let workers = self.options().workers();
         if workers == 1 {
-            return;
+            return self.answer(line, out);
         }
-        let Ok(command) = parse(line, self.rank()) else {
-            return;
+        let maker = ByWorkers {
+            make: |rows: Rows, alloc: Global, wanted: &[u32]| -> Rows
+                requires { IsSync R.row × IsSync G.row × (1 ≤ workers) × AreWithin (length rows.elements.members) wanted.now }
+                ensures { IsMore rows result }
+            { make_rows(rt, gate, workers, rows, alloc, wanted) },
         };
-        if let Some(work) = &mut self.workspace {
-            Workers::new(rt, gate, workers).make_ahead(alloc, work, &command);
+        self.answer_content(&maker, line, out)
+    }
+
+    /// Answers a line in the same way, by what was given of it, with rows by this maker.
+    pub(crate) fn answer_given<M: RowMaker>(
+        &mut self,
+        maker: &M,
+        given: Given<'_>,
+        out: &mut Vec<u8>,
+    ) -> Result<Said, AllocError>
+        requires size { IsShort given }
+        requires ready { M.ready maker.now }
+        ensures ok { IfOk result (λ said. (reply : Reply) × IsGivenReply self.old given.entry reply
+            × Says said reply self.new out.old.items out.new.items) }
+        ensures err { OnErr result ((reply : Reply) × IsGivenReply self.old given.entry reply
+            × SaysPrefix reply self.old self.new out.old.items out.new.items) }
+    {
+        match given {
+            Given::Content(line) => self.answer_content(maker, line, out),
+            Given::Unread(why) => self.refuse(why, out),
         }
     }
 
-    /// A session with the same options, and no group.
-    pub(crate) fn renewed(&self) -> Session {
-        Session::new(self.options)
+    /// Answers a line with this content, with rows by this maker.
+    fn answer_content<M: RowMaker>(
+        &mut self,
+        maker: &M,
+        line: &[u8],
+        out: &mut Vec<u8>,
+    ) -> Result<Said, AllocError>
+        requires size { length line.now < 2 ^ 32 }
+        requires ready { M.ready maker.now }
+        ensures ok { IfOk result (λ said. (reply : Reply) × IsContentReply self.old line.now reply
+            × Says said reply self.new out.old.items out.new.items) }
+        ensures err { OnErr result ((reply : Reply) × IsContentReply self.old line.now reply
+            × SaysPrefix reply self.old self.new out.old.items out.new.items) }
+    {
+        match parse(line, self.rank()) {
+            Ok(command) => self.obey(maker, command, out),
+            Err(fault) => self.refuse(fault.refusal, out),
+        }
     }
 
     /// The rank of the group that is set.
@@ -135,14 +169,31 @@ impl Session {
         ensures rank { result ≡ rank_of self.now }
         ensures limit { IfSome result (λ n. n ≤ MAX_RANK) }
     {
-        self.workspace
-            .as_ref()
-            .map(|work| work.table.group().rank())
+        match &self.stage {
+            Stage::Opened(_) => None,
+            Stage::Set(work) => Some(work.rank()),
+        }
+    }
+
+    /// The options.
+    fn options(&self) -> Options
+        ensures { limits_of result ≡ self.now.limits }
+    {
+        match &self.stage {
+            Stage::Opened(options) => *options,
+            Stage::Set(work) => work.options(),
+        }
     }
 
     /// Answers a command, whose words are over the letters of the group.
-    fn obey(&mut self, command: Command, out: &mut Vec<u8>) -> Result<Said, AllocError>
-        requires { HasWordsOf command (rank_of self.old) }
+    fn obey<M: RowMaker>(
+        &mut self,
+        maker: &M,
+        command: Command,
+        out: &mut Vec<u8>,
+    ) -> Result<Said, AllocError>
+        requires words { HasWordsOf command (rank_of self.old) }
+        requires ready { M.ready maker.now }
         ensures ok { IfOk result (λ said. (reply : Reply) × IsCommandReply command self.old reply
             × Says said reply self.new out.old.items out.new.items) }
         ensures err { OnErr result ((reply : Reply) × IsCommandReply command self.old reply
@@ -152,11 +203,11 @@ impl Session {
             Command::Nothing => Ok(Said::Answered),
             Command::Quit => Ok(Said::Quit),
             Command::Group(group) => self.set_group(&group, out),
-            Command::One(kind, w) => self.answer_inquiry(&Inquiry::One(kind, w), out),
-            Command::Two(kind, y, w) => self.answer_inquiry(&Inquiry::Two(kind, y, w), out),
-            Command::Plain(kind) => self.answer_inquiry(&Inquiry::Plain(kind), out),
+            Command::One(kind, w) => self.answer_inquiry(maker, &Inquiry::One(kind, w), out),
+            Command::Two(kind, y, w) => self.answer_inquiry(maker, &Inquiry::Two(kind, y, w), out),
+            Command::Plain(kind) => self.answer_inquiry(maker, &Inquiry::Plain(kind), out),
             Command::Work { start, count } => {
-                self.answer_inquiry(&Inquiry::Work { start, count }, out)
+                self.answer_inquiry(maker, &Inquiry::Work { start, count }, out)
             }
         }
     }
@@ -169,9 +220,10 @@ impl Session {
             × SaysPrefix reply self.old self.new out.old.items out.new.items) }
     {
         prove!(group.rank() as usize <= MAX_RANK);
-        match RootTable::build(*out.allocator(), group, self.options.roots()) {
+        let options = self.options();
+        match RootTable::build(*out.allocator(), group, options.roots()) {
             Ok(table) => {
-                self.workspace = Some(Workspace::new(table, self.options));
+                self.stage = Stage::Set(Workspace::new(table, options));
                 Ok(Said::Answered)
             }
             Err(RootFault::TooMany { .. }) => self.refuse(Refusal::ManyRoots, out),
@@ -180,19 +232,25 @@ impl Session {
     }
 
     /// Answers a command on elements.
-    fn answer_inquiry(&mut self, inquiry: &Inquiry, out: &mut Vec<u8>) -> Result<Said, AllocError>
-        requires { IsSomeAnd (rank_of self.old) (λ n. HasLetters n inquiry.now) }
+    fn answer_inquiry<M: RowMaker>(
+        &mut self,
+        maker: &M,
+        inquiry: &Inquiry,
+        out: &mut Vec<u8>,
+    ) -> Result<Said, AllocError>
+        requires words { IsSomeAnd (rank_of self.old) (λ n. HasLetters n inquiry.now) }
+        requires ready { M.ready maker.now }
         ensures ok { IfOk result (λ said. (reply : Reply) × IsInquiryReply inquiry.now self.old reply
             × Says said reply self.new out.old.items out.new.items) }
         ensures err { OnErr result ((reply : Reply) × IsInquiryReply inquiry.now self.old reply
             × SaysPrefix reply self.old self.new out.old.items out.new.items) }
     {
-        match &mut self.workspace {
-            Some(work) => {
-                let put = put_answer(out, work, inquiry);
+        match &mut self.stage {
+            Stage::Set(work) => {
+                let put = work.put_answer(maker, out, inquiry);
                 self.conclude(put, out)
             }
-            None => unreachable!(),
+            Stage::Opened(_) => unreachable!(),
         }
     }
 
@@ -208,7 +266,7 @@ impl Session {
     }
 
     /// Refuses a line, behind what `out` has. On `NoMemory` a prefix of the answer is appended.
-    pub fn refuse(&self, why: Refusal, out: &mut Vec<u8>) -> Result<Said, AllocError>
+    fn refuse(&self, why: Refusal, out: &mut Vec<u8>) -> Result<Said, AllocError>
         ensures ok { IfOk result (λ said. Says said (refusal self.now why) self.now out.old.items out.new.items) }
         ensures err { OnErr result (SaysPrefix (refusal self.now why) self.now self.now out.old.items out.new.items) }
     {

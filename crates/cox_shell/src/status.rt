@@ -2,6 +2,7 @@
 
 ghost use Rattle.std.specs.Prelude.{◌≡◌};
 ghost use Rattle.cox_shell.specs.ExitCode.{code_of};
+ghost use Rattle.cox_shell.specs.Stopping.{status_of};
 
 /// How a run ends.
 #[derive(Clone, Copy, Debug, PartialEq, Eq)]
@@ -29,5 +30,36 @@ impl Status {
         ensures { result ≡ code_of self }
     {
         self as u8
+    }
+}
+
+/// Why no reply to a next line was written.
+#[derive(Clone, Copy, Debug, PartialEq, Eq)]
+pub enum Stopped {
+    /// The input has ended.
+    End,
+    /// A read failed.
+    ReadFault,
+    /// A write of the reply failed.
+    WriteFault,
+    /// There was no memory for the reply, and nothing of it is written.
+    NoMemory,
+    /// There are more bytes than may be read.
+    InputLimit,
+}
+
+impl Stopped {
+    /// How a run ends that stopped so, if a line was refused before or none.
+    pub fn status(self, refused: bool) -> Status
+        ensures { result ≡ status_of self refused }
+    {
+        match self {
+            Stopped::End if refused => Status::Refused,
+            Stopped::End => Status::Done,
+            Stopped::ReadFault => Status::ReadFault,
+            Stopped::WriteFault => Status::WriteFault,
+            Stopped::NoMemory => Status::NoMemory,
+            Stopped::InputLimit => Status::InputLimit,
+        }
     }
 }

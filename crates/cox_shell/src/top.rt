@@ -1,20 +1,24 @@
 //! The whole run, with the arguments of the program.
 
-ghost use Rattle.std.specs.Prelude.{◌≡◌, ◌<◌, ◌^◌, ℕ, List, length};
+ghost use Rattle.std.specs.Prelude.{◌≡◌, ◌≤◌, ℕ, List, length};
 ghost use Rattle.std.specs.Thread.{IsSync};
+ghost use Rattle.cox_row.specs.Rising.{AreWithin};
+ghost use Rattle.cox_answers.specs.Kept.{IsMore};
 ghost use Rattle.cox_options.specs.Arguments.{IsUsage};
 ghost use Rattle.cox_outside.specs.Supply.{Supply};
-ghost use Rattle.cox_shell.specs.SessionLimits.{limits_of};
+ghost use Rattle.cox_answers.specs.SessionLimits.{limits_of};
 ghost use Rattle.cox_shell.specs.Top.{argument_texts};
 ghost use Rattle.cox_shell.specs.GivenLimits.{GiveLimits};
 ghost use Rattle.cox_shell.specs.WholeRun.{IsRun};
 
-use crate::preparation::{Preparation, RowsAhead, Unprepared};
 use crate::running::run_lines;
 use crate::session::Session;
 use crate::status::Status;
+use crate::workers::{ByWorkers, make_rows};
+use cox_answers::{OneThread, RowMaker};
 use cox_options::{OptionFault, Options, read};
 use cox_outside::{Gate, LineReader, Sink, Source, write_all};
+use cox_rows::Rows;
 use std::alloc::Global;
 use std::mem;
 use std::sync::Wait;
@@ -63,7 +67,7 @@ pub fn run_one<S: Source, K: Sink>(
     ensures unread { IsUsage (argument_texts words.now) → source.new ≡ source.old }
 {
     match read(alloc, words) {
-        Ok(options) => run_by(&Unprepared, alloc, options, source, sink),
+        Ok(options) => run_by(&OneThread, alloc, options, source, sink),
         Err(OptionFault::Usage) => put_usage(sink),
         Err(OptionFault::NoMemory) => Status::NoMemory,
     }
@@ -92,42 +96,27 @@ fn run_with<R: Threads + Wait + Sync, S: Source, K: Sink, G: Gate + Sync>(
     ensures { (arguments : List (List ℕ)) → GiveLimits arguments (limits_of options)
         → IsRun result arguments (S.seen source.old) (S.seen source.new) (K.seen sink.old) (K.seen sink.new) }
 {
-    let ahead = RowsAhead {
-        make: |session: Session, alloc: Global, line: &[u8]| -> Session
-            requires { IsSync R.row × IsSync G.row × (length line.now < 2 ^ 32) }
-            ensures { result ≡ session }
-        { with_rows(rt, gate, session, alloc, line) },
+    let workers = options.workers();
+    let maker = ByWorkers {
+        make: |rows: Rows, alloc: Global, wanted: &[u32]| -> Rows
+            requires { IsSync R.row × IsSync G.row × (1 ≤ workers) × AreWithin (length rows.elements.members) wanted.now }
+            ensures { IsMore rows result }
+        { make_rows(rt, gate, workers, rows, alloc, wanted) },
     };
-    run_by(&ahead, alloc, options, source, sink)
+    run_by(&maker, alloc, options, source, sink)
 }
 
-/// The session, with the rows that a line asks for.
-fn with_rows<R: Threads + Wait + Sync, G: Gate + Sync>(
-    rt: &R,
-    gate: &G,
-    session: Session,
-    alloc: Global,
-    line: &[u8],
-) -> Session
-    requires { length line.now < 2 ^ 32 }
-    ensures { result ≡ session }
-{
-    let mut session = session;
-    session.make_ahead(rt, gate, alloc, line);
-    session
-}
-
-/// Answers the script that the source gives, into the sink, with these options and this preparation of lines.
+/// Answers the script that the source gives, into the sink, with these options and rows by this maker.
 ///
 /// The session is forgotten at the end: its memory has several pieces for each row, and the process ends after the run.
-fn run_by<P: Preparation, S: Source, K: Sink>(
-    preparation: &P,
+fn run_by<M: RowMaker, S: Source, K: Sink>(
+    maker: &M,
     alloc: Global,
     options: Options,
     source: &mut S,
     sink: &mut K,
 ) -> Status
-    requires { P.ready preparation.now }
+    requires { M.ready maker.now }
     ensures { (arguments : List (List ℕ)) → GiveLimits arguments (limits_of options)
         → IsRun result arguments (S.seen source.old) (S.seen source.new) (K.seen sink.old) (K.seen sink.new) }
 {
@@ -136,14 +125,7 @@ fn run_by<P: Preparation, S: Source, K: Sink>(
     };
     let mut session = Session::new(options);
     let mut buffer = Vec::new(alloc);
-    let status = run_lines(
-        preparation,
-        &mut reader,
-        &mut session,
-        &mut buffer,
-        source,
-        sink,
-    );
+    let status = run_lines(maker, &mut reader, &mut session, &mut buffer, source, sink);
     mem::forget(session);
     status
 }

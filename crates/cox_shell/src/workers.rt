@@ -1,115 +1,95 @@
 //! Workers that make rows into a store that they share.
 //!
-//! The rows that are there are moved into the store first, and all come back afterwards. If the workers ran out of memory, one thread
-//! makes what is missing; it also finds out whether a row is beyond a limit.
-ghost use Rattle.std.specs.Prelude.{◌≡◌, ℕ, ◌<◌, ◌≤◌, length, IfOk};
-ghost use Rattle.cox_claims.specs.Seats.{HoldsNothing};
+//! The rows that are there are moved into the store first, and all come back afterwards. What the workers could not make is left to whoever asked:
+//! one thread makes it then, or finds that a row is beyond a limit.
+ghost use Rattle.std.specs.Prelude.{◌≡◌, ◌⊎◌, ℕ, ◌<◌, ◌≤◌, length};
+ghost use Rattle.cox_claims.specs.Seats.{HoldsNothing, HasSeen};
 ghost use Rattle.cox_row.specs.Rising.{AreWithin};
-ghost use Rattle.cox_row.specs.RowOf.{IsRowAt};
-ghost use Rattle.cox_row.specs.Within.{IsRowWithin};
 ghost use Rattle.cox_row_store.specs.Stores.{elements_of, limit_of, IsSeat};
-ghost use Rattle.cox_shell.specs.Kept.{IsSameContext};
+ghost use Rattle.cox_rows.specs.Holding.{HasRow};
+ghost use Rattle.cox_answers.specs.Kept.{IsSameContext, IsMore};
 
-use cox_klstep::Descent;
+use cox_answers::RowMaker;
 use cox_outside::Gate;
-use cox_row::Row;
 use cox_row_store::{Claimed, RowStore, Seat};
-use cox_rows::{Rows, RowsFault};
+use cox_rows::Rows;
 use cox_workers::fill;
 use std::alloc::{AllocError, Global};
 use std::sync::Wait;
 use std::thread::Threads;
 
-/// So many workers, each in a thread of its own, that pass a gate.
-#[derive(Drop)]
-pub struct Workers<'a, R, G> {
-    rt: &'a R,
-    gate: &'a G,
-    count: u32,
-    ghost some: { 1 ≤ count },
+/// Rows are made by a function that runs workers.
+#[derive(Clone, Copy, Drop)]
+pub struct ByWorkers<F> {
+    /// Makes the rows of the members with these numbers.
+    pub make: F,
 }
 
-impl<'a, R, G> Workers<'a, R, G> {
-    /// So many workers.
-    pub fn new(rt: &'a R, gate: &'a G, count: u32) -> Workers<'a, R, G>
-        requires { 1 ≤ count }
-    {
-        Workers { rt, gate, count }
+impl<F: Fn(Rows, Global, &[u32]) -> Rows> RowMaker for ByWorkers<F> {
+    ghost use Rattle.std.specs.Prelude.{length};
+    ghost use Rattle.cox_row.specs.Rising.{AreWithin};
+    ghost use Rattle.cox_rows.specs.Holding.{Holding};
+    ghost use Rattle.cox_answers.specs.Kept.{IsMore};
+
+    ghost ready = { λ workers. ((rows : Holding) (alloc : _) (wanted : _) → AreWithin (length rows.elements.members) wanted.now
+        → F.pre workers.make rows alloc wanted)
+        × ((rows made : Holding) (alloc : _) (wanted : _) → F.post workers.make rows alloc wanted made → IsMore rows made) };
+
+    fn make(&self, alloc: Global, rows: Rows, wanted: &[u32]) -> Rows {
+        (self.make)(rows, alloc, wanted)
     }
 }
 
-impl<R: Threads + Wait + Sync, G: Gate + Sync> Workers<'_, R, G> {
-    /// Makes the row of the member with the number i, with those that it is made from.
-    ///
-    /// `Coefficient` or `Mu` where a row that it needs is beyond a limit.
-    pub fn make_row(&self, alloc: Global, rows: &mut Rows, i: u32) -> Result<(), RowsFault>
-        requires { i < length rows.old.elements.members }
-        ensures { IsSameContext rows.old rows.new }
-    {
-        if !rows.has(i) {
-            let _ = self.share_chain(alloc, rows, i);
-        }
-        rows.ensure(i)
+/// The same rows, and those of the members with these numbers, by so many workers, as far as there is memory for them and none is beyond a limit.
+/// Each worker passes the gate before each claim and each publication.
+pub fn make_rows<R: Threads + Wait + Sync, G: Gate + Sync>(
+    rt: &R,
+    gate: &G,
+    workers: u32,
+    rows: Rows,
+    alloc: Global,
+    wanted: &[u32],
+) -> Rows
+    requires workers { 1 ≤ workers }
+    requires wanted { AreWithin (length rows.elements.members) wanted.now }
+    ensures { IsMore rows result }
+{
+    // A single row is left to one thread.
+    if wanted.len() < 2 {
+        return rows;
     }
+    let mut rows = rows;
+    let _ = share(rt, gate, workers, alloc, &mut rows, wanted);
+    rows
+}
 
-    /// Makes the rows of all members.
-    ///
-    /// `Coefficient` or `Mu` where the row of some member is beyond a limit.
-    pub fn make_all(&self, alloc: Global, rows: &mut Rows) -> Result<(), RowsFault>
-        ensures { IsSameContext rows.old rows.new }
-    {
-        let _ = self.share_all(alloc, rows);
-        rows.ensure_all()
-    }
-
-    /// Has the workers make the rows of the chain from the identity to the member with the number i, by least left descents. A single row is left to one thread.
-    fn share_chain(&self, alloc: Global, rows: &mut Rows, i: u32) -> Result<(), AllocError>
-        requires { i < length rows.old.elements.members }
-        ensures { IsSameContext rows.old rows.new }
-    {
-        let mut missing = Vec::new(alloc);
-        push_chain(&mut missing, rows, i)?;
-        self.share(alloc, rows, &missing)
-    }
-
-    /// Has the workers make the rows of all members. A single row is left to one thread.
-    fn share_all(&self, alloc: Global, rows: &mut Rows) -> Result<(), AllocError>
-        ensures { IsSameContext rows.old rows.new }
-    {
-        let missing = missing_members(alloc, rows)?;
-        self.share(alloc, rows, &missing)
-    }
-
-    /// Has the workers make rows that are not there, of members with these numbers, and those that they are made from; a single one is left to one thread.
-    ///
-    /// Without memory rows that were there may be lost.
-    fn share(&self, alloc: Global, rows: &mut Rows, missing: &[u32]) -> Result<(), AllocError>
-        requires { AreWithin (length rows.old.elements.members) missing.now }
-        ensures { IsSameContext rows.old rows.new }
-    {
-        if missing.len() < 2 {
-            return Ok(());
-        }
-        let (store, seat) = RowStore::new(alloc, rows.context(), rows.limit())?;
-        let seat = move_rows(self.rt, rows, &store, seat);
-        let seat = fill(
-            self.rt,
-            alloc,
-            rows.context(),
-            &store,
-            seat,
-            missing,
-            self.count,
-            self.gate,
-        );
-        match store.into_rows(self.rt, seat) {
-            Ok(made) => {
-                rows.adopt(made);
-                Ok(())
-            }
-            Err(_) => Err(AllocError),
-        }
-    }
+/// Has the workers make rows of members with these numbers, and those that they are made from, in a store of their own.
+fn share<R: Threads + Wait + Sync, G: Gate + Sync>(
+    rt: &R,
+    gate: &G,
+    workers: u32,
+    alloc: Global,
+    rows: &mut Rows,
+    wanted: &[u32],
+) -> Result<(), AllocError>
+    requires workers { 1 ≤ workers }
+    requires wanted { AreWithin (length rows.old.elements.members) wanted.now }
+    ensures { IsMore rows.old rows.new }
+{
+    let (store, seat) = RowStore::new(alloc, rows.context(), rows.limit())?;
+    let seat = move_rows(rt, rows, &store, seat);
+    let seat = fill(
+        rt,
+        alloc,
+        rows.context(),
+        &store,
+        seat,
+        wanted,
+        workers,
+        gate,
+    );
+    rows.adopt(store.into_rows(rt, seat));
+    Ok(())
 }
 
 /// Moves the rows that are there into a store, by a seat that holds nothing.
@@ -121,56 +101,36 @@ fn move_rows<R: Wait>(rt: &R, rows: &mut Rows, store: &RowStore, seat: Seat) -> 
     ensures same { IsSameContext rows.old rows.new }
     ensures own { IsSeat store.now result }
     ensures idle { HoldsNothing result }
+    ensures there { (i : ℕ) → HasRow rows.old i → HasRow rows.new i ⊎ HasSeen result i }
 {
     let mut seat = seat;
     for i in 0..rows.context().len() {
-        if let Some(row) = rows.take(i) {
-            put_row(rt, store, &mut seat, i, row);
-        }
+        move_row(rt, rows, store, &mut seat, i);
     }
     seat
 }
 
-/// Puts the row of a member into a store, by a seat that holds nothing. A row that is there already stays.
-fn put_row<R: Wait>(rt: &R, store: &RowStore, seat: &mut Seat, member: u32, row: Row)
+/// Moves the row of a member into a store, if it is there, and nobody has claimed it in the store.
+fn move_row<R: Wait>(rt: &R, rows: &mut Rows, store: &RowStore, seat: &mut Seat, member: u32)
+    requires elements { elements_of store.now ≡ rows.old.elements }
+    requires limit { limit_of store.now ≡ rows.old.limit }
     requires own { IsSeat store.now seat.old }
     requires idle { HoldsNothing seat.old }
     requires member { member < length (elements_of store.now).members }
-    requires row { IsRowAt (elements_of store.now) member row }
-    requires within { IsRowWithin (limit_of store.now) row }
+    ensures same { IsSameContext rows.old rows.new }
     ensures own { IsSeat store.now seat.new }
     ensures idle { HoldsNothing seat.new }
+    ensures seen { (i : ℕ) → HasSeen seat.old i → HasSeen seat.new i }
+    ensures there { (i : ℕ) → HasRow rows.old i → HasRow rows.new i ⊎ HasSeen seat.new i }
 {
+    if !rows.has(member) {
+        return;
+    }
     match store.claim(seat, member) {
-        Claimed::Won => store.publish(rt, seat, member, row),
+        Claimed::Won => match rows.take(member) {
+            Some(row) => store.publish(rt, seat, member, row),
+            None => unreachable!(),
+        },
         Claimed::Lost(_) => {}
     }
-}
-
-/// Appends the numbers of the members, from the identity to the member with the number i by least left descents, whose rows are not there.
-fn push_chain(missing: &mut Vec<u32>, rows: &Rows, i: u32) -> Result<(), AllocError>
-    requires member { i < length rows.now.elements.members }
-    requires within { AreWithin (length rows.now.elements.members) missing.old.items }
-    ensures { AreWithin (length rows.now.elements.members) missing.new.items }
-{
-    if i > 0 {
-        push_chain(missing, rows, Descent::of(rows.context(), i).lower)?;
-    }
-    if !rows.has(i) {
-        missing.push(i)?;
-    }
-    Ok(())
-}
-
-/// The numbers of the members whose rows are not there.
-fn missing_members(alloc: Global, rows: &Rows) -> Result<Vec<u32>, AllocError>
-    ensures { IfOk result (λ missing. AreWithin (length rows.now.elements.members) missing.items) }
-{
-    let mut missing = Vec::new(alloc);
-    for i in 0..rows.context().len() {
-        if !rows.has(i) {
-            missing.push(i)?;
-        }
-    }
-    Ok(missing)
 }

@@ -33,9 +33,7 @@ fn makes_a_row_that_was_given_up(rt: HostRuntime) -> Result<(), Fail> {
     assert_eq!(rt; store.look(&mut seat, 18), RowState::Void);
     let all = all_members(alloc, &context)?;
     let seat = fill(&rt, alloc, &context, &store, seat, all.as_slice(), 2, &Open);
-    let Ok(made) = store.into_rows(&rt, seat) else {
-        panic!(rt; "out of memory");
-    };
+    let made = store.into_rows(&rt, seat);
     let mut rows = Rows::new(alloc, context, LIMIT)?;
     rows.adopt(made);
     assert!(rt; rows.has(0) && !rows.has(2) && !rows.has(18));

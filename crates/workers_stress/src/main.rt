@@ -49,10 +49,7 @@ fn all_rows<R: Threads + Wait + Sync, G: Gate + Sync>(
         workers,
         gate,
     );
-    let Ok(rows) = store.into_rows(rt, seat) else {
-        return Err(AllocError);
-    };
-    Ok(rows)
+    Ok(store.into_rows(rt, seat))
 }
 
 /// What the rows come to.

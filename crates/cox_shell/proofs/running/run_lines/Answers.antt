@@ -2,9 +2,11 @@
 use Rattle.std.proofs.Common.{◌≡◌, Bool, false, Option, Some, None, refl, sym, ap, ◌∙◌, arith}
 use Rattle.std.specs.Option.{is_some}
 use Rattle.cox_outside.specs.declared.line_reader.Stop.{Stop}
+use Rattle.cox_outside.specs.FaultCount.{count_after}
 use Rattle.cox_outside.specs.Reader.{Reader}
 use Rattle.cox_shell.proofs.Progress.{Progress-start, Progress-answered, Progress-refused}
-use Rattle.cox_shell.proofs.Endings.{ends_whole, ends_stopped, ends_at_limit, ends_at_fault, ends_cut_off, Runs-whole, budget-served}
+use Rattle.cox_shell.proofs.Endings.{ends_at_quit, ends_stopped, ends_stopping, Runs-whole, budget-served}
+use Rattle.cox_shell.proofs.Endings.{stopping-read_fault, stopping-write_fault}
 use Rattle.cox_shell.proofs.running.run_lines.Goals as goal
 
 -- a reader that has not stopped
@@ -21,55 +23,55 @@ lines-init g c = record {
   sink_faults = refl;
 }
 
-pub lines-preserved-in-Answered : goal.lines-preserved-in-Answered
-lines-preserved-in-Answered g c = record {
-  progress = Progress-answered _ _ _ _
-      (going _ _ c.has_stopped.ensures c.lines-test.true) c.lines.invariant.progress c.in-Answered.ensures.serves;
-  source_faults = c.in-Answered.ensures.source_cause.faults ∙ c.lines.invariant.source_faults;
-  same_sure = c.in-Answered.ensures.source_cause.same_sure ∙ c.lines.invariant.same_sure;
-  sink_faults = c.in-Answered.ensures.sink_cause ∙ c.lines.invariant.sink_faults;
-}
+pub lines-preserved-in-Ok-Answered : goal.lines-preserved-in-Ok-Answered
+lines-preserved-in-Ok-Answered g c =
+    let told = rw (c.in-Ok-Answered.is, c.in-Ok-Answered.field-0-is) at c.serve_line.ensures in
+    record {
+      progress = Progress-answered _ _ _ _
+          (going _ _ c.has_stopped.ensures c.lines-test.true) c.lines.invariant.progress told.serves;
+      source_faults = told.source_cause.faults ∙ c.lines.invariant.source_faults;
+      same_sure = told.source_cause.same_sure ∙ c.lines.invariant.same_sure;
+      sink_faults = told.sink_cause ∙ c.lines.invariant.sink_faults;
+    }
 
 pub lines-preserved : goal.lines-preserved
-lines-preserved g c = record {
-  progress = Progress-refused _ _ _ _
-      (going _ _ c.has_stopped.ensures c.lines-test.true) c.lines.invariant.progress c.in-Refused.ensures.serves;
-  source_faults = c.in-Refused.ensures.source_cause.faults ∙ c.lines.invariant.source_faults;
-  same_sure = c.in-Refused.ensures.source_cause.same_sure ∙ c.lines.invariant.same_sure;
-  sink_faults = c.in-Refused.ensures.sink_cause ∙ c.lines.invariant.sink_faults;
-}
+lines-preserved g c =
+    let told = rw (c.in-Ok-Refused.is, c.in-Ok-Refused.field-0-is) at c.serve_line.ensures in
+    record {
+      progress = Progress-refused _ _ _ _
+          (going _ _ c.has_stopped.ensures c.lines-test.true) c.lines.invariant.progress told.serves;
+      source_faults = told.source_cause.faults ∙ c.lines.invariant.source_faults;
+      same_sure = told.source_cause.same_sure ∙ c.lines.invariant.same_sure;
+      sink_faults = told.sink_cause ∙ c.lines.invariant.sink_faults;
+    }
 
 pub lines-smaller : goal.lines-smaller
-lines-smaller g c = budget-served _ _ _ _ c.in-Refused.ensures.serves
+lines-smaller g c =
+    budget-served _ _ _ _ (rw (c.in-Ok-Refused.is, c.in-Ok-Refused.field-0-is) at c.serve_line.ensures.serves)
 
-pub returns-in-Quit-clause-runs : goal.returns-in-Quit-clause-runs
-returns-in-Quit-clause-runs g c =
-    rw c.at_the_end.ensures
+pub returns-in-Ok-Quit-clause-runs : goal.returns-in-Ok-Quit-clause-runs
+returns-in-Ok-Quit-clause-runs g c =
+    let serves = rw (c.in-Ok-Quit.is, c.in-Ok-Quit.field-0-is) at c.serve_line.ensures.serves in
+    rw c.status.ensures
     (Runs-whole c.lines.refused _ _
-    (ends_whole _ _ _ _ _
-    (going _ _ c.has_stopped.ensures c.lines-test.true) c.in-Quit.is c.lines.invariant.progress c.serve_line.ensures.serves))
+    (ends_at_quit _ _ _ _ (going _ _ c.has_stopped.ensures c.lines-test.true) c.lines.invariant.progress serves))
 
-pub returns-in-ReadFault-clause-runs : goal.returns-in-ReadFault-clause-runs
-returns-in-ReadFault-clause-runs g c =
-    let serves = c.in-ReadFault.ensures.serves in
-    ends_at_fault _ _ _ _ (going _ _ c.has_stopped.ensures c.lines-test.true) c.lines.invariant.progress serves.0.0 serves.1
-
-pub returns-in-WriteFault-clause-runs : goal.returns-in-WriteFault-clause-runs
-returns-in-WriteFault-clause-runs g c =
-    let serves = c.in-WriteFault.ensures.serves in
-    let part = ends_cut_off _ _ _ _ (going _ _ c.has_stopped.ensures c.lines-test.true) c.lines.invariant.progress serves.0 in
-    (part.0, part.1 serves.1)
-
-pub returns-in-NoMemory-clause-runs : goal.returns-in-NoMemory-clause-runs
-returns-in-NoMemory-clause-runs g c =
-    (ends_cut_off _ _ _ _ (going _ _ c.has_stopped.ensures c.lines-test.true) c.lines.invariant.progress c.in-NoMemory.ensures.serves).0
-
-pub returns-in-InputLimit-clause-runs : goal.returns-in-InputLimit-clause-runs
-returns-in-InputLimit-clause-runs g c =
-    let serves = c.in-InputLimit.ensures.serves in
-    ends_at_limit _ _ _ _ (going _ _ c.has_stopped.ensures c.lines-test.true) c.lines.invariant.progress serves.0.0 serves.1
+pub returns-in-Err : goal.returns-in-Err
+returns-in-Err g c =
+    let told = c.in-Err.ensures in
+    let going_on = going _ _ c.has_stopped.ensures c.lines-test.true in
+    rw c.status-in-Err.ensures (record {
+      runs = ends_stopping c.in-Err.stopped _ _ _ _ going_on c.lines.invariant.progress told.serves;
+      source_cause = rw (stopping-read_fault c.in-Err.stopped c.lines.refused) (record {
+        faults = told.source_cause.faults ∙ ap (count_after _) c.lines.invariant.source_faults;
+        same_sure = told.source_cause.same_sure ∙ c.lines.invariant.same_sure;
+        unsure = λ t. sym c.lines.invariant.same_sure ∙ told.source_cause.unsure t;
+      });
+      sink_cause = rw (stopping-write_fault c.in-Err.stopped c.lines.refused)
+          (told.sink_cause ∙ ap (count_after _) c.lines.invariant.sink_faults);
+    })
 
 pub returns-clause-runs : goal.returns-clause-runs
 returns-clause-runs g c =
-    rw c.at_the_end-2.ensures
+    rw c.status-2.ensures
     (Runs-whole c.lines.refused _ _ (ends_stopped _ _ _ c.lines.invariant.progress (sym c.has_stopped.ensures ∙ c.lines-test.false)))

@@ -7,13 +7,13 @@ use Rattle.cox_shell.proofs.serving.hear_line.Goals as goal
 pub returns-in-Long-clause-hears : goal.returns-in-Long-clause-hears
 returns-in-Long-clause-hears g c =
     let reads = rw (c.in-Long.is, c.requires.going) at c.next.follows.holds-at-none in
-    rw c.to_heard-in-Long.ensures
-    (hears_refused _ LongLine reads.0 _ _ _ _ _ _
-    (content_refusal-long (content_of reads.0) reads.2.1) reads.1 c.requires.empty c.refuse.ensures.ok)
+    rw c.heard-in-Long.ensures
+    (hears_refused _ LongLine reads.0 _ _ _ _ _ _ _
+    (content_refusal-long (content_of reads.0) reads.2.1) reads.1 c.requires.empty c.answer_given-in-Long.ensures.ok)
 
 pub returns-in-Byte-clause-hears : goal.returns-in-Byte-clause-hears
 returns-in-Byte-clause-hears g c =
     let reads = rw (c.in-Byte.is, c.requires.going) at c.next.follows.holds-at-none in
-    rw c.to_heard-in-Byte.ensures
-    (hears_refused _ ForeignByte reads.0 _ _ _ _ _ _
-    (content_refusal-foreign (content_of reads.0) _ reads.2.0 reads.2.1) reads.1 c.requires.empty c.refuse-in-Byte.ensures.ok)
+    rw c.heard-in-Byte.ensures
+    (hears_refused _ ForeignByte reads.0 _ _ _ _ _ _ _
+    (content_refusal-foreign (content_of reads.0) _ reads.2.0 reads.2.1) reads.1 c.requires.empty c.answer_given-in-Byte.ensures.ok)

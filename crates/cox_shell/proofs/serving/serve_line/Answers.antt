@@ -2,17 +2,24 @@
 use Rattle.std.proofs.Common.{◌≡◌, ◌<◌, length, refl, ◌∙◌, subst}
 use Rattle.std.specs.Option.{IfSome}
 use Rattle.cox_outside.specs.Outlet.{IsPrefix}
-use Rattle.cox_outside.proofs.Known.{Writes-none}
+use Rattle.std.proofs.lemmas.Result.{err_from_is_err_and}
+use Rattle.cox_shell.proofs.Hearing.{Hears-serves, Says-serves}
 use Rattle.cox_shell.proofs.serving.serve_line.Goals as goal
 
-pub returns-in-NoMemory-clause-serves : goal.returns-in-NoMemory-clause-serves
-returns-in-NoMemory-clause-serves g c =
-    let heard = c.in-NoMemory.ensures.hears in
-    record { reply = heard.0; taken = heard.1; prefix = _; is_prefix = (heard.0.text, refl); writes = Writes-none _ }
+pub returns-in_err-said-clause-serves : goal.returns-in_err-said-clause-serves
+returns-in_err-said-clause-serves g c =
+    let p = err_from_is_err_and c.from_residual.result c.from_residual.ensures.1 in
+    rw (p.1, p.2) (Hears-serves _ _ _ _ c.in_err-said.ensures.hears refl)
+
+pub returns-in-Ok-clause-serves : goal.returns-in-Ok-clause-serves
+returns-in-Ok-clause-serves g c =
+    let heard = c.in_ok-said.ensures.hears in
+    let bytes : c.deref.result.now ≡ heard.0.text = c.deref.ensures.value ∙ heard.2.text in
+    Says-serves c.in_ok-said.said _ _ heard.0 _ heard.1 heard.2 (rw (← bytes) c.in-Ok.ensures.ok)
 
 pub returns-in-Err-clause-serves : goal.returns-in-Err-clause-serves
 returns-in-Err-clause-serves g c =
-    let heard = c.in-Line.ensures.hears in
+    let heard = c.in_ok-said.ensures.hears in
     let bytes : c.deref.result.now ≡ heard.0.text = c.deref.ensures.value ∙ heard.2.text in
     let put = c.in-Err.ensures.err in (
       record { reply = heard.0; taken = heard.1; prefix = put.0; is_prefix = subst (λ t. IsPrefix put.0 t) bytes put.1; writes = put.2 },

@@ -1,44 +1,39 @@
 -- The proof of `Session::answer_inquiry`.
-use Rattle.std.proofs.Common.{◌≡◌, Option, Some, IfOk, OnErr, sym, ap, ◌∙◌, subst}
-use Rattle.std.specs.Option.{option_map}
-use Rattle.cox_base.specs.Matrix.{CoxeterMatrix}
+use Rattle.std.proofs.Common.{◌≡◌, Some, IfOk, OnErr, sym, ap, ◌∙◌, subst}
 use Rattle.cox_base.proofs.AdmissibleMatrices.{IsAdmissible-integer_matrix}
-use Rattle.cox_shell.specs.Reply.{Limits, State, Reply}
-use Rattle.cox_shell.specs.Kept.{Work}
+use Rattle.cox_answers.specs.SessionLimits.{limits_of}
+use Rattle.cox_answers.specs.Question.{Question}
+use Rattle.cox_answers.specs.InquiryQuestion.{question_of}
+use Rattle.cox_answers.proofs.Questions.{question-answerable}
+use Rattle.cox_shell.specs.declared.session.Stage.TheVariants.{Set}
+use Rattle.cox_shell.specs.Reply.{State, Reply}
+use Rattle.cox_shell.specs.SessionState.{state_of}
+use Rattle.cox_shell.specs.CommandReply.{IsDecided, Answers, IsInquiryReply}
 use Rattle.cox_shell.specs.Saying.{Says, SaysPrefix, Concludes}
-use Rattle.cox_shell.specs.SessionLimits.{limits_of}
-use Rattle.cox_shell.specs.Question.{Question, IsDecided}
-use Rattle.cox_shell.specs.CommandReply.{question_of, Answers, IsInquiryReply}
-use Rattle.cox_shell.proofs.Refusing.{IsReply-exists}
-use Rattle.cox_shell.proofs.Questions.{question-answerable}
+use Rattle.cox_shell.proofs.DecidedReplies.{IsReply-exists}
 use Rattle.cox_shell.proofs.Sayings.{IsInquiryReply-decided, Concludes-says, Concludes-breaks, Says-follows, SaysPrefix-follows}
 use Rattle.cox_shell.proofs.session.Session.answer_inquiry.Goals as goal
 
--- a state by its parts
-abbrev state_with : Limits → Option CoxeterMatrix → State
-state_with limits group = record { limits = limits; group = group }
-
 pub returns : goal.returns
-returns c =
+returns g c =
     let state = c.args.self.now in
     let inquiry = c.args.inquiry.now in
-    let work = c.in-Some.work in
+    let work = c.in-Set.work in
+    let new_work = c.put_answer-put.new.self in
+    let told = c.put_answer-put.ensures in
     let question : Question = question_of inquiry state.limits work.table in
     let Was : Reply → Type 0 = IsDecided state question.Refuses (Answers state question) in
     let Is : Reply → Type 0 = IsInquiryReply inquiry state in
-    let set : state.group ≡ Some work.table =
-    ap (λ (s : State). s.group) (sym c.self.view_is) ∙ ap (option_map (λ w. w.table)) c.in-Some.is in
-    let limits : limits_of work.options ≡ state.limits = (rw c.in-Some.is at c.self.invariant)
-    ∙ ap (λ (s : State). s.limits) c.self.view_is in
-    let put = rw limits at c.put_answer-put.ensures.puts in
+    let was : state_of (Set work) ≡ state = ap state_of (sym c.in-Set.is) ∙ c.self.view_is in
+    let set : state.group ≡ Some work.table = ap (λ (s : State). s.group) (sym was) in
+    let limits : limits_of work.options ≡ state.limits = ap (λ (s : State). s.limits) was in
+    let put = rw limits at told.puts in
     let some = IsReply-exists state question
-    (question-answerable inquiry state.limits work.table (IsAdmissible-integer_matrix work.table c.put_answer-put.ensures.group)) in
+    (question-answerable inquiry state.limits work.table (IsAdmissible-integer_matrix work.table told.group)) in
     let is : (reply : Reply) → Was reply
     → Is reply = λ reply decided. IsInquiryReply-decided inquiry state work.table reply set decided in
-    let limits_now = limits_of c.self.inside.options in
-    let after : State = state_with limits_now (Some c.put_answer-put.new.work.table) in
-    let kept : after ≡ state = ap (λ (w : Work). state_with limits_now (Some w.table)) c.put_answer-put.ensures.same
-    ∙ sym (ap (λ (o : Option Work). state_with limits_now (option_map (λ (w : Work). w.table) o)) c.in-Some.is) ∙ c.self.view_is in
+    let after : State = state_of (Set new_work) in
+    let kept : after ≡ state = rw (told.same.table, told.same.options) was in
     let concludes = subst (λ (s : State). Concludes c.put_answer-put.result s c.conclude.result c.put_answer-put.new.out.items
     c.conclude.new.out.items) kept c.conclude.ensures in
     record {

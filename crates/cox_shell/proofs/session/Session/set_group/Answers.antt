@@ -5,34 +5,34 @@ use Rattle.cox_base.proofs.AdmissibleMatrices.{IsAdmissible-integer_matrix}
 use Rattle.cox_small.specs.RootCounts.{HasFewSmallRoots}
 use Rattle.cox_command.specs.declared.command.Command.TheVariants.{Group}
 use Rattle.cox_command.specs.declared.refusal.Refusal.TheVariants.{ManyRoots}
-use Rattle.cox_shell.specs.Reply.{State, refusal, silence, with_group}
+use Rattle.cox_answers.specs.Limits.{Limits}
+use Rattle.cox_shell.specs.Reply.{refusal, silence, with_group}
 use Rattle.cox_shell.specs.CommandReply.{IsCommandReply}
 use Rattle.cox_shell.proofs.Sayings.{Says-silence, Says-reply, SaysPrefix-reply}
-use Rattle.cox_shell.proofs.Unless.{PutsPrefix-none}
+use Rattle.cox_answers.proofs.Unless.{PutsPrefix-none}
 use Rattle.cox_shell.proofs.GroupReplies.{group-set, group-refused}
 use Rattle.cox_shell.proofs.SomeReply.{group-reply}
 use Rattle.cox_shell.proofs.session.Session.set_group.Goals as goal
 
 pub returns-in-Ok-clause-ok : goal.returns-in-Ok-clause-ok
 returns-in-Ok-clause-ok c =
-    let limit = c.roots.ensures.roots ∙ ap (λ (s : State). s.limits.roots) c.self.view_is in
-    let few : HasFewSmallRoots (integer_matrix c.args.group.now) c.args.self.now.limits.roots = rw limit at c.in-Ok.ensures.few in
-    let limits = ap (λ (s : State). s.limits) c.self.view_is in (
+    let limit = c.roots.ensures.roots ∙ ap (λ (l : Limits). l.roots) c.options-options.ensures in
+    let few : HasFewSmallRoots (integer_matrix c.args.group.now) c.args.self.now.limits.roots = rw limit at c.in-Ok.ensures.few in (
       silence (with_group c.args.self.now c.args.group.now),
       group-set c.args.self.now c.args.group.now few,
-      Says-silence _ _ _ (rw (limits, c.new.ensures.table, c.in-Ok.ensures.group) refl),
+      Says-silence _ _ _ (rw (c.new.ensures.options, c.new.ensures.table, c.in-Ok.ensures.group, c.options-options.ensures) refl),
     )
 
 pub returns-in-Err-TooMany-clause-ok : goal.returns-in-Err-TooMany-clause-ok
 returns-in-Err-TooMany-clause-ok c =
-    let limit = c.roots.ensures.roots ∙ ap (λ (s : State). s.limits.roots) c.self.view_is in
+    let limit = c.roots.ensures.roots ∙ ap (λ (l : Limits). l.roots) c.options-options.ensures in
     let many = rw (c.in-Err-TooMany.field-0-is, limit) at c.in-Err-TooMany.ensures.many in
     Says-reply _ (IsCommandReply (Group c.args.group.now) c.args.self.now) (refusal c.args.self.now ManyRoots) _ _ _
     (group-refused c.args.self.now c.args.group.now many.1) c.refuse.ensures.ok
 
 pub returns-in-Err-TooMany-clause-err : goal.returns-in-Err-TooMany-clause-err
 returns-in-Err-TooMany-clause-err c =
-    let limit = c.roots.ensures.roots ∙ ap (λ (s : State). s.limits.roots) c.self.view_is in
+    let limit = c.roots.ensures.roots ∙ ap (λ (l : Limits). l.roots) c.options-options.ensures in
     let many = rw (c.in-Err-TooMany.field-0-is, limit) at c.in-Err-TooMany.ensures.many in
     SaysPrefix-reply _ (IsCommandReply (Group c.args.group.now) c.args.self.now) (refusal c.args.self.now ManyRoots) _ _ _ _
     (group-refused c.args.self.now c.args.group.now many.1) c.refuse.ensures.err

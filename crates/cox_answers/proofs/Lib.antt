@@ -1,0 +1,40 @@
+-- the refusal of a command is one and exists, for any question
+pub mod Refusing
+-- each question has one text, and can be answered
+pub mod RowQuestions
+pub mod WorkQuestions
+pub mod GroupQuestions
+pub mod Questions
+-- the text of an R-polynomial
+pub mod PolynomialTexts
+-- texts that are put unless a command is refused
+pub mod Unless
+-- members by their numbers
+pub mod MemberLists
+-- the members above an element
+pub mod MembersAbove
+-- counts by length
+pub mod LengthCounts
+-- the text of a list of members
+pub mod MemberTexts
+-- the texts on Bruhat intervals
+pub mod IntervalTexts
+-- the members below one, and the extremal ones
+pub mod RowMembers
+-- the text of members with their polynomials
+pub mod PairTexts
+-- the sum of a row, by the members below
+pub mod RowSums
+-- the texts of single polynomials of a row
+pub mod RowTexts
+-- what is kept
+pub mod KeptLemmas
+-- totals that `work` sums up
+pub mod PolynomialTotals
+pub mod RowTotals
+-- .. as folds over one list of polynomials
+pub mod TotalsOfLists
+pub mod WorkTotals
+-- whole groups, and the texts of W-graphs and cells
+pub mod WholeGroups
+pub mod GroupTexts

@@ -1,0 +1,18 @@
+-- The proof of `is_whole`.
+use Rattle.std.proofs.Common.{◌≡◌, arith, ⊎_elim}
+use Rattle.std.proofs.lemmas.Bool.{cases_eq}
+use Rattle.cox_base.specs.IntegerMatrix.{integer_matrix}
+use Rattle.cox_answers.proofs.WholeGroups.{whole-by_shifts}
+use Rattle.cox_answers.proofs.answers.kept_group.is_whole.Goals as goal
+
+pub loop-i-preserved : goal.loop-i-preserved
+loop-i-preserved c = λ k below s letter. ⊎_elim
+    (λ (same : k ≡ c.loop-i.i). rw same (c.has_shifts.ensures c.if-not-has_shifts.false s letter))
+    (λ (other : k ≡ c.loop-i.i → ⊥). c.loop-i.invariant k (omega (arith, below, other)) s letter)
+    (cases_eq k c.loop-i.i)
+
+pub returns : goal.returns
+returns c = λ done.
+    let context = c.args.context.now in
+    whole-by_shifts (integer_matrix context.matrix) c.len-i-end.ensures.admissible context.members c.len-i-end.ensures.closed
+    (λ i within. c.loop-i.invariant i (omega (arith, within)))

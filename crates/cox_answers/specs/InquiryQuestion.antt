@@ -1,0 +1,95 @@
+-- What each command on elements, or on the whole group, asks, in the terms of Coxeter groups.
+use Rattle.std.specs.Prelude.{ℤ, ◌≡◌, ℕ, ◌↔◌, Bool, IsTrue, List, reverse, decimal}
+use Rattle.cox_base.specs.Matrix.{CoxeterMatrix}
+use Rattle.cox_base.specs.IntegerMatrix.{IntegerMatrix, integer_matrix}
+use Rattle.cox_base.specs.ShortLex.{normal_form}
+use Rattle.cox_base.specs.Length.{word_length}
+use Rattle.cox_base.specs.Descents.{left_descents, right_descents}
+use Rattle.cox_base.specs.Bruhat.{IsBelow}
+use Rattle.cox_command.specs.declared.refusal.Refusal.{Refusal}
+use Rattle.cox_command.specs.declared.refusal.Refusal.TheVariants.{LargeInterval, FarApart}
+use Rattle.cox_command.specs.declared.command.OneWord.{OneWord}
+use Rattle.cox_command.specs.declared.command.OneWord.TheVariants.{Compute, Length, Inverse, Descent, Coatoms, Betti, Klbasis}
+use Rattle.cox_command.specs.declared.command.OneWord.TheVariants.{Ihbetti, Extremals}
+use Rattle.cox_command.specs.declared.command.TwoWord.{TwoWord}
+use Rattle.cox_command.specs.declared.command.TwoWord.TheVariants.{Inorder, Interval, Rpol, Pol, Mu}
+use Rattle.cox_poly.specs.PolynomialText.{polynomial_text}
+use Rattle.cox_rpoly.specs.RPolynomial.{r_polynomial}
+use Rattle.cox_rpoly.specs.Depth.{IsDeep}
+use Rattle.cox_base.specs.Members.{IsInInterval}
+use Rattle.cox_base.specs.SortedList.{IsListOf, HasMoreThan}
+use Rattle.cox_base.specs.Interval.{IsBetween, IsCoatom, counts_by_length}
+use Rattle.cox_print.specs.AnswerText.{element_text, descent_text, truth_text, numbers_text, elements_text}
+use Rattle.cox_answers.specs.declared.inquiry.Inquiry.{Inquiry}
+use Rattle.cox_answers.specs.declared.inquiry.Inquiry.TheVariants.{One, Two, Plain, Work}
+use Rattle.cox_answers.specs.Limits.{Limits}
+use Rattle.cox_answers.specs.Question.{Question}
+use Rattle.cox_answers.specs.RowReply.{RefusesRow, coefficients_to, IsPolText, IsMuText, IsPairsText, IsExtremalBelow, IsIhbettiText}
+use Rattle.cox_answers.specs.GroupReply.{group_question}
+use Rattle.cox_answers.specs.WorkReply.{work_question}
+
+-- nothing refuses
+abbrev pub RefusesNone : Refusal → Type 0
+RefusesNone why = ⊥
+
+-- the interval from the identity to w has more members than the limit
+abbrev pub RefusesLarge : Limits → IntegerMatrix → List ℕ → Refusal → Type 0
+RefusesLarge limits A w LargeInterval = HasMoreThan limits.context (IsInInterval A w)
+RefusesLarge limits A w _ = ⊥
+
+-- y ≤ w, and R(y,w) is of too high a degree
+abbrev pub RefusesFar : IntegerMatrix → List ℕ → List ℕ → Refusal → Type 0
+RefusesFar A y w FarApart = (d : ℕ) × IsDeep A y w d
+RefusesFar A y w _ = ⊥
+
+-- the list of the elements with a property
+abbrev pub IsElementsText : ℕ → (List ℕ → Type 0) → List ℕ → Type 0
+IsElementsText rank P text = (words : List (List ℕ)) × IsListOf P words × (text ≡ elements_text rank words)
+
+-- how many x ≤ w there are of each length
+abbrev pub IsCountsText : IntegerMatrix → List ℕ → List ℕ → Type 0
+IsCountsText A w text = (members : List (List ℕ)) × IsListOf (IsInInterval A w) members
+    × (text ≡ numbers_text (counts_by_length members (word_length A w)))
+
+-- whether y ≤ w
+abbrev pub IsOrderText : IntegerMatrix → List ℕ → List ℕ → List ℕ → Type 0
+IsOrderText A y w text = (truth : Bool) × (IsTrue truth ↔ IsBelow A y w) × (text ≡ truth_text truth)
+
+-- the coefficients of R(y,w) from degree 0 to l(w); there are none beyond
+abbrev pub r_coefficients : IntegerMatrix → List ℕ → List ℕ → List ℤ
+r_coefficients A y w = coefficients_to (word_length A w) (r_polynomial A y w)
+
+-- R(y,w)
+abbrev pub IsRText : IntegerMatrix → List ℕ → List ℕ → List ℕ → Type 0
+IsRText A y w text = text ≡ polynomial_text (r_coefficients A y w)
+
+-- what a command asks of the element of w
+abbrev pub one_question : OneWord → Limits → ℕ → IntegerMatrix → List ℕ → Question
+one_question Compute limits rank A w = record { Refuses = RefusesNone; IsText = λ text. text ≡ element_text rank (normal_form A w) }
+one_question Length limits rank A w = record { Refuses = RefusesNone; IsText = λ text. text ≡ decimal (word_length A w) }
+one_question Inverse limits rank A w =
+    record { Refuses = RefusesNone; IsText = λ text. text ≡ element_text rank (normal_form A (reverse w)) }
+one_question Descent limits rank A w = record {
+  Refuses = RefusesNone;
+  IsText = λ text. text ≡ descent_text rank (left_descents A w) (right_descents A w);
+}
+one_question Coatoms limits rank A w = record { Refuses = RefusesLarge limits A w; IsText = IsElementsText rank (IsCoatom A w) }
+one_question Betti limits rank A w = record { Refuses = RefusesLarge limits A w; IsText = IsCountsText A w }
+one_question Klbasis limits rank A w = record { Refuses = RefusesRow limits A w; IsText = IsPairsText rank A w (IsInInterval A w) }
+one_question Ihbetti limits rank A w = record { Refuses = RefusesRow limits A w; IsText = IsIhbettiText A w }
+one_question Extremals limits rank A w = record { Refuses = RefusesRow limits A w; IsText = IsPairsText rank A w (IsExtremalBelow A w) }
+
+-- what a command asks of the elements of y and w
+abbrev pub two_question : TwoWord → Limits → ℕ → IntegerMatrix → List ℕ → List ℕ → Question
+two_question Inorder limits rank A y w = record { Refuses = RefusesNone; IsText = IsOrderText A y w }
+two_question Interval limits rank A y w = record { Refuses = RefusesLarge limits A w; IsText = IsElementsText rank (IsBetween A y w) }
+two_question Rpol limits rank A y w = record { Refuses = RefusesFar A y w; IsText = IsRText A y w }
+two_question Pol limits rank A y w = record { Refuses = RefusesRow limits A w; IsText = IsPolText A y w }
+two_question Mu limits rank A y w = record { Refuses = RefusesRow limits A w; IsText = IsMuText A y w }
+
+-- what a command on elements asks of those of its words, in a group
+abbrev pub question_of : Inquiry → Limits → CoxeterMatrix → Question
+question_of (One kind w) limits g = one_question kind limits g.rank (integer_matrix g) w.items
+question_of (Two kind y w) limits g = two_question kind limits g.rank (integer_matrix g) y.items w.items
+question_of (Plain kind) limits g = group_question kind limits g.rank (integer_matrix g)
+question_of (Work start count) limits g = work_question start count limits g.rank (integer_matrix g)

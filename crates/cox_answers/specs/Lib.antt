@@ -1,0 +1,26 @@
+-- what the options of a session limit
+pub mod Limits
+-- the limits that options give
+pub mod SessionLimits
+-- what a command asks
+pub mod Question
+-- what commands on rows of Kazhdan-Lusztig polynomials ask
+pub mod RowReply
+-- what commands on the whole group ask: W-graphs and cells
+pub mod GroupReply
+-- what `work` asks
+pub mod WorkReply
+-- what each command on elements asks
+pub mod InquiryQuestion
+-- questions that have one text at most, and can be answered
+pub mod Answerable
+-- what the calls that put answers say of their texts
+pub mod Putting
+-- rows that are kept
+pub mod Kept
+-- totals of polynomials
+pub mod Totals
+-- totals of rows that are summed up
+pub mod Summing
+-- whole groups, as they are listed
+pub mod GroupSize

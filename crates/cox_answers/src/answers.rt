@@ -1,0 +1,150 @@
+//! The lines that commands on elements answer.
+//!
+//! - `unanswered`: why a command gets no answer
+//! - `intervals`: Bruhat intervals
+//! - `polynomials`: R-polynomials
+//! - `kept`: the rows that a session keeps
+//! - `kept_group`: those of a whole group
+//! - `rows`: single Kazhdan-Lusztig polynomials, and mu
+//! - `pairs`: the polynomials of a row, all or the extremal ones
+//! - `sums`: the polynomials of a row, summed up
+//! - `graphs`: W-graphs and cells
+//! - `generated`: rows of generated words
+ghost use Rattle.std.specs.Prelude.{◌≡◌, reverse};
+ghost use Rattle.cox_base.specs.Matrix.{IsWord};
+ghost use Rattle.cox_base.specs.Admissible.{IsCoxeterMatrix};
+ghost use Rattle.cox_base.specs.IntegerMatrix.{integer_matrix};
+ghost use Rattle.cox_base.specs.ShortLex.{normal_form};
+ghost use Rattle.cox_base.specs.Descents.{left_descents, right_descents};
+ghost use Rattle.cox_poly.specs.Puts.{Puts};
+ghost use Rattle.cox_print.specs.AnswerText.{element_text, descent_text};
+ghost use Rattle.cox_answers.specs.Kept.{IsSameWork};
+ghost use Rattle.cox_answers.specs.SessionLimits.{limits_of};
+ghost use Rattle.cox_answers.specs.InquiryQuestion.{RefusesNone, IsOrderText, question_of};
+ghost use Rattle.cox_answers.specs.Putting.{HasLetters, PutsUnless, IsEnded};
+
+mod generated;
+mod graphs;
+mod intervals;
+pub(crate) mod kept;
+pub(crate) mod kept_group;
+mod pairs;
+mod polynomials;
+mod rows;
+mod sums;
+mod unanswered;
+
+use crate::inquiry::Inquiry;
+use crate::row_maker::RowMaker;
+use crate::workspace::Workspace;
+use cox_base::{MAX_RANK, Side, Word};
+use cox_cells::CellKind;
+use cox_command::{NoWord, OneWord, TwoWord};
+use cox_minroots::RootTable;
+use cox_print::{NoMemory, put_count, put_descent, put_element, put_end, put_truth};
+use intervals::{put_betti, put_coatoms, put_interval};
+use polynomials::put_rpol;
+pub use unanswered::Unanswered;
+use unanswered::unrefused;
+
+impl Workspace {
+    /// Puts the text that answers a command on elements, with the end of its last line. A refusal puts nothing.
+    pub fn put_answer<M: RowMaker>(
+        &mut self,
+        maker: &M,
+        out: &mut Vec<u8>,
+        inquiry: &Inquiry,
+    ) -> Result<(), Unanswered>
+        requires words { HasLetters self.old.table.rank inquiry.now }
+        requires ready { M.ready maker.now }
+        ensures puts { PutsUnless result (question_of inquiry.now (limits_of self.old.options) self.old.table).Refuses
+            (IsEnded (question_of inquiry.now (limits_of self.old.options) self.old.table).IsText) out.old.items out.new.items }
+        ensures same { IsSameWork self.old self.new }
+        ensures group { IsCoxeterMatrix self.old.table }
+    {
+        prove!(self.rank() as usize <= MAX_RANK);
+        self.put_text_of(maker, out, inquiry)?;
+        put_end(out)?;
+        Ok(())
+    }
+
+    /// Puts that text without the end of its last line.
+    fn put_text_of<M: RowMaker>(
+        &mut self,
+        maker: &M,
+        out: &mut Vec<u8>,
+        inquiry: &Inquiry,
+    ) -> Result<(), Unanswered>
+        requires words { HasLetters self.old.table.rank inquiry.now }
+        requires ready { M.ready maker.now }
+        ensures puts { PutsUnless result (question_of inquiry.now (limits_of self.old.options) self.old.table).Refuses
+            (question_of inquiry.now (limits_of self.old.options) self.old.table).IsText out.old.items out.new.items }
+        ensures same { IsSameWork self.old self.new }
+    {
+        let table = self.table();
+        let options = self.options();
+        match inquiry {
+            Inquiry::One(OneWord::Compute, w) => put_normal_form(out, table, w),
+            Inquiry::One(OneWord::Length, w) => unrefused(put_count(out, table.length(w) as usize)),
+            Inquiry::One(OneWord::Inverse, w) => put_inverse(out, table, w),
+            Inquiry::One(OneWord::Descent, w) => unrefused(put_both_descents(out, table, w)),
+            Inquiry::One(OneWord::Coatoms, w) => put_coatoms(out, table, options, w),
+            Inquiry::One(OneWord::Betti, w) => put_betti(out, table, options, w),
+            Inquiry::One(OneWord::Klbasis, w) => self.put_klbasis(maker, out, w),
+            Inquiry::One(OneWord::Ihbetti, w) => self.put_ihbetti(maker, out, w),
+            Inquiry::One(OneWord::Extremals, w) => self.put_extremals(maker, out, w),
+            Inquiry::Two(TwoWord::Inorder, y, w) => put_inorder(out, table, y, w),
+            Inquiry::Two(TwoWord::Interval, y, w) => put_interval(out, table, options, y, w),
+            Inquiry::Two(TwoWord::Rpol, y, w) => put_rpol(out, table, y, w),
+            Inquiry::Two(TwoWord::Pol, y, w) => self.put_pol(maker, out, y, w),
+            Inquiry::Two(TwoWord::Mu, y, w) => self.put_mu(maker, out, y, w),
+            Inquiry::Plain(NoWord::Lwgraph) => self.put_graph(maker, out, Side::Left),
+            Inquiry::Plain(NoWord::Rwgraph) => self.put_graph(maker, out, Side::Right),
+            Inquiry::Plain(NoWord::Lcells) => self.put_cells(maker, out, CellKind::Left),
+            Inquiry::Plain(NoWord::Rcells) => self.put_cells(maker, out, CellKind::Right),
+            Inquiry::Plain(NoWord::Lrcells) => self.put_cells(maker, out, CellKind::Both),
+            Inquiry::Work { start, count } => self.put_generated(maker, out, *start, *count),
+        }
+    }
+}
+
+/// Puts the normal form of w.
+fn put_normal_form(out: &mut Vec<u8>, table: &RootTable, w: &Word) -> Result<(), Unanswered>
+    requires { IsWord table.now.rank w.now.items }
+    ensures { PutsUnless result RefusesNone (λ text. text ≡ element_text table.now.rank (normal_form (integer_matrix table.now) w.now.items))
+        out.old.items out.new.items }
+{
+    unrefused(put_element(out, table.group().rank(), &table.normal_form(w)))
+}
+
+/// Puts the normal form of the inverse of w.
+fn put_inverse(out: &mut Vec<u8>, table: &RootTable, w: &Word) -> Result<(), Unanswered>
+    requires { IsWord table.now.rank w.now.items }
+    ensures { PutsUnless result RefusesNone
+        (λ text. text ≡ element_text table.now.rank (normal_form (integer_matrix table.now) (reverse w.now.items))) out.old.items out.new.items }
+{
+    unrefused(put_element(out, table.group().rank(), &table.inverse(w)))
+}
+
+/// Puts whether y <= w.
+fn put_inorder(out: &mut Vec<u8>, table: &RootTable, y: &Word, w: &Word) -> Result<(), Unanswered>
+    requires first { IsWord table.now.rank y.now.items }
+    requires second { IsWord table.now.rank w.now.items }
+    ensures { PutsUnless result RefusesNone (IsOrderText (integer_matrix table.now) y.now.items w.now.items) out.old.items out.new.items }
+{
+    unrefused(put_truth(out, table.below(y, w)))
+}
+
+/// Puts the left and the right descents of w.
+fn put_both_descents(out: &mut Vec<u8>, table: &RootTable, w: &Word) -> Result<(), NoMemory>
+    requires { IsWord table.now.rank w.now.items }
+    ensures { Puts result (descent_text table.now.rank (left_descents (integer_matrix table.now) w.now.items) (right_descents (integer_matrix table.now) w.now.items))
+        out.old.items out.new.items }
+{
+    put_descent(
+        out,
+        table.group().rank(),
+        &table.left_descents(w),
+        &table.right_descents(w),
+    )
+}

@@ -1,0 +1,202 @@
+//! The answer on generated words.
+ghost use Rattle.std.specs.Prelude.{◌≡◌, ℕ, ◌+◌, ◌<◌, ◌≤◌, ◌^◌, List, length, pos, IfOk, unsigned_abs};
+ghost use Rattle.std.specs.Int.{int_rem_euclid};
+ghost use Rattle.cox_base.specs.Matrix.{IsWord};
+ghost use Rattle.cox_base.specs.Admissible.{IsCoxeterMatrix};
+ghost use Rattle.cox_base.specs.IntegerMatrix.{integer_matrix};
+ghost use Rattle.cox_base.specs.ShortLex.{normal_form};
+ghost use Rattle.cox_base.specs.declared.limits.TheConstants.{MAX_LETTERS};
+ghost use Rattle.cox_poly.specs.Polynomial.{coefficient, HasDegreeBelow};
+ghost use Rattle.cox_context.specs.Numbers.{word_at};
+ghost use Rattle.cox_context.specs.declared.members.TheConstants.{MAX_MEMBERS};
+ghost use Rattle.cox_command.specs.ParseContract.{AreWorkNumbers};
+ghost use Rattle.cox_rows.specs.Holding.{HasRow};
+ghost use Rattle.cox_answers.specs.Kept.{IsSameWork};
+ghost use Rattle.cox_answers.specs.SessionLimits.{limits_of};
+ghost use Rattle.cox_answers.specs.RowReply.{RefusesRow, coefficients_to};
+ghost use Rattle.cox_answers.specs.WorkReply.{generated_words, RefusesWork, IsWorkText};
+ghost use Rattle.cox_answers.specs.Totals.{no_totals, both_totals, polynomial_totals, AreTotalsOf, AreTotals, sum_of};
+ghost use Rattle.cox_answers.specs.Putting.{PutsUnless};
+ghost use Rattle.cox_answers.specs.Summing.{SumsUp};
+
+use crate::answers::unanswered::{Unanswered, unrefused};
+use crate::row_maker::RowMaker;
+use crate::workspace::Workspace;
+use cox_base::Word;
+use cox_command::work_word;
+use cox_poly::PolyView;
+use cox_print::put_work;
+use cox_rows::Rows;
+use std::alloc::Global;
+use std::marker::Model;
+
+/// What is summed up over polynomials of rows: how many there are, their greatest degree, and the sum of all their coefficients.
+#[derive(Drop)]
+struct RowTotals {
+    entries: u64,
+    degree: u32,
+    sum: i128,
+}
+
+impl Model for RowTotals {
+    ghost use Rattle.std.specs.Prelude.{◌≤◌, ◌*◌, ◌^◌, unsigned_abs};
+    ghost use Rattle.cox_answers.specs.Totals.{Totals};
+
+    ghost Value = { Totals };
+
+    ghost view = { λ t. record { entries = t.entries; degree = t.degree; sum = t.sum } };
+
+    // A polynomial of a row has at most 256 coefficients, of 64 bits each.
+    ghost invariant = { λ t. unsigned_abs t.sum ≤ t.entries * 2 ^ 71 };
+}
+
+impl RowTotals {
+    /// Those of no polynomials.
+    fn none() -> RowTotals
+        ensures { result ≡ no_totals }
+    {
+        RowTotals {
+            entries: 0,
+            degree: 0,
+            sum: 0,
+        }
+    }
+
+    /// Those of one polynomial, which has a degree of at most `MAX_LETTERS`.
+    fn of(polynomial: &PolyView<'_>) -> RowTotals
+        requires { HasDegreeBelow polynomial.now (MAX_LETTERS + 1) }
+        ensures one { result.entries ≡ 1 }
+        ensures totals { (n : ℕ) → HasDegreeBelow polynomial.now (n + 1) → result ≡ polynomial_totals (coefficients_to n (coefficient polynomial.now)) }
+    {
+        match polynomial.degree() {
+            None => RowTotals {
+                entries: 1,
+                degree: 0,
+                sum: 0,
+            },
+            Some(degree) => RowTotals {
+                entries: 1,
+                degree,
+                sum: coefficient_sum(polynomial, degree),
+            },
+        }
+    }
+
+    /// Adds those of more polynomials.
+    fn add(&mut self, more: &RowTotals)
+        requires { self.old.entries + more.now.entries ≤ 2 ^ 40 }
+        ensures { self.new ≡ both_totals self.old more.now }
+    {
+        self.entries += more.entries;
+        self.degree = self.degree.max(more.degree);
+        self.sum += more.sum;
+    }
+}
+
+impl Workspace {
+    /// Puts the totals of the rows of so many words that are generated from a state.
+    pub(crate) fn put_generated<M: RowMaker>(
+        &mut self,
+        maker: &M,
+        out: &mut Vec<u8>,
+        start: u32,
+        count: u32,
+    ) -> Result<(), Unanswered>
+        requires numbers { AreWorkNumbers start count }
+        requires ready { M.ready maker.now }
+        ensures puts { PutsUnless result
+            (RefusesWork (limits_of self.old.options) (integer_matrix self.old.table) (generated_words self.old.table.rank count start))
+            (IsWorkText (integer_matrix self.old.table) (generated_words self.old.table.rank count start)) out.old.items out.new.items }
+        ensures same { IsSameWork self.old self.new }
+        ensures group { IsCoxeterMatrix self.old.table }
+    {
+        let totals = self.totals_of_words(maker, *out.allocator(), start, count)?;
+        let sum = low_bits(totals.sum);
+        unrefused(put_work(out, u64::from(count), totals.entries, totals.degree, sum))
+    }
+
+    /// The totals of the rows of so many words that are generated from a state. The first word that is refused decides.
+    fn totals_of_words<M: RowMaker>(
+        &mut self,
+        maker: &M,
+        alloc: Global,
+        start: u32,
+        count: u32,
+    ) -> Result<RowTotals, Unanswered>
+        requires numbers { AreWorkNumbers start count }
+        requires ready { M.ready maker.now }
+        ensures totals { SumsUp result (RefusesWork (limits_of self.old.options) (integer_matrix self.old.table) (generated_words self.old.table.rank count start))
+            (AreTotals (integer_matrix self.old.table) (generated_words self.old.table.rank count start)) }
+        ensures same { IsSameWork self.old self.new }
+        ensures group { IsCoxeterMatrix self.old.table }
+    {
+        let rank = self.rank();
+        let mut totals = RowTotals::none();
+        let mut state = start;
+        for _ in 0..count {
+            let (word, next) = work_word(state, rank);
+            let row = self.totals_of_word(maker, alloc, &word)?;
+            totals.add(&row);
+            state = next;
+        }
+        Ok(totals)
+    }
+
+    /// The totals of the row of w.
+    fn totals_of_word<M: RowMaker>(
+        &mut self,
+        maker: &M,
+        alloc: Global,
+        w: &Word,
+    ) -> Result<RowTotals, Unanswered>
+        requires word { IsWord self.old.table.rank w.now.items }
+        requires ready { M.ready maker.now }
+        ensures totals { SumsUp result (RefusesRow (limits_of self.old.options) (integer_matrix self.old.table) w.now.items)
+            (AreTotalsOf (integer_matrix self.old.table) w.now.items) }
+        ensures few { IfOk result (λ t. t.entries ≤ MAX_MEMBERS) }
+        ensures same { IsSameWork self.old self.new }
+        ensures group { IsCoxeterMatrix self.old.table }
+    {
+        let i = self.keep_row(maker, alloc, w)?;
+        let rows = self.rows();
+        Ok(row_totals(rows, i))
+    }
+}
+
+/// The remainder by 2^64.
+fn low_bits(sum: i128) -> u64
+    ensures { result ≡ unsigned_abs (int_rem_euclid sum (pos (2 ^ 64))) }
+{
+    sum.rem_euclid(1 << 64) as u64
+}
+
+/// The totals of the P(x,w) of all members x <= w, for the member w with the number i.
+fn row_totals(rows: &Rows, i: u32) -> RowTotals
+    requires member { i < length rows.now.elements.members }
+    requires there { HasRow rows.now i }
+    ensures totals { (w : List ℕ) → word_at rows.now.elements.members i ≡ normal_form (integer_matrix rows.now.elements.matrix) w
+        → AreTotalsOf (integer_matrix rows.now.elements.matrix) w result }
+    ensures few { result.entries ≤ MAX_MEMBERS }
+{
+    prove!(rows.context().len() > 0);
+    let mut totals = RowTotals::none();
+    for x in 0..i + 1 {
+        if let Some(polynomial) = rows.polynomial(i, x) {
+            totals.add(&RowTotals::of(&polynomial));
+        }
+    }
+    totals
+}
+
+/// The sum of the coefficients from degree 0 to this one, which is at most `MAX_LETTERS`.
+fn coefficient_sum(polynomial: &PolyView<'_>, degree: u32) -> i128
+    requires { degree ≤ MAX_LETTERS }
+    ensures sum { result ≡ sum_of (coefficients_to degree (coefficient polynomial.now)) }
+    ensures small { unsigned_abs result ≤ 2 ^ 71 }
+{
+    let mut sum = 0;
+    for k in 0..degree + 1 {
+        sum += i128::from(polynomial.coefficient(k));
+    }
+    sum
+}

@@ -1,0 +1,150 @@
+//! The rows of all elements of a group, among those that a session keeps.
+ghost use Rattle.std.specs.Prelude.{◌≡◌, ℕ, ◌<◌, ◌≤◌, ◌∷◌, length, Contains, IfOk, IsTrue};
+ghost use Rattle.cox_base.specs.Matrix.{IsLetter};
+ghost use Rattle.cox_base.specs.Admissible.{IsCoxeterMatrix};
+ghost use Rattle.cox_base.specs.IntegerMatrix.{integer_matrix};
+ghost use Rattle.cox_base.specs.ShortLex.{normal_form};
+ghost use Rattle.cox_base.specs.Members.{IsElement};
+ghost use Rattle.cox_base.specs.SortedList.{IsListOf};
+ghost use Rattle.cox_context.specs.Numbers.{word_at};
+ghost use Rattle.cox_row.specs.Rising.{AreWithin};
+ghost use Rattle.cox_answers.specs.SessionLimits.{limits_of};
+ghost use Rattle.cox_answers.specs.GroupReply.{RefusesGroupRows};
+ghost use Rattle.cox_answers.specs.GroupSize.{RefusesLargeGroup, GivesGroup};
+ghost use Rattle.cox_answers.specs.Kept.{AreKept, HoldsGroup, HoldsAll, Keeps, IsMore};
+
+use crate::answers::unanswered::{Unanswered, unanswered_by};
+use crate::row_maker::RowMaker;
+use cox_base::MAX_RANK;
+use cox_command::Refusal;
+use cox_context::{Context, ContextFault};
+use cox_minroots::RootTable;
+use cox_options::Options;
+use cox_rows::Rows;
+use std::alloc::{AllocError, Global};
+
+/// Sees to it that the rows of all elements of the group are held among the rows that are kept.
+pub fn keep_group<M: RowMaker>(
+    alloc: Global,
+    kept: &mut Option<Rows>,
+    table: &RootTable,
+    options: Options,
+    maker: &M,
+) -> Result<(), Unanswered>
+    requires kept { AreKept table.now (limits_of options) kept.old }
+    requires ready { M.ready maker.now }
+    ensures kept { AreKept table.now (limits_of options) kept.new }
+    ensures rows { Keeps result (RefusesGroupRows (limits_of options) (integer_matrix table.now))
+        (λ _ rows. HoldsAll (integer_matrix table.now) rows) kept.new }
+    ensures group { IsCoxeterMatrix table.now }
+{
+    keep_elements(alloc, kept, table, options)?;
+    let Some(rows) = kept.take() else {
+        unreachable!();
+    };
+    let mut rows = with_all(alloc, rows, maker);
+    let made = rows.ensure_all();
+    *kept = Some(rows);
+    match made {
+        Ok(()) => Ok(()),
+        Err(fault) => Err(unanswered_by(fault)),
+    }
+}
+
+/// The same rows, and maybe more: those of all members are asked for that are not there, if there is memory for their numbers.
+fn with_all<M: RowMaker>(alloc: Global, rows: Rows, maker: &M) -> Rows
+    requires { M.ready maker.now }
+    ensures { IsMore rows result }
+{
+    let Ok(missing) = missing_members(alloc, &rows) else {
+        return rows;
+    };
+    if missing.is_empty() {
+        return rows;
+    }
+    maker.make(alloc, rows, &missing)
+}
+
+/// The numbers of the members whose rows are not there.
+fn missing_members(alloc: Global, rows: &Rows) -> Result<Vec<u32>, AllocError>
+    ensures { IfOk result (λ missing. AreWithin (length rows.now.elements.members) missing.items) }
+{
+    let mut missing = Vec::new(alloc);
+    for i in 0..rows.context().len() {
+        if !rows.has(i) {
+            missing.push(i)?;
+        }
+    }
+    Ok(missing)
+}
+
+/// Sees to it that all elements of the group are members of what is kept.
+///
+/// What is kept stays if they are already; else they alone are kept, with no rows yet.
+pub fn keep_elements(
+    alloc: Global,
+    kept: &mut Option<Rows>,
+    table: &RootTable,
+    options: Options,
+) -> Result<(), Unanswered>
+    requires kept { AreKept table.now (limits_of options) kept.old }
+    ensures kept { AreKept table.now (limits_of options) kept.new }
+    ensures elements { Keeps result (RefusesLargeGroup (limits_of options) (integer_matrix table.now))
+        (λ _ rows. HoldsGroup (integer_matrix table.now) rows) kept.new }
+    ensures group { IsCoxeterMatrix table.now }
+{
+    prove!(table.group().rank() as usize <= MAX_RANK);
+    if let Some(rows) = kept {
+        prove!(rows.context().len() > 0);
+        if is_whole(rows.context()) {
+            return Ok(());
+        }
+    }
+    let context = group_of(alloc, table, options)?;
+    *kept = Some(Rows::new(alloc, context, options.coef())?);
+    Ok(())
+}
+
+/// All elements of the group. They are refused where there are more than the options admit.
+fn group_of(alloc: Global, table: &RootTable, options: Options) -> Result<Context, Unanswered>
+    ensures matrix { IfOk result (λ context. context.matrix ≡ table.now) }
+    ensures few { IfOk result (λ context. length context.members ≤ options.context) }
+    ensures members { GivesGroup result (limits_of options) (integer_matrix table.now) }
+{
+    match Context::of_group(alloc, table, options.context()) {
+        Ok(context) => {
+            prove!(context.len() > 0);
+            Ok(context)
+        }
+        Err(ContextFault::NoMemory) => Err(Unanswered::NoMemory),
+        Err(_) => Err(Unanswered::Refused(Refusal::LargeInterval)),
+    }
+}
+
+/// Whether each left shift of each member is a member. Then the members are all elements of the group.
+fn is_whole(context: &Context) -> bool
+    ensures { IsTrue result → IsListOf (IsElement (integer_matrix context.now.matrix)) context.now.members }
+{
+    for i in 0..context.len() {
+        if !has_shifts(context, i) {
+            return false;
+        }
+    }
+    true
+}
+
+/// Whether each left shift of the member with the number i is a member.
+fn has_shifts(context: &Context, i: u32) -> bool
+    requires member { i < length context.now.members }
+    ensures { IsTrue result → (s : ℕ) → IsLetter context.now.matrix.rank s
+        → Contains context.now.members (normal_form (integer_matrix context.now.matrix) (s ∷ word_at context.now.members i)) }
+{
+    let rank = context.matrix().rank();
+    prove!(rank as usize <= MAX_RANK);
+    for s in 1..rank + 1 {
+        if context.left(s as u8, i).is_none() {
+            return false;
+        }
+    }
+    true
+}

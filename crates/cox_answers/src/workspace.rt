@@ -1,0 +1,125 @@
+//! What commands on elements work with.
+
+use crate::answers::Unanswered;
+use crate::answers::kept::keep_row;
+use crate::answers::kept_group::keep_group;
+use crate::row_maker::RowMaker;
+use cox_base::{MAX_RANK, Word};
+use cox_minroots::RootTable;
+use cox_options::Options;
+use cox_rows::Rows;
+use std::alloc::Global;
+use std::marker::Model;
+
+/// What commands on elements work with: the group that is set, by its small roots, the options of the session, and the rows that were made so far.
+///
+/// Which rows are kept shows in no answer.
+#[derive(Drop)]
+pub struct Workspace {
+    table: RootTable,
+    options: Options,
+    // Rows of the group, with the context that they are over, once a row was asked for.
+    rows: Option<Rows>,
+}
+
+impl Model for Workspace {
+    ghost use Rattle.cox_answers.specs.SessionLimits.{limits_of};
+    ghost use Rattle.cox_answers.specs.Kept.{Work, AreKept};
+
+    ghost Value = { Work };
+
+    ghost view = { λ w. record { table = w.table; options = w.options; rows = w.rows } };
+
+    ghost invariant = { λ w. AreKept w.table (limits_of w.options) w.rows };
+}
+
+impl Workspace {
+    ghost use Rattle.std.specs.Prelude.{◌≡◌, ◌≤◌, IsSome, Some};
+    ghost use Rattle.cox_base.specs.Admissible.{IsCoxeterMatrix};
+    ghost use Rattle.cox_base.specs.IntegerMatrix.{integer_matrix};
+    ghost use Rattle.cox_base.specs.Matrix.{IsWord};
+    ghost use Rattle.cox_answers.specs.SessionLimits.{limits_of};
+    ghost use Rattle.cox_answers.specs.GroupReply.{RefusesGroupRows};
+    ghost use Rattle.cox_answers.specs.RowReply.{RefusesRow};
+    ghost use Rattle.cox_answers.specs.Kept.{AreKept, HoldsRow, HoldsAll, IsSameWork, Keeps};
+
+    /// A group with the options of the session; no row is made yet.
+    pub fn new(table: RootTable, options: Options) -> Workspace
+        ensures table { result.table ≡ table }
+        ensures options { result.options ≡ options }
+    {
+        Workspace {
+            table,
+            options,
+            rows: None,
+        }
+    }
+
+    /// The rank of the group.
+    pub fn rank(&self) -> u32
+        ensures rank { result ≡ self.now.table.rank }
+        ensures limit { result ≤ MAX_RANK }
+        ensures matrix { IsCoxeterMatrix self.now.table }
+    {
+        self.table.group().rank()
+    }
+
+    /// The options of the session.
+    pub fn options(&self) -> Options
+        ensures { result ≡ self.now.options }
+    {
+        self.options
+    }
+
+    /// The small roots of the group.
+    pub(crate) fn table(&self) -> &RootTable
+        ensures { result.now ≡ self.now.table }
+    {
+        &self.table
+    }
+
+    /// The rows that are kept.
+    pub(crate) fn rows(&self) -> &Rows
+        requires { IsSome self.now.rows }
+        ensures { self.now.rows ≡ Some result.now }
+    {
+        match &self.rows {
+            Some(rows) => rows,
+            None => unreachable!(),
+        }
+    }
+
+    /// Sees to it that the row of w is kept, and tells its number.
+    pub(crate) fn keep_row<M: RowMaker>(
+        &mut self,
+        maker: &M,
+        alloc: Global,
+        w: &Word,
+    ) -> Result<u32, Unanswered>
+        requires word { IsWord self.old.table.rank w.now.items }
+        requires ready { M.ready maker.now }
+        ensures same { IsSameWork self.old self.new }
+        ensures kept { AreKept self.old.table (limits_of self.old.options) self.new.rows }
+        ensures row { Keeps result (RefusesRow (limits_of self.old.options) (integer_matrix self.old.table) w.now.items)
+            (HoldsRow (integer_matrix self.old.table) w.now.items) self.new.rows }
+        ensures group { IsCoxeterMatrix self.old.table }
+    {
+        keep_row(alloc, &mut self.rows, &self.table, self.options, maker, w)
+    }
+
+    /// Sees to it that the rows of all elements of the group are kept.
+    pub(crate) fn keep_group<M: RowMaker>(
+        &mut self,
+        maker: &M,
+        alloc: Global,
+    ) -> Result<(), Unanswered>
+        requires ready { M.ready maker.now }
+        ensures same { IsSameWork self.old self.new }
+        ensures kept { AreKept self.old.table (limits_of self.old.options) self.new.rows }
+        ensures rows { Keeps result (RefusesGroupRows (limits_of self.old.options) (integer_matrix self.old.table))
+            (λ _ rows. HoldsAll (integer_matrix self.old.table) rows) self.new.rows }
+        ensures group { IsCoxeterMatrix self.old.table }
+    {
+        keep_group(alloc, &mut self.rows, &self.table, self.options, maker)
+    }
+}
