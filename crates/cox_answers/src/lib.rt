@@ -7,12 +7,14 @@
 //!
 //! - `inquiry`: commands on elements, with their words
 //! - `row_maker`: what makes rows that are asked for
+//! - `growth`: when the whole group is taken in the place of interval after interval
 //! - `workspace`: what answers work with
 //! - `answers`: the texts
 //! - `laws`: a question has one text, and can be answered
 #![tactic(auto)]
 
 mod answers;
+mod growth;
 mod inquiry;
 pub mod laws;
 mod row_maker;

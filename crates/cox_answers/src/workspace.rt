@@ -1,8 +1,9 @@
 //! What commands on elements work with.
 
 use crate::answers::Unanswered;
-use crate::answers::kept::keep_row;
+use crate::answers::kept::{keep_row, widen};
 use crate::answers::kept_group::keep_group;
+use crate::growth::{Growth, longest_word};
 use crate::row_maker::RowMaker;
 use cox_base::{MAX_RANK, Word};
 use cox_minroots::RootTable;
@@ -20,6 +21,8 @@ pub struct Workspace {
     options: Options,
     // Rows of the group, with the context that they are over, once a row was asked for.
     rows: Option<Rows>,
+    // What it has cost to make their context larger.
+    growth: Growth,
 }
 
 impl Model for Workspace {
@@ -52,6 +55,7 @@ impl Workspace {
             table,
             options,
             rows: None,
+            growth: Growth::new(),
         }
     }
 
@@ -104,7 +108,36 @@ impl Workspace {
             (HoldsRow (integer_matrix self.old.table) w.now.items) self.new.rows }
         ensures group { IsCoxeterMatrix self.old.table }
     {
-        keep_row(alloc, &mut self.rows, &self.table, self.options, maker, w)
+        self.take_group();
+        let before = self.member_count();
+        let kept = keep_row(alloc, &mut self.rows, &self.table, self.options, maker, w);
+        let now = self.member_count();
+        if now != before {
+            self.growth.count(now);
+        }
+        kept
+    }
+
+    /// Takes the whole group, if extensions have cost as much as that is expected to. No answer depends on it: the rows that are kept stay, under
+    /// their members' new numbers, and without memory none may be left.
+    fn take_group(&mut self)
+        ensures same { IsSameWork self.old self.new }
+    {
+        let Some(most) = self.growth.due(self.options.context()) else {
+            return;
+        };
+        prove!(self.table.group().rank() as usize <= MAX_RANK);
+        if let Some(longest) = longest_word(&self.table) {
+            widen(&mut self.rows, &self.table, self.options, &longest, most);
+        }
+    }
+
+    /// How many members the context has that is kept; 0 where none is.
+    fn member_count(&self) -> u32 {
+        match &self.rows {
+            Some(rows) => rows.context().len(),
+            None => 0,
+        }
     }
 
     /// Sees to it that the rows of all elements of the group are kept.

@@ -1,5 +1,5 @@
 //! The rows that a session keeps of its group, and asks for.
-ghost use Rattle.std.specs.Prelude.{◌<◌, length};
+ghost use Rattle.std.specs.Prelude.{◌<◌, ◌≤◌, length};
 ghost use Rattle.cox_base.specs.Matrix.{IsWord};
 ghost use Rattle.cox_base.specs.Admissible.{IsCoxeterMatrix};
 ghost use Rattle.cox_base.specs.IntegerMatrix.{integer_matrix};
@@ -12,7 +12,7 @@ use crate::answers::intervals::interval_of;
 use crate::answers::unanswered::{Unanswered, unanswered_by};
 use crate::row_maker::RowMaker;
 use cox_base::{MAX_RANK, Word};
-use cox_context::ContextFault;
+use cox_context::{ContextFault, MAX_MEMBERS};
 use cox_minroots::RootTable;
 use cox_options::Options;
 use cox_rows::Rows;
@@ -90,6 +90,26 @@ pub fn keep_interval(
         }
     }
     keep_alone(alloc, kept, table, options, w)
+}
+
+/// Adds the elements below w to what is kept, if it has at most so many members then. Without memory nothing is kept.
+pub fn widen(kept: &mut Option<Rows>, table: &RootTable, options: Options, w: &Word, most: u32)
+    requires word { IsWord table.now.rank w.now.items }
+    requires some { 1 ≤ most }
+    requires limit { most ≤ options.context }
+    requires kept { AreKept table.now (limits_of options) kept.old }
+    ensures { AreKept table.now (limits_of options) kept.new }
+{
+    prove!(options.context() <= MAX_MEMBERS);
+    if let Some(rows) = kept {
+        let _context = rows.context();
+        match rows.extend(table, w, most) {
+            Ok(_) => return,
+            Err(ContextFault::NoMemory) => {}
+            Err(_) => return,
+        }
+    }
+    *kept = None;
 }
 
 /// Keeps the interval from the identity to w alone, with no rows, and tells the number of w there. What was kept is given up first.
