@@ -12,15 +12,12 @@ use Rattle.cox_row_store.specs.Places.{place_at, ArePlaces}
 use Rattle.cox_row.specs.RowLists.{row_at}
 use Rattle.cox_row_store.specs.Taken.{AreTaken, TakesRows}
 
-pub are_taken : (e : Elements) (bound : ℤ) (view : View) (number rows : ℕ) (places : List Place) (states : List RowState)
-    (out : List (Option Row)) → length e.members ≡ rows → length places ≡ rows → ArePlaces e bound places → Closes view number rows states
-    → TakesRows places states out
-    → AreTaken e bound view out
-are_taken e bound view number rows places states out members cells placed ended taken = record {
+pub are_taken : (e : Elements) (bound : ℤ) (v w : View) (rows : ℕ) (places : List Place) (out : List (Option Row))
+    → length e.members ≡ rows → length places ≡ rows → ArePlaces e bound places → TakesRows places v w out → AreTaken e bound v out
+are_taken e bound v w rows places out members cells placed taken = record {
   count = omega (arith, taken.count, cells, members);
   each = λ i l.
       let within : i < length places = omega (arith, l, cells, members)
       in subst (λ p. IfSome (row_at out i) (IsRowFor p)) (placed i within) (taken.each i (place_at e bound 0) within);
-  whole = λ i l seen.
-      taken.whole i (omega (arith, l, cells, members)) ((ended.known i (omega (arith, l, members))).published seen);
+  whole = λ i l seen. taken.whole i (omega (arith, l, cells, members)) seen;
 }

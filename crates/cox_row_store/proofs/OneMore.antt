@@ -1,10 +1,12 @@
 -- The rows that are taken from cells, one cell more.
-use Rattle.std.proofs.Common.{◌≡◌, ◌≢◌, ℕ, ◌<◌, ◌≤◌, List, [], ◌∷◌, ◌++◌, length, slice_index_or, Option, None, IfSome, ⊎_elim, sym, subst}
+use Rattle.std.proofs.Common.{◌≡◌, ◌≢◌, ℕ, ◌<◌, ◌≤◌, List, [], ◌∷◌, ◌++◌, length, slice_index_or, Option, None, IfSome, ⊎_elim, true, ◌==◌, refl, sym, ap, ◌∙◌, subst}
 use Rattle.std.proofs.Common.{arith, length-append}
 use Rattle.std.proofs.Math.ListN.{get_or-append}
 use Rattle.std.proofs.Math.Seq.{get_or-append_seam}
-use Rattle.std.proofs.lemmas.Bool.{cases_lt}
+use Rattle.std.proofs.lemmas.Bool.{cases_lt, or_left, eq-eqb}
 use Rattle.cox_fill_core.specs.declared.event.RowState.{RowState}
+use Rattle.cox_claims.specs.declared.view.View.{View}
+use Rattle.cox_claims.specs.Knowledge.{saw_published, SeesAll, Looks}
 use Rattle.cox_row.specs.declared.row.Row.{Row}
 use Rattle.cox_rowcell.specs.Place.{Place}
 use Rattle.cox_rowcell.specs.RowFor.{IsRowFor}
@@ -23,11 +25,20 @@ each_more xs x d P old new i within =
     in subst (λ k. P k (slice_index_or (xs ++ x ∷ []) k d)) (sym last) (subst (P (length xs)) (sym (get_or-append_seam xs x [] d)) new))
     (cases_lt i (length xs))
 
-pub takes_more : (places : List Place) (states : List RowState) (rows : List (Option Row)) (p : Place) (row : Option Row)
-    → TakesRows places states rows → IfSome row (IsRowFor p)
-    → (slice_index_or states (length rows) RowState.Free ≡ RowState.Published → row ≢ None)
-    → TakesRows (places ++ p ∷ []) states (rows ++ row ∷ [])
-takes_more places states rows p row taken is there =
+-- a look that finds no state but Published has the row seen so
+seen_here : (v w : View) (i : ℕ) (x : RowState) → Looks v i x w → (x ≢ RowState.Published → ⊥) → saw_published w i ≡ true
+seen_here v w i RowState.Free look h = absurd (h (λ e. cc))
+seen_here v w i RowState.Claimed look h = absurd (h (λ e. cc))
+seen_here v w i RowState.Published look h =
+    ap (λ u. saw_published u i) look.after ∙ or_left (i == i) (saw_published v i) (eq-eqb i i refl)
+seen_here v w i RowState.Void look h = absurd (h (λ e. cc))
+
+-- a look at row i found the state x, which tells whether its row was taken: what the seat had seen Published before, u, is seen still
+pub takes_more : (places : List Place) (u v w : View) (rows : List (Option Row)) (p : Place) (x : RowState) (row : Option Row)
+    → TakesRows places u v rows → SeesAll u v → Looks v (length rows) x w → IfSome row (IsRowFor p)
+    → (x ≡ RowState.Published → row ≢ None) → (x ≢ RowState.Published → row ≡ None)
+    → TakesRows (places ++ p ∷ []) u w (rows ++ row ∷ [])
+takes_more places u v w rows p x row taken sees look is there none =
     let count : length (rows ++ row ∷ []) ≡ length (places ++ p ∷ []) =
     omega (arith, taken.count, length-append rows (row ∷ []), length-append places (p ∷ []))
     in record {
@@ -43,6 +54,12 @@ takes_more places states rows p row taken is there =
           (rw taken.count (subst (λ q. IfSome row (IsRowFor q)) (sym (get_or-append_seam places p [] d)) is))
           i (omega (arith, within, count));
       whole = λ i within.
-          each_more rows row None (λ k r. slice_index_or states k RowState.Free ≡ RowState.Published → r ≢ None)
-          (λ k l. taken.whole k (omega (arith, l, taken.count))) there i (omega (arith, within, count));
+          each_more rows row None (λ k r. saw_published u k ≡ true → r ≢ None)
+          (λ k l. taken.whole k (omega (arith, l, taken.count))) (λ seen. there (look.known.published (sees.published (length rows) seen)))
+          i (omega (arith, within, count));
+      only = λ i within.
+          each_more rows row None (λ k r. r ≢ None → saw_published w k ≡ true)
+          (λ k l r. look.kept.published k (taken.only k (omega (arith, l, taken.count)) r))
+          (λ r. seen_here v w (length rows) x look (λ other. r (none other)))
+          i (omega (arith, within, count));
     }

@@ -1,5 +1,5 @@
 //! The store and its calls.
-ghost use Rattle.std.specs.Prelude.{◌≡◌, ◌≢◌, ℕ, ◌<◌, ◌≤◌, max, length, vec_len, ℤ, pos, ◌≤ℤ◌, IfOk, IfErr};
+ghost use Rattle.std.specs.Prelude.{◌≡◌, ◌≢◌, ℕ, ◌<◌, ◌≤◌, [], max, length, vec_len, vec_capacity, ℤ, pos, ◌≤ℤ◌, IfOk};
 ghost use Rattle.cox_claims.specs.Knowledge.{holds, SeesAll, newcomer, Looks, TriesClaim, Publishes, Voids, parted, told, joined};
 ghost use Rattle.cox_claims.specs.Seats.{view_of, number_of, splits_of, one_more_split, IsSameSeat, Holds, HoldsNothing, HasSeen, HasSeenVoid, HasMarked, Reads};
 ghost use Rattle.cox_claims.specs.Tables.{rows_of, IsSeatOf};
@@ -28,8 +28,11 @@ pub struct RowStore {
     // An empty cell that nothing is put into: by its tag contracts see the context.
     anchor: RowCell,
     limit: i64,
-    alloc: Global,
+    // No rows: the room for those that are taken out in the end.
+    room: Vec<Option<Row>>,
     ghost a_cell_each: { vec_len cells ≡ rows_of claims },
+    ghost none_yet: { room.items ≡ [] },
+    ghost enough: { rows_of claims ≤ vec_capacity room },
     ghost a_row_each: { length anchor.elements.members ≡ rows_of claims },
     ghost placed: { ArePlaces anchor.elements limit cells.items },
     ghost least: { pos 0 ≤ℤ limit },
@@ -40,6 +43,8 @@ impl RowStore {
     ghost use Rattle.cox_row_store.specs.Taken.{AreTaken};
 
     /// A store of no rows yet for the members of a context, all Free, and its first seat. No coefficient of a row is to be above the limit.
+    ///
+    /// `NoMemory` comes where there is no memory for claims, cells, and the list that `into_rows` gives in the end.
     pub fn new(alloc: Global, context: &Context, limit: i64) -> Result<(RowStore, Seat), NoMemory>
         requires { pos 0 ≤ℤ limit }
         ensures elements { IfOk result (λ made. elements_of made.0 ≡ context.now) }
@@ -56,7 +61,7 @@ impl RowStore {
             cells,
             anchor: RowCell::new(&Tag::new(context, 0, limit)),
             limit,
-            alloc,
+            room: Vec::with_capacity(alloc, context.len() as usize)?,
         };
         Ok((store, seat))
     }
@@ -134,6 +139,13 @@ impl RowStore {
         self.claims.void(seat, member);
     }
 
+    /// Sleeps while the row of a member is Claimed, until it is published or given up. It may also return before.
+    pub fn sleep_on<R: Wait>(&self, rt: &R, member: u32)
+        requires { member < length (elements_of self.now).members }
+    {
+        self.claims.sleep_on(rt, member);
+    }
+
     /// Lends the row of a member that the seat has seen Published, until the guard is let go.
     pub fn read<R: Wait>(&self, rt: &R, seat: &Seat, member: u32) -> RowGuard<'_>
         requires own { IsSeat self.now seat.now }
@@ -174,40 +186,20 @@ impl RowStore {
         self.claims.meet(seat, other);
     }
 
-    /// Ends the store. Gives one entry for each member: its row, or none, and none only where the seat has not seen the row Published.
-    /// Out of memory, the store and the seat come back as they were.
-    pub fn into_rows<R: Wait>(
-        self,
-        rt: &R,
-        seat: Seat,
-    ) -> Result<Vec<Option<Row>>, (RowStore, Seat)>
+    /// Ends the store. Gives one entry for each member: its row where it is Published, or none. It looks at each member once, and needs no memory.
+    pub fn into_rows<R: Wait>(self, rt: &R, seat: Seat) -> Vec<Option<Row>>
         requires { IsSeat self seat }
-        ensures rows { IfOk result (λ rows. AreTaken (elements_of self) (limit_of self) (view_of seat) rows.items) }
-        ensures back { IfErr result (λ both. (both.0 ≡ self) × (both.1 ≡ seat)) }
+        ensures { AreTaken (elements_of self) (limit_of self) (view_of seat) result.items }
     {
-        let Ok(rows) = Vec::with_capacity(self.alloc, self.cells.len()) else {
-            return Err((self, seat));
-        };
         let RowStore {
             claims,
             cells,
-            anchor,
-            limit,
-            alloc,
+            anchor: _,
+            limit: _,
+            room,
         } = self;
-        match claims.close(seat) {
-            Ok(states) => Ok(take_rows(rt, cells, &states, rows)),
-            Err((claims, seat)) => {
-                let store = RowStore {
-                    claims,
-                    cells,
-                    anchor,
-                    limit,
-                    alloc,
-                };
-                Err((store, seat))
-            }
-        }
+        let mut seat = seat;
+        take_rows(rt, &claims, &mut seat, cells, room)
     }
 
     /// The cell of a member.

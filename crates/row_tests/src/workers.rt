@@ -30,9 +30,7 @@ fn makes_the_rows_of_a2(rt: HostRuntime) -> Result<(), Fail> {
     drop(hand);
     let all = all_members(alloc, &context)?;
     let seat = fill(&rt, alloc, &context, &store, seat, all.as_slice(), 2, &Open);
-    let Ok(rows) = store.into_rows(&rt, seat) else {
-        panic!(rt; "out of memory");
-    };
+    let rows = store.into_rows(&rt, seat);
     assert_eq!(rt; count(rows.as_slice()), 6);
     Ok(())
 }
