@@ -10,12 +10,11 @@ ghost use Rattle.cox_row.specs.Within.{IsRowWithin};
 ghost use Rattle.cox_row_store.specs.Stores.{elements_of, limit_of, IsSeat};
 ghost use Rattle.cox_shell.specs.Kept.{IsSameContext};
 
-use cox_klstep::Descent;
 use cox_outside::Gate;
 use cox_row::Row;
 use cox_row_store::{Claimed, RowStore, Seat};
 use cox_rows::{Rows, RowsFault};
-use cox_workers::fill;
+use cox_workers::{fill, fill_row};
 use std::alloc::{AllocError, Global};
 use std::sync::Wait;
 use std::thread::Threads;
@@ -47,7 +46,7 @@ impl<R: Threads + Wait + Sync, G: Gate + Sync> Workers<'_, R, G> {
         ensures { IsSameContext rows.old rows.new }
     {
         if !rows.has(i) {
-            let _ = self.share_chain(alloc, rows, i);
+            let _ = self.share_row(alloc, rows, i);
         }
         rows.ensure(i)
     }
@@ -62,14 +61,27 @@ impl<R: Threads + Wait + Sync, G: Gate + Sync> Workers<'_, R, G> {
         rows.ensure_all()
     }
 
-    /// Has the workers make the rows of the chain from the identity to the member with the number i, by least left descents. A single row is left to one thread.
-    fn share_chain(&self, alloc: Global, rows: &mut Rows, i: u32) -> Result<(), AllocError>
+    /// Has the workers make the row of the member with the number i, with those that it is made from.
+    ///
+    /// Without memory rows that were there may be lost.
+    fn share_row(&self, alloc: Global, rows: &mut Rows, i: u32) -> Result<(), AllocError>
         requires { i < length rows.old.elements.members }
         ensures { IsSameContext rows.old rows.new }
     {
-        let mut missing = Vec::new(alloc);
-        push_chain(&mut missing, rows, i)?;
-        self.share(alloc, rows, &missing)
+        let (store, seat) = RowStore::new(alloc, rows.context(), rows.limit())?;
+        let seat = move_rows(self.rt, rows, &store, seat);
+        let seat = fill_row(
+            self.rt,
+            alloc,
+            rows.context(),
+            &store,
+            seat,
+            i,
+            self.count,
+            self.gate,
+        );
+        rows.adopt(store.into_rows(self.rt, seat));
+        Ok(())
     }
 
     /// Has the workers make the rows of all members. A single row is left to one thread.
@@ -102,13 +114,8 @@ impl<R: Threads + Wait + Sync, G: Gate + Sync> Workers<'_, R, G> {
             self.count,
             self.gate,
         );
-        match store.into_rows(self.rt, seat) {
-            Ok(made) => {
-                rows.adopt(made);
-                Ok(())
-            }
-            Err(_) => Err(AllocError),
-        }
+        rows.adopt(store.into_rows(self.rt, seat));
+        Ok(())
     }
 }
 
@@ -145,21 +152,6 @@ fn put_row<R: Wait>(rt: &R, store: &RowStore, seat: &mut Seat, member: u32, row:
         Claimed::Won => store.publish(rt, seat, member, row),
         Claimed::Lost(_) => {}
     }
-}
-
-/// Appends the numbers of the members, from the identity to the member with the number i by least left descents, whose rows are not there.
-fn push_chain(missing: &mut Vec<u32>, rows: &Rows, i: u32) -> Result<(), AllocError>
-    requires member { i < length rows.now.elements.members }
-    requires within { AreWithin (length rows.now.elements.members) missing.old.items }
-    ensures { AreWithin (length rows.now.elements.members) missing.new.items }
-{
-    if i > 0 {
-        push_chain(missing, rows, Descent::of(rows.context(), i).lower)?;
-    }
-    if !rows.has(i) {
-        missing.push(i)?;
-    }
-    Ok(())
 }
 
 /// The numbers of the members whose rows are not there.

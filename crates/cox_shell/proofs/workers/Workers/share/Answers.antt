@@ -8,6 +8,6 @@ pub adopt-requires : goal.adopt-requires
 adopt-requires g c =
     let same = c.move_rows-seat.ensures.same in
     let fits : FitsSigned w64 c.limit.result = search rules in
-    taken-held c.move_rows-seat.new.rows.elements _ c.move_rows-seat.new.rows.limit _ _ c.in-Ok.made.items
+    taken-held c.move_rows-seat.new.rows.elements _ c.move_rows-seat.new.rows.limit _ _ c.into_rows.result.items
     (c.in_ok-store.ensures.elements ∙ c.context.ensures.context ∙ sym same.elements)
-    (c.in_ok-store.ensures.limit ∙ to_z-of_z w64 c.limit.result fits ∙ c.limit.ensures ∙ sym same.limit) c.in-Ok.ensures.rows
+    (c.in_ok-store.ensures.limit ∙ to_z-of_z w64 c.limit.result fits ∙ c.limit.ensures ∙ sym same.limit) c.into_rows.ensures
