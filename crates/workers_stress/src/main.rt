@@ -65,9 +65,12 @@ fn last_row<R: Threads + Wait + Sync, G: Gate + Sync>(
 ) -> Result<Vec<Option<Row>>, AllocError>
     requires { 1 ≤ workers }
 {
-    let last = context.len() - 1;
+    let count = context.len();
+    if count == 0 {
+        return Ok(Vec::new(alloc));
+    }
     let (store, seat) = RowStore::new(alloc, context, LIMIT)?;
-    let seat = fill_row(rt, alloc, context, &store, seat, last, workers, gate);
+    let seat = fill_row(rt, alloc, context, &store, seat, count - 1, workers, gate);
     Ok(store.into_rows(rt, seat))
 }
 
