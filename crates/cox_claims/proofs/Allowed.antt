@@ -15,7 +15,7 @@ use Rattle.cox_fill_core.proofs.Points.{put_here, put_else}
 use Rattle.cox_claims.specs.declared.view.View.{View}
 use Rattle.cox_claims.specs.declared.table.Claimed.{Claimed}
 use Rattle.cox_claims.specs.Knowledge.{among, holds, caused, IsKnown, nothing, looked, won, published, voided, parted, told}
-use Rattle.cox_claims.specs.Knowledge.{joined, TriesClaim}
+use Rattle.cox_claims.specs.Knowledge.{TellsSameSeats, joined, TriesClaim}
 use Rattle.cox_claims.specs.Rule.{state_of, IsKept, state_at, view_at, KeepsRule}
 use Rattle.cox_claims.specs.declared.seat.Seat.{Seat}
 use Rattle.cox_claims.specs.declared.table.Claims.{Claims}
@@ -44,7 +44,7 @@ four_words words i n each small j = ⊎_elim
 
 -- word i becomes n, and the view of seat a becomes w
 moves : (rows : ℕ) (s : State (Unit {0}) View) (a i n : ℕ) (v w : View) (c : List (ℕ × Unit {0})) → KeepsRule rows s → i < rows → n < 4
-    → get_elem? s.views a ≡ some v → w.spent ≡ v.spent → w.children ≡ v.children
+    → get_elem? s.views a ≡ some v → w.spent ≡ v.spent → TellsSameSeats v w
     → IsKept (put (state_at s.words) i (state_of n)) (put (view_at s.views) a w) → KeepsRule rows (stepped s i n a c w keeps)
 moves rows s a i n v w c k lt small at live same kept = record {
   count = length-set s.words i n ∙ k.count;
@@ -63,7 +63,7 @@ learns rows s a i v c k lt at live =
     let w = looked v i (state i) in
     let here = view_here s.views a v at in
     let did = looked_did v i (state i) in
-    moves rows s a i (get_or s.words i 0) v w c k lt (k.words i) at did.live did.children
+    moves rows s a i (get_or s.words i 0) v w c k lt (k.words i) at did.live did.seats
     (subst (λ f. IsKept f (put (view_at s.views) a w)) (sym (put_same state i))
     (learns_keeps state (view_at s.views) a w k.kept
     (causes_here (view_at s.views) a w (λ j x h. did_caused v w did j x ∙ ap (λ u. caused u j x) (sym here) ∙ h))
@@ -78,7 +78,7 @@ pub changes : (rows : ℕ) (s : State (Unit {0}) View) (a i n : ℕ) (v w : View
     → KeepsRule rows (stepped s i n a c w keeps)
 changes rows s a i n v w c k lt small at live mine acts =
     let here = view_here s.views a v at in
-    moves rows s a i n v w c k lt small at acts.live acts.children
+    moves rows s a i n v w c k lt small at acts.live acts.seats
     (acts_keeps (state_at s.words) (view_at s.views) a i (state_of n) w k.kept
     (⊎_elim inl (λ h. inr (ap (λ u. holds u i) here ∙ h)) mine)
     (ap (λ u. u.spent) here ∙ live)
@@ -211,11 +211,11 @@ split_allowed rows a v live = λ s k at.
           (λ j h. cc)
           (λ j. told_known v j (state j) (known_here rows s a v k at j))
           (λ gone. absurd (false≢true gone)));
-      seats = split_splits s.views a v at k.seats;
+      seats = split_splits s.views a v at live k.seats;
     }
 
-pub join_allowed : (rows a b : ℕ) (v w : View) → v.spent ≡ false → w.held ≡ [] → Joins (KeepsRule rows) a v b w (joined v w) nothing
-join_allowed rows a b v w live idle = λ s k at ne there.
+pub join_allowed : (rows a b : ℕ) (v w : View) → v.spent ≡ false → w.spent ≡ false → w.held ≡ [] → Joins (KeepsRule rows) a v b w (joined v w) nothing
+join_allowed rows a b v w live alive idle = λ s k at ne there.
     let state = state_at s.words in
     let both = joined v w in
     let views = set s.views a both in
@@ -244,7 +244,7 @@ join_allowed rows a b v w live idle = λ s k at ne there.
           (λ j h. cc)
           (λ j. nothing_known j (state j))
           (λ _. refl));
-      seats = meeting_splits s.views a b v w at ne there k.seats;
+      seats = meeting_splits s.views a b v w at live alive ne there k.seats;
     }
 
 -- ---- what the calls owe for their steps

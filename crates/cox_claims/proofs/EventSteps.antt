@@ -27,6 +27,7 @@ use Rattle.cox_claims.proofs.Views.{nothing_known, nothing_caused}
 use Rattle.cox_claims.proofs.Keeps.{learns_keeps, published_acts, voided_acts}
 use Rattle.cox_claims.proofs.Boards.{state_set, view_set, view_snoc, view_here, at_within, put_same}
 use Rattle.cox_claims.proofs.Allowed.{known_here, learns, changes, wins, zero_free, taken_not_free, split_allowed, join_allowed}
+use Rattle.cox_claims.proofs.Splits.{start_splits}
 use Rattle.cox_claims.proofs.Shown.{look_shown, claim_shown, publish_shown, void_shown, split_shown, meet_shown}
 
 not_free : (x : RowState) → x ≢ RowState.Free → is_free x ≡ false
@@ -271,7 +272,7 @@ meet_event rows s a b k at live there alive ne idle = record {
         (λ f. put f b nothing) (view_set s.views a both here)
 
     rule : KeepsRule rows (after_meeting s a (view_at s.views a) b (view_at s.views b))
-    rule = join_allowed rows a b (view_at s.views a) (view_at s.views b) live idle s k at ne (set_else s.views a b both ne ∙ there)
+    rule = join_allowed rows a b (view_at s.views a) (view_at s.views b) live alive idle s k at ne (set_else s.views a b both ne ∙ there)
 
 -- ---- the start, and that every table shows a core
 
@@ -301,7 +302,7 @@ start_rule rows = record {
       (learns_keeps (λ _. RowState.Free) (λ _. nothing) 0 newcomer blank_kept (λ i x h. absurd (nothing_caused i x h))
       (λ i h. h) newcomer_known
       (λ gone. absurd (false≢true gone))));
-  seats = record { count = refl; first = λ lt. absurd (omega arith) };
+  seats = start_splits;
 }
 
 -- the core that a table under the rule shows

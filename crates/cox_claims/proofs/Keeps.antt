@@ -8,7 +8,7 @@ use Rattle.cox_fill_core.specs.Fill.{put}
 use Rattle.cox_fill_core.proofs.Points.{put_here, put_else}
 use Rattle.cox_claims.specs.declared.view.View.{View}
 use Rattle.cox_claims.specs.Knowledge.{holds, saw_published, saw_void, saw_claimed, has_published, has_voided, caused, IsKnown}
-use Rattle.cox_claims.specs.Knowledge.{nothing, won, published, voided}
+use Rattle.cox_claims.specs.Knowledge.{TellsSameSeats, nothing, won, published, voided}
 use Rattle.cox_claims.specs.Rule.{IsKept}
 use Rattle.cox_claims.proofs.RowTests.{among_else, among-without_same, among-without_other}
 
@@ -63,7 +63,7 @@ pub record Acts (v : View) (i : ℕ) (x : RowState) (w : View) : Type 0 where
   pub cause : caused w i x ≡ true
   pub final : x ≢ RowState.Free
   pub live : w.spent ≡ v.spent
-  pub children : w.children ≡ v.children
+  pub seats : TellsSameSeats v w
 
 pub won_acts : (v : View) (i : ℕ) → IsKnown v i RowState.Free → Acts v i RowState.Claimed (won v i)
 won_acts v i k = record {
@@ -79,7 +79,7 @@ won_acts v i k = record {
   cause = grind (arith, nat_tests);
   final = λ e. cc;
   live = refl;
-  children = refl;
+  seats = record { generation = refl; children = refl; met = refl };
 }
 
 pub published_acts : (v : View) (i : ℕ) → IsKnown v i RowState.Claimed → Acts v i RowState.Published (published v i)
@@ -103,7 +103,7 @@ published_acts v i k = record {
   cause = grind (arith, nat_tests);
   final = λ e. cc;
   live = refl;
-  children = refl;
+  seats = record { generation = refl; children = refl; met = refl };
 }
 
 pub voided_acts : (v : View) (i : ℕ) → IsKnown v i RowState.Claimed → Acts v i RowState.Void (voided v i)
@@ -127,7 +127,7 @@ voided_acts v i k = record {
   cause = grind (arith, nat_tests);
   final = λ e. cc;
   live = refl;
-  children = refl;
+  seats = record { generation = refl; children = refl; met = refl };
 }
 
 same_caused : (v w : View) (j : ℕ) → KnowsSame v w j → (y : RowState) → caused w j y ≡ caused v j y

@@ -1,11 +1,11 @@
--- The views of a table tell its words; and a table whose first seat has the view of the start is the table at the start.
+-- The views of a table tell its words, and all its seats; and a table whose first seat has the view of the start is the table at the start.
 use Rattle.std.proofs.Common.{◌≡◌, ℕ, ◌<◌, get_or, sym, subst, ◌∙◌, arith}
 use Rattle.std.proofs.lemmas.Bool.Decides.{nat_tests}
 use Rattle.std.proofs.lemmas.List.{ext_get_or}
 use Rattle.cox_claims.specs.Rule.{state_of, IsKept, state_at, view_at}
-use Rattle.cox_claims.specs.Events.{fresh_table, ViewsTellWords, StartsFree}
+use Rattle.cox_claims.specs.Events.{fresh_table, ViewsTellWords, StartsFree, HasNoMoreSeats}
 use Rattle.cox_claims.proofs.Keeps.{same_state}
-use Rattle.cox_claims.proofs.Splits.{only_seat}
+use Rattle.cox_claims.proofs.Splits.{no-more, only_seat}
 use Rattle.cox_claims.proofs.EventSteps.{start_rule}
 
 same_word : (n m : ℕ) → n < 4 → m < 4 → state_of n ≡ state_of m → n ≡ m
@@ -22,3 +22,6 @@ pub starts_free : (rows : ℕ) → StartsFree rows
 starts_free rows s k at =
     let alone = only_seat s.views at k.seats in
     (views_tell_words rows s (fresh_table rows) k (start_rule rows) alone, alone)
+
+pub no_more_seats : (rows : ℕ) → HasNoMoreSeats rows
+no_more_seats rows s t k l more same = no-more s.views more t.views k.seats l.seats same

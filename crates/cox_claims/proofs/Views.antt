@@ -4,7 +4,7 @@ use Rattle.std.proofs.lemmas.Bool.{or_cases, or_left, or_right, eqb-true, false�
 use Rattle.cox_fill_core.specs.declared.event.RowState.{RowState}
 use Rattle.cox_claims.specs.declared.view.View.{View}
 use Rattle.cox_claims.specs.Knowledge.{among, saw_published, saw_void, saw_claimed, caused, IsKnown}
-use Rattle.cox_claims.specs.Knowledge.{SeesAll, nothing, looked, noted, won, published, voided, parted, told, joined}
+use Rattle.cox_claims.specs.Knowledge.{TellsSameSeats, SeesAll, nothing, looked, noted, won, published, voided, parted, told, joined}
 use Rattle.cox_claims.proofs.RowTests.{among-append, among_either}
 
 -- ---- a look
@@ -15,13 +15,13 @@ pub record DidSame (v w : View) : Type 0 where
   pub made : w.made ≡ v.made
   pub given_up : w.given_up ≡ v.given_up
   pub live : w.spent ≡ v.spent
-  pub children : w.children ≡ v.children
+  pub seats : TellsSameSeats v w
 
 pub looked_did : (v : View) (i : ℕ) (x : RowState) → DidSame v (looked v i x)
-looked_did v i RowState.Free = record { held = refl; made = refl; given_up = refl; live = refl; children = refl }
-looked_did v i RowState.Claimed = record { held = refl; made = refl; given_up = refl; live = refl; children = refl }
-looked_did v i RowState.Published = record { held = refl; made = refl; given_up = refl; live = refl; children = refl }
-looked_did v i RowState.Void = record { held = refl; made = refl; given_up = refl; live = refl; children = refl }
+looked_did v i RowState.Free = record { held = refl; made = refl; given_up = refl; live = refl; seats = record { generation = refl; children = refl; met = refl } }
+looked_did v i RowState.Claimed = record { held = refl; made = refl; given_up = refl; live = refl; seats = record { generation = refl; children = refl; met = refl } }
+looked_did v i RowState.Published = record { held = refl; made = refl; given_up = refl; live = refl; seats = record { generation = refl; children = refl; met = refl } }
+looked_did v i RowState.Void = record { held = refl; made = refl; given_up = refl; live = refl; seats = record { generation = refl; children = refl; met = refl } }
 
 pub did_caused : (v w : View) → DidSame v w → (i : ℕ) (x : RowState) → caused w i x ≡ caused v i x
 did_caused v w s i RowState.Free = refl
@@ -123,6 +123,16 @@ nothing_caused j RowState.Published h = cc
 nothing_caused j RowState.Void h = cc
 
 -- ---- no step forgets what was seen
+
+pub sees-refl : (v : View) → SeesAll v v
+sees-refl v = record { published = λ i h. h; void = λ i h. h; claimed = λ i h. h }
+
+pub sees-trans : (u v w : View) → SeesAll u v → SeesAll v w → SeesAll u w
+sees-trans u v w s t = record {
+  published = λ i h. t.published i (s.published i h);
+  void = λ i h. t.void i (s.void i h);
+  claimed = λ i h. t.claimed i (s.claimed i h);
+}
 
 pub looked_sees : (v : View) (i : ℕ) (x : RowState) → SeesAll v (looked v i x)
 looked_sees v i RowState.Free = record { published = λ j h. h; void = λ j h. h; claimed = λ j h. h }

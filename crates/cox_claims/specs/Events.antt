@@ -1,5 +1,6 @@
 -- The table and the fill core: each step is the event that it is named after.
 use Rattle.std.specs.Prelude.{◌≡◌, ◌≢◌, ℕ, ◌<◌, ◌≤◌, ◌==◌, true, false, List, [], ◌∷◌, ◌++◌, length, replicate, slice_index, slice_set}
+use Rattle.std.specs.List.Sorted.{IsPermutation}
 use mathlib.Core.Option.{some}
 use lib.ListN.{get_elem?}
 use prog.Atomic.{either}
@@ -105,3 +106,9 @@ ViewsTellWords rows = (s t : Table) → KeepsRule rows s → KeepsRule rows t �
 abbrev pub StartsFree : ℕ → Type 0
 StartsFree rows = (s : Table) → KeepsRule rows s → get_elem? s.views 0 ≡ some newcomer
     → (s.words ≡ replicate rows 0) × (s.views ≡ newcomer ∷ [])
+
+-- a table under the rule whose seats have the views of another's, in any order, and more, has no more: no step makes a seat that is counted in
+-- no view
+abbrev pub HasNoMoreSeats : ℕ → Type 0
+HasNoMoreSeats rows = (s t : Table) → KeepsRule rows s → KeepsRule rows t → (more : List View) → IsPermutation t.views (s.views ++ more)
+    → more ≡ []

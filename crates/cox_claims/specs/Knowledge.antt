@@ -57,6 +57,12 @@ pub record IsKnown (v : View) (i : ℕ) (x : RowState) : Type 0 where
   pub made : has_published v i ≡ true → x ≡ RowState.Published
   pub given_up : has_voided v i ≡ true → x ≡ RowState.Void
 
+-- the views v and w tell of the same splits and meetings
+pub record TellsSameSeats (v w : View) : Type 0 where
+  pub generation : w.generation ≡ v.generation
+  pub children : w.children ≡ v.children
+  pub met : w.met ≡ v.met
+
 -- all rows that v has seen Published, Void or Claimed w has seen so too
 pub record SeesAll (v w : View) : Type 0 where
   pub published : (i : ℕ) → saw_published v i ≡ true → saw_published w i ≡ true
@@ -77,7 +83,9 @@ nothing = record {
   reads = 0;
   made = [];
   given_up = [];
-  children = 0;
+  generation = 0;
+  children = [];
+  met = [];
   spent = true;
 }
 
@@ -114,13 +122,14 @@ published v i = record v { held = without i v.held; published = i ∷ v.publishe
 abbrev pub voided : View → ℕ → View
 voided v i = record v { held = without i v.held; voids = i ∷ v.voids; marks = i ∷ v.marks; given_up = i ∷ v.given_up }
 
--- one seat more was split from the seat
+-- one seat more was split from the seat, of the next generation
 abbrev pub parted : View → View
-parted v = record v { children = v.children + 1 }
+parted v = record v { children = (v.generation + 1) ∷ v.children }
 
--- the view of a seat that was split from one with the view v: it has seen the same, holds nothing, did nothing, and has no mark and no read
+-- the view of a seat that was split from one with the view v: it is of the next generation and has seen the same, holds nothing, did nothing,
+-- and has no mark and no read
 abbrev pub told : View → View
-told v = record newcomer { published = v.published; voids = v.voids; claimed = v.claimed }
+told v = record newcomer { generation = v.generation + 1; published = v.published; voids = v.voids; claimed = v.claimed }
 
 -- v, with all that w has seen and did, but for its marks and reads
 abbrev pub joined : View → View → View
@@ -130,7 +139,8 @@ joined v w = record v {
   claimed = v.claimed ++ w.claimed;
   made = v.made ++ w.made;
   given_up = v.given_up ++ w.given_up;
-  children = v.children + w.children;
+  children = v.children ++ w.children;
+  met = v.met ++ (w.generation ∷ w.met);
 }
 
 -- ---- what a step tells its seat: the view was v and is w

@@ -1,5 +1,5 @@
 -- The rule of the table: what holds of its words and of all views between any two steps.
-use Rattle.std.specs.Prelude.{◌≡◌, ◌≢◌, ℕ, ◌+◌, ◌<◌, true, ◌==◌, if◌then◌else◌, ◌⊎◌, List, [], ◌∷◌, length, slice_index, slice_index_or}
+use Rattle.std.specs.Prelude.{◌≡◌, ◌≢◌, ℕ, ◌+◌, ◌<◌, true, ◌==◌, if◌then◌else◌, List, [], ◌∷◌, length, slice_index, slice_index_or, sum_by}
 use Rattle.atomic_table.specs.Table.{State}
 use Rattle.cox_fill_core.specs.declared.event.RowState.{RowState}
 use Rattle.cox_claims.specs.declared.view.View.{View}
@@ -29,16 +29,31 @@ state_at words i = state_of (slice_index words i)
 abbrev pub view_at : List View → ℕ → View
 view_at views a = slice_index_or views a nothing
 
--- how many seats were split from seats with these views
-abbrev pub all_children : List View → ℕ
-all_children [] = 0
-all_children (v ∷ vs) = v.children + all_children vs
+-- how many of these numbers are d
+abbrev pub how_many : ℕ → List ℕ → ℕ
+how_many d xs = sum_by (λ x. if x == d then 1 else 0) xs
 
--- each seat but the first was split from another: there is one seat more than there were splits, and the first is the only one
--- until it is split
+-- the generations of the seats that a view stands for: of its own seat, unless that met another, and of those that it met
+abbrev pub seats_in : View → List ℕ
+seats_in v = if v.spent then [] else v.generation ∷ v.met
+
+-- how many seats of generation d a view stands for, and how many of generation d were split from these
+abbrev pub seats_of : ℕ → View → ℕ
+seats_of d v = how_many d (seats_in v)
+
+abbrev pub children_of : ℕ → View → ℕ
+children_of d v = how_many d v.children
+
+-- each seat that was split came from a seat of the generation before, which the view stands for
+pub record HasParents (v : View) : Type 0 where
+  pub parent : (d : ℕ) → 0 < children_of d v → (p : ℕ) × (d ≡ p + 1) × (0 < seats_of p v)
+
+-- each seat but the first was split from another, which its view tells or that of a seat that it met: there is one seat more than there were
+-- splits, the first seat alone is of generation 0, and of each other generation there are as many as were split
 pub record ComeBySplits (views : List View) : Type 0 where
-  pub count : length views ≡ all_children views + 1
-  pub first : 1 < length views → ((view_at views 0).spent ≡ true) ⊎ (0 < (view_at views 0).children)
+  pub count : length views ≡ sum_by (λ v. length v.children) views + 1
+  pub generations : (d : ℕ) → sum_by (seats_of d) views ≡ sum_by (children_of d) views + how_many d (0 ∷ [])
+  pub parents : (a : ℕ) → HasParents (view_at views a)
 
 -- a table of this many rows: each word is one of the four, and the states and views fit one another
 pub record KeepsRule (rows : ℕ) (s : State (Unit {0}) View) : Type 0 where

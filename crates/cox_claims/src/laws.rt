@@ -1,6 +1,6 @@
 //! The laws of the table, each the contract of an empty function.
 ghost use Rattle.std.specs.Prelude.{ℕ, ◌<◌};
-ghost use Rattle.cox_claims.specs.Events.{StepsAreEvents, ViewsTellWords, StartsFree};
+ghost use Rattle.cox_claims.specs.Events.{StepsAreEvents, ViewsTellWords, StartsFree, HasNoMoreSeats};
 
 /// Whatever the schedule, the words and the views of a table show a good state of the fill core between
 /// any two steps, and each step is the event that it is named after, with the reply that its call answers.
@@ -18,4 +18,10 @@ pub fn views_tell_words()
 /// Where the first seat has the view of a newcomer, it is the only seat, and all rows are Free.
 pub fn starts_free()
     ensures { (rows : ℕ) → StartsFree rows }
+{}
+
+/// A table has no seat beside those that the views of others tell of. So a call that leaves the seats' views as its clauses say
+/// has made no seat but the one that it gives back.
+pub fn no_more_seats()
+    ensures { (rows : ℕ) → HasNoMoreSeats rows }
 {}

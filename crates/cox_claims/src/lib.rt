@@ -1,7 +1,7 @@
 //! The table of claims: which row of a shared store is claimed, published or void, for any number of threads.
 //!
 //! Each row has one word of an `atomic_table`. A thread works through a `Seat`, which knows what it holds and
-//! what it has seen. Every call but `new` and `close` makes one atomic step, and takes no lock, no handle and
+//! what it has seen. Every call but `new`, `close` and `sleep_on` makes one atomic step, and takes no lock, no handle and
 //! no memory. A row is won at most once, and is published or voided at most once, by the seat that won it. It
 //! stays so for good.
 //!

@@ -13,6 +13,7 @@ use crate::view::View;
 use atomic_table::{Closed, Table};
 use cox_fill_core::RowState;
 use std::alloc::Global;
+use std::sync::Wait;
 
 /// What a claim came to.
 #[derive(Clone, Copy, Debug, PartialEq, Eq)]
@@ -114,7 +115,7 @@ impl Claims {
         state_from(shared.load::<LookPlay>(&mut seat.seat, row as usize))
     }
 
-    /// Publishes a row that the seat holds.
+    /// Publishes a row that the seat holds, and wakes who sleeps on it.
     pub fn publish(&self, seat: &mut Seat, row: u32)
         requires own { IsSeatOf self.now seat.old }
         requires row { row < rows_of self.now }
@@ -126,9 +127,10 @@ impl Claims {
     {
         let shared = &self.table.shared;
         shared.store::<PublishPlay>(&mut seat.seat, row as usize, PUBLISHED);
+        shared.wake_all(row as usize);
     }
 
-    /// Gives up a row that the seat holds.
+    /// Gives up a row that the seat holds, and wakes who sleeps on it.
     pub fn void(&self, seat: &mut Seat, row: u32)
         requires own { IsSeatOf self.now seat.old }
         requires row { row < rows_of self.now }
@@ -140,6 +142,14 @@ impl Claims {
     {
         let shared = &self.table.shared;
         shared.store::<VoidPlay>(&mut seat.seat, row as usize, VOID);
+        shared.wake_all(row as usize);
+    }
+
+    /// Sleeps while a row is Claimed, until it is published or given up. It may also return before.
+    pub fn sleep_on<R: Wait>(&self, rt: &R, row: u32)
+        requires { row < rows_of self.now }
+    {
+        self.table.shared.park(rt, row as usize, CLAIMED as u32);
     }
 
     /// A new seat, which has seen what this one has and holds nothing. Both count one split more.

@@ -22,8 +22,12 @@ pub struct View {
     pub made: LinkedList<u32>,
     /// The rows that it voided, or that a seat that it met did.
     pub given_up: LinkedList<u32>,
-    /// How many seats were split from it, or from a seat that it met.
-    pub children: u64,
+    /// Its generation: 0 for the first seat, and else one more than that of the seat that it was split from.
+    pub generation: u64,
+    /// The generations of the seats that were split from it, or from a seat that it met.
+    pub children: LinkedList<u64>,
+    /// The generations of the seats that it met, or that one of these met.
+    pub met: LinkedList<u64>,
     /// Whether the seat met another and is gone, or was never made.
     pub spent: bool,
 }

@@ -139,6 +139,13 @@ impl RowStore {
         self.claims.void(seat, member);
     }
 
+    /// Sleeps while the row of a member is Claimed, until it is published or given up. It may also return before.
+    pub fn sleep_on<R: Wait>(&self, rt: &R, member: u32)
+        requires { member < length (elements_of self.now).members }
+    {
+        self.claims.sleep_on(rt, member);
+    }
+
     /// Lends the row of a member that the seat has seen Published, until the guard is let go.
     pub fn read<R: Wait>(&self, rt: &R, seat: &Seat, member: u32) -> RowGuard<'_>
         requires own { IsSeat self.now seat.now }

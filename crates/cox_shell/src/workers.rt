@@ -3,17 +3,19 @@
 //! The rows that are there are moved into the store first, and all come back afterwards. What the workers could not make is left to whoever asked:
 //! one thread makes it then, or finds that a row is beyond a limit.
 ghost use Rattle.std.specs.Prelude.{◌≡◌, ◌⊎◌, ℕ, ◌<◌, ◌≤◌, length};
-ghost use Rattle.cox_claims.specs.Seats.{HoldsNothing, HasSeen};
+ghost use Rattle.cox_claims.specs.Knowledge.{SeesAll};
+ghost use Rattle.cox_claims.specs.Seats.{HoldsNothing, HasSeen, view_of};
 ghost use Rattle.cox_row.specs.Rising.{AreWithin};
 ghost use Rattle.cox_row_store.specs.Stores.{elements_of, limit_of, IsSeat};
 ghost use Rattle.cox_rows.specs.Holding.{HasRow};
 ghost use Rattle.cox_answers.specs.Kept.{IsSameContext, IsMore};
 
 use cox_answers::RowMaker;
+use cox_context::Context;
 use cox_outside::Gate;
 use cox_row_store::{Claimed, RowStore, Seat};
 use cox_rows::Rows;
-use cox_workers::fill;
+use cox_workers::{fill, fill_row};
 use std::alloc::{AllocError, Global};
 use std::sync::Wait;
 use std::thread::Threads;
@@ -54,10 +56,6 @@ pub fn make_rows<R: Threads + Wait + Sync, G: Gate + Sync>(
     requires wanted { AreWithin (length rows.elements.members) wanted.now }
     ensures { IsMore rows result }
 {
-    // A single row is left to one thread.
-    if wanted.len() < 2 {
-        return rows;
-    }
     let mut rows = rows;
     let _ = share(rt, gate, workers, alloc, &mut rows, wanted);
     rows
@@ -78,18 +76,36 @@ fn share<R: Threads + Wait + Sync, G: Gate + Sync>(
 {
     let (store, seat) = RowStore::new(alloc, rows.context(), rows.limit())?;
     let seat = move_rows(rt, rows, &store, seat);
-    let seat = fill(
-        rt,
-        alloc,
-        rows.context(),
-        &store,
-        seat,
-        wanted,
-        workers,
-        gate,
-    );
+    let context = rows.context();
+    let seat = fill_wanted(rt, gate, workers, alloc, context, &store, seat, wanted);
     rows.adopt(store.into_rows(rt, seat));
     Ok(())
+}
+
+/// Has the workers fill a store with the rows of members with these numbers; a single one is shared by the rows that it needs.
+fn fill_wanted<R: Threads + Wait + Sync, G: Gate + Sync>(
+    rt: &R,
+    gate: &G,
+    workers: u32,
+    alloc: Global,
+    context: &Context,
+    store: &RowStore,
+    seat: Seat,
+    wanted: &[u32],
+) -> Seat
+    requires workers { 1 ≤ workers }
+    requires same { elements_of store.now ≡ context.now }
+    requires own { IsSeat store.now seat }
+    requires idle { HoldsNothing seat }
+    requires wanted { AreWithin (length context.now.members) wanted.now }
+    ensures own { IsSeat store.now result }
+    ensures seen { SeesAll (view_of seat) (view_of result) }
+{
+    if wanted.len() == 1 {
+        let member = wanted[0];
+        return fill_row(rt, alloc, context, store, seat, member, workers, gate);
+    }
+    fill(rt, alloc, context, store, seat, wanted, workers, gate)
 }
 
 /// Moves the rows that are there into a store, by a seat that holds nothing.

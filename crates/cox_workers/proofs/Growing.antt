@@ -1,14 +1,18 @@
 -- What a seat has published, voided and seen: step after step, and when it met another.
-use Rattle.std.proofs.Common.{◌≡◌, ◌⊎◌, inl, inr, ⊎_elim, ℕ, ◌||◌, List, true, sym, ap, ◌∙◌}
+use Rattle.std.proofs.Common.{◌≡◌, ◌⊎◌, inl, inr, ⊎_elim, ℕ, ◌+◌, ◌||◌, List, [], ◌∷◌, ◌++◌, true, sym, ap, ◌∙◌, arith}
 use Rattle.std.proofs.lemmas.Bool.{or_cases, or_left, or_right}
 use Rattle.cox_context.specs.Closed.{Elements}
 use Rattle.cox_claims.specs.declared.seat.Seat.{Seat}
 use Rattle.cox_claims.specs.Knowledge.{has_published, has_voided, parted, told, joined, SeesAll}
 use Rattle.cox_claims.specs.Seats.{view_of, HasSeen, HasSeenVoid}
 use Rattle.cox_claims.proofs.RowTests.{among_either}
-use Rattle.cox_workers.specs.Work.{HasEnded}
-use Rattle.cox_workers.specs.Filled.{HasSeenEnd, IsNeededForSome, IsSeatGrown}
-use Rattle.cox_workers.proofs.SeatSteps.{sees-trans}
+use Rattle.cox_claims.specs.Rule.{how_many}
+use Rattle.cox_claims.proofs.Splits.{how_many-append}
+use Rattle.cox_klstep.specs.NeedsOf.{HasNeeds}
+use Rattle.cox_workers.specs.Work.{HasEnded, MadeOfSeen}
+use Rattle.cox_workers.specs.Filled.{HasSeenEnd, IsNeededForSome, IsSeatGrown, HasMetAll}
+use Rattle.cox_workers.proofs.SeatSteps.{same_seats-trans, needs-map, made-trans}
+use Rattle.cox_claims.proofs.Views.{sees-trans}
 
 -- a row that was seen Published or Void is seen so from then on
 pub ended-still : (a b : Seat) → SeesAll (view_of a) (view_of b) → (i : ℕ) → HasSeenEnd a i → HasSeenEnd b i
@@ -19,9 +23,11 @@ module _ (e : Elements) (wanted : List ℕ) where
   pub grown-trans : (a b c : Seat) → IsSeatGrown e wanted a b → IsSeatGrown e wanted b c → IsSeatGrown e wanted a c
   grown-trans a b c s t = record {
     same = record { table = t.same.table ∙ s.same.table; number = t.same.number ∙ s.same.number };
+    seats = same_seats-trans (view_of a) (view_of b) (view_of c) s.seats t.seats;
     held = t.held ∙ s.held;
     seen = sees-trans (view_of a) (view_of b) (view_of c) s.seen t.seen;
     ended = λ j h. ⊎_elim (λ (old : HasEnded b j). s.ended j old) (λ (n : IsNeededForSome e wanted j). inr n) (t.ended j h);
+    made = made-trans e a b c s.made t.seen t.made;
   }
 
   -- seat b was split from a, which is then a'; both worked on, to c and d; and c met d, which made it r
@@ -48,3 +54,47 @@ module _ (e : Elements) (wanted : List ℕ) where
       (λ m. of_theirs (or_right (has_published (view_of d) j) (has_voided (view_of d) j) m)) void)
       (or_cases (has_published (joined (view_of c) (view_of d)) j) (has_voided (joined (view_of c) (view_of d)) j)
       (sym (ap (λ v. has_published v j || has_voided v j) met) ∙ h))
+
+  -- the rows that the two published
+  pub met_made : (a a' b c d r : Seat) → view_of a' ≡ parted (view_of a) → view_of b ≡ told (view_of a)
+      → view_of r ≡ joined (view_of c) (view_of d) → SeesAll (view_of c) (view_of r) → SeesAll (view_of d) (view_of r)
+      → MadeOfSeen e a' c → MadeOfSeen e b d → MadeOfSeen e a r
+  met_made a a' b c d r first second met sees_mine sees_theirs mine theirs j h =
+      among_either j (view_of c).made (view_of d).made
+      (λ (m : has_published (view_of c) j ≡ true). ⊎_elim
+      (λ (old : has_published (view_of a') j ≡ true). inl (sym (ap (λ v. has_published v j) first) ∙ old))
+      (λ (n : HasNeeds e (HasSeen c) j). inr (needs-map e (HasSeen c) (HasSeen r) j sees_mine.published n)) (mine j m))
+      (λ (m : has_published (view_of d) j ≡ true). ⊎_elim
+      (λ (old : has_published (view_of b) j ≡ true). let no = sym (ap (λ v. has_published v j) second) ∙ old in cc)
+      (λ (n : HasNeeds e (HasSeen d) j). inr (needs-map e (HasSeen d) (HasSeen r) j sees_theirs.published n)) (theirs j m))
+      (sym (ap (λ v. has_published v j) met) ∙ h)
+
+-- the seats that the two split from theirs met them again, and then these two met
+pub met_all : (a a' b c d r : Seat) → view_of a' ≡ parted (view_of a) → view_of b ≡ told (view_of a)
+    → view_of r ≡ joined (view_of c) (view_of d) → (view_of d).generation ≡ (view_of b).generation → HasMetAll a' c → HasMetAll b d
+    → HasMetAll a r
+met_all a a' b c d r first second met generation mine theirs k =
+    let child : ℕ = (view_of a).generation + 1 in
+    let split : (view_of a').children ≡ child ∷ (view_of a).children = ap (λ v. v.children) first in
+    let before : (view_of a').met ≡ (view_of a).met = ap (λ v. v.met) first in
+    let none_split : (view_of b).children ≡ [] = ap (λ v. v.children) second in
+    let none_met : (view_of b).met ≡ [] = ap (λ v. v.met) second in
+    let is_child : (view_of d).generation ≡ child = generation ∙ ap (λ v. v.generation) second in
+    let children : (view_of r).children ≡ (view_of c).children ++ (view_of d).children = ap (λ v. v.children) met in
+    let all_met : (view_of r).met ≡ (view_of c).met ++ (child ∷ (view_of d).met) =
+    ap (λ v. v.met) met ∙ ap (λ n. (view_of c).met ++ (n ∷ (view_of d).met)) is_child in
+    omega (
+      arith,
+      mine k,
+      theirs k,
+      ap (how_many k) split,
+      ap (how_many k) before,
+      ap (how_many k) none_split,
+      ap (how_many k) none_met,
+      ap (how_many k) children,
+      ap (how_many k) all_met,
+      how_many-append k (child ∷ []) (view_of a).children,
+      how_many-append k (child ∷ []) (view_of d).met,
+      how_many-append k (view_of c).children (view_of d).children,
+      how_many-append k (view_of c).met (child ∷ (view_of d).met),
+    )

@@ -6,6 +6,9 @@ use Rattle.cox_base.specs.Admissible.{IsAdmissible}
 use Rattle.cox_claims.specs.declared.seat.Seat.{Seat}
 use Rattle.cox_claims.specs.Knowledge.{SeesAll}
 use Rattle.cox_claims.specs.Seats.{view_of}
+use Rattle.cox_klstep.specs.declared.steps.Steps.{Steps}
+use Rattle.cox_klstep.specs.declared.tables.Tables.{Tables}
+use Rattle.cox_klstep.specs.TablesOf.{AreTables}
 use Rattle.cox_row_store.specs.Stores.{IsSeat}
 use Rattle.cox_workers.specs.declared.bench.Bench.{Bench}
 use Rattle.cox_workers.specs.declared.hand.Hand.{Hand}
@@ -31,6 +34,16 @@ module _ (bench : Bench) where
   pub work-needed : IsAdmissible (integer_matrix bench.context.now.matrix) → (i u : ℕ) (a b : Seat) (h k : Hand)
       → IsNeededAt bench.context.now i u → IsWorkFor bench u a b h k → IsWorkFor bench i a b h k
   work-needed g i u a b h k n w = record { ready = w.ready; kept = kept-needed bench.context.now g i u a b n w.kept; shelf = w.shelf }
+
+  -- the same with other tables of the context in the hand, and another count of steps
+  pub work-tables : (i : ℕ) (a b : Seat) (h k : Hand) (tables : Tables) (steps : Steps) → AreTables bench.context.now tables
+      → IsWorkFor bench i a b h k
+      → IsWorkFor bench i a b h (record { shelf = k.shelf; tables = tables; steps = steps; corrections = k.corrections })
+  work-tables i a b h k tables steps are w = record {
+    ready = record { own = w.ready.own; shelf = w.ready.shelf; tables = are; seen = w.ready.seen };
+    kept = w.kept;
+    shelf = w.shelf;
+  }
 
   -- the same with another list of corrections in the hand
   pub work-list : (i : ℕ) (a b : Seat) (h k : Hand) (list : Vec ℕ) → IsWorkFor bench i a b h k

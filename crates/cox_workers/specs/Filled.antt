@@ -1,13 +1,14 @@
 -- What a seat has seen when rows were made.
-use Rattle.std.specs.Prelude.{◌≡◌, ◌⊎◌, ℕ, ◌<◌, List, length}
+use Rattle.std.specs.Prelude.{◌≡◌, ◌⊎◌, ℕ, ◌+◌, ◌<◌, List, length}
 use Rattle.cox_context.specs.Closed.{Elements}
 use Rattle.cox_claims.specs.declared.seat.Seat.{Seat}
-use Rattle.cox_claims.specs.Knowledge.{SeesAll}
+use Rattle.cox_claims.specs.Knowledge.{SeesAll, TellsSameSeats}
 use Rattle.cox_claims.specs.Seats.{view_of, IsSameSeat, HoldsNothing, HasSeen, HasSeenVoid}
 use Rattle.cox_row.specs.Rising.{number_at}
 use Rattle.cox_row_store.specs.declared.store.RowStore.{RowStore}
 use Rattle.cox_row_store.specs.Stores.{elements_of, IsSeat}
-use Rattle.cox_workers.specs.Work.{IsNeededAt, HasEnded}
+use Rattle.cox_claims.specs.Rule.{how_many}
+use Rattle.cox_workers.specs.Work.{IsNeededAt, HasEnded, MadeOfSeen}
 
 -- the seat has seen row i Published or Void
 abbrev pub HasSeenEnd : Seat → ℕ → Type 0
@@ -17,19 +18,31 @@ HasSeenEnd seat i = HasSeen seat i ⊎ HasSeenVoid seat i
 abbrev pub IsNeededForSome : Elements → List ℕ → ℕ → Type 0
 IsNeededForSome e wanted j = (p : ℕ) × (p < length wanted) × IsNeededAt e (number_at wanted p) j
 
--- it is the same seat, it holds what it held, has seen all that it had seen, and has published and voided rows alone that wanted ones need
+-- it is the same seat, none was split from it, and it met none; it holds what it held, has seen all that it had seen, has published and
+-- voided rows alone that wanted ones need, and has published none before those that it is made from
 pub record IsSeatGrown (e : Elements) (wanted : List ℕ) (old new : Seat) : Type 0 where
   pub same : IsSameSeat old new
+  pub seats : TellsSameSeats (view_of old) (view_of new)
   pub held : (view_of new).held ≡ (view_of old).held
   pub seen : SeesAll (view_of old) (view_of new)
   pub ended : (j : ℕ) → HasEnded new j → HasEnded old j ⊎ IsNeededForSome e wanted j
+  pub made : MadeOfSeen e old new
 
--- a seat at the store that holds nothing came back as such; it has seen the rows at these places of the list Published or Void, and has
--- published and voided rows alone that wanted ones need
+-- of each generation as many seats were met since as were split: all seats that were split from this one met it again, and so did all that were
+-- split from these
+abbrev pub HasMetAll : Seat → Seat → Type 0
+HasMetAll old new = (d : ℕ) → how_many d (view_of new).children + how_many d (view_of old).met
+    ≡ how_many d (view_of old).children + how_many d (view_of new).met
+
+-- a seat at the store that holds nothing came back as such, and all that were split from it met it again; it has seen the rows at these
+-- places of the list Published or Void, has published and voided rows alone that wanted ones need, and none before those that it is made from
 pub record IsFilled (store : RowStore) (Place : ℕ → Type 0) (wanted : List ℕ) (old new : Seat) : Type 0 where
   pub own : IsSeat store new
   pub same : IsSameSeat old new
+  pub generation : (view_of new).generation ≡ (view_of old).generation
+  pub met : HasMetAll old new
   pub idle : HoldsNothing new
   pub seen : SeesAll (view_of old) (view_of new)
   pub ended : (j : ℕ) → HasEnded new j → HasEnded old j ⊎ IsNeededForSome (elements_of store) wanted j
+  pub made : MadeOfSeen (elements_of store) old new
   pub settled : (p : ℕ) → p < length wanted → Place p → HasSeenEnd new (number_at wanted p)

@@ -1,5 +1,5 @@
 -- What a worker does to its seat while it makes the row of a member.
-use Rattle.std.specs.Prelude.{◌≡◌, ◌⊎◌, ℕ, ◌<◌, length, true, ◌||◌, ℤ}
+use Rattle.std.specs.Prelude.{◌≡◌, ◌⊎◌, ℕ, ◌<◌, length, true, false, ◌||◌, ℤ}
 use Rattle.cox_base.specs.IntegerMatrix.{integer_matrix}
 use Rattle.cox_hecke.specs.Needs.{IsNeeded}
 use Rattle.cox_context.specs.Closed.{Elements}
@@ -7,9 +7,10 @@ use Rattle.cox_context.specs.Numbers.{word_at}
 use Rattle.cox_klstep.specs.declared.fault.StepFault.{StepFault}
 use Rattle.cox_klstep.specs.declared.fault.StepFault.TheVariants as step
 use Rattle.cox_klstep.specs.Faults.{IsFault}
+use Rattle.cox_klstep.specs.NeedsOf.{HasNeeds}
 use Rattle.cox_claims.specs.declared.seat.Seat.{Seat}
-use Rattle.cox_claims.specs.Knowledge.{SeesAll, marked, has_published, has_voided}
-use Rattle.cox_claims.specs.Seats.{view_of, splits_of, IsSameSeat, HasSeenVoid, HasMarked}
+use Rattle.cox_claims.specs.Knowledge.{SeesAll, TellsSameSeats, has_published, has_voided}
+use Rattle.cox_claims.specs.Seats.{view_of, splits_of, IsSameSeat, HasSeen, HasSeenVoid}
 use Rattle.cox_workers.specs.declared.missing.Missing.{Missing}
 use Rattle.cox_workers.specs.declared.missing.Missing.TheVariants.{Void, Coefficient, Mu, NoMemory}
 use Rattle.cox_workers.specs.MissingRows.{missing_by}
@@ -23,26 +24,36 @@ pub record IsNeededAt (e : Elements) (i j : ℕ) : Type 0 where
 abbrev pub HasEnded : Seat → ℕ → Type 0
 HasEnded seat j = (has_published (view_of seat) j || has_voided (view_of seat) j) ≡ true
 
--- it is the same seat, and none was split from it; it holds what it held and has seen what it had seen, and has voided and published rows
--- of Need(w) alone, where w is member i
+-- each row that the seat has published since, it has published after those that the row is made from
+abbrev pub MadeOfSeen : Elements → Seat → Seat → Type 0
+MadeOfSeen e old new = (j : ℕ) → has_published (view_of new) j ≡ true → (has_published (view_of old) j ≡ true) ⊎ HasNeeds e (HasSeen new) j
+
+-- it is the same seat, none was split from it, and it met none; it holds what it held and has seen what it had seen, has voided and published
+-- rows of Need(w) alone, where w is member i, and has published none before those that it is made from
 pub record IsSeatKept (e : Elements) (i : ℕ) (old new : Seat) : Type 0 where
   pub same : IsSameSeat old new
   pub splits : splits_of new ≡ splits_of old
-  pub children : (view_of new).children ≡ (view_of old).children
+  pub seats : TellsSameSeats (view_of old) (view_of new)
   pub held : (view_of new).held ≡ (view_of old).held
   pub seen : SeesAll (view_of old) (view_of new)
-  pub marks : (j : ℕ) → HasMarked new j → HasMarked old j ⊎ IsNeededAt e i j
   pub ended : (j : ℕ) → HasEnded new j → HasEnded old j ⊎ IsNeededAt e i j
+  pub made : MadeOfSeen e old new
 
 -- the seat has voided no row
 abbrev pub VoidsNone : Seat → Seat → Type 0
-VoidsNone old new = (view_of new).marks ≡ (view_of old).marks
+VoidsNone old new = (view_of new).given_up ≡ (view_of old).given_up
 
 -- row j is needed, and the seat has seen it Void, and did not void it
 pub record IsVoid (e : Elements) (i j : ℕ) (old new : Seat) : Type 0 where
   pub needed : IsNeededAt e i j
   pub void : HasSeenVoid new j
-  pub mark : marked (view_of new) j ≡ marked (view_of old) j
+  pub mark : has_voided (view_of new) j ≡ has_voided (view_of old) j
+
+-- row j is needed, and the seat voided it
+pub record IsGivenUp (e : Elements) (i j : ℕ) (old new : Seat) : Type 0 where
+  pub needed : IsNeededAt e i j
+  pub now : has_voided (view_of new) j ≡ true
+  pub before : has_voided (view_of old) j ≡ false
 
 -- the row of w is needed, it is beyond a limit, and the seat has seen it Void
 pub record IsNeededBeyond (e : Elements) (limit : ℤ) (i w : ℕ) (fault : StepFault) (new : Seat) : Type 0 where
@@ -50,12 +61,12 @@ pub record IsNeededBeyond (e : Elements) (limit : ℤ) (i w : ℕ) (fault : Step
   pub is : IsFault (integer_matrix e.matrix) e.members limit (λ u. u ≡ w) fault
   pub void : HasSeenVoid new w
 
--- why the row of member i is not there
+-- why the row of member i is not there; out of memory the seat itself voided a row that is needed
 abbrev pub IsRowMissing : Elements → ℤ → ℕ → Seat → Seat → Missing → Type 0
 IsRowMissing e limit i old new (Void j) = IsVoid e i j old new
 IsRowMissing e limit i old new (Coefficient x w degree value) = IsNeededBeyond e limit i w (step.Coefficient x w degree value) new
 IsRowMissing e limit i old new (Mu x w value) = IsNeededBeyond e limit i w (step.Mu x w value) new
-IsRowMissing e limit i old new NoMemory = Unit {0}
+IsRowMissing e limit i old new NoMemory = (j : ℕ) × IsGivenUp e i j old new
 
 -- why the row of member i, which the seat held, was not made: either some other row that it needs is missing, or it is itself
 -- beyond a limit

@@ -8,6 +8,7 @@
 //! - `bench`, `hand`: what a worker works at, and what it keeps from row to row
 //! - `making`: one row, and those that it is made from
 //! - `gathering`: rows that are there already and may serve
+//! - `sharing`: one row by several workers
 //! - `ahead`: memory that a worker takes ahead
 //! - `filling`: all rows that are wanted, by several workers
 //! - `laws`: the law of families
@@ -21,10 +22,11 @@ mod hand;
 pub mod laws;
 mod making;
 mod missing;
+mod sharing;
 mod shelf;
 
 pub use bench::Bench;
-pub use filling::{all_members, fill};
+pub use filling::{all_members, fill, fill_row};
 pub use hand::Hand;
 pub use missing::Missing;
 pub use shelf::Shelf;

@@ -15,8 +15,8 @@ use cox_klstep::{Descent, needs, row};
 use cox_outside::{Gate, Point};
 use cox_row::{LowerRows, Row};
 use cox_row_store::{Claimed, RowState, Seat};
+use std::mem;
 use std::sync::Wait;
-use std::{mem, thread};
 
 impl<'a> Bench<'a> {
     ghost use Rattle.cox_workers.specs.Ready.{IsWorkerReady, IsWorkFor};
@@ -66,7 +66,7 @@ impl<'a> Bench<'a> {
         }
     }
 
-    /// Waits until a row that another has claimed is Published or Void.
+    /// Waits until a row that another has claimed is Published or Void. It sleeps meanwhile.
     pub(crate) fn wait<R: Wait>(&self, rt: &R, seat: &mut Seat, i: u32) -> Result<(), Missing>
         requires own { IsSeat self.now.store.now seat.old }
         requires member { i < length self.now.context.now.members }
@@ -82,7 +82,7 @@ impl<'a> Bench<'a> {
             match self.store.look(seat, i) {
                 RowState::Published => return Ok(()),
                 RowState::Void => return Err(Missing::Void(i)),
-                _ => thread::yield_now(),
+                _ => self.store.sleep_on(rt, i),
             }
         }
         unreachable!()
@@ -139,7 +139,7 @@ impl<'a> Bench<'a> {
         ensures work { IsWorkFor self.now i seat.old seat.new hand.old hand.new }
         ensures none { OnOk result (VoidsNone seat.old seat.new) }
         ensures needs { OnOk result (HasNeeds self.now.context.now (IsOn hand.new.shelf) i) }
-        ensures missing { IfErr result (IsRowMissing self.now.context.now (limit_of self.now.store.now) i seat.old seat.new) }
+        ensures missing { IfErr result (IsUnmade self.now.context.now (limit_of self.now.store.now) i seat.old seat.new) }
     {
         let _len = self.context.len();
         if i == 0 {

@@ -1,4 +1,5 @@
-//! A test of workers on the rows of A 4: whatever their number, the rows are the same; and where a gate has two workers meet, both publish rows.
+//! A test of workers on the rows of A 4: whatever their number, the rows are the same, all of them and those of the last member; a worker passes the gate
+//! before it claims a row; and where a gate has two workers meet, both publish rows.
 //!
 //! What is printed is the same by every schedule.
 #![tactic(auto)]
@@ -8,12 +9,14 @@ ghost use Rattle.std.specs.Prelude.{◌≡◌, ◌≤◌};
 use cox_base::Coxeter;
 use cox_context::Context;
 use cox_minroots::{MAX_SMALL_ROOTS, RootTable};
-use cox_outside::{Gate, MeetingGate, Open};
+use cox_outside::{Gate, MeetingGate, Open, Point};
 use cox_row::Row;
 use cox_row_store::RowStore;
-use cox_workers::{all_members, fill};
+use cox_workers::{all_members, fill, fill_row};
 use std::alloc::{AllocError, Global};
 use std::sync::Wait;
+use std::sync::atomic::AtomicU64;
+use std::sync::atomic::Ordering::SeqCst;
 use std::thread::Threads;
 
 /// The greatest coefficient.
@@ -52,6 +55,60 @@ fn all_rows<R: Threads + Wait + Sync, G: Gate + Sync>(
     Ok(store.into_rows(rt, seat))
 }
 
+/// Makes the row of the last member by so many workers.
+fn last_row<R: Threads + Wait + Sync, G: Gate + Sync>(
+    rt: &R,
+    alloc: Global,
+    context: &Context,
+    workers: u32,
+    gate: &G,
+) -> Result<Vec<Option<Row>>, AllocError>
+    requires { 1 ≤ workers }
+{
+    let count = context.len();
+    if count == 0 {
+        return Ok(Vec::new(alloc));
+    }
+    let (store, seat) = RowStore::new(alloc, context, LIMIT)?;
+    let seat = fill_row(rt, alloc, context, &store, seat, count - 1, workers, gate);
+    Ok(store.into_rows(rt, seat))
+}
+
+/// A gate that counts how many rows a worker came to claim.
+#[derive(Drop)]
+struct ClaimGate {
+    claims: Vec<AtomicU64>,
+}
+
+impl ClaimGate {
+    /// A gate for so many rows.
+    fn new(alloc: Global, rows: u32) -> Result<ClaimGate, AllocError> {
+        let mut claims = Vec::with_capacity(alloc, rows as usize)?;
+        for _ in 0..rows {
+            claims.push(AtomicU64::new(0))?;
+        }
+        Ok(ClaimGate { claims })
+    }
+
+    /// How many rows somebody came to claim.
+    fn claimed(&self) -> usize {
+        self.claims
+            .iter()
+            .filter(|passes| passes.load(SeqCst) > 0)
+            .count()
+    }
+}
+
+impl Gate for ClaimGate {
+    fn pass<R: Wait>(&self, rt: &R, worker: u32, point: Point, row: u32) {
+        let _ = rt;
+        let _ = worker;
+        if let (Point::Claim, Some(passes)) = (point, self.claims.get(row as usize)) {
+            passes.fetch_add(1, SeqCst);
+        }
+    }
+}
+
 /// What the rows come to.
 fn count_all(rows: &[Option<Row>]) -> Counts {
     let mut sum = Counts {
@@ -81,6 +138,16 @@ fn main(rt: HostRuntime) -> anyhow::Result<()> {
             sum.rows, sum.extremal, sum.mus
         )?;
     }
+    for workers in [1, 2, 4, 16] {
+        let sum = count_all(last_row(&rt, alloc, &context, workers, &Open)?.as_slice());
+        println!(rt;
+            "of the last one {} rows, {} extremal members, {} values of mu",
+            sum.rows, sum.extremal, sum.mus
+        )?;
+    }
+    let gate = ClaimGate::new(alloc, context.len())?;
+    let sum = count_all(all_rows(&rt, alloc, &context, 2, &gate)?.as_slice());
+    println!(rt; "{} rows, {} came to be claimed", sum.rows, gate.claimed())?;
     let gate = MeetingGate::new(alloc, context.len())?;
     let sum = count_all(all_rows(&rt, alloc, &context, 2, &gate)?.as_slice());
     println!(rt;

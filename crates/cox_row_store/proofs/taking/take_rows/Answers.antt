@@ -1,8 +1,9 @@
 -- One cell more.
 use Rattle.std.proofs.Common.{◌≡◌, ◌++◌, [], ◌∷◌, length, ap, ◌∙◌, sym, subst, append_assoc, arith}
 use Rattle.std.specs.Vec.Iter.{into_iter_items}
-use Rattle.cox_claims.specs.Knowledge.{Looks}
+use Rattle.cox_claims.specs.Knowledge.{SeesAll, Looks}
 use Rattle.cox_claims.specs.Seats.{view_of}
+use Rattle.cox_claims.proofs.Views.{sees-trans}
 use Rattle.cox_row_store.proofs.OneMore.{takes_more}
 use Rattle.cox_row_store.proofs.taking.take_rows.Goals as goal
 
@@ -18,11 +19,7 @@ loop-cell-preserved g c =
       all = append_assoc c.loop-cell.yielded (c.in-Some.cell ∷ []) (into_iter_items c.next.new.self)
           ∙ ap (λ rest. c.loop-cell.yielded ++ rest) (sym c.in-Some.ensures.steps.0) ∙ was.all;
       own = c.look-state.ensures.seat.table ∙ was.own;
-      sees = record {
-        published = λ i h. look.kept.published i (was.sees.published i h);
-        void = λ i h. look.kept.void i (was.sees.void i h);
-        claimed = λ i h. look.kept.claimed i (was.sees.claimed i h);
-      };
+      sees = sees-trans start before after was.sees look.kept;
       taken = rw c.push_reserved.ensures.items
           (takes_more c.loop-cell.yielded start before after c.loop-cell.rows.items c.in-Some.cell c.look-state.result c.take_row.result
           was.taken was.sees look c.take_row.ensures.row c.take_row.ensures.there c.take_row.ensures.none);

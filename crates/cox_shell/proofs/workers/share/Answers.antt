@@ -21,6 +21,6 @@ returns g c =
       same = record { elements = put.elements ∙ moved.same.elements; limit = put.limit ∙ moved.same.limit };
       there = λ i has. ⊎_elim (λ stays. put.kept i stays)
           (λ seen. put.added i (taken-back _ _ _ _ c.into_rows.ensures i (rw elements (c.context.ensures.members i has))
-          (c.fill-seat.ensures.seen.published i seen)))
+          (c.fill_wanted-seat.ensures.seen.published i seen)))
           (moved.there i has);
     }

@@ -16,7 +16,7 @@ join_seat-requires c =
       c.requires.own.1,
       other.bare,
       rw words claims.some_rows,
-      rw key (join_allowed claims.rows _ _ seat.seat.me.0 other.seat.me.0 seat.live c.requires.idle),
+      rw key (join_allowed claims.rows _ _ seat.seat.me.0 other.seat.me.0 seat.live other.live c.requires.idle),
     )
 
 pub returns-clause-seen : goal.returns-clause-seen

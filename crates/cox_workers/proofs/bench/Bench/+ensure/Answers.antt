@@ -7,8 +7,8 @@ use Rattle.cox_row.specs.Rising.{number_at}
 use Rattle.cox_claims.specs.Knowledge.{looked}
 use Rattle.cox_claims.specs.Seats.{view_of, HasSeen}
 use Rattle.cox_row_store.specs.Stores.{limit_of}
-use Rattle.cox_workers.proofs.SeatSteps.{needs-map, result-needed, looked_void, published_kept, voided_kept, unmade_missing}
-use Rattle.cox_workers.proofs.Working.{ready_still, work-trans, work-needed, work-list}
+use Rattle.cox_workers.proofs.SeatSteps.{needs-map, unmade_by-needed, unmade_err, looked_void, published_kept, voided_kept, unmade_missing}
+use Rattle.cox_workers.proofs.Working.{ready_still, work-trans, work-needed, work-tables, work-list}
 use Rattle.cox_workers.proofs.NeedsByNumber.{lower-needed_at, correction-needed_at}
 use Rattle.cox_workers.specs.Shelves.{IsOn}
 use Rattle.cox_workers.specs.Work.{IsNeededAt, IsRowMissing}
@@ -29,7 +29,7 @@ ensure-returns-in-Ok-clause-work g t c = record {
       c.publish.ensures.step.kept;
   kept = published_kept c.args.self.now.context.now c.len-len.ensures.admissible c.args.i c.requires.member c.args.seat.now c.claim.new.seat
       c.made.new.seat c.publish.new.seat c.claim.ensures.seat c.claim.ensures.splits c.in-Won.ensures.step c.made.ensures.work.kept
-      c.publish.ensures.seat c.publish.ensures.splits c.publish.ensures.step;
+      c.publish.ensures.seat c.publish.ensures.splits c.publish.ensures.step c.in-Ok.ensures.needs;
   shelf = c.made.ensures.work.shelf;
 }
 
@@ -63,6 +63,22 @@ pub made-returns-in-Ok-clause-needs : goal.made-returns-in-Ok-clause-needs
 made-returns-in-Ok-clause-needs g t c =
     needs-map c.args.self.now.context.now (IsOn c.take_in.new.hand.shelf) (HasSeen c.gather.new.seat) c.args.i
     (λ j on. c.gather.ensures.work.ready.seen j (c.gather.ensures.work.shelf j on)) c.in_ok-budget.ensures.needs
+
+pub made-returns-in-Ok-clause-work : goal.made-returns-in-Ok-clause-work
+made-returns-in-Ok-clause-work g t c =
+    let self = c.args.self.now in
+    work-tables self c.args.i c.args.seat.now c.gather.new.seat c.args.hand.now c.gather.new.hand c.row.new.tables c.row.new.steps
+    c.row.ensures.tables
+    (work-trans self c.args.i c.args.seat.now c.take_in.new.seat c.gather.new.seat c.args.hand.now c.take_in.new.hand c.gather.new.hand
+    c.take_in.ensures.work c.gather.ensures.work)
+
+pub made-returns-in-Err-clause-work : goal.made-returns-in-Err-clause-work
+made-returns-in-Err-clause-work g t c =
+    let self = c.args.self.now in
+    work-tables self c.args.i c.args.seat.now c.gather.new.seat c.args.hand.now c.gather.new.hand c.row.new.tables c.row.new.steps
+    c.row.ensures.tables
+    (work-trans self c.args.i c.args.seat.now c.take_in.new.seat c.gather.new.seat c.args.hand.now c.take_in.new.hand c.gather.new.hand
+    c.take_in.ensures.work c.gather.ensures.work)
 
 -- ---- one row on the shelf
 
@@ -129,9 +145,14 @@ take_in-returns-in_err-obtain-clause-missing g t c =
     (lower-needed_at e c.len-len.ensures.admissible c.len-len.ensures.closed c.of-descent.result c.of-descent.ensures.descent)
     in let why : IfErr c.from_residual.result (IsRowMissing e limit c.of-descent.result.lower c.args.seat.now c.obtain.new.seat) = search
     rules
-    in result-needed e c.len-len.ensures.admissible limit c.args.i c.of-descent.result.lower c.args.seat.now c.args.seat.now
+    in unmade_by-needed e c.len-len.ensures.admissible limit c.args.i c.of-descent.result.lower c.args.seat.now c.args.seat.now
     c.obtain.new.seat
     c.from_residual.result needed refl why
+
+pub take_in-returns-in_err-needs-clause-missing : goal.take_in-returns-in_err-needs-clause-missing
+take_in-returns-in_err-needs-clause-missing g t c =
+    unmade_err c.args.self.now.context.now (limit_of c.args.self.now.store.now) c.args.i c.args.seat.now c.obtain.new.seat
+    c.from_residual-in_err-needs.result c.from_residual-in_err-needs.ensures.1
 
 -- ---- the corrections
 
@@ -221,7 +242,7 @@ take_in-returns-in_err-obtain-2-clause-missing g t c =
     c.corrections.u-index c.corrections-test.true)
     in let why : IfErr c.from_residual-in_err-obtain-2.result (IsRowMissing e limit u c.corrections.seat c.obtain-in-corrections.new.seat) =
     search rules
-    in result-needed e c.len-len.ensures.admissible limit c.args.i u c.args.seat.now c.corrections.seat c.obtain-in-corrections.new.seat
+    in unmade_by-needed e c.len-len.ensures.admissible limit c.args.i u c.args.seat.now c.corrections.seat c.obtain-in-corrections.new.seat
     c.from_residual-in_err-obtain-2.result needed c.corrections.invariant.none why
 
 pub take_in-returns-clause-work : goal.take_in-returns-clause-work

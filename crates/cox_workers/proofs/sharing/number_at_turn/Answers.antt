@@ -1,0 +1,6 @@
+-- The place of the number.
+use Rattle.std.proofs.Common.{◌+◌, ◌%◌, length, refl, arith}
+use Rattle.cox_workers.proofs.sharing.number_at_turn.Goals as goal
+
+pub returns : goal.returns
+returns c = ((c.args.start + c.args.turn) % 18446744073709551616 % length c.args.numbers.now, omega (arith, c.requires), refl)
