@@ -16,10 +16,10 @@ use Rattle.cox_context.specs.Numbers.{word_at}
 use Rattle.cox_context.proofs.Ideals.{element-normal_form}
 use Rattle.cox_context.proofs.SortedLemmas.{IsListOf-filter, HasMoreThan-few}
 use Rattle.cox_context.proofs.IntervalLemmas.{is_below, is_below-tells}
-use Rattle.cox_rows.specs.Beyond.{IsBeyond, NeedsBeyond, coefficient, mu}
+use Rattle.cox_rows.specs.Beyond.{NeedsBeyond}
 use Rattle.cox_rows.specs.RowsFaults.{IsRowsFault}
-use Rattle.cox_rows.specs.declared.fault.RowsFault.{RowsFault}
-use Rattle.cox_rows.specs.declared.fault.RowsFault.TheVariants.{Coefficient, Mu, NoMemory}
+use Rattle.cox_klstep.specs.declared.fault.StepFault.{StepFault}
+use Rattle.cox_klstep.specs.declared.fault.StepFault.TheVariants.{Coefficient, Mu, NoMemory}
 use Rattle.cox_command.specs.declared.refusal.Refusal.{Refusal}
 use Rattle.cox_command.specs.declared.refusal.Refusal.TheVariants.{LargeRow}
 use Rattle.cox_base.specs.Matrix.{CoxeterMatrix}
@@ -30,6 +30,7 @@ use Rattle.cox_context.specs.Numbering.{IsNumberOf}
 use Rattle.cox_rows.specs.Holding.{Holding, HasRow}
 use Rattle.cox_rows.specs.Ensured.{IsEnsured}
 use Rattle.cox_rows.proofs.NeedDecided.{needs_beyond-same}
+use Rattle.cox_rows.proofs.RowsFaultLemmas.{fault-beyond}
 use Rattle.cox_shell.specs.Kept.{AreOf, HoldsRow, Keeps, unanswered_by}
 use Rattle.cox_shell.specs.Reply.{Limits}
 use Rattle.cox_shell.specs.Question.{IsRefused}
@@ -80,14 +81,6 @@ module _ (limits : Limits) (A : IntegerMatrix) (w : List ℕ) where
       → IsRefused (RefusesRow limits A w) (Some LargeRow)
   row-refused few beyond = inr (λ none. none, inr (few, inr (λ none. none, inl (beyond, refl))))
 
--- a fault of rows is a row beyond a limit
-pub fault-beyond : (e : Elements) (limit : ℤ) (P : List ℕ → Type 0) (fault : RowsFault) → IsRowsFault e limit P fault
-    → (fault ≡ NoMemory → ⊥)
-    → (z : List ℕ) × P z × IsBeyond (integer_matrix e.matrix) limit z
-fault-beyond e limit P (Coefficient x w degree value) is other = (word_at e.members w, is.one, coefficient is.is.large)
-fault-beyond e limit P (Mu x w value) is other = (word_at e.members w, is.one, mu is.is.large)
-fault-beyond e limit P NoMemory is other = absurd (other refl)
-
 -- the rows while that of w is ensured, under its number
 module _ (limits : Limits) (G : CoxeterMatrix) (g : IsAdmissible (integer_matrix G)) (w : List ℕ) (i : ℕ) (old new : Holding)
     (of : AreOf G limits old) (number : IsNumberOf old.elements.members (normal_form (integer_matrix G) w) (Some i))
@@ -117,18 +110,18 @@ module _ (limits : Limits) (G : CoxeterMatrix) (g : IsAdmissible (integer_matrix
   still-small small beyond = small (rw (of.group, of.limit) (needs_beyond-same A g (pos limits.coefficient) least w
       (word_at old.elements.members i) (same-sym A g same) beyond))
 
-  beyond : (fault : RowsFault) → IsRowsFault old.elements old.limit
+  beyond : (fault : StepFault) → IsRowsFault old.elements old.limit
       (IsNeeded (integer_matrix old.elements.matrix) (word_at old.elements.members i)) fault → (fault ≡ NoMemory → ⊥)
       → NeedsBeyond A (pos limits.coefficient) w
   beyond fault is other =
       let found = fault-beyond old.elements old.limit
-      (IsNeeded (integer_matrix old.elements.matrix) (word_at old.elements.members i)) fault is other in
+      (IsNeeded (integer_matrix old.elements.matrix) (word_at old.elements.members i)) fault other is in
       let needs : NeedsBeyond (integer_matrix old.elements.matrix) old.limit (word_at old.elements.members i) =
-      record { element = found.0; needed = found.1; beyond = found.2 } in
+      record { element = word_at old.elements.members found.0; needed = found.1.one; beyond = found.2 } in
       needs_beyond-same A g (pos limits.coefficient) least (word_at old.elements.members i) w same (rw (of.group, of.limit) at needs)
 
   -- a fault is a cause of the refusal, unless memory ran out
-  pub still-refused : (few : HasMoreThan limits.context (IsInInterval A w) → ⊥) (kept : Option Holding) (fault : RowsFault)
+  pub still-refused : (few : HasMoreThan limits.context (IsInInterval A w) → ⊥) (kept : Option Holding) (fault : StepFault)
       → IsRowsFault old.elements old.limit (IsNeeded (integer_matrix old.elements.matrix) (word_at old.elements.members i)) fault
       → Keeps {X = ℕ} (Err (unanswered_by fault)) (RefusesRow limits A w) (HoldsRow A w) kept
   still-refused few kept (Coefficient x z degree value) is =

@@ -19,11 +19,12 @@ use Rattle.cox_context.proofs.Ideals.{element-tail}
 use Rattle.cox_context.proofs.ListLemmas.{contains-placed, contains-at}
 use Rattle.cox_context.proofs.Shifting.{first-member}
 use Rattle.cox_context.proofs.SortedLemmas.{HasMoreThan-over, HasMoreThan-few}
-use Rattle.cox_rows.specs.declared.fault.RowsFault.{RowsFault}
-use Rattle.cox_rows.specs.declared.fault.RowsFault.TheVariants.{Coefficient, Mu, NoMemory}
+use Rattle.cox_klstep.specs.declared.fault.StepFault.{StepFault}
+use Rattle.cox_klstep.specs.declared.fault.StepFault.TheVariants.{Coefficient, Mu, NoMemory}
 use Rattle.cox_rows.specs.Holding.{Holding}
 use Rattle.cox_rows.specs.RowsFaults.{IsFaultOfSome}
-use Rattle.cox_rows.specs.Beyond.{IsBeyond, NeedsBeyond, coefficient, mu}
+use Rattle.cox_rows.specs.Beyond.{IsBeyond, NeedsBeyond}
+use Rattle.cox_rows.proofs.RowsFaultLemmas.{fault-beyond}
 use Rattle.cox_command.specs.declared.refusal.Refusal.{Refusal}
 use Rattle.cox_command.specs.declared.refusal.Refusal.TheVariants.{LargeInterval, LargeRow}
 use Rattle.cox_shell.specs.Reply.{Limits}
@@ -117,14 +118,22 @@ beyond-refused table limits rows of whole small i within beyond =
     rows-refused limits (integer_matrix table) small (word_at rows.elements.members i)
     (whole.sound (word_at rows.elements.members i) (contains-at rows.elements.members i within)) (rw (of.group, of.limit) at beyond)
 
+some-refused : (table : CoxeterMatrix) (limits : Limits) (rows : Holding) → AreOf table limits rows
+    → HoldsGroup (integer_matrix table) rows → (IsTooLarge (IsElement (integer_matrix table)) limits.context → ⊥)
+    → (fault : StepFault) → (fault ≡ NoMemory → ⊥) → IsFaultOfSome rows.elements rows.limit fault
+    → IsRefused (RefusesGroupRows limits (integer_matrix table)) (Some LargeRow)
+some-refused table limits rows of whole small fault other is =
+    let found = fault-beyond rows.elements rows.limit (λ w. Unit {0}) fault other is
+    in beyond-refused table limits rows of whole small found.0 found.1.member found.2
+
 -- a fault is a cause of the refusal, unless memory ran out
 pub fault-refused : (table : CoxeterMatrix) (limits : Limits) (rows : Holding) → AreOf table limits rows
     → HoldsGroup (integer_matrix table) rows → (IsTooLarge (IsElement (integer_matrix table)) limits.context → ⊥)
-    → (kept : Option Holding) (fault : RowsFault) → IsFaultOfSome rows.elements rows.limit fault
+    → (kept : Option Holding) (fault : StepFault) → IsFaultOfSome rows.elements rows.limit fault
     → Keeps {X = Unit {0}} (Err (unanswered_by fault)) (RefusesGroupRows limits (integer_matrix table))
     (λ _ held. HoldsAll (integer_matrix table) held) kept
 fault-refused table limits rows of whole small kept (Coefficient x w degree value) is =
-    beyond-refused table limits rows of whole small w is.member (coefficient is.is.large)
+    some-refused table limits rows of whole small (Coefficient x w degree value) (λ e. absurd (cc e)) is
 fault-refused table limits rows of whole small kept (Mu x w value) is =
-    beyond-refused table limits rows of whole small w is.member (mu is.is.large)
+    some-refused table limits rows of whole small (Mu x w value) (λ e. absurd (cc e)) is
 fault-refused table limits rows of whole small kept NoMemory is = tt

@@ -13,8 +13,8 @@ use Rattle.cox_command.specs.declared.refusal.Refusal.{Refusal}
 use Rattle.cox_shell.specs.declared.answers.unanswered.Unanswered.{Unanswered}
 use Rattle.cox_shell.specs.declared.answers.unanswered.Unanswered.TheVariants as unanswered
 use Rattle.cox_command.specs.declared.refusal.Refusal.TheVariants.{LargeRow}
-use Rattle.cox_rows.specs.declared.fault.RowsFault.{RowsFault}
-use Rattle.cox_rows.specs.declared.fault.RowsFault.TheVariants as fault
+use Rattle.cox_klstep.specs.declared.fault.StepFault.{StepFault}
+use Rattle.cox_klstep.specs.declared.fault.StepFault.TheVariants as fault
 use Rattle.cox_shell.specs.Reply.{Limits}
 use Rattle.cox_shell.specs.Question.{IsRefused}
 
@@ -64,6 +64,6 @@ Keeps (Err (unanswered.Refused why)) Refuses Holds kept = IsRefused Refuses (Som
 Keeps (Err unanswered.NoMemory) Refuses Holds kept = Unit {0}
 
 -- what a fault of rows leads to
-abbrev pub unanswered_by : RowsFault → Unanswered
+abbrev pub unanswered_by : StepFault → Unanswered
 unanswered_by fault.NoMemory = unanswered.NoMemory
 unanswered_by _ = unanswered.Refused LargeRow

@@ -10,11 +10,11 @@ ghost use Rattle.cox_row.specs.Within.{IsRowWithin};
 ghost use Rattle.cox_row_store.specs.Stores.{elements_of, limit_of, IsSeat};
 ghost use Rattle.cox_shell.specs.Kept.{IsSameContext};
 
-use cox_klstep::Descent;
+use cox_klstep::{Descent, StepFault};
 use cox_outside::Gate;
 use cox_row::Row;
 use cox_row_store::{Claimed, RowStore, Seat};
-use cox_rows::{Rows, RowsFault};
+use cox_rows::Rows;
 use cox_workers::fill;
 use std::alloc::{AllocError, Global};
 use std::sync::Wait;
@@ -42,7 +42,7 @@ impl<R: Threads + Wait + Sync, G: Gate + Sync> Workers<'_, R, G> {
     /// Makes the row of the member with the number i, with those that it is made from.
     ///
     /// `Coefficient` or `Mu` where a row that it needs is beyond a limit.
-    pub fn make_row(&self, alloc: Global, rows: &mut Rows, i: u32) -> Result<(), RowsFault>
+    pub fn make_row(&self, alloc: Global, rows: &mut Rows, i: u32) -> Result<(), StepFault>
         requires { i < length rows.old.elements.members }
         ensures { IsSameContext rows.old rows.new }
     {
@@ -55,7 +55,7 @@ impl<R: Threads + Wait + Sync, G: Gate + Sync> Workers<'_, R, G> {
     /// Makes the rows of all members.
     ///
     /// `Coefficient` or `Mu` where the row of some member is beyond a limit.
-    pub fn make_all(&self, alloc: Global, rows: &mut Rows) -> Result<(), RowsFault>
+    pub fn make_all(&self, alloc: Global, rows: &mut Rows) -> Result<(), StepFault>
         ensures { IsSameContext rows.old rows.new }
     {
         let _ = self.share_all(alloc, rows);

@@ -5,7 +5,7 @@ ghost use Rattle.cox_shell.specs.Saying.{unrefused};
 ghost use Rattle.cox_shell.specs.declared.answers.unanswered.Unanswered.TheVariants.{NoMemory};
 
 use cox_command::Refusal;
-use cox_rows::RowsFault;
+use cox_klstep::StepFault;
 use std::alloc::AllocError;
 
 /// Why a command got no answer.
@@ -36,13 +36,13 @@ pub fn unrefused(put: Result<(), AllocError>) -> Result<(), Unanswered>
 }
 
 /// What a fault of rows leads to: a row is refused, or memory ran out.
-pub fn unanswered_by(fault: RowsFault) -> Unanswered
+pub fn unanswered_by(fault: StepFault) -> Unanswered
     ensures { result ≡ unanswered_by fault }
 {
     match fault {
-        RowsFault::Coefficient { .. } | RowsFault::Mu { .. } => {
+        StepFault::Coefficient { .. } | StepFault::Mu { .. } => {
             Unanswered::Refused(Refusal::LargeRow)
         }
-        RowsFault::NoMemory => Unanswered::NoMemory,
+        StepFault::NoMemory => Unanswered::NoMemory,
     }
 }
