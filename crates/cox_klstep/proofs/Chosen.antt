@@ -1,6 +1,7 @@
--- How many corrections a step has, and that their rows are there.
-use Rattle.std.proofs.Common.{◌≡◌, ◌⊎◌, inl, inr, ℕ, ◌+◌, ◌-◌, ◌<◌, ◌≤◌, List, length, ℤ, ⊎_elim, arith}
+-- How many corrections a step has, what they cost, and that their rows are there.
+use Rattle.std.proofs.Common.{◌≡◌, ◌⊎◌, inl, inr, ℕ, suc, ◌+◌, ◌*◌, ◌<◌, ◌≤◌, List, [], ◌∷◌, length, ℤ, refl, ⊎_elim, arith}
 use Rattle.std.proofs.lemmas.Bool.{cases_lt}
+use Rattle.std.proofs.lemmas.List.Sums.{sum_by-cons}
 use Rattle.cox_base.specs.declared.side.Side.{Side}
 use Rattle.cox_base.specs.declared.side.Side.TheVariants.{Left}
 use Rattle.cox_base.specs.IntegerMatrix.{IntegerMatrix}
@@ -9,47 +10,17 @@ use Rattle.cox_base.specs.Element.{SameElement}
 use Rattle.cox_base.specs.ShortLex.{normal_form}
 use Rattle.cox_reflect.proofs.Elements.{same-refl, same-sym}
 use Rattle.cox_reflect.proofs.Search.{normal_form-same}
-use Rattle.cox_base.specs.SideDescents.{times_letter, IsDescent}
+use Rattle.cox_base.specs.SideDescents.{times_letter}
 use Rattle.cox_hecke.specs.Step.{IsCorrection}
 use Rattle.cox_context.specs.Numbers.{word_at}
 use Rattle.cox_row.specs.Rising.{number_at}
 use Rattle.cox_row.specs.Mus.{AreMus}
 use Rattle.cox_row.proofs.MuLemmas.{mu-words}
-use Rattle.cox_row.proofs.RisingLemmas.{rising-most, few-rising}
+use Rattle.cox_row.proofs.RisingLemmas.{few-rising}
 use Rattle.cox_klstep.specs.declared.step.Correction.{Correction}
 use Rattle.cox_klstep.specs.StepOf.{correction_at, AreNumbered}
 use Rattle.cox_klstep.specs.NeedsOf.{AreNeeds}
-
--- of the numbers before a place at most so many are those of members that s shortens
-abbrev pub CountsUpTo : Side → IntegerMatrix → List (List ℕ) → ℕ → List ℕ → ℕ → ℕ → Type 0
-CountsUpTo side A members s numbers end count = (n : ℕ) (place : ℕ → ℕ) → ((j k : ℕ) → j < k → k < n → place j < place k)
-    → ((k : ℕ) → k < n → (place k < end) × IsDescent side A (word_at members (number_at numbers (place k))) s) → n ≤ count
-
-module _ (side : Side) (A : IntegerMatrix) (members : List (List ℕ)) (s : ℕ) (numbers : List ℕ) where
-  pub counts-start : (count : ℕ) → CountsUpTo side A members s numbers 0 count
-  counts-start count n place rising each = ⊎_elim (λ (some : 0 < n). absurd (let e = each 0 some in omega (arith, e.0)))
-      (λ none. omega (arith, none)) (cases_lt 0 n)
-
-  pub counts-skip : (p q count : ℕ) → q ≡ p + 1 → (IsDescent side A (word_at members (number_at numbers p)) s → ⊥)
-      → CountsUpTo side A members s numbers p count → CountsUpTo side A members s numbers q count
-  counts-skip p q count e none h n place rising each = h n place rising (λ k l. (
-    ⊎_elim (λ (less : place k < p). less) (λ (more : p ≤ place k).
-        let is : place k ≡ p = omega (arith, more, e, (each k l).0) in absurd (none (rw is at (each k l).1))) (cases_lt (place k) p),
-    (each k l).1,
-  ))
-
-  pub counts-take : (p q count more : ℕ) → q ≡ p + 1 → more ≡ count + 1
-      → CountsUpTo side A members s numbers p count → CountsUpTo side A members s numbers q more
-  counts-take p q count more e f h n place rising each = ⊎_elim
-      (λ (some : 0 < n).
-      let l : n - 1 < n = omega (arith, some)
-      in let rest = h (n - 1) place (λ j k m o. rising j k m (omega (arith, o)))
-      (λ k m. (
-        let r = rising k (n - 1) m l in omega (arith, r, (each (n - 1) l).0, e),
-        (each k (omega (arith, m))).1,
-      ))
-      in omega (arith, rest, f, some))
-      (λ none. omega (arith, none)) (cases_lt 0 n)
+use Rattle.cox_klstep.specs.ChoiceOf.{total_cost}
 
 module _ (side : Side) (A : IntegerMatrix) (g : IsAdmissible A) (members : List (List ℕ)) (w : List ℕ) (lower s : ℕ)
     (lower_is : word_at members lower ≡ normal_form A (times_letter side s w)) (numbers : List ℕ) (values : List ℤ)
@@ -62,67 +33,78 @@ module _ (side : Side) (A : IntegerMatrix) (g : IsAdmissible A) (members : List 
       → (q : ℕ) × (q < length numbers) × (number_at numbers q ≡ u)
   correction-place u m l c = mus.whole u m l (mu-words A g m (same-refl A g (word_at members u)) (same-sym A g lower-same) c.is_mu) c.some
 
-  pub numbered-few : (list : List Correction) (count : ℕ) → AreNumbered side A members s w list
-      → CountsUpTo side A members s numbers (length numbers) count → length list ≤ count
-  numbered-few list count h counts = counts (length list) place rising
-      (λ k l. let p = is-place k l (cases_lt k (length list)) in (p.0, rw p.1 (h.each k l).shortens))
-    where
-      at : (k : ℕ) → k < length list → (q : ℕ) × (q < length numbers) × (number_at numbers q ≡ (correction_at list k).number)
-      at k l = correction-place (correction_at list k).number (correction_at list k).factor (h.within k l) (h.each k l)
+-- numbers that rise and are all among others that rise
+module _ (n m : ℕ) (f h : ℕ → ℕ) (f_rising : (j k : ℕ) → j < k → k < n → f j < f k)
+    (h_rising : (j k : ℕ) → j < k → k < m → h j < h k) (at : (k : ℕ) → k < n → (q : ℕ) × (q < m) × (h q ≡ f k)) where
+  place_by : (k : ℕ) → (k < n) ⊎ (n ≤ k) → ℕ
+  place_by k (inl l) = (at k l).0
+  place_by k (inr l) = 0
 
-      by : (k : ℕ) → (k < length list) ⊎ (length list ≤ k) → ℕ
-      by k (inl l) = (at k l).0
-      by k (inr m) = 0
+  place : ℕ → ℕ
+  unfolding place_by
+  place k = place_by k (cases_lt k n)
 
-      place : ℕ → ℕ
-      place k = by k (cases_lt k (length list))
+  is-place_by : (k : ℕ) → k < n → (c : (k < n) ⊎ (n ≤ k)) → (place_by k c < m) × (h (place_by k c) ≡ f k)
+  unfolding place_by
+  is-place_by k l (inl i) = ((at k i).1, (at k i).2)
+  is-place_by k l (inr i) = absurd (omega (arith, l, i))
 
-      is-place : (k : ℕ) → k < length list → (c : (k < length list) ⊎ (length list ≤ k))
-          → (by k c < length numbers) × (number_at numbers (by k c) ≡ (correction_at list k).number)
-      is-place k l (inl m) = ((at k m).1, (at k m).2)
-      is-place k l (inr m) = absurd (omega (arith, l, m))
+  is-place : (k : ℕ) → k < n → (place k < m) × (h (place k) ≡ f k)
+  unfolding place
+  is-place k l = is-place_by k l (cases_lt k n)
 
-      rising : (j k : ℕ) → j < k → k < length list → place j < place k
-      rising j k less l =
-          let number = h.rising j k less l
-          in let first = is-place j (omega (arith, less, l)) (cases_lt j (length list))
-          in let second = is-place k l (cases_lt k (length list))
-          in ⊎_elim (λ (yes : place j < place k). yes)
-          (λ (no : place k ≤ place j).
-          let most = rising-most numbers mus.rising (place k) (place j) no first.0
-          in absurd (omega (arith, most, number, first.1, second.1)))
-          (cases_lt (place j) (place k))
+  most : (i j : ℕ) → i ≤ j → j < m → h i ≤ h j
+  most i j l k = ⊎_elim (λ (less : i < j). let r = h_rising i j less k in omega (arith, r))
+      (λ (more : j ≤ i). let e : i ≡ j = omega (arith, l, more) in rw e (omega arith)) (cases_lt i j)
 
--- numbers that rise and are all among others that rise are no more
-pub places-few : (n m : ℕ) (f h : ℕ → ℕ) → ((j k : ℕ) → j < k → k < n → f j < f k) → ((j k : ℕ) → j < k → k < m → h j < h k)
-    → ((k : ℕ) → k < n → (q : ℕ) × (q < m) × (h q ≡ f k)) → n ≤ m
-places-few n m f h f_rising h_rising at = few-rising place m n rising (λ k l. (is-place k l (cases_lt k n)).0)
-  where
-    by : (k : ℕ) → (k < n) ⊎ (n ≤ k) → ℕ
-    by k (inl l) = (at k l).0
-    by k (inr l) = 0
+  place-rising : (j k : ℕ) → j < k → k < n → place j < place k
+  place-rising j k less l =
+      let number = f_rising j k less l
+      in let first = is-place j (omega (arith, less, l))
+      in let second = is-place k l
+      in ⊎_elim (λ (yes : place j < place k). yes)
+      (λ (no : place k ≤ place j).
+      let order = most (place k) (place j) no first.0
+      in absurd (omega (arith, order, number, first.1, second.1)))
+      (cases_lt (place j) (place k))
 
-    place : ℕ → ℕ
-    place k = by k (cases_lt k n)
+  -- they are no more
+  pub places-few : n ≤ m
+  places-few = few-rising place m n place-rising (λ k l. (is-place k l).0)
 
-    is-place : (k : ℕ) → k < n → (c : (k < n) ⊎ (n ≤ k)) → (by k c < m) × (h (by k c) ≡ f k)
-    is-place k l (inl i) = ((at k i).1, (at k i).2)
-    is-place k l (inr i) = absurd (omega (arith, l, i))
+  -- and none is less than that at its place
+  pub places-after : (k : ℕ) → k < n → h k ≤ f k
+  places-after k l =
+      let few = few-rising place (place k + 1) (k + 1) (λ a b less m. place-rising a b less (omega (arith, l, m)))
+      (λ a m. ⊎_elim (λ (less : a < k). let r = place-rising a k less l in omega (arith, r))
+      (λ (more : k ≤ a). let e : a ≡ k = omega (arith, m, more) in rw e (omega arith)) (cases_lt a k))
+      in let p = is-place k l
+      in let order = most k (place k) (omega (arith, few)) p.0
+      in omega (arith, order, p.1)
 
-    most : (i j : ℕ) → i ≤ j → j < m → h i ≤ h j
-    most i j l k = ⊎_elim (λ (less : i < j). let r = h_rising i j less k in omega (arith, r))
-        (λ (more : j ≤ i). let e : i ≡ j = omega (arith, l, more) in rw e (omega arith)) (cases_lt i j)
+-- ---- costs
 
-    rising : (j k : ℕ) → j < k → k < n → place j < place k
-    rising j k less l =
-        let number = f_rising j k less l
-        in let first = is-place j (omega (arith, less, l)) (cases_lt j n)
-        in let second = is-place k l (cases_lt k n)
-        in ⊎_elim (λ (yes : place j < place k). yes)
-        (λ (no : place k ≤ place j).
-        let order = most (place k) (place j) no first.0
-        in absurd (omega (arith, order, number, first.1, second.1)))
-        (cases_lt (place j) (place k))
+cost-cons : (c : Correction) (list : List Correction) → total_cost (c ∷ list) ≡ (c.number + 1) + total_cost list
+cost-cons c list = sum_by-cons (λ (c : Correction). c.number + 1) c list
+
+same-cost : (list other : List Correction) → length list ≡ length other
+    → ((k : ℕ) → k < length list → (correction_at list k).number ≡ (correction_at other k).number) → total_cost list ≡ total_cost other
+same-cost [] [] size same = refl
+same-cost [] (d ∷ other) size same = absurd (omega (arith, size))
+same-cost (c ∷ list) [] size same = absurd (omega (arith, size))
+same-cost (c ∷ list) (d ∷ other) size same =
+    let first = same 0 (omega arith)
+    in let rest = same-cost list other (omega (arith, size)) (λ k l. same (suc k) (omega (arith, l)))
+    in omega (arith, first, rest, cost-cons c list, cost-cons d other)
+
+-- numbers are those of members
+pub cost-most : (list : List Correction) → ((k : ℕ) → k < length list → (correction_at list k).number < 1048576)
+    → total_cost list ≤ 1048576 * length list
+cost-most [] each = omega arith
+cost-most (c ∷ list) each =
+    let first = each 0 (omega arith)
+    in let rest = cost-most list (λ k l. each (suc k) (omega (arith, l)))
+    in omega (arith, first, rest, cost-cons c list)
 
 module _ (A : IntegerMatrix) (members : List (List ℕ)) (s : ℕ) (w : List ℕ) where
   pub numbered-unique : (side : Side) (list other : List Correction) → AreNumbered side A members s w list
@@ -130,6 +112,22 @@ module _ (A : IntegerMatrix) (members : List (List ℕ)) (s : ℕ) (w : List ℕ
   numbered-unique side list other h j = places-few (length list) (length other) (λ k. (correction_at list k).number)
       (λ k. (correction_at other k).number) h.rising j.rising
       (λ k l. j.whole (correction_at list k).number (correction_at list k).factor (h.within k l) (h.each k l))
+
+  -- their numbers are the same, so their costs are
+  pub numbered-cost : (side : Side) (list other : List Correction) → AreNumbered side A members s w list
+      → AreNumbered side A members s w other → total_cost list ≡ total_cost other
+  numbered-cost side list other h j =
+      let few = numbered-unique side list other h j
+      in let many = numbered-unique side other list j h
+      in same-cost list other (omega (arith, few, many)) (λ k l.
+      let after = places-after (length list) (length other) (λ k. (correction_at list k).number)
+      (λ k. (correction_at other k).number) h.rising j.rising
+      (λ k l. j.whole (correction_at list k).number (correction_at list k).factor (h.within k l) (h.each k l)) k l
+      in let before = places-after (length other) (length list) (λ k. (correction_at other k).number)
+      (λ k. (correction_at list k).number) j.rising h.rising
+      (λ k l. h.whole (correction_at other k).number (correction_at other k).factor (j.within k l) (j.each k l)) k
+      (omega (arith, l, few))
+      in omega (arith, after, before))
 
   pub numbered-needs : (list : List Correction) (numbers : List ℕ) → AreNumbered Left A members s w list
       → AreNeeds A members s w numbers → length list ≤ length numbers

@@ -12,7 +12,7 @@ use Rattle.cox_row.specs.Rising.{number_at}
 use Rattle.cox_row.specs.Extremal.{IsExtremal}
 use Rattle.cox_row.specs.Raised.{StandsFor}
 use Rattle.cox_row.proofs.Raising.{later-not_below}
-use Rattle.cox_klstep.specs.declared.large.LargeCoefficient.{LargeCoefficient}
+use Rattle.cox_klstep.specs.declared.values.LargeCoefficient.{LargeCoefficient}
 use Rattle.cox_klstep.specs.Limits.{IsLargeCoefficient}
 use Rattle.cox_klstep.specs.LargeMembers.{IsWithinLimit, IsLeastLarge, coefficient_at, fault_by, AreLarge}
 use Rattle.cox_klstep.specs.Faults.{IsFault}

@@ -36,6 +36,8 @@ pub mod CandidateLemmas
 pub mod Shifts
 -- which step is chosen
 pub mod Chosen
+-- what corrections cost
+pub mod CostedSums
 -- which members are left
 pub mod Candidates
 -- how many polynomials are added up

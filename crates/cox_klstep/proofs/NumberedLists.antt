@@ -19,10 +19,8 @@ use Rattle.cox_context.specs.Closed.{IsClosed}
 use Rattle.cox_context.specs.Numbers.{word_at}
 use Rattle.cox_context.proofs.ListLemmas.{rising-place}
 use Rattle.cox_context.proofs.Shifting.{element-at}
-use Rattle.cox_base.specs.declared.side.Side.TheVariants.{Left}
 use Rattle.cox_klstep.specs.declared.step.Correction.{Correction}
-use Rattle.cox_row.specs.Rising.{number_at}
-use Rattle.cox_klstep.specs.StepOf.{correction_at, AreNumbered}
+use Rattle.cox_klstep.specs.StepOf.{correction_at}
 use Rattle.cox_klstep.specs.CorrectionSums.{numbered_sum}
 
 -- one correction more

@@ -24,7 +24,7 @@ use Rattle.cox_row.specs.Extremal.{IsExtremal}
 use Rattle.cox_row.specs.Raised.{IsRaised, on_left, on_right}
 use Rattle.cox_row.proofs.Tops.{extremal_or_raised}
 use Rattle.cox_klstep.specs.Drafts.{AreNoted, IsUnderway, AreBare}
-use Rattle.cox_klstep.specs.declared.draft.Draft.{Draft}
+use Rattle.cox_klstep.specs.declared.making.Draft.{Draft}
 use Rattle.cox_klstep.specs.TargetOf.{IsShift, IsLeastShift, IsLeastOf}
 
 -- u is sw or ws

@@ -1,14 +1,20 @@
 -- How many polynomials are added up for a row.
-use Rattle.std.proofs.Common.{◌≡◌, ℕ, ◌+◌, ◌-◌, ◌*◌, ◌<◌, ◌≤◌, length, Bool, true, false, refl, ⊎_elim, arith}
+use Rattle.std.proofs.Common.{◌≡◌, ℕ, zero, suc, List, ◌+◌, ◌-◌, ◌*◌, ◌<◌, ◌≤◌, length, Bool, true, false, refl, ⊎_elim, arith}
 use Rattle.std.specs.Prelude.{IsTrue}
 use Rattle.std.proofs.lemmas.Bool.{cases_lt}
-use Rattle.cox_base.specs.IntegerMatrix.{integer_matrix}
 use Rattle.cox_base.specs.Bruhat.{IsBelow}
 use Rattle.cox_context.specs.Closed.{Elements}
 use Rattle.cox_context.specs.Numbers.{word_at}
 use Rattle.cox_row.specs.Extremal.{IsExtremal}
+use Rattle.cox_row.specs.Rising.{number_at}
+use Rattle.cox_row.specs.ExtremalNumbers.{AreExtremal}
 use Rattle.cox_row.proofs.RisingLemmas.{rising-most}
-use Rattle.cox_klstep.specs.NeedsOf.{IsWithinCost, IsWithinCostTo}
+use Rattle.cox_base.specs.IntegerMatrix.{integer_matrix}
+use Rattle.cox_base.specs.Admissible.{IsAdmissible}
+use Rattle.cox_context.specs.Closed.{IsClosed}
+use Rattle.cox_row.proofs.Raising.{later-not_below}
+use Rattle.cox_klstep.specs.Drafts.{AreBare}
+use Rattle.cox_klstep.specs.CountedSteps.{counted, IsWithinCost, IsWithinCostTo, IsCounted, IsCountedTo}
 
 more-times : (a b l : ℕ) → a ≤ b → a * l ≤ b * l
 more-times a b l h =
@@ -62,3 +68,58 @@ module _ (e : Elements) (i : ℕ) where
           λ k l. omega (arith, rising-most extremal are.rising k at.0 (omega (arith, l)) at.1, at.2),
           omega (arith, more, one, most, count.3),
         )
+
+-- ---- one at least for each extremal member
+
+module _ (e : Elements) (i old : ℕ) where
+  pub counted-start : IsCountedTo e i 0 old old
+  counted-start = record { kept = omega arith; each = λ extremal are k l m. absurd (omega (arith, m)) }
+
+  pub counted-later : (done later new : ℕ) → AreBare e i done later → IsCountedTo e i done old new → IsCountedTo e i later old new
+  counted-later done later new bare h = record {
+    kept = h.kept;
+    each = λ extremal are k l m. ⊎_elim
+        (λ (less : number_at extremal k < done). h.each extremal are k l less)
+        (λ (more : done ≤ number_at extremal k). absurd (bare (number_at extremal k) more m (are.extremal k l)))
+        (cases_lt (number_at extremal k) done);
+  }
+
+  -- one extremal member more: if it is below w, something was added up
+  pub counted-next : (x new newer : ℕ) (is_below : Bool)
+      → (IsBelow (integer_matrix e.matrix) (word_at e.members x) (word_at e.members i) → IsTrue is_below)
+      → (IsTrue is_below → counted new 1 ≤ newer) → new ≤ newer
+      → IsCountedTo e i x old new → IsCountedTo e i (x + 1) old newer
+  counted-next x new newer is_below below some kept h = record {
+    kept = omega (arith, kept, h.kept);
+    each = λ extremal are k l m. ⊎_elim
+        (λ (less : number_at extremal k < x). let before = h.each extremal are k l less in omega (arith, before, kept))
+        (λ (more : x ≤ number_at extremal k).
+        let is : number_at extremal k ≡ x = omega (arith, m, more)
+        in let one = some (below (rw is at (are.below k l)))
+        in first extremal are k l is one)
+        (cases_lt (number_at extremal k) x);
+  }
+    where
+      first : (extremal : List ℕ) → AreExtremal (integer_matrix e.matrix) e.members (word_at e.members i) extremal
+          → (k : ℕ) → k < length extremal → number_at extremal k ≡ x → counted new 1 ≤ newer → counted old (k + 1) ≤ newer
+      first extremal are zero l is one = omega (arith, one, h.kept)
+      first extremal are (suc k) l is one =
+          let rises = are.rising k (suc k) (omega arith) l
+          in let before = h.each extremal are k (omega (arith, l)) (omega (arith, rises, is))
+          in omega (arith, before, one)
+
+  -- each member up to w is done
+  pub counted-end : IsAdmissible (integer_matrix e.matrix) → IsClosed (integer_matrix e.matrix) e.members → i < length e.members
+      → (done new : ℕ) → i < done → IsCountedTo e i done old new → IsCounted e i old new
+  counted-end g closed inside done new all h extremal are = at_end (length extremal) refl
+    where
+      at_end : (n : ℕ) → n ≡ length extremal → counted old n ≤ new
+      at_end zero is = omega (arith, h.kept)
+      at_end (suc k) is =
+          let l : k < length extremal = omega (arith, is)
+          in let early : number_at extremal k < done = ⊎_elim
+          (λ (less : number_at extremal k < done). less)
+          (λ (more : done ≤ number_at extremal k). absurd (later-not_below (integer_matrix e.matrix) g e.members closed
+          (number_at extremal k) i (are.within k l) inside (omega (arith, more, all)) (are.below k l)))
+          (cases_lt (number_at extremal k) done)
+          in let some = h.each extremal are k l early in omega (arith, some)

@@ -1,5 +1,5 @@
 -- Which step is chosen.
-use Rattle.std.specs.Prelude.{◌≡◌, ℕ, ◌<◌, ◌≤◌, List, length, ℤ}
+use Rattle.std.specs.Prelude.{◌≡◌, ℕ, ◌+◌, ◌<◌, ◌≤◌, List, length, sum_by, ℤ}
 use Rattle.cox_base.specs.declared.side.Side.{Side}
 use Rattle.cox_base.specs.IntegerMatrix.{integer_matrix}
 use Rattle.cox_base.specs.SideDescents.{times_letter}
@@ -10,8 +10,12 @@ use Rattle.cox_klstep.specs.declared.step.Correction.{Correction}
 use Rattle.cox_klstep.specs.declared.step.Descent.{Descent}
 use Rattle.cox_klstep.specs.StepOf.{AreNumbered, IsLowering}
 
--- a step to the member i for which all rows are there, with at most so many corrections
-pub record IsChoice (e : Elements) (holds : ℕ → Type 0) (i most : ℕ) (side : Side) (d : Descent) : Type 0 where
+-- what corrections cost: the sum of their numbers, each one more
+abbrev pub total_cost : List Correction → ℕ
+total_cost list = sum_by (λ c. c.number + 1) list
+
+-- a step to the member i for which all rows are there, with at most so many corrections, and what these cost
+pub record IsChoice (e : Elements) (holds : ℕ → Type 0) (i most : ℕ) (side : Side) (d : Descent) (cost : ℕ) : Type 0 where
   pub lowering : IsLowering e side d
   pub member : d.member ≡ i
   pub lower : holds d.lower
@@ -20,3 +24,5 @@ pub record IsChoice (e : Elements) (holds : ℕ → Type 0) (i most : ℕ) (side
       → holds u
   pub few : (list : List Correction) → AreNumbered side (integer_matrix e.matrix) e.members d.letter (word_at e.members i) list
       → length list ≤ most
+  pub costs : (list : List Correction) → AreNumbered side (integer_matrix e.matrix) e.members d.letter (word_at e.members i) list
+      → cost ≡ total_cost list

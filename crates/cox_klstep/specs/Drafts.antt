@@ -13,7 +13,7 @@ use Rattle.cox_row.specs.Polynomials.{polynomial_at, HavePolynomials}
 use Rattle.cox_row.specs.Mus.{value_at}
 use Rattle.cox_klstep.specs.LargeMembers.{IsWithinLimit, AreLarge}
 use Rattle.cox_klstep.specs.TargetOf.{IsLeastShift}
-use Rattle.cox_klstep.specs.declared.draft.Draft.{Draft}
+use Rattle.cox_klstep.specs.declared.making.Draft.{Draft}
 
 -- The polynomial with these sums is in the pool at the place: it was there before, or is behind the others now.
 pub record IsPooled (limit : ℤ) (sums : List ℤ) (old new : List (List ℤ)) (place : ℕ) : Type 0 where

@@ -8,7 +8,7 @@ use Rattle.cox_row.specs.Extremal.{IsExtremal}
 use Rattle.cox_klstep.specs.Limits.{IsLargeCoefficient}
 use Rattle.cox_klstep.specs.declared.fault.StepFault.{StepFault}
 use Rattle.cox_klstep.specs.declared.fault.StepFault.TheVariants.{Coefficient}
-use Rattle.cox_klstep.specs.declared.large.LargeCoefficient.{LargeCoefficient}
+use Rattle.cox_klstep.specs.declared.values.LargeCoefficient.{LargeCoefficient}
 
 -- no coefficient of P(x,w) is above the limit in absolute value
 abbrev pub IsWithinLimit : IntegerMatrix → ℤ → List ℕ → List ℕ → Type 0

@@ -20,6 +20,8 @@ pub mod Drafts
 pub mod Faults
 -- the rows that a row is made from
 pub mod NeedsOf
+-- how many polynomials are added up for a row
+pub mod CountedSteps
 -- the tables of a context
 pub mod TablesOf
 -- fingerprints of polynomials

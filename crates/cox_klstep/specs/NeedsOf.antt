@@ -1,5 +1,5 @@
 -- The rows that the row of a member is made from.
-use Rattle.std.specs.Prelude.{◌≡◌, ℕ, ◌+◌, ◌*◌, ◌<◌, ◌≤◌, List, ◌∷◌, length, ℤ}
+use Rattle.std.specs.Prelude.{◌≡◌, ℕ, ◌<◌, List, ◌∷◌, length, ℤ}
 use Rattle.cox_base.specs.declared.side.Side.TheVariants.{Left}
 use Rattle.cox_base.specs.IntegerMatrix.{IntegerMatrix, integer_matrix}
 use Rattle.cox_base.specs.ShortLex.{normal_form}
@@ -8,7 +8,6 @@ use Rattle.cox_hecke.specs.Step.{IsCorrection}
 use Rattle.cox_context.specs.Closed.{Elements}
 use Rattle.cox_context.specs.Numbers.{word_at}
 use Rattle.cox_row.specs.Rising.{number_at, AreRising, AreWithin}
-use Rattle.cox_row.specs.ExtremalNumbers.{AreExtremal}
 
 -- the rows that the row of the member i is made from are there: that of the shorter element by its least left descent, and those of the
 -- corrections
@@ -25,18 +24,3 @@ pub record AreNeeds (A : IntegerMatrix) (members : List (List ℕ)) (s : ℕ) (w
   pub each : (k : ℕ) → k < length numbers → (m : ℤ) × IsCorrection Left A s (s ∷ w) (word_at members (number_at numbers k)) m
   pub whole : (u : ℕ) (m : ℤ) → u < length members → IsCorrection Left A s (s ∷ w) (word_at members u) m
       → (k : ℕ) × (k < length numbers) × (number_at numbers k ≡ u)
-
--- for each extremal x ≤ w at most so many polynomials were added up
-abbrev pub IsWithinCost : Elements → ℕ → ℕ → ℕ → ℕ → Type 0
-IsWithinCost e i cost old new = (extremal : List ℕ) → AreExtremal (integer_matrix e.matrix) e.members (word_at e.members i) extremal
-    → new ≤ old + cost * length extremal
-
--- for each extremal x ≤ w at most 2 polynomials more were added up than the step by the least left descent has corrections
-abbrev pub IsWithinSteps : Elements → ℕ → ℕ → ℕ → Type 0
-IsWithinSteps e i old new = (s : ℕ) (numbers : List ℕ) → IsLeastLeftDescent (integer_matrix e.matrix) (word_at e.members i) s
-    → AreNeeds (integer_matrix e.matrix) e.members s (word_at e.members i) numbers → IsWithinCost e i (2 + length numbers) old new
-
--- for each extremal x ≤ w with a number before done at most so many polynomials were added up
-abbrev pub IsWithinCostTo : Elements → ℕ → ℕ → ℕ → ℕ → ℕ → Type 0
-IsWithinCostTo e i cost done old new = (extremal : List ℕ) → AreExtremal (integer_matrix e.matrix) e.members (word_at e.members i) extremal
-    → (count : ℕ) × (count ≤ length extremal) × ((k : ℕ) → k < count → number_at extremal k < done) × (new ≤ old + cost * count)

@@ -3,7 +3,7 @@ use Rattle.std.specs.Prelude.{◌≡◌, ℕ, ◌+◌, length}
 use Rattle.cox_context.specs.Closed.{Elements}
 use Rattle.cox_row.specs.RowOf.{IsRowAt}
 use Rattle.cox_klstep.specs.StepOf.{IsRowStep, AreNeeded}
-use Rattle.cox_klstep.specs.declared.source.Source.{Source}
+use Rattle.cox_klstep.specs.declared.sums.Source.{Source}
 
 -- the row of the member i can be made by the step, from these rows
 pub record IsSource (e : Elements) (i : ℕ) (source : Source) : Type 0 where

@@ -6,7 +6,7 @@ use Rattle.cox_base.specs.Element.{SameElement}
 use Rattle.cox_context.specs.Closed.{Elements}
 use Rattle.cox_context.specs.Numbers.{word_at}
 use Rattle.cox_row.specs.LetterSets.{AreLeftDescents, AreRightDescents}
-use Rattle.cox_klstep.specs.declared.target.Target.{Target}
+use Rattle.cox_klstep.specs.declared.making.Target.{Target}
 
 -- the member with its descents
 pub record IsTarget (e : Elements) (target : Target) : Type 0 where

@@ -1,5 +1,5 @@
 //! Chooses the step by which the row of a member is made.
-ghost use Rattle.std.specs.Prelude.{◌≡◌, ℕ, ◌+◌, ◌<◌, ◌≤◌, List, length, IfOk, IfSome, IsTrue, ℤ};
+ghost use Rattle.std.specs.Prelude.{◌≡◌, ℕ, ◌+◌, ◌^◌, ◌<◌, ◌≤◌, List, length, IfOk, IfSome, IsTrue, ℤ};
 ghost use Rattle.cox_base.specs.Matrix.{IsLetter};
 ghost use Rattle.cox_base.specs.IntegerMatrix.{integer_matrix};
 ghost use Rattle.cox_reflect.specs.LeastDescent.{IsLeastLeftDescent};
@@ -9,11 +9,10 @@ ghost use Rattle.cox_context.specs.Numbers.{word_at};
 ghost use Rattle.cox_row.specs.RowOf.{IsRowAt};
 ghost use Rattle.cox_klstep.specs.StepOf.{AreNumbered, correction_at, IsLowering, IsRowStep};
 ghost use Rattle.cox_klstep.specs.NeedsOf.{HasNeeds, AreNeeds};
-ghost use Rattle.cox_klstep.specs.ChoiceOf.{IsChoice};
+ghost use Rattle.cox_klstep.specs.ChoiceOf.{IsChoice, total_cost};
 ghost use Rattle.cox_klstep.specs.declared.step.Correction.{Correction};
 
-use crate::sides::{shift, shortens};
-use crate::step::{Descent, Step};
+use crate::step::{Correction, Descent, Step, shift, shortens};
 use cox_base::Side;
 use cox_context::Context;
 use cox_row::{LowerRows, Row};
@@ -28,7 +27,7 @@ struct Choice {
 }
 
 /// Of the steps to the member with the number i by its descents on both sides the one with the least cost, among those whose rows are there
-/// and that have no more corrections than the step by the least left descent.
+/// and that have no more corrections than the step by the least left descent. It costs no more than that step.
 pub(crate) fn cheapest_step<L: LowerRows>(
     alloc: Global,
     ctx: &Context,
@@ -45,6 +44,9 @@ pub(crate) fn cheapest_step<L: LowerRows>(
     ensures corrected { IfOk result (λ step. (k : ℕ) → k < length step.corrections.items → L.holds lower.now (correction_at step.corrections.items k).number) }
     ensures few { IfOk result (λ step. (s : ℕ) (numbers : List ℕ) → IsLeastLeftDescent (integer_matrix ctx.now.matrix) (word_at ctx.now.members i) s
         → AreNeeds (integer_matrix ctx.now.matrix) ctx.now.members s (word_at ctx.now.members i) numbers → length step.corrections.items ≤ length numbers) }
+    ensures cheap { IfOk result (λ step. (s : ℕ) (list : List Correction) → IsLeastLeftDescent (integer_matrix ctx.now.matrix) (word_at ctx.now.members i) s
+        → AreNumbered Side.Left (integer_matrix ctx.now.matrix) ctx.now.members s (word_at ctx.now.members i) list
+        → total_cost step.corrections.items ≤ total_cost list) }
 {
     let _len = ctx.len();
     let least = Descent::of(ctx, i);
@@ -53,7 +55,15 @@ pub(crate) fn cheapest_step<L: LowerRows>(
     if most == 0 {
         return Ok(first);
     }
-    let best = cheapest(ctx, &least, lower, most);
+    let start = Choice {
+        side: Side::Left,
+        descent: least,
+        cost: cost_of(first.corrections.as_slice()),
+    };
+    let best = cheapest(ctx, lower, most, &start);
+    if best.cost == start.cost {
+        return Ok(first);
+    }
     let step = Step::of(
         alloc,
         ctx,
@@ -64,21 +74,34 @@ pub(crate) fn cheapest_step<L: LowerRows>(
     Ok(step)
 }
 
-/// The cheapest choice with at most so many corrections.
-fn cheapest<L: LowerRows>(ctx: &Context, least: &Descent, lower: &L, most: usize) -> Choice
+/// What corrections cost.
+fn cost_of(corrections: &[Correction]) -> u64
+    requires { total_cost corrections.now < 2 ^ 64 }
+    ensures { result ≡ total_cost corrections.now }
+{
+    corrections.iter().map(|c| u64::from(c.number) + 1).sum()
+}
+
+/// The cheapest choice with at most so many corrections; the one to start from where none is cheaper.
+fn cheapest<L: LowerRows>(ctx: &Context, lower: &L, most: usize, start: &Choice) -> Choice
     requires lower { L.elements lower.now ≡ ctx.now }
-    requires least { IsChoice ctx.now (L.holds lower.now) least.now.member most Side.Left least.now }
-    ensures { IsChoice ctx.now (L.holds lower.now) least.now.member most result.side result.descent }
+    requires start { IsChoice ctx.now (L.holds lower.now) start.now.descent.member most start.now.side start.now.descent start.now.cost }
+    ensures choice { IsChoice ctx.now (L.holds lower.now) start.now.descent.member most result.side result.descent result.cost }
+    ensures no_dearer { result.cost ≤ start.now.cost }
 {
     let rank = ctx.matrix().rank() as u8;
-    let mut best = Choice {
-        side: Side::Left,
-        descent: *least,
-        cost: cost(ctx, Side::Left, least, lower, most, u64::MAX).unwrap_or(u64::MAX),
-    };
+    let mut best = *start;
     for s in 1..rank + 1 {
-        best = cheaper(ctx, least.member, Side::Left, s, lower, most, &best);
-        best = cheaper(ctx, least.member, Side::Right, s, lower, most, &best);
+        best = cheaper(ctx, start.descent.member, Side::Left, s, lower, most, &best);
+        best = cheaper(
+            ctx,
+            start.descent.member,
+            Side::Right,
+            s,
+            lower,
+            most,
+            &best,
+        );
     }
     best
 }
@@ -96,8 +119,9 @@ fn cheaper<L: LowerRows>(
     requires i { i < length ctx.now.members }
     requires letter { IsLetter ctx.now.matrix.rank s }
     requires lower { L.elements lower.now ≡ ctx.now }
-    requires best { IsChoice ctx.now (L.holds lower.now) i most best.now.side best.now.descent }
-    ensures { IsChoice ctx.now (L.holds lower.now) i most result.side result.descent }
+    requires best { IsChoice ctx.now (L.holds lower.now) i most best.now.side best.now.descent best.now.cost }
+    ensures choice { IsChoice ctx.now (L.holds lower.now) i most result.side result.descent result.cost }
+    ensures no_dearer { result.cost ≤ best.now.cost }
 {
     if !shortens(ctx, side, s, i) {
         return *best;
@@ -136,7 +160,8 @@ fn cost<L: LowerRows>(
     requires lower { L.elements lower.now ≡ ctx.now }
     requires descent { IsLowering ctx.now side descent.now }
     requires there { L.holds lower.now descent.now.lower }
-    ensures { IfSome result (λ _. IsChoice ctx.now (L.holds lower.now) descent.now.member most side descent.now) }
+    ensures choice { IfSome result (λ cost. IsChoice ctx.now (L.holds lower.now) descent.now.member most side descent.now cost) }
+    ensures less { IfSome result (λ cost. cost < bound) }
 {
     let row = lower.row(descent.lower);
     let sum = correction_sum(ctx, side, descent, row, most, bound)?;
@@ -159,8 +184,11 @@ pub fn correction_sum(
 ) -> Option<u64>
     requires descent { IsLowering ctx.now side descent.now }
     requires row { IsRowAt ctx.now descent.now.lower row.now }
-    ensures { IfSome result (λ _. (list : List Correction) → AreNumbered side (integer_matrix ctx.now.matrix) ctx.now.members descent.now.letter (word_at ctx.now.members descent.now.member) list
+    ensures few { IfSome result (λ _. (list : List Correction) → AreNumbered side (integer_matrix ctx.now.matrix) ctx.now.members descent.now.letter (word_at ctx.now.members descent.now.member) list
         → length list ≤ most) }
+    ensures sum { IfSome result (λ sum. (list : List Correction) → AreNumbered side (integer_matrix ctx.now.matrix) ctx.now.members descent.now.letter (word_at ctx.now.members descent.now.member) list
+        → sum ≡ total_cost list) }
+    ensures less { IfSome result (λ sum. sum < bound) }
 {
     let _len = ctx.len();
     let mut count = 0;

@@ -1,26 +1,28 @@
-//! Makes the row of a member.
-ghost use Rattle.std.specs.Prelude.{◌≡◌, ℕ, ◌+◌, ◌*◌, ◌<◌, ◌≤◌, length, IfOk, IfErr, IfSome, IfNone, ℤ, pos, ◌≤ℤ◌, unsigned_abs};
+//! Makes the row of a member, candidate by candidate.
+ghost use Rattle.std.specs.Prelude.{◌≡◌, ℕ, ◌+◌, ◌*◌, ◌<◌, ◌≤◌, length, IfOk, IfErr, IfSome, IfNone, ℤ, pos, ◌≤ℤ◌, unsigned_abs, OnOk, ◌↔◌, IsTrue, IsBitSet};
 ghost use Rattle.cox_base.specs.IntegerMatrix.{integer_matrix};
 ghost use Rattle.cox_context.specs.Numbers.{word_at};
 ghost use Rattle.cox_row.specs.RowOf.{IsRowAt};
 ghost use Rattle.cox_row.specs.Within.{IsRowWithin, AreSmallMus};
-ghost use Rattle.cox_klstep.specs.TargetOf.{IsTarget};
-ghost use Rattle.cox_klstep.specs.NeedsOf.{IsWithinCost};
+ghost use Rattle.cox_klstep.specs.TargetOf.{IsTarget, IsLeastShift, IsLeastOf};
+ghost use Rattle.cox_klstep.specs.CountedSteps.{IsWithinCost, IsCounted, IsWithinCostTo, IsCountedTo};
 ghost use Rattle.cox_klstep.specs.SourceOf.{IsSource, source_cost};
 ghost use Rattle.cox_klstep.specs.TablesOf.{AreCandidates};
 ghost use Rattle.cox_klstep.specs.Faults.{IsFault, IsNarrowFault};
+ghost use Rattle.cox_row.specs.Extremal.{IsExtremal};
+ghost use Rattle.cox_klstep.specs.Drafts.{IsUnderway, AreBare};
+ghost use Rattle.cox_base.specs.Matrix.{IsLetter};
+ghost use Rattle.cox_base.specs.ShortLex.{normal_form};
+ghost use Rattle.cox_context.specs.Numbering.{IsNumberOf};
+ghost use Rattle.cox_row.specs.LetterSets.{IsSubset};
 
 use crate::StepFault;
-use crate::draft::Draft;
-use crate::mus::Mus;
-use crate::source::Source;
-use crate::steps::Steps;
-use crate::target::{Target, is_subset};
-use crate::values::Values;
+use crate::sums::{Source, Steps, put_polynomial};
+use crate::values::{LargeCoefficient, LargeMembers, Mus, Values, middle};
 use cox_context::Context;
-use cox_poly::Acc;
+use cox_poly::{Acc, PolyFault};
 use cox_row::{MU_LIMIT, Row};
-use std::alloc::Global;
+use std::alloc::{AllocError, Global};
 
 /// The row of a member, from what its polynomials come from and the candidates up to the member for its left descents.
 ///
@@ -43,6 +45,7 @@ pub(crate) fn make_row(
     ensures within { IfOk result (IsRowWithin limit) }
     ensures fault { IfErr result (IsFault (integer_matrix ctx.now.matrix) ctx.now.members limit (λ w. w ≡ target.now.member)) }
     ensures steps { IsWithinCost ctx.now target.now.member (source_cost source.now) steps.old steps.new }
+    ensures counted { IfOk result (λ _. IsCounted ctx.now target.now.member steps.old steps.new) }
 {
     let _len = ctx.len();
     let i = target.member;
@@ -51,7 +54,7 @@ pub(crate) fn make_row(
     for &x in candidates {
         if is_subset(target.right, ctx.right_descent_set(x)) {
             draft.pass(ctx, i, x)?;
-            draft.add_extremal(alloc, ctx, i, source, limit, &mut sums, steps)?;
+            draft.add_extremal(ctx, i, source, limit, &mut sums, steps)?;
         }
     }
     if let Some(fault) = draft.large.fault(ctx, i) {
@@ -96,10 +99,170 @@ fn narrow(alloc: Global, w: u32, mus: &Mus) -> Result<Vec<i32>, StepFault>
     Ok(narrowed)
 }
 
-/// The same number in fewer bits.
+/// A value of mu in fewer bits.
 fn narrow_value(value: i64) -> i32
     requires { unsigned_abs value ≤ MU_LIMIT }
     ensures { result ≡ value }
 {
     value as i32
+}
+
+/// A row that is being made: what it has of the members before one.
+#[derive(Drop)]
+pub(crate) struct Draft {
+    pub(crate) values: Values,
+    pub(crate) mus: Mus,
+    /// Where this has a member, there is no row, and what the other fields have is no longer asked for.
+    pub(crate) large: LargeMembers,
+    /// The members before this one are done.
+    pub(crate) done: u32,
+    /// The least number of a shift from there on, or that of w itself.
+    pub(crate) next: u32,
+}
+
+impl Draft {
+    /// Nothing is done.
+    pub(crate) fn new(alloc: Global, ctx: &Context, i: u32) -> Draft
+        requires { i < length ctx.now.members }
+        ensures underway { (limit : ℤ) → IsUnderway ctx.now i limit result }
+        ensures done { result.done ≡ 0 }
+    {
+        let next = least_shift(ctx, i, 0);
+        Draft {
+            values: Values::new(alloc),
+            mus: Mus::new(alloc),
+            large: LargeMembers::new(alloc),
+            done: 0,
+            next,
+        }
+    }
+
+    /// Gives back memory that is not used.
+    pub(crate) fn shrink(&mut self)
+        ensures extremal { self.new.values.extremal.items ≡ self.old.values.extremal.items }
+        ensures places { self.new.values.places.items ≡ self.old.values.places.items }
+        ensures pool { self.new.values.pool ≡ self.old.values.pool }
+        ensures numbers { self.new.mus.numbers.items ≡ self.old.mus.numbers.items }
+    {
+        self.values.extremal.shrink_to_fit();
+        self.values.places.shrink_to_fit();
+        self.mus.numbers.shrink_to_fit();
+    }
+
+    /// Notes the shifts before a member, where none from the members done to that one is extremal.
+    pub(crate) fn pass(&mut self, ctx: &Context, i: u32, end: u32) -> Result<(), AllocError>
+        requires i { i < length ctx.now.members }
+        requires ahead { self.old.done ≤ end }
+        requires end { end ≤ i }
+        ensures passed { OnOk result ((limit : ℤ) → IsUnderway ctx.now i limit self.old
+            → AreBare ctx.now i self.old.done end → IsUnderway ctx.now i limit self.new) }
+        ensures done { OnOk result (self.new.done ≡ end) }
+    {
+        let _len = ctx.len();
+        while self.next < end {
+            self.mus.note(self.next, 1)?;
+            self.next = least_shift(ctx, i, self.next + 1);
+        }
+        self.done = end;
+        Ok(())
+    }
+
+    /// One extremal member more. Its polynomial is not kept if it has a coefficient above the limit.
+    pub(crate) fn add_extremal(
+        &mut self,
+        ctx: &Context,
+        i: u32,
+        source: &Source,
+        limit: i64,
+        sums: &mut Acc,
+        steps: &mut Steps,
+    ) -> Result<(), AllocError>
+        requires i { i < length ctx.now.members }
+        requires source { IsSource ctx.now i source.now }
+        requires x { self.old.done ≤ i }
+        requires extremal { IsExtremal (integer_matrix ctx.now.matrix) (word_at ctx.now.members i) (word_at ctx.now.members self.old.done) }
+        requires underway { IsUnderway ctx.now i limit self.old }
+        ensures underway { OnOk result (IsUnderway ctx.now i limit self.new) }
+        ensures done { OnOk result (self.new.done ≡ self.old.done + 1) }
+        ensures steps { (start : ℕ) → IsWithinCostTo ctx.now i (source_cost source.now) self.old.done start steps.old
+            → IsWithinCostTo ctx.now i (source_cost source.now) (self.old.done + 1) start steps.new }
+        ensures counted { (start : ℕ) → IsCountedTo ctx.now i self.old.done start steps.old
+            → IsCountedTo ctx.now i (self.old.done + 1) start steps.new }
+    {
+        let _len = ctx.len();
+        let alloc = *self.values.places.allocator();
+        let x = self.done;
+        if put_polynomial(ctx, i, source, x, sums, steps) {
+            match self.values.keep(alloc, x, sums, limit) {
+                Ok(place) => {
+                    let value = middle(ctx, &self.values.pool.at(place as usize), i, x);
+                    self.mus.note(x, value)?;
+                }
+                Err(PolyFault::TooBig { degree, value }) => {
+                    self.large.note(x, LargeCoefficient { degree, value })?;
+                }
+                Err(PolyFault::NoMemory) => return Err(AllocError),
+            }
+        }
+        self.done = x + 1;
+        Ok(())
+    }
+}
+
+/// A member w, with its descents as sets of letters.
+#[derive(Clone, Copy)]
+pub(crate) struct Target {
+    /// The number of w.
+    pub(crate) member: u32,
+    /// The left descents of w: bit s - 1 is that of the letter s.
+    pub(crate) left: u16,
+    /// The right descents of w.
+    pub(crate) right: u16,
+}
+
+impl Target {
+    /// The member with the number i.
+    pub(crate) fn of(ctx: &Context, i: u32) -> Target
+        requires { i < length ctx.now.members }
+        ensures number { result.member ≡ i }
+        ensures target { IsTarget ctx.now result }
+    {
+        Target {
+            member: i,
+            left: ctx.left_descent_set(i),
+            right: ctx.right_descent_set(i),
+        }
+    }
+}
+
+/// Whether each letter of the one set is in the other.
+pub(crate) fn is_subset(wanted: u16, present: u16) -> bool
+    ensures { IsTrue result ↔ IsSubset wanted present }
+{
+    wanted & !present == 0
+}
+
+/// The least number from a given one on of a shift sw or ws that is shorter than w, for the member w with the number i; i where there is none.
+pub(crate) fn least_shift(ctx: &Context, i: u32, from: u32) -> u32
+    requires { i < length ctx.now.members }
+    ensures { IsLeastShift (integer_matrix ctx.now.matrix) ctx.now.members i from result }
+{
+    let _len = ctx.len();
+    let mut least = i;
+    let rank = ctx.matrix().rank() as u8;
+    for s in 1..rank + 1 {
+        least = lesser(ctx.left(s, i), from, least);
+        least = lesser(ctx.right(s, i), from, least);
+    }
+    least
+}
+
+/// The number of a shift where it is one from a given number on and below the least one so far, else that.
+fn lesser(shift: Option<u32>, from: u32, least: u32) -> u32
+    ensures { IsLeastOf shift from least result }
+{
+    match shift {
+        Some(k) if from <= k && k < least => k,
+        _ => least,
+    }
 }

@@ -1,4 +1,4 @@
-//! The recursion at one extremal member.
+//! The recursion at one extremal member: the polynomials that are added up, and how many they are.
 ghost use Rattle.std.specs.Prelude.{◌≡◌, ℕ, ◌+◌, ◌*◌, ◌^◌, ◌<◌, ◌≤◌, ◌↔◌, length, pos, unsigned_abs, false, IsTrue};
 ghost use Rattle.cox_base.specs.Admissible.{IsAdmissible};
 ghost use Rattle.cox_base.specs.IntegerMatrix.{integer_matrix};
@@ -14,76 +14,76 @@ ghost use Rattle.cox_row.specs.Extremal.{IsExtremal};
 ghost use Rattle.cox_row.specs.RowOf.{IsRowAt};
 ghost use Rattle.cox_klstep.specs.StepOf.{IsRowStep, AreNeeded};
 ghost use Rattle.cox_klstep.specs.CorrectionSums.{GivesAt, numbered_sum};
+ghost use Rattle.cox_klstep.specs.CountedSteps.{counted};
+ghost use Rattle.cox_klstep.specs.SourceOf.{IsSource, source_cost};
 
-use crate::sides::shift;
-use crate::step::{Correction, Step};
-use crate::steps::Steps;
+use crate::step::{Correction, Step, shift};
 use cox_context::Context;
 use cox_poly::{Acc, PolyView};
 use cox_row::{Row, polynomial};
+use std::marker::Model;
 
-/// Adds factor q^shift P(x,u) to the sums, for the row of the member u, and says whether x <= u.
-pub(crate) fn add(
-    ctx: &Context,
-    row: &Row,
-    u: u32,
-    x: u32,
+/// What is added to the sums for an x: factor q^shift P(x,u), for the member u with this number.
+#[derive(Clone, Copy)]
+struct Term {
+    number: u32,
     factor: i64,
     shift: u32,
-    sums: &mut Acc,
-    steps: &mut Steps,
-) -> bool
+}
+
+/// Adds a term to the sums, from the row of its member u, and says whether x <= u.
+fn add(ctx: &Context, row: &Row, term: &Term, x: u32, sums: &mut Acc, steps: &mut Steps) -> bool
     requires admissible { IsAdmissible (integer_matrix ctx.now.matrix) }
     requires closed { IsClosed (integer_matrix ctx.now.matrix) ctx.now.members }
-    requires u { u < length ctx.now.members }
+    requires u { term.now.number < length ctx.now.members }
     requires x { x < length ctx.now.members }
-    requires row { IsRowAt ctx.now u row.now }
-    requires shift { shift ≤ 127 }
-    requires factor { unsigned_abs factor ≤ 2 ^ 31 }
+    requires row { IsRowAt ctx.now term.now.number row.now }
+    requires shift { term.now.shift ≤ 127 }
+    requires factor { unsigned_abs term.now.factor ≤ 2 ^ 31 }
     requires room { (k : ℕ) → unsigned_abs (coefficient sums.old k) ≤ 2 ^ 125 }
-    ensures below { IsTrue result ↔ IsBelow (integer_matrix ctx.now.matrix) (word_at ctx.now.members x) (word_at ctx.now.members u) }
-    ensures sum { (f : Coefficients) → IsKazhdanLusztig (integer_matrix ctx.now.matrix) (word_at ctx.now.members x) (word_at ctx.now.members u) f
-        → (k : ℕ) → coefficient sums.new k ≡ plus (coefficient sums.old) (scaled factor (times_q_power shift f)) k }
+    ensures below { IsTrue result ↔ IsBelow (integer_matrix ctx.now.matrix) (word_at ctx.now.members x) (word_at ctx.now.members term.now.number) }
+    ensures sum { (f : Coefficients) → IsKazhdanLusztig (integer_matrix ctx.now.matrix) (word_at ctx.now.members x) (word_at ctx.now.members term.now.number) f
+        → (k : ℕ) → coefficient sums.new k ≡ plus (coefficient sums.old) (scaled term.now.factor (times_q_power term.now.shift f)) k }
     ensures size { (n : ℕ) → ((k : ℕ) → unsigned_abs (coefficient sums.old k) ≤ n * 2 ^ 94)
         → (k : ℕ) → unsigned_abs (coefficient sums.new k) ≤ (n + 1) * 2 ^ 94 }
-    ensures steps { steps.new ≤ steps.old + 1 }
+    ensures one { IsTrue result → steps.new ≡ counted steps.old 1 }
     ensures none { result ≡ false → steps.new ≡ steps.old }
+    ensures kept { steps.old ≤ steps.new }
 {
-    match polynomial(ctx, row, u, x) {
+    match polynomial(ctx, row, term.number, x) {
         Some(p) => {
-            add_known(ctx, &p, u, x, factor, shift, sums, steps);
+            add_known(ctx, &p, term, x, sums, steps);
             true
         }
         None => false,
     }
 }
 
-/// Adds factor q^shift P(x,u) to the sums, where the polynomial is P(x,u).
+/// Adds a term to the sums, where the polynomial is P(x,u) for its member u, and counts that.
 fn add_known(
     ctx: &Context,
     p: &PolyView<'_>,
-    u: u32,
+    term: &Term,
     x: u32,
-    factor: i64,
-    shift: u32,
     sums: &mut Acc,
     steps: &mut Steps,
 )
     requires admissible { IsAdmissible (integer_matrix ctx.now.matrix) }
     requires closed { IsClosed (integer_matrix ctx.now.matrix) ctx.now.members }
-    requires u { u < length ctx.now.members }
-    requires value { IsKazhdanLusztig (integer_matrix ctx.now.matrix) (word_at ctx.now.members x) (word_at ctx.now.members u) (coefficient p.now) }
-    requires shift { shift ≤ 127 }
-    requires factor { unsigned_abs factor ≤ 2 ^ 31 }
+    requires u { term.now.number < length ctx.now.members }
+    requires value { IsKazhdanLusztig (integer_matrix ctx.now.matrix) (word_at ctx.now.members x) (word_at ctx.now.members term.now.number) (coefficient p.now) }
+    requires shift { term.now.shift ≤ 127 }
+    requires factor { unsigned_abs term.now.factor ≤ 2 ^ 31 }
     requires room { (k : ℕ) → unsigned_abs (coefficient sums.old k) ≤ 2 ^ 125 }
-    ensures sum { (f : Coefficients) → IsKazhdanLusztig (integer_matrix ctx.now.matrix) (word_at ctx.now.members x) (word_at ctx.now.members u) f
-        → (k : ℕ) → coefficient sums.new k ≡ plus (coefficient sums.old) (scaled factor (times_q_power shift f)) k }
+    ensures sum { (f : Coefficients) → IsKazhdanLusztig (integer_matrix ctx.now.matrix) (word_at ctx.now.members x) (word_at ctx.now.members term.now.number) f
+        → (k : ℕ) → coefficient sums.new k ≡ plus (coefficient sums.old) (scaled term.now.factor (times_q_power term.now.shift f)) k }
     ensures size { (n : ℕ) → ((k : ℕ) → unsigned_abs (coefficient sums.old k) ≤ n * 2 ^ 94)
         → (k : ℕ) → unsigned_abs (coefficient sums.new k) ≤ (n + 1) * 2 ^ 94 }
-    ensures steps { steps.new ≤ steps.old + 1 }
+    ensures one { steps.new ≡ counted steps.old 1 }
+    ensures kept { steps.old ≤ steps.new }
 {
     let _degree = p.degree();
-    sums.add_scaled(p, factor, shift);
+    sums.add_scaled(p, term.factor, term.shift);
     steps.take();
 }
 
@@ -106,16 +106,28 @@ pub(crate) fn sum_up(
     ensures below { IsTrue result ↔ IsBelow (integer_matrix ctx.now.matrix) (word_at ctx.now.members x) (word_at ctx.now.members step.now.member) }
     ensures value { IsTrue result → IsKazhdanLusztig (integer_matrix ctx.now.matrix) (word_at ctx.now.members x) (word_at ctx.now.members step.now.member) (coefficient sums.new) }
     ensures steps { steps.new ≤ steps.old + (2 + length step.now.corrections.items) }
+    ensures some { IsTrue result → counted steps.old 1 ≤ steps.new }
+    ensures kept { steps.old ≤ steps.new }
     ensures none { result ≡ false → steps.new ≡ steps.old }
 {
     let _len = ctx.len();
     let Some(shorter) = shift(ctx, step.side, step.letter, x) else {
         unreachable!();
     };
-    if !add(ctx, lower, step.lower, shorter, 1, 0, sums, steps) {
+    let at_shorter = Term {
+        number: step.lower,
+        factor: 1,
+        shift: 0,
+    };
+    if !add(ctx, lower, &at_shorter, shorter, sums, steps) {
         return false;
     }
-    add(ctx, lower, step.lower, x, 1, 1, sums, steps);
+    let at_x = Term {
+        number: step.lower,
+        factor: 1,
+        shift: 1,
+    };
+    add(ctx, lower, &at_x, x, sums, steps);
     correct(ctx, step, needed, x, sums, steps);
     true
 }
@@ -131,6 +143,7 @@ fn correct(ctx: &Context, step: &Step, needed: &[&Row], x: u32, sums: &mut Acc, 
     ensures sum { (P : ℕ → Coefficients) → GivesAt (integer_matrix ctx.now.matrix) ctx.now.members (word_at ctx.now.members x) P
         → (k : ℕ) → coefficient sums.new k ≡ minus (coefficient sums.old) (numbered_sum P step.now.corrections.items) k }
     ensures steps { steps.new ≤ steps.old + length step.now.corrections.items }
+    ensures kept { steps.old ≤ steps.new }
 {
     for (k, correction) in step.corrections.iter().enumerate() {
         if x <= correction.number {
@@ -160,16 +173,92 @@ fn take_off(
     ensures size { (n : ℕ) → ((k : ℕ) → unsigned_abs (coefficient sums.old k) ≤ n * 2 ^ 94)
         → (k : ℕ) → unsigned_abs (coefficient sums.new k) ≤ (n + 1) * 2 ^ 94 }
     ensures steps { steps.new ≤ steps.old + 1 }
+    ensures kept { steps.old ≤ steps.new }
 {
-    let factor = -i64::from(correction.factor);
-    add(
+    let term = Term {
+        number: correction.number,
+        factor: -i64::from(correction.factor),
+        shift: correction.shift,
+    };
+    add(ctx, row, &term, x, sums, steps);
+}
+
+/// What the polynomials of the row of a member come from: a step with the rows that it is made from.
+#[derive(Clone, Copy)]
+pub(crate) struct Source<'a> {
+    pub(crate) step: &'a Step,
+    /// The row of the shorter element.
+    pub(crate) lower: &'a Row,
+    /// The rows of the corrections, in their order.
+    pub(crate) needed: &'a [&'a Row],
+}
+
+/// The sums become those of P(x,w), for an extremal x; says whether x <= w.
+pub(crate) fn put_polynomial(
+    ctx: &Context,
+    i: u32,
+    source: &Source,
+    x: u32,
+    sums: &mut Acc,
+    steps: &mut Steps,
+) -> bool
+    requires i { i < length ctx.now.members }
+    requires source { IsSource ctx.now i source.now }
+    requires x { x < length ctx.now.members }
+    requires extremal { IsExtremal (integer_matrix ctx.now.matrix) (word_at ctx.now.members i) (word_at ctx.now.members x) }
+    ensures below { IsTrue result ↔ IsBelow (integer_matrix ctx.now.matrix) (word_at ctx.now.members x) (word_at ctx.now.members i) }
+    ensures value { IsTrue result → IsKazhdanLusztig (integer_matrix ctx.now.matrix) (word_at ctx.now.members x) (word_at ctx.now.members i) (coefficient sums.new) }
+    ensures steps { steps.new ≤ steps.old + source_cost source.now }
+    ensures some { IsTrue result → counted steps.old 1 ≤ steps.new }
+    ensures kept { steps.old ≤ steps.new }
+    ensures none { result ≡ false → steps.new ≡ steps.old }
+{
+    sums.clear();
+    sum_up(
         ctx,
-        row,
-        correction.number,
+        source.step,
+        source.lower,
+        source.needed,
         x,
-        factor,
-        correction.shift,
         sums,
         steps,
-    );
+    )
+}
+
+/// How many polynomials were added up so far. It stands still at the end of its 64 bits.
+#[derive(Drop)]
+pub struct Steps {
+    count: u64,
+}
+
+impl Model for Steps {
+    ghost use Rattle.std.specs.Prelude.{ℕ};
+
+    ghost Value = { ℕ };
+
+    ghost view = { λ s. s.count };
+}
+
+impl Steps {
+    /// None so far.
+    pub fn new() -> Steps
+        ensures { result ≡ 0 }
+    {
+        Steps { count: 0 }
+    }
+
+    /// How many there were.
+    pub fn taken(&self) -> u64
+        ensures { result ≡ self.now }
+    {
+        self.count
+    }
+
+    /// One more.
+    pub(crate) fn take(&mut self)
+        ensures one { self.new ≡ counted self.old 1 }
+        ensures kept { self.old ≤ self.new }
+    {
+        self.count = self.count.saturating_add(1);
+    }
 }

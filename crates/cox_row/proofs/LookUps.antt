@@ -16,10 +16,11 @@ use Rattle.cox_row.proofs.MuLemmas.{mu-zero}
 
 module _ (A : IntegerMatrix) (members : List (List ℕ)) (w : List ℕ) where
   -- the polynomial at a place is that of all elements for which the element there stands
-  pub value-at : (x : List ℕ) (top k : ℕ) (numbers places : List ℕ) (pool : List (List ℤ)) → HavePolynomials A members w numbers places pool
+  pub value-raised : (x : List ℕ) (top k : ℕ) (numbers places : List ℕ) (pool : List (List ℤ))
+      → HavePolynomials A members w numbers places pool
       → StandsFor A w x (word_at members top) → k < length numbers → number_at numbers k ≡ top
       → IsKazhdanLusztig A x w (coefficient (polynomial_at pool (number_at places k)))
-  value-at x top k numbers places pool h stands l e = stands.same _ (rw e at (h.value k l))
+  value-raised x top k numbers places pool h stands l e = stands.same _ (rw e at (h.value k l))
 
   pub below-at : (x : List ℕ) (top k : ℕ) (numbers : List ℕ) → AreExtremal A members w numbers → StandsFor A w x (word_at members top)
       → k < length numbers → number_at numbers k ≡ top → IsBelow A x w

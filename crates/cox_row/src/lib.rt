@@ -23,5 +23,5 @@ mod search;
 
 pub use look_up::{mu, polynomial, pool_len};
 pub use lower_rows::LowerRows;
-pub use raised::{Raise, raise_fully, raise_once};
+pub use raised::raise_fully;
 pub use row::{MU_LIMIT, Row};

@@ -10,7 +10,7 @@ use cox_context::Context;
 
 /// Where raising by one letter leads.
 #[derive(Clone, Copy)]
-pub enum Raise {
+pub(crate) enum Raise {
     /// Nowhere, since the member is extremal.
     Done,
     /// To the member with this number.
@@ -40,7 +40,7 @@ pub fn raise_fully(ctx: &Context, i: u32, x: u32) -> Option<u32>
 }
 
 /// Where raising the member x by one letter leads, for a w with these descents.
-pub fn raise_once(ctx: &Context, left: u16, right: u16, x: u32) -> Raise
+pub(crate) fn raise_once(ctx: &Context, left: u16, right: u16, x: u32) -> Raise
     requires admissible { IsAdmissible (integer_matrix ctx.now.matrix) }
     requires left { AreLetters ctx.now.matrix.rank left }
     requires right { AreLetters ctx.now.matrix.rank right }

@@ -21,7 +21,8 @@ use Rattle.cox_hecke.proofs.PolynomialValues.{kazhdan_lusztig-same}
 use Rattle.cox_row.proofs.MuLemmas.{mu-words}
 use Rattle.cox_row.specs.declared.row.TheConstants.{MU_LIMIT}
 use Rattle.cox_klstep.specs.Limits.{IsLargeCoefficient, IsLargeMu}
-use Rattle.cox_rows.specs.Beyond.{IsBeyond, coefficient, mu}
+use Rattle.cox_rows.specs.Beyond.{IsBeyond}
+use Rattle.cox_rows.proofs.LargeRows.{coefficient-beyond, mu-beyond, beyond-cases}
 
 -- a property that can be told of each element, and that depends on the element alone: some word of a list has it, or none of the elements
 -- that it names
@@ -84,12 +85,17 @@ module _ (A : IntegerMatrix) (g : IsAdmissible A) (limit : ℤ) (least : pos 0 �
   beyond_at-same w x y e (large_mu {m} h) = large_mu (mu_large-words w w x y m e (same-refl A g w) h)
 
   pub beyond-same : (v w : List ℕ) → SameElement A v w → IsBeyond A limit v → IsBeyond A limit w
-  beyond-same v w e (coefficient {x} {k} {c} h) = coefficient (coefficient-words v w x x k c (same-refl A g x) e h)
-  beyond-same v w e (mu {x} {m} h) = mu (mu_large-words v w x x m (same-refl A g x) e h)
+  beyond-same v w e h = ⊎_elim
+      (λ (found : (x : List ℕ) × (k : ℕ) × (c : ℤ) × IsLargeCoefficient A limit x v k c).
+      coefficient-beyond A limit w found.0 found.1 found.2
+      (coefficient-words v w found.0 found.0 found.1 found.2 (same-refl A g found.0) e found.3))
+      (λ (found : (x : List ℕ) × (m : ℤ) × IsLargeMu A (pos MU_LIMIT) x v m).
+      mu-beyond A limit w found.0 found.1 (mu_large-words v w found.0 found.0 found.1 (same-refl A g found.0) e found.2))
+      (beyond-cases A limit v h)
 
   at-beyond : (w x : List ℕ) → IsBeyondAt w x → IsBeyond A limit w
-  at-beyond w x (large_coefficient h) = coefficient h
-  at-beyond w x (large_mu h) = mu h
+  at-beyond w x (large_coefficient {k} {c} h) = coefficient-beyond A limit w x k c h
+  at-beyond w x (large_mu {m} h) = mu-beyond A limit w x m h
 
   -- ---- one element
 
@@ -164,5 +170,8 @@ module _ (A : IntegerMatrix) (g : IsAdmissible A) (limit : ℤ) (least : pos 0 �
           ((below_list A g w).1 x)
 
       nowhere : ((x : List ℕ) → occurrences A x (below_list A g w).0 ≡ 1 → IsBeyondAt w x → ⊥) → IsBeyond A limit w → ⊥
-      nowhere none (coefficient {x} h) = at_none none x (large_coefficient h)
-      nowhere none (mu {x} h) = at_none none x (large_mu h)
+      nowhere none h = ⊎_elim
+          (λ (found : (x : List ℕ) × (k : ℕ) × (c : ℤ) × IsLargeCoefficient A limit x w k c).
+          at_none none found.0 (large_coefficient found.3))
+          (λ (found : (x : List ℕ) × (m : ℤ) × IsLargeMu A (pos MU_LIMIT) x w m). at_none none found.0 (large_mu found.2))
+          (beyond-cases A limit w h)

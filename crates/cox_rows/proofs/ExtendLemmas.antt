@@ -78,6 +78,7 @@ extended-same h inside = record {
     there = λ i l. rw (at i (inside i l)) l;
     only = λ j l. (j, l, at j (inside j l));
   };
+  steps = refl;
 }
   where
     at : (i : ℕ) → i < length h.elements.members → slice_index (range_with_len 0 (length h.elements.members)) i ≡ i

@@ -1,5 +1,7 @@
 -- what Need(w) is, by the least left descent of w
 pub mod NeedCases
+-- coefficients and values of mu above their limits
+pub mod LargeRows
 -- whether a row is beyond the limits can be told
 pub mod BeyondLemmas
 -- whether Need(w) has such a row can be told
@@ -12,6 +14,8 @@ pub mod RowBeyond
 pub mod RowsFaultLemmas
 -- how rows change while others are made
 pub mod EnsureLemmas
+-- how much is added up
+pub mod StepsMade
 -- settled members
 pub mod SettledLemmas
 -- rows under new numbers

@@ -1,5 +1,5 @@
 -- A row within the limits is not beyond them, so no row that is held is.
-use Rattle.std.proofs.Common.{◌≡◌, ℕ, ◌<◌, List, length, true, false, Option, ℤ, pos, arith}
+use Rattle.std.proofs.Common.{◌≡◌, ℕ, ◌<◌, List, length, true, false, Option, ℤ, pos, ⊎_elim, arith}
 use Rattle.std.specs.Prelude.{slice_index_or, unsigned_abs, ◌<ℤ◌, ◌≤ℤ◌}
 use Rattle.std.proofs.lemmas.Int.{ints}
 use Rattle.cox_base.specs.IntegerMatrix.{IntegerMatrix, integer_matrix}
@@ -22,7 +22,8 @@ use Rattle.cox_row.specs.Within.{IsRowWithin}
 use Rattle.cox_row.proofs.MuLemmas.{mu-words}
 use Rattle.cox_klstep.specs.Limits.{IsLargeCoefficient, IsLargeMu}
 use Rattle.cox_klstep.proofs.Finished.{none-large}
-use Rattle.cox_rows.specs.Beyond.{IsBeyond, coefficient, mu}
+use Rattle.cox_rows.specs.Beyond.{IsBeyond}
+use Rattle.cox_rows.proofs.LargeRows.{beyond-cases}
 use Rattle.cox_rows.specs.Holding.{AreRows, held}
 use Rattle.cox_rows.proofs.HeldLemmas.{held-row}
 
@@ -51,8 +52,11 @@ module _ (A : IntegerMatrix) (g : IsAdmissible A) (members : List (List ℕ)) (c
       in omega (arith, ints, above, few)
 
   pub not_beyond : IsBeyond A limit (word_at members i) → ⊥
-  not_beyond (coefficient {x} {k} {c} h) = none-coefficient x k c h
-  not_beyond (mu {x} {m} h) = none-mu x m h
+  not_beyond h = ⊎_elim
+      (λ (found : (x : List ℕ) × (k : ℕ) × (c : ℤ) × IsLargeCoefficient A limit x (word_at members i) k c).
+      none-coefficient found.0 found.1 found.2 found.3)
+      (λ (found : (x : List ℕ) × (m : ℤ) × IsLargeMu A (pos MU_LIMIT) x (word_at members i) m). none-mu found.0 found.1 found.2)
+      (beyond-cases A limit (word_at members i) h)
 
 -- what is held is not beyond the limits
 pub held-not_beyond : (e : Elements) (limit : ℤ) (rows : List (Option Row)) → IsAdmissible (integer_matrix e.matrix)

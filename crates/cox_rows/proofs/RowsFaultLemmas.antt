@@ -7,7 +7,8 @@ use Rattle.cox_klstep.specs.declared.fault.StepFault.{StepFault}
 use Rattle.cox_klstep.specs.declared.fault.StepFault.TheVariants.{Coefficient, Mu, NoMemory}
 use Rattle.cox_klstep.specs.Faults.{IsFault}
 use Rattle.cox_rows.specs.RowsFaults.{IsMemberWith, IsRowsFault}
-use Rattle.cox_rows.specs.Beyond.{IsBeyond, coefficient, mu}
+use Rattle.cox_rows.specs.Beyond.{IsBeyond}
+use Rattle.cox_rows.proofs.LargeRows.{coefficient-beyond, mu-beyond}
 
 -- by a weaker property of numbers
 number_fault-weaker : (A : IntegerMatrix) (members : List (List ℕ)) (limit : ℤ) (P Q : ℕ → Type 0) (fault : StepFault)
@@ -32,6 +33,14 @@ fault-of_member e limit P i fault within one h = number_fault-weaker (integer_ma
 pub fault-beyond : (e : Elements) (limit : ℤ) (P : List ℕ → Type 0) (fault : StepFault) → fault ≢ NoMemory
     → IsRowsFault e limit P fault
     → (w : ℕ) × IsMemberWith e P w × IsBeyond (integer_matrix e.matrix) limit (word_at e.members w)
-fault-beyond e limit P (Coefficient x w degree value) some h = (w, h.0, coefficient h.1.large)
-fault-beyond e limit P (Mu x w value) some h = (w, h.0, mu h.1.large)
+fault-beyond e limit P (Coefficient x w degree value) some h = (
+  w,
+  h.0,
+  coefficient-beyond (integer_matrix e.matrix) limit (word_at e.members w) (word_at e.members x) degree value h.1.large,
+)
+fault-beyond e limit P (Mu x w value) some h = (
+  w,
+  h.0,
+  mu-beyond (integer_matrix e.matrix) limit (word_at e.members w) (word_at e.members x) value h.1.large,
+)
 fault-beyond e limit P NoMemory some h = absurd (some refl)

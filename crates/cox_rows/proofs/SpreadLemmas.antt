@@ -20,7 +20,8 @@ use Rattle.cox_row.specs.Mus.{value_at}
 use Rattle.cox_row.specs.RowOf.{IsRowOf}
 use Rattle.cox_row.specs.Within.{IsRowWithin}
 use Rattle.cox_row.specs.RowLists.{row_at}
-use Rattle.cox_rows.specs.Beyond.{IsBeyond, coefficient as large_coefficient, mu as large_mu}
+use Rattle.cox_rows.specs.Beyond.{IsBeyond}
+use Rattle.cox_rows.proofs.LargeRows.{coefficient-beyond, mu-beyond}
 use Rattle.cox_rows.specs.Holding.{IsHeldRow, AreRows, held}
 use Rattle.cox_rows.specs.Spread.{IsMovable, IsRenumbered, IsFromBefore, AreSpread}
 use Rattle.cox_rows.proofs.HeldLemmas.{held-at, row-there, not-there}
@@ -82,18 +83,19 @@ row-within A members w limit row is none = record {
   coefficients = λ j l k.
       let place = is.polynomials.distinct.used j l
       in by_lt_z limit (pos (unsigned_abs (coefficient (polynomial_at row.pool j) k)))
-      (λ above. absurd (none (large_coefficient {x = word_at members (number_at row.extremal.items place.0)} record {
+      (λ above. absurd (none (coefficient-beyond A limit w (word_at members (number_at row.extremal.items place.0)) k
+      (coefficient (polynomial_at row.pool j) k) (record {
         polynomial = coefficient (polynomial_at row.pool j);
         is = rw place.2 at (is.polynomials.value place.0 (omega (arith, place.1, is.polynomials.size)));
         value = refl;
         above = above;
-      })))
+      }))))
       (λ small. small);
   mu = λ k l. by_lt_z (pos MU_LIMIT) (pos (unsigned_abs (value_at row.mu.items k)))
-      (λ above. absurd (none (large_mu {x = word_at members (number_at row.neighbours.items k)} record {
+      (λ above. absurd (none (mu-beyond A limit w (word_at members (number_at row.neighbours.items k)) (value_at row.mu.items k) (record {
         is = is.mus.value k (omega (arith, l, is.mus.size));
         above = above;
-      })))
+      }))))
       (λ small. omega (arith, ints, small));
 }
 

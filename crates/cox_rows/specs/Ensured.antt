@@ -11,13 +11,15 @@ use Rattle.cox_klstep.specs.TablesOf.{AreTables}
 use Rattle.cox_rows.specs.Beyond.{NeedsBeyond}
 use Rattle.cox_rows.specs.Holding.{Holding, HasRow}
 
--- the context and the limit stay, what is held stays, and what is new is needed by w
+-- the context and the limit stay, what is held stays, and what is new is needed by w; nothing is added up where all that w needs is held
 pub record IsEnsured (w : List ℕ) (old new : Holding) : Type 0 where
   pub elements : new.elements ≡ old.elements
   pub limit : new.limit ≡ old.limit
   pub kept : (j : ℕ) → HasRow old j → HasRow new j
   pub needed : (j : ℕ) → HasRow new j
       → HasRow old j ⊎ IsNeeded (integer_matrix old.elements.matrix) w (word_at old.elements.members j)
+  pub again : ((j : ℕ) → j < length old.elements.members
+      → IsNeeded (integer_matrix old.elements.matrix) w (word_at old.elements.members j) → HasRow old j) → new.steps ≡ old.steps
 
 -- Need(w) has no row beyond the limits but, maybe, that of w itself
 pub record AreNeedsSmall (A : IntegerMatrix) (limit : ℤ) (w : List ℕ) : Type 0 where

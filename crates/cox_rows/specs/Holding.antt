@@ -7,11 +7,13 @@ use Rattle.cox_row.specs.RowLists.{row_at}
 use Rattle.cox_row.specs.RowOf.{IsRowAt}
 use Rattle.cox_row.specs.Within.{IsRowWithin}
 
--- the Coxeter matrix and the members of the context, the greatest absolute value of a coefficient, and which members have a row
+-- the Coxeter matrix and the members of the context, the greatest absolute value of a coefficient, which members have a row, and how many
+-- polynomials were added up for the rows that were made here
 pub record Holding : Type 0 where
   pub elements : Elements
   pub limit : ℤ
   pub holds : List Bool
+  pub steps : ℕ
 
 -- the row of the member with the number i is there
 abbrev pub HasRow : Holding → ℕ → Type 0

@@ -12,6 +12,7 @@ ghost use Rattle.cox_klstep.specs.StepOf.{IsDescentAt};
 ghost use Rattle.cox_klstep.specs.NeedsOf.{HasNeeds, AreNeeds};
 ghost use Rattle.cox_klstep.specs.TablesOf.{AreTables};
 ghost use Rattle.cox_klstep.specs.Faults.{IsFault};
+ghost use Rattle.cox_klstep.specs.CountedSteps.{IsWithinSteps, IsCounted, IsMadeByStep};
 ghost use Rattle.cox_rows.specs.Beyond.{NeedsBeyond};
 ghost use Rattle.cox_rows.specs.Holding.{HasRow, held};
 ghost use Rattle.cox_rows.specs.RowsFaults.{IsRowsFault, IsFaultOfSome};
@@ -19,11 +20,11 @@ ghost use Rattle.cox_rows.specs.Ensured.{IsEnsured, IsSettled, AreNeedsSmall};
 
 use crate::Rows;
 use crate::flags::set_at;
-use cox_klstep::{Descent, StepFault, Tables, needs, row};
+use cox_klstep::{Descent, StepFault, Steps, Tables, needs, row};
 use std::alloc::{AllocError, Global};
 
 impl Rows {
-    /// Makes the rows of Need(z) that are not there, for the member z with the number i, and no others.
+    /// Makes the rows of Need(z) that are not there, for the member z with the number i, and no others. Where all are there, nothing is added up.
     ///
     /// `Coefficient` or `Mu` where the row of an element of Need(z) is beyond a limit; what was made before that is held. In A 2, with all six elements
     /// as members, the rows that `121` needs are those of `121`, `21`, `1` and the identity.
@@ -68,7 +69,7 @@ impl Rows {
         Ok(())
     }
 
-    /// Makes all rows that are not there, in the order of the members.
+    /// Makes all rows that are not there, in the order of the members. Where all are there, nothing is added up.
     ///
     /// A fault is that of the row of some member.
     pub fn ensure_all(&mut self) -> Result<(), StepFault>
@@ -78,6 +79,7 @@ impl Rows {
         ensures there { OnOk result ((i : ℕ) → i < length self.old.elements.members → HasRow self.new i) }
         ensures small { OnOk result ((i : ℕ) → i < length self.old.elements.members
             → ¬ NeedsBeyond (integer_matrix self.old.elements.matrix) self.old.limit (word_at self.old.elements.members i)) }
+        ensures again { ((i : ℕ) → i < length self.old.elements.members → HasRow self.old i) → self.new.steps ≡ self.old.steps }
         ensures fault { IfErr result (IsFaultOfSome self.old.elements self.old.limit) }
     {
         'members: for i in 0..self.context().len() {
@@ -96,6 +98,7 @@ impl Rows {
         ensures limit { self.new.limit ≡ self.old.limit }
         ensures kept { (j : ℕ) → HasRow self.old j → HasRow self.new j }
         ensures there { OnOk result (HasRow self.new i) }
+        ensures again { HasRow self.old i → self.new.steps ≡ self.old.steps }
         ensures small { OnOk result (¬ NeedsBeyond (integer_matrix self.old.elements.matrix) self.old.limit (word_at self.old.elements.members i)) }
         ensures fault { IfErr result (IsFaultOfSome self.old.elements self.old.limit) }
     {
@@ -131,6 +134,10 @@ impl Rows {
         ensures kept { (j : ℕ) → HasRow self.old j → HasRow self.new j }
         ensures others { (j : ℕ) → j ≢ i → HasRow self.new j → HasRow self.old j }
         ensures there { OnOk result (HasRow self.new i) }
+        ensures again { HasRow self.old i → self.new.steps ≡ self.old.steps }
+        ensures steps { IsWithinSteps self.old.elements i self.old.steps self.new.steps }
+        ensures counted { OnOk result (¬ HasRow self.old i → IsMadeByStep self.old.elements (HasRow self.old) i
+            → IsCounted self.old.elements i self.old.steps self.new.steps) }
         ensures fault { IfErr result (IsFault (integer_matrix self.old.elements.matrix) self.old.elements.members self.old.limit (λ w. w ≡ i)) }
     {
         if self.held.get(i).is_some() {
@@ -138,15 +145,17 @@ impl Rows {
         }
         let alloc = *self.settled.allocator();
         let mut tables = self.take_tables(alloc)?;
+        let mut steps = Steps::new();
         let made = row(
             alloc,
             self.held.context(),
             i,
             &self.held,
             &mut tables,
-            &mut self.steps,
+            &mut steps,
         );
         self.tables = Some(tables);
+        self.held.add_steps(&steps);
         match made {
             Ok(row) => {
                 self.held.put(i, row)?;

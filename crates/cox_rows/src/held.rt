@@ -9,6 +9,7 @@ ghost use Rattle.cox_base.specs.SortedList.{IsListOf};
 ghost use Rattle.cox_context.specs.FaultMeaning.{IsRefusal};
 ghost use Rattle.cox_context.specs.Numbers.{word_at};
 ghost use Rattle.cox_row.specs.RowLists.{row_at};
+ghost use Rattle.cox_klstep.specs.CountedSteps.{counted};
 ghost use Rattle.cox_rows.specs.Beyond.{IsBeyond};
 ghost use Rattle.cox_rows.specs.Holding.{Holding, HasRow, IsHeldRow, AreBoth, held};
 ghost use Rattle.cox_rows.specs.Spread.{IsMovable, AreSpread, AreCarried};
@@ -16,6 +17,7 @@ ghost use Rattle.cox_rows.specs.Extended.{IsLeft};
 
 use cox_base::Word;
 use cox_context::{Context, ContextFault, MAX_MEMBERS};
+use cox_klstep::Steps;
 use cox_minroots::RootTable;
 use cox_row::{LowerRows, Row};
 use std::alloc::{AllocError, Global};
@@ -28,6 +30,8 @@ pub(crate) struct Held {
     context: Context,
     rows: Vec<Option<Row>>,
     limit: i64,
+    /// How many polynomials were added up for the rows that were made here.
+    steps: u64,
 }
 
 impl Model for Held {
@@ -35,7 +39,7 @@ impl Model for Held {
 
     ghost Value = { Holding };
 
-    ghost view = { λ h. record { elements = h.context; limit = h.limit; holds = held h.rows.items } };
+    ghost view = { λ h. record { elements = h.context; limit = h.limit; holds = held h.rows.items; steps = h.steps } };
 
     ghost invariant = { λ h. AreRows h.context h.limit h.rows.items };
 }
@@ -44,12 +48,13 @@ impl Held {
     /// A context with no rows.
     pub(crate) fn new(alloc: Global, context: Context, limit: i64) -> Held
         requires { pos 0 ≤ℤ limit }
-        ensures { result ≡ record { elements = context; limit = limit; holds = [] } }
+        ensures { result ≡ record { elements = context; limit = limit; holds = []; steps = 0 } }
     {
         Held {
             context,
             rows: Vec::new(alloc),
             limit,
+            steps: 0,
         }
     }
 
@@ -93,6 +98,7 @@ impl Held {
         ensures there { OnOk result (HasRow self.new i) }
         ensures kept { (j : ℕ) → HasRow self.old j → HasRow self.new j }
         ensures others { (j : ℕ) → j ≢ i → HasRow self.new j → HasRow self.old j }
+        ensures steps { self.new.steps ≡ self.old.steps }
     {
         put_at(&mut self.rows, i as usize, row)
     }
@@ -105,17 +111,28 @@ impl Held {
         ensures limit { self.new.limit ≡ self.old.limit }
         ensures gone { ¬ HasRow self.new i }
         ensures others { (j : ℕ) → j ≢ i → HasRow self.new j ↔ HasRow self.old j }
+        ensures steps { self.new.steps ≡ self.old.steps }
     {
         take_at(&mut self.rows, i as usize)
     }
 
-    /// The context and the rows.
-    pub(crate) fn into_parts(self) -> (Context, Vec<Option<Row>>)
-        ensures context { result.0 ≡ self.elements }
-        ensures rows { (i : ℕ) → IfSome (row_at result.1.items i) (IsHeldRow self.elements self.limit i) }
-        ensures exactly { self.holds ≡ held result.1.items }
+    /// How many polynomials were added up for the rows that were made here.
+    pub(crate) fn steps(&self) -> u64
+        ensures { result ≡ self.now.steps }
     {
-        (self.context, self.rows)
+        self.steps
+    }
+
+    /// Adds those for one row more. The count stands still at the end of its 64 bits.
+    pub(crate) fn add_steps(&mut self, more: &Steps)
+        ensures elements { self.new.elements ≡ self.old.elements }
+        ensures limit { self.new.limit ≡ self.old.limit }
+        ensures kept { (j : ℕ) → HasRow self.old j → HasRow self.new j }
+        ensures others { (j : ℕ) → HasRow self.new j → HasRow self.old j }
+        ensures counted { self.new.steps ≡ counted self.old.steps more.now }
+        ensures none { more.now ≡ 0 → self.new.steps ≡ self.old.steps }
+    {
+        self.steps = self.steps.saturating_add(more.taken());
     }
 
     /// Puts rows of members beside those that are there. It takes no memory.
@@ -126,6 +143,7 @@ impl Held {
         ensures kept { (i : ℕ) → HasRow self.old i → HasRow self.new i }
         ensures added { (i : ℕ) → is_some (row_at rows.items i) ≡ true → HasRow self.new i }
         ensures others { (i : ℕ) → HasRow self.new i → HasRow self.old i ⊎ (is_some (row_at rows.items i) ≡ true) }
+        ensures steps { self.new.steps ≡ self.old.steps }
     {
         let alloc = *self.rows.allocator();
         let old = mem::replace(&mut self.rows, Vec::new(alloc));
@@ -150,6 +168,7 @@ impl Held {
         ensures carried { IfOk result (λ moved. AreCarried self.old self.new moved.items) }
         ensures refused { IfErr result (IsRefusal (IsInUnion (integer_matrix group.now) w.now.items self.old.elements.members) limit) }
         ensures unchanged { IfErr result (IsLeft self.old self.new) }
+        ensures steps { self.new.steps ≡ self.old.steps }
     {
         let _old = self.context.len();
         let moved = self.context.extend(group, w, limit)?;

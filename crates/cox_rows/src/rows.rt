@@ -22,7 +22,7 @@ use crate::flags::spread_flags;
 use crate::held::Held;
 use cox_base::Word;
 use cox_context::{Context, ContextFault, MAX_MEMBERS};
-use cox_klstep::{Steps, Tables};
+use cox_klstep::Tables;
 use cox_minroots::RootTable;
 use cox_poly::PolyView;
 use cox_row::{LowerRows, Row, mu, polynomial, pool_len};
@@ -36,7 +36,6 @@ pub struct Rows {
     pub(crate) held: Held,
     pub(crate) settled: Vec<bool>,
     pub(crate) tables: Option<Tables>,
-    pub(crate) steps: Steps,
 }
 
 impl Model for Rows {
@@ -54,14 +53,13 @@ impl Rows {
     /// A context with no rows; no coefficient of a row is to be above the limit in absolute value.
     pub fn new(alloc: Global, context: Context, limit: i64) -> Result<Rows, AllocError>
         requires { pos 0 ≤ℤ limit }
-        ensures { IfOk result (λ r. r ≡ record { elements = context; limit = limit; holds = [] }) }
+        ensures { IfOk result (λ r. r ≡ record { elements = context; limit = limit; holds = []; steps = 0 }) }
     {
         let tables = Tables::of(alloc, &context)?;
         Ok(Rows {
             held: Held::new(alloc, context, limit),
             settled: Vec::new(alloc),
             tables: Some(tables),
-            steps: Steps::new(),
         })
     }
 
@@ -140,8 +138,10 @@ impl Rows {
     }
 
     /// How many polynomials were added up so far for the rows that were made here. It stands still at the end of its 64 bits.
-    pub fn steps(&self) -> u64 {
-        self.steps.taken()
+    pub fn steps(&self) -> u64
+        ensures { result ≡ self.now.steps }
+    {
+        self.held.steps()
     }
 
     /// Takes the row of the member with the number i out; `None` exactly where it is not held. It takes no memory.
@@ -152,20 +152,12 @@ impl Rows {
         ensures limit { self.new.limit ≡ self.old.limit }
         ensures gone { ¬ HasRow self.new i }
         ensures others { (j : ℕ) → j ≢ i → HasRow self.new j ↔ HasRow self.old j }
+        ensures steps { self.new.steps ≡ self.old.steps }
     {
         self.held.take(i)
     }
 
-    /// The context and the rows, each under its member's number. There may be fewer places than members.
-    pub fn into_parts(self) -> (Context, Vec<Option<Row>>)
-        ensures context { result.0 ≡ self.elements }
-        ensures rows { (i : ℕ) → IfSome (row_at result.1.items i) (IsHeldRow self.elements self.limit i) }
-        ensures exactly { self.holds ≡ held result.1.items }
-    {
-        self.held.into_parts()
-    }
-
-    /// HasRow these rows too, each under its member's number. There may be fewer places than members. It takes no memory.
+    /// Holds these rows too, each under its member's number. There may be fewer places than members. It takes no memory.
     pub fn adopt(&mut self, rows: Vec<Option<Row>>)
         requires { (i : ℕ) → IfSome (row_at rows.items i) (IsHeldRow self.old.elements self.old.limit i) }
         ensures elements { self.new.elements ≡ self.old.elements }
@@ -173,6 +165,7 @@ impl Rows {
         ensures kept { (i : ℕ) → HasRow self.old i → HasRow self.new i }
         ensures added { (i : ℕ) → is_some (row_at rows.items i) ≡ true → HasRow self.new i }
         ensures others { (i : ℕ) → HasRow self.new i → HasRow self.old i ⊎ (is_some (row_at rows.items i) ≡ true) }
+        ensures steps { self.new.steps ≡ self.old.steps }
     {
         self.held.adopt(rows);
     }
@@ -195,6 +188,7 @@ impl Rows {
         ensures extended { OnOk result (IsExtended self.old self.new) }
         ensures refused { IfErr result (IsRefusal (IsInUnion (integer_matrix group.now) w.now.items self.old.elements.members) limit) }
         ensures unchanged { IfErr result (IsLeft self.old self.new) }
+        ensures steps { self.new.steps ≡ self.old.steps }
     {
         let context = self.context();
         if context.len() <= limit

@@ -1,4 +1,4 @@
-//! The rows of A 2, and a context that grows.
+//! The rows of A 2, a context that grows, and a long element.
 use crate::fixtures::{elements, table, word};
 use cox_base::Coxeter;
 use cox_context::Context;
@@ -39,5 +39,22 @@ fn keeps_rows_in_a_larger_context(rt: HostRuntime) -> Result<(), Fail> {
     rows.extend(&table, &word(&rt, &table, b"121")?, 6)?;
     assert_eq!(rt; rows.context().len(), 6);
     assert!(rt; rows.has(3));
+    Ok(())
+}
+
+/// In the infinite dihedral group an element of length n needs the rows of one of length n - 1 and of one of length n - 2. A walk that went over
+/// these again and again would not come to an end in a lifetime.
+#[test]
+fn looks_at_no_member_twice(rt: HostRuntime) -> Result<(), Fail> {
+    let alloc = rt.alloc();
+    let table = table(alloc, &Coxeter::named(b'a', 1)?)?;
+    let text = b"121212121212121212121212121212121212121212121212121212121212";
+    let context = Context::of_interval(alloc, &table, &word(&rt, &table, text)?, 120)?;
+    assert_eq!(rt; context.len(), 120);
+    let mut rows = Rows::new(alloc, context, i64::MAX)?;
+    assert_eq!(rt; rows.steps(), 0);
+    rows.ensure(119)?;
+    assert!(rt; rows.has(119));
+    assert!(rt; rows.steps() > 0);
     Ok(())
 }

@@ -44,6 +44,7 @@ loop-k-preserved c =
             (c.loop-k.invariant.sum P gives d) off;
         size = λ d. let small = w.take_off.ensures.size (c.loop-k.k + 2) c.loop-k.invariant.size d in omega (arith, small);
         steps = omega (arith, w.take_off.ensures.steps, c.loop-k.invariant.steps);
+        kept = omega (arith, w.take_off.ensures.kept, c.loop-k.invariant.kept);
       }
       | else-x-correction w ↦ rw (w.sums-is, w.steps-is) record {
         sum = λ P gives d. passed P c.deref-correction-items.result.now c.loop-k.k (c.loop-k.k + 1) (omega arith) c.loop-k-test.true d
@@ -60,6 +61,7 @@ loop-k-preserved c =
             (gives (correction_at c.deref-correction-items.result.now c.loop-k.k).number within) k) d);
         size = λ d. let small = c.loop-k.invariant.size d in omega (arith, small);
         steps = omega (arith, c.loop-k.invariant.steps);
+        kept = c.loop-k.invariant.kept;
       }
     ]
 

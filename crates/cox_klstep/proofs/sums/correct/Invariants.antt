@@ -15,4 +15,5 @@ invariant-loop-k l = record {
       → (d : ℕ) → coefficient l.sums d ≡ minus (coefficient l.initial.sums) (numbered_sum P (take l.k l.correction-items)) d;
   size : (d : ℕ) → unsigned_abs (coefficient l.sums d) ≤ (l.k + 2) * 2 ^ 94;
   steps : l.steps ≤ l.initial.steps + l.k;
+  kept : l.initial.steps ≤ l.steps;
 }

@@ -22,7 +22,8 @@ use Rattle.cox_rows.proofs.rows.Rows.+ensuring.Goals as goal
 pub ensure-returns-in_err-make-clause-rows : goal.ensure-returns-in_err-make-clause-rows
 ensure-returns-in_err-make-clause-rows t c =
     ensured-then c.args.self.now c.ensure_lower.new.self c.make.new.self c.args.i c.context-context.ensures.admissible
-    c.ensure_lower.ensures.rows c.make.ensures.elements c.make.ensures.limit c.make.ensures.kept c.make.ensures.others
+    c.ensure_lower.ensures.rows c.make.ensures.elements c.make.ensures.limit c.make.ensures.kept c.make.ensures.others c.requires
+    c.make.ensures.again
 
 pub ensure-returns-in_err-make-clause-fault : goal.ensure-returns-in_err-make-clause-fault
 ensure-returns-in_err-make-clause-fault t c =
@@ -35,7 +36,8 @@ ensure-returns-in_err-make-clause-fault t c =
 pub ensure-returns-clause-rows : goal.ensure-returns-clause-rows
 ensure-returns-clause-rows t c = rw c.settle.ensures.same
     (ensured-then c.args.self.now c.ensure_lower.new.self c.make.new.self c.args.i c.context-context.ensures.admissible
-    c.ensure_lower.ensures.rows c.make.ensures.elements c.make.ensures.limit c.make.ensures.kept c.make.ensures.others)
+    c.ensure_lower.ensures.rows c.make.ensures.elements c.make.ensures.limit c.make.ensures.kept c.make.ensures.others c.requires
+    c.make.ensures.again)
 
 pub ensure-returns-clause-fault : goal.ensure-returns-clause-fault
 ensure-returns-clause-fault t c =

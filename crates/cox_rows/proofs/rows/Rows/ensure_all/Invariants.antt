@@ -1,5 +1,5 @@
 -- The rows of the members so far are there, and need nothing beyond the limits.
-use Rattle.std.proofs.Common.{◌≡◌, ℕ, ◌<◌}
+use Rattle.std.proofs.Common.{◌≡◌, ℕ, ◌<◌, length}
 use Rattle.cox_base.specs.IntegerMatrix.{integer_matrix}
 use Rattle.cox_context.specs.Numbers.{word_at}
 use Rattle.cox_rows.specs.Beyond.{NeedsBeyond}
@@ -14,4 +14,5 @@ invariant-members l = record {
   there : (k : ℕ) → k < l.i → HasRow l.self k;
   small : (k : ℕ) → k < l.i → NeedsBeyond (integer_matrix l.fn.self.elements.matrix) l.fn.self.limit
       (word_at l.fn.self.elements.members k) → ⊥;
+  again : ((k : ℕ) → k < length l.fn.self.elements.members → HasRow l.fn.self k) → l.self.steps ≡ l.fn.self.steps;
 }
