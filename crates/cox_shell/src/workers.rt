@@ -3,8 +3,8 @@
 //! The rows that are there are moved into the store first, and all come back afterwards. What the workers could not make is left to whoever asked:
 //! one thread makes it then, or finds that a row is beyond a limit.
 ghost use Rattle.std.specs.Prelude.{◌≡◌, ◌⊎◌, ℕ, ◌<◌, ◌≤◌, length};
-ghost use Rattle.cox_claims.specs.Knowledge.{SeesAll};
 ghost use Rattle.cox_claims.specs.Seats.{HoldsNothing, HasSeen, view_of};
+ghost use Rattle.cox_claims.specs.Knowledge.{SeesAll};
 ghost use Rattle.cox_row.specs.Rising.{AreWithin};
 ghost use Rattle.cox_row_store.specs.Stores.{elements_of, limit_of, IsSeat};
 ghost use Rattle.cox_rows.specs.Holding.{HasRow};
@@ -76,13 +76,21 @@ fn share<R: Threads + Wait + Sync, G: Gate + Sync>(
 {
     let (store, seat) = RowStore::new(alloc, rows.context(), rows.limit())?;
     let seat = move_rows(rt, rows, &store, seat);
-    let context = rows.context();
-    let seat = fill_wanted(rt, gate, workers, alloc, context, &store, seat, wanted);
+    let seat = fill_wanted(
+        rt,
+        gate,
+        workers,
+        alloc,
+        rows.context(),
+        &store,
+        seat,
+        wanted,
+    );
     rows.adopt(store.into_rows(rt, seat));
     Ok(())
 }
 
-/// Has the workers fill a store with the rows of members with these numbers; a single one is shared by the rows that it needs.
+/// Has the workers fill a store with rows of members with these numbers, and those that they are made from: one by one, or for a single row by what it needs.
 fn fill_wanted<R: Threads + Wait + Sync, G: Gate + Sync>(
     rt: &R,
     gate: &G,
@@ -102,8 +110,7 @@ fn fill_wanted<R: Threads + Wait + Sync, G: Gate + Sync>(
     ensures seen { SeesAll (view_of seat) (view_of result) }
 {
     if wanted.len() == 1 {
-        let member = wanted[0];
-        return fill_row(rt, alloc, context, store, seat, member, workers, gate);
+        return fill_row(rt, alloc, context, store, seat, wanted[0], workers, gate);
     }
     fill(rt, alloc, context, store, seat, wanted, workers, gate)
 }
