@@ -3,75 +3,93 @@
 //! `coxeter` reads lines, answers each, and ends with the number of a `cox_shell::Status`. All text
 //! goes to standard output. What it writes is proved in `cox_shell`, which starts as many threads as the
 //! arguments say, behind a gate that holds nobody. Here the arguments are
-//! collected, which may run out of memory, and the streams are handed over. Where an argument is no
-//! text, a wrong argument is handed over in place of all.
+//! collected, which may run out of memory, and the run is handed a source and a sink. Where an argument is no
+//! text, a wrong argument is handed over in place of all. Each function but `main` is generic over the source and the
+//! sink, and its contract is that of one whole run, `IsRun` of `cox_shell`, so nothing is read or written before it,
+//! behind it or beside it; `main` makes the standard streams, and gives the status out.
 //!
-//! - `arguments`: the arguments of the program, as texts
 //! - `tests`: whole runs over sources and sinks in memory
+//! - `starting`: whole runs from the arguments of an environment
+//! - `large`: large answers, which no lack of memory cuts off
 //! - `given_up`: a test on a row that a worker gave up
 //! - `workers`: whole runs with several workers, one of them behind a gate
 #![tactic(auto)]
 
-mod arguments;
 #[cfg(test)]
 mod given_up;
+#[cfg(test)]
+mod large;
+#[cfg(test)]
+mod starting;
 #[cfg(test)]
 mod tests;
 #[cfg(test)]
 mod workers;
 
-ghost use Rattle.std.specs.Prelude.{◌≡◌, ◌⊎◌, map};
+ghost use Rattle.std.specs.Prelude.{◌≡◌, ℕ, List, map};
 ghost use Rattle.std.specs.Process.{exit_status};
 ghost use Rattle.std.specs.String.{string_bytes};
-ghost use Rattle.cox_options.specs.Arguments.{IsUsage};
 ghost use Rattle.cox_shell.specs.ExitCode.{code_of};
 ghost use Rattle.cox_shell.specs.Top.{argument_texts};
+ghost use Rattle.cox_shell.specs.WholeRun.{IsRun};
 
-use arguments::{arguments_of, texts};
 use cox_options::wrong_arguments;
-use cox_outside::{Open, StdSink, StdSource};
+use cox_outside::{Open, Sink, Source, StdSink, StdSource, arguments_of, texts};
 use cox_shell::Status;
 use std::alloc::Global;
 use std::io;
-use std::io::{Input, Print};
 use std::process::ExitCode;
 use std::rt::Env;
 use std::sync::Wait;
 use std::thread::Threads;
 
-/// Runs the shell over the standard streams.
-fn run<R: Input + Print + Threads + Wait + Sync>(rt: &R, alloc: Global, words: &[&str]) -> Status
-    ensures usage { result ≡ Status.Usage → IsUsage (argument_texts words.now) }
-    ensures usage_always { IsUsage (argument_texts words.now)
-        → (result ≡ Status.Usage) ⊎ (result ≡ Status.WriteFault) ⊎ (result ≡ Status.NoMemory) }
+/// What the program is called, as its first argument.
+const NAME: &str = "coxeter";
+
+/// Runs the shell with arguments of these texts.
+fn run<R: Threads + Wait + Sync, S: Source, K: Sink>(
+    rt: &R,
+    alloc: Global,
+    words: &[&str],
+    source: &mut S,
+    sink: &mut K,
+) -> Status
+    ensures { IsRun result (argument_texts words.now) (S.seen source.old) (S.seen source.new) (K.seen sink.old) (K.seen sink.new) }
 {
-    let mut source = StdSource::new(rt.reader());
-    let mut sink = StdSink::new(io::writer(rt));
-    cox_shell::run(rt, alloc, words, &mut source, &mut sink, &Open)
+    cox_shell::run(rt, alloc, words, source, sink, &Open)
 }
 
 /// Runs the shell with these arguments.
-fn run_with<R: Input + Print + Threads + Wait + Sync>(
+fn run_with<R: Threads + Wait + Sync, S: Source, K: Sink>(
     rt: &R,
     alloc: Global,
     arguments: &[String],
+    source: &mut S,
+    sink: &mut K,
 ) -> Status
-    ensures usage { result ≡ Status.Usage → IsUsage (map string_bytes arguments.now) }
-    ensures usage_always { IsUsage (map string_bytes arguments.now)
-        → (result ≡ Status.Usage) ⊎ (result ≡ Status.WriteFault) ⊎ (result ≡ Status.NoMemory) }
+    ensures { IsRun result (map string_bytes arguments.now) (S.seen source.old) (S.seen source.new) (K.seen sink.old) (K.seen sink.new) }
 {
     match texts(alloc, arguments) {
-        Ok(texts) => run(rt, alloc, &texts),
+        Ok(texts) => run(rt, alloc, &texts, source, sink),
         Err(_) => Status::NoMemory,
     }
 }
 
-/// Runs the shell with the arguments of the program. Wrong ones stand for those of which one is no
-/// text.
-fn start<R: Env + Input + Print + Threads + Wait + Sync>(rt: &R, alloc: Global) -> Status {
-    match arguments_of(rt, alloc) {
-        Ok(Some(arguments)) => run_with(rt, alloc, &arguments),
-        Ok(None) => run(rt, alloc, &wrong_arguments()),
+/// Runs the shell with the arguments of this environment. Wrong ones stand for those of which one is no text. What an environment
+/// has for arguments no contract tells, so it is a run with some arguments.
+fn start<R: Threads + Wait + Sync, E: Env, S: Source, K: Sink>(
+    rt: &R,
+    env: &E,
+    alloc: Global,
+    source: &mut S,
+    sink: &mut K,
+) -> Status
+    ensures { (arguments : List (List ℕ))
+        × IsRun result arguments (S.seen source.old) (S.seen source.new) (K.seen sink.old) (K.seen sink.new) }
+{
+    match arguments_of(env, alloc, NAME) {
+        Ok(Some(arguments)) => run_with(rt, alloc, &arguments, source, sink),
+        Ok(None) => run(rt, alloc, &wrong_arguments(), source, sink),
         Err(_) => Status::NoMemory,
     }
 }
@@ -84,5 +102,7 @@ fn exit_code(status: Status) -> ExitCode
 }
 
 fn main(rt: HostRuntime) -> ExitCode {
-    exit_code(start(&rt, rt.alloc()))
+    let mut source = StdSource::new(rt.reader());
+    let mut sink = StdSink::new(io::writer(&rt));
+    exit_code(start(&rt, &rt, rt.alloc(), &mut source, &mut sink))
 }

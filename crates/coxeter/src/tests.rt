@@ -1,12 +1,9 @@
-//! Whole runs over sources and sinks in memory, and the arguments of an environment.
+//! Whole runs over sources and sinks in memory.
 
-use crate::arguments::arguments_of;
 use cox_outside::{Got, MemorySink, MemorySource, Open, Source};
 use cox_shell::{Status, run_one};
 use std::alloc::{AllocError, Global};
-use std::env::FillError;
 use std::process::Abort;
-use std::rt::Env;
 use std::sync::Wait;
 use std::test::Fail;
 use std::thread::Threads;
@@ -613,44 +610,6 @@ fn options(rt: HostRuntime) -> Result<(), Fail> {
         assert_eq!(rt; ended, *status, "at {words:?} {script:?}");
         assert_eq!(rt; sink.bytes(), written.as_bytes(), "at {words:?} {script:?}");
     }
-    Ok(())
-}
-
-/// An environment with these arguments.
-#[derive(Clone, Copy)]
-struct Called<'a>(&'a [&'a [u8]]);
-
-impl Env for Called<'_> {
-    fn arg(&self, i: usize, buf: &mut [u8]) -> Result<usize, FillError> {
-        let Some(argument) = self.0.get(i) else {
-            return Err(FillError::NotPresent);
-        };
-        if argument.len() > buf.len() {
-            return Err(FillError::TooLong);
-        }
-        buf[..argument.len()].copy_from_slice(argument);
-        Ok(argument.len())
-    }
-
-    fn var(&self, _name: &str, _buf: &mut [u8]) -> Result<usize, FillError> {
-        Err(FillError::NotPresent)
-    }
-
-    fn var_at(&self, _i: usize, _buf: &mut [u8]) -> Result<usize, FillError> {
-        Err(FillError::NotPresent)
-    }
-}
-
-#[test]
-fn arguments(rt: HostRuntime) -> Result<(), Fail> {
-    let named = Called(&[b"./\xff", b"--context", b"\xc3\xa4"]);
-    let arguments = arguments_of(&named, rt.alloc())?.expect(&rt, "these are texts");
-    assert_eq!(rt; arguments.len(), 3);
-    assert_eq!(rt; arguments[0].as_str(), "coxeter");
-    assert_eq!(rt; arguments[1].as_str(), "--context");
-    assert_eq!(rt; arguments[2].as_str(), "\u{e4}");
-    let broken = Called(&[b"coxeter", b"--context", b"\xff"]);
-    assert!(rt; arguments_of(&broken, rt.alloc())?.is_none());
     Ok(())
 }
 

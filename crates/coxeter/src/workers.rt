@@ -14,6 +14,11 @@ const SCRIPTS: &[&str] = &[
     "type A 4\npol e 123\nquit\n",
 ];
 
+/// Each number of workers.
+const NUMBERS: [&str; 16] = [
+    "1", "2", "3", "4", "5", "6", "7", "8", "9", "10", "11", "12", "13", "14", "15", "16",
+];
+
 /// How a run over a script with this number of workers ends, and the sink that it wrote to.
 fn run_by<R: Threads + Wait + Sync, G: Gate + Sync>(
     rt: &R,
@@ -38,7 +43,7 @@ fn write_the_same(rt: HostRuntime) -> Result<(), Fail> {
         let mut source = MemorySource::new(bytes, 4096, Vec::new(alloc));
         let mut sink = MemorySink::new(alloc, 100_000, 4096, Vec::new(alloc))?;
         let status = run_one(alloc, &["coxeter"], &mut source, &mut sink);
-        for workers in ["1", "2", "16"] {
+        for workers in NUMBERS {
             let (ended, other) = run_by(&rt, alloc, script, workers, &Open)?;
             assert_eq!(rt; ended, status, "{workers} workers at {script:?}");
             assert_eq!(rt;
@@ -51,14 +56,16 @@ fn write_the_same(rt: HostRuntime) -> Result<(), Fail> {
     Ok(())
 }
 
+/// The second line asks for the rows of the first, which are kept: none is made again. Each is claimed before it is published.
 #[test]
 fn meet_at_a_gate(rt: HostRuntime) -> Result<(), Fail> {
     let alloc = rt.alloc();
     let gate = MeetingGate::new(alloc, 120)?;
-    let (status, _) = run_by(&rt, alloc, "type A 4\nlrcells\n", "2", &gate)?;
+    let (status, _) = run_by(&rt, alloc, "type A 4\nlrcells\nlrcells\n", "2", &gate)?;
     assert_eq!(rt; status, Status::Done);
     assert_eq!(rt; gate.late(), 0);
     assert_eq!(rt; gate.published_once(), 120);
+    assert!(rt; gate.claims() >= 120);
     Ok(())
 }
 

@@ -1,0 +1,13 @@
+-- The proof of `start`: the arguments of the run that it is.
+use Rattle.std.proofs.Common.{[]}
+use Rattle.cox_shell.proofs.WholeRuns.{run-none}
+use Rattle.coxeter.proofs.start.Goals as goal
+
+pub returns-in-Ok-Some : goal.returns-in-Ok-Some
+returns-in-Ok-Some g c = (_, c.run_with.ensures)
+
+pub returns-in-Ok-None : goal.returns-in-Ok-None
+returns-in-Ok-None g c = (_, c.run.ensures)
+
+pub returns-in-Err : goal.returns-in-Err
+returns-in-Err g c = ([], run-none [] _ _)
