@@ -6,7 +6,7 @@ use Rattle.cox_base.specs.Admissible.{IsAdmissible}
 use Rattle.cox_claims.specs.declared.seat.Seat.{Seat}
 use Rattle.cox_claims.specs.Knowledge.{SeesAll}
 use Rattle.cox_claims.specs.Seats.{view_of}
-use Rattle.cox_klstep.specs.declared.steps.Steps.{Steps}
+use Rattle.cox_klstep.specs.declared.sums.Steps.{Steps}
 use Rattle.cox_klstep.specs.declared.tables.Tables.{Tables}
 use Rattle.cox_klstep.specs.TablesOf.{AreTables}
 use Rattle.cox_row_store.specs.Stores.{IsSeat}
