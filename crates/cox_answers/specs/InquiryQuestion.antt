@@ -1,10 +1,11 @@
 -- What each command on elements, or on the whole group, asks, in the terms of Coxeter groups.
-use Rattle.std.specs.Prelude.{ℤ, ◌≡◌, ℕ, ◌↔◌, Bool, IsTrue, List, reverse, decimal}
+use Rattle.std.specs.Prelude.{ℤ, ◌≡◌, ℕ, ◌+◌, ◌<◌, ◌↔◌, Bool, IsTrue, List, reverse, decimal}
 use Rattle.cox_base.specs.Matrix.{CoxeterMatrix}
 use Rattle.cox_base.specs.IntegerMatrix.{IntegerMatrix, integer_matrix}
 use Rattle.cox_base.specs.ShortLex.{normal_form}
 use Rattle.cox_base.specs.Length.{word_length}
-use Rattle.cox_base.specs.Descents.{left_descents, right_descents}
+use Rattle.cox_base.specs.declared.side.Side.TheVariants.{Left, Right}
+use Rattle.cox_base.specs.SideDescents.{descent_set}
 use Rattle.cox_base.specs.Bruhat.{IsBelow}
 use Rattle.cox_command.specs.declared.refusal.Refusal.{Refusal}
 use Rattle.cox_command.specs.declared.refusal.Refusal.TheVariants.{LargeInterval, FarApart}
@@ -15,7 +16,7 @@ use Rattle.cox_command.specs.declared.command.TwoWord.{TwoWord}
 use Rattle.cox_command.specs.declared.command.TwoWord.TheVariants.{Inorder, Interval, Rpol, Pol, Mu}
 use Rattle.cox_poly.specs.PolynomialText.{polynomial_text}
 use Rattle.cox_rpoly.specs.RPolynomial.{r_polynomial}
-use Rattle.cox_rpoly.specs.Depth.{IsDeep}
+use Rattle.cox_rpoly.specs.declared.TheConstants.{MAX_DIFFERENCE}
 use Rattle.cox_base.specs.Members.{IsInInterval}
 use Rattle.cox_base.specs.SortedList.{IsListOf, HasMoreThan}
 use Rattle.cox_base.specs.Interval.{IsBetween, IsCoatom, counts_by_length}
@@ -37,9 +38,9 @@ abbrev pub RefusesLarge : Limits → IntegerMatrix → List ℕ → Refusal → 
 RefusesLarge limits A w LargeInterval = HasMoreThan limits.context (IsInInterval A w)
 RefusesLarge limits A w _ = ⊥
 
--- y ≤ w, and R(y,w) is of too high a degree
+-- y ≤ w, and l(w) - l(y) is more than R(y,w) is computed at
 abbrev pub RefusesFar : IntegerMatrix → List ℕ → List ℕ → Refusal → Type 0
-RefusesFar A y w FarApart = (d : ℕ) × IsDeep A y w d
+RefusesFar A y w FarApart = IsBelow A y w × (word_length A y + MAX_DIFFERENCE < word_length A w)
 RefusesFar A y w _ = ⊥
 
 -- the list of the elements with a property
@@ -71,7 +72,7 @@ one_question Inverse limits rank A w =
     record { Refuses = RefusesNone; IsText = λ text. text ≡ element_text rank (normal_form A (reverse w)) }
 one_question Descent limits rank A w = record {
   Refuses = RefusesNone;
-  IsText = λ text. text ≡ descent_text rank (left_descents A w) (right_descents A w);
+  IsText = λ text. text ≡ descent_text rank (descent_set Left A w) (descent_set Right A w);
 }
 one_question Coatoms limits rank A w = record { Refuses = RefusesLarge limits A w; IsText = IsElementsText rank (IsCoatom A w) }
 one_question Betti limits rank A w = record { Refuses = RefusesLarge limits A w; IsText = IsCountsText A w }
