@@ -1,7 +1,7 @@
 -- Equal polynomials have one fingerprint.
-use Rattle.std.proofs.Common.{◌≡◌, ℕ, suc, List, [], ◌∷◌, ℤ, pos, refl, sym, ap, ◌∙◌}
+use Rattle.std.proofs.Common.{◌≡◌, ℕ, suc, List, [], ◌∷◌, ℤ, pos, refl, sym}
 use Rattle.cox_poly.specs.Polynomial.{coefficient, SameCoefficients}
-use Rattle.cox_poly.specs.Fingerprint.{mixed, fingerprint}
+use Rattle.cox_poly.specs.Fingerprint.{fingerprint}
 
 -- zeros have that of the zero polynomial
 fingerprint-zeros : (p : List ℤ) → ((k : ℕ) → coefficient p k ≡ pos 0) → fingerprint p ≡ 0

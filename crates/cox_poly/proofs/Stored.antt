@@ -1,7 +1,7 @@
 -- Polynomials that stand one behind another: one more.
 use Rattle.std.proofs.Common.{◌≡◌, ◌≢◌, ℕ, zero, suc, ◌+◌, ◌-◌, ◌<◌, ◌≤◌, List, [], ◌∷◌, ◌++◌, length, slice_index_or, take, drop, map}
 use Rattle.std.proofs.Common.{ℤ, refl, sym, ◌∙◌, ap, inl, inr, arith}
-use Rattle.std.proofs.Common.{length-append, length-drop, add-one}
+use Rattle.std.proofs.Common.{length-append, length-drop}
 use Rattle.std.proofs.Math.Seq.{drop-append_seam, get_or-append_seam}
 use Rattle.std.specs.List.{range_with_len}
 use Rattle.std.proofs.lemmas.Bool.{cases_lt}

@@ -12,10 +12,14 @@ pub mod Polynomial
 pub mod Limit
 -- how a text is put behind others
 pub mod Puts
+-- whole numbers in decimal
+pub mod Numerals
 -- the text of a polynomial
 pub mod PolynomialText
 -- the terms of a polynomial, one after the other
 pub mod ListedText
+-- how the text of a polynomial is read
+pub mod PolynomialReading
 -- polynomials that stand one behind another
 pub mod PolyLists
 -- a number that equal polynomials have in common

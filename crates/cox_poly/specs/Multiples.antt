@@ -1,5 +1,5 @@
 -- Differences and multiples of polynomials, as functions from degrees to coefficients.
-use Rattle.std.specs.Prelude.{◌-◌, ℤ, ◌-ℤ◌, ◌*ℤ◌, neg_ℤ}
+use Rattle.std.specs.Prelude.{ℤ, ◌-ℤ◌, ◌*ℤ◌, neg_ℤ}
 use Rattle.cox_poly.specs.Coefficients.{Coefficients}
 
 -- f - g, -f and c f

@@ -1,19 +1,19 @@
 -- The text of a polynomial in q, as ASCII codes.
-use Rattle.std.specs.Prelude.{ℕ, pos, negsuc, ℤ, List, [], ◌∷◌, ◌++◌, filter, flat_map, codes, decimal, if◌then◌else◌, ◌==◌, Bool, not}
+use Rattle.std.specs.Prelude.{ℕ, pos, negsuc, ℤ, List, [], ◌∷◌, ◌++◌, filter, flat_map, codes, if◌then◌else◌, ◌==◌, not}
 use Rattle.std.specs.Prelude.{int_lt}
-use Rattle.std.specs.Fmt.{signed_decimal}
 use Rattle.std.specs.Ordering.{int_eq}
 use Rattle.std.specs.List.{enumerate_from}
+use Rattle.cox_poly.specs.Numerals.{number_text, integer_text}
 
 -- the power of q at a degree: none at 0, `q` at 1, `q^k` above
 abbrev pub power_text : ℕ → List ℕ
-power_text k = if k == 0 then [] else (if k == 1 then codes "q" else codes "q^" ++ decimal k)
+power_text k = if k == 0 then [] else (if k == 1 then codes "q" else codes "q^" ++ number_text k)
 
 -- what stands before the power: the number c, but nothing for 1 and `-` for -1 where there is a power
 abbrev pub factor_text : ℕ → ℤ → List ℕ
 factor_text k c =
-    if k == 0 then signed_decimal c
-    else (if int_eq c (pos 1) then [] else (if int_eq c (negsuc 0) then codes "-" else signed_decimal c))
+    if k == 0 then integer_text c
+    else (if int_eq c (pos 1) then [] else (if int_eq c (negsuc 0) then codes "-" else integer_text c))
 
 -- the term c q^k, of a degree k and its coefficient c
 abbrev pub term_text : ℕ × ℤ → List ℕ

@@ -13,6 +13,7 @@
 //! - `poly_fault`: why a sum is no polynomial;
 //! - `append`: bytes and whole numbers in decimal, for all that is printed;
 //! - `polynomial_text`: the text of a polynomial;
+//! - `polynomial_reading`, `term_reading`: the text read back; `text_fault`: why one is not read;
 //! - `laws`: facts of polynomials that no single call states.
 #![tactic(auto)]
 
@@ -25,13 +26,17 @@ mod poly_fault;
 mod poly_list;
 mod poly_view;
 mod polynomial;
+mod polynomial_reading;
 mod polynomial_text;
+mod term_reading;
+mod text_fault;
 
 pub use accumulator::{Acc, DEGREES};
 pub use poly_fault::PolyFault;
 pub use poly_list::PolyList;
 pub use poly_view::PolyView;
 pub use polynomial::Poly;
+pub use text_fault::TextFault;
 
 /// Out of memory.
 pub type NoMemory = AllocError;

@@ -1,11 +1,15 @@
 //! Polynomials in `q` with coefficients of 64 bits.
-ghost use Rattle.std.specs.Prelude.{◌≡◌, ◌≢◌, ◌↔◌, ℕ, ◌+◌, ◌-◌, ◌^◌, ◌<◌, ◌≤◌, length, [], ◌∷◌, pos, IfOk, IfSome, IsNone, unsigned_abs};
+ghost use Rattle.std.specs.Prelude.{◌≡◌, ◌≢◌, ◌↔◌, ℕ, ◌+◌, ◌-◌, ◌^◌, ◌<◌, ◌≤◌, length, [], ◌∷◌, pos, ℤ, List, ◌⊎◌, Ok, Err, IfOk, IfSome, IsNone, unsigned_abs};
 ghost use Rattle.cox_poly.specs.Polynomial.{coefficient, IsPolynomial, IsStorable, SameCoefficients, HasSmallCoefficients, IsDegree, IsTrimmedLength};
 ghost use Rattle.cox_poly.specs.Puts.{Puts};
 ghost use Rattle.cox_poly.specs.PolynomialText.{polynomial_text};
+ghost use Rattle.cox_poly.specs.PolynomialReading.{IsPolynomialText, IsTextOf, IsTextOfLarge, Fits};
+ghost use Rattle.cox_poly.specs.declared.text_fault.TextFault.TheVariants.{NotAPolynomial, TooLarge, NoMemory};
 
 use crate::NoMemory;
 use crate::poly_view::PolyView;
+use crate::polynomial_reading::read_polynomial;
+use crate::text_fault::TextFault;
 use std::alloc::{AllocError, Global};
 use std::marker::Model;
 
@@ -127,6 +131,24 @@ impl Poly {
         ensures { Puts result (polynomial_text self.now) out.old.items out.new.items }
     {
         self.view().put_text(out)
+    }
+
+    /// The polynomial with this text, which is as [`put_text`](Poly::put_text) writes it; no degree may be above `most`.
+    ///
+    /// `NotAPolynomial` comes exactly where no polynomial has this text, whatever the size of its coefficients and degrees.
+    /// `TooLarge` comes where one has it, and a degree is above `most` or a coefficient has more than 64 bits. Memory is
+    /// asked for as the terms are read, for `most + 1` coefficients and no more. The time is in proportion to the bytes
+    /// and to `most`.
+    ///
+    /// `1-2q^2` is read, and none of `1q`, `q^1`, `+1`, `q+1` and `01` is.
+    pub fn read_text(alloc: Global, text: &[u8], most: u32) -> Result<Poly, TextFault>
+        ensures read { IfOk result (λ p. IsTextOf p text.now) }
+        ensures within { IfOk result (Fits most) }
+        ensures foreign { result ≡ Err NotAPolynomial → ¬ IsPolynomialText text.now }
+        ensures too_large { result ≡ Err TooLarge → IsTextOfLarge most text.now }
+        ensures again { (p : List ℤ) → IsTextOf p text.now → Fits most p → (result ≡ Ok p) ⊎ (result ≡ Err NoMemory) }
+    {
+        read_polynomial(alloc, text, most)
     }
 }
 

@@ -1,10 +1,24 @@
 //! The text of a polynomial: its terms by rising degree.
 ghost use Rattle.cox_poly.specs.Puts.{Puts};
+ghost use Rattle.cox_poly.specs.Numerals.{number_text, integer_text};
 ghost use Rattle.cox_poly.specs.PolynomialText.{power_text, factor_text, term_text, plus_text, next_term_text, polynomial_text};
 ghost use Rattle.cox_poly.specs.ListedText.{listed_term_text};
 
 use crate::NoMemory;
 use crate::append::{put_number, put_text};
+
+// A coefficient, and a degree.
+fn put_coefficient(out: &mut Vec<u8>, c: i64) -> Result<(), NoMemory>
+    ensures { Puts result (integer_text c) out.old.items out.new.items }
+{
+    put_number(out, i128::from(c))
+}
+
+fn put_degree(out: &mut Vec<u8>, k: usize) -> Result<(), NoMemory>
+    ensures { Puts result (number_text k) out.old.items out.new.items }
+{
+    put_number(out, k as i128)
+}
 
 // The power of q at degree k.
 fn put_power(out: &mut Vec<u8>, k: usize) -> Result<(), NoMemory>
@@ -16,7 +30,7 @@ fn put_power(out: &mut Vec<u8>, k: usize) -> Result<(), NoMemory>
         put_text(out, b"q")
     } else {
         put_text(out, b"q^")?;
-        put_number(out, k as i128)
+        put_degree(out, k)
     }
 }
 
@@ -29,7 +43,7 @@ fn put_factor(out: &mut Vec<u8>, k: usize, c: i64) -> Result<(), NoMemory>
     } else if k != 0 && c == -1 {
         put_text(out, b"-")
     } else {
-        put_number(out, i128::from(c))
+        put_coefficient(out, c)
     }
 }
 

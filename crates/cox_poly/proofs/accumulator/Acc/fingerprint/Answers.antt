@@ -1,5 +1,4 @@
 -- The sums that are left out are 0.
-use Rattle.std.proofs.Common.{◌∙◌}
 use Rattle.cox_poly.proofs.Polynomials.{coefficient-take}
 use Rattle.cox_poly.proofs.Fingerprints.{fingerprint-same}
 use Rattle.cox_poly.proofs.accumulator.Acc.fingerprint.Goals as goal

@@ -1,5 +1,5 @@
 -- The place is one of the list.
-use Rattle.std.proofs.Common.{◌≡◌, ◌<◌, length, arith, sym, ◌∙◌}
+use Rattle.std.proofs.Common.{◌<◌, length, arith, sym}
 use Rattle.cox_poly.proofs.Stored.{pieces-length, pieces-at}
 use Rattle.cox_poly.proofs.poly_list.PolyList.at.Goals as goal
 

@@ -1,5 +1,5 @@
 -- The list is as it was, or has one polynomial more.
-use Rattle.std.proofs.Common.{◌≡◌, ◌+◌, ◌++◌, [], ◌∷◌, length, take, refl, sym, ◌∙◌, append-nil, arith, Result, Ok, Err}
+use Rattle.std.proofs.Common.{◌≡◌, [], length, refl, sym, ◌∙◌, append-nil, arith, Result, Ok, Err}
 use Rattle.std.specs.Result.{OnErr}
 use Rattle.cox_poly.specs.PolyLists.{start_at, pieces}
 use Rattle.cox_poly.proofs.Stored.{kept, pushed}
