@@ -1,4 +1,4 @@
-//! Polynomials in `q` over the integers: exact sums, and their text.
+//! Polynomials in `q` over the integers: exact sums, and their text, written and read.
 //!
 //! Contracts see a [`Poly`] as the list of its coefficients, from the constant one up, without
 //! trailing zeros, so equal polynomials are equal lists. An [`Acc`] adds multiples of polynomials
