@@ -7,7 +7,7 @@
 //! nothing but the count. The count rises by one exactly where a call tells of a fault. A [`LineReader`] hands out the lines of a source, and its contract says
 //! by the bytes that lie ahead which line comes, or why none does. Each call returns, whatever
 //! a source gives, since a reader hands out no more than `INPUT_LIMIT` bytes. The crate stands on std
-//! alone. Its tests stand in the crate `word_tests`.
+//! alone. Its tests stand in the crate `text_tests`.
 //!
 //! - `source`, `sink`: the two traits, and what a read or a write answers
 //! - `writing`: all bytes of a slice into a sink

@@ -4,7 +4,7 @@ use cox_command::parse;
 use cox_minroots::RootFault;
 use cox_options::OptionFault;
 use cox_outside::WriteFailed;
-use cox_poly::PolyFault;
+use cox_poly::{PolyFault, TextFault};
 use cox_rpoly::RFault;
 use std::alloc::{AllocError, Global};
 use std::fmt::Display;
@@ -39,6 +39,14 @@ fn texts_of_faults(rt: HostRuntime) -> Result<(), Fail> {
             "the coefficient -9 at degree 2 is above the limit",
         ),
         (
+            text(alloc, &TextFault::NotAPolynomial)?,
+            "this is no polynomial",
+        ),
+        (
+            text(alloc, &TextFault::TooLarge)?,
+            "a coefficient or a degree is too large",
+        ),
+        (
             text(alloc, &RFault::Deep(40))?,
             "the lengths differ by 40, which is more than 39",
         ),
@@ -60,6 +68,7 @@ fn texts_of_faults(rt: HostRuntime) -> Result<(), Fail> {
     }
     let memory = [
         text(alloc, &PolyFault::NoMemory)?,
+        text(alloc, &TextFault::NoMemory)?,
         text(alloc, &RFault::NoMemory)?,
         text(alloc, &RootFault::NoMemory)?,
         text(alloc, &OptionFault::NoMemory)?,

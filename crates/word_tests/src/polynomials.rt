@@ -1,6 +1,7 @@
 //! Polynomials, their text, and accumulators, by hand.
 use crate::fixtures::text_of;
-use cox_poly::{Acc, Poly, PolyFault, PolyList};
+use cox_poly::{Acc, Poly, PolyFault, PolyList, TextFault};
+use std::alloc::Global;
 use std::test::Fail;
 
 #[test]
@@ -75,5 +76,118 @@ fn lists(rt: HostRuntime) -> Result<(), Fail> {
     let mut out = Vec::new(alloc);
     list.at(2).put_text(&mut out)?;
     assert_eq!(rt; out.as_slice(), b"-2q".as_slice());
+    Ok(())
+}
+
+/// The polynomial with a text.
+fn read(alloc: Global, text: &str) -> Result<Poly, TextFault> {
+    Poly::read_text(alloc, text.as_bytes(), 255)
+}
+
+#[test]
+fn texts_read_back(rt: HostRuntime) -> Result<(), Fail> {
+    let alloc = rt.alloc();
+    let table = [
+        "0",
+        "1",
+        "-1",
+        "q",
+        "-q",
+        "2q",
+        "1+q",
+        "-1-q-q^2",
+        "1-2q^2+q^10",
+        "-9223372036854775808+9223372036854775807q^39",
+        "7q^255",
+    ];
+    for text in table {
+        let p = read(alloc, text).ok().ok_or(text)?;
+        assert_eq!(rt; text_of(alloc, &p)?.as_str(), text);
+    }
+    let p = read(alloc, "3-2q^2+q^10").ok().ok_or("no polynomial")?;
+    assert_eq!(rt; p.degree(), Some(10));
+    assert_eq!(rt; p.coefficient(0), 3);
+    assert_eq!(rt; p.coefficient(2), -2);
+    assert_eq!(rt; p.coefficient(9), 0);
+    assert_eq!(rt; p.coefficient(10), 1);
+    Ok(())
+}
+
+#[test]
+fn texts_of_no_polynomial(rt: HostRuntime) -> Result<(), Fail> {
+    let alloc = rt.alloc();
+    let table = [
+        "",
+        "1q",
+        "-1q",
+        "q^1",
+        "q^0",
+        "-0",
+        "+1",
+        "+q",
+        "0+q",
+        "q+1",
+        "01",
+        "q^02",
+        "1+0q",
+        " 1",
+        "1 ",
+        "1+ q",
+        "1 +q",
+        "1+q+q",
+        "1+2q+3q",
+        "1+q^3+q^2",
+        "1+q^3+q^3",
+        "1+1",
+        "--1",
+        "1+-q",
+        "1-",
+        "-",
+        "+",
+        "1+",
+        "q^",
+        "q^-1",
+        "2q^+2",
+        "qq",
+        "q2",
+        "1*q",
+        "1x",
+        "Q",
+        "1+q^2q",
+        "0q",
+        "00",
+        "1+q\n",
+        "q^1000000000000000000000000000000000000000+q^999999999999999999999999999999999999999",
+        "q^1000000000000000000000000000000000000001+q^1000000000000000000000000000000000000000",
+        "0000000000000000000000000000000000000000",
+        "0000000000000000000000000000000000000000000000000000000000000000",
+        "1+q^4000000000+",
+    ];
+    for text in table {
+        assert!(rt; read(alloc, text).err() == Some(TextFault::NotAPolynomial));
+    }
+    Ok(())
+}
+
+#[test]
+fn texts_of_large_polynomials(rt: HostRuntime) -> Result<(), Fail> {
+    let alloc = rt.alloc();
+    let table = [
+        "9223372036854775808",
+        "-9223372036854775809",
+        "18446744073709551615",
+        "18446744073709551616",
+        "1+q^40",
+        "1+q^4294967296",
+        "1+q^18446744073709551616",
+        "1000000000000000000000000000000000000000",
+        "1-1234567890123456789012345678901234567890q+q^2",
+        "q^1000000000000000000000000000000000000000+q^1000000000000000000000000000000000000001",
+        "1+q^999999999999999999999999999999999999999-2q^1000000000000000000000000000000000000000",
+        "10000000000000000000000000000000000000000000000000000000000000000000000000000000",
+    ];
+    for text in table {
+        assert!(rt; Poly::read_text(alloc, text.as_bytes(), 39).err() == Some(TextFault::TooLarge));
+    }
     Ok(())
 }
