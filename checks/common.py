@@ -7,9 +7,9 @@ import sys
 TOP = os.path.dirname(os.path.dirname(os.path.abspath(__file__)))
 
 
-def program(words):
-    """The program named by the script's arguments, else that of this checkout, which is built first if need be. With --help
-    the script says what it is for, and ends."""
+def program(words, name="coxeter"):
+    """The program named by the script's arguments, else the one of this name in this checkout, which its launcher builds first if
+    need be. With --help the script says what it is for, and ends."""
     if words in (["-h"], ["--help"]):
         print(sys.modules["__main__"].__doc__.strip())
         sys.exit(0)
@@ -17,10 +17,10 @@ def program(words):
         if not os.access(words[0], os.X_OK):
             sys.exit(f"there is no program {words[0]}")
         return os.path.abspath(words[0])
-    launcher = os.path.join(TOP, "coxeter")
+    launcher = os.path.join(TOP, name)
     if subprocess.run([launcher], stdin=subprocess.DEVNULL, stdout=subprocess.DEVNULL).returncode:
-        sys.exit("the program is not built")
-    return os.path.join(TOP, "crates", "coxeter", "out", "coxeter")
+        sys.exit(f"the program {name} is not built")
+    return os.path.join(TOP, "crates", name, "out", name)
 
 
 # Arguments that set the number of workers.
