@@ -12,7 +12,8 @@ use Rattle.std.proofs.lemmas.Int.{ints}
 use Rattle.std.proofs.lemmas.List.Sums.{fold_push}
 use Rattle.std.proofs.lemmas.List.Folds.{list_all-append}
 use Rattle.std.proofs.lemmas.Fmt.{decimal_from_appends, length-decimal-le_succ}
-use Rattle.cox_poly.specs.Numerals.{digits_below, number_text, integer_text, value_behind, value_of, is_numeral, is_short_numeral}
+use Rattle.cox_poly.specs.Numerals.{digits_below, number_text, integer_text}
+use Rattle.cox_poly.specs.ReadNumerals.{value_behind, value_of, is_numeral, is_short_numeral}
 
 -- more places change nothing
 digits_below-enough : (m k n : ℕ) → n < m → n < k → digits_below m n ≡ digits_below k n

@@ -9,7 +9,7 @@ use Rattle.std.proofs.lemmas.List.{get_or_append_left, get_or_at, length-append,
 use Rattle.cox_poly.specs.Polynomial.{coefficient, IsPolynomial, HasDegreeBelow}
 use Rattle.cox_poly.specs.PolynomialText.{terms, terms_text, polynomial_text}
 use Rattle.cox_poly.specs.ListedText.{listed_term_text}
-use Rattle.cox_poly.specs.Numerals.{value_of, is_short_numeral}
+use Rattle.cox_poly.specs.ReadNumerals.{value_of, is_short_numeral}
 use Rattle.cox_poly.specs.PolynomialReading.{IsPolynomialText, IsTextOf, IsTextOfLarge, Fits, is_sign, signed, IsTerm, IsNoTerm}
 use Rattle.cox_poly.specs.declared.text_fault.TextFault.{TextFault}
 use Rattle.cox_poly.specs.declared.text_fault.TextFault.TheVariants.{NotAPolynomial, TooLarge, NoMemory}

@@ -6,7 +6,8 @@ use Rattle.std.proofs.lemmas.Bool.{ne_eqb, both_ways, true≢false}
 use Rattle.std.proofs.lemmas.List.{take-append-drop}
 use Rattle.cox_poly.specs.PolynomialText.{power_text}
 use Rattle.cox_poly.specs.ListedText.{listed_term_text}
-use Rattle.cox_poly.specs.Numerals.{number_text, value_of, is_numeral}
+use Rattle.cox_poly.specs.Numerals.{number_text}
+use Rattle.cox_poly.specs.ReadNumerals.{value_of, is_numeral}
 use Rattle.cox_poly.specs.PolynomialReading.{is_sign, is_q, sign_text, begins_with_sign, IsSigned, IsNoSigned, size_text, unsigned_text}
 use Rattle.cox_poly.specs.PolynomialReading.{IsPower, IsNoPower, IsSize, IsNoSize, IsUnsigned, IsNoUnsigned, IsTerm, IsNoTerm}
 use Rattle.cox_poly.proofs.Numerals.{value_of-number_text, is_numeral-number_text, number_text-value_of}

@@ -6,7 +6,8 @@ use Rattle.std.proofs.lemmas.Bool.{and_parts, both_ways, ne_eqb, lt-ltb, falseâ‰
 use Rattle.std.proofs.lemmas.Bool.Decides.{nat_tests}
 use Rattle.cox_poly.specs.PolynomialText.{power_text, factor_text, plus_text}
 use Rattle.cox_poly.specs.ListedText.{listed_term_text}
-use Rattle.cox_poly.specs.Numerals.{number_text, value_of, is_numeral}
+use Rattle.cox_poly.specs.Numerals.{number_text}
+use Rattle.cox_poly.specs.ReadNumerals.{value_of, is_numeral}
 use Rattle.cox_poly.specs.PolynomialReading.{is_sign, is_q, signed, sign_text, size_text, unsigned_text}
 use Rattle.cox_poly.proofs.Numerals.{value_of-number_text, is_numeral-number_text, is_numeral-digits}
 use Rattle.cox_poly.proofs.Splits.{AreNot, Begins, AreSame, split-one, AreNot-append, AreNot-all}

@@ -5,7 +5,8 @@ use Rattle.std.specs.Int.{w64}
 use Rattle.cox_poly.specs.Polynomial.{coefficient, IsPolynomial, HasDegreeBelow}
 use Rattle.cox_poly.specs.PolynomialText.{power_text, polynomial_text}
 use Rattle.cox_poly.specs.ListedText.{listed_term_text}
-use Rattle.cox_poly.specs.Numerals.{number_text, value_of, is_numeral, is_short_numeral}
+use Rattle.cox_poly.specs.Numerals.{number_text}
+use Rattle.cox_poly.specs.ReadNumerals.{value_of, is_numeral, is_short_numeral}
 
 -- the text is that of some polynomial, with coefficients and degrees of any size
 abbrev pub IsPolynomialText : List ℕ → Type 0

@@ -1,7 +1,7 @@
 //! The text of a polynomial, read back.
 ghost use Rattle.std.specs.Prelude.{◌≡◌, ◌↔◌, ◌-◌, ◌≤◌, ◌<◌, ◌++◌, ◌∷◌, [], pos, length, replicate, codes, IsTrue, OnOk, IfOk, Err, MatchOption, FitsSigned};
 ghost use Rattle.std.specs.Int.{w64};
-ghost use Rattle.cox_poly.specs.Numerals.{value_of};
+ghost use Rattle.cox_poly.specs.ReadNumerals.{value_of};
 ghost use Rattle.cox_poly.specs.PolynomialReading.{IsPolynomialText, IsTextOf, IsTextOfLarge, Fits, signed};
 ghost use Rattle.cox_poly.specs.declared.text_fault.TextFault.TheVariants.{NotAPolynomial, TooLarge};
 

@@ -3,7 +3,7 @@ ghost use Rattle.std.specs.Prelude.{◌≡◌, ◌≢◌, ◌+◌, ◌-◌, ◌<
 ghost use Rattle.std.specs.Int.{w64};
 ghost use Rattle.std.specs.List.{position_or_len, list_all};
 ghost use Rattle.std.specs.Char.{is_ascii_digit};
-ghost use Rattle.cox_poly.specs.Numerals.{value_of, is_numeral, is_short_numeral};
+ghost use Rattle.cox_poly.specs.ReadNumerals.{value_of, is_numeral, is_short_numeral};
 ghost use Rattle.cox_poly.specs.PolynomialReading.{is_sign, is_q, signed, IsSigned, IsNoSigned, IsPower, IsNoPower, IsSize, IsNoSize, IsUnsigned, IsNoUnsigned, IsTerm, IsNoTerm};
 
 // A term as it is written: whether a minus stands before it, the digits of its size, and those of its degree, none for 0.

@@ -3,7 +3,7 @@ use Rattle.std.proofs.Common.{◌≡◌, ◌<◌, sym, ◌∙◌, false, FitsSig
 use Rattle.std.proofs.lemmas.Bool.{iff_false, ltb-false, ltb-true, true≢false}
 use Rattle.std.proofs.lemmas.Bool.Decides.{nat_tests}
 use Rattle.std.proofs.lemmas.Int.{to_z-of_z}
-use Rattle.cox_poly.specs.Numerals.{value_of}
+use Rattle.cox_poly.specs.ReadNumerals.{value_of}
 use Rattle.cox_poly.proofs.ReadTerms.{IsRead-foreign, IsRead-falling, IsRead-fitting, IsRead-lost, IsRead-large, IsRead-empty, IsRead-whole}
 use Rattle.cox_poly.proofs.ReadTerms.{IsRead-large_whole, IsRead-room, first-piece, none-left}
 use Rattle.cox_poly.proofs.polynomial_reading.read_polynomial.Goals as goal

@@ -1,6 +1,6 @@
 -- The digits so far are read.
 use Rattle.std.proofs.Common.{◌≡◌, ◌-◌, ◌^◌, take, min}
-use Rattle.cox_poly.specs.Numerals.{value_of}
+use Rattle.cox_poly.specs.ReadNumerals.{value_of}
 use Rattle.cox_poly.proofs.term_reading.capped.Given as goal
 
 abbrev pub invariant-loop-digit : goal.invariant-loop-digit
