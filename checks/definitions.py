@@ -174,6 +174,23 @@ class Group:
             self.graph = [self.edges(x) for x in range(self.size)]
         return self.graph[x]
 
+    def needed(self, w):
+        """The rows that the row of w is made from, with itself: with each z, where s is its least left descent, that of sz, and those
+        of the u with su < u and mu(u,sz) other than 0."""
+        found, ahead = {w}, [w]
+        while ahead:
+            z = ahead.pop()
+            for s in self.lefts[z][:1]:
+                lower = self.left[s][z]
+                new = {lower, *(u for u in self.below[lower] if s in self.lefts[u] and self.mu(u, lower))} - found
+                found |= new
+                ahead.extend(new)
+        return found
+
+    def extremals(self, w):
+        """The x <= w that have each left and each right descent of w."""
+        return [x for x in self.below[w] if {*self.lefts[w]} <= {*self.lefts[x]} and {*self.rights[w]} <= {*self.rights[x]}]
+
     # ---- texts
 
     def name(self, i):
@@ -220,8 +237,7 @@ class Group:
         if command == "klbasis":
             return self.row_text(w, self.below[w])
         if command == "extremals":
-            inside = [x for x in self.below[w] if {*self.lefts[w]} <= {*self.lefts[x]} and {*self.rights[w]} <= {*self.rights[x]}]
-            return self.row_text(w, inside)
+            return self.row_text(w, self.extremals(w))
         if command == "ihbetti":
             found = coefficients(sum(p * BASE ** self.length[x] for x, p in self.row(w).items()))
             return [" ".join(map(str, found + [0] * (len(counts) - len(found))))]

@@ -4,13 +4,16 @@
     checks/workers.py [--times N] [PROGRAM]
 
 Each script is run N times, 100 if nothing is said, with each number of workers. What has to come out is what the program
-writes with no option, which one thread answers. It prints what differs, and a last line with counts; the exit status is 1
-where something differs. It needs Python 3 alone, takes some minutes, and is no part of the gate.
+writes with no option, which one thread answers. And what `crates/workers_stress` has to print of the rows of A 4 is counted
+by their definitions. It prints what differs, and a last line with counts; the exit status is 1 where something differs. It
+needs Python 3 alone, takes some minutes, and is no part of the gate.
 """
 import argparse
+import os
 import subprocess
 
-from common import Count, program
+from common import TOP, Count, program
+from definitions import Group, labels_of
 
 # Whole groups, whose rows several workers share; single rows, dealt out as chains; rows that are kept from line to line; and refusals.
 SCRIPTS = [
@@ -18,6 +21,22 @@ SCRIPTS = [
     "type B 3\nklbasis 123212\nlcells\npol e 321323\nrwgraph\nextremals 12321\n",
     "matrix 3 3 3 3\nklbasis 123123123\nmu 1 123123\nihbetti 321321321\nlcells\ntype D 4\nlrcells\npol 3 3431234\n",
 ]
+
+
+def counts(group, rows):
+    """How many rows these are, and how many extremal elements and values of mu they have."""
+    extremal = sum(len(group.extremals(w)) for w in rows)
+    mus = sum(1 for w in rows for x in group.below[w] if group.mu(x, w))
+    return f"{len(rows)} rows, {extremal} extremal members, {mus} values of mu"
+
+
+def stress(count):
+    """Compares the first lines that `crates/workers_stress` has to print, of all rows and of what the last one needs, each by 1, 2, 4
+    and 16 workers."""
+    group = Group(4, labels_of("A", 4))
+    want = [counts(group, range(group.size))] * 4 + ["of the last one " + counts(group, group.needed(group.size - 1))] * 4
+    with open(os.path.join(TOP, "crates", "workers_stress", "stdout"), encoding="utf-8") as lines:
+        count.check("crates/workers_stress/stdout", lines.read().splitlines()[: len(want)], want)
 
 
 def main():
@@ -28,6 +47,7 @@ def main():
     given = parser.parse_args()
     built = program(given.program)
     count = Count()
+    stress(count)
 
     def answer(script, *words):
         ran = subprocess.run([built, *words], input=script.encode(), stdout=subprocess.PIPE)

@@ -14,6 +14,8 @@ use atomic_table::{Closed, Table};
 use cox_fill_core::RowState;
 use std::alloc::Global;
 use std::sync::Wait;
+use std::sync::atomic::AtomicU64;
+use std::sync::atomic::Ordering::SeqCst;
 
 /// What a claim came to.
 #[derive(Clone, Copy, Debug, PartialEq, Eq)]
@@ -50,6 +52,8 @@ pub struct Claims {
     table: Table<(), View, u32, Rule, Global>,
     rows: u32,
     alloc: Global,
+    // How many threads sleep on a row, or are about to.
+    sleepers: AtomicU64,
     ghost keyed: { table.shared.key ≡ rows },
     ghost a_word_each: { table.shared.table_id.words ≡ rows },
     ghost no_slots: { table.shared.table_id.slots ≡ 0 },
@@ -73,7 +77,13 @@ impl Claims {
     {
         let words = vec![in alloc; FREE; rows as usize]?;
         let (table, seat) = Table::of_words(alloc, &words, &rows)?;
-        Ok((Claims { table, rows, alloc }, Seat { seat, splits: 0 }))
+        let claims = Claims {
+            table,
+            rows,
+            alloc,
+            sleepers: AtomicU64::new(0),
+        };
+        Ok((claims, Seat { seat, splits: 0 }))
     }
 
     /// How many rows there are.
@@ -127,7 +137,7 @@ impl Claims {
     {
         let shared = &self.table.shared;
         shared.store::<PublishPlay>(&mut seat.seat, row as usize, PUBLISHED);
-        shared.wake_all(row as usize);
+        self.wake(row);
     }
 
     /// Gives up a row that the seat holds, and wakes who sleeps on it.
@@ -142,14 +152,28 @@ impl Claims {
     {
         let shared = &self.table.shared;
         shared.store::<VoidPlay>(&mut seat.seat, row as usize, VOID);
-        shared.wake_all(row as usize);
+        self.wake(row);
     }
 
     /// Sleeps while a row is Claimed, until it is published or given up. It may also return before.
     pub fn sleep_on<R: Wait>(&self, rt: &R, row: u32)
         requires { row < rows_of self.now }
     {
+        self.sleepers.fetch_add(1, SeqCst);
         self.table.shared.park(rt, row as usize, CLAIMED as u32);
+        self.sleepers.fetch_sub(1, SeqCst);
+    }
+
+    /// Wakes who sleeps on a row, after its word was changed. A wake asks the system, so it is left out where no thread sleeps on any row.
+    ///
+    /// No sleeper is missed. A thread that is to sleep is counted first, and sleeps only if the word still says Claimed after that. All these
+    /// steps have one order: a count of 0 here was read before the thread was counted, so that the thread finds the changed word.
+    fn wake(&self, row: u32)
+        requires { row < rows_of self.now }
+    {
+        if self.sleepers.load(SeqCst) > 0 {
+            self.table.shared.wake_all(row as usize);
+        }
     }
 
     /// A new seat, which has seen what this one has and holds nothing. Both count one split more.
@@ -206,6 +230,7 @@ impl Claims {
             table,
             rows: _,
             alloc: _,
+            sleepers: _,
         } = self;
         let Seat { seat, splits: _ } = seat;
         let closed = table.close_with(seat);

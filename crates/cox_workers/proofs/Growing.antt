@@ -1,15 +1,16 @@
 -- What a seat has published, voided and seen: step after step, and when it met another.
-use Rattle.std.proofs.Common.{◌≡◌, ◌⊎◌, inl, inr, ⊎_elim, ℕ, ◌+◌, ◌||◌, List, [], ◌∷◌, ◌++◌, true, sym, ap, ◌∙◌, arith}
+use Rattle.std.proofs.Common.{◌≡◌, ◌⊎◌, inl, inr, ⊎_elim, ℕ, ◌+◌, ◌<◌, ◌||◌, List, length, [], ◌∷◌, ◌++◌, true, sym, ap, ◌∙◌, arith}
 use Rattle.std.proofs.lemmas.Bool.{or_cases, or_left, or_right}
 use Rattle.cox_context.specs.Closed.{Elements}
 use Rattle.cox_claims.specs.declared.seat.Seat.{Seat}
 use Rattle.cox_claims.specs.Knowledge.{has_published, has_voided, parted, told, joined, SeesAll}
 use Rattle.cox_claims.specs.Seats.{view_of, HasSeen, HasSeenVoid}
+use Rattle.cox_row.specs.Rising.{number_at}
 use Rattle.cox_claims.proofs.RowTests.{among_either}
 use Rattle.cox_claims.specs.Rule.{how_many}
 use Rattle.cox_claims.proofs.Splits.{how_many-append}
 use Rattle.cox_klstep.specs.NeedsOf.{HasNeeds}
-use Rattle.cox_workers.specs.Work.{HasEnded, MadeOfSeen}
+use Rattle.cox_workers.specs.Work.{IsNeededAt, HasEnded, MadeOfSeen, IsSeatKept}
 use Rattle.cox_workers.specs.Filled.{HasSeenEnd, IsNeededForSome, IsSeatGrown, HasMetAll}
 use Rattle.cox_workers.proofs.SeatSteps.{same_seats-trans, needs-map, made-trans}
 use Rattle.cox_claims.proofs.Views.{sees-trans}
@@ -19,17 +20,30 @@ pub ended-still : (a b : Seat) → SeesAll (view_of a) (view_of b) → (i : ℕ)
 ended-still a b seen i end =
     ⊎_elim (λ (h : HasSeen a i). inl (seen.published i h)) (λ (h : HasSeenVoid a i). inr (seen.void i h)) end
 
-module _ (e : Elements) (wanted : List ℕ) where
-  pub grown-trans : (a b c : Seat) → IsSeatGrown e wanted a b → IsSeatGrown e wanted b c → IsSeatGrown e wanted a c
-  grown-trans a b c s t = record {
-    same = record { table = t.same.table ∙ s.same.table; number = t.same.number ∙ s.same.number };
-    seats = same_seats-trans (view_of a) (view_of b) (view_of c) s.seats t.seats;
-    held = t.held ∙ s.held;
-    seen = sees-trans (view_of a) (view_of b) (view_of c) s.seen t.seen;
-    ended = λ j h. ⊎_elim (λ (old : HasEnded b j). s.ended j old) (λ (n : IsNeededForSome e wanted j). inr n) (t.ended j h);
-    made = made-trans e a b c s.made t.seen t.made;
-  }
+pub grown-trans : {e : Elements} {wanted : List ℕ} {a b c : Seat} → IsSeatGrown e wanted a b → IsSeatGrown e wanted b c
+    → IsSeatGrown e wanted a c
+grown-trans {e} {wanted} {a} {b} {c} s t = record {
+  same = record { table = t.same.table ∙ s.same.table; number = t.same.number ∙ s.same.number };
+  seats = same_seats-trans (view_of a) (view_of b) (view_of c) s.seats t.seats;
+  held = t.held ∙ s.held;
+  seen = sees-trans (view_of a) (view_of b) (view_of c) s.seen t.seen;
+  ended = λ j h. ⊎_elim (λ (old : HasEnded b j). s.ended j old) (λ (n : IsNeededForSome e wanted j). inr n) (t.ended j h);
+  made = made-trans e a b c s.made t.seen t.made;
+}
 
+-- a seat that is kept while the row of a wanted member is made
+pub grown-kept : {e : Elements} {wanted : List ℕ} {p : ℕ} {a b : Seat} → p < length wanted → IsSeatKept e (number_at wanted p) a b
+    → IsSeatGrown e wanted a b
+grown-kept {e} {wanted} {p} {a} {b} l k = record {
+  same = k.same;
+  seats = k.seats;
+  held = k.held;
+  seen = k.seen;
+  ended = λ j h. ⊎_elim (λ (old : HasEnded a j). inl old) (λ (n : IsNeededAt e (number_at wanted p) j). inr (p, l, n)) (k.ended j h);
+  made = k.made;
+}
+
+module _ (e : Elements) (wanted : List ℕ) where
   -- seat b was split from a, which is then a'; both worked on, to c and d; and c met d, which made it r
   pub met_ended : (a a' b c d r : Seat) → view_of a' ≡ parted (view_of a) → view_of b ≡ told (view_of a)
       → view_of r ≡ joined (view_of c) (view_of d)

@@ -9,6 +9,6 @@ pub mod NeedsByNumber
 -- what a seat has published, voided and seen
 pub mod Growing
 -- places that are dealt out by turns
-pub mod Turns
+pub mod SameTurn
 -- the law of families
 pub mod GivenRows

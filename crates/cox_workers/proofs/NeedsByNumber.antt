@@ -1,5 +1,5 @@
 -- The shorter element of a member and its corrections are of its Need, by number.
-use Rattle.std.proofs.Common.{ℕ, ◌<◌, List, length}
+use Rattle.std.proofs.Common.{◌≡◌, ℕ, ◌<◌, List, length, subst}
 use Rattle.cox_base.specs.IntegerMatrix.{integer_matrix}
 use Rattle.cox_base.specs.Admissible.{IsAdmissible}
 use Rattle.cox_context.specs.Closed.{Elements, IsClosed}
@@ -12,10 +12,12 @@ use Rattle.cox_klstep.proofs.NeededRows.{lower-needed, correction-needed}
 use Rattle.cox_workers.specs.Work.{IsNeededAt}
 
 module _ (e : Elements) (g : IsAdmissible (integer_matrix e.matrix)) (closed : IsClosed (integer_matrix e.matrix) e.members) (d : Descent)
-    (is : IsDescentAt e d) where
-  pub lower-needed_at : IsNeededAt e d.member d.lower
-  lower-needed_at = record { within = is.lower_within; needed = lower-needed e g closed d is }
+    (is : IsDescentAt e d) {i : ℕ} (number : d.member ≡ i) where
+  pub lower-needed_at : IsNeededAt e i d.lower
+  lower-needed_at =
+      subst (λ n. IsNeededAt e n d.lower) number (record { within = is.lower_within; needed = lower-needed e g closed d is })
 
-  pub correction-needed_at : (numbers : List ℕ) → AreNeeds (integer_matrix e.matrix) e.members d.letter (word_at e.members d.member) numbers
-      → (k : ℕ) → k < length numbers → IsNeededAt e d.member (number_at numbers k)
-  correction-needed_at numbers are k l = record { within = are.within k l; needed = correction-needed e g closed d is numbers are k l }
+  pub correction-needed_at : {numbers : List ℕ} → AreNeeds (integer_matrix e.matrix) e.members d.letter (word_at e.members d.member) numbers
+      → {k : ℕ} → k < length numbers → IsNeededAt e i (number_at numbers k)
+  correction-needed_at {numbers} are {k} l = subst (λ n. IsNeededAt e n (number_at numbers k)) number
+      (record { within = are.within k l; needed = correction-needed e g closed d is numbers are k l })

@@ -13,7 +13,7 @@ use Rattle.cox_context.specs.Closed.{Elements}
 use Rattle.cox_context.specs.Numbers.{word_at}
 use Rattle.cox_fill_core.specs.declared.event.RowState.{RowState}
 use Rattle.cox_klstep.specs.declared.fault.StepFault.{StepFault}
-use Rattle.cox_klstep.specs.declared.fault.StepFault.TheVariants as step
+use Rattle.cox_klstep.specs.declared.fault.StepFault.TheVariants.{NoMemory}
 use Rattle.cox_klstep.specs.Faults.{IsFault}
 use Rattle.cox_klstep.specs.NeedsOf.{HasNeeds}
 use Rattle.cox_claims.specs.declared.seat.Seat.{Seat}
@@ -24,9 +24,8 @@ use Rattle.cox_claims.specs.Seats.{view_of, splits_of, IsSameSeat, HasSeen, HasS
 use Rattle.cox_claims.proofs.RowTests.{among_else}
 use Rattle.cox_claims.proofs.Views.{looked_did, sees-refl, sees-trans}
 use Rattle.cox_workers.specs.declared.missing.Missing.{Missing}
-use Rattle.cox_workers.specs.declared.missing.Missing.TheVariants.{Void, Coefficient, Mu, NoMemory}
-use Rattle.cox_workers.specs.MissingRows.{missing_by}
-use Rattle.cox_workers.specs.Work.{IsNeededAt, HasEnded, MadeOfSeen, IsSeatKept, VoidsNone, IsVoid, IsGivenUp, IsNeededBeyond}
+use Rattle.cox_workers.specs.declared.missing.Missing.TheVariants.{Void, Fault}
+use Rattle.cox_workers.specs.Work.{IsNeededAt, HasEnded, MadeOfSeen, IsSeatKept, VoidsNone, IsVoid}
 use Rattle.cox_workers.specs.Work.{IsRowMissing, IsUnmade}
 
 -- ---- views
@@ -135,10 +134,6 @@ module _ (e : Elements) where
 
   -- ---- why a row is not there
 
-  beyond-needed : IsAdmissible (integer_matrix e.matrix) → (limit : ℤ) (i u w : ℕ) (fault : StepFault) (b : Seat) → IsNeededAt e i u
-      → IsNeededBeyond e limit u w fault b → IsNeededBeyond e limit i w fault b
-  beyond-needed g limit i u w fault b n m = record { needed = needs-trans g i u w n m.needed; is = m.is; void = m.void }
-
   -- the row itself was found Void, and the seat voided nothing before
   pub looked_void : IsAdmissible (integer_matrix e.matrix) → (i : ℕ) (a b c : Seat) → i < length e.members → VoidsNone a b
       → view_of c ≡ looked (view_of b) i RowState.Void → IsVoid e i i a c
@@ -156,13 +151,12 @@ module _ (e : Elements) where
     void = h.void;
     mark = h.mark ∙ ap (among j) none;
   }
-  missing-needed g limit i u a b c (Coefficient x w degree value) n none h =
-      beyond-needed g limit i u w (step.Coefficient x w degree value) c n h
-  missing-needed g limit i u a b c (Mu x w value) n none h = beyond-needed g limit i u w (step.Mu x w value) c n h
-  missing-needed g limit i u a b c NoMemory n none (j, h) = (
+  missing-needed g limit i u a b c (Fault fault) n none (j, h) = (
     j,
     record {
       needed = needs-trans g i u j n h.needed;
+      is = h.is;
+      void = h.void;
       now = h.now;
       before = ap (among j) (sym none) ∙ h.before;
     },
@@ -176,13 +170,10 @@ module _ (e : Elements) where
       MatchResult-weaker result h (λ x t. t) (λ m f. inl (missing-needed g limit i u a b c m n none f))
 
   -- or where memory ran out
-  pub unmade_by_memory : (limit : ℤ) (i : ℕ) (a b : Seat) → IsUnmade e limit i a b NoMemory
-  unmade_by_memory limit i a b = inr (step.NoMemory, refl, tt)
-
-  pub unmade_err : {T : Type 0} → (limit : ℤ) (i : ℕ) (a b : Seat) (r : Result T Missing) → IsErrAnd r (λ m. m ≡ NoMemory)
+  pub unmade_err : {T : Type 0} → (limit : ℤ) (i : ℕ) (a b : Seat) (r : Result T Missing) → IsErrAnd r (λ m. m ≡ Fault NoMemory)
       → IfErr r (IsUnmade e limit i a b)
   unmade_err limit i a b (Ok x) h = tt
-  unmade_err limit i a b (Err m) h = subst (IsUnmade e limit i a b) (sym h) (unmade_by_memory limit i a b)
+  unmade_err limit i a b (Err m) h = inr (NoMemory, h, tt)
 
   -- ---- a claim that is won, and what comes of it
 
@@ -294,41 +285,29 @@ module _ (e : Elements) where
         void = p.kept.void j h.void;
         mark = voided_as_before p j h.void ∙ h.mark ∙ ap (λ v. among j v.given_up) wins.after;
       }
-      missing p limit (Coefficient x w degree value) h = record { needed = h.needed; is = h.is; void = p.kept.void w h.void }
-      missing p limit (Mu x w value) h = record { needed = h.needed; is = h.is; void = p.kept.void w h.void }
-      missing p limit NoMemory (j, h) = (
+      missing p limit (Fault fault) (j, h) = (
         j,
         record {
           needed = h.needed;
+          is = h.is;
+          void = p.kept.void j h.void;
           now = ap (λ v. has_voided v j) p.after ∙ or_right (i == j) (has_voided (view_of c) j) h.now;
           before = sym (ap (λ v. has_voided v j) wins.after) ∙ h.before;
-        },
-      )
-
-      faulty : Voids (view_of c) i (view_of d) → HasSeenVoid d i → (limit : ℤ) (fault : StepFault)
-          → IsFault (integer_matrix e.matrix) e.members limit (λ w. w ≡ i) fault → IsRowMissing e limit i a d (missing_by fault)
-      faulty p void limit (step.Coefficient x w degree value) is = record {
-        needed = rw is.0 (needs_itself g i within);
-        is = (refl, is.1);
-        void = rw is.0 void;
-      }
-      faulty p void limit (step.Mu x w value) is = record {
-        needed = rw is.0 (needs_itself g i within);
-        is = (refl, is.1);
-        void = rw is.0 void;
-      }
-      faulty p void limit step.NoMemory is = (
-        i,
-        record {
-          needed = needs_itself g i within;
-          now = ap (λ v. has_voided v i) p.after ∙ or_left (i == i) (has_voided (view_of c) i) (eq-eqb i i refl);
-          before = false_from_ne_true (has_voided (view_of a) i) (λ h. let no = wins.known.given_up h in cc);
         },
       )
 
       pub unmade_missing : Voids (view_of c) i (view_of d) → HasSeenVoid d i → (limit : ℤ) (m : Missing) → IsUnmade e limit i b c m
           → IsRowMissing e limit i a d m
       unmade_missing p void limit m h = ⊎_elim (λ (other : IsRowMissing e limit i b c m). missing p limit m other)
-          (λ (own : (fault : StepFault) × (m ≡ missing_by fault)
-          × IsFault (integer_matrix e.matrix) e.members limit (λ w. w ≡ i) fault).
-          subst (IsRowMissing e limit i a d) (sym own.1) (faulty p void limit own.0 own.2)) h
+          (λ (own : (fault : StepFault) × (m ≡ Fault fault) × IsFault (integer_matrix e.matrix) e.members limit (λ w. w ≡ i) fault).
+          subst (IsRowMissing e limit i a d) (sym own.1) (
+            i,
+            record {
+              needed = needs_itself g i within;
+              is = own.2;
+              void = void;
+              now = ap (λ v. has_voided v i) p.after ∙ or_left (i == i) (has_voided (view_of c) i) (eq-eqb i i refl);
+              before = false_from_ne_true (has_voided (view_of a) i) (λ h. let no = wins.known.given_up h in cc);
+            },
+          ))
+          h

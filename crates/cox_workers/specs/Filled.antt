@@ -1,5 +1,5 @@
 -- What a seat has seen when rows were made.
-use Rattle.std.specs.Prelude.{◌≡◌, ◌⊎◌, ℕ, ◌+◌, ◌<◌, List, length}
+use Rattle.std.specs.Prelude.{◌≡◌, ◌⊎◌, ℕ, ◌+◌, ◌<◌, List, length, Option}
 use Rattle.cox_context.specs.Closed.{Elements}
 use Rattle.cox_claims.specs.declared.seat.Seat.{Seat}
 use Rattle.cox_claims.specs.Knowledge.{SeesAll, TellsSameSeats}
@@ -8,6 +8,9 @@ use Rattle.cox_row.specs.Rising.{number_at}
 use Rattle.cox_row_store.specs.declared.store.RowStore.{RowStore}
 use Rattle.cox_row_store.specs.Stores.{elements_of, IsSeat}
 use Rattle.cox_claims.specs.Rule.{how_many}
+use Rattle.cox_workers.specs.declared.bench.Bench.{Bench}
+use Rattle.cox_workers.specs.declared.hand.Hand.{Hand}
+use Rattle.cox_workers.specs.Ready.{IsSeatWith}
 use Rattle.cox_workers.specs.Work.{IsNeededAt, HasEnded, MadeOfSeen}
 
 -- the seat has seen row i Published or Void
@@ -27,6 +30,11 @@ pub record IsSeatGrown (e : Elements) (wanted : List ℕ) (old new : Seat) : Typ
   pub seen : SeesAll (view_of old) (view_of new)
   pub ended : (j : ℕ) → HasEnded new j → HasEnded old j ⊎ IsNeededForSome e wanted j
   pub made : MadeOfSeen e old new
+
+-- what work on rows that are wanted leaves: the worker can go on, if it has a hand, and its seat has grown
+pub record IsWorkOn (bench : Bench) (wanted : List ℕ) (old new : Seat) (hand : Option Hand) : Type 0 where
+  pub worker : IsSeatWith bench new hand
+  pub grown : IsSeatGrown bench.context.now wanted old new
 
 -- of each generation as many seats were met since as were split: all seats that were split from this one met it again, and so did all that were
 -- split from these

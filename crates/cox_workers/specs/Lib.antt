@@ -2,8 +2,6 @@
 pub mod Guarded
 -- rows that a worker reads
 pub mod Shelves
--- why rows are not there
-pub mod MissingRows
 -- when a worker can work
 pub mod Ready
 -- what a worker does to its seat

@@ -5,15 +5,13 @@ use Rattle.cox_hecke.specs.Needs.{IsNeeded}
 use Rattle.cox_context.specs.Closed.{Elements}
 use Rattle.cox_context.specs.Numbers.{word_at}
 use Rattle.cox_klstep.specs.declared.fault.StepFault.{StepFault}
-use Rattle.cox_klstep.specs.declared.fault.StepFault.TheVariants as step
 use Rattle.cox_klstep.specs.Faults.{IsFault}
 use Rattle.cox_klstep.specs.NeedsOf.{HasNeeds}
 use Rattle.cox_claims.specs.declared.seat.Seat.{Seat}
 use Rattle.cox_claims.specs.Knowledge.{SeesAll, TellsSameSeats, has_published, has_voided}
 use Rattle.cox_claims.specs.Seats.{view_of, splits_of, IsSameSeat, HasSeen, HasSeenVoid}
 use Rattle.cox_workers.specs.declared.missing.Missing.{Missing}
-use Rattle.cox_workers.specs.declared.missing.Missing.TheVariants.{Void, Coefficient, Mu, NoMemory}
-use Rattle.cox_workers.specs.MissingRows.{missing_by}
+use Rattle.cox_workers.specs.declared.missing.Missing.TheVariants.{Void, Fault}
 
 -- the row of member j is one of Need(w), where w is member i
 pub record IsNeededAt (e : Elements) (i j : ℕ) : Type 0 where
@@ -49,28 +47,20 @@ pub record IsVoid (e : Elements) (i j : ℕ) (old new : Seat) : Type 0 where
   pub void : HasSeenVoid new j
   pub mark : has_voided (view_of new) j ≡ has_voided (view_of old) j
 
--- row j is needed, and the seat voided it
-pub record IsGivenUp (e : Elements) (i j : ℕ) (old new : Seat) : Type 0 where
+-- row j is needed, and the seat has voided it for this fault
+pub record IsGivenUp (e : Elements) (limit : ℤ) (i j : ℕ) (fault : StepFault) (old new : Seat) : Type 0 where
   pub needed : IsNeededAt e i j
+  pub is : IsFault (integer_matrix e.matrix) e.members limit (λ w. w ≡ j) fault
+  pub void : HasSeenVoid new j
   pub now : has_voided (view_of new) j ≡ true
   pub before : has_voided (view_of old) j ≡ false
 
--- the row of w is needed, it is beyond a limit, and the seat has seen it Void
-pub record IsNeededBeyond (e : Elements) (limit : ℤ) (i w : ℕ) (fault : StepFault) (new : Seat) : Type 0 where
-  pub needed : IsNeededAt e i w
-  pub is : IsFault (integer_matrix e.matrix) e.members limit (λ u. u ≡ w) fault
-  pub void : HasSeenVoid new w
-
--- why the row of member i is not there; out of memory the seat itself voided a row that is needed
+-- why the row of member i is not there
 abbrev pub IsRowMissing : Elements → ℤ → ℕ → Seat → Seat → Missing → Type 0
 IsRowMissing e limit i old new (Void j) = IsVoid e i j old new
-IsRowMissing e limit i old new (Coefficient x w degree value) = IsNeededBeyond e limit i w (step.Coefficient x w degree value) new
-IsRowMissing e limit i old new (Mu x w value) = IsNeededBeyond e limit i w (step.Mu x w value) new
-IsRowMissing e limit i old new NoMemory = (j : ℕ) × IsGivenUp e i j old new
+IsRowMissing e limit i old new (Fault fault) = (j : ℕ) × IsGivenUp e limit i j fault old new
 
--- why the row of member i, which the seat held, was not made: either some other row that it needs is missing, or it is itself
--- beyond a limit
+-- why the row of member i, which the seat held, was not made: either some other row that it needs is missing, or there is a fault with itself
 abbrev pub IsUnmade : Elements → ℤ → ℕ → Seat → Seat → Missing → Type 0
-IsUnmade e limit i old new missing =
-    IsRowMissing e limit i old new missing ⊎ ((fault : StepFault) × (missing ≡ missing_by fault)
-    × IsFault (integer_matrix e.matrix) e.members limit (λ w. w ≡ i) fault)
+IsUnmade e limit i old new missing = IsRowMissing e limit i old new missing
+    ⊎ ((fault : StepFault) × (missing ≡ Fault fault) × IsFault (integer_matrix e.matrix) e.members limit (λ w. w ≡ i) fault)

@@ -1,9 +1,11 @@
 //! What a worker works at.
-ghost use Rattle.std.specs.Prelude.{◌≡◌};
-ghost use Rattle.cox_row_store.specs.Stores.{elements_of};
+ghost use Rattle.std.specs.Prelude.{◌≡◌, ℕ, ◌<◌, length};
+ghost use Rattle.cox_claims.specs.Knowledge.{Looks};
+ghost use Rattle.cox_claims.specs.Seats.{view_of};
+ghost use Rattle.cox_row_store.specs.Stores.{elements_of, IsSeat};
 
 use cox_context::Context;
-use cox_row_store::RowStore;
+use cox_row_store::{RowState, RowStore, Seat};
 use std::alloc::Global;
 
 /// What a worker works at: a store of rows over a context, under the worker's number, from 1.
@@ -17,6 +19,8 @@ pub struct Bench<'a> {
 }
 
 impl<'a> Bench<'a> {
+    ghost use Rattle.cox_workers.specs.Work.{IsSeatKept, VoidsNone};
+
     /// The bench of the worker with this number.
     pub fn new(alloc: Global, context: &'a Context, store: &'a RowStore, worker: u32) -> Bench<'a>
         requires { elements_of store.now ≡ context.now }
@@ -30,5 +34,17 @@ impl<'a> Bench<'a> {
             store,
             worker,
         }
+    }
+
+    /// The state of the row of a member, by one look.
+    pub(crate) fn look(&self, seat: &mut Seat, member: u32) -> RowState
+        requires own { IsSeat self.now.store.now seat.old }
+        requires member { member < length self.now.context.now.members }
+        ensures own { IsSeat self.now.store.now seat.new }
+        ensures step { Looks (view_of seat.old) member result (view_of seat.new) }
+        ensures kept { (i : ℕ) → IsSeatKept self.now.context.now i seat.old seat.new }
+        ensures none { VoidsNone seat.old seat.new }
+    {
+        self.store.look(seat, member)
     }
 }

@@ -9,8 +9,10 @@
 //! - `making`: one row, and those that it is made from
 //! - `gathering`: rows that are there already and may serve
 //! - `sharing`: one row by several workers
+//! - `settling`: one row that is wanted, made or given up
 //! - `ahead`: memory that a worker takes ahead
-//! - `filling`: all rows that are wanted, by several workers
+//! - `turns`: all rows that are wanted, as one worker goes through them
+//! - `filling`: the same by several workers
 //! - `laws`: the law of families
 #![tactic(auto)]
 
@@ -22,8 +24,10 @@ mod hand;
 pub mod laws;
 mod making;
 mod missing;
+mod settling;
 mod sharing;
 mod shelf;
+mod turns;
 
 pub use bench::Bench;
 pub use filling::{all_members, fill, fill_row};

@@ -10,7 +10,7 @@ ghost use Rattle.cox_row_store.specs.Stores.{limit_of, IsSeat};
 use crate::bench::Bench;
 use crate::gathering::Budget;
 use crate::hand::Hand;
-use crate::missing::{Missing, missing_of};
+use crate::missing::Missing;
 use cox_klstep::{Descent, needs, row};
 use cox_outside::{Gate, Point};
 use cox_row::{LowerRows, Row};
@@ -29,7 +29,7 @@ impl<'a> Bench<'a> {
     /// passed before each claim and each publication.
     ///
     /// Whatever the answer, the seat holds what it held: a row that was claimed on the way is Published, or else Void. In place of the row of i that
-    /// of a member that it needs may be the one that is `Void` or beyond a limit; a fault with the row of the member w is told of with w.
+    /// of a member that it needs may be the one that is `Void` or has the `Fault`; a fault with the row of the member w is told of with w.
     #[cycle(ensure)]
     pub fn ensure<R: Wait, G: Gate>(
         &self,
@@ -79,7 +79,7 @@ impl<'a> Bench<'a> {
     {
         let _len = self.context.len();
         for _ in rt.forever() {
-            match self.store.look(seat, i) {
+            match self.look(seat, i) {
                 RowState::Published => return Ok(()),
                 RowState::Void => return Err(Missing::Void(i)),
                 _ => self.store.sleep_on(rt, i),
@@ -110,17 +110,15 @@ impl<'a> Bench<'a> {
     {
         let budget = self.take_in(rt, gate, seat, hand, i)?;
         self.gather(rt, seat, hand, i, budget);
-        match row(
+        let row = row(
             self.alloc,
             self.context,
             i,
             &hand.shelf,
             &mut hand.tables,
             &mut hand.steps,
-        ) {
-            Ok(row) => Ok(row),
-            Err(fault) => Err(missing_of(fault)),
-        }
+        )?;
+        Ok(row)
     }
 
     /// Puts the rows that the row of the member with the number i is made from on the shelf. Tells what their corrections cost.

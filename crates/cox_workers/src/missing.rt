@@ -1,6 +1,7 @@
 //! Why a row is not there.
 ghost use Rattle.std.specs.Prelude.{◌≡◌};
-ghost use Rattle.cox_workers.specs.MissingRows.{missing_by};
+ghost use Rattle.cox_klstep.specs.declared.fault.StepFault.TheVariants.{NoMemory};
+ghost use Rattle.cox_workers.specs.declared.missing.Missing.TheVariants.{Fault};
 
 use cox_klstep::StepFault;
 use std::alloc::AllocError;
@@ -12,60 +13,23 @@ pub enum Missing {
     /// The row of this member, which is needed, was given up, and not by who asks.
     #[error("the row of member {0} was given up")]
     Void(u32),
-    /// A coefficient of P(x,w) is above the limit in absolute value, where the row of w is needed.
-    #[error("the coefficient {value} at degree {degree} of members {x} and {w} is above the limit")]
-    Coefficient {
-        /// The number of x.
-        x: u32,
-        /// The number of w.
-        w: u32,
-        /// The least power of `q` with such a coefficient.
-        degree: u32,
-        /// The coefficient, with its sign.
-        value: i128,
-    },
-    /// No coefficient of the row of w, which is needed, is above the limit, but mu(x,w) has more than 32 bits.
-    #[error("the value {value} of mu at members {x} and {w} is above the limit")]
-    Mu {
-        /// The number of x, the first with such a value.
-        x: u32,
-        /// The number of w.
-        w: u32,
-        /// The value of mu, with its sign.
-        value: i64,
-    },
-    /// Out of memory.
-    #[error("out of memory")]
-    NoMemory,
+    /// Who asks gave up a row that is needed, for this reason.
+    #[error("{0}")]
+    Fault(StepFault),
 }
 
-impl From<AllocError> for Missing {
-    ghost use Rattle.cox_workers.specs.declared.missing.Missing.TheVariants.{NoMemory};
+impl From<StepFault> for Missing {
+    ghost from_gives = { λ fault e. e ≡ Fault fault };
 
-    ghost from_gives = { λ _ e. e ≡ NoMemory };
-
-    fn from(_: AllocError) -> Missing {
-        Missing::NoMemory
+    fn from(fault: StepFault) -> Missing {
+        Missing::Fault(fault)
     }
 }
 
-/// The fault of a row.
-pub(crate) fn missing_of(fault: StepFault) -> Missing
-    ensures { result ≡ missing_by fault }
-{
-    match fault {
-        StepFault::Coefficient {
-            x,
-            w,
-            degree,
-            value,
-        } => Missing::Coefficient {
-            x,
-            w,
-            degree,
-            value,
-        },
-        StepFault::Mu { x, w, value } => Missing::Mu { x, w, value },
-        StepFault::NoMemory => Missing::NoMemory,
+impl From<AllocError> for Missing {
+    ghost from_gives = { λ _ e. e ≡ Fault NoMemory };
+
+    fn from(_: AllocError) -> Missing {
+        Missing::Fault(StepFault::NoMemory)
     }
 }

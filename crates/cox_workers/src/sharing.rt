@@ -14,8 +14,8 @@ use std::sync::Wait;
 impl<'a> Bench<'a> {
     ghost use Rattle.cox_workers.specs.Ready.{IsWorkerReady, IsWorkFor};
 
-    /// Makes rows that the row of the member with the number i needs, beside other workers that do the same, until all are Published or Void, or the row of i
-    /// itself is no longer Free.
+    /// Makes rows that the row of the member with the number i needs, while other workers do the same, until all of these are Published or Void. It ends
+    /// earlier where it cannot tell what is needed: if memory runs out, or the row of the shorter element is Void.
     ///
     /// While other workers make all that is left, this one sleeps.
     pub(crate) fn share<R: Wait, G: Gate>(
@@ -40,9 +40,9 @@ impl<'a> Bench<'a> {
         unreachable!()
     }
 
-    /// Makes rows that the row of the member with the number i needs, as long as no other worker has claimed one that comes first. It waits for none.
+    /// Makes those rows that the row of the member with the number i needs and that no worker has claimed.
     ///
-    /// Gives a row that another worker has claimed, where one that is needed is still to come.
+    /// Gives one that another worker has claimed, if there is one. The caller is to wait for it and then to try again.
     #[cycle(supply)]
     fn supply<R: Wait, G: Gate>(
         &self,
@@ -85,10 +85,9 @@ impl<'a> Bench<'a> {
         claimed
     }
 
-    /// Sees to it that the row of the member with the number u is Published or Void, with those that it needs, as long as no other worker has claimed one
-    /// that comes first.
+    /// Makes the row of the member with the number u, after those that it needs, if no worker has claimed one of these rows.
     ///
-    /// Gives a row that another worker has claimed, where the row of u is still to come.
+    /// Gives one that another worker has claimed, if there is one.
     #[cycle(supply)]
     fn provide<R: Wait, G: Gate>(
         &self,
@@ -103,7 +102,7 @@ impl<'a> Bench<'a> {
         ensures work { IsWorkFor self.now u seat.old seat.new hand.old hand.new }
         ensures claimed { IfSome result (λ j. j < length self.now.context.now.members) }
     {
-        match self.state_of(seat, hand, u) {
+        match self.look(seat, u) {
             RowState::Free => {}
             RowState::Claimed => return Some(u),
             _ => return None,
@@ -112,7 +111,7 @@ impl<'a> Bench<'a> {
         if claimed.is_some() {
             return claimed;
         }
-        match self.state_of(seat, hand, u) {
+        match self.look(seat, u) {
             RowState::Free => {
                 let _ = self.ensure(rt, gate, seat, hand, u);
                 None
@@ -121,19 +120,9 @@ impl<'a> Bench<'a> {
             _ => None,
         }
     }
-
-    /// The state of the row of a member, by one look.
-    fn state_of(&self, seat: &mut Seat, hand: &Hand<'a>, u: u32) -> RowState
-        requires ready { IsWorkerReady self.now seat.old hand.now }
-        requires member { u < length self.now.context.now.members }
-        ensures { IsWorkFor self.now u seat.old seat.new hand.now hand.now }
-    {
-        let _ = hand;
-        self.store.look(seat, u)
-    }
 }
 
-/// One of the numbers, each at one turn, where the first turn is not that of the first number.
+/// The number at this turn. The turns go through all numbers once, from the place `start` on and round to the first place.
 fn number_at_turn(numbers: &[u32], start: usize, turn: usize) -> u32
     requires { turn < length numbers.now }
     ensures { (k : ℕ) × (k < length numbers.now) × (result ≡ number_at numbers.now k) }

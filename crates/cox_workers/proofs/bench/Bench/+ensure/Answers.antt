@@ -25,8 +25,7 @@ ensure-returns-in-Lost-Void-clause-missing g t c =
 
 pub ensure-returns-in-Ok-clause-work : goal.ensure-returns-in-Ok-clause-work
 ensure-returns-in-Ok-clause-work g t c = record {
-  ready = ready_still c.args.self.now c.made.new.seat c.publish.new.seat c.made.new.hand c.made.ensures.work.ready c.publish.ensures.own
-      c.publish.ensures.step.kept;
+  ready = ready_still c.made.ensures.work.ready c.publish.ensures.own c.publish.ensures.step.kept;
   kept = published_kept c.args.self.now.context.now c.len-len.ensures.admissible c.args.i c.requires.member c.args.seat.now c.claim.new.seat
       c.made.new.seat c.publish.new.seat c.claim.ensures.seat c.claim.ensures.splits c.in-Won.ensures.step c.made.ensures.work.kept
       c.publish.ensures.seat c.publish.ensures.splits c.publish.ensures.step c.in-Ok.ensures.needs;
@@ -35,8 +34,7 @@ ensure-returns-in-Ok-clause-work g t c = record {
 
 pub ensure-returns-in-Err-clause-work : goal.ensure-returns-in-Err-clause-work
 ensure-returns-in-Err-clause-work g t c = record {
-  ready = ready_still c.args.self.now c.made.new.seat c.void.new.seat c.made.new.hand c.made.ensures.work.ready c.void.ensures.own
-      c.void.ensures.step.kept;
+  ready = ready_still c.made.ensures.work.ready c.void.ensures.own c.void.ensures.step.kept;
   kept = voided_kept c.args.self.now.context.now c.len-len.ensures.admissible c.args.i c.requires.member c.args.seat.now c.claim.new.seat
       c.made.new.seat c.void.new.seat c.claim.ensures.seat c.claim.ensures.splits c.in-Won.ensures.step c.made.ensures.work.kept
       c.void.ensures.seat c.void.ensures.splits c.void.ensures.step;
@@ -59,26 +57,18 @@ made-row-requires-clause-needs g t c =
     c.gather.ensures.work.shelf
     c.in_ok-budget.ensures.needs
 
-pub made-returns-in-Ok-clause-needs : goal.made-returns-in-Ok-clause-needs
-made-returns-in-Ok-clause-needs g t c =
+pub made-returns-clause-needs : goal.made-returns-clause-needs
+made-returns-clause-needs g t c =
     needs-map c.args.self.now.context.now (IsOn c.take_in.new.hand.shelf) (HasSeen c.gather.new.seat) c.args.i
     (λ j on. c.gather.ensures.work.ready.seen j (c.gather.ensures.work.shelf j on)) c.in_ok-budget.ensures.needs
 
-pub made-returns-in-Ok-clause-work : goal.made-returns-in-Ok-clause-work
-made-returns-in-Ok-clause-work g t c =
-    let self = c.args.self.now in
-    work-tables self c.args.i c.args.seat.now c.gather.new.seat c.args.hand.now c.gather.new.hand c.row.new.tables c.row.new.steps
-    c.row.ensures.tables
-    (work-trans self c.args.i c.args.seat.now c.take_in.new.seat c.gather.new.seat c.args.hand.now c.take_in.new.hand c.gather.new.hand
-    c.take_in.ensures.work c.gather.ensures.work)
+pub made-returns-clause-work : goal.made-returns-clause-work
+made-returns-clause-work g t c =
+    work-tables c.row.new.tables c.row.new.steps c.row.ensures.tables (work-trans c.take_in.ensures.work c.gather.ensures.work)
 
-pub made-returns-in-Err-clause-work : goal.made-returns-in-Err-clause-work
-made-returns-in-Err-clause-work g t c =
-    let self = c.args.self.now in
-    work-tables self c.args.i c.args.seat.now c.gather.new.seat c.args.hand.now c.gather.new.hand c.row.new.tables c.row.new.steps
-    c.row.ensures.tables
-    (work-trans self c.args.i c.args.seat.now c.take_in.new.seat c.gather.new.seat c.args.hand.now c.take_in.new.hand c.gather.new.hand
-    c.take_in.ensures.work c.gather.ensures.work)
+pub made-returns-in_err-row-clause-work : goal.made-returns-in_err-row-clause-work
+made-returns-in_err-row-clause-work g t c =
+    work-tables c.row.new.tables c.row.new.steps c.row.ensures.tables (work-trans c.take_in.ensures.work c.gather.ensures.work)
 
 -- ---- one row on the shelf
 
@@ -90,15 +80,11 @@ obtain-ensure-requires g t c = λ κs outlives.
     (omega (arith, c.decreases), (outlives.0, (outlives.1, ((c.take_published.ensures.work c.args.u).ready, c.requires.member))))
 
 pub obtain-returns-in_err-ensure-clause-work : goal.obtain-returns-in_err-ensure-clause-work
-obtain-returns-in_err-ensure-clause-work g t c =
-    work-trans c.args.self.now c.args.u c.args.seat.now c.take_published.new.seat c.ensure.new.seat c.args.hand.now
-    c.take_published.new.hand
-    c.ensure.new.hand (c.take_published.ensures.work c.args.u) c.ensure.ensures.work
+obtain-returns-in_err-ensure-clause-work g t c = work-trans (c.take_published.ensures.work c.args.u) c.ensure.ensures.work
 
 pub obtain-returns-clause-work : goal.obtain-returns-clause-work
 obtain-returns-clause-work g t c =
-    let made = work-trans c.args.self.now c.args.u c.args.seat.now c.take_published.new.seat c.ensure.new.seat c.args.hand.now
-    c.take_published.new.hand c.ensure.new.hand (c.take_published.ensures.work c.args.u) c.ensure.ensures.work
+    let made = work-trans (c.take_published.ensures.work c.args.u) c.ensure.ensures.work
     in record { ready = c.shelve.ensures.ready; kept = made.kept; shelf = λ j on. c.shelve.ensures.shelf j (made.shelf j on) }
 
 pub take_in-returns-then-i-eq0-clause-needs : goal.take_in-returns-then-i-eq0-clause-needs
@@ -121,28 +107,23 @@ take_in-obtain-requires g t c = λ κs outlives.
 pub take_in-returns-in_err-obtain-clause-work : goal.take_in-returns-in_err-obtain-clause-work
 take_in-returns-in_err-obtain-clause-work g t c =
     let e = c.args.self.now.context.now in
-    let needed : IsNeededAt e c.args.i c.of-descent.result.lower = rw c.of-descent.ensures.number at
-    (lower-needed_at e c.len-len.ensures.admissible c.len-len.ensures.closed c.of-descent.result c.of-descent.ensures.descent)
-    in work-needed c.args.self.now c.len-len.ensures.admissible c.args.i c.of-descent.result.lower c.args.seat.now c.obtain.new.seat
-    c.args.hand.now
-    c.obtain.new.hand needed c.obtain.ensures.work
+    let needed = lower-needed_at e c.len-len.ensures.admissible c.len-len.ensures.closed c.of-descent.result c.of-descent.ensures.descent
+    c.of-descent.ensures.number
+    in work-needed c.len-len.ensures.admissible needed c.obtain.ensures.work
 
 pub take_in-returns-in_err-needs-clause-work : goal.take_in-returns-in_err-needs-clause-work
 take_in-returns-in_err-needs-clause-work g t c =
     let e = c.args.self.now.context.now in
-    let needed : IsNeededAt e c.args.i c.of-descent.result.lower = rw c.of-descent.ensures.number at
-    (lower-needed_at e c.len-len.ensures.admissible c.len-len.ensures.closed c.of-descent.result c.of-descent.ensures.descent)
-    in work-list c.args.self.now c.args.i c.args.seat.now c.obtain.new.seat c.args.hand.now c.obtain.new.hand
-    c.replace-corrections.new.dest
-    (work-needed c.args.self.now c.len-len.ensures.admissible c.args.i c.of-descent.result.lower c.args.seat.now c.obtain.new.seat
-    c.args.hand.now c.obtain.new.hand needed c.obtain.ensures.work)
+    let needed = lower-needed_at e c.len-len.ensures.admissible c.len-len.ensures.closed c.of-descent.result c.of-descent.ensures.descent
+    c.of-descent.ensures.number
+    in work-list c.replace-corrections.new.dest (work-needed c.len-len.ensures.admissible needed c.obtain.ensures.work)
 
 pub take_in-returns-in_err-obtain-clause-missing : goal.take_in-returns-in_err-obtain-clause-missing
 take_in-returns-in_err-obtain-clause-missing g t c =
     let e = c.args.self.now.context.now in
     let limit = limit_of c.args.self.now.store.now in
-    let needed : IsNeededAt e c.args.i c.of-descent.result.lower = rw c.of-descent.ensures.number at
-    (lower-needed_at e c.len-len.ensures.admissible c.len-len.ensures.closed c.of-descent.result c.of-descent.ensures.descent)
+    let needed = lower-needed_at e c.len-len.ensures.admissible c.len-len.ensures.closed c.of-descent.result c.of-descent.ensures.descent
+    c.of-descent.ensures.number
     in let why : IfErr c.from_residual.result (IsRowMissing e limit c.of-descent.result.lower c.args.seat.now c.obtain.new.seat) = search
     rules
     in unmade_by-needed e c.len-len.ensures.admissible limit c.args.i c.of-descent.result.lower c.args.seat.now c.args.seat.now
@@ -173,13 +154,10 @@ take_in-obtain-requires-in-corrections g t c = λ κs outlives.
 pub take_in-corrections-init : goal.take_in-corrections-init
 take_in-corrections-init g t c =
     let e = c.args.self.now.context.now in
-    let needed : IsNeededAt e c.args.i c.of-descent.result.lower = rw c.of-descent.ensures.number at
-    (lower-needed_at e c.len-len.ensures.admissible c.len-len.ensures.closed c.of-descent.result c.of-descent.ensures.descent)
+    let needed = lower-needed_at e c.len-len.ensures.admissible c.len-len.ensures.closed c.of-descent.result c.of-descent.ensures.descent
+    c.of-descent.ensures.number
     in record {
-      work = work-list c.args.self.now c.args.i c.args.seat.now c.obtain.new.seat c.args.hand.now c.obtain.new.hand
-          c.replace-corrections.new.dest
-          (work-needed c.args.self.now c.len-len.ensures.admissible c.args.i c.of-descent.result.lower c.args.seat.now c.obtain.new.seat
-          c.args.hand.now c.obtain.new.hand needed c.obtain.ensures.work);
+      work = work-list c.replace-corrections.new.dest (work-needed c.len-len.ensures.admissible needed c.obtain.ensures.work);
       none = c.in_ok-obtain.ensures.here.1;
       stay = λ j on. on;
       taken = λ k l. absurd (omega (arith, l));
@@ -193,15 +171,10 @@ take_in-returns-in_err-obtain-2-clause-work g t c =
     let u = number_at items c.corrections.u-index in
     let are : AreNeeds (integer_matrix e.matrix) e.members d.letter (word_at e.members d.member) items =
     rw c.deref-u-items.ensures.value c.in_ok-needs.ensures in
-    let needed : IsNeededAt e c.args.i u = rw c.of-descent.ensures.number at
-    (correction-needed_at e c.len-len.ensures.admissible c.len-len.ensures.closed d c.of-descent.ensures.descent items are
-    c.corrections.u-index c.corrections-test.true)
-    in work-trans c.args.self.now c.args.i c.args.seat.now c.corrections.seat c.obtain-in-corrections.new.seat c.args.hand.now
-    c.corrections.hand
-    c.obtain-in-corrections.new.hand c.corrections.invariant.work
-    (work-needed c.args.self.now c.len-len.ensures.admissible c.args.i u c.corrections.seat c.obtain-in-corrections.new.seat
-    c.corrections.hand
-    c.obtain-in-corrections.new.hand needed c.obtain-in-corrections.ensures.work)
+    let needed : IsNeededAt e c.args.i u =
+    correction-needed_at e c.len-len.ensures.admissible c.len-len.ensures.closed d c.of-descent.ensures.descent
+    c.of-descent.ensures.number are c.corrections-test.true
+    in work-trans c.corrections.invariant.work (work-needed c.len-len.ensures.admissible needed c.obtain-in-corrections.ensures.work)
 
 pub take_in-corrections-preserved : goal.take_in-corrections-preserved
 take_in-corrections-preserved g t c =
@@ -211,14 +184,12 @@ take_in-corrections-preserved g t c =
     let u = number_at items c.corrections.u-index in
     let are : AreNeeds (integer_matrix e.matrix) e.members d.letter (word_at e.members d.member) items =
     rw c.deref-u-items.ensures.value c.in_ok-needs.ensures in
-    let needed : IsNeededAt e c.args.i u = rw c.of-descent.ensures.number at
-    (correction-needed_at e c.len-len.ensures.admissible c.len-len.ensures.closed d c.of-descent.ensures.descent items are
-    c.corrections.u-index c.corrections-test.true)
-    in let more = work-needed c.args.self.now c.len-len.ensures.admissible c.args.i u c.corrections.seat c.obtain-in-corrections.new.seat
-    c.corrections.hand c.obtain-in-corrections.new.hand needed c.obtain-in-corrections.ensures.work
+    let needed : IsNeededAt e c.args.i u =
+    correction-needed_at e c.len-len.ensures.admissible c.len-len.ensures.closed d c.of-descent.ensures.descent
+    c.of-descent.ensures.number are c.corrections-test.true
+    in let more = work-needed c.len-len.ensures.admissible needed c.obtain-in-corrections.ensures.work
     in record {
-      work = work-trans c.args.self.now c.args.i c.args.seat.now c.corrections.seat c.obtain-in-corrections.new.seat c.args.hand.now
-          c.corrections.hand c.obtain-in-corrections.new.hand c.corrections.invariant.work more;
+      work = work-trans c.corrections.invariant.work more;
       none = c.in_ok-obtain-2.ensures.here.1 ∙ c.corrections.invariant.none;
       stay = λ j on. more.shelf j (c.corrections.invariant.stay j on);
       taken = λ k l. ⊎_elim (λ (less : k < c.corrections.u-index). more.shelf (number_at items k) (c.corrections.invariant.taken k less))
@@ -237,17 +208,16 @@ take_in-returns-in_err-obtain-2-clause-missing g t c =
     let u = number_at items c.corrections.u-index in
     let are : AreNeeds (integer_matrix e.matrix) e.members d.letter (word_at e.members d.member) items =
     rw c.deref-u-items.ensures.value c.in_ok-needs.ensures in
-    let needed : IsNeededAt e c.args.i u = rw c.of-descent.ensures.number at
-    (correction-needed_at e c.len-len.ensures.admissible c.len-len.ensures.closed d c.of-descent.ensures.descent items are
-    c.corrections.u-index c.corrections-test.true)
+    let needed : IsNeededAt e c.args.i u =
+    correction-needed_at e c.len-len.ensures.admissible c.len-len.ensures.closed d c.of-descent.ensures.descent
+    c.of-descent.ensures.number are c.corrections-test.true
     in let why : IfErr c.from_residual-in_err-obtain-2.result (IsRowMissing e limit u c.corrections.seat c.obtain-in-corrections.new.seat) =
     search rules
     in unmade_by-needed e c.len-len.ensures.admissible limit c.args.i u c.args.seat.now c.corrections.seat c.obtain-in-corrections.new.seat
     c.from_residual-in_err-obtain-2.result needed c.corrections.invariant.none why
 
 pub take_in-returns-clause-work : goal.take_in-returns-clause-work
-take_in-returns-clause-work g t c = work-list c.args.self.now c.args.i c.args.seat.now c.corrections.seat c.args.hand.now
-    c.corrections.hand _ c.corrections.invariant.work
+take_in-returns-clause-work g t c = work-list _ c.corrections.invariant.work
 
 pub take_in-returns-clause-needs : goal.take_in-returns-clause-needs
 take_in-returns-clause-needs g t c =

@@ -1,7 +1,7 @@
 -- The row of a member needs those of members with smaller numbers; and what is known while these are provided, one after another.
 use Rattle.std.proofs.Common.{◌+◌, ◌*◌}
 use Rattle.cox_workers.specs.Ready.{IsWorkFor}
-use Rattle.std.specs.Prelude.{ℕ, ◌<◌, length, IfSome}
+use Rattle.std.specs.Prelude.{◌<◌, length, IfSome}
 use Rattle.cox_workers.proofs.bench.Bench.+supply.Given as goal
 
 abbrev pub decreases-supply : goal.decreases-supply

@@ -3,9 +3,7 @@ use Rattle.cox_workers.proofs.Working.{work-trans}
 use Rattle.cox_workers.proofs.bench.Bench.share.Goals as goal
 
 pub returns-in-None-supply : goal.returns-in-None-supply
-returns-in-None-supply g c = work-trans c.args.self.now c.args.i c.args.seat.now c.loop.seat c.supply.new.seat c.args.hand.now c.loop.hand
-    c.supply.new.hand c.loop.invariant c.supply.ensures.work
+returns-in-None-supply g c = work-trans c.loop.invariant c.supply.ensures.work
 
 pub loop-preserved : goal.loop-preserved
-loop-preserved g c = work-trans c.args.self.now c.args.i c.args.seat.now c.loop.seat c.supply.new.seat c.args.hand.now c.loop.hand
-    c.supply.new.hand c.loop.invariant c.supply.ensures.work
+loop-preserved g c = work-trans c.loop.invariant c.supply.ensures.work
