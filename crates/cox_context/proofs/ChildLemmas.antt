@@ -1,8 +1,7 @@
 -- Which child s x of a member x is the next member, for a list of members as it grows.
 use Rattle.std.proofs.Common.{◌≡◌, ℕ, ◌+◌, ◌≤◌, ◌<◌, List, [], ◌∷◌, length, Contains, Option, None, Some, inl, refl, ap, sym, ◌∙◌}
-use Rattle.std.proofs.Common.{⊎_elim, arith, subst, true, false, is_some, unwrap_or, length-append, inr, ◌++◌}
+use Rattle.std.proofs.Common.{⊎_elim, arith, subst, true, false, is_some, inr, ◌++◌}
 use Rattle.std.proofs.lemmas.Bool.{cases_lt, cases_order}
-use Rattle.cox_lemmas.proofs.PushLemmas.{push-length, push_cases}
 use Rattle.arrayvec.specs.ArrayVec.{ArrayVec}
 use Rattle.cox_base.specs.Matrix.{CoxeterMatrix, IsLetter}
 use Rattle.cox_base.specs.Admissible.{IsCoxeterMatrix, IsAdmissible}
@@ -26,15 +25,11 @@ use Rattle.cox_context.specs.Closed.{IsClosed}
 use Rattle.cox_context.specs.Numbers.{word_at}
 use Rattle.cox_context.specs.Numbering.{IsNumberOf}
 use Rattle.cox_context.specs.WantedMembers.{IsMember, IsBelowTop, IsMeant}
-use Rattle.cox_context.specs.Growth.{IsGrowing, IsChild, IsOutside, IsNext, IsNoNext, known, above, outside, AreBelowTop, AreNumbers}
+use Rattle.cox_context.specs.Growth.{IsGrowing, IsChild, IsOutside, IsNext, IsNoNext, known, above, outside}
 use Rattle.cox_context.proofs.ListLemmas.{contains-placed, placed-contains, rising-place}
-use Rattle.cox_context.proofs.ListLemmas.{word_at-old, word_at-new}
-use Rattle.cox_context.proofs.ShiftPlaces.{entry-old, entry-new, entry_number-some}
 use Rattle.cox_context.specs.declared.builder.Child.{Child}
-use Rattle.cox_context.specs.declared.shifts.TheConstants.{NO_MEMBER}
-use Rattle.cox_context.specs.Shifts.{entry, entry_number}
 use Rattle.cox_context.proofs.Ideals.{IsIdeal, ideal-member, ideal-tailed, member-tailed}
-use Rattle.cox_context.proofs.GrowthLemmas.{IsTailed, growing-length, growing-push, growing-prefix, growing-skip, growing-push_length}
+use Rattle.cox_context.proofs.GrowthLemmas.{IsTailed, growing-length, growing-push, growing-prefix, growing-skip}
 use Rattle.cox_context.proofs.NormalLemmas.{first-least}
 use Rattle.cox_context.proofs.LowerLemmas.{IsAscent, ascent}
 
@@ -245,17 +240,6 @@ module _ (c : CoxeterMatrix) (m : IsCoxeterMatrix c) (top : Option (ArrayVec ℕ
   pub member-closed : k < MAX_LETTERS → length words ≤ MAX_MEMBERS → IsClosed (integer_matrix c) words
   member-closed = growing-closed (integer_matrix c) g (IsMember (integer_matrix c) top earlier) ideal k low high s j words h
 
-  pub members-below : (numbers : List ℕ) → AreNumbers earlier words numbers → AreBelowTop (integer_matrix c) top words numbers
-  members-below numbers n i l none =
-      ⊎_elim (λ b. b) (λ there. absurd (absent (entry 1 numbers 1 i) none (n.each i l) (rw (sound.0).normal at there))) sound.1
-    where
-      sound : IsElement (integer_matrix c) (word_at words i) × IsMeant (integer_matrix c) top earlier (word_at words i)
-      sound = member-parts (integer_matrix c) top earlier (word_at words i) (h.sound i l)
-
-      absent : (x : Option ℕ) → x ≡ None → IsNumberOf earlier (word_at words i) x → Contains earlier (word_at words i) → ⊥
-      absent None e none there = none there
-      absent (Some n) e found there = absurd (cc)
-
   -- the next child is a member
   next-member : (child : Child) → IsLetter c.rank s → IsClosed (integer_matrix c) words → j < high
       → IsNext (integer_matrix c) words top earlier (s ∷ word_at words j) child
@@ -285,36 +269,7 @@ module _ (c : CoxeterMatrix) (m : IsCoxeterMatrix c) (top : Option (ArrayVec ℕ
   growing-no_next inside none =
       growing-skip c.rank (IsMember (integer_matrix c) top earlier) tailed k low high s j words h inside (no-next-none inside none)
 
-  -- the number of the next child among the earlier members is appended
-  numbers-push : (child : Child) (numbers : List ℕ) → length earlier ≤ MAX_MEMBERS → AreNumbers earlier words numbers
-      → IsNext (integer_matrix c) words top earlier (s ∷ word_at words j) child
-      → IsMember (integer_matrix c) top earlier (s ∷ word_at words j)
-      → AreNumbers earlier (words ++ (s ∷ word_at words j) ∷ []) (numbers ++ unwrap_or child.number NO_MEMBER ∷ [])
-  numbers-push child numbers few n next member = record {
-    size = omega (arith, push-length words (s ∷ word_at words j), length-append numbers (x ∷ []), n.size);
-    each = λ i l. ⊎_elim (λ (below : i < length words). rw (word_at-old words (s ∷ word_at words j) i below, old i below) (n.each i below))
-        (λ (last : i ≡ length words). rw (word_at-new words (s ∷ word_at words j) i last, here i last) is)
-        (push_cases words (s ∷ word_at words j) i l);
-  }
-    where
-      x : ℕ
-      x = unwrap_or child.number NO_MEMBER
-
-      old : (i : ℕ) → i < length words → entry 1 (numbers ++ unwrap_or child.number NO_MEMBER ∷ []) 1 i ≡ entry 1 numbers 1 i
-      old i l = entry-old 1 numbers 1 i (unwrap_or child.number NO_MEMBER) (omega (arith, l, n.size))
-
-      here : (i : ℕ) → i ≡ length words → entry 1 (numbers ++ unwrap_or child.number NO_MEMBER ∷ []) 1 i ≡ child.number
-      here i e = entry-new 1 numbers 1 i (unwrap_or child.number NO_MEMBER) (omega (arith, e, n.size)) ∙ read child.number next.number
-        where
-          read : (z : Option ℕ) → IsNumberOf earlier (normal_form (integer_matrix c) (s ∷ word_at words j)) z
-              → entry_number (unwrap_or z NO_MEMBER) ≡ z
-          read None f = refl
-          read (Some k) f = entry_number-some k (omega (arith, f.0, few))
-
-      is : IsNumberOf earlier (s ∷ word_at words j) child.number
-      is = let e = ideal.element (s ∷ word_at words j) member in rw e.normal at next.number
-
-  -- the next child is appended: the list grows, it is a prefix of the members, and no word is too long
+  -- the next child is appended: the list grows, and it is a prefix of the members
   module _ (short : k < MAX_LETTERS) (few : length words ≤ MAX_MEMBERS) (child : Child) (letter : IsLetter c.rank s) (inside : j < high)
       (n : IsNext (integer_matrix c) words top earlier (s ∷ word_at words j) child) where
     member : IsMember (integer_matrix c) top earlier (s ∷ word_at words j)
@@ -325,15 +280,3 @@ module _ (c : CoxeterMatrix) (m : IsCoxeterMatrix c) (top : Option (ArrayVec ℕ
 
     pub prefix-next : IsPrefixOf (IsMember (integer_matrix c) top earlier) (words ++ (s ∷ word_at words j) ∷ [])
     prefix-next = growing-prefix c.rank (IsMember (integer_matrix c) top earlier) tailed k low high s j words h inside member
-
-    pub short-next : (i : ℕ) → i < length words + 1 → length (word_at (words ++ (s ∷ word_at words j) ∷ []) i) ≤ MAX_LETTERS
-    short-next i l = omega (
-      arith,
-      growing-push_length c.rank (IsMember (integer_matrix c) top earlier) tailed k low high s j words h inside i l,
-      short,
-    )
-
-    -- its number among the earlier members is appended
-    pub numbers-next : (numbers : List ℕ) → length earlier ≤ MAX_MEMBERS → AreNumbers earlier words numbers
-        → AreNumbers earlier (words ++ (s ∷ word_at words j) ∷ []) (numbers ++ unwrap_or child.number NO_MEMBER ∷ [])
-    numbers-next numbers room are = numbers-push child numbers room are n member

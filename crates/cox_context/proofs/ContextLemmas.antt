@@ -19,7 +19,7 @@ use Rattle.cox_reflect.proofs.Admissible.{IsAdmissible-integer_matrix}
 use Rattle.cox_reflect.proofs.Lengths.{word_length-is, IsReduced-normal_form}
 use Rattle.cox_reflect.proofs.Deletion.{left_length}
 use Rattle.cox_reflect.proofs.Bruhat.{below-length, below-same, below-least}
-use Rattle.cox_reflect.proofs.Search.{word_length-length, word_length-equal, normal_form-same}
+use Rattle.cox_reflect.proofs.Search.{word_length-length, normal_form-same}
 use Rattle.cox_reflect.proofs.NormalElements.{element-normal_form, element-word, element-length}
 use Rattle.cox_context.specs.declared.fault.ContextFault.{ContextFault}
 use Rattle.cox_context.specs.declared.fault.ContextFault.TheVariants.{Size, Long, NoMemory}
@@ -36,7 +36,7 @@ use Rattle.cox_context.specs.Refusal.{IsLong}
 use Rattle.cox_context.specs.FaultMeaning.{IsRefusal}
 use Rattle.cox_context.proofs.ListLemmas.{contains-placed, placed-contains, contains-at, rising-place, rising-before}
 use Rattle.cox_context.proofs.SortedLemmas.{before-less}
-use Rattle.cox_context.proofs.Ideals.{IsIdeal, group-ideal, interval-ideal, union-ideal, ideal-tailed}
+use Rattle.cox_context.proofs.Ideals.{IsIdeal, group-ideal, union-ideal, ideal-tailed}
 use Rattle.cox_context.proofs.Ideals.{element-nil}
 use Rattle.cox_context.proofs.Ideals.{element-tail}
 use Rattle.cox_context.proofs.GrowthLemmas.{IsTailed, grown-length, grown-list}
@@ -97,36 +97,6 @@ module _ (A : IntegerMatrix) (g : IsAdmissible A) where
     some = let c = are.whole [] ideal.least in omega (arith, c.1);
     few = few;
   }
-
-  -- so are those of at most so many letters
-  pub grown-closed : (P : List ℕ → Type 0) (k low : ℕ) (words : List (List ℕ)) → IsIdeal A P → IsGrown A.rank P k low words
-      → k ≤ MAX_LETTERS → length words ≤ MAX_MEMBERS → IsClosed A words
-  grown-closed P k low words ideal h short few = record {
-    rising = h.rising;
-    element = λ word c. ideal.element word (member word c);
-    down = λ y w c e b. there y (ideal.down y w (member w c) e b) (omega (
-      arith,
-      below-length A g b,
-      element-length A g y e,
-      element-length A g w (ideal.element w (member w c)),
-      long w c,
-    ));
-    short = λ word c. omega (arith, long word c, short);
-    some = let c = there [] ideal.least (omega arith) in omega (arith, c.1);
-    few = few;
-  }
-    where
-      member : (word : List ℕ) → Contains words word → P word
-      member word c = let p = contains-placed words word c in subst P p.is (h.sound p.i p.within)
-
-      long : (word : List ℕ) → Contains words word → length word ≤ k
-      long word c =
-          let p = contains-placed words word c
-          in subst (λ (x : List ℕ). length x ≤ k) p.is
-          (grown-length A.rank P (ideal-tailed A g P ideal) k low words h p.i p.within)
-
-      there : (y : List ℕ) → P y → length y ≤ k → Contains words y
-      there y p l = let w = h.whole y p l in placed-contains words y (record { i = w.0; within = w.1; is = w.2 })
 
   -- no member of the interval is longer than its top
   pub interval-length : (w word : List ℕ) → IsInInterval A w word → length word ≤ word_length A w
@@ -335,8 +305,3 @@ module _ (x z : CoxeterMatrix) (copy : x ≡ z) (matrix : IsCoxeterMatrix x) (w 
           → IsGrown x.rank (IsInUnion (integer_matrix x) top earlier) letters low words
           → IsListOf (IsInInterval (integer_matrix x) w) words
       interval-found words letters low n h = interval-members A g w top earlier words letters low same.1 same.0 identity n h
-
-    pub interval-closed : (words : List (List ℕ)) → IsListOf (IsInInterval (integer_matrix x) w) words → length top ≤ MAX_LETTERS
-        → length words ≤ MAX_MEMBERS → IsClosed (integer_matrix x) words
-    interval-closed words are short few = list-closed A g (IsInInterval A w) words (interval-ideal A g w) are
-        (λ word p. omega (arith, interval-length A g w word p, word_length-equal A g same.1, same.0, short)) few

@@ -1,7 +1,6 @@
 -- A context is extended by the interval up to w: what is found is the union, and each member has its new number.
 use Rattle.std.proofs.Common.{◌≡◌, ℕ, ◌-◌, ◌≤◌, ◌<◌, List, length, Result, IfErr, ap, sym, ◌∙◌, arith}
 use Rattle.cox_base.specs.Matrix.{CoxeterMatrix}
-use Rattle.cox_base.specs.declared.limits.TheConstants.{MAX_LETTERS}
 use Rattle.cox_base.specs.IntegerMatrix.{IntegerMatrix, integer_matrix}
 use Rattle.cox_base.specs.Admissible.{IsAdmissible, IsCoxeterMatrix}
 use Rattle.cox_base.specs.Element.{SameElement}
@@ -9,9 +8,7 @@ use Rattle.cox_base.specs.ShortLex.{normal_form}
 use Rattle.cox_base.specs.Reduced.{IsReduced}
 use Rattle.cox_reflect.proofs.Elements.{same-sym}
 use Rattle.cox_reflect.proofs.Admissible.{IsAdmissible-integer_matrix}
-use Rattle.cox_reflect.proofs.Search.{word_length-equal}
 use Rattle.cox_context.specs.declared.fault.ContextFault.{ContextFault}
-use Rattle.cox_context.specs.declared.members.TheConstants.{MAX_MEMBERS}
 use Rattle.cox_context.specs.Union.{IsInUnion}
 use Rattle.cox_context.specs.Closed.{IsClosed, Elements}
 use Rattle.cox_base.specs.SortedList.{IsListOf}
@@ -19,9 +16,8 @@ use Rattle.cox_context.specs.Numbers.{word_at}
 use Rattle.cox_context.specs.Numbering.{AreMoved}
 use Rattle.cox_context.specs.Growth.{IsGrown, AreNumbers, AreLast}
 use Rattle.cox_context.specs.FaultMeaning.{IsRefusal}
-use Rattle.cox_context.proofs.ListLemmas.{contains-at, rising-length}
-use Rattle.cox_context.proofs.Ideals.{union-ideal}
-use Rattle.cox_context.proofs.ContextLemmas.{form-same, list-closed, result-along, union-from, union-length, union-members, moved-members}
+use Rattle.cox_context.proofs.ListLemmas.{rising-length}
+use Rattle.cox_context.proofs.ContextLemmas.{form-same, result-along, union-from, union-members, moved-members}
 
 -- what is known then: contracts see the context e as `now`, x is a copy of its group z, and `top` the normal form of w
 pub record IsExtension (x z : CoxeterMatrix) (e now : Elements) (w top : List ℕ) : Type 0 where
@@ -80,13 +76,6 @@ module _ {x z : CoxeterMatrix} {e now : Elements} {w top : List ℕ} (h : IsExte
   pub extension-seen : (words : List (List ℕ)) → IsListOf (IsInUnion (integer_matrix x) w e.members) words
       → IsListOf (IsInUnion (integer_matrix z) w now.members) words
   extension-seen words are = rw (← h.copy, ← h.members) are
-
-  pub extension-closed : (words : List (List ℕ)) → IsListOf (IsInUnion (integer_matrix x) w e.members) words → length top ≤ MAX_LETTERS
-      → length words ≤ MAX_MEMBERS → IsClosed (integer_matrix x) words
-  extension-closed words are short few =
-      list-closed A g (IsInUnion A w e.members) words (union-ideal A g w e.members h.closed) are
-      (λ word p. union-length A g w e.members MAX_LETTERS word (omega (arith, word_length-equal A g h.same, h.reduced, short))
-      (λ i l. h.closed.short (word_at e.members i) (contains-at e.members i l)) p) few
 
   pub extension-moved : (words : List (List ℕ)) (numbers moved : List ℕ) → IsListOf (IsInUnion (integer_matrix x) w e.members) words
       → AreNumbers e.members words numbers → length moved ≡ length now.members → AreLast numbers (length numbers) moved

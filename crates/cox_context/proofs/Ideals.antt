@@ -1,7 +1,7 @@
 -- What is closed downwards in Bruhat order: the group, and the interval up to an element.
 use Rattle.std.proofs.Common.{◌≡◌, ℕ, ◌≤◌, Bool, true, nat_lt, List, [], ◌∷◌, length, filter, Contains, Option, None, Some, refl}
-use Rattle.std.proofs.Common.{ap, inl, inr, ◌∙◌, ⊎_elim, arith, ltb-true}
-use Rattle.std.proofs.lemmas.List.Elements.{All-nil, All-head, All-tail, All-contains, filter_passes}
+use Rattle.std.proofs.Common.{inl, inr, ⊎_elim, arith, ltb-true}
+use Rattle.std.proofs.lemmas.List.Elements.{All-head, All-contains, filter_passes}
 use Rattle.arrayvec.specs.ArrayVec.{ArrayVec}
 use Rattle.cox_base.specs.Matrix.{CoxeterMatrix, IsLetter}
 use Rattle.cox_base.specs.Admissible.{IsCoxeterMatrix, IsAdmissible}
@@ -13,8 +13,7 @@ use Rattle.cox_base.specs.Descents.{IsLeftDescent, left_descents}
 use Rattle.cox_base.specs.Bruhat.{IsBelow}
 use Rattle.cox_reflect.proofs.Admissible.{IsAdmissible-integer_matrix}
 use Rattle.cox_reflect.proofs.Elements.{same-cons, same-refl}
-use Rattle.cox_reflect.proofs.Search.{normal_form-same, normal_form-equal, word_length-length, length-normal_form, IsWord-normal_form}
-use Rattle.cox_reflect.proofs.Lengths.{word_length-is}
+use Rattle.cox_reflect.proofs.Search.{normal_form-same, word_length-length, length-normal_form}
 use Rattle.cox_reflect.proofs.ShortLexFirst.{IsBefore-cons, normal_form-comes_first, none-before_normal_form}
 use Rattle.cox_reflect.proofs.Bruhat.{below-trans, below-ascent, below-least}
 use Rattle.cox_base.specs.Members.{IsElement, IsInInterval}

@@ -34,6 +34,8 @@ pub mod SetLemmas
 pub mod BelowLemmas
 -- the next member
 pub mod ChildLemmas
+-- the tables of a builder
+pub mod BuilderLemmas
 -- the number of a word
 pub mod NumberLemmas
 -- the table of right shifts

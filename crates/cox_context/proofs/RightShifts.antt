@@ -24,7 +24,8 @@ use Rattle.cox_context.proofs.Shifting.{element-at, right-parent}
 module _ (A : IntegerMatrix) (g : IsAdmissible A) (words : List (List ℕ)) (closed : IsClosed A words) where
   pub first-letter : (t : ℕ) (x : List ℕ) (i : ℕ) → i < length words → word_at words i ≡ t ∷ x → IsLetter A.rank t
   first-letter t x i l e =
-      let elem : IsElement A (t ∷ x) = rw e at (element-at A g words closed i l) in All-head (IsLetter A.rank) t x (element-word A g (t ∷ x) elem)
+      let elem : IsElement A (t ∷ x) = rw e at (element-at A g words closed i l) in All-head (IsLetter A.rank) t x
+      (element-word A g (t ∷ x) elem)
 
   -- the first letter of a member takes it to the word without that letter
   pub first-off : (t : ℕ) (x : List ℕ) (i : ℕ) → i < length words → word_at words i ≡ t ∷ x → normal_form A (t ∷ word_at words i) ≡ x

@@ -7,13 +7,12 @@ use Rattle.cox_base.specs.IntegerMatrix.{IntegerMatrix}
 use Rattle.cox_base.specs.ShortLex.{normal_form}
 use Rattle.cox_base.specs.Bruhat.{IsBelow}
 use Rattle.cox_context.specs.declared.builder.Child.{Child}
-use Rattle.cox_context.specs.Closed.{IsClosed}
 use Rattle.cox_base.specs.Members.{IsElement}
-use Rattle.cox_context.specs.WantedMembers.{IsTop, IsBelowTop, IsMeant}
+use Rattle.cox_context.specs.WantedMembers.{IsBelowTop, IsMeant}
 use Rattle.cox_base.specs.SortedList.{IsRising}
 use Rattle.cox_context.specs.Numbers.{word_at}
 use Rattle.cox_context.specs.Numbering.{IsNumberOf}
-use Rattle.cox_context.specs.Shifts.{entry, AreLeftShifts, IsLower}
+use Rattle.cox_context.specs.Shifts.{entry, IsLower}
 
 -- the list is that of the members of at most k letters, and those of k letters begin at low
 pub record IsGrown (rank : ℕ) (P : List ℕ → Type 0) (k low : ℕ) (words : List (List ℕ)) : Type 0 where
@@ -83,17 +82,6 @@ pub data IsNoNext (A : IntegerMatrix) (words : List (List ℕ)) (top : Option (A
 pub record AreNumbers (earlier words : List (List ℕ)) (numbers : List ℕ) : Type 0 where
   pub size : length numbers ≡ length words
   pub each : (i : ℕ) → i < length words → IsNumberOf earlier (word_at words i) (entry 1 numbers 1 i)
-
--- what members are looked for with: the top, and the earlier members with their left shifts
-pub record IsSearch (A : IntegerMatrix) (upper : Option (ArrayVec ℕ)) (members : List (List ℕ)) (table : List ℕ) : Type 0 where
-  pub top : IsTop A upper
-  pub earlier : IsClosed A members
-  pub earlier_left : AreLeftShifts A members table
-
--- what is kept of the members found so far: their left shifts, and their numbers among the earlier ones
-pub record AreTabled (A : IntegerMatrix) (earlier words : List (List ℕ)) (table places : List ℕ) : Type 0 where
-  pub left : AreLeftShifts A words table
-  pub numbers : AreNumbers earlier words places
 
 -- the words with no earlier number are below the top
 abbrev pub AreBelowTop : IntegerMatrix → Option (ArrayVec ℕ) → List (List ℕ) → List ℕ → Type 0

@@ -26,3 +26,5 @@ pub mod Rows
 pub mod Sets
 -- a list of members as it grows
 pub mod Growth
+-- what the builder of a context has
+pub mod Building

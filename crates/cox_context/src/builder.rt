@@ -11,10 +11,11 @@ ghost use Rattle.cox_base.specs.IntegerMatrix.{IntegerMatrix, integer_matrix};
 ghost use Rattle.cox_base.specs.ShortLex.{normal_form};
 ghost use Rattle.cox_base.specs.Descents.{IsLeftDescent};
 ghost use Rattle.cox_context.specs.Closed.{IsClosed};
-ghost use Rattle.cox_context.specs.WantedMembers.{IsMember};
+ghost use Rattle.cox_context.specs.WantedMembers.{IsTop};
+ghost use Rattle.cox_context.specs.Building.{IsWanted, HasUpTo, HasChildren};
 ghost use Rattle.cox_context.specs.Numbers.{word_at};
 ghost use Rattle.cox_context.specs.Numbering.{IsNumberOf};
-ghost use Rattle.cox_context.specs.Growth.{IsSearch, AreTabled, IsGrowing, IsGrown, IsNext, IsNoNext, AreBelowTop, AreNumbers, AreLast};
+ghost use Rattle.cox_context.specs.Growth.{IsNext, IsNoNext, AreNumbers, AreLast};
 ghost use Rattle.cox_context.specs.Refusal.{IsPrefixOf};
 ghost use Rattle.cox_context.specs.FaultMeaning.{IsRefusal};
 ghost use Rattle.cox_context.specs.Shifts.{entry, AreLeftShifts};
@@ -28,6 +29,7 @@ use crate::members::{MAX_MEMBERS, Members};
 use crate::shifts::{LeftShifts, NO_MEMBER, entry, number_at, place};
 use cox_base::{Coxeter, MAX_LETTERS, MAX_RANK};
 use std::alloc::{AllocError, Global};
+use std::marker::Model;
 
 /// Members, and the table of their left shifts.
 #[derive(Drop)]
@@ -43,11 +45,26 @@ pub(crate) struct Child {
     number: Option<u32>,
 }
 
-/// The members that were found so far, and the number of each among the earlier members.
+/// A search for members, what was found so far, and the number of each member among the earlier ones.
+///
+/// Contracts see what is looked for, and the members. A step takes the builder and gives it back with more members, so a fault leaves none.
 #[derive(Drop)]
-pub(crate) struct Builder {
-    pub(crate) listing: Listing,
-    pub(crate) numbers: Vec<u32>,
+pub(crate) struct Builder<'a> {
+    family: &'a Family,
+    earlier: &'a Listing,
+    limit: u32,
+    listing: Listing,
+    numbers: Vec<u32>,
+}
+
+impl<'a> Model for Builder<'a> {
+    ghost use Rattle.cox_context.specs.Building.{Building, IsBuilder};
+
+    ghost Value = { Building };
+
+    ghost view = { λ b. record { search = record { matrix = b.family.now.group; top = b.family.now.top; earlier = b.earlier.now.members; limit = b.limit }; members = b.listing.members } };
+
+    ghost invariant = { λ b. IsBuilder (record { matrix = b.family.now.group; top = b.family.now.top; earlier = b.earlier.now.members; limit = b.limit }) b.listing.members b.earlier.now.left.items b.listing.left.items b.numbers.items };
 }
 
 impl Listing {
@@ -73,17 +90,21 @@ impl Listing {
     }
 }
 
-impl Builder {
+impl<'a> Builder<'a> {
     /// The identity alone.
     pub(crate) fn new(
         alloc: Global,
-        family: &Family,
-        earlier: &Listing,
-    ) -> Result<Builder, ContextFault>
+        family: &'a Family,
+        earlier: &'a Listing,
+        limit: u32,
+    ) -> Result<Builder<'a>, ContextFault>
+        requires top { IsTop (integer_matrix family.now.group) family.now.top }
         requires earlier { IsClosed (integer_matrix family.now.group) earlier.now.members }
-        ensures grown { IfOk result (λ b. IsGrown family.now.group.rank (IsMember (integer_matrix family.now.group) family.now.top earlier.now.members) 0 0 b.listing.members) }
-        ensures tabled { IfOk result (λ b. AreTabled (integer_matrix family.now.group) earlier.now.members b.listing.members b.listing.left.items b.numbers.items) }
-        ensures one { IfOk result (λ b. length b.listing.members ≡ 1) }
+        requires earlier_left { AreLeftShifts (integer_matrix family.now.group) earlier.now.members earlier.now.left.items }
+        requires some { 1 ≤ limit }
+        requires limit { limit ≤ MAX_MEMBERS }
+        ensures search { IfOk result (λ b. b.search ≡ record { matrix = family.now.group; top = family.now.top; earlier = earlier.now.members; limit = limit }) }
+        ensures grown { IfOk result (λ b. HasUpTo b 0 0) }
         ensures matrix { IsCoxeterMatrix family.now.group }
         ensures fault { IfErr result (λ fault. fault ≡ ContextFault.NoMemory) }
     {
@@ -92,111 +113,101 @@ impl Builder {
             return Err(ContextFault::NoMemory);
         };
         match vec![in alloc; 0; 1] {
-            Ok(numbers) => Ok(Builder { listing, numbers }),
+            Ok(numbers) => Ok(Builder {
+                family,
+                earlier,
+                limit,
+                listing,
+                numbers,
+            }),
             Err(_) => Err(ContextFault::NoMemory),
         }
     }
 
+    /// The rank of the group.
+    fn rank(&self) -> u32
+        ensures rank { result ≡ self.now.search.matrix.rank }
+        ensures limit { result ≤ MAX_RANK }
+        ensures matrix { IsCoxeterMatrix self.now.search.matrix }
+        ensures earlier { IsClosed (integer_matrix self.now.search.matrix) self.now.search.earlier }
+    {
+        self.family.group.rank()
+    }
+
+    /// The number of members that were found.
+    fn len(&self) -> u32
+        ensures len { result ≡ length self.now.members }
+        ensures few { result ≤ MAX_MEMBERS }
+    {
+        self.listing.members.len()
+    }
+
     /// Finds the members of at most so many letters, and says where those of that length begin.
-    pub(crate) fn grow(
-        &mut self,
-        family: &Family,
-        earlier: &Listing,
-        letters: u32,
-        limit: u32,
-    ) -> Result<u32, ContextFault>
-        requires search { IsSearch (integer_matrix family.now.group) family.now.top earlier.now.members earlier.now.left.items }
+    pub(crate) fn grow(mut self, letters: u32) -> Result<(Builder<'a>, u32), ContextFault>
         requires short { letters ≤ MAX_LETTERS }
-        requires limit { limit ≤ MAX_MEMBERS }
-        requires room { length self.old.listing.members ≤ limit }
-        requires grown { IsGrown family.now.group.rank (IsMember (integer_matrix family.now.group) family.now.top earlier.now.members) 0 0 self.old.listing.members }
-        requires tabled { AreTabled (integer_matrix family.now.group) earlier.now.members self.old.listing.members self.old.listing.left.items self.old.numbers.items }
-        ensures grown { IfOk result (λ low. IsGrown family.now.group.rank (IsMember (integer_matrix family.now.group) family.now.top earlier.now.members) letters low self.new.listing.members) }
-        ensures tabled { OnOk result (AreTabled (integer_matrix family.now.group) earlier.now.members self.new.listing.members self.new.listing.left.items self.new.numbers.items) }
-        ensures room { OnOk result (length self.new.listing.members ≤ limit) }
-        ensures fault { IfErr result (IsRefusal (IsMember (integer_matrix family.now.group) family.now.top earlier.now.members) limit) }
+        requires grown { HasUpTo self 0 0 }
+        ensures search { IfOk result (λ r. r.0.search ≡ self.entry.search) }
+        ensures grown { IfOk result (λ r. HasUpTo r.0 letters r.1) }
+        ensures fault { IfErr result (IsRefusal (IsWanted self.entry.search) self.entry.search.limit) }
     {
         let mut low = 0;
         for known in 0..letters {
-            let high = self.listing.members.len();
-            self.grow_length(family, earlier, known, low, limit)?;
+            let high = self.len();
+            self = self.grow_length(known, low)?;
             low = high;
         }
-        Ok(low)
+        Ok((self, low))
     }
 
     /// From the members of at most so many letters to those of one letter more.
-    fn grow_length(
-        &mut self,
-        family: &Family,
-        earlier: &Listing,
-        letters: u32,
-        low: u32,
-        limit: u32,
-    ) -> Result<(), ContextFault>
-        requires search { IsSearch (integer_matrix family.now.group) family.now.top earlier.now.members earlier.now.left.items }
+    fn grow_length(mut self, letters: u32, low: u32) -> Result<Builder<'a>, ContextFault>
         requires short { letters < MAX_LETTERS }
-        requires limit { limit ≤ MAX_MEMBERS }
-        requires room { length self.old.listing.members ≤ limit }
-        requires grown { IsGrown family.now.group.rank (IsMember (integer_matrix family.now.group) family.now.top earlier.now.members) letters low self.old.listing.members }
-        requires tabled { AreTabled (integer_matrix family.now.group) earlier.now.members self.old.listing.members self.old.listing.left.items self.old.numbers.items }
-        ensures grown { OnOk result (IsGrown family.now.group.rank (IsMember (integer_matrix family.now.group) family.now.top earlier.now.members) (letters + 1) (length self.old.listing.members) self.new.listing.members) }
-        ensures tabled { OnOk result (AreTabled (integer_matrix family.now.group) earlier.now.members self.new.listing.members self.new.listing.left.items self.new.numbers.items) }
-        ensures room { OnOk result (length self.new.listing.members ≤ limit) }
-        ensures fault { IfErr result (IsRefusal (IsMember (integer_matrix family.now.group) family.now.top earlier.now.members) limit) }
+        requires grown { HasUpTo self letters low }
+        ensures search { IfOk result (λ b. b.search ≡ self.entry.search) }
+        ensures grown { IfOk result (λ b. HasUpTo b (letters + 1) (length self.entry.members)) }
+        ensures fault { IfErr result (IsRefusal (IsWanted self.entry.search) self.entry.search.limit) }
     {
-        let rank = family.group.rank() as u8;
-        let high = self.listing.members.len();
+        let rank = self.rank() as u8;
+        let high = self.len();
         for s in 1..rank + 1 {
-            self.grow_letter(family, earlier, letters, low, high, s, limit)?;
+            self = self.grow_letter(letters, low, high, s)?;
         }
-        Ok(())
+        Ok(self)
     }
 
     /// Finds the members s x with x from low up to high, which are the members of so many letters.
     fn grow_letter(
-        &mut self,
-        family: &Family,
-        earlier: &Listing,
+        mut self,
         letters: u32,
         low: u32,
         high: u32,
         s: u8,
-        limit: u32,
-    ) -> Result<(), ContextFault>
-        requires matrix { IsCoxeterMatrix family.now.group }
-        requires search { IsSearch (integer_matrix family.now.group) family.now.top earlier.now.members earlier.now.left.items }
+    ) -> Result<Builder<'a>, ContextFault>
         requires short { letters < MAX_LETTERS }
-        requires letter { IsLetter family.now.group.rank s }
-        requires limit { limit ≤ MAX_MEMBERS }
-        requires room { length self.old.listing.members ≤ limit }
-        requires growing { IsGrowing family.now.group.rank (IsMember (integer_matrix family.now.group) family.now.top earlier.now.members) letters low high s low self.old.listing.members }
-        requires tabled { AreTabled (integer_matrix family.now.group) earlier.now.members self.old.listing.members self.old.listing.left.items self.old.numbers.items }
-        ensures growing { OnOk result (IsGrowing family.now.group.rank (IsMember (integer_matrix family.now.group) family.now.top earlier.now.members) letters low high (s + 1) low self.new.listing.members) }
-        ensures tabled { OnOk result (AreTabled (integer_matrix family.now.group) earlier.now.members self.new.listing.members self.new.listing.left.items self.new.numbers.items) }
-        ensures room { OnOk result (length self.new.listing.members ≤ limit) }
-        ensures fault { IfErr result (IsRefusal (IsMember (integer_matrix family.now.group) family.now.top earlier.now.members) limit) }
+        requires letter { IsLetter self.search.matrix.rank s }
+        requires growing { HasChildren self letters low high s low }
+        ensures search { IfOk result (λ b. b.search ≡ self.entry.search) }
+        ensures growing { IfOk result (λ b. HasChildren b letters low high (s + 1) low) }
+        ensures fault { IfErr result (IsRefusal (IsWanted self.entry.search) self.entry.search.limit) }
     {
+        let _rank = self.rank();
         for parent in low..high {
-            if let Some(child) = self.child(family, earlier, s, parent) {
-                self.add(family.group.rank(), s, parent, &child, limit)?;
+            let _len = self.len();
+            if let Some(child) = self.child(s, parent) {
+                self = self.add(s, parent, &child)?;
             }
         }
-        Ok(())
+        Ok(self)
     }
 
     /// The child y = s x of the member x with this number, where y is a member and was not found before.
-    fn child(&self, family: &Family, earlier: &Listing, s: u8, parent: u32) -> Option<Child>
-        requires matrix { IsCoxeterMatrix family.now.group }
-        requires search { IsSearch (integer_matrix family.now.group) family.now.top earlier.now.members earlier.now.left.items }
-        requires closed { IsClosed (integer_matrix family.now.group) self.now.listing.members }
-        requires tabled { AreTabled (integer_matrix family.now.group) earlier.now.members self.now.listing.members self.now.listing.left.items self.now.numbers.items }
-        requires below { AreBelowTop (integer_matrix family.now.group) family.now.top self.now.listing.members self.now.numbers.items }
-        requires letter { IsLetter family.now.group.rank s }
-        requires parent { parent < length self.now.listing.members }
-        ensures next { IfSome result (IsNext (integer_matrix family.now.group) self.now.listing.members family.now.top earlier.now.members (s ∷ word_at self.now.listing.members parent)) }
-        ensures none { IfNone result (IsNoNext (integer_matrix family.now.group) self.now.listing.members family.now.top earlier.now.members (s ∷ word_at self.now.listing.members parent) (length (word_at self.now.listing.members parent))) }
+    fn child(&self, s: u8, parent: u32) -> Option<Child>
+        requires letter { IsLetter self.now.search.matrix.rank s }
+        requires parent { parent < length self.now.members }
+        ensures next { IfSome result (IsNext (integer_matrix self.now.search.matrix) self.now.members self.now.search.top self.now.search.earlier (s ∷ word_at self.now.members parent)) }
+        ensures none { IfNone result (IsNoNext (integer_matrix self.now.search.matrix) self.now.members self.now.search.top self.now.search.earlier (s ∷ word_at self.now.members parent) (length (word_at self.now.members parent))) }
     {
+        let family = self.family;
         let shifts = self.listing.shifts(&family.group);
         if shifts.shift(s, parent).is_some() {
             return None;
@@ -204,9 +215,8 @@ impl Builder {
         let Ok(lower) = lower_members(&shifts, s, parent) else {
             return None;
         };
-        let number = self.earlier_number(family, earlier, s, parent);
-        let numbers = self.numbers.as_slice();
-        if is_meant(family, &shifts, numbers, &lower, number) {
+        let number = self.earlier_number(s, parent);
+        if is_meant(family, &shifts, self.numbers.as_slice(), &lower, number) {
             Some(Child { lower, number })
         } else {
             None
@@ -216,79 +226,86 @@ impl Builder {
     /// The number of y = s x among the earlier members, for the member x with this number, where y was not found before.
     ///
     /// With y is x an earlier member, and y is the left shift of x there.
-    fn earlier_number(&self, family: &Family, earlier: &Listing, s: u8, parent: u32) -> Option<u32>
-        requires matrix { IsCoxeterMatrix family.now.group }
-        requires earlier { IsClosed (integer_matrix family.now.group) earlier.now.members }
-        requires earlier_left { AreLeftShifts (integer_matrix family.now.group) earlier.now.members earlier.now.left.items }
-        requires closed { IsClosed (integer_matrix family.now.group) self.now.listing.members }
-        requires numbers { AreNumbers earlier.now.members self.now.listing.members self.now.numbers.items }
-        requires letter { IsLetter family.now.group.rank s }
-        requires parent { parent < length self.now.listing.members }
-        requires new { ¬ (Contains self.now.listing.members (normal_form (integer_matrix family.now.group) (s ∷ word_at self.now.listing.members parent))) }
-        ensures { IsNumberOf earlier.now.members (normal_form (integer_matrix family.now.group) (s ∷ word_at self.now.listing.members parent)) result }
+    fn earlier_number(&self, s: u8, parent: u32) -> Option<u32>
+        requires letter { IsLetter self.now.search.matrix.rank s }
+        requires parent { parent < length self.now.members }
+        requires new { ¬ (Contains self.now.members (normal_form (integer_matrix self.now.search.matrix) (s ∷ word_at self.now.members parent))) }
+        ensures { IsNumberOf self.now.search.earlier (normal_form (integer_matrix self.now.search.matrix) (s ∷ word_at self.now.members parent)) result }
     {
+        let (family, earlier) = (self.family, self.earlier);
         let before = number_at(self.numbers.as_slice(), parent)?;
         earlier.shifts(&family.group).shift(s, before)
     }
 
     /// Appends the member y = s x, the child of the member x with this number, if the limit admits one more.
-    fn add(
-        &mut self,
-        rank: u32,
-        s: u8,
-        parent: u32,
-        child: &Child,
-        limit: u32,
-    ) -> Result<(), ContextFault>
-        requires rank { rank ≤ MAX_RANK }
-        requires limit { limit ≤ MAX_MEMBERS }
-        requires room { length self.old.listing.members ≤ limit }
-        requires parent { parent < length self.old.listing.members }
-        requires short { length (word_at self.old.listing.members parent) < MAX_LETTERS }
-        requires size { length self.old.listing.left.items ≡ length self.old.listing.members * rank }
-        requires below { (t k : ℕ) → IsLetter rank t → entry rank child.now.lower t 0 ≡ Some k → k < length self.old.listing.members }
-        ensures added { OnOk result (self.new.listing.members ≡ self.old.listing.members ++ (s ∷ word_at self.old.listing.members parent) ∷ []) }
-        ensures left { OnOk result (IsRowPushed rank (length self.old.listing.members) child.now.lower (rank + 1) self.old.listing.left.items self.new.listing.left.items) }
-        ensures numbers { OnOk result (self.new.numbers.items ≡ self.old.numbers.items ++ unwrap_or child.now.number NO_MEMBER ∷ []) }
-        ensures room { OnOk result (length self.new.listing.members ≤ limit) }
-        ensures fault { (A : IntegerMatrix) → (top : Option (ArrayVec ℕ)) (earlier : List (List ℕ)) → IsPrefixOf (IsMember A top earlier) (self.old.listing.members ++ (s ∷ word_at self.old.listing.members parent) ∷ [])
-            → ((i : ℕ) → i < length self.old.listing.members + 1 → length (word_at (self.old.listing.members ++ (s ∷ word_at self.old.listing.members parent) ∷ []) i) ≤ MAX_LETTERS)
-            → IfErr result (IsRefusal (IsMember A top earlier) limit) }
+    fn add(self, s: u8, parent: u32, child: &Child) -> Result<Builder<'a>, ContextFault>
+        requires parent { parent < length self.members }
+        requires short { length (word_at self.members parent) < MAX_LETTERS }
+        requires next { IsNext (integer_matrix self.search.matrix) self.members self.search.top self.search.earlier (s ∷ word_at self.members parent) child.now }
+        requires prefix { IsPrefixOf (IsWanted self.search) (self.members ++ (s ∷ word_at self.members parent) ∷ []) }
+        requires closed { length self.members < MAX_MEMBERS → IsClosed (integer_matrix self.search.matrix) (self.members ++ (s ∷ word_at self.members parent) ∷ []) }
+        ensures added { IfOk result (λ b. b ≡ record { search = self.entry.search; members = self.entry.members ++ (s ∷ word_at self.entry.members parent) ∷ [] }) }
+        ensures fault { IfErr result (IsRefusal (IsWanted self.entry.search) self.entry.search.limit) }
     {
-        let number = self.listing.members.len();
+        let rank = self.rank();
+        let Builder {
+            family,
+            earlier,
+            limit,
+            mut listing,
+            mut numbers,
+        } = self;
+        let number = listing.members.len();
         if number == limit {
             return Err(ContextFault::Size {
                 limit,
                 seen: limit + 1,
             });
         }
-        if push_row(&mut self.listing.left, rank, number, &child.lower).is_err()
-            || self.listing.members.push(s, parent).is_err()
-            || self
-                .numbers
-                .push(child.number.unwrap_or(NO_MEMBER))
-                .is_err()
+        if push_row(&mut listing.left, rank, number, &child.lower).is_err()
+            || listing.members.push(s, parent).is_err()
+            || numbers.push(child.number.unwrap_or(NO_MEMBER)).is_err()
         {
             return Err(ContextFault::NoMemory);
         }
-        Ok(())
+        Ok(Builder {
+            family,
+            earlier,
+            limit,
+            listing,
+            numbers,
+        })
     }
 
     /// Whether an element with one letter more comes from one of the members from low on, the longest.
-    pub(crate) fn goes_on(&self, family: &Family, low: u32) -> bool
-        requires closed { IsClosed (integer_matrix family.now.group) self.now.listing.members }
-        requires left { AreLeftShifts (integer_matrix family.now.group) self.now.listing.members self.now.listing.left.items }
-        requires longest { (i k : ℕ) → low ≤ i → i < length self.now.listing.members → k < length self.now.listing.members → length (word_at self.now.listing.members k) ≤ length (word_at self.now.listing.members i) }
-        ensures yes { IsTrue result → (i : ℕ) × (s : ℕ) × (low ≤ i) × (i < length self.now.listing.members) × IsLetter family.now.group.rank s × (¬ (IsLeftDescent (integer_matrix family.now.group) (word_at self.now.listing.members i) s)) }
-        ensures no { ¬ (IsTrue result) → (i s : ℕ) → low ≤ i → i < length self.now.listing.members → IsLetter family.now.group.rank s → IsLeftDescent (integer_matrix family.now.group) (word_at self.now.listing.members i) s }
+    pub(crate) fn goes_on(&self, low: u32) -> bool
+        requires longest { (i k : ℕ) → low ≤ i → i < length self.now.members → k < length self.now.members → length (word_at self.now.members k) ≤ length (word_at self.now.members i) }
+        ensures yes { IsTrue result → (i : ℕ) × (s : ℕ) × (low ≤ i) × (i < length self.now.members) × IsLetter self.now.search.matrix.rank s × (¬ (IsLeftDescent (integer_matrix self.now.search.matrix) (word_at self.now.members i) s)) }
+        ensures no { ¬ (IsTrue result) → (i s : ℕ) → low ≤ i → i < length self.now.members → IsLetter self.now.search.matrix.rank s → IsLeftDescent (integer_matrix self.now.search.matrix) (word_at self.now.members i) s }
     {
-        let rank = family.group.rank();
-        for i in low..self.listing.members.len() {
+        let rank = self.rank();
+        for i in low..self.len() {
             if lacks_shift(self.listing.left.as_slice(), rank, i) {
                 return true;
             }
         }
         false
+    }
+
+    /// The members that were found, and the number of each among the earlier ones.
+    pub(crate) fn finish(self) -> (Listing, Vec<u32>)
+        ensures members { result.0.members ≡ self.entry.members }
+        ensures left { AreLeftShifts (integer_matrix self.entry.search.matrix) self.entry.members result.0.left.items }
+        ensures numbers { AreNumbers self.entry.search.earlier self.entry.members result.1.items }
+        ensures closed { IsClosed (integer_matrix self.entry.search.matrix) self.entry.members }
+        ensures few { length self.entry.members ≤ self.entry.search.limit }
+    {
+        let Builder {
+            listing,
+            numbers,
+            ..
+        } = self;
+        (listing, numbers)
     }
 }
 

@@ -81,9 +81,10 @@ impl Context {
         let Ok(identity) = Listing::new(alloc, &family.group) else {
             return Err(ContextFault::NoMemory);
         };
-        let mut builder = Builder::new(alloc, &family, &identity)?;
-        builder.grow(&family, &identity, letters, limit)?;
-        Context::of_members(alloc, family.group, builder.listing)
+        let builder = Builder::new(alloc, &family, &identity, limit)?;
+        let (builder, _) = builder.grow(letters)?;
+        let (listing, _) = builder.finish();
+        Context::of_members(alloc, family.group, listing)
     }
 
     /// The elements of a group.
@@ -106,12 +107,13 @@ impl Context {
         let Ok(identity) = Listing::new(alloc, &family.group) else {
             return Err(ContextFault::NoMemory);
         };
-        let mut builder = Builder::new(alloc, &family, &identity)?;
-        let low = builder.grow(&family, &identity, MAX_LETTERS as u32, limit)?;
-        if builder.goes_on(&family, low) {
+        let builder = Builder::new(alloc, &family, &identity, limit)?;
+        let (builder, low) = builder.grow(MAX_LETTERS as u32)?;
+        if builder.goes_on(low) {
             return Err(ContextFault::Long);
         }
-        Context::of_members(alloc, family.group, builder.listing)
+        let (listing, _) = builder.finish();
+        Context::of_members(alloc, family.group, listing)
     }
 
     /// Adds the elements x with x <= w, and tells the new number of each member that was there before.
@@ -168,12 +170,13 @@ impl Context {
             descents: group.left_descents(&top),
             top: Some(top),
         };
-        let mut builder = Builder::new(alloc, &family, &self.listing)?;
-        builder.grow(&family, &self.listing, letters, limit)?;
-        let Ok(moved) = moved(alloc, builder.numbers.as_slice(), self.len()) else {
+        let builder = Builder::new(alloc, &family, &self.listing, limit)?;
+        let (builder, _) = builder.grow(letters)?;
+        let (listing, numbers) = builder.finish();
+        let Ok(moved) = moved(alloc, numbers.as_slice(), self.len()) else {
             return Err(ContextFault::NoMemory);
         };
-        let context = Context::of_members(alloc, family.group, builder.listing)?;
+        let context = Context::of_members(alloc, family.group, listing)?;
         Ok((context, moved))
     }
 

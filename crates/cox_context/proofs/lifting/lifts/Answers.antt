@@ -33,7 +33,8 @@ loop-t-preserved c = record {
       in let rest : drop c.loop-t.t-index c.as_slice-t-items.result.now ≡ t ∷ drop (c.loop-t.t-index + 1) c.as_slice-t-items.result.now
       = rw (add-one, drop-cons c.as_slice-t-items.result.now c.loop-t.t-index 0)
       in let whole : IsReduced A c.as_slice-t-items.result.now = rw c.as_slice-t-items.ensures.value c.requires.reduced
-      in rw c.or-at.ensures (left-next A g c.args.shifts.now.members y c.args.top.now.items (drop c.loop-t.t-index c.as_slice-t-items.result.now)
+      in rw c.or-at.ensures (left-next A g c.args.shifts.now.members y c.args.top.now.items
+      (drop c.loop-t.t-index c.as_slice-t-items.result.now)
       (drop (c.loop-t.t-index + 1) c.as_slice-t-items.result.now) t c.loop-t.at c.shorter_left.result rest
       (IsReduced-drop A g c.loop-t.t-index c.as_slice-t-items.result.now whole) (c.loop-t.invariant.settled y lower)
       (c.shorter_left.ensures.lower y lower));
@@ -41,6 +42,7 @@ loop-t-preserved c = record {
 
 pub returns : goal.returns
 returns c = λ y s d lower.
-    left-answer (integer_matrix c.args.shifts.now.matrix) (IsAdmissible-integer_matrix c.args.shifts.now.matrix c.rank-rank.ensures.matrix) c.args.shifts.now.members y
-    c.args.top.now.items (drop c.loop-t.t-index c.as_slice-t-items.result.now) s c.loop-t.at c.eq.result c.eq.ensures c.rank-rank.ensures.closed d
+    left-answer (integer_matrix c.args.shifts.now.matrix)
+    (IsAdmissible-integer_matrix c.args.shifts.now.matrix c.rank-rank.ensures.matrix) c.args.shifts.now.members y c.args.top.now.items
+    (drop c.loop-t.t-index c.as_slice-t-items.result.now) s c.loop-t.at c.eq.result c.eq.ensures c.rank-rank.ensures.closed d
     (drop_all c.loop-t.t-index c.as_slice-t-items.result.now (omega arith)) (c.loop-t.invariant.settled y lower)

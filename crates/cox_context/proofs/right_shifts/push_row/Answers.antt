@@ -11,8 +11,8 @@ loop-s-preserved c = record {
       (omega (arith, length-append c.loop-s.table.items (c.unwrap_or.result ∷ []), c.loop-s.invariant.size, c.loop-s.auto.s));
   shifts = rw (c.in_ok-push.ensures.items, c.unwrap_or.ensures)
       (right-found (integer_matrix c.args.shifts.now.matrix)
-      (IsAdmissible-integer_matrix c.args.shifts.now.matrix c.rank-rank.ensures.matrix) c.args.shifts.now.members c.rank-rank.ensures.closed c.loop-s.table.items
-      c.loop-s.s c.args.i c.right_shift-shift.result
+      (IsAdmissible-integer_matrix c.args.shifts.now.matrix c.rank-rank.ensures.matrix) c.args.shifts.now.members
+      c.rank-rank.ensures.closed c.loop-s.table.items c.loop-s.s c.args.i c.right_shift-shift.result
       c.loop-s.invariant.shifts (record {
         from_one = c.loop-s.auto.s;
         to_rank = omega

@@ -15,18 +15,22 @@ returns-then-i-eq0 c =
 
 pub returns-in_err-shifted : goal.returns-in_err-shifted
 returns-in_err-shifted c = rw c.from_residual.ensures (right-none (integer_matrix c.args.shifts.now.matrix)
-    (IsAdmissible-integer_matrix c.args.shifts.now.matrix c.rank-rank.ensures.matrix) c.args.shifts.now.members c.rank-rank.ensures.closed c.link-link.result.first c.args.s
+    (IsAdmissible-integer_matrix c.args.shifts.now.matrix c.rank-rank.ensures.matrix) c.args.shifts.now.members c.rank-rank.ensures.closed
+    c.link-link.result.first c.args.s
     (word_at c.args.shifts.now.members c.link-link.result.rest) c.args.i c.link-link.result.rest c.requires.letter c.requires.member
     (rw c.members.ensures at c.link-link.ensures.word) refl c.in_err-shifted.ensures)
 
 pub shift-requires-2-clause-letter : goal.shift-requires-2-clause-letter
 shift-requires-2-clause-letter c =
     first-letter (integer_matrix c.args.shifts.now.matrix)
-    (IsAdmissible-integer_matrix c.args.shifts.now.matrix c.rank-rank.ensures.matrix) c.args.shifts.now.members c.rank-rank.ensures.closed c.link-link.result.first
-    (word_at c.args.shifts.now.members c.link-link.result.rest) c.args.i c.requires.member (rw c.members.ensures at c.link-link.ensures.word)
+    (IsAdmissible-integer_matrix c.args.shifts.now.matrix c.rank-rank.ensures.matrix) c.args.shifts.now.members c.rank-rank.ensures.closed
+    c.link-link.result.first
+    (word_at c.args.shifts.now.members c.link-link.result.rest) c.args.i c.requires.member
+    (rw c.members.ensures at c.link-link.ensures.word)
 
 pub returns : goal.returns
 returns c = right-some (integer_matrix c.args.shifts.now.matrix)
-    (IsAdmissible-integer_matrix c.args.shifts.now.matrix c.rank-rank.ensures.matrix) c.args.shifts.now.members c.rank-rank.ensures.closed c.link-link.result.first c.args.s
+    (IsAdmissible-integer_matrix c.args.shifts.now.matrix c.rank-rank.ensures.matrix) c.args.shifts.now.members c.rank-rank.ensures.closed
+    c.link-link.result.first c.args.s
     (word_at c.args.shifts.now.members c.link-link.result.rest) c.args.i c.link-link.result.rest c.in_ok-shifted.shifted c.shift-2.result
     (rw c.members.ensures at c.link-link.ensures.word) refl c.in_ok-shifted.ensures.1 c.shift-2.ensures

@@ -1,38 +1,34 @@
 -- With y is x an earlier member.
-use Rattle.std.proofs.Common.{◌≡◌, ℕ, List, None, Some, sym}
-use Rattle.cox_base.specs.IntegerMatrix.{IntegerMatrix, integer_matrix}
-use Rattle.cox_base.specs.Admissible.{IsAdmissible}
+use Rattle.std.proofs.Common.{◌≡◌, None, Some, ap, sym}
+use Rattle.cox_base.specs.IntegerMatrix.{integer_matrix}
 use Rattle.cox_reflect.proofs.Admissible.{IsAdmissible-integer_matrix}
-use Rattle.cox_context.specs.Numbers.{word_at}
+use Rattle.cox_context.specs.Building.{Building}
 use Rattle.cox_context.specs.Shifts.{entry}
 use Rattle.cox_context.proofs.Shifting.{element-at}
 use Rattle.cox_context.proofs.LowerLemmas.{ascent}
 use Rattle.cox_context.proofs.ChildLemmas.{earlier-none}
+use Rattle.cox_context.proofs.BuilderLemmas.{builder-seen}
 use Rattle.cox_context.proofs.builder.Builder.earlier_number.Goals as goal
 
 pub returns-in_err-before : goal.returns-in_err-before
 returns-in_err-before c =
-    let A : IntegerMatrix = integer_matrix c.args.family.now.group
-    in let g : IsAdmissible A = IsAdmissible-integer_matrix c.args.family.now.group c.requires.matrix
-    in let x : List ℕ = word_at c.args.self.now.listing.members c.args.parent
-    in let read : entry 1 c.args.self.now.numbers.items 1 c.args.parent ≡ None = sym (rw c.as_slice.ensures.value at
-    c.in_err-before.ensures)
-    in let none = rw read at (c.requires.numbers.each c.args.parent c.requires.parent)
-    in rw c.from_residual.ensures (earlier-none A g c.args.self.now.listing.members c.args.earlier.now.members c.args.s c.args.parent
-    c.requires.earlier (element-at A g c.args.self.now.listing.members c.requires.closed c.args.parent c.requires.parent)
-    (ascent c.args.family.now.group c.requires.matrix c.args.self.now.listing.members c.requires.closed c.args.s c.args.parent
-    c.requires.letter c.requires.parent c.requires.new) none)
-
-pub shift-requires-clause-member : goal.shift-requires-clause-member
-shift-requires-clause-member c =
-    let read : entry 1 c.args.self.now.numbers.items 1 c.args.parent ≡ Some c.in_ok-before.before =
-    sym (rw c.as_slice.ensures.value at c.in_ok-before.ensures)
-    in let found = rw read at (c.requires.numbers.each c.args.parent c.requires.parent)
-    in rw c.shifts.ensures found.0
+    let b = builder-seen c.self.view_is c.self.invariant
+    in let v = c.args.self.now
+    in let A = integer_matrix v.search.matrix
+    in let g = IsAdmissible-integer_matrix v.search.matrix b.matrix
+    in let read : entry 1 c.self.inside.numbers.items 1 c.args.parent ≡ None = sym (rw c.as_slice.ensures.value at c.in_err-before.ensures)
+    in let none = rw read at (b.numbered.each c.args.parent c.requires.parent)
+    in rw c.from_residual.ensures (earlier-none A g v.members v.search.earlier c.args.s c.args.parent b.earlier
+    (element-at A g v.members b.closed c.args.parent c.requires.parent)
+    (ascent v.search.matrix b.matrix v.members b.closed c.args.s c.args.parent c.requires.letter c.requires.parent c.requires.new) none)
 
 pub returns : goal.returns
 returns c =
-    let read : entry 1 c.args.self.now.numbers.items 1 c.args.parent ≡ Some c.in_ok-before.before =
+    let b = builder-seen c.self.view_is c.self.invariant
+    in let read : entry 1 c.self.inside.numbers.items 1 c.args.parent ≡ Some c.in_ok-before.before =
     sym (rw c.as_slice.ensures.value at c.in_ok-before.ensures)
-    in let found = rw read at (c.requires.numbers.each c.args.parent c.requires.parent)
-    in let shift = rw c.shifts.ensures at c.shift.ensures in rw found.1 at shift
+    in let found = rw read at (b.numbered.each c.args.parent c.requires.parent)
+    in let matrix = ap (λ (v : Building). v.search.matrix) c.self.view_is
+    in let earlier = ap (λ (v : Building). v.search.earlier) c.self.view_is
+    in let shift = rw (c.shifts.ensures, matrix, earlier) at c.shift.ensures
+    in rw found.1 at shift

@@ -7,5 +7,5 @@ use Rattle.cox_context.specs.Numbers.{word_at}
 use Rattle.cox_context.proofs.builder.Builder.goes_on.Given as goal
 
 abbrev pub invariant-loop-i : goal.invariant-loop-i
-invariant-loop-i l = (i s : ℕ) → l.low ≤ i → i < l.i → IsLetter l.family.group.rank s
-    → IsLeftDescent (integer_matrix l.family.group) (word_at l.self.listing.members i) s
+invariant-loop-i l = (i s : ℕ) → l.low ≤ i → i < l.i → IsLetter l.self.search.matrix.rank s
+    → IsLeftDescent (integer_matrix l.self.search.matrix) (word_at l.self.members i) s
