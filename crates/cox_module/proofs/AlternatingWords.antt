@@ -1,10 +1,11 @@
 -- Alternating words of two letters, no longer than the order of the two, are reduced.
-use Rattle.std.proofs.Common.{◌≡◌, ℕ, zero, suc, ◌+◌, ◌≤◌, Bool, true, false, not, cond, List, [], ◌∷◌, ◌++◌, ℤ, refl, ap, sym}
+use Rattle.std.proofs.Common.{◌≡◌, ℕ, zero, suc, ◌+◌, ◌≤◌, Bool, true, false, cond, List, [], ◌∷◌, ◌++◌, ℤ, refl, sym}
 use Rattle.std.proofs.Common.{⊎_elim, arith}
 use Rattle.std.proofs.lemmas.List.{length-append}
 use Rattle.cox_base.specs.Matrix.{IsLetter}
 use Rattle.cox_base.specs.IntegerMatrix.{IntegerMatrix}
-use Rattle.cox_base.specs.Admissible.{IsAdmissible, HasOrder, order_two, order_three, order_four, order_back_four, order_six, order_back_six}
+use Rattle.cox_base.specs.Admissible.{IsAdmissible, HasOrder, order_two, order_three, order_four, order_back_four, order_six}
+use Rattle.cox_base.specs.Admissible.{order_back_six}
 use Rattle.cox_base.specs.Element.{SameElement}
 use Rattle.cox_base.specs.Length.{word_length}
 use Rattle.cox_base.specs.Reduced.{IsReduced}
@@ -13,7 +14,8 @@ use Rattle.cox_reflect.specs.Action.{simple_root}
 use Rattle.cox_reflect.specs.WordAction.{act, IsNonnegative}
 use Rattle.cox_reflect.proofs.Elements.{same-refl}
 use Rattle.cox_reflect.proofs.Lengths.{IsReduced-nil}
-use Rattle.cox_reflect.proofs.RankTwo.{is_even, alternating, alternating-last, alternating-zero, length-alternating, TwoLetters, spread, braids}
+use Rattle.cox_reflect.proofs.RankTwo.{is_even, alternating, alternating-last, alternating-zero, length-alternating, TwoLetters, spread}
+use Rattle.cox_reflect.proofs.RankTwo.{braids}
 use Rattle.cox_reflect.proofs.RankTwo.{two_letters, pair_of, HasOrder-swap}
 use Rattle.cox_reflect.proofs.Positivity.{Split, spread_nonnegative, positive}
 use Rattle.cox_reflect.proofs.Faithful.{alternating-from, related-same}

@@ -31,7 +31,8 @@ numbers-rising members cell r within rising j k less l =
     (rising-before (cell_words members cell) j k rising less (omega (arith, l, words-size members cell))))
 
 -- each list of a listing of cells is a cell
-pub cell-at : (kind : CellKind) (A : IntegerMatrix) (members : List (List ℕ)) (cells : List (Vec ℕ)) → AreCells kind A (words_of members cells)
+pub cell-at : (kind : CellKind) (A : IntegerMatrix) (members : List (List ℕ)) (cells : List (Vec ℕ))
+    → AreCells kind A (words_of members cells)
     → (k : ℕ) → k < length cells → IsCell kind A (cell_words members (list_at (lists_of cells) k))
 cell-at kind A members cells are k l =
     let size : length (lists_of cells) ≡ length cells = length-map cells (λ (cell : Vec ℕ). cell.items)

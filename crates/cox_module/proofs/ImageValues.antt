@@ -10,9 +10,7 @@ use Rattle.cox_base.specs.Matrix.{IsLetter, IsWord}
 use Rattle.cox_base.specs.IntegerMatrix.{IntegerMatrix}
 use Rattle.cox_base.specs.Admissible.{IsAdmissible}
 use Rattle.cox_base.specs.Element.{SameElement}
-use Rattle.cox_base.specs.ShortLex.{normal_form}
 use Rattle.cox_base.specs.Length.{word_length}
-use Rattle.cox_base.specs.Descents.{IsLeftDescent}
 use Rattle.cox_reflect.proofs.Elements.{same-refl, same-sym, same-trans, same-equal}
 use Rattle.cox_reflect.proofs.Search.{normal_form-equal}
 use Rattle.cox_poly.specs.Coefficients.{Coefficients, zero_polynomial, plus, times_q}
@@ -26,18 +24,17 @@ use Rattle.cox_hecke.proofs.Descents.{shortens_left-same, nat_lt-yes, yes-nat_lt
 use Rattle.cox_hecke.proofs.SumLemmas.{sum_over-lists, sum_over-named, sum_over-one, sum_over-plus, sum_over-times_q}
 use Rattle.cox_hecke.proofs.SumLemmas.{same-is_same, not_same-is_same, is_same-same, occurrences-absent, occurrences-at}
 use Rattle.cox_context.specs.Numbers.{word_at}
-use Rattle.cox_wgraph.specs.Edges.{IsJoined}
 use Rattle.cox_module.specs.declared.term.Entry.{Entry}
 use Rattle.cox_module.specs.declared.term.Entry.TheVariants.{Minus, Square, Half}
 use Rattle.cox_module.specs.declared.term.Term.{Term}
 use Rattle.cox_module.specs.FreeModule.{Vector, times_entry}
 use Rattle.cox_module.specs.Images.{IsEntry, IsTerm, term, term_at, IsImage, AreImages}
-use Rattle.cox_module.proofs.Action.{only_if, through, through_word}
-use Rattle.cox_module.proofs.Functions.{value_at, value_word}
-use Rattle.cox_module.proofs.Linear.{times_q-linear}
+use Rattle.cox_module.proofs.ActionOnFunctions.{only_if, through, through_word}
+use Rattle.cox_module.proofs.LinearFunctions.{value_at, value_word}
+use Rattle.cox_module.proofs.LinearOperators.{times_q-linear}
 use Rattle.cox_module.proofs.Occurrences.{StandsIn, standing_or_not, named-standing}
 use Rattle.cox_module.proofs.Entries.{entry_or_not}
-use Rattle.cox_module.proofs.Weights.{weight, weight-none, weight-value, weight-joined, weight-same, weight_or_not, through-respects}
+use Rattle.cox_module.proofs.EdgeWeights.{weight, weight-none, weight-value, weight-joined, weight-same, weight_or_not, through-respects}
 use Rattle.cox_module.proofs.PlaceFunctions.{as_family, as_family-respects, as_family-at}
 
 plus-zero : (c : Coefficients) → plus c zero_polynomial ≡ c
@@ -233,9 +230,11 @@ module _ (A : IntegerMatrix) (g : IsAdmissible A) (cell : List (List ℕ))
           respects = as_family-respects A g cell f
 
           go : (b : Bool) → sum_over cell (part_for b)
-              ≡ (if b then negated (as_family A g cell f (word_at cell k)) else plus (times_q (times_q (as_family A g cell f (word_at cell k))))
+              ≡ (if b then negated (as_family A g cell f (word_at cell k))
+              else plus (times_q (times_q (as_family A g cell f (word_at cell k))))
               (times_q (sum_over cell (λ y. scaled (weight A g s (word_at cell k) y) (as_family A g cell f y)))))
-          go true = λ i j. own (λ y. negated (as_family A g cell f y)) (λ y z e n. ap (λ (c : Coefficients). negated c n) (respected A g respects e)) j i
+          go true = λ i j. own (λ y. negated (as_family A g cell f y))
+              (λ y z e n. ap (λ (c : Coefficients). negated c n) (respected A g respects e)) j i
           go false = λ i j. at j i
             where
               at : (j : ℕ) → sum_over cell (λ y. plus (only_if (is_same A (word_at cell k) y) (times_q (times_q (as_family A g cell f y))))

@@ -9,7 +9,8 @@ use Rattle.cox_module.specs.Images.{IsImage, AreImages}
 use Rattle.cox_module.specs.NumberedImages.{AreImagesUnder, image_in}
 
 module _ (A : IntegerMatrix) (words : List (List ℕ)) where
-  pub images-push : (s n : ℕ) (images : List (List Term)) (image : List Term) → AreImagesUnder A words s n images → IsImage A words s n image
+  pub images-push : (s n : ℕ) (images : List (List Term)) (image : List Term) → AreImagesUnder A words s n images
+      → IsImage A words s n image
       → AreImagesUnder A words s (suc n) (images ++ image ∷ [])
   images-push s n images image are is = record {
     size = omega (arith, push-length images image, are.size);

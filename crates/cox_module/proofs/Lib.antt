@@ -1,31 +1,31 @@
 -- ---- the action on functions
 -- the action, and powers of -v
-pub mod Action
+pub mod ActionOnFunctions
 -- linear operators on polynomials, and that they pass
-pub mod Linear
+pub mod LinearOperators
 -- powers of -v, and polynomials in v^2
-pub mod Powers
+pub mod PowersOfV
 -- the weights of the action: values of edges
-pub mod Weights
+pub mod EdgeWeights
 -- the rule of the W-graph
-pub mod Basis
+pub mod GraphRule
 -- alternating words are reduced
 pub mod AlternatingWords
 -- the action along words
-pub mod Along
+pub mod AlongWords
 -- whether a list of words names an element
 pub mod Occurrences
 -- what the rows give spans all functions
 pub mod Spanning
 -- the cut to a cell
-pub mod Cut
+pub mod CutToCell
 -- ---- the module
 -- linear functions on the free module
-pub mod Functions
+pub mod LinearFunctions
 -- operators against linear functions
-pub mod Vectors
+pub mod OperatorsByFunctions
 -- the quadratic relation as a product
-pub mod Differences
+pub mod QuadraticProduct
 -- entries: one for two elements, or none
 pub mod Entries
 -- the terms of an image, place by place

@@ -58,7 +58,8 @@ module _ (A : IntegerMatrix) (g : IsAdmissible A) (cell : List (List ℕ)) (risi
             is = word-at terms found.0 found.1 ∙ ap (word_at cell) found.2 ∙ p.is;
           })
 
-  pub terms-once : (terms others : List Term) → AreTermsBefore A cell s x (length cell) terms → AreTermsBefore A cell s x (length cell) others
+  pub terms-once : (terms others : List Term) → AreTermsBefore A cell s x (length cell) terms
+      → AreTermsBefore A cell s x (length cell) others
       → terms ≡ others
   terms-once terms others are are' = ext_get_or (term 0 Minus) terms others length_is at
     where

@@ -1,5 +1,5 @@
 -- The module of a left cell of a finite group meets the relations of the Hecke algebra.
-use Rattle.std.proofs.Common.{◌≡◌, ◌≢◌, ℕ, zero, suc, ◌+◌, ◌≤◌, ◌<◌, Bool, true, false, List, [], ◌∷◌, length, ⊎_elim}
+use Rattle.std.proofs.Common.{◌≡◌, ◌≢◌, ℕ, zero, suc, ◌+◌, ◌≤◌, ◌<◌, true, false, List, [], ◌∷◌, length}
 use Rattle.std.proofs.Common.{pos, refl, ap, ap₂, sym, ◌∙◌, arith}
 use Rattle.std.specs.Prelude.{All}
 use Rattle.std.proofs.lemmas.Bool.{false≢true}
@@ -36,21 +36,21 @@ use Rattle.cox_cells.specs.Cells.{IsStep, Precedes, IsInCell, first_of, IsCell}
 use Rattle.cox_cells.proofs.StepChains.{chain-join, chain-step}
 use Rattle.cox_module.specs.declared.term.Term.{Term}
 use Rattle.cox_module.specs.FreeModule.{Vector, apply_word}
-use Rattle.cox_module.proofs.Functions.{value_word}
+use Rattle.cox_module.proofs.LinearFunctions.{value_word}
 use Rattle.cox_module.specs.Images.{AreImages}
 use Rattle.cox_module.specs.Relations.{MeetRelations}
-use Rattle.cox_module.proofs.Action.{through_word}
-use Rattle.cox_module.proofs.Linear.{along-linear, along-plus, quadratic}
+use Rattle.cox_module.proofs.ActionOnFunctions.{through_word}
+use Rattle.cox_module.proofs.LinearOperators.{along-linear, along-plus, quadratic}
 use Rattle.cox_module.proofs.AlternatingWords.{reduced-alternating_from, same-alternating_from}
-use Rattle.cox_module.proofs.Weights.{weight, weight-none, weight-joined}
-use Rattle.cox_module.proofs.Along.{raised_at, along-same}
+use Rattle.cox_module.proofs.EdgeWeights.{weight, weight-none, weight-joined}
+use Rattle.cox_module.proofs.AlongWords.{raised_at, along-same}
 use Rattle.cox_module.proofs.Spanning.{IsOperator, value, span}
-use Rattle.cox_module.proofs.Cut.{is_in, is_in-yes, is_in-no, cut-words}
+use Rattle.cox_module.proofs.CutToCell.{is_in, is_in-yes, is_in-no, cut-words}
 use Rattle.cox_module.proofs.Occurrences.{StandsIn, named-standing}
 use Rattle.cox_module.proofs.PlaceFunctions.{as_family, as_family-respects, as_family-at}
 use Rattle.cox_module.proofs.ImageValues.{word-value}
-use Rattle.cox_module.proofs.Differences.{as_product}
-use Rattle.cox_module.proofs.Vectors.{equal-operators, quadratic-operators}
+use Rattle.cox_module.proofs.QuadraticProduct.{as_product}
+use Rattle.cox_module.proofs.OperatorsByFunctions.{equal-operators, quadratic-operators}
 
 IsWord-alternating : (rank k s t : ℕ) → IsLetter rank s → IsLetter rank t → IsWord rank (alternating_from k s t)
 unfolding alternating_from
@@ -181,7 +181,8 @@ module _ (A : IntegerMatrix) (g : IsAdmissible A) where
       unfolding Below
       convex s x y b e some inner =
           let p = standing y inner
-          in let form : word_at cell p.place ≡ normal_form A y = sym (in_cell p.place p.within).element.normal ∙ sym (normal_form-equal A g p.same)
+          in let form : word_at cell p.place ≡ normal_form A y
+          = sym (in_cell p.place p.within).element.normal ∙ sym (normal_form-equal A g p.same)
           in let forth : Precedes Left A (first_of cell) (normal_form A y) = rw (← form) (in_cell p.place p.within).forth
           in let there : IsInCell Left A (first_of cell) (normal_form A x) = record {
             element = element-normal_form A g x;

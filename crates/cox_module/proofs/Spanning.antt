@@ -1,11 +1,10 @@
 -- The functions that the rows give span all functions, up to powers of -v: so operators that are equal on them are equal.
-use Rattle.std.proofs.Common.{◌≡◌, ℕ, zero, suc, ◌+◌, ◌-◌, ◌≤◌, ◌<◌, Bool, true, false, List, [], ◌∷◌, length, get_or}
+use Rattle.std.proofs.Common.{◌≡◌, ℕ, zero, suc, ◌+◌, ◌-◌, ◌≤◌, ◌<◌, List, [], length, get_or}
 use Rattle.std.proofs.Common.{⊎_elim, ℤ, pos, ◌+ℤ◌, neg_ℤ, refl, ap, sym, ◌∙◌, arith}
 use Rattle.std.proofs.lemmas.Int.{ints}
 use Rattle.std.proofs.lemmas.Bool.{cases_lt}
 use Rattle.cox_base.specs.IntegerMatrix.{IntegerMatrix}
 use Rattle.cox_base.specs.Admissible.{IsAdmissible}
-use Rattle.cox_base.specs.Element.{SameElement}
 use Rattle.cox_base.specs.Length.{word_length}
 use Rattle.cox_base.specs.Bruhat.{IsBelow}
 use Rattle.cox_poly.specs.Coefficients.{Coefficients, zero_polynomial, one_polynomial, plus}
@@ -17,11 +16,12 @@ use Rattle.cox_hecke.specs.ListedElements.{occurrences}
 use Rattle.cox_hecke.proofs.Signed.{respected}
 use Rattle.cox_hecke.proofs.AllRows.{row_of, row_of-is, row_of-same}
 use Rattle.cox_reflect.proofs.Search.{word_length-equal}
-use Rattle.cox_module.proofs.Action.{lift, spread}
+use Rattle.cox_module.proofs.ActionOnFunctions.{lift, spread}
 use Rattle.cox_module.proofs.Occurrences.{named-standing}
-use Rattle.cox_module.proofs.Linear.{IsLinear, none-linear, negated-linear, joined-linear, product-linear, lift-linear, lift-passes}
-use Rattle.cox_module.proofs.Powers.{spread-one, spread-none, lift-cancel}
-use Rattle.cox_module.proofs.Basis.{raise}
+use Rattle.cox_module.proofs.LinearOperators.{IsLinear, none-linear, negated-linear, joined-linear}
+use Rattle.cox_module.proofs.LinearOperators.{product-linear, lift-linear, lift-passes}
+use Rattle.cox_module.proofs.PowersOfV.{spread-one, spread-none, lift-cancel}
+use Rattle.cox_module.proofs.GraphRule.{raise}
 
 -- an operator on functions: it is linear over the polynomials
 pub record IsOperator (X : Family → Family) : Type 0 where

@@ -1,5 +1,5 @@
 -- The images under all letters; and the theorem.
-use Rattle.std.proofs.Common.{◌≡◌, ℕ, suc, ◌+◌, List, [], ◌∷◌, ◌++◌, length, ap, ◌∙◌, arith}
+use Rattle.std.proofs.Common.{◌≡◌, suc, ◌+◌, List, [], ◌∷◌, ◌++◌, length, ap, ◌∙◌, arith}
 use Rattle.std.specs.Global.{Vec}
 use Rattle.std.proofs.lemmas.List.{map-append}
 use Rattle.cox_base.specs.IntegerMatrix.{integer_matrix}
@@ -7,7 +7,6 @@ use Rattle.cox_base.specs.Matrix.{CoxeterMatrix}
 use Rattle.cox_base.specs.Admissible.{IsCoxeterMatrix}
 use Rattle.cox_lemmas.proofs.PushLemmas.{push-length}
 use Rattle.cox_context.specs.Closed.{Elements}
-use Rattle.cox_context.specs.Numbers.{word_at}
 use Rattle.cox_row.proofs.RisingLemmas.{rising-few}
 use Rattle.cox_module.specs.declared.term.Term.{Term}
 use Rattle.cox_module.specs.NumberedImages.{cell_words, tables_of, images_of, image_in}

@@ -23,7 +23,7 @@ use Rattle.cox_hecke.proofs.Signed.{respected}
 use Rattle.cox_hecke.proofs.AllRows.{row_of, row_of-is, row_of-same, mu-by_row, mu-unique, mu-same}
 use Rattle.cox_hecke.proofs.Descended.{mu-shift_left}
 use Rattle.cox_wgraph.specs.Edges.{IsEdgeValue, IsJoined}
-use Rattle.cox_module.proofs.Action.{through}
+use Rattle.cox_module.proofs.ActionOnFunctions.{through}
 
 module _ (A : IntegerMatrix) (g : IsAdmissible A) where
   -- mu(x,w)

@@ -1,5 +1,6 @@
 -- The action along words on the functions that a row gives, and that it depends on the element alone.
-use Rattle.std.proofs.Common.{◌≡◌, ℕ, zero, suc, ◌-◌, ◌≤◌, Bool, true, false, if◌then◌else◌, List, [], ◌∷◌, ◌++◌, length, ℤ, ◌+ℤ◌, ◌-ℤ◌, neg_ℤ}
+use Rattle.std.proofs.Common.{◌≡◌, ℕ, zero, suc, ◌-◌, ◌≤◌, Bool, true, false, if◌then◌else◌, List, [], ◌∷◌, ◌++◌, length, ℤ, ◌+ℤ◌, ◌-ℤ◌}
+use Rattle.std.proofs.Common.{neg_ℤ}
 use Rattle.std.proofs.Common.{refl, ap, ap₂, sym, ◌∙◌, arith, append_assoc}
 use Rattle.std.proofs.lemmas.Int.{ints}
 use Rattle.std.proofs.lemmas.List.Elements.{All-head, All-tail}
@@ -19,11 +20,13 @@ use Rattle.cox_hecke.specs.Sign.{times_sign}
 use Rattle.cox_hecke.specs.ListedElements.{occurrences}
 use Rattle.cox_hecke.proofs.AllRows.{row_of, row_of-is}
 use Rattle.cox_hecke.proofs.OperatorLaws.{left_inverse_word-same}
-use Rattle.cox_module.proofs.Action.{through, through_word, lift, spread, hit, hit_word}
-use Rattle.cox_module.proofs.Linear.{IsLinear, itself-linear, negated-linear, times_q-linear, joined-linear, lift-linear, through-linear, through-plus}
-use Rattle.cox_module.proofs.Powers.{spread-plus, spread-negated, spread-times_q}
-use Rattle.cox_module.proofs.Weights.{weight}
-use Rattle.cox_module.proofs.Basis.{raise, raise-is, through-basis}
+use Rattle.cox_module.proofs.ActionOnFunctions.{through, through_word, lift, spread, hit, hit_word}
+use Rattle.cox_module.proofs.LinearOperators.{IsLinear, itself-linear, negated-linear, times_q-linear}
+use Rattle.cox_module.proofs.LinearOperators.{joined-linear, lift-linear, through-linear}
+use Rattle.cox_module.proofs.LinearOperators.{through-plus}
+use Rattle.cox_module.proofs.PowersOfV.{spread-plus, spread-negated, spread-times_q}
+use Rattle.cox_module.proofs.EdgeWeights.{weight}
+use Rattle.cox_module.proofs.GraphRule.{raise, raise-is, through-basis}
 
 -- ---- - q T(s)^-1 as a combination of the values at su and at u; the same with v^2 in the place of q
 

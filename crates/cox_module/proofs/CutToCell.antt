@@ -1,6 +1,7 @@
--- A cell: the action on functions of its elements alone. A function that is 0 at the elements below the cell that are not in it stays so, and
--- in the cell only the elements of the cell count. So what holds of words of the action over all elements holds of words of the action over the cell.
-use Rattle.std.proofs.Common.{◌≡◌, ◌≢◌, ℕ, zero, suc, ◌≤◌, ◌<◌, Bool, true, false, if◌then◌else◌, List, [], ◌∷◌, ◌⊎◌, inl, inr, ⊎_elim}
+-- A cell: the action on functions of its elements alone. A function that is 0 at the elements below the cell that are not in it stays so,
+-- and in the cell only the elements of the cell count. So what holds of words of the action over all elements holds of words of the action
+-- over the cell.
+use Rattle.std.proofs.Common.{◌≡◌, ◌≢◌, ℕ, zero, suc, ◌≤◌, ◌<◌, Bool, true, false, List, [], ◌∷◌, ◌⊎◌, inl, inr, ⊎_elim}
 use Rattle.std.proofs.Common.{ℤ, pos, refl, ap, ap₂, sym, ◌∙◌, arith}
 use Rattle.std.specs.Prelude.{nat_lt}
 use Rattle.std.proofs.lemmas.Int.{ints}
@@ -16,10 +17,10 @@ use Rattle.cox_hecke.specs.Operators.{shortens_left}
 use Rattle.cox_hecke.specs.ListedElements.{occurrences}
 use Rattle.cox_hecke.specs.Sums.{sum_over}
 use Rattle.cox_hecke.proofs.Signed.{respected}
-use Rattle.cox_hecke.proofs.Descents.{shortens_left-same, nat_lt-yes}
+use Rattle.cox_hecke.proofs.Descents.{nat_lt-yes}
 use Rattle.cox_hecke.proofs.SumLemmas.{sum_over-lists, sum_over-named, sum_over-equal, sum_over-none, occurrences-same}
-use Rattle.cox_module.proofs.Action.{only_if, through, through_word}
-use Rattle.cox_module.proofs.Weights.{weight, weight-same, weight_or_not, through-respects}
+use Rattle.cox_module.proofs.ActionOnFunctions.{only_if, through, through_word}
+use Rattle.cox_module.proofs.EdgeWeights.{weight, weight-same, weight_or_not, through-respects}
 
 module _ (A : IntegerMatrix) (g : IsAdmissible A) (members cell : List (List ℕ)) where
   -- whether x is in the cell

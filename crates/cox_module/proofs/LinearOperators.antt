@@ -1,5 +1,6 @@
 -- What passes the action: linear operators on polynomials, and sums.
-use Rattle.std.proofs.Common.{◌≡◌, ℕ, zero, suc, Bool, true, false, if◌then◌else◌, List, [], ◌∷◌, ℤ, pos, ◌+ℤ◌, ◌*ℤ◌, neg_ℤ, refl, ap, ap₂, sym}
+use Rattle.std.proofs.Common.{◌≡◌, ℕ, zero, suc, Bool, true, false, if◌then◌else◌, List, [], ◌∷◌, ℤ, pos, ◌+ℤ◌, ◌*ℤ◌, neg_ℤ, refl, ap}
+use Rattle.std.proofs.Common.{ap₂, sym}
 use Rattle.std.proofs.Common.{◌∙◌, arith}
 use Rattle.std.proofs.lemmas.Int.{ints}
 use Rattle.cox_base.specs.IntegerMatrix.{IntegerMatrix}
@@ -11,7 +12,7 @@ use Rattle.cox_poly.proofs.Products.{product-plus, product-negated, product-scal
 use Rattle.cox_hecke.specs.Family.{Family}
 use Rattle.cox_hecke.specs.Operators.{shortens_left}
 use Rattle.cox_hecke.specs.Sums.{sum_over}
-use Rattle.cox_module.proofs.Action.{through, through_word, lift}
+use Rattle.cox_module.proofs.ActionOnFunctions.{through, through_word, lift}
 
 -- T is linear over the integers, and v passes
 pub record IsLinear (T : Coefficients → Coefficients) : Type 0 where
@@ -114,7 +115,8 @@ lift-linear (suc n) = joined-linear {T = negated} {U = λ f. times_q (lift n f)}
 pub lift-passes : {T : Coefficients → Coefficients} → IsLinear T → (n : ℕ) (f : Coefficients) → T (lift n f) ≡ lift n (T f)
 lift-passes t zero f = refl
 lift-passes {T} t (suc n) f =
-    t.of_negated (times_q (lift n f)) ∙ ap negated (t.of_times_q (lift n f)) ∙ ap (λ (h : Coefficients). negated (times_q h)) (lift-passes t n f)
+    t.of_negated (times_q (lift n f)) ∙ ap negated (t.of_times_q (lift n f))
+    ∙ ap (λ (h : Coefficients). negated (times_q h)) (lift-passes t n f)
 
 -- ---- the action
 

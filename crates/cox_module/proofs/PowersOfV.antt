@@ -5,7 +5,7 @@ use Rattle.cox_poly.specs.Coefficients.{Coefficients, zero_polynomial, one_polyn
 use Rattle.cox_poly.specs.Products.{times_q_power}
 use Rattle.cox_poly.specs.Multiples.{negated, scaled}
 use Rattle.cox_poly.proofs.Coefficients.{times_q_power-zero, times_q_power-suc}
-use Rattle.cox_module.proofs.Action.{lift, spread}
+use Rattle.cox_module.proofs.ActionOnFunctions.{lift, spread}
 
 -- f(v^2) is linear, and q becomes v^2
 pub spread-plus : (f h : Coefficients) (k : ℕ) → spread (plus f h) k ≡ spread f k +ℤ spread h k

@@ -1,10 +1,11 @@
 -- The operators are linear, so that (t(s) + 1)(t(s) - v^2) = 0 is what is proved.
-use Rattle.std.proofs.Common.{◌≡◌, ℕ, zero, suc, Bool, true, false, if◌then◌else◌, List, [], ◌∷◌, ℤ, pos, ◌+ℤ◌, ◌-ℤ◌, ◌*ℤ◌, neg_ℤ, refl, ap, sym, ◌∙◌, arith}
+use Rattle.std.proofs.Common.{◌≡◌, ℕ, zero, suc, Bool, true, false, if◌then◌else◌, List, [], ◌∷◌, ℤ, pos, ◌+ℤ◌, ◌-ℤ◌, ◌*ℤ◌, neg_ℤ, refl}
+use Rattle.std.proofs.Common.{ap, ◌∙◌, arith}
 use Rattle.std.specs.Prelude.{◌==◌}
 use Rattle.std.proofs.lemmas.Int.{ints}
 use Rattle.cox_lemmas.proofs.Ring.{mul_add, mul_neg}
-use Rattle.cox_poly.specs.Coefficients.{Coefficients, zero_polynomial, plus, times_q}
-use Rattle.cox_poly.specs.Multiples.{minus, negated, scaled}
+use Rattle.cox_poly.specs.Coefficients.{Coefficients, plus, times_q}
+use Rattle.cox_poly.specs.Multiples.{minus}
 use Rattle.cox_module.specs.declared.term.Term.{Term}
 use Rattle.cox_module.specs.declared.term.Entry.{Entry}
 use Rattle.cox_module.specs.declared.term.Entry.TheVariants.{Minus, Square, Half}
@@ -66,7 +67,8 @@ apply-difference images (suc n) f h j (suc (suc k)) =
 -- the relation as it is written
 pub as_product : (images : ℕ → List Term) (n : ℕ) (h : Vector) (j k : ℕ)
     → ((i : ℕ) → plus (apply images n (apply images n h) j) (apply images n h j) i ≡ times_q (times_q (plus (apply images n h j) (h j))) i)
-    → apply images n (λ i. minus (apply images n h i) (times_q (times_q (h i)))) j k +ℤ minus (apply images n h j) (times_q (times_q (h j))) k
+    → apply images n (λ i. minus (apply images n h i) (times_q (times_q (h i)))) j k
+    +ℤ minus (apply images n h j) (times_q (times_q (h j))) k
     ≡ pos 0
 as_product images n h j zero e = omega (arith, ints, e zero, apply-difference images n (apply images n h) h j zero)
 as_product images n h j (suc zero) e = omega (arith, ints, e 1, apply-difference images n (apply images n h) h j 1)

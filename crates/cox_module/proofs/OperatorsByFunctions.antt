@@ -9,13 +9,14 @@ use Rattle.cox_base.specs.Matrix.{IsLetter, IsWord}
 use Rattle.cox_poly.specs.Coefficients.{Coefficients, zero_polynomial, one_polynomial, plus, times_q}
 use Rattle.cox_poly.specs.Products.{product}
 use Rattle.cox_poly.specs.Multiples.{scaled}
-use Rattle.cox_poly.proofs.Products.{product-plus, plus-product, negated-product, scaled-product, times_q-product, zero-product, product-one, product-zero}
+use Rattle.cox_poly.proofs.Products.{product-plus, plus-product, negated-product, scaled-product, times_q-product, zero-product}
+use Rattle.cox_poly.proofs.Products.{product-one, product-zero}
 use Rattle.cox_module.specs.declared.term.Term.{Term}
 use Rattle.cox_module.specs.declared.term.Entry.{Entry}
 use Rattle.cox_module.specs.declared.term.Entry.TheVariants.{Minus, Square, Half}
 use Rattle.cox_module.specs.FreeModule.{Vector, times_entry, image_times, apply, apply_word}
-use Rattle.cox_module.proofs.Functions.{value_at, value_word, pair, coordinate}
-use Rattle.cox_module.proofs.Linear.{IsLinear, product-linear, times_q-linear, joined-linear}
+use Rattle.cox_module.proofs.LinearFunctions.{value_at, value_word, pair, coordinate}
+use Rattle.cox_module.proofs.LinearOperators.{IsLinear, product-linear, times_q-linear, joined-linear}
 
 -- an entry passes a product
 entry-product : (e : Entry) (c f : Coefficients) → product (times_entry e c) f ≡ product c (times_entry e f)
@@ -45,7 +46,8 @@ pub pair-linear : {T : Coefficients → Coefficients} → IsLinear T → ((c f :
     → (n : ℕ) (h f : Vector) → pair n h (λ k. T (f k)) ≡ T (pair n h f)
 pair-linear t passes zero h f = sym t.of_none
 pair-linear {T} t passes (suc n) h f =
-    ap₂ (λ (a b : Coefficients). plus a b) (pair-linear t passes n h f) (passes (h n) (f n)) ∙ sym (t.of_plus (pair n h f) (product (h n) (f n)))
+    ap₂ (λ (a b : Coefficients). plus a b) (pair-linear t passes n h f) (passes (h n) (f n))
+    ∙ sym (t.of_plus (pair n h f) (product (h n) (f n)))
 
 -- one element alone
 alone : ℕ → Coefficients → Vector
@@ -140,7 +142,8 @@ module _ (images : ℕ → ℕ → List Term) (n rank : ℕ)
               let less : j < m = grind (arith, nat_tests) in rw e (omega (arith, ints, rest less, product-zero (h m) k))
 
   -- two words that are equal for all linear functions are equal as operators
-  pub equal-operators : (u v : List ℕ) → IsWord rank u → IsWord rank v → ((f : Vector) (i : ℕ) → i < n → value_word images u f i ≡ value_word images v f i)
+  pub equal-operators : (u v : List ℕ) → IsWord rank u → IsWord rank v
+      → ((f : Vector) (i : ℕ) → i < n → value_word images u f i ≡ value_word images v f i)
       → (h : Vector) (j : ℕ) → j < n → apply_word images n u h j ≡ apply_word images n v h j
   equal-operators u v wu wv same h j l =
       sym (pair-coordinate (apply_word images n u h) j l)
@@ -152,7 +155,8 @@ module _ (images : ℕ → ℕ → List Term) (n rank : ℕ)
   -- (t(s) + 1)(t(s) - v^2) = 0, likewise
   pub quadratic-operators : (s : ℕ) → IsLetter rank s
       → ((f : Vector) (i : ℕ) → i < n
-      → plus (value_word images (s ∷ s ∷ []) f i) (value_word images (s ∷ []) f i) ≡ times_q (times_q (plus (value_word images (s ∷ []) f i) (f i))))
+      → plus (value_word images (s ∷ s ∷ []) f i) (value_word images (s ∷ []) f i)
+      ≡ times_q (times_q (plus (value_word images (s ∷ []) f i) (f i))))
       → (h : Vector) (j : ℕ) → j < n
       → plus (apply_word images n (s ∷ s ∷ []) h j) (apply_word images n (s ∷ []) h j)
       ≡ times_q (times_q (plus (apply_word images n (s ∷ []) h j) (h j)))

@@ -32,10 +32,11 @@ use Rattle.cox_hecke.proofs.RowLemmas.{row-same}
 use Rattle.cox_hecke.proofs.AllRows.{row_of, row_of-is, row_of-same}
 use Rattle.cox_hecke.proofs.Descended.{row-left, mu-left, mu-odd, All-from}
 use Rattle.cox_hecke.proofs.StepFamilies.{recursion, corrections_exist}
-use Rattle.cox_module.proofs.Action.{through, lift, spread, hit}
-use Rattle.cox_module.proofs.Linear.{lift-linear}
-use Rattle.cox_module.proofs.Powers.{spread-none, spread-plus, spread-negated, spread-scaled, spread-times_q, lift-power}
-use Rattle.cox_module.proofs.Weights.{mu_at, mu_at-is, mu_at-value, mu_at-same, mu_at-short, weight, weight-none, weight-edge, weight-same, weight-shift}
+use Rattle.cox_module.proofs.ActionOnFunctions.{through, lift, spread, hit}
+use Rattle.cox_module.proofs.LinearOperators.{lift-linear}
+use Rattle.cox_module.proofs.PowersOfV.{spread-none, spread-plus, spread-negated, spread-scaled, spread-times_q, lift-power}
+use Rattle.cox_module.proofs.EdgeWeights.{mu_at, mu_at-is, mu_at-value, mu_at-same, mu_at-short, weight, weight-none, weight-edge}
+use Rattle.cox_module.proofs.EdgeWeights.{weight-same, weight-shift}
 
 -- ---- polynomials
 
@@ -174,7 +175,8 @@ module _ (A : IntegerMatrix) (g : IsAdmissible A) where
           ≡ sum_over (corrected_elements list) (term s u x)
       all [] each = ap (lift (N - word_length A (s ∷ x))) (λ i k. spread-none k i) ∙ (lift-linear (N - word_length A (s ∷ x))).of_none
       all (c ∷ list) each =
-          let first : Coefficients = scaled c.mu (times_q_power ((word_length A (s ∷ x) - word_length A c.element) / 2) (row_of A g c.element u))
+          let first : Coefficients
+          = scaled c.mu (times_q_power ((word_length A (s ∷ x) - word_length A c.element) / 2) (row_of A g c.element u))
           in let rest : Coefficients = correction_sum A (s ∷ x) (row_of A g) list u
           in ap (lift (N - word_length A (s ∷ x))) (λ i k. spread-plus first rest k i)
           ∙ (lift-linear (N - word_length A (s ∷ x))).of_plus (spread first) (spread rest)
