@@ -18,8 +18,8 @@ use Rattle.cox_cells.specs.declared.kind.CellKind.{CellKind}
 use Rattle.cox_cells.proofs.OneList.{one_list}
 use Rattle.cox_cells.proofs.SomeList.{some_list}
 use Rattle.cox_print.specs.AnswerText.{list_text, members_text}
-use Rattle.cox_command.specs.declared.command.NoWord.{NoWord}
-use Rattle.cox_command.specs.declared.command.NoWord.TheVariants.{Lwgraph, Rwgraph, Lcells, Rcells, Lrcells}
+use Rattle.cox_command.specs.declared.inquiry.NoWord.{NoWord}
+use Rattle.cox_command.specs.declared.inquiry.NoWord.TheVariants.{Lwgraph, Rwgraph, Lcells, Rcells, Lrcells}
 use Rattle.cox_command.specs.declared.refusal.Refusal.{Refusal}
 use Rattle.cox_command.specs.declared.refusal.Refusal.TheVariants.{LargeInterval, LargeRow}
 use Rattle.cox_answers.specs.Limits.{Limits}

@@ -11,19 +11,19 @@ use Rattle.cox_base.specs.Length.{word_length}
 use Rattle.cox_base.specs.Bruhat.{IsBelow}
 use Rattle.cox_command.specs.declared.refusal.Refusal.{Refusal}
 use Rattle.cox_command.specs.declared.refusal.Refusal.TheVariants.{LargeInterval, FarApart}
-use Rattle.cox_command.specs.declared.command.OneWord.{OneWord}
-use Rattle.cox_command.specs.declared.command.OneWord.TheVariants.{Compute, Length, Inverse, Descent, Coatoms, Betti}
-use Rattle.cox_command.specs.declared.command.OneWord.TheVariants.{Klbasis, Ihbetti, Extremals}
-use Rattle.cox_command.specs.declared.command.TwoWord.{TwoWord}
-use Rattle.cox_command.specs.declared.command.TwoWord.TheVariants.{Inorder, Interval, Rpol, Pol, Mu}
+use Rattle.cox_command.specs.declared.inquiry.OneWord.{OneWord}
+use Rattle.cox_command.specs.declared.inquiry.OneWord.TheVariants.{Compute, Length, Inverse, Descent, Coatoms, Betti}
+use Rattle.cox_command.specs.declared.inquiry.OneWord.TheVariants.{Klbasis, Ihbetti, Extremals}
+use Rattle.cox_command.specs.declared.inquiry.TwoWord.{TwoWord}
+use Rattle.cox_command.specs.declared.inquiry.TwoWord.TheVariants.{Inorder, Interval, Rpol, Pol, Mu}
 use Rattle.cox_base.specs.Members.{IsInInterval}
 use Rattle.cox_base.specs.SortedList.{IsListOf}
 use Rattle.cox_base.specs.Interval.{IsBetween, IsCoatom, counts_by_length}
 use Rattle.cox_context.proofs.SortedLemmas.{IsListOf-unique}
 use Rattle.cox_context.proofs.IntervalLemmas.{is_below, is_below-tells, interval-exists, between-of, coatoms-of, interval-decided}
 use Rattle.cox_print.specs.AnswerText.{truth_text, numbers_text, elements_text}
-use Rattle.cox_answers.specs.declared.inquiry.Inquiry.{Inquiry}
-use Rattle.cox_answers.specs.declared.inquiry.Inquiry.TheVariants.{One, Two, Plain, Work}
+use Rattle.cox_command.specs.declared.inquiry.Inquiry.{Inquiry}
+use Rattle.cox_command.specs.declared.inquiry.Inquiry.TheVariants.{One, Two, Plain, Work}
 use Rattle.cox_answers.specs.Limits.{Limits}
 use Rattle.cox_answers.specs.InquiryQuestion.{RefusesNone, RefusesLarge, RefusesFar, one_question, two_question, question_of}
 use Rattle.cox_answers.specs.RowReply.{IsExtremalBelow, pairs_text, ihbetti_text}

@@ -14,8 +14,8 @@ use Rattle.cox_cells.specs.declared.kind.CellKind.TheVariants as Kinds
 use Rattle.cox_cells.specs.Cells.{AreCells}
 use Rattle.cox_command.specs.declared.refusal.Refusal.{Refusal}
 use Rattle.cox_command.specs.declared.refusal.Refusal.TheVariants.{LargeInterval, LargeRow}
-use Rattle.cox_command.specs.declared.command.NoWord.{NoWord}
-use Rattle.cox_command.specs.declared.command.NoWord.TheVariants.{Lwgraph, Rwgraph, Lcells, Rcells, Lrcells}
+use Rattle.cox_command.specs.declared.inquiry.NoWord.{NoWord}
+use Rattle.cox_command.specs.declared.inquiry.NoWord.TheVariants.{Lwgraph, Rwgraph, Lcells, Rcells, Lrcells}
 use Rattle.cox_print.specs.AnswerText.{list_text, members_text, head_text, edge_text}
 use Rattle.cox_answers.specs.Limits.{Limits}
 use Rattle.cox_answers.specs.Question.{Question}

@@ -9,11 +9,11 @@ use Rattle.cox_base.specs.SideDescents.{descent_set}
 use Rattle.cox_base.specs.Bruhat.{IsBelow}
 use Rattle.cox_command.specs.declared.refusal.Refusal.{Refusal}
 use Rattle.cox_command.specs.declared.refusal.Refusal.TheVariants.{LargeInterval, FarApart}
-use Rattle.cox_command.specs.declared.command.OneWord.{OneWord}
-use Rattle.cox_command.specs.declared.command.OneWord.TheVariants.{Compute, Length, Inverse, Descent, Coatoms, Betti, Klbasis}
-use Rattle.cox_command.specs.declared.command.OneWord.TheVariants.{Ihbetti, Extremals}
-use Rattle.cox_command.specs.declared.command.TwoWord.{TwoWord}
-use Rattle.cox_command.specs.declared.command.TwoWord.TheVariants.{Inorder, Interval, Rpol, Pol, Mu}
+use Rattle.cox_command.specs.declared.inquiry.OneWord.{OneWord}
+use Rattle.cox_command.specs.declared.inquiry.OneWord.TheVariants.{Compute, Length, Inverse, Descent, Coatoms, Betti, Klbasis}
+use Rattle.cox_command.specs.declared.inquiry.OneWord.TheVariants.{Ihbetti, Extremals}
+use Rattle.cox_command.specs.declared.inquiry.TwoWord.{TwoWord}
+use Rattle.cox_command.specs.declared.inquiry.TwoWord.TheVariants.{Inorder, Interval, Rpol, Pol, Mu}
 use Rattle.cox_poly.specs.PolynomialText.{polynomial_text}
 use Rattle.cox_rpoly.specs.RPolynomial.{r_polynomial}
 use Rattle.cox_rpoly.specs.declared.TheConstants.{MAX_DIFFERENCE}
@@ -21,8 +21,8 @@ use Rattle.cox_base.specs.Members.{IsInInterval}
 use Rattle.cox_base.specs.SortedList.{IsListOf, HasMoreThan}
 use Rattle.cox_base.specs.Interval.{IsBetween, IsCoatom, counts_by_length}
 use Rattle.cox_print.specs.AnswerText.{element_text, descent_text, truth_text, numbers_text, elements_text}
-use Rattle.cox_answers.specs.declared.inquiry.Inquiry.{Inquiry}
-use Rattle.cox_answers.specs.declared.inquiry.Inquiry.TheVariants.{One, Two, Plain, Work}
+use Rattle.cox_command.specs.declared.inquiry.Inquiry.{Inquiry}
+use Rattle.cox_command.specs.declared.inquiry.Inquiry.TheVariants.{One, Two, Plain, Work}
 use Rattle.cox_answers.specs.Limits.{Limits}
 use Rattle.cox_answers.specs.Question.{Question}
 use Rattle.cox_answers.specs.RowReply.{RefusesRow, coefficients_to, IsPolText, IsMuText, IsPairsText, IsExtremalBelow, IsIhbettiText}

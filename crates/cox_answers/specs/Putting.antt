@@ -3,28 +3,17 @@ use Rattle.std.specs.Prelude.{◌⊎◌, Result, Ok, Err, None, Some, ◌≡◌,
 use Rattle.std.specs.Prelude.{◌++◌, map}
 use Rattle.std.specs.declared.alloc.AllocError.{AllocError}
 use Rattle.cox_poly.specs.Puts.{PutsPrefix, Puts}
-use Rattle.cox_base.specs.Matrix.{IsWord}
 use Rattle.cox_base.specs.IntegerMatrix.{IntegerMatrix}
 use Rattle.cox_base.specs.Members.{IsInInterval}
 use Rattle.cox_context.specs.Closed.{Elements}
 use Rattle.cox_base.specs.SortedList.{IsListOf, HasMoreThan}
 use Rattle.cox_context.specs.Numbers.{word_at}
 use Rattle.cox_command.specs.declared.refusal.Refusal.{Refusal}
-use Rattle.cox_command.specs.ParseContract.{AreWorkNumbers}
 use Rattle.cox_answers.specs.declared.answers.unanswered.Unanswered.{Unanswered}
 use Rattle.cox_answers.specs.declared.answers.unanswered.Unanswered.TheVariants as unanswered
-use Rattle.cox_answers.specs.declared.inquiry.Inquiry.{Inquiry}
-use Rattle.cox_answers.specs.declared.inquiry.Inquiry.TheVariants.{One, Two, Plain, Work}
 use Rattle.cox_answers.specs.Question.{IsRefused}
 use Rattle.cox_answers.specs.InquiryQuestion.{RefusesLarge}
 use Rattle.cox_answers.specs.Limits.{Limits}
-
--- the words of a command are over the letters of a group of this rank, and its numbers are within their ranges
-abbrev pub HasLetters : ℕ → Inquiry → Type 0
-HasLetters rank (One kind w) = IsWord rank w.items
-HasLetters rank (Two kind y w) = IsWord rank y.items × IsWord rank w.items
-HasLetters rank (Plain kind) = Unit {0}
-HasLetters rank (Work start count) = AreWorkNumbers start count
 
 -- one of the right texts was put; where memory ran out, a prefix of one
 abbrev pub PutsSome : Result Unit AllocError → (List ℕ → Type 0) → List ℕ → List ℕ → Type 0

@@ -21,7 +21,8 @@ ghost use Rattle.cox_print.specs.AnswerText.{element_text, descent_text};
 ghost use Rattle.cox_answers.specs.Kept.{IsSameWork};
 ghost use Rattle.cox_answers.specs.SessionLimits.{limits_of};
 ghost use Rattle.cox_answers.specs.InquiryQuestion.{RefusesNone, IsOrderText, question_of};
-ghost use Rattle.cox_answers.specs.Putting.{HasLetters, PutsUnless, IsEnded};
+ghost use Rattle.cox_command.specs.ParseContract.{HasLetters};
+ghost use Rattle.cox_answers.specs.Putting.{PutsUnless, IsEnded};
 
 mod generated;
 mod graphs;
@@ -34,12 +35,11 @@ mod rows;
 mod sums;
 mod unanswered;
 
-use crate::inquiry::Inquiry;
 use crate::row_maker::RowMaker;
 use crate::workspace::Workspace;
 use cox_base::{MAX_RANK, Side, Word};
 use cox_cells::CellKind;
-use cox_command::{NoWord, OneWord, TwoWord};
+use cox_command::{Inquiry, NoWord, OneWord, TwoWord};
 use cox_minroots::RootTable;
 use cox_print::{NoMemory, put_count, put_descent, put_element, put_end, put_truth};
 use intervals::{put_betti, put_coatoms, put_interval};

@@ -2,7 +2,7 @@
 ghost use Rattle.cox_base.specs.Admissible.{IsAdmissible};
 ghost use Rattle.cox_base.specs.IntegerMatrix.{integer_matrix};
 ghost use Rattle.cox_base.specs.Matrix.{CoxeterMatrix};
-ghost use Rattle.cox_answers.specs.declared.inquiry.Inquiry.{Inquiry};
+ghost use Rattle.cox_command.specs.declared.inquiry.Inquiry.{Inquiry};
 ghost use Rattle.cox_answers.specs.Answerable.{HasOneText, IsAnswerable};
 ghost use Rattle.cox_answers.specs.InquiryQuestion.{question_of};
 ghost use Rattle.cox_answers.specs.Limits.{Limits};

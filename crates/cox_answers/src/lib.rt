@@ -1,11 +1,10 @@
 //! Answers to inquiries: what each command on elements, or on the whole group, asks, and the text that answers it.
 //!
-//! A [`Workspace`] has the group that is set. Its method `put_answer` puts the text that answers an [`Inquiry`], or tells why it is refused. What an inquiry asks is
+//! A [`Workspace`] has the group that is set. Its method `put_answer` puts the text that answers an `Inquiry` of `cox_command`, or tells why it is refused. What an inquiry asks is
 //! a question, in `specs/InquiryQuestion.antt`: for each refusal whether it has a cause, and which texts are right. Rows of Kazhdan-Lusztig
 //! polynomials are kept in the workspace from one answer to the next. They are made where they are asked for: a [`RowMaker`] may make them first,
 //! by several threads, say, and one thread makes what is missing then.
 //!
-//! - `inquiry`: commands on elements, with their words
 //! - `row_maker`: what makes rows that are asked for
 //! - `growth`: when the whole group is taken in the place of interval after interval
 //! - `workspace`: what answers work with
@@ -15,12 +14,10 @@
 
 mod answers;
 mod growth;
-mod inquiry;
 pub mod laws;
 mod row_maker;
 mod workspace;
 
 pub use answers::Unanswered;
-pub use inquiry::Inquiry;
 pub use row_maker::{OneThread, RowMaker};
 pub use workspace::Workspace;

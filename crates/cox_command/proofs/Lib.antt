@@ -1,6 +1,6 @@
 -- the arguments of `matrix`
 pub mod MatrixArguments
--- a line gives at most one command
-pub mod OneCommand
+-- accepted lines give commands
+pub mod GivenCommands
 -- the steps of the generator
 pub mod GeneratedWords

@@ -1,10 +1,10 @@
 -- The table of command words, which are read exactly.
 use Rattle.std.specs.Prelude.{ℕ, if◌then◌else◌, List, Option, None, Some, codes}
 use Rattle.std.specs.Str.{bytes_eq}
-use Rattle.cox_command.specs.declared.command.OneWord.TheVariants.{Compute, Length, Inverse, Descent, Coatoms, Betti, Klbasis, Ihbetti}
-use Rattle.cox_command.specs.declared.command.OneWord.TheVariants.{Extremals}
-use Rattle.cox_command.specs.declared.command.NoWord.TheVariants.{Lwgraph, Rwgraph, Lcells, Rcells, Lrcells}
-use Rattle.cox_command.specs.declared.command.TwoWord.TheVariants.{Inorder, Interval, Rpol, Pol, Mu}
+use Rattle.cox_command.specs.declared.inquiry.OneWord.TheVariants.{Compute, Length, Inverse, Descent, Coatoms, Betti, Klbasis, Ihbetti}
+use Rattle.cox_command.specs.declared.inquiry.OneWord.TheVariants.{Extremals}
+use Rattle.cox_command.specs.declared.inquiry.NoWord.TheVariants.{Lwgraph, Rwgraph, Lcells, Rcells, Lrcells}
+use Rattle.cox_command.specs.declared.inquiry.TwoWord.TheVariants.{Inorder, Interval, Rpol, Pol, Mu}
 use Rattle.cox_command.specs.declared.command_word.CommandWord.{CommandWord}
 use Rattle.cox_command.specs.declared.command_word.CommandWord.TheVariants.{Named, Matrix, Quit, One, Two, Plain, Work}
 

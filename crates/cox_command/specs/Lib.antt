@@ -6,8 +6,6 @@ pub mod CommandWord
 pub mod LineRefusal
 -- what command a line gives
 pub mod CommandReading
--- when two commands are the same
-pub mod SameCommand
 -- the words that `work` generates
 pub mod Generated
 -- what the calls that read a line answer

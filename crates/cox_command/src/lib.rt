@@ -4,22 +4,24 @@
 //! Grammar and causes are definitions of their own in `specs/`, one table or one test each. The parts of a line are those of `cox_tokens`. Nothing here takes memory.
 //!
 //! A new command with words, or without arguments, is a variant, a row in `command_word_of` and a row in `command_word`. One of another shape is also a variant of
-//! `Command` and `CommandWord`, a function that reads its arguments, and a case of each test in `specs/LineRefusal.antt` that speaks of it.
+//! `Inquiry` and `CommandWord`, a function that reads its arguments, a case of `command_by`, and a case of each test in `specs/LineRefusal.antt` that speaks of it.
 //!
 //! - `command`: commands as values, and why a line gives none
+//! - `inquiry`: commands on elements, and on the whole group
 //! - `refusal`: refusals, and their numbers
 //! - `command_word`: the table of command words
 //! - `no_arguments`, `group_arguments`, `word_arguments`, `work_arguments`: the arguments
 //! - `limits`: how far the numbers of `work` go
 //! - `parsing`: lines
 //! - `generated`: the words that `work` generates
-//! - `laws`: a line gives at most one command
+//! - `laws`: a line that is not refused gives a command
 #![tactic(auto)]
 
 mod command;
 mod command_word;
 mod generated;
 mod group_arguments;
+mod inquiry;
 mod laws;
 mod limits;
 mod no_arguments;
@@ -28,9 +30,10 @@ mod refusal;
 mod word_arguments;
 mod work_arguments;
 
-pub use command::{Command, LineFault, NoWord, OneWord, TwoWord};
+pub use command::{Command, LineFault};
 pub use generated::work_word;
-pub use laws::gives_one_command;
+pub use inquiry::{Inquiry, NoWord, OneWord, TwoWord};
+pub use laws::accepted_gives_command;
 pub use limits::{MAX_COUNT, MAX_START};
 pub use parsing::parse;
 pub use refusal::Refusal;

@@ -3,7 +3,7 @@ ghost use Rattle.std.specs.Prelude.{ℕ, Option};
 ghost use Rattle.cox_command.specs.ParseContract.{ReadsArguments};
 ghost use Rattle.cox_command.specs.declared.command_word.CommandWord.TheVariants.{Quit, Plain};
 
-use crate::{Command, NoWord, Refusal};
+use crate::{Command, Inquiry, NoWord, Refusal};
 use cox_tokens::Tokens;
 
 /// `quit` has no arguments.
@@ -26,5 +26,5 @@ pub fn parse_plain(kind: NoWord, arguments: Tokens, rank: Option<u32>) -> Result
     if rank.is_none() {
         return Err(Refusal::NoGroup);
     }
-    Ok(Command::Plain(kind))
+    Ok(Command::Ask(Inquiry::Plain(kind)))
 }

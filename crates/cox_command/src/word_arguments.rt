@@ -3,7 +3,7 @@ ghost use Rattle.std.specs.Prelude.{◌≤◌, IfSome};
 ghost use Rattle.cox_command.specs.ParseContract.{ReadsArguments};
 ghost use Rattle.cox_command.specs.declared.command_word.CommandWord.TheVariants.{One, Two};
 
-use crate::{Command, OneWord, Refusal, TwoWord};
+use crate::{Command, Inquiry, OneWord, Refusal, TwoWord};
 use cox_base::{MAX_RANK, WordFault, read_word};
 use cox_tokens::Tokens;
 
@@ -19,7 +19,7 @@ pub fn parse_one(kind: OneWord, arguments: Tokens, rank: Option<u32>) -> Result<
         return Err(Refusal::NoGroup);
     };
     match read_word(text, rank) {
-        Ok(word) => Ok(Command::One(kind, word)),
+        Ok(word) => Ok(Command::Ask(Inquiry::One(kind, word))),
         Err(WordFault::Long(_)) => Err(Refusal::LongWord),
         Err(WordFault::Letter(_)) => Err(Refusal::ForeignLetter),
     }
@@ -37,7 +37,7 @@ pub fn parse_two(kind: TwoWord, arguments: Tokens, rank: Option<u32>) -> Result<
         return Err(Refusal::NoGroup);
     };
     match (read_word(first, rank), read_word(second, rank)) {
-        (Ok(y), Ok(w)) => Ok(Command::Two(kind, y, w)),
+        (Ok(y), Ok(w)) => Ok(Command::Ask(Inquiry::Two(kind, y, w))),
         (Err(WordFault::Long(_)), _) | (_, Err(WordFault::Long(_))) => Err(Refusal::LongWord),
         _ => Err(Refusal::ForeignLetter),
     }

@@ -3,7 +3,7 @@ ghost use Rattle.cox_command.specs.ParseContract.{ReadsArguments};
 ghost use Rattle.cox_command.specs.declared.command_word.CommandWord.TheVariants.{Work};
 
 use crate::limits::{MAX_COUNT, MAX_START};
-use crate::{Command, Refusal};
+use crate::{Command, Inquiry, Refusal};
 use cox_tokens::{Tokens, read_number_in};
 
 /// The arguments of `work`: the generator's state before the first word, and how many words.
@@ -22,5 +22,5 @@ pub fn parse_work(arguments: Tokens, rank: Option<u32>) -> Result<Command, Refus
     if rank.is_none() {
         return Err(Refusal::NoGroup);
     }
-    Ok(Command::Work { start, count })
+    Ok(Command::Ask(Inquiry::Work { start, count }))
 }

@@ -110,7 +110,7 @@ module _ (A : IntegerMatrix) (g : IsAdmissible A) where
   -- ---- any list will do
 
   -- terms of elements that the list does not name do not matter
-  sum_over-named : (words : List (List ℕ)) (f h : Family) (k : ℕ) → ((y : List ℕ) → (occurrences A y words ≡ 0 → ⊥) → f y k ≡ h y k)
+  pub sum_over-named : (words : List (List ℕ)) (f h : Family) (k : ℕ) → ((y : List ℕ) → (occurrences A y words ≡ 0 → ⊥) → f y k ≡ h y k)
       → sum_over words f k ≡ sum_over words h k
   sum_over-named [] f h k e = refl
   sum_over-named (y ∷ words) f h k e =
@@ -158,7 +158,7 @@ module _ (A : IntegerMatrix) (g : IsAdmissible A) where
 
   -- ---- an element at one place of the list alone
 
-  occurrences-absent : (words : List (List ℕ)) (x : List ℕ) → ((i : ℕ) → i < length words → SameElement A x (get_or words i []) → ⊥)
+  pub occurrences-absent : (words : List (List ℕ)) (x : List ℕ) → ((i : ℕ) → i < length words → SameElement A x (get_or words i []) → ⊥)
       → occurrences A x words ≡ 0
   occurrences-absent [] x none = refl
   occurrences-absent (y ∷ words) x none =

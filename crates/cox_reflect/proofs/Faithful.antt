@@ -30,7 +30,7 @@ alternating-step true s t w p q e = ap (λ (x : List ℕ). t ∷ x) e
 alternating-step false s t w p q e = ap (λ (x : List ℕ). s ∷ x) e
 
 -- an alternating word by its first letter
-alternating-from : (k s t : ℕ) → alternating k s t ≡ cond (is_even k) (alternating_from k s t) (alternating_from k t s)
+pub alternating-from : (k s t : ℕ) → alternating k s t ≡ cond (is_even k) (alternating_from k s t) (alternating_from k t s)
 unfolding alternating alternating_from
 alternating-from zero s t = refl
 alternating-from (suc k) s t =

@@ -1,26 +1,25 @@
 -- The group that is set stays a Coxeter matrix.
 use Rattle.std.proofs.Common.{◌≡◌, ℕ, List, [], ◌∷◌, Option, Some, None, IfSome}
 use Rattle.std.proofs.Common.{IsSomeAnd, MatchOption, refl, sym, ap, subst}
+use Rattle.std.specs.Option.{option_map}
 use Rattle.cox_base.specs.Matrix.{CoxeterMatrix}
 use Rattle.cox_base.specs.Admissible.{IsCoxeterMatrix}
 use Rattle.cox_command.specs.declared.refusal.Refusal.{Refusal}
 use Rattle.cox_command.specs.declared.command.Command.{Command}
-use Rattle.cox_command.specs.declared.command.Command.TheVariants.{Nothing, Group}
-use Rattle.cox_command.specs.declared.command.Command.TheVariants as asks
+use Rattle.cox_command.specs.declared.command.Command.TheVariants.{Nothing, Quit, Group, Ask}
 use Rattle.cox_command.specs.declared.command_word.CommandWord.{CommandWord}
 use Rattle.cox_command.specs.CommandWord.{command_word_of}
 use Rattle.cox_tokens.specs.Tokens.{tokens_of}
 use Rattle.cox_command.specs.LineRefusal.{command_refusal, tokens_refusal, line_refusal}
-use Rattle.cox_command.specs.CommandReading.{IsGiven, matrix_set}
+use Rattle.cox_command.specs.CommandReading.{command_by, command_of}
 use Rattle.cox_shell.specs.Reply.{State, Reply, rank_of, with_group, refusal, silence}
-use Rattle.cox_answers.specs.declared.inquiry.Inquiry.{Inquiry}
-use Rattle.cox_answers.specs.declared.inquiry.Inquiry.TheVariants.{One, Two, Plain, Work}
+use Rattle.cox_command.specs.declared.inquiry.Inquiry.{Inquiry}
 use Rattle.cox_shell.specs.CommandReply.{IsDecided}
 use Rattle.cox_answers.specs.InquiryQuestion.{question_of}
 use Rattle.cox_shell.specs.CommandReply.{Answers, IsInquiryReply, RefusesGroup, IsCommandReply}
 use Rattle.cox_shell.proofs.DecidedReplies.{IsDecided-all}
 use Rattle.cox_shell.specs.ContentReply.{IsContentReply}
-use Rattle.cox_shell.proofs.SetMatrices.{matrix_set-is}
+use Rattle.cox_shell.proofs.SetMatrices.{group_set-is}
 use Rattle.cox_outside.specs.Line.{content_of}
 use Rattle.cox_shell.specs.LineReply.{IsReply, content_refusal}
 
@@ -34,9 +33,9 @@ inquiry-state inquiry state g reply is =
     (λ r answer. ap (λ (s : Reply). s.after) answer.2) reply is
 
 -- what follows for each value follows where there is one
-of_some : {X : Type 0} (o : Option X) (P : X → Type 0) (S : Type 0) → ((x : X) → P x → S) → IsSomeAnd o P → S
+of_some : {X : Type 0} (o : Option X) (P : X → Type 0) (S : Type 0) → ((x : X) → o ≡ Some x → P x → S) → IsSomeAnd o P → S
 of_some None P S of is = absurd is
-of_some (Some x) P S of is = of x is
+of_some (Some x) P S of is = of x refl is
 
 -- the group that is set is a Coxeter matrix, if one is
 abbrev pub HasMatrix : State → Type 0
@@ -48,30 +47,27 @@ module _ (state : State) (matrix : HasMatrix state) (reply : Reply) where
 
   by_inquiry : (inquiry : Inquiry) → IsInquiryReply inquiry state reply → reply.after ≡ state
   by_inquiry inquiry is = of_some state.group _ (reply.after ≡ state)
-      (λ g. inquiry-state inquiry state g reply) is
+      (λ g set. inquiry-state inquiry state g reply) is
 
   -- so it stays by a command that is given and accepted
   by_command : (command : Command) (tokens : List (List ℕ)) → tokens_refusal tokens (rank_of state) ≡ None
-      → IsGiven command tokens (rank_of state)
+      → command_of tokens (rank_of state) ≡ Some command
       → IsCommandReply command state reply → HasMatrix reply.after
-  by_command asks.Nothing tokens accepted given is = unchanged (ap (λ (r : Reply). r.after) is)
-  by_command asks.Quit tokens accepted given is = unchanged (ap (λ (r : Reply). r.after) is)
-  by_command (asks.One kind w) tokens accepted given is = unchanged (by_inquiry (One kind w) is)
-  by_command (asks.Two kind y w) tokens accepted given is = unchanged (by_inquiry (Two kind y w) is)
-  by_command (asks.Plain kind) tokens accepted given is = unchanged (by_inquiry (Plain kind) is)
-  by_command (asks.Work start count) tokens accepted given is = unchanged (by_inquiry (Work start count) is)
-  by_command (asks.Group g) tokens accepted given is =
+  by_command Nothing tokens accepted given is = unchanged (ap (λ (r : Reply). r.after) is)
+  by_command Quit tokens accepted given is = unchanged (ap (λ (r : Reply). r.after) is)
+  by_command (Ask inquiry) tokens accepted given is = unchanged (by_inquiry inquiry is)
+  by_command (Group g) tokens accepted given is =
       IsDecided-all (RefusesGroup state.limits g) state (λ answer. answer ≡ silence (with_group state g)) (λ r. HasMatrix r.after)
       (λ why. matrix)
       (λ r answer. rw answer (of_tokens tokens accepted given)) reply is
     where
       by_name : (o : Option CommandWord) (arguments : List (List ℕ)) → command_refusal o arguments (rank_of state) ≡ None
-          → IsSomeAnd o (λ word. matrix_set word arguments ≡ Some g) → IsCoxeterMatrix g
-      by_name None arguments accepted set = absurd set
-      by_name (Some word) arguments accepted set = matrix_set-is word arguments (rank_of state) g accepted set
+          → option_map (λ word. command_by word arguments (rank_of state)) o ≡ Some (Group g) → IsCoxeterMatrix g
+      by_name None arguments accepted given = absurd (cc given)
+      by_name (Some word) arguments accepted given = group_set-is word arguments (rank_of state) g accepted (cc given)
 
-      of_tokens : (tokens : List (List ℕ)) → tokens_refusal tokens (rank_of state) ≡ None → IsGiven (asks.Group g) tokens (rank_of state)
-          → IsCoxeterMatrix g
+      of_tokens : (tokens : List (List ℕ)) → tokens_refusal tokens (rank_of state) ≡ None
+          → command_of tokens (rank_of state) ≡ Some (Group g) → IsCoxeterMatrix g
       of_tokens [] accepted given = absurd (cc given)
       of_tokens (name ∷ arguments) accepted given = by_name (command_word_of name) arguments accepted given
 
@@ -82,9 +78,10 @@ unfolding IsContentReply
 IsContentReply-matrix state content reply matrix is = by_refusal (line_refusal content (rank_of state)) refl is
   where
     by_refusal : (o : Option Refusal) → line_refusal content (rank_of state) ≡ o
-        → MatchOption o ((command : Command) × IsGiven command (tokens_of content) (rank_of state) × IsCommandReply command state reply)
+        → MatchOption o (IsSomeAnd (command_of (tokens_of content) (rank_of state)) (λ command. IsCommandReply command state reply))
         (λ why. reply ≡ refusal state why) → HasMatrix reply.after
-    by_refusal None e is = by_command state matrix reply is.0 (tokens_of content) e is.1 is.2
+    by_refusal None e is = of_some (command_of (tokens_of content) (rank_of state)) _ (HasMatrix reply.after)
+        (λ command given. by_command state matrix reply command (tokens_of content) e given) is
     by_refusal (Some why) e is = unchanged state matrix reply (ap (λ (r : Reply). r.after) is)
 
 -- so it stays by the reply to a line

@@ -4,7 +4,7 @@ use Rattle.std.proofs.Common.{refl, sym, ap, ◌∙◌}
 use Rattle.std.proofs.lemmas.List.{append-nil}
 use Rattle.std.specs.declared.alloc.AllocError.{AllocError}
 use Rattle.cox_base.specs.Matrix.{CoxeterMatrix}
-use Rattle.cox_answers.specs.declared.inquiry.Inquiry.{Inquiry}
+use Rattle.cox_command.specs.declared.inquiry.Inquiry.{Inquiry}
 use Rattle.cox_poly.specs.Puts.{PutsPrefix}
 use Rattle.cox_answers.specs.declared.answers.unanswered.Unanswered.{Unanswered}
 use Rattle.cox_answers.specs.declared.answers.unanswered.Unanswered.TheVariants as unanswered

@@ -17,7 +17,8 @@ use Rattle.cox_command.specs.declared.command_word.CommandWord.TheVariants.{Name
 use Rattle.cox_tokens.specs.Number.{value_of}
 use Rattle.cox_command.specs.LineRefusal.{argument, names_type, is_rank, has_wrong_count, has_wrong_number, has_no_type, has_wrong_label}
 use Rattle.cox_command.specs.LineRefusal.{needs_group, command_refusal}
-use Rattle.cox_command.specs.CommandReading.{matrix_set}
+use Rattle.cox_command.specs.CommandReading.{command_by}
+use Rattle.cox_command.specs.declared.command.Command.TheVariants.{Group}
 
 -- what is known where no refusal of a list applies
 pub passed_over : (b : Bool) (why : Refusal) (rest : Option Refusal) → (if b then Some why else rest) ≡ None → (b ≡ false) × (rest ≡ None)
@@ -59,23 +60,24 @@ matrix_of-is arguments counted numbers labelled =
     }
 
 -- the matrix that a command sets which no test refuses
-tested-is : (word : CommandWord) (arguments : List (List ℕ)) (g : CoxeterMatrix) → has_wrong_count word arguments ≡ false
-    → has_wrong_number word arguments ≡ false → has_no_type word arguments ≡ false → has_wrong_label word arguments ≡ false
-    → matrix_set word arguments ≡ Some g → IsCoxeterMatrix g
-tested-is Named arguments g counted numbers typed labelled set =
-    let same : named_matrix arguments ≡ g = cc set in subst IsCoxeterMatrix same (named_matrix-is arguments typed)
-tested-is Matrix arguments g counted numbers typed labelled set =
-    let same : matrix_of arguments ≡ g = cc set in subst IsCoxeterMatrix same (matrix_of-is arguments counted numbers labelled)
-tested-is word arguments g counted numbers typed labelled set = absurd (cc set)
+tested-is : (word : CommandWord) (arguments : List (List ℕ)) (rank : Option ℕ) (g : CoxeterMatrix)
+    → has_wrong_count word arguments ≡ false → has_wrong_number word arguments ≡ false
+    → has_no_type word arguments ≡ false → has_wrong_label word arguments ≡ false
+    → command_by word arguments rank ≡ Group g → IsCoxeterMatrix g
+tested-is Named arguments rank g counted numbers typed labelled sets =
+    let same : named_matrix arguments ≡ g = cc sets in subst IsCoxeterMatrix same (named_matrix-is arguments typed)
+tested-is Matrix arguments rank g counted numbers typed labelled sets =
+    let same : matrix_of arguments ≡ g = cc sets in subst IsCoxeterMatrix same (matrix_of-is arguments counted numbers labelled)
+tested-is word arguments rank g counted numbers typed labelled sets = absurd (cc sets)
 
 -- the matrix that an accepted command sets
-pub matrix_set-is : (word : CommandWord) (arguments : List (List ℕ)) (rank : Option ℕ) (g : CoxeterMatrix)
+pub group_set-is : (word : CommandWord) (arguments : List (List ℕ)) (rank : Option ℕ) (g : CoxeterMatrix)
     → command_refusal (Some word) arguments rank ≡ None
-    → matrix_set word arguments ≡ Some g → IsCoxeterMatrix g
-matrix_set-is word arguments rank g accepted set =
+    → command_by word arguments rank ≡ Group g → IsCoxeterMatrix g
+group_set-is word arguments rank g accepted sets =
     let counted = passed_over (has_wrong_count word arguments) WrongCount _ accepted in
     let numbered = passed_over (has_wrong_number word arguments) WrongNumber _ counted.1 in
     let grouped = passed_over (needs_group word && is_none rank) NoGroup _ numbered.1 in
     let typed = passed_over (has_no_type word arguments) UnknownType _ grouped.1 in
     let labelled = passed_over (has_wrong_label word arguments) WrongLabel _ typed.1 in
-    tested-is word arguments g counted.0 numbered.0 typed.0 labelled.0 set
+    tested-is word arguments rank g counted.0 numbered.0 typed.0 labelled.0 sets

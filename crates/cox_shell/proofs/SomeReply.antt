@@ -9,8 +9,7 @@ use Rattle.cox_base.specs.IntegerMatrix.{integer_matrix}
 use Rattle.cox_base.proofs.AdmissibleMatrices.{IsAdmissible-integer_matrix}
 use Rattle.cox_command.specs.declared.refusal.Refusal.{Refusal}
 use Rattle.cox_command.specs.declared.refusal.Refusal.TheVariants.{WrongCount, WrongNumber, NoGroup, ManyRoots}
-use Rattle.cox_command.specs.declared.command.Command.{Command}
-use Rattle.cox_command.specs.declared.command.Command.TheVariants as asks
+use Rattle.cox_command.specs.declared.command.Command.TheVariants.{Group}
 use Rattle.cox_command.specs.declared.command_word.CommandWord.{CommandWord}
 use Rattle.cox_command.specs.declared.command_word.CommandWord.TheVariants.{Named, Matrix, Quit, One, Two, Plain, Work}
 use Rattle.cox_command.specs.CommandWord.{command_word_of}
@@ -18,9 +17,9 @@ use Rattle.cox_tokens.specs.Tokens.{tokens_of}
 use Rattle.cox_command.specs.LineRefusal.{has_wrong_count, has_wrong_number, needs_group, command_refusal, tokens_refusal}
 use Rattle.cox_command.specs.LineRefusal.{line_refusal, argument}
 use Rattle.cox_tokens.specs.Number.{value_of}
-use Rattle.cox_command.specs.CommandReading.{IsGivenBy, IsGiven, word_argument}
-use Rattle.cox_answers.specs.declared.inquiry.Inquiry.{Inquiry}
-use Rattle.cox_answers.specs.declared.inquiry.Inquiry.TheVariants as inquiry
+use Rattle.cox_command.specs.CommandReading.{command_by, command_of, word_argument}
+use Rattle.cox_command.specs.declared.inquiry.Inquiry.{Inquiry}
+use Rattle.cox_command.specs.declared.inquiry.Inquiry.TheVariants as inquiry
 use Rattle.cox_small.proofs.Counting.{not_both}
 use Rattle.cox_small.proofs.Deciding.{HasMoreSmallRoots-decided}
 use Rattle.cox_answers.specs.Limits.{Limits}
@@ -31,7 +30,7 @@ use Rattle.cox_shell.specs.CommandReply.{Answers, IsInquiryReply, RefusesGroup, 
 use Rattle.cox_shell.specs.ContentReply.{IsContentReply}
 use Rattle.cox_shell.proofs.DecidedReplies.{IsDecided-exists, IsReply-exists}
 use Rattle.cox_answers.proofs.Questions.{question-answerable}
-use Rattle.cox_shell.proofs.SetMatrices.{named_matrix, matrix_of, passed_over, matrix_set-is}
+use Rattle.cox_shell.proofs.SetMatrices.{named_matrix, matrix_of, passed_over, group_set-is}
 
 -- a command on elements has a reply in a group
 pub inquiry-reply : (inquiry : Inquiry) (state : State) (g : CoxeterMatrix) → IsAdmissible (integer_matrix g)
@@ -50,7 +49,7 @@ group-decided limits g admissible _ = inr (λ none. none)
 
 -- a command that sets a group has a reply
 pub group-reply : (state : State) (g : CoxeterMatrix) → IsAdmissible (integer_matrix g)
-    → (reply : Reply) × IsCommandReply (asks.Group g) state reply
+    → (reply : Reply) × IsCommandReply (Group g) state reply
 group-reply state g admissible =
     IsDecided-exists (RefusesGroup state.limits g) state (λ answer. answer ≡ silence (with_group state g))
     (group-decided state.limits g admissible) (λ free. (silence (with_group state g), refl))
@@ -75,51 +74,45 @@ needed word arguments None needs accepted none =
     lacking true needs has = true≢false has
     lacking false needs has = true≢false (sym needs)
 
--- the reply to a command, of which this holds
-abbrev IsReplied : (Command → Type 0) → State → Reply → Type 0
-IsReplied Is state reply = (command : Command) × Is command × IsCommandReply command state reply
-
 module _ (state : State) (matrix : IfSome state.group IsCoxeterMatrix) where
   -- the reply to a command on elements, where a group is set
   some_reply : (inquiry : Inquiry) → (state.group ≡ None → ⊥) → (reply : Reply) × IsInquiryReply inquiry state reply
   some_reply inquiry set = in_group state.group _ matrix set (λ g admissible. inquiry-reply inquiry state g admissible)
 
   -- an accepted command has a reply
-  by_word : (o : Option CommandWord) (arguments : List (List ℕ)) → command_refusal o arguments (rank_of state) ≡ None
-      → (reply : Reply) × IsReplied (λ command. IsSomeAnd o (λ word. IsGivenBy command word arguments (rank_of state))) state reply
-  by_word None arguments accepted = absurd (cc accepted)
-  by_word (Some Named) arguments accepted =
+  by_word : (word : CommandWord) (arguments : List (List ℕ)) → command_refusal (Some word) arguments (rank_of state) ≡ None
+      → (reply : Reply) × IsCommandReply (command_by word arguments (rank_of state)) state reply
+  by_word Named arguments accepted =
       let g = named_matrix arguments in
-      let found = group-reply state g (IsAdmissible-integer_matrix g (matrix_set-is Named arguments (rank_of state) g accepted refl)) in
-      (found.0, (asks.Group g, refl, found.1))
-  by_word (Some Matrix) arguments accepted =
+      group-reply state g (IsAdmissible-integer_matrix g (group_set-is Named arguments (rank_of state) g accepted refl))
+  by_word Matrix arguments accepted =
       let g = matrix_of arguments in
-      let found = group-reply state g (IsAdmissible-integer_matrix g (matrix_set-is Matrix arguments (rank_of state) g accepted refl)) in
-      (found.0, (asks.Group g, refl, found.1))
-  by_word (Some Quit) arguments accepted = (farewell state, (asks.Quit, refl, refl))
-  by_word (Some (One kind)) arguments accepted =
+      group-reply state g (IsAdmissible-integer_matrix g (group_set-is Matrix arguments (rank_of state) g accepted refl))
+  by_word Quit arguments accepted = (farewell state, refl)
+  by_word (One kind) arguments accepted =
       let w = word_argument (rank_of state) arguments 0 in
-      let found = some_reply (inquiry.One kind (record { items = w })) (needed (One kind) arguments state.group refl accepted) in
-      (found.0, (asks.One kind (record { items = w }), (refl, refl), found.1))
-  by_word (Some (Two kind)) arguments accepted =
+      some_reply (inquiry.One kind w) (needed (One kind) arguments state.group refl accepted)
+  by_word (Two kind) arguments accepted =
       let y = word_argument (rank_of state) arguments 0 in
       let w = word_argument (rank_of state) arguments 1 in
-      let found = some_reply (inquiry.Two kind (record { items = y }) (record { items = w }))
-      (needed (Two kind) arguments state.group refl accepted) in
-      (found.0, (asks.Two kind (record { items = y }) (record { items = w }), (refl, refl, refl), found.1))
-  by_word (Some (Plain kind)) arguments accepted =
-      let found = some_reply (inquiry.Plain kind) (needed (Plain kind) arguments state.group refl accepted) in
-      (found.0, (asks.Plain kind, refl, found.1))
-  by_word (Some Work) arguments accepted =
+      some_reply (inquiry.Two kind y w) (needed (Two kind) arguments state.group refl accepted)
+  by_word (Plain kind) arguments accepted =
+      some_reply (inquiry.Plain kind) (needed (Plain kind) arguments state.group refl accepted)
+  by_word Work arguments accepted =
       let start = value_of (argument arguments 0) in
       let count = value_of (argument arguments 1) in
-      let found = some_reply (inquiry.Work start count) (needed Work arguments state.group refl accepted) in
-      (found.0, (asks.Work start count, (refl, refl, refl), found.1))
+      some_reply (inquiry.Work start count) (needed Work arguments state.group refl accepted)
+
+  by_name : (o : Option CommandWord) (arguments : List (List ℕ)) → command_refusal o arguments (rank_of state) ≡ None
+      → (reply : Reply) × IsSomeAnd (option_map (λ word. command_by word arguments (rank_of state)) o)
+      (λ command. IsCommandReply command state reply)
+  by_name None arguments accepted = absurd (cc accepted)
+  by_name (Some word) arguments accepted = by_word word arguments accepted
 
   by_tokens : (tokens : List (List ℕ)) → tokens_refusal tokens (rank_of state) ≡ None
-      → (reply : Reply) × IsReplied (λ command. IsGiven command tokens (rank_of state)) state reply
-  by_tokens [] accepted = (silence state, (asks.Nothing, refl, refl))
-  by_tokens (name ∷ arguments) accepted = by_word (command_word_of name) arguments accepted
+      → (reply : Reply) × IsSomeAnd (command_of tokens (rank_of state)) (λ command. IsCommandReply command state reply)
+  by_tokens [] accepted = (silence state, refl)
+  by_tokens (name ∷ arguments) accepted = by_name (command_word_of name) arguments accepted
 
 -- each content has a reply
 pub IsContentReply-exists : (state : State) (content : List ℕ) → IfSome state.group IsCoxeterMatrix → (reply : Reply)
@@ -128,7 +121,8 @@ unfolding IsContentReply
 IsContentReply-exists state content matrix = by_refusal (line_refusal content (rank_of state)) refl
   where
     by_refusal : (o : Option Refusal) → line_refusal content (rank_of state) ≡ o
-        → (reply : Reply) × MatchOption o (IsReplied (λ command. IsGiven command (tokens_of content) (rank_of state)) state reply)
+        → (reply : Reply) × MatchOption o
+        (IsSomeAnd (command_of (tokens_of content) (rank_of state)) (λ command. IsCommandReply command state reply))
         (λ why. reply ≡ refusal state why)
     by_refusal None e = by_tokens state matrix (tokens_of content) e
     by_refusal (Some why) e = (refusal state why, refl)

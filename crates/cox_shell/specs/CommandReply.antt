@@ -5,10 +5,9 @@ use Rattle.cox_base.specs.IntegerMatrix.{integer_matrix}
 use Rattle.cox_command.specs.declared.refusal.Refusal.{Refusal}
 use Rattle.cox_command.specs.declared.refusal.Refusal.TheVariants.{ManyRoots}
 use Rattle.cox_command.specs.declared.command.Command.{Command}
-use Rattle.cox_command.specs.declared.command.Command.TheVariants as asks
+use Rattle.cox_command.specs.declared.command.Command.TheVariants.{Nothing, Quit, Group, Ask}
 use Rattle.cox_small.specs.SmallRoots.{HasMoreSmallRoots}
-use Rattle.cox_answers.specs.declared.inquiry.Inquiry.{Inquiry}
-use Rattle.cox_answers.specs.declared.inquiry.Inquiry.TheVariants.{One, Two, Plain, Work}
+use Rattle.cox_command.specs.declared.inquiry.Inquiry.{Inquiry}
 use Rattle.cox_answers.specs.Limits.{Limits}
 use Rattle.cox_shell.specs.Reply.{State, Reply, refusal, with_group, silence, farewell, answered}
 use Rattle.cox_answers.specs.Question.{Question, IsRefused}
@@ -36,11 +35,8 @@ RefusesGroup limits g _ = ⊥
 
 -- the reply to a command
 abbrev pub IsCommandReply : Command → State → Reply → Type 0
-IsCommandReply asks.Nothing state reply = reply ≡ silence state
-IsCommandReply asks.Quit state reply = reply ≡ farewell state
-IsCommandReply (asks.Group g) state reply = IsDecided state (RefusesGroup state.limits g)
-    (λ answer. answer ≡ silence (with_group state g)) reply
-IsCommandReply (asks.One kind w) state reply = IsInquiryReply (One kind w) state reply
-IsCommandReply (asks.Two kind y w) state reply = IsInquiryReply (Two kind y w) state reply
-IsCommandReply (asks.Plain kind) state reply = IsInquiryReply (Plain kind) state reply
-IsCommandReply (asks.Work start count) state reply = IsInquiryReply (Work start count) state reply
+IsCommandReply Nothing state reply = reply ≡ silence state
+IsCommandReply Quit state reply = reply ≡ farewell state
+IsCommandReply (Group g) state reply =
+    IsDecided state (RefusesGroup state.limits g) (λ answer. answer ≡ silence (with_group state g)) reply
+IsCommandReply (Ask inquiry) state reply = IsInquiryReply inquiry state reply

@@ -1,9 +1,9 @@
 //! The session, which answers the contents of lines.
 
 use crate::workers::{ByWorkers, make_rows};
-use cox_answers::{Inquiry, OneThread, RowMaker, Unanswered, Workspace};
+use cox_answers::{OneThread, RowMaker, Unanswered, Workspace};
 use cox_base::{Coxeter, MAX_RANK};
-use cox_command::{Command, Refusal, parse};
+use cox_command::{Command, Inquiry, Refusal, parse};
 use cox_minroots::{RootFault, RootTable};
 use cox_options::Options;
 use cox_outside::Gate;
@@ -66,13 +66,12 @@ impl Session {
     ghost use Rattle.cox_answers.specs.Kept.{IsMore};
     ghost use Rattle.std.specs.Prelude.{◌≡◌, ◌<◌, ◌≤◌, ◌^◌, length, IfOk, OnErr, IfSome, IsSomeAnd};
     ghost use Rattle.cox_command.specs.declared.command.Command.TheVariants.{Group};
-    ghost use Rattle.cox_command.specs.ParseContract.{HasWordsOf};
+    ghost use Rattle.cox_command.specs.ParseContract.{HasLetters, HasWordsOf};
     ghost use Rattle.cox_shell.specs.Reply.{Reply, opening, with_group, refusal, rank_of};
     ghost use Rattle.cox_answers.specs.SessionLimits.{limits_of};
     ghost use Rattle.cox_shell.specs.ContentReply.{IsContentReply};
     ghost use Rattle.cox_shell.specs.CommandReply.{IsCommandReply, IsInquiryReply};
     ghost use Rattle.cox_shell.specs.GivenReply.{IsShort, IsGivenReply};
-    ghost use Rattle.cox_answers.specs.Putting.{HasLetters};
     ghost use Rattle.cox_shell.specs.Saying.{Says, SaysPrefix, Concludes};
 
     /// A session with these options, and no group.
@@ -203,12 +202,7 @@ impl Session {
             Command::Nothing => Ok(Said::Answered),
             Command::Quit => Ok(Said::Quit),
             Command::Group(group) => self.set_group(&group, out),
-            Command::One(kind, w) => self.answer_inquiry(maker, &Inquiry::One(kind, w), out),
-            Command::Two(kind, y, w) => self.answer_inquiry(maker, &Inquiry::Two(kind, y, w), out),
-            Command::Plain(kind) => self.answer_inquiry(maker, &Inquiry::Plain(kind), out),
-            Command::Work { start, count } => {
-                self.answer_inquiry(maker, &Inquiry::Work { start, count }, out)
-            }
+            Command::Ask(inquiry) => self.answer_inquiry(maker, &inquiry, out),
         }
     }
 

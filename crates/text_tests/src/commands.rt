@@ -1,6 +1,6 @@
 //! Lines, and what they give.
 use cox_base::MAX_RANK;
-use cox_command::{Command, MAX_START, OneWord, TwoWord, parse, work_word};
+use cox_command::{Command, Inquiry, MAX_START, OneWord, TwoWord, parse, work_word};
 use std::process::Abort;
 use std::test::Fail;
 
@@ -99,11 +99,11 @@ fn counts_pieces_first(rt: HostRuntime) {
 
 #[test]
 fn gives_words(rt: HostRuntime) -> Result<(), Fail> {
-    let Command::Two(TwoWord::Inorder, y, w) = parse(b"inorder e  212", Some(2))? else {
+    let Command::Ask(Inquiry::Two(TwoWord::Inorder, y, w)) = parse(b"inorder e  212", Some(2))? else {
         panic!(rt; "two words");
     };
     assert!(rt; y.is_empty() && w.as_slice() == [2, 1, 2].as_slice());
-    let Command::One(OneWord::Compute, w) = parse(b"compute 9.10.9", Some(10))? else {
+    let Command::Ask(Inquiry::One(OneWord::Compute, w)) = parse(b"compute 9.10.9", Some(10))? else {
         panic!(rt; "a word");
     };
     assert!(rt; w.as_slice() == [9, 10, 9].as_slice());
@@ -112,7 +112,7 @@ fn gives_words(rt: HostRuntime) -> Result<(), Fail> {
 
 #[test]
 fn gives_numbers(rt: HostRuntime) -> Result<(), Fail> {
-    let Command::Work { start, count } = parse(b"work 65536 0002", Some(2))? else {
+    let Command::Ask(Inquiry::Work { start, count }) = parse(b"work 65536 0002", Some(2))? else {
         panic!(rt; "two numbers");
     };
     assert_eq!(rt; (start, count), (MAX_START, 2));

@@ -1,6 +1,6 @@
 -- The proof of `put_text_of`.
 use Rattle.std.proofs.Common.{◌≡◌, refl, arith}
-use Rattle.cox_command.specs.declared.command.TwoWord.TheVariants.{Rpol}
+use Rattle.cox_command.specs.declared.inquiry.TwoWord.TheVariants.{Rpol}
 use Rattle.cox_answers.proofs.workspace.Workspace.put_text_of.Goals as goal
 
 pub returns-in-Two-Rpol-default-default : goal.returns-in-Two-Rpol-default-default

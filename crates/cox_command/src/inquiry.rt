@@ -1,0 +1,74 @@
+//! Inquiries: commands on elements, and on the whole group.
+
+use cox_base::Word;
+
+/// A command on elements of the group that is set, or on the whole group.
+#[derive(Drop)]
+pub enum Inquiry {
+    /// A command with one word.
+    One(OneWord, Word),
+    /// A command with two words.
+    Two(TwoWord, Word, Word),
+    /// A command without arguments, on the whole group.
+    Plain(NoWord),
+    /// `work`: sums over the Kazhdan-Lusztig polynomials of words that are generated.
+    Work {
+        /// The generator's state before the first word, from 0 to `MAX_START`.
+        start: u32,
+        /// How many words, from 1 to `MAX_COUNT`.
+        count: u32,
+    },
+}
+
+/// The commands with one word.
+#[derive(Clone, Copy, Debug, Eq, PartialEq)]
+pub enum OneWord {
+    /// The element.
+    Compute,
+    /// Its length.
+    Length,
+    /// The inverse element.
+    Inverse,
+    /// Its left and right descents.
+    Descent,
+    /// The elements that it covers in Bruhat order.
+    Coatoms,
+    /// How many elements of each length are below it.
+    Betti,
+    /// The Kazhdan-Lusztig polynomials P(x,w) of all x below it in Bruhat order.
+    Klbasis,
+    /// The coefficients of the sum of q^l(x) P(x,w) over all x below it in Bruhat order.
+    Ihbetti,
+    /// P(x,w) of those x below it that have each left and each right descent of w.
+    Extremals,
+}
+
+/// The commands with two words.
+#[derive(Clone, Copy, Debug, Eq, PartialEq)]
+pub enum TwoWord {
+    /// Whether the first is below the second in Bruhat order.
+    Inorder,
+    /// The elements between them in Bruhat order.
+    Interval,
+    /// Their R-polynomial.
+    Rpol,
+    /// Their Kazhdan-Lusztig polynomial P(y,w).
+    Pol,
+    /// mu(y,w): the coefficient of P(y,w) at the degree (l(w) - l(y) - 1) / 2, if y is below w and that is whole.
+    Mu,
+}
+
+/// The commands without arguments, on the whole group.
+#[derive(Clone, Copy, Debug, Eq, PartialEq)]
+pub enum NoWord {
+    /// The left W-graph: each element with its left descents, and its edges with their values of mu.
+    Lwgraph,
+    /// The right W-graph, with right descents.
+    Rwgraph,
+    /// The left cells.
+    Lcells,
+    /// The right cells.
+    Rcells,
+    /// The two-sided cells.
+    Lrcells,
+}
