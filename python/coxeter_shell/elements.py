@@ -1,0 +1,347 @@
+"""What is made of several answers: products, orders, longest elements, cosets, covers, permutations."""
+import math
+import random as random_numbers
+
+from . import kinds
+from .program import MOST_OF_CONTEXT, MOST_OF_WORD
+
+
+class Elements:
+    """The methods of a group that ask the program more than once. Elements that they answer are normal forms of the program.
+
+    What says whether a group is finite, its cardinality and the order of an element is worked out here, from the Coxeter
+    matrix.
+    """
+
+    # ---- the group
+
+    def coxeter_matrix(self):
+        """The Coxeter matrix, a list of rows, in which infinity is math.inf.
+
+        >>> CoxeterGroup("B", 3).coxeter_matrix()
+        [[1, 3, 2], [3, 1, 4], [2, 4, 1]]
+        """
+        return [list(row) for row in self._matrix]
+
+    def is_finite(self):
+        """Whether the group is finite.
+
+        >>> CoxeterGroup("E", 8).is_finite(), CoxeterGroup("a", 2).is_finite()
+        (True, False)
+        """
+        return self.cardinality() < math.inf
+
+    def cardinality(self):
+        """How many elements the group has, math.inf where it is infinite.
+
+        >>> CoxeterGroup("E", 8).cardinality()
+        696729600
+        """
+        return kinds.cardinality(self._matrix)
+
+    def long_element(self):
+        """The longest element of a finite group.
+
+        >>> CoxeterGroup("A", 3).long_element()
+        (1, 2, 1, 3, 2, 1)
+        """
+        if not self.is_finite():
+            raise ValueError("an infinite group has no longest element")
+        if self._long is None:
+            element = ()
+            while True:
+                descents = self.right_descents(element)
+                if len(descents) == self.rank:
+                    break
+                element = self.normal_form((*element, next(s for s in self._letters if s not in descents)))
+            self._long = element
+        return self._long
+
+    def elements(self, max_length=math.inf):
+        """An iterator over the elements, or over those of at most this length, in ShortLex order.
+
+        >>> list(CoxeterGroup("A", 2).elements())
+        [(), (1,), (2,), (1, 2), (2, 1), (1, 2, 1)]
+        >>> sum(1 for w in CoxeterGroup("a", 2).elements(3))
+        19
+        """
+        if self.cardinality() <= self.program.options.get("context", MOST_OF_CONTEXT):
+            for w in self.iter_bruhat_interval((), self.long_element()):
+                if len(w) > max_length:
+                    return
+                yield w
+            return
+        # A normal form without its last letter is a normal form.
+        level = [()]
+        while level:
+            yield from level
+            if len(level[0]) >= max_length:
+                return
+            longer = ((*w, s) for w in level for s in self._letters)
+            level = [word for word in longer if self.normal_form(word) == word]
+
+    def random_element(self, length=None, random=random_numbers):
+        """A random element. Without a length each element of a finite group is equally probable. With a length it is
+        made letter by letter, each a random one that is no right descent, and not all elements are equally probable.
+        `random` may be a random.Random.
+
+        >>> W = CoxeterGroup("E", 8)
+        >>> w = W.random_element()
+        >>> W.normal_form(w) == w, W.length(W.random_element(length=30))
+        (True, 30)
+        """
+        if length is None:
+            if not self.is_finite():
+                raise ValueError("an infinite group needs a length")
+            return self.product(*map(random.choice, self._chain()))
+        element = ()
+        for _ in range(length):
+            descents = self.right_descents(element)
+            letters = [s for s in self._letters if s not in descents]
+            if not letters:
+                raise ValueError(f"the group has no element of length {length}")
+            element = self.normal_form((*element, random.choice(letters)))
+        return element
+
+    def _chain(self):
+        """Lists of elements, such that each element of a finite group is the product of one of each in one way: shortest
+        representatives of the cosets of a parabolic subgroup in the next larger one."""
+        if self._cosets is None:
+            listed, letters = [], list(self._letters)
+            while letters:
+                smaller = [[s for s in letters if s != without] for without in letters]
+                largest = max(smaller, key=lambda some: kinds.cardinality(kinds.part(self._matrix, [s - 1 for s in some])))
+                listed.append(list(self._representatives(set(largest), letters)))
+                letters = largest
+            self._cosets = listed
+        return self._cosets
+
+    def coset_representatives(self, letters, side="left"):
+        """An iterator over the shortest elements of the left cosets wW_J, in ShortLex order, where W_J is generated by
+        these letters; or of the right cosets W_J w.
+
+        >>> list(CoxeterGroup("A", 3).coset_representatives([1, 2]))
+        [(), (3,), (2, 3), (1, 2, 3)]
+        >>> list(CoxeterGroup("A", 3).coset_representatives("12", side="right"))
+        [(), (3,), (3, 2), (3, 2, 1)]
+        """
+        letters = self._letters_of(letters)
+        if side == "left":
+            return self._representatives(letters, self._letters)
+        if side == "right":
+            return self._right_representatives(letters)
+        raise ValueError(f"the side is left or right, not {side!r}")
+
+    def _representatives(self, letters, among):
+        """The shortest representatives of left cosets in the subgroup that the letters `among` generate."""
+        # What is left of one without its first letter is one too.
+        level = [()]
+        while level:
+            yield from level
+            longer = [(s, *w) for s in among for w in level]
+            level = [word for word in longer if self.normal_form(word) == word and letters.isdisjoint(self.right_descents(word))]
+
+    def _right_representatives(self, letters):
+        level = [()]
+        while level:
+            yield from level
+            longer = [(*w, s) for w in level for s in self._letters]
+            level = [word for word in longer if self.normal_form(word) == word and letters.isdisjoint(self.left_descents(word))]
+
+    def _letters_of(self, letters):
+        """A set of letters, given as a word is."""
+        found = set(self._spelling.element(letters or "e") if isinstance(letters, str) else letters)
+        if not found <= set(self._letters):
+            raise ValueError(f"{letters!r} has a letter that the group doesn't have")
+        return found
+
+    # ---- elements
+
+    def product(self, *words):
+        """The product of elements.
+
+        >>> CoxeterGroup("A", 3).product("12", "2", "3")
+        (1, 3)
+        """
+        element = ()
+        for word in words:
+            factor = self.normal_form(word)
+            while factor:
+                room = max(MOST_OF_WORD - len(element), 1)
+                element = self.normal_form(element + factor[:room])
+                factor = factor[room:]
+        return element
+
+    def power(self, w, exponent):
+        """A power of an element. The exponent may be negative.
+
+        >>> W = CoxeterGroup("A", 3)
+        >>> W.power("123", 2), W.power("123", -1), W.power("123", 4)
+        ((2, 1, 3, 2), (3, 2, 1), ())
+        """
+        square = self.inverse(w) if exponent < 0 else self.normal_form(w)
+        exponent, power = abs(exponent), ()
+        while exponent:
+            if exponent % 2:
+                power = self.product(power, square)
+            exponent //= 2
+            if exponent:
+                square = self.product(square, square)
+        return power
+
+    def order(self, w):
+        """The order of an element, math.inf where no power of it is the identity.
+
+        >>> CoxeterGroup("E", 8).order("12345678"), CoxeterGroup("a", 2).order("123")
+        (30, inf)
+        """
+        return kinds.order(self._matrix, self.normal_form(w))
+
+    def reduced_words(self, w):
+        """The list of the reduced words of an element, in lexicographic order.
+
+        >>> CoxeterGroup("A", 3).reduced_words("1213")
+        [(1, 2, 1, 3), (1, 2, 3, 1), (2, 1, 2, 3)]
+        """
+        return list(self.iter_reduced_words(w))
+
+    def iter_reduced_words(self, w):
+        """The reduced words of an element, in lexicographic order."""
+        after = {}
+        todo = [((), self.normal_form(w))]
+        while todo:
+            word, rest = todo.pop()
+            if not rest:
+                yield word
+                continue
+            if rest not in after:
+                after[rest] = [(s, self.normal_form((s, *rest))) for s in self.left_descents(rest)]
+            todo.extend(((*word, s), shorter) for s, shorter in reversed(after[rest]))
+
+    # ---- Bruhat order
+
+    def bruhat_lower_covers(self, w):
+        """The elements that w covers in Bruhat order, in ShortLex order: the same as `coatoms`.
+
+        >>> CoxeterGroup("A", 3).bruhat_lower_covers("123")
+        [(1, 2), (1, 3), (2, 3)]
+        """
+        return self.coatoms(w)
+
+    def bruhat_upper_covers(self, w):
+        """The elements that cover w in Bruhat order, in ShortLex order.
+
+        >>> CoxeterGroup("A", 3).bruhat_upper_covers("13")
+        [(1, 2, 3), (1, 3, 2), (2, 1, 3), (3, 2, 1)]
+        """
+        w = self.normal_form(w)
+        if not self.is_finite():
+            return sorted(self._upper_covers(w, {}))
+        products = (self.product(w, t) for t in self._all_reflections())
+        return sorted(x for x in products if len(x) == len(w) + 1)
+
+    def _all_reflections(self):
+        """The reflections of a finite group: the conjugates of the generators."""
+        if self._reflections is None:
+            found = todo = {(s,) for s in self._letters}
+            while todo:
+                todo = {self.normal_form((s, *t, s)) for t in todo for s in self._letters} - found
+                found = found | todo
+            self._reflections = found
+        return self._reflections
+
+    def _upper_covers(self, w, known):
+        """The set of the covers of w. A cover is ws, where s is no right descent of w; or each right descent s of it is one
+        of w too, and it is ys, where y covers ws (Humphreys, section 5.9)."""
+        if w not in known:
+            descents = self.right_descents(w)
+            found = {self.normal_form((*w, s)) for s in self._letters if s not in descents}
+            for s in descents:
+                for y in self._upper_covers(self.normal_form((*w, s)), known):
+                    x = self.normal_form((*y, s))
+                    if len(x) > len(y):
+                        found.add(x)
+            known[w] = found
+        return known[w]
+
+    # ---- permutations
+
+    def to_permutation(self, w):
+        """The permutation of an element of A n, or the signed permutation of an element of B n, in one-line notation: a
+        letter s on the right swaps what stands at the places s and s+1, and the letter n of B n turns the sign at the
+        last place.
+
+        >>> CoxeterGroup("A", 3).to_permutation("2132"), CoxeterGroup("B", 3).to_permutation("32")
+        ((3, 4, 1, 2), (1, -3, 2))
+        """
+        values = list(range(1, self._places() + 1))
+        for s in self.normal_form(w):
+            self._act(values, s)
+        return tuple(values)
+
+    def from_permutation(self, values):
+        """The element of A n or B n of a permutation or signed permutation in one-line notation.
+
+        >>> CoxeterGroup("A", 3).from_permutation([3, 4, 1, 2]), CoxeterGroup("B", 3).from_permutation([1, -3, 2])
+        ((2, 1, 3, 2), (3, 2))
+        """
+        values, places = list(values), self._places()
+        signed = places == self.rank
+        if sorted(map(abs, values)) != list(range(1, places + 1)) or min(values) < 0 and not signed:
+            raise ValueError(f"{values} is no {'signed ' if signed else ''}permutation of 1 to {places}")
+        # The values in the order of e 1 > e 2 > .. > 0 > .. > -e 2 > -e 1, where -e i stands for -i.
+        word, keys = [], [(places + 1 - abs(it)) * (1 if it > 0 else -1) for it in values]
+        while True:
+            descents = [s for s in range(1, places) if keys[s - 1] < keys[s]]
+            if signed and keys[-1] < 0:
+                descents.append(places)
+            if not descents:
+                return self.normal_form(word[::-1])
+            word.append(descents[0])
+            self._act(keys, descents[0])
+
+    def _places(self):
+        """How many places the permutations have."""
+        if self._matrix == kinds.named_matrix("A", self.rank):
+            return self.rank + 1
+        if self.rank > 1 and self._matrix == kinds.named_matrix("B", self.rank):
+            return self.rank
+        raise ValueError(f"elements of {self!r} are not given as permutations: those of A n and B n are")
+
+    def _act(self, values, s):
+        if s == len(values):
+            values[-1] = -values[-1]
+        else:
+            values[s - 1], values[s] = values[s], values[s - 1]
+
+    # ---- Sage
+
+    def sage(self):
+        """The same group in Sage: the one that this object was made of, else a Weyl group for the named types, and a
+        Coxeter group for others. It needs Sage."""
+        if self._sage_group is None:
+            from sage.all import CoxeterGroup as SageGroup
+            from sage.all import CoxeterMatrix, WeylGroup
+
+            words = self.line.split(" ")
+            if words[0] == "type" and self._nodes == kinds.of_type(*words[1:]).nodes:
+                cartan_type = [words[1].upper(), int(words[2]), *([1] if words[1] == "a" else [])]
+                self._sage_group = WeylGroup(cartan_type, prefix="s")
+            else:
+                rows = [[-1 if it == math.inf else it for it in row] for row in self._matrix]
+                self._sage_group = SageGroup(CoxeterMatrix(rows, index_set=self._nodes))
+        return self._sage_group
+
+    def sage_element(self, w):
+        """The element of `sage()` that a word is. It needs Sage."""
+        return self.sage().from_reduced_word([self._nodes[s - 1] for s in self.normal_form(w)])
+
+    def _of_sage(self, element):
+        """The letters of an element of Sage: of its reduced word there."""
+        parent = element.parent()
+        if parent is not self._parent:
+            given = kinds.of_object(parent)
+            if given.matrix != self._matrix:
+                raise ValueError(f"{element} is an element of another group: {parent}")
+            self._parent, self._parent_letters = parent, {node: s for s, node in enumerate(given.nodes, 1)}
+        return [self._parent_letters[node] for node in element.reduced_word()]
