@@ -61,7 +61,7 @@ def by_nbclient(notebook, cells):
     import nbclient
     import nbformat
 
-    ran = nbformat.from_dict(notebook)
+    ran = nbformat.reads(json.dumps(notebook), as_version=4)
     nbclient.NotebookClient(ran, timeout=600, kernel_name="python3").execute()
     return [it["outputs"] for it in ran["cells"] if it["cell_type"] == "code"]
 

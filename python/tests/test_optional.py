@@ -117,7 +117,7 @@ class Gap(unittest.TestCase):
 @unittest.skipUnless(has("sage"), "Sage is not installed")
 class Sage(unittest.TestCase):
     def test_polynomials(self):
-        from sage.all import QQ, ZZ, latex
+        from sage.all import QQ, ZZ, LaurentPolynomialRing, latex
 
         ring = ZZ["q"]
         q = ring.gen()
@@ -126,7 +126,27 @@ class Sage(unittest.TestCase):
         for made in (ring(p), p.sage(), ring.one() * p, p * ring.one(), p + ring.zero(), ring.zero() + p):
             self.assertTrue(made == 1 + 2 * q**2 and made.parent() is ring)
         self.assertEqual((QQ["q"](p), p(q + 1), latex(p)), (1 + 2 * q**2, 3 + 4 * q + 2 * q**2, "1+2q^{2}"))
-        self.assertEqual((ZZ(2) * p, p * ZZ(2), p**3), ([2, 0, 4], [2, 0, 4], (1 + 2 * q**2) ** 3))
+        self.assertEqual((ZZ(2) * p, p * ZZ(2), p**3), (2 * p, 2 * p, (1 + 2 * q**2) ** 3))
+        v = LaurentPolynomialRing(ZZ, "v").gen()
+        self.assertEqual(p(v**2) * v**-2, v**-2 + 2 * v**2)
+        # The same polynomial in another unknown is another one.
+        self.assertFalse(p == ZZ["v"]([1, 0, 2]) or ZZ["v"]([1, 0, 2]) == p)
+
+    def test_kazhdan_lusztig_polynomials(self):
+        """Sage computes them by itself, slowly."""
+        from sage.all import ZZ, WeylGroup
+        from sage.combinat.kazhdan_lusztig import KazhdanLusztigPolynomial
+
+        q = ZZ["q"].gen()
+        for cartan_type in (["A", 3], ["B", 2], ["G", 2]):
+            theirs = WeylGroup(cartan_type, prefix="s")
+            polynomials = KazhdanLusztigPolynomial(theirs, q)
+            with CoxeterGroup(theirs) as group:
+                for w in theirs:
+                    basis = group.kazhdan_lusztig_basis(w)
+                    for x in theirs:
+                        self.assertEqual(basis.get(x, 0), polynomials.P(x, w))
+                        self.assertEqual(group.r_polynomial(x, w), polynomials.R(x, w))
 
     def test_groups(self):
         from sage.all import CartanType, CoxeterMatrix, WeylGroup
