@@ -269,7 +269,8 @@ class Elements:
     def to_permutation(self, w):
         """The permutation of an element of A n, or the signed permutation of an element of B n, in one-line notation: a
         letter s on the right swaps what stands at the places s and s+1, and the letter n of B n turns the sign at the
-        last place.
+        last place. So words are multiplied as maps, as Sage's Permutations are. Sage's SymmetricGroup and SignedPermutations
+        multiply the other way round: for one of their elements the answer is the inverse.
 
         >>> CoxeterGroup("A", 3).to_permutation("2132"), CoxeterGroup("B", 3).to_permutation("32")
         ((3, 4, 1, 2), (1, -3, 2))

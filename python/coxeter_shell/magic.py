@@ -2,6 +2,7 @@
 import shlex
 import subprocess
 
+from . import parents
 from .errors import STATUSES, CoxeterError
 from .program import find_program
 
@@ -14,8 +15,14 @@ def coxeter(line, cell):
     pol e 2132
     """
     script = "".join(f"{it}\n" for it in cell.splitlines())
-    ran = subprocess.run([find_program(), *shlex.split(line)], input=script.encode(), stdout=subprocess.PIPE)
-    print(ran.stdout.decode("latin-1"), end="")
+    pipes = {"stdin": subprocess.PIPE, "stdout": subprocess.PIPE}
+    with parents.start([find_program(), *shlex.split(line)], **pipes) as process:
+        try:
+            answers, _ = process.communicate(script.encode())
+        except BaseException:
+            process.kill()
+            raise
+    print(answers.decode("latin-1"), end="")
     # The status is 1 where a line was refused, and the answer says so itself.
-    if ran.returncode not in (0, 1):
-        raise CoxeterError(f"exit status {ran.returncode}: {STATUSES.get(ran.returncode, 'it failed')}")
+    if process.returncode not in (0, 1):
+        raise CoxeterError(f"exit status {process.returncode}: {STATUSES.get(process.returncode, 'it failed')}")

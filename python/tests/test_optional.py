@@ -175,6 +175,22 @@ class Sage(unittest.TestCase):
                             self.assertEqual(group.left_descents(w), tuple(sorted(group._nodes.index(it) + 1 for it in w.descents(side="left"))))
                     self.assertEqual(group.sage_element(group.sage().from_reduced_word(group._nodes)).length(), group.rank)
 
+    def test_permutations(self):
+        """Permutations of Sage are maps, as here. Its groups of permutations and of signed ones multiply from left to right."""
+        from sage.all import Permutations, SymmetricGroup
+        from sage.combinat.colored_permutations import SignedPermutations
+
+        with CoxeterGroup("A", 3) as group:
+            for p in Permutations(4):
+                self.assertEqual((group.to_permutation(p), group.from_permutation(p)), (tuple(p), group.normal_form(p)))
+            for p in SymmetricGroup(4):
+                self.assertEqual(group.to_permutation(p), (~p).tuple())
+        with CoxeterGroup("B", 3) as group:
+            signed = SignedPermutations(3)
+            self.assertEqual(CoxeterGroup(signed), group)
+            for p in signed:
+                self.assertEqual(group.to_permutation(p), tuple(~p))
+
     def test_numbers(self):
         from sage.all import WeylGroup, oo
 
