@@ -77,8 +77,7 @@ class Elements:
             yield from level
             if len(level[0]) >= max_length:
                 return
-            longer = ((*w, s) for w in level for s in self._letters)
-            level = [word for word in longer if self.normal_form(word) == word]
+            level = list(filter(self._is_normal, ((*w, s) for w in level for s in self._letters)))
 
     def random_element(self, length=None, random=random_numbers):
         """A random element. Without a length each element of a finite group is equally probable. With a length it is
@@ -138,15 +137,18 @@ class Elements:
         level = [()]
         while level:
             yield from level
-            longer = [(s, *w) for s in among for w in level]
-            level = [word for word in longer if self.normal_form(word) == word and letters.isdisjoint(self.right_descents(word))]
+            longer = filter(self._is_normal, ((s, *w) for s in among for w in level))
+            level = [word for word in longer if letters.isdisjoint(self.right_descents(word))]
 
     def _right_representatives(self, letters):
         level = [()]
         while level:
             yield from level
-            longer = [(*w, s) for w in level for s in self._letters]
-            level = [word for word in longer if self.normal_form(word) == word and letters.isdisjoint(self.left_descents(word))]
+            longer = filter(self._is_normal, ((*w, s) for w in level for s in self._letters))
+            level = [word for word in longer if letters.isdisjoint(self.left_descents(word))]
+
+    def _is_normal(self, word):
+        return self.normal_form(word) == word
 
     def _letters_of(self, letters):
         """A set of letters, given as a word is."""

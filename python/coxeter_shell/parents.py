@@ -19,7 +19,7 @@ _lock = threading.Lock()
 def start(words, **more):
     """Starts a process that is killed when this one ends, however it ends. The arguments are those of subprocess.Popen."""
     words = [*tie(), *words]
-    # The signal comes when the thread ends that started the process. So it is started by one that lives as long as this process.
+    # The signal comes when the thread ends that started the process. So it is started by one that lives as long as Python.
     if threading.current_thread() is threading.main_thread():
         return subprocess.Popen(words, **more)
     made = queue.Queue()

@@ -297,8 +297,11 @@ def check_line(line):
 
 def check_interpreter(path):
     """Sees to it that the interpreter is there which the first line of a script names: `setpriv` doesn't tell Python."""
-    with open(path, "rb") as program:
-        words = program.readline(4096).split() if program.read(2) == b"#!" else []
+    try:
+        with open(path, "rb") as program:
+            words = program.readline(4096).split() if program.read(2) == b"#!" else []
+    except OSError:  # it may be run and not read
+        return
     if words and not os.access(words[0], os.X_OK):
         raise ProgramNotFound(f"the program {path!r} can't be run: there is no {os.fsdecode(words[0])}")
 

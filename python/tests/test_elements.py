@@ -242,7 +242,9 @@ class Cosets(unittest.TestCase):
                 self.assertEqual(list(group.coset_representatives(text)), list(left.values()))
 
     def test_numbers_of_cosets(self):
-        for kind, letters, count in [("E 8", range(1, 8), 240), ("E 7", range(1, 7), 56), ("E 6", range(1, 6), 27), ("F 4", "123", 24)]:
+        """E 7 has this index in E 8, and so on, by the orders of the groups."""
+        numbers = [("E 8", range(1, 8), 240), ("E 7", range(1, 7), 56), ("E 6", range(1, 6), 27), ("F 4", "123", 24)]
+        for kind, letters, count in numbers:
             with CoxeterGroup(kind) as group:
                 for side in ("left", "right"):
                     self.assertEqual(len(list(group.coset_representatives(letters, side))), count)
@@ -306,9 +308,8 @@ class Permutations(unittest.TestCase):
         for n in (2, 3):
             with CoxeterGroup("B", n) as group:
                 signs = list(itertools.product((1, -1), repeat=n))
-                listed = [
-                    tuple(map(int.__mul__, values, sign)) for values in itertools.permutations(range(1, n + 1)) for sign in signs
-                ]
+                plain = itertools.permutations(range(1, n + 1))
+                listed = [tuple(map(int.__mul__, values, sign)) for values in plain for sign in signs]
                 for values in listed:
                     w = group.from_permutation(values)
                     self.assertEqual(group.to_permutation(w), values)

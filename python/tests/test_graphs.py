@@ -116,10 +116,10 @@ class Tables(unittest.TestCase):
 
     def test_pandas(self):
         """What pandas is asked for. A stand-in notes it; test_optional has the real one."""
-        with CoxeterGroup("A", 1) as group, unittest.mock.patch.dict(sys.modules, {"pandas": unittest.mock.MagicMock()}) as modules:
+        stub = unittest.mock.MagicMock()
+        with CoxeterGroup("A", 1) as group, unittest.mock.patch.dict(sys.modules, {"pandas": stub}):
             group.kazhdan_lusztig_basis("1").to_frame()
-            call = modules["pandas"].DataFrame.call_args
-            self.assertEqual(call, unittest.mock.call([((), 1), ((1,), 1)], columns=["element", "polynomial"]))
+            self.assertEqual(stub.DataFrame.call_args, unittest.mock.call([((), 1), ((1,), 1)], columns=["element", "polynomial"]))
 
 
 class Drawings(unittest.TestCase):

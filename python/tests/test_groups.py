@@ -29,7 +29,7 @@ class Groups(unittest.TestCase):
         self.assertEqual((CoxeterGroup("C", 3).line, CoxeterGroup("matrix  2  4").line), ("type B 3", "matrix 2 4"))
 
     def test_the_matrices_of_types(self):
-        """The program gives the same small words to a named type and to its matrix. Bourbaki's diagrams say where the labels are."""
+        """Bourbaki's diagrams say where the labels are, and the program's normal forms have these orders."""
         for kind, labels in [
             ("A 4", {(1, 2): 3, (2, 3): 3, (3, 4): 3}),
             ("B 4", {(1, 2): 3, (2, 3): 3, (3, 4): 4}),
@@ -47,13 +47,13 @@ class Groups(unittest.TestCase):
                     label = 1 if s == t else labels.get((min(s, t), max(s, t)), 2)
                     self.assertEqual(matrix[s - 1][t - 1], label)
                     if s != t:
-                        # st has this order, as the program's normal forms say.
                         words = [group.length([s, t] * k) for k in range(1, 8)]
                         self.assertEqual(words.index(0) + 1 if 0 in words else math.inf, label)
                 self.assertEqual(CoxeterGroup(matrix), group)
 
     def test_equality(self):
-        same = [CoxeterGroup("B3"), CoxeterGroup("B", 3, context=5), CoxeterGroup([[1, 3, 2], [3, 1, 4], [2, 4, 1]]), CoxeterGroup("C3")]
+        same = [CoxeterGroup(kind) for kind in ("B3", "C3", [[1, 3, 2], [3, 1, 4], [2, 4, 1]])]
+        same.append(CoxeterGroup("B", 3, context=5))
         for group in same:
             self.assertTrue(group == same[0] and hash(group) == hash(same[0]) and not group != same[0])
         others = [CoxeterGroup("A3"), CoxeterGroup([[1, 4, 2], [4, 1, 3], [2, 3, 1]]), "B 3", None]
@@ -61,7 +61,8 @@ class Groups(unittest.TestCase):
         self.assertEqual(len({*same, *others}), 5)
 
     def test_latex(self):
-        for kind, text in [("A 3", "$A_{3}$"), ("a 12", r"$\tilde{A}_{12}$"), ("matrix 2 0", r"$\begin{pmatrix}1&\infty\\\infty&1\end{pmatrix}$")]:
+        matrix = r"$\begin{pmatrix}1&\infty\\\infty&1\end{pmatrix}$"
+        for kind, text in [("A 3", "$A_{3}$"), ("a 12", r"$\tilde{A}_{12}$"), ("matrix 2 0", matrix)]:
             self.assertEqual(CoxeterGroup(kind)._repr_latex_(), text)
 
     def test_matrices(self):

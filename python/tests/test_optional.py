@@ -1,4 +1,7 @@
-"""Other programs and packages, where they are installed: Sage, GAP, networkx, pandas, IPython. `checks/python` says which ran."""
+"""Other programs and packages, where they are installed: Sage, GAP, networkx, pandas, numpy, IPython.
+
+`checks/python` says which ran.
+"""
 import importlib.util
 import math
 import shutil
@@ -26,7 +29,8 @@ class Networkx(unittest.TestCase):
             made = graph.networkx()
             self.assertEqual((made.number_of_nodes(), made.graph["side"]), (48, "left"))
             self.assertEqual(made.nodes[1, 2]["descents"], (1,))
-            self.assertEqual({frozenset(it[:2]): it[2] for it in made.edges(data="mu")}, {frozenset(it[:2]): it[2] for it in graph.edges()})
+            theirs, ours = ({frozenset(it[:2]): it[2] for it in edges} for edges in (made.edges(data="mu"), graph.edges()))
+            self.assertEqual(theirs, ours)
             # The cells are the strong components of the steps.
             steps = networkx.DiGraph()
             steps.add_nodes_from(graph)
@@ -172,7 +176,8 @@ class Sage(unittest.TestCase):
                         for nodes in (made.index_set(), made.index_set()[::-1] * 2):
                             w = made.from_reduced_word(nodes[: group.rank])
                             self.assertEqual(group.length(w), w.length())
-                            self.assertEqual(group.left_descents(w), tuple(sorted(group._nodes.index(it) + 1 for it in w.descents(side="left"))))
+                            descents = sorted(group._nodes.index(it) + 1 for it in w.descents(side="left"))
+                            self.assertEqual(group.left_descents(w), tuple(descents))
                     self.assertEqual(group.sage_element(group.sage().from_reduced_word(group._nodes)).length(), group.rank)
 
     def test_permutations(self):

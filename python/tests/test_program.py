@@ -378,7 +378,8 @@ class Many(unittest.TestCase):
             group.close()
             with self.assertRaises(ProgramClosed) as caught:
                 list(third)
-            self.assertIn("the rest of the answer to 'lcells' can't be read: the program was ended by close()", str(caught.exception))
+            said = "the rest of the answer to 'lcells' can't be read: the program was ended by close()"
+            self.assertEqual(str(caught.exception), said)
             self.assertEqual(str(pickle.loads(pickle.dumps(caught.exception))), str(caught.exception))
             self.assertEqual(group.length("12"), 2)
             with self.assertRaises(ProgramEnded):
