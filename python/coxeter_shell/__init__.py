@@ -1,19 +1,26 @@
 """Coxeter groups by the program `coxeter`, for Python and Sage."""
-from .errors import CoxeterError, ProgramEnded, ProgramError, ProgramNotFound, Refusal, UnexpectedAnswer
-from .group import CoxeterGroup, Vertex, WGraph, Work
+from .errors import CoxeterError, ProgramClosed, ProgramEnded, ProgramError, ProgramNotFound, Refusal, UnexpectedAnswer
+from .graphs import HasseDiagram, Vertex, WGraph
+from .group import CoxeterGroup, Work
 from .polynomial import Polynomial
 from .program import Program, find_program
+from .tables import Cells, ElementDict, Table
 from .texts import gap
 
 __all__ = [
+    "Cells",
     "CoxeterError",
     "CoxeterGroup",
+    "ElementDict",
+    "HasseDiagram",
     "Polynomial",
     "Program",
+    "ProgramClosed",
     "ProgramEnded",
     "ProgramError",
     "ProgramNotFound",
     "Refusal",
+    "Table",
     "UnexpectedAnswer",
     "Vertex",
     "WGraph",
@@ -21,3 +28,10 @@ __all__ = [
     "find_program",
     "gap",
 ]
+
+
+def load_ipython_extension(ipython):
+    """What `%load_ext coxeter_shell` does in IPython and Jupyter: it brings the cell magic `%%coxeter`."""
+    from .magic import coxeter
+
+    ipython.register_magic_function(coxeter, "cell", "coxeter")

@@ -80,6 +80,20 @@ class ProgramEnded(ProgramError):
         return f"the program ended before {when} ({how})"
 
 
+class ProgramClosed(ProgramEnded):
+    """An iterator is asked for more, but its program has been ended, or belongs to another process. `why` says it."""
+
+    def __init__(self, line, why):
+        super().__init__(line, None)
+        self.why = why
+
+    def __reduce__(self):
+        return ProgramClosed, (self.line, self.why)
+
+    def __str__(self):
+        return f"the rest of the answer to {shown(self.line)} can't be read: {self.why}"
+
+
 class UnexpectedAnswer(ProgramError):
     """An answer that doesn't have the shape that it should have. `line` was asked, and `answer` is what came."""
 

@@ -3,49 +3,66 @@ import collections
 import operator
 import re
 
-from . import progress, texts
+from . import kinds, progress, texts
+from .elements import Elements
+from .graphs import HasseDiagram, Vertex, WGraph
 from .polynomial import Polynomial
 from .program import Program
+from .tables import Cells, ElementDict
 
 SIDES = ("left", "right")
 
 Work = collections.namedtuple("Work", "words entries degree sum")
 Work.__doc__ = "The answer to `work`: numbers of words and of polynomials, the largest degree, the sum of the coefficients."
 
-Vertex = collections.namedtuple("Vertex", "element descents edges")
-Vertex.__doc__ = "A vertex of a W-graph: the element, its descents, and the values of its edges by its neighbours."
 
+class CoxeterGroup(Elements):
+    """A Coxeter group, by its type, by its Coxeter matrix, or by a Cartan type, Coxeter matrix or group of Sage.
 
-class CoxeterGroup:
-    """A Coxeter group, by its type or by its Coxeter matrix.
+    >>> CoxeterGroup("A", 3) == CoxeterGroup("A 3") == CoxeterGroup("A3") == CoxeterGroup(["A", 3])
+    True
+    >>> CoxeterGroup([[1, 3, 2], [3, 1, 4], [2, 4, 1]]) == CoxeterGroup("B", 3)
+    True
 
-        CoxeterGroup("A", 3)
-        CoxeterGroup("A 3")
-        CoxeterGroup([[1, 3, 2], [3, 1, 4], [2, 4, 1]])
+    In a matrix, infinity is 0, -1 or math.inf. `program` is the path of the program; `workers`, `context`, `roots` and `coef`
+    are options of the program. `progress=False` turns off the lines that tell how long an answer is awaited and how far a
+    list was read. A type or a matrix that the program doesn't take is refused here. Groups are equal where their Coxeter
+    matrices are.
 
-    In a matrix, infinity is 0 or math.inf. `program` is the path of the program; `workers`, `context`, `roots`
-    and `coef` are options of the program. `progress=False` turns off the bars that tell how far a long list was read.
-
-    A word is a text as the program reads it ("2132", "10.9.10", "e"), or a list or tuple of ints. Elements are tuples of
-    ints, the letters of the normal form. A question that the program refuses raises a `Refusal`. For long lists there are
-    two methods: one gives the whole list, and the other, whose name begins with `iter_`, an iterator that reads the items
-    when they are taken.
+    A word is a text as the program reads it ("2132", "10.9.10", "e"), a list or tuple of ints, or an element of such a group
+    in Sage. Elements are tuples of ints, the letters of the normal form. A question that the program refuses raises a
+    `Refusal`. For long lists there are two methods: one gives the whole list, and the other, whose name begins with `iter_`,
+    an iterator that reads the items when they are taken.
 
     The program is started with the first question, and ended by `close`, by the end of a `with` block, or with the object.
     """
 
     def __init__(self, kind, rank=None, *, program=None, progress=None, **options):
-        self.line, self.rank = texts.group_line(kind, rank)
+        given = kinds.read(kind, rank)
+        self.line, self._matrix, self._nodes = given
+        self.rank = len(self._matrix)
         self.program = Program(program, group=self.line, **options)
+        self._letters = range(1, self.rank + 1)
         self._spelling = texts.Spelling(self.rank)
         self._progress = progress
+        # What is worked out once: the longest element, the reflections, and cosets for random elements.
+        self._long = self._reflections = self._cosets = None
+        # The group of Sage, and the one that elements came from last.
+        self._sage_group = kind if hasattr(kind, "from_reduced_word") else None
+        self._parent = self._parent_letters = None
 
     def __repr__(self):
         words = self.line.split(" ")
         return f'CoxeterGroup("{words[1]}", {words[2]})' if words[0] == "type" else f'CoxeterGroup("{self.line}")'
 
+    def __eq__(self, other):
+        return self._matrix == other._matrix if isinstance(other, CoxeterGroup) else NotImplemented
+
+    def __hash__(self):
+        return hash(self._matrix)
+
     def __reduce__(self):
-        return again, (self.line, self.program.path, self._progress, self.program.options)
+        return again, (self.line, self._nodes, self.program.path, self._progress, self.program.options)
 
     def __enter__(self):
         return self
@@ -53,156 +70,312 @@ class CoxeterGroup:
     def __exit__(self, *_):
         self.close()
 
+    def _latex_(self):
+        """The text for LaTeX.
+
+        >>> CoxeterGroup("A", 3)._latex_(), CoxeterGroup("a", 3)._latex_()
+        ('A_{3}', '\\\\tilde{A}_{3}')
+        """
+        words = self.line.split(" ")
+        if words[0] == "matrix":
+            rows = ((r"\infty" if it == float("inf") else str(it) for it in row) for row in self._matrix)
+            return r"\begin{pmatrix}" + r"\\".join(map("&".join, rows)) + r"\end{pmatrix}"
+        letter = r"\tilde{A}" if words[1] == "a" else words[1]
+        return f"{letter}_{{{words[2]}}}"
+
+    def _repr_latex_(self):
+        return f"${self._latex_()}$"
+
     def close(self):
         """Ends the program. Another question would start it again."""
         self.program.close()
 
     def text(self, word):
-        """A word as the program writes it."""
-        return self._spelling.write(word)
+        """A word as the program writes it.
+
+        >>> CoxeterGroup("A", 3).text([2, 1, 3, 2]), CoxeterGroup("A", 10).text([10, 9]), CoxeterGroup("A", 3).text([])
+        ('2132', '10.9', 'e')
+        """
+        return self._spelling.write(self._of_sage(word) if hasattr(word, "reduced_word") else word)
+
+    def set_text(self, letters):
+        """A set of letters as the program writes it.
+
+        >>> CoxeterGroup("A", 3).set_text((1, 3)), CoxeterGroup("A", 3).set_text(())
+        ('13', '-')
+        """
+        return self._spelling.write(letters) if letters else "-"
 
     # ---- elements
 
     def normal_form(self, w):
-        """The element of a word: its ShortLex normal form."""
+        """The element of a word: its ShortLex normal form.
+
+        >>> CoxeterGroup("A", 3).normal_form("2312")
+        (2, 1, 3, 2)
+        """
         return self._one(self._spelling.element, "compute", w)
 
     def length(self, w):
-        """The length of an element."""
+        """The length of an element.
+
+        >>> CoxeterGroup("A", 3).length("23122")
+        3
+        """
         return self._one(texts.number, "length", w)
 
     def inverse(self, w):
-        """The inverse of an element."""
+        """The inverse of an element.
+
+        >>> CoxeterGroup("A", 3).inverse("123")
+        (3, 2, 1)
+        """
         return self._one(self._spelling.element, "inverse", w)
 
     def left_descents(self, w):
-        """The letters s with l(sw) < l(w)."""
+        """The letters s with l(sw) < l(w).
+
+        >>> CoxeterGroup("A", 3).left_descents("132")
+        (1, 3)
+        """
         return self.descents(w)[0]
 
     def right_descents(self, w):
-        """The letters s with l(ws) < l(w)."""
+        """The letters s with l(ws) < l(w).
+
+        >>> CoxeterGroup("A", 3).right_descents("132")
+        (2,)
+        """
         return self.descents(w)[1]
 
     def descents(self, w):
-        """The left and the right descents."""
+        """The left and the right descents.
+
+        >>> CoxeterGroup("A", 3).descents("132")
+        ((1, 3), (2,))
+        """
         return self._one(self._read_descents, "descent", w)
 
     # ---- Bruhat order
 
     def bruhat_le(self, y, w):
-        """Whether y <= w in Bruhat order."""
+        """Whether y <= w in Bruhat order.
+
+        >>> W = CoxeterGroup("A", 3)
+        >>> W.bruhat_le("13", "123"), W.bruhat_le("31", "32")
+        (True, False)
+        """
         return self._one(texts.truth, "inorder", y, w)
 
     def bruhat_interval(self, y, w):
-        """The list of the x with y <= x <= w, in ShortLex order."""
+        """The list of the x with y <= x <= w, in ShortLex order.
+
+        >>> CoxeterGroup("A", 3).bruhat_interval("12", "1232")
+        [(1, 2), (1, 2, 3), (1, 3, 2), (1, 2, 3, 2)]
+        """
         return list(self.iter_bruhat_interval(y, w))
 
     def iter_bruhat_interval(self, y, w):
-        """The x with y <= x <= w, in ShortLex order."""
+        """The x with y <= x <= w, in ShortLex order.
+
+        >>> next(CoxeterGroup("A", 3).iter_bruhat_interval("12", "1232"))
+        (1, 2)
+        """
         return self._list(self._spelling.element, "interval", y, w)
 
     def coatoms(self, w):
-        """The list of the x <= w of length l(w) - 1, in ShortLex order."""
+        """The list of the x <= w of length l(w) - 1, in ShortLex order.
+
+        >>> CoxeterGroup("A", 3).coatoms("123")
+        [(1, 2), (1, 3), (2, 3)]
+        """
         return list(self._list(self._spelling.element, "coatoms", w))
 
     def hasse_diagram(self, y, w):
-        """A dictionary from each x with y <= x <= w to the list of the elements of the interval that it covers."""
+        """A dictionary from each x with y <= x <= w to the list of the elements of the interval that it covers.
+
+        >>> CoxeterGroup("A", 3).hasse_diagram("1", "12")
+        {(1,): [], (1, 2): [(1,)]}
+        """
         members = dict.fromkeys(self.bruhat_interval(y, w))
-        return {x: [z for z in self.coatoms(x) if z in members] for x in members}
+        return HasseDiagram(self, {x: [z for z in self.coatoms(x) if z in members] for x in members})
 
     def betti_numbers(self, w):
-        """For each k from 0 to l(w) the number of the x <= w of length k."""
+        """For each k from 0 to l(w) the number of the x <= w of length k.
+
+        >>> CoxeterGroup("A", 3).betti_numbers("121321")
+        (1, 3, 5, 6, 5, 3, 1)
+        """
         return self._one(texts.numbers, "betti", w)
 
     def poincare_polynomial(self, w):
-        """The sum of q^l(x) over the x <= w."""
+        """The sum of q^l(x) over the x <= w.
+
+        >>> CoxeterGroup("A", 2).poincare_polynomial("121")
+        1+2q+2q^2+q^3
+        """
         return Polynomial(self.betti_numbers(w))
 
     # ---- polynomials
 
     def r_polynomial(self, y, w):
-        """The R-polynomial R(y, w)."""
+        """The R-polynomial R(y, w).
+
+        >>> CoxeterGroup("A", 2).r_polynomial("e", "121")
+        -1+2q-2q^2+q^3
+        """
         return self._one(Polynomial.read, "rpol", y, w)
 
     def kazhdan_lusztig_polynomial(self, y, w):
-        """The Kazhdan-Lusztig polynomial P(y, w), zero unless y <= w."""
+        """The Kazhdan-Lusztig polynomial P(y, w), zero unless y <= w.
+
+        >>> CoxeterGroup("A", 3).kazhdan_lusztig_polynomial("2", "2132")
+        1+q
+        """
         return self._one(Polynomial.read, "pol", y, w)
 
     def mu_coefficient(self, y, w):
-        """mu(y, w): the coefficient of P(y, w) in degree (l(w) - l(y) - 1) / 2, or 0 where that is no whole number."""
+        """mu(y, w): the coefficient of P(y, w) in degree (l(w) - l(y) - 1) / 2, or 0 where that is no whole number.
+
+        >>> W = CoxeterGroup("A", 3)
+        >>> W.mu_coefficient("2", "2132"), W.mu_coefficient("e", "2132")
+        (1, 0)
+        """
         return self._one(texts.whole_number, "mu", y, w)
 
     def kazhdan_lusztig_basis(self, w):
-        """A dictionary from each x <= w to P(x, w), in ShortLex order."""
-        return dict(self.iter_kazhdan_lusztig_basis(w))
+        """A dictionary from each x <= w to P(x, w), in ShortLex order.
+
+        >>> CoxeterGroup("A", 3).kazhdan_lusztig_basis("2132")["32"]
+        1
+        """
+        return ElementDict(self, self.iter_kazhdan_lusztig_basis(w), "polynomial")
 
     def iter_kazhdan_lusztig_basis(self, w):
-        """The pairs of an x <= w and P(x, w), in ShortLex order."""
+        """The pairs of an x <= w and P(x, w), in ShortLex order.
+
+        >>> next(CoxeterGroup("A", 3).iter_kazhdan_lusztig_basis("2132"))
+        ((), 1+q)
+        """
         return self._list(self._read_pair, "klbasis", w)
 
     def extremal_pairs(self, w):
-        """The same as `kazhdan_lusztig_basis` for the x that have all left and right descents of w."""
-        return dict(self.iter_extremal_pairs(w))
+        """The same as `kazhdan_lusztig_basis` for the x that have all left and right descents of w.
+
+        >>> CoxeterGroup("A", 3).extremal_pairs("2132")
+        {(2,): 1+q, (1, 2, 1): 1, (2, 3, 2): 1, (2, 1, 3, 2): 1}
+        """
+        return ElementDict(self, self.iter_extremal_pairs(w), "polynomial")
 
     def iter_extremal_pairs(self, w):
-        """The same as `iter_kazhdan_lusztig_basis` for the x that have all left and right descents of w."""
+        """The same as `iter_kazhdan_lusztig_basis` for the x that have all left and right descents of w.
+
+        >>> next(CoxeterGroup("A", 3).iter_extremal_pairs("2132"))
+        ((2,), 1+q)
+        """
         return self._list(self._read_pair, "extremals", w)
 
     def intersection_betti_numbers(self, w):
         """The coefficients of the sum of q^l(x) P(x, w) over the x <= w: the even Betti numbers of intersection
-        cohomology of the Schubert variety of w, when there is one."""
+        cohomology of the Schubert variety of w, when there is one.
+
+        >>> CoxeterGroup("A", 3).intersection_betti_numbers("2132")
+        (1, 4, 6, 4, 1)
+        """
         return self._one(texts.numbers, "ihbetti", w)
 
     # ---- W-graphs and cells
 
     def W_graph(self, side="left"):
-        """The W-graph of a finite group, for the left or the right descents."""
-        graph = WGraph(side, self.iter_W_graph(side))
+        """The W-graph of a finite group, for the left or the right descents.
+
+        >>> graph = CoxeterGroup("A", 2).W_graph()
+        >>> graph["12"].edges
+        {(1,): 1, (2,): 1, (1, 2, 1): 1}
+        """
+        graph = WGraph(self, side, self.iter_W_graph(side))
+        edges = {x: dict(vertex.edges) for x, vertex in graph.vertices.items()}
         for x, vertex in graph.vertices.items():
             for y, value in vertex.edges.items():
-                if y not in graph.vertices or graph[y].edges.get(x) != value:
+                if edges.get(y, {}).get(x) != value:
                     why = f"the edge from {self.text(x)} to {self.text(y)} is not an edge back"
                     self.program.unexpected(f"{side[0]}wgraph", vertex, why)
         return graph
 
     def iter_W_graph(self, side="left"):
-        """The vertices of the W-graph, in ShortLex order."""
+        """The vertices of the W-graph, in ShortLex order.
+
+        >>> next(CoxeterGroup("A", 2).iter_W_graph())
+        Vertex(element=(), descents=(), edges={(1,): 1, (2,): 1})
+        """
         if side not in SIDES:
             raise ValueError(f"the side is left or right, not {side!r}")
         return self._list(self._read_vertex, f"{side[0]}wgraph")
 
     def left_cells(self):
-        """The list of the left cells of a finite group, each the list of its elements."""
-        return list(self.iter_left_cells())
+        """The list of the left cells of a finite group, each the list of its elements.
+
+        >>> CoxeterGroup("A", 2).left_cells()
+        [[()], [(1,), (2, 1)], [(2,), (1, 2)], [(1, 2, 1)]]
+        """
+        return Cells(self, self.iter_left_cells())
 
     def iter_left_cells(self):
-        """The left cells."""
+        """The left cells.
+
+        >>> next(CoxeterGroup("A", 2).iter_left_cells())
+        [()]
+        """
         return self._list(self._read_cell, "lcells")
 
     def right_cells(self):
-        """The list of the right cells of a finite group, each the list of its elements."""
-        return list(self.iter_right_cells())
+        """The list of the right cells of a finite group, each the list of its elements.
+
+        >>> CoxeterGroup("A", 2).right_cells()
+        [[()], [(1,), (1, 2)], [(2,), (2, 1)], [(1, 2, 1)]]
+        """
+        return Cells(self, self.iter_right_cells())
 
     def iter_right_cells(self):
-        """The right cells."""
+        """The right cells.
+
+        >>> next(CoxeterGroup("A", 2).iter_right_cells())
+        [()]
+        """
         return self._list(self._read_cell, "rcells")
 
     def two_sided_cells(self):
-        """The list of the two-sided cells of a finite group, each the list of its elements."""
-        return list(self.iter_two_sided_cells())
+        """The list of the two-sided cells of a finite group, each the list of its elements.
+
+        >>> CoxeterGroup("A", 2).two_sided_cells()
+        [[()], [(1,), (2,), (1, 2), (2, 1)], [(1, 2, 1)]]
+        """
+        return Cells(self, self.iter_two_sided_cells())
 
     def iter_two_sided_cells(self):
-        """The two-sided cells."""
+        """The two-sided cells.
+
+        >>> next(CoxeterGroup("A", 2).iter_two_sided_cells())
+        [()]
+        """
         return self._list(self._read_cell, "lrcells")
 
     # ---- the rest
 
     def work(self, start, count):
-        """Makes so many rows of Kazhdan-Lusztig polynomials, of elements that follow from the start number."""
+        """Makes so many rows of Kazhdan-Lusztig polynomials, of elements that follow from the start number.
+
+        >>> CoxeterGroup("A", 1).work(7, 3)
+        Work(words=3, entries=3, degree=0, sum=3)
+        """
         return self._answer(self._read_work, f"work {operator.index(start)} {operator.index(count)}")
 
     def ask(self, line):
-        """The lines of the program's answer to any line but one that sets another group."""
+        """The lines of the program's answer to any line but one that sets another group.
+
+        >>> CoxeterGroup("A", 3).ask("interval 2 232")
+        ['4', '2', '23', '32', '232']
+        """
         if line.split()[:1] in (["type"], ["matrix"]):
             raise ValueError("the group of this object stays; make another object for another group")
         return self.program.ask(line)
@@ -210,13 +383,14 @@ class CoxeterGroup:
     # ---- questions and the shapes of answers
 
     def _line(self, command, words):
-        return " ".join([command, *map(self._spelling.write, words)])
+        return " ".join([command, *map(self.text, words)])
 
     def _one(self, read, command, *words):
         return self._answer(read, self._line(command, words))
 
     def _answer(self, read, line):
         """The answer of one line, read."""
+        self._watch()
         lines = self.program.ask(line)
         if len(lines) != 1:
             self.program.unexpected(line, lines, "one line should have come")
@@ -225,10 +399,15 @@ class CoxeterGroup:
     def _list(self, read, command, *words):
         """The items of a list, read."""
         line = self._line(command, words)
+        told = self._watch()
         items = Items(self, read, line)
-        if self._progress is None and progress.on_terminal() or self._progress:
-            return progress.shown(items, items.total, line)
-        return items
+        return progress.shown(items, items.total, line) if told else items
+
+    def _watch(self):
+        """Sees to it that it is told how long the next answer is awaited, and says whether it is."""
+        told = progress.can_show() if self._progress is None else self._progress
+        self.program.watch = progress.watch if told else None
+        return told
 
     def _read(self, read, line, text):
         try:
@@ -256,7 +435,7 @@ class CoxeterGroup:
             raise ValueError("its label is missing")
         edges = [texts.edge(self._spelling, it) for it in more[1:]]
         texts.check_rising([y for y, value in edges])
-        return Vertex(self._spelling.element(element), self._spelling.letter_set(more[0]), dict(edges))
+        return Vertex(self._spelling.element(element), self._spelling.letter_set(more[0]), ElementDict(self, edges, "mu"))
 
     def _read_work(self, text):
         words = text.split(" ")
@@ -300,40 +479,8 @@ class Items:
         return self.total - self._taken
 
 
-class WGraph:
-    """A W-graph. `vertices` is a dictionary from each element to its vertex, in ShortLex order."""
-
-    def __init__(self, side, vertices):
-        self.side = side
-        self.vertices = {vertex.element: vertex for vertex in vertices}
-
-    def __repr__(self):
-        return f"<the {self.side} W-graph with {len(self.vertices)} vertices>"
-
-    def __len__(self):
-        return len(self.vertices)
-
-    def __iter__(self):
-        return iter(self.vertices)
-
-    def __getitem__(self, element):
-        return self.vertices[element]
-
-    def edges(self):
-        """Each edge once: its two elements, the first in ShortLex order first, and its value."""
-        place = {element: at for at, element in enumerate(self.vertices)}
-        for element, vertex in self.vertices.items():
-            for other, value in vertex.edges.items():
-                if place[element] < place[other]:
-                    yield element, other, value
-
-    def sage(self):
-        """The same as a graph of Sage, whose labels of edges are their values. It needs Sage."""
-        from sage.all import Graph
-
-        return Graph([list(self.vertices), list(self.edges())], format="vertices_and_edges")
-
-
-def again(line, program, progress, options):
+def again(line, nodes, program, progress, options):
     """The group of these arguments, which pickle keeps of a group."""
-    return CoxeterGroup(line, program=program, progress=progress, **options)
+    group = CoxeterGroup(line, program=program, progress=progress, **options)
+    group._nodes = nodes
+    return group

@@ -18,19 +18,12 @@ CELLS = {
 
 def hasse(group, w, y=()):
     """The Hasse diagram of the interval from y to w in Bruhat order. Elements of equal length stand side by side."""
-    covers = group.hasse_diagram(y, w)
-    lines = ["rankdir=BT", "node [shape=plaintext]"]
-    for length in sorted({len(x) for x in covers}):
-        names = " ".join(f"{name(group, x)};" for x in covers if len(x) == length)
-        lines.append(f"{{ rank=same; {names} }}")
-    lines += [f"{name(group, z)} -- {name(group, x)}" for x, below in covers.items() for z in below]
-    return dot("hasse", lines)
+    return hasse_text(group.hasse_diagram(y, w))
 
 
 def w_graph(group, side="left"):
     """The W-graph for the left or the right descents. An edge with another value than 1 is labelled by it."""
-    graph = group.W_graph(side)
-    return dot("wgraph", [*(name(group, x) for x in graph), *edges(group, graph)])
+    return w_graph_text(group.W_graph(side))
 
 
 def cells(group, side="left"):
@@ -41,7 +34,26 @@ def cells(group, side="left"):
     lines = []
     for number, cell in enumerate(getattr(group, method)(), 1):
         lines.append(f"subgraph cluster_{number} {{ {' '.join(f'{name(group, x)};' for x in cell)} }}")
-    return dot("cells", lines + edges(group, group.W_graph(of_graph)))
+    return dot("cells", lines + edges(group.W_graph(of_graph)))
+
+
+def hasse_text(diagram):
+    """A Hasse diagram as a DOT text."""
+    group = diagram.group
+    lines = ["rankdir=BT", "node [shape=plaintext]"]
+    for length in sorted({len(x) for x in diagram}):
+        names = " ".join(f"{name(group, x)};" for x in diagram if len(x) == length)
+        lines.append(f"{{ rank=same; {names} }}")
+    return dot("hasse", lines + [f"{name(group, z)} -- {name(group, x)}" for x, z in diagram.edges()])
+
+
+def w_graph_text(graph):
+    """A W-graph as a DOT text. Descents are an attribute, and the second line of the label."""
+    lines = []
+    for x, vertex in graph.vertices.items():
+        text, descents = graph.group.text(x), graph.group.set_text(vertex.descents)
+        lines.append(f'"{text}" [descents="{descents}", label="{text}\\n{{{descents.strip("-")}}}"]')
+    return dot("wgraph", lines + edges(graph))
 
 
 def name(group, element):
@@ -49,11 +61,12 @@ def name(group, element):
     return f'"{group.text(element)}"'
 
 
-def edges(group, graph):
+def edges(graph):
     """The edges of a W-graph in DOT."""
     listed = []
     for x, y, value in graph.edges():
-        listed.append(f"{name(group, x)} -- {name(group, y)}" + (f" [label={value}]" if value != 1 else ""))
+        line = f"{name(graph.group, x)} -- {name(graph.group, y)}"
+        listed.append(line + (f" [label={value}]" if value != 1 else ""))
     return listed
 
 
@@ -81,3 +94,11 @@ def draw(text, kind):
     if ran.returncode:
         raise CoxeterError(f"dot failed: {ran.stderr.decode(errors='replace').strip()}")
     return ran.stdout
+
+
+def svg(text):
+    """What graphviz makes of a DOT text as SVG, None where it is not installed."""
+    if shutil.which("dot") is None:
+        return None
+    drawn = draw(text, "svg").decode("utf-8")
+    return drawn[drawn.index("<svg") :]

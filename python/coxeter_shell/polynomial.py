@@ -1,7 +1,10 @@
 """Polynomials in q with integer coefficients."""
 import functools
+import math
+import numbers
 import operator
 import re
+import sys
 
 # Words have at most 255 letters, so that the program writes no greater degree.
 MOST_DEGREE = 255
@@ -12,7 +15,12 @@ TERM = re.compile(r"([+-]?)([0-9]*)(q?)(?:\^([0-9]+))?")
 class Polynomial:
     """A polynomial in q. `coefficients` is the tuple of its coefficients by rising degree, without zeros at the end.
 
-    It is printed as the program prints it, and is equal to the list or tuple of its coefficients.
+    It is printed as the program prints it. It is equal to a number where it is constant, to the list or tuple of its
+    coefficients, and to a polynomial in q of Sage where Sage says so.
+
+    >>> p = Polynomial([1, 2, 0, 1])
+    >>> p, p.coefficients, p == [1, 2, 0, 1], Polynomial([1]) == 1
+    (1+2q+q^3, (1, 2, 0, 1), True, True)
     """
 
     __slots__ = ("coefficients",)
@@ -26,7 +34,11 @@ class Polynomial:
     @classmethod
     @functools.lru_cache(1 << 16)
     def read(cls, text):
-        """The polynomial of a text, written just as the program writes it. Another text is a ValueError."""
+        """The polynomial of a text, written just as the program writes it. Another text is a ValueError.
+
+        >>> Polynomial.read("1+2q").coefficients
+        (1, 2)
+        """
         listed, place = [], 0
         while place < len(text) and text != "0":
             term = TERM.match(text, place)
@@ -42,15 +54,172 @@ class Polynomial:
         return found
 
     def degree(self):
-        """The degree, -1 for the zero polynomial."""
+        """The degree, -1 for the zero polynomial.
+
+        >>> Polynomial([0, 0, 5]).degree(), Polynomial().degree()
+        (2, -1)
+        """
         return len(self.coefficients) - 1
 
+    def valuation(self):
+        """The least degree of a term, math.inf for the zero polynomial.
+
+        >>> Polynomial([0, 0, 5, 1]).valuation(), Polynomial().valuation()
+        (2, inf)
+        """
+        return next((degree for degree, it in enumerate(self.coefficients) if it), math.inf)
+
+    def coefficient(self, degree):
+        """The coefficient in this degree, 0 where there is no such term.
+
+        >>> p = Polynomial([1, 2])
+        >>> p.coefficient(1), p.coefficient(7), p.coefficient(-1)
+        (2, 0, 0)
+        """
+        degree = operator.index(degree)
+        return self.coefficients[degree] if 0 <= degree < len(self.coefficients) else 0
+
+    def __getitem__(self, degree):
+        """The same as `coefficient`. There are no negative degrees.
+
+        >>> Polynomial([1, 2])[1], Polynomial([1, 2])[7]
+        (2, 0)
+        """
+        if operator.index(degree) < 0:
+            raise IndexError("a polynomial has no negative degrees")
+        return self.coefficient(degree)
+
     def __call__(self, q):
-        """The value at q, which may be anything that is added to and multiplied by integers."""
+        """The value at q, which may be anything that is added to and multiplied by integers.
+
+        >>> p, q = Polynomial([1, 2]), Polynomial([0, 1])
+        >>> p(10), p(q * q)
+        (21, 1+2q^2)
+        """
         value = 0
         for coefficient in reversed(self.coefficients):
             value = value * q + coefficient
         return value
+
+    # ---- arithmetic
+
+    def __add__(self, other):
+        """The sum with a polynomial or an integer.
+
+        >>> Polynomial([1, 1]) + Polynomial([0, 0, 3]), 1 + Polynomial([0, 1]), Polynomial([1, 1]) - 1
+        (1+q+3q^2, 1+q, q)
+        """
+        if from_sage(other):
+            return self.sage() + other
+        more = terms(other)
+        if more is None:
+            return NotImplemented
+        size = range(max(len(self.coefficients), len(more)))
+        return Polynomial([self.coefficient(it) + (more[it] if it < len(more) else 0) for it in size])
+
+    __radd__ = __add__
+
+    def __sub__(self, other):
+        return self + -other if isinstance(other, (Polynomial, numbers.Number)) or from_sage(other) else NotImplemented
+
+    def __rsub__(self, other):
+        return -self + other
+
+    def __neg__(self):
+        return Polynomial([-it for it in self.coefficients])
+
+    def __pos__(self):
+        return self
+
+    def __mul__(self, other):
+        """The product with a polynomial or an integer.
+
+        >>> Polynomial([1, 1]) * Polynomial([1, -1]), 3 * Polynomial([1, 1])
+        (1-q^2, 3+3q)
+        """
+        if from_sage(other):
+            return self.sage() * other
+        factor = terms(other)
+        if factor is None:
+            return NotImplemented
+        product = [0] * (len(self.coefficients) + len(factor))
+        for degree, coefficient in enumerate(self.coefficients):
+            for place, it in enumerate(factor, degree):
+                product[place] += coefficient * it
+        return Polynomial(product)
+
+    __rmul__ = __mul__
+
+    def __pow__(self, exponent):
+        """A power, whose exponent is not negative.
+
+        >>> Polynomial([1, 1]) ** 3
+        1+3q+3q^2+q^3
+        """
+        exponent = operator.index(exponent)
+        if exponent < 0:
+            raise ValueError("the exponent is negative")
+        power = Polynomial([1])
+        for bit in bin(exponent)[2:]:
+            power = power * power * self if bit == "1" else power * power
+        return power
+
+    def __eq__(self, other):
+        if isinstance(other, Polynomial):
+            return self.coefficients == other.coefficients
+        if isinstance(other, (list, tuple)):
+            return list(self.coefficients) == list(other)
+        if isinstance(other, numbers.Number):
+            return len(self.coefficients) <= 1 and self.coefficient(0) == other
+        if from_sage(other):
+            return bool(self.sage() == other)
+        return NotImplemented
+
+    def __hash__(self):
+        # A constant is equal to a number. Other polynomials are equal to the tuples of their coefficients.
+        return hash(self.coefficients if len(self.coefficients) > 1 else self.coefficient(0))
+
+    def __bool__(self):
+        return bool(self.coefficients)
+
+    # There is no length: pandas and numpy would take a polynomial for a list.
+    def __iter__(self):
+        return iter(self.coefficients)
+
+    # ---- texts, and other programs
+
+    def __str__(self):
+        return self._written("q^{}".format)
+
+    __repr__ = __str__
+
+    def __format__(self, how):
+        """The text, laid out as a text is.
+
+        >>> f"{Polynomial([1, 1]):>6}|"
+        '   1+q|'
+        """
+        return format(str(self), how)
+
+    def _written(self, power):
+        text = ""
+        for degree, coefficient in enumerate(self.coefficients):
+            if coefficient:
+                unknown = ("", "q")[degree] if degree < 2 else power(degree)
+                number = "" if unknown and abs(coefficient) == 1 else abs(coefficient)
+                text += f"{'-' if coefficient < 0 else '+' if text else ''}{number}{unknown}"
+        return text or "0"
+
+    def _latex_(self):
+        """The text for LaTeX.
+
+        >>> Polynomial([1, 0, 2])._latex_()
+        '1+2q^{2}'
+        """
+        return self._written("q^{{{}}}".format)
+
+    def _repr_latex_(self):
+        return f"${self._latex_()}$"
 
     def sage(self, variable="q"):
         """The same as a polynomial of Sage over the integers. It needs Sage."""
@@ -58,38 +227,31 @@ class Polynomial:
 
         return PolynomialRing(ZZ, variable)(list(self.coefficients))
 
-    def __str__(self):
-        text = ""
-        for degree, coefficient in enumerate(self.coefficients):
-            if coefficient:
-                power = ("", "q")[degree] if degree < 2 else f"q^{degree}"
-                number = "" if power and abs(coefficient) == 1 else abs(coefficient)
-                text += f"{'-' if coefficient < 0 else '+' if text else ''}{number}{power}"
-        return text or "0"
+    def _sage_(self):
+        return self.sage()
 
-    __repr__ = __str__
-
-    def __eq__(self, other):
-        if isinstance(other, Polynomial):
-            return self.coefficients == other.coefficients
-        if isinstance(other, (list, tuple)):
-            return list(self.coefficients) == list(other)
-        return NotImplemented
-
-    def __hash__(self):
-        return hash(self.coefficients)
-
-    def __len__(self):
-        return len(self.coefficients)
-
-    def __iter__(self):
-        return iter(self.coefficients)
-
-    def __getitem__(self, degree):
-        return self.coefficients[degree]
+    def _polynomial_(self, ring):
+        # So does Sage make an element of one of its polynomial rings, as in ZZ['q'](p).
+        return ring(list(self.coefficients))
 
     def __setattr__(self, name, value):
         raise AttributeError("a polynomial can't be changed")
 
     def __reduce__(self):
         return Polynomial, (self.coefficients,)
+
+
+def terms(other):
+    """The coefficients of what a polynomial is added to or multiplied by, None for what it is not."""
+    if isinstance(other, Polynomial):
+        return other.coefficients
+    try:
+        return (operator.index(other),)
+    except TypeError:
+        return None
+
+
+def from_sage(value):
+    """Whether the value is an element of Sage, and no integer."""
+    module = sys.modules.get("sage.structure.element")
+    return module is not None and isinstance(value, module.Element) and not isinstance(value, numbers.Integral)

@@ -18,7 +18,8 @@ import urllib.parse
 import urllib.request
 import weakref
 
-from .errors import ProgramEnded, ProgramNotFound, Refusal, UnexpectedAnswer
+from . import parents
+from .errors import ProgramClosed, ProgramEnded, ProgramNotFound, Refusal, UnexpectedAnswer
 
 MARK = "\t"
 MARK_ANSWER = "error 19"
@@ -26,6 +27,10 @@ MARK_ANSWER = "error 19"
 # The most bytes that the program accepts: of a line, without its LF, and of its whole input.
 MOST_OF_LINE = 4096
 MOST_OF_INPUT = 16_777_216
+
+# The most letters of a word, and the most members of an interval where the option `context` says nothing else.
+MOST_OF_WORD = 255
+MOST_OF_CONTEXT = 1_048_576
 
 OPTIONS = ("workers", "context", "roots", "coef")
 
@@ -38,7 +43,14 @@ class Program:
 
     `group` is the `type` or `matrix` line that a new process begins with. `workers`, `context`, `roots`
     and `coef` are options of the program. The process is ended by `close`, at the end of a `with` block, and with the
-    object; if it ends otherwise, the next question starts a new one with the same group.
+    object; if it ends otherwise, the next question starts a new one with the same group. It is killed where Python ends
+    without having ended it.
+
+    `watch`, if it is set, is called with a question and the pipe that its answer comes from, before the first line is read.
+
+    >>> with Program(group="type A 3") as program:
+    ...     program.ask("coatoms 121")
+    ['2', '12', '21']
     """
 
     def __init__(self, path=None, *, group=None, **options):
@@ -48,6 +60,7 @@ class Program:
         self.path = path
         self.group = group
         self.options = {name: value for name, value in options.items() if value is not None}
+        self.watch = None
         self._lock = threading.RLock()
         self._process = self._end = self._owner = None
         self._sent = 0  # bytes
@@ -93,13 +106,16 @@ class Program:
                 self._begun = True
 
     def close(self):
-        """Ends the process."""
+        """Ends the process. What was not read of an answer is lost: its iterator raises ProgramClosed."""
         with self._lock:
             if self._process is None:
                 return
             if self.foreign():
                 self._process = self._unread = None
             elif self._unread is not None or not self._sure:
+                answer = self._unread and self._unread()
+                if answer is not None:
+                    answer.lost = "the program was ended by close()"
                 self._kill()
             else:
                 self._stop()
@@ -116,10 +132,11 @@ class Program:
 
     def _spawn(self):
         words = [find_program(self.path), *(f"--{name}={value}" for name, value in self.options.items())]
+        check_interpreter(words[0])
         pipes = {"stdin": subprocess.PIPE, "stdout": subprocess.PIPE}
         try:
             # In a session of its own it is not reached by a Ctrl-C that is meant for Python.
-            process = subprocess.Popen(words, start_new_session=True, **pipes)
+            process = parents.start(words, start_new_session=True, **pipes)
         except OSError as error:
             raise ProgramNotFound(f"the program {words[0]!r} can't be run: {error}") from error
         self._process, self._owner, self._sent, self._unread, self._begun = process, os.getpid(), 0, None, False
@@ -173,12 +190,14 @@ class Program:
             while self.read_line() is not None:
                 pass
 
-    def read_line(self):
+    def read_line(self, first=False):
         """The next line of the answer to the last question, None at its end."""
         if self._unread is None:
             return None
         question, self._sure = self._asked, False
         try:
+            if first and self.watch is not None:
+                self.watch(question, self._process.stdout)
             data = self._process.stdout.readline()
         except OSError as error:
             raise ProgramEnded(question, self._stop()) from error
@@ -220,10 +239,11 @@ class Answer:
         self._process = program._process
         self._kept = collections.deque()
         self._ended = False
+        self.lost = "the program was ended, since it failed or was interrupted"
 
     def begin(self):
         """Reads the first line, or raises the refusal."""
-        first = self._read()
+        first = self._read(first=True)
         if first is None:
             return
         if not first.startswith("error"):
@@ -236,13 +256,15 @@ class Answer:
             self._program.unexpected(self.line, lines, "a refusal should be one line, `error` and a number")
         raise Refusal(int(refused.group(1)), self.line)
 
-    def _read(self):
+    def _read(self, first=False):
         """The next line from the program, None at the end."""
         if self._ended:
             return None
+        if self._program.foreign():
+            self.lost = "the program belongs to the process that this one was forked from"
         if self._process is not self._program._process or self._program.foreign():
-            raise ProgramEnded(self.line, None)
-        line = self._program.read_line()
+            raise ProgramClosed(self.line, self.lost)
+        line = self._program.read_line(first)
         self._ended = line is None
         return line
 
@@ -271,6 +293,17 @@ def check_line(line):
     if words == ["quit"]:
         raise ValueError("`quit` ends the program before it answers: use close()")
     return words
+
+
+def check_interpreter(path):
+    """Sees to it that the interpreter is there which the first line of a script names: `setpriv` doesn't tell Python."""
+    try:
+        with open(path, "rb") as program:
+            words = program.readline(4096).split() if program.read(2) == b"#!" else []
+    except OSError:  # it may be run and not read
+        return
+    if words and not os.access(words[0], os.X_OK):
+        raise ProgramNotFound(f"the program {path!r} can't be run: there is no {os.fsdecode(words[0])}")
 
 
 def end(process, owner):

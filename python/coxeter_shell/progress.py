@@ -1,22 +1,43 @@
-"""How far a long list has been read, on standard error where that is a terminal."""
+"""How long an answer has been awaited and how far a long list has been read: on standard error, where that is a terminal or
+the output of a notebook's cell."""
+import select
 import sys
 import time
 
-# After how many seconds something is first shown, and how many are between two changes of it.
+# After how many seconds something is first shown of a list, and how many are between two changes of it.
 DELAY = 0.5
 PAUSE = 0.1
+
+# The same while the first line of an answer is awaited.
+WAIT = 1.0
+TICK = 1.0
+
+
+def watch(question, pipe):
+    """Waits until something comes from the pipe. Meanwhile a line tells for how long."""
+    begun, line = time.monotonic(), None
+    poll, wait = select.poll(), WAIT
+    poll.register(pipe, select.POLLIN)
+    try:
+        while not poll.poll(1000 * wait):
+            line = line or Line()
+            what = f"{short(question)}: computing" if question else "the program starts"
+            line.write(f"{what}, {time.monotonic() - begun:.0f} s")
+            wait = TICK
+    finally:
+        if line is not None:
+            line.close()
 
 
 def shown(items, total, what):
     """The items. While they are taken, a bar of `tqdm`, if that is installed, or a line tells how many they have been."""
-    what = what if len(what) <= 40 else what[:37] + "..."
     bar, due = None, time.monotonic() + DELAY
     count = told = 0
     try:
         for count, item in enumerate(items, 1):
             yield item
             if time.monotonic() >= due:
-                bar = bar or new_bar(total, what)
+                bar = bar or new_bar(total, short(what))
                 bar.update(count - told)
                 told, due = count, time.monotonic() + PAUSE
     finally:
@@ -30,26 +51,50 @@ def new_bar(total, what):
     try:
         from tqdm import tqdm
     except ImportError:
-        return Line(total, what)
+        return Count(total, what)
     return tqdm(total=total, desc=what, file=sys.stderr, leave=False)
 
 
-def on_terminal():
-    """Whether standard error is a terminal."""
-    return sys.stderr is not None and sys.stderr.isatty()
+def can_show():
+    """Whether standard error is a terminal, or is shown by a notebook."""
+    return sys.stderr is not None and sys.stderr.isatty() or in_notebook()
+
+
+def in_notebook():
+    """Whether this is the process behind a notebook."""
+    shell = "IPython" in sys.modules and sys.modules["IPython"].get_ipython()
+    return getattr(shell, "kernel", None) is not None
+
+
+def short(what):
+    """The start of a long question."""
+    return what if len(what) <= 40 else what[:37] + "..."
 
 
 class Line:
-    """A line that says how many items of how many were taken, and is wiped at the end."""
+    """A line that is written anew again and again, and is wiped at the end."""
+
+    def __init__(self):
+        self.width = 0
+
+    def write(self, text):
+        sys.stderr.write(f"\r{text.ljust(self.width)}")
+        sys.stderr.flush()
+        self.width = len(text)
+
+    def close(self):
+        # Notebooks don't know the sequence that clears a line of a terminal.
+        sys.stderr.write(f"\r{' ' * self.width}\r")
+        sys.stderr.flush()
+
+
+class Count(Line):
+    """A line that says how many items of how many were taken."""
 
     def __init__(self, total, what):
+        super().__init__()
         self.total, self.what, self.count = total, what, 0
 
     def update(self, more):
         self.count += more
-        sys.stderr.write(f"\r{self.what}: {self.count} of {self.total}")
-        sys.stderr.flush()
-
-    def close(self):
-        sys.stderr.write("\r\x1b[K")
-        sys.stderr.flush()
+        self.write(f"{self.what}: {self.count} of {self.total}")

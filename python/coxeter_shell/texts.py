@@ -1,7 +1,10 @@
-"""How the program writes words, sets of letters, elements and numbers. A text of another shape is a ValueError."""
-import math
+"""How the program writes words, sets of letters, elements and numbers, and texts for GAP.
+
+A text of the program that has another shape is a ValueError.
+"""
 import operator
 import re
+from numbers import Integral
 
 from .polynomial import Polynomial
 
@@ -77,43 +80,6 @@ def truth(text):
     return text == "true"
 
 
-def group_line(kind, rank):
-    """The line that sets a group, and the rank that the group has if the line is accepted.
-
-    `kind` is a letter of the types, a matrix as a list of lists, or, without a rank, the text of such a line: "A 3" or
-    "matrix 3 3 2 4".
-    """
-    if isinstance(kind, str):
-        words = kind.split() if rank is None else [kind, str(operator.index(rank))]
-        if words[:1] == ["type"]:
-            words.pop(0)
-        if words[:1] == ["matrix"] and len(words) > 1:
-            return " ".join(words), read_rank(words[1])
-        if len(words) == 2:
-            return f"type {words[0]} {words[1]}", read_rank(words[1]) + (words[0] == "a")
-        raise ValueError(f"{kind!r} is no group: write \"A 3\" or \"matrix 3 3 2 4\"")
-    if rank is not None:
-        raise ValueError("a matrix has its rank in it")
-    rows = [[label(it) for it in row] for row in kind]
-    size = range(len(rows))
-    if any(len(row) != len(rows) for row in rows):
-        raise ValueError("a Coxeter matrix has as many columns as rows")
-    if any(rows[s][s] != 1 for s in size) or any(rows[s][t] != rows[t][s] for s in size for t in size):
-        raise ValueError("a Coxeter matrix is symmetric, and has 1 on its diagonal")
-    labels = [str(rows[s][t]) for s in size for t in range(s + 1, len(rows))]
-    return " ".join(["matrix", str(len(rows)), *labels]), len(rows)
-
-
-def read_rank(text):
-    """The number in a line that sets a group, 0 for what the program will refuse."""
-    return int(text) if re.fullmatch("[0-9]{1,9}", text) else 0
-
-
-def label(it):
-    """A label of a Coxeter matrix as the program writes it: infinity, which Sage writes as -1, is 0."""
-    return 0 if it in (math.inf, -1) else operator.index(it)
-
-
 def before(x, y):
     """Whether x is before y in ShortLex order."""
     return (len(x), x) < (len(y), y)
@@ -140,15 +106,36 @@ def pair(spelling, text):
 
 
 def gap(value):
-    """Numbers, truth values, texts, polynomials and lists, tuples, sets and dictionaries of them as a text for GAP.
+    """Numbers, truth values, texts, polynomials, graphs, and lists, tuples, sets and dictionaries of them, as a text for GAP.
 
-    A polynomial becomes the list of its coefficients, and a dictionary the list of its pairs.
+    A polynomial becomes the list of its coefficients, a dictionary the list of its pairs, a W-graph the list of its edges,
+    and a set a set of GAP, which is a list that rises. What GAP has no such text for is a TypeError.
+
+    >>> gap([(2, 1), True, "a"]), gap({(): Polynomial([1, 2])})
+    ('[ [ 2, 1 ], true, "a" ]', '[ [ [ ], [ 1, 2 ] ] ]')
     """
     if isinstance(value, bool):
         return "true" if value else "false"
-    if isinstance(value, int):
-        return str(value)
+    if isinstance(value, Integral):
+        return str(int(value))
     if isinstance(value, str):
-        return f'"{value}"'
-    items = value.items() if isinstance(value, dict) else value
-    return f"[ {', '.join(map(gap, items))} ]" if len(value) else "[ ]"
+        return '"' + "".join(map(gap_character, value)) + '"'
+    if hasattr(value, "_gap_init_"):
+        # So do graphs of this package, and elements of Sage, say what they are for GAP.
+        return value._gap_init_()
+    if isinstance(value, Polynomial):
+        value = value.coefficients
+    elif isinstance(value, dict):
+        value = value.items()
+    elif isinstance(value, (set, frozenset)):
+        value = sorted(value)
+    elif not isinstance(value, (list, tuple)):
+        raise TypeError(f"there is no text for GAP of a {type(value).__name__}")
+    return f"[ {', '.join(map(gap, value))} ]" if len(value) else "[ ]"
+
+
+def gap_character(it):
+    """A character in a text of GAP."""
+    if it in '"\\':
+        return "\\" + it
+    return it if it.isprintable() else "".join(f"\\{byte:03o}" for byte in it.encode())

@@ -1,4 +1,5 @@
 """Groups: how they are given, how words are written, and known numbers of other groups than the symmetric ones."""
+import itertools
 import math
 import pickle
 import unittest
@@ -19,11 +20,50 @@ CELLS = [
 
 class Groups(unittest.TestCase):
     def test_types(self):
-        for arguments in (("A", 3), ("A 3",), ("type A 3",)):
+        for arguments in (("A", 3), ("A 3",), ("type A 3",), ("A3",), (["A", 3],), (("A", 3),)):
             with CoxeterGroup(*arguments) as group:
                 self.assertEqual((group.rank, repr(group)), (3, 'CoxeterGroup("A", 3)'))
                 self.assertEqual(group.normal_form("2312"), (2, 1, 3, 2))
-        self.assertEqual(CoxeterGroup("a", 4).rank, 5)
+        for arguments in (("a", 4), ("a 4",), ("a4",), (["A", 4, 1],)):
+            self.assertEqual((CoxeterGroup(*arguments).rank, CoxeterGroup(*arguments).line), (5, "type a 4"))
+        self.assertEqual((CoxeterGroup("C", 3).line, CoxeterGroup("matrix  2  4").line), ("type B 3", "matrix 2 4"))
+
+    def test_the_matrices_of_types(self):
+        """Bourbaki's diagrams say where the labels are, and the program's normal forms have these orders."""
+        for kind, labels in [
+            ("A 4", {(1, 2): 3, (2, 3): 3, (3, 4): 3}),
+            ("B 4", {(1, 2): 3, (2, 3): 3, (3, 4): 4}),
+            ("D 5", {(1, 2): 3, (2, 3): 3, (3, 4): 3, (3, 5): 3}),
+            ("E 6", {(1, 3): 3, (3, 4): 3, (4, 5): 3, (5, 6): 3, (2, 4): 3}),
+            ("E 8", {(1, 3): 3, (3, 4): 3, (4, 5): 3, (5, 6): 3, (2, 4): 3, (6, 7): 3, (7, 8): 3}),
+            ("F 4", {(1, 2): 3, (2, 3): 4, (3, 4): 3}),
+            ("G 2", {(1, 2): 6}),
+            ("a 1", {(1, 2): math.inf}),
+            ("a 3", {(1, 2): 3, (2, 3): 3, (3, 4): 3, (1, 4): 3}),
+        ]:
+            with self.subTest(kind), CoxeterGroup(kind) as group:
+                matrix = group.coxeter_matrix()
+                for s, t in itertools.product(range(1, group.rank + 1), repeat=2):
+                    label = 1 if s == t else labels.get((min(s, t), max(s, t)), 2)
+                    self.assertEqual(matrix[s - 1][t - 1], label)
+                    if s != t:
+                        words = [group.length([s, t] * k) for k in range(1, 8)]
+                        self.assertEqual(words.index(0) + 1 if 0 in words else math.inf, label)
+                self.assertEqual(CoxeterGroup(matrix), group)
+
+    def test_equality(self):
+        same = [CoxeterGroup(kind) for kind in ("B3", "C3", [[1, 3, 2], [3, 1, 4], [2, 4, 1]])]
+        same.append(CoxeterGroup("B", 3, context=5))
+        for group in same:
+            self.assertTrue(group == same[0] and hash(group) == hash(same[0]) and not group != same[0])
+        others = [CoxeterGroup("A3"), CoxeterGroup([[1, 4, 2], [4, 1, 3], [2, 3, 1]]), "B 3", None]
+        self.assertTrue(all(group != other for group in same for other in others))
+        self.assertEqual(len({*same, *others}), 5)
+
+    def test_latex(self):
+        matrix = r"$\begin{pmatrix}1&\infty\\\infty&1\end{pmatrix}$"
+        for kind, text in [("A 3", "$A_{3}$"), ("a 12", r"$\tilde{A}_{12}$"), ("matrix 2 0", matrix)]:
+            self.assertEqual(CoxeterGroup(kind)._repr_latex_(), text)
 
     def test_matrices(self):
         triangle = [[1, 3, 3], [3, 1, 3], [3, 3, 1]]
@@ -50,6 +90,9 @@ class Groups(unittest.TestCase):
             with self.assertRaises(TypeError):
                 CoxeterGroup(matrix)
         for kind in ("A", "", "A 3 4", "matrix"):
+            with self.assertRaises(ValueError):
+                CoxeterGroup(kind)
+        for kind in (["A"], ["A", 3, 2], ["B", 3, 1], ["A", 3, 1, 1]):
             with self.assertRaises(ValueError):
                 CoxeterGroup(kind)
         with self.assertRaises(ValueError):
@@ -120,10 +163,91 @@ class Groups(unittest.TestCase):
     def test_pickle(self):
         group = CoxeterGroup("B", 2, context=5)
         with group, pickle.loads(pickle.dumps(group)) as other:
-            self.assertEqual(repr(other), repr(group))
+            self.assertEqual((repr(other), other, other._nodes), (repr(group), group, group._nodes))
             self.assertEqual(other.normal_form("2121"), group.normal_form("2121"))
             with self.assertRaises(Refusal):
                 other.betti_numbers("1212")
+
+
+class Matrix:
+    """What the package asks of a Coxeter matrix of Sage."""
+
+    def __init__(self, nodes, labels):
+        self.nodes, self.labels = nodes, labels
+
+    def index_set(self):
+        return self.nodes
+
+    def __getitem__(self, pair):
+        return 1 if pair[0] == pair[1] else self.labels.get(frozenset(pair), 2)
+
+    def coxeter_matrix(self):
+        return self
+
+
+class Parent:
+    """What the package asks of a Coxeter group of Sage. Its elements know a reduced word."""
+
+    def __init__(self, matrix):
+        self.matrix = matrix
+
+    def coxeter_matrix(self):
+        return self.matrix
+
+    def from_reduced_word(self, word):
+        return Element(self, word)
+
+
+class Element:
+    def __init__(self, group, word):
+        self.group, self.word = group, word
+
+    def parent(self):
+        return self.group
+
+    def reduced_word(self):
+        return self.word
+
+
+def diagram(nodes, *edges):
+    return Matrix(nodes, {frozenset(edge[:2]): edge[2] for edge in edges})
+
+
+class OfSage(unittest.TestCase):
+    """Cartan types, Coxeter matrices, groups and elements of Sage, which objects stand in for here. See test_optional."""
+
+    def test_groups(self):
+        for matrix, line, nodes in [
+            (diagram((1, 2, 3), (1, 2, 3), (2, 3, 3)), "type A 3", (1, 2, 3)),
+            (diagram((1, 2, 3), (1, 2, 3), (2, 3, 4)), "type B 3", (1, 2, 3)),
+            (diagram((1, 2, 3), (1, 2, 4), (2, 3, 3)), "matrix 3 4 2 3", (1, 2, 3)),
+            (diagram((0, 1, 2), (0, 1, 3), (1, 2, 3), (0, 2, 3)), "type a 2", (1, 2, 0)),
+            (diagram((0, 1), (0, 1, -1)), "type a 1", (1, 0)),
+            (diagram((0, 1, 2), (0, 1, 4), (1, 2, 4)), "matrix 3 4 4 2", (1, 2, 0)),
+            (diagram((5, 3, 8), (5, 3, 3), (3, 8, 3)), "type A 3", (5, 3, 8)),
+        ]:
+            for kind in (matrix, Parent(matrix)):
+                with self.subTest(line), CoxeterGroup(kind) as group:
+                    self.assertEqual((group.line, group._nodes), (line, nodes))
+        with self.assertRaises(Refusal):
+            CoxeterGroup(diagram((1, 2, 3), (1, 2, 3), (2, 3, 5)))  # H 3
+        with CoxeterGroup("A", 3) as group:
+            self.assertEqual(CoxeterGroup(group), group)
+
+    def test_elements(self):
+        matrix = diagram((0, 1, 2), (0, 1, 3), (1, 2, 3), (0, 2, 3))
+        parent = Parent(matrix)
+        for kind in ("a 2", matrix, parent):
+            with CoxeterGroup(kind) as group:
+                self.assertEqual(group.text(Element(parent, [0, 1, 2])), "312")
+                self.assertEqual(group.normal_form(Element(parent, (1, 0, 1))), (1, 3, 1))
+                self.assertIn(Element(parent, [0]), group.kazhdan_lusztig_basis("31"))
+        with CoxeterGroup(parent) as group:
+            made = group.sage_element("313")
+            self.assertEqual((made.parent(), made.word, group.sage()), (parent, [1, 0, 1], parent))
+            self.assertEqual(group.normal_form(made), (1, 3, 1))
+        with CoxeterGroup("A", 3) as group, self.assertRaises(ValueError):
+            group.length(Element(parent, [1]))
 
 
 if __name__ == "__main__":

@@ -23,13 +23,13 @@ HASSE = """graph hasse {
 }
 """
 
-W_GRAPH = """graph wgraph {
-  "e"
-  "1"
-  "2"
-  "12"
-  "21"
-  "121"
+W_GRAPH = r"""graph wgraph {
+  "e" [descents="-", label="e\n{}"]
+  "1" [descents="1", label="1\n{1}"]
+  "2" [descents="2", label="2\n{2}"]
+  "12" [descents="1", label="12\n{1}"]
+  "21" [descents="2", label="21\n{2}"]
+  "121" [descents="12", label="121\n{12}"]
   "e" -- "1"
   "e" -- "2"
   "1" -- "12"
@@ -143,7 +143,9 @@ class Pictures(unittest.TestCase):
         with CoxeterGroup("B", 3) as group:
             for text in (pictures.hasse(group, "12321"), pictures.w_graph(group), pictures.cells(group)):
                 drawn = pictures.draw(text, "svg").decode()
-                self.assertEqual(len(re.findall('class="node"', drawn)), len(set(re.findall('"([0-9e]+)"', text))))
+                nodes = set(re.findall('^  (?:{ rank=same; |subgraph cluster_[0-9]+ { )?"([0-9e]+)"', text, re.M))
+                nodes |= set(re.findall('"([0-9e]+)";', text))
+                self.assertEqual(len(re.findall('class="node"', drawn)), len(nodes))
                 self.assertEqual(len(re.findall('class="edge"', drawn)), text.count(" -- "))
                 self.assertEqual(len(re.findall('class="cluster"', drawn)), text.count("subgraph"))
             self.assertEqual(pictures.draw(text, "png")[:4], b"\x89PNG")

@@ -1,6 +1,8 @@
 """The process behind a group: when it starts and ends, many questions, and programs that do something wrong."""
+import concurrent.futures
 import gc
 import os
+import pickle
 import random
 import shutil
 import signal
@@ -15,7 +17,17 @@ import unittest.mock
 import coxeter_shell
 import fakes
 import reference
-from coxeter_shell import CoxeterGroup, Program, ProgramEnded, ProgramError, ProgramNotFound, Refusal, UnexpectedAnswer
+from coxeter_shell import (
+    CoxeterGroup,
+    Program,
+    ProgramClosed,
+    ProgramEnded,
+    ProgramError,
+    ProgramNotFound,
+    Refusal,
+    UnexpectedAnswer,
+    parents,
+)
 
 PACKAGE = os.path.dirname(coxeter_shell.__file__)
 
@@ -98,6 +110,53 @@ class Life(unittest.TestCase):
             self.assertFalse(alive(pid))
             self.assertLess(time.monotonic() - begun, 2)
 
+    @unittest.skipUnless(parents.tie(), "there is no setpriv")
+    def test_ended_with_python_while_it_computes(self):
+        """Python is killed while the program computes and reads nothing. The program was started by the first thread, by
+        another one, or in a forked process."""
+        asks = "coxeter_shell.CoxeterGroup('A', 3, program=sys.argv[1]).length('1')\n"
+        for start in (
+            asks,
+            f"threading.Thread(target=lambda: {asks.strip()}).start()\n",
+            f"if os.fork() == 0: {asks.strip()}\n",
+            f"if os.fork() == 0: threading.Thread(target=lambda: {asks.strip()}).start()\n",
+        ):
+            with self.subTest(start), fakes.Fakes() as folder, tempfile.TemporaryDirectory() as told:
+                path = os.path.join(told, "pids")
+                slow = folder.fake(f'open({path!r}, "w").write(f"{{os.getpid()}} {{os.getppid()}} "); time.sleep(100)')
+                source = f"import coxeter_shell, os, sys, threading, time\n{start}time.sleep(100)"
+                python = subprocess.Popen([sys.executable, "-c", source, slow])
+                end = time.monotonic() + 10
+                numbers = []
+                while len(numbers) < 2:
+                    self.assertLess(time.monotonic(), end)
+                    time.sleep(0.01)
+                    if os.path.exists(path):
+                        with open(path, encoding="ascii") as it:
+                            numbers = it.read().split(" ")[:-1]
+                pid, parent = map(int, numbers)
+                self.assertTrue(alive(pid))
+                os.kill(parent, signal.SIGKILL)
+                self.assertTrue(gone(pid))
+                python.kill()
+                python.wait()
+
+    def test_without_setpriv(self):
+        with unittest.mock.patch.object(parents, "tie", lambda: ()), CoxeterGroup("A", 3) as group:
+            self.assertEqual(group.length("12"), 2)
+
+    def test_kept_when_its_thread_ends(self):
+        with CoxeterGroup("A", 3) as group:
+            for _ in range(3):
+                thread = threading.Thread(target=group.length, args=("12",))
+                thread.start()
+                thread.join()
+                pid = pid_of(group)
+                time.sleep(0.1)
+                self.assertTrue(alive(pid))
+                self.assertEqual((group.length("123"), pid_of(group)), (3, pid))
+                group.close()
+
     def test_in_a_session_of_its_own(self):
         with CoxeterGroup("A", 3) as group:
             group.length("1")
@@ -159,7 +218,7 @@ class Life(unittest.TestCase):
             if not child:
                 try:
                     list(cells)
-                except ProgramEnded:
+                except ProgramClosed:
                     answer = "".join(str(group.length("123"[:k])) for k in (1, 2, 3))
                     os.write(write, answer.encode())
                 finally:
@@ -240,6 +299,8 @@ class Finding(unittest.TestCase):
                 out.write(b"#!/nowhere\n")
             with self.assertRaises(ProgramNotFound):
                 CoxeterGroup("A", 3, program=path).length("1")
+            with concurrent.futures.ThreadPoolExecutor() as pool, self.assertRaises(ProgramNotFound):
+                pool.submit(CoxeterGroup("A", 3, program=path).length, "1").result()
 
 
 class Many(unittest.TestCase):
@@ -313,9 +374,13 @@ class Many(unittest.TestCase):
                 self.assertEqual(group.length("12"), 2)
             self.assertEqual(pid_of(group), pid)
             third = group.iter_left_cells()
+            next(third)
             group.close()
-            with self.assertRaises(ProgramEnded):
+            with self.assertRaises(ProgramClosed) as caught:
                 list(third)
+            said = "the rest of the answer to 'lcells' can't be read: the program was ended by close()"
+            self.assertEqual(str(caught.exception), said)
+            self.assertEqual(str(pickle.loads(pickle.dumps(caught.exception))), str(caught.exception))
             self.assertEqual(group.length("12"), 2)
             with self.assertRaises(ProgramEnded):
                 list(third)

@@ -4,7 +4,12 @@ import pty
 import subprocess
 import sys
 import tempfile
+import types
 import unittest
+import unittest.mock
+
+import fakes
+from coxeter_shell import progress
 
 SOURCE = """
 import sys
@@ -61,9 +66,9 @@ class Progress(unittest.TestCase):
     def test_a_line(self):
         said = self.run_on(True)
         self.assertTrue(said.startswith("\rlcells: 1 of 10\rlcells: 2 of 10\r"))
-        for last in ("\rlcells: 10 of 10\r\x1b[K", "\rklbasis 2132: 14 of 14\r\x1b[K", "\rlwgraph: 24 of 24\r\x1b[K"):
-            self.assertIn(last, said)
-        self.assertTrue(said.endswith("\rrcells: 2 of 10\r\x1b[K"))
+        for last in ("lcells: 10 of 10", "klbasis 2132: 14 of 14", "lwgraph: 24 of 24"):
+            self.assertIn(f"\r{last}\r{' ' * len(last)}\r", said)
+        self.assertTrue(said.endswith(f"\rrcells: 2 of 10\r{' ' * len('rcells: 2 of 10')}\r"))
 
     def test_nothing_where_it_is_quick(self):
         self.assertEqual(self.run_on(True, delay=100), "")
@@ -78,6 +83,31 @@ class Progress(unittest.TestCase):
     def test_tqdm(self):
         said = self.run_on(True, tqdm=TQDM)
         self.assertEqual(said, "[lcells 10 10][klbasis 2132 14 14][lwgraph 24 24][rcells 10 2]")
+
+    def test_while_the_first_line_is_awaited(self):
+        """A stand-in takes its time before it answers, and then between two lines of a list."""
+        source = """
+import sys
+from coxeter_shell import CoxeterGroup, progress
+progress.WAIT, progress.TICK, progress.DELAY = 0.1, 0.2, 100
+with CoxeterGroup("A", 2, program=sys.argv[1], progress=True) as group:
+    print(len(group.left_cells()), group.length("12"))
+"""
+        with fakes.Fakes() as folder:
+            slow = folder.fake('time.sleep(0.6)\nsay(*(["1", "e 1"] if line == "lcells" else ["7"]))')
+            ran = subprocess.run([sys.executable, "-c", source, slow], capture_output=True, check=True)
+        self.assertEqual(ran.stdout, b"1 7\n")
+        said = ran.stderr.decode()
+        start, one = r"^((\rthe program starts, [0-9] s)+\r +\r)?", r"(\r{0}: computing, [0-9] s){{2,}}\r +\r"
+        self.assertRegex(said, f"{start}{one.format('lcells')}{one.format('length 12')}$")
+
+    def test_in_a_notebook(self):
+        shell = types.SimpleNamespace()
+        stub = types.SimpleNamespace(get_ipython=lambda: shell)
+        with unittest.mock.patch.dict(sys.modules, {"IPython": stub}):
+            self.assertFalse(progress.in_notebook())
+            shell.kernel = object()
+            self.assertTrue(progress.in_notebook() and progress.can_show())
 
 
 if __name__ == "__main__":

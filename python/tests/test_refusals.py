@@ -53,15 +53,21 @@ class Refusals(unittest.TestCase):
             (12, ("A", -1)),
             (12, ([[0 if s != t else 1 for s in range(17)] for t in range(17)],)),
             (12, ([],)),
+            (12, ("matrix 17",)),
+            (12, ("matrix 2 x",)),
+            (11, ("matrix 3 3 2",)),
+            (13, ("H3",)),
+            (13, (["I", 2],)),
+            (13, ("D", 3)),
+            (13, ("E", 9)),
             (13, ("A", 17)),
             (13, ("H", 3)),
             (13, ("a", 16)),
             (13, ("AB", 3)),
             (14, ([[1, 5], [5, 1]],)),
         ]:
-            with self.subTest(kind=kind), CoxeterGroup(*kind) as group:
-                for _ in range(2):
-                    self.refused(number, group.length, "e")
+            with self.subTest(kind=kind):
+                self.refused(number, CoxeterGroup, *kind)
         with CoxeterGroup("A", 4, roots=9) as group:
             self.refused(21, group.length, "e")
         with CoxeterGroup("A", 3, context=23) as group:

@@ -1,0 +1,128 @@
+"""Tables: what is answered for many elements at once, for files, pandas and notebooks."""
+import csv
+import html
+import io
+import itertools
+
+# So many rows of a table are shown in a notebook.
+MOST_SHOWN = 60
+
+
+class Table:
+    """What has rows. `columns` are their names, `rows` gives them, and `group` is the group of the elements in them."""
+
+    __slots__ = ()
+
+    columns = ()
+
+    def rows(self):
+        """The rows, as tuples of Python's values."""
+        raise NotImplementedError
+
+    def texts(self):
+        """The rows as texts: an element as the program writes it."""
+        for row in self.rows():
+            yield tuple(self.group.text(it) if isinstance(it, tuple) else str(it) for it in row)
+
+    def to_csv(self, file=None):
+        """Writes the rows as CSV, with a line of the names before them. `file` is a path or an open file; without it the
+        text is given.
+
+        >>> print(CoxeterGroup("A", 2).kazhdan_lusztig_basis("12").to_csv(), end="")
+        element,polynomial
+        e,1
+        1,1
+        2,1
+        12,1
+        """
+        if file is None:
+            made = io.StringIO()
+            self.to_csv(made)
+            return made.getvalue()
+        if not hasattr(file, "write"):
+            with open(file, "w", encoding="ascii", newline="") as out:
+                return self.to_csv(out)
+        lines = csv.writer(file, lineterminator="\n")
+        lines.writerow(self.columns)
+        lines.writerows(self.texts())
+        return None
+
+    def to_frame(self):
+        """The rows as a DataFrame of pandas, in which elements are tuples. It needs pandas."""
+        import pandas
+
+        return pandas.DataFrame(list(self.rows()), columns=list(self.columns))
+
+    def _repr_html_(self):
+        """The first rows as a table, for notebooks."""
+        shown = list(itertools.islice(self.texts(), MOST_SHOWN + 1))
+        more = sum(1 for _ in self.rows()) - MOST_SHOWN if len(shown) > MOST_SHOWN else 0
+        lines = [html_row("th", self.columns), *(html_row("td", row) for row in shown[:MOST_SHOWN])]
+        if more:
+            lines.append(f'<tr><td colspan="{len(self.columns)}">and {more:,} more</td></tr>')
+        return "\n".join(["<table>", *lines, "</table>"])
+
+
+def html_row(tag, texts):
+    return "<tr>" + "".join(f"<{tag}>{html.escape(it)}</{tag}>" for it in texts) + "</tr>"
+
+
+class ElementDict(Table, dict):
+    """A dictionary whose keys are elements. Any word of an element finds its value: the program says which element it is.
+
+    >>> basis = CoxeterGroup("A", 3).kazhdan_lusztig_basis("2132")
+    >>> basis[2, 1, 3, 2], basis["2312"], "21" in basis, "123" in basis
+    (1, 1, True, False)
+    """
+
+    __slots__ = ("group", "value")
+
+    def __init__(self, group, items=(), value="value"):
+        super().__init__(items)
+        self.group = group
+        self.value = value
+
+    @property
+    def columns(self):
+        return "element", self.value
+
+    def rows(self):
+        return iter(self.items())
+
+    def __getitem__(self, word):
+        return dict.__getitem__(self, self._key(word))
+
+    def __contains__(self, word):
+        return dict.__contains__(self, self._key(word))
+
+    def get(self, word, default=None):
+        return dict.get(self, self._key(word), default)
+
+    def _key(self, word):
+        if isinstance(word, tuple) and dict.__contains__(self, word):
+            return word
+        return self.group.normal_form(word)
+
+    def __reduce__(self):
+        return type(self), (self.group, dict(self), self.value)
+
+
+class Cells(Table, list):
+    """The cells of a group: a list of lists of elements.
+
+    >>> CoxeterGroup("A", 2).left_cells()
+    [[()], [(1,), (2, 1)], [(2,), (1, 2)], [(1, 2, 1)]]
+    """
+
+    columns = "cell", "element"
+
+    def __init__(self, group, cells=()):
+        super().__init__(cells)
+        self.group = group
+
+    def rows(self):
+        """The number of the cell, counted from 1, and an element of it."""
+        return ((number, element) for number, cell in enumerate(self, 1) for element in cell)
+
+    def __reduce__(self):
+        return Cells, (self.group, list(self))

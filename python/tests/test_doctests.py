@@ -1,0 +1,36 @@
+"""The examples beside the methods."""
+import doctest
+import importlib
+import pkgutil
+import unittest
+
+import coxeter_shell
+
+# A program runs when this one is imported.
+PROGRAMS = ("__main__",)
+
+
+def load_tests(_, tests, __):
+    for module in pkgutil.iter_modules(coxeter_shell.__path__):
+        if module.name not in PROGRAMS:
+            found = importlib.import_module(f"coxeter_shell.{module.name}")
+            names = {name: getattr(coxeter_shell, name) for name in coxeter_shell.__all__}
+            tests.addTests(doctest.DocTestSuite(found, extraglobs=names))
+    return tests
+
+
+class Examples(unittest.TestCase):
+    def test_each_method_has_one(self):
+        for kind in (coxeter_shell.CoxeterGroup, coxeter_shell.Polynomial, coxeter_shell.WGraph, coxeter_shell.HasseDiagram):
+            for name in dir(kind):
+                method = getattr(kind, name)
+                if not name.startswith("_") and callable(method) and not hasattr(dict, name) and name not in EXEMPT:
+                    self.assertIn(">>> ", method.__doc__ or "", f"{kind.__name__}.{name}")
+
+
+# They need what may not be installed, or are what a table is made of.
+EXEMPT = ("sage", "sage_element", "networkx", "to_frame", "close", "rows", "texts", "dot", "layers", "iter_reduced_words")
+
+
+if __name__ == "__main__":
+    unittest.main()
