@@ -18,7 +18,8 @@ TOP = os.path.dirname(os.path.dirname(os.path.abspath(__file__)))
 
 # 'Builds' the program of the folder that it is run in: one that prints what the source said at the end of the build, its arguments,
 # and its input, and ends with 7, as `rt run` then does. It first does what a file `meanwhile` says, if there is one, and fails where
-# the source says so, or where it is run twice at once. Under `all` it writes down which crates it was to prove.
+# the source says so, or where it is run twice at once. Under `all` it writes down which crates it was to prove, and under `check` where
+# it was called, one line each.
 RT = b"""#!/bin/sh
 echo "stand-in works"
 for count; do :; done
@@ -27,9 +28,14 @@ case "$1 $2" in
   "all check")
     for folder in crates/*; do
       mkdir -p "$folder/out/rlib"
+      : >"$folder/out/rlib/stamp"
       echo "crate ${folder#crates/}: modules loaded=0"
     done
     cp crates.txt "${0%rt}proved" ;;
+  "check --jobs")
+    mkdir -p out/rlib
+    : >out/rlib/stamp
+    pwd >>"${0%rt}checked" ;;
   "run --jobs")
     name=${PWD##*/}
     mkdir ../building || exit 1
@@ -205,24 +211,32 @@ def failures(base):
 
 
 def crates(base):
-    """Proves crates that stand on few others side by side, and only those of the program."""
+    """Proves crates that stand on few others side by side, others beside the longest chain, and only those of the program."""
     here = Checkout(base)
     lines = [b"".join(b"low%d " % it for it in range(1, number)) for number in range(1, 8)]
     listed = b"".join(b"low%d: %b\n" % it for it in enumerate(lines, 1))
-    here.write(here.path(b"crates.txt"), b"# all\ncoxeter: low7 low2\n%bother: low1\n" % listed)
-    for crate in [b"other"] + [b"low%d" % number for number in range(1, 8)]:
+    here.write(here.path(b"crates.txt"), b"# all\ncoxeter: low7 low2 high\n%bhigh: low5 low4 low3 low2 low1\nother: low1\n" % listed)
+    for crate in [b"other", b"high"] + [b"low%d" % number for number in range(1, 8)]:
         here.source(b"//! Code.\n", crate, b"lib.rt")
     ran = here.run()
     check("a program of several crates", ran, 7, ONE, True)
     with open(os.path.join(here.tools, b"proved"), "rb") as proved:
         rows = proved.read().splitlines()
     say("what is proved side by side", sorted(it.split(b":")[0] for it in rows), [b"all", *(b"low%d" % it for it in range(1, 6))])
-    say("what came of it", [os.path.exists(here.path(b"crates/low%d/out/rlib" % it)) for it in range(1, 8)], [True] * 5 + [False] * 2)
-    say("no folder is left", os.path.exists(here.path(b"crates/coxeter/out/side_by_side")), False)
+    with open(os.path.join(here.tools, b"checked"), "rb") as checked:
+        places = [os.path.relpath(it, here.top) for it in checked.read().splitlines()]
+    say("the longest chain, in order", [it for it in places if b"out" not in it], [b"crates/low6", b"crates/low7"])
+    say("what is proved beside it", [it for it in places if b"out" in it], [b"crates/coxeter/out/beside/crates/high"])
+    say("the others wait for it", places.index(b"crates/low7"), 2)
+    names = [b"low%d" % it for it in range(1, 8)] + [b"high", b"other"]
+    say("what came of it", [os.path.exists(here.path(b"crates/%b/out/rlib/stamp" % it)) for it in names], [True] * 8 + [False])
+    for room in (b"side_by_side", b"beside"):
+        say("no folder is left", os.path.exists(here.path(b"crates/coxeter/out/" + room)), False)
     here.source(b"two")
     os.remove(os.path.join(here.tools, b"proved"))
+    os.remove(os.path.join(here.tools, b"checked"))
     check("another time", here.run(), 7, b"program of two:\ninput\n", True)
-    say("nothing is proved ahead then", os.path.exists(os.path.join(here.tools, b"proved")), False)
+    say("nothing is proved ahead then", [it for it in (b"proved", b"checked") if os.path.exists(os.path.join(here.tools, it))], [])
 
 
 def wait_for(path):
