@@ -3,7 +3,7 @@ ghost use Rattle.std.specs.Prelude.{◌≡◌, ◌<◌, ◌+◌, ◌-◌, ◌%�
 ghost use Rattle.counted_slot.specs.Counting.{readers};
 ghost use Rattle.cox_rowcell.specs.RowFor.{IsRowFor};
 
-use crate::tag::{Held, Tag};
+use crate::tag::{CellRow, Tag};
 use counted_slot::{Claim, Counted, FREE, MOST_READERS, ONE_READER, PRESENT, TAKEN};
 use cox_row::Row;
 use std::marker::Model;
@@ -14,7 +14,7 @@ use std::thread;
 /// A cell for the row of one member of a context. Contracts see its tag.
 #[derive(Drop)]
 pub struct RowCell {
-    slot: Counted<Option<Held>>,
+    slot: Counted<Option<CellRow>>,
 }
 
 impl Model for RowCell {
@@ -44,7 +44,7 @@ impl RowCell {
         for _ in rt.forever() {
             let (found, claim) = self.slot.turn(FREE, TAKEN);
             if found == FREE {
-                claim.put(Some(Held(row)), PRESENT);
+                claim.put(Some(CellRow(row)), PRESENT);
                 return;
             }
             claim.done();
@@ -109,7 +109,7 @@ fn can_be_read(word: u64) -> bool
 
 /// Lends the row of a cell, until it is let go.
 pub struct RowGuard<'a> {
-    pub(crate) claim: Claim<'a, Option<Held>>,
+    pub(crate) claim: Claim<'a, Option<CellRow>>,
     ghost reads: { claim.right ≡ 1 },
     ghost filled: { ∥ IsSomeAnd claim.value (λ x. IsSome x) ∥₁ },
 }

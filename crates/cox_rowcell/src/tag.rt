@@ -40,12 +40,12 @@ impl Tag {
 
 /// A row in a cell.
 #[derive(Drop)]
-pub(crate) struct Held(pub(crate) Row);
+pub(crate) struct CellRow(pub(crate) Row);
 
-impl Fits for Held {
+impl Fits for CellRow {
     ghost use Rattle.cox_rowcell.specs.RowFor.{IsRowFor};
 
     type Tag = Tag;
 
-    ghost fits = { λ tag held. IsRowFor tag held.0 };
+    ghost fits = { λ tag row. IsRowFor tag row.0 };
 }
