@@ -62,7 +62,7 @@ fn run<R: Threads + Wait + Sync, S: Source, K: Sink>(
 }
 
 /// Runs the shell with these arguments.
-fn run_with<R: Threads + Wait + Sync, S: Source, K: Sink>(
+fn run_arguments<R: Threads + Wait + Sync, S: Source, K: Sink>(
     rt: &R,
     alloc: Global,
     arguments: &[String],
@@ -92,7 +92,7 @@ fn start<R: Threads + Wait + Sync, E: Env, S: Source, K: Sink>(
         × IsReadBy result arguments (S.seen source.old).left (S.seen source.new).left }
 {
     match arguments_of(env, alloc, NAME) {
-        Ok(Some(arguments)) => run_with(rt, alloc, &arguments, source, sink),
+        Ok(Some(arguments)) => run_arguments(rt, alloc, &arguments, source, sink),
         Ok(None) => run(rt, alloc, &wrong_arguments(), source, sink),
         Err(_) => Status::NoMemory,
     }

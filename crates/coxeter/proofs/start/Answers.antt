@@ -4,7 +4,7 @@ use Rattle.cox_shell.proofs.WholeRuns.{run-none, read-none}
 use Rattle.coxeter.proofs.start.Goals as goal
 
 pub returns-in-Ok-Some : goal.returns-in-Ok-Some
-returns-in-Ok-Some g c = (_, c.run_with.ensures.run, c.run_with.ensures.reading)
+returns-in-Ok-Some g c = (_, c.run_arguments.ensures.run, c.run_arguments.ensures.reading)
 
 pub returns-in-Ok-None : goal.returns-in-Ok-None
 returns-in-Ok-None g c = (_, c.run.ensures.run, c.run.ensures.reading)

@@ -1,9 +1,9 @@
--- The proof of `run_with`: the texts are those of the arguments.
+-- The proof of `run_arguments`: the texts are those of the arguments.
 use Rattle.std.proofs.Common.{◌≡◌, map, ap, ◌∙◌}
 use Rattle.std.specs.String.{string_bytes}
 use Rattle.cox_shell.specs.Top.{argument_texts}
 use Rattle.cox_shell.proofs.WholeRuns.{run-none, read-none}
-use Rattle.coxeter.proofs.run_with.Goals as goal
+use Rattle.coxeter.proofs.run_arguments.Goals as goal
 
 pub returns-in-Ok-clause-run : goal.returns-in-Ok-clause-run
 returns-in-Ok-clause-run g c =
