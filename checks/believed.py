@@ -1,13 +1,13 @@
 #!/usr/bin/env python3
 """Which definitions the clauses of `run` unfold to: what a reader has to believe, beside the toolchain.
 
-    checks/believed.py [--list] [--kit KIT] [FUNCTION]
+    checks/believed.py [--list] [--kit KIT] [--clause NAME] [FUNCTION]
 
 It begins with the names in the clauses of FUNCTION (`run` if none is named) in crates/cox_shell/src/top.rt, and
 follows them through the `use` lines and definitions of crates/*/specs. For each file it prints how many lines those of
 its definitions have that are reached, and which are not reached; with `--list` also which are. Then come the types of
 the code that are reached, and the names of std and of the kit's crates. With `--kit`, the folder of the toolchain, the
-definitions of `clap` are followed too.
+definitions of `clap` are followed too. With `--clause` it begins with the clause of that name alone.
 
 Lines of a definition are those that are neither blank nor comment; `use` lines are not counted. It needs Python 3 alone.
 """
@@ -87,15 +87,18 @@ def specs(folders):
     return files
 
 
-def clauses(function):
-    """The file top.rt, and the text of the clauses of a function there."""
+def clauses(function, clause):
+    """The file top.rt, and the text of the clauses of a function there, or of the one with a name."""
     here = File(START)
     begin = re.search(rf"\bfn {function}\b", here.text)
     if not begin:
         sys.exit(f"{START} has no function {function}")
     head = here.text[begin.start() : here.text.index("\n{", begin.start())]
     head = re.sub(r"^\s*//.*$", "", head, flags=re.M)
-    return here, re.sub(r"\bensures\s+\w+\s*\{", "{", head[head.index("ensures") :])
+    named = re.findall(r"\bensures\s+(\w+)\s*(\{.*?)(?=\bensures\b|$)", head, re.S)
+    if clause and clause not in dict(named):
+        sys.exit(f"{function} has no clause {clause}")
+    return here, "\n".join(text for name, text in named if clause in (None, name))
 
 
 def names_in(text):
@@ -167,6 +170,7 @@ def main():
     words = argparse.ArgumentParser(description=__doc__.splitlines()[0])
     words.add_argument("--list", action="store_true", help="name the definitions that are reached")
     words.add_argument("--kit", help="the folder of the toolchain: follow the definitions of clap too")
+    words.add_argument("--clause", help="follow the clause of this name alone")
     words.add_argument("function", nargs="?", default="run", help="a function of top.rt (default: run)")
     words = words.parse_args()
     listed = words.list
@@ -175,7 +179,7 @@ def main():
     if words.kit:
         folders.append(os.path.join(words.kit, "rattle", "clap"))
     files = specs(folders)
-    reached, outside = follow(files, *clauses(words.function))
+    reached, outside = follow(files, *clauses(words.function, words.clause))
     total = commented = left = 0
     for path, file in files.items():
         if not reached[path]:

@@ -17,7 +17,8 @@ use Rattle.cox_base.specs.Members.{IsElement}
 use Rattle.cox_base.specs.SortedList.{IsListOf}
 use Rattle.cox_context.specs.Numbers.{word_at}
 use Rattle.cox_context.proofs.SortedLemmas.{IsListOf-unique}
-use Rattle.cox_print.specs.AnswerText.{head_text, edge_text, member_text, members_text, list_text}
+use Rattle.cox_print.specs.AnswerText.{head_text, edge_text, members_text, list_text}
+use Rattle.cox_print.specs.MemberText.{member_text}
 use Rattle.cox_wgraph.specs.declared.edge.Edge.{Edge}
 use Rattle.cox_wgraph.specs.Listing.{Joined, Vertex, AreVertices, AreJoined}
 use Rattle.cox_wgraph.specs.NumberedEdges.{joined_by, joined_of}

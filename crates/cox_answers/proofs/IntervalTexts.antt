@@ -6,7 +6,7 @@ use Rattle.cox_context.specs.Closed.{Elements}
 use Rattle.cox_answers.specs.declared.answers.unanswered.Unanswered.{Unanswered}
 use Rattle.cox_answers.specs.declared.answers.unanswered.Unanswered.TheVariants.{Refused, NoMemory}
 use Rattle.cox_answers.specs.Limits.{Limits}
-use Rattle.cox_answers.specs.InquiryQuestion.{RefusesLarge}
+use Rattle.cox_answers.specs.Listed.{RefusesLarge}
 use Rattle.cox_answers.specs.Putting.{PutsSome, PutsUnless, GivesInterval, unrefused}
 use Rattle.cox_answers.proofs.Unless.{large-allowed, PutsUnless-put}
 

@@ -1,6 +1,6 @@
 -- What a session keeps: intervals that are part of a context, and faults of rows as causes of a refusal.
 use Rattle.std.proofs.Common.{◌≡◌, ℕ, ◌≤◌, Bool, List, length, filter, Contains, Option, None, Some, inl, inr, refl, ap, ◌∙◌, Err}
-use Rattle.std.proofs.Common.{arith, ℤ, pos, ◌≤ℤ◌}
+use Rattle.std.proofs.Common.{arith, pos, ◌≤ℤ◌}
 use Rattle.std.proofs.lemmas.Int.{ints}
 use Rattle.std.proofs.lemmas.List.Sums.{length-filter, count_by-le-length}
 use Rattle.cox_base.specs.IntegerMatrix.{IntegerMatrix, integer_matrix}
@@ -34,7 +34,7 @@ use Rattle.cox_rows.proofs.RowsFaultLemmas.{fault-beyond}
 use Rattle.cox_answers.specs.Kept.{AreOf, IsMore, HoldsRow, Keeps, unanswered_by}
 use Rattle.cox_answers.specs.Limits.{Limits}
 use Rattle.cox_answers.specs.Question.{IsRefused}
-use Rattle.cox_answers.specs.InquiryQuestion.{RefusesLarge}
+use Rattle.cox_answers.specs.Listed.{RefusesLarge}
 use Rattle.cox_answers.specs.RowReply.{RefusesRow}
 
 -- a filtered list is no longer

@@ -18,14 +18,15 @@ use Rattle.cox_command.specs.declared.inquiry.TwoWord.{TwoWord}
 use Rattle.cox_command.specs.declared.inquiry.TwoWord.TheVariants.{Inorder, Interval, Rpol, Pol, Mu}
 use Rattle.cox_base.specs.Members.{IsInInterval}
 use Rattle.cox_base.specs.SortedList.{IsListOf}
-use Rattle.cox_base.specs.Interval.{IsBetween, IsCoatom, counts_by_length}
+use Rattle.cox_base.specs.Interval.{IsBetween, IsCoatom}
 use Rattle.cox_context.proofs.SortedLemmas.{IsListOf-unique}
 use Rattle.cox_context.proofs.IntervalLemmas.{is_below, is_below-tells, interval-exists, between-of, coatoms-of, interval-decided}
-use Rattle.cox_print.specs.AnswerText.{truth_text, numbers_text, elements_text}
+use Rattle.cox_print.specs.AnswerText.{truth_text, elements_text}
 use Rattle.cox_command.specs.declared.inquiry.Inquiry.{Inquiry}
 use Rattle.cox_command.specs.declared.inquiry.Inquiry.TheVariants.{One, Two, Plain, Work}
 use Rattle.cox_answers.specs.Limits.{Limits}
-use Rattle.cox_answers.specs.InquiryQuestion.{RefusesNone, RefusesLarge, RefusesFar, one_question, two_question, question_of}
+use Rattle.cox_answers.specs.Listed.{RefusesLarge}
+use Rattle.cox_answers.specs.InquiryQuestion.{RefusesNone, RefusesFar, counts_text, one_question, two_question, question_of}
 use Rattle.cox_answers.specs.RowReply.{IsExtremalBelow, pairs_text, ihbetti_text}
 use Rattle.cox_answers.specs.WorkReply.{generated_words}
 use Rattle.cox_answers.specs.Answerable.{HasOneText, IsAnswerable}
@@ -56,7 +57,7 @@ module _ (limits : Limits) (A : IntegerMatrix) (g : IsAdmissible A) where
   one-text rank Descent w a b p q = p ∙ sym q
   one-text rank Coatoms w a b p q = listed-unique (IsCoatom A w) (elements_text rank) a b p q
   one-text rank Betti w a b p q =
-      listed-unique (IsInInterval A w) (λ members. numbers_text (counts_by_length members (word_length A w))) a b p q
+      listed-unique (IsInInterval A w) (counts_text A w) a b p q
   one-text rank Klbasis w a b p q = listed-by_row A g w (IsInInterval A w) (pairs_text rank A w) a b p q
   one-text rank Ihbetti w a b p q = listed-by_row A g w (IsInInterval A w) (ihbetti_text A w) a b p q
   one-text rank Extremals w a b p q = listed-by_row A g w (IsExtremalBelow A w) (pairs_text rank A w) a b p q
@@ -119,7 +120,7 @@ module _ (limits : Limits) (A : IntegerMatrix) (g : IsAdmissible A) where
   one-answerable rank Descent w = computed _
   one-answerable rank Coatoms w = listed w (IsCoatom A w) _ (elements_text rank) (coatoms-of A g w)
   one-answerable rank Betti w =
-      listed w (IsInInterval A w) (λ xs. xs) (λ members. numbers_text (counts_by_length members (word_length A w))) (λ xs a. a)
+      listed w (IsInInterval A w) (λ xs. xs) (counts_text A w) (λ xs a. a)
   one-answerable rank Klbasis w = klbasis-answerable A g limits rank w
   one-answerable rank Ihbetti w = ihbetti-answerable A g limits w
   one-answerable rank Extremals w = extremals-answerable A g limits rank w

@@ -23,8 +23,8 @@ use Rattle.cox_rows.proofs.NeedDecided.{tell-needs_beyond}
 use Rattle.cox_command.specs.declared.refusal.Refusal.{Refusal}
 use Rattle.cox_command.specs.declared.refusal.Refusal.TheVariants.{LargeInterval, LargeRow}
 use Rattle.cox_answers.specs.Limits.{Limits}
-use Rattle.cox_answers.specs.RowReply.{RefusesRow, coefficients_to, IsPolText, IsMuText, pairs_text, IsPairsText, IsExtremalBelow}
-use Rattle.cox_answers.specs.RowReply.{ihbetti_text, IsIhbettiText}
+use Rattle.cox_answers.specs.Listed.{IsOfRow}
+use Rattle.cox_answers.specs.RowReply.{RefusesRow, coefficients_to, IsPolText, IsMuText, pairs_text, IsExtremalBelow, ihbetti_text}
 use Rattle.cox_answers.specs.Answerable.{IsAnswerable}
 
 -- a decision as a test
@@ -80,10 +80,9 @@ module _ (A : IntegerMatrix) (g : IsAdmissible A) where
 
   -- a text by the row of w and the words with a property
   pub listed-by_row : (w : List ℕ) (P : List ℕ → Type 0) (text_of : Family → List (List ℕ) → List ℕ) (a b : List ℕ)
-      → (p : Family) × IsRow A w p × (words : List (List ℕ)) × IsListOf P words × (a ≡ text_of p words)
-      → (p : Family) × IsRow A w p × (words : List (List ℕ)) × IsListOf P words × (b ≡ text_of p words) → a ≡ b
-  listed-by_row w P text_of a b s t =
-      s.4 ∙ ap (λ p. text_of p s.2) (one-row w s.0 t.0 s.1 t.1) ∙ ap (text_of t.0) (IsListOf-unique P s.2 t.2 s.3 t.3) ∙ sym t.4
+      → IsOfRow A w P text_of a → IsOfRow A w P text_of b → a ≡ b
+  listed-by_row w P text_of a b (p, row, (words, are, a_is)) (r, other, (lists, also, b_is)) =
+      a_is ∙ ap (λ f. text_of f words) (one-row w p r row other) ∙ ap (text_of r) (IsListOf-unique P words lists are also) ∙ sym b_is
 
   -- whether a row is refused is decided
   pub row-decided : (limits : Limits) (w : List ℕ) (why : Refusal) → RefusesRow limits A w why ⊎ (RefusesRow limits A w why → ⊥)
@@ -94,21 +93,12 @@ module _ (A : IntegerMatrix) (g : IsAdmissible A) where
   -- a text by the row of w and the elements that are kept of its interval
   listed : (limits : Limits) (w : List ℕ) (P : List ℕ → Type 0) (keep : List (List ℕ) → List (List ℕ))
       (text_of : Family → List (List ℕ) → List ℕ) → ((xs : List (List ℕ)) → IsListOf (IsInInterval A w) xs → IsListOf P (keep xs))
-      → IsAnswerable (record {
-        Refuses = RefusesRow limits A w;
-        IsText = λ text. (p : Family) × IsRow A w p × (words : List (List ℕ)) × IsListOf P words × (text ≡ text_of p words);
-      })
+      → IsAnswerable (record { Refuses = RefusesRow limits A w; IsText = IsOfRow A w P text_of })
   listed limits w P keep text_of of = let members = interval-exists A g w in record {
     decided = row-decided limits w;
     answer = λ free. (
       text_of (row_of A g w) (keep members.0),
-      (
-        row_of A g w,
-        row_of-is A g w,
-        keep members.0,
-        of members.0 members.1,
-        refl,
-      ),
+      (row_of A g w, row_of-is A g w, (keep members.0, of members.0 members.1, refl)),
     );
   }
 
@@ -144,14 +134,14 @@ module _ (A : IntegerMatrix) (g : IsAdmissible A) where
       record { decided = row-decided limits w; answer = λ free. (_, (m.0, m.1, refl)) }
 
   pub klbasis-answerable : (limits : Limits) (rank : ℕ) (w : List ℕ)
-      → IsAnswerable (record { Refuses = RefusesRow limits A w; IsText = IsPairsText rank A w (IsInInterval A w) })
+      → IsAnswerable (record { Refuses = RefusesRow limits A w; IsText = IsOfRow A w (IsInInterval A w) (pairs_text rank A w) })
   klbasis-answerable limits rank w = listed limits w (IsInInterval A w) (λ xs. xs) (pairs_text rank A w) (λ xs are. are)
 
   pub extremals-answerable : (limits : Limits) (rank : ℕ) (w : List ℕ)
-      → IsAnswerable (record { Refuses = RefusesRow limits A w; IsText = IsPairsText rank A w (IsExtremalBelow A w) })
+      → IsAnswerable (record { Refuses = RefusesRow limits A w; IsText = IsOfRow A w (IsExtremalBelow A w) (pairs_text rank A w) })
   extremals-answerable limits rank w =
       listed limits w (IsExtremalBelow A w) _ (pairs_text rank A w) (extremals-of w)
 
   pub ihbetti-answerable : (limits : Limits) (w : List ℕ) → IsAnswerable (record
-      { Refuses = RefusesRow limits A w; IsText = IsIhbettiText A w })
+      { Refuses = RefusesRow limits A w; IsText = IsOfRow A w (IsInInterval A w) (ihbetti_text A w) })
   ihbetti-answerable limits w = listed limits w (IsInInterval A w) (λ xs. xs) (ihbetti_text A w) (λ xs are. are)

@@ -6,7 +6,7 @@ use Rattle.cox_base.specs.IntegerMatrix.{IntegerMatrix}
 use Rattle.cox_base.specs.Length.{word_length}
 use Rattle.cox_hecke.specs.Family.{Family}
 use Rattle.cox_answers.specs.RowReply.{coefficients_to}
-use Rattle.cox_answers.specs.WorkReply.{ArePolynomials, degree_from}
+use Rattle.cox_answers.specs.WorkReply.{row_polynomials, ArePolynomials, degree_from}
 use Rattle.cox_answers.specs.Totals.{Totals, both_totals, sum_of, polynomial_totals, row_totals, AreTotals}
 use Rattle.cox_answers.proofs.RowTotals.{same_totals, both-none_left, both-assoc}
 
@@ -51,22 +51,22 @@ totals_of-append (p ∷ a) b =
 
 -- of a row
 row-list : (A : IntegerMatrix) (w : List ℕ) (p : Family) (members : List (List ℕ))
-    → row_totals A w p members ≡ totals_of (map (λ x. coefficients_to (word_length A w) (p x)) members)
+    → row_totals A w p members ≡ totals_of (row_polynomials A w p members)
 row-list A w p [] = refl
 row-list A w p (x ∷ members) =
     let q : List ℤ = coefficients_to (word_length A w) (p x) in
     ap (both_totals (polynomial_totals q)) (row-list A w p members)
-    ∙ sym (totals_of-cons q (map (λ x. coefficients_to (word_length A w) (p x)) members))
+    ∙ sym (totals_of-cons q (row_polynomials A w p members))
 
 -- totals are those of a list of the polynomials
 pub polynomials-of : (A : IntegerMatrix) (words : List (List ℕ)) (totals : Totals) → AreTotals A words totals
     → (list : List (List ℤ)) × ArePolynomials A words list × (totals ≡ totals_of list)
 polynomials-of A [] totals none = ([], refl, none)
 polynomials-of A (w ∷ words) totals (first, (p, row, members, is, sum), rest, are, both) =
-    let here : List (List ℤ) = map (λ x. coefficients_to (word_length A w) (p x)) members in
+    let here : List (List ℤ) = row_polynomials A w p members in
     let later = polynomials-of A words rest are in (
       here ++ later.0,
-      (here, (p, row, members, is, refl), later.0, later.1, refl),
+      (here, (p, row, (members, is, refl)), later.0, later.1, refl),
       both ∙ ap₂ both_totals (sum ∙ row-list A w p members) later.2 ∙ sym (totals_of-append here later.0),
     )
 
@@ -74,7 +74,7 @@ polynomials-of A (w ∷ words) totals (first, (p, row, members, is, sum), rest, 
 pub totals-of : (A : IntegerMatrix) (words : List (List ℕ)) (list : List (List ℤ)) → ArePolynomials A words list
     → AreTotals A words (totals_of list)
 totals-of A [] list none = ap totals_of none
-totals-of A (w ∷ words) list (first, (p, row, members, is, here), rest, are, both) = (
+totals-of A (w ∷ words) list (first, (p, row, (members, is, here)), rest, are, both) = (
   totals_of first,
   (p, row, members, is, ap totals_of here ∙ sym (row-list A w p members)),
   totals_of rest,

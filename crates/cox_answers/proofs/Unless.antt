@@ -16,7 +16,8 @@ use Rattle.cox_answers.specs.declared.answers.unanswered.Unanswered.{Unanswered}
 use Rattle.cox_answers.specs.declared.answers.unanswered.Unanswered.TheVariants.{Refused, NoMemory}
 use Rattle.cox_answers.specs.Limits.{Limits}
 use Rattle.cox_answers.specs.Question.{command_refusals, IsRefused}
-use Rattle.cox_answers.specs.InquiryQuestion.{RefusesNone, RefusesLarge, RefusesFar}
+use Rattle.cox_answers.specs.Listed.{RefusesLarge}
+use Rattle.cox_answers.specs.InquiryQuestion.{RefusesNone, RefusesFar}
 use Rattle.cox_answers.specs.Putting.{PutsSome, PutsUnless, IsEnded, unrefused}
 use Rattle.cox_answers.proofs.Refusing.{IsFirstRefusal-none}
 

@@ -8,7 +8,7 @@ use Rattle.cox_base.specs.declared.side.Side.TheVariants.{Left, Right}
 use Rattle.cox_base.specs.SideDescents.{descent_set}
 use Rattle.cox_base.specs.Bruhat.{IsBelow}
 use Rattle.cox_command.specs.declared.refusal.Refusal.{Refusal}
-use Rattle.cox_command.specs.declared.refusal.Refusal.TheVariants.{LargeInterval, FarApart}
+use Rattle.cox_command.specs.declared.refusal.Refusal.TheVariants.{FarApart}
 use Rattle.cox_command.specs.declared.inquiry.OneWord.{OneWord}
 use Rattle.cox_command.specs.declared.inquiry.OneWord.TheVariants.{Compute, Length, Inverse, Descent, Coatoms, Betti, Klbasis}
 use Rattle.cox_command.specs.declared.inquiry.OneWord.TheVariants.{Ihbetti, Extremals}
@@ -18,14 +18,14 @@ use Rattle.cox_poly.specs.PolynomialText.{polynomial_text}
 use Rattle.cox_rpoly.specs.RPolynomial.{r_polynomial}
 use Rattle.cox_rpoly.specs.declared.TheConstants.{MAX_DIFFERENCE}
 use Rattle.cox_base.specs.Members.{IsInInterval}
-use Rattle.cox_base.specs.SortedList.{IsListOf, HasMoreThan}
 use Rattle.cox_base.specs.Interval.{IsBetween, IsCoatom, counts_by_length}
 use Rattle.cox_print.specs.AnswerText.{element_text, descent_text, truth_text, numbers_text, elements_text}
 use Rattle.cox_command.specs.declared.inquiry.Inquiry.{Inquiry}
 use Rattle.cox_command.specs.declared.inquiry.Inquiry.TheVariants.{One, Two, Plain, Work}
 use Rattle.cox_answers.specs.Limits.{Limits}
 use Rattle.cox_answers.specs.Question.{Question}
-use Rattle.cox_answers.specs.RowReply.{RefusesRow, coefficients_to, IsPolText, IsMuText, IsPairsText, IsExtremalBelow, IsIhbettiText}
+use Rattle.cox_answers.specs.Listed.{RefusesLarge, IsOfList, IsOfRow}
+use Rattle.cox_answers.specs.RowReply.{RefusesRow, coefficients_to, IsPolText, IsMuText, pairs_text, IsExtremalBelow, ihbetti_text}
 use Rattle.cox_answers.specs.GroupReply.{group_question}
 use Rattle.cox_answers.specs.WorkReply.{work_question}
 
@@ -33,24 +33,14 @@ use Rattle.cox_answers.specs.WorkReply.{work_question}
 abbrev pub RefusesNone : Refusal → Type 0
 RefusesNone why = ⊥
 
--- the interval from the identity to w has more members than the limit
-abbrev pub RefusesLarge : Limits → IntegerMatrix → List ℕ → Refusal → Type 0
-RefusesLarge limits A w LargeInterval = HasMoreThan limits.context (IsInInterval A w)
-RefusesLarge limits A w _ = ⊥
-
 -- y ≤ w, and l(w) - l(y) is more than R(y,w) is computed at
 abbrev pub RefusesFar : IntegerMatrix → List ℕ → List ℕ → Refusal → Type 0
 RefusesFar A y w FarApart = IsBelow A y w × (word_length A y + MAX_DIFFERENCE < word_length A w)
 RefusesFar A y w _ = ⊥
 
--- the list of the elements with a property
-abbrev pub IsElementsText : ℕ → (List ℕ → Type 0) → List ℕ → Type 0
-IsElementsText rank P text = (words : List (List ℕ)) × IsListOf P words × (text ≡ elements_text rank words)
-
--- how many x ≤ w there are of each length
-abbrev pub IsCountsText : IntegerMatrix → List ℕ → List ℕ → Type 0
-IsCountsText A w text = (members : List (List ℕ)) × IsListOf (IsInInterval A w) members
-    × (text ≡ numbers_text (counts_by_length members (word_length A w)))
+-- how many of these x ≤ w there are of each length
+abbrev pub counts_text : IntegerMatrix → List ℕ → List (List ℕ) → List ℕ
+counts_text A w members = numbers_text (counts_by_length members (word_length A w))
 
 -- whether y ≤ w
 abbrev pub IsOrderText : IntegerMatrix → List ℕ → List ℕ → List ℕ → Type 0
@@ -64,26 +54,26 @@ r_coefficients A y w = coefficients_to (word_length A w) (r_polynomial A y w)
 abbrev pub IsRText : IntegerMatrix → List ℕ → List ℕ → List ℕ → Type 0
 IsRText A y w text = text ≡ polynomial_text (r_coefficients A y w)
 
+-- nothing refuses, and this is the text
+abbrev pub text_question : List ℕ → Question
+text_question answer = record { Refuses = RefusesNone; IsText = λ text. text ≡ answer }
+
 -- what a command asks of the element of w
 abbrev pub one_question : OneWord → Limits → ℕ → IntegerMatrix → List ℕ → Question
-one_question Compute limits rank A w = record { Refuses = RefusesNone; IsText = λ text. text ≡ element_text rank (normal_form A w) }
-one_question Length limits rank A w = record { Refuses = RefusesNone; IsText = λ text. text ≡ decimal (word_length A w) }
-one_question Inverse limits rank A w =
-    record { Refuses = RefusesNone; IsText = λ text. text ≡ element_text rank (normal_form A (reverse w)) }
-one_question Descent limits rank A w = record {
-  Refuses = RefusesNone;
-  IsText = λ text. text ≡ descent_text rank (descent_set Left A w) (descent_set Right A w);
-}
-one_question Coatoms limits rank A w = record { Refuses = RefusesLarge limits A w; IsText = IsElementsText rank (IsCoatom A w) }
-one_question Betti limits rank A w = record { Refuses = RefusesLarge limits A w; IsText = IsCountsText A w }
-one_question Klbasis limits rank A w = record { Refuses = RefusesRow limits A w; IsText = IsPairsText rank A w (IsInInterval A w) }
-one_question Ihbetti limits rank A w = record { Refuses = RefusesRow limits A w; IsText = IsIhbettiText A w }
-one_question Extremals limits rank A w = record { Refuses = RefusesRow limits A w; IsText = IsPairsText rank A w (IsExtremalBelow A w) }
+one_question Compute limits rank A w = text_question (element_text rank (normal_form A w))
+one_question Length limits rank A w = text_question (decimal (word_length A w))
+one_question Inverse limits rank A w = text_question (element_text rank (normal_form A (reverse w)))
+one_question Descent limits rank A w = text_question (descent_text rank (descent_set Left A w) (descent_set Right A w))
+one_question Coatoms limits rank A w = record { Refuses = RefusesLarge limits A w; IsText = IsOfList (IsCoatom A w) (elements_text rank) }
+one_question Betti limits rank A w = record { Refuses = RefusesLarge limits A w; IsText = IsOfList (IsInInterval A w) (counts_text A w) }
+one_question Klbasis limits rank A w = record { Refuses = RefusesRow limits A w; IsText = IsOfRow A w (IsInInterval A w) (pairs_text rank A w) }
+one_question Ihbetti limits rank A w = record { Refuses = RefusesRow limits A w; IsText = IsOfRow A w (IsInInterval A w) (ihbetti_text A w) }
+one_question Extremals limits rank A w = record { Refuses = RefusesRow limits A w; IsText = IsOfRow A w (IsExtremalBelow A w) (pairs_text rank A w) }
 
 -- what a command asks of the elements of y and w
 abbrev pub two_question : TwoWord → Limits → ℕ → IntegerMatrix → List ℕ → List ℕ → Question
 two_question Inorder limits rank A y w = record { Refuses = RefusesNone; IsText = IsOrderText A y w }
-two_question Interval limits rank A y w = record { Refuses = RefusesLarge limits A w; IsText = IsElementsText rank (IsBetween A y w) }
+two_question Interval limits rank A y w = record { Refuses = RefusesLarge limits A w; IsText = IsOfList (IsBetween A y w) (elements_text rank) }
 two_question Rpol limits rank A y w = record { Refuses = RefusesFar A y w; IsText = IsRText A y w }
 two_question Pol limits rank A y w = record { Refuses = RefusesRow limits A w; IsText = IsPolText A y w }
 two_question Mu limits rank A y w = record { Refuses = RefusesRow limits A w; IsText = IsMuText A y w }

@@ -4,6 +4,8 @@ pub mod Limits
 pub mod SessionLimits
 -- what a command asks
 pub mod Question
+-- answers by the list of the elements with a property
+pub mod Listed
 -- what commands on rows of Kazhdan-Lusztig polynomials ask
 pub mod RowReply
 -- what commands on the whole group ask: W-graphs and cells

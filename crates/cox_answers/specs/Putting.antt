@@ -12,7 +12,7 @@ use Rattle.cox_command.specs.declared.refusal.Refusal.{Refusal}
 use Rattle.cox_answers.specs.declared.answers.unanswered.Unanswered.{Unanswered}
 use Rattle.cox_answers.specs.declared.answers.unanswered.Unanswered.TheVariants as unanswered
 use Rattle.cox_answers.specs.Question.{IsRefused}
-use Rattle.cox_answers.specs.InquiryQuestion.{RefusesLarge}
+use Rattle.cox_answers.specs.Listed.{RefusesLarge}
 use Rattle.cox_answers.specs.Limits.{Limits}
 
 -- one of the right texts was put; where memory ran out, a prefix of one

@@ -11,20 +11,19 @@ use Rattle.cox_hecke.specs.Family.{Family}
 use Rattle.cox_hecke.specs.Sums.{sum_over}
 use Rattle.cox_hecke.specs.Row.{IsRow, IsMu}
 use Rattle.cox_base.specs.Members.{IsInInterval}
-use Rattle.cox_base.specs.SortedList.{IsListOf, HasMoreThan}
 use Rattle.cox_row.specs.Extremal.{IsExtremal}
 use Rattle.cox_rows.specs.Beyond.{NeedsBeyond}
 use Rattle.cox_command.specs.declared.refusal.Refusal.{Refusal}
-use Rattle.cox_command.specs.declared.refusal.Refusal.TheVariants.{LargeInterval, LargeRow}
+use Rattle.cox_command.specs.declared.refusal.Refusal.TheVariants.{LargeRow}
 use Rattle.cox_print.specs.AnswerText.{numbers_text, list_text, pair_text}
 use Rattle.cox_answers.specs.Limits.{Limits}
+use Rattle.cox_answers.specs.Listed.{RefusesLarge}
 
 -- the interval from the identity to w has more members than the limit; or some row that the row of w needs has a coefficient, or a value of
 -- mu, above its limit
 abbrev pub RefusesRow : Limits → IntegerMatrix → List ℕ → Refusal → Type 0
-RefusesRow limits A w LargeInterval = HasMoreThan limits.context (IsInInterval A w)
 RefusesRow limits A w LargeRow = NeedsBeyond A (pos limits.coefficient) w
-RefusesRow limits A w _ = ⊥
+RefusesRow limits A w why = RefusesLarge limits A w why
 
 -- the coefficients of a polynomial from degree 0 to n
 abbrev pub coefficients_to : ℕ → Coefficients → List ℤ
@@ -42,11 +41,6 @@ IsMuText A y w text = (m : ℤ) × IsMu A y w m × (text ≡ signed_decimal m)
 abbrev pub pairs_text : ℕ → IntegerMatrix → List ℕ → Family → List (List ℕ) → List ℕ
 pairs_text rank A w p words = list_text (map (λ x. pair_text rank x (coefficients_to (word_length A w) (p x))) words)
 
--- the list of the elements with a property, each with its polynomial
-abbrev pub IsPairsText : ℕ → IntegerMatrix → List ℕ → (List ℕ → Type 0) → List ℕ → Type 0
-IsPairsText rank A w P text =
-    (p : Family) × IsRow A w p × (words : List (List ℕ)) × IsListOf P words × (text ≡ pairs_text rank A w p words)
-
 -- an extremal x ≤ w: each left descent of w is one of x, and each right descent of w is one of x
 pub record IsExtremalBelow (A : IntegerMatrix) (w word : List ℕ) : Type 0 where
   pub member : IsInInterval A w word
@@ -55,8 +49,3 @@ pub record IsExtremalBelow (A : IntegerMatrix) (w word : List ℕ) : Type 0 wher
 -- the coefficients of the sum of q^l(x) P(x,w) over elements x, from degree 0 to l(w), where p is the row of w
 abbrev pub ihbetti_text : IntegerMatrix → List ℕ → Family → List (List ℕ) → List ℕ
 ihbetti_text A w p words = numbers_text (coefficients_to (word_length A w) (sum_over words (λ x. times_q_power (word_length A x) (p x))))
-
--- that sum over all x ≤ w
-abbrev pub IsIhbettiText : IntegerMatrix → List ℕ → List ℕ → Type 0
-IsIhbettiText A w text =
-    (p : Family) × IsRow A w p × (words : List (List ℕ)) × IsListOf (IsInInterval A w) words × (text ≡ ihbetti_text A w p words)

@@ -1,5 +1,5 @@
 -- What `work` asks: sums over the rows of generated words.
-use Rattle.std.specs.Prelude.{◌≡◌, ◌⊎◌, ℕ, zero, suc, ◌+◌, ◌^◌, max, if◌then◌else◌, List, [], ◌∷◌, length, None, Some, ℤ, pos, ◌+ℤ◌}
+use Rattle.std.specs.Prelude.{◌≡◌, ◌⊎◌, ℕ, zero, suc, ◌^◌, max, if◌then◌else◌, List, [], ◌∷◌, length, None, Some, ℤ, pos, ◌+ℤ◌}
 use Rattle.std.specs.Prelude.{unsigned_abs, map, ◌++◌}
 use Rattle.std.specs.List.{fold, flat_map}
 use Rattle.std.specs.Int.{int_rem_euclid}
@@ -7,13 +7,12 @@ use Rattle.std.specs.Ordering.{int_eq}
 use Rattle.cox_base.specs.IntegerMatrix.{IntegerMatrix}
 use Rattle.cox_base.specs.Length.{word_length}
 use Rattle.cox_hecke.specs.Family.{Family}
-use Rattle.cox_hecke.specs.Row.{IsRow}
 use Rattle.cox_base.specs.Members.{IsInInterval}
-use Rattle.cox_base.specs.SortedList.{IsListOf}
 use Rattle.cox_command.specs.declared.refusal.Refusal.{Refusal}
 use Rattle.cox_command.specs.Generated.{generated_word, state_behind_word}
 use Rattle.cox_print.specs.AnswerText.{work_text}
 use Rattle.cox_answers.specs.Limits.{Limits}
+use Rattle.cox_answers.specs.Listed.{IsOfRow}
 use Rattle.cox_answers.specs.Question.{Question, IsRefused}
 use Rattle.cox_answers.specs.RowReply.{RefusesRow, coefficients_to}
 
@@ -28,16 +27,15 @@ RefusesWork limits A [] why = ⊥
 RefusesWork limits A (w ∷ words) why = IsRefused (RefusesRow limits A w) (Some why)
     ⊎ (IsRefused (RefusesRow limits A w) None × RefusesWork limits A words why)
 
--- the polynomials P(x,w) of all x ≤ w, each by its coefficients
-abbrev pub AreRowPolynomials : IntegerMatrix → List ℕ → List (List ℤ) → Type 0
-AreRowPolynomials A w list = (p : Family) × IsRow A w p × (members : List (List ℕ)) × IsListOf (IsInInterval A w) members
-    × (list ≡ map (λ x. coefficients_to (word_length A w) (p x)) members)
+-- the polynomials P(x,w) of elements x, each by its coefficients, where p is the row of w
+abbrev pub row_polynomials : IntegerMatrix → List ℕ → Family → List (List ℕ) → List (List ℤ)
+row_polynomials A w p words = map (λ x. coefficients_to (word_length A w) (p x)) words
 
--- those of each of the words w in order
+-- those of each of the words w in order, and all x ≤ w
 abbrev pub ArePolynomials : IntegerMatrix → List (List ℕ) → List (List ℤ) → Type 0
 ArePolynomials A [] list = list ≡ []
-ArePolynomials A (w ∷ words) list = (first : List (List ℤ)) × AreRowPolynomials A w first × (rest : List (List ℤ))
-    × ArePolynomials A words rest × (list ≡ first ++ rest)
+ArePolynomials A (w ∷ words) list = (first : List (List ℤ)) × IsOfRow A w (IsInInterval A w) (row_polynomials A w) first
+    × (rest : List (List ℤ)) × ArePolynomials A words rest × (list ≡ first ++ rest)
 
 -- the greatest degree of a coefficient that is not 0, where the first of them has degree d; 0 where there is none
 abbrev pub degree_from : ℕ → List ℤ → ℕ

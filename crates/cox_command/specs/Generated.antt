@@ -1,5 +1,6 @@
 -- The words that `work` generates.
-use Rattle.std.specs.Prelude.{ℕ, zero, suc, ◌+◌, ◌*◌, ◌%◌, List, [], ◌∷◌, ◌++◌}
+use Rattle.std.specs.Prelude.{ℕ, zero, suc, ◌+◌, ◌*◌, ◌%◌, List, map}
+use Rattle.std.specs.List.{range_with_len}
 use Rattle.cox_command.specs.declared.generated.TheConstants.{MULTIPLIER, INCREMENT, MODULUS, WORD_LETTERS}
 
 -- the state after one step
@@ -15,14 +16,9 @@ state_after (suc steps) g = next_state (state_after steps g)
 abbrev pub state_letter : ℕ → ℕ → ℕ
 state_letter rank g = 1 + g % rank
 
--- the letters that so many steps give: each that of the state after it
-unfoldable pub step_letters : ℕ → ℕ → ℕ → List ℕ
-step_letters rank zero g = []
-step_letters rank (suc steps) g = step_letters rank steps g ++ state_letter rank (state_after (suc steps) g) ∷ []
-
--- the word that a state gives
+-- the word that a state gives: the letters of the states after one step, after two, and so on
 abbrev pub generated_word : ℕ → ℕ → List ℕ
-generated_word rank g = step_letters rank WORD_LETTERS g
+generated_word rank g = map (λ steps. state_letter rank (state_after steps g)) (range_with_len 1 WORD_LETTERS)
 
 -- the state behind that word, from which the next one is generated
 abbrev pub state_behind_word : ℕ → ℕ

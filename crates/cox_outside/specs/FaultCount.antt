@@ -1,5 +1,5 @@
 -- Counts of faults, which stop at the last value of a `u64`.
-use Rattle.std.specs.Prelude.{ℕ, ◌+◌, ◌-◌, ◌^◌, ◌≤◌, min, Bool, if◌then◌else◌}
+use Rattle.std.specs.Prelude.{ℕ, ◌+◌, ◌-◌, ◌^◌, min, Bool, if◌then◌else◌}
 
 -- the last value of a count, at which it stays
 abbrev pub last_count : ℕ
@@ -8,7 +8,3 @@ last_count = 2 ^ 64 - 1
 -- a count of faults after a call that failed or did not
 abbrev pub count_after : Bool → ℕ → ℕ
 count_after failed count = if failed then min (count + 1) last_count else count
-
--- the count rose: it is greater than it was, or stands at its last value
-abbrev pub Rose : ℕ → ℕ → Type 0
-Rose before now = min (before + 1) last_count ≤ now

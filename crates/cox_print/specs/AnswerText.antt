@@ -33,10 +33,6 @@ elements_text rank words = list_text (map (element_text rank) words)
 abbrev pub pair_text : ℕ → List ℕ → List ℤ → List ℕ
 pair_text rank x p = element_text rank x ++ codes ":" ++ polynomial_text p
 
--- a member of a cell, and whether it is the first: a space stands before each other one
-abbrev pub member_text : ℕ → List ℕ → Bool → List ℕ
-member_text rank x first = if first then element_text rank x else codes " " ++ element_text rank x
-
 -- the members of a cell, separated by one space
 abbrev pub members_text : ℕ → List (List ℕ) → List ℕ
 members_text rank members = join_by (element_text rank) (codes " ") members

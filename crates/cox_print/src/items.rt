@@ -2,7 +2,8 @@
 ghost use Rattle.std.specs.Prelude.{◌≤◌, ◌∷◌, ◌++◌, codes};
 ghost use Rattle.cox_base.specs.Matrix.{IsWord};
 ghost use Rattle.cox_poly.specs.Puts.{Puts};
-ghost use Rattle.cox_print.specs.AnswerText.{element_text, pair_text, member_text, head_text, edge_text};
+ghost use Rattle.cox_print.specs.AnswerText.{element_text, pair_text, head_text, edge_text};
+ghost use Rattle.cox_print.specs.MemberText.{member_text};
 
 use crate::NoMemory;
 use crate::element::{put_element, put_next_element, put_set};

@@ -1,10 +1,11 @@
 -- What is due is a prefix of the answer: the lines that were read are the first of the script's.
-use Rattle.std.proofs.Common.{◌≡◌, ◌≤◌, ◌+◌, ◌-◌, ℕ, Bool, true, false, inl, inr, cond, nat_le, ◌==◌, Some, List, [], ◌∷◌, ◌++◌, length}
+use Rattle.std.proofs.Common.{◌≡◌, ◌⊎◌, ◌≤◌, ◌+◌, ◌-◌, ℕ, Bool, true, false, inl, inr, cond, nat_le, ◌==◌, Some, List, [], ◌∷◌, ◌++◌, length}
 use Rattle.std.proofs.Common.{take}
 use Rattle.std.proofs.Common.{refl, sym, ap, ◌∙◌, subst, arith, append_assoc, length-append}
 use Rattle.std.proofs.lemmas.List.{append-nil, take_all, take-append-le}
 use Rattle.std.proofs.lemmas.Bool.{leb-true, cases_lt}
 use Rattle.std.proofs.Math.Seq.{take-append-add}
+use Rattle.std.specs.Io.KnownBytes.{IsAtEnd}
 use Rattle.cox_outside.specs.declared.limits.TheConstants.{INPUT_LIMIT}
 use Rattle.cox_outside.specs.Line.{line_feed, ended_lines, lines_of, lines_within}
 use Rattle.cox_outside.specs.Outlet.{IsPrefix}
@@ -12,7 +13,7 @@ use Rattle.cox_answers.specs.Limits.{Limits}
 use Rattle.cox_shell.specs.Reply.{Reply}
 use Rattle.cox_shell.specs.Answer.{texts, script_lines}
 use Rattle.cox_shell.specs.ScriptAnswer.{IsAnswer}
-use Rattle.cox_shell.specs.Top.{AreRead, AreDue}
+use Rattle.cox_shell.specs.Top.{AreDue}
 use Rattle.cox_outside.proofs.Lines.{onto_first, into_first, lines_of-byte, ended_lines-byte}
 use Rattle.cox_shell.proofs.Replies.{IsPrefix-answer}
 
@@ -74,12 +75,13 @@ ended_lines-within limit given left = by_test (nat_le (length (given ++ left)) l
       (ended_lines-more (take limit given) more.0)
 
 -- the lines that were read are the first of the script's
-AreRead-script : (lines : List (List ℕ)) (given left : List ℕ) → AreRead lines given (Some left)
+read-script : (lines : List (List ℕ)) (given left : List ℕ)
+    → IsPrefix lines (ended_lines (take INPUT_LIMIT given)) ⊎ (IsAtEnd (Some left) × IsPrefix lines (script_lines given))
     → IsPrefix lines (script_lines (given ++ left))
-AreRead-script lines given left (inl ended) =
+read-script lines given left (inl ended) =
     IsPrefix-trans lines (ended_lines (take INPUT_LIMIT given)) (script_lines (given ++ left)) ended
     (ended_lines-within INPUT_LIMIT given left)
-AreRead-script lines given left (inr all) =
+read-script lines given left (inr all) =
     subst (λ bytes. IsPrefix lines (script_lines bytes)) (sym (ap (λ l. given ++ l) all.0 ∙ append-nil given)) all.1
 
 pub AreDue-prefix : (limits : Limits) (script left text : List ℕ) (replies : List Reply) → AreDue limits (Some script) (Some left) replies
@@ -88,5 +90,5 @@ pub AreDue-prefix : (limits : Limits) (script left text : List ℕ) (replies : L
 AreDue-prefix limits script left text replies due answer =
     let same : script ≡ due.given ++ left = cc (due.taken) in
     let first : IsPrefix due.lines (script_lines script) = subst (λ bytes. IsPrefix due.lines (script_lines bytes)) (sym same)
-    (AreRead-script due.lines due.given left due.are_read) in
+    (read-script due.lines due.given left due.are_read) in
     IsPrefix-answer limits script text due.lines replies first due.are_replies answer

@@ -9,11 +9,12 @@ use Rattle.cox_outside.specs.declared.limits.TheConstants.{CHUNK_SIZE}
 use Rattle.cox_outside.specs.declared.line_reader.Stop.{Stop}
 use Rattle.cox_outside.specs.declared.line_reader.Stop.TheVariants as stop
 use Rattle.cox_outside.specs.Line.{line_feed}
+use Rattle.cox_outside.specs.Unbroken.{IsUnbroken}
 use Rattle.cox_outside.specs.Reader.{TakesNext}
 use Rattle.cox_outside.specs.Ahead.{Ahead, Takes, lines_ahead, MeetsEnd, MeetsFault, MeetsLimit}
 use Rattle.cox_outside.specs.Outlet.{Writes}
 use Rattle.cox_outside.proofs.Known.{Writes-append}
-use Rattle.cox_outside.proofs.Taking.{Takes-none, Takes-append, over_limit}
+use Rattle.cox_outside.proofs.Taking.{Takes-none, Takes-append}
 use Rattle.cox_outside.proofs.Lines.{ended_lines-none}
 use Rattle.cox_shell.specs.declared.status.Status.TheVariants.{Done, Refused}
 use Rattle.cox_shell.specs.declared.status.Stopped.{Stopped}
@@ -23,11 +24,11 @@ use Rattle.cox_shell.specs.Stopping.{status_of}
 use Rattle.cox_shell.specs.Reply.{Reply}
 use Rattle.cox_shell.specs.Answer.{AreReplies, texts, has_quit, bytes_of}
 use Rattle.cox_shell.specs.Run.{Stand, IsServed, IsCutOff, Serves, stopped_read_fault, stopped_write_fault}
-use Rattle.cox_shell.specs.Outcome.{HasRead, WritesPrefix, WritesAll, StopsThere, IsCutShort, AnswersAll, AnswersToFault, AnswersToLimit}
-use Rattle.cox_shell.specs.Outcome.{Runs}
+use Rattle.cox_shell.specs.Outcome.{HasRead, WritesPrefix, WritesAll, StopsThere, IsCutShort, AnswersAll, AnswersEnded}
+use Rattle.cox_shell.specs.Outcome.{AnswersToFault, AnswersToLimit, Runs}
 use Rattle.cox_shell.proofs.KnownValues.{IfSome-made, IfSome-each, IfSome-follows}
 use Rattle.cox_shell.proofs.Replies.{AreReplies-one, AreReplies-quit}
-use Rattle.cox_shell.proofs.NoLines.{no_lines-end, no_lines-limit}
+use Rattle.cox_shell.proofs.NoLines.{no_lines-end}
 use Rattle.cox_shell.proofs.TakenLines.{TakenLines, TakenLines-one, TakenLines-append, HasRead-taken, HasRead-begun, HasRead-limit}
 use Rattle.cox_shell.proofs.Progress.{Progress, going_lines, texts-push, has_refusal-push, has_quit-push, as_many-push}
 
@@ -156,39 +157,46 @@ ends_at_quit refused old now next going p s =
       all more = subst (λ lines. AreReplies old.state lines (p.done ++ s.reply ∷ [])) (sym (append_assoc p.lines (s.taken.line ∷ []) more))
           (p.says (s.taken.line ∷ more) (s.reply ∷ []) (AreReplies-quit now.state s.taken.line s.reply more s.taken.is_reply s.quitting))
 
+-- the lines so far are those that end among the bytes so far and the beginning of a line
+ended_so_far : (refused : Bool) (old now next : Stand) (p : Progress refused old now) (read : TakenLines p.lines None old.ahead now.ahead)
+    → (begun : List ℕ) → IsUnbroken begun → WritesPrefix old next → next.ahead.pending ≡ [] → next.out ≡ now.out
+    → AnswersEnded (read.taken ++ begun) old next
+ended_so_far refused old now next p read begun unbroken part none_pending same = record {
+  writes_prefix = part;
+  none_pending = none_pending;
+  replies = p.done;
+  are_replies = subst (λ lines. AreReplies old.state lines p.done)
+      (sym (read.ended refl begun ∙ ap (λ l. p.lines ++ l) (ended_lines-none begun unbroken) ∙ append-nil p.lines))
+      (so_far refused old now p);
+  none_quits = p.quits;
+  writes = subst (λ out. Writes (texts p.done) old.out out) (sym same) p.writes;
+}
+
 -- the limit was met
 pub ends_at_limit : (refused : Bool) (old now next : Stand) → now.stop ≡ None → Progress refused old now → MeetsLimit now.ahead next.ahead
     → next.out ≡ now.out → AnswersToLimit old next
-unfolding all_so_far
-ends_at_limit refused old now next going p m same = record {
-  writes_prefix = prefix_so_far refused old now next p
-      (HasRead-limit p.lines old.ahead now.ahead next.ahead (going_lines refused old now going p) m) same;
-  writes_all = all_so_far refused old now next p (no_lines-limit now.ahead next.ahead m) same;
-  none_quits = p.quits;
-  over = IfSome-made (λ bytes. p.read.taken ++ bytes)
-      (λ bytes. old.ahead.budget < length bytes) old.ahead.bytes now.ahead.bytes p.read.takes.bytes
-      (IfSome-follows (λ bytes. now.ahead.budget < length bytes)
-      (λ bytes. old.ahead.budget < length (p.read.taken ++ bytes)) now.ahead.bytes
-      (λ bytes over. omega (arith, p.read.takes.cost, length-append p.read.taken bytes)) (over_limit now.ahead next.ahead m));
-}
+ends_at_limit refused old now next going p m same =
+    let read = going_lines refused old now going p in
+    let taken = Takes-append read.taken m.begun old.ahead now.ahead m.spent read.takes m.part.taken in record {
+      given = read.taken ++ m.begun;
+      byte = m.byte;
+      gave = taken.bytes ∙ ap (prepend_known (read.taken ++ m.begun)) m.beyond;
+      spent = omega (arith, taken.cost, m.none_left);
+      answers = ended_so_far refused old now next p read m.begun m.part.unbroken
+          (prefix_so_far refused old now next p (HasRead-limit p.lines old.ahead now.ahead next.ahead read m) same) m.none_pending same;
+    }
 
 -- a read failed
 pub ends_at_fault : (refused : Bool) (old now next : Stand) → now.stop ≡ None → Progress refused old now → MeetsFault now.ahead next.ahead
     → next.out ≡ now.out → AnswersToFault old next
 ends_at_fault refused old now next going p m same =
-    let read = going_lines refused old now going p in record {
-      writes_prefix = prefix_so_far refused old now next p
-          (HasRead-begun p.lines old.ahead now.ahead next.ahead m.begun read m.part.taken m.none_pending) same;
-      given = read.taken ++ m.begun;
-      taken = (Takes-append read.taken m.begun old.ahead now.ahead next.ahead read.takes m.part.taken).bytes;
-      none_pending = m.none_pending;
-      replies = p.done;
-      are_replies = subst (λ lines. AreReplies old.state lines p.done)
-          (sym (read.ended refl m.begun ∙ ap (λ l. p.lines ++ l) (ended_lines-none m.begun m.part.unbroken) ∙ append-nil p.lines))
-          (so_far refused old now p);
-      none_quits = p.quits;
-      writes = subst (λ out. Writes (texts p.done) old.out out) (sym same) p.writes;
-    }
+    let read = going_lines refused old now going p in (
+      read.taken ++ m.begun,
+      (Takes-append read.taken m.begun old.ahead now.ahead next.ahead read.takes m.part.taken).bytes,
+      ended_so_far refused old now next p read m.begun m.part.unbroken
+          (prefix_so_far refused old now next p
+          (HasRead-begun p.lines old.ahead now.ahead next.ahead m.begun read m.part.taken m.none_pending) same) m.none_pending same,
+    )
 
 -- a reply was cut off; where it needed more than there was room for, so did the replies
 pub ends_cut_off : (refused : Bool) (old now next : Stand) → now.stop ≡ None → Progress refused old now → (cut : IsCutOff now next)

@@ -6,7 +6,7 @@ pub mod ContentReply
 pub mod Replies
 -- what is heard of a line
 pub mod Hearing
--- no line lies ahead: at the end, and at the limit
+-- no line lies ahead at the end
 pub mod NoLines
 -- lines that were taken, and the bytes that they are
 pub mod TakenLines
@@ -19,6 +19,8 @@ pub mod KnownValues
 -- what a run over the lines says of the whole
 pub mod Whole
 pub mod WholeRuns
+-- runs that met the limit
+pub mod LimitedRuns
 -- rows that workers made
 pub mod SharedRows
 -- two runs over one script

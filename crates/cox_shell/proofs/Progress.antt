@@ -1,5 +1,5 @@
 -- How far a run has come.
-use Rattle.std.proofs.Common.{◌≡◌, ℕ, ◌+◌, Bool, true, false, ◌||◌, None, List, [], ◌∷◌, ◌++◌, length, refl, sym, ap, ◌∙◌}
+use Rattle.std.proofs.Common.{◌≡◌, ℕ, ◌+◌, Bool, true, false, ◌||◌, None, is_some, List, [], ◌∷◌, ◌++◌, length, refl, sym, ap, ◌∙◌}
 use Rattle.std.proofs.Common.{subst}
 use Rattle.std.specs.List.{list_any}
 use Rattle.std.proofs.lemmas.List.{append-nil, length_push}
@@ -9,7 +9,7 @@ use Rattle.std.proofs.Math.Bool.{or-false, or-true}
 use Rattle.cox_outside.specs.Feed.{HasFewPending}
 use Rattle.cox_outside.specs.Outlet.{Writes}
 use Rattle.cox_outside.proofs.Known.{Writes-none, Writes-append}
-use Rattle.cox_shell.specs.Reply.{Reply, is_refusal}
+use Rattle.cox_shell.specs.Reply.{Reply}
 use Rattle.cox_shell.specs.Answer.{AreReplies, texts, has_refusal, has_quit}
 use Rattle.cox_shell.specs.Run.{Stand, IsServed}
 use Rattle.cox_shell.proofs.Replies.{AreReplies-cons, AreReplies-rejoin}
@@ -38,9 +38,9 @@ any-push p done reply before last old new =
     ∙ ap (λ b. before || b) (or-false last)
 
 -- of one more reply, whether it refuses, and whether it ends the run
-pub has_refusal-push : (done : List Reply) (reply : Reply) (before last : Bool) → has_refusal done ≡ before → is_refusal reply ≡ last
+pub has_refusal-push : (done : List Reply) (reply : Reply) (before last : Bool) → has_refusal done ≡ before → is_some reply.refused ≡ last
     → has_refusal (done ++ reply ∷ []) ≡ (before || last)
-has_refusal-push = any-push is_refusal
+has_refusal-push = any-push (λ reply. is_some reply.refused)
 
 pub has_quit-push : (done : List Reply) (reply : Reply) (before last : Bool) → has_quit done ≡ before → reply.quits ≡ last
     → has_quit (done ++ reply ∷ []) ≡ (before || last)

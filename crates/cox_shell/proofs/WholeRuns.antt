@@ -1,9 +1,11 @@
 -- The contract of a whole run, from the run over the lines, or from what was written of the usage line.
-use Rattle.std.proofs.Common.{◌≡◌, ⊎_elim, inl, inr, ◌<◌, ◌≤◌, ℕ, true, false, List, [], length, Option, None, Some, refl, sym, ◌∙◌, arith}
+use Rattle.std.proofs.Common.{◌≡◌, ◌⊎◌, ⊎_elim, inl, inr, ◌<◌, ◌≤◌, ◌+◌, ℕ, true, false, List, [], ◌∷◌, ◌++◌, length, Option, None, Some}
+use Rattle.std.proofs.Common.{refl, sym, ◌∙◌, arith, length-append}
 use Rattle.std.specs.Prelude.{IfSome, IsSomeAnd}
+use Rattle.std.specs.Io.KnownBytes.{prepend_known}
 use Rattle.std.proofs.lemmas.List.{append-nil}
 use Rattle.cox_outside.specs.declared.limits.TheConstants.{INPUT_LIMIT}
-use Rattle.cox_outside.specs.FaultCount.{Rose, count_after}
+use Rattle.cox_outside.specs.FaultCount.{count_after}
 use Rattle.cox_outside.specs.Supply.{Supply, SourceCause}
 use Rattle.cox_outside.specs.Outlet.{Outlet, Writes, IsPrefix, SinkCause}
 use Rattle.cox_outside.specs.Reader.{Reader}
@@ -14,52 +16,63 @@ use Rattle.cox_shell.specs.declared.status.Status.TheVariants.{Done, Refused, Us
 use Rattle.cox_shell.specs.Reply.{State}
 use Rattle.cox_shell.specs.Run.{stand}
 use Rattle.cox_shell.specs.Status.{is_read_fault, is_write_fault}
-use Rattle.cox_shell.specs.Unhindered.{IsUnhindered}
+use Rattle.cox_shell.specs.Unhindered.{Rose, IsUnhindered}
 use Rattle.cox_shell.specs.Outcome.{Runs}
-use Rattle.cox_shell.specs.Top.{usage_line, given_limits, TakesWithin}
+use Rattle.cox_shell.specs.Top.{usage_line, given_limits}
+use Rattle.cox_shell.specs.Reading.{IsReadBy}
 use Rattle.cox_shell.specs.WholeRun.{IsRun}
-use Rattle.cox_shell.proofs.Whole.{beginning, Runs-given, AnswersAll-whole, Runs-within, Runs-takes, Runs-due, Runs-room}
-use Rattle.cox_shell.proofs.Whole.{WritesDue-none, IsDue-usage, IsOverRoom-usage, IsCutShort-stops, StopsAtDue-none}
+use Rattle.cox_shell.proofs.Whole.{beginning, AnswersAll-whole, AnswersAll-read, Runs-given, Runs-limit, Runs-takes, Runs-due}
+use Rattle.cox_shell.proofs.Whole.{WritesDue-none, IsDue-usage, IsCutShort-stops, StopsReading-none}
 
 -- arguments are not both taken and wrong
 not-both : (arguments : List (List ℕ)) → IsTaken arguments → IsUsage arguments → ⊥
 not-both arguments right wrong = let bad : false ≡ true = sym right ∙ wrong in cc
 
--- a script is not both within the limit and over it
-not-over : (script : Option (List ℕ)) → IfSome script (λ bytes. INPUT_LIMIT < length bytes)
-    → IsSomeAnd script (λ bytes. length bytes ≤ INPUT_LIMIT) → ⊥
-not-over None over within = within
-not-over (Some bytes) over within = omega (arith, over, within)
+-- a script that has as many bytes as the limit, and one more, is not within the limit
+not-within : (given : List ℕ) (byte : ℕ) (script left : Option (List ℕ)) → script ≡ prepend_known given (prepend_known (byte ∷ []) left)
+    → length given ≡ INPUT_LIMIT → IsSomeAnd script (λ bytes. length bytes ≤ INPUT_LIMIT) → ⊥
+not-within given byte script None gave size within = rw gave at within
+not-within given byte script (Some rest) gave size within =
+    let few : length (given ++ byte ∷ rest) ≤ INPUT_LIMIT = rw gave at within in
+    omega (arith, few, size, length-append given (byte ∷ rest))
 
 -- a count after a fault has risen
 rose-told : (before now : ℕ) → now ≡ count_after true before → Rose before now
 rose-told before now e = omega (arith, e)
 
--- nothing was read
-takes-none : (script : Option (List ℕ)) → TakesWithin script script
-takes-none script = ([], sym (prepend_known-none script), omega arith)
-
 no_fault : (supply : Supply) → SourceCause supply supply false
 no_fault supply = record { faults = refl; same_sure = refl; unsure = λ e. absurd (cc e) }
+
+-- nothing was read
+takes-none : (script : Option (List ℕ)) → (given : List ℕ) × (script ≡ prepend_known given script) × (length given ≤ INPUT_LIMIT + 1)
+takes-none script = ([], sym (prepend_known-none script), omega arith)
 
 -- ---- the run over the lines
 
 module _ (status : Status) (arguments : List (List ℕ)) (source : Supply) (state : State) (reader : Reader) (left : Supply)
     (old new : Outlet)
-    (right : IsTaken arguments) (runs : Runs status (beginning (given_limits arguments) source.left old) (stand state reader left new))
-    (reads : SourceCause source left (is_read_fault status)) (writes : SinkCause old new (is_write_fault status)) where
-  pub run-lines : IsRun status arguments source left old new
-  run-lines = record {
+    (right : IsTaken arguments) (runs : Runs status (beginning (given_limits arguments) source.left old) (stand state reader left new)) where
+  pub run-lines : SourceCause source left (is_read_fault status) → SinkCause old new (is_write_fault status)
+      → IsRun status arguments source left old new
+  run-lines reads writes = record {
     done = λ e. AnswersAll-whole (given_limits arguments) source.left old state reader left new false (rw e at runs);
     refused = λ e. AnswersAll-whole (given_limits arguments) source.left old state reader left new true (rw e at runs);
-    limit = λ e. Runs-within (given_limits arguments) source.left old state reader left new (rw e at runs);
-    given = λ e. Runs-given (given_limits arguments) source.left state reader left old new (rw e at runs);
+    given = λ e. Runs-given (given_limits arguments) source.left old state reader left new (rw e at runs);
+    limit = λ e. Runs-limit (given_limits arguments) source.left old state reader left new (rw e at runs);
     usage = λ e. absurd (rw e at runs);
     usage_always = λ wrong. absurd (not-both arguments right wrong);
     read_fault = reads;
     write_fault = writes;
     prefix = Runs-due status arguments source.left old state reader left new right runs;
-    room = λ e. Runs-room arguments source.left old state reader left new right (rw e at runs);
+  }
+
+  pub read-lines : IsReadBy status arguments source.left left.left
+  read-lines = record {
+    whole = λ which. ⊎_elim
+        (λ (e : status ≡ Done).
+        AnswersAll-read (given_limits arguments) source.left old state reader left new false (rw e at runs))
+        (λ (e : status ≡ Refused).
+        AnswersAll-read (given_limits arguments) source.left old state reader left new true (rw e at runs)) which;
     stops = λ which taken. ⊎_elim
         (λ (e : status ≡ WriteFault). IsCutShort-stops (given_limits arguments) source.left old state reader left new (rw e at runs).0)
         (λ (e : status ≡ NoMemory). IsCutShort-stops (given_limits arguments) source.left old state reader left new (rw e at runs)) which;
@@ -72,16 +85,20 @@ pub run-none : (arguments : List (List ℕ)) (supply : Supply) (outlet : Outlet)
 run-none arguments supply outlet = record {
   done = λ e. absurd (cc e);
   refused = λ e. absurd (cc e);
-  limit = λ e. absurd (cc e);
   given = λ e. absurd (cc e);
+  limit = λ e. absurd (cc e);
   usage = λ e. absurd (cc e);
   usage_always = λ wrong. inr (inr refl);
   read_fault = no_fault supply;
   write_fault = refl;
   prefix = WritesDue-none arguments supply.left outlet;
-  room = λ e. absurd (cc e);
-  stops = λ which taken. StopsAtDue-none (given_limits arguments) supply.left;
-  within = takes-none supply.left;
+}
+
+pub read-none : (arguments : List (List ℕ)) (script : Option (List ℕ)) → IsReadBy NoMemory arguments script script
+read-none arguments script = record {
+  whole = λ which. absurd (⊎_elim (λ e. cc e) (λ e. cc e) which);
+  stops = λ which taken. StopsReading-none (given_limits arguments) script;
+  within = takes-none script;
 }
 
 -- ---- the usage line
@@ -91,16 +108,20 @@ module _ (arguments : List (List ℕ)) (supply : Supply) (old new : Outlet) (wro
   run-usage writes cause = record {
     done = λ e. absurd (cc e);
     refused = λ e. absurd (cc e);
-    limit = λ e. absurd (cc e);
     given = λ e. absurd (cc e);
+    limit = λ e. absurd (cc e);
     usage = λ e. (wrong, writes);
     usage_always = λ wrong. inl refl;
     read_fault = no_fault supply;
     write_fault = cause;
-    prefix = (usage_line, usage_line, IsDue-usage arguments supply.left supply.left wrong, ([], sym (append-nil usage_line)), writes);
-    room = λ e. absurd (cc e);
-    stops = λ which taken. absurd (not-both arguments taken wrong);
-    within = takes-none supply.left;
+    prefix = (
+      usage_line,
+      IsDue-usage arguments supply.left supply.left wrong,
+      usage_line,
+      ([], sym (append-nil usage_line)),
+      writes,
+      λ e. absurd (cc e),
+    );
   }
 
   pub run-usage_cut_off : (written : List ℕ) → IsPrefix written usage_line → Writes written old new
@@ -108,17 +129,25 @@ module _ (arguments : List (List ℕ)) (supply : Supply) (old new : Outlet) (wro
   run-usage_cut_off written prefix writes full cause = record {
     done = λ e. absurd (cc e);
     refused = λ e. absurd (cc e);
-    limit = λ e. absurd (cc e);
     given = λ e. absurd (cc e);
+    limit = λ e. absurd (cc e);
     usage = λ e. absurd (cc e);
     usage_always = λ wrong. inr (inl refl);
     read_fault = no_fault supply;
     write_fault = cause;
-    prefix = (usage_line, written, IsDue-usage arguments supply.left supply.left wrong, prefix, writes);
-    room = λ e. IsOverRoom-usage arguments supply.left supply.left old.room wrong full;
-    stops = λ which taken. absurd (not-both arguments taken wrong);
-    within = takes-none supply.left;
+    prefix = (usage_line, IsDue-usage arguments supply.left supply.left wrong, written, prefix, writes, λ e. full);
   }
+
+-- nothing is read then
+pub read-usage : (status : Status) (arguments : List (List ℕ)) (script : Option (List ℕ)) → IsUsage arguments
+    → (status ≡ Usage) ⊎ (status ≡ WriteFault) → IsReadBy status arguments script script
+read-usage status arguments script wrong which = record {
+  whole = λ done. absurd (⊎_elim
+      (λ (e : status ≡ Usage). ⊎_elim (λ (d : status ≡ Done). cc (e, d)) (λ (d : status ≡ Refused). cc (e, d)) done)
+      (λ (e : status ≡ WriteFault). ⊎_elim (λ (d : status ≡ Done). cc (e, d)) (λ (d : status ≡ Refused). cc (e, d)) done) which);
+  stops = λ cut taken. absurd (not-both arguments taken wrong);
+  within = takes-none script;
+}
 
 -- ---- without faults
 
@@ -135,4 +164,5 @@ run-unhindered WriteFault arguments source left old new run right no_read no_wri
     no_write (rose-told old.faults new.faults run.write_fault)
 run-unhindered NoMemory arguments source left old new run right no_read no_write within = tt
 run-unhindered InputLimit arguments source left old new run right no_read no_write within =
-    not-over source.left (run.limit refl).2 within
+    let limit = run.limit refl in
+    not-within limit.1.given limit.0 source.left left.left limit.1.taken limit.2 within

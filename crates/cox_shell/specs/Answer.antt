@@ -1,10 +1,10 @@
 -- The answer to a script.
-use Rattle.std.specs.Prelude.{◌≡◌, ℕ, Bool, List, [], ◌∷◌, ◌++◌, MatchBool}
+use Rattle.std.specs.Prelude.{◌≡◌, ℕ, Bool, List, [], ◌∷◌, ◌++◌, MatchBool, is_some}
 use Rattle.std.specs.List.{flat_map, list_any}
 use Rattle.cox_outside.specs.declared.limits.TheConstants.{INPUT_LIMIT}
 use Rattle.cox_outside.specs.Line.{line_feed, lines_within}
 use Rattle.cox_answers.specs.Limits.{Limits}
-use Rattle.cox_shell.specs.Reply.{State, Reply, opening, is_refusal}
+use Rattle.cox_shell.specs.Reply.{State, Reply, opening}
 use Rattle.cox_shell.specs.LineReply.{IsReply}
 
 -- these are the replies to the lines, in order, up to one that ends the run
@@ -20,7 +20,7 @@ texts replies = flat_map (λ reply. reply.text) replies
 
 -- whether one of them is a refusal
 abbrev pub has_refusal : List Reply → Bool
-has_refusal replies = list_any is_refusal replies
+has_refusal replies = list_any (λ reply. is_some reply.refused) replies
 
 -- whether one of them ends the run
 abbrev pub has_quit : List Reply → Bool

@@ -26,12 +26,16 @@ pub mod ExitCode
 pub mod Run
 -- what a run over the lines does
 pub mod Outcome
--- what a whole run does
+-- what a whole run has written
 pub mod Top
+-- how far it has read
+pub mod Reading
 -- the contract of a whole run
 pub mod WholeRun
 -- arguments that give limits
 pub mod GivenLimits
+-- scripts that are longer than the limit
+pub mod Limited
 -- runs that nothing hindered
 pub mod Unhindered
 -- two runs over one script

@@ -1,5 +1,5 @@
 -- What a run over the lines does, between where it begins and where it ends.
-use Rattle.std.specs.Prelude.{◌≡◌, ℕ, ◌+◌, ◌<◌, ◌≤◌, ◌⊎◌, Bool, true, false, List, [], ◌++◌, length, take, IfSome, MatchBool}
+use Rattle.std.specs.Prelude.{◌≡◌, ℕ, ◌+◌, ◌<◌, ◌≤◌, ◌⊎◌, Bool, true, false, List, [], ◌∷◌, ◌++◌, length, take, IfSome, MatchBool}
 use Rattle.std.specs.Io.KnownBytes.{prepend_known, IsAtEnd}
 use Rattle.cox_outside.specs.declared.limits.TheConstants.{CHUNK_SIZE}
 use Rattle.cox_outside.specs.Line.{ended_lines, lines_within}
@@ -59,23 +59,26 @@ pub record AnswersAll (refused : Bool) (old new : Stand) : Type 0 where
   pub refuses : has_refusal writes_all.replies ≡ refused
   pub ends : EndsAll writes_all.replies old.ahead new.ahead
 
--- the replies to the lines that end by LF among the bytes given were written
-pub record AnswersToFault (old new : Stand) : Type 0 where
+-- the replies to the lines that end by LF among these bytes were written, and none of them ends the run
+pub record AnswersEnded (given : List ℕ) (old new : Stand) : Type 0 where
   pub writes_prefix : WritesPrefix old new
-  pub given : List ℕ
-  pub taken : old.ahead.bytes ≡ prepend_known given new.ahead.bytes
   pub none_pending : new.ahead.pending ≡ []
   pub replies : List Reply
   pub are_replies : AreReplies old.state (ended_lines given) replies
   pub none_quits : has_quit replies ≡ false
   pub writes : Writes (texts replies) old.out new.out
 
--- the lines within the budget were answered, none of them ends the run, and there were more bytes
+-- the bytes that were given are those, and a read failed then
+abbrev pub AnswersToFault : Stand → Stand → Type 0
+AnswersToFault old new = (given : List ℕ) × (old.ahead.bytes ≡ prepend_known given new.ahead.bytes) × AnswersEnded given old new
+
+-- those are as many as the budget, and one byte more came
 pub record AnswersToLimit (old new : Stand) : Type 0 where
-  pub writes_prefix : WritesPrefix old new
-  pub writes_all : WritesAll old new
-  pub none_quits : has_quit writes_all.replies ≡ false
-  pub over : IfSome old.ahead.bytes (λ bytes. old.ahead.budget < length bytes)
+  pub given : List ℕ
+  pub byte : ℕ
+  pub gave : old.ahead.bytes ≡ prepend_known given (prepend_known (byte ∷ []) new.ahead.bytes)
+  pub spent : length given ≡ old.ahead.budget
+  pub answers : AnswersEnded given old new
 
 -- what a run over the lines does
 abbrev pub Runs : Status → Stand → Stand → Type 0

@@ -1,5 +1,5 @@
 -- What a line is answered.
-use Rattle.std.specs.Prelude.{ℕ, ◌++◌, Bool, true, false, List, [], ◌∷◌, Option, None, Some, is_some}
+use Rattle.std.specs.Prelude.{ℕ, ◌++◌, Bool, true, false, List, [], ◌∷◌, Option, None, Some}
 use Rattle.std.specs.Option.{option_map}
 use Rattle.cox_base.specs.Matrix.{CoxeterMatrix}
 use Rattle.cox_command.specs.declared.refusal.Refusal.{Refusal}
@@ -30,10 +30,6 @@ pub record Reply : Type 0 where
   pub after : State
   pub refused : Option Refusal
   pub quits : Bool
-
--- whether a reply is a refusal
-abbrev pub is_refusal : Reply → Bool
-is_refusal reply = is_some reply.refused
 
 -- the reply to a refused line: `error` and a number; nothing changes
 abbrev pub refusal : State → Refusal → Reply

@@ -1,5 +1,5 @@
 -- Where a run stands, and what serving one line does.
-use Rattle.std.specs.Prelude.{◌≡◌, ◌<◌, Bool, true, false, List, [], ℕ, length, Option, IfSome, Result, Ok, Err}
+use Rattle.std.specs.Prelude.{◌≡◌, ◌<◌, Bool, true, false, List, [], ℕ, length, Option, is_some, IfSome, Result, Ok, Err}
 use Rattle.cox_outside.specs.declared.line_reader.Stop.{Stop}
 use Rattle.cox_outside.specs.declared.line_reader.Next.TheVariants as next
 use Rattle.cox_outside.specs.Supply.{Supply}
@@ -11,7 +11,7 @@ use Rattle.cox_shell.specs.declared.session.Said.{Said}
 use Rattle.cox_shell.specs.declared.session.Said.TheVariants.{Answered, Refused, Quit}
 use Rattle.cox_shell.specs.declared.status.Stopped.{Stopped}
 use Rattle.cox_shell.specs.declared.status.Stopped.TheVariants.{End, ReadFault, WriteFault, NoMemory, InputLimit}
-use Rattle.cox_shell.specs.Reply.{State, Reply, is_refusal}
+use Rattle.cox_shell.specs.Reply.{State, Reply}
 use Rattle.cox_shell.specs.LineReply.{IsReply}
 use Rattle.cox_shell.specs.Saying.{Says}
 
@@ -62,7 +62,7 @@ pub record IsServed (refused quits : Bool) (old new : Stand) : Type 0 where
   pub taken : TakesReplied reply old.state new.stop old.ahead new.ahead
   pub writes : Writes reply.text old.out new.out
   pub state_after : new.state ≡ reply.after
-  pub refuses : is_refusal reply ≡ refused
+  pub refuses : is_some reply.refused ≡ refused
   pub quitting : reply.quits ≡ quits
 
 -- a line was taken and a prefix of its reply written

@@ -1,22 +1,25 @@
--- The contract of a whole run: what each status says of what was read and written.
-use Rattle.std.specs.Prelude.{◌≡◌, ℕ, ◌⊎◌, true, false, List}
+-- The contract of a whole run: what each status says of what was written, and of faults.
+use Rattle.std.specs.Prelude.{◌≡◌, ℕ, ◌⊎◌, true, false, List, [], ◌∷◌, length}
+use Rattle.std.specs.Io.KnownBytes.{prepend_known}
+use Rattle.cox_outside.specs.declared.limits.TheConstants.{INPUT_LIMIT}
 use Rattle.cox_outside.specs.Supply.{Supply, SourceCause}
 use Rattle.cox_outside.specs.Outlet.{Outlet, Writes, SinkCause}
-use Rattle.cox_options.specs.Arguments.{IsTaken, IsUsage}
+use Rattle.cox_options.specs.Arguments.{IsUsage}
 use Rattle.cox_shell.specs.declared.status.Status.{Status}
 use Rattle.cox_shell.specs.declared.status.Status.TheVariants.{Done, Refused, Usage, ReadFault, WriteFault, NoMemory, InputLimit}
 use Rattle.cox_shell.specs.Status.{is_read_fault, is_write_fault}
-use Rattle.cox_shell.specs.Top.{usage_line, given_limits, AnswersWhole, AnswersWithin, AnswersGiven, WritesDue, IsOverRoom, StopsAtDue}
-use Rattle.cox_shell.specs.Top.{TakesWithin}
+use Rattle.cox_shell.specs.Top.{usage_line, given_limits, AnswersWhole, AnswersGiven, WritesDue}
 
 -- a run with these arguments ended by this status, between what was known of the source and the sink before it and what is known after it
 pub record IsRun (status : Status) (arguments : List (List ℕ)) (source left : Supply) (old new : Outlet) : Type 0 where
   -- At these the script's answer is written whole, within the limits that the arguments give.
-  pub done : status ≡ Done → AnswersWhole false (given_limits arguments) source.left left.left old new
-  pub refused : status ≡ Refused → AnswersWhole true (given_limits arguments) source.left left.left old new
-  pub limit : status ≡ InputLimit → AnswersWithin (given_limits arguments) source.left old new
+  pub done : status ≡ Done → AnswersWhole false (given_limits arguments) source.left old new
+  pub refused : status ≡ Refused → AnswersWhole true (given_limits arguments) source.left old new
   -- At a read fault it is the answer to the lines that were read whole.
   pub given : status ≡ ReadFault → AnswersGiven (given_limits arguments) source.left left.left old new
+  -- At the limit it is the answer to the lines that end within as many bytes, and one byte more was read.
+  pub limit : status ≡ InputLimit → (byte : ℕ) × (answers : AnswersGiven (given_limits arguments) source.left
+      (prepend_known (byte ∷ []) left.left) old new) × (length answers.given ≡ INPUT_LIMIT)
   -- Where the arguments give no options it is the usage line, and only there.
   pub usage : status ≡ Usage → IsUsage arguments × Writes usage_line old new
   pub usage_always : IsUsage arguments → (status ≡ Usage) ⊎ (status ≡ WriteFault) ⊎ (status ≡ NoMemory)
@@ -25,11 +28,4 @@ pub record IsRun (status : Status) (arguments : List (List ℕ)) (source left : 
   pub write_fault : SinkCause old new (is_write_fault status)
   -- Whatever came, a prefix of what is due after the lines that were read is written; and a write fails only where that is more than there
   -- was room for, if the sink tells its room.
-  pub prefix : WritesDue arguments source.left left.left old new
-  pub room : status ≡ WriteFault → IsOverRoom arguments source.left left.left old.room
-  -- Where a write failed or memory ran out, less than a chunk was read beyond lines whose replies are due. One that ends the run is the
-  -- last.
-  pub stops : (status ≡ WriteFault) ⊎ (status ≡ NoMemory) → IsTaken arguments
-      → StopsAtDue (given_limits arguments) source.left left.left
-  -- No more is read than the limit and one byte.
-  pub within : TakesWithin source.left left.left
+  pub prefix : WritesDue (is_write_fault status) arguments source.left left.left old new

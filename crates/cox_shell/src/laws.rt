@@ -2,7 +2,6 @@
 
 ghost use Rattle.std.specs.Prelude.{◌≡◌, ◌≤◌, ℕ, List, length, Some, IsSomeAnd};
 ghost use Rattle.cox_outside.specs.declared.limits.TheConstants.{INPUT_LIMIT};
-ghost use Rattle.cox_outside.specs.FaultCount.{Rose};
 ghost use Rattle.cox_outside.specs.Supply.{Supply};
 ghost use Rattle.cox_outside.specs.Outlet.{Outlet, IsPrefix};
 ghost use Rattle.cox_options.specs.Arguments.{IsTaken};
@@ -10,9 +9,11 @@ ghost use Rattle.cox_answers.specs.Limits.{Limits};
 ghost use Rattle.cox_shell.specs.Reply.{Reply};
 ghost use Rattle.cox_shell.specs.Answer.{AreScriptReplies, texts};
 ghost use Rattle.cox_shell.specs.ScriptAnswer.{IsAnswer};
-ghost use Rattle.cox_shell.specs.Top.{AreDue};
+ghost use Rattle.cox_shell.specs.Top.{given_limits, AreDue};
+ghost use Rattle.cox_shell.specs.Limited.{AnswersWithin};
+ghost use Rattle.cox_shell.specs.declared.status.Status.TheVariants.{InputLimit};
 ghost use Rattle.cox_shell.specs.declared.status.Status.{Status};
-ghost use Rattle.cox_shell.specs.Unhindered.{IsUnhindered};
+ghost use Rattle.cox_shell.specs.Unhindered.{Rose, IsUnhindered};
 ghost use Rattle.cox_shell.specs.WholeRun.{IsRun};
 ghost use Rattle.cox_shell.specs.SameRuns.{DifferInWorkers, AnswersAlike};
 
@@ -36,6 +37,12 @@ pub fn due_begins_the_answer()
 /// Two runs over one script whose arguments differ in `--workers` alone write the same bytes, where both end by `Done` or `Refused`.
 pub fn workers_change_nothing()
     ensures { (one other : List (List ℕ)) (script : List ℕ) → DifferInWorkers one other → AnswersAlike one other script }
+{}
+
+/// At `InputLimit` the script is longer than the limit, and what was written is the answer to its lines within it.
+pub fn limit_answers_the_lines_within()
+    ensures { (arguments : List (List ℕ)) (script : List ℕ) (source left : Supply) (old new : Outlet) → source.left ≡ Some script
+        → IsRun InputLimit arguments source left old new → AnswersWithin (given_limits arguments) script old new }
 {}
 
 /// Without faults a script within the limit is answered whole, unless memory runs out.

@@ -9,6 +9,7 @@ ghost use Rattle.cox_outside.specs.Supply.{Supply};
 ghost use Rattle.cox_answers.specs.SessionLimits.{limits_of};
 ghost use Rattle.cox_shell.specs.Top.{argument_texts};
 ghost use Rattle.cox_shell.specs.GivenLimits.{GiveLimits};
+ghost use Rattle.cox_shell.specs.Reading.{IsReadBy};
 ghost use Rattle.cox_shell.specs.WholeRun.{IsRun};
 
 use crate::running::run_lines;
@@ -43,6 +44,7 @@ pub fn run<R: Threads + Wait + Sync, S: Source, K: Sink, G: Gate + Sync>(
 ) -> Status
     ensures run { IsRun result (argument_texts words.now)
         (S.seen source.old) (S.seen source.new) (K.seen sink.old) (K.seen sink.new) }
+    ensures reading { IsReadBy result (argument_texts words.now) (S.seen source.old).left (S.seen source.new).left }
     ensures unread { IsUsage (argument_texts words.now) → source.new ≡ source.old }
 {
     if let Ok(options) = read(alloc, words) {
@@ -64,6 +66,7 @@ pub fn run_one<S: Source, K: Sink>(
 ) -> Status
     ensures run { IsRun result (argument_texts words.now)
         (S.seen source.old) (S.seen source.new) (K.seen sink.old) (K.seen sink.new) }
+    ensures reading { IsReadBy result (argument_texts words.now) (S.seen source.old).left (S.seen source.new).left }
     ensures unread { IsUsage (argument_texts words.now) → source.new ≡ source.old }
 {
     match read(alloc, words) {
@@ -75,8 +78,10 @@ pub fn run_one<S: Source, K: Sink>(
 
 /// Writes the usage line, and nothing is read.
 fn put_usage<K: Sink>(sink: &mut K) -> Status
-    ensures { (arguments : List (List ℕ)) (supply : Supply) → IsUsage arguments
+    ensures run { (arguments : List (List ℕ)) (supply : Supply) → IsUsage arguments
         → IsRun result arguments supply supply (K.seen sink.old) (K.seen sink.new) }
+    ensures reading { (arguments : List (List ℕ)) (supply : Supply) → IsUsage arguments
+        → IsReadBy result arguments supply.left supply.left }
 {
     match write_all(sink, USAGE) {
         Ok(()) => Status::Usage,
@@ -93,8 +98,10 @@ fn run_with<R: Threads + Wait + Sync, S: Source, K: Sink, G: Gate + Sync>(
     sink: &mut K,
     gate: &G,
 ) -> Status
-    ensures { (arguments : List (List ℕ)) → GiveLimits arguments (limits_of options)
+    ensures run { (arguments : List (List ℕ)) → GiveLimits arguments (limits_of options)
         → IsRun result arguments (S.seen source.old) (S.seen source.new) (K.seen sink.old) (K.seen sink.new) }
+    ensures reading { (arguments : List (List ℕ)) → GiveLimits arguments (limits_of options)
+        → IsReadBy result arguments (S.seen source.old).left (S.seen source.new).left }
 {
     let workers = options.workers();
     let maker = ByWorkers {
@@ -117,8 +124,10 @@ fn run_by<M: RowMaker, S: Source, K: Sink>(
     sink: &mut K,
 ) -> Status
     requires { M.ready maker.now }
-    ensures { (arguments : List (List ℕ)) → GiveLimits arguments (limits_of options)
+    ensures run { (arguments : List (List ℕ)) → GiveLimits arguments (limits_of options)
         → IsRun result arguments (S.seen source.old) (S.seen source.new) (K.seen sink.old) (K.seen sink.new) }
+    ensures reading { (arguments : List (List ℕ)) → GiveLimits arguments (limits_of options)
+        → IsReadBy result arguments (S.seen source.old).left (S.seen source.new).left }
 {
     let Ok(mut reader) = LineReader::new(alloc) else {
         return Status::NoMemory;

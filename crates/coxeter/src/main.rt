@@ -5,7 +5,7 @@
 //! arguments say, behind a gate that holds nobody. Here the arguments are
 //! collected, which may run out of memory, and the run is handed a source and a sink. Where an argument is no
 //! text, a wrong argument is handed over in place of all. Each function but `main` is generic over the source and the
-//! sink, and its contract is that of one whole run, `IsRun` of `cox_shell`, so nothing is read or written before it,
+//! sink, and its contract is that of one whole run, `IsRun` and `IsReadBy` of `cox_shell`, so nothing is read or written before it,
 //! behind it or beside it; `main` makes the standard streams, and gives the status out.
 //!
 //! - `tests`: whole runs over sources and sinks in memory
@@ -31,6 +31,7 @@ ghost use Rattle.std.specs.Process.{exit_status};
 ghost use Rattle.std.specs.String.{string_bytes};
 ghost use Rattle.cox_shell.specs.ExitCode.{code_of};
 ghost use Rattle.cox_shell.specs.Top.{argument_texts};
+ghost use Rattle.cox_shell.specs.Reading.{IsReadBy};
 ghost use Rattle.cox_shell.specs.WholeRun.{IsRun};
 
 use cox_options::wrong_arguments;
@@ -54,20 +55,22 @@ fn run<R: Threads + Wait + Sync, S: Source, K: Sink>(
     source: &mut S,
     sink: &mut K,
 ) -> Status
-    ensures { IsRun result (argument_texts words.now) (S.seen source.old) (S.seen source.new) (K.seen sink.old) (K.seen sink.new) }
+    ensures run { IsRun result (argument_texts words.now) (S.seen source.old) (S.seen source.new) (K.seen sink.old) (K.seen sink.new) }
+    ensures reading { IsReadBy result (argument_texts words.now) (S.seen source.old).left (S.seen source.new).left }
 {
     cox_shell::run(rt, alloc, words, source, sink, &Open)
 }
 
 /// Runs the shell with these arguments.
-fn run_with<R: Threads + Wait + Sync, S: Source, K: Sink>(
+fn run_arguments<R: Threads + Wait + Sync, S: Source, K: Sink>(
     rt: &R,
     alloc: Global,
     arguments: &[String],
     source: &mut S,
     sink: &mut K,
 ) -> Status
-    ensures { IsRun result (map string_bytes arguments.now) (S.seen source.old) (S.seen source.new) (K.seen sink.old) (K.seen sink.new) }
+    ensures run { IsRun result (map string_bytes arguments.now) (S.seen source.old) (S.seen source.new) (K.seen sink.old) (K.seen sink.new) }
+    ensures reading { IsReadBy result (map string_bytes arguments.now) (S.seen source.old).left (S.seen source.new).left }
 {
     match texts(alloc, arguments) {
         Ok(texts) => run(rt, alloc, &texts, source, sink),
@@ -85,10 +88,11 @@ fn start<R: Threads + Wait + Sync, E: Env, S: Source, K: Sink>(
     sink: &mut K,
 ) -> Status
     ensures { (arguments : List (List ℕ))
-        × IsRun result arguments (S.seen source.old) (S.seen source.new) (K.seen sink.old) (K.seen sink.new) }
+        × IsRun result arguments (S.seen source.old) (S.seen source.new) (K.seen sink.old) (K.seen sink.new)
+        × IsReadBy result arguments (S.seen source.old).left (S.seen source.new).left }
 {
     match arguments_of(env, alloc, NAME) {
-        Ok(Some(arguments)) => run_with(rt, alloc, &arguments, source, sink),
+        Ok(Some(arguments)) => run_arguments(rt, alloc, &arguments, source, sink),
         Ok(None) => run(rt, alloc, &wrong_arguments(), source, sink),
         Err(_) => Status::NoMemory,
     }

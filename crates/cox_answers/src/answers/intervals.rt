@@ -10,7 +10,9 @@ ghost use Rattle.cox_base.specs.Interval.{IsBetween, IsCoatom, count_of_length};
 ghost use Rattle.cox_poly.specs.Puts.{Puts};
 ghost use Rattle.cox_print.specs.AnswerText.{elements_text};
 ghost use Rattle.cox_answers.specs.SessionLimits.{limits_of};
-ghost use Rattle.cox_answers.specs.InquiryQuestion.{RefusesLarge, IsElementsText, IsCountsText};
+ghost use Rattle.cox_print.specs.AnswerText.{elements_text};
+ghost use Rattle.cox_answers.specs.InquiryQuestion.{counts_text};
+ghost use Rattle.cox_answers.specs.Listed.{RefusesLarge, IsOfList};
 ghost use Rattle.cox_answers.specs.Putting.{PutsSome, PutsUnless, GivesInterval, words_at};
 
 use crate::answers::unanswered::{Unanswered, unrefused};
@@ -36,7 +38,7 @@ pub fn put_interval(
     requires first { IsWord table.now.rank y.now.items }
     requires second { IsWord table.now.rank w.now.items }
     ensures { PutsUnless result (RefusesLarge (limits_of options) (integer_matrix table.now) w.now.items)
-        (IsElementsText table.now.rank (IsBetween (integer_matrix table.now) y.now.items w.now.items)) out.old.items out.new.items }
+        (IsOfList (IsBetween (integer_matrix table.now) y.now.items w.now.items) (elements_text table.now.rank)) out.old.items out.new.items }
 {
     let context = interval_of(*out.allocator(), table, options, w)?;
     unrefused(put_between(out, table, &context, y))
@@ -51,7 +53,7 @@ pub fn put_coatoms(
 ) -> Result<(), Unanswered>
     requires word { IsWord table.now.rank w.now.items }
     ensures { PutsUnless result (RefusesLarge (limits_of options) (integer_matrix table.now) w.now.items)
-        (IsElementsText table.now.rank (IsCoatom (integer_matrix table.now) w.now.items)) out.old.items out.new.items }
+        (IsOfList (IsCoatom (integer_matrix table.now) w.now.items) (elements_text table.now.rank)) out.old.items out.new.items }
 {
     let context = interval_of(*out.allocator(), table, options, w)?;
     unrefused(put_shorter(out, &context, table.length(w)))
@@ -66,7 +68,7 @@ pub fn put_betti(
 ) -> Result<(), Unanswered>
     requires word { IsWord table.now.rank w.now.items }
     ensures { PutsUnless result (RefusesLarge (limits_of options) (integer_matrix table.now) w.now.items)
-        (IsCountsText (integer_matrix table.now) w.now.items) out.old.items out.new.items }
+        (IsOfList (IsInInterval (integer_matrix table.now) w.now.items) (counts_text (integer_matrix table.now) w.now.items)) out.old.items out.new.items }
 {
     prove!(w.len() <= MAX_LETTERS);
     let context = interval_of(*out.allocator(), table, options, w)?;
@@ -108,7 +110,7 @@ fn put_between(
     requires table { table.now ≡ context.now.matrix }
     requires word { IsWord context.now.matrix.rank y.now.items }
     ensures { (w : List ℕ) → IsListOf (IsInInterval (integer_matrix context.now.matrix) w) context.now.members
-        → PutsSome result (IsElementsText context.now.matrix.rank (IsBetween (integer_matrix context.now.matrix) y.now.items w))
+        → PutsSome result (IsOfList (IsBetween (integer_matrix context.now.matrix) y.now.items w) (elements_text context.now.matrix.rank))
         out.old.items out.new.items }
 {
     let between = members_above(*out.allocator(), table, context, y)?;
@@ -120,7 +122,7 @@ fn put_shorter(out: &mut Vec<u8>, context: &Context, letters: u32) -> Result<(),
     requires group { IsCoxeterMatrix context.now.matrix }
     ensures { (w : List ℕ) → IsListOf (IsInInterval (integer_matrix context.now.matrix) w) context.now.members
         → letters ≡ word_length (integer_matrix context.now.matrix) w
-        → PutsSome result (IsElementsText context.now.matrix.rank (IsCoatom (integer_matrix context.now.matrix) w)) out.old.items out.new.items }
+        → PutsSome result (IsOfList (IsCoatom (integer_matrix context.now.matrix) w) (elements_text context.now.matrix.rank)) out.old.items out.new.items }
 {
     let coatoms = members_below_length(*out.allocator(), context, letters)?;
     put_members(out, context, coatoms.as_slice())
@@ -131,7 +133,7 @@ fn put_counts(out: &mut Vec<u8>, context: &Context, letters: u32) -> Result<(), 
     requires short { letters ≤ MAX_LETTERS }
     ensures { (w : List ℕ) → IsListOf (IsInInterval (integer_matrix context.now.matrix) w) context.now.members
         → letters ≡ word_length (integer_matrix context.now.matrix) w
-        → PutsSome result (IsCountsText (integer_matrix context.now.matrix) w) out.old.items out.new.items }
+        → PutsSome result (IsOfList (IsInInterval (integer_matrix context.now.matrix) w) (counts_text (integer_matrix context.now.matrix) w)) out.old.items out.new.items }
 {
     let counts = counts(context);
     put_numbers(out, &counts[..letters as usize + 1])

@@ -4,7 +4,7 @@ ghost use Rattle.cox_base.specs.Matrix.{IsWord};
 ghost use Rattle.cox_base.specs.Admissible.{IsCoxeterMatrix};
 ghost use Rattle.cox_base.specs.IntegerMatrix.{integer_matrix};
 ghost use Rattle.cox_answers.specs.SessionLimits.{limits_of};
-ghost use Rattle.cox_answers.specs.InquiryQuestion.{RefusesLarge};
+ghost use Rattle.cox_answers.specs.Listed.{RefusesLarge};
 ghost use Rattle.cox_answers.specs.RowReply.{RefusesRow};
 ghost use Rattle.cox_answers.specs.Kept.{AreKept, HoldsElement, HoldsRow, Keeps, IsMore};
 

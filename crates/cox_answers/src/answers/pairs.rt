@@ -14,7 +14,8 @@ ghost use Rattle.cox_rows.specs.Holding.{HasRow};
 ghost use Rattle.cox_poly.specs.Puts.{Puts};
 ghost use Rattle.cox_answers.specs.Kept.{IsSameWork};
 ghost use Rattle.cox_answers.specs.SessionLimits.{limits_of};
-ghost use Rattle.cox_answers.specs.RowReply.{RefusesRow, pairs_text, IsPairsText, IsExtremalBelow};
+ghost use Rattle.cox_answers.specs.Listed.{IsOfRow};
+ghost use Rattle.cox_answers.specs.RowReply.{RefusesRow, pairs_text, IsExtremalBelow};
 ghost use Rattle.cox_answers.specs.Putting.{PutsSome, PutsUnless, words_at};
 
 use crate::answers::unanswered::{Unanswered, unrefused};
@@ -36,7 +37,8 @@ impl Workspace {
         requires word { IsWord self.old.table.rank w.now.items }
         requires ready { M.ready maker.now }
         ensures puts { PutsUnless result (RefusesRow (limits_of self.old.options) (integer_matrix self.old.table) w.now.items)
-            (IsPairsText self.old.table.rank (integer_matrix self.old.table) w.now.items (IsInInterval (integer_matrix self.old.table) w.now.items))
+            (IsOfRow (integer_matrix self.old.table) w.now.items (IsInInterval (integer_matrix self.old.table) w.now.items)
+            (pairs_text self.old.table.rank (integer_matrix self.old.table) w.now.items))
             out.old.items out.new.items }
         ensures same { IsSameWork self.old self.new }
         ensures group { IsCoxeterMatrix self.old.table }
@@ -56,7 +58,8 @@ impl Workspace {
         requires word { IsWord self.old.table.rank w.now.items }
         requires ready { M.ready maker.now }
         ensures puts { PutsUnless result (RefusesRow (limits_of self.old.options) (integer_matrix self.old.table) w.now.items)
-            (IsPairsText self.old.table.rank (integer_matrix self.old.table) w.now.items (IsExtremalBelow (integer_matrix self.old.table) w.now.items))
+            (IsOfRow (integer_matrix self.old.table) w.now.items (IsExtremalBelow (integer_matrix self.old.table) w.now.items)
+            (pairs_text self.old.table.rank (integer_matrix self.old.table) w.now.items))
             out.old.items out.new.items }
         ensures same { IsSameWork self.old self.new }
         ensures group { IsCoxeterMatrix self.old.table }
@@ -73,8 +76,8 @@ fn put_all_pairs(out: &mut Vec<u8>, rows: &Rows, i: u32) -> Result<(), NoMemory>
     requires member { i < length rows.now.elements.members }
     requires there { HasRow rows.now i }
     ensures { (w : List ℕ) → word_at rows.now.elements.members i ≡ normal_form (integer_matrix rows.now.elements.matrix) w
-        → PutsSome result (IsPairsText rows.now.elements.matrix.rank (integer_matrix rows.now.elements.matrix) w
-        (IsInInterval (integer_matrix rows.now.elements.matrix) w)) out.old.items out.new.items }
+        → PutsSome result (IsOfRow (integer_matrix rows.now.elements.matrix) w (IsInInterval (integer_matrix rows.now.elements.matrix) w)
+        (pairs_text rows.now.elements.matrix.rank (integer_matrix rows.now.elements.matrix) w)) out.old.items out.new.items }
 {
     let below = members_below(*out.allocator(), rows, i)?;
     put_pairs(out, rows, i, below.as_slice())
@@ -86,8 +89,8 @@ fn put_extremal_pairs(out: &mut Vec<u8>, rows: &Rows, i: u32) -> Result<(), NoMe
     requires member { i < length rows.now.elements.members }
     requires there { HasRow rows.now i }
     ensures { (w : List ℕ) → word_at rows.now.elements.members i ≡ normal_form (integer_matrix rows.now.elements.matrix) w
-        → PutsSome result (IsPairsText rows.now.elements.matrix.rank (integer_matrix rows.now.elements.matrix) w
-        (IsExtremalBelow (integer_matrix rows.now.elements.matrix) w)) out.old.items out.new.items }
+        → PutsSome result (IsOfRow (integer_matrix rows.now.elements.matrix) w (IsExtremalBelow (integer_matrix rows.now.elements.matrix) w)
+        (pairs_text rows.now.elements.matrix.rank (integer_matrix rows.now.elements.matrix) w)) out.old.items out.new.items }
 {
     prove!(rows.context().len() > 0);
     let Some(row) = rows.row(i) else {

@@ -17,7 +17,8 @@ ghost use Rattle.cox_context.specs.Numbers.{word_at};
 ghost use Rattle.cox_rows.specs.Holding.{HasRow};
 ghost use Rattle.cox_answers.specs.Kept.{IsSameWork};
 ghost use Rattle.cox_answers.specs.SessionLimits.{limits_of};
-ghost use Rattle.cox_answers.specs.RowReply.{RefusesRow, IsIhbettiText};
+ghost use Rattle.cox_answers.specs.Listed.{IsOfRow};
+ghost use Rattle.cox_answers.specs.RowReply.{RefusesRow, ihbetti_text};
 ghost use Rattle.cox_answers.specs.Putting.{PutsSome, PutsUnless};
 
 use crate::answers::unanswered::{Unanswered, unrefused};
@@ -39,7 +40,8 @@ impl Workspace {
         requires word { IsWord self.old.table.rank w.now.items }
         requires ready { M.ready maker.now }
         ensures puts { PutsUnless result (RefusesRow (limits_of self.old.options) (integer_matrix self.old.table) w.now.items)
-            (IsIhbettiText (integer_matrix self.old.table) w.now.items) out.old.items out.new.items }
+            (IsOfRow (integer_matrix self.old.table) w.now.items (IsInInterval (integer_matrix self.old.table) w.now.items)
+            (ihbetti_text (integer_matrix self.old.table) w.now.items)) out.old.items out.new.items }
         ensures same { IsSameWork self.old self.new }
         ensures group { IsCoxeterMatrix self.old.table }
     {
@@ -54,7 +56,8 @@ fn put_sums(out: &mut Vec<u8>, rows: &Rows, i: u32) -> Result<(), NoMemory>
     requires member { i < length rows.now.elements.members }
     requires there { HasRow rows.now i }
     ensures { (w : List ℕ) → word_at rows.now.elements.members i ≡ normal_form (integer_matrix rows.now.elements.matrix) w
-        → PutsSome result (IsIhbettiText (integer_matrix rows.now.elements.matrix) w) out.old.items out.new.items }
+        → PutsSome result (IsOfRow (integer_matrix rows.now.elements.matrix) w
+        (IsInInterval (integer_matrix rows.now.elements.matrix) w) (ihbetti_text (integer_matrix rows.now.elements.matrix) w)) out.old.items out.new.items }
 {
     prove!(rows.context().len() > 0);
     let sums = row_sums(rows, i);

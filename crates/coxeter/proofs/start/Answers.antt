@@ -1,13 +1,13 @@
 -- The proof of `start`: the arguments of the run that it is.
 use Rattle.std.proofs.Common.{[]}
-use Rattle.cox_shell.proofs.WholeRuns.{run-none}
+use Rattle.cox_shell.proofs.WholeRuns.{run-none, read-none}
 use Rattle.coxeter.proofs.start.Goals as goal
 
 pub returns-in-Ok-Some : goal.returns-in-Ok-Some
-returns-in-Ok-Some g c = (_, c.run_with.ensures)
+returns-in-Ok-Some g c = (_, c.run_arguments.ensures.run, c.run_arguments.ensures.reading)
 
 pub returns-in-Ok-None : goal.returns-in-Ok-None
-returns-in-Ok-None g c = (_, c.run.ensures)
+returns-in-Ok-None g c = (_, c.run.ensures.run, c.run.ensures.reading)
 
 pub returns-in-Err : goal.returns-in-Err
-returns-in-Err g c = ([], run-none [] _ _)
+returns-in-Err g c = ([], run-none [] _ _, read-none [] _)

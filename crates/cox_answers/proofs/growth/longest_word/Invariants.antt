@@ -1,5 +1,5 @@
 -- What the loop of `longest_word` keeps: so many letters of the group.
-use Rattle.std.proofs.Common.{◌≡◌, ℕ, length}
+use Rattle.std.proofs.Common.{◌≡◌, length}
 use Rattle.cox_base.specs.Matrix.{IsWord}
 use Rattle.cox_answers.proofs.growth.longest_word.Given as goal
 

@@ -3,13 +3,13 @@ use Rattle.std.proofs.Common.{◌≡◌, ◌+◌, ◌∷◌, [], ◌∙◌, ap, 
 use Rattle.std.proofs.lemmas.List.{length-append}
 use Rattle.std.proofs.lemmas.List.Elements.{All-append, All-cons, All-nil}
 use Rattle.cox_base.specs.Matrix.{IsLetter, IsWord}
-use Rattle.cox_command.specs.Generated.{state_after, step_letters}
+use Rattle.cox_command.specs.Generated.{state_after}
 use Rattle.cox_command.specs.declared.generated.TheConstants.{WORD_LETTERS}
-use Rattle.cox_command.proofs.GeneratedWords.{state_after-next, step_letters-next}
+use Rattle.cox_command.proofs.GeneratedWords.{step_letters, state_after-next, step_letters-next}
 use Rattle.cox_command.proofs.generated.work_word.Goals as goal
 
 pub loop-init : goal.loop-init
-unfolding state_after step_letters
+unfolding state_after
 loop-init c = search rules
 
 pub loop-preserved : goal.loop-preserved

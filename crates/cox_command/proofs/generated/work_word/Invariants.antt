@@ -1,7 +1,8 @@
 -- What the loop of `work_word` keeps.
 use Rattle.std.proofs.Common.{◌≡◌, ◌≤◌, length}
 use Rattle.cox_base.specs.Matrix.{IsWord}
-use Rattle.cox_command.specs.Generated.{state_after, step_letters}
+use Rattle.cox_command.specs.Generated.{state_after}
+use Rattle.cox_command.proofs.GeneratedWords.{step_letters}
 use Rattle.cox_command.specs.declared.limits.TheConstants.{MAX_START}
 use Rattle.cox_command.proofs.generated.work_word.Given as goal
 

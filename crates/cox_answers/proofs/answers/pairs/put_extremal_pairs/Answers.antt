@@ -28,6 +28,6 @@ returns c = λ w is.
     let numbers = c.in-Some.row.now.extremal.items in
     let list = extremal-list A g e.members closed c.args.i c.requires.member w is numbers (c.in-Some.ensures {u = tt}).row.is.extremal in (
       pairs_text e.matrix.rank A w (row_of A g w) (words_at e.members numbers),
-      (row_of A g w, row_of-is A g w, words_at e.members numbers, list, refl),
+      (row_of A g w, row_of-is A g w, (words_at e.members numbers, list, refl)),
       rw c.extremal.ensures at (c.put_pairs.ensures w (row_of A g w) is (row_of-is A g w)),
     )

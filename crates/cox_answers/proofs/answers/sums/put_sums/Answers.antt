@@ -32,6 +32,6 @@ returns c = λ w is.
     = sums-prefix c.row_sums-sums.result c.length.result (sum_over words.0 (λ x. times_q_power (word_length A x) (p x)))
     (omega (arith, c.length.ensures.short, c.sums.ensures.size)) values in (
       ihbetti_text A w p words.0,
-      (p, row_of-is A g w, words.0, words.1, refl),
+      (p, row_of-is A g w, (words.0, words.1, refl)),
       rw (c.sums.ensures.sums, prefix, size) at c.put_numbers.ensures,
     )

@@ -1,0 +1,15 @@
+-- Scripts that are longer than the limit.
+use Rattle.std.specs.Prelude.{◌≡◌, ℕ, ◌<◌, false, List, length}
+use Rattle.cox_outside.specs.declared.limits.TheConstants.{INPUT_LIMIT}
+use Rattle.cox_outside.specs.Outlet.{Outlet, Writes}
+use Rattle.cox_answers.specs.Limits.{Limits}
+use Rattle.cox_shell.specs.Reply.{Reply}
+use Rattle.cox_shell.specs.Answer.{AreScriptReplies, texts, has_quit}
+
+-- the replies to the script's lines within the limit were written, all and nothing else; none of them ends the run, and there are more bytes
+pub record AnswersWithin (limits : Limits) (script : List ℕ) (old new : Outlet) : Type 0 where
+  pub replies : List Reply
+  pub are_replies : AreScriptReplies limits script replies
+  pub none_quits : has_quit replies ≡ false
+  pub over : INPUT_LIMIT < length script
+  pub writes : Writes (texts replies) old new
