@@ -69,6 +69,33 @@ class Finite(unittest.TestCase):
             self.assertEqual(finite, positive_definite(matrix), matrix)
         self.assertGreater(min(found.values()), 300)
 
+    def test_affine_groups(self):
+        """Each affine diagram, and each without one of its nodes (Humphreys, section 2.5): so there is none between."""
+        diagrams = [
+            ("E 6", [(0, 1), (1, 2), (0, 3), (3, 4), (0, 5), (5, 6)], {}),
+            ("E 7", [(0, 1), (0, 2), (2, 3), (3, 4), (0, 5), (5, 6), (6, 7)], {}),
+            ("E 8", [(0, 1), (0, 2), (2, 3), (0, 4), (4, 5), (5, 6), (6, 7), (7, 8)], {}),
+            ("D 4", [(0, 1), (0, 2), (0, 3), (0, 4)], {}),
+            ("F 4", [(0, 1), (1, 2), (2, 3), (3, 4)], {(1, 2): 4}),
+            ("G 2", [(0, 1), (1, 2)], {(0, 1): 6}),
+        ]
+        for n in range(3, 9):
+            path = [(s, s + 1) for s in range(n - 1)]
+            diagrams.append((f"C {n}", [*path, (n - 1, n)], {(0, 1): 4, (n - 1, n): 4}))
+            diagrams.append((f"B {n}", [*path, (1, n)], {(n - 2, n - 1): 4}))
+            if n > 4:
+                diagrams.append((f"D {n}", [*path[:-1], (n - 3, n - 1), (1, n)], {}))
+        for name, edges, labels in diagrams:
+            size = max(max(edge) for edge in edges) + 1
+            rows = [[1 if s == t else 2 for t in range(size)] for s in range(size)]
+            for s, t in edges:
+                rows[s][t] = rows[t][s] = labels.get((s, t), 3)
+            with self.subTest(name):
+                self.assertFalse(CoxeterGroup(rows).is_finite())
+                for node in range(size):
+                    others = [it for it in range(size) if it != node]
+                    self.assertLess(kinds.cardinality(kinds.part(rows, others)), math.inf)
+
     def test_products_of_groups(self):
         # A 2 and B 3 and G 2, with nodes in disorder
         pairs = {(0, 4): 3, (1, 3): 3, (3, 6): 4, (2, 5): 6}

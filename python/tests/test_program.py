@@ -115,11 +115,13 @@ class Life(unittest.TestCase):
         """Python is killed while the program computes and reads nothing. The program was started by the first thread, by
         another one, or in a forked process."""
         asks = "coxeter_shell.CoxeterGroup('A', 3, program=sys.argv[1]).length('1')\n"
+        first = "it = threading.Thread(target=coxeter_shell.CoxeterGroup('A', 3).length, args='1')\nit.start()\nit.join()\n"
         for start in (
             asks,
             f"threading.Thread(target=lambda: {asks.strip()}).start()\n",
             f"if os.fork() == 0: {asks.strip()}\n",
             f"if os.fork() == 0: threading.Thread(target=lambda: {asks.strip()}).start()\n",
+            f"{first}if os.fork() == 0: threading.Thread(target=lambda: {asks.strip()}).start()\n",
         ):
             with self.subTest(start), fakes.Fakes() as folder, tempfile.TemporaryDirectory() as told:
                 path = os.path.join(told, "pids")
