@@ -1,6 +1,6 @@
 -- Words as they are written: `e` alone for the empty word, else letters in decimal. In a group of rank 1 to 9 each letter is one digit, and
 -- letters stand side by side; in a group of a greater rank single dots stand between them. The rank is that of the group.
-use Rattle.std.specs.Prelude.{ℕ, ◌+◌, ◌==◌, Bool, false, if◌then◌else◌, nat_le, List, [], ◌∷◌, ◌++◌, length, map, take, codes, decimal}
+use Rattle.std.specs.Prelude.{ℕ, ◌+◌, ◌==◌, Bool, false, if◌then◌else◌, nat_le, List, [], ◌∷◌, length, map, take, codes, decimal}
 use Rattle.std.specs.Prelude.{find, position, sum_by, Option, None, is_none}
 use Rattle.std.specs.List.{filter_map, join_by, slice_split}
 use Rattle.std.specs.Option.{option_map}

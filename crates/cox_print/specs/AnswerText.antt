@@ -1,5 +1,5 @@
 -- The texts of answers, as lists of bytes. The rank is that of the group.
-use Rattle.std.specs.Prelude.{ℕ, ℤ, ◌++◌, Bool, true, false, if◌then◌else◌, List, [], ◌∷◌, length, map, codes, decimal}
+use Rattle.std.specs.Prelude.{ℕ, ℤ, ◌++◌, Bool, if◌then◌else◌, List, ◌∷◌, length, map, codes, decimal}
 use Rattle.std.specs.Fmt.{signed_decimal}
 use Rattle.std.specs.List.{flat_map, join_by}
 use Rattle.cox_base.specs.WordText.{letters_or, word_text}

@@ -1,5 +1,5 @@
 -- The lists of descents: by any test that tells the descents among the letters; the first of the list is the least descent.
-use Rattle.std.proofs.Common.{◌≡◌, ℕ, zero, suc, ◌+◌, ◌≤◌, ◌<◌, Bool, true, false, nat_lt, List, [], ◌∷◌, ◌++◌, filter, ◌↔◌, refl}
+use Rattle.std.proofs.Common.{◌≡◌, ℕ, zero, suc, ◌+◌, ◌≤◌, ◌<◌, Bool, true, false, nat_lt, List, [], ◌∷◌, filter, ◌↔◌, refl}
 use Rattle.std.proofs.Common.{sym, ◌∙◌, ⊎_elim, arith, ltb-true, lt-ltb}
 use Rattle.std.proofs.lemmas.Bool.{cases_eq, false≢true}
 use Rattle.std.specs.Bool.{one_answer}

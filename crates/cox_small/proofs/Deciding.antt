@@ -1,21 +1,21 @@
 -- It is decided whether there are more than max small roots: different ones are collected until there are max + 1, or until no letter
 -- leads from them to another.
-use Rattle.std.proofs.Common.{◌≡◌, ℕ, zero, suc, ◌+◌, ◌≤◌, ◌<◌, ◌⊎◌, ℤ, pos, ◌*ℤ◌, ◌≤ℤ◌, ◌<ℤ◌, refl, sym, ◌∙◌, subst, inl, inr, ⊎_elim}
-use Rattle.std.proofs.Common.{arith, ap, true, false, Bool, true≢false}
+use Rattle.std.proofs.Common.{◌≡◌, ℕ, zero, suc, ◌+◌, ◌≤◌, ◌<◌, ◌⊎◌, ℤ, pos, ◌*ℤ◌, refl, sym, ◌∙◌, subst, inl, inr, ⊎_elim}
+use Rattle.std.proofs.Common.{arith, true, false, Bool, true≢false}
 use Rattle.std.proofs.lemmas.Bool.{cases_eq, cases_lt}
 use Rattle.std.proofs.lemmas.Bool.Decides.{Decides-int_eq}
 use Rattle.std.proofs.Math.Path.{fun_ext}
-use Rattle.std.proofs.lemmas.Int.{ints, by_lt_z}
+use Rattle.std.proofs.lemmas.Int.{by_lt_z}
 use Rattle.std.specs.Ordering.{int_eq}
 use Rattle.cox_base.specs.Matrix.{IsLetter}
 use Rattle.cox_base.specs.IntegerMatrix.{IntegerMatrix}
 use Rattle.cox_base.specs.Admissible.{IsAdmissible}
-use Rattle.cox_lemmas.proofs.Ring.{linears, multiply_out}
+use Rattle.cox_lemmas.proofs.Ring.{linears}
 use Rattle.cox_reflect.specs.Action.{Vector, simple_root, pairing, reflect}
 use Rattle.cox_reflect.specs.Transpose.{transposed}
 use Rattle.cox_reflect.proofs.Sums.{letter_cases, simple_root-other}
 use Rattle.cox_reflect.proofs.Action.{reflect-other}
-use Rattle.cox_small.specs.SmallRoots.{IsShortStep, IsSmall, simple, step, IsSmallRoot, HasMoreSmallRoots}
+use Rattle.cox_small.specs.SmallRoots.{IsShortStep, IsSmall, simple, step, HasMoreSmallRoots}
 use Rattle.cox_small.specs.RootCounts.{HasFewSmallRoots}
 use Rattle.cox_small.proofs.ElementaryRoots.{small-coroot}
 
