@@ -99,7 +99,8 @@ fn counts_pieces_first(rt: HostRuntime) {
 
 #[test]
 fn gives_words(rt: HostRuntime) -> Result<(), Fail> {
-    let Command::Ask(Inquiry::Two(TwoWord::Inorder, y, w)) = parse(b"inorder e  212", Some(2))? else {
+    let Command::Ask(Inquiry::Two(TwoWord::Inorder, y, w)) = parse(b"inorder e  212", Some(2))?
+    else {
         panic!(rt; "two words");
     };
     assert!(rt; y.is_empty() && w.as_slice() == [2, 1, 2].as_slice());
