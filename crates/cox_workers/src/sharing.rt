@@ -1,5 +1,5 @@
 //! One row by several workers: each makes rows that it needs.
-ghost use Rattle.std.specs.Prelude.{◌≡◌, ℕ, ◌<◌, length, IfSome};
+ghost use Rattle.std.specs.Prelude.{◌≡◌, ℕ, ◌<◌, ◌+◌, ◌^◌, ◌%◌, length, IfSome};
 ghost use Rattle.cox_row.specs.Rising.{number_at};
 
 use crate::bench::Bench;
@@ -125,7 +125,8 @@ impl<'a> Bench<'a> {
 /// The number at this turn. The turns go through all numbers once, from the place `start` on and round to the first place.
 fn number_at_turn(numbers: &[u32], start: usize, turn: usize) -> u32
     requires { turn < length numbers.now }
-    ensures { (k : ℕ) × (k < length numbers.now) × (result ≡ number_at numbers.now k) }
+    ensures some { (k : ℕ) × (k < length numbers.now) × (result ≡ number_at numbers.now k) }
+    ensures turn { start + turn < 2 ^ 64 → result ≡ number_at numbers.now ((start + turn) % length numbers.now) }
 {
     let place = start.wrapping_add(turn) % numbers.len();
     numbers[place]

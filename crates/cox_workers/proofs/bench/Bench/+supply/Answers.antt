@@ -95,7 +95,7 @@ supply-provide-requires g t c =
     let are : AreNeeds (integer_matrix e.matrix) e.members d.letter (word_at e.members d.member) items = c.in-Ok.ensures in
     let place : (k : ℕ) × (k < length items) × (c.number_at_turn-u.result ≡ number_at items k) =
     subst (λ list. (k : ℕ) × (k < length list) × (c.number_at_turn-u.result ≡ number_at list k)) c.as_slice.ensures.value
-    c.number_at_turn-u.ensures in
+    c.number_at_turn-u.ensures.some in
     let before = correction-before e c.len-len.ensures.admissible c.len-len.ensures.closed d c.of-descent.ensures.descent items are
     place.0 place.1
     in (
@@ -112,7 +112,7 @@ supply-corrections-preserved g t c =
     let are : AreNeeds (integer_matrix e.matrix) e.members d.letter (word_at e.members d.member) items = c.in-Ok.ensures in
     let place : (k : ℕ) × (k < length items) × (c.number_at_turn-u.result ≡ number_at items k) =
     subst (λ list. (k : ℕ) × (k < length list) × (c.number_at_turn-u.result ≡ number_at list k)) c.as_slice.ensures.value
-    c.number_at_turn-u.ensures in
+    c.number_at_turn-u.ensures.some in
     let needed : IsNeededAt e c.args.i c.number_at_turn-u.result = rw place.2
     (correction-needed_at e c.len-len.ensures.admissible c.len-len.ensures.closed d c.of-descent.ensures.descent
     c.of-descent.ensures.number are place.1)
