@@ -24,7 +24,7 @@ pub enum Missing {
         /// The coefficient, with its sign.
         value: i128,
     },
-    /// No coefficient of the row of w, which is needed, is above the limit, but mu(x,w) has more than 32 bits.
+    /// No coefficient of the row of w, which is needed, is above the limit, but mu(x,w) is above [`MU_LIMIT`](cox_row::MU_LIMIT) in absolute value.
     #[error("the value {value} of mu at members {x} and {w} is above the limit")]
     Mu {
         /// The number of x, the first with such a value.
