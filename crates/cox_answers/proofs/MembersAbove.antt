@@ -14,7 +14,7 @@ use Rattle.cox_reflect.proofs.Lengths.{word_length-is}
 use Rattle.cox_reflect.proofs.Bruhat.{below-same, below-length, below-equal_length}
 use Rattle.cox_context.specs.Closed.{IsClosed}
 use Rattle.cox_context.specs.Numbers.{word_at}
-use Rattle.cox_context.proofs.ListLemmas.{rising-length, rising-place}
+use Rattle.cox_context.proofs.PlacedWords.{rising-length, rising-place}
 use Rattle.cox_context.proofs.Shifting.{element-at, length-at, member-below}
 use Rattle.cox_context.proofs.IntervalLemmas.{is_below, is_below-tells}
 

@@ -16,7 +16,7 @@ use Rattle.cox_context.specs.Closed.{IsClosed}
 use Rattle.cox_base.specs.Members.{IsInInterval}
 use Rattle.cox_base.specs.SortedList.{IsListOf, IsRising}
 use Rattle.cox_context.specs.Numbers.{word_at}
-use Rattle.cox_context.proofs.ListLemmas.{IsPlaced, contains-placed, placed-contains, contains-at}
+use Rattle.cox_context.proofs.PlacedWords.{IsPlaced, contains-placed, placed-contains, contains-at}
 use Rattle.cox_context.proofs.SortedLemmas.{IsListOf-filter}
 use Rattle.cox_context.proofs.IntervalLemmas.{is_below, is_below-tells}
 use Rattle.cox_context.proofs.Shifting.{element-at}

@@ -16,7 +16,7 @@ use Rattle.cox_context.specs.FaultMeaning.{IsRefusal}
 use Rattle.cox_context.specs.declared.fault.ContextFault.{ContextFault}
 use Rattle.cox_context.specs.declared.fault.ContextFault.TheVariants as context
 use Rattle.cox_context.proofs.Ideals.{element-tail}
-use Rattle.cox_context.proofs.ListLemmas.{contains-placed, contains-at}
+use Rattle.cox_context.proofs.PlacedWords.{contains-placed, contains-at}
 use Rattle.cox_context.proofs.Shifting.{first-member}
 use Rattle.cox_reflect.proofs.NormalElements.{element-word}
 use Rattle.cox_context.proofs.SortedLemmas.{HasMoreThan-few}

@@ -8,7 +8,7 @@ use Rattle.cox_context.specs.Closed.{Elements}
 use Rattle.cox_base.specs.Members.{IsElement}
 use Rattle.cox_base.specs.SortedList.{IsListOf}
 use Rattle.cox_context.specs.Numbers.{word_at}
-use Rattle.cox_context.proofs.ListLemmas.{IsPlaced, contains-at, contains-placed, placed-contains, rising-place}
+use Rattle.cox_context.proofs.PlacedWords.{IsPlaced, contains-at, contains-placed, placed-contains, rising-place}
 use Rattle.cox_row.specs.Rising.{number_at}
 use Rattle.cox_scc.specs.Reach.{HasEdge, Reaches, AreClasses}
 use Rattle.cox_cells.specs.declared.kind.CellKind.{CellKind}

@@ -7,7 +7,7 @@ use Rattle.cox_reflect.proofs.ShortLexFirst.{IsBefore, IsBefore-asym, IsBefore-i
 use Rattle.cox_base.specs.Members.{IsElement}
 use Rattle.cox_base.specs.SortedList.{IsListOf}
 use Rattle.cox_context.specs.Numbers.{word_at}
-use Rattle.cox_context.proofs.ListLemmas.{IsPlaced, contains-at, contains-placed, placed-contains, rising-before}
+use Rattle.cox_context.proofs.PlacedWords.{IsPlaced, contains-at, contains-placed, placed-contains, rising-before}
 use Rattle.cox_context.proofs.SortedLemmas.{IsListOf-unique}
 use Rattle.cox_cells.specs.declared.kind.CellKind.{CellKind}
 use Rattle.cox_cells.specs.Cells.{IsInCell, first_of, IsCell, AreCells}
@@ -49,8 +49,8 @@ module _ (kind : CellKind) (A : IntegerMatrix) where
     cell-at : (k : ℕ) → k < length cells → IsCell kind A (slice_index_or cells k [])
     cell-at k l = h.each k [] l
 
-    word-of : (k : ℕ) → k < length cells → word_at (map first_of cells) k ≡ first_of (slice_index_or cells k [])
-    word-of k l = get_or-map first_of cells k [] [] l
+    word_at-firsts : (k : ℕ) → k < length cells → word_at (map first_of cells) k ≡ first_of (slice_index_or cells k [])
+    word_at-firsts k l = get_or-map first_of cells k [] [] l
 
     pub firsts : IsListOf (IsFirst kind A) (map first_of cells)
     firsts = record {
@@ -58,7 +58,7 @@ module _ (kind : CellKind) (A : IntegerMatrix) where
       sound = λ x c.
           let p = contains-placed (map first_of cells) x c in let l : p.i < length cells = omega
           (arith, p.within, length-map cells first_of)
-          in rw (sym p.is ∙ word-of p.i l) (first-is (slice_index_or cells p.i []) (cell-at p.i l));
+          in rw (sym p.is ∙ word_at-firsts p.i l) (first-is (slice_index_or cells p.i []) (cell-at p.i l));
       whole = λ x f. listed x f (h.whole x f.element);
     }
       where
@@ -71,7 +71,7 @@ module _ (kind : CellKind) (A : IntegerMatrix) where
             (record {
               i = k;
               within = omega (arith, l, length-map cells first_of);
-              is = word-of k l ∙ ap first_of same
+              is = word_at-firsts k l ∙ ap first_of same
                   ∙ only-first cell c x f there;
             })
 
@@ -88,7 +88,7 @@ module _ (kind : CellKind) (A : IntegerMatrix) where
       at k l =
           let m : k < length others = omega (arith, l, size) in
           let e : first_of (slice_index_or cells k []) ≡ first_of (slice_index_or others k []) =
-          sym (word-of cells p k l) ∙ ap (λ (ws : List (List ℕ)). word_at ws k) words ∙ word-of others q k m in
+          sym (word_at-firsts cells p k l) ∙ ap (λ (ws : List (List ℕ)). word_at ws k) words ∙ word_at-firsts others q k m in
           let other : IsListOf (IsInCell kind A (first_of (slice_index_or cells k []))) (slice_index_or others k []) =
           rw e (cell-at others q k m).all
           in IsListOf-unique (IsInCell kind A (first_of (slice_index_or cells k []))) _ _ (cell-at cells p k l).all other

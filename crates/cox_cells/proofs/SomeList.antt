@@ -10,7 +10,7 @@ use Rattle.cox_base.specs.Admissible.{IsAdmissible}
 use Rattle.cox_base.specs.Members.{IsElement}
 use Rattle.cox_base.specs.SortedList.{IsListOf}
 use Rattle.cox_context.specs.Numbers.{word_at}
-use Rattle.cox_context.proofs.ListLemmas.{contains-at, contains-placed}
+use Rattle.cox_context.proofs.PlacedWords.{contains-at, contains-placed}
 use Rattle.cox_reflect.proofs.Listing.{contains-in, in-contains}
 use Rattle.cox_context.proofs.SortedLemmas.{IsListOf-unique, IsListOf-filter}
 use Rattle.cox_cells.specs.declared.kind.CellKind.{CellKind}
@@ -63,12 +63,12 @@ module _ (kind : CellKind) (A : IntegerMatrix) (g : IsAdmissible A) (elements : 
   first-same : (x : List ℕ) → is_first x ≡ true → first_of (cell_of x) ≡ x
   first-same x t = (bytes_decides (first_of (cell_of x)) x).0 t
 
-  some-of : (x : List ℕ) → IsElement A x → 0 < length (cell_of x)
-  some-of x e = let p = contains-placed (cell_of x) x ((cell-list x e).whole x (cell-itself kind A x e)) in omega (arith, p.within)
+  cell-some : (x : List ℕ) → IsElement A x → 0 < length (cell_of x)
+  cell-some x e = let p = contains-placed (cell_of x) x ((cell-list x e).whole x (cell-itself kind A x e)) in omega (arith, p.within)
 
   cell-is : (x : List ℕ) → IsElement A x → is_first x ≡ true → IsCell kind A (cell_of x)
   cell-is x e t = record {
-    some = some-of x e;
+    some = cell-some x e;
     all = rw (first-same x t) (cell-list x e);
   }
 
@@ -85,7 +85,7 @@ module _ (kind : CellKind) (A : IntegerMatrix) (g : IsAdmissible A) (elements : 
     each = All-map (IsCell kind A) cell_of firsts (λ k d l.
         let p = first-at k l in rw (get_or_default firsts k d [] l) (cell-is (word_at firsts k) p.element p.passes));
     rising = rw words firsts-list.rising;
-    whole = λ x e. whole x e (some-of x e);
+    whole = λ x e. whole x e (cell-some x e);
   }
     where
       words : map first_of (map cell_of firsts) ≡ firsts

@@ -22,10 +22,10 @@ use Rattle.cox_context.specs.Numbers.{word_at}
 use Rattle.cox_context.specs.Numbering.{IsNumberOf}
 use Rattle.cox_context.specs.Shifts.{entry, AreLeftShifts, AreRightShifts, AreSets}
 use Rattle.cox_context.specs.Sets.{is_lower, has_letter, AreLoweringSets}
-use Rattle.cox_context.proofs.SetLemmas.{has_letter-bit}
+use Rattle.cox_context.proofs.LetterSets.{has_letter-bit}
 use Rattle.cox_reflect.proofs.Roots.{left_descent-letter, descent-letter}
 use Rattle.cox_base.specs.ShortLex.{letters}
-use Rattle.cox_context.proofs.ListLemmas.{rising-place}
+use Rattle.cox_context.proofs.PlacedWords.{rising-place}
 use Rattle.cox_context.proofs.ShiftPlaces.{place-within}
 use Rattle.cox_context.proofs.RightShifts.{first-letter}
 use Rattle.cox_context.proofs.Shifting.{length-at, first-member, shift-less, right_shift-less, descent-member, right_descent-member}

@@ -20,10 +20,10 @@ use Rattle.cox_context.specs.Rows.{IsRowPushed}
 use Rattle.cox_context.specs.WantedMembers.{IsTop, IsBelowTop}
 use Rattle.cox_context.specs.Growth.{IsNext, AreNumbers, AreBelowTop}
 use Rattle.cox_context.specs.Building.{Search, Building, IsBuilder}
-use Rattle.cox_context.proofs.ListLemmas.{placed-contains, contains-at, word_at-old, word_at-new}
+use Rattle.cox_context.proofs.PlacedWords.{placed-contains, contains-at, word_at-old, word_at-new}
 use Rattle.cox_context.proofs.ShiftPlaces.{entry-is, entry-old, entry-new, entry_number-some}
 use Rattle.cox_context.proofs.ShiftRowLemmas.{shifts-push, numbers-start}
-use Rattle.cox_context.proofs.ContextLemmas.{identity-closed}
+use Rattle.cox_context.proofs.ClosedContexts.{identity-closed}
 
 -- ---- the number of a new member y among the earlier ones is appended
 

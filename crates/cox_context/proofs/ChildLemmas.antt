@@ -26,7 +26,7 @@ use Rattle.cox_context.specs.Numbers.{word_at}
 use Rattle.cox_context.specs.Numbering.{IsNumberOf}
 use Rattle.cox_context.specs.WantedMembers.{IsMember, IsBelowTop, IsMeant}
 use Rattle.cox_context.specs.Growth.{IsGrowing, IsChild, IsOutside, IsNext, IsNoNext, known, above, outside}
-use Rattle.cox_context.proofs.ListLemmas.{contains-placed, placed-contains, rising-place}
+use Rattle.cox_context.proofs.PlacedWords.{contains-placed, placed-contains, rising-place}
 use Rattle.cox_context.specs.declared.builder.Child.{Child}
 use Rattle.cox_context.proofs.Ideals.{IsIdeal, ideal-member, ideal-tailed, member-tailed}
 use Rattle.cox_context.proofs.GrowthLemmas.{IsTailed, growing-length, growing-push, growing-prefix, growing-skip}
@@ -220,7 +220,7 @@ module _ (A : IntegerMatrix) (g : IsAdmissible A) (P : List ℕ → Type 0) (ide
                 shorter : IsLeftDescent A (t ∷ z) s
                 shorter = omega (arith, ascent.descent, word_length-equal A g same, word_length-equal A g (same-cons A g s same))
 
--- ---- in the family that is meant
+-- ---- in the scope that is meant
 
 module _ (c : CoxeterMatrix) (m : IsCoxeterMatrix c) (top : Option (ArrayVec ℕ)) (earlier : List (List ℕ))
     (before : IsClosed (integer_matrix c) earlier) (k low high s j : ℕ) (words : List (List ℕ))

@@ -16,8 +16,8 @@ use Rattle.cox_context.specs.Numbers.{word_at}
 use Rattle.cox_context.specs.Numbering.{AreMoved}
 use Rattle.cox_context.specs.Growth.{IsGrown, AreNumbers, AreLast}
 use Rattle.cox_context.specs.FaultMeaning.{IsRefusal}
-use Rattle.cox_context.proofs.ListLemmas.{rising-length}
-use Rattle.cox_context.proofs.ContextLemmas.{form-same, result-along, union-from, union-members, moved-members}
+use Rattle.cox_context.proofs.PlacedWords.{rising-length}
+use Rattle.cox_context.proofs.ClosedContexts.{form-same, result-along, union-from, union-members, moved-members}
 
 -- what is known then: contracts see the context e as `now`, x is a copy of its group z, and `top` the normal form of w
 pub record IsExtension (x z : CoxeterMatrix) (e now : Elements) (w top : List ℕ) : Type 0 where

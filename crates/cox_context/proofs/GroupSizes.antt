@@ -19,7 +19,7 @@ use Rattle.cox_context.specs.Refusal.{IsPrefixOf, IsOver, IsLong}
 use Rattle.cox_reflect.proofs.NormalElements.{element-normal_form, element-word}
 use Rattle.cox_reflect.proofs.Listing.{listing, contains-in, in-contains}
 use Rattle.cox_context.proofs.Ideals.{element-tail}
-use Rattle.cox_context.proofs.ListLemmas.{contains-placed, contains-at}
+use Rattle.cox_context.proofs.PlacedWords.{contains-placed, contains-at}
 use Rattle.cox_context.proofs.SortedLemmas.{HasMoreThan-few}
 use Rattle.cox_context.proofs.RefusalLemmas.{too_large-found}
 

@@ -10,8 +10,8 @@ use Rattle.cox_base.specs.SortedList.{IsListOf}
 use Rattle.cox_context.specs.Refusal.{IsPrefixOf}
 use Rattle.cox_context.specs.Numbers.{word_at}
 use Rattle.cox_context.specs.Growth.{IsGrown, IsGrowing, IsChild, IsEarlier}
-use Rattle.cox_context.proofs.ListLemmas.{contains-placed, placed-contains, word_at-old, word_at-new}
-use Rattle.cox_context.proofs.ListLemmas.{rising-before, rising-push}
+use Rattle.cox_context.proofs.PlacedWords.{contains-placed, placed-contains, word_at-old, word_at-new}
+use Rattle.cox_context.proofs.PlacedWords.{rising-before, rising-push}
 
 -- the empty word has the property, and so has each word without its first letter, which is a letter
 pub record IsTailed (rank : ℕ) (P : List ℕ → Type 0) : Type 0 where
@@ -125,7 +125,7 @@ module _ (rank : ℕ) (P : List ℕ → Type 0) (closed : IsTailed rank P) where
       shorter = λ i l. rw (old i (omega (arith, l, h.start, inside))) (h.shorter i l);
       level = λ i from to. rw (old i to) (h.level i from to);
       whole = λ word p l. let w = h.whole word p l in (w.0, w.1, rw (old w.0 w.1) w.2);
-      made = λ m from to. ⊎_elim (λ below. made_before m (h.made m from below) below) (λ last. made_last m last) (push_cases words y m to);
+      made = λ m from to. ⊎_elim (λ below. made_earlier m (h.made m from below) below) (λ last. made_last m last) (push_cases words y m to);
       found = λ t i l from to early p.
           let q : P (t ∷ word_at words i) = rw (old i to) at p
           in ⊎_elim (λ before. found_before t i (h.found t i l from to before q) to) (λ here. found_here t i here) (earlier-next t i early);
@@ -140,9 +140,9 @@ module _ (rank : ℕ) (P : List ℕ → Type 0) (closed : IsTailed rank P) where
         old : (i : ℕ) → i < high → word_at (words ++ y ∷ []) i ≡ word_at words i
         old i l = word_at-old words y i (omega (arith, l, h.end))
 
-        made_before : (m : ℕ) → (c : IsChild words low s j m) × (c.i < high) → m < length words
+        made_earlier : (m : ℕ) → (c : IsChild words low s j m) × (c.i < high) → m < length words
             → (c : IsChild (words ++ y ∷ []) low s (j + 1) m) × (c.i < high)
-        made_before m (c, below) l = (
+        made_earlier m (c, below) l = (
           record {
             t = c.t;
             i = c.i;

@@ -88,7 +88,7 @@ module _ (A : IntegerMatrix) (g : IsAdmissible A) where
     tail = λ s x p. i.down x (s ∷ x) p (element-tail s x (i.element (s ∷ x) p)) (below-tail s x (i.element (s ∷ x) p));
   }
 
--- the family that is meant, of a Coxeter matrix
+-- the scope that is meant, of a Coxeter matrix
 pub member-tailed : (c : CoxeterMatrix) → IsCoxeterMatrix c → (top : Option (ArrayVec ℕ)) (earlier : List (List ℕ))
     → IsClosed (integer_matrix c) earlier → IsTailed c.rank (IsMember (integer_matrix c) top earlier)
 member-tailed c matrix top earlier closed =

@@ -24,7 +24,7 @@ use Rattle.cox_context.specs.declared.fault.ContextFault.TheVariants.{Size, Long
 use Rattle.cox_reflect.proofs.OrderLemmas.{first-descent, below-drop}
 use Rattle.cox_reflect.proofs.NormalElements.{element-normal_form}
 use Rattle.cox_reflect.proofs.Listing.{listing, subwords, Each-subwords, In-subwords}
-use Rattle.cox_context.proofs.ContextLemmas.{interval-length}
+use Rattle.cox_context.proofs.ClosedContexts.{interval-length}
 use Rattle.cox_context.proofs.SortedLemmas.{IsListOf-filter, HasMoreThan-listed, HasMoreThan-over, HasMoreThan-few}
 
 -- whether y is below the element of a reduced word, by lifting, letter by letter of it

@@ -1,9 +1,9 @@
 -- the words of members that are given by links
 pub mod LinkLemmas
 -- what holds of an Ok
-pub mod ResultLemmas
+pub mod MadeContexts
 -- places in lists of words, rising lists, and members by their places
-pub mod ListLemmas
+pub mod PlacedWords
 -- for a normal form x: when s x is a normal form
 pub mod NormalLemmas
 -- families of elements that are closed downwards, as an interval or a group
@@ -13,7 +13,7 @@ pub mod GrowthLemmas
 -- why a context is refused
 pub mod RefusalLemmas
 -- the context of an interval or a group is closed downwards; a group with more elements has one of MAX_LETTERS + 1 letters
-pub mod ContextLemmas
+pub mod ClosedContexts
 -- a context with the interval up to an element added
 pub mod Extensions
 -- where the entries of a table of shifts stand
@@ -29,7 +29,7 @@ pub mod LowerLemmas
 -- new elements below the top
 pub mod LiftingLemmas
 -- sets of letters
-pub mod SetLemmas
+pub mod LetterSets
 -- Bruhat order and descents of members, by their left shifts
 pub mod BelowLemmas
 -- the next member

@@ -21,7 +21,7 @@ use Rattle.cox_context.specs.Closed.{IsClosed}
 use Rattle.cox_context.specs.Numbers.{word_at}
 use Rattle.cox_context.specs.Shifts.{entry, IsLower}
 use Rattle.cox_context.specs.Growth.{AreLower, AreBelowTop, remaining_word}
-use Rattle.cox_context.proofs.ListLemmas.{rising-place}
+use Rattle.cox_context.proofs.PlacedWords.{rising-place}
 use Rattle.cox_context.proofs.Ideals.{contained-descent}
 use Rattle.cox_context.proofs.Shifting.{length-at, first-member}
 

@@ -9,7 +9,7 @@ use Rattle.cox_context.specs.declared.members.Link.{Link}
 use Rattle.cox_context.specs.declared.members.TheConstants.{MAX_MEMBERS}
 use Rattle.cox_context.specs.Numbers.{word_at}
 use Rattle.cox_context.specs.Links.{words_from, linked_words, link_at, AreMemberLinks}
-use Rattle.cox_context.proofs.ListLemmas.{word_at-old, word_at-new}
+use Rattle.cox_context.proofs.PlacedWords.{word_at-old, word_at-new}
 
 -- the word of a link behind these words
 abbrev linked : List (List ℕ) → Link → List ℕ
@@ -19,10 +19,10 @@ from-size : (words : List (List ℕ)) (links : List Link) → length (words_from
 from-size words [] = omega arith
 from-size words (l ∷ links) = omega (arith, from-size (words ++ linked words l ∷ []) links, push-length words (linked words l))
 
-from-old : (words : List (List ℕ)) (links : List Link) (i : ℕ) → i < length words → word_at (words_from words links) i ≡ word_at words i
-from-old words [] i l = refl
-from-old words (link ∷ links) i l =
-    from-old (words ++ linked words link ∷ []) links i (omega (arith, l, push-length words (linked words link)))
+words_from-old : (words : List (List ℕ)) (links : List Link) (i : ℕ) → i < length words → word_at (words_from words links) i ≡ word_at words i
+words_from-old words [] i l = refl
+words_from-old words (link ∷ links) i l =
+    words_from-old (words ++ linked words link ∷ []) links i (omega (arith, l, push-length words (linked words link)))
     ∙ word_at-old words (linked words link) i l
 
 from-at : (words : List (List ℕ)) (links : List Link) (i : ℕ) → i < length links → (link_at links i).rest < length words + i
@@ -32,9 +32,9 @@ from-at words [] i l k = absurd (omega (arith, l))
 from-at words (link ∷ links) zero l k =
     let more = push-length words (linked words link)
     in let here : length words + 0 ≡ length words = omega arith
-    in rw here (from-old (words ++ linked words link ∷ []) links (length words) (omega (arith, more))
+    in rw here (words_from-old (words ++ linked words link ∷ []) links (length words) (omega (arith, more))
     ∙ word_at-new words (linked words link) (length words) refl
-    ∙ ap (λ (x : List ℕ). link.first ∷ x) (sym (from-old (words ++ linked words link ∷ []) links link.rest (omega (arith, k, more))
+    ∙ ap (λ (x : List ℕ). link.first ∷ x) (sym (words_from-old (words ++ linked words link ∷ []) links link.rest (omega (arith, k, more))
     ∙ word_at-old words (linked words link) link.rest (omega (arith, k)))))
 from-at words (link ∷ links) (suc i) l k =
     let more = push-length words (linked words link)
@@ -52,7 +52,7 @@ words-size (l ∷ links) = omega (arith, from-size ([] ∷ []) links)
 
 pub words-first : (links : List Link) → word_at (linked_words links) 0 ≡ []
 words-first [] = refl
-words-first (l ∷ links) = from-old ([] ∷ []) links 0 (omega arith)
+words-first (l ∷ links) = words_from-old ([] ∷ []) links 0 (omega arith)
 
 pub words-link : (links : List Link) (i : ℕ) → 0 < i → i < length links → (link_at links i).rest < i
     → word_at (linked_words links) i ≡ (link_at links i).first ∷ word_at (linked_words links) (link_at links i).rest

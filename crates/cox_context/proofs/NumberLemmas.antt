@@ -14,7 +14,7 @@ use Rattle.cox_reflect.proofs.Search.{normal_form-same, normal_form-equal}
 use Rattle.cox_reflect.proofs.NormalElements.{element-word}
 use Rattle.cox_context.specs.Closed.{IsClosed}
 use Rattle.cox_context.specs.Numbers.{word_at}
-use Rattle.cox_context.proofs.ListLemmas.{rising-length}
+use Rattle.cox_context.proofs.PlacedWords.{rising-length}
 use Rattle.cox_context.proofs.Ideals.{element-tail, below-tail}
 use Rattle.cox_context.proofs.Shifting.{shift-back}
 use Rattle.cox_context.proofs.RightShifts.{first-off}
@@ -78,10 +78,10 @@ module _ (A : IntegerMatrix) (g : IsAdmissible A) (words : List (List ℕ)) (clo
       f ∙ ap (λ (x : List ℕ). get_or letters (length letters - 1 - done) 0 ∷ x) e ∙ sym (next-drop letters done l)
 
   -- one more letter, by a right shift
-  pub right-word : (letters : List ℕ) (i at k : ℕ) → i < length letters → word_at words at ≡ normal_form A (take i letters)
+  pub word-longer : (letters : List ℕ) (i at k : ℕ) → i < length letters → word_at words at ≡ normal_form A (take i letters)
       → word_at words k ≡ normal_form A (word_at words at ++ get_or letters i 0 ∷ []) → word_at words k
       ≡ normal_form A (take (i + 1) letters)
-  right-word letters i at k l e f =
+  word-longer letters i at k l e f =
       rw (take_more letters i 0 l)
       (f ∙ normal_form-equal A g (same-push A g (get_or letters i 0)
       (same-trans A g (same-equal A g e) (normal_form-same A g (take i letters)))))

@@ -5,7 +5,7 @@ use Rattle.cox_base.specs.declared.limits.TheConstants.{MAX_LETTERS}
 use Rattle.cox_context.specs.TooLarge.{IsTooLarge}
 use Rattle.cox_context.specs.Numbers.{word_at}
 use Rattle.cox_context.specs.Refusal.{IsPrefixOf, IsOver, IsLong}
-use Rattle.cox_context.proofs.ListLemmas.{contains-placed}
+use Rattle.cox_context.proofs.PlacedWords.{contains-placed}
 use Rattle.cox_context.proofs.SortedLemmas.{HasMoreThan-over}
 
 -- a prefix with one word more than the limit

@@ -18,8 +18,8 @@ use Rattle.cox_context.specs.Shifts.{entry, entry_number, AreLeftShifts, IsLower
 use Rattle.cox_context.specs.Rows.{IsRowPushed}
 use Rattle.cox_context.specs.Growth.{AreLower, AreNumbers}
 use Rattle.cox_base.specs.Members.{IsElement}
-use Rattle.cox_context.proofs.ListLemmas.{contains-placed, placed-contains, word_at-old, word_at-new}
-use Rattle.cox_context.proofs.ListLemmas.{rising-length, rising-place}
+use Rattle.cox_context.proofs.PlacedWords.{contains-placed, placed-contains, word_at-old, word_at-new}
+use Rattle.cox_context.proofs.PlacedWords.{rising-length, rising-place}
 use Rattle.cox_context.proofs.Shifting.{element-at, first-member}
 use Rattle.cox_base.specs.Length.{word_length}
 use Rattle.cox_reflect.proofs.Elements.{same-sym, same-trans, same-equal, same-cons, same-square}

@@ -21,7 +21,7 @@ use Rattle.cox_base.specs.Members.{IsElement}
 use Rattle.cox_context.specs.Closed.{IsClosed}
 use Rattle.cox_context.specs.Numbers.{word_at}
 use Rattle.cox_context.specs.Numbering.{IsNumberOf}
-use Rattle.cox_context.proofs.ListLemmas.{IsPlaced, contains-placed, contains-at, rising-length}
+use Rattle.cox_context.proofs.PlacedWords.{IsPlaced, contains-placed, contains-at, rising-length}
 use Rattle.cox_context.proofs.Ideals.{element-nil, element-tail, below-tail}
 
 module _ (A : IntegerMatrix) (g : IsAdmissible A) (words : List (List ℕ)) (closed : IsClosed A words) where

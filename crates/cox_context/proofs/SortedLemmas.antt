@@ -12,7 +12,7 @@ use Rattle.cox_reflect.proofs.ShortLexFirst.{IsBefore, IsBefore-asym, IsBefore-i
 use Rattle.cox_base.specs.SortedList.{IsRising, IsListOf, HasMoreThan}
 use Rattle.cox_context.specs.Numbers.{word_at}
 use Rattle.cox_context.specs.Refusal.{IsOver}
-use Rattle.cox_context.proofs.ListLemmas.{IsPlaced, contains-placed, contains-at, rising-before}
+use Rattle.cox_context.proofs.PlacedWords.{IsPlaced, contains-placed, contains-at, rising-before}
 
 -- ---- places
 
@@ -45,8 +45,8 @@ module _ (xs ys : List (List ℕ)) (r : IsRising xs) (q : IsRising ys) (all : (w
           in let less : c.k < p.i = before-less ys c.k p.i q c.within b
           in record { k = p.i; later = omega (arith, less, c.later); within = p.within; is = p.is }
 
-  no-longer : length xs ≤ length ys
-  no-longer =
+  contained-length : length xs ≤ length ys
+  contained-length =
       ⊎_elim (λ (some : 0 < length xs). let c = later-place (length xs - 1) (omega (arith, some)) in omega (arith, some, c.later, c.within))
       (λ (none : length xs ≤ 0). omega (arith, none))
       (cases_lt 0 (length xs))
@@ -59,7 +59,7 @@ same-words xs ys r q forth back =
     ext_get_or [] xs ys size (λ i l. at i l (later-place xs ys r q forth i l) (later-place ys xs q r back i (omega (arith, l, size))))
   where
     size : length xs ≡ length ys
-    size = omega (arith, no-longer xs ys r q forth, no-longer ys xs q r back)
+    size = omega (arith, contained-length xs ys r q forth, contained-length ys xs q r back)
 
     at : (i : ℕ) → i < length xs → IsLater xs ys i → IsLater ys xs i → word_at xs i ≡ word_at ys i
     at i l c d =
@@ -118,5 +118,5 @@ HasMoreThan-over P limit over = (
 -- .. which a list of no more than limit words rules out
 pub HasMoreThan-few : (P : List ℕ → Type 0) (limit : ℕ) (xs : List (List ℕ)) → IsListOf P xs → length xs ≤ limit → HasMoreThan limit P → ⊥
 HasMoreThan-few P limit xs a few (ys, rising, all, many) =
-    let size : length ys ≤ length xs = no-longer ys xs rising a.rising (λ word c. a.whole word (All-contains P ys word all c))
+    let size : length ys ≤ length xs = contained-length ys xs rising a.rising (λ word c. a.whole word (All-contains P ys word all c))
     in omega (arith, few, many, size)

@@ -1,4 +1,4 @@
--- The family of elements that a context is to have as members: those of a group; or those of the interval up to an element, the top, and
+-- The elements that a context is to have as members: those of a group; or those of the interval up to an element, the top, and
 -- members of an earlier context.
 use Rattle.std.specs.Prelude.{ℕ, List, [], Option, None, Some, ◌⊎◌, Contains}
 use Rattle.arrayvec.specs.ArrayVec.{ArrayVec}

@@ -22,10 +22,10 @@ ghost use Rattle.cox_context.specs.Shifts.{entry, AreLeftShifts};
 ghost use Rattle.cox_context.specs.Rows.{IsRowPushed};
 
 use crate::ContextFault;
-use crate::family::Family;
 use crate::lifting::is_meant;
 use crate::lower::lower_members;
 use crate::members::{MAX_MEMBERS, Members};
+use crate::scope::Scope;
 use crate::shifts::{LeftShifts, NO_MEMBER, entry, number_at, place};
 use cox_base::{Coxeter, MAX_LETTERS, MAX_RANK};
 use std::alloc::{AllocError, Global};
@@ -50,7 +50,7 @@ pub(crate) struct Child {
 /// Contracts see what is looked for, and the members. A step takes the builder and gives it back with more members, so a fault leaves none.
 #[derive(Drop)]
 pub(crate) struct Builder<'a> {
-    family: &'a Family,
+    scope: &'a Scope,
     earlier: &'a Listing,
     limit: u32,
     listing: Listing,
@@ -62,9 +62,9 @@ impl<'a> Model for Builder<'a> {
 
     ghost Value = { Building };
 
-    ghost view = { λ b. record { search = record { matrix = b.family.now.group; top = b.family.now.top; earlier = b.earlier.now.members; limit = b.limit }; members = b.listing.members } };
+    ghost view = { λ b. record { search = record { matrix = b.scope.now.group; top = b.scope.now.top; earlier = b.earlier.now.members; limit = b.limit }; members = b.listing.members } };
 
-    ghost invariant = { λ b. IsBuilder (record { matrix = b.family.now.group; top = b.family.now.top; earlier = b.earlier.now.members; limit = b.limit }) b.listing.members b.earlier.now.left.items b.listing.left.items b.numbers.items };
+    ghost invariant = { λ b. IsBuilder (record { matrix = b.scope.now.group; top = b.scope.now.top; earlier = b.earlier.now.members; limit = b.limit }) b.listing.members b.earlier.now.left.items b.listing.left.items b.numbers.items };
 }
 
 impl Listing {
@@ -94,27 +94,27 @@ impl<'a> Builder<'a> {
     /// The identity alone.
     pub(crate) fn new(
         alloc: Global,
-        family: &'a Family,
+        scope: &'a Scope,
         earlier: &'a Listing,
         limit: u32,
     ) -> Result<Builder<'a>, ContextFault>
-        requires top { IsTop (integer_matrix family.now.group) family.now.top }
-        requires earlier { IsClosed (integer_matrix family.now.group) earlier.now.members }
-        requires earlier_left { AreLeftShifts (integer_matrix family.now.group) earlier.now.members earlier.now.left.items }
+        requires top { IsTop (integer_matrix scope.now.group) scope.now.top }
+        requires earlier { IsClosed (integer_matrix scope.now.group) earlier.now.members }
+        requires earlier_left { AreLeftShifts (integer_matrix scope.now.group) earlier.now.members earlier.now.left.items }
         requires some { 1 ≤ limit }
         requires limit { limit ≤ MAX_MEMBERS }
-        ensures search { IfOk result (λ b. b.search ≡ record { matrix = family.now.group; top = family.now.top; earlier = earlier.now.members; limit = limit }) }
+        ensures search { IfOk result (λ b. b.search ≡ record { matrix = scope.now.group; top = scope.now.top; earlier = earlier.now.members; limit = limit }) }
         ensures grown { IfOk result (λ b. HasUpTo b 0 0) }
-        ensures matrix { IsCoxeterMatrix family.now.group }
+        ensures matrix { IsCoxeterMatrix scope.now.group }
         ensures fault { IfErr result (λ fault. fault ≡ ContextFault.NoMemory) }
     {
-        let _rank = family.group.rank();
-        let Ok(listing) = Listing::new(alloc, &family.group) else {
+        let _rank = scope.group.rank();
+        let Ok(listing) = Listing::new(alloc, &scope.group) else {
             return Err(ContextFault::NoMemory);
         };
         match vec![in alloc; 0; 1] {
             Ok(numbers) => Ok(Builder {
-                family,
+                scope,
                 earlier,
                 limit,
                 listing,
@@ -131,7 +131,7 @@ impl<'a> Builder<'a> {
         ensures matrix { IsCoxeterMatrix self.now.search.matrix }
         ensures earlier { IsClosed (integer_matrix self.now.search.matrix) self.now.search.earlier }
     {
-        self.family.group.rank()
+        self.scope.group.rank()
     }
 
     /// The number of members that were found.
@@ -207,8 +207,8 @@ impl<'a> Builder<'a> {
         ensures next { IfSome result (IsNext (integer_matrix self.now.search.matrix) self.now.members self.now.search.top self.now.search.earlier (s ∷ word_at self.now.members parent)) }
         ensures none { IfNone result (IsNoNext (integer_matrix self.now.search.matrix) self.now.members self.now.search.top self.now.search.earlier (s ∷ word_at self.now.members parent) (length (word_at self.now.members parent))) }
     {
-        let family = self.family;
-        let shifts = self.listing.shifts(&family.group);
+        let scope = self.scope;
+        let shifts = self.listing.shifts(&scope.group);
         if shifts.shift(s, parent).is_some() {
             return None;
         }
@@ -216,7 +216,7 @@ impl<'a> Builder<'a> {
             return None;
         };
         let number = self.earlier_number(s, parent);
-        if is_meant(family, &shifts, self.numbers.as_slice(), &lower, number) {
+        if is_meant(scope, &shifts, self.numbers.as_slice(), &lower, number) {
             Some(Child { lower, number })
         } else {
             None
@@ -232,9 +232,9 @@ impl<'a> Builder<'a> {
         requires new { ¬ (Contains self.now.members (normal_form (integer_matrix self.now.search.matrix) (s ∷ word_at self.now.members parent))) }
         ensures { IsNumberOf self.now.search.earlier (normal_form (integer_matrix self.now.search.matrix) (s ∷ word_at self.now.members parent)) result }
     {
-        let (family, earlier) = (self.family, self.earlier);
+        let (scope, earlier) = (self.scope, self.earlier);
         let before = number_at(self.numbers.as_slice(), parent)?;
-        earlier.shifts(&family.group).shift(s, before)
+        earlier.shifts(&scope.group).shift(s, before)
     }
 
     /// Appends the member y = s x, the child of the member x with this number, if the limit admits one more.
@@ -249,7 +249,7 @@ impl<'a> Builder<'a> {
     {
         let rank = self.rank();
         let Builder {
-            family,
+            scope,
             earlier,
             limit,
             mut listing,
@@ -269,7 +269,7 @@ impl<'a> Builder<'a> {
             return Err(ContextFault::NoMemory);
         }
         Ok(Builder {
-            family,
+            scope,
             earlier,
             limit,
             listing,

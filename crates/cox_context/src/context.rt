@@ -18,9 +18,9 @@ ghost use Rattle.cox_context.specs.Shifts.{AreLeftShifts};
 use crate::ContextFault;
 use crate::builder::{Builder, Listing, moved};
 use crate::descents::{letters_of, lowering_sets};
-use crate::family::Family;
 use crate::members::{Link, MAX_MEMBERS};
 use crate::right_shifts::right_shifts;
+use crate::scope::Scope;
 use crate::shifts::entry;
 use cox_base::{Coxeter, MAX_LETTERS, Word};
 use cox_minroots::RootTable;
@@ -73,18 +73,18 @@ impl Context {
         let top = group.normal_form(w);
         prove!(top.len() <= MAX_LETTERS);
         let letters = top.len() as u32;
-        let family = Family {
+        let scope = Scope {
             group: group.group().copy(),
             descents: group.left_descents(&top),
             top: Some(top),
         };
-        let Ok(identity) = Listing::new(alloc, &family.group) else {
+        let Ok(identity) = Listing::new(alloc, &scope.group) else {
             return Err(ContextFault::NoMemory);
         };
-        let builder = Builder::new(alloc, &family, &identity, limit)?;
+        let builder = Builder::new(alloc, &scope, &identity, limit)?;
         let (builder, _) = builder.grow(letters)?;
         let (listing, _) = builder.finish();
-        Context::of_members(alloc, family.group, listing)
+        Context::of_members(alloc, scope.group, listing)
     }
 
     /// The elements of a group.
@@ -99,21 +99,21 @@ impl Context {
         ensures few { IfOk result (λ c. length c.members ≤ limit) }
         ensures refused { IfErr result (IsRefusal (IsElement (integer_matrix group.now)) limit) }
     {
-        let family = Family {
+        let scope = Scope {
             group: group.group().copy(),
             top: None,
             descents: Word::new(),
         };
-        let Ok(identity) = Listing::new(alloc, &family.group) else {
+        let Ok(identity) = Listing::new(alloc, &scope.group) else {
             return Err(ContextFault::NoMemory);
         };
-        let builder = Builder::new(alloc, &family, &identity, limit)?;
+        let builder = Builder::new(alloc, &scope, &identity, limit)?;
         let (builder, low) = builder.grow(MAX_LETTERS as u32)?;
         if builder.goes_on(low) {
             return Err(ContextFault::Long);
         }
         let (listing, _) = builder.finish();
-        Context::of_members(alloc, family.group, listing)
+        Context::of_members(alloc, scope.group, listing)
     }
 
     /// Adds the elements x with x <= w, and tells the new number of each member that was there before.
@@ -165,18 +165,18 @@ impl Context {
         prove!(self.len() > 0);
         let longest = self.length(self.len() - 1);
         let letters = longest.max(top.len() as u32);
-        let family = Family {
+        let scope = Scope {
             group: group.group().copy(),
             descents: group.left_descents(&top),
             top: Some(top),
         };
-        let builder = Builder::new(alloc, &family, &self.listing, limit)?;
+        let builder = Builder::new(alloc, &scope, &self.listing, limit)?;
         let (builder, _) = builder.grow(letters)?;
         let (listing, numbers) = builder.finish();
         let Ok(moved) = moved(alloc, numbers.as_slice(), self.len()) else {
             return Err(ContextFault::NoMemory);
         };
-        let context = Context::of_members(alloc, family.group, listing)?;
+        let context = Context::of_members(alloc, scope.group, listing)?;
         Ok((context, moved))
     }
 

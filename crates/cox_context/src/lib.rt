@@ -7,7 +7,7 @@
 //!
 //! - `context`: the type and its calls
 //! - `fault`: why a context is refused
-//! - `family`: the group or the interval that is meant
+//! - `scope`: the group or the interval that is meant
 //! - `members`: the members, each by its first letter and the rest of its word
 //! - `shifts`: tables of shifts
 //! - `builder`: finds the members, length by length, with their left shifts
@@ -21,13 +21,13 @@
 mod builder;
 mod context;
 mod descents;
-mod family;
 mod fault;
 pub mod laws;
 mod lifting;
 mod lower;
 mod members;
 mod right_shifts;
+mod scope;
 mod shifts;
 
 pub use context::Context;

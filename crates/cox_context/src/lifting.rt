@@ -12,51 +12,51 @@ ghost use Rattle.cox_context.specs.Shifts.{entry, IsLower};
 ghost use Rattle.cox_context.specs.Growth.{AreLower, AreBelowTop, remaining_word};
 ghost use Rattle.cox_context.specs.WantedMembers.{IsTop, IsBelowTop, IsMeant};
 
-use crate::family::Family;
 use crate::members::MAX_MEMBERS;
+use crate::scope::Scope;
 use crate::shifts::{LeftShifts, entry, number_at};
 use cox_base::{MAX_RANK, Word};
 
 /// Whether y is meant, for an element y other than the identity with these elements t y and this number among the earlier members.
 pub(crate) fn is_meant(
-    family: &Family,
+    scope: &Scope,
     shifts: &LeftShifts,
     numbers: &[u32],
     lower: &[u32],
     number: Option<u32>,
 ) -> bool
-    requires group { family.now.group ≡ shifts.now.matrix }
-    requires top { IsTop (integer_matrix shifts.now.matrix) family.now.top }
-    requires below { AreBelowTop (integer_matrix shifts.now.matrix) family.now.top shifts.now.members numbers.now }
+    requires group { scope.now.group ≡ shifts.now.matrix }
+    requires top { IsTop (integer_matrix shifts.now.matrix) scope.now.top }
+    requires below { AreBelowTop (integer_matrix shifts.now.matrix) scope.now.top shifts.now.members numbers.now }
     requires count { length numbers.now ≡ length shifts.now.members }
     requires size { shifts.now.matrix.rank ≤ length lower.now }
     requires inside { (t k : ℕ) → IsLetter shifts.now.matrix.rank t → entry shifts.now.matrix.rank lower.now t 0 ≡ Some k → k < length shifts.now.members }
     ensures { (y : List ℕ) (s : ℕ) (earlier : List (List ℕ)) → IsLeftDescent (integer_matrix shifts.now.matrix) y s
         → AreLower (integer_matrix shifts.now.matrix) shifts.now.members y lower.now → IsNumberOf earlier (normal_form (integer_matrix shifts.now.matrix) y) number
-        → (IsTrue result ↔ IsMeant (integer_matrix shifts.now.matrix) family.now.top earlier y) }
+        → (IsTrue result ↔ IsMeant (integer_matrix shifts.now.matrix) scope.now.top earlier y) }
 {
     match number {
         Some(_) => true,
-        None => is_below_top(family, shifts, numbers, lower),
+        None => is_below_top(scope, shifts, numbers, lower),
     }
 }
 
 /// Whether y is below the top, where there is one, for an element y other than the identity with these elements t y.
-fn is_below_top(family: &Family, shifts: &LeftShifts, numbers: &[u32], lower: &[u32]) -> bool
-    requires group { family.now.group ≡ shifts.now.matrix }
-    requires top { IsTop (integer_matrix shifts.now.matrix) family.now.top }
-    requires below { AreBelowTop (integer_matrix shifts.now.matrix) family.now.top shifts.now.members numbers.now }
+fn is_below_top(scope: &Scope, shifts: &LeftShifts, numbers: &[u32], lower: &[u32]) -> bool
+    requires group { scope.now.group ≡ shifts.now.matrix }
+    requires top { IsTop (integer_matrix shifts.now.matrix) scope.now.top }
+    requires below { AreBelowTop (integer_matrix shifts.now.matrix) scope.now.top shifts.now.members numbers.now }
     requires count { length numbers.now ≡ length shifts.now.members }
     requires size { shifts.now.matrix.rank ≤ length lower.now }
     requires inside { (t k : ℕ) → IsLetter shifts.now.matrix.rank t → entry shifts.now.matrix.rank lower.now t 0 ≡ Some k → k < length shifts.now.members }
     ensures { (y : List ℕ) (s : ℕ) → IsLeftDescent (integer_matrix shifts.now.matrix) y s → AreLower (integer_matrix shifts.now.matrix) shifts.now.members y lower.now
-        → (IsTrue result ↔ IsBelowTop (integer_matrix shifts.now.matrix) family.now.top y) }
+        → (IsTrue result ↔ IsBelowTop (integer_matrix shifts.now.matrix) scope.now.top y) }
 {
-    match &family.top {
+    match &scope.top {
         None => true,
         Some(top) => {
             prove!(shifts.members().len() <= MAX_MEMBERS);
-            shares_descent(shifts.rank(), family.descents.as_slice(), lower, numbers)
+            shares_descent(shifts.rank(), scope.descents.as_slice(), lower, numbers)
                 || lifts(shifts, lower, top)
         }
     }

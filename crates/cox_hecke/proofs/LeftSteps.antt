@@ -33,7 +33,7 @@ use Rattle.cox_hecke.proofs.Descents.{nat_lt-yes, yes-nat_lt, shortens_left-back
 use Rattle.cox_hecke.proofs.SumLemmas.{sum_over-lists}
 use Rattle.cox_hecke.proofs.ElementLists.{Tells, below_list, occurrences-filter}
 use Rattle.cox_hecke.proofs.RowLemmas.{row-same, row-unique}
-use Rattle.cox_hecke.proofs.StepRow.{scale, half, correction, step_row, Corrects, correction-none, correction-at, step_row-at}
+use Rattle.cox_hecke.proofs.StepRow.{scale, half, correction, step_row, Corrects, correction-none, correction-value, step_row-at}
 use Rattle.cox_hecke.proofs.StepRow.{corrections-is}
 use Rattle.cox_hecke.proofs.StepRow.{scale-shortens, half-at, corrects_or_not, correction-same, scale-same}
 use Rattle.cox_hecke.proofs.StepIsRow.{step_row-is}
@@ -103,7 +103,7 @@ module _ (A : IntegerMatrix) (g : IsAdmissible A) (w : List ℕ) (s : ℕ) (d : 
   unfolding term number
   term-is c is rows is_row x k =
       rw (sym (row_of-value A g c.element (rows c.element) is_row x), sym (number-mu c.element c.mu is), sym same) refl
-      ∙ sym (correction-at A (s ∷ w) s p (row_of A g) c.element x k)
+      ∙ sym (correction-value A (s ∷ w) s p (row_of A g) c.element x k)
     where
       same : half A (s ∷ w) s p (row_of A g) c.element ≡ (word_length A w - word_length A c.element) / 2
       same = half-at A (s ∷ w) s p (row_of A g) c.element

@@ -24,7 +24,7 @@ use Rattle.cox_hecke.specs.StepFamily.{step}
 use Rattle.cox_hecke.proofs.Descents.{shortens_left-same, shortens_left-back, reduced-letter, reduced-rises}
 use Rattle.cox_hecke.proofs.Signed.{at_inverses, at_inverses-respects, at_inverses-by_left, plus_signed, first_times_q, first_alone}
 use Rattle.cox_hecke.proofs.Signed.{minus_signed}
-use Rattle.cox_hecke.proofs.Signed.{family_times_q, left-back, back-left, by_left-respects, by_right-respects}
+use Rattle.cox_hecke.proofs.Signed.{family_times_q, left_signed-back, back-left, by_left-respects, by_right-respects}
 use Rattle.cox_hecke.proofs.RPolynomials.{unit, unit-one, unit-other}
 use Rattle.cox_hecke.proofs.WordOperators.{left_along, back_along, left_along-same, back_along-same}
 use Rattle.cox_hecke.proofs.SumLemmas.{same_or_not, same-is_same, not_same-is_same}
@@ -149,11 +149,11 @@ module _ (A : IntegerMatrix) (g : IsAdmissible A) where
 
   -- ---- the same on the right
 
-  pub right-inverse : (s : ℕ) (h : Family) → IsLetter A.rank s → RespectsElements A h → right A s (right_inverse A s h) ≡ family_times_q h
-  right-inverse s h l r =
+  pub right-right_inverse : (s : ℕ) (h : Family) → IsLetter A.rank s → RespectsElements A h → right A s (right_inverse A s h) ≡ family_times_q h
+  right-right_inverse s h l r =
       sym (at_inverses-by_left A g (plus_signed true) first_times_q s (left_inverse A s (at_inverses h))
       ∙ ap (right A s) (at_inverses-by_left A g first_alone (minus_signed true) s (at_inverses h) ∙ ap (right_inverse A s) (twice h)))
-      ∙ ap at_inverses (left-back A g true s (at_inverses h) l (at_inverses-respects A g h r)) ∙ ap family_times_q (twice h)
+      ∙ ap at_inverses (left_signed-back A g true s (at_inverses h) l (at_inverses-respects A g h r)) ∙ ap family_times_q (twice h)
 
   pub inverse-right : (s : ℕ) (h : Family) → IsLetter A.rank s → RespectsElements A h → right_inverse A s (right A s h) ≡ family_times_q h
   inverse-right s h l r =

@@ -190,9 +190,9 @@ module _ (A : IntegerMatrix) (g : IsAdmissible A) where
 
   -- ---- one undoes the other, but for a factor q
 
-  pub left-back : (b : Bool) (s : ℕ) (h : Family) → IsLetter A.rank s → RespectsElements A h
+  pub left_signed-back : (b : Bool) (s : ℕ) (h : Family) → IsLetter A.rank s → RespectsElements A h
       → left_signed A b s (left_back A b s h) ≡ family_times_q h
-  left-back b s h l r = λ i x k. at x k i
+  left_signed-back b s h l r = λ i x k. at x k i
     where
       at : (x : List ℕ) (k : ℕ) → left_signed A b s (left_back A b s h) x k ≡ times_q (h x) k
       at x k = rw (shortens_left-back A g s x l, respected r (same-square A g s x))

@@ -27,7 +27,7 @@ use Rattle.cox_hecke.proofs.ElementLists.{Tells, Tells-ListsEach, below_list}
 use Rattle.cox_hecke.proofs.BarSums.{step-shorter, step-longer, step-respects}
 use Rattle.cox_hecke.proofs.Balance.{times_q-none}
 use Rattle.cox_hecke.proofs.RowLemmas.{row-from, row-long, row-longer, row-other, one_above, outside_path}
-use Rattle.cox_hecke.proofs.StepRow.{scale, half, correction, corrections, step_row, Corrects, scale-is, correction-none, correction-at}
+use Rattle.cox_hecke.proofs.StepRow.{scale, half, correction, corrections, step_row, Corrects, scale-is, correction-none, correction-value}
 use Rattle.cox_hecke.proofs.StepRow.{step_row-at, corrections-is}
 use Rattle.cox_hecke.proofs.StepRow.{size, upper, descent, lower_below, corrects_or_not, half-is, correction-same, corrections-respects}
 use Rattle.cox_hecke.proofs.StepRow.{step_row-balanced}
@@ -58,7 +58,7 @@ module _ (A : IntegerMatrix) (v : List ℕ) (s : ℕ) (p : Family) (P : List ℕ
   module _ (x : List ℕ) (k : ℕ) (bound : word_length A (s ∷ v) ≤ word_length A x + 2 * k) where
     far : (z : List ℕ) → Corrects A v s p P z → (SameElement A x z → ⊥) → correction A v s p P z x k ≡ pos 0
     far z c other =
-        correction-at A v s p P z x k ∙ no_product (scale A v s p P z) (times_q_power (half A v s p P z) (P z x) k)
+        correction-value A v s p P z x k ∙ no_product (scale A v s p P z) (times_q_power (half A v s p P z) (P z x) k)
         (rw (half-is A v s p P g l rising row rows same_rows z c) (term (cases_lt k (suc c.degree))))
       where
         inside : (j : ℕ) → word_length A z ≤ word_length A x + 2 * j → P z x j ≡ pos 0
@@ -111,7 +111,7 @@ module _ (A : IntegerMatrix) (v : List ℕ) (s : ℕ) (p : Family) (P : List ℕ
       at_middle : word_length A v ≡ word_length A x + suc (2 * j) → correction A v s p P x x (suc j) ≡ p x j
       at_middle full =
           let c : Corrects A v s p P x = record { below = b; shortens = e; degree = j; odd = full }
-          in correction-at A v s p P x x (suc j)
+          in correction-value A v s p P x x (suc j)
           ∙ rw (half-is A v s p P g l rising row rows same_rows x c, scale-is A v s p P x c j full)
           (ap (λ (z : ℤ). p x j *ℤ z) (times_q_power_at (P x x) (suc j) (suc j) 0 (omega arith) ∙ (rows x b).top 0) ∙ omega (arith, ints))
 
@@ -123,7 +123,7 @@ module _ (A : IntegerMatrix) (v : List ℕ) (s : ℕ) (p : Family) (P : List ℕ
         where
           higher : Corrects A v s p P x → correction A v s p P x x (suc j) ≡ pos 0
           higher c =
-              correction-at A v s p P x x (suc j)
+              correction-value A v s p P x x (suc j)
               ∙ no_product (scale A v s p P x) (times_q_power (half A v s p P x) (P x x) (suc j))
               (rw (half-is A v s p P g l rising row rows same_rows x c)
               (times_q_power_at (P x x) (suc c.degree) (suc j) (j - c.degree) (omega (arith, low, c.odd))
@@ -214,7 +214,7 @@ module _ (A : IntegerMatrix) (v : List ℕ) (s : ℕ) (p : Family) (P : List ℕ
       only_there x k none =
           corrections-is A v s p P words x k ∙ sum_over-none words (λ z. correction A v s p P z x) k
           (λ z. ⊎_elim
-          (λ (c : Corrects A v s p P z). correction-at A v s p P z x k
+          (λ (c : Corrects A v s p P z). correction-value A v s p P z x k
           ∙ no_product (scale A v s p P z) (times_q_power (half A v s p P z) (P z x) k) (power z c.below (half A v s p P z)))
           (λ (n : scale A v s p P z ≡ pos 0). at_x (correction-none A v s p P z n x) k)
           (corrects_or_not A v s p P g l rising row rows same_rows z))
@@ -225,18 +225,18 @@ module _ (A : IntegerMatrix) (v : List ℕ) (s : ℕ) (p : Family) (P : List ℕ
 
       outside : (x : List ℕ) → (IsBelow A x (s ∷ v) → ⊥) → (k : ℕ) → step_row A v s p P words x k ≡ pos 0
       outside x n k =
-          let here : p x ≡ zero_polynomial = outside_path A g v p row.outside x (λ b. n (below-trans A g b below_w))
-          in let there : p (s ∷ x) ≡ zero_polynomial = outside_path A g v p row.outside (s ∷ x) (λ b. n (moved (below-trans A g b below_w)))
+          let here : p x ≡ zero_polynomial = outside_path A g v p row.outside x (λ b. n (below-trans A g b shorter_below))
+          in let there : p (s ∷ x) ≡ zero_polynomial = outside_path A g v p row.outside (s ∷ x) (λ b. n (moved (below-trans A g b shorter_below)))
           in omega (
             arith,
             ints,
             step_row-at A v s p P words x k,
             nothing here there k (shortens_left A s x) refl,
-            only_there x k (λ z b. (rows z b).outside x (λ c. n (below-trans A g c (below-trans A g b below_w)))),
+            only_there x k (λ z b. (rows z b).outside x (λ c. n (below-trans A g c (below-trans A g b shorter_below)))),
           )
         where
-          below_w : IsBelow A v (s ∷ v)
-          below_w = lower_below A v s p P g l rising row rows same_rows
+          shorter_below : IsBelow A v (s ∷ v)
+          shorter_below = lower_below A v s p P g l rising row rows same_rows
 
           moved : IsBelow A (s ∷ x) (s ∷ v) → IsBelow A x (s ∷ v)
           moved b =

@@ -110,9 +110,9 @@ module _ (A : IntegerMatrix) (v : List ℕ) (s : ℕ) (p : Family) (P : List ℕ
       at : (k : ℕ) → scale z *ℤ times_q_power (half z) (P z x) k ≡ pos 0
       at k = rw e (omega (arith, ints))
 
-  pub correction-at : (z x : List ℕ) (k : ℕ) → correction z x k ≡ scale z *ℤ times_q_power (half z) (P z x) k
+  pub correction-value : (z x : List ℕ) (k : ℕ) → correction z x k ≡ scale z *ℤ times_q_power (half z) (P z x) k
   unfolding correction
-  correction-at z x k = refl
+  correction-value z x k = refl
 
   pub step_row-at : (words : List (List ℕ)) (x : List ℕ) (k : ℕ) → step_row words x k ≡ step Left A s p x k -ℤ corrections words x k
   unfolding step_row
@@ -167,11 +167,11 @@ module _ (A : IntegerMatrix) (v : List ℕ) (s : ℕ) (p : Family) (P : List ℕ
 
     pub correction-same : (x : List ℕ) → RespectsElements A (λ z. correction z x)
     correction-same x y z e k =
-        correction-at y x k ∙ rw (scale-same e, half-same e, same_rows y z e) refl ∙ sym (correction-at z x k)
+        correction-value y x k ∙ rw (scale-same e, half-same e, same_rows y z e) refl ∙ sym (correction-value z x k)
 
     correction-respects : (z : List ℕ) → RespectsElements A (correction z)
     correction-respects z x y e k = ⊎_elim
-        (λ (c : Corrects z). correction-at z x k ∙ rw (respected A g (rows z c.below).element e) refl ∙ sym (correction-at z y k))
+        (λ (c : Corrects z). correction-value z x k ∙ rw (respected A g (rows z c.below).element e) refl ∙ sym (correction-value z y k))
         (λ (n : scale z ≡ pos 0). ap (λ (f : Coefficients). f k) (correction-none z n x ∙ sym (correction-none z n y)))
         (corrects_or_not z)
 

@@ -21,7 +21,7 @@ use Rattle.cox_hecke.proofs.Descents.{some_right_descent}
 use Rattle.cox_hecke.proofs.Signed.{left_signed, right_signed, left_back, family_times_q}
 use Rattle.cox_hecke.proofs.Signed.{left_signed-times_q, left_back-times_q, by_left-respects, by_right-respects, plus_signed, first_times_q}
 use Rattle.cox_hecke.proofs.Signed.{first_alone, minus_signed}
-use Rattle.cox_hecke.proofs.Signed.{family_times_q-respects, left-back, back-left, left-right}
+use Rattle.cox_hecke.proofs.Signed.{family_times_q-respects, left_signed-back, back-left, left-right}
 
 -- q^n h
 abbrev pub family_power : ℕ → Family → Family
@@ -159,7 +159,7 @@ module _ (A : IntegerMatrix) (g : IsAdmissible A) where
       → left_along A b u (back_along A b u h) ≡ family_power (length u) h
   left_along-back b [] h c r = refl
   left_along-back b (s ∷ u) h c r =
-      ap (left_along A b u) (left-back A g b s (back_along A b u h) (reduced-letter A g s u c) (back_along-respects b u h r))
+      ap (left_along A b u) (left_signed-back A g b s (back_along A b u h) (reduced-letter A g s u c) (back_along-respects b u h r))
       ∙ left_along-times_q b u (back_along A b u h) ∙ ap family_times_q (left_along-back b u h (IsReduced-tail A g s u c) r)
 
   pub back_along-same : (b : Bool) (u v : List ℕ) (h : Family) → IsReduced A u → IsReduced A v → SameElement A u v → RespectsElements A h

@@ -10,6 +10,7 @@ use Rattle.cox_base.specs.Element.{SameElement}
 use Rattle.cox_base.specs.ShortLex.{normal_form}
 use Rattle.cox_reflect.proofs.Elements.{same-refl, same-sym}
 use Rattle.cox_reflect.proofs.Search.{normal_form-same}
+use Rattle.cox_reflect.specs.LeastDescent.{IsLeastLeftDescent}
 use Rattle.cox_base.specs.SideDescents.{times_letter}
 use Rattle.cox_hecke.specs.Step.{IsCorrection}
 use Rattle.cox_context.specs.Numbers.{word_at}
@@ -129,8 +130,20 @@ module _ (A : IntegerMatrix) (members : List (List ℕ)) (s : ℕ) (w : List ℕ
       (omega (arith, l, few))
       in omega (arith, after, before))
 
-  pub numbered-needs : (list : List Correction) (numbers : List ℕ) → AreNumbered Left A members s w list
+  numbered-needs : (list : List Correction) (numbers : List ℕ) → AreNumbered Left A members s w list
       → AreNeeds A members s w numbers → length list ≤ length numbers
   numbered-needs list numbers h j = places-few (length list) (length numbers) (λ k. (correction_at list k).number)
       (λ k. number_at numbers k) h.rising j.rising
       (λ k l. j.whole (correction_at list k).number (correction_at list k).factor (h.within k l) (h.each k l))
+
+  -- the same of the step by t, where s and t are both the least left descent of w
+  module _ (t : ℕ) (mine : IsLeastLeftDescent A w s) (least : IsLeastLeftDescent A w t) (list : List Correction)
+      (are : AreNumbered Left A members s w list) where
+    same_letter : t ≡ s
+    same_letter = omega (arith, least.least s mine.descent, mine.least t least.descent)
+
+    pub least-cost : (other : List Correction) → AreNumbered Left A members t w other → total_cost list ≡ total_cost other
+    least-cost other h = numbered-cost Left list other are (rw same_letter at h)
+
+    pub least-needs : (numbers : List ℕ) → AreNeeds A members t w numbers → length list ≤ length numbers
+    least-needs numbers h = numbered-needs list numbers are (rw same_letter at h)

@@ -22,17 +22,17 @@ module _ (A : IntegerMatrix) (g : IsAdmissible A) (limit : ℤ) (x w : List ℕ)
       not_both limit (pos 0) c (sym (kazhdan_lusztig-outside A g x w h.polynomial none h.is k) ∙ h.value) l h.above
 
   module _ (sums : List ℤ) (is : IsKazhdanLusztig A x w (coefficient sums)) where
-    at_most : (k : ℕ) (c : ℤ) → IsWithin limit (coefficient sums k) → IsLargeCoefficient A limit x w k c → ⊥
-    at_most k c l h =
+    small_not_large : (k : ℕ) (c : ℤ) → IsWithin limit (coefficient sums k) → IsLargeCoefficient A limit x w k c → ⊥
+    small_not_large k c l h =
         not_both limit (coefficient sums k) c (kazhdan_lusztig-unique A g x w (coefficient sums) h.polynomial is h.is k ∙ h.value) l h.above
 
     pub within-none : AllWithin limit sums → IsWithinLimit A limit x w
-    within-none l k c h = at_most k c (l k) h
+    within-none l k c h = small_not_large k c (l k) h
 
     pub least-large : (d : ℕ) (v : ℤ) → IsFirstAbove limit sums d v → IsLeastLarge A limit x w d v
     least-large d v first = record {
       large = record { polynomial = coefficient sums; is = is; value = sym first.value; above = first.above };
-      least = λ k c l h. at_most k c (first.least k l) h;
+      least = λ k c l h. small_not_large k c (first.least k l) h;
     }
 
   -- y stands for x

@@ -15,7 +15,7 @@ use Rattle.cox_hecke.specs.Needs.{IsNeeded, itself, shorter, corrected}
 use Rattle.cox_hecke.proofs.Descended.{mu-below}
 use Rattle.cox_context.specs.Closed.{Elements, IsClosed}
 use Rattle.cox_context.specs.Numbers.{word_at}
-use Rattle.cox_context.proofs.ListLemmas.{rising-place}
+use Rattle.cox_context.proofs.PlacedWords.{rising-place}
 use Rattle.cox_row.proofs.Raising.{later-not_below}
 use Rattle.cox_row.specs.Rising.{number_at}
 use Rattle.cox_klstep.specs.declared.step.Descent.{Descent}
@@ -91,8 +91,8 @@ module _ (e : Elements) (g : IsAdmissible (integer_matrix e.matrix)) (closed : I
     lower-before = shorter-before A g e.members closed d.member is.within d.letter d.lower is.least.descent is.lower_within
         (below-refl A g lower-same)
 
-    pub lower-needed : IsNeeded A w (word_at e.members d.lower)
-    lower-needed = shorter (itself (same-refl A g w)) is.least lower-same
+    pub shorter-needed : IsNeeded A w (word_at e.members d.lower)
+    shorter-needed = shorter (itself (same-refl A g w)) is.least lower-same
 
     module _ (numbers : List ℕ) (are : AreNeeds A e.members d.letter w numbers) (k : ℕ) (l : k < length numbers) where
       pub correction-before : number_at numbers k < d.member

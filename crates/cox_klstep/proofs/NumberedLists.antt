@@ -17,7 +17,7 @@ use Rattle.cox_hecke.specs.StepFamily as hecke
 use Rattle.cox_hecke.proofs.SumLemmas.{same-is_same, not_same-is_same}
 use Rattle.cox_context.specs.Closed.{IsClosed}
 use Rattle.cox_context.specs.Numbers.{word_at}
-use Rattle.cox_context.proofs.ListLemmas.{rising-place}
+use Rattle.cox_context.proofs.PlacedWords.{rising-place}
 use Rattle.cox_context.proofs.Shifting.{element-at}
 use Rattle.cox_klstep.specs.declared.step.Correction.{Correction}
 use Rattle.cox_klstep.specs.StepOf.{correction_at}

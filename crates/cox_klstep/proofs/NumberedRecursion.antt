@@ -22,7 +22,7 @@ use Rattle.cox_hecke.proofs.PolynomialValues.{kazhdan_lusztig-same}
 use Rattle.cox_hecke.proofs.StepFamilies.{recursion}
 use Rattle.cox_context.specs.Closed.{IsClosed}
 use Rattle.cox_context.specs.Numbers.{word_at}
-use Rattle.cox_context.proofs.ListLemmas.{contains-placed, contains-at}
+use Rattle.cox_context.proofs.PlacedWords.{contains-placed, contains-at}
 use Rattle.cox_context.proofs.Shifting.{member-below, length-at}
 use Rattle.cox_row.proofs.RisingLemmas.{few-rising}
 use Rattle.cox_klstep.specs.declared.step.Correction.{Correction}

@@ -18,7 +18,7 @@ use Rattle.cox_hecke.proofs.Descended.{mu-left, mu-right, mu-shift_left, mu-shif
 use Rattle.cox_context.specs.Closed.{Elements, IsClosed}
 use Rattle.cox_context.specs.Numbers.{word_at}
 use Rattle.cox_context.specs.Numbering.{IsNumberOf}
-use Rattle.cox_context.proofs.ListLemmas.{contains-at, rising-place}
+use Rattle.cox_context.proofs.PlacedWords.{contains-at, rising-place}
 use Rattle.cox_context.proofs.Shifting.{element-at, shift-less, right_shift-less}
 use Rattle.cox_row.specs.Extremal.{IsExtremal}
 use Rattle.cox_row.specs.Raised.{IsRaised, on_left, on_right}

@@ -42,8 +42,13 @@ pub record IsCountedTo (e : Elements) (i done old new : ℕ) : Type 0 where
   pub each : (extremal : List ℕ) → AreExtremal (integer_matrix e.matrix) e.members (word_at e.members i) extremal
       → (k : ℕ) → k < length extremal → number_at extremal k < done → counted old (k + 1) ≤ new
 
+-- the inverse of the member i is the member j, which has a lesser number, and its row is there
+pub record IsInverseAtHand (e : Elements) (holds : ℕ → Type 0) (i j : ℕ) : Type 0 where
+  pub less : j < i
+  pub number : IsNumberOf e.members (normal_form (integer_matrix e.matrix) (reverse (word_at e.members i))) (Some j)
+  pub there : holds j
+
 -- the member i is not the identity, and no row of its inverse is there under a lesser number
 pub record IsMadeByStep (e : Elements) (holds : ℕ → Type 0) (i : ℕ) : Type 0 where
   pub some : 0 < i
-  pub alone : (j : ℕ) → j < i → IsNumberOf e.members (normal_form (integer_matrix e.matrix) (reverse (word_at e.members i))) (Some j)
-      → ¬ holds j
+  pub alone : (j : ℕ) → ¬ IsInverseAtHand e holds i j

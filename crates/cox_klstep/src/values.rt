@@ -62,7 +62,7 @@ impl Values {
         ensures too_big { (d : ℕ) (v : ℤ) → result ≡ Err (PolyFault.TooBig d v) → IsFirstAbove limit sums.now d v }
         ensures unchanged { (d : ℕ) (v : ℤ) → result ≡ Err (PolyFault.TooBig d v) → self.new ≡ self.old }
     {
-        let place = match place_of(alloc, &mut self.pool, sums, limit) {
+        let place = match pooled_place(alloc, &mut self.pool, sums, limit) {
             Ok(place) => place,
             Err(fault) => return Err(fault),
         };
@@ -85,7 +85,7 @@ impl Values {
 }
 
 /// The place of the polynomial with these sums in the pool, where it is put if it is new.
-fn place_of(alloc: Global, pool: &mut Pool, sums: &Acc, limit: i64) -> Result<u32, PolyFault>
+fn pooled_place(alloc: Global, pool: &mut Pool, sums: &Acc, limit: i64) -> Result<u32, PolyFault>
     requires few { length pool.old < 2 ^ 32 }
     requires small { (j : ℕ) → j < length pool.old → AllWithin limit (polynomial_at pool.old j) }
     ensures place { IfOk result (IsPooled limit sums.now pool.old pool.new) }
@@ -93,7 +93,7 @@ fn place_of(alloc: Global, pool: &mut Pool, sums: &Acc, limit: i64) -> Result<u3
     ensures unchanged { (d : ℕ) (v : ℤ) → result ≡ Err (PolyFault.TooBig d v) → pool.new ≡ pool.old }
 {
     let print = print_of(sums);
-    if let Some(place) = pool.place_of(sums, print) {
+    if let Some(place) = pool.find(sums, print) {
         return Ok(place);
     }
     let polynomial = match sums.close(alloc, limit) {
@@ -157,7 +157,7 @@ impl Pool {
     }
 
     /// The place of the polynomial with these sums and their fingerprint, if it is there. The last ones are looked at first.
-    pub(crate) fn place_of(&self, sums: &Acc, print: u32) -> Option<u32>
+    pub(crate) fn find(&self, sums: &Acc, print: u32) -> Option<u32>
         requires few { length self.now < 2 ^ 32 }
         requires print { print ≡ print_of sums.now }
         ensures found { IfSome result (λ k. (k < length self.now) × SameCoefficients (polynomial_at self.now k) sums.now) }

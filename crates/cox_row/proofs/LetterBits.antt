@@ -35,8 +35,8 @@ module _ (wanted present rest : ℕ) (small : wanted < 2 ^ 16) (fits : present <
         ap (λ n. bit_at n k) is ∙ bit_at_and wanted (bit_not w16 present) k
         ∙ ap (λ b. min (bit_at wanted k) b) (bit_at_not w16 present k fits l)
 
-    pub none-missing : rest ≡ 0 → IsSubset wanted present
-    none-missing z k set = one-set present k
+    pub zero-subset : rest ≡ 0 → IsSubset wanted present
+    zero-subset z k set = one-set present k
         (go (bit_at wanted k) (bit_at present k) (set-one wanted k set) (bit_at-lt present k) (sym (rest-at k inside) ∙ zero))
       where
         inside : k < 16
@@ -49,8 +49,8 @@ module _ (wanted present rest : ℕ) (small : wanted < 2 ^ 16) (fits : present <
         go : (a b : ℕ) → a ≡ 1 → b < 2 → min a (1 - b) ≡ 0 → b ≡ 1
         go a b e l h = omega arith
 
-    pub least-missing : rest < 2 ^ 16 → rest ≢ 0 → IsMissing wanted present (trailing_zeros w16 rest + 1)
-    least-missing l some = record {
+    pub lowest-missing : rest < 2 ^ 16 → rest ≢ 0 → IsMissing wanted present (trailing_zeros w16 rest + 1)
+    lowest-missing l some = record {
       bit = trailing_zeros w16 rest;
       letter = refl;
       among = one-set wanted (trailing_zeros w16 rest) (first (bit_at wanted (trailing_zeros w16 rest)) _ (bit_at-lt wanted _) both);

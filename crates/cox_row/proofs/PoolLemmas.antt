@@ -11,7 +11,7 @@ use Rattle.cox_poly.proofs.Polynomials.{same_polynomial}
 use Rattle.cox_hecke.proofs.PolynomialValues.{kazhdan_lusztig-unique}
 use Rattle.cox_context.specs.Closed.{IsClosed}
 use Rattle.cox_context.specs.Numbers.{word_at}
-use Rattle.cox_context.proofs.ListLemmas.{contains-placed}
+use Rattle.cox_context.proofs.PlacedWords.{contains-placed}
 use Rattle.cox_context.proofs.Shifting.{member-below}
 use Rattle.cox_row.specs.Rising.{number_at}
 use Rattle.cox_row.specs.ExtremalNumbers.{AreExtremal}

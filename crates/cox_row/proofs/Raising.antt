@@ -16,7 +16,7 @@ use Rattle.cox_hecke.proofs.PolynomialValues.{kazhdan_lusztig-same, kazhdan_lusz
 use Rattle.cox_context.specs.Closed.{IsClosed}
 use Rattle.cox_context.specs.Numbers.{word_at}
 use Rattle.cox_context.specs.Numbering.{IsNumberOf}
-use Rattle.cox_context.proofs.ListLemmas.{rising-place, rising-length}
+use Rattle.cox_context.proofs.PlacedWords.{rising-place, rising-length}
 use Rattle.cox_context.proofs.Shifting.{element-at, length-at, member-below}
 use Rattle.cox_row.specs.Raised.{IsRaised, on_left, on_right, IsRaisedTo, raise_to, LeadsTo, StandsFor}
 use Rattle.cox_row.specs.LetterSets.{IsMissing, AreLeftDescents, AreRightDescents}

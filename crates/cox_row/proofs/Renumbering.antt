@@ -10,7 +10,7 @@ use Rattle.cox_hecke.proofs.Descended.{mu-below}
 use Rattle.cox_context.specs.Closed.{IsClosed}
 use Rattle.cox_context.specs.Numbers.{word_at}
 use Rattle.cox_context.specs.Numbering.{AreMoved}
-use Rattle.cox_context.proofs.ListLemmas.{contains-placed, contains-at, rising-place}
+use Rattle.cox_context.proofs.PlacedWords.{contains-placed, contains-at, rising-place}
 use Rattle.cox_row.specs.Rising.{number_at, AreRising, AreWithin}
 use Rattle.cox_row.specs.ExtremalNumbers.{AreExtremal}
 use Rattle.cox_row.specs.Polynomials.{HavePolynomials}

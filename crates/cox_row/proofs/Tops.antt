@@ -53,16 +53,16 @@ module _ (A : IntegerMatrix) (g : IsAdmissible A) where
         (λ (none : word_length A w ≤ word_length A (w ++ s ∷ [])). inl (λ d. absurd (omega (arith, d, none))))
         (cases_lt (word_length A (w ++ s ∷ [])) (word_length A w))
 
-    up_to : (n : ℕ) → IsExtremalTo A w x n ⊎ ((y : List ℕ) × IsRaised A w x y)
-    up_to zero = inl record {
+    extremal-raised_to : (n : ℕ) → IsExtremalTo A w x n ⊎ ((y : List ℕ) × IsRaised A w x y)
+    extremal-raised_to zero = inl record {
       left = λ s l d. absurd (let letter = left_descent-letter A g w s d in omega (arith, letter.from_one, l));
       right = λ s l d. absurd (let letter = descent-letter A g w s d in omega (arith, letter.from_one, l));
     }
-    up_to (suc n) = ⊎_elim
+    extremal-raised_to (suc n) = ⊎_elim
         (λ (h : IsExtremalTo A w x n). ⊎_elim
         (λ left. ⊎_elim (λ right. inl (more h left right)) (λ r. inr r) (right-at (suc n)))
         (λ r. inr r) (left-at (suc n)))
-        (λ r. inr r) (up_to n)
+        (λ r. inr r) (extremal-raised_to n)
       where
         more : IsExtremalTo A w x n → (IsLeftDescent A w (suc n) → IsLeftDescent A x (suc n))
             → (IsRightDescent A w (suc n) → IsRightDescent A x (suc n)) → IsExtremalTo A w x (suc n)
@@ -79,7 +79,7 @@ module _ (A : IntegerMatrix) (g : IsAdmissible A) where
           left = λ s d. h.left s (left_descent-letter A g w s d).to_rank d;
           right = λ s d. h.right s (descent-letter A g w s d).to_rank d;
         })
-        (λ r. inr r) (up_to A.rank)
+        (λ r. inr r) (extremal-raised_to A.rank)
 
   has_top : (w : List ℕ) (n : ℕ) (x : List ℕ) → word_length A w < word_length A x + n → IsBelow A x w → HasTop A w x
   has_top w zero x l b = absurd (omega (arith, l, below-length A g b))

@@ -20,7 +20,7 @@ use Rattle.cox_hecke.proofs.Descended.{mu-below}
 use Rattle.cox_hecke.proofs.NeedLemmas.{needed-trans}
 use Rattle.cox_context.specs.Closed.{Elements, IsClosed}
 use Rattle.cox_context.specs.Numbers.{word_at}
-use Rattle.cox_context.proofs.ListLemmas.{contains-placed}
+use Rattle.cox_context.proofs.PlacedWords.{contains-placed}
 use Rattle.cox_context.proofs.Shifting.{member-below, first-member, length-at}
 use Rattle.cox_row.specs.Rising.{number_at}
 use Rattle.cox_klstep.specs.declared.step.Descent.{Descent}

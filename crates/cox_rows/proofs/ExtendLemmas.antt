@@ -16,7 +16,7 @@ use Rattle.cox_context.specs.Closed.{IsClosed}
 use Rattle.cox_context.specs.Union.{IsInUnion}
 use Rattle.cox_base.specs.SortedList.{IsListOf}
 use Rattle.cox_context.specs.Numbering.{IsNumberOf}
-use Rattle.cox_context.proofs.ListLemmas.{contains-at}
+use Rattle.cox_context.proofs.PlacedWords.{contains-at}
 use Rattle.cox_klstep.specs.declared.tables.Tables.{Tables}
 use Rattle.cox_rows.specs.Holding.{Holding, HasRow}
 use Rattle.cox_rows.specs.Ensured.{IsSettled, IsStore}

@@ -23,4 +23,4 @@ pub mod SpreadLemmas
 -- larger contexts
 pub mod ExtendLemmas
 -- rows of two lists
-pub mod BothLemmas
+pub mod JoinedRows

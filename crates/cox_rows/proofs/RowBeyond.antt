@@ -12,7 +12,7 @@ use Rattle.cox_hecke.proofs.AllRows.{mu-unique}
 use Rattle.cox_hecke.proofs.Descended.{mu-below}
 use Rattle.cox_context.specs.Closed.{Elements, IsClosed}
 use Rattle.cox_context.specs.Numbers.{word_at}
-use Rattle.cox_context.proofs.ListLemmas.{contains-placed}
+use Rattle.cox_context.proofs.PlacedWords.{contains-placed}
 use Rattle.cox_context.proofs.Shifting.{member-below}
 use Rattle.cox_row.specs.declared.row.Row.{Row}
 use Rattle.cox_row.specs.declared.row.TheConstants.{MU_LIMIT}

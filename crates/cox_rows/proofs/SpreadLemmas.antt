@@ -11,7 +11,7 @@ use Rattle.cox_poly.specs.Polynomial.{coefficient}
 use Rattle.cox_context.specs.Closed.{Elements, IsClosed}
 use Rattle.cox_context.specs.Numbers.{word_at}
 use Rattle.cox_context.specs.Numbering.{AreMoved}
-use Rattle.cox_context.proofs.ListLemmas.{contains-at}
+use Rattle.cox_context.proofs.PlacedWords.{contains-at}
 use Rattle.cox_row.specs.declared.row.Row.{Row}
 use Rattle.cox_row.specs.declared.row.TheConstants.{MU_LIMIT}
 use Rattle.cox_row.specs.Rising.{number_at}
@@ -24,7 +24,7 @@ use Rattle.cox_rows.specs.Beyond.{IsBeyond}
 use Rattle.cox_rows.proofs.LargeRows.{coefficient-beyond, mu-beyond}
 use Rattle.cox_rows.specs.Holding.{IsHeldRow, AreRows, held}
 use Rattle.cox_rows.specs.Spread.{IsMovable, IsRenumbered, IsFromBefore, AreSpread}
-use Rattle.cox_rows.proofs.HeldLemmas.{held-at, row-there, not-there}
+use Rattle.cox_rows.proofs.HeldLemmas.{held-at, row-predicate, not-there}
 use Rattle.cox_rows.proofs.RowBeyond.{not_beyond}
 
 -- ---- one row after another
@@ -115,7 +115,7 @@ module _ (a e : Elements) (limit : ℤ) (g : IsAdmissible (integer_matrix a.matr
 
   carried-row : (n j : ℕ) (row : Row) → IsFromBefore rows moved n j row → IsHeldRow e limit j row
   carried-row n j row h =
-      let old = row-there a limit rows h.i h.old held_rows h.was
+      let old = row-predicate a limit rows h.i h.old held_rows h.was
       in let close : IsClosed (integer_matrix a.matrix) e.members = rw same at to
       in let word : word_at e.members j ≡ word_at a.members h.i = rw h.number at (are.word h.i old.member)
       in let is : IsRowOf (integer_matrix a.matrix) e.members (word_at a.members h.i) row

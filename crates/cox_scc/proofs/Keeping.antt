@@ -4,7 +4,7 @@ use Rattle.std.proofs.lemmas.Bool.{cases_lt, cases_eq}
 use Rattle.std.proofs.lemmas.List.Elements.{Contains-append_left, Contains-push, Contains-push_cases}
 use Rattle.cox_scc.specs.Visits.{Visit, Unseen, Open, Closed}
 use Rattle.cox_scc.specs.Walk.{IsIncreasing, AreOnStack, AreFollowed, AreStacked, AreSettled, LiesFrom}
-use Rattle.cox_scc.proofs.Stacks.{rising_rest, rising_push}
+use Rattle.cox_scc.proofs.Stacks.{rising_rest, increasing-push}
 use Rattle.cox_scc.proofs.VisitLemmas.{lies_lower}
 
 -- a vertex stands at one place of the stack
@@ -101,8 +101,8 @@ module _ (n size v : ℕ) (visit later : ℕ → Visit) (stack taller : ℕ → 
 pub stacked_enter : (size : ℕ) (parts path : List ℕ) → AreStacked size parts path
     → AreStacked (size + 1) (parts ++ size ∷ []) (path ++ size ∷ [])
 stacked_enter size parts path stacked = record {
-  parts_rise = rising_push parts size stacked.parts_rise (λ b part. stacked.below b (stacked.on_path b part));
-  path_rises = rising_push path size stacked.path_rises stacked.below;
+  parts_rise = increasing-push parts size stacked.parts_rise (λ b part. stacked.below b (stacked.on_path b part));
+  path_rises = increasing-push path size stacked.path_rises stacked.below;
   below = λ p on. ⊎_elim (λ old. omega (arith, stacked.below p old)) (λ is. omega arith) (Contains-push_cases path size p on);
   on_path = λ b part. ⊎_elim (λ old. Contains-append_left path (size ∷ []) b (stacked.on_path b old))
       (λ is. subst (Contains (path ++ size ∷ [])) is (Contains-push path size)) (Contains-push_cases parts size b part);

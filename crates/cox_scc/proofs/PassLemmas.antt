@@ -332,11 +332,11 @@ has_met adjacency old joined rest here end followed t has begun more =
     }
 
 -- the pass goes on at that vertex
-pub walk_on : (adjacency : Adjacency) (old joined new : Search) (rest : List Waiting) (here : Waiting) (end : ℕ) (followed : Followed)
+pub walk-follows : (adjacency : Adjacency) (old joined new : Search) (rest : List Waiting) (here : Waiting) (end : ℕ) (followed : Followed)
     (there : Waiting) (t : ℕ) → HasFollowed adjacency old joined rest here end followed → here.next ≤ followed.next → followed.next < end
     → t ≡ get_or adjacency.targets.items followed.next t → Enters joined new t → Begins adjacency joined t there
     → IsWalk adjacency new ((rest ++ at_next here followed ∷ []) ++ there ∷ [])
-walk_on adjacency old joined new rest here end followed there t has begun more read enters begins =
+walk-follows adjacency old joined new rest here end followed there t has begun more read enters begins =
     let met = has_met adjacency old joined rest here end followed t has begun more in
     let before = subst (λ z. followed.next < z) has.end_is more in
     walk_enter joined new t enters adjacency (rest ++ at_next here followed ∷ []) there (met.below read) (met.unseen read)

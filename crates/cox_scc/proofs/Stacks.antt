@@ -21,8 +21,8 @@ rising_rest xs x up i j lt within =
     let h : get_or (xs ++ x ∷ []) i 0 < get_or (xs ++ x ∷ []) j 0 = up i j lt (omega (arith, length_push xs x)) in
     omega arith
 
-pub rising_push : (xs : List ℕ) (x : ℕ) → IsIncreasing xs → ((y : ℕ) → Contains xs y → y < x) → IsIncreasing (xs ++ x ∷ [])
-rising_push xs x up below i j lt within = ⊎_elim
+pub increasing-push : (xs : List ℕ) (x : ℕ) → IsIncreasing xs → ((y : ℕ) → Contains xs y → y < x) → IsIncreasing (xs ++ x ∷ [])
+increasing-push xs x up below i j lt within = ⊎_elim
     (λ inside. let second : get_or (xs ++ x ∷ []) j 0 ≡ get_or xs j 0 = get_or_append_left xs (x ∷ []) 0 j inside in
     let h : get_or xs i 0 < get_or xs j 0 = up i j lt inside in omega (arith, first))
     (λ past. let second : get_or (xs ++ x ∷ []) j 0 ≡ x = get_or_push xs x 0 j (omega (arith, length_push xs x)) in

@@ -7,13 +7,13 @@ use Rattle.std.proofs.lemmas.List.Sums.{sum_by-set}
 use Rattle.cox_scc.specs.Visits.{Visit, Unseen, Open, Closed, nowhere, visit_by}
 use Rattle.cox_scc.specs.Walk.{LiesFrom}
 
-open-at : (b : Bool) (place : ℕ) → cond b Closed (Open place) ≢ Unseen
-open-at true place is = cc
-open-at false place is = cc
+visited-seen : (b : Bool) (place : ℕ) → cond b Closed (Open place) ≢ Unseen
+visited-seen true place is = cc
+visited-seen false place is = cc
 
 -- a vertex that was seen is open or closed
 pub seen_visit : (s : Bool) (place : ℕ) → s ≡ true → visit_by s place ≢ Unseen
-seen_visit true place e = open-at (place == nowhere) place
+seen_visit true place e = visited-seen (place == nowhere) place
 seen_visit false place e = absurd (let no : ⊥ = cc in no)
 
 pub open_seen : (s : Bool) (place p : ℕ) → visit_by s place ≡ Open p → s ≡ true

@@ -11,7 +11,7 @@ use Rattle.cox_hecke.specs.Row.{IsMu}
 use Rattle.cox_hecke.proofs.AllRows.{mu-exists, mu-unique}
 use Rattle.cox_context.specs.Closed.{Elements, IsClosed}
 use Rattle.cox_context.specs.Numbers.{word_at}
-use Rattle.cox_context.proofs.ListLemmas.{contains-at, rising-length}
+use Rattle.cox_context.proofs.PlacedWords.{contains-at, rising-length}
 use Rattle.cox_row.specs.Rising.{number_at}
 use Rattle.cox_row.specs.Mus.{value_at, AreMus}
 use Rattle.cox_row.proofs.MuLemmas.{mu-words}

@@ -9,7 +9,7 @@ use Rattle.cox_base.specs.Admissible.{IsAdmissible}
 use Rattle.cox_context.specs.Closed.{Elements}
 use Rattle.cox_base.specs.Members.{IsElement}
 use Rattle.cox_context.specs.Numbers.{word_at}
-use Rattle.cox_context.proofs.ListLemmas.{IsPlaced, contains-at, contains-placed, placed-contains}
+use Rattle.cox_context.proofs.PlacedWords.{IsPlaced, contains-at, contains-placed, placed-contains}
 use Rattle.cox_base.specs.SortedList.{IsListOf}
 use Rattle.cox_wgraph.specs.declared.edge.Edge.{Edge}
 use Rattle.cox_wgraph.specs.Edges.{IsEdgeValue, IsEdge, IsJoined}
@@ -30,8 +30,8 @@ module _ (e : Elements) (g : IsAdmissible (integer_matrix e.matrix)) (ends : Lis
       (λ (none : i ≤ 0). let z : i ≡ 0 = omega arith in first z ∙ sym (total-zero (λ b. rank (h.values b) (length e.members)))
       ∙ ap (start_of h.values (length e.members)) (sym z)) (cases_lt 0 i)
 
-  pub end-is : slice_index_or ends i 0 ≡ start_of h.values (length e.members) i + rank (h.values i) (length e.members)
-  end-is =
+  pub end-after_start : slice_index_or ends i 0 ≡ start_of h.values (length e.members) i + rank (h.values i) (length e.members)
+  end-after_start =
       let next : i + 1 ≡ suc i = omega arith
       in h.ends_at i (omega (arith, l, h.size)) ∙ ap (start_of h.values (length e.members)) next
       ∙ total-next (λ b. rank (h.values b) (length e.members)) i
@@ -40,7 +40,7 @@ module _ (e : Elements) (g : IsAdmissible (integer_matrix e.matrix)) (ends : Lis
   end-within =
       omega (
         arith,
-        end-is,
+        end-after_start,
         h.placed.size,
         total-next (λ b. rank (h.values b) (length e.members)) i,
         total-up (λ b. rank (h.values b) (length e.members)) (suc i) (length e.members) (omega (arith, l)),
@@ -48,10 +48,10 @@ module _ (e : Elements) (g : IsAdmissible (integer_matrix e.matrix)) (ends : Lis
 
   module _ (start end : ℕ) (start_is : start ≡ start_of h.values (length e.members) i) (end_is : end ≡ slice_index_or ends i 0) where
     count_is : end - start ≡ rank (h.values i) (length e.members)
-    count_is = omega (arith, start_is, end_is, end-is)
+    count_is = omega (arith, start_is, end_is, end-after_start)
 
     size : length (take (end - start) (drop start edges)) ≡ rank (h.values i) (length e.members)
-    size = length-take-le (end - start) (drop start edges) (omega (arith, length-drop start edges, start_is, end_is, end-is, end-within))
+    size = length-take-le (end - start) (drop start edges) (omega (arith, length-drop start edges, start_is, end_is, end-after_start, end-within))
         ∙ count_is
 
     -- the edge with a rank
@@ -88,8 +88,8 @@ module _ (e : Elements) (g : IsAdmissible (integer_matrix e.matrix)) (ends : Lis
         → IsEdge (integer_matrix e.matrix) (word_at e.members i) (word_at e.members b) (h.values i b)
     edge_of b m some = record { value = h.are i b l m; some = some }
 
-    pub edges-of : AreEdges (integer_matrix e.matrix) e.members i (take (end - start) (drop start edges))
-    edges-of = record {
+    pub listed_edges : AreEdges (integer_matrix e.matrix) e.members i (take (end - start) (drop start edges))
+    listed_edges = record {
       rising = λ j k less m. rises j k less (at j (omega (arith, less, m))) (at k m);
       within = λ k m. let p = at k m in omega (arith, ap (λ (d : Edge). d.to) p.is, p.within);
       edge = λ k m. let p = at k m in rw p.is (edge_of p.to p.within p.some);

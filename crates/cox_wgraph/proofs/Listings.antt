@@ -78,9 +78,9 @@ module _ (A : IntegerMatrix) (g : IsAdmissible A) where
   value : List ℕ → List ℕ → ℤ
   value x y = (edge-exists A g x y).0
 
-  value-is : (x y : List ℕ) → IsEdgeValue A x y (value x y)
+  value-edge : (x y : List ℕ) → IsEdgeValue A x y (value x y)
   unfolding value
-  value-is x y = (edge-exists A g x y).1
+  value-edge x y = (edge-exists A g x y).1
 
   abbrev is_joined : List ℕ → List ℕ → Bool
   is_joined x y = not (int_eq (value x y) (pos 0))
@@ -108,7 +108,7 @@ module _ (A : IntegerMatrix) (g : IsAdmissible A) where
     elements = rw (joined-words x (filter (is_joined x) elements))
         (IsListOf-filter (IsElement A) (IsNeighbour A x) (is_joined x) elements all tells (λ y n. n.element));
     values = All-map (λ j. IsEdgeValue A x j.element j.value) (joined x) (filter (is_joined x) elements)
-        (λ k d l. value-is x (slice_index_or (filter (is_joined x) elements) k d));
+        (λ k d l. value-edge x (slice_index_or (filter (is_joined x) elements) k d));
   }
     where
       tells : (y : List ℕ) → IsElement A y → (is_joined x y ≡ true) ↔ IsNeighbour A x y
@@ -118,13 +118,13 @@ module _ (A : IntegerMatrix) (g : IsAdmissible A) where
           joined = (
             value x y,
             record {
-              value = value-is x y;
+              value = value-edge x y;
               some = λ z. not-true (int_eq (value x y) (pos 0)) t ((Decides-int_eq (value x y) (pos 0)).1 z);
             },
           );
         },
         λ n. not-false (int_eq (value x y) (pos 0)) (λ t. n.joined.1.some
-            (edge-unique A g x y n.joined.0 (value x y) n.joined.1.value (value-is x y) ∙ (Decides-int_eq (value x y) (pos 0)).0 t)),
+            (edge-unique A g x y n.joined.0 (value x y) n.joined.1.value (value-edge x y) ∙ (Decides-int_eq (value x y) (pos 0)).0 t)),
       )
 
   abbrev vertex : List (List ℕ) → List ℕ → Vertex

@@ -8,14 +8,14 @@ use Rattle.cox_row.specs.Rising.{number_at}
 use Rattle.cox_klstep.specs.declared.step.Descent.{Descent}
 use Rattle.cox_klstep.specs.StepOf.{IsDescentAt}
 use Rattle.cox_klstep.specs.NeedsOf.{AreNeeds}
-use Rattle.cox_klstep.proofs.NeededRows.{lower-needed, correction-needed}
+use Rattle.cox_klstep.proofs.NeededRows.{shorter-needed, correction-needed}
 use Rattle.cox_workers.specs.Work.{IsNeededAt}
 
 module _ (e : Elements) (g : IsAdmissible (integer_matrix e.matrix)) (closed : IsClosed (integer_matrix e.matrix) e.members) (d : Descent)
     (is : IsDescentAt e d) {i : ℕ} (number : d.member ≡ i) where
   pub lower-needed_at : IsNeededAt e i d.lower
   lower-needed_at =
-      subst (λ n. IsNeededAt e n d.lower) number (record { within = is.lower_within; needed = lower-needed e g closed d is })
+      subst (λ n. IsNeededAt e n d.lower) number (record { within = is.lower_within; needed = shorter-needed e g closed d is })
 
   pub correction-needed_at : {numbers : List ℕ} → AreNeeds (integer_matrix e.matrix) e.members d.letter (word_at e.members d.member) numbers
       → {k : ℕ} → k < length numbers → IsNeededAt e i (number_at numbers k)

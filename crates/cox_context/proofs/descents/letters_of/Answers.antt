@@ -1,7 +1,7 @@
 -- Each letter is appended exactly where its bit is set.
 use Rattle.std.proofs.Common.{◌≡◌, ℕ, ◌+◌, ◌-◌, List, length, ap, sym, ◌∙◌, arith, lit<}
-use Rattle.cox_context.proofs.SetLemmas.{letters-start, letters-yes, letters-no, letters-length, letters-all, has_letter-read}
-use Rattle.cox_context.proofs.SetLemmas.{has_letter-unread}
+use Rattle.cox_context.proofs.LetterSets.{letters-start, letters-yes, letters-no, letters-length, letters-all, has_letter-read}
+use Rattle.cox_context.proofs.LetterSets.{has_letter-unread}
 use Rattle.cox_context.proofs.descents.letters_of.Goals as goal
 use Rattle.cox_context.proofs.descents.letters_of.Goals.{then-set-s-eq1, else-set-s-eq1}
 

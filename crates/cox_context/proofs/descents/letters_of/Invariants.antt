@@ -1,6 +1,6 @@
 -- The letters of the set before s.
 use Rattle.std.proofs.Common.{◌≡◌, ◌-◌}
-use Rattle.cox_context.proofs.SetLemmas.{letters_before}
+use Rattle.cox_context.proofs.LetterSets.{letters_before}
 use Rattle.cox_context.proofs.descents.letters_of.Given as goal
 
 abbrev pub invariant-loop-s : goal.invariant-loop-s

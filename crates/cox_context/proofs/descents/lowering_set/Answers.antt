@@ -2,7 +2,7 @@
 use Rattle.std.proofs.Common.{◌≡◌, ◌+◌, ◌-◌, refl, ap, sym, ◌∙◌, arith}
 use Rattle.cox_context.specs.Shifts.{entry}
 use Rattle.cox_context.specs.Sets.{is_lower}
-use Rattle.cox_context.proofs.SetLemmas.{set-start, set-skip, set-add, bit-shifted}
+use Rattle.cox_context.proofs.LetterSets.{set-start, set-skip, set-add, bit-shifted}
 use Rattle.cox_context.proofs.descents.lowering_set.Goals as goal
 use Rattle.cox_context.proofs.descents.lowering_set.Goals.{then-is_lower, else-is_lower}
 

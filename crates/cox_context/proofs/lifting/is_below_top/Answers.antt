@@ -13,7 +13,7 @@ shares_descent-requires-clause-letters c =
     let A : IntegerMatrix = integer_matrix c.args.shifts.now.matrix
     in let g : IsAdmissible A = IsAdmissible-integer_matrix c.args.shifts.now.matrix c.rank.ensures.matrix
     in let same : c.as_slice.result.now ≡ left_descents A c.in-Some.top.items =
-    c.as_slice.ensures.value ∙ (rw c.requires.group at c.args.family.now.descents_of) ∙ ap (top_descents A) c.in-Some.is
+    c.as_slice.ensures.value ∙ (rw c.requires.group at c.args.scope.now.descents_of) ∙ ap (top_descents A) c.in-Some.is
     in rw (c.rank.ensures.rank, same) (descents-word A g c.in-Some.top.items)
 
 pub returns-then-shares_descent : goal.returns-then-shares_descent
@@ -21,7 +21,7 @@ returns-then-shares_descent c = λ y s d lower.
     let A : IntegerMatrix = integer_matrix c.args.shifts.now.matrix
     in let g : IsAdmissible A = IsAdmissible-integer_matrix c.args.shifts.now.matrix c.rank.ensures.matrix
     in let same : c.as_slice.result.now ≡ left_descents A c.in-Some.top.items =
-    c.as_slice.ensures.value ∙ (rw c.requires.group at c.args.family.now.descents_of) ∙ ap (top_descents A) c.in-Some.is
+    c.as_slice.ensures.value ∙ (rw c.requires.group at c.args.scope.now.descents_of) ∙ ap (top_descents A) c.in-Some.is
     in (
       λ yes. rw c.in-Some.is (shared A g c.args.shifts.now.members y c.as_slice.result.now c.args.lower.now c.args.numbers.now
           c.in-Some.top g lower same

@@ -1,11 +1,11 @@
 -- The step by the least left descent is a choice; and no choice has more corrections.
-use Rattle.std.proofs.Common.{◌≡◌, length, refl, ◌∙◌, arith}
+use Rattle.std.proofs.Common.{length, refl, ◌∙◌, arith}
 use Rattle.cox_base.specs.declared.side.Side.TheVariants.{Left}
 use Rattle.cox_base.specs.IntegerMatrix.{integer_matrix}
 use Rattle.cox_context.specs.Numbers.{word_at}
 use Rattle.cox_klstep.specs.StepOf.{correction_at}
 use Rattle.cox_row.proofs.RisingLemmas.{few-rising}
-use Rattle.cox_klstep.proofs.Chosen.{numbered-unique, numbered-cost, numbered-needs, cost-most}
+use Rattle.cox_klstep.proofs.Chosen.{numbered-unique, numbered-cost, least-cost, least-needs, cost-most}
 use Rattle.cox_klstep.proofs.choice.cheapest_step.Goals as goal
 
 pub cost_of-requires : goal.cost_of-requires
@@ -52,58 +52,32 @@ returns-then-best-start-clause-corrected g c = λ k l.
 
 pub returns-then-best-start-clause-few : goal.returns-then-best-start-clause-few
 returns-then-best-start-clause-few g c = λ s numbers least are.
-    let d = c.of-least.ensures.descent
-    in let first = rw (c.in_ok-first.ensures.side, c.in_ok-first.ensures.letter, c.in_ok-first.ensures.number)
+    let first = rw (c.in_ok-first.ensures.side, c.in_ok-first.ensures.letter, c.in_ok-first.ensures.number, c.of-least.ensures.number)
     at c.in_ok-first.ensures.step.numbered
-    in let mine = rw c.of-least.ensures.number at d.least
-    in let same : s ≡ c.of-least.result.letter = omega (
-      arith,
-      least.least c.of-least.result.letter mine.descent,
-      mine.least s least.descent,
-    )
-    in numbered-needs (integer_matrix c.args.ctx.now.matrix) c.args.ctx.now.members c.of-least.result.letter
-    (word_at c.args.ctx.now.members c.of-least.result.member) c.in_ok-first.first.corrections.items numbers first
-    (rw (same, ← c.of-least.ensures.number) at are)
+    in least-needs (integer_matrix c.args.ctx.now.matrix) c.args.ctx.now.members c.of-least.result.letter
+    (word_at c.args.ctx.now.members c.args.i) s (rw c.of-least.ensures.number at c.of-least.ensures.descent.least) least
+    c.in_ok-first.first.corrections.items first numbers are
 
 pub returns-then-best-start-clause-cheap : goal.returns-then-best-start-clause-cheap
 returns-then-best-start-clause-cheap g c = λ s list least are.
-    let d = c.of-least.ensures.descent
-    in let first = rw (c.in_ok-first.ensures.side, c.in_ok-first.ensures.letter, c.in_ok-first.ensures.number)
+    let first = rw (c.in_ok-first.ensures.side, c.in_ok-first.ensures.letter, c.in_ok-first.ensures.number, c.of-least.ensures.number)
     at c.in_ok-first.ensures.step.numbered
-    in let mine = rw c.of-least.ensures.number at d.least
-    in let same : s ≡ c.of-least.result.letter = omega (
-      arith,
-      least.least c.of-least.result.letter mine.descent,
-      mine.least s least.descent,
-    )
-    in let cost = numbered-cost (integer_matrix c.args.ctx.now.matrix) c.args.ctx.now.members c.of-least.result.letter
-    (word_at c.args.ctx.now.members c.of-least.result.member) Left c.in_ok-first.first.corrections.items list first
-    (rw (same, ← c.of-least.ensures.number) at are)
+    in let cost = least-cost (integer_matrix c.args.ctx.now.matrix) c.args.ctx.now.members c.of-least.result.letter
+    (word_at c.args.ctx.now.members c.args.i) s (rw c.of-least.ensures.number at c.of-least.ensures.descent.least) least
+    c.in_ok-first.first.corrections.items first list are
     in omega (arith, cost)
 
 -- a cheaper step
 
 pub returns-clause-cheap : goal.returns-clause-cheap
 returns-clause-cheap g c = λ s list least are.
-    let d = c.of-least.ensures.descent
-    in let n = rw (
-      c.in_ok-step.ensures.side,
-      c.in_ok-step.ensures.letter,
-      c.in_ok-step.ensures.number,
-      c.cheapest-best.ensures.choice.member,
-    )
-    at c.in_ok-step.ensures.step.numbered
-    in let first = rw (c.in_ok-first.ensures.side, c.in_ok-first.ensures.letter, c.in_ok-first.ensures.number)
+    let first = rw (c.in_ok-first.ensures.side, c.in_ok-first.ensures.letter, c.in_ok-first.ensures.number, c.of-least.ensures.number)
     at c.in_ok-first.ensures.step.numbered
-    in let mine = rw c.of-least.ensures.number at d.least
-    in let same : s ≡ c.of-least.result.letter = omega (
-      arith,
-      least.least c.of-least.result.letter mine.descent,
-      mine.least s least.descent,
-    )
-    in let cost = numbered-cost (integer_matrix c.args.ctx.now.matrix) c.args.ctx.now.members c.of-least.result.letter
-    (word_at c.args.ctx.now.members c.of-least.result.member) Left c.in_ok-first.first.corrections.items list first
-    (rw (same, ← c.of-least.ensures.number) at are)
+    in let n = rw (c.in_ok-step.ensures.side, c.in_ok-step.ensures.letter, c.in_ok-step.ensures.number, c.cheapest-best.ensures.choice.member)
+    at c.in_ok-step.ensures.step.numbered
+    in let cost = least-cost (integer_matrix c.args.ctx.now.matrix) c.args.ctx.now.members c.of-least.result.letter
+    (word_at c.args.ctx.now.members c.args.i) s (rw c.of-least.ensures.number at c.of-least.ensures.descent.least) least
+    c.in_ok-first.first.corrections.items first list are
     in let own = c.cheapest-best.ensures.choice.costs c.in_ok-step.step.corrections.items n
     in let start = rw c.as_slice.ensures.value at c.cost_of.ensures
     in omega (arith, cost, own, start, c.cheapest-best.ensures.no_dearer)
@@ -117,25 +91,12 @@ returns-clause-corrected g c = λ k l.
 
 pub returns-clause-few : goal.returns-clause-few
 returns-clause-few g c = λ s numbers least are.
-    let d = c.of-least.ensures.descent
-    in let n = rw (
-      c.in_ok-step.ensures.side,
-      c.in_ok-step.ensures.letter,
-      c.in_ok-step.ensures.number,
-      c.cheapest-best.ensures.choice.member,
-    )
-    at c.in_ok-step.ensures.step.numbered
-    in let first = rw (c.in_ok-first.ensures.side, c.in_ok-first.ensures.letter, c.in_ok-first.ensures.number)
+    let first = rw (c.in_ok-first.ensures.side, c.in_ok-first.ensures.letter, c.in_ok-first.ensures.number, c.of-least.ensures.number)
     at c.in_ok-first.ensures.step.numbered
-    in let mine = rw c.of-least.ensures.number at d.least
-    in let same : s ≡ c.of-least.result.letter = omega (
-      arith,
-      least.least c.of-least.result.letter mine.descent,
-      mine.least s
-          least.descent,
-    )
+    in let n = rw (c.in_ok-step.ensures.side, c.in_ok-step.ensures.letter, c.in_ok-step.ensures.number, c.cheapest-best.ensures.choice.member)
+    at c.in_ok-step.ensures.step.numbered
+    in let most = least-needs (integer_matrix c.args.ctx.now.matrix) c.args.ctx.now.members c.of-least.result.letter
+    (word_at c.args.ctx.now.members c.args.i) s (rw c.of-least.ensures.number at c.of-least.ensures.descent.least) least
+    c.in_ok-first.first.corrections.items first numbers are
     in let few = c.cheapest-best.ensures.choice.few c.in_ok-step.step.corrections.items n
-    in let most = numbered-needs (integer_matrix c.args.ctx.now.matrix) c.args.ctx.now.members c.of-least.result.letter
-    (word_at c.args.ctx.now.members c.of-least.result.member) c.in_ok-first.first.corrections.items numbers first
-    (rw (same, ← c.of-least.ensures.number) at are)
     in omega (arith, few, most, c.len-most.ensures)

@@ -3,7 +3,7 @@ use Rattle.std.proofs.Common.{◌*◌, ◌^◌, FitsSigned, w64, rules, ◌∙�
 use Rattle.std.proofs.lemmas.Int.{to_z-of_z}
 use Rattle.cox_base.specs.IntegerMatrix.{integer_matrix}
 use Rattle.cox_context.specs.Numbers.{word_at}
-use Rattle.cox_context.proofs.ListLemmas.{contains-at}
+use Rattle.cox_context.proofs.PlacedWords.{contains-at}
 use Rattle.cox_context.proofs.Shifting.{length-at}
 use Rattle.cox_klstep.proofs.AddedSums.{after-small, value-low, sum-same}
 use Rattle.cox_klstep.proofs.sums.add_known.Goals as goal

@@ -1,5 +1,5 @@
 -- The rows so far were put at their places.
-use Rattle.cox_rows.proofs.BothLemmas.{ArePut}
+use Rattle.cox_rows.proofs.JoinedRows.{ArePut}
 use Rattle.cox_rows.proofs.held.with_rows.Given as goal
 
 abbrev pub invariant-places : goal.invariant-places

@@ -3,7 +3,7 @@ use Rattle.std.proofs.Common.{◌≡◌, ◌<◌, ◌+◌, length, refl, sym, ap
 use Rattle.cox_base.specs.IntegerMatrix.{integer_matrix}
 use Rattle.cox_hecke.proofs.AllRows.{row_of, row_of-is}
 use Rattle.cox_context.specs.Numbers.{word_at}
-use Rattle.cox_context.proofs.ListLemmas.{contains-at}
+use Rattle.cox_context.proofs.PlacedWords.{contains-at}
 use Rattle.cox_context.proofs.Shifting.{length-at}
 use Rattle.cox_answers.specs.Totals.{both_totals}
 use Rattle.cox_answers.proofs.RowTotals.{first_totals-more, first_totals-same, totals-is, kazhdan_lusztig-low}

@@ -7,7 +7,7 @@ use Rattle.cox_poly.specs.Puts.{PutsPrefix}
 use Rattle.cox_print.specs.AnswerText.{edge_text}
 use Rattle.cox_poly.proofs.Behind.{PutsPrefix-next, Puts-failed, append-all, append-next}
 use Rattle.cox_context.specs.Numbers.{word_at}
-use Rattle.cox_context.proofs.ListLemmas.{contains-at}
+use Rattle.cox_context.proofs.PlacedWords.{contains-at}
 use Rattle.cox_wgraph.specs.NumberedEdges.{edge_at}
 use Rattle.cox_answers.proofs.GroupTexts.{edge_at_text, edge-same, edges-text}
 use Rattle.cox_answers.proofs.answers.graphs.put_edges.Goals as goal

@@ -5,7 +5,7 @@ use Rattle.std.proofs.lemmas.List.Elements.{All-rest}
 use Rattle.cox_reflect.proofs.NormalElements.{element-word}
 use Rattle.cox_poly.proofs.Behind.{Puts-first, Puts-second}
 use Rattle.cox_context.specs.Numbers.{word_at}
-use Rattle.cox_context.proofs.ListLemmas.{contains-at}
+use Rattle.cox_context.proofs.PlacedWords.{contains-at}
 use Rattle.cox_print.specs.AnswerText.{members_text}
 use Rattle.cox_print.specs.MemberText.{member_text}
 use Rattle.cox_answers.proofs.GroupTexts.{cell-parts}

@@ -9,7 +9,7 @@ use Rattle.cox_context.specs.Closed.{Elements}
 use Rattle.cox_poly.specs.Puts.{Puts}
 use Rattle.cox_poly.proofs.Behind.{Puts-first, Puts-second}
 use Rattle.cox_context.specs.Numbers.{word_at}
-use Rattle.cox_context.proofs.ListLemmas.{contains-at}
+use Rattle.cox_context.proofs.PlacedWords.{contains-at}
 use Rattle.cox_print.specs.AnswerText.{head_text, edge_text}
 use Rattle.cox_wgraph.specs.Listing.{Joined}
 use Rattle.cox_wgraph.specs.NumberedEdges.{joined_of}

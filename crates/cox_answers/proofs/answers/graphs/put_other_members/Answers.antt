@@ -3,7 +3,7 @@ use Rattle.std.proofs.Common.{get_or, refl, arith, rules}
 use Rattle.cox_reflect.proofs.NormalElements.{element-word}
 use Rattle.cox_poly.proofs.Behind.{PutsPrefix-next, Puts-failed, append-all}
 use Rattle.cox_context.specs.Numbers.{word_at}
-use Rattle.cox_context.proofs.ListLemmas.{contains-at}
+use Rattle.cox_context.proofs.PlacedWords.{contains-at}
 use Rattle.cox_answers.proofs.GroupTexts.{other_text, others-text}
 use Rattle.cox_answers.proofs.answers.graphs.put_other_members.Goals as goal
 

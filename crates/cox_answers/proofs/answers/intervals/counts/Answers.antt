@@ -4,7 +4,7 @@ use Rattle.std.proofs.lemmas.List.{get_or-replicate, length-set}
 use Rattle.cox_base.specs.declared.limits.TheConstants.{MAX_LETTERS}
 use Rattle.cox_base.specs.Interval.{count_of_length}
 use Rattle.cox_context.specs.Numbers.{word_at}
-use Rattle.cox_context.proofs.ListLemmas.{contains-at}
+use Rattle.cox_context.proofs.PlacedWords.{contains-at}
 use Rattle.cox_answers.proofs.LengthCounts.{count-most, count-room, count-added, counts-more}
 use Rattle.cox_answers.proofs.answers.intervals.counts.Goals as goal
 

@@ -10,7 +10,7 @@ use Rattle.cox_reflect.proofs.NormalElements.{element-word}
 use Rattle.cox_poly.proofs.Behind.{PutsPrefix-next, PutsPrefix-second, Puts-failed, Puts-first, append-all, append-second, append-next}
 use Rattle.cox_context.specs.Closed.{IsClosed}
 use Rattle.cox_context.specs.Numbers.{word_at}
-use Rattle.cox_context.proofs.ListLemmas.{contains-at}
+use Rattle.cox_context.proofs.PlacedWords.{contains-at}
 use Rattle.cox_answers.proofs.PairTexts.{pair_line, pairs-text, pair-line}
 use Rattle.cox_answers.proofs.answers.pairs.put_pairs.Goals as goal
 

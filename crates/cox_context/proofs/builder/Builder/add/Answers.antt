@@ -25,7 +25,7 @@ pub invariant_of-result : goal.invariant_of-result
 invariant_of-result c =
     let members = c.self.inside.listing.members
     in let y = c.args.s ∷ word_at members c.args.parent
-    in let rank : c.rank-rank.result ≡ c.self.inside.family.now.group.rank = rw (← c.self.view_is) at c.rank-rank.ensures.rank
+    in let rank : c.rank-rank.result ≡ c.self.inside.scope.now.group.rank = rw (← c.self.view_is) at c.rank-rank.ensures.rank
     in let next = rw (← c.self.view_is) at c.requires.next
     in let closed = rw (← c.self.view_is) at c.requires.closed
     in let room : length members < c.self.inside.limit
@@ -36,8 +36,8 @@ invariant_of-result c =
     in let added : c.push.new.self ≡ members ++ y ∷ [] = search rules
     in let numbers : c.push-else-is_err-2.new.self.items ≡ c.self.inside.numbers.items ++ c.unwrap_or.result ∷ [] = search rules
     in rw (added, numbers, c.unwrap_or.ensures) (builder-push (record {
-      matrix = c.self.inside.family.now.group;
-      top = c.self.inside.family.now.top;
+      matrix = c.self.inside.scope.now.group;
+      top = c.self.inside.scope.now.top;
       earlier = c.self.inside.earlier.now.members;
       limit = c.self.inside.limit;
     }) members _ _ _ c.self.invariant y c.args.child.now next room (closed (omega (arith, room, c.self.invariant.limit))) _

@@ -9,17 +9,17 @@ use Rattle.cox_context.proofs.builder.Builder.new.Goals as goal
 
 pub returns-in-Ok-vec-clause-grown : goal.returns-in-Ok-vec-clause-grown
 returns-in-Ok-vec-clause-grown c =
-    let A = integer_matrix c.args.family.now.group
-    in rw c.in-Ok.ensures.members (grown-start c.args.family.now.group.rank
-    (IsMember A c.args.family.now.top c.args.earlier.now.members)
-    (member-tailed c.args.family.now.group c.rank-rank.ensures.matrix c.args.family.now.top c.args.earlier.now.members c.requires.earlier))
+    let A = integer_matrix c.args.scope.now.group
+    in rw c.in-Ok.ensures.members (grown-start c.args.scope.now.group.rank
+    (IsMember A c.args.scope.now.top c.args.earlier.now.members)
+    (member-tailed c.args.scope.now.group c.rank-rank.ensures.matrix c.args.scope.now.top c.args.earlier.now.members c.requires.earlier))
 
 pub invariant_of-result : goal.invariant_of-result
 invariant_of-result c =
     let all : c.in-Ok-vec.numbers.items ≡ 0 ∷ [] = c.in-Ok-vec.ensures.items_if_clones_equal (search rules)
     in rw c.in-Ok.ensures.members (builder-start (record {
-      matrix = c.args.family.now.group;
-      top = c.args.family.now.top;
+      matrix = c.args.scope.now.group;
+      top = c.args.scope.now.top;
       earlier = c.args.earlier.now.members;
       limit = c.args.limit;
     }) c.args.earlier.now.left.items c.in-Ok.listing.left.items c.in-Ok-vec.numbers.items c.rank-rank.ensures.matrix c.requires.top

@@ -6,7 +6,7 @@ use Rattle.cox_base.specs.Matrix.{IsLetter}
 use Rattle.cox_base.specs.IntegerMatrix.{IntegerMatrix, integer_matrix}
 use Rattle.cox_context.proofs.Ideals.{element-nil}
 use Rattle.cox_context.proofs.Shifting.{first-member}
-use Rattle.cox_context.proofs.NumberLemmas.{right-word}
+use Rattle.cox_context.proofs.NumberLemmas.{word-longer}
 use Rattle.cox_context.proofs.context.Context.number_of.Goals as goal
 
 pub loop-s-init : goal.loop-s-init
@@ -28,7 +28,7 @@ loop-s-preserved c =
     let next = c.in-Some.ensures {u = tt}
     in record {
       inside = next.0;
-      word = right-word (integer_matrix c.args.self.now.matrix) c.len.ensures.admissible c.args.self.now.members c.len.ensures.closed
+      word = word-longer (integer_matrix c.args.self.now.matrix) c.len.ensures.admissible c.args.self.now.members c.len.ensures.closed
           c.as_slice-letters.result.now c.loop-s.s-index c.loop-s.at c.in-Some.longer c.loop-s-test.true c.loop-s.invariant.word next.1;
     }
 

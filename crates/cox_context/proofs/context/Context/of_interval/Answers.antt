@@ -6,8 +6,8 @@ use Rattle.cox_base.specs.Members.{IsInInterval}
 use Rattle.cox_context.specs.Building.{IsWanted}
 use Rattle.cox_context.specs.FaultMeaning.{IsRefusal}
 use Rattle.cox_base.specs.SortedList.{IsListOf}
-use Rattle.cox_context.proofs.ResultLemmas.{made_members}
-use Rattle.cox_context.proofs.ContextLemmas.{identity-closed, interval-refused, interval-found}
+use Rattle.cox_context.proofs.MadeContexts.{made_members}
+use Rattle.cox_context.proofs.ClosedContexts.{identity-closed, interval-refused, interval-found}
 use Rattle.cox_context.proofs.context.Context.of_interval.Goals as goal
 
 pub new-requires-2-clause-earlier : goal.new-requires-2-clause-earlier

@@ -2,7 +2,7 @@
 use Rattle.std.proofs.Common.{◌≡◌, inl, inr, ⊎_elim, true, is_some, sym, ◌∙◌}
 use Rattle.cox_row.specs.RowLists.{row_at}
 use Rattle.cox_rows.proofs.HeldLemmas.{held-at}
-use Rattle.cox_rows.proofs.BothLemmas.{both-others}
+use Rattle.cox_rows.proofs.JoinedRows.{both-others}
 use Rattle.cox_rows.proofs.held.Held.adopt.Goals as goal
 
 pub returns-clause-kept : goal.returns-clause-kept

@@ -7,7 +7,7 @@ use Rattle.cox_context.specs.Numbers.{word_at}
 use Rattle.cox_row.specs.Rising.{number_at}
 use Rattle.cox_klstep.specs.StepOf.{IsDescentAt}
 use Rattle.cox_klstep.specs.NeedsOf.{AreNeeds}
-use Rattle.cox_klstep.proofs.NeededRows.{listed-needs, lower-before, lower-needed, correction-before, correction-needed, identity-needs}
+use Rattle.cox_klstep.proofs.NeededRows.{listed-needs, lower-before, shorter-needed, correction-before, correction-needed, identity-needs}
 use Rattle.cox_rows.specs.Holding.{HasRow}
 use Rattle.cox_klstep.specs.Faults.{IsFault}
 use Rattle.cox_rows.specs.RowsFaults.{IsRowsFault}
@@ -74,7 +74,7 @@ ensure_lower-returns-in_err-ensure-clause-rows t c =
     let is : IsDescentAt c.args.self.now.elements c.of-descent.result = rw c.context-context.ensures.context at c.of-descent.ensures.descent
     in ensured-needed c.args.self.now c.ensure.new.self (word_at c.args.self.now.elements.members c.args.i)
     (word_at c.args.self.now.elements.members c.of-descent.result.lower) c.context-context.ensures.admissible
-    (rw c.of-descent.ensures.number at (lower-needed c.args.self.now.elements c.context-context.ensures.admissible
+    (rw c.of-descent.ensures.number at (shorter-needed c.args.self.now.elements c.context-context.ensures.admissible
     c.context-context.ensures.closed c.of-descent.result is)) c.ensure.ensures.rows
 
 pub ensure_lower-returns-in_err-ensure-clause-fault : goal.ensure_lower-returns-in_err-ensure-clause-fault
@@ -85,7 +85,7 @@ ensure_lower-returns-in_err-ensure-clause-fault t c =
     (word_at c.args.self.now.elements.members c.of-descent.result.lower))) = search rules
     in fault-needed c.args.self.now.elements c.args.self.now.limit (word_at c.args.self.now.elements.members c.args.i)
     (word_at c.args.self.now.elements.members c.of-descent.result.lower) c.from_residual.result c.context-context.ensures.admissible
-    (rw c.of-descent.ensures.number at (lower-needed c.args.self.now.elements c.context-context.ensures.admissible
+    (rw c.of-descent.ensures.number at (shorter-needed c.args.self.now.elements c.context-context.ensures.admissible
     c.context-context.ensures.closed c.of-descent.result is)) fault
 
 pub ensure_lower-returns-in_err-corrections-clause-rows : goal.ensure_lower-returns-in_err-corrections-clause-rows
@@ -93,7 +93,7 @@ ensure_lower-returns-in_err-corrections-clause-rows t c =
     let is : IsDescentAt c.args.self.now.elements c.of-descent.result = rw c.context-context.ensures.context at c.of-descent.ensures.descent
     in ensured-needed c.args.self.now c.ensure.new.self (word_at c.args.self.now.elements.members c.args.i)
     (word_at c.args.self.now.elements.members c.of-descent.result.lower) c.context-context.ensures.admissible
-    (rw c.of-descent.ensures.number at (lower-needed c.args.self.now.elements c.context-context.ensures.admissible
+    (rw c.of-descent.ensures.number at (shorter-needed c.args.self.now.elements c.context-context.ensures.admissible
     c.context-context.ensures.closed c.of-descent.result is)) c.ensure.ensures.rows
 
 -- ---- the corrections
@@ -104,7 +104,7 @@ ensure_lower-each-init t c =
     in under_way-start (word_at c.args.self.now.elements.members c.args.i) c.args.self.now c.ensure.new.self c.deref-u-items.result.now
     (ensured-needed c.args.self.now c.ensure.new.self (word_at c.args.self.now.elements.members c.args.i)
     (word_at c.args.self.now.elements.members c.of-descent.result.lower) c.context-context.ensures.admissible
-    (rw c.of-descent.ensures.number at (lower-needed c.args.self.now.elements c.context-context.ensures.admissible
+    (rw c.of-descent.ensures.number at (shorter-needed c.args.self.now.elements c.context-context.ensures.admissible
     c.context-context.ensures.closed c.of-descent.result is)) c.ensure.ensures.rows)
 
 pub ensure_lower-ensure-requires-in-each : goal.ensure_lower-ensure-requires-in-each

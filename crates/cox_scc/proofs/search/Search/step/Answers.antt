@@ -4,7 +4,7 @@ use Rattle.std.proofs.lemmas.List.{length_push}
 use Rattle.std.specs.Prelude.{count_by}
 use Rattle.cox_scc.proofs.Pigeonholes.{stack_room}
 use Rattle.cox_scc.proofs.PassLemmas.{here_in, vertex_read, in_offsets, read_end, before_end, end_in, target_in, some_part, at_next}
-use Rattle.cox_scc.proofs.PassLemmas.{HasFollowed, HasMet, HasFinished, has_met, walk_follow_read, walk_on, walk_finish, walk_waits}
+use Rattle.cox_scc.proofs.PassLemmas.{HasFollowed, HasMet, HasFinished, has_met, walk_follow_read, walk-follows, walk_finish, walk_waits}
 use Rattle.cox_scc.proofs.PassLemmas.{enter_seen, enter_count}
 use Rattle.cox_scc.proofs.search.Search.step.Goals as goal
 use Rattle.cox_scc.proofs.search.Search.step.Goals.{After-join}
@@ -80,7 +80,7 @@ returns-then-followed-end-clause-walk c =
     walk_waits c.args.adjacency.now c.enter.new.self c.push.new.self _ (c.push.new.self.items ++ c.in_ok-there.there ∷ [])
     (ap (λ z. z ++ c.in_ok-there.there ∷ []) (ap (λ z. z.items ++ at_next c.args.here c.follow-followed.result ∷ [])
     (sym (c.in_ok-there.ensures.waiting ∙ f.waiting)) ∙ sym c.in_ok-push.ensures.items))
-    (walk_on _ _ _ c.enter.new.self _ _ _ _ c.in_ok-there.there c.index-then-followed-end.result.now f c.follow-followed.ensures.begun
+    (walk-follows _ _ _ c.enter.new.self _ _ _ _ c.in_ok-there.there c.index-then-followed-end.result.now f c.follow-followed.ensures.begun
     c.if-followed-end.true c.index-then-followed-end.ensures c.in_ok-there.ensures.enters c.in_ok-there.ensures.begins)
 
 pub returns-then-followed-end-clause-seen : goal.returns-then-followed-end-clause-seen

@@ -2,7 +2,7 @@
 use Rattle.std.proofs.Common.{◌≡◌, ◌<◌, length, slice_index_or, arith}
 use Rattle.std.proofs.lemmas.List.{get_or_read}
 use Rattle.cox_base.specs.IntegerMatrix.{integer_matrix}
-use Rattle.cox_wgraph.proofs.GraphLemmas.{start-is, end-is, end-within, edges-of, joined-of_edges}
+use Rattle.cox_wgraph.proofs.GraphLemmas.{start-is, end-after_start, end-within, listed_edges, joined-of_edges}
 use Rattle.cox_wgraph.proofs.graph.WGraph.edges.Goals as goal
 
 pub part-requires-clause-start : goal.part-requires-clause-start
@@ -17,7 +17,7 @@ part-requires-clause-start c =
       arith,
       start,
       end,
-      end-is e c.len-len.ensures.admissible c.self.inside.ends.items c.self.inside.edges.items c.self.invariant
+      end-after_start e c.len-len.ensures.admissible c.self.inside.ends.items c.self.inside.edges.items c.self.invariant
           c.args.i l,
     )
 
@@ -43,7 +43,7 @@ returns-clause-edges c =
     c.start-start.result c.start-start.ensures.first (rw c.deref.ensures.value at c.start-start.ensures.later) in
     let end : c.index.result.now ≡ slice_index_or c.self.inside.ends.items c.args.i 0 =
     get_or_read c.self.inside.ends.items c.args.i c.index.result.now (omega (arith, l, c.self.invariant.size)) c.index.ensures 0
-    in rw (← c.self.view_is, c.part.ensures, c.deref-2.ensures.value) (edges-of e c.len-len.ensures.admissible c.self.inside.ends.items
+    in rw (← c.self.view_is, c.part.ensures, c.deref-2.ensures.value) (listed_edges e c.len-len.ensures.admissible c.self.inside.ends.items
     c.self.inside.edges.items c.self.invariant c.args.i l c.start-start.result c.index.result.now start end)
 
 pub returns-clause-joined : goal.returns-clause-joined

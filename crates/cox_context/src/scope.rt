@@ -7,7 +7,7 @@ use cox_base::{Coxeter, Word};
 
 /// A Coxeter group, and the top of an interval where an interval is meant, as a reduced word.
 #[derive(Drop)]
-pub(crate) struct Family {
+pub(crate) struct Scope {
     pub(crate) group: Coxeter,
     pub(crate) top: Option<Word>,
     // the left descents of the top: with x in the interval, s x is in it for each of them

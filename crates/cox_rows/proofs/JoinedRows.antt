@@ -32,8 +32,8 @@ module _ (rows more : List (Option Row)) (n : ℕ) (all left rest : List (Option
   left-next : (i : ℕ) → n + 1 ≤ i → row_at rest i ≡ row_at more i
   left-next i l = others i (λ e. omega (arith, e, l)) ∙ h.rest i (omega (arith, l))
 
-  pub put-none : row_at left n ≡ None → ArePut rows more (n + 1) all rest
-  put-none none = record {
+  pub put-gap : row_at left n ≡ None → ArePut rows more (n + 1) all rest
+  put-gap none = record {
     count = h.count;
     rest = left-next;
     from = h.from;
@@ -63,8 +63,8 @@ module _ (rows more : List (Option Row)) (n : ℕ) (all left rest : List (Option
           (λ (apart : i ≢ n). ap is_some (same i apart) ∙ some) (cases_eq i n)
 
 -- when all are put, the rows are those of both lists
-pub put-all : (rows more all left : List (Option Row)) → ArePut rows more (length more) all left → AreBoth rows more all
-put-all rows more all left h = record {
+pub put-whole : (rows more all left : List (Option Row)) → ArePut rows more (length more) all left → AreBoth rows more all
+put-whole rows more all left h = record {
   from = h.from;
   first_there = h.first_there;
   second_there = λ i some. ⊎_elim (λ (less : i < length more). h.second_there i less some)

@@ -34,7 +34,7 @@ use Rattle.cox_context.specs.Growth.{IsGrown, AreNumbers, AreLast}
 use Rattle.cox_context.specs.Shifts.{entry}
 use Rattle.cox_context.specs.Refusal.{IsLong}
 use Rattle.cox_context.specs.FaultMeaning.{IsRefusal}
-use Rattle.cox_context.proofs.ListLemmas.{contains-placed, placed-contains, contains-at, rising-place, rising-before}
+use Rattle.cox_context.proofs.PlacedWords.{contains-placed, placed-contains, contains-at, rising-place, rising-before}
 use Rattle.cox_context.proofs.SortedLemmas.{before-less}
 use Rattle.cox_context.proofs.Ideals.{IsIdeal, group-ideal, union-ideal, ideal-tailed}
 use Rattle.cox_context.proofs.Ideals.{element-nil}

@@ -3,7 +3,7 @@ use Rattle.std.proofs.Common.{◌≡◌, inr, length, [], Err, FitsSigned, w64, 
 use Rattle.std.proofs.lemmas.Int.{to_z-of_z}
 use Rattle.cox_lemmas.proofs.PushLemmas.{push-length, push-old, push-new}
 use Rattle.cox_poly.specs.declared.poly_fault.PolyFault.TheVariants.{TooBig}
-use Rattle.cox_klstep.proofs.values.place_of.Goals as goal
+use Rattle.cox_klstep.proofs.values.pooled_place.Goals as goal
 
 pub returns-in-Err-clause-too_big : goal.returns-in-Err-clause-too_big
 returns-in-Err-clause-too_big c = λ d v is.
