@@ -28,7 +28,7 @@ use Rattle.cox_hecke.proofs.Descents.{shortens_left-same, nat_lt-yes, yes-nat_lt
 use Rattle.cox_base.specs.Members.{IsElement}
 use Rattle.cox_base.specs.SortedList.{IsListOf}
 use Rattle.cox_context.specs.Numbers.{word_at}
-use Rattle.cox_context.proofs.ListLemmas.{IsPlaced, contains-at, contains-placed, rising-place, rising-length}
+use Rattle.cox_context.proofs.PlacedWords.{IsPlaced, contains-at, contains-placed, rising-place, rising-length}
 use Rattle.cox_reflect.proofs.NormalElements.{element-normal_form, element-length}
 use Rattle.cox_wgraph.proofs.EdgeLemmas.{edge-symmetric, edge-words}
 use Rattle.cox_cells.specs.declared.kind.CellKind.TheVariants.{Left}
