@@ -33,7 +33,7 @@ use Rattle.cox_reflect.proofs.NormalElements.{element-normal_form, element-lengt
 use Rattle.cox_wgraph.proofs.EdgeLemmas.{edge-symmetric, edge-words}
 use Rattle.cox_cells.specs.declared.kind.CellKind.TheVariants.{Left}
 use Rattle.cox_cells.specs.Cells.{IsStep, Precedes, IsInCell, first_of, IsCell}
-use Rattle.cox_cells.proofs.StepChains.{chain-join, chain-step}
+use Rattle.cox_cells.proofs.StepChains.{precedes-trans, chain-step}
 use Rattle.cox_module.specs.declared.term.Term.{Term}
 use Rattle.cox_module.specs.FreeModule.{Vector, apply_word}
 use Rattle.cox_module.proofs.LinearFunctions.{value_word}
@@ -186,7 +186,7 @@ module _ (A : IntegerMatrix) (g : IsAdmissible A) where
           in let forth : Precedes Left A (first_of cell) (normal_form A y) = rw (← form) (in_cell p.place p.within).forth
           in let there : IsInCell Left A (first_of cell) (normal_form A x) = record {
             element = element-normal_form A g x;
-            forth = chain-join Left A forth (chain-step Left A (normal_form A y) (normal_form A x) (step s x y e some));
+            forth = precedes-trans Left A forth (chain-step Left A (normal_form A y) (normal_form A x) (step s x y e some));
             back = b;
           }
           in let q = contains-placed cell (normal_form A x) (is.all.whole (normal_form A x) there)
