@@ -6,7 +6,7 @@ ghost use Rattle.cox_base.specs.Matrix.{IsLetter, IsWord};
 use cox_base::{MAX_LETTERS, MAX_RANK, Word};
 use cox_minroots::RootTable;
 
-/// For how many members that were listed anew the whole group is tried first: so many take some milliseconds.
+/// The first bound: once so many members were listed, the whole group is tried. To list them takes some milliseconds.
 const FIRST_TRY: u64 = 4096;
 
 /// What the extensions of the context that is kept have cost.
