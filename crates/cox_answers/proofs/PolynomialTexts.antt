@@ -14,7 +14,8 @@ use Rattle.cox_rpoly.specs.RPolynomial.{r_along, r_polynomial}
 use Rattle.cox_rpoly.proofs.AlongLemmas.{along-identity, along-other, along-shorter, along-longer, shortens}
 use Rattle.cox_rpoly.proofs.PolynomialLemmas.{r_polynomial-is}
 use Rattle.cox_reflect.proofs.Lengths.{word_length-is}
-use Rattle.cox_answers.specs.InquiryQuestion.{r_coefficients}
+use Rattle.cox_answers.specs.RowReply.{coefficients_to}
+use Rattle.cox_answers.specs.InquiryQuestion.{r_text}
 
 -- zeros have no terms
 no_terms : (k : ℕ) (p : List ℤ) → ((i : ℕ) → coefficient p i ≡ pos 0) → terms_from k p ≡ []
@@ -61,8 +62,8 @@ degree : (A : IntegerMatrix) (x w : List ℕ) (k : ℕ) → word_length A w < k 
 degree A x w k above = rw (r_polynomial-is A x w) (degree_along A (normal_form A w) x k (omega (arith, word_length-is A w)))
 
 -- the text of a polynomial with these coefficients
-pub r_text : (A : IntegerMatrix) (y w : List ℕ) (p : List ℤ) → ((k : ℕ) → coefficient p k ≡ r_polynomial A y w k)
-    → polynomial_text p ≡ polynomial_text (r_coefficients A y w)
-r_text A y w p is = same_text p (r_coefficients A y w)
+pub is-r_text : (A : IntegerMatrix) (y w : List ℕ) (p : List ℤ) → ((k : ℕ) → coefficient p k ≡ r_polynomial A y w k)
+    → polynomial_text p ≡ r_text A y w
+is-r_text A y w p is = same_text p (coefficients_to (word_length A w) (r_polynomial A y w))
     (λ k. is k ∙ sym (let e : 0 + k ≡ k = omega arith in rw e at (listed (r_polynomial A y w) 0 (word_length A w + 1) k
     (λ i above. let f : 0 + i ≡ i = omega arith in rw f (degree A y w i (omega arith))))))

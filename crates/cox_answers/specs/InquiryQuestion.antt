@@ -46,13 +46,9 @@ counts_text A w members = numbers_text (counts_by_length members (word_length A 
 abbrev pub IsOrderText : IntegerMatrix → List ℕ → List ℕ → List ℕ → Type 0
 IsOrderText A y w text = (truth : Bool) × (IsTrue truth ↔ IsBelow A y w) × (text ≡ truth_text truth)
 
--- the coefficients of R(y,w) from degree 0 to l(w); there are none beyond
-abbrev pub r_coefficients : IntegerMatrix → List ℕ → List ℕ → List ℤ
-r_coefficients A y w = coefficients_to (word_length A w) (r_polynomial A y w)
-
--- R(y,w)
-abbrev pub IsRText : IntegerMatrix → List ℕ → List ℕ → List ℕ → Type 0
-IsRText A y w text = text ≡ polynomial_text (r_coefficients A y w)
+-- R(y,w), by its coefficients from degree 0 to l(w); there are none beyond
+abbrev pub r_text : IntegerMatrix → List ℕ → List ℕ → List ℕ
+r_text A y w = polynomial_text (coefficients_to (word_length A w) (r_polynomial A y w))
 
 -- nothing refuses, and this is the text
 abbrev pub text_question : List ℕ → Question
@@ -74,7 +70,7 @@ one_question Extremals limits rank A w = record { Refuses = RefusesRow limits A 
 abbrev pub two_question : TwoWord → Limits → ℕ → IntegerMatrix → List ℕ → List ℕ → Question
 two_question Inorder limits rank A y w = record { Refuses = RefusesNone; IsText = IsOrderText A y w }
 two_question Interval limits rank A y w = record { Refuses = RefusesLarge limits A w; IsText = IsOfList (IsBetween A y w) (elements_text rank) }
-two_question Rpol limits rank A y w = record { Refuses = RefusesFar A y w; IsText = IsRText A y w }
+two_question Rpol limits rank A y w = record { Refuses = RefusesFar A y w; IsText = λ text. text ≡ r_text A y w }
 two_question Pol limits rank A y w = record { Refuses = RefusesRow limits A w; IsText = IsPolText A y w }
 two_question Mu limits rank A y w = record { Refuses = RefusesRow limits A w; IsText = IsMuText A y w }
 

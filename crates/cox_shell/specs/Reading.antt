@@ -1,8 +1,8 @@
 -- How far a whole run has read.
-use Rattle.std.specs.Prelude.{◌≡◌, ℕ, ◌+◌, ◌<◌, ◌≤◌, ◌⊎◌, List, length, take, Option, IfSome, MatchBool}
+use Rattle.std.specs.Prelude.{◌≡◌, ℕ, ◌+◌, ◌<◌, ◌≤◌, ◌⊎◌, false, List, length, take, Option, IfSome, MatchBool}
 use Rattle.std.specs.Io.KnownBytes.{prepend_known, IsAtEnd}
 use Rattle.cox_outside.specs.declared.limits.TheConstants.{INPUT_LIMIT, CHUNK_SIZE}
-use Rattle.cox_options.specs.Arguments.{IsTaken}
+use Rattle.cox_options.specs.Arguments.{is_refused}
 use Rattle.cox_shell.specs.declared.status.Status.{Status}
 use Rattle.cox_shell.specs.declared.status.Status.TheVariants.{Done, Refused, WriteFault, NoMemory}
 use Rattle.cox_shell.specs.Reply.{Reply}
@@ -27,7 +27,7 @@ pub record IsReadBy (status : Status) (arguments : List (List ℕ)) (script left
       × IfSome script (λ bytes. AreScriptReplies (given_limits arguments) bytes replies) × IsReadWhole replies script left
   -- Where a write failed or memory ran out, less than a chunk was read beyond lines whose replies are due. One that ends the run is the
   -- last.
-  pub stops : (status ≡ WriteFault) ⊎ (status ≡ NoMemory) → IsTaken arguments
+  pub stops : (status ≡ WriteFault) ⊎ (status ≡ NoMemory) → is_refused arguments ≡ false
       → (replies : List Reply) × AreDue (given_limits arguments) script left replies × StopsReading replies script left
   -- No more is read than the limit and one byte.
   pub within : (given : List ℕ) × (script ≡ prepend_known given left) × (length given ≤ INPUT_LIMIT + 1)

@@ -4,7 +4,7 @@ use Rattle.std.specs.Io.KnownBytes.{prepend_known}
 use Rattle.cox_outside.specs.declared.limits.TheConstants.{INPUT_LIMIT}
 use Rattle.cox_outside.specs.Supply.{Supply, SourceCause}
 use Rattle.cox_outside.specs.Outlet.{Outlet, Writes, SinkCause}
-use Rattle.cox_options.specs.Arguments.{IsUsage}
+use Rattle.cox_options.specs.Arguments.{is_refused}
 use Rattle.cox_shell.specs.declared.status.Status.{Status}
 use Rattle.cox_shell.specs.declared.status.Status.TheVariants.{Done, Refused, Usage, ReadFault, WriteFault, NoMemory, InputLimit}
 use Rattle.cox_shell.specs.Status.{is_read_fault, is_write_fault}
@@ -21,8 +21,8 @@ pub record IsRun (status : Status) (arguments : List (List ℕ)) (source left : 
   pub limit : status ≡ InputLimit → (byte : ℕ) × (answers : AnswersGiven (given_limits arguments) source.left
       (prepend_known (byte ∷ []) left.left) old new) × (length answers.given ≡ INPUT_LIMIT)
   -- Where the arguments give no options it is the usage line, and only there.
-  pub usage : status ≡ Usage → IsUsage arguments × Writes usage_line old new
-  pub usage_always : IsUsage arguments → (status ≡ Usage) ⊎ (status ≡ WriteFault) ⊎ (status ≡ NoMemory)
+  pub usage : status ≡ Usage → (is_refused arguments ≡ true) × Writes usage_line old new
+  pub usage_always : is_refused arguments ≡ true → (status ≡ Usage) ⊎ (status ≡ WriteFault) ⊎ (status ≡ NoMemory)
   -- Faults come from outside, and each is told.
   pub read_fault : SourceCause source left (is_read_fault status)
   pub write_fault : SinkCause old new (is_write_fault status)

@@ -1,10 +1,10 @@
 //! The whole run, with the arguments of the program.
 
-ghost use Rattle.std.specs.Prelude.{◌≡◌, ◌≤◌, ℕ, List, length};
+ghost use Rattle.std.specs.Prelude.{◌≡◌, ◌≤◌, ℕ, true, List, length};
 ghost use Rattle.std.specs.Thread.{IsSync};
 ghost use Rattle.cox_row.specs.Rising.{AreWithin};
 ghost use Rattle.cox_answers.specs.Kept.{IsMore};
-ghost use Rattle.cox_options.specs.Arguments.{IsUsage};
+ghost use Rattle.cox_options.specs.Arguments.{IsUsage, is_refused};
 ghost use Rattle.cox_outside.specs.Supply.{Supply};
 ghost use Rattle.cox_answers.specs.SessionLimits.{limits_of};
 ghost use Rattle.cox_shell.specs.Top.{argument_texts};
@@ -45,7 +45,7 @@ pub fn run<R: Threads + Wait + Sync, S: Source, K: Sink, G: Gate + Sync>(
     ensures run { IsRun result (argument_texts words.now)
         (S.seen source.old) (S.seen source.new) (K.seen sink.old) (K.seen sink.new) }
     ensures reading { IsReadBy result (argument_texts words.now) (S.seen source.old).left (S.seen source.new).left }
-    ensures unread { IsUsage (argument_texts words.now) → source.new ≡ source.old }
+    ensures unread { is_refused (argument_texts words.now) ≡ true → source.new ≡ source.old }
 {
     if let Ok(options) = read(alloc, words) {
         if options.workers() > 1 {
@@ -67,7 +67,7 @@ pub fn run_one<S: Source, K: Sink>(
     ensures run { IsRun result (argument_texts words.now)
         (S.seen source.old) (S.seen source.new) (K.seen sink.old) (K.seen sink.new) }
     ensures reading { IsReadBy result (argument_texts words.now) (S.seen source.old).left (S.seen source.new).left }
-    ensures unread { IsUsage (argument_texts words.now) → source.new ≡ source.old }
+    ensures unread { is_refused (argument_texts words.now) ≡ true → source.new ≡ source.old }
 {
     match read(alloc, words) {
         Ok(options) => run_by(&OneThread, alloc, options, source, sink),

@@ -1,7 +1,8 @@
 //! The answers on polynomials of two elements.
+ghost use Rattle.std.specs.Prelude.{◌≡◌};
 ghost use Rattle.cox_base.specs.Matrix.{IsWord};
 ghost use Rattle.cox_base.specs.IntegerMatrix.{integer_matrix};
-ghost use Rattle.cox_answers.specs.InquiryQuestion.{RefusesFar, IsRText};
+ghost use Rattle.cox_answers.specs.InquiryQuestion.{RefusesFar, r_text};
 ghost use Rattle.cox_answers.specs.Putting.{PutsUnless};
 
 use crate::answers::unanswered::{Unanswered, unrefused};
@@ -15,7 +16,7 @@ pub fn put_rpol(out: &mut Vec<u8>, table: &RootTable, y: &Word, w: &Word) -> Res
     requires first { IsWord table.now.rank y.now.items }
     requires second { IsWord table.now.rank w.now.items }
     ensures { PutsUnless result (RefusesFar (integer_matrix table.now) y.now.items w.now.items)
-        (IsRText (integer_matrix table.now) y.now.items w.now.items) out.old.items out.new.items }
+        (λ text. text ≡ r_text (integer_matrix table.now) y.now.items w.now.items) out.old.items out.new.items }
 {
     prove!(y.len() <= MAX_LETTERS && w.len() <= MAX_LETTERS);
     match r(*out.allocator(), table, y, w) {

@@ -3,7 +3,7 @@ use Rattle.std.proofs.Common.{◌≡◌, ℕ, Err, ap, refl, ◌∙◌}
 use Rattle.cox_base.specs.IntegerMatrix.{integer_matrix}
 use Rattle.cox_rpoly.specs.Depth.{IsDeep}
 use Rattle.cox_rpoly.specs.declared.r_fault.RFault.TheVariants.{Deep}
-use Rattle.cox_answers.proofs.PolynomialTexts.{r_text}
+use Rattle.cox_answers.proofs.PolynomialTexts.{is-r_text}
 use Rattle.cox_answers.proofs.Unless.{far-refused, far-allowed, PutsUnless-put}
 use Rattle.cox_answers.proofs.answers.polynomials.put_rpol.Goals as goal
 
@@ -19,6 +19,6 @@ returns-in-Ok c =
     let near : (d : ℕ) → IsDeep A c.args.y.now.items c.args.w.now.items d → ⊥ =
     λ d deep. let bad : c.r.result ≡ Err (Deep d) = (c.r.ensures.deep d).1 deep in let good = c.in-Ok.is in cc in
     let value = c.in-Ok.ensures {u = tt} in
-    let text = r_text A c.args.y.now.items c.args.w.now.items _ value.value in
+    let text = is-r_text A c.args.y.now.items c.args.w.now.items _ value.value in
     rw c.unrefused.ensures
     (PutsUnless-put _ _ _ _ _ (far-allowed A c.args.y.now.items c.args.w.now.items near) (_, text, c.put_text.ensures))
