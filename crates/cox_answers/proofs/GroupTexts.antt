@@ -41,9 +41,9 @@ edges-text rank members edges = flat_map-map (λ (j : Joined). edge_text rank j.
 abbrev pub other_text : ℕ → List (List ℕ) → ℕ → List ℕ
 other_text rank members i = member_text rank (word_at members i) false
 
-pub others-text : (rank : ℕ) (members : List (List ℕ)) (others : List ℕ)
+pub member_text-others : (rank : ℕ) (members : List (List ℕ)) (others : List ℕ)
     → flat_map (λ y. member_text rank y false) (map (word_at members) others) ≡ flat_map (other_text rank members) others
-others-text rank members others = flat_map-map (λ y. member_text rank y false) (word_at members) others
+member_text-others rank members others = flat_map-map (λ y. member_text rank y false) (word_at members) others
 
 -- a cell, behind the end of the line before
 abbrev pub cell_line : ℕ → List (List ℕ) → Vec ℕ → List ℕ

@@ -25,16 +25,16 @@ count-most members i k =
 count-fits : (a : ℕ) → a ≤ MAX_MEMBERS + 1 → FitsSigned w128 (pos a)
 count-fits a few = fits_signed_from_abs w128 (pos a) (omega (arith, few))
 
-one-more : (a : ℕ) → pos a +ℤ pos 1 ≡ pos (a + 1)
-one-more a = omega (arith, ints)
+pos-one_more : (a : ℕ) → pos a +ℤ pos 1 ≡ pos (a + 1)
+pos-one_more a = omega (arith, ints)
 
 pub count-room : (x : ℤ) (a : ℕ) → x ≡ pos a → a ≤ MAX_MEMBERS → FitsSigned w128 (to_z w128 (of_z w128 x) +ℤ pos 1)
-count-room x a is few = rw (is, to_z-of_z w128 (pos a) (count-fits a (omega (arith, few))), one-more)
+count-room x a is few = rw (is, to_z-of_z w128 (pos a) (count-fits a (omega (arith, few))), pos-one_more)
     (count-fits (a + 1) (omega (arith, few)))
 
 pub count-added : (x : ℤ) (a : ℕ) → x ≡ pos a → a ≤ MAX_MEMBERS → to_z w128 (of_z w128 (to_z w128 (of_z w128 x) +ℤ pos 1)) ≡ pos (a + 1)
 count-added x a is few =
-    rw (is, to_z-of_z w128 (pos a) (count-fits a (omega (arith, few))), one-more)
+    rw (is, to_z-of_z w128 (pos a) (count-fits a (omega (arith, few))), pos-one_more)
     (to_z-of_z w128 (pos (a + 1)) (count-fits (a + 1) (omega (arith, few))))
 
 -- one more of the length n

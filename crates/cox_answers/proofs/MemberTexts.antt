@@ -12,9 +12,9 @@ abbrev pub member_line : ℕ → List (List ℕ) → ℕ → List ℕ
 member_line rank members k = 10 ∷ element_text rank (word_at members k)
 
 -- the number of items, and the items
-pub members-text : (rank : ℕ) (members : List (List ℕ)) (numbers : List ℕ)
+pub elements_text-lines : (rank : ℕ) (members : List (List ℕ)) (numbers : List ℕ)
     → elements_text rank (words_at members numbers) ≡ decimal (length numbers) ++ flat_map (member_line rank members) numbers
-members-text rank members numbers =
+elements_text-lines rank members numbers =
     let words = words_at members numbers in
     let count : length (map (element_text rank) words) ≡ length numbers =
     length-map words (element_text rank) ∙ length-map numbers (λ k. word_at members k) in

@@ -19,14 +19,14 @@ use Rattle.cox_context.proofs.Shifting.{element-at, length-at, member-below}
 use Rattle.cox_context.proofs.IntervalLemmas.{is_below, is_below-tells}
 
 -- a test that none of the first members passes
-none-pass : (test : List ℕ → Bool) (n : ℕ) (members : List (List ℕ)) → n ≤ length members
+filter-passes_none : (test : List ℕ → Bool) (n : ℕ) (members : List (List ℕ)) → n ≤ length members
     → ((k : ℕ) → k < n → test (word_at members k) ≡ false)
     → filter test (take n members) ≡ []
-none-pass test zero members within fails = refl
-none-pass test (suc n) [] within fails = refl
-none-pass test (suc n) (x ∷ members) within fails =
+filter-passes_none test zero members within fails = refl
+filter-passes_none test (suc n) [] within fails = refl
+filter-passes_none test (suc n) (x ∷ members) within fails =
     let first : test x ≡ false = fails 0 (omega arith) in
-    rw first (none-pass test n members (omega (arith, within)) (λ k below. fails (suc k) (omega (arith, below))))
+    rw first (filter-passes_none test n members (omega (arith, within)) (λ k below. fails (suc k) (omega (arith, below))))
 
 -- two answers to one question
 same-answer : (b answer : Bool) (P : Type 0) → (b ≡ true) ↔ P → IsTrue answer ↔ P → b ≡ answer
@@ -61,12 +61,12 @@ module _ (A : IntegerMatrix) (g : IsAdmissible A) (members : List (List ℕ)) (c
 
   pub none-before : (low : ℕ) → low < length members → word_at members low ≡ normal_form A y → filter (is_below A y) (take low members) ≡ []
   none-before low within is =
-      none-pass (is_below A y) low members (omega (arith, within)) (λ k before. false_from_ne_true (is_below A y (word_at members k))
+      filter-passes_none (is_below A y) low members (omega (arith, within)) (λ k before. false_from_ne_true (is_below A y (word_at members k))
       (λ e. not-before low k within is before ((is_below-tells A g y (word_at members k)).0 e)))
 
   -- no member is above an element that is none
   pub none-above : (Contains members (normal_form A y) → ⊥) → filter (is_below A y) members ≡ []
   none-above outside =
-      rw (take_all (length members) members (omega arith)) at (none-pass (is_below A y) (length members) members (omega arith)
+      rw (take_all (length members) members (omega arith)) at (filter-passes_none (is_below A y) (length members) members (omega arith)
       (λ k inside. false_from_ne_true (is_below A y (word_at members k))
       (λ e. outside (member-below A g members closed y k inside ((is_below-tells A g y (word_at members k)).0 e)))))

@@ -27,10 +27,10 @@ abbrev pub pair_line : ℕ → ℕ → List (List ℕ) → Family → ℕ → Li
 pair_line rank n members p k = 10 ∷ pair_text rank (word_at members k) (coefficients_to n (p (word_at members k)))
 
 -- the number of items, and the items
-pub pairs-text : (rank : ℕ) (A : IntegerMatrix) (w : List ℕ) (p : Family) (members : List (List ℕ)) (numbers : List ℕ)
+pub pairs_text-lines : (rank : ℕ) (A : IntegerMatrix) (w : List ℕ) (p : Family) (members : List (List ℕ)) (numbers : List ℕ)
     → pairs_text rank A w p (words_at members numbers)
     ≡ decimal (length numbers) ++ flat_map (pair_line rank (word_length A w) members p) numbers
-pairs-text rank A w p members numbers =
+pairs_text-lines rank A w p members numbers =
     let words = words_at members numbers in
     let pair : List ℕ → List ℕ = λ x. pair_text rank x (coefficients_to (word_length A w) (p x)) in
     let count : length (map pair words) ≡ length numbers = length-map words pair ∙ length-map numbers (λ k. word_at members k) in
@@ -59,8 +59,8 @@ module _ (A : IntegerMatrix) (g : IsAdmissible A) (w : List ℕ) (p : Family) (r
       (λ i above. let f : 0 + i ≡ i = omega arith in rw f (row-high x i (omega (arith, above)) (omega (arith, above)))))))
 
   -- the line of a member
-  pub pair-line : (rank : ℕ) (members : List (List ℕ)) (k : ℕ) (v : List ℕ) (q : List ℤ) → SameElement A v w
+  pub pair_text-line : (rank : ℕ) (members : List (List ℕ)) (k : ℕ) (v : List ℕ) (q : List ℤ) → SameElement A v w
       → IsKazhdanLusztig A (word_at members k) v (coefficient q)
       → 10 ∷ pair_text rank (word_at members k) q ≡ pair_line rank (word_length A w) members p k
-  pair-line rank members k v q same is = ap (λ t. 10 ∷ ((element_text rank (word_at members k) ++ codes ":") ++ t))
+  pair_text-line rank members k v q same is = ap (λ t. 10 ∷ ((element_text rank (word_at members k) ++ codes ":") ++ t))
       (row-text (word_at members k) v q same is)

@@ -55,14 +55,14 @@ each-decided : (P : ℕ → Type 0) → ((s : ℕ) → P s ⊎ (P s → ⊥)) �
 each-decided P decided zero = inl (λ s l. absurd (omega (arith, l.from_one, l.to_rank)))
 each-decided P decided (suc n) = go (each-decided P decided n) (decided (suc n))
   where
-    one-more : ((s : ℕ) → IsLetter n s → P s) → P (suc n) → (s : ℕ) → IsLetter (suc n) s → P s
-    one-more each last s l = ⊎_elim (λ (e : s ≡ suc n). rw e last)
+    and_last : ((s : ℕ) → IsLetter n s → P s) → P (suc n) → (s : ℕ) → IsLetter (suc n) s → P s
+    and_last each last s l = ⊎_elim (λ (e : s ≡ suc n). rw e last)
         (λ (other : s ≡ suc n → ⊥). each s (record { from_one = l.from_one; to_rank = omega (arith, l.to_rank, other) }))
         (cases_eq s (suc n))
 
     go : ((s : ℕ) → IsLetter n s → P s) ⊎ (((s : ℕ) → IsLetter n s → P s) → ⊥) → P (suc n) ⊎ (P (suc n) → ⊥)
         → ((s : ℕ) → IsLetter (suc n) s → P s) ⊎ (((s : ℕ) → IsLetter (suc n) s → P s) → ⊥)
-    go (inl each) (inl last) = inl (one-more each last)
+    go (inl each) (inl last) = inl (and_last each last)
     go (inl each) (inr none) = inr (λ all. none (all (suc n) (record { from_one = omega arith; to_rank = omega arith })))
     go (inr none) last = inr (λ all. none (λ s l. all s (record { from_one = l.from_one; to_rank = omega (arith, l.to_rank) })))
 

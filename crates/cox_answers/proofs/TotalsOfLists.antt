@@ -71,13 +71,13 @@ polynomials-of A (w ∷ words) totals (first, (p, row, members, is, sum), rest, 
     )
 
 -- .. and the list gives the totals
-pub totals-of : (A : IntegerMatrix) (words : List (List ℕ)) (list : List (List ℤ)) → ArePolynomials A words list
+pub totals_of-are : (A : IntegerMatrix) (words : List (List ℕ)) (list : List (List ℤ)) → ArePolynomials A words list
     → AreTotals A words (totals_of list)
-totals-of A [] list none = ap totals_of none
-totals-of A (w ∷ words) list (first, (p, row, (members, is, here)), rest, are, both) = (
+totals_of-are A [] list none = ap totals_of none
+totals_of-are A (w ∷ words) list (first, (p, row, (members, is, here)), rest, are, both) = (
   totals_of first,
   (p, row, members, is, ap totals_of here ∙ sym (row-list A w p members)),
   totals_of rest,
-  totals-of A words rest are,
+  totals_of-are A words rest are,
   ap totals_of both ∙ totals_of-append first rest,
 )

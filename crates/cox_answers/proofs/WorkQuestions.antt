@@ -19,7 +19,7 @@ use Rattle.cox_answers.specs.Question.{command_refusals, IsRefused}
 use Rattle.cox_answers.specs.RowReply.{RefusesRow}
 use Rattle.cox_answers.specs.WorkReply.{RefusesWork, IsWorkText}
 use Rattle.cox_answers.specs.Totals.{Totals, no_totals, both_totals, row_totals, AreTotalsOf, AreTotals}
-use Rattle.cox_answers.proofs.TotalsOfLists.{totals_of, polynomials-of, totals-of}
+use Rattle.cox_answers.proofs.TotalsOfLists.{totals_of, polynomials-of, totals_of-are}
 use Rattle.cox_answers.proofs.Refusing.{IsFirstRefusal-exists, IsFirstRefusal-unique}
 use Rattle.cox_answers.specs.Answerable.{IsAnswerable}
 use Rattle.cox_answers.proofs.RowQuestions.{one-row, row-decided}
@@ -66,7 +66,7 @@ module _ (A : IntegerMatrix) (g : IsAdmissible A) where
   work-one words a b s t = s.2
       ∙ ap (λ (totals : Totals). work_text (length words) totals.entries totals.degree
       (unsigned_abs (int_rem_euclid totals.sum (pos (2 ^ 64)))))
-      (totals-unique words (totals_of s.0) (totals_of t.0) (totals-of A words s.0 s.1) (totals-of A words t.0 t.1))
+      (totals-unique words (totals_of s.0) (totals_of t.0) (totals_of-are A words s.0 s.1) (totals_of-are A words t.0 t.1))
       ∙ sym t.2
 
   module _ (limits : Limits) where

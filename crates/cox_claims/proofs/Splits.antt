@@ -233,8 +233,8 @@ module _ (more : List View) (count : length more ≡ sum_by (λ v. length v.chil
         (λ k. no-items (view_at more k).children (λ d. no-children d k)))
 
 -- views that come by splits, beside some that come by splits too, are none
-pub no-more : (vs more all : List View) → ComeBySplits vs → ComeBySplits all → IsPermutation all (vs ++ more) → more ≡ []
-no-more vs more all k l same = none-more more
+pub split-none_left : (vs more all : List View) → ComeBySplits vs → ComeBySplits all → IsPermutation all (vs ++ more) → more ≡ []
+split-none_left vs more all k l same = none-more more
     (omega (arith, k.count, l.count, of_both (λ v. length v.children), length_permutation all (vs ++ more) same, length-append vs more))
     (λ d. omega (arith, k.generations d, l.generations d, of_both (seats_of d), of_both (children_of d)))
     parents_too
@@ -258,5 +258,5 @@ pub only_seat : (vs : List View) → get_elem? vs 0 ≡ some newcomer → ComeBy
 only_seat [] at k = cc
 only_seat (v ∷ vs) at k =
     let e : v ≡ newcomer = cc in
-    let none = no-more (newcomer ∷ []) vs (v ∷ vs) start_splits k (subst (λ u. IsPermutation (v ∷ vs) (u ∷ vs)) e (IsPermutation-refl (v ∷ vs))) in
+    let none = split-none_left (newcomer ∷ []) vs (v ∷ vs) start_splits k (subst (λ u. IsPermutation (v ∷ vs) (u ∷ vs)) e (IsPermutation-refl (v ∷ vs))) in
     ap (λ u. u ∷ vs) e ∙ ap (λ us. newcomer ∷ us) none

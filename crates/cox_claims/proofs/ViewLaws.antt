@@ -5,7 +5,7 @@ use Rattle.std.proofs.lemmas.List.{ext_get_or}
 use Rattle.cox_claims.specs.Rule.{state_of, IsKept, state_at, view_at}
 use Rattle.cox_claims.specs.Events.{fresh_table, ViewsTellWords, StartsFree, HasNoMoreSeats}
 use Rattle.cox_claims.proofs.Keeps.{same_state}
-use Rattle.cox_claims.proofs.Splits.{no-more, only_seat}
+use Rattle.cox_claims.proofs.Splits.{split-none_left, only_seat}
 use Rattle.cox_claims.proofs.EventSteps.{start_rule}
 
 same_word : (n m : ℕ) → n < 4 → m < 4 → state_of n ≡ state_of m → n ≡ m
@@ -24,4 +24,4 @@ starts_free rows s k at =
     (views_tell_words rows s (fresh_table rows) k (start_rule rows) alone, alone)
 
 pub no_more_seats : (rows : ℕ) → HasNoMoreSeats rows
-no_more_seats rows s t k l more same = no-more s.views more t.views k.seats l.seats same
+no_more_seats rows s t k l more same = split-none_left s.views more t.views k.seats l.seats same

@@ -18,7 +18,7 @@ use Rattle.cox_reflect.proofs.RankTwo.{is_even, alternating, alternating-last, a
 use Rattle.cox_reflect.proofs.RankTwo.{braids}
 use Rattle.cox_reflect.proofs.RankTwo.{two_letters, pair_of, HasOrder-swap}
 use Rattle.cox_reflect.proofs.Positivity.{Split, spread_nonnegative, positive}
-use Rattle.cox_reflect.proofs.Faithful.{alternating-from, related-same}
+use Rattle.cox_reflect.proofs.Faithful.{alternating-by_parity, related-same}
 use Rattle.cox_reflect.proofs.Roots.{no_descent}
 use Rattle.cox_reflect.proofs.Deletion.{right_length}
 
@@ -72,7 +72,7 @@ module _ (A : IntegerMatrix) (g : IsAdmissible A) where
       one_more m s t ls lt ne order k l (reduced-alternating m t s lt ls (λ e. ne (sym e)) (HasOrder-swap order) k (omega (arith, l)))
 
   alternating_words : (m s t : ℕ) → (R : List ℕ → Type 0) → R (alternating m s t) → R (alternating m t s) → R (alternating_from m s t)
-  alternating_words m s t R a b = go (is_even m) (alternating-from m s t) (alternating-from m t s)
+  alternating_words m s t R a b = go (is_even m) (alternating-by_parity m s t) (alternating-by_parity m t s)
     where
       go : (p : Bool) → alternating m s t ≡ cond p (alternating_from m s t) (alternating_from m t s)
           → alternating m t s ≡ cond p (alternating_from m t s) (alternating_from m s t) → R (alternating_from m s t)

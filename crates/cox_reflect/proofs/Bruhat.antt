@@ -137,14 +137,14 @@ module _ (A : IntegerMatrix) (g : IsAdmissible A) where
 
   -- ---- inverses
 
-  below-reverse : {y w : List ℕ} → IsBelow A y w → IsBelow A (reverse y) (reverse w)
-  below-reverse {y} {w} b =
+  reverse_keeps_below : {y w : List ℕ} → IsBelow A y w → IsBelow A (reverse y) (reverse w)
+  reverse_keeps_below {y} {w} b =
       subword-below (reverse (normal_form A w)) (IsReduced-reverse A g (normal_form A w) (IsReduced-normal_form A g w))
       (same-reverse A g (normal_form-same A g w))
       (record { word = reverse b.word; subword = IsSubword-reverse b.subword; same = same-reverse A g b.same })
 
   pub below_reverse : (y w : List ℕ) → IsBelow A y w ↔ IsBelow A (reverse y) (reverse w)
-  below_reverse y w = (below-reverse, λ b. rw (reverse-reverse y, reverse-reverse w) at (below-reverse b))
+  below_reverse y w = (reverse_keeps_below, λ b. rw (reverse-reverse y, reverse-reverse w) at (reverse_keeps_below b))
 
   -- ---- a letter on the right
 

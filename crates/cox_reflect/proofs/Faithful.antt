@@ -30,11 +30,11 @@ alternating-step true s t w p q e = ap (λ (x : List ℕ). t ∷ x) e
 alternating-step false s t w p q e = ap (λ (x : List ℕ). s ∷ x) e
 
 -- an alternating word by its first letter
-pub alternating-from : (k s t : ℕ) → alternating k s t ≡ cond (is_even k) (alternating_from k s t) (alternating_from k t s)
+pub alternating-by_parity : (k s t : ℕ) → alternating k s t ≡ cond (is_even k) (alternating_from k s t) (alternating_from k t s)
 unfolding alternating alternating_from
-alternating-from zero s t = refl
-alternating-from (suc k) s t =
-    alternating-step (is_even k) s t (alternating k s t) (alternating_from k s t) (alternating_from k t s) (alternating-from k s t)
+alternating-by_parity zero s t = refl
+alternating-by_parity (suc k) s t =
+    alternating-step (is_even k) s t (alternating k s t) (alternating_from k s t) (alternating_from k t s) (alternating-by_parity k s t)
 
 either_way : (R : List ℕ → List ℕ → Type 0) → ((u v : List ℕ) → R u v → R v u) → (even : Bool) (p q : List ℕ) → R p q
     → R (cond even p q) (cond even q p)
@@ -57,14 +57,14 @@ module _ (A : IntegerMatrix) (g : IsAdmissible A) where
   related-braid : {m : ℕ} (s t : ℕ) → IsLetter A.rank s → IsLetter A.rank t → HasOrder (A.entry s t) (A.entry t s) m
       → AreRelated A (alternating m s t) (alternating m t s)
   related-braid {m} s t ls lt h =
-      rw (alternating-from m s t, alternating-from m t s)
+      rw (alternating-by_parity m s t, alternating-by_parity m t s)
       (either_way (AreRelated A) (λ u v r. turned r) (is_even m) (alternating_from m s t) (alternating_from m t s) (braided ls lt h))
 
   same-braid_from : {m : ℕ} (s t : ℕ) → IsLetter A.rank s → IsLetter A.rank t → HasOrder (A.entry s t) (A.entry t s) m
       → SameElement A (alternating_from m s t) (alternating_from m t s)
   same-braid_from {m} s t ls lt h =
       either_way_back (SameElement A) (λ u v e. same-sym A g e) (is_even m) (alternating_from m s t) (alternating_from m t s)
-      (rw (alternating-from m s t, alternating-from m t s) at (same-braid A g s t ls lt h))
+      (rw (alternating-by_parity m s t, alternating-by_parity m t s) at (same-braid A g s t ls lt h))
 
   -- related words name one element
   pub related-same : {u v : List ℕ} → AreRelated A u v → SameElement A u v

@@ -61,10 +61,10 @@ pub difference_fits : (f h : List ℤ) (j k : ℕ) → ((i : ℕ) → unsigned_a
     → FitsSigned w64 (coefficient f j -ℤ coefficient f k)
 difference_fits f h j k small = fits_signed_from_abs w64 (coefficient f j -ℤ coefficient f k) (omega (arith, ints, small j, small k))
 
-pub term_fits : (f h : List ℤ) (j k : ℕ) → ((i : ℕ) → unsigned_abs (coefficient f i) ≤ 2 ^ 61)
+pub difference_sum_fits : (f h : List ℤ) (j k : ℕ) → ((i : ℕ) → unsigned_abs (coefficient f i) ≤ 2 ^ 61)
     → ((i : ℕ) → unsigned_abs (coefficient h i) ≤ 2 ^ 61)
     → FitsSigned w64 ((coefficient f j -ℤ coefficient f k) +ℤ coefficient h j)
-term_fits f h j k small_f small_h = fits_signed_from_abs w64 ((coefficient f j -ℤ coefficient f k) +ℤ coefficient h j)
+difference_sum_fits f h j k small_f small_h = fits_signed_from_abs w64 ((coefficient f j -ℤ coefficient f k) +ℤ coefficient h j)
     (omega (arith, ints, small_f j, small_f k, small_h j))
 
 -- ---- the values of links, one more

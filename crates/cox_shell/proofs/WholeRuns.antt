@@ -25,8 +25,8 @@ use Rattle.cox_shell.proofs.Whole.{beginning, AnswersAll-whole, AnswersAll-read,
 use Rattle.cox_shell.proofs.Whole.{WritesDue-none, IsDue-usage, IsCutShort-stops, StopsReading-none}
 
 -- arguments are not both taken and wrong
-not-both : (arguments : List (List ℕ)) → IsTaken arguments → IsUsage arguments → ⊥
-not-both arguments right wrong = let bad : false ≡ true = sym right ∙ wrong in cc
+not-taken_and_wrong : (arguments : List (List ℕ)) → IsTaken arguments → IsUsage arguments → ⊥
+not-taken_and_wrong arguments right wrong = let bad : false ≡ true = sym right ∙ wrong in cc
 
 -- a script that has as many bytes as the limit, and one more, is not within the limit
 not-within : (given : List ℕ) (byte : ℕ) (script left : Option (List ℕ)) → script ≡ prepend_known given (prepend_known (byte ∷ []) left)
@@ -60,7 +60,7 @@ module _ (status : Status) (arguments : List (List ℕ)) (source : Supply) (stat
     given = λ e. Runs-given (given_limits arguments) source.left old state reader left new (rw e at runs);
     limit = λ e. Runs-limit (given_limits arguments) source.left old state reader left new (rw e at runs);
     usage = λ e. absurd (rw e at runs);
-    usage_always = λ wrong. absurd (not-both arguments right wrong);
+    usage_always = λ wrong. absurd (not-taken_and_wrong arguments right wrong);
     read_fault = reads;
     write_fault = writes;
     prefix = Runs-due status arguments source.left old state reader left new right runs;
@@ -145,7 +145,7 @@ read-usage status arguments script wrong which = record {
   whole = λ done. absurd (⊎_elim
       (λ (e : status ≡ Usage). ⊎_elim (λ (d : status ≡ Done). cc (e, d)) (λ (d : status ≡ Refused). cc (e, d)) done)
       (λ (e : status ≡ WriteFault). ⊎_elim (λ (d : status ≡ Done). cc (e, d)) (λ (d : status ≡ Refused). cc (e, d)) done) which);
-  stops = λ cut taken. absurd (not-both arguments taken wrong);
+  stops = λ cut taken. absurd (not-taken_and_wrong arguments taken wrong);
   within = takes-none script;
 }
 
@@ -157,7 +157,7 @@ pub run-unhindered : (status : Status) (arguments : List (List ℕ)) (source lef
     → IsSomeAnd source.left (λ script. length script ≤ INPUT_LIMIT) → IsUnhindered status
 run-unhindered Done arguments source left old new run right no_read no_write within = tt
 run-unhindered Refused arguments source left old new run right no_read no_write within = tt
-run-unhindered Usage arguments source left old new run right no_read no_write within = not-both arguments right (run.usage refl).0
+run-unhindered Usage arguments source left old new run right no_read no_write within = not-taken_and_wrong arguments right (run.usage refl).0
 run-unhindered ReadFault arguments source left old new run right no_read no_write within =
     no_read (rose-told source.faults left.faults run.read_fault.faults)
 run-unhindered WriteFault arguments source left old new run right no_read no_write within =

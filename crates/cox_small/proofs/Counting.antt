@@ -73,9 +73,9 @@ not_both A max few many = pigeons max place (λ i l. (place-is i l).0) (λ i j l
     place : ℕ → ℕ
     place i = place_by i (cases_lt max i)
 
-    place-by : (i : ℕ) → i ≤ max → (c : (max < i) ⊎ (i ≤ max)) → (place_by i c < max) × (few.root (place_by i c) ≡ many.root i)
-    place-by i l (inl above) = absurd (omega (arith, l, above))
-    place-by i l (inr k) = let r = few.all (many.small i k) in (r.1, r.2)
+    place_by-root : (i : ℕ) → i ≤ max → (c : (max < i) ⊎ (i ≤ max)) → (place_by i c < max) × (few.root (place_by i c) ≡ many.root i)
+    place_by-root i l (inl above) = absurd (omega (arith, l, above))
+    place_by-root i l (inr k) = let r = few.all (many.small i k) in (r.1, r.2)
 
     place-is : (i : ℕ) → i ≤ max → (place i < max) × (few.root (place i) ≡ many.root i)
-    place-is i l = place-by i l (cases_lt max i)
+    place-is i l = place_by-root i l (cases_lt max i)

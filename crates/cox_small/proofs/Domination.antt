@@ -16,7 +16,7 @@ use Rattle.cox_reflect.proofs.Sums.{simple_root-self}
 use Rattle.cox_reflect.proofs.Action.{act-minus_multiple}
 use Rattle.cox_reflect.proofs.Positivity.{simple_root-nonnegative}
 use Rattle.cox_small.specs.Elementary.{IsRoot, Dominates}
-use Rattle.cox_small.proofs.RootPairs.{IsRootPair, root-sign, root-act, root-simple, pair-root}
+use Rattle.cox_small.proofs.RootPairs.{IsRootPair, root-has_sign, root-act, root-simple, pair-root}
 use Rattle.cox_small.proofs.SentRoots.{bound, sent-bound}
 use Rattle.cox_small.proofs.Signs.{pairing-letter, negative-agrees}
 use Rattle.cox_small.proofs.Combinations.{mix, turned, turns, act-mix, word_of, act-word_of}
@@ -148,7 +148,7 @@ module _ (A : IntegerMatrix) (g : IsAdmissible A) where
     follows = λ w sent. ⊎_elim
         (λ q. absurd (never s ls b c h up w sent (omega (arith, linears, n)) (omega (arith, linears, negative-agrees A g s h up n))
         squares q))
-        (λ q. q) (root-sign A g (root-act A g w (root-simple A g s ls)));
+        (λ q. q) (root-has_sign A g (root-act A g w (root-simple A g s ls)));
   }
     where
       ls : IsLetter A.rank s

@@ -17,7 +17,7 @@ use Rattle.cox_reflect.proofs.Positivity.{LastLetter, no_letter, last_letter, la
 use Rattle.cox_reflect.proofs.Transposed.{IsAdmissible-transposed}
 use Rattle.cox_small.specs.SmallRoots.{IsShortStep, IsSmall, simple, step, IsSmallRoot}
 use Rattle.cox_small.specs.Elementary.{IsRoot, Dominates, IsElementary}
-use Rattle.cox_small.proofs.RootPairs.{IsRootPair, root-sign, root-one_sign, root-act, root-reflect, root-simple, root-sign_changes}
+use Rattle.cox_small.proofs.RootPairs.{IsRootPair, root-has_sign, root-one_sign, root-act, root-reflect, root-simple, root-sign_changes}
 use Rattle.cox_small.proofs.RootPairs.{simple_or_stays, pair-root, pair-reflect, pair-simple, pair-equal}
 use Rattle.cox_small.proofs.SentRoots.{sending, shorter-sends}
 use Rattle.cox_small.proofs.Signs.{pairing-letter, negative-stays, positive-agrees}
@@ -89,7 +89,7 @@ module _ (A : IntegerMatrix) (g : IsAdmissible A) where
   dominates-simple s b l up h = record {
     follows = λ w n. ⊎_elim (λ q. h.follows w (λ i. rw (act-minus_multiple A w b (pairing A s b) (simple_root s))
         (omega (arith, linears, n i, product_nonnegative (pairing A s b) (act A w (simple_root s) i) (omega (arith, linears, up)) (q i)))))
-        (λ q. q) (root-sign A g (root-act A g w (root-simple A g s l)));
+        (λ q. q) (root-has_sign A g (root-act A g w (root-simple A g s l)));
   }
 
   positive-letter : (s : ℕ) (b : Vector) → pos 0 <ℤ pairing A s b → IsLetter A.rank s

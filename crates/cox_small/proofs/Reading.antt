@@ -18,16 +18,16 @@ use Rattle.cox_reflect.proofs.Search.{word_length-length}
 use Rattle.cox_reflect.proofs.Lengths.{IsReduced-prefix}
 use Rattle.cox_reflect.proofs.Roots.{SignOf, longer, shorter, sign_of, root-apart}
 use Rattle.cox_small.specs.SmallRoots.{IsSmall}
-use Rattle.cox_small.proofs.RootPairs.{root-sign, root-act, root-simple}
+use Rattle.cox_small.proofs.RootPairs.{root-has_sign, root-act, root-simple}
 use Rattle.cox_small.proofs.ElementaryRoots.{small-pair, small-positive}
 use Rattle.cox_small.proofs.Signs.{pairing-letter}
 use Rattle.cox_small.proofs.Domination.{out-dominates}
 
 module _ (A : IntegerMatrix) (g : IsAdmissible A) where
   -- w e(s) is positive: the longer word is reduced
-  pub positive-reduced : (w : List ℕ) (s : ℕ) → IsLetter A.rank s → IsReduced A w → IsNonnegative (act A w (simple_root s))
+  pub nonnegative-reduced : (w : List ℕ) (s : ℕ) → IsLetter A.rank s → IsReduced A w → IsNonnegative (act A w (simple_root s))
       → IsReduced A (w ++ s ∷ [])
-  positive-reduced w s l h p = go (sign_of A g w s l)
+  nonnegative-reduced w s l h p = go (sign_of A g w s l)
     where
       go : SignOf A w s → IsReduced A (w ++ s ∷ [])
       go (longer e q) = omega (arith, h, e, length-append w (s ∷ []))
@@ -44,7 +44,7 @@ module _ (A : IntegerMatrix) (g : IsAdmissible A) where
   -- at the front
   pub read-front : (w : List ℕ) (s : ℕ) {c : Vector} → IsLetter A.rank s → IsReduced A w → IsSmall A (act A w (simple_root s)) c
       → IsReduced A (w ++ s ∷ [])
-  read-front w s l h small = positive-reduced w s l h (small-positive A g small)
+  read-front w s l h small = nonnegative-reduced w s l h (small-positive A g small)
 
   -- at a step out of the small roots
   pub read-out : (front behind : List ℕ) (q s : ℕ) {c : Vector} → IsLetter A.rank s → IsReduced A (front ++ q ∷ behind)
@@ -53,8 +53,8 @@ module _ (A : IntegerMatrix) (g : IsAdmissible A) where
       → pos 4 ≤ℤ (pairing A q (act A behind (simple_root s)) *ℤ pairing (transposed A) q c)
       → IsReduced A ((front ++ q ∷ behind) ++ s ∷ [])
   read-out front behind q s {c} l h small n far =
-      positive-reduced (front ++ q ∷ behind) s l h
-      (⊎_elim (λ p. p) (λ m. absurd (never m)) (root-sign A g (root-act A g (front ++ q ∷ behind) (root-simple A g s l))))
+      nonnegative-reduced (front ++ q ∷ behind) s l h
+      (⊎_elim (λ p. p) (λ m. absurd (never m)) (root-has_sign A g (root-act A g (front ++ q ∷ behind) (root-simple A g s l))))
     where
       lq : IsLetter A.rank q
       lq = pairing-letter A g q (act A behind (simple_root s)) (λ z. omega (arith, linears, z, n))

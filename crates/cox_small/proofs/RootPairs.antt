@@ -60,8 +60,8 @@ module _ (A : IntegerMatrix) (g : IsAdmissible A) where
   pub root-nonzero : {b : Vector} → IsRoot A b → ((i : ℕ) → b i ≡ pos 0) → ⊥
   root-nonzero r zeros = root-not_zero A g r.word r.letter (λ i. rw r.image (zeros i))
 
-  pub root-sign : {b : Vector} → IsRoot A b → IsNonnegative b ⊎ IsNonpositive b
-  root-sign r = rw r.image at (root_sign A g r.word r.letter)
+  pub root-has_sign : {b : Vector} → IsRoot A b → IsNonnegative b ⊎ IsNonpositive b
+  root-has_sign r = rw r.image at (root_sign A g r.word r.letter)
 
   pub root-one_sign : {b : Vector} → IsRoot A b → IsNonnegative b → IsNonpositive b → ⊥
   root-one_sign r p n = root-nonzero r (λ i. omega (arith, linears, p i, n i))
@@ -87,7 +87,7 @@ module _ (A : IntegerMatrix) (g : IsAdmissible A) where
 
   pub simple_or_stays : (s : ℕ) {b : Vector} → IsRoot A b → IsNonnegative b → (b ≡ simple_root s) ⊎ IsNonnegative (reflect A s b)
   simple_or_stays s r p =
-      ⊎_elim (λ q. inr q) (λ n. inl (root-sign_changes s r p n)) (root-sign (root-reflect s r))
+      ⊎_elim (λ q. inr q) (λ n. inl (root-sign_changes s r p n)) (root-has_sign (root-reflect s r))
 
   -- ---- pairs
 
@@ -146,7 +146,7 @@ module _ (A : IntegerMatrix) (g : IsAdmissible A) where
 module _ (A : IntegerMatrix) (g : IsAdmissible A) where
   pub pair-nonpositive : {b c : Vector} → IsRootPair A b c → IsNonpositive b → IsNonpositive c
   pair-nonpositive {b} {c} h n =
-      ⊎_elim up (λ q. q) (root-sign (transposed A) (IsAdmissible-transposed A g)
+      ⊎_elim up (λ q. q) (root-has_sign (transposed A) (IsAdmissible-transposed A g)
       (pair-root (transposed A) (IsAdmissible-transposed A g) (pair-swap A g h)))
     where
       up : IsNonnegative c → IsNonpositive c

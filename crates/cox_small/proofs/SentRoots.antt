@@ -21,7 +21,7 @@ use Rattle.cox_reflect.proofs.Lengths.{word_length-is}
 use Rattle.cox_reflect.proofs.Positivity.{simple_root-nonnegative}
 use Rattle.cox_reflect.proofs.Roots.{negated, act-negated, SignOf, longer, shorter, sign_of, root-apart, act-push_root}
 use Rattle.cox_small.specs.Elementary.{IsRoot}
-use Rattle.cox_small.proofs.RootPairs.{root-sign, root-one_sign, root-act, root-reflect, root-simple, root-sign_changes}
+use Rattle.cox_small.proofs.RootPairs.{root-has_sign, root-one_sign, root-act, root-reflect, root-simple, root-sign_changes}
 
 -- where the sign of the root b turns, as the letters of w are applied from the last to the first: at a letter, when the letters behind it
 -- have made b the simple root of the letter
@@ -48,7 +48,7 @@ module _ (A : IntegerMatrix) (g : IsAdmissible A) where
 
   act-turn : (w : List ℕ) (b : Vector) → IsRoot A b → IsNonnegative b → IsNonpositive (act A w b) → IsTurn A w b
   act-turn [] b r p n = absurd (root-one_sign A g r p (λ i. rw (act-nil A b) at (n i)))
-  act-turn (q ∷ x) b r p n = go (root-sign A g (root-act A g x r)) (act-turn x b r p)
+  act-turn (q ∷ x) b r p n = go (root-has_sign A g (root-act A g x r)) (act-turn x b r p)
     where
       turned : IsNonpositive (reflect A q (act A x b))
       turned i = rw (act-cons A q x b) at (n i)
@@ -77,7 +77,7 @@ module _ (A : IntegerMatrix) (g : IsAdmissible A) where
       → b i ≤ℤ pos (bound A w i)
   unfolding bound
   sent-bound [] {b} r p n i = absurd (root-one_sign A g r p (λ j. rw (act-nil A b) at (n j)))
-  sent-bound (q ∷ x) {b} r p n i = ⊎_elim here (λ m. earlier (sent-bound x r p m i)) (root-sign A g (root-act A g x r))
+  sent-bound (q ∷ x) {b} r p n i = ⊎_elim here (λ m. earlier (sent-bound x r p m i)) (root-has_sign A g (root-act A g x r))
     where
       turned : IsNonpositive (reflect A q (act A x b))
       turned j = rw (act-cons A q x b) at (n j)
@@ -141,7 +141,7 @@ module _ (A : IntegerMatrix) (g : IsAdmissible A) where
     both_up : IsNonnegative (act A x (simple_root s)) → IsNonnegative (reflect A q (act A x (simple_root s)))
         → IsNonpositive (act A x (reflect A s b))
     unfolding reflect minus_multiple
-    both_up m n = ⊎_elim (λ k. absurd (never k)) (λ k. k) (root-sign A g (root-act A g x (root-reflect A g s r)))
+    both_up m n = ⊎_elim (λ k. absurd (never k)) (λ k. k) (root-has_sign A g (root-act A g x (root-reflect A g s r)))
       where
         turned : (i : ℕ) → reflect A q (act A x (reflect A s b)) i ≡ neg_ℤ (simple_root q i) -ℤ
             (pairing A s b *ℤ reflect A q (act A x (simple_root s)) i)
@@ -183,8 +183,8 @@ module _ (A : IntegerMatrix) (g : IsAdmissible A) where
     shorter_at =
         ⊎_elim
         (λ n. ⊎_elim (λ m. (x, omega arith, both_up m n)) (λ m. absurd (crossing m n))
-        (root-sign A g (root-act A g x (root-simple A g s ls))))
-        descends (root-sign A g (root-reflect A g q (root-act A g x (root-simple A g s ls))))
+        (root-has_sign A g (root-act A g x (root-simple A g s ls))))
+        descends (root-has_sign A g (root-reflect A g q (root-act A g x (root-simple A g s ls))))
 
   pub shorter-sends : (s : ℕ) {b : Vector} → IsRoot A b → IsNonnegative b → pos 0 <ℤ pairing A s b → (w : List ℕ)
       → IsNonpositive (act A w b)

@@ -4,7 +4,7 @@ use Rattle.cox_reflect.proofs.NormalElements.{element-word}
 use Rattle.cox_poly.proofs.Behind.{PutsPrefix-next, Puts-failed, append-all}
 use Rattle.cox_context.specs.Numbers.{word_at}
 use Rattle.cox_context.proofs.PlacedWords.{contains-at}
-use Rattle.cox_answers.proofs.GroupTexts.{other_text, others-text}
+use Rattle.cox_answers.proofs.GroupTexts.{other_text, member_text-others}
 use Rattle.cox_answers.proofs.answers.graphs.put_other_members.Goals as goal
 
 pub put_member-requires-clause-word : goal.put_member-requires-clause-word
@@ -20,7 +20,7 @@ pub returns-in_err-put_member : goal.returns-in_err-put_member
 returns-in_err-put_member c =
     let others = c.args.others.now in
     let text = other_text c.args.context.now.matrix.rank c.args.context.now.members in
-    rw (others-text c.args.context.now.matrix.rank c.args.context.now.members others)
+    rw (member_text-others c.args.context.now.matrix.rank c.args.context.now.members others)
     (Puts-failed _ _ _ _ (search rules) (PutsPrefix-next text others c.loop-i.i-index
     (get_or others c.loop-i.i-index 0) 0 _ _ _ c.loop-i-test.true refl c.loop-i.invariant
     (rw (c.word.ensures, c.rank-rank.ensures.rank, c.matrix.ensures) at (c.in_err-put_member.ensures {u = tt}))))
@@ -29,5 +29,5 @@ pub returns : goal.returns
 returns c =
     let others = c.args.others.now in
     let text = other_text c.args.context.now.matrix.rank c.args.context.now.members in
-    rw (others-text c.args.context.now.matrix.rank c.args.context.now.members others)
+    rw (member_text-others c.args.context.now.matrix.rank c.args.context.now.members others)
     (append-all text others c.loop-i.i-index _ _ (omega arith) c.loop-i.invariant)

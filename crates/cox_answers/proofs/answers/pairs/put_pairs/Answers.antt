@@ -11,7 +11,7 @@ use Rattle.cox_poly.proofs.Behind.{PutsPrefix-next, PutsPrefix-second, Puts-fail
 use Rattle.cox_context.specs.Closed.{IsClosed}
 use Rattle.cox_context.specs.Numbers.{word_at}
 use Rattle.cox_context.proofs.PlacedWords.{contains-at}
-use Rattle.cox_answers.proofs.PairTexts.{pair_line, pairs-text, pair-line}
+use Rattle.cox_answers.proofs.PairTexts.{pair_line, pairs_text-lines, pair_text-line}
 use Rattle.cox_answers.proofs.answers.pairs.put_pairs.Goals as goal
 
 pub returns-in_err-put_count : goal.returns-in_err-put_count
@@ -19,7 +19,7 @@ returns-in_err-put_count c = λ w p is row.
     let e = c.args.rows.now.elements in
     let numbers = c.args.numbers.now in
     let line = pair_line e.matrix.rank (word_length (integer_matrix e.matrix) w) e.members p in
-    rw pairs-text (Puts-first _ (decimal (length numbers)) (flat_map line numbers) _ _ (search rules) c.in_err-put_count.ensures)
+    rw pairs_text-lines (Puts-first _ (decimal (length numbers)) (flat_map line numbers) _ _ (search rules) c.in_err-put_count.ensures)
 
 pub put_next_pair-requires-clause-word : goal.put_next_pair-requires-clause-word
 put_next_pair-requires-clause-word c =
@@ -41,14 +41,14 @@ returns-in_err-put_next_pair c = λ w p is row.
     let x = get_or numbers c.loop-x.x-index 0 in
     let line = pair_line e.matrix.rank (word_length A w) e.members p in
     let same : SameElement A (word_at e.members c.args.i) w = rw is (normal_form-same A g w) in
-    let text = pair-line A g w p row e.matrix.rank e.members x (word_at e.members c.args.i) c.in-Some.polynomial same
+    let text = pair_text-line A g w p row e.matrix.rank e.members x (word_at e.members c.args.i) c.in-Some.polynomial same
     (c.in-Some.ensures {u = tt}).value in
     let start : c.put_count.new.out.items ≡ c.args.out.now.items ++ decimal (length numbers) = c.in_ok-put_count.ensures {u = tt} in
     let prefix = PutsPrefix-next line numbers c.loop-x.x-index x 0 _ _ _ c.loop-x-test.true refl (c.loop-x.invariant w p is row)
     (rw (c.word.ensures, c.context-in-loop-x.ensures.context, c.rank-rank.ensures.rank, c.matrix.ensures, c.context.ensures.context, text)
     at
     (c.in_err-put_next_pair.ensures {u = tt})) in
-    rw pairs-text (Puts-failed _ _ _ _ (search rules) (PutsPrefix-second (decimal (length numbers)) _ _ _ _ start prefix))
+    rw pairs_text-lines (Puts-failed _ _ _ _ (search rules) (PutsPrefix-second (decimal (length numbers)) _ _ _ _ start prefix))
 
 pub loop-x-preserved : goal.loop-x-preserved
 loop-x-preserved c = λ w p is row.
@@ -58,7 +58,7 @@ loop-x-preserved c = λ w p is row.
     let x = get_or c.args.numbers.now c.loop-x.x-index 0 in
     let line = pair_line e.matrix.rank (word_length A w) e.members p in
     let same : SameElement A (word_at e.members c.args.i) w = rw is (normal_form-same A g w) in
-    let text = pair-line A g w p row e.matrix.rank e.members x (word_at e.members c.args.i) c.in-Some.polynomial same
+    let text = pair_text-line A g w p row e.matrix.rank e.members x (word_at e.members c.args.i) c.in-Some.polynomial same
     (c.in-Some.ensures {u = tt}).value in
     append-next line c.args.numbers.now c.loop-x.x-index x 0 _ _ _ c.loop-x-test.true refl (c.loop-x.invariant w p is row)
     (rw (c.word.ensures, c.context-in-loop-x.ensures.context, c.rank-rank.ensures.rank, c.matrix.ensures, c.context.ensures.context, text)
@@ -72,4 +72,4 @@ returns c = λ w p is row.
     let line = pair_line e.matrix.rank (word_length (integer_matrix e.matrix) w) e.members p in
     let start : c.put_count.new.out.items ≡ c.args.out.now.items ++ decimal (length numbers) = c.in_ok-put_count.ensures {u = tt} in
     let whole = append-all line numbers c.loop-x.x-index _ _ (omega arith) (c.loop-x.invariant w p is row) in
-    rw pairs-text (append-second (decimal (length numbers)) _ _ _ _ start whole)
+    rw pairs_text-lines (append-second (decimal (length numbers)) _ _ _ _ start whole)
