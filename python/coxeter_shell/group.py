@@ -4,6 +4,7 @@ import operator
 import re
 
 from . import progress, texts
+from .modules import CellModule
 from .polynomial import Polynomial
 from .program import Program
 
@@ -194,6 +195,11 @@ class CoxeterGroup:
     def iter_two_sided_cells(self):
         """The two-sided cells."""
         return self._list(self._read_cell, "lrcells")
+
+    def cell_module(self, w):
+        """The module of the left cell of w, in a finite group: its elements, and how the Hecke algebra acts on it."""
+        line = self._line("module", (w,))
+        return self._read(lambda lines: CellModule.read(self._spelling, self.rank, lines), line, self.program.ask(line))
 
     # ---- the rest
 

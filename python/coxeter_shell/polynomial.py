@@ -1,4 +1,4 @@
-"""Polynomials in q with integer coefficients."""
+"""Polynomials in one variable with integer coefficients."""
 import functools
 import operator
 import re
@@ -6,16 +6,17 @@ import re
 # Words have at most 255 letters, so that the program writes no greater degree.
 MOST_DEGREE = 255
 
-TERM = re.compile(r"([+-]?)([0-9]*)(q?)(?:\^([0-9]+))?")
+TERM = re.compile(r"([+-]?)([0-9]*)([qv]?)(?:\^([0-9]+))?")
 
 
 class Polynomial:
-    """A polynomial in q. `coefficients` is the tuple of its coefficients by rising degree, without zeros at the end.
+    """A polynomial in q, or in the variable of a subclass. `coefficients` is the tuple of its coefficients by rising degree, without zeros at the end.
 
     It is printed as the program prints it, and is equal to the list or tuple of its coefficients.
     """
 
     __slots__ = ("coefficients",)
+    variable = "q"
 
     def __init__(self, coefficients=()):
         listed = [operator.index(it) for it in coefficients]
@@ -52,17 +53,17 @@ class Polynomial:
             value = value * q + coefficient
         return value
 
-    def sage(self, variable="q"):
+    def sage(self, variable=None):
         """The same as a polynomial of Sage over the integers. It needs Sage."""
         from sage.all import ZZ, PolynomialRing
 
-        return PolynomialRing(ZZ, variable)(list(self.coefficients))
+        return PolynomialRing(ZZ, variable or self.variable)(list(self.coefficients))
 
     def __str__(self):
         text = ""
         for degree, coefficient in enumerate(self.coefficients):
             if coefficient:
-                power = ("", "q")[degree] if degree < 2 else f"q^{degree}"
+                power = ("", self.variable)[degree] if degree < 2 else f"{self.variable}^{degree}"
                 number = "" if power and abs(coefficient) == 1 else abs(coefficient)
                 text += f"{'-' if coefficient < 0 else '+' if text else ''}{number}{power}"
         return text or "0"
@@ -92,4 +93,4 @@ class Polynomial:
         raise AttributeError("a polynomial can't be changed")
 
     def __reduce__(self):
-        return Polynomial, (self.coefficients,)
+        return type(self), (self.coefficients,)
