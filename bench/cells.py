@@ -5,6 +5,7 @@
                         the program of this repository, if none is named; two programs run in turn
 
 - `lrcells` of a finite group: all rows, and then the cells. What is printed goes to /dev/null.
+- `lcells`, and `module` of the largest left cell, of A 7, B 6 and E 6, or of those of `--groups` among them.
 - `work 7 100000` in A 4.
 
 `--native FILE` names a program that does the same (called as FILE LETTER N); it runs in turn with the others, and its whole time counts.
@@ -13,17 +14,30 @@ tells it. With `--instructions` each row has millions of instructions in place o
 """
 import argparse
 import os
+import subprocess
 
 from intervals import TOP, instructions
 from rows import least
 
 GROUPS = [("A", 6), ("D", 6), ("A", 7), ("B", 6), ("E", 6), ("A", 8), ("D", 7)]
+MODULES = [("A", 7), ("B", 6), ("E", 6)]
 
 
-def cases(groups):
+def largest_cell(program, group):
+    """An element of the largest left cell."""
+    ran = subprocess.run([program], input=f"{group}\nlcells\n", capture_output=True, text=True, check=True)
+    return max(ran.stdout.splitlines()[1:], key=lambda cell: cell.count(" ")).split(" ")[0]
+
+
+def cases(groups, program):
     """The rows of the table: a name, the script, and the group for the native program, if it does the same."""
     for letter, rank in groups:
         yield f"lrcells of {letter} {rank}", f"type {letter} {rank}\nlrcells\n", [letter, str(rank)]
+    for letter, rank in MODULES:
+        if (letter, rank) in groups:
+            group = f"type {letter} {rank}"
+            yield f"lcells of {letter} {rank}", f"{group}\nlcells\n", None
+            yield "module of the largest of them", f"{group}\nmodule {largest_cell(program, group)}\n", None
     yield "work 7 100000 in A 4", "type A 4\nwork 7 100000\n", None
 
 
@@ -41,7 +55,7 @@ def main():
     heads = [f"{unit} {k + 1} | MiB {k + 1}" for k in range(len(programs))] + (["s native | MiB native"] if given.native else [])
     print("| what | " + " | ".join(heads) + " |")
     print("|---|" + "---|---|" * len(heads))
-    for name, script, group in cases(groups):
+    for name, script, group in cases(groups, programs[0]):
         figures = []
         for program in programs:
             seconds, peak = least([program], script, None)

@@ -2,12 +2,14 @@
 from .errors import CoxeterError, ProgramClosed, ProgramEnded, ProgramError, ProgramNotFound, Refusal, UnexpectedAnswer
 from .graphs import HasseDiagram, Vertex, WGraph
 from .group import CoxeterGroup, Work
+from .modules import CellModule
 from .polynomial import Polynomial
 from .program import Program, find_program
 from .tables import Cells, ElementDict, Table
 from .texts import gap
 
 __all__ = [
+    "CellModule",
     "Cells",
     "CoxeterError",
     "CoxeterGroup",

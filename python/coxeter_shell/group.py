@@ -6,6 +6,7 @@ import re
 from . import kinds, progress, texts
 from .elements import Elements
 from .graphs import HasseDiagram, Vertex, WGraph
+from .modules import CellModule
 from .polynomial import Polynomial
 from .program import Program
 from .tables import Cells, ElementDict
@@ -359,6 +360,11 @@ class CoxeterGroup(Elements):
         [()]
         """
         return self._list(self._read_cell, "lrcells")
+
+    def cell_module(self, w):
+        """The module of the left cell of w, in a finite group: its elements, and how the Hecke algebra acts on it."""
+        line = self._line("module", (w,))
+        return self._read(lambda lines: CellModule.read(self._spelling, self.rank, lines), line, self.program.ask(line))
 
     # ---- the rest
 

@@ -1,4 +1,4 @@
-"""Polynomials in q with integer coefficients."""
+"""Polynomials in one variable with integer coefficients."""
 import functools
 import math
 import numbers
@@ -9,14 +9,16 @@ import sys
 # Words have at most 255 letters, so that the program writes no greater degree.
 MOST_DEGREE = 255
 
-TERM = re.compile(r"([+-]?)([0-9]*)(q?)(?:\^([0-9]+))?")
+TERM = re.compile(r"([+-]?)([0-9]*)([qv]?)(?:\^([0-9]+))?")
 
 
 class Polynomial:
-    """A polynomial in q. `coefficients` is the tuple of its coefficients by rising degree, without zeros at the end.
+    """A polynomial in q, or in the variable of a subclass.
+
+    `coefficients` is the tuple of its coefficients by rising degree, without zeros at the end.
 
     It is printed as the program prints it. It is equal to a number where it is constant, to the list or tuple of its
-    coefficients, and to a polynomial in q of Sage where Sage says so.
+    coefficients, and to a polynomial of Sage where Sage says so.
 
     >>> p = Polynomial([1, 2, 0, 1])
     >>> p, p.coefficients, p == [1, 2, 0, 1], Polynomial([1]) == 1
@@ -24,6 +26,7 @@ class Polynomial:
     """
 
     __slots__ = ("coefficients",)
+    variable = "q"
 
     def __init__(self, coefficients=()):
         listed = [operator.index(it) for it in coefficients]
@@ -111,11 +114,11 @@ class Polynomial:
         """
         if from_sage(other):
             return self.sage() + other
-        more = terms(other)
+        more = self._terms(other)
         if more is None:
             return NotImplemented
         size = range(max(len(self.coefficients), len(more)))
-        return Polynomial([self.coefficient(it) + (more[it] if it < len(more) else 0) for it in size])
+        return type(self)([self.coefficient(it) + (more[it] if it < len(more) else 0) for it in size])
 
     __radd__ = __add__
 
@@ -126,7 +129,7 @@ class Polynomial:
         return -self + other
 
     def __neg__(self):
-        return Polynomial([-it for it in self.coefficients])
+        return type(self)([-it for it in self.coefficients])
 
     def __pos__(self):
         return self
@@ -139,14 +142,14 @@ class Polynomial:
         """
         if from_sage(other):
             return self.sage() * other
-        factor = terms(other)
+        factor = self._terms(other)
         if factor is None:
             return NotImplemented
         product = [0] * (len(self.coefficients) + len(factor))
         for degree, coefficient in enumerate(self.coefficients):
             for place, it in enumerate(factor, degree):
                 product[place] += coefficient * it
-        return Polynomial(product)
+        return type(self)(product)
 
     __rmul__ = __mul__
 
@@ -159,14 +162,14 @@ class Polynomial:
         exponent = operator.index(exponent)
         if exponent < 0:
             raise ValueError("the exponent is negative")
-        power = Polynomial([1])
+        power = type(self)([1])
         for bit in bin(exponent)[2:]:
             power = power * power * self if bit == "1" else power * power
         return power
 
     def __eq__(self, other):
         if isinstance(other, Polynomial):
-            return self.coefficients == other.coefficients
+            return self.coefficients == other.coefficients and (self.variable == other.variable or self.degree() < 1)
         if isinstance(other, (list, tuple)):
             return list(self.coefficients) == list(other)
         if isinstance(other, numbers.Number):
@@ -189,7 +192,7 @@ class Polynomial:
     # ---- texts, and other programs
 
     def __str__(self):
-        return self._written("q^{}".format)
+        return self._written("^{}".format)
 
     __repr__ = __str__
 
@@ -205,7 +208,7 @@ class Polynomial:
         text = ""
         for degree, coefficient in enumerate(self.coefficients):
             if coefficient:
-                unknown = ("", "q")[degree] if degree < 2 else power(degree)
+                unknown = self.variable + power(degree) if degree > 1 else self.variable * degree
                 number = "" if unknown and abs(coefficient) == 1 else abs(coefficient)
                 text += f"{'-' if coefficient < 0 else '+' if text else ''}{number}{unknown}"
         return text or "0"
@@ -216,16 +219,16 @@ class Polynomial:
         >>> Polynomial([1, 0, 2])._latex_()
         '1+2q^{2}'
         """
-        return self._written("q^{{{}}}".format)
+        return self._written("^{{{}}}".format)
 
     def _repr_latex_(self):
         return f"${self._latex_()}$"
 
-    def sage(self, variable="q"):
+    def sage(self, variable=None):
         """The same as a polynomial of Sage over the integers. It needs Sage."""
         from sage.all import ZZ, PolynomialRing
 
-        return PolynomialRing(ZZ, variable)(list(self.coefficients))
+        return PolynomialRing(ZZ, variable or self.variable)(list(self.coefficients))
 
     def _sage_(self):
         return self.sage()
@@ -238,17 +241,16 @@ class Polynomial:
         raise AttributeError("a polynomial can't be changed")
 
     def __reduce__(self):
-        return Polynomial, (self.coefficients,)
+        return type(self), (self.coefficients,)
 
-
-def terms(other):
-    """The coefficients of what a polynomial is added to or multiplied by, None for what it is not."""
-    if isinstance(other, Polynomial):
-        return other.coefficients
-    try:
-        return (operator.index(other),)
-    except TypeError:
-        return None
+    def _terms(self, other):
+        """The coefficients of what this is added to or multiplied by, None for what it is not."""
+        if isinstance(other, Polynomial):
+            return other.coefficients if other.variable == self.variable else None
+        try:
+            return (operator.index(other),)
+        except TypeError:
+            return None
 
 
 def from_sage(value):

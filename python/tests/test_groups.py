@@ -18,6 +18,11 @@ CELLS = [
 ]
 
 
+def product(a, b):
+    """The product of two matrices of numbers."""
+    return [[sum(map(math.prod, zip(row, column))) for column in zip(*b)] for row in a]
+
+
 class Groups(unittest.TestCase):
     def test_types(self):
         for arguments in (("A", 3), ("A 3",), ("type A 3",), ("A3",), (["A", 3],), (("A", 3),)):
@@ -145,6 +150,23 @@ class Groups(unittest.TestCase):
                     self.assertTrue(all(len({group.right_descents(x) for x in cell}) == 1 for cell in cells))
                     inverses = {frozenset(map(group.inverse, cell)) for cell in cells}
                     self.assertEqual(inverses, set(map(frozenset, group.right_cells())))
+
+    def test_modules(self):
+        with CoxeterGroup("A 2") as group:
+            module = group.cell_module([1])
+            self.assertEqual((module.elements, len(module)), ([(1,), (2, 1)], 2))
+            self.assertEqual(module.matrix(1), [[[-1], [0, 1]], [[], [0, 0, 1]]])
+            self.assertEqual(module.matrix(2), [[[0, 0, 1], []], [[0, 1], [-1]]])
+            self.assertEqual(str(module.matrix(2)), "[[v^2, 0], [v, -1]]")
+            self.assertEqual(group.cell_module("e").images, {1: [{(): [0, 0, 1]}], 2: [{(): [0, 0, 1]}]})
+        with CoxeterGroup("B 3") as group:
+            for cell in group.left_cells():
+                module = group.cell_module(cell[-1])
+                self.assertEqual(module.elements, cell)
+                one, two = ([[entry(5) for entry in row] for row in module.matrix(s)] for s in (1, 3))
+                self.assertEqual(product(one, two), product(two, one))
+        with CoxeterGroup("matrix 2 0") as group, self.assertRaises(Refusal):
+            group.cell_module("1")
 
     def test_a_polynomial_with_a_coefficient_2(self):
         with CoxeterGroup("D 4") as group:

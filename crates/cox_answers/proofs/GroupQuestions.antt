@@ -59,7 +59,7 @@ module _ (limits : Limits) (A : IntegerMatrix) (g : IsAdmissible A) where
   group-one rank Lrcells = cells-one rank _
 
   -- whether a group is refused is decided
-  group_rows-decided : (why : Refusal) → RefusesGroupRows limits A why ⊎ (RefusesGroupRows limits A why → ⊥)
+  pub group_rows-decided : (why : Refusal) → RefusesGroupRows limits A why ⊎ (RefusesGroupRows limits A why → ⊥)
   group_rows-decided LargeInterval = ⊎_elim (λ large. inl large) (λ small. inr small.0) (group-decided A g limits.context)
   group_rows-decided LargeRow = ⊎_elim
       (λ large. inr (λ r. r.0 large))
@@ -76,7 +76,7 @@ module _ (limits : Limits) (A : IntegerMatrix) (g : IsAdmissible A) where
   not-large (inr (none, inl second)) large = absurd (cc second.1)
   not-large (inr (none, inr (small, rest))) large = small large
 
-  group-list : IsRefused (RefusesGroupRows limits A) None → (words : List (List ℕ)) × IsListOf (IsElement A) words
+  pub group-list : IsRefused (RefusesGroupRows limits A) None → (words : List (List ℕ)) × IsListOf (IsElement A) words
   group-list free = ⊎_elim (λ large. absurd (not-large free large)) (λ small. (small.1, small.2)) (group-decided A g limits.context)
 
   graph-answerable : (rank : ℕ) (side : Side) → IsAnswerable (record {

@@ -101,7 +101,7 @@ joined-are A g members i v is at edges are = one_list A g (word_at members i) (j
     (subst (λ (x : List ℕ). AreJoined A x v.joined) at is)
 
 -- descents are letters
-all-letters : (n a m : ℕ) → 1 ≤ a → a + m ≤ n + 1 → All (IsLetter n) (range_with_len a m)
+pub all-letters : (n a m : ℕ) → 1 ≤ a → a + m ≤ n + 1 → All (IsLetter n) (range_with_len a m)
 all-letters n a zero least most = All-nil (IsLetter n)
 all-letters n a (suc m) least most = All-cons (IsLetter n) a (range_with_len (a + 1) m)
     (record { from_one = least; to_rank = omega (arith, most) }) (all-letters n (a + 1) m (omega arith) (omega (arith, most)))

@@ -4,6 +4,7 @@ pub mod Refusing
 pub mod RowQuestions
 pub mod WorkQuestions
 pub mod GroupQuestions
+pub mod ModuleQuestions
 pub mod Questions
 -- the text of an R-polynomial
 pub mod PolynomialTexts
@@ -38,3 +39,8 @@ pub mod WorkTotals
 -- whole groups, and the texts of W-graphs and cells
 pub mod WholeGroups
 pub mod GroupTexts
+-- a search for a number in a list
+pub mod ListSearch
+-- the left cell of an element, and the text of its module
+pub mod CellLists
+pub mod ModuleTexts

@@ -13,7 +13,7 @@ use Rattle.cox_command.specs.declared.refusal.Refusal.{Refusal}
 use Rattle.cox_command.specs.declared.refusal.Refusal.TheVariants.{LargeInterval, FarApart}
 use Rattle.cox_command.specs.declared.inquiry.OneWord.{OneWord}
 use Rattle.cox_command.specs.declared.inquiry.OneWord.TheVariants.{Compute, Length, Inverse, Descent, Coatoms, Betti}
-use Rattle.cox_command.specs.declared.inquiry.OneWord.TheVariants.{Klbasis, Ihbetti, Extremals}
+use Rattle.cox_command.specs.declared.inquiry.OneWord.TheVariants.{Klbasis, Ihbetti, Extremals, Module}
 use Rattle.cox_command.specs.declared.inquiry.TwoWord.{TwoWord}
 use Rattle.cox_command.specs.declared.inquiry.TwoWord.TheVariants.{Inorder, Interval, Rpol, Pol, Mu}
 use Rattle.cox_base.specs.Members.{IsInInterval}
@@ -33,6 +33,7 @@ use Rattle.cox_answers.specs.Answerable.{HasOneText, IsAnswerable}
 use Rattle.cox_answers.proofs.RowQuestions.{pol-unique, mu-unique_text, listed-by_row, pol-answerable, mu-answerable, klbasis-answerable}
 use Rattle.cox_answers.proofs.RowQuestions.{extremals-answerable, ihbetti-answerable}
 use Rattle.cox_answers.proofs.GroupQuestions.{group-one, group-answerable}
+use Rattle.cox_answers.proofs.ModuleQuestions.{module-one, module-answerable}
 use Rattle.cox_answers.proofs.WorkQuestions.{work-one, work-answerable}
 
 -- the words with a property give one text
@@ -61,6 +62,7 @@ module _ (limits : Limits) (A : IntegerMatrix) (g : IsAdmissible A) where
   one-text rank Klbasis w a b p q = listed-by_row A g w (IsInInterval A w) (pairs_text rank A w) a b p q
   one-text rank Ihbetti w a b p q = listed-by_row A g w (IsInInterval A w) (ihbetti_text A w) a b p q
   one-text rank Extremals w a b p q = listed-by_row A g w (IsExtremalBelow A w) (pairs_text rank A w) a b p q
+  one-text rank Module w a b p q = module-one A g w rank a b p q
 
   two-text : (rank : ℕ) (kind : TwoWord) (y w : List ℕ) → HasOneText (two_question kind limits rank A y w)
   two-text rank Inorder y w a b p q = p.2 ∙ ap truth_text (truth-unique (IsBelow A y w) p.0 q.0 p.1 q.1) ∙ sym q.2
@@ -124,6 +126,7 @@ module _ (limits : Limits) (A : IntegerMatrix) (g : IsAdmissible A) where
   one-answerable rank Klbasis w = klbasis-answerable A g limits rank w
   one-answerable rank Ihbetti w = ihbetti-answerable A g limits w
   one-answerable rank Extremals w = extremals-answerable A g limits rank w
+  one-answerable rank Module w = module-answerable limits A g rank w
 
   two-answerable : (rank : ℕ) (kind : TwoWord) (y w : List ℕ) → IsAnswerable (two_question kind limits rank A y w)
   two-answerable rank Inorder y w = record {

@@ -11,7 +11,7 @@ use Rattle.cox_command.specs.declared.refusal.Refusal.{Refusal}
 use Rattle.cox_command.specs.declared.refusal.Refusal.TheVariants.{FarApart}
 use Rattle.cox_command.specs.declared.inquiry.OneWord.{OneWord}
 use Rattle.cox_command.specs.declared.inquiry.OneWord.TheVariants.{Compute, Length, Inverse, Descent, Coatoms, Betti, Klbasis}
-use Rattle.cox_command.specs.declared.inquiry.OneWord.TheVariants.{Ihbetti, Extremals}
+use Rattle.cox_command.specs.declared.inquiry.OneWord.TheVariants.{Ihbetti, Extremals, Module}
 use Rattle.cox_command.specs.declared.inquiry.TwoWord.{TwoWord}
 use Rattle.cox_command.specs.declared.inquiry.TwoWord.TheVariants.{Inorder, Interval, Rpol, Pol, Mu}
 use Rattle.cox_poly.specs.PolynomialText.{polynomial_text}
@@ -26,7 +26,8 @@ use Rattle.cox_answers.specs.Limits.{Limits}
 use Rattle.cox_answers.specs.Question.{Question}
 use Rattle.cox_answers.specs.Listed.{RefusesLarge, IsOfList, IsOfRow}
 use Rattle.cox_answers.specs.RowReply.{RefusesRow, coefficients_to, IsPolText, IsMuText, pairs_text, IsExtremalBelow, ihbetti_text}
-use Rattle.cox_answers.specs.GroupReply.{group_question}
+use Rattle.cox_answers.specs.GroupReply.{RefusesGroupRows, group_question}
+use Rattle.cox_answers.specs.ModuleReply.{IsModuleText}
 use Rattle.cox_answers.specs.WorkReply.{work_question}
 
 -- nothing refuses
@@ -65,6 +66,7 @@ one_question Betti limits rank A w = record { Refuses = RefusesLarge limits A w;
 one_question Klbasis limits rank A w = record { Refuses = RefusesRow limits A w; IsText = IsOfRow A w (IsInInterval A w) (pairs_text rank A w) }
 one_question Ihbetti limits rank A w = record { Refuses = RefusesRow limits A w; IsText = IsOfRow A w (IsInInterval A w) (ihbetti_text A w) }
 one_question Extremals limits rank A w = record { Refuses = RefusesRow limits A w; IsText = IsOfRow A w (IsExtremalBelow A w) (pairs_text rank A w) }
+one_question Module limits rank A w = record { Refuses = RefusesGroupRows limits A; IsText = IsModuleText rank A w }
 
 -- what a command asks of the elements of y and w
 abbrev pub two_question : TwoWord → Limits → ℕ → IntegerMatrix → List ℕ → List ℕ → Question

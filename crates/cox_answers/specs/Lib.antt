@@ -10,6 +10,8 @@ pub mod Listed
 pub mod RowReply
 -- what commands on the whole group ask: W-graphs and cells
 pub mod GroupReply
+-- what `module` asks: modules of left cells
+pub mod ModuleReply
 -- what `work` asks
 pub mod WorkReply
 -- what each command on elements asks

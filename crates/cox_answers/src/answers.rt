@@ -9,6 +9,7 @@
 //! - `pairs`: the polynomials of a row, all or the extremal ones
 //! - `sums`: the polynomials of a row, summed up
 //! - `graphs`: W-graphs and cells
+//! - `modules`: modules of left cells
 //! - `generated`: rows of generated words
 ghost use Rattle.std.specs.Prelude.{◌≡◌, reverse};
 ghost use Rattle.cox_base.specs.Matrix.{IsWord};
@@ -29,6 +30,7 @@ mod graphs;
 mod intervals;
 pub(crate) mod kept;
 pub(crate) mod kept_group;
+mod modules;
 mod pairs;
 mod polynomials;
 mod rows;
@@ -93,6 +95,7 @@ impl Workspace {
             Inquiry::One(OneWord::Klbasis, w) => self.put_klbasis(maker, out, w),
             Inquiry::One(OneWord::Ihbetti, w) => self.put_ihbetti(maker, out, w),
             Inquiry::One(OneWord::Extremals, w) => self.put_extremals(maker, out, w),
+            Inquiry::One(OneWord::Module, w) => self.put_module(maker, out, w),
             Inquiry::Two(TwoWord::Inorder, y, w) => put_inorder(out, table, y, w),
             Inquiry::Two(TwoWord::Interval, y, w) => put_interval(out, table, options, y, w),
             Inquiry::Two(TwoWord::Rpol, y, w) => put_rpol(out, table, y, w),

@@ -41,7 +41,7 @@ pub fn put_member(out: &mut Vec<u8>, rank: u32, x: &Word, first: bool) -> Result
 }
 
 /// Appends a space and an element.
-fn put_other_element(out: &mut Vec<u8>, rank: u32, x: &Word) -> Result<(), NoMemory>
+pub(crate) fn put_other_element(out: &mut Vec<u8>, rank: u32, x: &Word) -> Result<(), NoMemory>
     requires rank { rank ≤ MAX_RANK }
     requires word { IsWord rank x.now.items }
     ensures { Puts result (codes " " ++ element_text rank x.now.items) out.old.items out.new.items }

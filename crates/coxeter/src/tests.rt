@@ -152,6 +152,16 @@ const ANSWERS: &[(&str, &str, Status)] = &[
         Status::Refused,
     ),
     (
+        "type A 2\nmodule 1\nmodule e\nmatrix 2 0\nmodule 1\n",
+        "2\n1 21\n1 1: 1=-1\n1 21: 1=v 21=v^2\n2 1: 1=v^2 21=v\n2 21: 21=-1\n1\ne\n1 e: e=v^2\n2 e: e=v^2\nerror 31\n",
+        Status::Refused,
+    ),
+    (
+        "module 1\ntype A 2\nmodule\nmodule 3\nmodule 121212\n",
+        "error 15\nerror 11\nerror 16\n1\ne\n1 e: e=v^2\n2 e: e=v^2\n",
+        Status::Refused,
+    ),
+    (
         "type A 2\nwork 7 1\ntype A 1\nwork 7 3\ntype B 2\nwork 0 1\n",
         "words 1 entries 4 degree 0 sum 4\nwords 3 entries 3 degree 0 sum 3\nwords 1 entries 8 degree 0 sum 8\n",
         Status::Done,

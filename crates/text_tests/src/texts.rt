@@ -2,8 +2,8 @@
 use cox_base::read_word;
 use cox_poly::Poly;
 use cox_print::{
-    put_count, put_descent, put_edge, put_element, put_end, put_head, put_member, put_next_element,
-    put_next_pair, put_number, put_numbers, put_refusal, put_set, put_text, put_truth, put_work,
+    put_count, put_descent, put_edge, put_element, put_end, put_half, put_head, put_image_head, put_member, put_next_element,
+    put_next_pair, put_number, put_numbers, put_refusal, put_set, put_term_head, put_text, put_truth, put_work,
 };
 use std::test::Fail;
 
@@ -108,6 +108,21 @@ fn puts_members_and_edges(rt: HostRuntime) -> Result<(), Fail> {
         put_end(&mut out)?;
     }
     let want = b"e\ne 12 e:-9223372036854775808\n 12\n12 - 12:-1\n";
+    assert_eq!(rt; out.as_slice(), want.as_slice());
+    Ok(())
+}
+
+/// What stands before the image of an element, and before a coefficient; and multiples of v.
+#[test]
+fn puts_images(rt: HostRuntime) -> Result<(), Fail> {
+    let mut out = Vec::new(rt.alloc());
+    let word = read_word(b"21", 2)?;
+    put_image_head(&mut out, 2, 1, &word)?;
+    for m in [1, -1, 2, i64::MIN] {
+        put_term_head(&mut out, 2, &word)?;
+        put_half(&mut out, m)?;
+    }
+    let want = b"1 21: 21=v 21=-v 21=2v 21=-9223372036854775808v";
     assert_eq!(rt; out.as_slice(), want.as_slice());
     Ok(())
 }

@@ -151,7 +151,11 @@ fn put_cell_list(out: &mut Vec<u8>, context: &Context, cells: &[Vec<u32>]) -> Re
 }
 
 /// Puts the end of the line before, and then the members of a cell, separated by one space.
-fn put_next_cell(out: &mut Vec<u8>, context: &Context, cell: &[u32]) -> Result<(), NoMemory>
+pub(crate) fn put_next_cell(
+    out: &mut Vec<u8>,
+    context: &Context,
+    cell: &[u32],
+) -> Result<(), NoMemory>
     requires { All (λ i. i < length context.now.members) cell.now }
     ensures { Puts result (10 ∷ members_text context.now.matrix.rank (map (word_at context.now.members) cell.now)) out.old.items out.new.items }
 {

@@ -1,0 +1,68 @@
+"""Modules of left cells."""
+from . import texts
+from .polynomial import Polynomial
+
+
+class InV(Polynomial):
+    """A polynomial in v, which is q^(1/2)."""
+
+    __slots__ = ()
+    variable = "v"
+
+
+class CellModule:
+    """The module of a left cell: how the Hecke algebra acts from the left on the free module with the elements of the cell as its basis.
+
+    `elements` is the list of the elements, in ShortLex order. `images` has for each letter s the list of the t(s) x for the elements x, each as a
+    dictionary from elements to polynomials in v = q^(1/2), without zeros.
+    """
+
+    def __init__(self, elements, images):
+        self.elements, self.images = elements, images
+
+    @classmethod
+    def read(cls, spelling, rank, lines):
+        """The module of an answer, line by line. Another answer is a ValueError."""
+        if len(lines) < 2:
+            raise ValueError("its elements are missing")
+        size, elements = texts.number(lines[0]), [spelling.element(it) for it in lines[1].split(" ")]
+        texts.check_rising(elements)
+        if size != len(elements) or len(lines) != 2 + rank * size:
+            raise ValueError(f"it should have {size} elements, and so many lines for each letter")
+        images, rest = {}, iter(lines[2:])
+        for s in range(1, rank + 1):
+            images[s] = [read_image(spelling, elements, f"{s} {spelling.write(x)}", next(rest)) for x in elements]
+        return cls(elements, images)
+
+    def __repr__(self):
+        return f"<the module of a left cell with {len(self.elements)} elements>"
+
+    def __len__(self):
+        return len(self.elements)
+
+    def matrix(self, s):
+        """The matrix of t(s), as a list of rows. Its columns are the images of the elements, in their order."""
+        return [[image.get(y, InV()) for image in self.images[s]] for y in self.elements]
+
+    def sage(self, s):
+        """The same as a matrix of Sage over the polynomials in v. It needs Sage."""
+        from sage.all import ZZ, PolynomialRing, matrix
+
+        ring = PolynomialRing(ZZ, InV.variable)
+        return matrix(ring, [[ring(list(entry.coefficients)) for entry in row] for row in self.matrix(s)])
+
+
+def read_image(spelling, elements, head, line):
+    """The image of an element, from its line."""
+    found, _, terms = line.partition(":")
+    if found != head:
+        raise ValueError(f"{found!r} stands where {head!r} should")
+    image = {}
+    for term in terms.split(" ")[1:]:
+        element, _, entry = term.partition("=")
+        image[spelling.element(element)] = InV.read(entry)
+    listed = list(image)
+    texts.check_rising(listed)
+    if not set(listed) <= set(elements) or not all(entry.coefficients for entry in image.values()):
+        raise ValueError("its terms should be multiples of elements of the cell")
+    return image
