@@ -4,7 +4,7 @@ use Rattle.std.specs.List.{flat_map}
 use Rattle.cox_reflect.proofs.NormalElements.{element-word}
 use Rattle.cox_poly.proofs.Behind.{Puts-first, Puts-second}
 use Rattle.cox_context.specs.Numbers.{word_at}
-use Rattle.cox_context.proofs.ListLemmas.{contains-at}
+use Rattle.cox_context.proofs.PlacedWords.{contains-at}
 use Rattle.cox_row.specs.Rising.{number_at}
 use Rattle.cox_print.specs.AnswerText.{image_head_text}
 use Rattle.cox_module.specs.NumberedImages.{cell_words}

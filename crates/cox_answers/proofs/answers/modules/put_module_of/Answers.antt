@@ -5,7 +5,7 @@ use Rattle.cox_base.specs.ShortLex.{normal_form}
 use Rattle.cox_reflect.proofs.NormalElements.{element-normal_form}
 use Rattle.cox_poly.proofs.Behind.{Puts-failed}
 use Rattle.cox_context.specs.Numbers.{word_at}
-use Rattle.cox_context.proofs.ListLemmas.{contains-at}
+use Rattle.cox_context.proofs.PlacedWords.{contains-at}
 use Rattle.cox_cells.specs.declared.kind.CellKind.TheVariants.{Left}
 use Rattle.cox_answers.proofs.CellLists.{listed, list-cell, list-within, list-rising}
 use Rattle.cox_answers.proofs.ModuleQuestions.{some_module}

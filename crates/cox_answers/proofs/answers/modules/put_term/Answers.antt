@@ -5,7 +5,7 @@ use Rattle.cox_reflect.proofs.NormalElements.{element-word}
 use Rattle.cox_poly.specs.Puts.{PutsPrefix}
 use Rattle.cox_poly.proofs.Behind.{Puts-first, Puts-second}
 use Rattle.cox_context.specs.Numbers.{word_at}
-use Rattle.cox_context.proofs.ListLemmas.{contains-at}
+use Rattle.cox_context.proofs.PlacedWords.{contains-at}
 use Rattle.cox_row.specs.Rising.{number_at}
 use Rattle.cox_print.specs.AnswerText.{term_head_text}
 use Rattle.cox_module.proofs.CellNumbers.{words-at}
