@@ -2,6 +2,7 @@
 ghost use Rattle.std.specs.Prelude.{◌<◌, ◌≤◌};
 ghost use Rattle.cox_base.specs.Matrix.{IsWord};
 ghost use Rattle.cox_poly.specs.Puts.{Puts};
+ghost use Rattle.cox_poly.specs.Numerals.{integer_text};
 ghost use Rattle.cox_poly.specs.PolynomialText.{factor_text};
 ghost use Rattle.cox_print.specs.AnswerText.{image_head_text, term_head_text, half_text};
 
@@ -52,6 +53,13 @@ fn put_factor(out: &mut Vec<u8>, m: i64) -> Result<(), NoMemory>
     } else if m == -1 {
         put_text(out, b"-")
     } else {
-        put_number(out, i128::from(m))
+        put_integer(out, m)
     }
+}
+
+/// Appends a number.
+fn put_integer(out: &mut Vec<u8>, m: i64) -> Result<(), NoMemory>
+    ensures { Puts result (integer_text m) out.old.items out.new.items }
+{
+    put_number(out, i128::from(m))
 }
