@@ -2,8 +2,9 @@
 use cox_base::read_word;
 use cox_poly::Poly;
 use cox_print::{
-    put_count, put_descent, put_edge, put_element, put_end, put_half, put_head, put_image_head, put_member, put_next_element,
-    put_next_pair, put_number, put_numbers, put_refusal, put_set, put_term_head, put_text, put_truth, put_work,
+    put_count, put_descent, put_edge, put_element, put_end, put_half, put_head, put_image_head,
+    put_member, put_next_element, put_next_pair, put_number, put_numbers, put_refusal, put_set,
+    put_term_head, put_text, put_truth, put_work,
 };
 use std::test::Fail;
 
