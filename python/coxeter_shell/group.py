@@ -362,7 +362,12 @@ class CoxeterGroup(Elements):
         return self._list(self._read_cell, "lrcells")
 
     def cell_module(self, w):
-        """The module of the left cell of w, in a finite group: its elements, and how the Hecke algebra acts on it."""
+        """The module of the left cell of w, in a finite group: its elements, and how the Hecke algebra acts on it.
+
+        >>> module = CoxeterGroup("A", 2).cell_module([1])
+        >>> module.elements, module.matrix(1)
+        ([(1,), (2, 1)], [[-1, v], [0, v^2]])
+        """
         line = self._line("module", (w,))
         return self._read(lambda lines: CellModule.read(self._spelling, self.rank, lines), line, self.program.ask(line))
 

@@ -4,7 +4,12 @@ from .polynomial import Polynomial
 
 
 class InV(Polynomial):
-    """A polynomial in v, which is q^(1/2)."""
+    """A polynomial in v, which is q^(1/2).
+
+    >>> v = InV([0, 1])
+    >>> v * v - 2 * v, v == Polynomial([0, 1])
+    (-2v+v^2, False)
+    """
 
     __slots__ = ()
     variable = "v"
@@ -15,6 +20,10 @@ class CellModule:
 
     `elements` is the list of the elements, in ShortLex order. `images` has for each letter s the list of the t(s) x for the elements x, each as a
     dictionary from elements to polynomials in v = q^(1/2), without zeros.
+
+    >>> module = CellModule([(1,), (2, 1)], {1: [{(1,): InV([-1])}, {(1,): InV([0, 1]), (2, 1): InV([0, 0, 1])}]})
+    >>> module, len(module)
+    (<the module of a left cell with 2 elements>, 2)
     """
 
     def __init__(self, elements, images):
@@ -41,7 +50,11 @@ class CellModule:
         return len(self.elements)
 
     def matrix(self, s):
-        """The matrix of t(s), as a list of rows. Its columns are the images of the elements, in their order."""
+        """The matrix of t(s), as a list of rows. Its columns are the images of the elements, in their order.
+
+        >>> CellModule([(1,)], {1: [{(1,): InV([-1])}]}).matrix(1)
+        [[-1]]
+        """
         return [[image.get(y, InV()) for image in self.images[s]] for y in self.elements]
 
     def sage(self, s):
