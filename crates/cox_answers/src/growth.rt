@@ -1,7 +1,9 @@
 //! When the whole group is taken in the place of interval after interval.
-ghost use Rattle.std.specs.Prelude.{◌≡◌, ◌≤◌, ◌<◌, ◌^◌, IfSome};
+ghost use Rattle.std.specs.Prelude.{◌≡◌, ℕ, ◌≤◌, ◌<◌, ◌^◌, Contains, IfSome, IfNone};
 ghost use Rattle.cox_base.specs.Admissible.{IsCoxeterMatrix};
 ghost use Rattle.cox_base.specs.Matrix.{IsLetter, IsWord};
+ghost use Rattle.cox_base.specs.IntegerMatrix.{integer_matrix};
+ghost use Rattle.cox_base.specs.Descents.{right_descents};
 
 use cox_base::{MAX_LETTERS, MAX_RANK, Word};
 use cox_minroots::RootTable;
@@ -54,7 +56,8 @@ impl Growth {
 /// none of at most `MAX_LETTERS` letters, as in each infinite group.
 pub fn longest_word(table: &RootTable) -> Option<Word>
     requires { IsCoxeterMatrix table.now }
-    ensures { IfSome result (λ w. IsWord table.now.rank w.items) }
+    ensures word { IfSome result (λ w. IsWord table.now.rank w.items) }
+    ensures longest { IfSome result (λ w. (s : ℕ) → IsLetter table.now.rank s → Contains (right_descents (integer_matrix table.now) w.items) s) }
 {
     let mut word = Word::new();
     for _ in 0..MAX_LETTERS {
@@ -70,7 +73,9 @@ pub fn longest_word(table: &RootTable) -> Option<Word>
 fn missing_letter(table: &RootTable, word: &Word) -> Option<u8>
     requires group { IsCoxeterMatrix table.now }
     requires word { IsWord table.now.rank word.now.items }
-    ensures { IfSome result (IsLetter table.now.rank) }
+    ensures letter { IfSome result (IsLetter table.now.rank) }
+    ensures missing { IfSome result (λ s. ¬ Contains (right_descents (integer_matrix table.now) word.now.items) s) }
+    ensures none { IfNone result ((s : ℕ) → IsLetter table.now.rank s → Contains (right_descents (integer_matrix table.now) word.now.items) s) }
 {
     let rank = table.group().rank();
     prove!(rank as usize <= MAX_RANK);
