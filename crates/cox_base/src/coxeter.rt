@@ -111,7 +111,7 @@ impl Coxeter {
             return 1;
         }
         let (s, t) = (s.min(t) as u32, s.max(t) as u32);
-        self.labels.as_slice()[place_of(self.rank, s, t)] as u32
+        self.labels.as_slice()[place_of_label(self.rank, s, t)] as u32
     }
 
     /// a(s,t), so that the generator s sends the simple root e(t) to e(t) - a(s,t) e(s) (compare Humphreys 5.3).
@@ -153,7 +153,7 @@ fn admitted(label: u32) -> Option<u8>
 }
 
 /// Where the label of s and t stands, from 0.
-fn place_of(rank: u32, s: u32, t: u32) -> usize
+fn place_of_label(rank: u32, s: u32, t: u32) -> usize
     requires from_one { 1 ≤ s }
     requires rising { s < t }
     requires to_rank { t ≤ rank }
@@ -181,9 +181,9 @@ fn entry_at(rank: u32, labels: &[u8], s: u32, t: u32) -> i8
     } else if s == t {
         2
     } else if s < t {
-        entry_above(labels[place_of(rank, s, t)])
+        entry_above(labels[place_of_label(rank, s, t)])
     } else {
-        entry_below(labels[place_of(rank, t, s)])
+        entry_below(labels[place_of_label(rank, t, s)])
     }
 }
 

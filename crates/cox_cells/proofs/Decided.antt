@@ -15,7 +15,7 @@ use Rattle.cox_reflect.proofs.Roots.{left_descent-letter, descent-letter}
 use Rattle.cox_base.specs.SideDescents.{times_letter, IsDescent}
 use Rattle.cox_base.specs.Members.{IsElement}
 use Rattle.cox_wgraph.specs.Edges.{IsEdgeValue, IsJoined}
-use Rattle.cox_wgraph.proofs.EdgeLemmas.{edge-exists, edge-unique}
+use Rattle.cox_wgraph.proofs.EdgeValues.{edge-exists, edge-unique}
 use Rattle.cox_cells.specs.declared.kind.CellKind.{CellKind}
 use Rattle.cox_cells.specs.declared.kind.CellKind.TheVariants.{Left, Right, Both}
 use Rattle.cox_cells.specs.Cells.{HasOwnDescent, HasOwn, IsStep, Precedes}

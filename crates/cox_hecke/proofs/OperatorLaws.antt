@@ -27,7 +27,7 @@ use Rattle.cox_hecke.proofs.Signed.{minus_signed}
 use Rattle.cox_hecke.proofs.Signed.{family_times_q, left_signed-back, back-left, by_left-respects, by_right-respects}
 use Rattle.cox_hecke.proofs.RPolynomials.{unit, unit-one, unit-other}
 use Rattle.cox_hecke.proofs.WordOperators.{left_along, back_along, left_along-same, back_along-same}
-use Rattle.cox_hecke.proofs.SumLemmas.{same_or_not, same-is_same, not_same-is_same}
+use Rattle.cox_hecke.proofs.ListSums.{same_or_not, same-is_same, not_same-is_same}
 use Rattle.cox_hecke.proofs.ElementLists.{is_same-moved}
 use Rattle.cox_hecke.proofs.Balance.{times_q-none}
 

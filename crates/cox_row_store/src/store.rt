@@ -8,7 +8,7 @@ ghost use Rattle.cox_fill_core.specs.declared.event.RowState.TheVariants.{Free};
 ghost use Rattle.cox_row.specs.RowOf.{IsRowAt};
 ghost use Rattle.cox_row.specs.Within.{IsRowWithin};
 ghost use Rattle.cox_rowcell.specs.RowFor.{IsRowFor};
-ghost use Rattle.cox_rowcell.specs.Guards.{place_of};
+ghost use Rattle.cox_rowcell.specs.Guards.{place_of_guard};
 ghost use Rattle.cox_row_store.specs.Places.{place_at, ArePlaces};
 
 use crate::NoMemory;
@@ -151,7 +151,7 @@ impl RowStore {
         requires own { IsSeat self.now seat.now }
         requires member { member < length (elements_of self.now).members }
         requires seen { HasSeen seat.now member }
-        ensures { place_of result ≡ place_at (elements_of self.now) (limit_of self.now) member }
+        ensures { place_of_guard result ≡ place_at (elements_of self.now) (limit_of self.now) member }
     {
         let _ = seat;
         self.cell(member).read(rt)

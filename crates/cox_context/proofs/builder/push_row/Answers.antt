@@ -2,7 +2,7 @@
 use Rattle.std.proofs.Common.{◌+◌, ◌<◌, refl, sym, ◌∙◌, arith}
 use Rattle.cox_base.specs.Matrix.{IsLetter}
 use Rattle.cox_context.specs.declared.shifts.TheConstants.{NO_MEMBER}
-use Rattle.cox_context.proofs.ShiftRowLemmas.{row-start, row-push, row-link, row-entry}
+use Rattle.cox_context.proofs.ShiftRows.{row-start, row-push, row-link, row-entry}
 use Rattle.cox_context.proofs.builder.push_row.Goals as goal
 use Rattle.cox_context.proofs.builder.push_row.Goals.{in-Some, in_default}
 

@@ -4,7 +4,7 @@ use Rattle.cox_base.specs.declared.side.Side.TheVariants.{Left}
 use Rattle.cox_base.specs.IntegerMatrix.{integer_matrix}
 use Rattle.cox_context.specs.Numbers.{word_at}
 use Rattle.cox_klstep.specs.StepOf.{correction_at}
-use Rattle.cox_row.proofs.RisingLemmas.{few-rising}
+use Rattle.cox_row.proofs.RisingNumbers.{few-rising}
 use Rattle.cox_klstep.proofs.Chosen.{numbered-unique, numbered-cost, least-cost, least-needs, cost-most}
 use Rattle.cox_klstep.proofs.choice.cheapest_step.Goals as goal
 

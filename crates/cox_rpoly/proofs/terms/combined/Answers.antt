@@ -3,7 +3,7 @@ use Rattle.std.proofs.Common.{◌≡◌, ◌+◌, ◌-◌, FitsSigned, w64, refl
 use Rattle.std.proofs.lemmas.Int.{to_z-of_z}
 use Rattle.cox_poly.specs.Polynomial.{coefficient}
 use Rattle.cox_rpoly.specs.declared.TheConstants.{MAX_DIFFERENCE}
-use Rattle.cox_rpoly.proofs.TermLemmas.{IsCombined-more, IsCombined-all, difference_fits, difference_sum_fits}
+use Rattle.cox_rpoly.proofs.CombinedTerms.{IsCombined-more, IsCombined-all, difference_fits, difference_sum_fits}
 use Rattle.cox_rpoly.proofs.terms.combined.Goals as goal
 
 pub overflow_add-terms : goal.overflow_add-terms

@@ -3,8 +3,8 @@ use Rattle.std.proofs.Common.{rules, ◌≡◌, ◌+◌, ◌<◌, ◌∷◌, ◌
 use Rattle.cox_context.specs.Numbers.{word_at}
 use Rattle.cox_context.specs.Rows.{IsRowPushed}
 use Rattle.cox_context.specs.Building.{Building, IsWanted}
-use Rattle.cox_context.proofs.RefusalLemmas.{over-prefix}
-use Rattle.cox_context.proofs.BuilderLemmas.{builder-seen, builder-push, short-push}
+use Rattle.cox_context.proofs.RefusalCauses.{over-prefix}
+use Rattle.cox_context.proofs.BuilderTables.{builder-seen, builder-push, short-push}
 use Rattle.cox_context.proofs.builder.Builder.add.Goals as goal
 
 pub returns-then-number-limit-clause-fault : goal.returns-then-number-limit-clause-fault

@@ -4,9 +4,9 @@ use Rattle.cox_context.specs.declared.members.TheConstants.{MAX_MEMBERS}
 use Rattle.cox_context.specs.Numbers.{word_at}
 use Rattle.cox_context.specs.Building.{IsWanted}
 use Rattle.cox_context.proofs.Ideals.{member-tailed}
-use Rattle.cox_context.proofs.GrowthLemmas.{growing-letter}
-use Rattle.cox_context.proofs.ChildLemmas.{member-closed, growing-no_next, growing-next, prefix-next}
-use Rattle.cox_lemmas.proofs.PushLemmas.{push-length}
+use Rattle.cox_context.proofs.GrowingMembers.{growing-letter}
+use Rattle.cox_context.proofs.NextChild.{member-closed, growing-no_next, growing-next, prefix-next}
+use Rattle.cox_lemmas.proofs.PushedItems.{push-length}
 use Rattle.cox_context.proofs.builder.Builder.grow_letter.Goals as goal
 use Rattle.cox_context.proofs.builder.Builder.grow_letter.Goals.{in-Some+in_ok-self, in_default}
 

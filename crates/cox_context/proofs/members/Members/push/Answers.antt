@@ -2,7 +2,7 @@
 use Rattle.std.proofs.Common.{◌≡◌, ◌<◌, ℕ, List, length, ap, arith}
 use Rattle.cox_context.specs.Links.{linked_words, link_at}
 use Rattle.cox_context.specs.Numbers.{word_at}
-use Rattle.cox_context.proofs.LinkLemmas.{words-size, words-push, links-push, link-read}
+use Rattle.cox_context.proofs.LinkedWords.{words-size, words-push, links-push, link-read}
 use Rattle.cox_context.proofs.members.Members.push.Goals as goal
 
 pub index-requires : goal.index-requires
