@@ -31,5 +31,5 @@ invariant_of-self-2 c =
     (omega (arith, c.requires.room, words-size c.self.inside.links.items, ap (λ (words : List (List ℕ)). length words) c.self.view_is))
     inside (omega (arith, letters)))
 
-pub returns : goal.returns
-returns c = rw (c.in_ok-push.ensures.items, ← c.self.view_is) (words-push c.self.inside.links.items _ c.self.invariant.some)
+pub returns-clause-pushed : goal.returns-clause-pushed
+returns-clause-pushed c = rw (c.in_ok-push.ensures.items, ← c.self.view_is) (words-push c.self.inside.links.items _ c.self.invariant.some)
