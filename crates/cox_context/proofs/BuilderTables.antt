@@ -128,8 +128,8 @@ module _ (search : Search) (members : List (List ℕ)) (earlier_table table numb
       limit = b.limit;
       room = omega (arith, room, push-length members y);
       closed = closed;
-      left = shifts-push (integer_matrix search.matrix) (IsAdmissible-integer_matrix search.matrix b.matrix) members y closed child.lower table new
-          b.left next.numbers pushed;
+      left = shifts-push (integer_matrix search.matrix) (IsAdmissible-integer_matrix search.matrix b.matrix) members y closed child.lower
+          table new b.left next.numbers pushed;
       numbered = numbers-push search.earlier members y child.number numbers b.earlier.few number b.numbered.size b.numbered;
       below = below-push search.earlier members y child.number numbers b.earlier.few number b.numbered.size (integer_matrix search.matrix)
           search.top below-top b.below;

@@ -19,7 +19,8 @@ from-size : (words : List (List ℕ)) (links : List Link) → length (words_from
 from-size words [] = omega arith
 from-size words (l ∷ links) = omega (arith, from-size (words ++ linked words l ∷ []) links, push-length words (linked words l))
 
-words_from-old : (words : List (List ℕ)) (links : List Link) (i : ℕ) → i < length words → word_at (words_from words links) i ≡ word_at words i
+words_from-old : (words : List (List ℕ)) (links : List Link) (i : ℕ) → i < length words
+    → word_at (words_from words links) i ≡ word_at words i
 words_from-old words [] i l = refl
 words_from-old words (link ∷ links) i l =
     words_from-old (words ++ linked words link ∷ []) links i (omega (arith, l, push-length words (linked words link)))

@@ -13,8 +13,7 @@ use Rattle.cox_base.specs.Length.{word_length}
 use Rattle.cox_base.specs.Descents.{IsLeftDescent}
 use Rattle.cox_base.specs.ShortLex.{normal_form}
 use Rattle.cox_base.specs.Bruhat.{IsBelow}
-use Rattle.cox_base.specs.Members.{IsElement}
-use Rattle.cox_base.specs.SortedList.{IsRising, IsListOf}
+use Rattle.cox_base.specs.SortedList.{IsListOf}
 use Rattle.cox_base.specs.Interval.{IsBetween}
 use Rattle.cox_reflect.proofs.Elements.{same-refl, same-sym, same-trans, same-cons, same-square}
 use Rattle.cox_reflect.proofs.Members.{In, here, there, Each-map, Each-from, In-map}

@@ -149,7 +149,8 @@ module _ (A : IntegerMatrix) (g : IsAdmissible A) where
 
   -- ---- the same on the right
 
-  pub right-right_inverse : (s : ℕ) (h : Family) → IsLetter A.rank s → RespectsElements A h → right A s (right_inverse A s h) ≡ family_times_q h
+  pub right-right_inverse : (s : ℕ) (h : Family) → IsLetter A.rank s → RespectsElements A h
+      → right A s (right_inverse A s h) ≡ family_times_q h
   right-right_inverse s h l r =
       sym (at_inverses-by_left A g (plus_signed true) first_times_q s (left_inverse A s (at_inverses h))
       ∙ ap (right A s) (at_inverses-by_left A g first_alone (minus_signed true) s (at_inverses h) ∙ ap (right_inverse A s) (twice h)))

@@ -226,7 +226,8 @@ module _ (A : IntegerMatrix) (v : List ℕ) (s : ℕ) (p : Family) (P : List ℕ
       outside : (x : List ℕ) → (IsBelow A x (s ∷ v) → ⊥) → (k : ℕ) → step_row A v s p P words x k ≡ pos 0
       outside x n k =
           let here : p x ≡ zero_polynomial = outside_path A g v p row.outside x (λ b. n (below-trans A g b shorter_below))
-          in let there : p (s ∷ x) ≡ zero_polynomial = outside_path A g v p row.outside (s ∷ x) (λ b. n (moved (below-trans A g b shorter_below)))
+          in let there : p (s ∷ x) ≡ zero_polynomial =
+          outside_path A g v p row.outside (s ∷ x) (λ b. n (moved (below-trans A g b shorter_below)))
           in omega (
             arith,
             ints,

@@ -21,7 +21,8 @@ pub fn polynomial<'a>(ctx: &Context, row: &'a Row, i: u32, x: u32) -> Option<Pol
     requires i { i < length ctx.now.members }
     requires x { x < length ctx.now.members }
     requires row { IsRowAt ctx.now i row.now }
-    ensures value { IfSome result (λ p. IsKazhdanLusztig (integer_matrix ctx.now.matrix) (word_at ctx.now.members x) (word_at ctx.now.members i) (coefficient p)) }
+    ensures value { IfSome result (λ p. IsKazhdanLusztig (integer_matrix ctx.now.matrix) (word_at ctx.now.members x)
+        (word_at ctx.now.members i) (coefficient p)) }
     ensures exactly { IsSome result ↔ IsBelow (integer_matrix ctx.now.matrix) (word_at ctx.now.members x) (word_at ctx.now.members i) }
 {
     let top = raise_fully(ctx, i, x)?;

@@ -20,8 +20,8 @@ row_at-push (row ∷ rows) zero = refl
 row_at-push (row ∷ rows) (suc i) = row_at-push rows i
 
 -- the row at a place is what the predicate says
-pub row-predicate : (e : Elements) (limit : ℤ) (rows : List (Option Row)) (i : ℕ) (row : Row) → AreRows e limit rows → row_at rows i ≡ Some row
-    → IsHeldRow e limit i row
+pub row-predicate : (e : Elements) (limit : ℤ) (rows : List (Option Row)) (i : ℕ) (row : Row) → AreRows e limit rows
+    → row_at rows i ≡ Some row → IsHeldRow e limit i row
 row-predicate e limit rows i row are is = rw is at (are.each i)
 
 -- no row is there

@@ -51,8 +51,8 @@ module _ (e : Elements) (g : IsAdmissible (integer_matrix e.matrix)) (ends : Lis
     count_is = omega (arith, start_is, end_is, end-after_start)
 
     size : length (take (end - start) (drop start edges)) ≡ rank (h.values i) (length e.members)
-    size = length-take-le (end - start) (drop start edges) (omega (arith, length-drop start edges, start_is, end_is, end-after_start, end-within))
-        ∙ count_is
+    size = length-take-le (end - start) (drop start edges)
+        (omega (arith, length-drop start edges, start_is, end_is, end-after_start, end-within)) ∙ count_is
 
     -- the edge with a rank
     placed-at : (b : ℕ) → b < length e.members → h.values i b ≢ pos 0
