@@ -12,7 +12,7 @@ use Rattle.cox_context.proofs.GroupSizes.{group-decided}
 use Rattle.cox_reflect.proofs.Listing.{contains-in, in-contains}
 use Rattle.cox_reflect.proofs.Members.{In, here, there}
 use Rattle.cox_rows.specs.Beyond.{IsBeyond}
-use Rattle.cox_rows.proofs.BeyondLemmas.{tell-beyond}
+use Rattle.cox_rows.proofs.BeyondDecided.{tell-beyond}
 use Rattle.cox_wgraph.proofs.Listings.{one_listing, some_listing}
 use Rattle.cox_cells.specs.declared.kind.CellKind.{CellKind}
 use Rattle.cox_cells.proofs.OneList.{one_list}

@@ -16,7 +16,7 @@ use Rattle.cox_base.specs.Admissible.{IsAdmissible}
 use Rattle.cox_base.specs.Members.{IsElement}
 use Rattle.cox_base.specs.SortedList.{IsListOf}
 use Rattle.cox_context.specs.Numbers.{word_at}
-use Rattle.cox_context.proofs.SortedLemmas.{IsListOf-unique}
+use Rattle.cox_context.proofs.ShortLexLists.{IsListOf-unique}
 use Rattle.cox_print.specs.AnswerText.{head_text, edge_text, members_text, list_text}
 use Rattle.cox_print.specs.MemberText.{member_text}
 use Rattle.cox_wgraph.specs.declared.edge.Edge.{Edge}

@@ -13,8 +13,8 @@ use Rattle.cox_context.specs.Union.{IsInUnion}
 use Rattle.cox_base.specs.SortedList.{IsListOf, HasMoreThan}
 use Rattle.cox_context.specs.Closed.{Elements}
 use Rattle.cox_context.specs.Numbers.{word_at}
-use Rattle.cox_context.proofs.SortedLemmas.{IsListOf-filter, HasMoreThan-few}
-use Rattle.cox_context.proofs.IntervalLemmas.{is_below, is_below-tells}
+use Rattle.cox_context.proofs.ShortLexLists.{IsListOf-filter, HasMoreThan-few}
+use Rattle.cox_context.proofs.IntervalLists.{is_below, is_below-tells}
 use Rattle.cox_rows.specs.Beyond.{NeedsBeyond}
 use Rattle.cox_rows.specs.RowsFaults.{IsRowsFault}
 use Rattle.cox_klstep.specs.declared.fault.StepFault.{StepFault}
@@ -30,7 +30,7 @@ use Rattle.cox_context.specs.Numbering.{IsNumberOf}
 use Rattle.cox_rows.specs.Holding.{Holding, HasRow}
 use Rattle.cox_rows.specs.Ensured.{IsEnsured}
 use Rattle.cox_rows.proofs.NeedDecided.{needs_beyond-same}
-use Rattle.cox_rows.proofs.RowsFaultLemmas.{fault-beyond}
+use Rattle.cox_rows.proofs.FaultsOfRows.{fault-beyond}
 use Rattle.cox_answers.specs.Kept.{AreOf, IsMore, HoldsRow, Keeps, unanswered_by}
 use Rattle.cox_answers.specs.Limits.{Limits}
 use Rattle.cox_answers.specs.Question.{IsRefused}

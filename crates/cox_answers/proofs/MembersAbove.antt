@@ -16,7 +16,7 @@ use Rattle.cox_context.specs.Closed.{IsClosed}
 use Rattle.cox_context.specs.Numbers.{word_at}
 use Rattle.cox_context.proofs.PlacedWords.{rising-length, rising-place}
 use Rattle.cox_context.proofs.Shifting.{element-at, length-at, member-below}
-use Rattle.cox_context.proofs.IntervalLemmas.{is_below, is_below-tells}
+use Rattle.cox_context.proofs.IntervalLists.{is_below, is_below-tells}
 
 -- a test that none of the first members passes
 filter-passes_none : (test : List ℕ → Bool) (n : ℕ) (members : List (List ℕ)) → n ≤ length members

@@ -6,7 +6,7 @@ use Rattle.cox_base.specs.Members.{IsElement}
 use Rattle.cox_base.specs.ShortLex.{normal_form, letters}
 use Rattle.cox_base.specs.SortedList.{IsListOf}
 use Rattle.cox_reflect.proofs.NormalElements.{element-normal_form}
-use Rattle.cox_context.proofs.SortedLemmas.{IsListOf-unique}
+use Rattle.cox_context.proofs.ShortLexLists.{IsListOf-unique}
 use Rattle.cox_cells.specs.declared.kind.CellKind.TheVariants.{Left}
 use Rattle.cox_cells.specs.Cells.{IsInCell}
 use Rattle.cox_cells.proofs.SomeList.{some_list}

@@ -14,7 +14,7 @@ use Rattle.cox_poly.specs.Polynomial.{coefficient}
 use Rattle.cox_poly.specs.PolynomialText.{polynomial_text}
 use Rattle.cox_hecke.specs.Family.{Family}
 use Rattle.cox_hecke.specs.Row.{IsRow, IsKazhdanLusztig}
-use Rattle.cox_hecke.proofs.RowLemmas.{row-long}
+use Rattle.cox_hecke.proofs.OneRow.{row-long}
 use Rattle.cox_hecke.proofs.PolynomialValues.{kl_polynomial-value, kl_polynomial-row, kazhdan_lusztig-same}
 use Rattle.cox_context.specs.Numbers.{word_at}
 use Rattle.cox_print.specs.AnswerText.{element_text, pair_text}

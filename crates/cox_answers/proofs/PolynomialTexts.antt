@@ -11,8 +11,8 @@ use Rattle.cox_poly.specs.Polynomial.{coefficient, SameCoefficients}
 use Rattle.cox_poly.specs.PolynomialText.{terms_text, polynomial_text}
 use Rattle.cox_poly.proofs.Terms.{terms_from}
 use Rattle.cox_rpoly.specs.RPolynomial.{r_along, r_polynomial}
-use Rattle.cox_rpoly.proofs.AlongLemmas.{along-identity, along-other, along-shorter, along-longer, shortens}
-use Rattle.cox_rpoly.proofs.PolynomialLemmas.{r_polynomial-is}
+use Rattle.cox_rpoly.proofs.AlongWords.{along-identity, along-other, along-shorter, along-longer, shortens}
+use Rattle.cox_rpoly.proofs.PolynomialsOfElements.{r_polynomial-is}
 use Rattle.cox_reflect.proofs.Lengths.{word_length-is}
 use Rattle.cox_answers.specs.RowReply.{coefficients_to}
 use Rattle.cox_answers.specs.InquiryQuestion.{r_text}

@@ -19,8 +19,8 @@ use Rattle.cox_command.specs.declared.inquiry.TwoWord.TheVariants.{Inorder, Inte
 use Rattle.cox_base.specs.Members.{IsInInterval}
 use Rattle.cox_base.specs.SortedList.{IsListOf}
 use Rattle.cox_base.specs.Interval.{IsBetween, IsCoatom}
-use Rattle.cox_context.proofs.SortedLemmas.{IsListOf-unique}
-use Rattle.cox_context.proofs.IntervalLemmas.{is_below, is_below-tells, interval-exists, between-of, coatoms-of, interval-decided}
+use Rattle.cox_context.proofs.ShortLexLists.{IsListOf-unique}
+use Rattle.cox_context.proofs.IntervalLists.{is_below, is_below-tells, interval-exists, between-of, coatoms-of, interval-decided}
 use Rattle.cox_print.specs.AnswerText.{truth_text, elements_text}
 use Rattle.cox_command.specs.declared.inquiry.Inquiry.{Inquiry}
 use Rattle.cox_command.specs.declared.inquiry.Inquiry.TheVariants.{One, Two, Plain, Work}

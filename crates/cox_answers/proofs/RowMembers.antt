@@ -17,8 +17,8 @@ use Rattle.cox_base.specs.Members.{IsInInterval}
 use Rattle.cox_base.specs.SortedList.{IsListOf, IsRising}
 use Rattle.cox_context.specs.Numbers.{word_at}
 use Rattle.cox_context.proofs.PlacedWords.{IsPlaced, contains-placed, placed-contains, contains-at}
-use Rattle.cox_context.proofs.SortedLemmas.{IsListOf-filter}
-use Rattle.cox_context.proofs.IntervalLemmas.{is_below, is_below-tells}
+use Rattle.cox_context.proofs.ShortLexLists.{IsListOf-filter}
+use Rattle.cox_context.proofs.IntervalLists.{is_below, is_below-tells}
 use Rattle.cox_context.proofs.Shifting.{element-at}
 use Rattle.cox_row.specs.Extremal.{IsExtremal}
 use Rattle.cox_row.specs.ExtremalNumbers.{AreExtremal}

@@ -17,8 +17,8 @@ use Rattle.cox_hecke.specs.Row.{IsRow}
 use Rattle.cox_hecke.proofs.AllRows.{row_of, row_of-is, row_of-value, mu-unique, mu-exists}
 use Rattle.cox_base.specs.Members.{IsInInterval}
 use Rattle.cox_base.specs.SortedList.{IsListOf}
-use Rattle.cox_context.proofs.SortedLemmas.{IsListOf-unique, IsListOf-filter}
-use Rattle.cox_context.proofs.IntervalLemmas.{interval-exists, interval-decided}
+use Rattle.cox_context.proofs.ShortLexLists.{IsListOf-unique, IsListOf-filter}
+use Rattle.cox_context.proofs.IntervalLists.{interval-exists, interval-decided}
 use Rattle.cox_rows.proofs.NeedDecided.{tell-needs_beyond}
 use Rattle.cox_command.specs.declared.refusal.Refusal.{Refusal}
 use Rattle.cox_command.specs.declared.refusal.Refusal.TheVariants.{LargeInterval, LargeRow}

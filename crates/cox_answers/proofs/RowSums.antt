@@ -24,8 +24,8 @@ use Rattle.cox_context.specs.Closed.{IsClosed}
 use Rattle.cox_base.specs.Members.{IsInInterval}
 use Rattle.cox_base.specs.SortedList.{IsListOf}
 use Rattle.cox_context.specs.Numbers.{word_at}
-use Rattle.cox_context.proofs.SortedLemmas.{IsListOf-unique}
-use Rattle.cox_context.proofs.IntervalLemmas.{is_below, is_below-tells}
+use Rattle.cox_context.proofs.ShortLexLists.{IsListOf-unique}
+use Rattle.cox_context.proofs.IntervalLists.{is_below, is_below-tells}
 use Rattle.cox_klstep.proofs.AddedSums.{none-scaled}
 use Rattle.cox_answers.specs.RowReply.{coefficients_to}
 use Rattle.cox_answers.proofs.RowMembers.{below-first, interval-list, member-same}

@@ -16,13 +16,13 @@ use Rattle.cox_poly.specs.Coefficients.{Coefficients}
 use Rattle.cox_poly.specs.Polynomial.{coefficient, HasDegreeBelow}
 use Rattle.cox_hecke.specs.Family.{Family}
 use Rattle.cox_hecke.specs.Row.{IsRow, IsKazhdanLusztig}
-use Rattle.cox_hecke.proofs.RowLemmas.{row-long, row-same}
+use Rattle.cox_hecke.proofs.OneRow.{row-long, row-same}
 use Rattle.cox_hecke.proofs.AllRows.{row_of-value, kazhdan_lusztig-value}
 use Rattle.cox_context.specs.Closed.{IsClosed}
 use Rattle.cox_base.specs.Members.{IsInInterval}
 use Rattle.cox_base.specs.SortedList.{IsListOf}
 use Rattle.cox_context.specs.Numbers.{word_at}
-use Rattle.cox_context.proofs.IntervalLemmas.{is_below, is_below-tells}
+use Rattle.cox_context.proofs.IntervalLists.{is_below, is_below-tells}
 use Rattle.cox_answers.specs.RowReply.{coefficients_to}
 use Rattle.cox_answers.proofs.RowMembers.{below-first, interval-list}
 use Rattle.cox_answers.specs.Totals.{Totals, no_totals, both_totals, polynomial_totals, row_totals}

@@ -19,14 +19,14 @@ use Rattle.cox_context.proofs.Ideals.{element-tail}
 use Rattle.cox_context.proofs.PlacedWords.{contains-placed, contains-at}
 use Rattle.cox_context.proofs.Shifting.{first-member}
 use Rattle.cox_reflect.proofs.NormalElements.{element-word}
-use Rattle.cox_context.proofs.SortedLemmas.{HasMoreThan-few}
-use Rattle.cox_context.proofs.RefusalLemmas.{too_large-found}
+use Rattle.cox_context.proofs.ShortLexLists.{HasMoreThan-few}
+use Rattle.cox_context.proofs.RefusalCauses.{too_large-found}
 use Rattle.cox_klstep.specs.declared.fault.StepFault.{StepFault}
 use Rattle.cox_klstep.specs.declared.fault.StepFault.TheVariants.{Coefficient, Mu, NoMemory}
 use Rattle.cox_rows.specs.Holding.{Holding}
 use Rattle.cox_rows.specs.RowsFaults.{IsFaultOfSome}
 use Rattle.cox_rows.specs.Beyond.{IsBeyond, NeedsBeyond}
-use Rattle.cox_rows.proofs.RowsFaultLemmas.{fault-beyond}
+use Rattle.cox_rows.proofs.FaultsOfRows.{fault-beyond}
 use Rattle.cox_command.specs.declared.refusal.Refusal.{Refusal}
 use Rattle.cox_command.specs.declared.refusal.Refusal.TheVariants.{LargeInterval, LargeRow}
 use Rattle.cox_answers.specs.Limits.{Limits}

@@ -6,8 +6,8 @@ use Rattle.cox_base.specs.IntegerMatrix.{IntegerMatrix}
 use Rattle.cox_base.specs.Admissible.{IsAdmissible}
 use Rattle.cox_hecke.proofs.AllRows.{row_of, row_of-is}
 use Rattle.cox_base.specs.Members.{IsInInterval}
-use Rattle.cox_context.proofs.SortedLemmas.{IsListOf-unique}
-use Rattle.cox_context.proofs.IntervalLemmas.{interval-exists}
+use Rattle.cox_context.proofs.ShortLexLists.{IsListOf-unique}
+use Rattle.cox_context.proofs.IntervalLists.{interval-exists}
 use Rattle.cox_command.specs.declared.refusal.Refusal.{Refusal}
 use Rattle.cox_command.specs.declared.refusal.Refusal.TheVariants.{UnknownCommand, WrongCount, WrongNumber, UnknownType, WrongLabel}
 use Rattle.cox_command.specs.declared.refusal.Refusal.TheVariants.{NoGroup}

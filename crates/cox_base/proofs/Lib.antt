@@ -11,8 +11,8 @@ pub mod Positions
 -- numerals of one and two digits
 pub mod Numerals
 -- the pieces of a text, and the letters that they name
-pub mod PieceLemmas
+pub mod TextPieces
 -- the text of a word, and its pieces
 pub mod WordTexts
 -- labels that are not admitted
-pub mod LabelLemmas
+pub mod RefusedLabels

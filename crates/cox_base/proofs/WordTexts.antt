@@ -17,7 +17,7 @@ use Rattle.cox_base.specs.WordText.{has_digits, separator, word_text, is_e, is_d
 use Rattle.cox_base.specs.WordText.{foreign_piece, first_foreign}
 use Rattle.cox_base.specs.WordReading.{ReadsWord}
 use Rattle.cox_base.proofs.Numerals.{decimal-two}
-use Rattle.cox_base.proofs.PieceLemmas.{letter_of-some, foreign_from, foreign_from-next}
+use Rattle.cox_base.proofs.TextPieces.{letter_of-some, foreign_from, foreign_from-next}
 
 -- the letters behind the first, as they are written with what separates them
 abbrev others_text : List ℕ → List ℕ → List ℕ

@@ -1,5 +1,6 @@
 //! Coxeter matrices, and the integer matrix by which the group acts.
-ghost use Rattle.std.specs.Prelude.{◌≡◌, ◌+◌, ◌-◌, ◌*◌, ◌/◌, ◌<◌, ◌≤◌, nat_abs, None, if◌then◌else◌, IfOk, IfErr, OnOk, length, All, IsTrue, take, Some, not, slice_index, option_map, position};
+ghost use Rattle.std.specs.Prelude.{◌≡◌, ◌+◌, ◌-◌, ◌*◌, ◌/◌, ◌<◌, ◌≤◌, nat_abs, None, if◌then◌else◌, IfOk, IfErr, OnOk, length, All};
+ghost use Rattle.std.specs.Prelude.{IsTrue, take, Some, not, slice_index, option_map, position};
 ghost use Rattle.std.specs.Option.{option_map_or};
 ghost use Rattle.cox_base.specs.Matrix.{CoxeterMatrix, IsLetter, is_label, place, label};
 ghost use Rattle.cox_base.specs.Admissible.{IsCoxeterMatrix};
@@ -27,8 +28,8 @@ pub struct Label {
 
 /// A Coxeter matrix of rank 1 to `MAX_RANK` with labels 2, 3, 4, 6 and infinity (written 0), and its integer matrix.
 ///
-/// Contracts see it as the rank and the list of labels above the diagonal, row by row (Humphreys, "Reflection Groups and Coxeter Groups", 5.1).
-/// `rank` tells that each is a Coxeter matrix.
+/// Contracts see it as the rank and the list of labels above the diagonal, row by row (Humphreys, "Reflection Groups and Coxeter Groups",
+/// 5.1). `rank` tells that each is a Coxeter matrix.
 #[derive(Drop)]
 pub struct Coxeter {
     rank: u32,
@@ -49,10 +50,11 @@ impl Model for Coxeter {
 }
 
 impl Coxeter {
-    /// The matrix of rank `n` with these labels above its diagonal, row by row: m(1,2), m(1,3), .., m(1,n), m(2,3), .., m(n-1,n); 0 is infinity.
+    /// The matrix of rank `n` with these labels above its diagonal, row by row: m(1,2), m(1,3), .., m(1,n), m(2,3), .., m(n-1,n); 0 is
+    /// infinity.
     ///
-    /// For example `of_labels(3, &[3, 2, 4])` is B 3. The error comes exactly where a label is not 0, 2, 3, 4 or 6, and tells the first such label:
-    /// for `of_labels(3, &[3, 5, 1])` the place 2 and the value 5.
+    /// For example `of_labels(3, &[3, 2, 4])` is B 3. The error comes exactly where a label is not 0, 2, 3, 4 or 6, and tells the first
+    /// such label: for `of_labels(3, &[3, 5, 1])` the place 2 and the value 5.
     pub fn of_labels(n: usize, labels: &[u32]) -> Result<Coxeter, Label>
         requires some { 1 ≤ n }
         requires limit { n ≤ MAX_RANK }
@@ -111,7 +113,7 @@ impl Coxeter {
             return 1;
         }
         let (s, t) = (s.min(t) as u32, s.max(t) as u32);
-        self.labels.as_slice()[place_of(self.rank, s, t)] as u32
+        self.labels.as_slice()[place_of_label(self.rank, s, t)] as u32
     }
 
     /// a(s,t), so that the generator s sends the simple root e(t) to e(t) - a(s,t) e(s) (compare Humphreys 5.3).
@@ -153,7 +155,7 @@ fn admitted(label: u32) -> Option<u8>
 }
 
 /// Where the label of s and t stands, from 0.
-fn place_of(rank: u32, s: u32, t: u32) -> usize
+fn place_of_label(rank: u32, s: u32, t: u32) -> usize
     requires from_one { 1 ≤ s }
     requires rising { s < t }
     requires to_rank { t ≤ rank }
@@ -181,9 +183,9 @@ fn entry_at(rank: u32, labels: &[u8], s: u32, t: u32) -> i8
     } else if s == t {
         2
     } else if s < t {
-        entry_above(labels[place_of(rank, s, t)])
+        entry_above(labels[place_of_label(rank, s, t)])
     } else {
-        entry_below(labels[place_of(rank, t, s)])
+        entry_below(labels[place_of_label(rank, t, s)])
     }
 }
 

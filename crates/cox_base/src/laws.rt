@@ -29,5 +29,6 @@ pub fn symmetric(g: &Coxeter)
 pub fn text_of_word(rank: u32)
     requires { rank ≤ MAX_RANK }
     ensures { (word : List ℕ) (read : Result (ArrayVec ℕ) WordFault)
-        → IsWord rank word → length word ≤ MAX_LETTERS → ReadsWord read (word_text rank word) rank → IsOkAnd read (λ again. again.items ≡ word) }
+        → IsWord rank word → length word ≤ MAX_LETTERS → ReadsWord read (word_text rank word) rank
+        → IsOkAnd read (λ again. again.items ≡ word) }
 {}

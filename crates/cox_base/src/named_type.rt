@@ -16,10 +16,11 @@ use thiserror::Error;
 pub struct NotAType;
 
 impl Coxeter {
-    /// The matrix of a type: A 1 to 16, B 2 to 16, D 4 to 16, E 6 to 8, F 4, G 2, and the affine a 1 to 15, of rank n + 1; the letter is a character's code.
-    /// The diagrams are those of Humphreys 2.4 and 2.5. The error comes exactly where there is no such type.
+    /// The matrix of a type: A 1 to 16, B 2 to 16, D 4 to 16, E 6 to 8, F 4, G 2, and the affine a 1 to 15, of rank n + 1; the letter is a
+    /// character's code. The diagrams are those of Humphreys 2.4 and 2.5. The error comes exactly where there is no such type.
     ///
-    /// For example `named(b'B', 3)` has m(1,2) = 3, m(1,3) = 2 and m(2,3) = 4, and `named(b'a', 2)` has 3 between each two of its three nodes.
+    /// For example `named(b'B', 3)` has m(1,2) = 3, m(1,3) = 2 and m(2,3) = 4, and `named(b'a', 2)` has 3 between each two of its three
+    /// nodes.
     pub fn named(letter: u8, n: u32) -> Result<Coxeter, NotAType>
         ensures matrix { IfOk result (λ g. g ≡ type_matrix letter n) }
         ensures is_type { OnOk result (IsTrue (is_type letter n)) }

@@ -8,13 +8,14 @@ use crate::pieces::{Pieces, piece_count, pieces_in};
 use crate::spelling::separator;
 use crate::word::{Word, WordFault};
 
-/// Reads a word: `e` alone is the empty word, else each piece of the text is a letter in decimal, 1 to the rank. In a group of rank 1 to 9 the pieces are
-/// the bytes; in one of a greater rank they stand before, between and after the dots. The word need not be reduced.
+/// Reads a word: `e` alone is the empty word, else each piece of the text is a letter in decimal, 1 to the rank. In a group of rank 1 to 9
+/// the pieces are the bytes; in one of a greater rank they stand before, between and after the dots. The word need not be reduced.
 ///
-/// A text of more than `MAX_LETTERS` pieces is `Long`, whatever they are; else `Letter` tells the place of the first byte of the first piece that is no
-/// letter. An empty piece has the place of the dot behind it, or the place behind the text. For example `212` in rank 2 is the word 2, 1, 2; `213` there
-/// has the fault `Letter(3)`, and `ee` has `Letter(1)`. In rank 10 `9.10.9` is the word 9, 10, 9; `9.09` has the fault `Letter(3)`, and so has `1..2`.
-/// A text of no bytes is the empty word in rank 1 to 9, and has the fault `Letter(1)` in a greater one.
+/// A text of more than `MAX_LETTERS` pieces is `Long`, whatever they are; else `Letter` tells the place of the first byte of the first
+/// piece that is no letter. An empty piece has the place of the dot behind it, or the place behind the text. For example `212` in rank 2 is
+/// the word 2, 1, 2; `213` there has the fault `Letter(3)`, and `ee` has `Letter(1)`. In rank 10 `9.10.9` is the word 9, 10, 9; `9.09` has
+/// the fault `Letter(3)`, and so has `1..2`. A text of no bytes is the empty word in rank 1 to 9, and has the fault `Letter(1)` in a
+/// greater one.
 pub fn read_word(text: &[u8], rank: u32) -> Result<Word, WordFault>
     requires rank { rank ≤ MAX_RANK }
     requires size { length text.now + 1 < 2 ^ 32 }

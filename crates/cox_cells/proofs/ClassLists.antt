@@ -4,10 +4,10 @@ use Rattle.std.proofs.Common.{sym, ap, ◌∙◌, ⊎_elim, arith, length-append
 use Rattle.std.proofs.lemmas.Bool.{cases_lt, cases_eq}
 use Rattle.std.proofs.lemmas.List.{get_or-set_same, get_or-set_other, length-set, get_or_append_left}
 use Rattle.std.proofs.Math.Seq.{get_or-append_seam}
-use Rattle.cox_lemmas.proofs.PushLemmas.{push-length, push_cases}
+use Rattle.cox_lemmas.proofs.PushedItems.{push-length, push_cases}
 use Rattle.cox_context.proofs.PlacedWords.{word_at-old, word_at-new}
 use Rattle.cox_row.specs.Rising.{number_at}
-use Rattle.cox_row.proofs.RisingLemmas.{few-rising}
+use Rattle.cox_row.proofs.RisingNumbers.{few-rising}
 use Rattle.cox_scc.specs.Reach.{IsLeastOfClass}
 use Rattle.cox_cells.specs.NumberedCells.{list_at, least_at, IsListed, IsClassList, AreGathered}
 

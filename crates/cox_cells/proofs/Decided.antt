@@ -15,7 +15,7 @@ use Rattle.cox_reflect.proofs.Roots.{left_descent-letter, descent-letter}
 use Rattle.cox_base.specs.SideDescents.{times_letter, IsDescent}
 use Rattle.cox_base.specs.Members.{IsElement}
 use Rattle.cox_wgraph.specs.Edges.{IsEdgeValue, IsJoined}
-use Rattle.cox_wgraph.proofs.EdgeLemmas.{edge-exists, edge-unique}
+use Rattle.cox_wgraph.proofs.EdgeValues.{edge-exists, edge-unique}
 use Rattle.cox_cells.specs.declared.kind.CellKind.{CellKind}
 use Rattle.cox_cells.specs.declared.kind.CellKind.TheVariants.{Left, Right, Both}
 use Rattle.cox_cells.specs.Cells.{HasOwnDescent, HasOwn, IsStep, Precedes}
@@ -150,7 +150,8 @@ module _ (A : IntegerMatrix) (g : IsAdmissible A) where
     chain-of (z ∷ zs) all x y e t = ⊎_elim
         (λ (s : leads zs x y ≡ true). chain-of zs (λ w i. all w (there i)) x y e s)
         (λ (s : (leads zs x z && leads zs z y) ≡ true). let b = and_parts (leads zs x z) (leads zs z y) s
-        in precedes-trans kind A (chain-of zs (λ w i. all w (there i)) x z (all z here) b.0) (chain-of zs (λ w i. all w (there i)) z y e b.1))
+        in precedes-trans kind A (chain-of zs (λ w i. all w (there i)) x z (all z here) b.0)
+        (chain-of zs (λ w i. all w (there i)) z y e b.1))
         (or_cases (leads zs x y) (leads zs x z && leads zs z y) t)
 
     pub leads-by : (zs : List (List ℕ)) → ((z : List ℕ) → IsElement A z → In z zs) → {x y : List ℕ} → Precedes kind A x y

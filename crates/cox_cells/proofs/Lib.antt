@@ -11,7 +11,7 @@ pub mod ClassLists
 -- cells by number
 pub mod NumberedCells
 -- steps are added
-pub mod StepLemmas
+pub mod AddedSteps
 -- the neighbours of one member more
 pub mod NeighbourLists
 -- descents as sets

@@ -3,7 +3,7 @@ use Rattle.std.proofs.Common.{◌≡◌, ℕ, ◌+◌, ◌-◌, ◌<◌, ◌≤�
 use Rattle.std.proofs.lemmas.List.{take-append-le, take_all, drop-append-le, length-append, length-drop}
 use Rattle.std.proofs.Math.Seq.{drop-append_seam}
 use Rattle.std.proofs.lemmas.Bool.{cases_lt}
-use Rattle.cox_lemmas.proofs.PushLemmas.{push-length, push-old, push-new}
+use Rattle.cox_lemmas.proofs.PushedItems.{push-length, push-old, push-new}
 use Rattle.cox_context.specs.Closed.{Elements}
 use Rattle.cox_row.specs.Rising.{number_at}
 use Rattle.cox_cells.specs.NeighbourLists.{HasNeighbours, AreNeighbours, list_between}

@@ -8,7 +8,7 @@ use Rattle.cox_base.specs.Members.{IsElement}
 use Rattle.cox_base.specs.SortedList.{IsListOf}
 use Rattle.cox_context.specs.Numbers.{word_at}
 use Rattle.cox_context.proofs.PlacedWords.{IsPlaced, contains-at, contains-placed, placed-contains, rising-before}
-use Rattle.cox_context.proofs.SortedLemmas.{IsListOf-unique}
+use Rattle.cox_context.proofs.ShortLexLists.{IsListOf-unique}
 use Rattle.cox_cells.specs.declared.kind.CellKind.{CellKind}
 use Rattle.cox_cells.specs.Cells.{IsInCell, first_of, IsCell, AreCells}
 use Rattle.cox_cells.proofs.StepChains.{cell-back}

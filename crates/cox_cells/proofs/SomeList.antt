@@ -12,7 +12,7 @@ use Rattle.cox_base.specs.SortedList.{IsListOf}
 use Rattle.cox_context.specs.Numbers.{word_at}
 use Rattle.cox_context.proofs.PlacedWords.{contains-at, contains-placed}
 use Rattle.cox_reflect.proofs.Listing.{contains-in, in-contains}
-use Rattle.cox_context.proofs.SortedLemmas.{IsListOf-unique, IsListOf-filter}
+use Rattle.cox_context.proofs.ShortLexLists.{IsListOf-unique, IsListOf-filter}
 use Rattle.cox_cells.specs.declared.kind.CellKind.{CellKind}
 use Rattle.cox_cells.specs.Cells.{Precedes, IsInCell, first_of, IsCell, AreCells}
 use Rattle.cox_cells.proofs.StepChains.{cell-itself, cell-back, cell-join}

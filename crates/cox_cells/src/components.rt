@@ -14,8 +14,8 @@ use cox_row::LowerRows;
 use cox_scc::classes;
 use std::alloc::{AllocError, Global};
 
-/// The cells of a finite group, from the rows of all its elements, which are the members of a context: for each cell the numbers of its members, rising,
-/// and the cells by their first members. In time linear in the members and their values of mu.
+/// The cells of a finite group, from the rows of all its elements, which are the members of a context: for each cell the numbers of its
+/// members, rising, and the cells by their first members. In time linear in the members and their values of mu.
 ///
 /// In A 2 the left cells are 0, then 1 and 4, then 2 and 3, then 5: those of e, of 1 and 21, of 2 and 12, and of 121.
 pub fn cells<L: LowerRows>(

@@ -48,7 +48,8 @@ fn begin(
 /// Adds a member to the list at a place.
 fn extend(cells: &mut Vec<Vec<u32>>, place: u32, i: u32) -> Result<(), AllocError>
     requires { place < length cells.old.items }
-    ensures { OnOk result (lists_of cells.new.items ≡ slice_set (lists_of cells.old.items) place (list_at (lists_of cells.old.items) place ++ i ∷ [])) }
+    ensures { OnOk result (lists_of cells.new.items
+        ≡ slice_set (lists_of cells.old.items) place (list_at (lists_of cells.old.items) place ++ i ∷ [])) }
 {
     cells[place as usize].push(i)?;
     Ok(())

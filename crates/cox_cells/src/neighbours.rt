@@ -1,7 +1,7 @@
 //! The neighbours of all members, one list behind another.
 //!
-//! Rows stand all over memory, and those that other processors made are far away. So what is read of them is copied in one tight loop, in which the
-//! processor waits for several rows at a time.
+//! Rows stand all over memory, and those that other processors made are far away. So what is read of them is copied in one tight loop, in
+//! which the processor waits for several rows at a time.
 ghost use Rattle.std.specs.Prelude.{◌≡◌, ℕ, ◌+◌, ◌<◌, length, IfOk};
 ghost use Rattle.cox_cells.specs.NeighbourLists.{AreNeighbours, HasNeighbours};
 

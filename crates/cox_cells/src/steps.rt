@@ -15,7 +15,8 @@ use cox_row::LowerRows;
 use cox_scc::Digraph;
 use std::alloc::{AllocError, Global};
 
-/// Descents of a member, as sets on each side: bit s - 1 for the letter s. On a side that does not count for the kind of cells, the set is empty.
+/// Descents of a member, as sets on each side: bit s - 1 for the letter s. On a side that does not count for the kind of cells, the set is
+/// empty.
 #[derive(Clone, Copy)]
 struct Descents {
     left: u16,

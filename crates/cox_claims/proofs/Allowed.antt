@@ -214,7 +214,8 @@ split_allowed rows a v live = λ s k at.
       seats = split_splits s.views a v at live k.seats;
     }
 
-pub join_allowed : (rows a b : ℕ) (v w : View) → v.spent ≡ false → w.spent ≡ false → w.held ≡ [] → Joins (KeepsRule rows) a v b w (joined v w) nothing
+pub join_allowed : (rows a b : ℕ) (v w : View) → v.spent ≡ false → w.spent ≡ false → w.held ≡ []
+    → Joins (KeepsRule rows) a v b w (joined v w) nothing
 join_allowed rows a b v w live alive idle = λ s k at ne there.
     let state = state_at s.words in
     let both = joined v w in

@@ -258,5 +258,6 @@ pub only_seat : (vs : List View) → get_elem? vs 0 ≡ some newcomer → ComeBy
 only_seat [] at k = cc
 only_seat (v ∷ vs) at k =
     let e : v ≡ newcomer = cc in
-    let none = split-none_left (newcomer ∷ []) vs (v ∷ vs) start_splits k (subst (λ u. IsPermutation (v ∷ vs) (u ∷ vs)) e (IsPermutation-refl (v ∷ vs))) in
+    let same = subst (λ u. IsPermutation (v ∷ vs) (u ∷ vs)) e (IsPermutation-refl (v ∷ vs)) in
+    let none = split-none_left (newcomer ∷ []) vs (v ∷ vs) start_splits k same in
     ap (λ u. u ∷ vs) e ∙ ap (λ us. newcomer ∷ us) none

@@ -18,10 +18,14 @@ pub record DidSame (v w : View) : Type 0 where
   pub seats : TellsSameSeats v w
 
 pub looked_did : (v : View) (i : ℕ) (x : RowState) → DidSame v (looked v i x)
-looked_did v i RowState.Free = record { held = refl; made = refl; given_up = refl; live = refl; seats = record { generation = refl; children = refl; met = refl } }
-looked_did v i RowState.Claimed = record { held = refl; made = refl; given_up = refl; live = refl; seats = record { generation = refl; children = refl; met = refl } }
-looked_did v i RowState.Published = record { held = refl; made = refl; given_up = refl; live = refl; seats = record { generation = refl; children = refl; met = refl } }
-looked_did v i RowState.Void = record { held = refl; made = refl; given_up = refl; live = refl; seats = record { generation = refl; children = refl; met = refl } }
+looked_did v i RowState.Free =
+    record { held = refl; made = refl; given_up = refl; live = refl; seats = record { generation = refl; children = refl; met = refl } }
+looked_did v i RowState.Claimed =
+    record { held = refl; made = refl; given_up = refl; live = refl; seats = record { generation = refl; children = refl; met = refl } }
+looked_did v i RowState.Published =
+    record { held = refl; made = refl; given_up = refl; live = refl; seats = record { generation = refl; children = refl; met = refl } }
+looked_did v i RowState.Void =
+    record { held = refl; made = refl; given_up = refl; live = refl; seats = record { generation = refl; children = refl; met = refl } }
 
 pub did_caused : (v w : View) → DidSame v w → (i : ℕ) (x : RowState) → caused w i x ≡ caused v i x
 did_caused v w s i RowState.Free = refl

@@ -107,8 +107,8 @@ abbrev pub StartsFree : ℕ → Type 0
 StartsFree rows = (s : Table) → KeepsRule rows s → get_elem? s.views 0 ≡ some newcomer
     → (s.words ≡ replicate rows 0) × (s.views ≡ newcomer ∷ [])
 
--- a table under the rule whose seats have the views of another's, in any order, and more, has no more: no step makes a seat that is counted in
--- no view
+-- a table under the rule whose seats have the views of another's, in any order, and more, has no more: no step makes a seat that is counted
+-- in no view
 abbrev pub HasNoMoreSeats : ℕ → Type 0
 HasNoMoreSeats rows = (s t : Table) → KeepsRule rows s → KeepsRule rows t → (more : List View) → IsPermutation t.views (s.views ++ more)
     → more ≡ []

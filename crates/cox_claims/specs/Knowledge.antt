@@ -126,8 +126,8 @@ voided v i = record v { held = without i v.held; voids = i ∷ v.voids; marks = 
 abbrev pub parted : View → View
 parted v = record v { children = (v.generation + 1) ∷ v.children }
 
--- the view of a seat that was split from one with the view v: it is of the next generation and has seen the same, holds nothing, did nothing,
--- and has no mark and no read
+-- the view of a seat that was split from one with the view v: it is of the next generation and has seen the same, holds nothing, did
+-- nothing, and has no mark and no read
 abbrev pub told : View → View
 told v = record newcomer { generation = v.generation + 1; published = v.published; voids = v.voids; claimed = v.claimed }
 

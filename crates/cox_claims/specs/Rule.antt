@@ -48,8 +48,8 @@ children_of d v = how_many d v.children
 pub record HasParents (v : View) : Type 0 where
   pub parent : (d : ℕ) → 0 < children_of d v → (p : ℕ) × (d ≡ p + 1) × (0 < seats_of p v)
 
--- each seat but the first was split from another, which its view tells or that of a seat that it met: there is one seat more than there were
--- splits, the first seat alone is of generation 0, and of each other generation there are as many as were split
+-- each seat but the first was split from another, which its view tells or that of a seat that it met: there is one seat more than there
+-- were splits, the first seat alone is of generation 0, and of each other generation there are as many as were split
 pub record ComeBySplits (views : List View) : Type 0 where
   pub count : length views ≡ sum_by (λ v. length v.children) views + 1
   pub generations : (d : ℕ) → sum_by (seats_of d) views ≡ sum_by (children_of d) views + how_many d (0 ∷ [])

@@ -61,7 +61,8 @@ pub struct Claims {
 }
 
 impl Claims {
-    ghost use Rattle.cox_claims.specs.Seats.{view_of, number_of, splits_of, one_more_split, IsSameSeat, Holds, HoldsNothing, HasSeen, HasSeenVoid, HasMarked, Reads};
+    ghost use Rattle.cox_claims.specs.Seats.{view_of, number_of, splits_of, one_more_split, IsSameSeat, Holds, HoldsNothing, HasSeen};
+    ghost use Rattle.cox_claims.specs.Seats.{HasSeenVoid, HasMarked, Reads};
     ghost use Rattle.cox_claims.specs.Tables.{rows_of, IsSeatOf, Closes};
 
     /// A table of this many rows, all Free, and its first seat, which has the number 0 and has seen nothing.
@@ -166,8 +167,8 @@ impl Claims {
 
     /// Wakes who sleeps on a row, after its word was changed. A wake asks the system, so it is left out where no thread sleeps on any row.
     ///
-    /// No sleeper is missed. A thread that is to sleep is counted first, and sleeps only if the word still says Claimed after that. All these
-    /// steps have one order: a count of 0 here was read before the thread was counted, so that the thread finds the changed word.
+    /// No sleeper is missed. A thread that is to sleep is counted first, and sleeps only if the word still says Claimed after that. All
+    /// these steps have one order: a count of 0 here was read before the thread was counted, so that the thread finds the changed word.
     fn wake(&self, row: u32)
         requires { row < rows_of self.now }
     {

@@ -35,11 +35,11 @@ use Rattle.cox_context.specs.Shifts.{entry}
 use Rattle.cox_context.specs.Refusal.{IsLong}
 use Rattle.cox_context.specs.FaultMeaning.{IsRefusal}
 use Rattle.cox_context.proofs.PlacedWords.{contains-placed, placed-contains, contains-at, rising-place, rising-before}
-use Rattle.cox_context.proofs.SortedLemmas.{before-less}
+use Rattle.cox_context.proofs.ShortLexLists.{before-less}
 use Rattle.cox_context.proofs.Ideals.{IsIdeal, group-ideal, union-ideal, ideal-tailed}
 use Rattle.cox_context.proofs.Ideals.{element-nil}
 use Rattle.cox_context.proofs.Ideals.{element-tail}
-use Rattle.cox_context.proofs.GrowthLemmas.{IsTailed, grown-length, grown-list}
+use Rattle.cox_context.proofs.GrowingMembers.{IsTailed, grown-length, grown-list}
 
 -- ---- the same words with two properties
 

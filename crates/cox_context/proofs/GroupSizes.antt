@@ -20,8 +20,8 @@ use Rattle.cox_reflect.proofs.NormalElements.{element-normal_form, element-word}
 use Rattle.cox_reflect.proofs.Listing.{listing, contains-in, in-contains}
 use Rattle.cox_context.proofs.Ideals.{element-tail}
 use Rattle.cox_context.proofs.PlacedWords.{contains-placed, contains-at}
-use Rattle.cox_context.proofs.SortedLemmas.{HasMoreThan-few}
-use Rattle.cox_context.proofs.RefusalLemmas.{too_large-found}
+use Rattle.cox_context.proofs.ShortLexLists.{HasMoreThan-few}
+use Rattle.cox_context.proofs.RefusalCauses.{too_large-found}
 
 -- an element of at most n letters
 abbrev IsShort : IntegerMatrix → ℕ → List ℕ → Type 0

@@ -21,7 +21,7 @@ use Rattle.cox_context.specs.Union.{IsInUnion}
 use Rattle.cox_context.specs.Closed.{IsClosed}
 use Rattle.cox_context.specs.WantedMembers.{IsMember}
 use Rattle.cox_reflect.proofs.NormalElements.{element-word, element-length}
-use Rattle.cox_context.proofs.GrowthLemmas.{IsTailed}
+use Rattle.cox_context.proofs.GrowingMembers.{IsTailed}
 
 -- a property of elements that goes over to each element below
 pub record IsIdeal (A : IntegerMatrix) (P : List ℕ → Type 0) : Type 0 where

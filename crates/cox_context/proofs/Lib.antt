@@ -1,17 +1,17 @@
 -- the words of members that are given by links
-pub mod LinkLemmas
+pub mod LinkedWords
 -- what holds of an Ok
 pub mod MadeContexts
 -- places in lists of words, rising lists, and members by their places
 pub mod PlacedWords
 -- for a normal form x: when s x is a normal form
-pub mod NormalLemmas
+pub mod FirstLetters
 -- families of elements that are closed downwards, as an interval or a group
 pub mod Ideals
 -- a list of members as it grows, letter by letter and length by length
-pub mod GrowthLemmas
+pub mod GrowingMembers
 -- why a context is refused
-pub mod RefusalLemmas
+pub mod RefusalCauses
 -- the context of an interval or a group is closed downwards; a group with more elements has one of MAX_LETTERS + 1 letters
 pub mod ClosedContexts
 -- a context with the interval up to an element added
@@ -23,26 +23,26 @@ pub mod Shifting
 -- two letters in turn behind an element
 pub mod Rounds
 -- the row of a new member
-pub mod ShiftRowLemmas
+pub mod ShiftRows
 -- walks of members by two letters in turn
-pub mod LowerLemmas
+pub mod LowerWalks
 -- new elements below the top
-pub mod LiftingLemmas
+pub mod BelowTop
 -- sets of letters
 pub mod LetterSets
 -- Bruhat order and descents of members, by their left shifts
-pub mod BelowLemmas
+pub mod OrderOfMembers
 -- the next member
-pub mod ChildLemmas
+pub mod NextChild
 -- the tables of a builder
-pub mod BuilderLemmas
+pub mod BuilderTables
 -- the number of a word
-pub mod NumberLemmas
+pub mod NumbersOfWords
 -- the table of right shifts
 pub mod RightShifts
 -- lists in ShortLex order
-pub mod SortedLemmas
+pub mod ShortLexLists
 -- Bruhat intervals as lists
-pub mod IntervalLemmas
+pub mod IntervalLists
 -- whether a group is too large
 pub mod GroupSizes

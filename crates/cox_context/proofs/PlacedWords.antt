@@ -3,7 +3,7 @@ use Rattle.std.proofs.Common.{◌≡◌, ℕ, ◌≤◌, ◌<◌, List, [], ◌�
 use Rattle.std.proofs.Common.{⊎_elim, arith}
 use Rattle.std.proofs.lemmas.Bool.{cases_order}
 use Rattle.std.proofs.lemmas.List.{get_or_default}
-use Rattle.cox_lemmas.proofs.PushLemmas.{push-old, push-new, push_cases}
+use Rattle.cox_lemmas.proofs.PushedItems.{push-old, push-new, push_cases}
 use Rattle.cox_base.specs.ShortLex.{shortlex_cmp}
 use Rattle.cox_reflect.proofs.ShortLexFirst.{IsBefore, IsBefore-irrefl, length-before, before-shortlex_cmp, shortlex_cmp-before}
 use Rattle.cox_base.specs.SortedList.{IsRising}

@@ -1,9 +1,10 @@
 //! Finds the members of a context, length by length, with their left shifts.
 //!
-//! The members with one letter more are the s x for s = 1, 2, .. and, for each s, the members x of the last length in order, where s is the least
-//! left descent of s x. So each is found once, and they come in ShortLex order. A shift is noted as soon as the longer of its two members is found: where
-//! s leads from x to a member already, s x is shorter than x or was found from a lesser letter.
-ghost use Rattle.std.specs.Prelude.{◌≡◌, ℕ, List, ◌+◌, ◌*◌, ◌<◌, ◌≤◌, ◌∷◌, ◌++◌, [], length, IfOk, IfErr, OnOk, IfSome, IfNone, IsTrue, IsSome, Option, Contains, unwrap_or};
+//! The members with one letter more are the s x for s = 1, 2, .. and, for each s, the members x of the last length in order, where s is the
+//! least left descent of s x. So each is found once, and they come in ShortLex order. A shift is noted as soon as the longer of its two
+//! members is found: where s leads from x to a member already, s x is shorter than x or was found from a lesser letter.
+ghost use Rattle.std.specs.Prelude.{◌≡◌, ℕ, List, ◌+◌, ◌*◌, ◌<◌, ◌≤◌, ◌∷◌, ◌++◌, [], length, vec_len, vec_capacity};
+ghost use Rattle.std.specs.Prelude.{IfOk, IfErr, OnOk, OnErr, IfSome, IfNone, IsTrue, IsSome, Option, Contains, unwrap_or};
 ghost use Rattle.arrayvec.specs.ArrayVec.{ArrayVec};
 ghost use Rattle.cox_base.specs.Matrix.{IsLetter};
 ghost use Rattle.cox_base.specs.Admissible.{IsCoxeterMatrix};
@@ -47,7 +48,8 @@ pub(crate) struct Child {
 
 /// A search for members, what was found so far, and the number of each member among the earlier ones.
 ///
-/// Contracts see what is looked for, and the members. A step takes the builder and gives it back with more members, so a fault leaves none.
+/// Contracts see what is looked for, and the members. A step of a length or of a letter takes the builder and gives it back with more
+/// members, so a fault leaves none; one member is appended in place.
 #[derive(Drop)]
 pub(crate) struct Builder<'a> {
     scope: &'a Scope,
@@ -62,9 +64,13 @@ impl<'a> Model for Builder<'a> {
 
     ghost Value = { Building };
 
-    ghost view = { λ b. record { search = record { matrix = b.scope.now.group; top = b.scope.now.top; earlier = b.earlier.now.members; limit = b.limit }; members = b.listing.members } };
+    ghost view = { λ b. record {
+        search = record { matrix = b.scope.now.group; top = b.scope.now.top; earlier = b.earlier.now.members; limit = b.limit };
+        members = b.listing.members } };
 
-    ghost invariant = { λ b. IsBuilder (record { matrix = b.scope.now.group; top = b.scope.now.top; earlier = b.earlier.now.members; limit = b.limit }) b.listing.members b.earlier.now.left.items b.listing.left.items b.numbers.items };
+    ghost invariant = { λ b. IsBuilder
+        (record { matrix = b.scope.now.group; top = b.scope.now.top; earlier = b.earlier.now.members; limit = b.limit })
+        b.listing.members b.earlier.now.left.items b.listing.left.items b.numbers.items };
 }
 
 impl Listing {
@@ -103,7 +109,8 @@ impl<'a> Builder<'a> {
         requires earlier_left { AreLeftShifts (integer_matrix scope.now.group) earlier.now.members earlier.now.left.items }
         requires some { 1 ≤ limit }
         requires limit { limit ≤ MAX_MEMBERS }
-        ensures search { IfOk result (λ b. b.search ≡ record { matrix = scope.now.group; top = scope.now.top; earlier = earlier.now.members; limit = limit }) }
+        ensures search { IfOk result (λ b.
+            b.search ≡ record { matrix = scope.now.group; top = scope.now.top; earlier = earlier.now.members; limit = limit }) }
         ensures grown { IfOk result (λ b. HasUpTo b 0 0) }
         ensures matrix { IsCoxeterMatrix scope.now.group }
         ensures fault { IfErr result (λ fault. fault ≡ ContextFault.NoMemory) }
@@ -194,7 +201,7 @@ impl<'a> Builder<'a> {
         for parent in low..high {
             let _len = self.len();
             if let Some(child) = self.child(s, parent) {
-                self = self.add(s, parent, &child)?;
+                self.add(s, parent, &child)?;
             }
         }
         Ok(self)
@@ -204,8 +211,10 @@ impl<'a> Builder<'a> {
     fn child(&self, s: u8, parent: u32) -> Option<Child>
         requires letter { IsLetter self.now.search.matrix.rank s }
         requires parent { parent < length self.now.members }
-        ensures next { IfSome result (IsNext (integer_matrix self.now.search.matrix) self.now.members self.now.search.top self.now.search.earlier (s ∷ word_at self.now.members parent)) }
-        ensures none { IfNone result (IsNoNext (integer_matrix self.now.search.matrix) self.now.members self.now.search.top self.now.search.earlier (s ∷ word_at self.now.members parent) (length (word_at self.now.members parent))) }
+        ensures next { IfSome result (IsNext (integer_matrix self.now.search.matrix) self.now.members self.now.search.top
+            self.now.search.earlier (s ∷ word_at self.now.members parent)) }
+        ensures none { IfNone result (IsNoNext (integer_matrix self.now.search.matrix) self.now.members self.now.search.top
+            self.now.search.earlier (s ∷ word_at self.now.members parent) (length (word_at self.now.members parent))) }
     {
         let scope = self.scope;
         let shifts = self.listing.shifts(&scope.group);
@@ -229,59 +238,61 @@ impl<'a> Builder<'a> {
     fn earlier_number(&self, s: u8, parent: u32) -> Option<u32>
         requires letter { IsLetter self.now.search.matrix.rank s }
         requires parent { parent < length self.now.members }
-        requires new { ¬ (Contains self.now.members (normal_form (integer_matrix self.now.search.matrix) (s ∷ word_at self.now.members parent))) }
-        ensures { IsNumberOf self.now.search.earlier (normal_form (integer_matrix self.now.search.matrix) (s ∷ word_at self.now.members parent)) result }
+        requires new { ¬ (Contains self.now.members
+            (normal_form (integer_matrix self.now.search.matrix) (s ∷ word_at self.now.members parent))) }
+        ensures { IsNumberOf self.now.search.earlier
+            (normal_form (integer_matrix self.now.search.matrix) (s ∷ word_at self.now.members parent)) result }
     {
         let (scope, earlier) = (self.scope, self.earlier);
         let before = number_at(self.numbers.as_slice(), parent)?;
         earlier.shifts(&scope.group).shift(s, before)
     }
 
-    /// Appends the member y = s x, the child of the member x with this number, if the limit admits one more.
-    fn add(self, s: u8, parent: u32, child: &Child) -> Result<Builder<'a>, ContextFault>
-        requires parent { parent < length self.members }
-        requires short { length (word_at self.members parent) < MAX_LETTERS }
-        requires next { IsNext (integer_matrix self.search.matrix) self.members self.search.top self.search.earlier (s ∷ word_at self.members parent) child.now }
-        requires prefix { IsPrefixOf (IsWanted self.search) (self.members ++ (s ∷ word_at self.members parent) ∷ []) }
-        requires closed { length self.members < MAX_MEMBERS → IsClosed (integer_matrix self.search.matrix) (self.members ++ (s ∷ word_at self.members parent) ∷ []) }
-        ensures added { IfOk result (λ b. b ≡ record { search = self.entry.search; members = self.entry.members ++ (s ∷ word_at self.entry.members parent) ∷ [] }) }
-        ensures fault { IfErr result (IsRefusal (IsWanted self.entry.search) self.entry.search.limit) }
+    /// Appends the member y = s x, the child of the member x with this number, if the limit admits one more. After a fault all is as
+    /// before.
+    ///
+    /// Room is made in each table first, so that no table grows where another can not.
+    fn add(&mut self, s: u8, parent: u32, child: &Child) -> Result<(), ContextFault>
+        requires parent { parent < length self.old.members }
+        requires short { length (word_at self.old.members parent) < MAX_LETTERS }
+        requires next { IsNext (integer_matrix self.old.search.matrix) self.old.members self.old.search.top self.old.search.earlier
+            (s ∷ word_at self.old.members parent) child.now }
+        requires prefix { IsPrefixOf (IsWanted self.old.search) (self.old.members ++ (s ∷ word_at self.old.members parent) ∷ []) }
+        requires closed { length self.old.members < MAX_MEMBERS
+            → IsClosed (integer_matrix self.old.search.matrix) (self.old.members ++ (s ∷ word_at self.old.members parent) ∷ []) }
+        ensures added { OnOk result
+            (self.new ≡ record { search = self.old.search; members = self.old.members ++ (s ∷ word_at self.old.members parent) ∷ [] }) }
+        ensures kept { OnErr result (self.new ≡ self.old) }
+        ensures fault { IfErr result (IsRefusal (IsWanted self.old.search) self.old.search.limit) }
     {
         let rank = self.rank();
-        let Builder {
-            scope,
-            earlier,
-            limit,
-            mut listing,
-            mut numbers,
-        } = self;
-        let number = listing.members.len();
-        if number == limit {
+        let number = self.listing.members.len();
+        if number == self.limit {
             return Err(ContextFault::Size {
-                limit,
-                seen: limit + 1,
+                limit: self.limit,
+                seen: self.limit + 1,
             });
         }
-        if push_row(&mut listing.left, rank, number, &child.lower).is_err()
-            || listing.members.push(s, parent).is_err()
-            || numbers.push(child.number.unwrap_or(NO_MEMBER)).is_err()
+        if self.listing.left.reserve(rank as usize).is_err()
+            || self.numbers.reserve(1).is_err()
+            || self.listing.members.push(s, parent).is_err()
         {
             return Err(ContextFault::NoMemory);
         }
-        Ok(Builder {
-            scope,
-            earlier,
-            limit,
-            listing,
-            numbers,
-        })
+        push_row(&mut self.listing.left, rank, number, &child.lower);
+        self.numbers
+            .push_reserved(child.number.unwrap_or(NO_MEMBER));
+        Ok(())
     }
 
     /// Whether an element with one letter more comes from one of the members from low on, the longest.
     pub(crate) fn goes_on(&self, low: u32) -> bool
-        requires longest { (i k : ℕ) → low ≤ i → i < length self.now.members → k < length self.now.members → length (word_at self.now.members k) ≤ length (word_at self.now.members i) }
-        ensures yes { IsTrue result → (i : ℕ) × (s : ℕ) × (low ≤ i) × (i < length self.now.members) × IsLetter self.now.search.matrix.rank s × (¬ (IsLeftDescent (integer_matrix self.now.search.matrix) (word_at self.now.members i) s)) }
-        ensures no { ¬ (IsTrue result) → (i s : ℕ) → low ≤ i → i < length self.now.members → IsLetter self.now.search.matrix.rank s → IsLeftDescent (integer_matrix self.now.search.matrix) (word_at self.now.members i) s }
+        requires longest { (i k : ℕ) → low ≤ i → i < length self.now.members → k < length self.now.members
+            → length (word_at self.now.members k) ≤ length (word_at self.now.members i) }
+        ensures yes { IsTrue result → (i : ℕ) × (s : ℕ) × (low ≤ i) × (i < length self.now.members) × IsLetter self.now.search.matrix.rank s
+            × (¬ (IsLeftDescent (integer_matrix self.now.search.matrix) (word_at self.now.members i) s)) }
+        ensures no { ¬ (IsTrue result) → (i s : ℕ) → low ≤ i → i < length self.now.members → IsLetter self.now.search.matrix.rank s
+            → IsLeftDescent (integer_matrix self.now.search.matrix) (word_at self.now.members i) s }
     {
         let rank = self.rank();
         for i in low..self.len() {
@@ -309,23 +320,24 @@ impl<'a> Builder<'a> {
     }
 }
 
-/// Appends the row of the member y with this number: its shifts by the letters that shorten it, which are noted at both members.
-fn push_row(table: &mut Vec<u32>, rank: u32, number: u32, lower: &[u32]) -> Result<(), AllocError>
+/// Appends the row of the member y with this number, for which there is room: its shifts by the letters that shorten it, which are noted at
+/// both members.
+fn push_row(table: &mut Vec<u32>, rank: u32, number: u32, lower: &[u32])
     requires limit { rank ≤ MAX_RANK }
     requires few { number ≤ MAX_MEMBERS }
     requires size { length table.old.items ≡ number * rank }
+    requires room { vec_len table.old + rank ≤ vec_capacity table.old }
     requires lower { rank ≤ length lower.now }
     requires below { (t k : ℕ) → IsLetter rank t → entry rank lower.now t 0 ≡ Some k → k < number }
-    ensures { OnOk result (IsRowPushed rank number lower.now (rank + 1) table.old.items table.new.items) }
+    ensures { IsRowPushed rank number lower.now (rank + 1) table.old.items table.new.items }
 {
     for t in 1..rank as u8 + 1 {
         let shorter = entry(lower, rank, t, 0);
-        table.push(lower[t as usize - 1])?;
+        table.push_reserved(lower[t as usize - 1]);
         if let Some(k) = shorter {
             table[place(rank, t, k)] = number;
         }
     }
-    Ok(())
 }
 
 /// Whether the shift of a member by some letter is no member.

@@ -27,10 +27,11 @@ use cox_minroots::RootTable;
 use std::alloc::Global;
 use std::marker::Model;
 
-/// The elements of a Bruhat interval from the identity, or of a whole finite group: distinct normal forms in ShortLex order, closed downwards.
+/// The elements of a Bruhat interval from the identity, or of a whole finite group: distinct normal forms in ShortLex order, closed
+/// downwards.
 ///
-/// A member's number is its place in that order, from 0, so the identity has the number 0. The members' left and right shifts and descents are kept by number.
-/// Contracts see the Coxeter matrix and the list of the members; `len` tells what holds of each such list.
+/// A member's number is its place in that order, from 0, so the identity has the number 0. The members' left and right shifts and descents
+/// are kept by number. Contracts see the Coxeter matrix and the list of the members; `len` tells what holds of each such list.
 #[derive(Drop)]
 pub struct Context {
     group: Coxeter,
@@ -49,7 +50,8 @@ impl Model for Context {
 
     ghost view = { λ c. record { matrix = c.group; members = c.listing.members } };
 
-    ghost invariant = { λ c. IsContext (integer_matrix c.group) c.listing.members c.listing.left.items c.right.items c.left_descents.items c.right_descents.items };
+    ghost invariant = { λ c. IsContext (integer_matrix c.group) c.listing.members c.listing.left.items c.right.items c.left_descents.items
+        c.right_descents.items };
 }
 
 impl Context {
@@ -89,8 +91,8 @@ impl Context {
 
     /// The elements of a group.
     ///
-    /// `Size` where there are more than `limit` of them, and the first `limit` + 1 have at most `MAX_LETTERS` letters each; `Long` where one of the first
-    /// `limit` + 1 has one letter more, as in each infinite group if `limit` is great enough.
+    /// `Size` where there are more than `limit` of them, and the first `limit` + 1 have at most `MAX_LETTERS` letters each; `Long` where
+    /// one of the first `limit` + 1 has one letter more, as in each infinite group if `limit` is great enough.
     pub fn of_group(alloc: Global, group: &RootTable, limit: u32) -> Result<Context, ContextFault>
         requires some { 1 ≤ limit }
         requires limit { limit ≤ MAX_MEMBERS }
@@ -118,8 +120,8 @@ impl Context {
 
     /// Adds the elements x with x <= w, and tells the new number of each member that was there before.
     ///
-    /// `Size` where there are more than `limit` members then. After a fault the context is unchanged. In A 3 the interval of `12` has four elements;
-    /// with that of `21` there are five.
+    /// `Size` where there are more than `limit` members then. After a fault the context is unchanged. In A 3 the interval of `12` has four
+    /// elements; with that of `21` there are five.
     pub fn extend(
         &mut self,
         group: &RootTable,
@@ -223,7 +225,8 @@ impl Context {
         &self.group
     }
 
-    /// The number of the element that a word names; `None` exactly where it is no member. In A 2, with all six elements as members, that of `12121` is 2.
+    /// The number of the element that a word names; `None` exactly where it is no member. In A 2, with all six elements as members, that of
+    /// `12121` is 2.
     ///
     /// By right shifts, letter by letter, and by the normal form where one of these leads to no member.
     pub fn number_of(&self, group: &RootTable, word: &Word) -> Option<u32>

@@ -17,13 +17,15 @@ pub fn intervals()
     ensures unique { (g : CoxeterMatrix) → IsCoxeterMatrix g → (w : List ℕ) (words others : List (List ℕ))
         → IsListOf (IsInInterval (integer_matrix g) w) words → IsListOf (IsInInterval (integer_matrix g) w) others → words ≡ others }
     ensures downwards { (g : CoxeterMatrix) → IsCoxeterMatrix g → (w x z : List ℕ)
-        → IsElement (integer_matrix g) x → IsBelow (integer_matrix g) x z → IsInInterval (integer_matrix g) w z → IsInInterval (integer_matrix g) w x }
+        → IsElement (integer_matrix g) x → IsBelow (integer_matrix g) x z → IsInInterval (integer_matrix g) w z
+        → IsInInterval (integer_matrix g) w x }
 {}
 
 /// A group is too large for a context exactly where that is found by its first elements in ShortLex order.
 pub fn large_groups()
     ensures found { (g : CoxeterMatrix) → IsCoxeterMatrix g → (limit : ℕ) → IsTooLarge (IsElement (integer_matrix g)) limit
         → IsOver (IsElement (integer_matrix g)) limit ⊎ IsLong (IsElement (integer_matrix g)) limit }
-    ensures large { (g : CoxeterMatrix) (limit : ℕ) → IsOver (IsElement (integer_matrix g)) limit ⊎ IsLong (IsElement (integer_matrix g)) limit
+    ensures large { (g : CoxeterMatrix) (limit : ℕ)
+        → IsOver (IsElement (integer_matrix g)) limit ⊎ IsLong (IsElement (integer_matrix g)) limit
         → IsTooLarge (IsElement (integer_matrix g)) limit }
 {}

@@ -1,9 +1,9 @@
 //! Contexts: the members of a Bruhat interval from the identity, or of a whole finite group, with their numbers and shifts.
 //!
-//! A `Context` is a table on which rows, graphs and cells are computed. Contracts see the Coxeter matrix and the list of the members: distinct normal
-//! forms in ShortLex order, closed downwards in Bruhat order. It is proved that the members are exactly the interval or the group, that a context is
-//! refused exactly where it has too many members or one with too many letters, and what each look-up answers. A look-up takes no memory.
-//! It stands on the words of `cox_minroots` and the exchange and the lifting of `cox_reflect`.
+//! A `Context` is a table on which rows, graphs and cells are computed. Contracts see the Coxeter matrix and the list of the members:
+//! distinct normal forms in ShortLex order, closed downwards in Bruhat order. It is proved that the members are exactly the interval or the
+//! group, that a context is refused exactly where it has too many members or one with too many letters, and what each look-up answers. A
+//! look-up takes no memory. It stands on the words of `cox_minroots` and the exchange and the lifting of `cox_reflect`.
 //!
 //! - `context`: the type and its calls
 //! - `fault`: why a context is refused

@@ -30,9 +30,11 @@ pub(crate) fn is_meant(
     requires below { AreBelowTop (integer_matrix shifts.now.matrix) scope.now.top shifts.now.members numbers.now }
     requires count { length numbers.now ≡ length shifts.now.members }
     requires size { shifts.now.matrix.rank ≤ length lower.now }
-    requires inside { (t k : ℕ) → IsLetter shifts.now.matrix.rank t → entry shifts.now.matrix.rank lower.now t 0 ≡ Some k → k < length shifts.now.members }
+    requires inside { (t k : ℕ) → IsLetter shifts.now.matrix.rank t → entry shifts.now.matrix.rank lower.now t 0 ≡ Some k
+        → k < length shifts.now.members }
     ensures { (y : List ℕ) (s : ℕ) (earlier : List (List ℕ)) → IsLeftDescent (integer_matrix shifts.now.matrix) y s
-        → AreLower (integer_matrix shifts.now.matrix) shifts.now.members y lower.now → IsNumberOf earlier (normal_form (integer_matrix shifts.now.matrix) y) number
+        → AreLower (integer_matrix shifts.now.matrix) shifts.now.members y lower.now
+        → IsNumberOf earlier (normal_form (integer_matrix shifts.now.matrix) y) number
         → (IsTrue result ↔ IsMeant (integer_matrix shifts.now.matrix) scope.now.top earlier y) }
 {
     match number {
@@ -48,8 +50,10 @@ fn is_below_top(scope: &Scope, shifts: &LeftShifts, numbers: &[u32], lower: &[u3
     requires below { AreBelowTop (integer_matrix shifts.now.matrix) scope.now.top shifts.now.members numbers.now }
     requires count { length numbers.now ≡ length shifts.now.members }
     requires size { shifts.now.matrix.rank ≤ length lower.now }
-    requires inside { (t k : ℕ) → IsLetter shifts.now.matrix.rank t → entry shifts.now.matrix.rank lower.now t 0 ≡ Some k → k < length shifts.now.members }
-    ensures { (y : List ℕ) (s : ℕ) → IsLeftDescent (integer_matrix shifts.now.matrix) y s → AreLower (integer_matrix shifts.now.matrix) shifts.now.members y lower.now
+    requires inside { (t k : ℕ) → IsLetter shifts.now.matrix.rank t → entry shifts.now.matrix.rank lower.now t 0 ≡ Some k
+        → k < length shifts.now.members }
+    ensures { (y : List ℕ) (s : ℕ) → IsLeftDescent (integer_matrix shifts.now.matrix) y s
+        → AreLower (integer_matrix shifts.now.matrix) shifts.now.members y lower.now
         → (IsTrue result ↔ IsBelowTop (integer_matrix shifts.now.matrix) scope.now.top y) }
 {
     match &scope.top {
@@ -81,13 +85,16 @@ fn shares_descent(rank: u32, descents: &[u8], lower: &[u32], numbers: &[u32]) ->
     false
 }
 
-/// Whether y is below the element of a reduced word: by lifting (Humphreys 5.9), each letter of it that shortens what is left of y is taken off.
+/// Whether y is below the element of a reduced word: by lifting (Humphreys 5.9), each letter of it that shortens what is left of y is taken
+/// off.
 fn lifts(shifts: &LeftShifts, lower: &[u32], top: &Word) -> bool
     requires size { shifts.now.matrix.rank ≤ length lower.now }
-    requires inside { (t k : ℕ) → IsLetter shifts.now.matrix.rank t → entry shifts.now.matrix.rank lower.now t 0 ≡ Some k → k < length shifts.now.members }
+    requires inside { (t k : ℕ) → IsLetter shifts.now.matrix.rank t → entry shifts.now.matrix.rank lower.now t 0 ≡ Some k
+        → k < length shifts.now.members }
     requires letters { IsWord shifts.now.matrix.rank top.now.items }
     requires reduced { IsReduced (integer_matrix shifts.now.matrix) top.now.items }
-    ensures { (y : List ℕ) (s : ℕ) → IsLeftDescent (integer_matrix shifts.now.matrix) y s → AreLower (integer_matrix shifts.now.matrix) shifts.now.members y lower.now
+    ensures { (y : List ℕ) (s : ℕ) → IsLeftDescent (integer_matrix shifts.now.matrix) y s
+        → AreLower (integer_matrix shifts.now.matrix) shifts.now.members y lower.now
         → (IsTrue result ↔ IsBelow (integer_matrix shifts.now.matrix) y top.now.items) }
 {
     let _rank = shifts.rank();
@@ -101,7 +108,8 @@ fn lifts(shifts: &LeftShifts, lower: &[u32], top: &Word) -> bool
 /// The number of what is left of y after t is taken off, where t shortens it; y itself is left where no member is given.
 fn shorter_left(shifts: &LeftShifts, lower: &[u32], at: Option<u32>, t: u8) -> Option<u32>
     requires size { shifts.now.matrix.rank ≤ length lower.now }
-    requires inside { (t k : ℕ) → IsLetter shifts.now.matrix.rank t → entry shifts.now.matrix.rank lower.now t 0 ≡ Some k → k < length shifts.now.members }
+    requires inside { (t k : ℕ) → IsLetter shifts.now.matrix.rank t → entry shifts.now.matrix.rank lower.now t 0 ≡ Some k
+        → k < length shifts.now.members }
     requires member { IfSome at (λ i. i < length shifts.now.members) }
     requires letter { IsLetter shifts.now.matrix.rank t }
     ensures lower { (y : List ℕ) → AreLower (integer_matrix shifts.now.matrix) shifts.now.members y lower.now

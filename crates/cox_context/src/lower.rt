@@ -1,7 +1,7 @@
 //! The shorter elements t y of an element y = s x that is one letter longer than the member x, for each letter t that shortens y.
 //!
-//! Let t be another letter than s, and m the order of s t. Then t shortens y exactly where m is finite and the first m - 1 steps from x by t, s, t, ..
-//! all shorten. The next m - 1 steps lead back up on the other side, to t y. So all is read off the shifts of members.
+//! Let t be another letter than s, and m the order of s t. Then t shortens y exactly where m is finite and the first m - 1 steps from x by
+//! t, s, t, .. all shorten. The next m - 1 steps lead back up on the other side, to t y. So all is read off the shifts of members.
 ghost use Rattle.std.specs.Prelude.{◌≡◌, ◌<◌, ◌≤◌, ◌∷◌, length, Contains, IfOk, OnErr};
 ghost use Rattle.cox_base.specs.Matrix.{IsLetter};
 ghost use Rattle.cox_base.specs.IntegerMatrix.{integer_matrix};
@@ -23,7 +23,8 @@ pub(crate) fn lower_members(shifts: &LeftShifts, s: u8, i: u32) -> Result<[u32; 
     requires member { i < length shifts.now.members }
     requires new { ¬ (Contains shifts.now.members (normal_form (integer_matrix shifts.now.matrix) (s ∷ word_at shifts.now.members i))) }
     ensures lower { IfOk result (AreLower (integer_matrix shifts.now.matrix) shifts.now.members (s ∷ word_at shifts.now.members i)) }
-    ensures outside { OnErr result (IsOutside (integer_matrix shifts.now.matrix) shifts.now.members (s ∷ word_at shifts.now.members i) (length (word_at shifts.now.members i))) }
+    ensures outside { OnErr result (IsOutside (integer_matrix shifts.now.matrix) shifts.now.members (s ∷ word_at shifts.now.members i)
+        (length (word_at shifts.now.members i))) }
 {
     let mut lower = [NO_MEMBER; MAX_RANK];
     for t in 1..shifts.rank() as u8 + 1 {
@@ -41,7 +42,8 @@ fn lower_member(shifts: &LeftShifts, s: u8, t: u8, i: u32) -> Result<Option<u32>
     requires member { i < length shifts.now.members }
     requires new { ¬ (Contains shifts.now.members (normal_form (integer_matrix shifts.now.matrix) (s ∷ word_at shifts.now.members i))) }
     ensures lower { IfOk result (IsLower (integer_matrix shifts.now.matrix) shifts.now.members (s ∷ word_at shifts.now.members i) t) }
-    ensures outside { OnErr result (IsOutside (integer_matrix shifts.now.matrix) shifts.now.members (s ∷ word_at shifts.now.members i) (length (word_at shifts.now.members i))) }
+    ensures outside { OnErr result (IsOutside (integer_matrix shifts.now.matrix) shifts.now.members (s ∷ word_at shifts.now.members i)
+        (length (word_at shifts.now.members i))) }
 {
     let _rank = shifts.rank();
     if t == s {
@@ -58,7 +60,8 @@ fn walk(shifts: &LeftShifts, s: u8, t: u8, i: u32) -> Result<Option<u32>, Outsid
     requires member { i < length shifts.now.members }
     requires new { ¬ (Contains shifts.now.members (normal_form (integer_matrix shifts.now.matrix) (s ∷ word_at shifts.now.members i))) }
     ensures lower { IfOk result (IsLower (integer_matrix shifts.now.matrix) shifts.now.members (s ∷ word_at shifts.now.members i) t) }
-    ensures outside { OnErr result (IsOutside (integer_matrix shifts.now.matrix) shifts.now.members (s ∷ word_at shifts.now.members i) (length (word_at shifts.now.members i))) }
+    ensures outside { OnErr result (IsOutside (integer_matrix shifts.now.matrix) shifts.now.members (s ∷ word_at shifts.now.members i)
+        (length (word_at shifts.now.members i))) }
 {
     let _rank = shifts.rank();
     let order = shifts.label(t, s);

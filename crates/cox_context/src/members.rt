@@ -1,5 +1,5 @@
 //! The members of a context, by number.
-ghost use Rattle.std.specs.Prelude.{◌≡◌, ◌<◌, ◌≤◌, [], ◌∷◌, ◌++◌, length, IfOk, OnOk};
+ghost use Rattle.std.specs.Prelude.{◌≡◌, ◌<◌, ◌≤◌, [], ◌∷◌, ◌++◌, length, IfOk, OnOk, OnErr};
 ghost use Rattle.cox_context.specs.Numbers.{word_at};
 
 use cox_base::{MAX_LETTERS, Word};
@@ -98,7 +98,8 @@ impl Members {
         requires room { length self.old < MAX_MEMBERS }
         requires member { rest < length self.old }
         requires short { length (word_at self.old rest) < MAX_LETTERS }
-        ensures { OnOk result (self.new ≡ self.old ++ (s ∷ word_at self.old rest) ∷ []) }
+        ensures pushed { OnOk result (self.new ≡ self.old ++ (s ∷ word_at self.old rest) ∷ []) }
+        ensures kept { OnErr result (self.new ≡ self.old) }
     {
         let letters = self.links[rest as usize].letters + 1;
         self.links.push(Link {

@@ -47,7 +47,8 @@ fn right_shift(shifts: &LeftShifts, right: &[u32], s: u8, i: u32) -> Option<u32>
     requires letter { IsLetter shifts.now.matrix.rank s }
     requires before { i * shifts.now.matrix.rank ≤ length right.now }
     requires right { AreRightShifts (integer_matrix shifts.now.matrix) shifts.now.members right.now }
-    ensures { IsNumberOf shifts.now.members (normal_form (integer_matrix shifts.now.matrix) (word_at shifts.now.members i ++ s ∷ [])) result }
+    ensures { IsNumberOf shifts.now.members (normal_form (integer_matrix shifts.now.matrix) (word_at shifts.now.members i ++ s ∷ []))
+        result }
 {
     let _rank = shifts.rank();
     if i == 0 {
@@ -64,7 +65,8 @@ fn known_right_shift(shifts: &LeftShifts, right: &[u32], s: u8, i: u32) -> Optio
     requires member { i < length shifts.now.members }
     requires letter { IsLetter shifts.now.matrix.rank s }
     requires known { i * shifts.now.matrix.rank + (s - 1) < length right.now }
-    ensures { IsNumberOf shifts.now.members (normal_form (integer_matrix shifts.now.matrix) (word_at shifts.now.members i ++ s ∷ [])) result }
+    ensures { IsNumberOf shifts.now.members (normal_form (integer_matrix shifts.now.matrix) (word_at shifts.now.members i ++ s ∷ []))
+        result }
 {
     prove!(shifts.members().len() <= MAX_MEMBERS);
     entry(right, shifts.rank(), s, i)

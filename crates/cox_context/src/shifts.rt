@@ -51,8 +51,8 @@ pub(crate) fn number_at(numbers: &[u32], i: u32) -> Option<u32>
     entry(numbers, 1, 1, i)
 }
 
-/// Members of a group, closed downwards in Bruhat order, with the table of their left shifts, as they are lent. Contracts see the Coxeter matrix and
-/// the members.
+/// Members of a group, closed downwards in Bruhat order, with the table of their left shifts, as they are lent. Contracts see the Coxeter
+/// matrix and the members.
 #[derive(Drop)]
 pub(crate) struct LeftShifts<'a> {
     group: &'a Coxeter,

@@ -2,7 +2,8 @@
 //!
 //! `needs` gives the rows that each row needs. It may be any function, and actors and rows may be any numbers.
 ghost use Rattle.std.specs.Prelude.{ℕ, List};
-ghost use Rattle.cox_fill_core.specs.Laws.{KeepsGood, StaysGood, MissesLeast, IsWonOnce, IsMadeByWinner, IsPublishedForGood, IsVoidForGood, SeenStays};
+ghost use Rattle.cox_fill_core.specs.Laws.{KeepsGood, StaysGood, MissesLeast, IsWonOnce, IsMadeByWinner, IsPublishedForGood, IsVoidForGood};
+ghost use Rattle.cox_fill_core.specs.Laws.{SeenStays};
 
 /// The opening is good, each event keeps a good core good, and so every core that events lead to is good:
 /// a Claimed row is held by one actor and only one, no other row is held, a row that an actor has seen

@@ -1,5 +1,6 @@
 //! The lists of a core: which rows a row needs, and which rows an actor has seen Published.
-ghost use Rattle.std.specs.Prelude.{◌≡◌, ◌≢◌, ℕ, ◌<◌, Bool, false, true, not, ◌||◌, List, [], length, map, filter, replicate, slice_index_or, slice_set, vec_len, vec_items, IfOk, Contains};
+ghost use Rattle.std.specs.Prelude.{◌≡◌, ◌≢◌, ℕ, ◌<◌, Bool, false, true, not, ◌||◌, List, [], length, map, filter, replicate};
+ghost use Rattle.std.specs.Prelude.{slice_index_or, slice_set, vec_len, vec_items, IfOk, Contains};
 ghost use Rattle.cox_fill_core.specs.Fill.{least};
 ghost use Rattle.cox_fill_core.specs.Parts.{AddsMarks, TellsMarks, lesser_of};
 

@@ -1,5 +1,6 @@
 //! The fill core as a program: `Core` takes events one by one, or as a list.
-ghost use Rattle.std.specs.Prelude.{◌≡◌, ◌≢◌, ℕ, ◌<◌, true, [], length, vec_len, slice_index_or, replicate, IfOk, OnOk, OnErr, All, Ok, None, IsTrue};
+ghost use Rattle.std.specs.Prelude.{◌≡◌, ◌≢◌, ℕ, ◌<◌, true, [], length, vec_len, slice_index_or, replicate, IfOk, OnOk, OnErr, All, Ok};
+ghost use Rattle.std.specs.Prelude.{None, IsTrue};
 ghost use Rattle.cox_fill_core.specs.Fill.{opening_core, missing, after, reply, after_all, replies};
 ghost use Rattle.cox_fill_core.specs.Parts.{rows_at, given_needs, NeedsLower, is_held_by};
 ghost use Rattle.cox_fill_core.specs.declared.event.RowState.TheVariants.{Claimed, Free};

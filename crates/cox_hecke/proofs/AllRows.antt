@@ -10,7 +10,7 @@ use Rattle.cox_poly.specs.Coefficients.{Coefficients}
 use Rattle.cox_hecke.specs.Family.{Family}
 use Rattle.cox_hecke.specs.Row.{IsRow, IsKazhdanLusztig, IsMu, middle_coefficient}
 use Rattle.cox_hecke.proofs.Signed.{respected}
-use Rattle.cox_hecke.proofs.RowLemmas.{row-same, row-unique}
+use Rattle.cox_hecke.proofs.OneRow.{row-same, row-unique}
 use Rattle.cox_hecke.proofs.RowsExist.{row-exists}
 
 module _ (A : IntegerMatrix) (g : IsAdmissible A) where

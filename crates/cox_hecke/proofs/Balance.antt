@@ -23,7 +23,7 @@ use Rattle.cox_hecke.specs.Sums.{bar_sum}
 use Rattle.cox_hecke.specs.StepFamily.{step}
 use Rattle.cox_hecke.proofs.Descents.{Moves, left_moves}
 use Rattle.cox_hecke.proofs.BarSums.{step-shorter, step-longer}
-use Rattle.cox_hecke.proofs.SumLemmas.{sum_over-equal, sum_over-plus, sum_over-minus, sum_over-scaled, sum_over-times_q}
+use Rattle.cox_hecke.proofs.ListSums.{sum_over-equal, sum_over-plus, sum_over-minus, sum_over-scaled, sum_over-times_q}
 
 -- ---- polynomials
 

@@ -14,7 +14,7 @@ use Rattle.cox_poly.specs.Products.{product}
 use Rattle.cox_poly.specs.Multiples.{negated}
 use Rattle.cox_poly.proofs.Products.{product-plus, plus-product, negated-product, product-times_q, times_q-product}
 use Rattle.cox_rpoly.specs.RPolynomial.{r_polynomial}
-use Rattle.cox_rpoly.proofs.PolynomialLemmas.{r_polynomial-same}
+use Rattle.cox_rpoly.proofs.PolynomialsOfElements.{r_polynomial-same}
 use Rattle.cox_hecke.specs.Family.{Family, RespectsElements}
 use Rattle.cox_hecke.specs.Operators.{shortens_left}
 use Rattle.cox_hecke.specs.Sums.{bar_sum}
@@ -24,7 +24,7 @@ use Rattle.cox_hecke.specs.StepFamily.{step}
 use Rattle.cox_hecke.proofs.Descents.{nat_lt-yes, nat_lt-no, yes-nat_lt, no-nat_lt, shortens_left-same, shortens_left-back}
 use Rattle.cox_hecke.proofs.Signed.{respected}
 use Rattle.cox_hecke.proofs.RPolynomials.{r-left_shorter, r-left_longer, r-left_moved}
-use Rattle.cox_hecke.proofs.SumLemmas.{sum_over-lists}
+use Rattle.cox_hecke.proofs.ListSums.{sum_over-lists}
 use Rattle.cox_hecke.proofs.ElementLists.{paired, occurrences-paired}
 
 -- ---- one pair v, sv: p and r are the polynomials at v and sv, a and b are R(x,v) and R(sx,v)

@@ -22,7 +22,7 @@ use Rattle.cox_reflect.proofs.Roots.{left_descent-letter, descent-reverse, rever
 use Rattle.cox_reflect.proofs.Lengths.{cons-word_length}
 use Rattle.cox_reflect.proofs.Deletion.{left_length}
 use Rattle.cox_reflect.proofs.Bruhat.{below-length, below-equal_length}
-use Rattle.cox_reflect.proofs.WordLemmas.{reverse-push}
+use Rattle.cox_reflect.proofs.WordsAndSubwords.{reverse-push}
 use Rattle.cox_poly.specs.Coefficients.{Coefficients, times_q}
 use Rattle.cox_poly.specs.Products.{times_q_power}
 use Rattle.cox_poly.specs.Multiples.{scaled}

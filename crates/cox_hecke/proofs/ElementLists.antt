@@ -13,8 +13,7 @@ use Rattle.cox_base.specs.Length.{word_length}
 use Rattle.cox_base.specs.Descents.{IsLeftDescent}
 use Rattle.cox_base.specs.ShortLex.{normal_form}
 use Rattle.cox_base.specs.Bruhat.{IsBelow}
-use Rattle.cox_base.specs.Members.{IsElement}
-use Rattle.cox_base.specs.SortedList.{IsRising, IsListOf}
+use Rattle.cox_base.specs.SortedList.{IsListOf}
 use Rattle.cox_base.specs.Interval.{IsBetween}
 use Rattle.cox_reflect.proofs.Elements.{same-refl, same-sym, same-trans, same-cons, same-square}
 use Rattle.cox_reflect.proofs.Members.{In, here, there, Each-map, Each-from, In-map}
@@ -28,7 +27,7 @@ use Rattle.cox_reflect.proofs.Bruhat.{below-same, below-refl, below_identity, li
 use Rattle.cox_hecke.specs.ListedElements.{is_same, occurrences, ListsEach, LiesBetween}
 use Rattle.cox_hecke.specs.Operators.{shortens_left}
 use Rattle.cox_hecke.proofs.Descents.{yes-nat_lt, no-nat_lt, shortens_left-same, shortens_left-back, some_left_descent}
-use Rattle.cox_hecke.proofs.SumLemmas.{same-is_same, is_same-same, not_same-is_same, same_or_not, occurrences-at}
+use Rattle.cox_hecke.proofs.ListSums.{same-is_same, is_same-same, not_same-is_same, same_or_not, occurrences-at}
 
 -- x and sx for each x of the list with sx > x
 abbrev pub paired : IntegerMatrix → ℕ → List (List ℕ) → List (List ℕ)

@@ -15,7 +15,7 @@ use Rattle.cox_reflect.proofs.Lengths.{IsReduced-tail, cons-word_length}
 use Rattle.cox_poly.specs.Coefficients.{Coefficients, zero_polynomial, times_q, times_q_less_one}
 use Rattle.cox_poly.specs.Multiples.{minus, negated}
 use Rattle.cox_rpoly.specs.RPolynomial.{r_polynomial}
-use Rattle.cox_rpoly.proofs.AlongLemmas.{longer-length}
+use Rattle.cox_rpoly.proofs.AlongWords.{longer-length}
 use Rattle.cox_hecke.specs.Family.{Family}
 use Rattle.cox_hecke.specs.Operators.{basis, shortens_left, left_inverse_word}
 use Rattle.cox_hecke.specs.Sign.{times_sign}

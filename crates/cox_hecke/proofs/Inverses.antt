@@ -20,9 +20,9 @@ use Rattle.cox_hecke.specs.Sums.{bar_sum}
 use Rattle.cox_hecke.specs.Row.{IsRow}
 use Rattle.cox_hecke.specs.ListedElements.{is_same, occurrences, LiesBetween}
 use Rattle.cox_hecke.proofs.Signed.{at_inverses, at_inverses-respects}
-use Rattle.cox_hecke.proofs.SumLemmas.{same_or_not, same-is_same, not_same-is_same}
+use Rattle.cox_hecke.proofs.ListSums.{same_or_not, same-is_same, not_same-is_same}
 use Rattle.cox_hecke.proofs.ElementLists.{sorted-once}
-use Rattle.cox_hecke.proofs.RowLemmas.{row-bar}
+use Rattle.cox_hecke.proofs.OneRow.{row-bar}
 use Rattle.cox_hecke.proofs.RPolynomials.{r-inverse}
 
 module _ (A : IntegerMatrix) (g : IsAdmissible A) where

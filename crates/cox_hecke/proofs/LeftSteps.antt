@@ -30,9 +30,9 @@ use Rattle.cox_hecke.specs.ListedElements.{occurrences}
 use Rattle.cox_hecke.specs.Step.{IsCorrection}
 use Rattle.cox_hecke.specs.StepFamily.{step, Correction, corrected_elements, AreCorrections, correction_sum}
 use Rattle.cox_hecke.proofs.Descents.{nat_lt-yes, yes-nat_lt, shortens_left-back}
-use Rattle.cox_hecke.proofs.SumLemmas.{sum_over-lists}
+use Rattle.cox_hecke.proofs.ListSums.{sum_over-lists}
 use Rattle.cox_hecke.proofs.ElementLists.{Tells, below_list, occurrences-filter}
-use Rattle.cox_hecke.proofs.RowLemmas.{row-same, row-unique}
+use Rattle.cox_hecke.proofs.OneRow.{row-same, row-unique}
 use Rattle.cox_hecke.proofs.StepRow.{scale, half, correction, step_row, Corrects, correction-none, correction-value, step_row-at}
 use Rattle.cox_hecke.proofs.StepRow.{corrections-is}
 use Rattle.cox_hecke.proofs.StepRow.{scale-shortens, half-at, corrects_or_not, correction-same, scale-same}

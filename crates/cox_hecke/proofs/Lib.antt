@@ -7,7 +7,7 @@ pub mod WordOperators
 -- R by these operators: its recursion for every left and every right descent, and at inverses
 pub mod RPolynomials
 -- sums over lists of elements
-pub mod SumLemmas
+pub mod ListSums
 -- lists of the elements below one, and between two
 pub mod ElementLists
 -- bar respects 1 + T(s)
@@ -15,7 +15,7 @@ pub mod BarSums
 -- families that another one is turned round
 pub mod Balance
 -- rows: their last condition over any list; each element has at most one
-pub mod RowLemmas
+pub mod OneRow
 -- the step from the row of v to the row of sv
 pub mod StepRow
 -- the step family is the row
@@ -41,6 +41,6 @@ pub mod PolynomialValues
 -- step families
 pub mod StepFamilies
 -- which rows are needed
-pub mod NeedLemmas
+pub mod NeededElements
 -- T(w^-1)^-1 by R-polynomials
 pub mod Expansion

@@ -27,7 +27,7 @@ use Rattle.cox_hecke.proofs.Signed.{minus_signed}
 use Rattle.cox_hecke.proofs.Signed.{family_times_q, left_signed-back, back-left, by_left-respects, by_right-respects}
 use Rattle.cox_hecke.proofs.RPolynomials.{unit, unit-one, unit-other}
 use Rattle.cox_hecke.proofs.WordOperators.{left_along, back_along, left_along-same, back_along-same}
-use Rattle.cox_hecke.proofs.SumLemmas.{same_or_not, same-is_same, not_same-is_same}
+use Rattle.cox_hecke.proofs.ListSums.{same_or_not, same-is_same, not_same-is_same}
 use Rattle.cox_hecke.proofs.ElementLists.{is_same-moved}
 use Rattle.cox_hecke.proofs.Balance.{times_q-none}
 
@@ -149,7 +149,8 @@ module _ (A : IntegerMatrix) (g : IsAdmissible A) where
 
   -- ---- the same on the right
 
-  pub right-right_inverse : (s : ℕ) (h : Family) → IsLetter A.rank s → RespectsElements A h → right A s (right_inverse A s h) ≡ family_times_q h
+  pub right-right_inverse : (s : ℕ) (h : Family) → IsLetter A.rank s → RespectsElements A h
+      → right A s (right_inverse A s h) ≡ family_times_q h
   right-right_inverse s h l r =
       sym (at_inverses-by_left A g (plus_signed true) first_times_q s (left_inverse A s (at_inverses h))
       ∙ ap (right A s) (at_inverses-by_left A g first_alone (minus_signed true) s (at_inverses h) ∙ ap (right_inverse A s) (twice h)))

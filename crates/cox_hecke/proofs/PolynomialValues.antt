@@ -13,7 +13,7 @@ use Rattle.cox_hecke.specs.Family.{Family}
 use Rattle.cox_hecke.specs.Row.{IsRow, IsKazhdanLusztig}
 use Rattle.cox_hecke.proofs.Signed.{at_inverses}
 use Rattle.cox_hecke.proofs.Inverses.{row-reverse}
-use Rattle.cox_hecke.proofs.RowLemmas.{row-long}
+use Rattle.cox_hecke.proofs.OneRow.{row-long}
 use Rattle.cox_hecke.proofs.AllRows.{row_of, row_of-is, row_of-same, row_of-value, kazhdan_lusztig-value}
 use Rattle.cox_hecke.proofs.Descended.{row-left, row-right}
 

@@ -21,14 +21,14 @@ use Rattle.cox_base.specs.Descents.{IsLeftDescent, IsRightDescent}
 use Rattle.cox_reflect.proofs.Elements.{same-refl, same-sym, same-trans, same-cons, same-push, same-square, same-push_twice, same-reverse}
 use Rattle.cox_reflect.proofs.Search.{normal_form-same, word_length-equal, word_length-length, IsWord-normal_form}
 use Rattle.cox_reflect.proofs.Lengths.{word_length-is, word_length-reverse, IsReduced-normal_form, IsReduced-reverse, cons-word_length}
-use Rattle.cox_reflect.proofs.WordLemmas.{IsWord-reverse, reverse-push}
+use Rattle.cox_reflect.proofs.WordsAndSubwords.{IsWord-reverse, reverse-push}
 use Rattle.cox_reflect.proofs.Roots.{left_descent-letter, descent-reverse, reverse-descent}
 use Rattle.cox_reflect.proofs.Lengths.{empty_same}
 use Rattle.cox_poly.specs.Coefficients.{Coefficients, zero_polynomial, one_polynomial, plus, times_q, times_q_less_one}
 use Rattle.cox_poly.specs.Multiples.{minus}
 use Rattle.cox_rpoly.specs.RPolynomial.{r_along, r_polynomial}
-use Rattle.cox_rpoly.proofs.AlongLemmas.{along-shorter, along-longer}
-use Rattle.cox_rpoly.proofs.PolynomialLemmas.{r_polynomial-is, r_polynomial-same}
+use Rattle.cox_rpoly.proofs.AlongWords.{along-shorter, along-longer}
+use Rattle.cox_rpoly.proofs.PolynomialsOfElements.{r_polynomial-is, r_polynomial-same}
 use Rattle.cox_hecke.specs.Family.{Family, RespectsElements}
 use Rattle.cox_hecke.specs.Operators.{shortens_left, shortens_right}
 use Rattle.cox_hecke.proofs.Descents.{nat_lt-yes, nat_lt-no, yes-nat_lt, no-nat_lt, shortens_left-back}

@@ -12,7 +12,7 @@ use Rattle.cox_base.specs.Admissible.{IsAdmissible}
 use Rattle.cox_base.specs.Length.{word_length}
 use Rattle.cox_base.specs.Descents.{IsRightDescent}
 use Rattle.cox_reflect.proofs.Lengths.{word_length-reverse}
-use Rattle.cox_reflect.proofs.WordLemmas.{reverse-push}
+use Rattle.cox_reflect.proofs.WordsAndSubwords.{reverse-push}
 use Rattle.cox_reflect.proofs.Roots.{descent-reverse, reverse-descent}
 use Rattle.cox_poly.specs.Coefficients.{Coefficients, plus, times_q}
 use Rattle.cox_poly.specs.Products.{times_q_power}

@@ -8,7 +8,7 @@ use Rattle.cox_base.specs.IntegerMatrix.{IntegerMatrix}
 use Rattle.cox_base.specs.Admissible.{IsAdmissible}
 use Rattle.cox_base.specs.Element.{SameElement}
 use Rattle.cox_reflect.proofs.Elements.{same-trans, same-cons, same-push, same-square, same-push_twice, same-reverse}
-use Rattle.cox_reflect.proofs.WordLemmas.{reverse-push}
+use Rattle.cox_reflect.proofs.WordsAndSubwords.{reverse-push}
 use Rattle.cox_poly.specs.Coefficients.{Coefficients, plus, times_q, times_q_less_one}
 use Rattle.cox_poly.specs.Multiples.{minus, negated}
 use Rattle.cox_hecke.specs.Family.{Family, RespectsElements}

@@ -22,11 +22,11 @@ use Rattle.cox_hecke.specs.Row.{IsRow}
 use Rattle.cox_hecke.specs.ListedElements.{is_same, occurrences}
 use Rattle.cox_hecke.specs.StepFamily.{step}
 use Rattle.cox_hecke.proofs.Descents.{Moves, left_moves, shortens_left-same, shortens_left-back}
-use Rattle.cox_hecke.proofs.SumLemmas.{sum_over-equal, sum_over-none, sum_over-one, same-is_same}
+use Rattle.cox_hecke.proofs.ListSums.{sum_over-equal, sum_over-none, sum_over-one, same-is_same}
 use Rattle.cox_hecke.proofs.ElementLists.{Tells, Tells-ListsEach, below_list}
 use Rattle.cox_hecke.proofs.BarSums.{step-shorter, step-longer, step-respects}
 use Rattle.cox_hecke.proofs.Balance.{times_q-none}
-use Rattle.cox_hecke.proofs.RowLemmas.{row-from, row-long, row-longer, row-other, one_above, outside_path}
+use Rattle.cox_hecke.proofs.OneRow.{row-from, row-long, row-longer, row-other, one_above, outside_path}
 use Rattle.cox_hecke.proofs.StepRow.{scale, half, correction, corrections, step_row, Corrects, scale-is, correction-none, correction-value}
 use Rattle.cox_hecke.proofs.StepRow.{step_row-at, corrections-is}
 use Rattle.cox_hecke.proofs.StepRow.{size, upper, descent, lower_below, corrects_or_not, half-is, correction-same, corrections-respects}
@@ -226,7 +226,8 @@ module _ (A : IntegerMatrix) (v : List ℕ) (s : ℕ) (p : Family) (P : List ℕ
       outside : (x : List ℕ) → (IsBelow A x (s ∷ v) → ⊥) → (k : ℕ) → step_row A v s p P words x k ≡ pos 0
       outside x n k =
           let here : p x ≡ zero_polynomial = outside_path A g v p row.outside x (λ b. n (below-trans A g b shorter_below))
-          in let there : p (s ∷ x) ≡ zero_polynomial = outside_path A g v p row.outside (s ∷ x) (λ b. n (moved (below-trans A g b shorter_below)))
+          in let there : p (s ∷ x) ≡ zero_polynomial =
+          outside_path A g v p row.outside (s ∷ x) (λ b. n (moved (below-trans A g b shorter_below)))
           in omega (
             arith,
             ints,

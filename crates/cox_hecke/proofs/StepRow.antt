@@ -32,13 +32,13 @@ use Rattle.cox_hecke.specs.ListedElements.{occurrences}
 use Rattle.cox_hecke.specs.StepFamily.{step}
 use Rattle.cox_hecke.proofs.Descents.{Moves, left_moves, yes-nat_lt, shortens_left-same, shortens_left-back}
 use Rattle.cox_hecke.proofs.Signed.{respected}
-use Rattle.cox_hecke.proofs.SumLemmas.{sum_over-equal, sum_over-none}
+use Rattle.cox_hecke.proofs.ListSums.{sum_over-equal, sum_over-none}
 use Rattle.cox_hecke.proofs.ElementLists.{Tells, Tells-ListsEach, below_or_not}
 use Rattle.cox_hecke.proofs.BarSums.{bar-shorter, bar-longer}
 use Rattle.cox_hecke.proofs.Balance.{Balanced, Balanced-none, Balanced-plus, Balanced-minus, Balanced-scaled, Balanced-times_q_power}
 use Rattle.cox_hecke.proofs.Balance.{Balanced-step}
 use Rattle.cox_hecke.proofs.Balance.{step_sums, bar_sum-plus, bar_sum-minus, bar_sum-scaled, bar_sum-times_q_power}
-use Rattle.cox_hecke.proofs.RowLemmas.{row-balanced}
+use Rattle.cox_hecke.proofs.OneRow.{row-balanced}
 
 module _ (A : IntegerMatrix) (v : List ℕ) (s : ℕ) (p : Family) (P : List ℕ → Family) where
   -- mu(z,v) where s shortens z, else 0

@@ -17,8 +17,8 @@ use Rattle.cox_poly.specs.Multiples.{minus, negated}
 use Rattle.cox_poly.specs.Size.{HasDegreeAtMost}
 use Rattle.cox_poly.proofs.Coefficients.{flip_at, flip_above, flip-suc, flip-times_q}
 use Rattle.cox_rpoly.specs.RPolynomial.{r_along, r_polynomial}
-use Rattle.cox_rpoly.proofs.AlongLemmas.{along-identity, along-shorter, along-longer, along-long, along-degree, shortens}
-use Rattle.cox_rpoly.proofs.PolynomialLemmas.{r_polynomial-is}
+use Rattle.cox_rpoly.proofs.AlongWords.{along-identity, along-shorter, along-longer, along-long, along-degree, shortens}
+use Rattle.cox_rpoly.proofs.PolynomialsOfElements.{r_polynomial-is}
 use Rattle.cox_hecke.specs.Sign.{times_sign}
 use Rattle.cox_hecke.proofs.Balance.{flip-one, flip-none, flip-plus, flip-minus}
 

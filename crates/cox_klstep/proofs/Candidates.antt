@@ -9,7 +9,7 @@ use Rattle.cox_context.specs.Numbers.{word_at}
 use Rattle.cox_row.specs.Rising.{number_at}
 use Rattle.cox_row.specs.Extremal.{IsExtremal}
 use Rattle.cox_row.specs.LetterSets.{IsSubset, AreRightDescents}
-use Rattle.cox_row.proofs.RisingLemmas.{rising-most}
+use Rattle.cox_row.proofs.RisingNumbers.{rising-most}
 use Rattle.cox_klstep.specs.declared.making.Target.{Target}
 use Rattle.cox_klstep.specs.TargetOf.{IsTarget}
 use Rattle.cox_klstep.specs.TablesOf.{AreCandidates}

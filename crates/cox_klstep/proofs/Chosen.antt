@@ -16,8 +16,8 @@ use Rattle.cox_hecke.specs.Step.{IsCorrection}
 use Rattle.cox_context.specs.Numbers.{word_at}
 use Rattle.cox_row.specs.Rising.{number_at}
 use Rattle.cox_row.specs.Mus.{AreMus}
-use Rattle.cox_row.proofs.MuLemmas.{mu-words}
-use Rattle.cox_row.proofs.RisingLemmas.{few-rising}
+use Rattle.cox_row.proofs.MuOfElements.{mu-words}
+use Rattle.cox_row.proofs.RisingNumbers.{few-rising}
 use Rattle.cox_klstep.specs.declared.step.Correction.{Correction}
 use Rattle.cox_klstep.specs.StepOf.{correction_at, AreNumbered}
 use Rattle.cox_klstep.specs.NeedsOf.{AreNeeds}

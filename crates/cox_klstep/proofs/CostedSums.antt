@@ -1,7 +1,7 @@
 -- What the corrections among the neighbours cost, one neighbour after another.
 use Rattle.std.proofs.Common.{◌≡◌, ℕ, ◌+◌, ◌<◌, ◌≤◌, List, [], ◌∷◌, ◌++◌, length, ℤ, refl, arith}
 use Rattle.std.proofs.lemmas.List.Sums.{sum_by_push}
-use Rattle.cox_lemmas.proofs.PushLemmas.{push-length}
+use Rattle.cox_lemmas.proofs.PushedItems.{push-length}
 use Rattle.cox_base.specs.declared.side.Side.{Side}
 use Rattle.cox_base.specs.IntegerMatrix.{IntegerMatrix}
 use Rattle.cox_base.specs.Admissible.{IsAdmissible}
@@ -11,7 +11,7 @@ use Rattle.cox_context.specs.Closed.{IsClosed}
 use Rattle.cox_context.specs.Numbers.{word_at}
 use Rattle.cox_row.specs.Rising.{number_at}
 use Rattle.cox_row.specs.Mus.{value_at, AreMus}
-use Rattle.cox_row.proofs.RisingLemmas.{few-rising}
+use Rattle.cox_row.proofs.RisingNumbers.{few-rising}
 use Rattle.cox_klstep.specs.declared.step.Correction.{Correction}
 use Rattle.cox_klstep.specs.StepOf.{correction_at, AreNumbered}
 use Rattle.cox_klstep.specs.ChoiceOf.{total_cost}

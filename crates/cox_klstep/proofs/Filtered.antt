@@ -1,7 +1,7 @@
 -- The corrections are the neighbours of sw that s shortens, in order.
 use Rattle.std.proofs.Common.{◌≡◌, ℕ, ◌+◌, ◌*◌, ◌<◌, ◌≤◌, List, [], ◌∷◌, ◌++◌, length, ℤ, refl, sym, ◌∙◌, ⊎_elim, arith}
 use Rattle.std.proofs.lemmas.Bool.{cases_lt}
-use Rattle.cox_lemmas.proofs.PushLemmas.{push-length, push-old, push-new, push_cases}
+use Rattle.cox_lemmas.proofs.PushedItems.{push-length, push-old, push-new, push_cases}
 use Rattle.cox_base.specs.declared.side.Side.{Side}
 use Rattle.cox_base.specs.IntegerMatrix.{IntegerMatrix}
 use Rattle.cox_base.specs.Admissible.{IsAdmissible}
@@ -19,10 +19,10 @@ use Rattle.cox_context.specs.Numbers.{word_at}
 use Rattle.cox_context.proofs.Shifting.{length-at}
 use Rattle.cox_row.specs.Rising.{number_at}
 use Rattle.cox_row.specs.Mus.{value_at, AreMus}
-use Rattle.cox_row.proofs.MuLemmas.{mu-words}
+use Rattle.cox_row.proofs.MuOfElements.{mu-words}
 use Rattle.cox_klstep.specs.declared.step.Correction.{Correction}
 use Rattle.cox_klstep.specs.StepOf.{correction_at, AreNumbered}
-use Rattle.cox_klstep.proofs.SideLemmas.{lowered-length}
+use Rattle.cox_klstep.proofs.DescentsOnSides.{lowered-length}
 
 -- the corrections by the neighbours at the places before p
 pub record AreFiltered (side : Side) (A : IntegerMatrix) (members : List (List ℕ)) (s : ℕ) (w : List ℕ) (numbers : List ℕ) (p : ℕ)

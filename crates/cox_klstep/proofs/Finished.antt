@@ -19,13 +19,13 @@ use Rattle.cox_klstep.specs.Drafts.{AreBegun, AreNoted}
 use Rattle.cox_row.specs.Polynomials.{polynomial_at, HavePolynomials}
 use Rattle.cox_row.specs.Rising.{number_at}
 use Rattle.cox_row.specs.Mus.{value_at}
-use Rattle.cox_row.proofs.PoolLemmas.{kept}
+use Rattle.cox_row.proofs.PoolOfRow.{kept}
 use Rattle.cox_poly.specs.Limit.{AllWithin}
 use Rattle.cox_row.specs.declared.row.TheConstants.{MU_LIMIT}
 use Rattle.cox_klstep.specs.Limits.{IsLargeMu}
 use Rattle.cox_klstep.specs.LargeMembers.{IsWithinLimit}
 use Rattle.cox_klstep.specs.Faults.{IsFault, IsNarrowFault, IsFirstLargeMu, IsAboveAt}
-use Rattle.cox_klstep.proofs.LargeLemmas.{outside-none, within-none}
+use Rattle.cox_klstep.proofs.LargeCoefficients.{outside-none, within-none}
 use Rattle.cox_klstep.specs.declared.fault.StepFault.{StepFault}
 use Rattle.cox_klstep.specs.declared.fault.StepFault.TheVariants.{Coefficient, Mu, NoMemory}
 

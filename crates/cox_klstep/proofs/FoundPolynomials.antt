@@ -1,7 +1,7 @@
 -- One extremal member more with its polynomial, or a member that is not extremal or not below w.
 use Rattle.std.proofs.Common.{◌≡◌, ◌≢◌, ◌⊎◌, inl, inr, ℕ, ◌+◌, ◌<◌, ◌≤◌, List, [], ◌∷◌, ◌++◌, length, ℤ, refl, sym, ◌∙◌, ⊎_elim, arith}
 use Rattle.std.proofs.lemmas.Bool.{cases_lt}
-use Rattle.cox_lemmas.proofs.PushLemmas.{push-length, push-old, push-new, push_cases}
+use Rattle.cox_lemmas.proofs.PushedItems.{push-length, push-old, push-new, push_cases}
 use Rattle.cox_base.specs.IntegerMatrix.{IntegerMatrix}
 use Rattle.cox_base.specs.Bruhat.{IsBelow}
 use Rattle.cox_poly.specs.Polynomial.{coefficient}
@@ -10,7 +10,7 @@ use Rattle.cox_context.specs.Numbers.{word_at}
 use Rattle.cox_row.specs.Rising.{number_at}
 use Rattle.cox_row.specs.Extremal.{IsExtremal}
 use Rattle.cox_row.specs.Polynomials.{polynomial_at, IsPool}
-use Rattle.cox_row.proofs.RisingLemmas.{each-push, rising-push, within-push, found-push}
+use Rattle.cox_row.proofs.RisingNumbers.{each-push, rising-push, within-push, found-push}
 use Rattle.cox_klstep.specs.LargeMembers.{IsWithinLimit}
 use Rattle.cox_klstep.specs.Drafts.{IsPooled, AreBegun}
 

@@ -24,7 +24,7 @@ use Rattle.cox_klstep.specs.Faults.{IsFirstLarge}
 use Rattle.cox_klstep.specs.Drafts.{AreBegun, AreNoted}
 use Rattle.cox_klstep.proofs.Middles.{middle-even, noted-skip}
 use Rattle.cox_klstep.proofs.FoundPolynomials.{begun-keep}
-use Rattle.cox_klstep.proofs.LargeLemmas.{within-none}
+use Rattle.cox_klstep.proofs.LargeCoefficients.{within-none}
 use Rattle.cox_klstep.proofs.Finished.{finished-extremal, finished-mus, none-large}
 
 pub identity-within : (limit : ℤ) → pos 1 ≤ℤ limit → (j : ℕ) → j < length ((pos 1 ∷ []) ∷ [])

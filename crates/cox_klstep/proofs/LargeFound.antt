@@ -16,8 +16,8 @@ use Rattle.cox_klstep.specs.declared.values.LargeCoefficient.{LargeCoefficient}
 use Rattle.cox_klstep.specs.Limits.{IsLargeCoefficient}
 use Rattle.cox_klstep.specs.LargeMembers.{IsWithinLimit, IsLeastLarge, coefficient_at, fault_by, AreLarge}
 use Rattle.cox_klstep.specs.Faults.{IsFault}
-use Rattle.cox_klstep.proofs.LargeLemmas.{outside-none, large-to, least-from}
-use Rattle.cox_lemmas.proofs.PushLemmas.{push-length, push-old, push-new, push_cases}
+use Rattle.cox_klstep.proofs.LargeCoefficients.{outside-none, large-to, least-from}
+use Rattle.cox_lemmas.proofs.PushedItems.{push-length, push-old, push-new, push_cases}
 
 pub large-start : (A : IntegerMatrix) (members : List (List ℕ)) (w : List ℕ) (limit : ℤ) → AreLarge A members w limit 0 [] []
 large-start A members w limit = record {

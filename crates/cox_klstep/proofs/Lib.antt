@@ -3,7 +3,7 @@ pub mod AddedSums
 -- lists of numbered corrections
 pub mod NumberedLists
 -- descents on either side
-pub mod SideLemmas
+pub mod DescentsOnSides
 -- the recursion by numbers
 pub mod NumberedRecursion
 -- least descents
@@ -15,7 +15,7 @@ pub mod Middles
 -- polynomials as they are found
 pub mod FoundPolynomials
 -- coefficients above the limit
-pub mod LargeLemmas
+pub mod LargeCoefficients
 -- members with a coefficient above the limit
 pub mod LargeFound
 -- the row when each member is done
@@ -25,13 +25,13 @@ pub mod IdentityRow
 -- the rows that a row is made from: where they stand, and when they are there
 pub mod NeededRows
 -- inverses by number
-pub mod InverseLemmas
+pub mod InverseNumbers
 -- numbers that are picked from a list
 pub mod Picked
 -- the corrections of the step by the least left descent, picked from the neighbours
 pub mod PickedNeeds
 -- lists of candidates
-pub mod CandidateLemmas
+pub mod CandidateLists
 -- shifts that are shorter
 pub mod Shifts
 -- which step is chosen
@@ -43,6 +43,6 @@ pub mod Candidates
 -- how many polynomials are added up
 pub mod StepCounts
 -- fingerprints of the polynomials of a pool
-pub mod PrintLemmas
+pub mod PoolPrints
 -- inverses as they are listed and sorted, and the row that they give
-pub mod TurnedLemmas
+pub mod TurnedRows

@@ -3,14 +3,14 @@ use Rattle.std.proofs.Common.{◌≡◌, ◌≢◌, ℕ, ◌+◌, ◌/◌, ◌%�
 use Rattle.std.proofs.Common.{ℤ, pos}
 use Rattle.std.proofs.Common.{refl, ⊎_elim, arith}
 use Rattle.std.proofs.lemmas.Bool.{cases_lt, eq-eqb, eqb-true}
-use Rattle.cox_lemmas.proofs.PushLemmas.{push-length, push-old, push-new, push_cases}
+use Rattle.cox_lemmas.proofs.PushedItems.{push-length, push-old, push-new, push_cases}
 use Rattle.cox_base.specs.IntegerMatrix.{IntegerMatrix}
 use Rattle.cox_base.specs.Admissible.{IsAdmissible}
 use Rattle.cox_poly.specs.Coefficients.{Coefficients}
 use Rattle.cox_hecke.specs.Row.{IsMu, middle_coefficient}
 use Rattle.cox_hecke.proofs.AllRows.{mu-unique}
 use Rattle.cox_context.specs.Numbers.{word_at}
-use Rattle.cox_row.proofs.RisingLemmas.{rising-push, within-push, found-push}
+use Rattle.cox_row.proofs.RisingNumbers.{rising-push, within-push, found-push}
 use Rattle.cox_klstep.specs.LargeMembers.{IsWithinLimit}
 use Rattle.cox_klstep.specs.Drafts.{AreNoted}
 

@@ -14,7 +14,7 @@ use Rattle.cox_poly.specs.Multiples.{scaled}
 use Rattle.cox_hecke.specs.Family.{Family}
 use Rattle.cox_hecke.specs.ListedElements.{is_same, occurrences}
 use Rattle.cox_hecke.specs.StepFamily as hecke
-use Rattle.cox_hecke.proofs.SumLemmas.{same-is_same, not_same-is_same}
+use Rattle.cox_hecke.proofs.ListSums.{same-is_same, not_same-is_same}
 use Rattle.cox_context.specs.Closed.{IsClosed}
 use Rattle.cox_context.specs.Numbers.{word_at}
 use Rattle.cox_context.proofs.PlacedWords.{rising-place}

@@ -24,11 +24,11 @@ use Rattle.cox_context.specs.Closed.{IsClosed}
 use Rattle.cox_context.specs.Numbers.{word_at}
 use Rattle.cox_context.proofs.PlacedWords.{contains-placed, contains-at}
 use Rattle.cox_context.proofs.Shifting.{member-below, length-at}
-use Rattle.cox_row.proofs.RisingLemmas.{few-rising}
+use Rattle.cox_row.proofs.RisingNumbers.{few-rising}
 use Rattle.cox_klstep.specs.declared.step.Correction.{Correction}
 use Rattle.cox_klstep.specs.StepOf.{correction_at, AreNumbered}
 use Rattle.cox_klstep.specs.CorrectionSums.{GivesAt, numbered_sum}
-use Rattle.cox_klstep.proofs.SideLemmas.{lowered-below, descent-same, lifted-down}
+use Rattle.cox_klstep.proofs.DescentsOnSides.{lowered-below, descent-same, lifted-down}
 use Rattle.cox_klstep.proofs.NumberedLists.{named, named-sum, occurs-once}
 
 module _ (side : Side) (A : IntegerMatrix) (g : IsAdmissible A) (members : List (List ℕ)) (closed : IsClosed A members) (i : ℕ)

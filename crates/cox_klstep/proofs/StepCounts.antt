@@ -8,7 +8,7 @@ use Rattle.cox_context.specs.Numbers.{word_at}
 use Rattle.cox_row.specs.Extremal.{IsExtremal}
 use Rattle.cox_row.specs.Rising.{number_at}
 use Rattle.cox_row.specs.ExtremalNumbers.{AreExtremal}
-use Rattle.cox_row.proofs.RisingLemmas.{rising-most}
+use Rattle.cox_row.proofs.RisingNumbers.{rising-most}
 use Rattle.cox_base.specs.IntegerMatrix.{integer_matrix}
 use Rattle.cox_base.specs.Admissible.{IsAdmissible}
 use Rattle.cox_context.specs.Closed.{IsClosed}

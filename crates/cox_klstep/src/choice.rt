@@ -41,10 +41,14 @@ pub(crate) fn cheapest_step<L: LowerRows>(
     ensures member { IfOk result (λ step. step.member ≡ i) }
     ensures step { IfOk result (IsRowStep ctx.now) }
     ensures lower { IfOk result (λ step. L.holds lower.now step.lower) }
-    ensures corrected { IfOk result (λ step. (k : ℕ) → k < length step.corrections.items → L.holds lower.now (correction_at step.corrections.items k).number) }
-    ensures few { IfOk result (λ step. (s : ℕ) (numbers : List ℕ) → IsLeastLeftDescent (integer_matrix ctx.now.matrix) (word_at ctx.now.members i) s
-        → AreNeeds (integer_matrix ctx.now.matrix) ctx.now.members s (word_at ctx.now.members i) numbers → length step.corrections.items ≤ length numbers) }
-    ensures cheap { IfOk result (λ step. (s : ℕ) (list : List Correction) → IsLeastLeftDescent (integer_matrix ctx.now.matrix) (word_at ctx.now.members i) s
+    ensures corrected { IfOk result (λ step. (k : ℕ) → k < length step.corrections.items
+        → L.holds lower.now (correction_at step.corrections.items k).number) }
+    ensures few { IfOk result (λ step. (s : ℕ) (numbers : List ℕ)
+        → IsLeastLeftDescent (integer_matrix ctx.now.matrix) (word_at ctx.now.members i) s
+        → AreNeeds (integer_matrix ctx.now.matrix) ctx.now.members s (word_at ctx.now.members i) numbers
+        → length step.corrections.items ≤ length numbers) }
+    ensures cheap { IfOk result (λ step. (s : ℕ) (list : List Correction)
+        → IsLeastLeftDescent (integer_matrix ctx.now.matrix) (word_at ctx.now.members i) s
         → AreNumbered Side.Left (integer_matrix ctx.now.matrix) ctx.now.members s (word_at ctx.now.members i) list
         → total_cost step.corrections.items ≤ total_cost list) }
 {
@@ -147,8 +151,8 @@ fn cheaper<L: LowerRows>(
     }
 }
 
-/// What a step costs, if that is below a bound: the sum of the numbers of its corrections, each one more. `None` where it is not, where a row is not
-/// there, or where there are more than `most` corrections.
+/// What a step costs, if that is below a bound: the sum of the numbers of its corrections, each one more. `None` where it is not, where a
+/// row is not there, or where there are more than `most` corrections.
 fn cost<L: LowerRows>(
     ctx: &Context,
     side: Side,
@@ -172,8 +176,8 @@ fn cost<L: LowerRows>(
     }
 }
 
-/// The sum of the numbers of the corrections of a step, each one more, if it is below a bound. `None` where it is not, or where there are more than
-/// `most` corrections. It looks at no other row, since most steps are out of the question by their sums.
+/// The sum of the numbers of the corrections of a step, each one more, if it is below a bound. `None` where it is not, or where there are
+/// more than `most` corrections. It looks at no other row, since most steps are out of the question by their sums.
 pub fn correction_sum(
     ctx: &Context,
     side: Side,
@@ -184,9 +188,13 @@ pub fn correction_sum(
 ) -> Option<u64>
     requires descent { IsLowering ctx.now side descent.now }
     requires row { IsRowAt ctx.now descent.now.lower row.now }
-    ensures few { IfSome result (λ _. (list : List Correction) → AreNumbered side (integer_matrix ctx.now.matrix) ctx.now.members descent.now.letter (word_at ctx.now.members descent.now.member) list
+    ensures few { IfSome result (λ _. (list : List Correction)
+        → AreNumbered side (integer_matrix ctx.now.matrix) ctx.now.members descent.now.letter
+        (word_at ctx.now.members descent.now.member) list
         → length list ≤ most) }
-    ensures sum { IfSome result (λ sum. (list : List Correction) → AreNumbered side (integer_matrix ctx.now.matrix) ctx.now.members descent.now.letter (word_at ctx.now.members descent.now.member) list
+    ensures sum { IfSome result (λ sum. (list : List Correction)
+        → AreNumbered side (integer_matrix ctx.now.matrix) ctx.now.members descent.now.letter
+        (word_at ctx.now.members descent.now.member) list
         → sum ≡ total_cost list) }
     ensures less { IfSome result (λ sum. sum < bound) }
 {
@@ -217,7 +225,8 @@ fn has_corrections<L: LowerRows>(
     requires descent { IsLowering ctx.now side descent.now }
     requires row { IsRowAt ctx.now descent.now.lower row.now }
     ensures { IsTrue result → (u : ℕ) (m : ℤ) → u < length ctx.now.members
-        → IsCorrection side (integer_matrix ctx.now.matrix) descent.now.letter (times_letter side descent.now.letter (word_at ctx.now.members descent.now.member)) (word_at ctx.now.members u) m
+        → IsCorrection side (integer_matrix ctx.now.matrix) descent.now.letter
+        (times_letter side descent.now.letter (word_at ctx.now.members descent.now.member)) (word_at ctx.now.members u) m
         → L.holds lower.now u }
 {
     let _len = ctx.len();

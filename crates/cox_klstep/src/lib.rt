@@ -1,8 +1,9 @@
 //! Makes the row of Kazhdan-Lusztig polynomials of a member w of a context from rows that are at hand.
 //!
-//! For a descent s of w on the left, v = sw, and an extremal x <= w, P(x,w) is P(sx,v) + q P(x,v), less the sum of mu(u,v) q^((l(w)-l(u))/2) P(x,u)
-//! over the u with su < u (Kazhdan and Lusztig 1979, 2.2.c; Humphreys 7.11); and the same on the right. Of all descents whose rows are there the one
-//! with the cheapest corrections is taken; it is proved that these cost no more than those of the least left descent. Where the row of the inverse of w is there, P(x,w) is read off that as P(x^-1,w^-1).
+//! For a descent s of w on the left, v = sw, and an extremal x <= w, P(x,w) is P(sx,v) + q P(x,v), less the sum of mu(u,v)
+//! q^((l(w)-l(u))/2) P(x,u) over the u with su < u (Kazhdan and Lusztig 1979, 2.2.c; Humphreys 7.11); and the same on the right. Of all
+//! descents whose rows are there the one with the cheapest corrections is taken; it is proved that these cost no more than those of the
+//! least left descent. Where the row of the inverse of w is there, P(x,w) is read off that as P(x^-1,w^-1).
 //!
 //! - `member`: the row of a member, the row of the identity, and the rows that a row is made from
 //! - `choice`: which step is taken

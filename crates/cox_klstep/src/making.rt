@@ -1,5 +1,6 @@
 //! Makes the row of a member, candidate by candidate.
-ghost use Rattle.std.specs.Prelude.{◌≡◌, ℕ, ◌+◌, ◌*◌, ◌<◌, ◌≤◌, length, IfOk, IfErr, IfSome, IfNone, ℤ, pos, ◌≤ℤ◌, unsigned_abs, OnOk, ◌↔◌, IsTrue, IsBitSet};
+ghost use Rattle.std.specs.Prelude.{◌≡◌, ℕ, ◌+◌, ◌*◌, ◌<◌, ◌≤◌, length, IfOk, IfErr, IfSome, IfNone, ℤ, pos, ◌≤ℤ◌, unsigned_abs, OnOk, ◌↔◌};
+ghost use Rattle.std.specs.Prelude.{IsTrue, IsBitSet};
 ghost use Rattle.cox_base.specs.IntegerMatrix.{integer_matrix};
 ghost use Rattle.cox_context.specs.Numbers.{word_at};
 ghost use Rattle.cox_row.specs.RowOf.{IsRowAt};
@@ -26,8 +27,8 @@ use std::alloc::{AllocError, Global};
 
 /// The row of a member, from what its polynomials come from and the candidates up to the member for its left descents.
 ///
-/// `Coefficient` where a coefficient is above the limit in absolute value, at the first member x that has one and its least degree; and `Mu` where
-/// none is but a value of mu is above [`MU_LIMIT`].
+/// `Coefficient` where a coefficient is above the limit in absolute value, at the first member x that has one and its least degree; and
+/// `Mu` where none is but a value of mu is above [`MU_LIMIT`].
 pub(crate) fn make_row(
     alloc: Global,
     ctx: &Context,
@@ -242,7 +243,8 @@ pub(crate) fn is_subset(wanted: u16, present: u16) -> bool
     wanted & !present == 0
 }
 
-/// The least number from a given one on of a shift sw or ws that is shorter than w, for the member w with the number i; i where there is none.
+/// The least number from a given one on of a shift sw or ws that is shorter than w, for the member w with the number i; i where there is
+/// none.
 pub(crate) fn least_shift(ctx: &Context, i: u32, from: u32) -> u32
     requires { i < length ctx.now.members }
     ensures { IsLeastShift (integer_matrix ctx.now.matrix) ctx.now.members i from result }

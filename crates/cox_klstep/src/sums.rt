@@ -41,8 +41,10 @@ fn add(ctx: &Context, row: &Row, term: &Term, x: u32, sums: &mut Acc, steps: &mu
     requires shift { term.now.shift ≤ 127 }
     requires factor { unsigned_abs term.now.factor ≤ 2 ^ 31 }
     requires room { (k : ℕ) → unsigned_abs (coefficient sums.old k) ≤ 2 ^ 125 }
-    ensures below { IsTrue result ↔ IsBelow (integer_matrix ctx.now.matrix) (word_at ctx.now.members x) (word_at ctx.now.members term.now.number) }
-    ensures sum { (f : Coefficients) → IsKazhdanLusztig (integer_matrix ctx.now.matrix) (word_at ctx.now.members x) (word_at ctx.now.members term.now.number) f
+    ensures below { IsTrue result ↔ IsBelow (integer_matrix ctx.now.matrix) (word_at ctx.now.members x)
+        (word_at ctx.now.members term.now.number) }
+    ensures sum { (f : Coefficients) → IsKazhdanLusztig (integer_matrix ctx.now.matrix) (word_at ctx.now.members x)
+        (word_at ctx.now.members term.now.number) f
         → (k : ℕ) → coefficient sums.new k ≡ plus (coefficient sums.old) (scaled term.now.factor (times_q_power term.now.shift f)) k }
     ensures size { (n : ℕ) → ((k : ℕ) → unsigned_abs (coefficient sums.old k) ≤ n * 2 ^ 94)
         → (k : ℕ) → unsigned_abs (coefficient sums.new k) ≤ (n + 1) * 2 ^ 94 }
@@ -71,11 +73,13 @@ fn add_known(
     requires admissible { IsAdmissible (integer_matrix ctx.now.matrix) }
     requires closed { IsClosed (integer_matrix ctx.now.matrix) ctx.now.members }
     requires u { term.now.number < length ctx.now.members }
-    requires value { IsKazhdanLusztig (integer_matrix ctx.now.matrix) (word_at ctx.now.members x) (word_at ctx.now.members term.now.number) (coefficient p.now) }
+    requires value { IsKazhdanLusztig (integer_matrix ctx.now.matrix) (word_at ctx.now.members x) (word_at ctx.now.members term.now.number)
+        (coefficient p.now) }
     requires shift { term.now.shift ≤ 127 }
     requires factor { unsigned_abs term.now.factor ≤ 2 ^ 31 }
     requires room { (k : ℕ) → unsigned_abs (coefficient sums.old k) ≤ 2 ^ 125 }
-    ensures sum { (f : Coefficients) → IsKazhdanLusztig (integer_matrix ctx.now.matrix) (word_at ctx.now.members x) (word_at ctx.now.members term.now.number) f
+    ensures sum { (f : Coefficients) → IsKazhdanLusztig (integer_matrix ctx.now.matrix) (word_at ctx.now.members x)
+        (word_at ctx.now.members term.now.number) f
         → (k : ℕ) → coefficient sums.new k ≡ plus (coefficient sums.old) (scaled term.now.factor (times_q_power term.now.shift f)) k }
     ensures size { (n : ℕ) → ((k : ℕ) → unsigned_abs (coefficient sums.old k) ≤ n * 2 ^ 94)
         → (k : ℕ) → unsigned_abs (coefficient sums.new k) ≤ (n + 1) * 2 ^ 94 }
@@ -103,8 +107,10 @@ pub(crate) fn sum_up(
     requires x { x < length ctx.now.members }
     requires extremal { IsExtremal (integer_matrix ctx.now.matrix) (word_at ctx.now.members step.now.member) (word_at ctx.now.members x) }
     requires clear { (k : ℕ) → coefficient sums.old k ≡ pos 0 }
-    ensures below { IsTrue result ↔ IsBelow (integer_matrix ctx.now.matrix) (word_at ctx.now.members x) (word_at ctx.now.members step.now.member) }
-    ensures value { IsTrue result → IsKazhdanLusztig (integer_matrix ctx.now.matrix) (word_at ctx.now.members x) (word_at ctx.now.members step.now.member) (coefficient sums.new) }
+    ensures below { IsTrue result ↔ IsBelow (integer_matrix ctx.now.matrix) (word_at ctx.now.members x)
+        (word_at ctx.now.members step.now.member) }
+    ensures value { IsTrue result → IsKazhdanLusztig (integer_matrix ctx.now.matrix) (word_at ctx.now.members x)
+        (word_at ctx.now.members step.now.member) (coefficient sums.new) }
     ensures steps { steps.new ≤ steps.old + (2 + length step.now.corrections.items) }
     ensures some { IsTrue result → counted steps.old 1 ≤ steps.new }
     ensures kept { steps.old ≤ steps.new }
@@ -168,8 +174,10 @@ fn take_off(
     requires row { IsRowAt ctx.now correction.now.number row.now }
     requires shift { correction.now.shift ≤ 127 }
     requires room { (k : ℕ) → unsigned_abs (coefficient sums.old k) ≤ 2 ^ 125 }
-    ensures sum { (f : Coefficients) → IsKazhdanLusztig (integer_matrix ctx.now.matrix) (word_at ctx.now.members x) (word_at ctx.now.members correction.now.number) f
-        → (k : ℕ) → coefficient sums.new k ≡ minus (coefficient sums.old) (scaled correction.now.factor (times_q_power correction.now.shift f)) k }
+    ensures sum { (f : Coefficients) → IsKazhdanLusztig (integer_matrix ctx.now.matrix) (word_at ctx.now.members x)
+        (word_at ctx.now.members correction.now.number) f
+        → (k : ℕ) → coefficient sums.new k
+        ≡ minus (coefficient sums.old) (scaled correction.now.factor (times_q_power correction.now.shift f)) k }
     ensures size { (n : ℕ) → ((k : ℕ) → unsigned_abs (coefficient sums.old k) ≤ n * 2 ^ 94)
         → (k : ℕ) → unsigned_abs (coefficient sums.new k) ≤ (n + 1) * 2 ^ 94 }
     ensures steps { steps.new ≤ steps.old + 1 }
@@ -207,7 +215,8 @@ pub(crate) fn put_polynomial(
     requires x { x < length ctx.now.members }
     requires extremal { IsExtremal (integer_matrix ctx.now.matrix) (word_at ctx.now.members i) (word_at ctx.now.members x) }
     ensures below { IsTrue result ↔ IsBelow (integer_matrix ctx.now.matrix) (word_at ctx.now.members x) (word_at ctx.now.members i) }
-    ensures value { IsTrue result → IsKazhdanLusztig (integer_matrix ctx.now.matrix) (word_at ctx.now.members x) (word_at ctx.now.members i) (coefficient sums.new) }
+    ensures value { IsTrue result → IsKazhdanLusztig (integer_matrix ctx.now.matrix) (word_at ctx.now.members x) (word_at ctx.now.members i)
+        (coefficient sums.new) }
     ensures steps { steps.new ≤ steps.old + source_cost source.now }
     ensures some { IsTrue result → counted steps.old 1 ≤ steps.new }
     ensures kept { steps.old ≤ steps.new }

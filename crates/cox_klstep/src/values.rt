@@ -1,5 +1,6 @@
 //! What a row that is being made has: its polynomials in a pool, its values of mu, and the members with a coefficient above the limit.
-ghost use Rattle.std.specs.Prelude.{◌≡◌, ℕ, List, ◌+◌, ◌^◌, ◌<◌, ◌≤◌, ℤ, length, [], ◌∷◌, ◌++◌, Err, IfOk, OnOk, ◌≢◌, false, IfSome, IfNone, IfErr, pos, ◌≤ℤ◌};
+ghost use Rattle.std.specs.Prelude.{◌≡◌, ℕ, List, ◌+◌, ◌^◌, ◌<◌, ◌≤◌, ℤ, length, [], ◌∷◌, ◌++◌, Err, IfOk, OnOk, ◌≢◌, false, IfSome};
+ghost use Rattle.std.specs.Prelude.{IfNone, IfErr, pos, ◌≤ℤ◌};
 ghost use Rattle.cox_base.specs.IntegerMatrix.{IntegerMatrix, integer_matrix};
 ghost use Rattle.cox_base.specs.Bruhat.{IsBelow};
 ghost use Rattle.cox_poly.specs.Polynomial.{coefficient, SameCoefficients, IsPolynomial};
@@ -34,7 +35,8 @@ pub(crate) struct Values {
 impl Values {
     /// No members.
     pub(crate) fn new(alloc: Global) -> Values
-        ensures { (A : IntegerMatrix) → (members : List (List ℕ)) (w : List ℕ) (limit : ℤ) → AreBegun A members w limit 0 result.extremal.items result.places.items result.pool }
+        ensures { (A : IntegerMatrix) → (members : List (List ℕ)) (w : List ℕ) (limit : ℤ)
+            → AreBegun A members w limit 0 result.extremal.items result.places.items result.pool }
     {
         Values {
             extremal: Vec::new(alloc),
@@ -53,8 +55,10 @@ impl Values {
     ) -> Result<u32, PolyFault>
         requires few { length self.old.pool ≤ x }
         requires small { (j : ℕ) → j < length self.old.pool → AllWithin limit (polynomial_at self.old.pool j) }
-        ensures kept { IfOk result (λ _. (A : IntegerMatrix) → (members : List (List ℕ)) (w : List ℕ) → AreBegun A members w limit x self.old.extremal.items self.old.places.items self.old.pool
-            → IsExtremal A w (word_at members x) → IsBelow A (word_at members x) w → IsKazhdanLusztig A (word_at members x) w (coefficient sums.now)
+        ensures kept { IfOk result (λ _. (A : IntegerMatrix) → (members : List (List ℕ)) (w : List ℕ)
+            → AreBegun A members w limit x self.old.extremal.items self.old.places.items self.old.pool
+            → IsExtremal A w (word_at members x) → IsBelow A (word_at members x) w
+            → IsKazhdanLusztig A (word_at members x) w (coefficient sums.now)
             → AreBegun A members w limit (x + 1) self.new.extremal.items self.new.places.items self.new.pool) }
         ensures within { IfOk result (λ place. place < length self.new.pool) }
         ensures more { IfOk result (λ _. length self.new.extremal.items ≡ length self.old.extremal.items + 1) }
@@ -291,7 +295,8 @@ pub(crate) struct Mus {
 impl Mus {
     /// No members.
     pub(crate) fn new(alloc: Global) -> Mus
-        ensures { (A : IntegerMatrix) → (members : List (List ℕ)) (w : List ℕ) (limit : ℤ) → AreNoted A members w limit 0 result.numbers.items result.values.items }
+        ensures { (A : IntegerMatrix) → (members : List (List ℕ)) (w : List ℕ) (limit : ℤ)
+            → AreNoted A members w limit 0 result.numbers.items result.values.items }
     {
         Mus {
             numbers: Vec::new(alloc),
@@ -301,7 +306,8 @@ impl Mus {
 
     /// One member more, with its value of mu, which may be 0.
     pub(crate) fn note(&mut self, x: u32, value: i64) -> Result<(), AllocError>
-        ensures { OnOk result ((A : IntegerMatrix) → (members : List (List ℕ)) (w : List ℕ) (limit : ℤ) → IsAdmissible A → AreNoted A members w limit x self.old.numbers.items self.old.values.items
+        ensures { OnOk result ((A : IntegerMatrix) → (members : List (List ℕ)) (w : List ℕ) (limit : ℤ) → IsAdmissible A
+            → AreNoted A members w limit x self.old.numbers.items self.old.values.items
             → IsMu A (word_at members x) w value → AreNoted A members w limit (x + 1) self.new.numbers.items self.new.values.items) }
     {
         if value != 0 {
@@ -316,7 +322,8 @@ impl Mus {
 pub(crate) fn middle(ctx: &Context, polynomial: &PolyView<'_>, i: u32, x: u32) -> i64
     requires i { i < length ctx.now.members }
     requires x { x < length ctx.now.members }
-    ensures { IsKazhdanLusztig (integer_matrix ctx.now.matrix) (word_at ctx.now.members x) (word_at ctx.now.members i) (coefficient polynomial.now)
+    ensures { IsKazhdanLusztig (integer_matrix ctx.now.matrix) (word_at ctx.now.members x) (word_at ctx.now.members i)
+        (coefficient polynomial.now)
         → IsMu (integer_matrix ctx.now.matrix) (word_at ctx.now.members x) (word_at ctx.now.members i) result }
 {
     let _len = ctx.len();
@@ -345,7 +352,8 @@ pub(crate) struct LargeMembers {
 impl LargeMembers {
     /// No members.
     pub(crate) fn new(alloc: Global) -> LargeMembers
-        ensures { (A : IntegerMatrix) → (members : List (List ℕ)) (w : List ℕ) (limit : ℤ) → AreLarge A members w limit 0 result.numbers.items result.coefficients.items }
+        ensures { (A : IntegerMatrix) → (members : List (List ℕ)) (w : List ℕ) (limit : ℤ)
+            → AreLarge A members w limit 0 result.numbers.items result.coefficients.items }
     {
         LargeMembers {
             numbers: Vec::new(alloc),
@@ -355,7 +363,8 @@ impl LargeMembers {
 
     /// One member more.
     pub(crate) fn note(&mut self, x: u32, coefficient: LargeCoefficient) -> Result<(), AllocError>
-        ensures { OnOk result ((A : IntegerMatrix) → (members : List (List ℕ)) (w : List ℕ) (limit : ℤ) → AreLarge A members w limit x self.old.numbers.items self.old.coefficients.items
+        ensures { OnOk result ((A : IntegerMatrix) → (members : List (List ℕ)) (w : List ℕ) (limit : ℤ)
+            → AreLarge A members w limit x self.old.numbers.items self.old.coefficients.items
             → IsLeastLarge A limit (word_at members x) w coefficient.degree coefficient.value
             → AreLarge A members w limit (x + 1) self.new.numbers.items self.new.coefficients.items) }
     {
@@ -364,8 +373,8 @@ impl LargeMembers {
         Ok(())
     }
 
-    /// The fault of the row of the member with the number i: at the first of all members, extremal or not, that has a coefficient above the limit.
-    /// `None` where none has.
+    /// The fault of the row of the member with the number i: at the first of all members, extremal or not, that has a coefficient above the
+    /// limit. `None` where none has.
     ///
     /// Each member has the polynomial of the extremal one to which it is raised, so no polynomials are added up.
     pub(crate) fn fault(&self, ctx: &Context, i: u32) -> Option<StepFault>
@@ -373,7 +382,8 @@ impl LargeMembers {
         requires within { AreWithin (i + 1) self.now.numbers.items }
         requires size { length self.now.coefficients.items ≡ length self.now.numbers.items }
         ensures some { IfSome result (λ fault. (limit : ℤ) → pos 0 ≤ℤ limit
-            → AreLarge (integer_matrix ctx.now.matrix) ctx.now.members (word_at ctx.now.members i) limit (i + 1) self.now.numbers.items self.now.coefficients.items
+            → AreLarge (integer_matrix ctx.now.matrix) ctx.now.members (word_at ctx.now.members i) limit (i + 1) self.now.numbers.items
+            self.now.coefficients.items
             → IsFault (integer_matrix ctx.now.matrix) ctx.now.members limit (λ w. w ≡ i) fault) }
         ensures none { IfNone result (self.now.numbers.items ≡ []) }
     {

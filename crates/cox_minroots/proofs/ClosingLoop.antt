@@ -5,7 +5,7 @@ use Rattle.cox_base.specs.Matrix.{IsLetter}
 use Rattle.cox_base.specs.IntegerMatrix.{IntegerMatrix}
 use Rattle.cox_minroots.specs.declared.root.Root.{Root}
 use Rattle.cox_minroots.specs.Closure.{AreSmall, HasSimple, HasStep, IsLonger, AreAllSmall}
-use Rattle.cox_minroots.proofs.ClosureLemmas.{HasStep-longer, HasSimple-longer}
+use Rattle.cox_minroots.proofs.SmallRootLists.{HasStep-longer, HasSimple-longer}
 
 -- the steps of the first i roots are done
 pub record IsClosing (A : IntegerMatrix) (max : ℕ) (roots : List Root) (i : ℕ) : Type 0 where

@@ -20,12 +20,12 @@ use Rattle.cox_base.specs.Reduced.{IsReduced}
 use Rattle.cox_lemmas.proofs.RangeFilters.{filter_range-yes, filter_range-no}
 use Rattle.cox_reflect.proofs.Sums.{letter_above}
 use Rattle.cox_reflect.proofs.Elements.{same-trans, same-reverse, same-push}
-use Rattle.cox_reflect.proofs.FormLemmas.{left_descents-word_on_side}
+use Rattle.cox_reflect.proofs.FormsByDescents.{left_descents-word_on_side}
 use Rattle.cox_reflect.proofs.Search.{normal_form-equal, word_length-equal, word_length-length}
 use Rattle.cox_reflect.proofs.Roots.{reverse_left_descent, left_descent_reverse, left_descent-letter}
-use Rattle.cox_reflect.proofs.WordLemmas.{IsWord-append, IsWord-single}
+use Rattle.cox_reflect.proofs.WordsAndSubwords.{IsWord-append, IsWord-single}
 use Rattle.cox_reflect.proofs.NormalForm.{normal_form-descent, normal_form-no_descent}
-use Rattle.cox_minroots.proofs.ProductLemmas.{length-remove}
+use Rattle.cox_minroots.proofs.ReducedProducts.{length-remove}
 
 -- the normal form of the inverse of `all` begins with the form and goes on with that of the inverse of `rest`
 pub record IsBegun (A : IntegerMatrix) (all form rest : List ℕ) : Type 0 where

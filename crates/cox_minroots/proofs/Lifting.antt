@@ -15,9 +15,9 @@ use Rattle.cox_base.specs.Bruhat.{IsBelow}
 use Rattle.cox_reflect.proofs.Elements.{same-refl, same-sym, same-push_twice}
 use Rattle.cox_reflect.proofs.Search.{word_length-equal, word_length-length}
 use Rattle.cox_reflect.proofs.Lengths.{IsReduced-prefix}
-use Rattle.cox_reflect.proofs.WordLemmas.{IsWord-prefix, IsWord-back}
+use Rattle.cox_reflect.proofs.WordsAndSubwords.{IsWord-prefix, IsWord-back}
 use Rattle.cox_reflect.proofs.Bruhat.{below-same, below-refl, below-length, lift_down_right, lift_up_right, below_reverse}
-use Rattle.cox_minroots.proofs.ProductLemmas.{reduced-remove, word-remove}
+use Rattle.cox_minroots.proofs.ReducedProducts.{reduced-remove, word-remove}
 use Rattle.cox_minroots.proofs.ExchangeForms.{exchanged-descent, put_in-no_descent}
 
 -- y <= w exactly where the element of small is below that of large

@@ -14,7 +14,7 @@ use Rattle.cox_minroots.specs.declared.root.Root.{Root}
 use Rattle.cox_minroots.specs.Coordinates.{vector_of}
 use Rattle.cox_minroots.specs.RootLists.{no_root, root_at, root_of, IsInserted, there, last}
 use Rattle.cox_minroots.specs.Closure.{AreCoordinatesUpTo, AreSmall, HasSimple}
-use Rattle.cox_minroots.proofs.ClosureLemmas.{small-inserted, at_last, length-last, longer-inserted, HasSimple-longer}
+use Rattle.cox_minroots.proofs.SmallRootLists.{small-inserted, at_last, length-last, longer-inserted, HasSimple-longer}
 
 -- the simple roots of the letters below s
 pub record IsStarting (A : IntegerMatrix) (roots : List Root) (s : ℕ) : Type 0 where

@@ -12,8 +12,8 @@ use Rattle.cox_minroots.specs.declared.root.Root.{Root}
 use Rattle.cox_minroots.specs.Coordinates.{weight, rise, CanTurn}
 use Rattle.cox_minroots.specs.RootLists.{root_at, IsInserted}
 use Rattle.cox_minroots.specs.Closure.{AreSmall, HasStep, IsLonger}
-use Rattle.cox_minroots.proofs.ClosureLemmas.{longer-refl, longer-trans, longer-inserted, inserted-length, HasStep-longer, passed}
-use Rattle.cox_minroots.proofs.ClosureLemmas.{can_turn, added}
+use Rattle.cox_minroots.proofs.SmallRootLists.{longer-refl, longer-trans, longer-inserted, inserted-length, HasStep-longer, passed}
+use Rattle.cox_minroots.proofs.SmallRootLists.{can_turn, added}
 
 -- the letters below s are done
 pub record IsStepping (A : IntegerMatrix) (old new : List Root) (i s : ℕ) : Type 0 where

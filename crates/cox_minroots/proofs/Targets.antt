@@ -30,8 +30,8 @@ use Rattle.cox_minroots.specs.Closure.{AreCoordinatesUpTo, AreAllSmall}
 use Rattle.cox_minroots.specs.declared.moves.TheConstants.{NEGATIVE, OUT}
 use Rattle.cox_minroots.specs.Moves.{IsMove}
 use Rattle.cox_minroots.proofs.CoordinateLists.{vector_of-letter, vector_of-at, pairing-weight}
-use Rattle.cox_minroots.proofs.ClosureLemmas.{closed-has, negative-product, rise-negative, rise-positive, factors, short, root-equal}
-use Rattle.cox_minroots.proofs.ClosureLemmas.{turned-root, turned-coroot}
+use Rattle.cox_minroots.proofs.SmallRootLists.{closed-has, negative-product, rise-negative, rise-positive, factors, short, root-equal}
+use Rattle.cox_minroots.proofs.SmallRootLists.{turned-root, turned-coroot}
 
 -- where the image has coordinates of a row, the code can compute it
 can_turn_to : (A : IntegerMatrix) → IsAdmissible A → (s m : ℕ) (xs ys : List ℕ) → IsLetter A.rank s → AreCoordinatesUpTo m ys → m < 65536

@@ -108,7 +108,8 @@ impl RootTable {
         requires letters { IsWord self.now.rank v.old.items }
         requires reduced { IsReduced (integer_matrix self.now) v.old.items }
         ensures form { MatchOption result (normal_form (integer_matrix self.now) (reverse v.old.items) ≡ [])
-            (λ s. normal_form (integer_matrix self.now) (reverse v.old.items) ≡ s ∷ normal_form (integer_matrix self.now) (reverse v.new.items)) }
+            (λ s. normal_form (integer_matrix self.now) (reverse v.old.items)
+            ≡ s ∷ normal_form (integer_matrix self.now) (reverse v.new.items)) }
         ensures letter { IfSome result (λ s. IsLetter self.now.rank s) }
         ensures reduced { IsReduced (integer_matrix self.now) v.new.items }
         ensures letters { IsWord self.now.rank v.new.items }

@@ -23,7 +23,8 @@ pub(crate) fn moves(alloc: Global, g: &Coxeter, roots: &Roots) -> Result<Vec<u16
     requires few { length roots.now ≤ MAX_SMALL_ROOTS }
     ensures size { IfOk result (λ moves. length moves.items ≡ MAX_RANK * length roots.now) }
     ensures moves { IfOk result (λ moves. (i s : ℕ) → i < length roots.now → IsLetter g.now.rank s
-        → IsMove (integer_matrix g.now) (length roots.now) (root_of roots.now) (coroot_of roots.now) i s (slice_index moves.items (MAX_RANK * i + (s - 1)))) }
+        → IsMove (integer_matrix g.now) (length roots.now) (root_of roots.now) (coroot_of roots.now) i s
+        (slice_index moves.items (MAX_RANK * i + (s - 1)))) }
 {
     prove!(g.rank() as usize <= MAX_RANK);
     let mut moves = Vec::new(alloc);

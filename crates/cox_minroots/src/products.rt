@@ -12,15 +12,18 @@ use crate::moves::{NEGATIVE, OUT};
 use cox_base::{MAX_LETTERS, MAX_RANK, Word};
 
 impl RootTable {
-    /// The place, from 0, of the letter of the reduced word w for which s is exchanged: w s is w without that letter. None if w s is a reduced word.
+    /// The place, from 0, of the letter of the reduced word w for which s is exchanged: w s is w without that letter. None if w s is a
+    /// reduced word.
     ///
-    /// For example in A 2 the letter 1 behind `12` gives the reduced word `121`, and the letter 2 behind `121` is exchanged for its first letter.
+    /// For example in A 2 the letter 1 behind `12` gives the reduced word `121`, and the letter 2 behind `121` is exchanged for its first
+    /// letter.
     pub fn exchanged(&self, w: &Word, s: u8) -> Option<usize>
         requires letters { IsWord self.now.rank w.now.items }
         requires letter { IsLetter self.now.rank s }
         requires reduced { IsReduced (integer_matrix self.now) w.now.items }
         ensures within { IfSome result (λ place. place < length w.now.items) }
-        ensures without { IfSome result (λ place. SameElement (integer_matrix self.now) (w.now.items ++ s ∷ []) (remove w.now.items place)) }
+        ensures without { IfSome result (λ place. SameElement (integer_matrix self.now) (w.now.items ++ s ∷ [])
+            (remove w.now.items place)) }
         ensures longer { IfNone result (IsReduced (integer_matrix self.now) (w.now.items ++ s ∷ [])) }
         ensures matrix { IsCoxeterMatrix self.now }
     {

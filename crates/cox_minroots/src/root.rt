@@ -106,7 +106,8 @@ fn rise(g: &Coxeter, kind: Kind, x: &[u16; MAX_RANK], s: u8) -> u32
 fn turned(g: &Coxeter, kind: Kind, x: &[u16; MAX_RANK], s: u8) -> [u16; MAX_RANK]
     requires letter { IsLetter g.now.rank s }
     requires turns { CanTurn (matrix_of_kind kind (integer_matrix g.now)) s x.now }
-    ensures { result ≡ slice_set x.now (s - 1) (weight (matrix_of_kind kind (integer_matrix g.now)) s x.now - 3 * slice_index x.now (s - 1)) }
+    ensures { result ≡ slice_set x.now (s - 1)
+        (weight (matrix_of_kind kind (integer_matrix g.now)) s x.now - 3 * slice_index x.now (s - 1)) }
 {
     let mut image = *x;
     let own = s as usize - 1;

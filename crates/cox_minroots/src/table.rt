@@ -38,8 +38,8 @@ impl Model for RootTable {
 impl RootTable {
     /// The table of a group, unless it has more than `max` small roots.
     ///
-    /// `TooMany` comes exactly where it has more; `NoMemory` where there is no memory for the table. For example A 2 has three small roots, so
-    /// for `max` 2 there is the fault `TooMany` with `seen` 3.
+    /// `TooMany` comes exactly where it has more; `NoMemory` where there is no memory for the table. For example A 2 has three small roots,
+    /// so for `max` 2 there is the fault `TooMany` with `seen` 3.
     pub fn build(alloc: Global, g: &Coxeter, max: u32) -> Result<RootTable, RootFault>
         requires some { 1 ≤ max }
         requires limit { max ≤ MAX_SMALL_ROOTS }

@@ -7,7 +7,7 @@ use Rattle.cox_base.specs.IntegerMatrix.{IntegerMatrix}
 use Rattle.cox_base.specs.SortedList.{IsRising}
 use Rattle.cox_context.specs.Numbers.{word_at}
 use Rattle.cox_context.proofs.PlacedWords.{rising-before}
-use Rattle.cox_context.proofs.SortedLemmas.{before-less}
+use Rattle.cox_context.proofs.ShortLexLists.{before-less}
 use Rattle.cox_row.specs.Rising.{number_at, AreRising, AreWithin}
 use Rattle.cox_cells.specs.declared.kind.CellKind.{CellKind}
 use Rattle.cox_cells.specs.Cells.{IsCell, AreCells}

@@ -18,7 +18,7 @@ use Rattle.cox_hecke.specs.ListedElements.{occurrences}
 use Rattle.cox_hecke.specs.Sums.{sum_over}
 use Rattle.cox_hecke.proofs.Signed.{respected}
 use Rattle.cox_hecke.proofs.Descents.{nat_lt-yes}
-use Rattle.cox_hecke.proofs.SumLemmas.{sum_over-lists, sum_over-named, sum_over-equal, sum_over-none, occurrences-same}
+use Rattle.cox_hecke.proofs.ListSums.{sum_over-lists, sum_over-named, sum_over-equal, sum_over-none, occurrences-same}
 use Rattle.cox_module.proofs.ActionOnFunctions.{only_if, through, through_word}
 use Rattle.cox_module.proofs.EdgeWeights.{weight, weight-same, weight_or_not, through-respects}
 

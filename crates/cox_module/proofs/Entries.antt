@@ -13,7 +13,7 @@ use Rattle.cox_base.specs.Descents.{IsLeftDescent}
 use Rattle.cox_hecke.specs.Operators.{shortens_left}
 use Rattle.cox_hecke.proofs.Descents.{yes-nat_lt, no-nat_lt}
 use Rattle.cox_wgraph.specs.Edges.{IsEdgeValue, IsJoined}
-use Rattle.cox_wgraph.proofs.EdgeLemmas.{edge-exists, edge-unique}
+use Rattle.cox_wgraph.proofs.EdgeValues.{edge-exists, edge-unique}
 use Rattle.cox_module.specs.declared.term.Entry.{Entry}
 use Rattle.cox_module.specs.declared.term.Entry.TheVariants.{Minus, Square, Half}
 use Rattle.cox_module.specs.Images.{IsEntry}

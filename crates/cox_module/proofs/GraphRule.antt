@@ -27,8 +27,8 @@ use Rattle.cox_hecke.specs.Row.{IsRow}
 use Rattle.cox_hecke.specs.Step.{IsCorrection}
 use Rattle.cox_hecke.specs.StepFamily.{step, Correction, corrected_elements, AreCorrections, correction_sum}
 use Rattle.cox_hecke.proofs.Descents.{nat_lt-yes, yes-nat_lt, no-nat_lt, shortens_left-back, Moves, left_moves}
-use Rattle.cox_hecke.proofs.SumLemmas.{sum_over-lists, same-is_same, not_same-is_same}
-use Rattle.cox_hecke.proofs.RowLemmas.{row-same}
+use Rattle.cox_hecke.proofs.ListSums.{sum_over-lists, same-is_same, not_same-is_same}
+use Rattle.cox_hecke.proofs.OneRow.{row-same}
 use Rattle.cox_hecke.proofs.AllRows.{row_of, row_of-is, row_of-same}
 use Rattle.cox_hecke.proofs.Descended.{row-left, mu-left, mu-odd, All-from}
 use Rattle.cox_hecke.proofs.StepFamilies.{recursion, corrections_exist}

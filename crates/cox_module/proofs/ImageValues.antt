@@ -21,8 +21,8 @@ use Rattle.cox_hecke.specs.Operators.{shortens_left}
 use Rattle.cox_hecke.specs.Sums.{sum_over}
 use Rattle.cox_hecke.proofs.Signed.{respected}
 use Rattle.cox_hecke.proofs.Descents.{shortens_left-same, nat_lt-yes, yes-nat_lt, no-nat_lt, nat_lt-no}
-use Rattle.cox_hecke.proofs.SumLemmas.{sum_over-lists, sum_over-named, sum_over-one, sum_over-plus, sum_over-times_q}
-use Rattle.cox_hecke.proofs.SumLemmas.{same-is_same, not_same-is_same, is_same-same, occurrences-absent, occurrences-at}
+use Rattle.cox_hecke.proofs.ListSums.{sum_over-lists, sum_over-named, sum_over-one, sum_over-plus, sum_over-times_q}
+use Rattle.cox_hecke.proofs.ListSums.{same-is_same, not_same-is_same, is_same-same, occurrences-absent, occurrences-at}
 use Rattle.cox_context.specs.Numbers.{word_at}
 use Rattle.cox_module.specs.declared.term.Entry.{Entry}
 use Rattle.cox_module.specs.declared.term.Entry.TheVariants.{Minus, Square, Half}

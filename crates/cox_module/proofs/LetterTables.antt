@@ -2,7 +2,7 @@
 use Rattle.std.proofs.Common.{◌≡◌, ℕ, suc, ◌-◌, ◌≤◌, ◌<◌, List, [], ◌∷◌, ◌++◌, length, ⊎_elim, sym, ◌∙◌, arith}
 use Rattle.std.specs.Prelude.{slice_index_or}
 use Rattle.cox_base.specs.IntegerMatrix.{IntegerMatrix}
-use Rattle.cox_lemmas.proofs.PushLemmas.{push-length, push-old, push-new}
+use Rattle.cox_lemmas.proofs.PushedItems.{push-length, push-old, push-new}
 use Rattle.std.proofs.lemmas.Bool.{cases_lt}
 use Rattle.cox_module.specs.declared.term.Term.{Term}
 use Rattle.cox_module.specs.Images.{IsImage, AreImages}

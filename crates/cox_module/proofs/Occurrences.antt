@@ -6,7 +6,7 @@ use Rattle.cox_base.specs.IntegerMatrix.{IntegerMatrix}
 use Rattle.cox_base.specs.Admissible.{IsAdmissible}
 use Rattle.cox_base.specs.Element.{SameElement}
 use Rattle.cox_hecke.specs.ListedElements.{is_same, occurrences}
-use Rattle.cox_hecke.proofs.SumLemmas.{is_same-same, same-is_same, occurrences-absent}
+use Rattle.cox_hecke.proofs.ListSums.{is_same-same, same-is_same, occurrences-absent}
 use Rattle.cox_context.specs.Numbers.{word_at}
 
 -- a place of the list names y

@@ -6,7 +6,7 @@ use Rattle.cox_base.specs.Admissible.{IsAdmissible}
 use Rattle.cox_base.specs.SortedList.{IsRising, IsListOf}
 use Rattle.cox_context.specs.Numbers.{word_at}
 use Rattle.cox_context.proofs.PlacedWords.{IsPlaced, contains-at, contains-placed, placed-contains, rising-place}
-use Rattle.cox_context.proofs.SortedLemmas.{IsListOf-unique}
+use Rattle.cox_context.proofs.ShortLexLists.{IsListOf-unique}
 use Rattle.cox_module.specs.declared.term.Entry.{Entry}
 use Rattle.cox_module.specs.declared.term.Entry.TheVariants.{Minus}
 use Rattle.cox_module.specs.declared.term.Term.{Term}

@@ -6,7 +6,7 @@ use Rattle.cox_base.specs.Element.{SameElement}
 use Rattle.cox_reflect.proofs.Elements.{same-refl}
 use Rattle.cox_hecke.specs.Family.{Family, RespectsElements}
 use Rattle.cox_hecke.specs.ListedElements.{is_same}
-use Rattle.cox_hecke.proofs.SumLemmas.{same-is_same, not_same-is_same, is_same-respects}
+use Rattle.cox_hecke.proofs.ListSums.{same-is_same, not_same-is_same, is_same-respects}
 use Rattle.cox_context.specs.Numbers.{word_at}
 use Rattle.cox_module.specs.FreeModule.{Vector}
 

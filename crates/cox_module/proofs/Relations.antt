@@ -23,14 +23,14 @@ use Rattle.cox_poly.specs.Coefficients.{Coefficients, plus, times_q}
 use Rattle.cox_hecke.specs.Family.{Family, RespectsElements}
 use Rattle.cox_hecke.specs.Operators.{shortens_left}
 use Rattle.cox_hecke.specs.ListedElements.{occurrences}
-use Rattle.cox_hecke.proofs.SumLemmas.{occurrences-at}
+use Rattle.cox_hecke.proofs.ListSums.{occurrences-at}
 use Rattle.cox_hecke.proofs.Descents.{shortens_left-same, nat_lt-yes, yes-nat_lt, no-nat_lt}
 use Rattle.cox_base.specs.Members.{IsElement}
 use Rattle.cox_base.specs.SortedList.{IsListOf}
 use Rattle.cox_context.specs.Numbers.{word_at}
 use Rattle.cox_context.proofs.PlacedWords.{IsPlaced, contains-at, contains-placed, rising-place, rising-length}
 use Rattle.cox_reflect.proofs.NormalElements.{element-normal_form, element-length}
-use Rattle.cox_wgraph.proofs.EdgeLemmas.{edge-symmetric, edge-words}
+use Rattle.cox_wgraph.proofs.EdgeValues.{edge-symmetric, edge-words}
 use Rattle.cox_cells.specs.declared.kind.CellKind.TheVariants.{Left}
 use Rattle.cox_cells.specs.Cells.{IsStep, Precedes, IsInCell, first_of, IsCell}
 use Rattle.cox_cells.proofs.StepChains.{precedes-trans, chain-step}

@@ -2,7 +2,7 @@
 use Rattle.std.proofs.Common.{◌≡◌, ℕ, suc, ◌≤◌, ◌<◌, List, [], ◌∷◌, ◌++◌, length, get_or, ⊎_elim, refl, ap, ◌∙◌, arith}
 use Rattle.std.proofs.lemmas.Bool.{cases_lt}
 use Rattle.std.proofs.lemmas.List.Elements.{All-nil, All-push}
-use Rattle.cox_lemmas.proofs.PushLemmas.{push-length, push-old, push-new, push_cases}
+use Rattle.cox_lemmas.proofs.PushedItems.{push-length, push-old, push-new, push_cases}
 use Rattle.cox_base.specs.IntegerMatrix.{IntegerMatrix}
 use Rattle.cox_context.specs.Numbers.{word_at}
 use Rattle.cox_module.specs.declared.term.Entry.{Entry}

@@ -48,8 +48,10 @@ fn put_term(
     requires place { k < length cell.now }
     requires next { p < length cell.now }
     requires within { AreWithin (length graph.now.members) cell.now }
-    requires terms { let words = cell_words graph.now.members cell.now in AreTermsBefore (integer_matrix graph.now.matrix) words s (word_at words k) p image.old.items }
-    ensures { let words = cell_words graph.now.members cell.now in OnOk result (AreTermsBefore (integer_matrix graph.now.matrix) words s (word_at words k) (p + 1) image.new.items) }
+    requires terms { let words = cell_words graph.now.members cell.now in AreTermsBefore (integer_matrix graph.now.matrix) words s
+        (word_at words k) p image.old.items }
+    ensures { let words = cell_words graph.now.members cell.now in OnOk result
+        (AreTermsBefore (integer_matrix graph.now.matrix) words s (word_at words k) (p + 1) image.new.items) }
 {
     match entry(graph, s, cell[k as usize], cell[p as usize]) {
         Some(entry) => Ok(image.push(Term { place: p, entry })?),

@@ -19,8 +19,8 @@ pub fn images()
         → (image other : List Term) → IsImage A cell s k image → IsImage A cell s k other → image ≡ other }
 {}
 
-/// The images of the elements of a left cell of a finite group give a module of the Hecke algebra: the operators meet the quadratic relations
-/// and the braid relations, on the free module over the polynomials in v = q^(1/2) (Kazhdan and Lusztig 1979, theorem 1.3).
+/// The images of the elements of a left cell of a finite group give a module of the Hecke algebra: the operators meet the quadratic
+/// relations and the braid relations, on the free module over the polynomials in v = q^(1/2) (Kazhdan and Lusztig 1979, theorem 1.3).
 pub fn relations()
     ensures { (c : CoxeterMatrix) → IsCoxeterMatrix c → (members : List (List ℕ)) → IsListOf (IsElement (integer_matrix c)) members
         → (cell : List (List ℕ)) → IsCell Left (integer_matrix c) cell → (images : ℕ → ℕ → List Term)

@@ -36,10 +36,11 @@ impl Model for CellModule {
     ghost view = { λ m. tables_of m.operators.items };
 }
 
-/// The module of a left cell, which is given by the numbers of its elements in the W-graph, rising. The graph is that of a whole finite group.
+/// The module of a left cell, which is given by the numbers of its elements in the W-graph, rising. The graph is that of a whole finite
+/// group.
 ///
-/// The images are as defined for any list of vertices. The relations hold where it is a left cell. In A 2 the elements 1 and 21 are a left cell:
-/// t(1) takes 1 to -1 times 1, and 21 to the sum of v times 1 and v^2 times 21.
+/// The images are as defined for any list of vertices. The relations hold where it is a left cell. In A 2 the elements 1 and 21 are a left
+/// cell: t(1) takes 1 to -1 times 1, and 21 to the sum of v times 1 and v^2 times 21.
 pub fn cell_module(alloc: Global, graph: &WGraph, cell: &[u32]) -> Result<CellModule, AllocError>
     requires rising { AreRising cell.now }
     requires within { AreWithin (length graph.now.members) cell.now }
@@ -60,8 +61,8 @@ pub fn cell_module(alloc: Global, graph: &WGraph, cell: &[u32]) -> Result<CellMo
 }
 
 impl CellModule {
-    /// t(s) x for the k-th element x of the cell, from 0: the terms of the sum, none of them 0, by the rising place of their elements in the
-    /// cell, x itself among them.
+    /// t(s) x for the k-th element x of the cell, from 0: the terms of the sum, none of them 0, by the rising place of their elements in
+    /// the cell, x itself among them.
     pub fn image(&self, s: u8, k: u32) -> &[Term]
         requires some { 1 ≤ s }
         requires letter { s ≤ length self.now }
@@ -82,7 +83,8 @@ fn operator(
     requires letter { IsLetter graph.now.matrix.rank s }
     requires few { length cell.now < 2 ^ 32 }
     requires within { AreWithin (length graph.now.members) cell.now }
-    ensures { IfOk result (λ images. AreImagesUnder (integer_matrix graph.now.matrix) (cell_words graph.now.members cell.now) s (length cell.now) (images_of images.items)) }
+    ensures { IfOk result (λ images. AreImagesUnder (integer_matrix graph.now.matrix) (cell_words graph.now.members cell.now) s
+        (length cell.now) (images_of images.items)) }
 {
     let mut images = Vec::new(alloc);
     for k in 0..cell.len() as u32 {

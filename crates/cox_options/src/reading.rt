@@ -28,15 +28,16 @@ pub enum OptionFault {
 
 /// The options that the arguments `words` give. The first is the program's name; with no other each option has its default.
 ///
-/// For example `["coxeter", "--context", "23"]` gives the context 23, and so does `["coxeter", "--context=23"]`. The
-/// number of roots is `MAX_ROOTS` in both, coefficients may go up to `MAX_COEF`, and there is one worker. A number is written in decimal digits, where a plus may stand first.
-/// `Usage` comes only where the definition of the command refuses the arguments, and `Ok` only where it does not;
+/// For example `["coxeter", "--context", "23"]` gives the context 23, and so does `["coxeter", "--context=23"]`. The number of roots is
+/// `MAX_ROOTS` in both, coefficients may go up to `MAX_COEF`, and there is one worker. A number is written in decimal digits, where a plus
+/// may stand first. `Usage` comes only where the definition of the command refuses the arguments, and `Ok` only where it does not;
 /// `NoMemory` may come at any.
 pub fn read(alloc: Global, words: &[&str]) -> Result<Options, OptionFault>
     ensures taken { OnOk result (IsTaken (map (λ word. word.now) words.now)) }
     ensures context { IfOk result (λ options. given_number (codes "context") (map (λ word. word.now) words.now) ≡ Some options.context) }
     ensures roots { IfOk result (λ options. given_number (codes "roots") (map (λ word. word.now) words.now) ≡ Some options.roots) }
-    ensures coef { IfOk result (λ options. option_map pos (given_number (codes "coef") (map (λ word. word.now) words.now)) ≡ Some options.coef) }
+    ensures coef { IfOk result (λ options. option_map pos (given_number (codes "coef") (map (λ word. word.now) words.now))
+        ≡ Some options.coef) }
     ensures workers { IfOk result (λ options. given_number (codes "workers") (map (λ word. word.now) words.now) ≡ Some options.workers) }
     ensures usage { result ≡ Err Usage → IsUsage (map (λ word. word.now) words.now) }
 {

@@ -2,7 +2,6 @@
 use Rattle.std.proofs.Common.{◌≡◌, ◌≢◌, ℕ, suc, ◌+◌, ◌-◌, ◌<◌, ◌≤◌, Bool, true, false, ◌==◌, nat_lt, nat_le, cond, List, [], ◌∷◌, ◌++◌}
 use Rattle.std.proofs.Common.{length, take}
 use Rattle.std.proofs.Common.{slice_index, refl, sym, ap, ◌∙◌, arith, add_comm, append_assoc, length-append}
-use Rattle.std.proofs.lemmas.List.{take_at}
 use Rattle.std.proofs.lemmas.List.Elements.{All-head, All-tail}
 use Rattle.std.proofs.lemmas.Bool.Decides.{nat_tests}
 use Rattle.std.proofs.Math.Seq.{take-append-add}
@@ -138,9 +137,3 @@ lines_within-last limit line some within h = let test : nat_le (length line) lim
 -- no bytes have no line
 pub lines_within-none : (limit : ℕ) → lines_within limit [] ≡ []
 lines_within-none limit = let test : nat_le 0 limit ≡ true = grind (arith, nat_tests) in rw test refl
-
--- where the limit falls into the first line there is none
-pub lines_within-over : (begun rest : List ℕ) → IsUnbroken begun → 0 < length rest → lines_within (length begun) (begun ++ rest) ≡ []
-lines_within-over begun rest h some =
-    let test : nat_le (length (begun ++ rest)) (length begun) ≡ false = rw (length-append begun rest) (grind (arith, nat_tests)) in
-    rw (test, take_at begun rest (length begun) refl) (ended_lines-none begun h)

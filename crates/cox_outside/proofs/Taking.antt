@@ -1,5 +1,5 @@
 -- What is taken of what lies ahead.
-use Rattle.std.proofs.Common.{◌≡◌, ◌≢◌, ℕ, ◌+◌, ◌<◌, List, [], ◌∷◌, ◌++◌, length, Option, Some, None, IfSome, refl, sym, ap, ◌∙◌, subst}
+use Rattle.std.proofs.Common.{◌≡◌, ◌≢◌, ℕ, ◌+◌, ◌<◌, List, [], ◌∷◌, ◌++◌, length, Option, Some, None, refl, sym, ap, ◌∙◌, subst}
 use Rattle.std.proofs.Common.{arith, length-append, append_assoc}
 use Rattle.std.specs.Option.{option_map}
 use Rattle.std.specs.Io.KnownBytes.{prepend_known, IsAtEnd}
@@ -10,10 +10,10 @@ use Rattle.cox_outside.specs.declared.line_reader.Stop.TheVariants as stop
 use Rattle.cox_outside.specs.Line.{line_feed, lines_within}
 use Rattle.cox_outside.specs.Unbroken.{IsUnbroken}
 use Rattle.cox_outside.specs.declared.limits.TheConstants.{INPUT_LIMIT}
-use Rattle.cox_outside.specs.Ahead.{Ahead, ahead, lines_ahead, Takes, TakesPart, MeetsEnd, MeetsLimit}
+use Rattle.cox_outside.specs.Ahead.{Ahead, ahead, lines_ahead, Takes, TakesPart, MeetsEnd}
 use Rattle.cox_outside.specs.Reader.{fresh_reader, TakesNext}
 use Rattle.cox_outside.proofs.Known.{prepend_known-append, prepend_known-none}
-use Rattle.cox_outside.proofs.Lines.{lines_within-line, lines_within-last, lines_within-none, lines_within-over}
+use Rattle.cox_outside.proofs.Lines.{lines_within-line, lines_within-last, lines_within-none}
 
 -- no bytes were taken
 pub Takes-none : (here : Ahead) → Takes [] here here
@@ -59,18 +59,6 @@ lines_by_end limit line (Some rest) some h end =
     ap Some (ap (lines_within (limit + length line)) whole ∙ lines_within-last (limit + length line) line some (omega arith) h
     ∙ ap (λ lines. line ∷ lines) (sym (ap (lines_within limit) end ∙ lines_within-none limit)))
 
--- where the limit falls into the first line
-lines_at_limit : (begun : List ℕ) (byte : ℕ) (known : Option (List ℕ)) → IsUnbroken begun
-    → option_map (λ bytes. lines_within (length begun) bytes) (prepend_known begun (prepend_known (byte ∷ []) known))
-    ≡ option_map (λ _. []) (prepend_known begun (prepend_known (byte ∷ []) known))
-lines_at_limit begun byte None h = refl
-lines_at_limit begun byte (Some rest) h = ap Some (lines_within-over begun (byte ∷ rest) h (omega arith))
-
-bytes_at_limit : (begun : List ℕ) (byte : ℕ) (known : Option (List ℕ))
-    → IfSome (prepend_known begun (prepend_known (byte ∷ []) known)) (λ bytes. length begun < length bytes)
-bytes_at_limit begun byte None = tt
-bytes_at_limit begun byte (Some rest) = omega (arith, length-append begun (byte ∷ rest))
-
 -- a reader that has read nothing has all that the source has left ahead
 pub ahead-fresh : (left : Option (List ℕ)) → ahead fresh_reader.feed left ≡ record { bytes = left; budget = INPUT_LIMIT; pending = [] }
 ahead-fresh left = ap (λ known. record { bytes = known; budget = INPUT_LIMIT; pending = [] }) (prepend_known-none left)
@@ -88,17 +76,3 @@ lines_ahead-line (Some stop.End) line old new takes = rw (takes.taken.bytes, tak
     (lines_by_end new.budget line new.bytes takes.some takes.unbroken takes.end)
 lines_ahead-line (Some stop.Failed) line old new takes = absurd takes
 lines_ahead-line (Some stop.Limit) line old new takes = absurd takes
-
--- at the limit no line lay ahead
-pub lines_ahead-limit : (old new : Ahead) → MeetsLimit old new → lines_ahead old ≡ option_map (λ _. []) old.bytes
-lines_ahead-limit old new meets =
-    let bytes = meets.part.taken.bytes ∙ ap (prepend_known meets.begun) meets.beyond in
-    let budget : old.budget ≡ length meets.begun = omega (arith, meets.part.taken.cost, meets.none_left) in
-    rw (bytes, budget) (lines_at_limit meets.begun meets.byte new.bytes meets.part.unbroken)
-
--- at the limit more bytes lay ahead than could be handed out
-pub over_limit : (old new : Ahead) → MeetsLimit old new → IfSome old.bytes (λ bytes. old.budget < length bytes)
-over_limit old new meets =
-    let bytes = meets.part.taken.bytes ∙ ap (prepend_known meets.begun) meets.beyond in
-    let budget : old.budget ≡ length meets.begun = omega (arith, meets.part.taken.cost, meets.none_left) in
-    rw (bytes, budget) (bytes_at_limit meets.begun meets.byte new.bytes)

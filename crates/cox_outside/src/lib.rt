@@ -1,13 +1,12 @@
 //! The outside of the program: the sources that its bytes come from, the sinks that they go to, and
 //! the lines between them.
 //!
-//! A [`Source`] and a [`Sink`] say by one ghost member each what is known of them: the bytes left
-//! or written, where they are told, and a count of faults. The forms in memory tell them, and their
-//! contracts say exactly what each call answers. The forms over std's `Read` and `Write` tell
-//! nothing but the count. The count rises by one exactly where a call tells of a fault. A [`LineReader`] hands out the lines of a source, and its contract says
-//! by the bytes that lie ahead which line comes, or why none does. Each call returns, whatever
-//! a source gives, since a reader hands out no more than `INPUT_LIMIT` bytes. The crate stands on std
-//! alone. Its tests stand in the crate `text_tests`.
+//! A [`Source`] and a [`Sink`] say by one ghost member each what is known of them: the bytes left or written, where they are told, and a
+//! count of faults. The forms in memory tell them, and their contracts say exactly what each call answers. The forms over std's `Read` and
+//! `Write` tell nothing but the count. The count rises by one exactly where a call tells of a fault. A [`LineReader`] hands out the lines
+//! of a source, and its contract says by the bytes that lie ahead which line comes, or why none does. Each call returns, whatever a source
+//! gives, since a reader hands out no more than `INPUT_LIMIT` bytes. The crate stands on std alone. Its tests stand in the crate
+//! `text_tests`.
 //!
 //! - `source`, `sink`: the two traits, and what a read or a write answers
 //! - `writing`: all bytes of a slice into a sink

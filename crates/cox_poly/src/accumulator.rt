@@ -1,5 +1,6 @@
 //! Sums of multiples of polynomials, in 128 bits a coefficient.
-ghost use Rattle.std.specs.Prelude.{◌≡◌, ◌≢◌, ◌↔◌, ℕ, ℤ, ◌+◌, ◌-◌, ◌^◌, ◌<◌, ◌≤◌, pos, ◌*ℤ◌, ◌<ℤ◌, ◌≤ℤ◌, unsigned_abs, length, false, IsTrue, OnOk, IfOk, IfErr, Err};
+ghost use Rattle.std.specs.Prelude.{◌≡◌, ◌≢◌, ◌↔◌, ℕ, ℤ, ◌+◌, ◌-◌, ◌^◌, ◌<◌, ◌≤◌, pos, ◌*ℤ◌, ◌<ℤ◌, ◌≤ℤ◌, unsigned_abs, length, false};
+ghost use Rattle.std.specs.Prelude.{IsTrue, OnOk, IfOk, IfErr, Err};
 ghost use Rattle.cox_poly.specs.Polynomial.{coefficient, IsPolynomial, SameCoefficients, IsTrimmedLength, coefficient_after};
 ghost use Rattle.cox_poly.specs.Fingerprint.{mixed, fingerprint};
 ghost use Rattle.cox_poly.specs.Limit.{IsWithin, AllWithin, IsFirstAbove};

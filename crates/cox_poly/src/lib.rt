@@ -12,7 +12,7 @@
 //! - `accumulator`: the sums of 128 bits;
 //! - `poly_fault`: why a sum is no polynomial;
 //! - `append`: bytes and whole numbers in decimal, for all that is printed;
-//! - `polynomial_text`: the text of a polynomial;
+//! - `polynomial_text`: the text of a polynomial, and what stands before a power in it;
 //! - `polynomial_reading`, `term_reading`: the text read back; `text_fault`: why one is not read;
 //! - `laws`: facts of polynomials that no single call states.
 #![tactic(auto)]
@@ -36,6 +36,7 @@ pub use poly_fault::PolyFault;
 pub use poly_list::PolyList;
 pub use poly_view::PolyView;
 pub use polynomial::Poly;
+pub use polynomial_text::put_factor;
 pub use text_fault::TextFault;
 
 /// Out of memory.

@@ -1,6 +1,8 @@
 //! Polynomials in `q` with coefficients of 64 bits.
-ghost use Rattle.std.specs.Prelude.{◌≡◌, ◌≢◌, ◌↔◌, ℕ, ◌+◌, ◌-◌, ◌^◌, ◌<◌, ◌≤◌, length, [], ◌∷◌, pos, ℤ, List, ◌⊎◌, Ok, Err, IfOk, IfSome, IsNone, unsigned_abs};
-ghost use Rattle.cox_poly.specs.Polynomial.{coefficient, IsPolynomial, IsStorable, SameCoefficients, HasSmallCoefficients, IsDegree, IsTrimmedLength};
+ghost use Rattle.std.specs.Prelude.{◌≡◌, ◌≢◌, ◌↔◌, ℕ, ◌+◌, ◌-◌, ◌^◌, ◌<◌, ◌≤◌, length, [], ◌∷◌, pos, ℤ, List, ◌⊎◌, Ok, Err, IfOk, IfSome};
+ghost use Rattle.std.specs.Prelude.{IsNone, unsigned_abs};
+ghost use Rattle.cox_poly.specs.Polynomial.{coefficient, IsPolynomial, IsStorable, SameCoefficients, HasSmallCoefficients, IsDegree};
+ghost use Rattle.cox_poly.specs.Polynomial.{IsTrimmedLength};
 ghost use Rattle.cox_poly.specs.Puts.{Puts};
 ghost use Rattle.cox_poly.specs.PolynomialText.{polynomial_text};
 ghost use Rattle.cox_poly.specs.PolynomialReading.{IsPolynomialText, IsTextOf, IsTextOfLarge, Fits};

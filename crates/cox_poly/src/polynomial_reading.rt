@@ -1,5 +1,6 @@
 //! The text of a polynomial, read back.
-ghost use Rattle.std.specs.Prelude.{◌≡◌, ◌↔◌, ◌-◌, ◌≤◌, ◌<◌, ◌++◌, ◌∷◌, [], pos, length, replicate, codes, IsTrue, OnOk, IfOk, Err, MatchOption, FitsSigned};
+ghost use Rattle.std.specs.Prelude.{◌≡◌, ◌↔◌, ◌-◌, ◌≤◌, ◌<◌, ◌++◌, ◌∷◌, [], pos, length, replicate, codes, IsTrue, OnOk, IfOk, Err};
+ghost use Rattle.std.specs.Prelude.{MatchOption, FitsSigned};
 ghost use Rattle.std.specs.Int.{w64};
 ghost use Rattle.cox_poly.specs.ReadNumerals.{value_of};
 ghost use Rattle.cox_poly.specs.PolynomialReading.{IsPolynomialText, IsTextOf, IsTextOfLarge, Fits, signed};

@@ -34,8 +34,8 @@ fn put_power(out: &mut Vec<u8>, k: usize) -> Result<(), NoMemory>
     }
 }
 
-// What stands before the power of q.
-fn put_factor(out: &mut Vec<u8>, k: usize, c: i64) -> Result<(), NoMemory>
+/// Appends what stands before the power of q in a term: the number, but nothing for 1 and `-` for -1 where the degree k is not 0.
+pub fn put_factor(out: &mut Vec<u8>, k: usize, c: i64) -> Result<(), NoMemory>
     ensures { Puts result (factor_text k c) out.old.items out.new.items }
 {
     if k != 0 && c == 1 {

@@ -1,10 +1,12 @@
 //! One term of a polynomial, as it is read: its sign, and the digits of its size and of its degree.
-ghost use Rattle.std.specs.Prelude.{◌≡◌, ◌≢◌, ◌+◌, ◌-◌, ◌<◌, ◌≤◌, ◌^◌, ◌↔◌, ◌∷◌, true, min, nat_lt, length, drop, IsTrue, IfSome, IsNone, MatchOption, FitsSigned};
+ghost use Rattle.std.specs.Prelude.{◌≡◌, ◌≢◌, ◌+◌, ◌-◌, ◌<◌, ◌≤◌, ◌^◌, ◌↔◌, ◌∷◌, true, min, nat_lt, length, drop, IsTrue, IfSome, IsNone};
+ghost use Rattle.std.specs.Prelude.{MatchOption, FitsSigned};
 ghost use Rattle.std.specs.Int.{w64};
 ghost use Rattle.std.specs.List.{position_or_len, list_all};
 ghost use Rattle.std.specs.Char.{is_ascii_digit};
 ghost use Rattle.cox_poly.specs.ReadNumerals.{value_of, is_numeral, is_short_numeral};
-ghost use Rattle.cox_poly.specs.PolynomialReading.{is_sign, is_q, signed, IsSigned, IsNoSigned, IsPower, IsNoPower, IsSize, IsNoSize, IsUnsigned, IsNoUnsigned, IsTerm, IsNoTerm};
+ghost use Rattle.cox_poly.specs.PolynomialReading.{is_sign, is_q, signed, IsSigned, IsNoSigned, IsPower, IsNoPower, IsSize, IsNoSize};
+ghost use Rattle.cox_poly.specs.PolynomialReading.{IsUnsigned, IsNoUnsigned, IsTerm, IsNoTerm};
 
 // A term as it is written: whether a minus stands before it, the digits of its size, and those of its degree, none for 0.
 #[derive(Clone, Copy)]
@@ -187,7 +189,8 @@ pub(crate) fn degree_within(digits: &[u8], most: u32) -> Option<u32>
 
 // The coefficient with this sign and a size of these digits, if it has 64 bits.
 pub(crate) fn coefficient_of(negative: bool, digits: &[u8]) -> Option<i64>
-    ensures { MatchOption result (¬ FitsSigned w64 (signed negative (value_of digits.now))) (λ c. c ≡ signed negative (value_of digits.now)) }
+    ensures { MatchOption result (¬ FitsSigned w64 (signed negative (value_of digits.now)))
+        (λ c. c ≡ signed negative (value_of digits.now)) }
 {
     let size = i128::from(capped(digits));
     i64::try_from(if negative { -size } else { size }).ok()

@@ -2,8 +2,6 @@
 ghost use Rattle.std.specs.Prelude.{◌<◌, ◌≤◌};
 ghost use Rattle.cox_base.specs.Matrix.{IsWord};
 ghost use Rattle.cox_poly.specs.Puts.{Puts};
-ghost use Rattle.cox_poly.specs.Numerals.{integer_text};
-ghost use Rattle.cox_poly.specs.PolynomialText.{factor_text};
 ghost use Rattle.cox_print.specs.AnswerText.{image_head_text, term_head_text, half_text};
 
 use crate::NoMemory;
@@ -11,7 +9,8 @@ use crate::element::put_element;
 use crate::items::put_other_element;
 use crate::putting::put_natural;
 use cox_base::{MAX_RANK, Word};
-use cox_poly::append::{put_number, put_text};
+use cox_poly::append::put_text;
+use cox_poly::put_factor;
 
 /// Appends what stands before the image of an element under a letter: the letter, a space, the element and `:`, as in `1 21:`. `rank` is that
 /// of the group.
@@ -40,26 +39,6 @@ pub fn put_term_head(out: &mut Vec<u8>, rank: u32, y: &Word) -> Result<(), NoMem
 pub fn put_half(out: &mut Vec<u8>, m: i64) -> Result<(), NoMemory>
     ensures { Puts result (half_text m) out.old.items out.new.items }
 {
-    put_factor(out, m)?;
+    put_factor(out, 1, m)?;
     put_text(out, b"v")
-}
-
-/// Appends what stands before v: nothing for 1, `-` for -1, and else the number.
-fn put_factor(out: &mut Vec<u8>, m: i64) -> Result<(), NoMemory>
-    ensures { Puts result (factor_text 1 m) out.old.items out.new.items }
-{
-    if m == 1 {
-        Ok(())
-    } else if m == -1 {
-        put_text(out, b"-")
-    } else {
-        put_integer(out, m)
-    }
-}
-
-/// Appends a number.
-fn put_integer(out: &mut Vec<u8>, m: i64) -> Result<(), NoMemory>
-    ensures { Puts result (integer_text m) out.old.items out.new.items }
-{
-    put_number(out, i128::from(m))
 }

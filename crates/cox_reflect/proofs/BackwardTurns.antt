@@ -2,7 +2,7 @@
 use Rattle.std.proofs.Common.{◌≡◌, ℕ, ◌<◌, List, [], ◌∷◌, ◌++◌, length, reverse, map, get_or, arith}
 use Rattle.std.proofs.lemmas.List.{map-append, reverse-append, length-map, length-reverse}
 use Rattle.cox_base.specs.Matrix.{IsLetter, IsWord}
-use Rattle.cox_reflect.proofs.WordLemmas.{IsWord-reverse}
+use Rattle.cox_reflect.proofs.WordsAndSubwords.{IsWord-reverse}
 
 -- one more letter before
 pub reverse-map_push : {X : Type 0} (f : X → ℕ) (xs : List X) (x : X) → reverse (map f (xs ++ x ∷ [])) ≡ f x ∷ reverse (map f xs)

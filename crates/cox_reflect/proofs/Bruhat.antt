@@ -12,7 +12,7 @@ use Rattle.cox_base.specs.Descents.{IsLeftDescent, IsRightDescent}
 use Rattle.cox_base.specs.Bruhat.{IsSubword, kept, left_out, IsBelow}
 use Rattle.cox_reflect.specs.Subword.{HasSubword}
 use Rattle.cox_reflect.specs.Chain.{IsChain, no_step, last_step}
-use Rattle.cox_reflect.proofs.WordLemmas.{IsSubword-nil, IsSubword-reverse, reverse-push}
+use Rattle.cox_reflect.proofs.WordsAndSubwords.{IsSubword-nil, IsSubword-reverse, reverse-push}
 use Rattle.cox_reflect.proofs.Elements.{same-refl, same-sym, same-trans, same-cons, same-square, same-reverse}
 use Rattle.cox_reflect.proofs.Search.{normal_form-same, word_length-length}
 use Rattle.cox_reflect.proofs.Lengths.{IsReduced-normal_form, IsReduced-reverse}

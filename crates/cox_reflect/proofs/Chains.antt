@@ -13,7 +13,7 @@ use Rattle.cox_base.specs.Bruhat.{IsSubword, none, kept, left_out}
 use Rattle.cox_reflect.specs.DerivedWords.{reflection, IsWithoutOne, this_one, later_one}
 use Rattle.cox_reflect.specs.Chain.{IsReflectionStep, IsChain, no_step, last_step}
 use Rattle.cox_reflect.proofs.Sums.{letter_cases}
-use Rattle.cox_reflect.proofs.WordLemmas.{IsSubword-refl, IsSubword-trans, IsSubword-without_one}
+use Rattle.cox_reflect.proofs.WordsAndSubwords.{IsSubword-refl, IsSubword-trans, IsSubword-without_one}
 use Rattle.cox_reflect.proofs.Elements.{same-refl, same-sym, same-trans, same-cons, same-append, same-square, same-outside}
 use Rattle.cox_reflect.proofs.Search.{normal_form-same, word_length-least, word_length-equal}
 use Rattle.cox_reflect.proofs.Lengths.{word_length-is, word_length-cons, IsReduced-tail}

@@ -13,7 +13,7 @@ use Rattle.cox_reflect.specs.RootHeight.{at_letter}
 use Rattle.cox_reflect.specs.Height.{AreHeights, AreShortWith}
 use Rattle.cox_reflect.proofs.Admissible.{IsAdmissible-integer_matrix}
 use Rattle.cox_reflect.proofs.Computed.{difference-tested, difference-value}
-use Rattle.cox_reflect.proofs.HeightLemmas.{AreShortWith-room, AreHeights-cons}
+use Rattle.cox_reflect.proofs.HeightsUnderLetters.{AreShortWith-room, AreHeights-cons}
 use Rattle.cox_reflect.proofs.LetterLists.{at_letter-more, at_letter-set_other}
 use Rattle.cox_reflect.proofs.Sizes.{entry-small}
 

@@ -15,7 +15,7 @@ use Rattle.cox_base.specs.Descents.{left_descents}
 use Rattle.cox_reflect.specs.RootHeight.{at_letter}
 use Rattle.cox_reflect.specs.Height.{AreHeights}
 use Rattle.cox_reflect.proofs.DescentLists.{descent_set-by}
-use Rattle.cox_reflect.proofs.HeightLemmas.{descent_from_heights, heights_at_descent}
+use Rattle.cox_reflect.proofs.HeightsUnderLetters.{descent_from_heights, heights_at_descent}
 
 pub at_letter-set_same : (xs : List ℤ) (t : ℕ) (v : ℤ) → 1 ≤ t → t ≤ length xs → at_letter (set xs (t - 1) v) t ≡ v
 at_letter-set_same xs t v from to = get_or-set_same xs (t - 1) v (pos 0) (omega arith)

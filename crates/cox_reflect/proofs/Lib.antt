@@ -7,7 +7,7 @@ pub mod Elements
 -- what is in a list, what holds of each of its elements, and what `find` finds
 pub mod Members
 -- words over the letters of the rank, and subwords
-pub mod WordLemmas
+pub mod WordsAndSubwords
 -- the search for the normal form: it names the element, no shorter word does, and it depends on the element alone
 pub mod Search
 -- lengths of products, of the reversed word, and of pieces of a reduced word
@@ -45,7 +45,7 @@ pub mod Removal
 -- for code: the lists of descents by a test of one's own, and the least descent
 pub mod DescentLists
 -- heights of roots: how a letter before the word changes them, their size, and descents by their signs
-pub mod HeightLemmas
+pub mod HeightsUnderLetters
 -- a loop that puts a letter before a word, height by height
 pub mod HeightTurns
 -- lists of numbers, one a letter: a write at a letter, and the letters whose numbers are negative
@@ -55,13 +55,13 @@ pub mod Computed
 -- two letters in turn, and their order where both shorten an element
 pub mod TwoDescents
 -- normal forms, read off by descents
-pub mod FormLemmas
+pub mod FormsByDescents
 -- Bruhat order by lifting
-pub mod OrderLemmas
+pub mod OrderByLifting
 -- a loop over a word from its last letter to its first
 pub mod BackwardTurns
 -- coordinates of roots, in 128 bits
-pub mod CoordinateLemmas
+pub mod RootCoordinates
 -- elements as their normal forms
 pub mod NormalElements
 -- words in any order can be listed in ShortLex order; the subwords of a word

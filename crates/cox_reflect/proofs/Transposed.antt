@@ -18,7 +18,7 @@ use Rattle.cox_reflect.proofs.Elements.{same-act, matrix-column}
 use Rattle.cox_reflect.proofs.Search.{normal_form-same, IsWord-normal_form, word_length-least, word_length-equal, word_length-length}
 use Rattle.cox_reflect.proofs.Lengths.{word_length-is}
 use Rattle.cox_reflect.proofs.RankTwo.{IsAdmissiblePair-swap, HasOrder-swap}
-use Rattle.cox_reflect.proofs.WordLemmas.{IsWord-single, IsWord-append, IsWord-reverse}
+use Rattle.cox_reflect.proofs.WordsAndSubwords.{IsWord-single, IsWord-append, IsWord-reverse}
 use Rattle.cox_reflect.proofs.Positivity.{positive, IsWord-reduced, simple_root-nonnegative}
 use Rattle.cox_reflect.specs.Root.{IsNonnegativeRoot}
 use Rattle.cox_reflect.proofs.ShortLexFirst.{IsBefore, length-before, none-before_normal_form, normal_form-unique}

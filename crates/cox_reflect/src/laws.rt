@@ -33,7 +33,8 @@ pub fn admissible()
 pub fn elements()
     ensures reflexive { (A : IntegerMatrix) → IsAdmissible A → (u : List ℕ) → SameElement A u u }
     ensures symmetric { (A : IntegerMatrix) → IsAdmissible A → (u v : List ℕ) → SameElement A u v → SameElement A v u }
-    ensures transitive { (A : IntegerMatrix) → IsAdmissible A → (u v w : List ℕ) → SameElement A u v → SameElement A v w → SameElement A u w }
+    ensures transitive { (A : IntegerMatrix) → IsAdmissible A → (u v w : List ℕ) → SameElement A u v → SameElement A v w
+        → SameElement A u w }
     ensures product { (A : IntegerMatrix) → IsAdmissible A → (u u' v v' : List ℕ) → SameElement A u u' → SameElement A v v'
         → SameElement A (u ++ v) (u' ++ v') }
     ensures inverse { (A : IntegerMatrix) → IsAdmissible A → (u : List ℕ) → SameElement A (reverse u ++ u) [] }
@@ -75,7 +76,8 @@ pub fn positivity()
     ensures not_zero { (A : IntegerMatrix) → IsAdmissible A → (w : List ℕ) (s : ℕ) → IsLetter A.rank s → ¬ IsZeroRoot A w s }
     ensures longer_right { (A : IntegerMatrix) → IsAdmissible A → (w : List ℕ) (s : ℕ) → IsLetter A.rank s
         → (word_length A w < word_length A (w ++ s ∷ [])) ↔ IsNonnegativeRoot A w s }
-    ensures shorter_right { (A : IntegerMatrix) → IsAdmissible A → (w : List ℕ) (s : ℕ) → IsLetter A.rank s → IsRightDescent A w s ↔ IsNonpositiveRoot A w s }
+    ensures shorter_right { (A : IntegerMatrix) → IsAdmissible A → (w : List ℕ) (s : ℕ) → IsLetter A.rank s
+        → IsRightDescent A w s ↔ IsNonpositiveRoot A w s }
     ensures negative_coordinate { (A : IntegerMatrix) → IsAdmissible A → (w : List ℕ) (s : ℕ) → IsLetter A.rank s
         → IsRightDescent A w s ↔ ((i : ℕ) × IsLetter A.rank i × (matrix A w i s <ℤ pos 0)) }
     ensures longer_left { (A : IntegerMatrix) → IsAdmissible A → (w : List ℕ) (s : ℕ) → IsLetter A.rank s
@@ -95,7 +97,8 @@ pub fn exchange()
         → word_length A (u ++ reflection y s) ≢ word_length A u }
     ensures equal_roots { (A : IntegerMatrix) → IsAdmissible A → (x y : List ℕ) (s t : ℕ) → IsLetter A.rank s → IsLetter A.rank t
         → ((i : ℕ) → IsLetter A.rank i → matrix A x i s ≡ matrix A y i t) → SameElement A (reflection x s) (reflection y t) }
-    ensures deletion { (A : IntegerMatrix) → IsAdmissible A → (u : List ℕ) → IsWord A.rank u → word_length A u < length u → LeavesTwoOut A u u }
+    ensures deletion { (A : IntegerMatrix) → IsAdmissible A → (u : List ℕ) → IsWord A.rank u → word_length A u < length u
+        → LeavesTwoOut A u u }
 {}
 
 /// If l(swt) = l(w) and l(sw) = l(wt) then sw = wt.
@@ -107,14 +110,16 @@ pub fn sides()
 
 /// Two words over the letters name one element exactly where the Coxeter relations lead from one to the other (Humphreys 5.4).
 pub fn faithful()
-    ensures { (A : IntegerMatrix) → IsAdmissible A → (u v : List ℕ) → IsWord A.rank u → IsWord A.rank v → SameElement A u v ↔ AreRelated A u v }
+    ensures { (A : IntegerMatrix) → IsAdmissible A → (u v : List ℕ) → IsWord A.rank u → IsWord A.rank v
+        → SameElement A u v ↔ AreRelated A u v }
 {}
 
 /// The transposed matrix has the same elements, normal forms and signs of roots, and equal roots of A are equal roots of it.
 pub fn transpose()
     ensures same { (A : IntegerMatrix) → IsAdmissible A → (u v : List ℕ) → IsWord A.rank u → IsWord A.rank v
         → SameElement A u v ↔ SameElement (transposed A) u v }
-    ensures normal_forms { (A : IntegerMatrix) → IsAdmissible A → (u : List ℕ) → IsWord A.rank u → normal_form (transposed A) u ≡ normal_form A u }
+    ensures normal_forms { (A : IntegerMatrix) → IsAdmissible A → (u : List ℕ) → IsWord A.rank u
+        → normal_form (transposed A) u ≡ normal_form A u }
     ensures signs { (A : IntegerMatrix) → IsAdmissible A → (w : List ℕ) (s : ℕ) → IsWord A.rank w → IsLetter A.rank s
         → IsNonnegativeRoot A w s ↔ IsNonnegativeRoot (transposed A) w s }
     ensures equal_roots { (A : IntegerMatrix) → IsAdmissible A → (v w : List ℕ) (s t : ℕ) → IsWord A.rank v → IsWord A.rank w
@@ -125,8 +130,10 @@ pub fn transpose()
 /// Bruhat order by chains of reflections, and by the subwords of any reduced word (Humphreys 5.9, 5.10).
 pub fn bruhat()
     ensures chains { (A : IntegerMatrix) → IsAdmissible A → (y w : List ℕ) → IsBelow A y w ↔ IsChain A y w }
-    ensures subwords { (A : IntegerMatrix) → IsAdmissible A → (y w u : List ℕ) → IsReduced A u → SameElement A u w → IsBelow A y w ↔ HasSubword A u y }
-    ensures subwords_of_any { (A : IntegerMatrix) → IsAdmissible A → (y w u : List ℕ) → SameElement A u w → IsBelow A y w → HasSubword A u y }
+    ensures subwords { (A : IntegerMatrix) → IsAdmissible A → (y w u : List ℕ) → IsReduced A u → SameElement A u w
+        → IsBelow A y w ↔ HasSubword A u y }
+    ensures subwords_of_any { (A : IntegerMatrix) → IsAdmissible A → (y w u : List ℕ) → SameElement A u w → IsBelow A y w
+        → HasSubword A u y }
     ensures inverse { (A : IntegerMatrix) → IsAdmissible A → (y w : List ℕ) → IsBelow A y w ↔ IsBelow A (reverse y) (reverse w) }
 {}
 
@@ -138,7 +145,8 @@ pub fn bruhat_order()
     ensures bottom { (A : IntegerMatrix) → IsAdmissible A → (w : List ℕ) → IsBelow A [] w }
     ensures lengths { (A : IntegerMatrix) → IsAdmissible A → (y w : List ℕ) → IsBelow A y w → word_length A y ≤ word_length A w }
     ensures at_identity { (A : IntegerMatrix) → IsAdmissible A → (y : List ℕ) → IsBelow A y [] ↔ SameElement A y [] }
-    ensures equal_lengths { (A : IntegerMatrix) → IsAdmissible A → (y w : List ℕ) → IsBelow A y w → word_length A y ≡ word_length A w → SameElement A y w }
+    ensures equal_lengths { (A : IntegerMatrix) → IsAdmissible A → (y w : List ℕ) → IsBelow A y w → word_length A y ≡ word_length A w
+        → SameElement A y w }
 {}
 
 /// Lifting: for s with sw < w, y is below w exactly where the shorter of y and sy is below sw; and the same on the right.

@@ -3,8 +3,8 @@
 //!
 //! An element is told by a word. Contracts say what is computed by the definitions of `cox_base`: the normal form is the ShortLex-first
 //! word of the element, its length is that word's, and y <= w where a subword of the normal form of w names y. The code reads descents off
-//! the heights of as many roots as there are letters. In 64 bits a call gives None where a sum overflows, for words of any length; in 128 bits
-//! none overflows for words of at most 63 letters. `Words` is what the crates above ask of a group, by this or another arithmetic.
+//! the heights of as many roots as there are letters. In 64 bits a call gives None where a sum overflows, for words of any length; in 128
+//! bits none overflows for words of at most 63 letters. `Words` is what the crates above ask of a group, by this or another arithmetic.
 //!
 //! - `laws`: the theory of lengths, roots, reduced words, normal forms and Bruhat order, for every admissible integer matrix; the lemmas
 //!   behind it are in `proofs/`, for the crates above

@@ -1,11 +1,11 @@
 -- mu depends on the elements alone
-pub mod MuLemmas
+pub mod MuOfElements
 -- raising an element by the descents of another
 pub mod Raising
 -- each element below another is raised to an extremal one
 pub mod Tops
 -- numbers that rise
-pub mod RisingLemmas
+pub mod RisingNumbers
 -- sets of letters by bits
 pub mod LetterBits
 -- what a row has at a place
@@ -13,4 +13,4 @@ pub mod LookUps
 -- rows in a larger context
 pub mod Renumbering
 -- the polynomials of a row, each once
-pub mod PoolLemmas
+pub mod PoolOfRow

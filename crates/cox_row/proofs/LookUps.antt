@@ -12,7 +12,7 @@ use Rattle.cox_row.specs.ExtremalNumbers.{AreExtremal}
 use Rattle.cox_row.specs.Polynomials.{polynomial_at, HavePolynomials}
 use Rattle.cox_row.specs.Mus.{value_at, AreMus}
 use Rattle.cox_row.specs.Raised.{StandsFor}
-use Rattle.cox_row.proofs.MuLemmas.{mu-zero}
+use Rattle.cox_row.proofs.MuOfElements.{mu-zero}
 
 module _ (A : IntegerMatrix) (members : List (List ℕ)) (w : List ℕ) where
   -- the polynomial at a place is that of all elements for which the element there stands

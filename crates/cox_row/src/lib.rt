@@ -1,12 +1,12 @@
 //! Rows of Kazhdan-Lusztig polynomials: what is kept of a row, and what is read off it.
 //!
-//! The row of w has P(x,w) for each x <= w, and mu(x,w). It is kept at the extremal x alone: those to which each left descent of w is a left
-//! descent, and each right descent of w a right one. For any other x some letter shortens w and not x; with it x becomes longer, and P(x,w) stays
-//! as it is (Kazhdan and Lusztig 1979, 2.3.g). So x is raised until it is extremal, and its polynomial is looked up there. All this goes by the
-//! numbers of a context and its tables, and takes no memory.
+//! The row of w has P(x,w) for each x <= w, and mu(x,w). It is kept at the extremal x alone: those to which each left descent of w is a
+//! left descent, and each right descent of w a right one. For any other x some letter shortens w and not x; with it x becomes longer, and
+//! P(x,w) stays as it is (Kazhdan and Lusztig 1979, 2.3.g). So x is raised until it is extremal, and its polynomial is looked up there. All
+//! this goes by the numbers of a context and its tables, and takes no memory.
 //!
-//! That a row is that of an element, `IsRowOf`, is a property of the row and of the members of a context. Each look-up requires it, and whoever
-//! makes a row has to prove it.
+//! That a row is that of an element, `IsRowOf`, is a property of the row and of the members of a context. Each look-up requires it, and
+//! whoever makes a row has to prove it.
 //!
 //! - `row`: the row, its parts, the limit of mu, and new numbers for it when a context grows
 //! - `raised`: raising a member by the descents of another

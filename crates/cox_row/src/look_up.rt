@@ -10,7 +10,7 @@ ghost use Rattle.cox_row.specs.Distinct.{HasDistinctPolynomials};
 
 use crate::Row;
 use crate::raised::raise_fully;
-use crate::search::place_of;
+use crate::search::place_of_number;
 use cox_context::Context;
 use cox_poly::PolyView;
 
@@ -21,11 +21,12 @@ pub fn polynomial<'a>(ctx: &Context, row: &'a Row, i: u32, x: u32) -> Option<Pol
     requires i { i < length ctx.now.members }
     requires x { x < length ctx.now.members }
     requires row { IsRowAt ctx.now i row.now }
-    ensures value { IfSome result (λ p. IsKazhdanLusztig (integer_matrix ctx.now.matrix) (word_at ctx.now.members x) (word_at ctx.now.members i) (coefficient p)) }
+    ensures value { IfSome result (λ p. IsKazhdanLusztig (integer_matrix ctx.now.matrix) (word_at ctx.now.members x)
+        (word_at ctx.now.members i) (coefficient p)) }
     ensures exactly { IsSome result ↔ IsBelow (integer_matrix ctx.now.matrix) (word_at ctx.now.members x) (word_at ctx.now.members i) }
 {
     let top = raise_fully(ctx, i, x)?;
-    let k = place_of(row.extremal(), top)?;
+    let k = place_of_number(row.extremal(), top)?;
     Some(row.pool().at(row.places()[k] as usize))
 }
 
@@ -37,7 +38,7 @@ pub fn mu(ctx: &Context, row: &Row, i: u32, u: u32) -> i32
     ensures { IsMu (integer_matrix ctx.now.matrix) (word_at ctx.now.members u) (word_at ctx.now.members i) result }
 {
     let _len = ctx.len();
-    match place_of(row.neighbours(), u) {
+    match place_of_number(row.neighbours(), u) {
         Some(k) => row.mu()[k],
         None => 0,
     }

@@ -19,7 +19,8 @@ pub(crate) enum Raise {
     Outside,
 }
 
-/// The extremal member to which x is raised by the descents of w, for the members w and x with the numbers i and x; `None` where x <= w fails.
+/// The extremal member to which x is raised by the descents of w, for the members w and x with the numbers i and x; `None` where x <= w
+/// fails.
 pub fn raise_fully(ctx: &Context, i: u32, x: u32) -> Option<u32>
     requires i { i < length ctx.now.members }
     requires x { x < length ctx.now.members }
@@ -45,7 +46,8 @@ pub(crate) fn raise_once(ctx: &Context, left: u16, right: u16, x: u32) -> Raise
     requires left { AreLetters ctx.now.matrix.rank left }
     requires right { AreLetters ctx.now.matrix.rank right }
     requires x { x < length ctx.now.members }
-    ensures { (w : List ℕ) → AreLeftDescents (integer_matrix ctx.now.matrix) w left → AreRightDescents (integer_matrix ctx.now.matrix) w right
+    ensures { (w : List ℕ) → AreLeftDescents (integer_matrix ctx.now.matrix) w left
+        → AreRightDescents (integer_matrix ctx.now.matrix) w right
         → LeadsTo (integer_matrix ctx.now.matrix) ctx.now.members w (word_at ctx.now.members x) result }
 {
     if let Some(s) = missing(left, ctx.left_descent_set(x)) {

@@ -5,7 +5,7 @@ ghost use Rattle.cox_row.specs.Rising.{number_at, AreRising};
 /// The place of a number in a list that rises, if it is there.
 ///
 /// Which half is left is not known before, so no step of the search has a branch on it.
-pub(crate) fn place_of(numbers: &[u32], x: u32) -> Option<usize>
+pub(crate) fn place_of_number(numbers: &[u32], x: u32) -> Option<usize>
     requires rising { AreRising numbers.now }
     ensures within { IfSome result (λ k. k < length numbers.now) }
     ensures place { IfSome result (λ k. number_at numbers.now k ≡ x) }

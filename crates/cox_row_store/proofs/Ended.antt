@@ -2,9 +2,7 @@
 use Rattle.std.proofs.Common.{◌≡◌, ℕ, ◌<◌, List, length, Option, IfSome, subst, ℤ}
 use Rattle.std.proofs.Common.{arith}
 use Rattle.cox_context.specs.Closed.{Elements}
-use Rattle.cox_fill_core.specs.declared.event.RowState.{RowState}
 use Rattle.cox_claims.specs.declared.view.View.{View}
-use Rattle.cox_claims.specs.Tables.{Closes}
 use Rattle.cox_row.specs.declared.row.Row.{Row}
 use Rattle.cox_rowcell.specs.Place.{Place}
 use Rattle.cox_rowcell.specs.RowFor.{IsRowFor}

@@ -15,8 +15,8 @@ pub record AreTaken (e : Elements) (bound : ℤ) (view : View) (rows : List (Opt
   pub each : (i : ℕ) → i < length e.members → IfSome (row_at rows i) (IsRowFor (place_at e bound i))
   pub whole : (i : ℕ) → i < length e.members → saw_published view i ≡ true → row_at rows i ≢ None
 
--- what is taken from cells for these places by looks of a seat whose view was v and is w: for each the row, or none. None is taken only if v
--- has not seen the row Published, and a row only if w has
+-- what is taken from cells for these places by looks of a seat whose view was v and is w: for each the row, or none. None is taken only if
+-- v has not seen the row Published, and a row only if w has
 pub record TakesRows (places : List Place) (v w : View) (rows : List (Option Row)) : Type 0 where
   pub count : length rows ≡ length places
   pub each : (i : ℕ) (else : Place) → i < length places → IfSome (row_at rows i) (IsRowFor (slice_index_or places i else))

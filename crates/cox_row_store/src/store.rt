@@ -1,14 +1,15 @@
 //! The store and its calls.
 ghost use Rattle.std.specs.Prelude.{◌≡◌, ◌≢◌, ℕ, ◌<◌, ◌≤◌, [], max, length, vec_len, vec_capacity, ℤ, pos, ◌≤ℤ◌, IfOk};
 ghost use Rattle.cox_claims.specs.Knowledge.{holds, SeesAll, newcomer, Looks, TriesClaim, Publishes, Voids, parted, told, joined};
-ghost use Rattle.cox_claims.specs.Seats.{view_of, number_of, splits_of, one_more_split, IsSameSeat, Holds, HoldsNothing, HasSeen, HasSeenVoid, HasMarked, Reads};
+ghost use Rattle.cox_claims.specs.Seats.{view_of, number_of, splits_of, one_more_split, IsSameSeat, Holds, HoldsNothing, HasSeen};
+ghost use Rattle.cox_claims.specs.Seats.{HasSeenVoid, HasMarked, Reads};
 ghost use Rattle.cox_claims.specs.Tables.{rows_of, IsSeatOf};
 ghost use Rattle.cox_fill_core.specs.declared.event.RowState.{RowState};
 ghost use Rattle.cox_fill_core.specs.declared.event.RowState.TheVariants.{Free};
 ghost use Rattle.cox_row.specs.RowOf.{IsRowAt};
 ghost use Rattle.cox_row.specs.Within.{IsRowWithin};
 ghost use Rattle.cox_rowcell.specs.RowFor.{IsRowFor};
-ghost use Rattle.cox_rowcell.specs.Guards.{place_of};
+ghost use Rattle.cox_rowcell.specs.Guards.{place_of_guard};
 ghost use Rattle.cox_row_store.specs.Places.{place_at, ArePlaces};
 
 use crate::NoMemory;
@@ -151,7 +152,7 @@ impl RowStore {
         requires own { IsSeat self.now seat.now }
         requires member { member < length (elements_of self.now).members }
         requires seen { HasSeen seat.now member }
-        ensures { place_of result ≡ place_at (elements_of self.now) (limit_of self.now) member }
+        ensures { place_of_guard result ≡ place_at (elements_of self.now) (limit_of self.now) member }
     {
         let _ = seat;
         self.cell(member).read(rt)
@@ -186,7 +187,8 @@ impl RowStore {
         self.claims.meet(seat, other);
     }
 
-    /// Ends the store. Gives one entry for each member: its row where it is Published, or none. It looks at each member once, and needs no memory.
+    /// Ends the store. Gives one entry for each member: its row where it is Published, or none. It looks at each member once, and needs no
+    /// memory.
     pub fn into_rows<R: Wait>(self, rt: &R, seat: Seat) -> Vec<Option<Row>>
         requires { IsSeat self seat }
         ensures { AreTaken (elements_of self) (limit_of self) (view_of seat) result.items }

@@ -26,7 +26,7 @@ impl Model for RowCell {
 }
 
 impl RowCell {
-    ghost use Rattle.cox_rowcell.specs.Guards.{place_of};
+    ghost use Rattle.cox_rowcell.specs.Guards.{place_of_guard};
 
     /// An empty cell for the row of the tag.
     pub fn new(tag: &Tag) -> RowCell
@@ -55,7 +55,7 @@ impl RowCell {
 
     /// Lends the row, without a copy, until the guard is let go. It waits until there is one.
     pub fn read<R: Wait>(&self, rt: &R) -> RowGuard<'_>
-        ensures { place_of result ≡ self.now }
+        ensures { place_of_guard result ≡ self.now }
     {
         for _ in rt.forever() {
             if let Some(guard) = self.try_read() {
@@ -68,7 +68,7 @@ impl RowCell {
 
     /// The row, if the cell has one and no other thread came in between.
     fn try_read(&self) -> Option<RowGuard<'_>>
-        ensures { IfSome result (λ guard. place_of guard ≡ self.now) }
+        ensures { IfSome result (λ guard. place_of_guard guard ≡ self.now) }
     {
         let seen = self.slot.load();
         if !can_be_read(seen) {
@@ -115,11 +115,11 @@ pub struct RowGuard<'a> {
 }
 
 impl<'a> RowGuard<'a> {
-    ghost use Rattle.cox_rowcell.specs.Guards.{place_of};
+    ghost use Rattle.cox_rowcell.specs.Guards.{place_of_guard};
 
     /// The row.
     pub fn row(&self) -> &Row
-        ensures { IsRowFor (place_of self.now) result.now }
+        ensures { IsRowFor (place_of_guard self.now) result.now }
     {
         match self.claim.get() {
             Some(held) => &held.0,

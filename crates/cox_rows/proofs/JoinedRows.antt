@@ -8,7 +8,7 @@ use Rattle.cox_context.specs.Closed.{Elements}
 use Rattle.cox_row.specs.declared.row.Row.{Row}
 use Rattle.cox_row.specs.RowLists.{row_at}
 use Rattle.cox_rows.specs.Holding.{IsHeldRow, AreBoth}
-use Rattle.cox_rows.proofs.HeldLemmas.{not-there}
+use Rattle.cox_rows.proofs.HeldRows.{not-there}
 
 -- the rows before the place n were put among the others
 pub record ArePut (rows more : List (Option Row)) (n : ℕ) (all left : List (Option Row)) : Type 0 where

@@ -3,24 +3,24 @@ pub mod NeedCases
 -- coefficients and values of mu above their limits
 pub mod LargeRows
 -- whether a row is beyond the limits can be told
-pub mod BeyondLemmas
+pub mod BeyondDecided
 -- whether Need(w) has such a row can be told
 pub mod NeedDecided
 -- the rows that are held, by place
-pub mod HeldLemmas
+pub mod HeldRows
 -- rows that are held are not beyond the limits
 pub mod RowBeyond
 -- faults of rows
-pub mod RowsFaultLemmas
+pub mod FaultsOfRows
 -- how rows change while others are made
-pub mod EnsureLemmas
+pub mod EnsuredNeeds
 -- how much is added up
 pub mod StepsMade
 -- settled members
-pub mod SettledLemmas
+pub mod SettledMembers
 -- rows under new numbers
-pub mod SpreadLemmas
+pub mod SpreadRows
 -- larger contexts
-pub mod ExtendLemmas
+pub mod LargerContexts
 -- rows of two lists
 pub mod JoinedRows

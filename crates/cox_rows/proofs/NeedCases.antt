@@ -15,8 +15,8 @@ use Rattle.cox_hecke.specs.Step.{IsCorrection}
 use Rattle.cox_hecke.specs.Needs.{IsNeeded, itself, shorter, corrected}
 use Rattle.cox_hecke.proofs.Descents.{some_left_descent}
 use Rattle.cox_hecke.proofs.Descended.{mu-below}
-use Rattle.cox_hecke.proofs.NeedLemmas.{needed-trans}
-use Rattle.cox_row.proofs.MuLemmas.{mu-words}
+use Rattle.cox_hecke.proofs.NeededElements.{needed-trans}
+use Rattle.cox_row.proofs.MuOfElements.{mu-words}
 
 -- z is w, or sw needs it, or a correction of the step from sw to w needs it
 pub data NeedCase (A : IntegerMatrix) (w z : List ℕ) : Type 0 where

@@ -16,12 +16,12 @@ use Rattle.cox_hecke.specs.Step.{IsCorrection}
 use Rattle.cox_hecke.specs.StepFamily.{Correction, AreCorrections, corrected_elements}
 use Rattle.cox_hecke.specs.Needs.{IsNeeded, itself}
 use Rattle.cox_hecke.proofs.StepFamilies.{corrections_exist}
-use Rattle.cox_hecke.proofs.NeedLemmas.{needed-trans}
-use Rattle.cox_hecke.proofs.SumLemmas.{same_or_not, not_same-is_same}
+use Rattle.cox_hecke.proofs.NeededElements.{needed-trans}
+use Rattle.cox_hecke.proofs.ListSums.{same_or_not, not_same-is_same}
 use Rattle.cox_rows.specs.Beyond.{IsBeyond, NeedsBeyond}
 use Rattle.cox_rows.proofs.NeedCases.{NeedCase, is, by_shorter, by_correction, need_case, need-shorter, least-unique, least_left_descent}
 use Rattle.cox_rows.proofs.NeedCases.{need-correction, needed-from, correction-length}
-use Rattle.cox_rows.proofs.BeyondLemmas.{tell-beyond, beyond-same}
+use Rattle.cox_rows.proofs.BeyondDecided.{tell-beyond, beyond-same}
 
 module _ (A : IntegerMatrix) (g : IsAdmissible A) (limit : ℤ) (least : pos 0 ≤ℤ limit) where
   pub needs_beyond-same : (v w : List ℕ) → SameElement A v w → NeedsBeyond A limit v → NeedsBeyond A limit w

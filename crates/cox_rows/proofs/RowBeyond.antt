@@ -19,13 +19,13 @@ use Rattle.cox_row.specs.declared.row.TheConstants.{MU_LIMIT}
 use Rattle.cox_row.specs.Mus.{value_at}
 use Rattle.cox_row.specs.RowOf.{IsRowOf}
 use Rattle.cox_row.specs.Within.{IsRowWithin}
-use Rattle.cox_row.proofs.MuLemmas.{mu-words}
+use Rattle.cox_row.proofs.MuOfElements.{mu-words}
 use Rattle.cox_klstep.specs.Limits.{IsLargeCoefficient, IsLargeMu}
 use Rattle.cox_klstep.proofs.Finished.{none-large}
 use Rattle.cox_rows.specs.Beyond.{IsBeyond}
 use Rattle.cox_rows.proofs.LargeRows.{beyond-cases}
 use Rattle.cox_rows.specs.Holding.{AreRows, held}
-use Rattle.cox_rows.proofs.HeldLemmas.{held-row}
+use Rattle.cox_rows.proofs.HeldRows.{held-row}
 
 module _ (A : IntegerMatrix) (g : IsAdmissible A) (members : List (List ℕ)) (closed : IsClosed A members) (i : ℕ)
     (inside : i < length members)

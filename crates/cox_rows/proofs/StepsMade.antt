@@ -1,5 +1,5 @@
 -- The polynomials that are added up for one row more.
-use Rattle.std.proofs.Common.{◌≡◌, ℕ, ◌≤◌, refl, arith}
+use Rattle.std.proofs.Common.{◌≡◌, ℕ, refl, arith}
 use Rattle.cox_context.specs.Closed.{Elements}
 use Rattle.cox_klstep.specs.CountedSteps.{counted, IsWithinSteps, IsCounted}
 

@@ -1,9 +1,9 @@
 //! How the rows of Need(i) are made.
 //!
-//! The row of w is made from that of sw, for the least left descent s of w, and from those of the corrections of the step. So these are made first,
-//! by recursion to smaller numbers. Where all rows are asked for, they are made in the order of the members, and corrections are not looked for. A
-//! member is settled when no row of its Need is beyond the limits; that is noted where its row is held, so that nothing is looked at twice. It stays
-//! so when rows are taken out and come back.
+//! The row of w is made from that of sw, for the least left descent s of w, and from those of the corrections of the step. So these are
+//! made first, by recursion to smaller numbers. Where all rows are asked for, they are made in the order of the members, and corrections
+//! are not looked for. A member is settled when no row of its Need is beyond the limits; that is noted where its row is held, so that
+//! nothing is looked at twice. It stays so when rows are taken out and come back.
 ghost use Rattle.std.specs.Prelude.{◌≡◌, ◌≢◌, ℕ, ◌<◌, ◌≤◌, length, IsTrue, IfOk, IfErr, OnOk, false};
 ghost use Rattle.cox_base.specs.IntegerMatrix.{integer_matrix};
 ghost use Rattle.cox_hecke.specs.Needs.{IsNeeded};
@@ -24,16 +24,18 @@ use cox_klstep::{Descent, StepFault, Steps, Tables, needs, row};
 use std::alloc::{AllocError, Global};
 
 impl Rows {
-    /// Makes the rows of Need(z) that are not there, for the member z with the number i, and no others. Where all are there, nothing is added up.
+    /// Makes the rows of Need(z) that are not there, for the member z with the number i, and no others. Where all are there, nothing is
+    /// added up.
     ///
-    /// `Coefficient` or `Mu` where the row of an element of Need(z) is beyond a limit; what was made before that is held. In A 2, with all six elements
-    /// as members, the rows that `121` needs are those of `121`, `21`, `1` and the identity.
+    /// `Coefficient` or `Mu` where the row of an element of Need(z) is beyond a limit; what was made before that is held. In A 2, with all
+    /// six elements as members, the rows that `121` needs are those of `121`, `21`, `1` and the identity.
     #[cycle(ensuring)]
     pub fn ensure(&mut self, i: u32) -> Result<(), StepFault>
         requires { i < length self.old.elements.members }
         ensures rows { IsEnsured (word_at self.old.elements.members i) self.old self.new }
         ensures there { OnOk result (HasRow self.new i) }
-        ensures small { OnOk result (¬ NeedsBeyond (integer_matrix self.old.elements.matrix) self.old.limit (word_at self.old.elements.members i)) }
+        ensures small { OnOk result (¬ NeedsBeyond (integer_matrix self.old.elements.matrix) self.old.limit
+            (word_at self.old.elements.members i)) }
         ensures fault { IfErr result (IsRowsFault self.old.elements self.old.limit
             (IsNeeded (integer_matrix self.old.elements.matrix) (word_at self.old.elements.members i))) }
     {
@@ -52,7 +54,8 @@ impl Rows {
         requires { i < length self.old.elements.members }
         ensures rows { IsEnsured (word_at self.old.elements.members i) self.old self.new }
         ensures there { OnOk result (HasNeeds self.old.elements (HasRow self.new) i) }
-        ensures small { OnOk result (AreNeedsSmall (integer_matrix self.old.elements.matrix) self.old.limit (word_at self.old.elements.members i)) }
+        ensures small { OnOk result (AreNeedsSmall (integer_matrix self.old.elements.matrix) self.old.limit
+            (word_at self.old.elements.members i)) }
         ensures fault { IfErr result (IsRowsFault self.old.elements self.old.limit
             (IsNeeded (integer_matrix self.old.elements.matrix) (word_at self.old.elements.members i))) }
     {
@@ -88,18 +91,20 @@ impl Rows {
         Ok(())
     }
 
-    /// Makes the row of the member with the number i, unless it is there, where those of all members before it are there and settled. The row is made
-    /// from those.
+    /// Makes the row of the member with the number i, unless it is there, where those of all members before it are there and settled. The
+    /// row is made from those.
     fn ensure_next(&mut self, i: u32) -> Result<(), StepFault>
         requires member { i < length self.old.elements.members }
         requires before { (j : ℕ) → j < i → HasRow self.old j }
-        requires settled { (j : ℕ) → j < i → ¬ NeedsBeyond (integer_matrix self.old.elements.matrix) self.old.limit (word_at self.old.elements.members j) }
+        requires settled { (j : ℕ) → j < i
+            → ¬ NeedsBeyond (integer_matrix self.old.elements.matrix) self.old.limit (word_at self.old.elements.members j) }
         ensures elements { self.new.elements ≡ self.old.elements }
         ensures limit { self.new.limit ≡ self.old.limit }
         ensures kept { (j : ℕ) → HasRow self.old j → HasRow self.new j }
         ensures there { OnOk result (HasRow self.new i) }
         ensures again { HasRow self.old i → self.new.steps ≡ self.old.steps }
-        ensures small { OnOk result (¬ NeedsBeyond (integer_matrix self.old.elements.matrix) self.old.limit (word_at self.old.elements.members i)) }
+        ensures small { OnOk result (¬ NeedsBeyond (integer_matrix self.old.elements.matrix) self.old.limit
+            (word_at self.old.elements.members i)) }
         ensures fault { IfErr result (IsFaultOfSome self.old.elements self.old.limit) }
     {
         let _context = self.context();
@@ -114,7 +119,8 @@ impl Rows {
     fn corrections(&self, descent: &Descent) -> Result<Vec<u32>, AllocError>
         requires descent { IsDescentAt self.now.elements descent.now }
         requires lower { HasRow self.now descent.now.lower }
-        ensures { IfOk result (λ v. AreNeeds (integer_matrix self.now.elements.matrix) self.now.elements.members descent.now.letter (word_at self.now.elements.members descent.now.member) v.items) }
+        ensures { IfOk result (λ v. AreNeeds (integer_matrix self.now.elements.matrix) self.now.elements.members descent.now.letter
+            (word_at self.now.elements.members descent.now.member) v.items) }
     {
         let alloc = *self.settled.allocator();
         let Some(lower) = self.held.get(descent.lower) else {
@@ -138,7 +144,8 @@ impl Rows {
         ensures steps { IsWithinSteps self.old.elements i self.old.steps self.new.steps }
         ensures counted { OnOk result (¬ HasRow self.old i → IsMadeByStep self.old.elements (HasRow self.old) i
             → IsCounted self.old.elements i self.old.steps self.new.steps) }
-        ensures fault { IfErr result (IsFault (integer_matrix self.old.elements.matrix) self.old.elements.members self.old.limit (λ w. w ≡ i)) }
+        ensures fault { IfErr result (IsFault (integer_matrix self.old.elements.matrix) self.old.elements.members self.old.limit
+            (λ w. w ≡ i)) }
     {
         if self.held.get(i).is_some() {
             return Ok(());
@@ -193,8 +200,10 @@ impl Rows {
         requires there { HasRow self.old i }
         requires needs { AreNeedsSmall (integer_matrix self.old.elements.matrix) self.old.limit (word_at self.old.elements.members i) }
         ensures same { self.new ≡ self.old }
-        ensures small { OnOk result (¬ NeedsBeyond (integer_matrix self.old.elements.matrix) self.old.limit (word_at self.old.elements.members i)) }
-        ensures fault { IfErr result (IsFault (integer_matrix self.old.elements.matrix) self.old.elements.members self.old.limit (λ w. w ≡ i)) }
+        ensures small { OnOk result (¬ NeedsBeyond (integer_matrix self.old.elements.matrix) self.old.limit
+            (word_at self.old.elements.members i)) }
+        ensures fault { IfErr result (IsFault (integer_matrix self.old.elements.matrix) self.old.elements.members self.old.limit
+            (λ w. w ≡ i)) }
     {
         let _context = self.held.context();
         set_at(&mut self.settled, i as usize)?;

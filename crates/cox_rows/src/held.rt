@@ -1,5 +1,6 @@
 //! A context, and rows of some of its members.
-ghost use Rattle.std.specs.Prelude.{◌≡◌, ◌≢◌, ◌⊎◌, ℕ, ◌<◌, ◌≤◌, ◌↔◌, [], length, IfSome, IsSome, IfOk, IfErr, OnOk, OnErr, Some, None, is_some, true, pos, ◌≤ℤ◌};
+ghost use Rattle.std.specs.Prelude.{◌≡◌, ◌≢◌, ◌⊎◌, ℕ, ◌<◌, ◌≤◌, ◌↔◌, [], length, IfSome, IsSome, IfOk, IfErr, OnOk, OnErr, Some, None};
+ghost use Rattle.std.specs.Prelude.{is_some, true, pos, ◌≤ℤ◌};
 ghost use Rattle.cox_base.specs.Admissible.{IsAdmissible};
 ghost use Rattle.cox_base.specs.IntegerMatrix.{integer_matrix};
 ghost use Rattle.cox_context.specs.Closed.{IsClosed};
@@ -150,7 +151,8 @@ impl Held {
         self.rows = both(old, rows);
     }
 
-    /// Adds the elements x with x <= w to the context; the new number of each member that was there before. Without memory no row may be left.
+    /// Adds the elements x with x <= w to the context; the new number of each member that was there before. Without memory no row may be
+    /// left.
     pub(crate) fn extend(
         &mut self,
         group: &RootTable,
@@ -163,7 +165,8 @@ impl Held {
         requires limit { limit ≤ MAX_MEMBERS }
         ensures matrix { self.new.elements.matrix ≡ self.old.elements.matrix }
         ensures limit { self.new.limit ≡ self.old.limit }
-        ensures members { OnOk result (IsListOf (IsInUnion (integer_matrix group.now) w.now.items self.old.elements.members) self.new.elements.members) }
+        ensures members { OnOk result (IsListOf (IsInUnion (integer_matrix group.now) w.now.items self.old.elements.members)
+            self.new.elements.members) }
         ensures few { OnOk result (length self.new.elements.members ≤ limit) }
         ensures carried { IfOk result (λ moved. AreCarried self.old self.new moved.items) }
         ensures refused { IfErr result (IsRefusal (IsInUnion (integer_matrix group.now) w.now.items self.old.elements.members) limit) }

@@ -1,5 +1,6 @@
 //! A context with rows of its members: look-ups, and contexts that grow.
-ghost use Rattle.std.specs.Prelude.{◌≡◌, ◌≢◌, ◌⊎◌, true, is_some, ℕ, ◌<◌, ◌≤◌, ◌↔◌, [], length, IfSome, IsSome, IsTrue, IfOk, IfErr, OnOk, pos, ◌≤ℤ◌};
+ghost use Rattle.std.specs.Prelude.{◌≡◌, ◌≢◌, ◌⊎◌, true, is_some, ℕ, ◌<◌, ◌≤◌, ◌↔◌, [], length, IfSome, IsSome, IsTrue, IfOk, IfErr, OnOk};
+ghost use Rattle.std.specs.Prelude.{pos, ◌≤ℤ◌};
 ghost use Rattle.cox_base.specs.IntegerMatrix.{integer_matrix};
 ghost use Rattle.cox_base.specs.Matrix.{IsWord};
 ghost use Rattle.cox_base.specs.ShortLex.{normal_form};
@@ -96,7 +97,8 @@ impl Rows {
         self.held.get(i)
     }
 
-    /// P(x,w), for the member w with the number i, whose row is held, and the member x with the number x; `None` exactly where x <= w fails.
+    /// P(x,w), for the member w with the number i, whose row is held, and the member x with the number x; `None` exactly where x <= w
+    /// fails.
     ///
     /// In A 3 that of `2` and `2132` is 1 + q.
     pub fn polynomial(&self, i: u32, x: u32) -> Option<PolyView<'_>>
@@ -170,11 +172,12 @@ impl Rows {
         self.held.adopt(rows);
     }
 
-    /// Adds the elements x with x <= w to the context, and tells the number of w there. The rows that are held stay, under their members' new numbers.
+    /// Adds the elements x with x <= w to the context, and tells the number of w there. The rows that are held stay, under their members'
+    /// new numbers.
     ///
-    /// `Size` where there are more than `limit` members then. After `Size` and `Long` all is as before; without memory no row may be left, and there may
-    /// be more members. In A 2 the interval of `12` has four elements, the last with the number 3; with that of `21` there are five, the last with the
-    /// number 4, and the row of `12` has the same number.
+    /// `Size` where there are more than `limit` members then. After `Size` and `Long` all is as before; without memory no row may be left,
+    /// and there may be more members. In A 2 the interval of `12` has four elements, the last with the number 3; with that of `21` there
+    /// are five, the last with the number 4, and the row of `12` has the same number.
     pub fn extend(&mut self, group: &RootTable, w: &Word, limit: u32) -> Result<u32, ContextFault>
         requires matrix { group.now ≡ self.old.elements.matrix }
         requires letters { IsWord group.now.rank w.now.items }
@@ -182,9 +185,11 @@ impl Rows {
         requires limit { limit ≤ MAX_MEMBERS }
         ensures matrix { self.new.elements.matrix ≡ self.old.elements.matrix }
         ensures limit { self.new.limit ≡ self.old.limit }
-        ensures members { OnOk result (IsListOf (IsInUnion (integer_matrix group.now) w.now.items self.old.elements.members) self.new.elements.members) }
+        ensures members { OnOk result (IsListOf (IsInUnion (integer_matrix group.now) w.now.items self.old.elements.members)
+            self.new.elements.members) }
         ensures few { OnOk result (length self.new.elements.members ≤ limit) }
-        ensures number { IfOk result (λ i. IsNumberOf self.new.elements.members (normal_form (integer_matrix group.now) w.now.items) (Some i)) }
+        ensures number { IfOk result (λ i. IsNumberOf self.new.elements.members (normal_form (integer_matrix group.now) w.now.items)
+            (Some i)) }
         ensures extended { OnOk result (IsExtended self.old self.new) }
         ensures refused { IfErr result (IsRefusal (IsInUnion (integer_matrix group.now) w.now.items self.old.elements.members) limit) }
         ensures unchanged { IfErr result (IsLeft self.old self.new) }

@@ -1,16 +1,16 @@
 -- R along a word: where it is 0 and 1, how large it gets, and that it depends on the elements alone
-pub mod AlongLemmas
+pub mod AlongWords
 -- the same of two elements, by the normal form; the recursion
-pub mod PolynomialLemmas
+pub mod PolynomialsOfElements
 -- lists of forty coefficients
-pub mod TermLemmas
+pub mod CombinedTerms
 -- for code: when the lengths differ by too much
-pub mod DepthLemmas
+pub mod LengthDifference
 -- for code: elements told by their heights
-pub mod ElementLemmas
+pub mod WordsOfOneElement
 -- for code: layers, their links and values
-pub mod LayerLemmas
+pub mod LayerMembers
 -- for code: the values of a layer
-pub mod ValueLemmas
+pub mod LayerValues
 -- elements told by their normal forms
 pub mod FormElements

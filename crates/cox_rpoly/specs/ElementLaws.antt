@@ -10,7 +10,7 @@ use Rattle.cox_base.specs.IntegerMatrix.{IntegerMatrix}
 use Rattle.cox_base.specs.Admissible.{IsAdmissible}
 use Rattle.cox_base.specs.Descents.{IsLeftDescent}
 use Rattle.cox_reflect.specs.declared.heights.Heights.{Heights}
-use Rattle.cox_reflect.proofs.HeightLemmas.{descent_from_heights, heights_at_descent}
+use Rattle.cox_reflect.proofs.HeightsUnderLetters.{descent_from_heights, heights_at_descent}
 use Rattle.cox_reflect.proofs.Roots.{left_descent-letter}
 use Rattle.cox_reflect.proofs.Elements.{same-trans, same-sym, same-equal, same-cons}
 use Rattle.cox_reflect.proofs.Search.{normal_form-same, word_length-equal}

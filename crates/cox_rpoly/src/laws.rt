@@ -15,7 +15,8 @@ ghost use Rattle.cox_rpoly.specs.RPolynomial.{r_polynomial};
 /// R(w,w) = 1, and R(x,w) = 0 unless x <= w.
 pub fn values()
     ensures one { (A : IntegerMatrix) → IsAdmissible A → (w : List ℕ) (k : ℕ) → r_polynomial A w w k ≡ one_polynomial k }
-    ensures zero { (A : IntegerMatrix) → IsAdmissible A → (x w : List ℕ) → ¬ IsBelow A x w → (k : ℕ) → r_polynomial A x w k ≡ zero_polynomial k }
+    ensures zero { (A : IntegerMatrix) → IsAdmissible A → (x w : List ℕ) → ¬ IsBelow A x w → (k : ℕ)
+        → r_polynomial A x w k ≡ zero_polynomial k }
 {}
 
 /// R depends on the elements alone, and not on their words.

@@ -29,7 +29,8 @@ pub(crate) fn values<W: Words, E: Element>(
     requires reduced { IsReduced (integer_matrix (W.matrix words.now)) form.now }
     requires short { length form.now ≤ W.longest words.now }
     requires members { All (IsInLayer E.is_of (integer_matrix (W.matrix words.now)) form.now) layer.keys }
-    ensures values { IfMade result (λ values. AreLayerValues E.is_of (integer_matrix (W.matrix words.now)) form.now layer.keys values.items) }
+    ensures values { IfMade result (λ values. AreLayerValues E.is_of (integer_matrix (W.matrix words.now)) form.now layer.keys
+        values.items) }
     ensures sure { IsTrue E.is_sure → IsValueMade result }
 {
     let _rank = words.matrix().rank();

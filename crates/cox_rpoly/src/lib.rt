@@ -1,8 +1,9 @@
 //! R-polynomials of Coxeter groups (Kazhdan and Lusztig 1979; Humphreys, "Reflection Groups and Coxeter Groups", 7.4, 7.5).
 //!
-//! [`r`] computes R(y,w) over any arithmetic of words (`cox_reflect::Words`), where the lengths differ by at most [`MAX_DIFFERENCE`]: then the
-//! coefficients have 64 bits. It goes along the reduced word of w, layer by layer, and meets each element that is below what is left of the word
-//! once. It stands on `cox_reflect` for heights and words, on `cox_poly` for polynomials, and on `indexmap` for the elements of a layer.
+//! [`r`] computes R(y,w) over any arithmetic of words (`cox_reflect::Words`), where the lengths differ by at most [`MAX_DIFFERENCE`]: then
+//! the coefficients have 64 bits. It goes along the reduced word of w, layer by layer, and meets each element that is below what is left of
+//! the word once. It stands on `cox_reflect` for heights and words, on `cox_poly` for polynomials, and on `indexmap` for the elements of a
+//! layer.
 //!
 //! - `laws`: R(w,w) = 1, R(x,w) = 0 unless x <= w, the recursion, and how large the coefficients get
 //! - `polynomial`: R of two words

@@ -29,7 +29,8 @@ pub fn r<W: Words>(alloc: Global, words: &W, y: &Word, w: &Word) -> Result<Poly,
     requires letters_w { IsWord (W.matrix words.now).rank w.now.items }
     requires short_y { length y.now.items ≤ W.longest words.now }
     requires short_w { length w.now.items ≤ W.longest words.now }
-    ensures value { IfOk result (λ p. (k : ℕ) → coefficient p k ≡ r_polynomial (integer_matrix (W.matrix words.now)) y.now.items w.now.items k) }
+    ensures value { IfOk result (λ p. (k : ℕ)
+        → coefficient p k ≡ r_polynomial (integer_matrix (W.matrix words.now)) y.now.items w.now.items k) }
     ensures normal { IfOk result IsPolynomial }
     ensures deep { (d : ℕ) → (result ≡ Err (RFault.Deep d)) ↔ IsDeep (integer_matrix (W.matrix words.now)) y.now.items w.now.items d }
 {

@@ -8,7 +8,7 @@ use Rattle.cox_scc.specs.Reach.{HasEdge, Reaches, AreClasses, IsLeastOfClass}
 use Rattle.cox_scc.specs.Sorted.{AreSorted}
 use Rattle.cox_scc.specs.Walk.{visit_of, IsWalk, LeadsIn}
 use Rattle.cox_scc.proofs.Reaching.{Reaches-map}
-use Rattle.cox_scc.proofs.PassLemmas.{empty_stack}
+use Rattle.cox_scc.proofs.PassStates.{empty_stack}
 
 -- the vertices below the root were seen, and none is being explored
 pub record HadTurns (adjacency : Adjacency) (root : ℕ) (search : Search) : Type 0 where

@@ -9,7 +9,7 @@ use Rattle.cox_scc.specs.Reach.{Reaches, ReachEachOther}
 use Rattle.cox_scc.specs.Walk.{AreOnStack, AreFollowed, AreStacked, AreSettled, IsStackChain, LiesFrom, Stands, BecomeClass, CloseMembers}
 use Rattle.cox_scc.proofs.Stacks.{rising_below, rising_rest}
 use Rattle.cox_scc.proofs.Reaching.{Reaches-join, Reaches-keeps}
-use Rattle.cox_scc.proofs.StackLemmas.{chain_up, chain_down}
+use Rattle.cox_scc.proofs.StackedVertices.{chain_up, chain_down}
 
 module _ (n low size least : ℕ) (visit later : ℕ → Visit) (class after stack : ℕ → ℕ) (low_in : low < size)
     (become : BecomeClass stack low size least visit later class after) (placed : AreOnStack n visit stack size) where

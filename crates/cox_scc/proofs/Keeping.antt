@@ -5,7 +5,7 @@ use Rattle.std.proofs.lemmas.List.Elements.{Contains-append_left, Contains-push,
 use Rattle.cox_scc.specs.Visits.{Visit, Unseen, Open, Closed}
 use Rattle.cox_scc.specs.Walk.{IsIncreasing, AreOnStack, AreFollowed, AreStacked, AreSettled, LiesFrom}
 use Rattle.cox_scc.proofs.Stacks.{rising_rest, increasing-push}
-use Rattle.cox_scc.proofs.VisitLemmas.{lies_lower}
+use Rattle.cox_scc.proofs.VisitedVertices.{lies_lower}
 
 -- a vertex stands at one place of the stack
 pub same_place : (n : ℕ) (visit : ℕ → Visit) (stack : ℕ → ℕ) (size : ℕ) → AreOnStack n visit stack size → (p q : ℕ) → p < size → q < size

@@ -1,7 +1,7 @@
 -- edges of a graph
 pub mod Edges
 -- what is known of a vertex
-pub mod VisitLemmas
+pub mod VisitedVertices
 -- the places of the vertices of a path
 pub mod Paths
 -- vertices that are reached
@@ -9,7 +9,7 @@ pub mod Reaching
 -- lists of places
 pub mod Stacks
 -- vertices on the stack reach each other
-pub mod StackLemmas
+pub mod StackedVertices
 -- what a step of the pass keeps
 pub mod Keeping
 -- a part that becomes a class
@@ -17,7 +17,7 @@ pub mod Closing
 -- the stack has at most as many places as there are vertices
 pub mod Pigeonholes
 -- the whole state of the pass
-pub mod PassLemmas
+pub mod PassStates
 -- edges sorted by counting
 pub mod EdgeCounting
 -- all vertices are closed

@@ -56,16 +56,16 @@ pigeonhole (suc m) (suc last) f g below back =
     (λ past. fewer (λ p lt is. let same : g m ≡ p = sym (ap g is) ∙ back p lt in omega arith))
     (cases_lt (g m) (suc last))
 
-place_of : Visit → ℕ
-place_of Unseen = 0
-place_of (Open place) = place
-place_of Closed = 0
+place_of_visit : Visit → ℕ
+place_of_visit Unseen = 0
+place_of_visit (Open place) = place
+place_of_visit Closed = 0
 
 -- there are at most as many places on the stack as there are vertices
 pub stack_fits : (n : ℕ) (visit : ℕ → Visit) (stack : ℕ → ℕ) (size : ℕ) → AreOnStack n visit stack size → size ≤ n
-unfolding place_of
+unfolding place_of_visit
 stack_fits n visit stack size placed =
-    pigeonhole n size stack (λ v. place_of (visit v)) placed.vertex (λ p within. ap place_of (placed.visited p within))
+    pigeonhole n size stack (λ v. place_of_visit (visit v)) placed.vertex (λ p within. ap place_of_visit (placed.visited p within))
 
 -- there is room for a vertex that is not on the stack
 pub stack_room : (n : ℕ) (visit : ℕ → Visit) (stack : ℕ → ℕ) (size v : ℕ) → v < n → visit v ≡ Unseen → AreOnStack n visit stack size

@@ -11,8 +11,8 @@ use std::alloc::Global;
 
 /// The class number of each vertex, in time linear in vertices and edges.
 ///
-/// Two vertices have equal numbers exactly where each reaches the other. The number of a class is its least vertex. With 4 vertices and the edges
-/// 0 to 1, 1 to 0 and 1 to 2 the numbers are 0, 0, 2, 3.
+/// Two vertices have equal numbers exactly where each reaches the other. The number of a class is its least vertex. With 4 vertices and the
+/// edges 0 to 1, 1 to 0 and 1 to 2 the numbers are 0, 0, 2, 3.
 pub fn classes(alloc: Global, graph: &Digraph) -> Result<Vec<u32>, NoMemory>
     ensures size { IfOk result (λ classes. vec_len classes ≡ vertices_of graph.now) }
     ensures same { IfOk result (λ classes. AreClasses (HasEdge (edges_of graph.now)) (vertices_of graph.now) classes.items) }

@@ -1,12 +1,14 @@
 //! The depth-first pass.
 //!
-//! It keeps the vertices that were seen, and whose class is not known yet, on a stack in the order in which they were seen. The stack is cut into
-//! parts of vertices that reach each other. An edge to a vertex on the stack joins the parts from there up. When the pass is done with the
-//! vertex where the last part begins, that part is a class, and leaves the stack.
+//! It keeps the vertices that were seen, and whose class is not known yet, on a stack in the order in which they were seen. The stack is
+//! cut into parts of vertices that reach each other. An edge to a vertex on the stack joins the parts from there up. When the pass is done
+//! with the vertex where the last part begins, that part is a class, and leaves the stack.
 //!
-//! Where the edges of a vertex lead is known only once it is looked up, and a branch on it would often be predicted wrongly. So the pass follows
-//! the edges of a vertex in one tight loop, which takes the least of their places and branches on nothing but a vertex that was not seen.
-ghost use Rattle.std.specs.Prelude.{◌≡◌, ◌≢◌, ℕ, ◌-◌, ◌+◌, ◌<◌, ◌≤◌, ◌^◌, ◌++◌, ◌∷◌, [], length, drop, slice_index, slice_index_or, IfOk, OnOk, IfNone, Contains, vec_len};
+//! Where the edges of a vertex lead is known only once it is looked up, and a branch on it would often be predicted wrongly. So the pass
+//! follows the edges of a vertex in one tight loop, which takes the least of their places and branches on nothing but a vertex that was not
+//! seen.
+ghost use Rattle.std.specs.Prelude.{◌≡◌, ◌≢◌, ℕ, ◌-◌, ◌+◌, ◌<◌, ◌≤◌, ◌^◌, ◌++◌, ◌∷◌, [], length, drop, slice_index, slice_index_or, IfOk};
+ghost use Rattle.std.specs.Prelude.{OnOk, IfNone, Contains, vec_len};
 ghost use Rattle.std.specs.Option.{option_to_list};
 ghost use Rattle.cox_scc.specs.Visits.{Unseen, Open, nowhere};
 ghost use Rattle.cox_scc.specs.Walk.{IsIncreasing, Joins, Follows, CloseMembers};
@@ -114,7 +116,8 @@ impl Search {
         ensures walk { IfOk result (λ there. IsWalk adjacency.now self.new (self.new.waiting.items ++ option_to_list there)) }
         ensures seen { OnOk result (StaySeen self.old self.new) }
         ensures end { IfOk result (λ there. IfNone there (self.new.waiting.items ≡ [])) }
-        ensures less { IfOk result (λ there. work_left self.new (self.new.waiting.items ++ option_to_list there) < work_left self.old (self.old.waiting.items ++ here ∷ [])) }
+        ensures less { IfOk result (λ there. work_left self.new (self.new.waiting.items ++ option_to_list there) < work_left self.old
+            (self.old.waiting.items ++ here ∷ [])) }
     {
         let vertex = self.stack[here.place as usize] as usize;
         let end = adjacency.offsets[vertex + 1];
@@ -137,7 +140,8 @@ impl Search {
         requires some { 0 < vec_len self.old.parts }
         requires here { here < vec_len self.old.stack }
         requires are_open { AreOpen self.old }
-        requires vertices { (place : ℕ) → place < vec_len self.old.stack → slice_index self.old.stack.items place < vec_len self.old.places }
+        requires vertices { (place : ℕ) → place < vec_len self.old.stack
+            → slice_index self.old.stack.items place < vec_len self.old.places }
         requires sized { vec_len self.old.classes ≡ vec_len self.old.places }
         ensures { Finishes self.old self.new here }
     {
@@ -183,7 +187,8 @@ impl Search {
     fn close(&mut self, low: u32)
         requires some { low < vec_len self.old.stack }
         requires are_open { AreOpen self.old }
-        requires vertices { (place : ℕ) → place < vec_len self.old.stack → slice_index self.old.stack.items place < vec_len self.old.places }
+        requires vertices { (place : ℕ) → place < vec_len self.old.stack
+            → slice_index self.old.stack.items place < vec_len self.old.places }
         requires sized { vec_len self.old.classes ≡ vec_len self.old.places }
         ensures { ClosesClass self.old self.new low }
     {

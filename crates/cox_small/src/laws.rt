@@ -13,8 +13,8 @@ ghost use Rattle.cox_small.specs.SmallRoots.{IsSmall, IsSmallRoot, HasMoreSmallR
 ghost use Rattle.cox_small.specs.RootCounts.{HasFewSmallRoots};
 ghost use Rattle.cox_small.specs.Elementary.{IsElementary};
 
-/// Small roots are positive, with one coroot each, and they are the elementary roots: the positive roots that dominate no other positive root.
-/// A letter with a positive pairing keeps them small.
+/// Small roots are positive, with one coroot each, and they are the elementary roots: the positive roots that dominate no other positive
+/// root. A letter with a positive pairing keeps them small.
 pub fn small_roots()
     ensures positive { (A : IntegerMatrix) → IsAdmissible A → (b c : Vector) → IsSmall A b c → IsNonnegative b }
     ensures coroot { (A : IntegerMatrix) → IsAdmissible A → (b c d : Vector) → IsSmall A b c → IsSmall A b d → c ≡ d }
@@ -23,7 +23,8 @@ pub fn small_roots()
         → pos 0 <ℤ pairing A s b → IsSmall A (reflect A s b) (reflect (transposed A) s c) }
 {}
 
-/// A step of a small root b out of the small roots, with p negative and p r at least 4: each element that makes s b negative makes e(s) negative.
+/// A step of a small root b out of the small roots, with p negative and p r at least 4: each element that makes s b negative makes e(s)
+/// negative.
 pub fn steps_out()
     ensures { (A : IntegerMatrix) → IsAdmissible A → (s : ℕ) (b c : Vector) → IsSmall A b c → pairing A s b <ℤ pos 0
         → pos 4 ≤ℤ (pairing A s b *ℤ pairing (transposed A) s c)
@@ -38,8 +39,10 @@ pub fn reading()
 
     // at a step out of the small roots the longer word is reduced
     ensures out { (A : IntegerMatrix) → IsAdmissible A → (before behind : List ℕ) (q s : ℕ) (c : Vector) → IsLetter A.rank s
-        → IsReduced A (before ++ q ∷ behind) → IsSmall A (act A behind (simple_root s)) c → pairing A q (act A behind (simple_root s)) <ℤ pos 0
-        → pos 4 ≤ℤ (pairing A q (act A behind (simple_root s)) *ℤ pairing (transposed A) q c) → IsReduced A ((before ++ q ∷ behind) ++ s ∷ []) }
+        → IsReduced A (before ++ q ∷ behind) → IsSmall A (act A behind (simple_root s)) c
+        → pairing A q (act A behind (simple_root s)) <ℤ pos 0
+        → pos 4 ≤ℤ (pairing A q (act A behind (simple_root s)) *ℤ pairing (transposed A) q c)
+        → IsReduced A ((before ++ q ∷ behind) ++ s ∷ []) }
 
     // and so it is where the word ends at a small root
     ensures at_the_end { (A : IntegerMatrix) → IsAdmissible A → (w : List ℕ) (s : ℕ) (c : Vector) → IsLetter A.rank s

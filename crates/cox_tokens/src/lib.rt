@@ -1,7 +1,8 @@
 //! The parts of a line: tokens, and numbers among them.
 //!
-//! Tokens are the longest runs of bytes other than space, and a number is a token of 1 to [`MAX_DIGITS`] decimal digits. Both are definitions in `specs/`,
-//! and what is read here is exact by them. Nothing takes memory. The crate stands on std alone, and whatever reads lines may stand on it.
+//! Tokens are the longest runs of bytes other than space, and a number is a token of 1 to [`MAX_DIGITS`] decimal digits. Both are
+//! definitions in `specs/`, and what is read here is exact by them. Nothing takes memory. The crate stands on std alone, and whatever reads
+//! lines may stand on it.
 //!
 //! - `tokens`: the tokens of a line
 //! - `number`: numbers as they are written

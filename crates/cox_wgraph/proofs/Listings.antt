@@ -10,10 +10,10 @@ use Rattle.cox_base.specs.IntegerMatrix.{IntegerMatrix}
 use Rattle.cox_base.specs.Admissible.{IsAdmissible}
 use Rattle.cox_base.specs.Members.{IsElement}
 use Rattle.cox_base.specs.SortedList.{IsListOf}
-use Rattle.cox_context.proofs.SortedLemmas.{IsListOf-unique, IsListOf-filter}
+use Rattle.cox_context.proofs.ShortLexLists.{IsListOf-unique, IsListOf-filter}
 use Rattle.cox_wgraph.specs.Edges.{IsEdgeValue}
 use Rattle.cox_wgraph.specs.Listing.{Joined, IsNeighbour, AreJoined, Vertex, AreVertices}
-use Rattle.cox_wgraph.proofs.EdgeLemmas.{edge-exists, edge-unique}
+use Rattle.cox_wgraph.proofs.EdgeValues.{edge-exists, edge-unique}
 
 -- ---- one listing
 

@@ -112,7 +112,8 @@ impl<'a> WGraph<'a> {
     pub fn edges(&self, i: u32) -> &[Edge]
         requires { i < length self.now.members }
         ensures edges { AreEdges (integer_matrix self.now.matrix) self.now.members i result.now }
-        ensures joined { IsListOf (IsElement (integer_matrix self.now.matrix)) self.now.members → AreJoined (integer_matrix self.now.matrix) (word_at self.now.members i) (joined_of self.now.members result.now) }
+        ensures joined { IsListOf (IsElement (integer_matrix self.now.matrix)) self.now.members
+            → AreJoined (integer_matrix self.now.matrix) (word_at self.now.members i) (joined_of self.now.members result.now) }
     {
         let _len = self.context.len();
         let start = start(&self.ends, i);

@@ -9,7 +9,8 @@ ghost use Rattle.cox_base.specs.SortedList.{IsListOf};
 ghost use Rattle.cox_wgraph.specs.Edges.{IsEdgeValue};
 ghost use Rattle.cox_wgraph.specs.Listing.{Joined, Vertex, AreJoined, AreVertices};
 
-/// Of mu(x,y) and mu(y,x) one is 0 at least. There is exactly one value for x and y, it is the same for y and x, and it depends on the elements alone.
+/// Of mu(x,y) and mu(y,x) one is 0 at least. There is exactly one value for x and y, it is the same for y and x, and it depends on the
+/// elements alone.
 pub fn edges()
     ensures one_way { (A : IntegerMatrix) → IsAdmissible A → (x y : List ℕ) (up down : ℤ) → IsMu A x y up → IsMu A y x down
         → (up ≡ pos 0) ⊎ (down ≡ pos 0) }
@@ -26,6 +27,7 @@ pub fn listings()
         → (vertices : List Vertex) × AreVertices A vertices }
     ensures unique { (A : IntegerMatrix) → IsAdmissible A → (vertices others : List Vertex) → AreVertices A vertices
         → AreVertices A others → vertices ≡ others }
-    ensures one_list { (A : IntegerMatrix) → IsAdmissible A → (x : List ℕ) (list other : List Joined) → AreJoined A x list → AreJoined A x other
+    ensures one_list { (A : IntegerMatrix) → IsAdmissible A → (x : List ℕ) (list other : List Joined) → AreJoined A x list
+        → AreJoined A x other
         → list ≡ other }
 {}

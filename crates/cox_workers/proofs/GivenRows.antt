@@ -5,7 +5,7 @@ use Rattle.cox_base.specs.IntegerMatrix.{IntegerMatrix, integer_matrix}
 use Rattle.cox_base.specs.Admissible.{IsAdmissible}
 use Rattle.cox_hecke.specs.Family.{Family}
 use Rattle.cox_hecke.specs.Row.{IsRow}
-use Rattle.cox_hecke.proofs.RowLemmas.{row-same}
+use Rattle.cox_hecke.proofs.OneRow.{row-same}
 use Rattle.cox_hecke.proofs.StepFamilies.{step_family-is}
 use Rattle.cox_context.specs.Closed.{Elements}
 use Rattle.cox_context.specs.Numbers.{word_at}

@@ -6,13 +6,13 @@ use Rattle.cox_row.specs.declared.row.Row.{Row}
 use Rattle.cox_row.specs.RowOf.{IsRowAt}
 use Rattle.cox_row.specs.Within.{IsRowWithin}
 use Rattle.cox_rowcell.specs.declared.cell.RowGuard.{RowGuard}
-use Rattle.cox_rowcell.specs.Guards.{place_of}
+use Rattle.cox_rowcell.specs.Guards.{place_of_guard}
 use Rattle.cox_rowcell.specs.RowFor.{IsRowFor}
 use Rattle.cox_row_store.specs.Places.{place_at}
 use Rattle.cox_workers.specs.Guarded.{guard_at}
 
-pub guarded_row : (e : Elements) (bound : ℤ) (i : ℕ) (guard : RowGuard) (row : Row) → place_of guard ≡ place_at e bound i
-    → IsRowFor (place_of guard) row → IsRowAt e i row × IsRowWithin bound row
+pub guarded_row : (e : Elements) (bound : ℤ) (i : ℕ) (guard : RowGuard) (row : Row) → place_of_guard guard ≡ place_at e bound i
+    → IsRowFor (place_of_guard guard) row → IsRowAt e i row × IsRowWithin bound row
 guarded_row e bound i guard row at is =
     let there : IsRowFor (place_at e bound i) row = subst (λ p. IsRowFor p row) at is in (there.is, there.within)
 

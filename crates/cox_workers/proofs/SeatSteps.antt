@@ -8,7 +8,7 @@ use Rattle.cox_base.specs.IntegerMatrix.{integer_matrix}
 use Rattle.cox_base.specs.Admissible.{IsAdmissible}
 use Rattle.cox_reflect.proofs.Elements.{same-refl}
 use Rattle.cox_hecke.specs.Needs.{itself}
-use Rattle.cox_hecke.proofs.NeedLemmas.{needed-trans}
+use Rattle.cox_hecke.proofs.NeededElements.{needed-trans}
 use Rattle.cox_context.specs.Closed.{Elements}
 use Rattle.cox_context.specs.Numbers.{word_at}
 use Rattle.cox_fill_core.specs.declared.event.RowState.{RowState}

@@ -36,14 +36,15 @@ pub record IsWorkOn (bench : Bench) (wanted : List ℕ) (old new : Seat) (hand :
   pub worker : IsSeatWith bench new hand
   pub grown : IsSeatGrown bench.context.now wanted old new
 
--- of each generation as many seats were met since as were split: all seats that were split from this one met it again, and so did all that were
--- split from these
+-- of each generation as many seats were met since as were split: all seats that were split from this one met it again, and so did all that
+-- were split from these
 abbrev pub HasMetAll : Seat → Seat → Type 0
 HasMetAll old new = (d : ℕ) → how_many d (view_of new).children + how_many d (view_of old).met
     ≡ how_many d (view_of old).children + how_many d (view_of new).met
 
 -- a seat at the store that holds nothing came back as such, and all that were split from it met it again; it has seen the rows at these
--- places of the list Published or Void, has published and voided rows alone that wanted ones need, and none before those that it is made from
+-- places of the list Published or Void, has published and voided rows alone that wanted ones need, and none before those that it is made
+-- from
 pub record IsFilled (store : RowStore) (Place : ℕ → Type 0) (wanted : List ℕ) (old new : Seat) : Type 0 where
   pub own : IsSeat store new
   pub same : IsSameSeat old new

@@ -26,8 +26,8 @@ HasEnded seat j = (has_published (view_of seat) j || has_voided (view_of seat) j
 abbrev pub MadeOfSeen : Elements → Seat → Seat → Type 0
 MadeOfSeen e old new = (j : ℕ) → has_published (view_of new) j ≡ true → (has_published (view_of old) j ≡ true) ⊎ HasNeeds e (HasSeen new) j
 
--- it is the same seat, none was split from it, and it met none; it holds what it held and has seen what it had seen, has voided and published
--- rows of Need(w) alone, where w is member i, and has published none before those that it is made from
+-- it is the same seat, none was split from it, and it met none; it holds what it held and has seen what it had seen, has voided and
+-- published rows of Need(w) alone, where w is member i, and has published none before those that it is made from
 pub record IsSeatKept (e : Elements) (i : ℕ) (old new : Seat) : Type 0 where
   pub same : IsSameSeat old new
   pub splits : splits_of new ≡ splits_of old
@@ -60,7 +60,8 @@ abbrev pub IsRowMissing : Elements → ℤ → ℕ → Seat → Seat → Missing
 IsRowMissing e limit i old new (Void j) = IsVoid e i j old new
 IsRowMissing e limit i old new (Fault fault) = (j : ℕ) × IsGivenUp e limit i j fault old new
 
--- why the row of member i, which the seat held, was not made: either some other row that it needs is missing, or there is a fault with itself
+-- why the row of member i, which the seat held, was not made: either some other row that it needs is missing, or there is a fault with
+-- itself
 abbrev pub IsUnmade : Elements → ℤ → ℕ → Seat → Seat → Missing → Type 0
 IsUnmade e limit i old new missing = IsRowMissing e limit i old new missing
     ⊎ ((fault : StepFault) × (missing ≡ Fault fault) × IsFault (integer_matrix e.matrix) e.members limit (λ w. w ≡ i) fault)

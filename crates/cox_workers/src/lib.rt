@@ -1,7 +1,8 @@
 //! Workers that fill a store of rows.
 //!
 //! A worker claims the row of a member, makes it from the rows that the recursion asks for, and publishes it; rows that another worker has
-//! claimed it waits for. It holds a claim only on rows with greater numbers than the row that it waits for. A row that it cannot make it gives up.
+//! claimed it waits for. It holds a claim only on rows with greater numbers than the row that it waits for. A row that it cannot make it
+//! gives up.
 //!
 //! - `missing`: why a row is not there
 //! - `shelf`: rows that a worker reads

@@ -25,11 +25,12 @@ impl<'a> Bench<'a> {
 
     /// Sees to it that the row of the member with the number i is Published, with those that it is made from.
     ///
-    /// The row is claimed before anything is done for it. Where another has claimed it, this waits until the row is Published or Void. The gate is
-    /// passed before each claim and each publication.
+    /// The row is claimed before anything is done for it. Where another has claimed it, this waits until the row is Published or Void. The
+    /// gate is passed before each claim and each publication.
     ///
-    /// Whatever the answer, the seat holds what it held: a row that was claimed on the way is Published, or else Void. In place of the row of i that
-    /// of a member that it needs may be the one that is `Void` or has the `Fault`; a fault with the row of the member w is told of with w.
+    /// Whatever the answer, the seat holds what it held: a row that was claimed on the way is Published, or else Void. In place of the row
+    /// of i that of a member that it needs may be the one that is `Void` or has the `Fault`; a fault with the row of the member w is told
+    /// of with w.
     #[cycle(ensure)]
     pub fn ensure<R: Wait, G: Gate>(
         &self,

@@ -14,8 +14,8 @@ use std::sync::Wait;
 impl<'a> Bench<'a> {
     ghost use Rattle.cox_workers.specs.Ready.{IsWorkerReady, IsWorkFor};
 
-    /// Makes rows that the row of the member with the number i needs, while other workers do the same, until all of these are Published or Void. It ends
-    /// earlier where it cannot tell what is needed: if memory runs out, or the row of the shorter element is Void.
+    /// Makes rows that the row of the member with the number i needs, while other workers do the same, until all of these are Published or
+    /// Void. It ends earlier where it cannot tell what is needed: if memory runs out, or the row of the shorter element is Void.
     ///
     /// While other workers make all that is left, this one sleeps.
     pub(crate) fn share<R: Wait, G: Gate>(

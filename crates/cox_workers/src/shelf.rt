@@ -2,7 +2,7 @@
 ghost use Rattle.std.specs.Prelude.{◌≡◌, ◌≢◌, ℕ, ◌<◌, length, vec_len, IfOk, IfSome, IsSome, ◌↔◌, None, pos, ◌≤ℤ◌};
 ghost use Rattle.cox_row.specs.RowOf.{IsRowAt};
 ghost use Rattle.cox_row.specs.Within.{IsRowWithin};
-ghost use Rattle.cox_rowcell.specs.Guards.{place_of};
+ghost use Rattle.cox_rowcell.specs.Guards.{place_of_guard};
 ghost use Rattle.cox_row_store.specs.Places.{place_at};
 ghost use Rattle.cox_workers.specs.Guarded.{guard_at, AreGuarded};
 
@@ -42,7 +42,7 @@ impl<'a> Shelf<'a> {
     /// Puts the row of a member on the shelf.
     pub fn put(&mut self, member: u32, guard: RowGuard<'a>)
         requires member { member < length self.old.context.value.members }
-        requires place { place_of guard ≡ place_at self.old.context.value self.old.limit member }
+        requires place { place_of_guard guard ≡ place_at self.old.context.value self.old.limit member }
         ensures of { IsShelfOf self.old.context.value self.old.limit self.new }
         ensures there { IsOn self.new member }
         ensures kept { (i : ℕ) → IsOn self.old i → IsOn self.new i }

@@ -1,6 +1,7 @@
 //! Elements of finite groups by length against published degrees, small intervals, shifts in A 2, long words, and refusals.
 //!
-//! A test makes its contexts, and a function that gets them by reference asserts: where a context is owned, each assertion is slow to prove.
+//! A test makes its contexts, and a function that gets them by reference asserts: where a context is owned, each assertion is slow to
+//! prove.
 ghost use Rattle.std.specs.Prelude.{◌≡◌, ◌<◌, length, IfOk};
 ghost use Rattle.cox_base.specs.Matrix.{IsWord};
 

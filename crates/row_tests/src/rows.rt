@@ -42,8 +42,8 @@ fn keeps_rows_in_a_larger_context(rt: HostRuntime) -> Result<(), Fail> {
     Ok(())
 }
 
-/// In the infinite dihedral group an element of length n needs the rows of one of length n - 1 and of one of length n - 2. A walk that went over
-/// these again and again would not come to an end in a lifetime.
+/// In the infinite dihedral group an element of length n needs the rows of one of length n - 1 and of one of length n - 2. A walk that went
+/// over these again and again would not come to an end in a lifetime.
 #[test]
 fn looks_at_no_member_twice(rt: HostRuntime) -> Result<(), Fail> {
     let alloc = rt.alloc();

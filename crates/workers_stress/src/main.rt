@@ -1,5 +1,5 @@
-//! A test of workers on the rows of A 4: whatever their number, the rows are the same, all of them and those of the last member; a worker passes the gate
-//! before it claims a row; and where a gate has two workers meet, both publish rows.
+//! A test of workers on the rows of A 4: whatever their number, the rows are the same, all of them and those of the last member; a worker
+//! passes the gate before it claims a row; and where a gate has two workers meet, both publish rows.
 //!
 //! What is printed is the same by every schedule.
 #![tactic(auto)]

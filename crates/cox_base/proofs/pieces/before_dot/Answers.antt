@@ -1,6 +1,6 @@
 -- The proof of `before_dot`.
 use Rattle.std.proofs.Common.{sym, ◌∙◌, arith, length-drop, ap, length}
-use Rattle.cox_base.proofs.PieceLemmas.{slice_split-last, slice_split-next}
+use Rattle.cox_base.proofs.TextPieces.{slice_split-last, slice_split-next}
 use Rattle.cox_base.proofs.pieces.before_dot.Goals as goal
 
 pub returns-in-None : goal.returns-in-None

@@ -2,7 +2,7 @@
 use Rattle.std.proofs.Common.{◌+◌, sym, ap, ◌∙◌}
 use Rattle.std.proofs.lemmas.List.Splits.{length-slice_split}
 use Rattle.cox_base.specs.WordText.{is_dot}
-use Rattle.cox_base.proofs.PieceLemmas.{pieces_of-dotted}
+use Rattle.cox_base.proofs.TextPieces.{pieces_of-dotted}
 use Rattle.cox_base.proofs.pieces.piece_count.Goals as goal
 
 pub returns-clause-count : goal.returns-clause-count

@@ -2,7 +2,7 @@
 use Rattle.std.proofs.Common.{arith, ap, length, sym, inl, inr}
 use Rattle.cox_base.specs.Matrix.{IsLetter}
 use Rattle.cox_base.proofs.Numerals.{length-decimal-small}
-use Rattle.cox_base.proofs.PieceLemmas.{letter_of-some, letter_of-none, letter_of-outside}
+use Rattle.cox_base.proofs.TextPieces.{letter_of-some, letter_of-none, letter_of-outside}
 use Rattle.cox_base.proofs.reading.letter_of.Goals as goal
 use Rattle.cox_base.proofs.reading.letter_of.Goals.{then-value-eq0-via-then-value-eq0, then-value-eq0-via-else-value-eq0+then-from-rank}
 

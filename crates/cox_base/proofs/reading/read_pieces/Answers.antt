@@ -1,7 +1,7 @@
 -- The proof of `read_pieces`.
 use Rattle.std.proofs.Common.{◌+◌, ◌≤◌, arith, sym, ap, ◌∙◌, length}
-use Rattle.cox_base.proofs.PieceLemmas.{foreign_from, foreign_from-here, foreign_from-next}
-use Rattle.cox_base.proofs.PieceLemmas.{filter_map-next, filter_map-end, IsWord-filter_map}
+use Rattle.cox_base.proofs.TextPieces.{foreign_from, foreign_from-here, foreign_from-next}
+use Rattle.cox_base.proofs.TextPieces.{filter_map-next, filter_map-end, IsWord-filter_map}
 use Rattle.cox_base.proofs.reading.read_pieces.Goals as goal
 
 pub returns-in_default-letter_of : goal.returns-in_default-letter_of

@@ -3,7 +3,7 @@ use Rattle.std.proofs.Common.{◌≡◌, ◌+◌, ◌*◌, ◌≤◌, ◌++◌, 
 use Rattle.std.specs.List.{filter_map}
 use Rattle.cox_base.specs.declared.limits.TheConstants.{MAX_LETTERS}
 use Rattle.cox_base.specs.WordText.{letter_of, separator}
-use Rattle.cox_base.proofs.PieceLemmas.{foreign_from}
+use Rattle.cox_base.proofs.TextPieces.{foreign_from}
 use Rattle.cox_base.proofs.reading.read_pieces.Given as goal
 
 abbrev pub invariant-pieces : goal.invariant-pieces

@@ -2,7 +2,7 @@
 use Rattle.std.proofs.Common.{◌≡◌, ◌+◌, suc, refl, ◌∙◌, arith}
 use Rattle.cox_row.specs.Rising.{number_at}
 use Rattle.cox_scc.specs.Graph.{edges_of}
-use Rattle.cox_cells.proofs.StepLemmas.{adds-if, steps-begin, steps-both, steps-end}
+use Rattle.cox_cells.proofs.AddedSteps.{adds-if, steps-begin, steps-both, steps-end}
 use Rattle.cox_cells.proofs.steps.add_steps.Goals as goal
 
 pub loop-i-init : goal.loop-i-init

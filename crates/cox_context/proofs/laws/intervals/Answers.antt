@@ -3,8 +3,8 @@ use Rattle.cox_base.specs.IntegerMatrix.{integer_matrix}
 use Rattle.cox_reflect.proofs.Admissible.{IsAdmissible-integer_matrix}
 use Rattle.cox_reflect.proofs.Bruhat.{below-trans}
 use Rattle.cox_base.specs.Members.{IsInInterval}
-use Rattle.cox_context.proofs.SortedLemmas.{IsListOf-unique}
-use Rattle.cox_context.proofs.IntervalLemmas.{interval-exists}
+use Rattle.cox_context.proofs.ShortLexLists.{IsListOf-unique}
+use Rattle.cox_context.proofs.IntervalLists.{interval-exists}
 use Rattle.cox_context.proofs.laws.intervals.Goals as goal
 
 pub returns-clause-exists : goal.returns-clause-exists

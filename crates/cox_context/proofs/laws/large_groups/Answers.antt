@@ -2,7 +2,7 @@
 use Rattle.cox_base.specs.IntegerMatrix.{integer_matrix}
 use Rattle.cox_base.specs.Members.{IsElement}
 use Rattle.cox_reflect.proofs.Admissible.{IsAdmissible-integer_matrix}
-use Rattle.cox_context.proofs.RefusalLemmas.{too_large-found}
+use Rattle.cox_context.proofs.RefusalCauses.{too_large-found}
 use Rattle.cox_context.proofs.GroupSizes.{group-found}
 use Rattle.cox_context.proofs.laws.large_groups.Goals as goal
 

@@ -5,7 +5,7 @@ use Rattle.cox_base.specs.Admissible.{IsAdmissible}
 use Rattle.cox_base.specs.Descents.{left_descents}
 use Rattle.cox_reflect.proofs.Admissible.{IsAdmissible-integer_matrix}
 use Rattle.cox_context.specs.WantedMembers.{top_descents}
-use Rattle.cox_context.proofs.LiftingLemmas.{shared, descents-word}
+use Rattle.cox_context.proofs.BelowTop.{shared, descents-word}
 use Rattle.cox_context.proofs.lifting.is_below_top.Goals as goal
 
 pub shares_descent-requires-clause-letters : goal.shares_descent-requires-clause-letters

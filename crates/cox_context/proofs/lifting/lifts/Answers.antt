@@ -6,8 +6,8 @@ use Rattle.cox_base.specs.IntegerMatrix.{IntegerMatrix, integer_matrix}
 use Rattle.cox_base.specs.Admissible.{IsAdmissible}
 use Rattle.cox_base.specs.Reduced.{IsReduced}
 use Rattle.cox_reflect.proofs.Admissible.{IsAdmissible-integer_matrix}
-use Rattle.cox_reflect.proofs.OrderLemmas.{IsReduced-drop}
-use Rattle.cox_context.proofs.LiftingLemmas.{left-start, left-next, left-answer}
+use Rattle.cox_reflect.proofs.OrderByLifting.{IsReduced-drop}
+use Rattle.cox_context.proofs.BelowTop.{left-start, left-next, left-answer}
 use Rattle.cox_context.proofs.lifting.lifts.Goals as goal
 
 either : (n : ℕ) (a b : Option ℕ) → IfSome a (λ k. k < n) → IfSome b (λ k. k < n) → IfSome (option_or a b) (λ k. k < n)

@@ -2,7 +2,7 @@
 use Rattle.std.proofs.Common.{◌<◌, ℕ, List, length, drop, IfSome}
 use Rattle.cox_base.specs.IntegerMatrix.{integer_matrix}
 use Rattle.cox_context.specs.Growth.{AreLower}
-use Rattle.cox_context.proofs.LiftingLemmas.{IsLeft}
+use Rattle.cox_context.proofs.BelowTop.{IsLeft}
 use Rattle.cox_context.proofs.lifting.lifts.Given as goal
 
 abbrev pub invariant-loop-t : goal.invariant-loop-t

@@ -1,5 +1,5 @@
 -- Where t is s, t y is the member x itself.
-use Rattle.cox_context.proofs.LowerLemmas.{own-lower}
+use Rattle.cox_context.proofs.LowerWalks.{own-lower}
 use Rattle.cox_context.proofs.lower.lower_member.Goals as goal
 
 pub returns-then-t-s-clause-lower : goal.returns-then-t-s-clause-lower

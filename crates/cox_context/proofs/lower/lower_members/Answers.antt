@@ -5,7 +5,7 @@ use Rattle.cox_base.specs.IntegerMatrix.{integer_matrix}
 use Rattle.cox_base.specs.declared.limits.TheConstants.{MAX_RANK}
 use Rattle.cox_context.specs.declared.shifts.TheConstants.{NO_MEMBER}
 use Rattle.cox_context.specs.Numbers.{word_at}
-use Rattle.cox_context.proofs.ShiftRowLemmas.{lower-start, lower-skip, lower-set, lower-end}
+use Rattle.cox_context.proofs.ShiftRows.{lower-start, lower-skip, lower-set, lower-end}
 use Rattle.cox_context.proofs.lower.lower_members.Goals as goal
 use Rattle.cox_context.proofs.lower.lower_members.Goals.{in-Some, in_default}
 

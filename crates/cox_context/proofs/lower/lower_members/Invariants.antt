@@ -2,7 +2,7 @@
 use Rattle.std.proofs.Common.{◌∷◌}
 use Rattle.cox_base.specs.IntegerMatrix.{integer_matrix}
 use Rattle.cox_context.specs.Numbers.{word_at}
-use Rattle.cox_context.proofs.ShiftRowLemmas.{AreLowerBefore}
+use Rattle.cox_context.proofs.ShiftRows.{AreLowerBefore}
 use Rattle.cox_context.proofs.lower.lower_members.Given as goal
 
 abbrev pub invariant-loop-t : goal.invariant-loop-t

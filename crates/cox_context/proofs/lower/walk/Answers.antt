@@ -2,7 +2,7 @@
 use Rattle.std.proofs.Common.{◌≡◌, ◌+◌, ◌-◌, suc, sym, ◌∙◌, arith}
 use Rattle.cox_base.specs.IntegerMatrix.{integer_matrix}
 use Rattle.cox_reflect.proofs.Admissible.{IsAdmissible-integer_matrix}
-use Rattle.cox_context.proofs.LowerLemmas.{step-start, step-next, no_order, down-none, down-next, down-end, up-none, up-next, up-end}
+use Rattle.cox_context.proofs.LowerWalks.{step-start, step-next, no_order, down-none, down-next, down-end, up-none, up-next, up-end}
 use Rattle.cox_context.proofs.lower.walk.Goals as goal
 
 pub returns-then-order-eq0-clause-lower : goal.returns-then-order-eq0-clause-lower

@@ -3,7 +3,7 @@ use Rattle.std.proofs.Common.{◌≡◌, ◌+◌, ◌-◌, ◌≤◌, ◌∷◌,
 use Rattle.cox_base.specs.IntegerMatrix.{integer_matrix}
 use Rattle.cox_base.specs.Descents.{IsLeftDescent}
 use Rattle.cox_context.specs.Numbers.{word_at}
-use Rattle.cox_context.proofs.LowerLemmas.{IsStep}
+use Rattle.cox_context.proofs.LowerWalks.{IsStep}
 use Rattle.cox_context.proofs.lower.walk.Given as goal
 
 abbrev pub invariant-down : goal.invariant-down

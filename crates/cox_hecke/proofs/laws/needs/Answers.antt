@@ -1,5 +1,5 @@
 -- Each clause is a lemma on Need(w).
-use Rattle.cox_hecke.proofs.NeedLemmas.{needed-same, needed-trans}
+use Rattle.cox_hecke.proofs.NeededElements.{needed-same, needed-trans}
 use Rattle.cox_hecke.proofs.laws.needs.Goals as goal
 
 pub returns-clause-elements : goal.returns-clause-elements

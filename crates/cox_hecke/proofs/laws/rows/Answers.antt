@@ -1,5 +1,5 @@
 -- Each clause is a lemma on rows.
-use Rattle.cox_hecke.proofs.RowLemmas.{row-unique, row-same, row-bar}
+use Rattle.cox_hecke.proofs.OneRow.{row-unique, row-same, row-bar}
 use Rattle.cox_hecke.proofs.RowsExist.{row-exists}
 use Rattle.cox_hecke.proofs.laws.rows.Goals as goal
 

@@ -4,7 +4,7 @@ use Rattle.cox_base.specs.declared.side.Side.TheVariants.{Left}
 use Rattle.cox_base.specs.IntegerMatrix.{integer_matrix}
 use Rattle.cox_context.specs.Numbers.{word_at}
 use Rattle.cox_klstep.specs.StepOf.{correction_at}
-use Rattle.cox_row.proofs.RisingLemmas.{few-rising}
+use Rattle.cox_row.proofs.RisingNumbers.{few-rising}
 use Rattle.cox_klstep.proofs.Chosen.{numbered-unique, numbered-cost, least-cost, least-needs, cost-most}
 use Rattle.cox_klstep.proofs.choice.cheapest_step.Goals as goal
 
@@ -73,7 +73,8 @@ pub returns-clause-cheap : goal.returns-clause-cheap
 returns-clause-cheap g c = λ s list least are.
     let first = rw (c.in_ok-first.ensures.side, c.in_ok-first.ensures.letter, c.in_ok-first.ensures.number, c.of-least.ensures.number)
     at c.in_ok-first.ensures.step.numbered
-    in let n = rw (c.in_ok-step.ensures.side, c.in_ok-step.ensures.letter, c.in_ok-step.ensures.number, c.cheapest-best.ensures.choice.member)
+    in let n =
+    rw (c.in_ok-step.ensures.side, c.in_ok-step.ensures.letter, c.in_ok-step.ensures.number, c.cheapest-best.ensures.choice.member)
     at c.in_ok-step.ensures.step.numbered
     in let cost = least-cost (integer_matrix c.args.ctx.now.matrix) c.args.ctx.now.members c.of-least.result.letter
     (word_at c.args.ctx.now.members c.args.i) s (rw c.of-least.ensures.number at c.of-least.ensures.descent.least) least
@@ -93,7 +94,8 @@ pub returns-clause-few : goal.returns-clause-few
 returns-clause-few g c = λ s numbers least are.
     let first = rw (c.in_ok-first.ensures.side, c.in_ok-first.ensures.letter, c.in_ok-first.ensures.number, c.of-least.ensures.number)
     at c.in_ok-first.ensures.step.numbered
-    in let n = rw (c.in_ok-step.ensures.side, c.in_ok-step.ensures.letter, c.in_ok-step.ensures.number, c.cheapest-best.ensures.choice.member)
+    in let n =
+    rw (c.in_ok-step.ensures.side, c.in_ok-step.ensures.letter, c.in_ok-step.ensures.number, c.cheapest-best.ensures.choice.member)
     at c.in_ok-step.ensures.step.numbered
     in let most = least-needs (integer_matrix c.args.ctx.now.matrix) c.args.ctx.now.members c.of-least.result.letter
     (word_at c.args.ctx.now.members c.args.i) s (rw c.of-least.ensures.number at c.of-least.ensures.descent.least) least

@@ -1,7 +1,7 @@
 -- The one at hand has another fingerprint.
 use Rattle.std.proofs.Common.{◌≡◌, ◌-◌, ◌<◌, ◌≤◌, ⊎_elim, arith}
 use Rattle.std.proofs.lemmas.Bool.{cases_lt}
-use Rattle.cox_klstep.proofs.PrintLemmas.{other-print}
+use Rattle.cox_klstep.proofs.PoolPrints.{other-print}
 use Rattle.cox_klstep.proofs.values.place_among.Goals as goal
 
 pub loop-k-preserved : goal.loop-k-preserved

@@ -1,6 +1,6 @@
 -- Each one of the block has another fingerprint.
 use Rattle.std.proofs.Common.{refl, arith}
-use Rattle.cox_klstep.proofs.PrintLemmas.{other-print}
+use Rattle.cox_klstep.proofs.PoolPrints.{other-print}
 use Rattle.cox_klstep.proofs.values.place_in_block.Goals as goal
 
 pub returns-then-not-has-clause-none : goal.returns-then-not-has-clause-none

@@ -1,7 +1,7 @@
 -- A polynomial that is not in the pool is put behind the others.
 use Rattle.std.proofs.Common.{◌≡◌, inr, length, [], Err, FitsSigned, w64, rules, ap, arith}
 use Rattle.std.proofs.lemmas.Int.{to_z-of_z}
-use Rattle.cox_lemmas.proofs.PushLemmas.{push-length, push-old, push-new}
+use Rattle.cox_lemmas.proofs.PushedItems.{push-length, push-old, push-new}
 use Rattle.cox_poly.specs.declared.poly_fault.PolyFault.TheVariants.{TooBig}
 use Rattle.cox_klstep.proofs.values.pooled_place.Goals as goal
 

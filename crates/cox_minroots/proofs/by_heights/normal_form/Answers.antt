@@ -6,7 +6,7 @@ use Rattle.cox_base.specs.declared.limits.TheConstants.{MAX_LETTERS}
 use Rattle.cox_base.specs.IntegerMatrix.{integer_matrix}
 use Rattle.cox_reflect.specs.Side.{word_on_side}
 use Rattle.cox_reflect.proofs.Admissible.{IsAdmissible-integer_matrix}
-use Rattle.cox_reflect.proofs.HeightLemmas.{AreOfShortElement-word}
+use Rattle.cox_reflect.proofs.HeightsUnderLetters.{AreOfShortElement-word}
 use Rattle.cox_reflect.proofs.Lengths.{IsReduced-normal_form}
 use Rattle.cox_reflect.proofs.Search.{length-normal_form, IsWord-normal_form}
 use Rattle.cox_minroots.proofs.Sides.{length-word_on_side}

@@ -1,7 +1,7 @@
 -- The steps of one root more are in the set.
 use Rattle.std.proofs.Common.{refl}
 use Rattle.cox_base.specs.IntegerMatrix.{integer_matrix}
-use Rattle.cox_minroots.proofs.ClosureLemmas.{more-than}
+use Rattle.cox_minroots.proofs.SmallRootLists.{more-than}
 use Rattle.cox_minroots.proofs.ClosingLoop.{closing-next}
 use Rattle.cox_minroots.proofs.closure.close.Goals as goal
 

@@ -5,9 +5,9 @@ use Rattle.std.proofs.lemmas.List.{map-append}
 use Rattle.cox_base.specs.IntegerMatrix.{integer_matrix}
 use Rattle.cox_base.specs.Matrix.{CoxeterMatrix}
 use Rattle.cox_base.specs.Admissible.{IsCoxeterMatrix}
-use Rattle.cox_lemmas.proofs.PushLemmas.{push-length}
+use Rattle.cox_lemmas.proofs.PushedItems.{push-length}
 use Rattle.cox_context.specs.Closed.{Elements}
-use Rattle.cox_row.proofs.RisingLemmas.{rising-few}
+use Rattle.cox_row.proofs.RisingNumbers.{rising-few}
 use Rattle.cox_module.specs.declared.term.Term.{Term}
 use Rattle.cox_module.specs.NumberedImages.{cell_words, tables_of, images_of, image_in}
 use Rattle.cox_module.proofs.CellNumbers.{words-size}

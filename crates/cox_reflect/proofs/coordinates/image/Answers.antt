@@ -8,8 +8,8 @@ use Rattle.cox_reflect.specs.Action.{simple_root}
 use Rattle.cox_reflect.specs.RootHeight.{at_letter}
 use Rattle.cox_reflect.proofs.Action.{act-nil}
 use Rattle.cox_reflect.proofs.Computed.{minus-fits, minus-value}
-use Rattle.cox_reflect.proofs.CoordinateLemmas.{AreCoordinates-simple_root, AreCoordinates-column, image-letter, image-room}
-use Rattle.cox_reflect.proofs.CoordinateLemmas.{image-fits, image-next}
+use Rattle.cox_reflect.proofs.RootCoordinates.{AreCoordinates-simple_root, AreCoordinates-column, image-letter, image-room}
+use Rattle.cox_reflect.proofs.RootCoordinates.{image-fits, image-next}
 use Rattle.cox_reflect.proofs.coordinates.image.Goals as goal
 
 pub loop-letter-init : goal.loop-letter-init

@@ -3,7 +3,7 @@ use Rattle.std.proofs.Common.{reverse, map}
 use Rattle.cox_base.specs.IntegerMatrix.{integer_matrix}
 use Rattle.cox_reflect.specs.Action.{simple_root}
 use Rattle.cox_reflect.specs.WordAction.{act}
-use Rattle.cox_reflect.proofs.CoordinateLemmas.{AreCoordinates}
+use Rattle.cox_reflect.proofs.RootCoordinates.{AreCoordinates}
 use Rattle.cox_reflect.proofs.coordinates.image.Given as goal
 
 -- the letters taken so far, the last of the word first, have acted

@@ -8,7 +8,7 @@ use Rattle.cox_reflect.specs.RootHeight.{at_letter}
 use Rattle.cox_reflect.proofs.Admissible.{IsAdmissible-integer_matrix}
 use Rattle.cox_reflect.proofs.Sizes.{sum_to-small}
 use Rattle.cox_reflect.proofs.Computed.{widened, product-fits, sum-value}
-use Rattle.cox_reflect.proofs.CoordinateLemmas.{term-fits, part-fits, part-next, part-none}
+use Rattle.cox_reflect.proofs.RootCoordinates.{term-fits, part-fits, part-next, part-none}
 use Rattle.cox_reflect.proofs.coordinates.pairing.Goals as goal
 
 pub loop-t-init : goal.loop-t-init

@@ -3,7 +3,7 @@ use Rattle.std.proofs.Common.{sym, ◌∙◌}
 use Rattle.cox_base.specs.IntegerMatrix.{integer_matrix}
 use Rattle.cox_reflect.specs.Side.{word_on_side}
 use Rattle.cox_reflect.proofs.Admissible.{IsAdmissible-integer_matrix}
-use Rattle.cox_reflect.proofs.FormLemmas.{left_descents-word_on_side}
+use Rattle.cox_reflect.proofs.FormsByDescents.{left_descents-word_on_side}
 use Rattle.cox_reflect.proofs.forms.descents.Goals as goal
 
 pub returns-clause-descents : goal.returns-clause-descents

@@ -5,7 +5,7 @@ use Rattle.cox_base.specs.Matrix.{IsWord}
 use Rattle.cox_base.specs.declared.limits.TheConstants.{MAX_LETTERS}
 use Rattle.cox_base.specs.IntegerMatrix.{integer_matrix}
 use Rattle.cox_reflect.proofs.Admissible.{IsAdmissible-integer_matrix}
-use Rattle.cox_reflect.proofs.HeightLemmas.{AreOfShortElement-word}
+use Rattle.cox_reflect.proofs.HeightsUnderLetters.{AreOfShortElement-word}
 use Rattle.cox_reflect.proofs.Search.{length-normal_form, IsWord-normal_form}
 use Rattle.cox_reflect.proofs.forms.normal_form.Goals as goal
 

@@ -1,10 +1,10 @@
--- Each turn of the loop is a lemma of OrderLemmas; at the end the identity alone is below.
+-- Each turn of the loop is a lemma of OrderByLifting; at the end the identity alone is below.
 use Rattle.std.proofs.Common.{sym, arith}
 use Rattle.std.proofs.lemmas.Bool.{false≢true}
 use Rattle.std.proofs.lemmas.List.{drop_all}
 use Rattle.cox_base.specs.IntegerMatrix.{integer_matrix}
 use Rattle.cox_reflect.proofs.Admissible.{IsAdmissible-integer_matrix}
-use Rattle.cox_reflect.proofs.OrderLemmas.{IsLifted-answer, turn-room, turn-down, turn-up}
+use Rattle.cox_reflect.proofs.OrderByLifting.{IsLifted-answer, turn-room, turn-down, turn-up}
 use Rattle.cox_reflect.proofs.height_row.is_below.Goals as goal
 use Rattle.cox_reflect.proofs.height_row.is_below.Goals.{then-is_negative+in_ok-put_first, else-is_negative}
 

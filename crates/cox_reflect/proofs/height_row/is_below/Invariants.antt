@@ -1,7 +1,7 @@
 -- What is kept over the letters of the reduced word.
 use Rattle.std.proofs.Common.{drop}
 use Rattle.cox_base.specs.IntegerMatrix.{integer_matrix}
-use Rattle.cox_reflect.proofs.OrderLemmas.{AreLifted}
+use Rattle.cox_reflect.proofs.OrderByLifting.{AreLifted}
 use Rattle.cox_reflect.proofs.height_row.is_below.Given as goal
 
 -- what is left of each element is below the rest exactly where the element is below the word

@@ -1,6 +1,6 @@
 -- The first letter with a negative height is the least left descent; where there is none, there is no descent.
 use Rattle.std.proofs.Common.{arith}
-use Rattle.cox_reflect.proofs.HeightLemmas.{descent_from_heights, descents_from}
+use Rattle.cox_reflect.proofs.HeightsUnderLetters.{descent_from_heights, descents_from}
 use Rattle.cox_reflect.proofs.Roots.{left_descent-letter}
 use Rattle.cox_reflect.proofs.height_row.least_descent.Goals as goal
 

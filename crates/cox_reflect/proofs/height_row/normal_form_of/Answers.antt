@@ -3,7 +3,7 @@ use Rattle.std.proofs.Common.{arith, lit<}
 use Rattle.std.proofs.lemmas.Bool.{false≢true}
 use Rattle.cox_base.specs.declared.limits.TheConstants.{MAX_LETTERS}
 use Rattle.cox_base.specs.IntegerMatrix.{integer_matrix}
-use Rattle.cox_reflect.proofs.FormLemmas.{IsBegun-start, AreBegun-room, AreBegun-next, AreBegun-end}
+use Rattle.cox_reflect.proofs.FormsByDescents.{IsBegun-start, AreBegun-room, AreBegun-next, AreBegun-end}
 use Rattle.cox_reflect.proofs.height_row.normal_form_of.Goals as goal
 
 pub loop-s-init : goal.loop-s-init

@@ -2,7 +2,7 @@
 use Rattle.std.proofs.Common.{◌-◌, length}
 use Rattle.cox_base.specs.declared.limits.TheConstants.{MAX_LETTERS}
 use Rattle.cox_base.specs.IntegerMatrix.{integer_matrix}
-use Rattle.cox_reflect.proofs.FormLemmas.{AreBegun}
+use Rattle.cox_reflect.proofs.FormsByDescents.{AreBegun}
 use Rattle.cox_reflect.proofs.height_row.normal_form_of.Given as goal
 
 abbrev pub invariant-loop-s : goal.invariant-loop-s

@@ -4,7 +4,7 @@ use Rattle.std.proofs.lemmas.Bool.{false≢true}
 use Rattle.std.proofs.lemmas.List.{length-take, length-reverse}
 use Rattle.cox_base.specs.IntegerMatrix.{integer_matrix}
 use Rattle.cox_reflect.proofs.Admissible.{IsAdmissible-integer_matrix}
-use Rattle.cox_reflect.proofs.HeightLemmas.{AreShortWith-word}
+use Rattle.cox_reflect.proofs.HeightsUnderLetters.{AreShortWith-word}
 use Rattle.cox_reflect.proofs.height_row.of_reversed.Goals as goal
 
 pub loop-s-init : goal.loop-s-init

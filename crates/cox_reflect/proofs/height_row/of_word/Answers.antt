@@ -7,7 +7,7 @@ use Rattle.std.proofs.lemmas.Iterator.Consumers.{YieldsList-turn, YieldsList-end
 use Rattle.cox_base.specs.IntegerMatrix.{integer_matrix}
 use Rattle.cox_reflect.proofs.Admissible.{IsAdmissible-integer_matrix}
 use Rattle.cox_reflect.proofs.BackwardTurns.{turn-letter, turn-length}
-use Rattle.cox_reflect.proofs.HeightLemmas.{AreShortWith-word}
+use Rattle.cox_reflect.proofs.HeightsUnderLetters.{AreShortWith-word}
 use Rattle.cox_reflect.proofs.height_row.of_word.Goals as goal
 
 pub loop-s-init : goal.loop-s-init

@@ -5,7 +5,7 @@ use Rattle.cox_base.specs.ShortLex.{normal_form}
 use Rattle.cox_reflect.proofs.Admissible.{IsAdmissible-integer_matrix}
 use Rattle.cox_reflect.proofs.Bruhat.{below-form}
 use Rattle.cox_reflect.proofs.Lengths.{IsReduced-normal_form}
-use Rattle.cox_reflect.proofs.HeightLemmas.{AreOfShortElement-word}
+use Rattle.cox_reflect.proofs.HeightsUnderLetters.{AreOfShortElement-word}
 use Rattle.std.proofs.lemmas.Bool.{false≢true}
 use Rattle.cox_reflect.proofs.order.below.Goals as goal
 

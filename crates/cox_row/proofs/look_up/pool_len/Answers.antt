@@ -1,8 +1,8 @@
 -- The pool has each polynomial once, and no more than there are members.
 use Rattle.std.proofs.Common.{◌≤◌, length, sym, arith}
 use Rattle.cox_base.specs.IntegerMatrix.{integer_matrix}
-use Rattle.cox_row.proofs.RisingLemmas.{rising-few}
-use Rattle.cox_row.proofs.PoolLemmas.{pool-polynomials}
+use Rattle.cox_row.proofs.RisingNumbers.{rising-few}
+use Rattle.cox_row.proofs.PoolOfRow.{pool-polynomials}
 use Rattle.cox_row.proofs.look_up.pool_len.Goals as goal
 
 pub overflow_cast-result : goal.overflow_cast-result

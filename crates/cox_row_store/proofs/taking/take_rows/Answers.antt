@@ -1,7 +1,7 @@
 -- One cell more.
-use Rattle.std.proofs.Common.{◌≡◌, ◌++◌, [], ◌∷◌, length, ap, ◌∙◌, sym, subst, append_assoc, arith}
+use Rattle.std.proofs.Common.{◌++◌, [], ◌∷◌, length, ap, ◌∙◌, sym, subst, append_assoc, arith}
 use Rattle.std.specs.Vec.Iter.{into_iter_items}
-use Rattle.cox_claims.specs.Knowledge.{SeesAll, Looks}
+use Rattle.cox_claims.specs.Knowledge.{Looks}
 use Rattle.cox_claims.specs.Seats.{view_of}
 use Rattle.cox_claims.proofs.Views.{sees-trans}
 use Rattle.cox_row_store.proofs.OneMore.{takes_more}

@@ -1,6 +1,6 @@
 -- One row more is at its new place, or there was none.
 use Rattle.std.proofs.Common.{sym, ◌∙◌, arith}
-use Rattle.cox_rows.proofs.SpreadLemmas.{spread-none, spread-some}
+use Rattle.cox_rows.proofs.SpreadRows.{spread-none, spread-some}
 use Rattle.cox_rows.proofs.held.spread.Goals.{in-Some+in_ok-put_at, in_default}
 use Rattle.cox_rows.proofs.held.spread.Goals as goal
 

@@ -1,6 +1,6 @@
 -- The bounds of the coefficients and of the degree.
 use Rattle.std.proofs.Common.{arith}
-use Rattle.cox_rpoly.proofs.PolynomialLemmas.{r_polynomial-norm, r_polynomial-degree}
+use Rattle.cox_rpoly.proofs.PolynomialsOfElements.{r_polynomial-norm, r_polynomial-degree}
 use Rattle.cox_rpoly.proofs.laws.bounds.Goals as goal
 
 pub returns-clause-norm : goal.returns-clause-norm

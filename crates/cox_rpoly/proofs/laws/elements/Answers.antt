@@ -1,7 +1,7 @@
 -- R depends on the elements alone.
 use Rattle.std.proofs.Common.{ap}
 use Rattle.cox_poly.specs.Coefficients.{Coefficients}
-use Rattle.cox_rpoly.proofs.PolynomialLemmas.{r_polynomial-same}
+use Rattle.cox_rpoly.proofs.PolynomialsOfElements.{r_polynomial-same}
 use Rattle.cox_rpoly.proofs.laws.elements.Goals as goal
 
 pub returns : goal.returns

@@ -1,7 +1,7 @@
 -- The recursion along the least left descent.
 use Rattle.std.proofs.Common.{ap}
 use Rattle.cox_poly.specs.Coefficients.{Coefficients}
-use Rattle.cox_rpoly.proofs.PolynomialLemmas.{r_polynomial-shorter, r_polynomial-longer, r_polynomial-moved}
+use Rattle.cox_rpoly.proofs.PolynomialsOfElements.{r_polynomial-shorter, r_polynomial-longer, r_polynomial-moved}
 use Rattle.cox_rpoly.proofs.laws.recursion.Goals as goal
 
 pub returns-clause-shorter : goal.returns-clause-shorter

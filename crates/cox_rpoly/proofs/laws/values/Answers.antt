@@ -2,7 +2,7 @@
 use Rattle.std.proofs.Common.{ap}
 use Rattle.cox_poly.specs.Coefficients.{Coefficients}
 use Rattle.cox_reflect.proofs.Elements.{same-refl}
-use Rattle.cox_rpoly.proofs.PolynomialLemmas.{r_polynomial-equal, r_polynomial-not_below}
+use Rattle.cox_rpoly.proofs.PolynomialsOfElements.{r_polynomial-equal, r_polynomial-not_below}
 use Rattle.cox_rpoly.proofs.laws.values.Goals as goal
 
 pub returns-clause-one : goal.returns-clause-one

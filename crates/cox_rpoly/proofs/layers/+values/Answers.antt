@@ -8,7 +8,7 @@ use Rattle.cox_base.specs.Matrix.{IsLetter}
 use Rattle.cox_reflect.proofs.Admissible.{IsAdmissible-integer_matrix}
 use Rattle.cox_reflect.proofs.Lengths.{IsReduced-tail}
 use Rattle.cox_rpoly.specs.Layer.{IsInLayer}
-use Rattle.cox_rpoly.proofs.ValueLemmas.{AreLinks-within, AreLinks-values, AreLayerValues-end}
+use Rattle.cox_rpoly.proofs.LayerValues.{AreLinks-within, AreLinks-values, AreLayerValues-end}
 use Rattle.cox_rpoly.proofs.layers.+values.Goals as goal
 
 pub returns-in_default-clause-values : goal.returns-in_default-clause-values

@@ -6,9 +6,9 @@ use Rattle.cox_base.specs.IntegerMatrix.{IntegerMatrix, integer_matrix}
 use Rattle.cox_reflect.proofs.Admissible.{IsAdmissible-integer_matrix}
 use Rattle.cox_reflect.proofs.Lengths.{IsReduced-tail}
 use Rattle.cox_rpoly.specs.Layer.{IsInLayer}
-use Rattle.cox_rpoly.proofs.LayerLemmas.{HasGained-All, HasGained-Extends, Extends-trans, IsInLayer-shorter, IsInLayer-still}
-use Rattle.cox_rpoly.proofs.LayerLemmas.{IsInLayer-times}
-use Rattle.cox_rpoly.proofs.LayerLemmas.{IsShortElement-member, IsShortElement-times}
+use Rattle.cox_rpoly.proofs.LayerMembers.{HasGained-All, HasGained-Extends, Extends-trans, IsInLayer-shorter, IsInLayer-still}
+use Rattle.cox_rpoly.proofs.LayerMembers.{IsInLayer-times}
+use Rattle.cox_rpoly.proofs.LayerMembers.{IsShortElement-member, IsShortElement-times}
 use Rattle.cox_rpoly.proofs.layers.link.Goals as goal
 
 pub is_shortened-requires-clause-short : goal.is_shortened-requires-clause-short

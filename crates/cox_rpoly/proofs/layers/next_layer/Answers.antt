@@ -1,6 +1,6 @@
 -- One element more is linked.
 use Rattle.cox_base.specs.IntegerMatrix.{IntegerMatrix, integer_matrix}
-use Rattle.cox_rpoly.proofs.LayerLemmas.{AreLinks-more}
+use Rattle.cox_rpoly.proofs.LayerMembers.{AreLinks-more}
 use Rattle.cox_rpoly.proofs.layers.next_layer.Goals as goal
 
 pub loop-x-preserved : goal.loop-x-preserved

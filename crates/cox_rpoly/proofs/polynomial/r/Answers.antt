@@ -9,8 +9,8 @@ use Rattle.cox_reflect.proofs.Admissible.{IsAdmissible-integer_matrix}
 use Rattle.cox_reflect.proofs.Bruhat.{below-form}
 use Rattle.cox_reflect.proofs.Lengths.{IsReduced-normal_form}
 use Rattle.cox_reflect.proofs.Search.{length-normal_form, IsWord-normal_form}
-use Rattle.cox_rpoly.proofs.DepthLemmas.{lengths-rise, IsDeep-difference, difference-is, not_deep, near}
-use Rattle.cox_rpoly.proofs.PolynomialLemmas.{r_polynomial-not_below, r_polynomial-form}
+use Rattle.cox_rpoly.proofs.LengthDifference.{lengths-rise, IsDeep-difference, difference-is, not_deep, near}
+use Rattle.cox_rpoly.proofs.PolynomialsOfElements.{r_polynomial-not_below, r_polynomial-form}
 use Rattle.cox_rpoly.proofs.polynomial.r.Goals as goal
 
 pub returns-then-not-below-clause-value : goal.returns-then-not-below-clause-value

@@ -3,7 +3,7 @@ use Rattle.std.proofs.Common.{◌≡◌, ◌+◌, ◌-◌, FitsSigned, w64, refl
 use Rattle.std.proofs.lemmas.Int.{to_z-of_z}
 use Rattle.cox_poly.specs.Polynomial.{coefficient}
 use Rattle.cox_rpoly.specs.declared.TheConstants.{MAX_DIFFERENCE}
-use Rattle.cox_rpoly.proofs.TermLemmas.{IsCombined-more, IsCombined-all, difference_fits, difference_sum_fits}
+use Rattle.cox_rpoly.proofs.CombinedTerms.{IsCombined-more, IsCombined-all, difference_fits, difference_sum_fits}
 use Rattle.cox_rpoly.proofs.terms.combined.Goals as goal
 
 pub overflow_add-terms : goal.overflow_add-terms
@@ -12,7 +12,8 @@ overflow_add-terms c =
     in let f_before : FitsSigned w64 (coefficient c.args.f.now (c.loop-k.k - 1)) = search rules
     in let h_before : FitsSigned w64 (coefficient c.args.h.now (c.loop-k.k - 1)) = search rules
     in let difference = difference_fits c.args.f.now c.args.h.now (c.loop-k.k - 1) c.loop-k.k c.requires.small_f.small
-    in simp to_z-of_z (difference_sum_fits c.args.f.now c.args.h.now (c.loop-k.k - 1) c.loop-k.k c.requires.small_f.small c.requires.small_h.small)
+    in simp to_z-of_z (difference_sum_fits c.args.f.now c.args.h.now (c.loop-k.k - 1) c.loop-k.k c.requires.small_f.small
+    c.requires.small_h.small)
 
 pub loop-k-preserved : goal.loop-k-preserved
 loop-k-preserved c =
@@ -20,7 +21,8 @@ loop-k-preserved c =
     in let f_before : FitsSigned w64 (coefficient c.args.f.now (c.loop-k.k - 1)) = search rules
     in let h_before : FitsSigned w64 (coefficient c.args.h.now (c.loop-k.k - 1)) = search rules
     in let difference = difference_fits c.args.f.now c.args.h.now (c.loop-k.k - 1) c.loop-k.k c.requires.small_f.small
-    in let whole = difference_sum_fits c.args.f.now c.args.h.now (c.loop-k.k - 1) c.loop-k.k c.requires.small_f.small c.requires.small_h.small
+    in let whole = difference_sum_fits c.args.f.now c.args.h.now (c.loop-k.k - 1) c.loop-k.k c.requires.small_f.small
+    c.requires.small_h.small
     in simp to_z-of_z (IsCombined-more c.args.f.now c.args.h.now c.loop-k.terms c.loop-k.k _ c.loop-k.invariant (omega arith)
     (omega arith) refl)
 

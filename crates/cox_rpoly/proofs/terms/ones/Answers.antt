@@ -1,5 +1,5 @@
 -- Each of so many copies is the polynomial 1.
-use Rattle.cox_rpoly.proofs.TermLemmas.{AreOnes-filled}
+use Rattle.cox_rpoly.proofs.CombinedTerms.{AreOnes-filled}
 use Rattle.cox_rpoly.proofs.terms.ones.Goals as goal
 
 pub returns : goal.returns

@@ -1,6 +1,6 @@
 -- One link more has its value.
 use Rattle.cox_rpoly.specs.declared.terms.Link.TheVariants.{Shorter}
-use Rattle.cox_rpoly.proofs.TermLemmas.{AreLinkedValues-more}
+use Rattle.cox_rpoly.proofs.CombinedTerms.{AreLinkedValues-more}
 use Rattle.cox_rpoly.proofs.terms.terms_of_links.Goals as goal
 
 pub loop-link-preserved : goal.loop-link-preserved

@@ -1,5 +1,5 @@
 -- Each clause is a lemma on the values of edges.
-use Rattle.cox_wgraph.proofs.EdgeLemmas.{one_way, edge-exists, edge-unique, edge-symmetric, edge-words}
+use Rattle.cox_wgraph.proofs.EdgeValues.{one_way, edge-exists, edge-unique, edge-symmetric, edge-words}
 use Rattle.cox_wgraph.proofs.laws.edges.Goals as goal
 
 pub returns-clause-one_way : goal.returns-clause-one_way

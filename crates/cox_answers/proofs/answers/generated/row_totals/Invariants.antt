@@ -5,7 +5,7 @@ use Rattle.cox_base.specs.ShortLex.{normal_form}
 use Rattle.cox_hecke.specs.Family.{Family}
 use Rattle.cox_hecke.specs.Row.{IsRow}
 use Rattle.cox_context.specs.Numbers.{word_at}
-use Rattle.cox_context.proofs.IntervalLemmas.{is_below}
+use Rattle.cox_context.proofs.IntervalLists.{is_below}
 use Rattle.cox_answers.proofs.RowTotals.{first_totals}
 use Rattle.cox_answers.proofs.answers.generated.row_totals.Given as goal
 

@@ -11,8 +11,8 @@ use Rattle.cox_context.specs.FaultMeaning.{IsRefusal}
 use Rattle.cox_context.specs.declared.fault.ContextFault.{ContextFault}
 use Rattle.cox_context.specs.declared.fault.ContextFault.TheVariants.{Size, Long}
 use Rattle.cox_context.proofs.ClosedContexts.{interval-length}
-use Rattle.cox_context.proofs.SortedLemmas.{HasMoreThan-few}
-use Rattle.cox_context.proofs.IntervalLemmas.{interval-refused}
+use Rattle.cox_context.proofs.ShortLexLists.{HasMoreThan-few}
+use Rattle.cox_context.proofs.IntervalLists.{interval-refused}
 use Rattle.cox_answers.proofs.answers.intervals.interval_of.Goals as goal
 
 -- an interval that is refused for its size

@@ -2,7 +2,7 @@
 use Rattle.std.proofs.Common.{◌∙◌, arith}
 use Rattle.cox_base.specs.IntegerMatrix.{integer_matrix}
 use Rattle.cox_reflect.proofs.Admissible.{IsAdmissible-integer_matrix}
-use Rattle.cox_context.proofs.IntervalLemmas.{is_below, between-of}
+use Rattle.cox_context.proofs.IntervalLists.{is_below, between-of}
 use Rattle.cox_context.specs.Closed.{IsClosed}
 use Rattle.cox_answers.proofs.MemberLists.{IsKept-none, IsKept-more, IsKept-same, IsKept-all}
 use Rattle.cox_answers.proofs.MembersAbove.{above-answer, none-before, none-above}

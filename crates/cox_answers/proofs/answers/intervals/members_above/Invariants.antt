@@ -1,6 +1,6 @@
 -- What the loop of `members_above` keeps.
 use Rattle.cox_base.specs.IntegerMatrix.{integer_matrix}
-use Rattle.cox_context.proofs.IntervalLemmas.{is_below}
+use Rattle.cox_context.proofs.IntervalLists.{is_below}
 use Rattle.cox_answers.proofs.MemberLists.{IsKept}
 use Rattle.cox_answers.proofs.answers.intervals.members_above.Given as goal
 

@@ -2,7 +2,7 @@
 use Rattle.std.proofs.Common.{filter, refl, rules}
 use Rattle.cox_base.specs.IntegerMatrix.{integer_matrix}
 use Rattle.cox_reflect.proofs.Admissible.{IsAdmissible-integer_matrix}
-use Rattle.cox_context.proofs.IntervalLemmas.{is_below, between-of}
+use Rattle.cox_context.proofs.IntervalLists.{is_below, between-of}
 use Rattle.cox_poly.proofs.Behind.{Puts-failed}
 use Rattle.cox_print.specs.AnswerText.{elements_text}
 use Rattle.cox_answers.specs.Putting.{words_at}

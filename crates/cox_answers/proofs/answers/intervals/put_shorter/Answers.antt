@@ -5,7 +5,7 @@ use Rattle.cox_base.specs.Length.{word_length}
 use Rattle.cox_reflect.proofs.Admissible.{IsAdmissible-integer_matrix}
 use Rattle.cox_base.specs.SortedList.{IsListOf}
 use Rattle.cox_base.specs.Interval.{IsCoatom}
-use Rattle.cox_context.proofs.IntervalLemmas.{coatoms-of}
+use Rattle.cox_context.proofs.IntervalLists.{coatoms-of}
 use Rattle.cox_poly.proofs.Behind.{Puts-failed}
 use Rattle.cox_print.specs.AnswerText.{elements_text}
 use Rattle.cox_answers.specs.Putting.{words_at}

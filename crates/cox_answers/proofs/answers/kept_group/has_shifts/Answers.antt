@@ -1,7 +1,7 @@
 -- The proof of `has_shifts`.
 use Rattle.std.proofs.Common.{◌≡◌, arith, ⊎_elim}
 use Rattle.std.proofs.lemmas.Bool.{cases_eq}
-use Rattle.cox_context.proofs.ChildLemmas.{found-contains}
+use Rattle.cox_context.proofs.NextChild.{found-contains}
 use Rattle.cox_answers.proofs.answers.kept_group.has_shifts.Goals as goal
 
 pub loop-s-preserved : goal.loop-s-preserved

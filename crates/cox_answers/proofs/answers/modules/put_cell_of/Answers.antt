@@ -3,7 +3,7 @@ use Rattle.std.proofs.Common.{◌<◌, length, refl, arith, rules}
 use Rattle.cox_base.specs.IntegerMatrix.{integer_matrix}
 use Rattle.cox_base.specs.ShortLex.{letters}
 use Rattle.cox_poly.proofs.Behind.{Puts-failed}
-use Rattle.cox_row.proofs.RisingLemmas.{rising-few}
+use Rattle.cox_row.proofs.RisingNumbers.{rising-few}
 use Rattle.cox_module.specs.NumberedImages.{cell_words, image_in}
 use Rattle.cox_answers.specs.ModuleReply.{module_text}
 use Rattle.cox_answers.proofs.ModuleQuestions.{module-of_cell}

@@ -4,7 +4,7 @@ use Rattle.cox_base.specs.IntegerMatrix.{integer_matrix}
 use Rattle.cox_base.specs.Admissible.{IsAdmissible}
 use Rattle.cox_context.specs.Closed.{IsClosed}
 use Rattle.cox_context.specs.Numbers.{word_at}
-use Rattle.cox_context.proofs.IntervalLemmas.{is_below}
+use Rattle.cox_context.proofs.IntervalLists.{is_below}
 use Rattle.cox_context.proofs.Shifting.{element-at}
 use Rattle.cox_answers.specs.Putting.{words_at}
 use Rattle.cox_answers.proofs.MemberLists.{IsKept-more, IsKept-same}

@@ -1,7 +1,7 @@
 -- What the loop of `members_below` keeps.
 use Rattle.cox_base.specs.IntegerMatrix.{integer_matrix}
 use Rattle.cox_context.specs.Numbers.{word_at}
-use Rattle.cox_context.proofs.IntervalLemmas.{is_below}
+use Rattle.cox_context.proofs.IntervalLists.{is_below}
 use Rattle.cox_answers.proofs.MemberLists.{IsKept}
 use Rattle.cox_answers.proofs.answers.pairs.members_below.Given as goal
 

@@ -4,7 +4,7 @@ use Rattle.cox_base.specs.IntegerMatrix.{integer_matrix}
 use Rattle.cox_reflect.proofs.Admissible.{IsAdmissible-integer_matrix}
 use Rattle.cox_poly.proofs.Behind.{Puts-failed}
 use Rattle.cox_hecke.proofs.AllRows.{row_of, row_of-is}
-use Rattle.cox_context.proofs.IntervalLemmas.{interval-exists}
+use Rattle.cox_context.proofs.IntervalLists.{interval-exists}
 use Rattle.cox_answers.specs.RowReply.{pairs_text}
 use Rattle.cox_answers.specs.Putting.{words_at}
 use Rattle.cox_answers.proofs.Unless.{PutsPrefix-none}

@@ -8,7 +8,7 @@ use Rattle.cox_poly.specs.Products.{times_q_power}
 use Rattle.cox_hecke.specs.Sums.{sum_over}
 use Rattle.cox_hecke.proofs.AllRows.{row_of, row_of-is}
 use Rattle.cox_context.specs.Closed.{IsClosed}
-use Rattle.cox_context.proofs.IntervalLemmas.{interval-exists}
+use Rattle.cox_context.proofs.IntervalLists.{interval-exists}
 use Rattle.cox_context.proofs.Shifting.{length-at}
 use Rattle.cox_answers.specs.RowReply.{ihbetti_text, coefficients_to}
 use Rattle.cox_answers.proofs.RowMembers.{member-same}

@@ -6,7 +6,7 @@ use Rattle.cox_base.specs.Admissible.{IsAdmissible}
 use Rattle.cox_base.specs.Length.{word_length}
 use Rattle.cox_reflect.proofs.Elements.{same-sym}
 use Rattle.cox_poly.specs.Products.{times_q_power}
-use Rattle.cox_hecke.proofs.RowLemmas.{row-same}
+use Rattle.cox_hecke.proofs.OneRow.{row-same}
 use Rattle.cox_context.specs.Closed.{IsClosed}
 use Rattle.cox_context.specs.Numbers.{word_at}
 use Rattle.cox_answers.proofs.RowMembers.{member-same}

@@ -12,4 +12,4 @@ returns-then-s-t c = grind (arith, nat_tests)
 pub returns : goal.returns
 returns c =
     let apart = c.if-s-t.false in
-    rw (c.as_slice.ensures.value, c.place_of.ensures.place, c.min.ensures, c.max.ensures, ← c.self.view_is, label-apart)
+    rw (c.as_slice.ensures.value, c.place_of_label.ensures.place, c.min.ensures, c.max.ensures, ← c.self.view_is, label-apart)

@@ -1,6 +1,6 @@
 -- The proof of `Coxeter::of_labels`.
 use Rattle.std.proofs.Common.{slice_index}
-use Rattle.cox_base.proofs.LabelLemmas.{IsFirstBad-at, is_label-false}
+use Rattle.cox_base.proofs.RefusedLabels.{IsFirstBad-at, is_label-false}
 use Rattle.cox_base.proofs.coxeter.Coxeter.of_labels.Goals as goal
 
 pub returns-in_default-clause-fault : goal.returns-in_default-clause-fault

@@ -4,8 +4,8 @@ use Rattle.std.proofs.lemmas.Bool.{false≢true}
 use Rattle.cox_context.specs.Numbers.{word_at}
 use Rattle.cox_context.specs.Building.{Building}
 use Rattle.cox_context.specs.Growth.{above, known}
-use Rattle.cox_context.proofs.ChildLemmas.{unfound-ascent, found-contains}
-use Rattle.cox_context.proofs.BuilderLemmas.{builder-seen}
+use Rattle.cox_context.proofs.NextChild.{unfound-ascent, found-contains}
+use Rattle.cox_context.proofs.BuilderTables.{builder-seen}
 use Rattle.cox_context.proofs.builder.Builder.child.Goals as goal
 
 pub earlier_number-number-requires-clause-new : goal.earlier_number-number-requires-clause-new

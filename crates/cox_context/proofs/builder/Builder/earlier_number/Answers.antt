@@ -5,9 +5,9 @@ use Rattle.cox_reflect.proofs.Admissible.{IsAdmissible-integer_matrix}
 use Rattle.cox_context.specs.Building.{Building}
 use Rattle.cox_context.specs.Shifts.{entry}
 use Rattle.cox_context.proofs.Shifting.{element-at}
-use Rattle.cox_context.proofs.LowerLemmas.{ascent}
-use Rattle.cox_context.proofs.ChildLemmas.{earlier-none}
-use Rattle.cox_context.proofs.BuilderLemmas.{builder-seen}
+use Rattle.cox_context.proofs.LowerWalks.{ascent}
+use Rattle.cox_context.proofs.NextChild.{earlier-none}
+use Rattle.cox_context.proofs.BuilderTables.{builder-seen}
 use Rattle.cox_context.proofs.builder.Builder.earlier_number.Goals as goal
 
 pub returns-in_err-before : goal.returns-in_err-before

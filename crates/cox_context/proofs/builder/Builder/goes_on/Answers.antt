@@ -4,7 +4,7 @@ use Rattle.std.proofs.lemmas.Bool.{cases_lt, false≢true}
 use Rattle.cox_base.specs.IntegerMatrix.{integer_matrix}
 use Rattle.cox_reflect.proofs.Admissible.{IsAdmissible-integer_matrix}
 use Rattle.cox_context.proofs.Shifting.{lacking-ascent, shifted-descent}
-use Rattle.cox_context.proofs.BuilderLemmas.{builder-seen}
+use Rattle.cox_context.proofs.BuilderTables.{builder-seen}
 use Rattle.cox_context.proofs.builder.Builder.goes_on.Goals as goal
 
 pub returns-then-lacks_shift-clause-yes : goal.returns-then-lacks_shift-clause-yes

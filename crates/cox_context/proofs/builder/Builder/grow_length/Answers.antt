@@ -2,7 +2,7 @@
 use Rattle.std.proofs.Common.{rules, ◌+◌, ◌≡◌, arith}
 use Rattle.cox_context.specs.Building.{IsWanted}
 use Rattle.cox_context.proofs.Ideals.{member-tailed}
-use Rattle.cox_context.proofs.GrowthLemmas.{grown-end}
+use Rattle.cox_context.proofs.GrowingMembers.{grown-end}
 use Rattle.cox_context.proofs.builder.Builder.grow_length.Goals as goal
 
 pub returns-in_err-self-clause-fault : goal.returns-in_err-self-clause-fault

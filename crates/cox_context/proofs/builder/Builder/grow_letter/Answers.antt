@@ -4,11 +4,11 @@ use Rattle.cox_context.specs.declared.members.TheConstants.{MAX_MEMBERS}
 use Rattle.cox_context.specs.Numbers.{word_at}
 use Rattle.cox_context.specs.Building.{IsWanted}
 use Rattle.cox_context.proofs.Ideals.{member-tailed}
-use Rattle.cox_context.proofs.GrowthLemmas.{growing-letter}
-use Rattle.cox_context.proofs.ChildLemmas.{member-closed, growing-no_next, growing-next, prefix-next}
-use Rattle.cox_lemmas.proofs.PushLemmas.{push-length}
+use Rattle.cox_context.proofs.GrowingMembers.{growing-letter}
+use Rattle.cox_context.proofs.NextChild.{member-closed, growing-no_next, growing-next, prefix-next}
+use Rattle.cox_lemmas.proofs.PushedItems.{push-length}
 use Rattle.cox_context.proofs.builder.Builder.grow_letter.Goals as goal
-use Rattle.cox_context.proofs.builder.Builder.grow_letter.Goals.{in-Some+in_ok-self, in_default}
+use Rattle.cox_context.proofs.builder.Builder.grow_letter.Goals.{in-Some+in_ok-add, in_default}
 
 pub add-requires-clause-prefix : goal.add-requires-clause-prefix
 add-requires-clause-prefix c =
@@ -28,14 +28,15 @@ add-requires-clause-closed c = λ room.
     in let earlier = rw (← c.loop-parent.invariant.search) at c.rank-rank.ensures.earlier
     in let letter = rw (← c.loop-parent.invariant.search) at c.requires.letter
     in let few : length v.members ≤ MAX_MEMBERS = omega (arith, room)
-    in let growing = growing-next v.search.matrix matrix v.search.top v.search.earlier earlier c.args.letters c.args.low c.args.high c.args.s
-    c.loop-parent.parent v.members c.loop-parent.invariant.growing c.requires.short few c.in-Some.child letter c.loop-parent-test.true
-    c.in-Some.ensures.next
+    in let growing = growing-next v.search.matrix matrix v.search.top v.search.earlier earlier c.args.letters c.args.low c.args.high
+    c.args.s c.loop-parent.parent v.members c.loop-parent.invariant.growing c.requires.short few c.in-Some.child letter
+    c.loop-parent-test.true c.in-Some.ensures.next
     in member-closed v.search.matrix matrix v.search.top v.search.earlier earlier c.args.letters c.args.low c.args.high c.args.s
-    (c.loop-parent.parent + 1) (v.members ++ (c.args.s ∷ word_at v.members c.loop-parent.parent) ∷ []) growing c.requires.short (omega (arith, room, push-length v.members (c.args.s ∷ word_at v.members c.loop-parent.parent)))
+    (c.loop-parent.parent + 1) (v.members ++ (c.args.s ∷ word_at v.members c.loop-parent.parent) ∷ []) growing c.requires.short
+    (omega (arith, room, push-length v.members (c.args.s ∷ word_at v.members c.loop-parent.parent)))
 
-pub returns-in_err-self-clause-fault : goal.returns-in_err-self-clause-fault
-returns-in_err-self-clause-fault c = rw (← c.loop-parent.invariant.search) (search rules)
+pub returns-in_err-add-clause-fault : goal.returns-in_err-add-clause-fault
+returns-in_err-add-clause-fault c = rw (← c.loop-parent.invariant.search) (search rules)
 
 pub loop-parent-preserved : goal.loop-parent-preserved
 loop-parent-preserved c =
@@ -45,8 +46,8 @@ loop-parent-preserved c =
     in let letter = rw (← c.loop-parent.invariant.search) at c.requires.letter
     in let few : length v.members ≤ MAX_MEMBERS = omega (arith, c.len-len.ensures.len, c.len-len.ensures.few)
     in elim c.match-child.branch [
-      | in-Some+in_ok-self w ↦
-          rw (w.self-is, w.in_ok-self.ensures.added) (record {
+      | in-Some+in_ok-add w ↦
+          rw (w.self-is, w.in_ok-add.ensures.added) (record {
             search = c.loop-parent.invariant.search;
             growing = growing-next v.search.matrix matrix v.search.top v.search.earlier earlier c.args.letters c.args.low c.args.high
                 c.args.s c.loop-parent.parent v.members c.loop-parent.invariant.growing c.requires.short few w.in-Some.child letter

@@ -2,9 +2,9 @@
 use Rattle.std.proofs.Common.{rules, ◌≡◌, ◌∷◌, []}
 use Rattle.cox_base.specs.IntegerMatrix.{integer_matrix}
 use Rattle.cox_context.specs.WantedMembers.{IsMember}
-use Rattle.cox_context.proofs.GrowthLemmas.{grown-start}
+use Rattle.cox_context.proofs.GrowingMembers.{grown-start}
 use Rattle.cox_context.proofs.Ideals.{member-tailed}
-use Rattle.cox_context.proofs.BuilderLemmas.{builder-start}
+use Rattle.cox_context.proofs.BuilderTables.{builder-start}
 use Rattle.cox_context.proofs.builder.Builder.new.Goals as goal
 
 pub returns-in-Ok-vec-clause-grown : goal.returns-in-Ok-vec-clause-grown

@@ -4,7 +4,7 @@ use Rattle.std.proofs.Math.ListN.{replicate}
 use Rattle.cox_base.specs.IntegerMatrix.{integer_matrix}
 use Rattle.cox_reflect.proofs.Admissible.{IsAdmissible-integer_matrix}
 use Rattle.cox_context.specs.declared.shifts.TheConstants.{NO_MEMBER}
-use Rattle.cox_context.proofs.ShiftRowLemmas.{shifts-start}
+use Rattle.cox_context.proofs.ShiftRows.{shifts-start}
 use Rattle.cox_context.proofs.builder.Listing.new.Goals as goal
 
 pub returns-clause-left : goal.returns-clause-left

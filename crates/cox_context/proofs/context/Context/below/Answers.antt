@@ -5,7 +5,7 @@ use Rattle.cox_base.specs.IntegerMatrix.{IntegerMatrix, integer_matrix}
 use Rattle.cox_context.specs.Numbers.{word_at}
 use Rattle.cox_context.proofs.Shifting.{first-member}
 use Rattle.cox_context.proofs.RightShifts.{first-letter}
-use Rattle.cox_context.proofs.BelowLemmas.{settled-start, settled-step, settled-end}
+use Rattle.cox_context.proofs.OrderOfMembers.{settled-start, settled-step, settled-end}
 use Rattle.cox_context.proofs.context.Context.below.Goals as goal
 
 pub left-requires-clause-letter : goal.left-requires-clause-letter

@@ -2,7 +2,7 @@
 use Rattle.std.proofs.Common.{◌<◌, length}
 use Rattle.cox_base.specs.IntegerMatrix.{integer_matrix}
 use Rattle.cox_context.specs.Numbers.{word_at}
-use Rattle.cox_context.proofs.BelowLemmas.{IsSettled}
+use Rattle.cox_context.proofs.OrderOfMembers.{IsSettled}
 use Rattle.cox_context.proofs.context.Context.below.Given as goal
 
 abbrev pub invariant-loop-upper : goal.invariant-loop-upper

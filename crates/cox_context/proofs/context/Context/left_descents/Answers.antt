@@ -6,7 +6,7 @@ use Rattle.cox_base.specs.IntegerMatrix.{integer_matrix}
 use Rattle.cox_context.specs.Closed.{Elements}
 use Rattle.cox_context.specs.Numbers.{word_at}
 use Rattle.cox_context.specs.Sets.{has_letter}
-use Rattle.cox_context.proofs.BelowLemmas.{set-letters}
+use Rattle.cox_context.proofs.OrderOfMembers.{set-letters}
 use Rattle.cox_context.proofs.context.Context.left_descents.Goals as goal
 
 pub returns : goal.returns

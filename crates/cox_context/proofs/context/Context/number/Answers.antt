@@ -5,7 +5,8 @@ use Rattle.cox_base.specs.Matrix.{CoxeterMatrix}
 use Rattle.cox_base.specs.IntegerMatrix.{IntegerMatrix, integer_matrix}
 use Rattle.cox_context.specs.Numbers.{word_at}
 use Rattle.cox_context.proofs.Shifting.{first-member}
-use Rattle.cox_context.proofs.NumberLemmas.{next-contained, next-word, contained-letter, shift-contained, shift-word, shift-later, shift-is}
+use Rattle.cox_context.proofs.NumbersOfWords.{next-contained, next-word, contained-letter, shift-contained, shift-word}
+use Rattle.cox_context.proofs.NumbersOfWords.{shift-later, shift-is}
 use Rattle.cox_context.proofs.context.Context.number.Goals as goal
 use Rattle.cox_context.proofs.context.Context.number.Goals.{then-s-eq0-via-then-s-eq0, then-s-eq0-via-else-s-eq0+then-s-rank}
 

@@ -6,7 +6,7 @@ use Rattle.cox_base.specs.Matrix.{IsLetter}
 use Rattle.cox_base.specs.IntegerMatrix.{IntegerMatrix, integer_matrix}
 use Rattle.cox_context.proofs.Ideals.{element-nil}
 use Rattle.cox_context.proofs.Shifting.{first-member}
-use Rattle.cox_context.proofs.NumberLemmas.{word-longer}
+use Rattle.cox_context.proofs.NumbersOfWords.{word-longer}
 use Rattle.cox_context.proofs.context.Context.number_of.Goals as goal
 
 pub loop-s-init : goal.loop-s-init

@@ -11,9 +11,9 @@ use Rattle.cox_context.specs.FaultMeaning.{IsRefusal}
 use Rattle.cox_context.specs.Building.{IsWanted}
 use Rattle.cox_context.proofs.MadeContexts.{made_members}
 use Rattle.cox_context.proofs.Ideals.{group-ideal, ideal-tailed}
-use Rattle.cox_context.proofs.GrowthLemmas.{grown-list, grown-length}
+use Rattle.cox_context.proofs.GrowingMembers.{grown-list, grown-length}
 use Rattle.cox_context.proofs.ClosedContexts.{identity-closed, group-length, group-long}
-use Rattle.cox_context.proofs.BuilderLemmas.{builder-seen}
+use Rattle.cox_context.proofs.BuilderTables.{builder-seen}
 use Rattle.cox_context.proofs.context.Context.of_group.Goals as goal
 
 pub new-requires-3-clause-earlier : goal.new-requires-3-clause-earlier

@@ -2,7 +2,7 @@
 use Rattle.cox_base.specs.IntegerMatrix.{IntegerMatrix, integer_matrix}
 use Rattle.cox_base.specs.Admissible.{IsAdmissible}
 use Rattle.cox_reflect.proofs.Admissible.{IsAdmissible-integer_matrix}
-use Rattle.cox_context.proofs.BelowLemmas.{left-sets, right-sets}
+use Rattle.cox_context.proofs.OrderOfMembers.{left-sets, right-sets}
 use Rattle.cox_context.proofs.context.Context.of_members.Goals as goal
 
 pub invariant_of-result : goal.invariant_of-result

@@ -1,6 +1,6 @@
 -- There are as many words as links.
 use Rattle.std.proofs.Common.{ℕ, List, length, ap, arith}
-use Rattle.cox_context.proofs.LinkLemmas.{words-size, words-first}
+use Rattle.cox_context.proofs.LinkedWords.{words-size, words-first}
 use Rattle.cox_context.proofs.members.Members.len.Goals as goal
 
 pub returns-clause-len : goal.returns-clause-len

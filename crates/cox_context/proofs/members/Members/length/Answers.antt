@@ -1,7 +1,7 @@
 -- Each link has the number of letters of its word.
 use Rattle.std.proofs.Common.{◌≡◌, ◌<◌, ℕ, List, length, ap, arith}
 use Rattle.cox_context.specs.Links.{link_at}
-use Rattle.cox_context.proofs.LinkLemmas.{words-size, link-read}
+use Rattle.cox_context.proofs.LinkedWords.{words-size, link-read}
 use Rattle.cox_context.proofs.members.Members.length.Goals as goal
 
 pub index-requires : goal.index-requires

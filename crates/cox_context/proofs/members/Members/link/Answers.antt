@@ -1,7 +1,7 @@
 -- The word of a link is its first letter and the rest.
 use Rattle.std.proofs.Common.{◌≡◌, ◌<◌, ℕ, List, length, ap, arith}
 use Rattle.cox_context.specs.Links.{link_at}
-use Rattle.cox_context.proofs.LinkLemmas.{words-size, words-link, link-read}
+use Rattle.cox_context.proofs.LinkedWords.{words-size, words-link, link-read}
 use Rattle.cox_context.proofs.members.Members.link.Goals as goal
 
 pub index-requires : goal.index-requires

@@ -2,7 +2,7 @@
 use Rattle.std.proofs.Common.{◌≡◌, ◌<◌, ℕ, List, length, ap, arith}
 use Rattle.cox_context.specs.Links.{linked_words, link_at}
 use Rattle.cox_context.specs.Numbers.{word_at}
-use Rattle.cox_context.proofs.LinkLemmas.{words-size, words-push, links-push, link-read}
+use Rattle.cox_context.proofs.LinkedWords.{words-size, words-push, links-push, link-read}
 use Rattle.cox_context.proofs.members.Members.push.Goals as goal
 
 pub index-requires : goal.index-requires
@@ -31,5 +31,5 @@ invariant_of-self-2 c =
     (omega (arith, c.requires.room, words-size c.self.inside.links.items, ap (λ (words : List (List ℕ)). length words) c.self.view_is))
     inside (omega (arith, letters)))
 
-pub returns : goal.returns
-returns c = rw (c.in_ok-push.ensures.items, ← c.self.view_is) (words-push c.self.inside.links.items _ c.self.invariant.some)
+pub returns-clause-pushed : goal.returns-clause-pushed
+returns-clause-pushed c = rw (c.in_ok-push.ensures.items, ← c.self.view_is) (words-push c.self.inside.links.items _ c.self.invariant.some)

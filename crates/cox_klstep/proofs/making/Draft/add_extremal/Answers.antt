@@ -9,12 +9,12 @@ use Rattle.cox_context.specs.Numbers.{word_at}
 use Rattle.cox_hecke.specs.Row.{IsKazhdanLusztig}
 use Rattle.cox_hecke.proofs.Descended.{mu-below}
 use Rattle.cox_row.specs.Polynomials.{polynomial_at}
-use Rattle.cox_row.proofs.MuLemmas.{mu-zero}
-use Rattle.cox_row.proofs.RisingLemmas.{rising-few}
+use Rattle.cox_row.proofs.MuOfElements.{mu-zero}
+use Rattle.cox_row.proofs.RisingNumbers.{rising-few}
 use Rattle.cox_klstep.specs.SourceOf.{source_cost}
 use Rattle.cox_klstep.proofs.Middles.{noted-skip, noted-large}
 use Rattle.cox_klstep.proofs.FoundPolynomials.{begun-skip}
-use Rattle.cox_klstep.proofs.LargeLemmas.{within-none, least-large}
+use Rattle.cox_klstep.proofs.LargeCoefficients.{within-none, least-large}
 use Rattle.cox_klstep.proofs.LargeFound.{large-skip}
 use Rattle.cox_klstep.proofs.Shifts.{least-after}
 use Rattle.cox_klstep.proofs.StepCounts.{cost-next, counted-next}

@@ -6,8 +6,8 @@ use Rattle.std.proofs.lemmas.List.{get_or_read}
 use Rattle.cox_base.specs.IntegerMatrix.{integer_matrix}
 use Rattle.cox_context.specs.Numbers.{word_at}
 use Rattle.cox_row.proofs.Raising.{stands-refl}
-use Rattle.cox_row.proofs.RisingLemmas.{found-rising}
-use Rattle.cox_klstep.proofs.LargeLemmas.{outside-none}
+use Rattle.cox_row.proofs.RisingNumbers.{found-rising}
+use Rattle.cox_klstep.proofs.LargeCoefficients.{outside-none}
 use Rattle.cox_klstep.proofs.LargeFound.{fault-first, fault-none}
 use Rattle.cox_klstep.proofs.values.LargeMembers.fault.Goals as goal
 use Rattle.cox_klstep.proofs.values.LargeMembers.fault.Goals.{in-Some+in_default-binary_search, in_default}

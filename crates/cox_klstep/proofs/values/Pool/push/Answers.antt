@@ -1,7 +1,7 @@
 -- The fingerprint is that of the polynomial.
 use Rattle.std.proofs.Common.{◌≡◌, sym, ◌∙◌}
 use Rattle.cox_klstep.specs.Prints.{print_of}
-use Rattle.cox_klstep.proofs.PrintLemmas.{print-same, prints-pushed}
+use Rattle.cox_klstep.proofs.PoolPrints.{print-same, prints-pushed}
 use Rattle.cox_klstep.proofs.values.Pool.push.Goals as goal
 
 pub invariant_of-self-2 : goal.invariant_of-self-2

@@ -2,8 +2,8 @@
 use Rattle.std.proofs.Common.{arith}
 use Rattle.cox_base.specs.IntegerMatrix.{integer_matrix}
 use Rattle.cox_reflect.proofs.Admissible.{IsAdmissible-integer_matrix}
-use Rattle.cox_minroots.proofs.ClosureLemmas.{at-most}
-use Rattle.cox_minroots.proofs.TableLemmas.{root-table}
+use Rattle.cox_minroots.proofs.SmallRootLists.{at-most}
+use Rattle.cox_minroots.proofs.RootTables.{root-table}
 use Rattle.cox_minroots.proofs.table.RootTable.build.Goals as goal
 
 pub invariant_of-result : goal.invariant_of-result

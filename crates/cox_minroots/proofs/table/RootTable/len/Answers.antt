@@ -1,6 +1,6 @@
 -- The table has each small root once.
 use Rattle.cox_base.specs.IntegerMatrix.{integer_matrix}
-use Rattle.cox_minroots.proofs.TableLemmas.{not-more, not-fewer}
+use Rattle.cox_minroots.proofs.RootTables.{not-more, not-fewer}
 use Rattle.cox_minroots.proofs.table.RootTable.len.Goals as goal
 
 pub returns-clause-not_more : goal.returns-clause-not_more

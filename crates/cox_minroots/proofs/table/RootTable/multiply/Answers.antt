@@ -1,7 +1,7 @@
 -- The letter is exchanged or put in.
 use Rattle.cox_base.specs.IntegerMatrix.{integer_matrix}
 use Rattle.cox_reflect.proofs.Admissible.{IsAdmissible-integer_matrix}
-use Rattle.cox_minroots.proofs.ProductLemmas.{reduced-remove, word-remove}
+use Rattle.cox_minroots.proofs.ReducedProducts.{reduced-remove, word-remove}
 use Rattle.cox_minroots.proofs.table.RootTable.multiply.Goals as goal
 
 pub returns-in-Some-clause-reduced : goal.returns-in-Some-clause-reduced

@@ -3,7 +3,7 @@ use Rattle.std.proofs.Common.{map, [], ◌∷◌}
 use Rattle.std.proofs.lemmas.List.{map-append}
 use Rattle.cox_base.specs.IntegerMatrix.{integer_matrix}
 use Rattle.cox_reflect.proofs.Admissible.{IsAdmissible-integer_matrix}
-use Rattle.cox_minroots.proofs.ProductLemmas.{multiplied-start, multiplied-next}
+use Rattle.cox_minroots.proofs.ReducedProducts.{multiplied-start, multiplied-next}
 use Rattle.cox_minroots.proofs.table.RootTable.reduced_inverse.Goals as goal
 
 pub loop-s-init : goal.loop-s-init

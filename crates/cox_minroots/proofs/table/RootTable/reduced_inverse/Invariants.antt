@@ -1,7 +1,7 @@
 -- The letters that were read, the last of the word first, are multiplied.
 use Rattle.std.proofs.Common.{map}
 use Rattle.cox_base.specs.IntegerMatrix.{integer_matrix}
-use Rattle.cox_minroots.proofs.ProductLemmas.{IsMultiplied}
+use Rattle.cox_minroots.proofs.ReducedProducts.{IsMultiplied}
 use Rattle.cox_minroots.proofs.table.RootTable.reduced_inverse.Given as goal
 
 abbrev pub invariant-loop-s : goal.invariant-loop-s

@@ -6,7 +6,7 @@ use Rattle.cox_base.specs.Element.{SameElement}
 use Rattle.cox_base.specs.Reduced.{IsReduced}
 use Rattle.cox_base.specs.Descents.{IsRightDescent}
 use Rattle.cox_base.specs.Matrix.{IsWord}
-use Rattle.cox_minroots.proofs.ProductLemmas.{reduced-remove, word-remove}
+use Rattle.cox_minroots.proofs.ReducedProducts.{reduced-remove, word-remove}
 use Rattle.cox_minroots.proofs.ExchangeForms.{exchanged-descent, form-least, form-none}
 use Rattle.cox_minroots.proofs.table.RootTable.take_least.Goals as goal
 

@@ -1,5 +1,5 @@
 -- A letter is a left descent exactly where its height is negative.
-use Rattle.cox_reflect.proofs.HeightLemmas.{descent_from_heights, heights_at_descent}
+use Rattle.cox_reflect.proofs.HeightsUnderLetters.{descent_from_heights, heights_at_descent}
 use Rattle.cox_reflect.proofs.heights.Heights.is_descent.Goals as goal
 
 pub returns : goal.returns

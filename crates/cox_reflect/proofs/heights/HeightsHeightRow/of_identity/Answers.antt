@@ -2,7 +2,7 @@
 use Rattle.std.proofs.Common.{◌-◌, pos, sym, ◌∙◌, arith}
 use Rattle.std.proofs.lemmas.List.{get_or-replicate}
 use Rattle.cox_base.specs.declared.limits.TheConstants.{MAX_RANK}
-use Rattle.cox_reflect.proofs.HeightLemmas.{height-nil}
+use Rattle.cox_reflect.proofs.HeightsUnderLetters.{height-nil}
 use Rattle.cox_reflect.proofs.heights.HeightsHeightRow.of_identity.Goals as goal
 
 pub returns : goal.returns

@@ -10,4 +10,5 @@ pub returns : goal.returns
 returns g c =
     let store = c.args.self in
     are_taken (elements_of store) (limit_of store) (view_of c.args.seat) (view_of c.take_rows.new.seat) (rows_of store.claims)
-    store.cells.items c.take_rows.result.items store.a_row_each (omega (arith, store.cells.ok, store.a_cell_each)) store.placed c.take_rows.ensures
+    store.cells.items c.take_rows.result.items store.a_row_each (omega (arith, store.cells.ok, store.a_cell_each)) store.placed
+    c.take_rows.ensures

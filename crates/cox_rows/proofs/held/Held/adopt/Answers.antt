@@ -1,7 +1,7 @@
 -- What is held is what is there.
 use Rattle.std.proofs.Common.{◌≡◌, inl, inr, ⊎_elim, true, is_some, sym, ◌∙◌}
 use Rattle.cox_row.specs.RowLists.{row_at}
-use Rattle.cox_rows.proofs.HeldLemmas.{held-at}
+use Rattle.cox_rows.proofs.HeldRows.{held-at}
 use Rattle.cox_rows.proofs.JoinedRows.{both-others}
 use Rattle.cox_rows.proofs.held.Held.adopt.Goals as goal
 

@@ -1,5 +1,5 @@
 -- Each row that is there is that of a member, and is not beyond the limits.
-use Rattle.cox_rows.proofs.HeldLemmas.{held-member}
+use Rattle.cox_rows.proofs.HeldRows.{held-member}
 use Rattle.cox_rows.proofs.RowBeyond.{held-not_beyond}
 use Rattle.cox_rows.proofs.held.Held.context.Goals as goal
 

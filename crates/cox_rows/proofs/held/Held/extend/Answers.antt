@@ -1,7 +1,7 @@
 -- The rows are those of the same elements, which have new numbers.
 use Rattle.std.proofs.Common.{length}
 use Rattle.cox_rows.specs.Spread.{AreSpread}
-use Rattle.cox_rows.proofs.SpreadLemmas.{carried-rows, carried-there, carried-only}
+use Rattle.cox_rows.proofs.SpreadRows.{carried-rows, carried-there, carried-only}
 use Rattle.cox_rows.proofs.held.Held.extend.Goals as goal
 
 pub invariant_of-self-in-Ok : goal.invariant_of-self-in-Ok

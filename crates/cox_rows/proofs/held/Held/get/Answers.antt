@@ -1,6 +1,6 @@
 -- What is there is the row.
 use Rattle.std.proofs.Common.{None, sym, ◌∙◌}
-use Rattle.cox_rows.proofs.HeldLemmas.{row-predicate}
+use Rattle.cox_rows.proofs.HeldRows.{row-predicate}
 use Rattle.cox_rows.proofs.held.Held.get.Goals as goal
 
 pub returns-in-Some-Some-clause-row : goal.returns-in-Some-Some-clause-row

@@ -1,6 +1,6 @@
 -- What is held is what is there.
 use Rattle.std.proofs.Common.{sym, ◌∙◌}
-use Rattle.cox_rows.proofs.HeldLemmas.{held-at}
+use Rattle.cox_rows.proofs.HeldRows.{held-at}
 use Rattle.cox_rows.proofs.held.Held.put.Goals as goal
 
 pub returns-clause-kept : goal.returns-clause-kept

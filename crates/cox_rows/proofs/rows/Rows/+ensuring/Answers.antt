@@ -11,10 +11,10 @@ use Rattle.cox_klstep.proofs.NeededRows.{listed-needs, lower-before, shorter-nee
 use Rattle.cox_rows.specs.Holding.{HasRow}
 use Rattle.cox_klstep.specs.Faults.{IsFault}
 use Rattle.cox_rows.specs.RowsFaults.{IsRowsFault}
-use Rattle.cox_rows.proofs.EnsureLemmas.{ensured-needed, ensured-then, fault-needed, fault-own}
-use Rattle.cox_rows.proofs.EnsureLemmas.{under_way-start, under_way-rows, under_way-next}
-use Rattle.cox_rows.proofs.EnsureLemmas.{needs-small}
-use Rattle.cox_rows.proofs.EnsureLemmas.{identity-small}
+use Rattle.cox_rows.proofs.EnsuredNeeds.{ensured-needed, ensured-then, fault-needed, fault-own}
+use Rattle.cox_rows.proofs.EnsuredNeeds.{under_way-start, under_way-rows, under_way-next}
+use Rattle.cox_rows.proofs.EnsuredNeeds.{needs-small}
+use Rattle.cox_rows.proofs.EnsuredNeeds.{identity-small}
 use Rattle.cox_rows.proofs.rows.Rows.+ensuring.Goals as goal
 
 -- ---- the row and what it is made from

@@ -1,7 +1,7 @@
 -- The recursion goes to smaller numbers. The corrections so far are there, and need nothing beyond the limits.
 use Rattle.std.proofs.Common.{◌+◌, ◌*◌}
 use Rattle.cox_context.specs.Numbers.{word_at}
-use Rattle.cox_rows.proofs.EnsureLemmas.{IsUnderWay}
+use Rattle.cox_rows.proofs.EnsuredNeeds.{IsUnderWay}
 use Rattle.cox_rows.proofs.rows.Rows.+ensuring.Given as goal
 
 abbrev pub decreases-ensure : goal.decreases-ensure

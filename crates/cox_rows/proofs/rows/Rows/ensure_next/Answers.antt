@@ -1,7 +1,7 @@
 -- The row is made from rows of members before it, which are there and settled.
 use Rattle.cox_klstep.proofs.NeededRows.{all-needs}
 use Rattle.cox_rows.specs.Holding.{HasRow}
-use Rattle.cox_rows.proofs.EnsureLemmas.{small-before}
+use Rattle.cox_rows.proofs.EnsuredNeeds.{small-before}
 use Rattle.cox_rows.proofs.rows.Rows.ensure_next.Goals as goal
 
 pub make-requires-clause-needs : goal.make-requires-clause-needs

@@ -3,7 +3,7 @@ use Rattle.std.proofs.Common.{Some}
 use Rattle.cox_base.specs.IntegerMatrix.{integer_matrix}
 use Rattle.cox_base.specs.ShortLex.{normal_form}
 use Rattle.cox_context.specs.Numbering.{IsNumberOf}
-use Rattle.cox_rows.proofs.ExtendLemmas.{union-nothing_new, union-has, extended-same, store-carried}
+use Rattle.cox_rows.proofs.LargerContexts.{union-nothing_new, union-has, extended-same, store-carried}
 use Rattle.cox_rows.proofs.rows.Rows.extend.Goals as goal
 
 pub returns-clause-members : goal.returns-clause-members

@@ -2,8 +2,7 @@
 use Rattle.std.proofs.Common.{subst, sym, ◌∙◌}
 use Rattle.cox_klstep.specs.NeedsOf.{HasNeeds}
 use Rattle.cox_rows.specs.Holding.{Holding, HasRow}
-use Rattle.cox_rows.proofs.SettledLemmas.{store-put}
-use Rattle.cox_rows.proofs.StepsMade.{steps-none, steps-added, counted-added}
+use Rattle.cox_rows.proofs.SettledMembers.{store-put}
 use Rattle.cox_rows.proofs.rows.Rows.make.Goals as goal
 
 pub row-made-requires-clause-needs : goal.row-made-requires-clause-needs

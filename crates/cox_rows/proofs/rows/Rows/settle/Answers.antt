@@ -5,7 +5,7 @@ use Rattle.cox_context.specs.Numbers.{word_at}
 use Rattle.cox_rows.specs.Beyond.{NeedsBeyond}
 use Rattle.cox_rows.specs.Holding.{Holding}
 use Rattle.cox_rows.specs.Ensured.{IsSettled}
-use Rattle.cox_rows.proofs.SettledLemmas.{is_settled, store-set}
+use Rattle.cox_rows.proofs.SettledMembers.{is_settled, store-set}
 use Rattle.cox_rows.proofs.rows.Rows.settle.Goals as goal
 
 pub invariant_of-self : goal.invariant_of-self

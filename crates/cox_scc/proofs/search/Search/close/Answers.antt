@@ -1,7 +1,7 @@
 -- The members are what stands on the stack from the place on.
 use Rattle.std.proofs.Common.{refl, arith}
 use Rattle.cox_scc.proofs.Closing.{slice_is, become_class}
-use Rattle.cox_scc.proofs.VisitLemmas.{open_seen}
+use Rattle.cox_scc.proofs.VisitedVertices.{open_seen}
 use Rattle.cox_scc.proofs.search.Search.close.Goals as goal
 
 pub returns : goal.returns

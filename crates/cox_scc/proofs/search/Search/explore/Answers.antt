@@ -1,6 +1,6 @@
 -- The path begins with the root.
 use Rattle.std.proofs.Common.{ap, ◌∙◌, arith}
-use Rattle.cox_scc.proofs.PassLemmas.{empty_stack, walk_root, enter_seen, enter_found}
+use Rattle.cox_scc.proofs.PassStates.{empty_stack, walk_root, enter_seen, enter_found}
 use Rattle.cox_scc.proofs.search.Search.explore.Goals as goal
 
 pub enter-requires : goal.enter-requires

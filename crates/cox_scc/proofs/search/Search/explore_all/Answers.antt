@@ -2,7 +2,7 @@
 use Rattle.std.proofs.Common.{◌+◌, ◌<◌, false, vec_len, below_more, subst, sym, ◌∙◌, arith}
 use Rattle.std.proofs.lemmas.List.{get_or_read_under}
 use Rattle.cox_scc.proofs.AllClosed.{HadTurns}
-use Rattle.cox_scc.proofs.VisitLemmas.{seen_visit}
+use Rattle.cox_scc.proofs.VisitedVertices.{seen_visit}
 use Rattle.cox_scc.proofs.search.Search.explore_all.Goals as goal
 use Rattle.cox_scc.proofs.search.Search.explore_all.Goals.{then-not-index+in_ok-explore, else-not-index}
 

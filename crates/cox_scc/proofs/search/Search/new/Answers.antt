@@ -1,7 +1,7 @@
 -- No vertex was seen.
 use Rattle.std.proofs.Common.{rules}
-use Rattle.cox_scc.proofs.PassLemmas.{walk_none}
-use Rattle.cox_scc.proofs.VisitLemmas.{none_in}
+use Rattle.cox_scc.proofs.PassStates.{walk_none}
+use Rattle.cox_scc.proofs.VisitedVertices.{none_in}
 use Rattle.cox_scc.proofs.search.Search.new.Goals as goal
 
 pub returns-clause-walk : goal.returns-clause-walk

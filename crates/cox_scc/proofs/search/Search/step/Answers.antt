@@ -3,9 +3,9 @@ use Rattle.std.proofs.Common.{ℕ, ◌<◌, ◌++◌, ◌∷◌, [], length, not
 use Rattle.std.proofs.lemmas.List.{length_push}
 use Rattle.std.specs.Prelude.{count_by}
 use Rattle.cox_scc.proofs.Pigeonholes.{stack_room}
-use Rattle.cox_scc.proofs.PassLemmas.{here_in, vertex_read, in_offsets, read_end, before_end, end_in, target_in, some_part, at_next}
-use Rattle.cox_scc.proofs.PassLemmas.{HasFollowed, HasMet, HasFinished, has_met, walk_follow_read, walk-follows, walk_finish, walk_waits}
-use Rattle.cox_scc.proofs.PassLemmas.{enter_seen, enter_count}
+use Rattle.cox_scc.proofs.PassStates.{here_in, vertex_read, in_offsets, read_end, before_end, end_in, target_in, some_part, at_next}
+use Rattle.cox_scc.proofs.PassStates.{HasFollowed, HasMet, HasFinished, has_met, walk_follow_read, walk-follows, walk_finish, walk_waits}
+use Rattle.cox_scc.proofs.PassStates.{enter_seen, enter_count}
 use Rattle.cox_scc.proofs.search.Search.step.Goals as goal
 use Rattle.cox_scc.proofs.search.Search.step.Goals.{After-join}
 

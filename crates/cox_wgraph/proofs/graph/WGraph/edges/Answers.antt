@@ -2,7 +2,7 @@
 use Rattle.std.proofs.Common.{◌≡◌, ◌<◌, length, slice_index_or, arith}
 use Rattle.std.proofs.lemmas.List.{get_or_read}
 use Rattle.cox_base.specs.IntegerMatrix.{integer_matrix}
-use Rattle.cox_wgraph.proofs.GraphLemmas.{start-is, end-after_start, end-within, listed_edges, joined-of_edges}
+use Rattle.cox_wgraph.proofs.EdgesOfMembers.{start-is, end-after_start, end-within, listed_edges, joined-of_edges}
 use Rattle.cox_wgraph.proofs.graph.WGraph.edges.Goals as goal
 
 pub part-requires-clause-start : goal.part-requires-clause-start

@@ -1,0 +1,112 @@
+-- The words of members that are given by links.
+use Rattle.std.proofs.Common.{◌≡◌, ℕ, zero, suc, ◌+◌, ◌≤◌, ◌<◌, List, [], ◌∷◌, ◌++◌, length, refl, ap, sym, ◌∙◌, ⊎_elim, arith}
+use Rattle.std.proofs.Common.{length-append, get_or}
+use Rattle.std.proofs.lemmas.Bool.{cases_lt}
+use Rattle.std.proofs.lemmas.List.{get_or_append_left, get_or_default}
+use Rattle.std.proofs.Math.Seq.{get_or-append_seam}
+use Rattle.cox_lemmas.proofs.PushedItems.{push-length}
+use Rattle.cox_context.specs.declared.members.Link.{Link}
+use Rattle.cox_context.specs.declared.members.TheConstants.{MAX_MEMBERS}
+use Rattle.cox_context.specs.Numbers.{word_at}
+use Rattle.cox_context.specs.Links.{words_from, linked_words, link_at, AreMemberLinks}
+use Rattle.cox_context.proofs.PlacedWords.{word_at-old, word_at-new}
+
+-- the word of a link behind these words
+abbrev linked : List (List ℕ) → Link → List ℕ
+linked words link = link.first ∷ word_at words link.rest
+
+from-size : (words : List (List ℕ)) (links : List Link) → length (words_from words links) ≡ length words + length links
+from-size words [] = omega arith
+from-size words (l ∷ links) = omega (arith, from-size (words ++ linked words l ∷ []) links, push-length words (linked words l))
+
+words_from-old : (words : List (List ℕ)) (links : List Link) (i : ℕ) → i < length words
+    → word_at (words_from words links) i ≡ word_at words i
+words_from-old words [] i l = refl
+words_from-old words (link ∷ links) i l =
+    words_from-old (words ++ linked words link ∷ []) links i (omega (arith, l, push-length words (linked words link)))
+    ∙ word_at-old words (linked words link) i l
+
+from-at : (words : List (List ℕ)) (links : List Link) (i : ℕ) → i < length links → (link_at links i).rest < length words + i
+    → word_at (words_from words links) (length words + i) ≡ (link_at links i).first ∷ word_at (words_from words links)
+    (link_at links i).rest
+from-at words [] i l k = absurd (omega (arith, l))
+from-at words (link ∷ links) zero l k =
+    let more = push-length words (linked words link)
+    in let here : length words + 0 ≡ length words = omega arith
+    in rw here (words_from-old (words ++ linked words link ∷ []) links (length words) (omega (arith, more))
+    ∙ word_at-new words (linked words link) (length words) refl
+    ∙ ap (λ (x : List ℕ). link.first ∷ x) (sym (words_from-old (words ++ linked words link ∷ []) links link.rest (omega (arith, k, more))
+    ∙ word_at-old words (linked words link) link.rest (omega (arith, k)))))
+from-at words (link ∷ links) (suc i) l k =
+    let more = push-length words (linked words link)
+    in let here : length words + suc i ≡ length (words ++ linked words link ∷ []) + i = omega (arith, more)
+    in rw here (from-at (words ++ linked words link ∷ []) links i (omega (arith, l)) (omega (arith, k, more)))
+
+from-push : (words : List (List ℕ)) (links : List Link) (link : Link)
+    → words_from words (links ++ link ∷ []) ≡ words_from words links ++ linked (words_from words links) link ∷ []
+from-push words [] link = refl
+from-push words (l ∷ links) link = from-push (words ++ linked words l ∷ []) links link
+
+pub words-size : (links : List Link) → length (linked_words links) ≡ length links
+words-size [] = refl
+words-size (l ∷ links) = omega (arith, from-size ([] ∷ []) links)
+
+pub words-first : (links : List Link) → word_at (linked_words links) 0 ≡ []
+words-first [] = refl
+words-first (l ∷ links) = words_from-old ([] ∷ []) links 0 (omega arith)
+
+pub words-link : (links : List Link) (i : ℕ) → 0 < i → i < length links → (link_at links i).rest < i
+    → word_at (linked_words links) i ≡ (link_at links i).first ∷ word_at (linked_words links) (link_at links i).rest
+words-link links zero l k inward = absurd (omega arith)
+words-link [] (suc i) l k inward = absurd (omega (arith, k))
+words-link (l ∷ links) (suc i) m k inward =
+    let here : 1 + i ≡ suc i = omega arith in rw here at (from-at ([] ∷ []) links i (omega (arith, k)) (omega (arith, inward)))
+
+pub words-push : (links : List Link) (link : Link) → 1 ≤ length links
+    → linked_words (links ++ link ∷ []) ≡ linked_words links ++ (link.first ∷ word_at (linked_words links) link.rest) ∷ []
+words-push [] link l = absurd (omega (arith, l))
+words-push (identity ∷ links) link l = from-push ([] ∷ []) links link
+
+pub links-push : (links : List Link) (link : Link) → AreMemberLinks links → length links < MAX_MEMBERS → link.rest < length links
+    → link.letters ≡ length (word_at (linked_words links) link.rest) + 1 → AreMemberLinks (links ++ link ∷ [])
+links-push links link h room inside letters = record {
+  some = omega (arith, size, h.some);
+  few = omega (arith, size, room);
+  inward = λ i l k. ⊎_elim (λ (below : i < length links). rw (old i below) (h.inward i l below))
+      (λ (above : length links ≤ i). let e : i ≡ length links = omega (arith, above, k, size) in rw (e, new) inside) (cases_lt i
+      (length links));
+  letters = λ i k. rw (words-push links link h.some) (⊎_elim
+      (λ (below : i < length links). rw (
+        old i below,
+        word_at-old words (link.first ∷ word_at words link.rest) i
+            (omega (arith, below, words-size links)),
+      ) (h.letters i below))
+      (λ (above : length links ≤ i). last i (omega (arith, above, k, size))) (cases_lt i (length links)));
+}
+  where
+    words : List (List ℕ)
+    words = linked_words links
+
+    nothing : Link
+    nothing = record { first = 0; letters = 0; rest = 0 }
+
+    size : length (links ++ link ∷ []) ≡ length links + 1
+    size = length-append links (link ∷ [])
+
+    old : (i : ℕ) → i < length links → link_at (links ++ link ∷ []) i ≡ link_at links i
+    old i l = get_or_append_left links (link ∷ []) nothing i l
+
+    new : link_at (links ++ link ∷ []) (length links) ≡ link
+    new = get_or-append_seam links link [] nothing
+
+    last : (i : ℕ) → i ≡ length links → (link_at (links ++ link ∷ []) i).letters
+        ≡ length (word_at (linked_words links ++ (link.first ∷ word_at (linked_words links) link.rest) ∷ []) i)
+    last i e = rw (
+      word_at-new (linked_words links) (link.first ∷ word_at (linked_words links) link.rest) i (e ∙ sym (words-size links)),
+      e,
+      new,
+    ) (omega (arith, letters))
+
+-- a link that was read
+pub link-read : (links : List Link) (i : ℕ) (link : Link) → i < length links → link ≡ get_or links i link → link_at links i ≡ link
+link-read links i link l e = get_or_default links i (record { first = 0; letters = 0; rest = 0 }) link l ∙ sym e
