@@ -18,24 +18,27 @@ TOP = os.path.dirname(os.path.dirname(os.path.abspath(__file__)))
 
 # 'Builds' the program of the folder that it is run in: one that prints what the source said at the end of the build, its arguments,
 # and its input, and ends with 7, as `rt run` then does. It first does what a file `meanwhile` says, if there is one, and fails where
-# the source says so, or where it is run twice at once. Under `all` it writes down which crates it was to prove, and under `check` where
-# it was called, one line each.
+# the source says so, or where it is run twice at once. Under `check` it writes down the crate, behind a + where it begins and a - where
+# it ends, and what it found of that crate from before.
 RT = b"""#!/bin/sh
 echo "stand-in works"
 for count; do :; done
 [ "$count" -gt 0 ] || exit 1
 case "$1 $2" in
-  "all check")
-    for folder in crates/*; do
-      mkdir -p "$folder/out/rlib"
-      : >"$folder/out/rlib/stamp"
-      echo "crate ${folder#crates/}: modules loaded=0"
-    done
-    cp crates.txt "${0%rt}proved" ;;
   "check --jobs")
+    name=${PWD##*/}
+    echo "+$name" >>"${0%rt}checked"
+    [ ! -e out/before ] || echo "$name" >>"${0%rt}again"
+    for it in $(sed -n "s/^$name: *//p" ../../crates.txt); do
+      [ -e "../$it/out/rlib/stamp" ] || exit 1
+    done
+    sleep 1
+    [ "$(cat src/lib.rt)" = broken ] && exit 1
     mkdir -p out/rlib
     : >out/rlib/stamp
-    pwd >>"${0%rt}checked" ;;
+    : >out/before
+    echo "-$name" >>"${0%rt}checked"
+    echo "crate $name: modules loaded=0" ;;
   "run --jobs")
     name=${PWD##*/}
     mkdir ../building || exit 1
@@ -210,33 +213,59 @@ def failures(base):
     check("with rt again", here.run(), 7, b"program of two:\ninput\n", True)
 
 
+def most_at_once(rows):
+    """How many crates were proved at once, by the rows that the stand-in wrote."""
+    now = most = 0
+    for row in rows:
+        now += 1 if row.startswith(b"+") else -1
+        most = max(most, now)
+    return most
+
+
 def crates(base):
-    """Proves crates that stand on few others side by side, others beside the longest chain, and only those of the program."""
+    """Proves several crates at once, each behind those that it stands on, and only those of the program."""
     here = Checkout(base)
-    lines = [b"".join(b"low%d " % it for it in range(1, number)) for number in range(1, 8)]
-    listed = b"".join(b"low%d: %b\n" % it for it in enumerate(lines, 1))
-    here.write(here.path(b"crates.txt"), b"# all\ncoxeter: low7 low2 high\n%bhigh: low5 low4 low3 low2 low1\nother: low1\n" % listed)
-    for crate in [b"other", b"high"] + [b"low%d" % number for number in range(1, 8)]:
+    uses = {b"low1": b"", b"low2": b"low1", b"low3": b"", b"low4": b"", b"low5": b"low1 low2", b"low6": b"low5 low2 low1", b"high": b"low4"}
+    rows = b"".join(b"%b: %b\n" % it for it in uses.items())
+    here.write(here.path(b"crates.txt"), b"# all\ncoxeter: low6 low5 low3 high std\n%bother: low1\n" % rows)
+    for crate in [b"other", *uses]:
         here.source(b"//! Code.\n", crate, b"lib.rt")
+
+    def proved(what="checked"):
+        path = os.path.join(here.tools, what.encode())
+        if not os.path.exists(path):
+            return []
+        with open(path, "rb") as file:
+            lines = file.read().splitlines()
+        os.remove(path)
+        return lines
+
     ran = here.run()
     check("a program of several crates", ran, 7, ONE, True)
-    with open(os.path.join(here.tools, b"proved"), "rb") as proved:
-        rows = proved.read().splitlines()
-    say("what is proved side by side", sorted(it.split(b":")[0] for it in rows), [b"all", *(b"low%d" % it for it in range(1, 6))])
-    with open(os.path.join(here.tools, b"checked"), "rb") as checked:
-        places = [os.path.relpath(it, here.top) for it in checked.read().splitlines()]
-    say("the longest chain, in order", [it for it in places if b"out" not in it], [b"crates/low6", b"crates/low7"])
-    say("what is proved beside it", [it for it in places if b"out" in it], [b"crates/coxeter/out/beside/crates/high"])
-    say("the others wait for it", places.index(b"crates/low7"), 2)
-    names = [b"low%d" % it for it in range(1, 8)] + [b"high", b"other"]
-    say("what came of it", [os.path.exists(here.path(b"crates/%b/out/rlib/stamp" % it)) for it in names], [True] * 8 + [False])
-    for room in (b"side_by_side", b"beside"):
-        say("no folder is left", os.path.exists(here.path(b"crates/coxeter/out/" + room)), False)
+    jobs = int(ran.stderr.split(b" checks at once")[0].split()[-1])
+    lines = proved()
+    say("what is proved", sorted(it for it in lines if it.startswith(b"+")), sorted(b"+" + it for it in uses))
+    early = [(it, low) for it in uses for low in uses[it].split() if lines.index(b"+" + it) < lines.index(b"-" + low)]
+    say("each behind those that it stands on", early, [])
+    say("the longest chain first", lines[0], b"+low1")
+    say("how many at once", most_at_once(lines), min(3, jobs))
+    names = [*uses, b"other"]
+    say("what came of it", [os.path.exists(here.path(b"crates/%b/out/rlib/stamp" % it)) for it in names], [True] * 7 + [False])
+    say("no folder is left", os.path.exists(here.path(b"crates/coxeter/out/rooms")), False)
     here.source(b"two")
-    os.remove(os.path.join(here.tools, b"proved"))
-    os.remove(os.path.join(here.tools, b"checked"))
     check("another time", here.run(), 7, b"program of two:\ninput\n", True)
-    say("nothing is proved ahead then", [it for it in (b"proved", b"checked") if os.path.exists(os.path.join(here.tools, it))], [])
+    say("nothing is proved ahead then", proved(), [])
+    time.sleep(1.1)
+    here.source(b"//! Other code.\n", b"low5", b"lib.rt")
+    check("a lower crate that changed", here.run(), 7, b"program of two:\ninput\n", True)
+    say("it and those above it", proved(), [b"+low5", b"-low5", b"+low6", b"-low6"])
+    say("by what is there of them", proved("again"), [b"low5", b"low6"])
+    time.sleep(1.1)
+    here.source(b"broken", b"low2", b"lib.rt")
+    here.source(b"broken")
+    check("a lower crate that is refused", here.run(), 70, b"", True)
+    say("nothing above it is tried", proved(), [b"+low2"])
+    say("what was there of it stays", os.path.exists(here.path(b"crates/low2/out/before")), True)
 
 
 def wait_for(path):
