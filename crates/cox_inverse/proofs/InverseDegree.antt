@@ -22,7 +22,8 @@ use Rattle.cox_hecke.proofs.AllRows.{row_of, row_of-is}
 use Rattle.cox_inverse.specs.InverseRow.{IsInverseRow, IsInverse}
 use Rattle.cox_inverse.proofs.InverseSums.{term, other_term, other_terms-none, term_sum-split}
 use Rattle.cox_inverse.proofs.OneInverseRow.{inverse_row-any_list}
-use Rattle.cox_inverse.proofs.InverseRowExists.{basis-other, inverse_row-top}
+use Rattle.cox_inverse.proofs.BasisElements.{basis-other}
+use Rattle.cox_inverse.proofs.InverseRowExists.{inverse_row-top}
 
 -- a product of polynomials of degrees below d/2 and e/2 has, unless d or e is 0, a degree below (d+e-1)/2
 product-low : (f h : Coefficients) (d e : ℕ) → 0 < d → 0 < e → ((k : ℕ) → d ≤ 2 * k → f k ≡ pos 0) → ((k : ℕ) → e ≤ 2 * k → h k ≡ pos 0)
@@ -58,6 +59,7 @@ module _ (A : IntegerMatrix) (g : IsAdmissible A) where
             let one : q z ≡ one_polynomial = λ i j. (is.element z w e j ∙ inverse_row-top A g w q is j) i
             in rw one (product-one (row_of A g z x) k ∙ row-low k (omega (arith, l, word_length-equal A g e)))
 
+    -- the bound, for all of the row
     pub inverse_row-degree : (x : List ℕ) (k : ℕ) → word_length A x < word_length A w → word_length A w ≤ word_length A x + 2 * k
         → q x k ≡ pos 0
     inverse_row-degree x k = by (suc (word_length A w)) x (omega arith) k
@@ -90,6 +92,7 @@ module _ (A : IntegerMatrix) (g : IsAdmissible A) where
             (λ (n : IsBelow A x w → ⊥). is.outside x n k)
             (below_or_not A g x w)
 
+  -- the bound of Q(x,w)
   pub inverse-degree : (x w : List ℕ) (f : Coefficients) → IsInverse A x w f
       → (k : ℕ) → word_length A x < word_length A w → word_length A w ≤ word_length A x + 2 * k → f k ≡ pos 0
   inverse-degree x w f c k shorter low = c.at k ∙ inverse_row-degree w c.row c.is x k shorter low

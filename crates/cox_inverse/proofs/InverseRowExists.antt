@@ -8,7 +8,6 @@ use Rattle.cox_base.specs.Element.{SameElement}
 use Rattle.cox_base.specs.Length.{word_length}
 use Rattle.cox_base.specs.Bruhat.{IsBelow}
 use Rattle.cox_reflect.proofs.Elements.{same-refl, same-sym}
-use Rattle.cox_reflect.proofs.Search.{normal_form-equal}
 use Rattle.cox_reflect.proofs.Bruhat.{below-refl, below-trans, below-antisym, below-length}
 use Rattle.cox_poly.specs.Coefficients.{Coefficients, zero_polynomial, one_polynomial}
 use Rattle.cox_poly.specs.Multiples.{minus}
@@ -17,26 +16,16 @@ use Rattle.cox_hecke.specs.Operators.{basis}
 use Rattle.cox_hecke.specs.Sums.{sum_over}
 use Rattle.cox_hecke.specs.Row.{IsRow}
 use Rattle.cox_hecke.specs.ListedElements.{occurrences, ListsEach, LiesBetween}
-use Rattle.cox_hecke.proofs.SumLemmas.{sum_over-equal, same-is_same, not_same-is_same}
+use Rattle.cox_hecke.proofs.SumLemmas.{sum_over-equal, same-is_same}
 use Rattle.cox_hecke.proofs.ElementLists.{Tells-ListsEach, below_list}
 use Rattle.cox_hecke.proofs.AllRows.{row_of, row_of-is}
 use Rattle.cox_inverse.specs.InverseRow.{signed_term, IsInverseRow}
+use Rattle.cox_inverse.proofs.BasisElements.{basis-own, basis-other, basis-respects}
 use Rattle.cox_inverse.proofs.InverseSums.{term-rows, term-own, term_sum-split, other_term, other_term-same}
 use Rattle.cox_inverse.proofs.InverseSums.{other_terms-equal, other_terms-none}
 use Rattle.cox_inverse.proofs.OneInverseRow.{inverse_row-any_list, inverse_row-from, inverse_row-unique}
 
 module _ (A : IntegerMatrix) (g : IsAdmissible A) where
-  -- ---- T(w) by its coefficients
-
-  pub basis-own : (w x : List ℕ) → SameElement A w x → basis A w x ≡ one_polynomial
-  basis-own w x e = rw (same-is_same A g e) refl
-
-  pub basis-other : (w x : List ℕ) → (SameElement A w x → ⊥) → basis A w x ≡ zero_polynomial
-  basis-other w x n = rw (not_same-is_same A g w x n) refl
-
-  pub basis-respects : (w : List ℕ) → RespectsElements A (basis A w)
-  basis-respects w x y e k = rw (normal_form-equal A g e) refl
-
   -- ---- the family that is put into the sums n times
 
   approximation : List ℕ → List (List ℕ) → ℕ → Family
@@ -54,7 +43,7 @@ module _ (A : IntegerMatrix) (g : IsAdmissible A) where
   approximation-respects w words (suc n) x y e k =
       let rest = sum_over-equal words (other_term A g (approximation w words n) x) (other_term A g (approximation w words n) y) k
       (λ z. other_term-same A g (approximation w words n) x y z e k)
-      in omega (arith, ints, basis-respects w x y e k, rest)
+      in omega (arith, ints, basis-respects A g w x y e k, rest)
 
   module _ (w : List ℕ) (words : List (List ℕ)) (each : ListsEach A (λ z. IsBelow A z w) words) where
     approximation-outside : (n : ℕ) (x : List ℕ) → (IsBelow A x w → ⊥) → (k : ℕ) → approximation w words n x k ≡ pos 0
@@ -62,7 +51,7 @@ module _ (A : IntegerMatrix) (g : IsAdmissible A) where
     approximation-outside zero x none k = refl
     approximation-outside (suc n) x none k =
         let first : basis A w x k ≡ pos 0
-        = ap (λ (f : Coefficients). f k) (basis-other w x (λ e. none (below-refl A g (same-sym A g e))))
+        = ap (λ (f : Coefficients). f k) (basis-other A g w x (λ e. none (below-refl A g (same-sym A g e))))
         in let rest = other_terms-none A g w words each (approximation w words n) x k (λ z c b l. absurd (none (below-trans A g b c)))
         in omega (arith, ints, first, rest)
 
@@ -99,14 +88,17 @@ module _ (A : IntegerMatrix) (g : IsAdmissible A) where
 
   -- ---- an inverse row for each element
 
+  -- by the elements below w, as often as w has letters and once more
   pub inverse_of : List ℕ → Family
   inverse_of w = approximation w (below_list A g w).0 (suc (word_length A w))
 
+  -- it is an inverse row
   pub inverse_of-is : (w : List ℕ) → IsInverseRow A w (inverse_of w)
   unfolding inverse_of
   inverse_of-is w =
       approximation-is w (below_list A g w).0 (Tells-ListsEach A (λ z. IsBelow A z w) (below_list A g w).0 (below_list A g w).1)
 
+  -- so there is one
   pub inverse_row-exists : (w : List ℕ) → (q : Family) × IsInverseRow A w q
   inverse_row-exists w = (inverse_of w, inverse_of-is w)
 
@@ -124,7 +116,7 @@ module _ (A : IntegerMatrix) (g : IsAdmissible A) where
         ints,
         inverse_row-any_list A g w q is (row_of A g) (row_of-is A g) w (w ∷ []) (below-refl A g (same-refl A g w)) once k,
         term-own A g q w w (same-refl A g w) k,
-        ap (λ (f : Coefficients). f k) (basis-own w w (same-refl A g w)),
+        ap (λ (f : Coefficients). f k) (basis-own A g w w (same-refl A g w)),
       )
     where
       once : (z : List ℕ) → LiesBetween A w w z → occurrences A z (w ∷ []) ≡ 1
@@ -143,5 +135,5 @@ module _ (A : IntegerMatrix) (g : IsAdmissible A) where
         inverse_row-any_list A g w q is rows are x (x ∷ above) b once k,
         ap (λ (f : Coefficients). f k) (term-rows A g rows are q x x),
         term-own A g q x x (same-refl A g x) k,
-        ap (λ (f : Coefficients). f k) (basis-other w x (λ e. other (same-sym A g e))),
+        ap (λ (f : Coefficients). f k) (basis-other A g w x (λ e. other (same-sym A g e))),
       )

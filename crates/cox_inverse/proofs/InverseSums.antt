@@ -69,10 +69,11 @@ module _ (A : IntegerMatrix) (g : IsAdmissible A) where
       in let nothing : product (row_of A g z x) zero_polynomial ≡ zero_polynomial = λ i k. product-zero (row_of A g z x) k i
       in rw (zero_there, nothing) (times_sign-none (word_length A z - word_length A x) k)
 
-  -- by any words of z, and of x
+  -- by any words of z
   pub term-respects : (q : Family) → RespectsElements A q → (x : List ℕ) → RespectsElements A (term q x)
   term-respects q r x y z e k = rw (word_length-equal A g e, row_of-same A g y z e, respected A g r e) refl
 
+  -- by any words of x
   pub term-same : (q : Family) (x y z : List ℕ) → SameElement A x y → (k : ℕ) → term q x z k ≡ term q y z k
   term-same q x y z e k = rw (word_length-equal A g e, respected A g (row_of-is A g z).element e) refl
 
@@ -96,6 +97,7 @@ module _ (A : IntegerMatrix) (g : IsAdmissible A) where
   abbrev pub other_term : Family → List ℕ → Family
   other_term q x z = if is_same A x z then zero_polynomial else term q x z
 
+  -- the term of x, and the others
   pub term_sum-split : (words : List (List ℕ)) (q : Family) → RespectsElements A q → (x : List ℕ) → occurrences A x words ≡ 1
       → (k : ℕ) → sum_over words (term q x) k ≡ q x k +ℤ sum_over words (other_term q x) k
   term_sum-split words q r x once k =
@@ -121,7 +123,8 @@ module _ (A : IntegerMatrix) (g : IsAdmissible A) where
   -- ---- over the elements below w
 
   module _ (w : List ℕ) (words : List (List ℕ)) (each : ListsEach A (λ z. IsBelow A z w) words) where
-    named-below : (z : List ℕ) → (occurrences A z words ≡ 0 → ⊥) → IsBelow A z w
+    -- what the list names is below w
+    pub named-below : (z : List ℕ) → (occurrences A z words ≡ 0 → ⊥) → IsBelow A z w
     named-below z some = ⊎_elim (λ b. b) (λ (n : IsBelow A z w → ⊥). absurd (some (each.no_other z n))) (below_or_not A g z w)
 
     -- the other terms are of longer elements alone
@@ -142,6 +145,7 @@ module _ (A : IntegerMatrix) (g : IsAdmissible A) where
                 = λ i k. longer z c (above-longer b (λ same. false≢true (sym e ∙ same-is_same A g same))) k i
                 in rw equal refl
 
+    -- and where those are 0, the others add up to 0
     pub other_terms-none : (q : Family) (x : List ℕ) (k : ℕ)
         → ((z : List ℕ) → IsBelow A z w → IsBelow A x z → word_length A x < word_length A z → term q x z k ≡ pos 0)
         → sum_over words (other_term q x) k ≡ pos 0

@@ -1,5 +1,7 @@
 -- products of three polynomials, and of sums
 pub mod ProductLaws
+-- T(w) by its coefficients
+pub mod BasisElements
 -- the sums of (-1)^(l(z)-l(x)) P(x,z) q(z)
 pub mod InverseSums
 -- at most one inverse row for each element

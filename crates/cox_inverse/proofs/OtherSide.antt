@@ -30,9 +30,9 @@ use Rattle.cox_hecke.proofs.TurnedR.{times_sign-none}
 use Rattle.cox_hecke.proofs.AllRows.{row_of, row_of-is, row_of-same, row_of-value}
 use Rattle.cox_inverse.specs.InverseRow.{IsInverseRow}
 use Rattle.cox_inverse.proofs.ProductLaws.{product-associative, product-sum_over, sum_over-product, times_sign-product, product-times_sign}
-use Rattle.cox_inverse.proofs.InverseSums.{term, term-apart, term-none, term_sums-determine}
+use Rattle.cox_inverse.proofs.InverseSums.{term, term-apart, term-none, named-below, term_sums-determine}
 use Rattle.cox_inverse.proofs.OneInverseRow.{inverse_row-any_list, inverse_row-same, inverse_row-unique}
-use Rattle.cox_inverse.proofs.InverseRowExists.{basis-own, basis-other, basis-respects}
+use Rattle.cox_inverse.proofs.BasisElements.{basis-own, basis-other, basis-respects}
 
 module _ (A : IntegerMatrix) (g : IsAdmissible A) (inverses : List ℕ → Family) (are : (z : List ℕ) → IsInverseRow A z (inverses z)) where
   inverses-same : {y z : List ℕ} → SameElement A y z → inverses y ≡ inverses z
@@ -108,8 +108,7 @@ module _ (A : IntegerMatrix) (g : IsAdmissible A) (inverses : List ℕ → Famil
         own : (z : List ℕ) → (occurrences A z words ≡ 0 → ⊥)
             → product (sum_over words (term A g (inverses z) x)) (signed w z) k ≡ (if is_same A x z then signed w z else zero_polynomial) k
         own z some =
-            let below : IsBelow A z w
-            = ⊎_elim (λ b. b) (λ (n : IsBelow A z w → ⊥). absurd (some (each.no_other z n))) (below_or_not A g z w)
+            let below : IsBelow A z w = named-below A g w words each z some
             in ap (λ (f : Coefficients). product f (signed w z) k) (λ i j. column z below x j i)
             ∙ ⊎_elim
             (λ (e : SameElement A x z). rw (basis-own A g z x (same-sym A g e), same-is_same A g e) (one-product (signed w z) k))
