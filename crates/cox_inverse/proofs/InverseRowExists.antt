@@ -26,7 +26,7 @@ use Rattle.cox_inverse.proofs.InverseSums.{other_terms-equal, other_terms-none}
 use Rattle.cox_inverse.proofs.OneInverseRow.{inverse_row-any_list, inverse_row-from, inverse_row-unique}
 
 module _ (A : IntegerMatrix) (g : IsAdmissible A) where
-  -- ---- the family that is put into the sums n times
+  -- ---- 0, put into the sums n times
 
   approximation : List ℕ → List (List ℕ) → ℕ → Family
   approximation w words zero x = zero_polynomial
@@ -55,7 +55,7 @@ module _ (A : IntegerMatrix) (g : IsAdmissible A) where
         in let rest = other_terms-none A g w words each (approximation w words n) x k (λ z c b l. absurd (none (below-trans A g b c)))
         in omega (arith, ints, first, rest)
 
-    -- it stays the same from some time on: at the longest elements at once
+    -- at x it stays the same from some round on, and the sooner the longer x is
     approximation-settled : (n : ℕ) (x : List ℕ) → word_length A w < word_length A x + n
         → (k : ℕ) → approximation w words (suc n) x k ≡ approximation w words n x k
     approximation-settled zero x l k =
@@ -88,7 +88,7 @@ module _ (A : IntegerMatrix) (g : IsAdmissible A) where
 
   -- ---- an inverse row for each element
 
-  -- by the elements below w, as often as w has letters and once more
+  -- from the elements below w, in l(w) + 1 rounds
   pub inverse_of : List ℕ → Family
   inverse_of w = approximation w (below_list A g w).0 (suc (word_length A w))
 
