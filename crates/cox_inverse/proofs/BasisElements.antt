@@ -7,7 +7,7 @@ use Rattle.cox_reflect.proofs.Search.{normal_form-equal}
 use Rattle.cox_poly.specs.Coefficients.{zero_polynomial, one_polynomial}
 use Rattle.cox_hecke.specs.Family.{RespectsElements}
 use Rattle.cox_hecke.specs.Operators.{basis}
-use Rattle.cox_hecke.proofs.SumLemmas.{same-is_same, not_same-is_same}
+use Rattle.cox_hecke.proofs.ListSums.{same-is_same, not_same-is_same}
 
 module _ (A : IntegerMatrix) (g : IsAdmissible A) where
   -- at w, by any word

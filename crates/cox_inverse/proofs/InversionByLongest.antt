@@ -22,17 +22,17 @@ use Rattle.cox_poly.specs.Products.{product, flip}
 use Rattle.cox_poly.specs.Multiples.{minus, scaled}
 use Rattle.cox_poly.proofs.Products.{product-zero, zero-product, one-product, product-one, product-scaled, HasDegreeAtMost-product}
 use Rattle.cox_rpoly.specs.RPolynomial.{r_polynomial}
-use Rattle.cox_rpoly.proofs.PolynomialLemmas.{r_polynomial-equal, r_polynomial-not_below}
+use Rattle.cox_rpoly.proofs.PolynomialsOfElements.{r_polynomial-equal, r_polynomial-not_below}
 use Rattle.cox_hecke.specs.Family.{Family, RespectsElements}
 use Rattle.cox_hecke.specs.Sign.{times_sign}
 use Rattle.cox_hecke.specs.Sums.{sum_over, bar_sum}
 use Rattle.cox_hecke.specs.Row.{IsRow, IsKazhdanLusztig}
 use Rattle.cox_hecke.specs.ListedElements.{is_same, occurrences, LiesBetween}
-use Rattle.cox_hecke.proofs.SumLemmas.{sum_over-equal, sum_over-none, sum_over-plus, sum_over-scaled, sum_over-one}
-use Rattle.cox_hecke.proofs.SumLemmas.{same_or_not, same-is_same, is_same-same, not_same-is_same}
+use Rattle.cox_hecke.proofs.ListSums.{sum_over-equal, sum_over-none, sum_over-plus, sum_over-scaled, sum_over-one}
+use Rattle.cox_hecke.proofs.ListSums.{same_or_not, same-is_same, is_same-same, not_same-is_same}
 use Rattle.cox_hecke.proofs.ElementLists.{Tells-ListsEach, below_list, below_or_not, sorted-once}
 use Rattle.cox_hecke.proofs.Balance.{flip-none, flip-plus, flip-minus, bar_sum-plus}
-use Rattle.cox_hecke.proofs.RowLemmas.{between_or_not, bar_sum-none, bar_sum-lists, row-bar, row-unique}
+use Rattle.cox_hecke.proofs.OneRow.{between_or_not, bar_sum-none, bar_sum-lists, row-bar, row-unique}
 use Rattle.cox_hecke.proofs.PolynomialValues.{kl_polynomial, kl_polynomial-row, kl_polynomial-value}
 use Rattle.cox_hecke.proofs.PolynomialValues.{kl_polynomial-same, kl_polynomial-outside}
 use Rattle.cox_inverse.specs.InverseRow.{signed_term, IsInverseRow, IsInverse}

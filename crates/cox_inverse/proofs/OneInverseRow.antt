@@ -13,7 +13,7 @@ use Rattle.cox_hecke.specs.Operators.{basis}
 use Rattle.cox_hecke.specs.Sums.{sum_over}
 use Rattle.cox_hecke.specs.Row.{IsRow}
 use Rattle.cox_hecke.specs.ListedElements.{occurrences, ListsEach, LiesBetween}
-use Rattle.cox_hecke.proofs.SumLemmas.{sum_over-equal, is_same-respects}
+use Rattle.cox_hecke.proofs.ListSums.{sum_over-equal, is_same-respects}
 use Rattle.cox_hecke.proofs.ElementLists.{Tells-ListsEach, below_list, below_or_not, sorted_between, sorted-once}
 use Rattle.cox_hecke.proofs.AllRows.{row_of, row_of-is}
 use Rattle.cox_inverse.specs.InverseRow.{signed_term, IsInverseRow}

@@ -22,10 +22,10 @@ use Rattle.cox_hecke.specs.Sums.{sum_over}
 use Rattle.cox_hecke.specs.Row.{IsRow}
 use Rattle.cox_hecke.specs.ListedElements.{is_same, occurrences, ListsEach, LiesBetween}
 use Rattle.cox_hecke.proofs.Signed.{respected}
-use Rattle.cox_hecke.proofs.SumLemmas.{sum_over-equal, sum_over-none, sum_over-swap, sum_over-one, sum_over-named, sum_over-lists}
-use Rattle.cox_hecke.proofs.SumLemmas.{same_or_not, same-is_same, not_same-is_same}
+use Rattle.cox_hecke.proofs.ListSums.{sum_over-equal, sum_over-none, sum_over-swap, sum_over-one, sum_over-named, sum_over-lists}
+use Rattle.cox_hecke.proofs.ListSums.{same_or_not, same-is_same, not_same-is_same}
 use Rattle.cox_hecke.proofs.ElementLists.{Tells-ListsEach, below_list, below_or_not, sorted-once}
-use Rattle.cox_hecke.proofs.RowLemmas.{between_or_not}
+use Rattle.cox_hecke.proofs.OneRow.{between_or_not}
 use Rattle.cox_hecke.proofs.TurnedR.{times_sign-none}
 use Rattle.cox_hecke.proofs.AllRows.{row_of, row_of-is, row_of-same, row_of-value}
 use Rattle.cox_inverse.specs.InverseRow.{IsInverseRow}

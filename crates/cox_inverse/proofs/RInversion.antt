@@ -24,7 +24,7 @@ use Rattle.cox_poly.specs.Multiples.{minus, scaled}
 use Rattle.cox_poly.proofs.Coefficients.{times_q_power-one}
 use Rattle.cox_poly.proofs.Products.{product-one}
 use Rattle.cox_rpoly.specs.RPolynomial.{r_polynomial}
-use Rattle.cox_rpoly.proofs.PolynomialLemmas.{r_polynomial-same, r_polynomial-equal, r_polynomial-not_below}
+use Rattle.cox_rpoly.proofs.PolynomialsOfElements.{r_polynomial-same, r_polynomial-equal, r_polynomial-not_below}
 use Rattle.cox_hecke.specs.Family.{Family, RespectsElements}
 use Rattle.cox_hecke.specs.Operators.{basis, shortens_left}
 use Rattle.cox_hecke.specs.Sums.{bar_sum}
@@ -33,13 +33,13 @@ use Rattle.cox_hecke.specs.ClosedLists.{IsClosedUnder}
 use Rattle.cox_hecke.specs.StepFamily.{step}
 use Rattle.cox_hecke.proofs.Descents.{Moves, left_moves, nat_lt-yes, yes-nat_lt, no-nat_lt, shortens_left-same, shortens_left-back, some_left_descent}
 use Rattle.cox_hecke.proofs.RPolynomials.{r-word, r-left_shorter, r-left_longer, r-left_moved}
-use Rattle.cox_hecke.proofs.SumLemmas.{same-is_same, is_same-respects}
+use Rattle.cox_hecke.proofs.ListSums.{same-is_same, is_same-respects}
 use Rattle.cox_hecke.proofs.ElementLists.{Tells-ListsEach, below_list, below_or_not, is_same-moved}
 use Rattle.cox_hecke.proofs.BarSums.{bar-shorter, bar-longer, step-shorter, step-longer}
 use Rattle.cox_hecke.proofs.Balance.{bar_sum-minus, bar_sum-times_q_power}
-use Rattle.cox_hecke.proofs.RowLemmas.{bar_sum-lists}
+use Rattle.cox_hecke.proofs.OneRow.{bar_sum-lists}
 use Rattle.cox_hecke.proofs.OperatorLaws.{unit-basis}
-use Rattle.cox_inverse.proofs.InverseRowExists.{basis-other}
+use Rattle.cox_inverse.proofs.BasisElements.{basis-other}
 use Rattle.cox_inverse.proofs.Signs.{sign}
 use Rattle.cox_inverse.proofs.SignedBasis.{signed_basis}
 

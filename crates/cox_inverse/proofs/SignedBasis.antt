@@ -12,9 +12,9 @@ use Rattle.cox_poly.specs.Products.{flip}
 use Rattle.cox_poly.specs.Multiples.{scaled}
 use Rattle.cox_hecke.specs.Family.{Family, RespectsElements}
 use Rattle.cox_hecke.specs.Operators.{basis}
-use Rattle.cox_hecke.proofs.SumLemmas.{same_or_not, is_same-respects}
+use Rattle.cox_hecke.proofs.ListSums.{same_or_not, is_same-respects}
 use Rattle.cox_hecke.proofs.Balance.{flip-none, flip-one}
-use Rattle.cox_inverse.proofs.InverseRowExists.{basis-own, basis-other, basis-respects}
+use Rattle.cox_inverse.proofs.BasisElements.{basis-own, basis-other, basis-respects}
 use Rattle.cox_inverse.proofs.Signs.{sign, sign-twice}
 use Rattle.cox_inverse.proofs.FlippedProducts.{flip-multiple}
 

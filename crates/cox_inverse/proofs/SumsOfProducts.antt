@@ -5,7 +5,7 @@ use Rattle.cox_poly.specs.Products.{product, flip}
 use Rattle.cox_hecke.specs.Family.{Family}
 use Rattle.cox_hecke.specs.Sums.{sum_over}
 use Rattle.cox_hecke.proofs.Balance.{flip-none, flip-plus}
-use Rattle.cox_hecke.proofs.SumLemmas.{sum_over-equal, sum_over-swap}
+use Rattle.cox_hecke.proofs.ListSums.{sum_over-equal, sum_over-swap}
 use Rattle.cox_inverse.proofs.ProductLaws.{product-associative, product-sum_over, sum_over-product}
 use Rattle.cox_inverse.proofs.FlippedProducts.{product-comm}
 

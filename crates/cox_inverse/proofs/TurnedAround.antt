@@ -15,10 +15,10 @@ use Rattle.cox_reflect.proofs.Roots.{descent-letter}
 use Rattle.cox_reflect.proofs.Bruhat.{below-same, below-refl, below-trans, below-push, below_identity, lift_down_right, lift_up_right}
 use Rattle.cox_poly.specs.Coefficients.{Coefficients, plus, times_q, times_q_less_one}
 use Rattle.cox_rpoly.specs.RPolynomial.{r_polynomial}
-use Rattle.cox_rpoly.proofs.PolynomialLemmas.{r_polynomial-same, r_polynomial-equal, r_polynomial-not_below}
+use Rattle.cox_rpoly.proofs.PolynomialsOfElements.{r_polynomial-same, r_polynomial-equal, r_polynomial-not_below}
 use Rattle.cox_hecke.proofs.Descents.{some_right_descent}
 use Rattle.cox_hecke.proofs.RPolynomials.{r-right_shorter, r-right_longer, r-right_moved}
-use Rattle.cox_hecke.proofs.SumLemmas.{same_or_not}
+use Rattle.cox_hecke.proofs.ListSums.{same_or_not}
 use Rattle.cox_inverse.specs.Longest.{IsLongest}
 use Rattle.cox_inverse.proofs.LongestElement.{right_descent-length, turned-push, turned-push_twice, turned-back, turned-same, turned-descent, turned-ascent}
 

@@ -18,15 +18,15 @@ use Rattle.cox_poly.specs.Multiples.{scaled}
 use Rattle.cox_poly.specs.Size.{HasDegreeAtMost}
 use Rattle.cox_poly.proofs.Products.{product-zero, zero-product, product-scaled}
 use Rattle.cox_rpoly.specs.RPolynomial.{r_polynomial}
-use Rattle.cox_rpoly.proofs.PolynomialLemmas.{r_polynomial-not_below}
+use Rattle.cox_rpoly.proofs.PolynomialsOfElements.{r_polynomial-not_below}
 use Rattle.cox_hecke.specs.Family.{Family, RespectsElements}
 use Rattle.cox_hecke.specs.Sums.{sum_over, bar_sum}
 use Rattle.cox_hecke.specs.Row.{IsRow}
 use Rattle.cox_hecke.specs.ListedElements.{is_same, occurrences, LiesBetween}
-use Rattle.cox_hecke.proofs.SumLemmas.{sum_over-equal, sum_over-none, sum_over-scaled}
-use Rattle.cox_hecke.proofs.SumLemmas.{same_or_not, same-is_same, not_same-is_same}
+use Rattle.cox_hecke.proofs.ListSums.{sum_over-equal, sum_over-none, sum_over-scaled}
+use Rattle.cox_hecke.proofs.ListSums.{same_or_not, same-is_same, not_same-is_same}
 use Rattle.cox_hecke.proofs.ElementLists.{below_or_not}
-use Rattle.cox_hecke.proofs.RowLemmas.{row-bar, row-long}
+use Rattle.cox_hecke.proofs.OneRow.{row-bar, row-long}
 use Rattle.cox_hecke.proofs.PolynomialValues.{kl_polynomial, kl_polynomial-is_row}
 use Rattle.cox_hecke.proofs.PolynomialValues.{kl_polynomial-same, kl_polynomial-outside}
 use Rattle.cox_inverse.specs.Longest.{IsLongest}
