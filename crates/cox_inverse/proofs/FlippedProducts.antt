@@ -1,4 +1,5 @@
--- Products of polynomials are commutative, and turned round they are the products of the factors turned round.
+-- Products of polynomials are commutative. Flipped, that is with 1/q for q and a power of q as a factor, they are the products of the flipped
+-- factors.
 use Rattle.std.proofs.Common.{◌≡◌, ℕ, zero, suc, ◌+◌, ◌-◌, ◌≤◌, ◌<◌, Bool, true, false, if◌then◌else◌, refl, ap, sym, ◌∙◌, ⊎_elim, arith}
 use Rattle.std.proofs.Common.{ℤ, pos, ◌+ℤ◌, ◌*ℤ◌}
 use Rattle.std.specs.Prelude.{nat_le}
@@ -16,20 +17,20 @@ use Rattle.cox_poly.proofs.Products.{product_of_none, one-product, plus-product,
 use Rattle.cox_hecke.proofs.Balance.{flip-plus}
 use Rattle.cox_inverse.proofs.ProductLaws.{product-parts}
 
--- ---- commutative
-
 -- the last term by itself
 product-last : (f h : Coefficients) (k : ℕ) → product f h (suc k) ≡ product f (without_constant h) k +ℤ (f (suc k) *ℤ h zero)
 product-last f h zero = refl
 product-last f h (suc k) = omega (arith, ints, product-last (without_constant f) h k)
 
+-- f h = h f
 pub product-comm : (f h : Coefficients) (k : ℕ) → product f h k ≡ product h f k
 product-comm f h zero = *ℤ_comm (f zero) (h zero)
 product-comm f h (suc k) =
     omega (arith, ints, product-last h f k, product-comm (without_constant f) h k, *ℤ_comm (f zero) (h (suc k)))
 
--- ---- turned round
+-- ---- flipped
 
+-- a multiple, flipped
 pub flip-multiple : (d : ℕ) (c : ℤ) (f : Coefficients) (k : ℕ) → flip d (scaled c f) k ≡ c *ℤ flip d f k
 flip-multiple d c f k = go (nat_le k d)
   where
@@ -58,7 +59,8 @@ times_q_power-multiple i c f k = go (nat_le i k)
 
 times_q_power-product : (i : ℕ) (f h : Coefficients) (k : ℕ) → product (times_q_power i f) h k ≡ times_q_power i (product f h) k
 times_q_power-product zero f h k =
-    ap (λ (p : Coefficients). product p h k) (times_q_power-zero f) ∙ ap (λ (p : Coefficients). p k) (sym (times_q_power-zero (product f h)))
+    ap (λ (p : Coefficients). product p h k) (times_q_power-zero f)
+    ∙ ap (λ (p : Coefficients). p k) (sym (times_q_power-zero (product f h)))
 times_q_power-product (suc i) f h k =
     ap (λ (p : Coefficients). product p h k) (times_q_power-suc i f) ∙ times_q-product (times_q_power i f) h k
     ∙ ap (λ (p : Coefficients). times_q p k) (λ j n. times_q_power-product i f h n j)
@@ -108,6 +110,7 @@ constant-product f h low = λ i k. at k i
     at zero = refl
     at (suc k) = omega (arith, ints, product_of_none (without_constant f) h (λ j. low (suc j) (omega arith)) k)
 
+-- the degrees add up
 pub flip-product : (n m d : ℕ) (f h : Coefficients) → d ≡ n + m → HasDegreeAtMost f n → HasDegreeAtMost h m
     → (k : ℕ) → flip d (product f h) k ≡ product (flip n f) (flip m h) k
 flip-product zero m d f h e low_f low_h k =

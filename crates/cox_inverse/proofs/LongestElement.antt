@@ -1,6 +1,7 @@
 -- The longest element w0: its images of the simple roots are nonpositive, so those of all nonnegative roots are. So a letter that does not
 -- shorten x shortens w0 x, and l(w0 x) + l(x) = l(w0).
-use Rattle.std.proofs.Common.{◌≡◌, ℕ, zero, suc, ◌+◌, ◌≤◌, List, [], ◌∷◌, ◌++◌, ℤ, pos, ◌-ℤ◌, ◌*ℤ◌, neg_ℤ, ◌≤ℤ◌, refl, ap, sym, ◌∙◌, ⊎_elim, arith}
+use Rattle.std.proofs.Common.{◌≡◌, ℕ, zero, suc, ◌+◌, ◌≤◌, List, [], ◌∷◌, ◌++◌, ℤ, pos, ◌-ℤ◌, ◌*ℤ◌, neg_ℤ, ◌≤ℤ◌}
+use Rattle.std.proofs.Common.{refl, ap, sym, ◌∙◌, ⊎_elim, arith}
 use Rattle.std.proofs.Math.Path.{fun_ext}
 use Rattle.std.proofs.lemmas.Bool.{cases_eq}
 use Rattle.std.proofs.lemmas.Int.{ints}
@@ -94,7 +95,8 @@ module _ (A : IntegerMatrix) (g : IsAdmissible A) where
       where
         of_product : IsNonnegative (act A y (simple_root s)) → SignOf A (longest ++ y) s → IsRightDescent A (longest ++ y) s
         of_product up (shorter e n) = omega (arith, e)
-        of_product up (longer e p) = absurd (root-apart A g (longest ++ y) s p (λ i. rw (act-append A longest y (simple_root s)) (turned i)))
+        of_product up (longer e p) =
+            absurd (root-apart A g (longest ++ y) s p (λ i. rw (act-append A longest y (simple_root s)) (turned i)))
           where
             turned : IsNonpositive (act A longest (act A y (simple_root s)))
             turned =
@@ -105,9 +107,11 @@ module _ (A : IntegerMatrix) (g : IsAdmissible A) where
         of_y (shorter e n) = absurd (not_down (omega (arith, e)))
         of_y (longer e p) = of_product p (sign_of A g (longest ++ y) s l)
 
+    -- w0 x by any word of x
     pub turned-same : {x y : List ℕ} → SameElement A x y → SameElement A (longest ++ x) (longest ++ y)
     turned-same e = same-append A g (same-refl A g longest) e
 
+    -- (w0 y) s = w0 (ys), as words
     pub turned-push : (y : List ℕ) (s : ℕ) → (longest ++ y) ++ s ∷ [] ≡ longest ++ (y ++ s ∷ [])
     turned-push y s = append_assoc longest y (s ∷ [])
 
@@ -140,6 +144,7 @@ module _ (A : IntegerMatrix) (g : IsAdmissible A) where
               word_length-equal A g (turned-push_twice x s),
             )
 
+    -- l(w0 x) + l(x) = l(w0)
     pub longest-length : (x : List ℕ) → word_length A (longest ++ x) + word_length A x ≡ word_length A longest
     longest-length x = lengths (word_length A x) x refl
 

@@ -1,5 +1,5 @@
--- Inversion of R: the sum of R(x,y) (-1)^l(y) R(y,w) is (-1)^l(w) where x = w, else 0. So bar is its own inverse. By induction on w: for a left
--- descent s of w the family of the (-1)^l(y) R(y,w) is q g - (1 + T(s)) g, where g is that of sw.
+-- Inversion of R: the sum of R(x,y) (-1)^l(y) R(y,w) over the y is (-1)^l(w) where x = w, else 0. So bar is its own inverse. By induction
+-- on w: for a left descent s of w the family of the (-1)^l(y) R(y,w) is q g - (1 + T(s)) g, where g is that of sw.
 use Rattle.std.proofs.Common.{◌≡◌, ℕ, zero, suc, Bool, true, false, not, if◌then◌else◌, List, [], ◌∷◌, ⊎_elim}
 use Rattle.std.proofs.Common.{ℤ, pos, ◌+ℤ◌, ◌-ℤ◌, ◌*ℤ◌, neg_ℤ, refl, ap, sym, ◌∙◌, subst, arith}
 use Rattle.std.proofs.lemmas.Int.{ints}
@@ -31,7 +31,8 @@ use Rattle.cox_hecke.specs.Sums.{bar_sum}
 use Rattle.cox_hecke.specs.ListedElements.{occurrences}
 use Rattle.cox_hecke.specs.ClosedLists.{IsClosedUnder}
 use Rattle.cox_hecke.specs.StepFamily.{step}
-use Rattle.cox_hecke.proofs.Descents.{Moves, left_moves, nat_lt-yes, yes-nat_lt, no-nat_lt, shortens_left-same, shortens_left-back, some_left_descent}
+use Rattle.cox_hecke.proofs.Descents.{Moves, left_moves, nat_lt-yes, yes-nat_lt, no-nat_lt, shortens_left-same, shortens_left-back}
+use Rattle.cox_hecke.proofs.Descents.{some_left_descent}
 use Rattle.cox_hecke.proofs.RPolynomials.{r-word, r-left_shorter, r-left_longer, r-left_moved}
 use Rattle.cox_hecke.proofs.ListSums.{same-is_same, is_same-respects}
 use Rattle.cox_hecke.proofs.ElementLists.{Tells-ListsEach, below_list, below_or_not, is_same-moved}
@@ -76,6 +77,7 @@ sum_longer c a b f zero e h = omega (arith, linears, neg_mul c (f zero), none c 
 sum_longer c a b f (suc k) e h = omega (arith, linears, at e k, neg_mul c (f (suc k)), none c (f (suc k)) (at h (suc k)))
 
 module _ (A : IntegerMatrix) (g : IsAdmissible A) where
+  -- by any word of y; and 0 unless y ≤ w
   pub signed_r-respects : (w : List ℕ) → RespectsElements A (signed_r A w)
   signed_r-respects w x y e k = rw (word_length-equal A g e, r_polynomial-same A g e (same-refl A g w)) refl
 
@@ -226,7 +228,8 @@ module _ (A : IntegerMatrix) (g : IsAdmissible A) where
     where
       only : Lists w ([] ∷ [])
       only y b = rw (same-is_same A g (empty_same A g y (omega (arith, z, below-length A g b)))) refl
-  inversion (suc n) w z words once x k = by (some_left_descent A g w (omega (arith, z))) (λ v e words once x k. inversion n v e words once x k)
+  inversion (suc n) w z words once x k =
+      by (some_left_descent A g w (omega (arith, z))) (λ v e words once x k. inversion n v e words once x k)
     where
       by : (s : ℕ) × IsLeftDescent A w s
           → ((v : List ℕ) → word_length A v ≡ n → (words : List (List ℕ)) → Lists v words

@@ -1,4 +1,4 @@
--- The polynomials P(w0 w, w0 z), for the longest element w0: where they are 0 and 1, their degrees, and what the rows of the w0 z say of them.
+-- The polynomials P(w0 w, w0 z), for the longest element w0: where they are 0 and 1, their degrees, and what the row of w0 z says of them.
 use Rattle.std.proofs.Common.{◌≡◌, ℕ, ◌+◌, ◌-◌, ◌*◌, ◌≤◌, ◌<◌, List, [], ◌∷◌, ◌++◌, map}
 use Rattle.std.proofs.Common.{⊎_elim, ℤ, pos, ◌*ℤ◌, refl, ap, sym, ◌∙◌, arith}
 use Rattle.std.proofs.lemmas.Int.{ints}
@@ -54,6 +54,7 @@ signed_back A g longest words w z = sum_over words (λ y. product (r_polynomial 
 module _ (A : IntegerMatrix) (g : IsAdmissible A) where
   -- ---- P(x,z)
 
+  -- for each z a row; 0 unless x ≤ z, and 1 where they are equal
   pub kl-row : (z : List ℕ) → IsRow A z (λ x. kl_polynomial A g x z)
   kl-row z = kl_polynomial-is_row A g z
 
@@ -71,24 +72,28 @@ module _ (A : IntegerMatrix) (g : IsAdmissible A) where
       (cases_lt (word_length A x) (word_length A z))
 
   module _ (longest : List ℕ) (is : IsLongest A longest) where
+    -- by any word of z
     pub turned-respects : (w : List ℕ) → RespectsElements A (turned A g longest w)
     turned-respects w x y e k =
         ap (λ (f : Coefficients). f k) (kl_polynomial-same A g (same-refl A g (longest ++ w)) (turned-same A g longest is e))
 
+    -- by any word of w
     pub turned-first : {v w : List ℕ} (z : List ℕ) → SameElement A v w → turned A g longest v z ≡ turned A g longest w z
     turned-first z e = kl_polynomial-same A g (turned-same A g longest is e) (same-refl A g (longest ++ z))
 
+    -- 0 unless z ≤ w, and 1 where they are equal
     pub turned-none : (w z : List ℕ) → (IsBelow A z w → ⊥) → turned A g longest w z ≡ zero_polynomial
     turned-none w z n = kl-none (longest ++ w) (longest ++ z) (λ b. n (below-turned A g longest is z w b))
 
     pub turned-one : {w z : List ℕ} → SameElement A w z → turned A g longest w z ≡ one_polynomial
     turned-one e = kl-one (turned-same A g longest is e)
 
+    -- its degree is below (l(w) - l(z)) / 2, or it is constant
     pub turned-low : (w z : List ℕ) (n : ℕ) → word_length A w ≤ word_length A z + 2 * n + 2 → HasDegreeAtMost (turned A g longest w z) n
     turned-low w z n near =
         kl-low (longest ++ w) (longest ++ z) n (omega (arith, near, longest-length A g longest is w, longest-length A g longest is z))
 
-    -- ---- their row, turned A g longest round
+    -- ---- the row of w0 z
 
     is_same-turned : (x y : List ℕ) → is_same A x (longest ++ y) ≡ is_same A (longest ++ x) y
     is_same-turned x y = ⊎_elim
@@ -117,8 +122,10 @@ module _ (A : IntegerMatrix) (g : IsAdmissible A) where
               (turned-r A g longest is y w),
         )
 
+    -- the condition of rows, at w0 w
     pub turned-bar : (w z : List ℕ) (words : List (List ℕ)) → NamesBelow A w words → IsBelow A z w → (k : ℕ)
-        → flip (word_length A w - word_length A z) (turned A g longest w z) k ≡ sum_over words (λ y. product (r_polynomial A y w) (turned A g longest y z)) k
+        → flip (word_length A w - word_length A z) (turned A g longest w z) k
+        ≡ sum_over words (λ y. product (r_polynomial A y w) (turned A g longest y z)) k
     turned-bar w z words once b k =
         ap (λ (d : ℕ). flip d (turned A g longest w z) k) difference
         ∙ row-bar A g (longest ++ z) (λ x. kl_polynomial A g x (longest ++ z)) (kl-row (longest ++ z)) (longest ++ w)
@@ -132,10 +139,12 @@ module _ (A : IntegerMatrix) (g : IsAdmissible A) where
         between y c =
             occurrences-turned y words
             ∙ once (longest ++ y)
-            (below-same A g (same-refl A g (longest ++ y)) (turned-back A g longest is w) (turned-below A g longest is (longest ++ w) y c.above))
+            (below-same A g (same-refl A g (longest ++ y)) (turned-back A g longest is w)
+            (turned-below A g longest is (longest ++ w) y c.above))
 
     -- ---- with signs
 
+    -- by any word of z; 0 unless z ≤ w; its degree; the condition of rows
     pub signed_turned-respects : (w : List ℕ) → RespectsElements A (signed_turned A g longest w)
     signed_turned-respects w x y e k =
         rw (word_length-equal A g e) (ap (λ (a : ℤ). sign (word_length A y) *ℤ a) (turned-respects w x y e k))
@@ -144,7 +153,8 @@ module _ (A : IntegerMatrix) (g : IsAdmissible A) where
     signed_turned-none w z n =
         ap (scaled (sign (word_length A z))) (turned-none w z n) ∙ (λ i k. times_zero (sign (word_length A z)) i)
 
-    pub signed_turned-low : (w z : List ℕ) (n : ℕ) → word_length A w ≤ word_length A z + 2 * n + 2 → HasDegreeAtMost (signed_turned A g longest w z) n
+    pub signed_turned-low : (w z : List ℕ) (n : ℕ) → word_length A w ≤ word_length A z + 2 * n + 2
+        → HasDegreeAtMost (signed_turned A g longest w z) n
     signed_turned-low w z n near k above =
         ap (λ (a : ℤ). sign (word_length A z) *ℤ a) (turned-low w z n near k above) ∙ times_zero (sign (word_length A z))
 
@@ -158,8 +168,11 @@ module _ (A : IntegerMatrix) (g : IsAdmissible A) where
         (λ y. product-scaled (sign (word_length A z)) (r_polynomial A y w) (turned A g longest y z) k)
         ∙ sum_over-scaled words (sign (word_length A z)) (λ y. product (r_polynomial A y w) (turned A g longest y z)) k)
 
-    pub signed_back-none : (w z : List ℕ) (words : List (List ℕ)) → (IsBelow A z w → ⊥) → signed_back A g longest words w z ≡ zero_polynomial
-    signed_back-none w z words n = λ i k. sum_over-none words (λ y. product (r_polynomial A y w) (signed_turned A g longest y z)) k (term k) i
+    -- the sum in it is 0 unless z ≤ w
+    pub signed_back-none : (w z : List ℕ) (words : List (List ℕ)) → (IsBelow A z w → ⊥)
+        → signed_back A g longest words w z ≡ zero_polynomial
+    signed_back-none w z words n = λ i k. sum_over-none words (λ y. product (r_polynomial A y w) (signed_turned A g longest y z)) k
+        (term k) i
       where
         term : (k : ℕ) (y : List ℕ) → product (r_polynomial A y w) (signed_turned A g longest y z) k ≡ pos 0
         term k y = ⊎_elim
