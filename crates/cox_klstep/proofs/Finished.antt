@@ -1,7 +1,7 @@
 -- When each member up to w is done, the row is that of w: what comes after w is not below w.
-use Rattle.std.proofs.Common.{ℕ, ◌+◌, ◌<◌, ◌≤◌, List, length, ⊎_elim, arith, ◌≡◌}
+use Rattle.std.proofs.Common.{ℕ, ◌+◌, ◌<◌, ◌≤◌, List, [], length, ⊎_elim, ap, arith, ◌≡◌}
 use Rattle.std.proofs.lemmas.Bool.{cases_lt}
-use Rattle.cox_base.specs.IntegerMatrix.{IntegerMatrix}
+use Rattle.cox_base.specs.IntegerMatrix.{IntegerMatrix, integer_matrix}
 use Rattle.cox_base.specs.Admissible.{IsAdmissible}
 use Rattle.std.specs.Prelude.{ℤ, pos, unsigned_abs, ◌<ℤ◌, ◌≤ℤ◌}
 use Rattle.std.proofs.lemmas.Int.{ints}
@@ -9,13 +9,17 @@ use Rattle.cox_base.specs.Bruhat.{IsBelow}
 use Rattle.cox_hecke.proofs.AllRows.{mu-unique}
 use Rattle.cox_hecke.proofs.Descended.{mu-below}
 use Rattle.cox_hecke.proofs.ElementLists.{below_or_not}
-use Rattle.cox_context.specs.Closed.{IsClosed}
+use Rattle.cox_context.specs.Closed.{Elements, IsClosed}
 use Rattle.cox_context.specs.Numbers.{word_at}
 use Rattle.cox_row.specs.Extremal.{IsExtremal}
 use Rattle.cox_row.specs.ExtremalNumbers.{AreExtremal}
 use Rattle.cox_row.specs.Mus.{AreMus}
 use Rattle.cox_row.proofs.Raising.{later-not_below}
-use Rattle.cox_klstep.specs.Drafts.{AreBegun, AreNoted}
+use Rattle.cox_klstep.specs.declared.making.Draft.{Draft}
+use Rattle.cox_klstep.specs.declared.making.Target.{Target}
+use Rattle.cox_klstep.specs.TargetOf.{IsTarget}
+use Rattle.cox_klstep.specs.TablesOf.{AreCandidates}
+use Rattle.cox_klstep.specs.Drafts.{AreBegun, AreNoted, IsUnderway}
 use Rattle.cox_row.specs.Polynomials.{polynomial_at, HavePolynomials}
 use Rattle.cox_row.specs.Rising.{number_at}
 use Rattle.cox_row.specs.Mus.{value_at}
@@ -25,7 +29,9 @@ use Rattle.cox_row.specs.declared.row.TheConstants.{MU_LIMIT}
 use Rattle.cox_klstep.specs.Limits.{IsLargeMu}
 use Rattle.cox_klstep.specs.LargeMembers.{IsWithinLimit}
 use Rattle.cox_klstep.specs.Faults.{IsFault, IsNarrowFault, IsFirstLargeMu, IsAboveAt}
+use Rattle.cox_klstep.proofs.Candidates.{AreLeft, left-end}
 use Rattle.cox_klstep.proofs.LargeCoefficients.{outside-none, within-none}
+use Rattle.cox_klstep.proofs.LargeFound.{large-none}
 use Rattle.cox_klstep.specs.declared.fault.StepFault.{StepFault}
 use Rattle.cox_klstep.specs.declared.fault.StepFault.TheVariants.{Coefficient, Mu, NoMemory}
 
@@ -75,6 +81,34 @@ module _ (A : IntegerMatrix) (g : IsAdmissible A) (members : List (List ℕ)) (c
       (there.stands.same _ (have.value there.k there.within)) (small (number_at places there.k) (have.placed there.k l)) k c)
       (λ (n : IsBelow A x (word_at members i) → ⊥). outside-none A g limit x (word_at members i) least n k c)
       (below_or_not A g x (word_at members i))
+
+-- when no candidate is left, and no coefficient above the limit was found: the extremal members are all there, each P(x,w) is within the
+-- limit, and w itself is done
+pub record IsFinished (e : Elements) (i : ℕ) (limit : ℤ) (draft : Draft) : Type 0 where
+  pub done : i < draft.done
+  pub extremal : AreExtremal (integer_matrix e.matrix) e.members (word_at e.members i) draft.values.extremal.items
+  pub within : (x : List ℕ) → IsWithinLimit (integer_matrix e.matrix) limit x (word_at e.members i)
+
+module _ (e : Elements) (g : IsAdmissible (integer_matrix e.matrix)) (closed : IsClosed (integer_matrix e.matrix) e.members)
+    (target : Target) (is : IsTarget e target) (candidates : List ℕ) (are : AreCandidates e (target.member + 1) target.left candidates)
+    (limit : ℤ) (least : pos 0 ≤ℤ limit) (draft : Draft) where
+  pub finished : (place : ℕ) → length candidates ≤ place
+      → AreLeft (integer_matrix e.matrix) e.members target.member candidates place draft.done
+      → draft.large.numbers.items ≡ [] → IsUnderway e target.member limit draft → IsFinished e target.member limit draft
+  finished place all left none underway =
+      let A = integer_matrix e.matrix in
+      let i = target.member in
+      let done = left-end e g target is candidates are place draft.done all left in
+      let extremal = finished-extremal A g e.members closed i is.within draft.done done left.bound limit draft.values.extremal.items
+      draft.values.places.items draft.values.pool
+      (λ x. large-none A e.members (word_at e.members i) limit draft.large.numbers.items draft.large.coefficients.items draft.done x
+      (ap length none) underway.large) underway.begun
+      in record {
+        done = done;
+        extremal = extremal;
+        within = none-large A g e.members closed i is.within limit least draft.values.extremal.items draft.values.places.items
+            draft.values.pool extremal underway.begun.polynomials underway.begun.small;
+      }
 
 -- the first value of mu that is too large
 first-above : (A : IntegerMatrix) (g : IsAdmissible A) (members : List (List ℕ)) (w : List ℕ) (limit : ℤ) (end : ℕ)

@@ -8,7 +8,7 @@ use Rattle.cox_row.specs.Rising.{number_at}
 use Rattle.cox_klstep.specs.declared.step.Descent.{Descent}
 use Rattle.cox_klstep.specs.StepOf.{IsDescentAt}
 use Rattle.cox_klstep.specs.NeedsOf.{AreNeeds}
-use Rattle.cox_klstep.proofs.NeededRows.{shorter-needed, correction-needed}
+use Rattle.cox_klstep.proofs.NeededRows.{shorter-needed, correction-needed, correction-before}
 use Rattle.cox_workers.specs.Work.{IsNeededAt}
 
 module _ (e : Elements) (g : IsAdmissible (integer_matrix e.matrix)) (closed : IsClosed (integer_matrix e.matrix) e.members) (d : Descent)
@@ -17,7 +17,15 @@ module _ (e : Elements) (g : IsAdmissible (integer_matrix e.matrix)) (closed : I
   lower-needed_at =
       subst (λ n. IsNeededAt e n d.lower) number (record { within = is.lower_within; needed = shorter-needed e g closed d is })
 
-  pub correction-needed_at : {numbers : List ℕ} → AreNeeds (integer_matrix e.matrix) e.members d.letter (word_at e.members d.member) numbers
-      → {k : ℕ} → k < length numbers → IsNeededAt e i (number_at numbers k)
-  correction-needed_at {numbers} are {k} l = subst (λ n. IsNeededAt e n (number_at numbers k)) number
-      (record { within = are.within k l; needed = correction-needed e g closed d is numbers are k l })
+  -- a correction is one of a list with the same numbers
+  module _ {numbers list : List ℕ} (same : list ≡ numbers)
+      (are : AreNeeds (integer_matrix e.matrix) e.members d.letter (word_at e.members d.member) numbers) {k : ℕ} (l : k < length list) where
+    listed : AreNeeds (integer_matrix e.matrix) e.members d.letter (word_at e.members d.member) list
+    listed = rw same are
+
+    pub correction-needed_at : IsNeededAt e i (number_at list k)
+    correction-needed_at = subst (λ n. IsNeededAt e n (number_at list k)) number
+        (record { within = listed.within k l; needed = correction-needed e g closed d is list listed k l })
+
+    pub correction-before_at : number_at list k < i
+    correction-before_at = rw number at (correction-before e g closed d is list listed k l)

@@ -2,16 +2,16 @@
 use Rattle.std.proofs.Common.{◌≡◌, ◌<◌, ◌≤◌, ⊎_elim, refl, ap, ◌∙◌, subst, rules, arith}
 use Rattle.std.proofs.lemmas.Bool.{cases_lt}
 use Rattle.std.specs.Prelude.{IfErr}
-use Rattle.cox_klstep.proofs.NeededRows.{listed-needs, identity-needs, lower-before, correction-before}
+use Rattle.cox_klstep.proofs.NeededRows.{listed-needs, identity-needs, lower-before}
 use Rattle.cox_row.specs.Rising.{number_at}
 use Rattle.cox_claims.specs.Knowledge.{looked}
 use Rattle.cox_claims.specs.Seats.{view_of, HasSeen}
 use Rattle.cox_row_store.specs.Stores.{limit_of}
 use Rattle.cox_workers.proofs.SeatSteps.{needs-map, unmade_by-needed, unmade_err, looked_void, published_kept, voided_kept, unmade_missing}
 use Rattle.cox_workers.proofs.Working.{ready_still, work-trans, work-needed, work-tables, work-list}
-use Rattle.cox_workers.proofs.NeedsByNumber.{lower-needed_at, correction-needed_at}
+use Rattle.cox_workers.proofs.NeedsByNumber.{lower-needed_at, correction-needed_at, correction-before_at}
 use Rattle.cox_workers.specs.Shelves.{IsOn}
-use Rattle.cox_workers.specs.Work.{IsNeededAt, IsRowMissing}
+use Rattle.cox_workers.specs.Work.{IsRowMissing}
 use Rattle.cox_klstep.specs.NeedsOf.{AreNeeds}
 use Rattle.cox_base.specs.IntegerMatrix.{integer_matrix}
 use Rattle.cox_context.specs.Numbers.{word_at}
@@ -139,16 +139,15 @@ take_in-returns-in_err-needs-clause-missing g t c =
 
 pub take_in-obtain-requires-in-corrections : goal.take_in-obtain-requires-in-corrections
 take_in-obtain-requires-in-corrections g t c = λ κs outlives.
-    let e = c.args.self.now.context.now in
-    let d = c.of-descent.result in
-    let items = c.deref-u-items.result.now in
-    let are : AreNeeds (integer_matrix e.matrix) e.members d.letter (word_at e.members d.member) items =
-    rw c.deref-u-items.ensures.value c.in_ok-needs.ensures in
-    let before = correction-before e c.len-len.ensures.admissible c.len-len.ensures.closed d c.of-descent.ensures.descent items are
-    c.corrections.u-index c.corrections-test.true
+    let before = correction-before_at _
+    c.len-len.ensures.admissible c.len-len.ensures.closed c.of-descent.result c.of-descent.ensures.descent c.of-descent.ensures.number
+    c.deref-u-items.ensures.value c.in_ok-needs.ensures c.corrections-test.true in
+    let needed = correction-needed_at _
+    c.len-len.ensures.admissible c.len-len.ensures.closed c.of-descent.result c.of-descent.ensures.descent c.of-descent.ensures.number
+    c.deref-u-items.ensures.value c.in_ok-needs.ensures c.corrections-test.true
     in (
-      omega (arith, before, c.of-descent.ensures.number, c.decreases),
-      (outlives.0, (outlives.1, (c.corrections.invariant.work.ready, are.within c.corrections.u-index c.corrections-test.true))),
+      omega (arith, before, c.decreases),
+      (outlives.0, (outlives.1, (c.corrections.invariant.work.ready, needed.within))),
     )
 
 pub take_in-corrections-init : goal.take_in-corrections-init
@@ -165,28 +164,17 @@ take_in-corrections-init g t c =
 
 pub take_in-returns-in_err-obtain-2-clause-work : goal.take_in-returns-in_err-obtain-2-clause-work
 take_in-returns-in_err-obtain-2-clause-work g t c =
-    let e = c.args.self.now.context.now in
-    let d = c.of-descent.result in
-    let items = c.deref-u-items.result.now in
-    let u = number_at items c.corrections.u-index in
-    let are : AreNeeds (integer_matrix e.matrix) e.members d.letter (word_at e.members d.member) items =
-    rw c.deref-u-items.ensures.value c.in_ok-needs.ensures in
-    let needed : IsNeededAt e c.args.i u =
-    correction-needed_at e c.len-len.ensures.admissible c.len-len.ensures.closed d c.of-descent.ensures.descent
-    c.of-descent.ensures.number are c.corrections-test.true
+    let needed = correction-needed_at _
+    c.len-len.ensures.admissible c.len-len.ensures.closed c.of-descent.result c.of-descent.ensures.descent c.of-descent.ensures.number
+    c.deref-u-items.ensures.value c.in_ok-needs.ensures c.corrections-test.true
     in work-trans c.corrections.invariant.work (work-needed c.len-len.ensures.admissible needed c.obtain-in-corrections.ensures.work)
 
 pub take_in-corrections-preserved : goal.take_in-corrections-preserved
 take_in-corrections-preserved g t c =
-    let e = c.args.self.now.context.now in
-    let d = c.of-descent.result in
     let items = c.deref-u-items.result.now in
-    let u = number_at items c.corrections.u-index in
-    let are : AreNeeds (integer_matrix e.matrix) e.members d.letter (word_at e.members d.member) items =
-    rw c.deref-u-items.ensures.value c.in_ok-needs.ensures in
-    let needed : IsNeededAt e c.args.i u =
-    correction-needed_at e c.len-len.ensures.admissible c.len-len.ensures.closed d c.of-descent.ensures.descent
-    c.of-descent.ensures.number are c.corrections-test.true
+    let needed = correction-needed_at _
+    c.len-len.ensures.admissible c.len-len.ensures.closed c.of-descent.result c.of-descent.ensures.descent c.of-descent.ensures.number
+    c.deref-u-items.ensures.value c.in_ok-needs.ensures c.corrections-test.true
     in let more = work-needed c.len-len.ensures.admissible needed c.obtain-in-corrections.ensures.work
     in record {
       work = work-trans c.corrections.invariant.work more;
@@ -203,14 +191,10 @@ pub take_in-returns-in_err-obtain-2-clause-missing : goal.take_in-returns-in_err
 take_in-returns-in_err-obtain-2-clause-missing g t c =
     let limit = limit_of c.args.self.now.store.now in
     let e = c.args.self.now.context.now in
-    let d = c.of-descent.result in
-    let items = c.deref-u-items.result.now in
-    let u = number_at items c.corrections.u-index in
-    let are : AreNeeds (integer_matrix e.matrix) e.members d.letter (word_at e.members d.member) items =
-    rw c.deref-u-items.ensures.value c.in_ok-needs.ensures in
-    let needed : IsNeededAt e c.args.i u =
-    correction-needed_at e c.len-len.ensures.admissible c.len-len.ensures.closed d c.of-descent.ensures.descent
-    c.of-descent.ensures.number are c.corrections-test.true
+    let u = number_at c.deref-u-items.result.now c.corrections.u-index in
+    let needed = correction-needed_at _
+    c.len-len.ensures.admissible c.len-len.ensures.closed c.of-descent.result c.of-descent.ensures.descent c.of-descent.ensures.number
+    c.deref-u-items.ensures.value c.in_ok-needs.ensures c.corrections-test.true
     in let why : IfErr c.from_residual-in_err-obtain-2.result (IsRowMissing e limit u c.corrections.seat c.obtain-in-corrections.new.seat) =
     search rules
     in unmade_by-needed e c.len-len.ensures.admissible limit c.args.i u c.args.seat.now c.corrections.seat c.obtain-in-corrections.new.seat

@@ -1,14 +1,10 @@
 -- The worker's steps.
-use Rattle.std.proofs.Common.{◌≡◌, ℕ, ◌<◌, length, Option, Some, None, IfSome, subst, arith}
+use Rattle.std.proofs.Common.{ℕ, Option, Some, None, IfSome, arith}
 use Rattle.std.specs.Option.{option_or}
-use Rattle.cox_row.specs.Rising.{number_at}
-use Rattle.cox_base.specs.IntegerMatrix.{integer_matrix}
-use Rattle.cox_context.specs.Numbers.{word_at}
-use Rattle.cox_klstep.specs.NeedsOf.{AreNeeds}
-use Rattle.cox_klstep.proofs.NeededRows.{lower-before, correction-before}
+use Rattle.cox_klstep.proofs.NeededRows.{lower-before}
 use Rattle.cox_workers.specs.Work.{IsNeededAt}
 use Rattle.cox_workers.proofs.Working.{work-trans, work-same, work-again, work-lower, work-needed, work-list}
-use Rattle.cox_workers.proofs.NeedsByNumber.{correction-needed_at}
+use Rattle.cox_workers.proofs.NeedsByNumber.{correction-needed_at, correction-before_at}
 use Rattle.cox_workers.proofs.bench.Bench.+supply.Goals as goal
 
 -- what holds of two values that may be there holds of the first one that is
@@ -88,34 +84,24 @@ supply-corrections-init g t c =
 pub supply-provide-requires : goal.supply-provide-requires
 supply-provide-requires g t c =
     λ κs outlives.
-    let e = c.args.self.now.context.now in
-    let d = c.of-descent.result in
-    let items = c.needs.new.numbers.items in
-    let slice = c.as_slice.result.now in
-    let are : AreNeeds (integer_matrix e.matrix) e.members d.letter (word_at e.members d.member) items = c.in-Ok.ensures in
-    let place : (k : ℕ) × (k < length items) × (c.number_at_turn-u.result ≡ number_at items k) =
-    subst (λ list. (k : ℕ) × (k < length list) × (c.number_at_turn-u.result ≡ number_at list k)) c.as_slice.ensures.value
-    c.number_at_turn-u.ensures.some in
-    let before = correction-before e c.len-len.ensures.admissible c.len-len.ensures.closed d c.of-descent.ensures.descent items are
-    place.0 place.1
+    let turn = c.number_at_turn-u.ensures.some in
+    let before = correction-before_at _
+    c.len-len.ensures.admissible c.len-len.ensures.closed c.of-descent.result c.of-descent.ensures.descent c.of-descent.ensures.number
+    c.as_slice.ensures.value c.in-Ok.ensures turn.1 in
+    let needed = correction-needed_at _
+    c.len-len.ensures.admissible c.len-len.ensures.closed c.of-descent.result c.of-descent.ensures.descent c.of-descent.ensures.number
+    c.as_slice.ensures.value c.in-Ok.ensures turn.1
     in (
-      omega (arith, before, place.2, c.of-descent.ensures.number, c.decreases),
-      (outlives.0, (outlives.1, (c.corrections.invariant.work.ready, rw place.2 (are.within place.0 place.1)))),
+      omega (arith, before, turn.2, c.decreases),
+      (outlives.0, (outlives.1, (c.corrections.invariant.work.ready, rw turn.2 needed.within))),
     )
 
 pub supply-corrections-preserved : goal.supply-corrections-preserved
 supply-corrections-preserved g t c =
-    let e = c.args.self.now.context.now in
-    let d = c.of-descent.result in
-    let items = c.needs.new.numbers.items in
-    let slice = c.as_slice.result.now in
-    let are : AreNeeds (integer_matrix e.matrix) e.members d.letter (word_at e.members d.member) items = c.in-Ok.ensures in
-    let place : (k : ℕ) × (k < length items) × (c.number_at_turn-u.result ≡ number_at items k) =
-    subst (λ list. (k : ℕ) × (k < length list) × (c.number_at_turn-u.result ≡ number_at list k)) c.as_slice.ensures.value
-    c.number_at_turn-u.ensures.some in
-    let needed : IsNeededAt e c.args.i c.number_at_turn-u.result = rw place.2
-    (correction-needed_at e c.len-len.ensures.admissible c.len-len.ensures.closed d c.of-descent.ensures.descent
-    c.of-descent.ensures.number are place.1)
+    let turn = c.number_at_turn-u.ensures.some in
+    let needed : IsNeededAt c.args.self.now.context.now c.args.i c.number_at_turn-u.result = rw turn.2 (correction-needed_at _
+    c.len-len.ensures.admissible c.len-len.ensures.closed c.of-descent.result c.of-descent.ensures.descent c.of-descent.ensures.number
+    c.as_slice.ensures.value c.in-Ok.ensures turn.1)
     in record {
       work = work-trans c.corrections.invariant.work (work-needed c.len-len.ensures.admissible needed c.provide.ensures.work);
       claimed = rw c.or-claimed.ensures
