@@ -29,7 +29,7 @@ pub mod RowSums
 -- the texts of single polynomials of a row
 pub mod RowTexts
 -- what is kept
-pub mod KeptLemmas
+pub mod KeptRows
 -- totals that `work` sums up
 pub mod PolynomialTotals
 pub mod RowTotals

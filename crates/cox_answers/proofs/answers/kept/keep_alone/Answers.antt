@@ -5,7 +5,7 @@ use Rattle.cox_base.specs.IntegerMatrix.{integer_matrix}
 use Rattle.cox_base.proofs.AdmissibleMatrices.{IsAdmissible-integer_matrix}
 use Rattle.cox_answers.specs.SessionLimits.{limits_of}
 use Rattle.cox_answers.proofs.Unless.{large-allowed}
-use Rattle.cox_answers.proofs.KeptLemmas.{interval-member}
+use Rattle.cox_answers.proofs.KeptRows.{interval-member}
 use Rattle.cox_answers.proofs.answers.kept.keep_alone.Goals as goal
 
 pub unreachable-requires : goal.unreachable-requires
