@@ -8,7 +8,7 @@
 //! - `polynomial`: R of two words
 //! - `layers`: the values along a reduced word
 //! - `elements`: elements, by heights or by normal forms, and what is asked of them
-//! - `terms`: polynomials of a small degree
+//! - `terms`: polynomials of a small degree, and a step of the recursion
 //! - `r_fault`: why R is not given
 #![tactic(auto)]
 
@@ -19,7 +19,7 @@ pub mod laws;
 mod layers;
 mod polynomial;
 mod r_fault;
-mod terms;
+pub mod terms;
 
 pub use polynomial::r;
 pub use r_fault::RFault;
