@@ -1,5 +1,5 @@
 -- A product that is added term by term: where the sum stands after k terms, and how large it becomes.
-use Rattle.std.proofs.Common.{◌≡◌, ℕ, suc, ◌+◌, ◌*◌, ◌^◌, ◌≤◌, List, ℤ, unsigned_abs, ◌+ℤ◌, ◌*ℤ◌, refl, ap, sym, ◌∙◌, arith}
+use Rattle.std.proofs.Common.{◌≡◌, ℕ, suc, ◌+◌, ◌*◌, ◌^◌, ◌≤◌, List, ℤ, pos, unsigned_abs, ◌+ℤ◌, ◌*ℤ◌, refl, ap, sym, ◌∙◌, arith}
 use Rattle.std.proofs.lemmas.Int.{ints}
 use Rattle.cox_poly.specs.Coefficients.{Coefficients, plus}
 use Rattle.cox_poly.specs.Polynomial.{coefficient, coefficient_after, HasDegreeBelow}
@@ -7,6 +7,7 @@ use Rattle.cox_poly.specs.Products.{product, times_q_power}
 use Rattle.cox_poly.proofs.Products.{terms_below, terms_below-product, terms_below-all, product_of_none}
 use Rattle.cox_poly.proofs.Norms.{absolute_after}
 use Rattle.cox_rowcheck.specs.SmallPolynomials.{IsSmall}
+use Rattle.cox_rowcheck.specs.MemberSums.{HasAdded}
 
 -- the terms of r below q^k, times p, were added
 pub record IsAdded (old new r p : List ℤ) (k : ℕ) : Type 0 where
@@ -54,3 +55,10 @@ pub added-all : (first new r p : List ℤ) (n : ℕ) → IsAdded first new r p n
 added-all first new r p n h low j =
     h.value j ∙ ap (λ (f : Coefficients). plus (coefficient first) (product f (coefficient p)) j)
     (λ i k. terms_below-all (coefficient r) n low k i)
+
+-- where r is 0 nothing is added
+pub added-nothing : (old new r p : List ℤ) → new ≡ old → ((k : ℕ) → coefficient r k ≡ pos 0) → HasAdded old new r p
+added-nothing old new r p same none = rw same record {
+  value = λ k. omega (arith, ints, product_of_none (coefficient r) (coefficient p) none k);
+  grown = λ k. omega arith;
+}

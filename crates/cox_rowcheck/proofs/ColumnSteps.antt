@@ -1,5 +1,5 @@
 -- From the column of v to that of v t, for a letter t that makes v longer: the recursion of R on the right, and one entry.
-use Rattle.std.proofs.Common.{◌≡◌, ℕ, zero, suc, ◌^◌, ◌<◌, ◌≤◌, List, [], ◌∷◌, ◌++◌, length, Contains, ℤ}
+use Rattle.std.proofs.Common.{◌≡◌, ℕ, zero, suc, ◌+◌, ◌^◌, ◌<◌, ◌≤◌, List, [], ◌∷◌, ◌++◌, length, Contains, ℤ, pos}
 use Rattle.std.proofs.Common.{ap, sym, ◌∙◌, arith, lit≤}
 use Rattle.std.proofs.lemmas.Int.{ints}
 use Rattle.cox_base.specs.Matrix.{IsLetter}
@@ -11,6 +11,7 @@ use Rattle.cox_base.specs.Descents.{IsRightDescent}
 use Rattle.cox_reflect.proofs.Elements.{same-refl, same-push_twice}
 use Rattle.cox_reflect.proofs.Search.{normal_form-same, word_length-equal}
 use Rattle.cox_reflect.proofs.Deletion.{right_length}
+use Rattle.cox_reflect.proofs.Bruhat.{below-length}
 use Rattle.cox_poly.specs.Coefficients.{Coefficients, zero_polynomial, plus, times_q, times_q_less_one}
 use Rattle.cox_poly.specs.Polynomial.{coefficient}
 use Rattle.cox_poly.proofs.Norms.{HasNormAtMost-coefficient}
@@ -52,6 +53,11 @@ module _ (A : IntegerMatrix) (g : IsAdmissible A) where
         in let power : 3 ^ 38 ≤ 2 ^ 61 = lit≤ tt
         in rw (is k) (omega (arith, bound, power));
   }
+
+  -- R(x,v) has no term of the degree n where l(v) < l(x) + n
+  pub r-low : (x v : List ℕ) (n : ℕ) → word_length A v < word_length A x + n → (k : ℕ) → n ≤ k → r_polynomial A x v k ≡ pos 0
+  r-low x v zero near k l = r_polynomial-not_below A g x v (λ b. omega (arith, near, below-length A g b)) k
+  r-low x v (suc n) near k l = r_polynomial-degree A g x v n (omega (arith, near)) k (omega (arith, l))
 
   -- ---- an entry
 

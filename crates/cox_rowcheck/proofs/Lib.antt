@@ -8,6 +8,10 @@ pub mod IntervalRows
 pub mod ColumnSteps
 -- the column of the identity, and the columns along the word of a member
 pub mod WordColumns
+-- the columns of the prefixes of a word
+pub mod PrefixColumns
+-- the members in some order
+pub mod ListedMembers
 -- products that are added to sums
 pub mod AddedProducts
 -- sums over more and more members

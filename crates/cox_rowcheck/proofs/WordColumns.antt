@@ -1,9 +1,8 @@
--- The column of the identity, and the way to the column of any member along its word.
-use Rattle.std.proofs.Common.{◌≡◌, ◌==◌, if◌then◌else◌, ℕ, ◌+◌, ◌<◌, ◌≤◌, List, [], ◌∷◌, ◌++◌, length, take, slice_index_or, Contains}
-use Rattle.std.proofs.Common.{false, ℤ, refl, ap, sym, ◌∙◌, arith, ◌⊎◌, inl, inr}
-use Rattle.std.proofs.lemmas.Bool.{cases_eq}
-use Rattle.std.proofs.lemmas.Bool.Decides.{nat_tests}
-use Rattle.std.proofs.lemmas.List.{append-nil, take_more, take-append-drop, length-take-le}
+-- The column of the identity, that of a member which a letter leads to, and the way to any member along its word.
+use Rattle.std.proofs.Common.{◌≡◌, ℕ, zero, suc, ◌+◌, ◌<◌, ◌≤◌, List, [], ◌∷◌, ◌++◌, length, take, slice_index_or, Contains}
+use Rattle.std.proofs.Common.{ℤ, pos, refl, ap, sym, ◌∙◌, arith, ⊎_elim}
+use Rattle.std.proofs.lemmas.Bool.{cases_lt}
+use Rattle.std.proofs.lemmas.List.{append-nil, get_or_past, take_more, take-append-drop, length-take-le}
 use Rattle.std.specs.Prelude.{drop}
 use Rattle.std.proofs.lemmas.List.Elements.{All-get_or}
 use Rattle.cox_base.specs.Matrix.{IsLetter}
@@ -18,57 +17,72 @@ use Rattle.cox_reflect.proofs.WordLemmas.{IsSubword-refl, IsSubword-nil, IsSubwo
 use Rattle.cox_reflect.proofs.Elements.{same-refl, same-sym, same-push}
 use Rattle.cox_reflect.proofs.Search.{normal_form-same, normal_form-equal, word_length-equal}
 use Rattle.cox_reflect.proofs.Lengths.{IsReduced-nil, IsReduced-prefix}
-use Rattle.cox_reflect.proofs.NormalElements.{element-word, element-length}
-use Rattle.cox_poly.specs.Coefficients.{Coefficients, one_polynomial, zero_polynomial}
+use Rattle.cox_reflect.proofs.NormalElements.{element-word, element-length, element-unique}
+use Rattle.cox_reflect.proofs.Bruhat.{below-length, below-equal_length}
+use Rattle.cox_poly.specs.Coefficients.{Coefficients, one_polynomial}
 use Rattle.cox_poly.specs.Polynomial.{coefficient}
 use Rattle.cox_rpoly.specs.RPolynomial.{r_polynomial}
 use Rattle.cox_rpoly.specs.Terms.{numbered}
-use Rattle.cox_rpoly.proofs.PolynomialLemmas.{r_polynomial-same}
-use Rattle.cox_hecke.proofs.RPolynomials.{unit-one, unit-other, r-word}
+use Rattle.cox_rpoly.proofs.PolynomialLemmas.{r_polynomial-same, r_polynomial-not_below}
+use Rattle.cox_hecke.proofs.RPolynomials.{unit, unit-one, unit-other, r-word}
 use Rattle.cox_context.specs.Closed.{IsClosed}
 use Rattle.cox_context.specs.Numbers.{word_at}
-use Rattle.cox_context.proofs.PlacedWords.{contains-placed, rising-place}
-use Rattle.cox_context.proofs.Shifting.{first-member, length-at, member-below}
+use Rattle.cox_context.proofs.PlacedWords.{contains-placed, rising-place, rising-length}
+use Rattle.cox_context.proofs.Shifting.{first-member, element-at, length-at, member-below}
 use Rattle.cox_rowcheck.specs.Columns.{IsColumn}
 
 module _ (A : IntegerMatrix) (g : IsAdmissible A) (members : List (List ℕ)) (closed : IsClosed A members) where
   -- R(x,e) is 1 for the identity, which is the first member, and else 0
-  pub column-first : (column : List (List ℤ)) → length column ≡ length members
-      → ((j k : ℕ) → j < length members → coefficient (numbered column j) k ≡ (if j == 0 then one_polynomial k else zero_polynomial k))
-      → IsColumn A members [] column
-  column-first column size is = record { size = size; value = λ i k l. is i k l ∙ sym (value i k l (cases_eq i 0)) }
-    where
-      value : (i k : ℕ) → i < length members → (i ≡ 0) ⊎ (i ≡ 0 → ⊥)
-          → r_polynomial A (word_at members i) [] k ≡ (if i == 0 then one_polynomial k else zero_polynomial k)
-      value i k l (inl e) =
-          ap (λ (f : Coefficients). f k) (r-word A g (word_at members i) [] [] (IsReduced-nil A g) (same-refl A g []))
-          ∙ rw e (ap (λ (f : Coefficients). f k) (unit-one A (word_at members 0) (length-at A g members closed 0 (omega (arith, closed.some))
-          ∙ ap length (first-member A g members closed))))
-      value i k l (inr n) =
-          let some : word_length A (word_at members i) ≡ 0 → ⊥
-          = λ z. n (rising-place members i 0 closed.rising l (omega (arith, closed.some))
-          (empty (word_at members i) (sym (length-at A g members closed i l) ∙ z) ∙ sym (first-member A g members closed)))
-          in let no : (i == 0) ≡ false = grind (arith, nat_tests)
-          in ap (λ (f : Coefficients). f k) (r-word A g (word_at members i) [] [] (IsReduced-nil A g) (same-refl A g []))
-          ∙ rw no (ap (λ (f : Coefficients). f k) (unit-other A (word_at members i) some))
-        where
-          empty : (n : List ℕ) → length n ≡ 0 → n ≡ []
-          empty [] z = refl
-          empty (s ∷ x) z = absurd (omega (arith, z))
-
-  -- the column of an element, by another of its words
-  pub column-same : (u v : List ℕ) (column : List (List ℤ)) → SameElement A u v → IsColumn A members u column → IsColumn A members v column
-  column-same u v column e is = record {
-    size = is.size;
-    value = λ i k l. is.value i k l ∙ ap (λ (f : Coefficients). f k) (r_polynomial-same A g (same-refl A g (word_at members i)) e);
+  pub column-first : (one : List ℤ) → ((k : ℕ) → coefficient one k ≡ one_polynomial k) → IsColumn A members (word_at members 0) (one ∷ [])
+  column-first one is = record {
+    size = omega (arith, closed.some);
+    value = λ i k l. rw (first-member A g members closed)
+        (value i k l ∙ sym (ap (λ (f : Coefficients). f k) (r-word A g (word_at members i) [] [] (IsReduced-nil A g) (same-refl A g []))));
   }
+    where
+      empty : (n : List ℕ) → length n ≡ 0 → n ≡ []
+      empty [] z = refl
+      empty (s ∷ x) z = absurd (omega (arith, z))
 
-  -- the column of v t is that of the member that v t names
-  pub column-next : (at next t : ℕ) (column : List (List ℤ)) → word_at members next ≡ normal_form A (word_at members at ++ t ∷ [])
-      → IsColumn A members (word_at members at ++ t ∷ []) column → IsColumn A members (word_at members next) column
-  column-next at next t column e is =
-      column-same (word_at members at ++ t ∷ []) (word_at members next) column
-      (rw e (same-sym A g (normal_form-same A g (word_at members at ++ t ∷ [])))) is
+      value : (i k : ℕ) → i < length members → coefficient (numbered (one ∷ []) i) k ≡ unit A (word_at members i) k
+      value zero k l =
+          is k ∙ sym (ap (λ (f : Coefficients). f k) (unit-one A (word_at members 0) (length-at A g members closed 0 l
+          ∙ ap length (first-member A g members closed))))
+      value (suc i) k l = sym (ap (λ (f : Coefficients). f k) (unit-other A (word_at members (suc i))
+          (λ z. let first : suc i ≡ 0 = rising-place members (suc i) 0 closed.rising l (omega (arith, closed.some))
+          (empty (word_at members (suc i)) (sym (length-at A g members closed (suc i) l) ∙ z) ∙ sym (first-member A g members closed))
+          in omega (arith, first))))
+
+  -- R(x,v) is 0 for a member x behind v
+  later-none : (i j : ℕ) → i < length members → j < length members → j < i → (k : ℕ)
+      → r_polynomial A (word_at members i) (word_at members j) k ≡ pos 0
+  later-none i j l m later = r_polynomial-not_below A g (word_at members i) (word_at members j) (λ b.
+      let same : SameElement A (word_at members i) (word_at members j)
+      = below-equal_length A g b (omega (
+        arith,
+        rising-length members j i closed.rising (omega (arith, later)) l,
+        below-length A g b,
+        length-at A g members closed i l,
+        length-at A g members closed j m,
+      ))
+      in let equal : i ≡ j = rising-place members i j closed.rising l m (element-unique A g (word_at members i) (word_at members j)
+      (element-at A g members closed i l) (element-at A g members closed j m) same)
+      in omega (arith, later, equal))
+
+  -- the entries up to v t, which is a member, are its column
+  pub column-next : (at t next : ℕ) → next < length members → word_at members next ≡ normal_form A (word_at members at ++ t ∷ [])
+      → (column : List (List ℤ)) → length column ≡ next + 1
+      → ((j k : ℕ) → j < next + 1 → coefficient (numbered column j) k ≡ r_polynomial A (word_at members j) (word_at members at ++ t ∷ []) k)
+      → IsColumn A members (word_at members next) column
+  column-next at t next n_in e column size each = record {
+    size = omega (arith, size, n_in);
+    value = λ i k l. ⊎_elim
+        (λ (up_to : i < next + 1). each i k up_to ∙ ap (λ (f : Coefficients). f k) (r_polynomial-same A g (same-refl A g (word_at members i))
+        (rw e (same-sym A g (normal_form-same A g (word_at members at ++ t ∷ []))))))
+        (λ (later : next + 1 ≤ i). ap (λ (p : List ℤ). coefficient p k) (get_or_past column i [] (omega (arith, size, later)))
+        ∙ sym (later-none i next l n_in (omega (arith, later)) k))
+        (cases_lt i (next + 1));
+  }
 
   -- ---- along the word of a member: the member `at` is its first i letters
 

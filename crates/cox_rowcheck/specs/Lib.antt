@@ -10,5 +10,7 @@ pub mod OneList
 pub mod Conditions
 -- for code: columns of R-polynomials
 pub mod Columns
+-- for code: members with their columns, and those of the prefixes of a word
+pub mod Prefixes
 -- for code: the sums that are compared
 pub mod MemberSums

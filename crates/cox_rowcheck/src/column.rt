@@ -1,21 +1,43 @@
-//! R-polynomials by columns: the column of v has R(x,v) for each member x.
+//! R-polynomials by columns: the column of v has R(x,v) for each member x up to v, in ShortLex order. Behind v it is 0.
 //!
-//! The column of vt, for a letter t that makes v longer, is made from that of v: R(x,vt) is R(xt,v) where t shortens x, else (q-1) R(x,v) + q R(xt,v)
-//! (Humphreys 7.5). Where xt is no member it is not below v, and R(xt,v) is 0.
-ghost use Rattle.std.specs.Prelude.{◌≡◌, ◌==◌, if◌then◌else◌, ℕ, ◌<◌, ◌≤◌, ◌∷◌, [], ◌++◌, length, IfOk};
+//! The column of vt, for a letter t that makes v longer, is made from that of v: R(x,vt) is R(xt,v) where t shortens x, else
+//! (q-1) R(x,v) + q R(xt,v) (Humphreys 7.5). Where xt is no member it is not below v, and R(xt,v) is 0.
+ghost use Rattle.std.specs.Prelude.{◌≡◌, ℕ, ◌+◌, ◌<◌, ◌≤◌, ◌∷◌, [], ◌++◌, length, Contains, IfOk, pos};
 ghost use Rattle.cox_base.specs.Matrix.{IsLetter};
 ghost use Rattle.cox_base.specs.IntegerMatrix.{integer_matrix};
+ghost use Rattle.cox_base.specs.ShortLex.{normal_form};
 ghost use Rattle.cox_base.specs.Descents.{IsRightDescent};
-ghost use Rattle.cox_poly.specs.Coefficients.{one_polynomial, zero_polynomial};
 ghost use Rattle.cox_poly.specs.Polynomial.{coefficient};
 ghost use Rattle.cox_rpoly.specs.declared.TheConstants.{MAX_DIFFERENCE};
 ghost use Rattle.cox_rpoly.specs.RPolynomial.{r_polynomial};
+ghost use Rattle.cox_rpoly.specs.Terms.{numbered};
 ghost use Rattle.cox_context.specs.Numbers.{word_at};
 ghost use Rattle.cox_rowcheck.specs.Columns.{IsColumn};
+ghost use Rattle.cox_rowcheck.specs.Prefixes.{IsColumnOf};
 
 use cox_context::Context;
 use cox_rpoly::terms::{Terms, combined, one, zero};
 use std::alloc::{AllocError, Global};
+
+/// A member v and its column.
+#[derive(Drop)]
+pub(crate) struct Column {
+    /// The number of v.
+    pub(crate) number: u32,
+    /// R(x,v) for the members x up to v.
+    pub(crate) entries: Vec<Terms>,
+}
+
+/// The i-th entry of a column, which is 0 behind its end.
+fn entry<'a>(column: &'a [Terms], none: &'a Terms, i: u32) -> &'a Terms
+    requires { (k : ℕ) → coefficient none.now k ≡ pos 0 }
+    ensures { (k : ℕ) → coefficient result.now k ≡ coefficient (numbered column.now i) k }
+{
+    match column.get(i as usize) {
+        Some(terms) => terms,
+        None => none,
+    }
+}
 
 /// R(x,vt) for the i-th member x, by the column of v, which is the member with the number `at`.
 fn next_entry(ctx: &Context, at: u32, t: u8, column: &[Terms], i: u32) -> Terms
@@ -29,69 +51,75 @@ fn next_entry(ctx: &Context, at: u32, t: u8, column: &[Terms], i: u32) -> Terms
         ≡ r_polynomial (integer_matrix ctx.now.matrix) (word_at ctx.now.members i) (word_at ctx.now.members at ++ t ∷ []) k }
 {
     let _len = ctx.len();
+    let none = zero();
     match ctx.right(t, i) {
-        Some(j) if j < i => column[j as usize],
-        Some(j) => combined(&column[i as usize], &column[j as usize]),
-        None => combined(&column[i as usize], &zero()),
+        Some(j) if j < i => *entry(column, &none, j),
+        Some(j) => combined(entry(column, &none, i), entry(column, &none, j)),
+        None => combined(entry(column, &none, i), &none),
     }
 }
 
-/// The column of vt, by that of v, which is the member with the number `at`.
-fn next_column(
+/// The column of vt, which is the member with the number `next`, by that of v, the one with the number `at`.
+fn next_entries(
     alloc: Global,
     ctx: &Context,
     at: u32,
     t: u8,
+    next: u32,
     column: &[Terms],
 ) -> Result<Vec<Terms>, AllocError>
     requires at { at < length ctx.now.members }
+    requires next { next < length ctx.now.members }
+    requires leads { word_at ctx.now.members next ≡ normal_form (integer_matrix ctx.now.matrix) (word_at ctx.now.members at ++ t ∷ []) }
     requires letter { IsLetter ctx.now.matrix.rank t }
     requires ascent { ¬ IsRightDescent (integer_matrix ctx.now.matrix) (word_at ctx.now.members at) t }
     requires column { IsColumn (integer_matrix ctx.now.matrix) ctx.now.members (word_at ctx.now.members at) column.now }
     requires short { length (word_at ctx.now.members at) < MAX_DIFFERENCE }
-    ensures { IfOk result (λ next. IsColumn (integer_matrix ctx.now.matrix) ctx.now.members (word_at ctx.now.members at ++ t ∷ []) next.items) }
-{
-    let mut next = Vec::new(alloc);
-    for i in 0..ctx.len() {
-        next.push(next_entry(ctx, at, t, column, i))?;
-    }
-    Ok(next)
-}
-
-/// R(x,e) for the i-th member x: 1 for the identity, else 0.
-fn first_entry(i: u32) -> Terms
-    ensures { (k : ℕ) → coefficient result k ≡ (if i == 0 then one_polynomial k else zero_polynomial k) }
-{
-    if i == 0 { one() } else { zero() }
-}
-
-/// The column of the identity.
-fn first_column(alloc: Global, ctx: &Context) -> Result<Vec<Terms>, AllocError>
-    ensures { IfOk result (λ column. IsColumn (integer_matrix ctx.now.matrix) ctx.now.members [] column.items) }
-{
-    let mut column = Vec::new(alloc);
-    for i in 0..ctx.len() {
-        column.push(first_entry(i))?;
-    }
-    Ok(column)
-}
-
-/// The column of the member with the number y, letter by letter.
-pub(crate) fn column_of(alloc: Global, ctx: &Context, y: u32) -> Result<Vec<Terms>, AllocError>
-    requires y { y < length ctx.now.members }
-    requires short { length (word_at ctx.now.members y) ≤ MAX_DIFFERENCE }
-    ensures { IfOk result (λ column. IsColumn (integer_matrix ctx.now.matrix) ctx.now.members (word_at ctx.now.members y) column.items) }
+    ensures { IfOk result (λ entries. IsColumn (integer_matrix ctx.now.matrix) ctx.now.members (word_at ctx.now.members next) entries.items) }
 {
     let _len = ctx.len();
-    let word = ctx.word(y);
-    let mut column = first_column(alloc, ctx)?;
-    let mut at = 0;
-    for &t in word.as_slice() {
-        let Some(next) = ctx.right(t, at) else {
-            unreachable!();
-        };
-        column = next_column(alloc, ctx, at, t, column.as_slice())?;
-        at = next;
+    let mut entries = Vec::with_capacity(alloc, next as usize + 1)?;
+    for i in 0..next + 1 {
+        entries.push(next_entry(ctx, at, t, column, i))?;
     }
-    Ok(column)
+    Ok(entries)
+}
+
+/// The identity and its column: R(e,e) is 1.
+pub(crate) fn first(alloc: Global, ctx: &Context) -> Result<Column, AllocError>
+    ensures { IfOk result (IsColumnOf (integer_matrix ctx.now.matrix) ctx.now.members []) }
+{
+    let _len = ctx.len();
+    let mut entries = Vec::with_capacity(alloc, 1)?;
+    entries.push(one())?;
+    Ok(Column { number: 0, entries })
+}
+
+/// The member vt and its column, by those of v.
+pub(crate) fn longer(
+    alloc: Global,
+    ctx: &Context,
+    column: &Column,
+    t: u8,
+) -> Result<Column, AllocError>
+    requires number { column.now.number < length ctx.now.members }
+    requires column { IsColumn (integer_matrix ctx.now.matrix) ctx.now.members (word_at ctx.now.members column.now.number) column.now.entries.items }
+    requires letter { IsLetter ctx.now.matrix.rank t }
+    requires ascent { ¬ IsRightDescent (integer_matrix ctx.now.matrix) (word_at ctx.now.members column.now.number) t }
+    requires short { length (word_at ctx.now.members column.now.number) < MAX_DIFFERENCE }
+    requires member { Contains ctx.now.members (normal_form (integer_matrix ctx.now.matrix) (word_at ctx.now.members column.now.number ++ t ∷ [])) }
+    ensures { IfOk result (IsColumnOf (integer_matrix ctx.now.matrix) ctx.now.members (word_at ctx.now.members column.now.number ++ t ∷ [])) }
+{
+    let Some(number) = ctx.right(t, column.number) else {
+        unreachable!();
+    };
+    let entries = next_entries(
+        alloc,
+        ctx,
+        column.number,
+        t,
+        number,
+        column.entries.as_slice(),
+    )?;
+    Ok(Column { number, entries })
 }

@@ -9,14 +9,21 @@
 //! - `row_check`: the conditions, one by one
 //! - `sums`: the sums of the R(x,y) p(y), for all x at once
 //! - `column`: R(x,y) for one y and all x
+//! - `prefixes`: the columns of the prefixes of a word
+//! - `order`: the members in lexicographic order
+//! - `small`: whether a polynomial is small
 //! - `laws`: the polynomials are those of the row exactly where the conditions hold, and there is one such list
 #![tactic(auto)]
 
 mod column;
 pub mod laws;
 mod limits;
+mod order;
+mod prefixes;
 mod row_check;
+mod small;
 mod sums;
 
 pub use limits::{MAX_COEFFICIENT, MAX_DEGREE, MAX_LISTED};
 pub use row_check::is_row;
+pub use small::is_small;

@@ -4,7 +4,7 @@
 pub const MAX_LISTED: usize = 4096;
 
 /// The greatest degree of a polynomial.
-pub const MAX_DEGREE: usize = 39;
+pub const MAX_DEGREE: u32 = 39;
 
 /// The greatest absolute value of a coefficient.
 pub const MAX_COEFFICIENT: i64 = 2147483647;

@@ -2,7 +2,6 @@
 use Rattle.std.proofs.Common.{◌+◌, ◌*◌, ◌^◌, ◌≤◌, unsigned_abs, FitsSigned, w64, rules, arith}
 use Rattle.std.proofs.lemmas.Int.{to_z-of_z}
 use Rattle.cox_poly.specs.Polynomial.{coefficient}
-use Rattle.cox_poly.proofs.Polynomials.{coefficient_past}
 use Rattle.cox_rowcheck.proofs.AddedProducts.{added-none, added-size, added-more, added-all}
 use Rattle.cox_rowcheck.proofs.sums.add_product.Goals as goal
 
@@ -26,4 +25,4 @@ loop-k-preserved c =
 
 pub returns-clause-sum : goal.returns-clause-sum
 returns-clause-sum c = added-all c.args.sum.now c.loop-k.sum c.args.r.now c.args.p.now c.loop-k.k c.loop-k.invariant
-    (λ m low. coefficient_past c.args.r.now m (omega (arith, low)))
+    (λ m low. c.requires.low m (omega (arith, low)))
