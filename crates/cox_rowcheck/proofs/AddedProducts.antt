@@ -31,7 +31,8 @@ added-size old p c k j a low factor small =
 
 -- one term more
 pub added-more : (first old new r p : List ℤ) (k n : ℕ) → n ≡ suc k → IsAdded first old r p k
-    → unsigned_abs (coefficient r k) ≤ 2 ^ 63 → IsSmall p → ((j : ℕ) → coefficient new j ≡ coefficient_after old p (coefficient r k) k j) → IsAdded first new r p n
+    → unsigned_abs (coefficient r k) ≤ 2 ^ 63 → IsSmall p
+    → ((j : ℕ) → coefficient new j ≡ coefficient_after old p (coefficient r k) k j) → IsAdded first new r p n
 added-more first old new r p k n e h factor small is = rw e record {
   value = λ j.
       let more : product (terms_below (suc k) (coefficient r)) (coefficient p) j

@@ -1,5 +1,6 @@
 -- Sums over more and more words: the first words of a list, one more, and all.
-use Rattle.std.proofs.Common.{◌≡◌, ℕ, zero, suc, ◌+◌, ◌*◌, ◌^◌, ◌<◌, ◌≤◌, List, [], ◌∷◌, ◌++◌, length, take, ℤ, unsigned_abs, ◌+ℤ◌, ◌-ℤ◌, set}
+use Rattle.std.proofs.Common.{◌≡◌, ℕ, zero, suc, ◌+◌, ◌*◌, ◌^◌, ◌<◌, ◌≤◌, List, [], ◌∷◌, ◌++◌, length, take, set}
+use Rattle.std.proofs.Common.{ℤ, unsigned_abs, ◌+ℤ◌, ◌-ℤ◌}
 use Rattle.std.proofs.Common.{refl, ap, sym, ◌∙◌, arith, ⊎_elim}
 use Rattle.std.proofs.lemmas.Int.{ints}
 use Rattle.std.proofs.lemmas.Bool.{cases_lt, cases_eq}
@@ -83,7 +84,8 @@ sum_over-swap_two xs i j f k l m =
 
 -- a sum does not ask for the order
 pub sums-reordered : (A : IntegerMatrix) (members : List (List ℕ)) (polynomials : List (List ℤ)) (words others : List (List ℕ))
-    (sums : List (List ℤ)) → IsPermutation words others → AreSums A members polynomials others sums → AreSums A members polynomials words sums
+    (sums : List (List ℤ)) → IsPermutation words others → AreSums A members polynomials others sums
+    → AreSums A members polynomials words sums
 sums-reordered A members polynomials words others sums moved are = record {
   size = are.size;
   value = λ i k l. are.value i k l ∙ same (λ y. product (r_polynomial A (word_at members i) y) (family_of A members polynomials y)) k;

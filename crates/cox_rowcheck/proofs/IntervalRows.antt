@@ -12,7 +12,7 @@ use Rattle.cox_base.specs.SortedList.{IsListOf}
 use Rattle.cox_reflect.proofs.Elements.{same-refl, same-sym}
 use Rattle.cox_reflect.proofs.Search.{normal_form-same, normal_form-equal}
 use Rattle.cox_reflect.proofs.NormalElements.{element-normal_form, element-length}
-use Rattle.cox_reflect.proofs.Bruhat.{below-same, below-least, below-length}
+use Rattle.cox_reflect.proofs.Bruhat.{below-same, below-least, below-length, below-form}
 use Rattle.cox_poly.specs.Coefficients.{Coefficients}
 use Rattle.cox_poly.specs.Polynomial.{coefficient, SameCoefficients}
 use Rattle.cox_rpoly.specs.Terms.{numbered}
@@ -39,6 +39,13 @@ module _ (A : IntegerMatrix) (g : IsAdmissible A) where
       let one = a.each i l
       in let other = b.each i l
       in one.at k ∙ row-unique A g w one.row other.row one.is other.is (word_at words i) k ∙ sym (other.at k)
+
+  -- the interval of an element is that of its normal form
+  pub interval-named : (top w : List ℕ) (words : List (List ℕ)) → w ≡ normal_form A top → IsListOf (IsInInterval A top) words
+      → IsListOf (IsInInterval A w) words
+  interval-named top w words e list = list-along (IsInInterval A top) (IsInInterval A w)
+      (λ y i. record { element = i.element; below = (below-form A g y top w e).1 i.below })
+      (λ y i. record { element = i.element; below = (below-form A g y top w e).0 i.below }) words list
 
   module _ (w : List ℕ) (words : List (List ℕ)) (list : IsListOf (IsInInterval A w) words) where
     -- ---- the elements

@@ -42,7 +42,8 @@ module _ (A : IntegerMatrix) (members : List (List ℕ)) where
         (cases_lt d (length stack));
   }
     where
-      last : (d : ℕ) (other : Column) → d ≡ length stack → IsColumnOf A members (take d word) (slice_index_or (stack ++ column ∷ []) d other)
+      last : (d : ℕ) (other : Column) → d ≡ length stack
+          → IsColumnOf A members (take d word) (slice_index_or (stack ++ column ∷ []) d other)
       last d other e =
           let here : slice_index_or (stack ++ column ∷ []) d other ≡ column
           = ap (λ (j : ℕ). slice_index_or (stack ++ column ∷ []) j other) e ∙ get_or-append_seam stack column [] other

@@ -77,7 +77,8 @@ module _ (A : IntegerMatrix) (g : IsAdmissible A) (members : List (List ℕ)) (c
   column-next at t next n_in e column size each = record {
     size = omega (arith, size, n_in);
     value = λ i k l. ⊎_elim
-        (λ (up_to : i < next + 1). each i k up_to ∙ ap (λ (f : Coefficients). f k) (r_polynomial-same A g (same-refl A g (word_at members i))
+        (λ (up_to : i < next + 1). each i k up_to
+        ∙ ap (λ (f : Coefficients). f k) (r_polynomial-same A g (same-refl A g (word_at members i))
         (rw e (same-sym A g (normal_form-same A g (word_at members at ++ t ∷ []))))))
         (λ (later : next + 1 ≤ i). ap (λ (p : List ℤ). coefficient p k) (get_or_past column i [] (omega (arith, size, later)))
         ∙ sym (later-none i next l n_in (omega (arith, later)) k))

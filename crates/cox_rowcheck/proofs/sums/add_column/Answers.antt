@@ -26,7 +26,8 @@ add_product-requires-clause-low c = λ k l.
     = omega (arith, c.length-top.ensures.length, c.length.ensures.length)
     in ap (λ (p : List ℤ). coefficient p k) here ∙ c.requires.column.value i k inside
     ∙ r-low A g (word_at members i) (word_at members c.args.column.now.number) c.saturating_sub-terms.result
-    (omega (arith, near, length-at A g members closed i inside, length-at A g members closed c.args.column.now.number c.requires.number)) k l
+    (omega (arith, near, length-at A g members closed i inside, length-at A g members closed c.args.column.now.number c.requires.number))
+    k l
 
 pub returns-clause-sum : goal.returns-clause-sum
 returns-clause-sum c = λ i l. ⊎_elim

@@ -20,7 +20,8 @@ pub loop-k-preserved : goal.loop-k-preserved
 loop-k-preserved c =
     let fits : FitsSigned w64 (coefficient c.args.r.now c.loop-k.k) = search rules
     in let factor : unsigned_abs (coefficient c.args.r.now c.loop-k.k) ≤ 2 ^ 63 = search rules
-    in added-more c.args.sum.now c.loop-k.sum c.add_scaled.new.self c.args.r.now c.args.p.now c.loop-k.k (c.loop-k.k + 1) (omega arith) c.loop-k.invariant factor c.requires.small
+    in added-more c.args.sum.now c.loop-k.sum c.add_scaled.new.self c.args.r.now c.args.p.now c.loop-k.k (c.loop-k.k + 1)
+    (omega arith) c.loop-k.invariant factor c.requires.small
     (λ j. rw (to_z-of_z w64 (coefficient c.args.r.now c.loop-k.k) fits, c.view-view.ensures) at (c.add_scaled.ensures.sum j))
 
 pub returns-clause-sum : goal.returns-clause-sum

@@ -80,8 +80,8 @@ loop-word-preserved c =
     = get_or_default polynomials column.number [] p inside ∙ sym c.index-polynomials-column.is
     in record {
       prefixes = rw c.copy_word-last.ensures climbed.prefixes;
-      sums = sums-more A members polynomials (map letters_of words) n c.loop-word.sums.items c.add_column.new.sums.items column.entries.items p
-          (omega (arith, c.loop-word-test.true, length-map words letters_of)) c.loop-word.invariant.sums
+      sums = sums-more A members polynomials (map letters_of words) n c.loop-word.sums.items c.add_column.new.sums.items
+          column.entries.items p (omega (arith, c.loop-word-test.true, length-map words letters_of)) c.loop-word.invariant.sums
           (ap coefficient (sym here)
           ∙ sym (family-at A members polynomials column.number (λ i j l m e. rising-place members i j closed.rising l m e)
           (element-at A g members closed column.number prefix.inside) c.requires.count prefix.inside)
