@@ -2,8 +2,8 @@
 //!
 //! The row of w has P(x,w) for each x <= w. [`is_row`] is given the elements x <= w as the members of a context, and a polynomial p(x) for
 //! each of them. It tests the conditions that define a row (Kazhdan and Lusztig 1979, 1.1; Humphreys, "Reflection Groups and Coxeter
-//! Groups", 7.9, 7.10): p(w) is 1, the degrees of the others are low, and q^d p(x)(1/q), with d = l(w) - l(x), is the sum of R(x,y) p(y) over the y
-//! with x <= y <= w. So it rests on R-polynomials alone, and on nothing of how rows are made.
+//! Groups", 7.9, 7.10): p(w) is 1, the degrees of the others are low, and q^d p(x)(1/q), with d = l(w) - l(x), is the sum of R(x,y) p(y)
+//! over the y with x <= y <= w. So it rests on R-polynomials alone, and on nothing of how rows are made.
 //!
 //! - `limits`: what may be asked at most
 //! - `row_check`: the conditions, one by one
