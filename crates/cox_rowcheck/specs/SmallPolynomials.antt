@@ -1,0 +1,10 @@
+-- Small polynomials: those whose sums of products do not overflow.
+use Rattle.std.specs.Prelude.{◌+◌, List, ℤ}
+use Rattle.cox_poly.specs.Polynomial.{HasDegreeBelow}
+use Rattle.cox_poly.specs.Limit.{AllWithin}
+use Rattle.cox_rowcheck.specs.declared.limits.TheConstants.{MAX_DEGREE, MAX_COEFFICIENT}
+
+-- no degree is above MAX_DEGREE, and no coefficient above MAX_COEFFICIENT in absolute value
+pub record IsSmall (p : List ℤ) : Type 0 where
+  pub degree : HasDegreeBelow p (MAX_DEGREE + 1)
+  pub coefficients : AllWithin MAX_COEFFICIENT p

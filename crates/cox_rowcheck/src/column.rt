@@ -1,0 +1,125 @@
+//! R-polynomials by columns: the column of v has R(x,v) for each member x up to v, in ShortLex order. Behind v it is 0.
+//!
+//! The column of vt, for a letter t that makes v longer, is made from that of v: R(x,vt) is R(xt,v) where t shortens x, else
+//! (q-1) R(x,v) + q R(xt,v) (Humphreys 7.5). Where xt is no member it is not below v, and R(xt,v) is 0.
+ghost use Rattle.std.specs.Prelude.{◌≡◌, ℕ, ◌+◌, ◌<◌, ◌≤◌, ◌∷◌, [], ◌++◌, length, Contains, IfOk, pos};
+ghost use Rattle.cox_base.specs.Matrix.{IsLetter};
+ghost use Rattle.cox_base.specs.IntegerMatrix.{integer_matrix};
+ghost use Rattle.cox_base.specs.ShortLex.{normal_form};
+ghost use Rattle.cox_base.specs.Descents.{IsRightDescent};
+ghost use Rattle.cox_poly.specs.Polynomial.{coefficient};
+ghost use Rattle.cox_rpoly.specs.declared.TheConstants.{MAX_DIFFERENCE};
+ghost use Rattle.cox_rpoly.specs.RPolynomial.{r_polynomial};
+ghost use Rattle.cox_rpoly.specs.Terms.{numbered};
+ghost use Rattle.cox_context.specs.Numbers.{word_at};
+ghost use Rattle.cox_rowcheck.specs.Columns.{IsColumn};
+ghost use Rattle.cox_rowcheck.specs.Prefixes.{IsColumnOf};
+
+use cox_context::Context;
+use cox_rpoly::terms::{Terms, combined, one, zero};
+use std::alloc::{AllocError, Global};
+
+/// A member v and its column.
+#[derive(Drop)]
+pub(crate) struct Column {
+    /// The number of v.
+    pub(crate) number: u32,
+    /// R(x,v) for the members x up to v.
+    pub(crate) entries: Vec<Terms>,
+}
+
+/// The i-th entry of a column, which is 0 behind its end.
+fn entry<'a>(column: &'a [Terms], none: &'a Terms, i: u32) -> &'a Terms
+    requires { (k : ℕ) → coefficient none.now k ≡ pos 0 }
+    ensures { (k : ℕ) → coefficient result.now k ≡ coefficient (numbered column.now i) k }
+{
+    match column.get(i as usize) {
+        Some(terms) => terms,
+        None => none,
+    }
+}
+
+/// R(x,vt) for the i-th member x, by the column of v, which is the member with the number `at`.
+fn next_entry(ctx: &Context, at: u32, t: u8, column: &[Terms], i: u32) -> Terms
+    requires at { at < length ctx.now.members }
+    requires letter { IsLetter ctx.now.matrix.rank t }
+    requires ascent { ¬ IsRightDescent (integer_matrix ctx.now.matrix) (word_at ctx.now.members at) t }
+    requires column { IsColumn (integer_matrix ctx.now.matrix) ctx.now.members (word_at ctx.now.members at) column.now }
+    requires short { length (word_at ctx.now.members at) < MAX_DIFFERENCE }
+    requires i { i < length ctx.now.members }
+    ensures { (k : ℕ) → coefficient result k
+        ≡ r_polynomial (integer_matrix ctx.now.matrix) (word_at ctx.now.members i) (word_at ctx.now.members at ++ t ∷ []) k }
+{
+    let _len = ctx.len();
+    let none = zero();
+    match ctx.right(t, i) {
+        Some(j) if j < i => *entry(column, &none, j),
+        Some(j) => combined(entry(column, &none, i), entry(column, &none, j)),
+        None => combined(entry(column, &none, i), &none),
+    }
+}
+
+/// The column of vt, which is the member with the number `next`, by that of v, the one with the number `at`.
+fn next_entries(
+    alloc: Global,
+    ctx: &Context,
+    at: u32,
+    t: u8,
+    next: u32,
+    column: &[Terms],
+) -> Result<Vec<Terms>, AllocError>
+    requires at { at < length ctx.now.members }
+    requires next { next < length ctx.now.members }
+    requires leads { word_at ctx.now.members next ≡ normal_form (integer_matrix ctx.now.matrix) (word_at ctx.now.members at ++ t ∷ []) }
+    requires letter { IsLetter ctx.now.matrix.rank t }
+    requires ascent { ¬ IsRightDescent (integer_matrix ctx.now.matrix) (word_at ctx.now.members at) t }
+    requires column { IsColumn (integer_matrix ctx.now.matrix) ctx.now.members (word_at ctx.now.members at) column.now }
+    requires short { length (word_at ctx.now.members at) < MAX_DIFFERENCE }
+    ensures { IfOk result (λ entries. IsColumn (integer_matrix ctx.now.matrix) ctx.now.members (word_at ctx.now.members next) entries.items) }
+{
+    let _len = ctx.len();
+    let mut entries = Vec::with_capacity(alloc, next as usize + 1)?;
+    for i in 0..next + 1 {
+        entries.push(next_entry(ctx, at, t, column, i))?;
+    }
+    Ok(entries)
+}
+
+/// The identity and its column: R(e,e) is 1.
+pub(crate) fn first(alloc: Global, ctx: &Context) -> Result<Column, AllocError>
+    ensures { IfOk result (IsColumnOf (integer_matrix ctx.now.matrix) ctx.now.members []) }
+{
+    let _len = ctx.len();
+    let mut entries = Vec::with_capacity(alloc, 1)?;
+    entries.push(one())?;
+    Ok(Column { number: 0, entries })
+}
+
+/// The member vt and its column, by those of v.
+pub(crate) fn longer(
+    alloc: Global,
+    ctx: &Context,
+    column: &Column,
+    t: u8,
+) -> Result<Column, AllocError>
+    requires number { column.now.number < length ctx.now.members }
+    requires column { IsColumn (integer_matrix ctx.now.matrix) ctx.now.members (word_at ctx.now.members column.now.number) column.now.entries.items }
+    requires letter { IsLetter ctx.now.matrix.rank t }
+    requires ascent { ¬ IsRightDescent (integer_matrix ctx.now.matrix) (word_at ctx.now.members column.now.number) t }
+    requires short { length (word_at ctx.now.members column.now.number) < MAX_DIFFERENCE }
+    requires member { Contains ctx.now.members (normal_form (integer_matrix ctx.now.matrix) (word_at ctx.now.members column.now.number ++ t ∷ [])) }
+    ensures { IfOk result (IsColumnOf (integer_matrix ctx.now.matrix) ctx.now.members (word_at ctx.now.members column.now.number ++ t ∷ [])) }
+{
+    let Some(number) = ctx.right(t, column.number) else {
+        unreachable!();
+    };
+    let entries = next_entries(
+        alloc,
+        ctx,
+        column.number,
+        t,
+        number,
+        column.entries.as_slice(),
+    )?;
+    Ok(Column { number, entries })
+}

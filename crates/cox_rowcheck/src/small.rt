@@ -1,0 +1,45 @@
+//! Whether polynomials are small.
+ghost use Rattle.std.specs.Prelude.{◌↔◌, IsTrue, All};
+ghost use Rattle.cox_poly.specs.Limit.{IsWithin};
+ghost use Rattle.cox_rowcheck.specs.declared.limits.TheConstants.{MAX_COEFFICIENT};
+ghost use Rattle.cox_rowcheck.specs.SmallPolynomials.{IsSmall};
+
+use crate::limits::{MAX_COEFFICIENT, MAX_DEGREE};
+use cox_poly::Poly;
+
+/// Whether a coefficient is small.
+fn is_within(value: i64) -> bool
+    ensures { IsTrue result ↔ IsWithin MAX_COEFFICIENT value }
+{
+    -MAX_COEFFICIENT <= value && value <= MAX_COEFFICIENT
+}
+
+/// Whether no degree is above [`MAX_DEGREE`], and no coefficient above [`MAX_COEFFICIENT`] in absolute value.
+pub fn is_small(p: &Poly) -> bool
+    ensures { IsTrue result ↔ IsSmall p.now }
+{
+    let Some(degree) = p.degree() else {
+        return true;
+    };
+    if degree > MAX_DEGREE {
+        return false;
+    }
+    for k in 0..degree + 1 {
+        if !is_within(p.coefficient(k)) {
+            return false;
+        }
+    }
+    true
+}
+
+/// Whether all polynomials are.
+pub fn are_small(polynomials: &[Poly]) -> bool
+    ensures { IsTrue result ↔ All IsSmall polynomials.now }
+{
+    for p in polynomials {
+        if !is_small(p) {
+            return false;
+        }
+    }
+    true
+}

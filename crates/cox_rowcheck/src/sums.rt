@@ -1,0 +1,99 @@
+//! The sums that the check of a row compares: for each member x the sum of R(x,y) p(y) over the members y.
+ghost use Rattle.std.specs.Prelude.{◌≡◌, ℕ, ◌+◌, ◌^◌, ◌<◌, ◌≤◌, length, unsigned_abs, All, IfOk};
+ghost use Rattle.cox_base.specs.IntegerMatrix.{integer_matrix};
+ghost use Rattle.cox_poly.specs.Coefficients.{plus};
+ghost use Rattle.cox_poly.specs.Polynomial.{coefficient, HasDegreeBelow};
+ghost use Rattle.cox_poly.specs.Products.{product};
+ghost use Rattle.cox_rpoly.specs.declared.TheConstants.{MAX_DIFFERENCE};
+ghost use Rattle.cox_rpoly.specs.declared.terms.TheConstants.{TERMS};
+ghost use Rattle.cox_rpoly.specs.Terms.{numbered};
+ghost use Rattle.cox_context.specs.Numbers.{word_at};
+ghost use Rattle.cox_rowcheck.specs.declared.limits.TheConstants.{MAX_LISTED};
+ghost use Rattle.cox_rowcheck.specs.SmallPolynomials.{IsSmall};
+ghost use Rattle.cox_rowcheck.specs.Columns.{IsColumn};
+ghost use Rattle.cox_rowcheck.specs.MemberSums.{HasAdded, AreZeros, AreSums};
+
+use crate::column::{Column, first};
+use crate::order::words_in_order;
+use crate::prefixes::{climb, common};
+use cox_base::{Word, copy_word};
+use cox_context::Context;
+use cox_poly::{Acc, Poly};
+use cox_rpoly::terms::Terms;
+use std::alloc::{AllocError, Global};
+
+/// Adds r p to a sum; r has so many terms.
+fn add_product(sum: &mut Acc, r: &Terms, terms: usize, p: &Poly)
+    requires terms { terms ≤ TERMS }
+    requires low { HasDegreeBelow r.now terms }
+    requires small { IsSmall p.now }
+    requires room { (k : ℕ) → unsigned_abs (coefficient sum.old k) ≤ 2 ^ 125 }
+    ensures sum { (k : ℕ) → coefficient sum.new k ≡ plus (coefficient sum.old) (product (coefficient r.now) (coefficient p.now)) k }
+    ensures grown { (k : ℕ) → unsigned_abs (coefficient sum.new k) ≤ unsigned_abs (coefficient sum.old k) + 2 ^ 100 }
+{
+    let view = p.view();
+    for k in 0..terms {
+        sum.add_scaled(&view, r[k], k as u32);
+    }
+}
+
+/// Adds R(x,y) p to the sum of each member x, by the column of y. The degree of R(x,y) is l(y) - l(x) at most.
+fn add_column(ctx: &Context, sums: &mut Vec<Acc>, column: &Column, p: &Poly)
+    requires sums { length sums.old.items ≡ length ctx.now.members }
+    requires number { column.now.number < length ctx.now.members }
+    requires short { length (word_at ctx.now.members column.now.number) ≤ MAX_DIFFERENCE }
+    requires column { IsColumn (integer_matrix ctx.now.matrix) ctx.now.members (word_at ctx.now.members column.now.number) column.now.entries.items }
+    requires small { IsSmall p.now }
+    requires room { (i k : ℕ) → unsigned_abs (coefficient (numbered sums.old.items i) k) ≤ 2 ^ 124 }
+    ensures size { length sums.new.items ≡ length sums.old.items }
+    ensures sum { (i : ℕ) → i < length sums.old.items
+        → HasAdded (numbered sums.old.items i) (numbered sums.new.items i) (numbered column.now.entries.items i) p.now }
+{
+    let _len = ctx.len();
+    let top = ctx.length(column.number) + 1;
+    for i in 0..column.entries.len() {
+        let terms = top.saturating_sub(ctx.length(i as u32)) as usize;
+        add_product(&mut sums[i], &column.entries[i], terms, p);
+    }
+}
+
+/// So many sums of 0.
+fn no_sums(alloc: Global, n: u32) -> Result<Vec<Acc>, AllocError>
+    ensures { IfOk result (λ sums. AreZeros n sums.items) }
+{
+    let mut sums = Vec::with_capacity(alloc, n as usize)?;
+    for _i in 0..n {
+        sums.push(Acc::new())?;
+    }
+    Ok(sums)
+}
+
+/// For each member x the sum of R(x,y) p(y) over the members y.
+///
+/// The y are taken in lexicographic order, and the columns of the prefixes of the last one are kept: so each column is made once.
+pub(crate) fn sums_of(
+    alloc: Global,
+    ctx: &Context,
+    polynomials: &[Poly],
+) -> Result<Vec<Acc>, AllocError>
+    requires count { length polynomials.now ≡ length ctx.now.members }
+    requires few { length ctx.now.members ≤ MAX_LISTED }
+    requires small { All IsSmall polynomials.now }
+    requires short { (i : ℕ) → i < length ctx.now.members → length (word_at ctx.now.members i) ≤ MAX_DIFFERENCE }
+    ensures { IfOk result (λ sums. AreSums (integer_matrix ctx.now.matrix) ctx.now.members polynomials.now ctx.now.members sums.items) }
+{
+    let _len = ctx.len();
+    let words = words_in_order(alloc, ctx)?;
+    let mut sums = no_sums(alloc, ctx.len())?;
+    let mut stack = Vec::new(alloc);
+    stack.push(first(alloc, ctx)?)?;
+    let mut last = Word::new();
+    for word in words.as_slice() {
+        stack.truncate(common(last.as_slice(), word.as_slice()) + 1);
+        climb(alloc, ctx, &mut stack, word)?;
+        let column = &stack[word.len()];
+        add_column(ctx, &mut sums, column, &polynomials[column.number as usize]);
+        last = copy_word(word);
+    }
+    Ok(sums)
+}
