@@ -7,7 +7,7 @@ use Rattle.cox_hecke.specs.Family.{Family, RespectsElements}
 use Rattle.cox_hecke.specs.ListedElements.{occurrences}
 use Rattle.cox_hecke.specs.Row.{IsRow}
 use Rattle.cox_hecke.proofs.ElementLists.{sorted-once}
-use Rattle.cox_hecke.proofs.RowLemmas.{row-bar, bar_sum-lists}
+use Rattle.cox_hecke.proofs.OneRow.{row-bar, bar_sum-lists}
 use Rattle.cox_rowcheck.specs.OneList.{IsBalanced}
 
 module _ (A : IntegerMatrix) (g : IsAdmissible A) (w : List ℕ) (p : Family) (words : List (List ℕ))

@@ -18,7 +18,7 @@ use Rattle.cox_poly.proofs.Norms.{HasNormAtMost-coefficient}
 use Rattle.cox_rpoly.specs.declared.TheConstants.{MAX_DIFFERENCE}
 use Rattle.cox_rpoly.specs.RPolynomial.{r_polynomial}
 use Rattle.cox_rpoly.specs.Terms.{LeavesRoom, numbered}
-use Rattle.cox_rpoly.proofs.PolynomialLemmas.{r_polynomial-same, r_polynomial-norm, r_polynomial-degree, r_polynomial-not_below}
+use Rattle.cox_rpoly.proofs.PolynomialsOfElements.{r_polynomial-same, r_polynomial-norm, r_polynomial-degree, r_polynomial-not_below}
 use Rattle.cox_hecke.proofs.RPolynomials.{r-right_shorter, r-right_longer, r-right_moved}
 use Rattle.cox_context.specs.Closed.{IsClosed}
 use Rattle.cox_context.specs.Numbers.{word_at}

@@ -17,10 +17,10 @@ use Rattle.cox_poly.specs.Polynomial.{coefficient}
 use Rattle.cox_poly.specs.Products.{product, flip}
 use Rattle.cox_rpoly.specs.RPolynomial.{r_polynomial}
 use Rattle.cox_rpoly.specs.Terms.{numbered}
-use Rattle.cox_rpoly.proofs.PolynomialLemmas.{r_polynomial-same}
+use Rattle.cox_rpoly.proofs.PolynomialsOfElements.{r_polynomial-same}
 use Rattle.cox_hecke.specs.Family.{Family}
 use Rattle.cox_hecke.specs.Sums.{bar_sum}
-use Rattle.cox_hecke.proofs.SumLemmas.{sum_over-equal}
+use Rattle.cox_hecke.proofs.ListSums.{sum_over-equal}
 use Rattle.cox_hecke.proofs.ElementLists.{below_or_not}
 use Rattle.cox_context.specs.Numbers.{word_at}
 use Rattle.cox_rowcheck.specs.MemberFamily.{family_of}

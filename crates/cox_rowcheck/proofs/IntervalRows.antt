@@ -19,7 +19,7 @@ use Rattle.cox_rpoly.specs.Terms.{numbered}
 use Rattle.cox_hecke.specs.Family.{Family}
 use Rattle.cox_hecke.specs.ListedElements.{occurrences}
 use Rattle.cox_hecke.specs.Row.{IsRow}
-use Rattle.cox_hecke.proofs.RowLemmas.{row-unique}
+use Rattle.cox_hecke.proofs.OneRow.{row-unique}
 use Rattle.cox_hecke.proofs.RowsExist.{row-exists}
 use Rattle.cox_hecke.proofs.ElementLists.{below_or_not, sorted-once}
 use Rattle.cox_context.specs.Numbers.{word_at}

@@ -8,7 +8,7 @@ use Rattle.cox_base.specs.Admissible.{IsAdmissible}
 use Rattle.cox_base.specs.ShortLex.{normal_form}
 use Rattle.cox_context.specs.Closed.{IsClosed}
 use Rattle.cox_context.specs.Numbers.{word_at}
-use Rattle.cox_context.proofs.NumberLemmas.{word-longer}
+use Rattle.cox_context.proofs.NumbersOfWords.{word-longer}
 use Rattle.cox_rowcheck.specs.declared.column.Column.{Column}
 use Rattle.cox_rowcheck.specs.Prefixes.{IsColumnOf, ArePrefixes}
 

@@ -13,7 +13,7 @@ use Rattle.cox_base.specs.ShortLex.{normal_form}
 use Rattle.cox_base.specs.Length.{word_length}
 use Rattle.cox_base.specs.Descents.{IsRightDescent}
 use Rattle.cox_base.specs.Bruhat.{IsSubword}
-use Rattle.cox_reflect.proofs.WordLemmas.{IsSubword-refl, IsSubword-nil, IsSubword-append}
+use Rattle.cox_reflect.proofs.WordsAndSubwords.{IsSubword-refl, IsSubword-nil, IsSubword-append}
 use Rattle.cox_reflect.proofs.Elements.{same-refl, same-sym, same-push}
 use Rattle.cox_reflect.proofs.Search.{normal_form-same, normal_form-equal, word_length-equal}
 use Rattle.cox_reflect.proofs.Lengths.{IsReduced-nil, IsReduced-prefix}
@@ -23,7 +23,7 @@ use Rattle.cox_poly.specs.Coefficients.{Coefficients, one_polynomial}
 use Rattle.cox_poly.specs.Polynomial.{coefficient}
 use Rattle.cox_rpoly.specs.RPolynomial.{r_polynomial}
 use Rattle.cox_rpoly.specs.Terms.{numbered}
-use Rattle.cox_rpoly.proofs.PolynomialLemmas.{r_polynomial-same, r_polynomial-not_below}
+use Rattle.cox_rpoly.proofs.PolynomialsOfElements.{r_polynomial-same, r_polynomial-not_below}
 use Rattle.cox_hecke.proofs.RPolynomials.{unit, unit-one, unit-other, r-word}
 use Rattle.cox_context.specs.Closed.{IsClosed}
 use Rattle.cox_context.specs.Numbers.{word_at}
