@@ -14,3 +14,21 @@ pub mod InversePolynomials
 pub mod InverseDegree
 -- the sum from the other side
 pub mod OtherSide
+-- products of flipped polynomials
+pub mod FlippedProducts
+-- signs as integers
+pub mod Signs
+-- sums of products
+pub mod SumsOfProducts
+-- (-1)^l(w) T(w)
+pub mod SignedBasis
+-- R is its own inverse, but for signs
+pub mod RInversion
+-- lengths, and the longest element
+pub mod LongestElement
+-- Bruhat order and R, and the longest element
+pub mod TurnedAround
+-- the polynomials P(w0 w, w0 z)
+pub mod TurnedPolynomials
+-- P(w0 w, w0 x) is Q(x,w)
+pub mod InversionByLongest

@@ -1,7 +1,8 @@
 //! The laws of inverse Kazhdan-Lusztig polynomials, for every admissible integer matrix A. Each function does nothing: its clauses are
 //! theorems.
 
-ghost use Rattle.std.specs.Prelude.{◌≡◌, ℕ, ◌+◌, ◌-◌, ◌*◌, ◌<◌, ◌≤◌, List, pos};
+ghost use Rattle.std.specs.Prelude.{◌≡◌, ℕ, ◌+◌, ◌-◌, ◌*◌, ◌<◌, ◌≤◌, ◌↔◌, List, [], ◌++◌, pos};
+ghost use Rattle.cox_base.specs.Matrix.{IsWord};
 ghost use Rattle.cox_base.specs.IntegerMatrix.{IntegerMatrix};
 ghost use Rattle.cox_base.specs.Admissible.{IsAdmissible};
 ghost use Rattle.cox_base.specs.Element.{SameElement};
@@ -11,13 +12,15 @@ ghost use Rattle.cox_base.specs.SortedList.{IsListOf};
 ghost use Rattle.cox_base.specs.Interval.{IsBetween};
 ghost use Rattle.cox_poly.specs.Coefficients.{Coefficients, one_polynomial};
 ghost use Rattle.cox_poly.specs.Products.{product};
+ghost use Rattle.cox_rpoly.specs.RPolynomial.{r_polynomial};
 ghost use Rattle.cox_hecke.specs.Family.{Family};
 ghost use Rattle.cox_hecke.specs.Operators.{basis};
 ghost use Rattle.cox_hecke.specs.Sign.{times_sign};
 ghost use Rattle.cox_hecke.specs.Sums.{sum_over};
-ghost use Rattle.cox_hecke.specs.Row.{IsRow};
+ghost use Rattle.cox_hecke.specs.Row.{IsRow, IsKazhdanLusztig};
 ghost use Rattle.cox_hecke.specs.ListedElements.{ListsEach, LiesBetween};
 ghost use Rattle.cox_inverse.specs.InverseRow.{signed_term, IsInverseRow, IsInverse};
+ghost use Rattle.cox_inverse.specs.Longest.{IsLongest};
 
 /// Each element has exactly one inverse row, whichever of its words is taken. The sums of (-1)^(l(z)-l(x)) P(x,z) q(z) are the same over
 /// any list that names each element between x and w once, by any of its words.
@@ -53,4 +56,29 @@ pub fn inverse_polynomials()
         → (x : List ℕ) (between : List (List ℕ)) → IsBelow A x w → IsListOf (IsBetween A x w) between
         → (k : ℕ) → sum_over between (λ z. times_sign (word_length A w - word_length A z) (product (inverses z x) (p z))) k
         ≡ basis A w x k }
+{}
+
+/// The longest element w0 of a finite group: l(w0 x) = l(w0) - l(x), so no element is longer, and where none is longer it is the longest;
+/// w0 w <= w0 x exactly where x <= w; it is its own inverse; and it is the only one (Humphreys 1.8; Björner and Brenti, 2.3).
+pub fn longest()
+    ensures length { (A : IntegerMatrix) → IsAdmissible A → (longest : List ℕ) → IsLongest A longest
+        → (x : List ℕ) → word_length A (longest ++ x) + word_length A x ≡ word_length A longest }
+    ensures longer_than_none { (A : IntegerMatrix) → IsAdmissible A → (longest : List ℕ) → IsLongest A longest
+        → (x : List ℕ) → word_length A x ≤ word_length A longest }
+    ensures order { (A : IntegerMatrix) → IsAdmissible A → (longest : List ℕ) → IsLongest A longest
+        → (x w : List ℕ) → IsBelow A (longest ++ w) (longest ++ x) ↔ IsBelow A x w }
+    ensures twice { (A : IntegerMatrix) → IsAdmissible A → (longest : List ℕ) → IsLongest A longest
+        → SameElement A (longest ++ longest) [] }
+    ensures by_length { (A : IntegerMatrix) → IsAdmissible A → (w : List ℕ) → IsWord A.rank w
+        → ((x : List ℕ) → word_length A x ≤ word_length A w) → IsLongest A w }
+    ensures one { (A : IntegerMatrix) → IsAdmissible A → (v w : List ℕ) → IsLongest A v → IsLongest A w → SameElement A v w }
+{}
+
+/// In a finite group, with the longest element w0, R(w0 w, w0 x) = R(x,w), and P(w0 w, w0 x) is Q(x,w) (Kazhdan and Lusztig 1979, theorem
+/// 3.1).
+pub fn finite_groups()
+    ensures r_polynomials { (A : IntegerMatrix) → IsAdmissible A → (longest : List ℕ) → IsLongest A longest
+        → (x w : List ℕ) (k : ℕ) → r_polynomial A (longest ++ w) (longest ++ x) k ≡ r_polynomial A x w k }
+    ensures inversion { (A : IntegerMatrix) → IsAdmissible A → (longest : List ℕ) → IsLongest A longest
+        → (x w : List ℕ) (f : Coefficients) → IsKazhdanLusztig A (longest ++ w) (longest ++ x) f → IsInverse A x w f }
 {}
