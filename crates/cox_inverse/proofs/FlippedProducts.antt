@@ -22,6 +22,7 @@ product-last : (f h : Coefficients) (k : ℕ) → product f h (suc k) ≡ produc
 product-last f h zero = refl
 product-last f h (suc k) = omega (arith, ints, product-last (without_constant f) h k)
 
+-- f h = h f
 pub product-comm : (f h : Coefficients) (k : ℕ) → product f h k ≡ product h f k
 product-comm f h zero = *ℤ_comm (f zero) (h zero)
 product-comm f h (suc k) =
@@ -29,6 +30,7 @@ product-comm f h (suc k) =
 
 -- ---- flipped
 
+-- a multiple, flipped
 pub flip-multiple : (d : ℕ) (c : ℤ) (f : Coefficients) (k : ℕ) → flip d (scaled c f) k ≡ c *ℤ flip d f k
 flip-multiple d c f k = go (nat_le k d)
   where

@@ -89,10 +89,10 @@ module _ (e : Elements) (g : IsAdmissible (integer_matrix e.matrix)) (closed : I
       in (
         length numbers - suc k.0,
         ⊎_elim (λ (less : k.0 < length numbers - suc n).
-        let h = are.rising k.0 (length numbers - suc n) less (omega (arith, l))
-        in absurd (later-not_below A g e.members closed (number_before numbers n) z (before-member n l) m (omega (arith, h, k.2)) above))
-        (λ (more : length numbers - suc n ≤ k.0). omega (arith, more, k.1, l))
-        (cases_lt k.0 (length numbers - suc n)),
+            let h = are.rising k.0 (length numbers - suc n) less (omega (arith, l))
+            in absurd (later-not_below A g e.members closed (number_before numbers n) z (before-member n l) m (omega (arith, h, k.2)) above))
+            (λ (more : length numbers - suc n ≤ k.0). omega (arith, more, k.1, l))
+            (cases_lt k.0 (length numbers - suc n)),
         rw place k.2,
       )
 
@@ -105,17 +105,17 @@ module _ (e : Elements) (g : IsAdmissible (integer_matrix e.matrix)) (closed : I
       in (
         some,
         ⊎_elim (λ (less : number_before numbers 0 < w). ⊎_elim
-        (λ (before : k.0 < length numbers - suc 0).
-        let h = are.rising k.0 (length numbers - suc 0) before (omega (arith, some)) in absurd (omega (arith, h, k.2, less)))
-        (λ (last : length numbers - suc 0 ≤ k.0).
-        let same : k.0 ≡ length numbers - suc 0 = omega (arith, last, k.1) in ap (number_at numbers) (sym same) ∙ k.2)
-        (cases_lt k.0 (length numbers - suc 0)))
-        (λ (more : w ≤ number_before numbers 0). ⊎_elim
-        (λ (after : w < number_before numbers 0).
-        absurd (later-not_below A g e.members closed (number_before numbers 0) w (before-member 0 some) inside after (before-below 0 some)))
-        (λ (least : number_before numbers 0 ≤ w). omega (arith, more, least))
-        (cases_lt w (number_before numbers 0)))
-        (cases_lt (number_before numbers 0) w),
+            (λ (before : k.0 < length numbers - suc 0).
+            let h = are.rising k.0 (length numbers - suc 0) before (omega (arith, some)) in absurd (omega (arith, h, k.2, less)))
+            (λ (last : length numbers - suc 0 ≤ k.0).
+            let same : k.0 ≡ length numbers - suc 0 = omega (arith, last, k.1) in ap (number_at numbers) (sym same) ∙ k.2)
+            (cases_lt k.0 (length numbers - suc 0)))
+            (λ (more : w ≤ number_before numbers 0). ⊎_elim
+            (λ (after : w < number_before numbers 0).
+            absurd (later-not_below A g e.members closed (number_before numbers 0) w (before-member 0 some) inside after (before-below 0 some)))
+            (λ (least : number_before numbers 0 ≤ w). omega (arith, more, least))
+            (cases_lt w (number_before numbers 0)))
+            (cases_lt (number_before numbers 0) w),
       )
 
   -- the members from x on name each element between x and w once

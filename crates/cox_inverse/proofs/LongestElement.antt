@@ -107,9 +107,11 @@ module _ (A : IntegerMatrix) (g : IsAdmissible A) where
         of_y (shorter e n) = absurd (not_down (omega (arith, e)))
         of_y (longer e p) = of_product p (sign_of A g (longest ++ y) s l)
 
+    -- w0 x by any word of x
     pub turned-same : {x y : List ℕ} → SameElement A x y → SameElement A (longest ++ x) (longest ++ y)
     turned-same e = same-append A g (same-refl A g longest) e
 
+    -- (w0 y) s = w0 (ys), as words
     pub turned-push : (y : List ℕ) (s : ℕ) → (longest ++ y) ++ s ∷ [] ≡ longest ++ (y ++ s ∷ [])
     turned-push y s = append_assoc longest y (s ∷ [])
 
@@ -142,6 +144,7 @@ module _ (A : IntegerMatrix) (g : IsAdmissible A) where
               word_length-equal A g (turned-push_twice x s),
             )
 
+    -- l(w0 x) + l(x) = l(w0)
     pub longest-length : (x : List ℕ) → word_length A (longest ++ x) + word_length A x ≡ word_length A longest
     longest-length x = lengths (word_length A x) x refl
 

@@ -77,6 +77,7 @@ sum_longer c a b f zero e h = omega (arith, linears, neg_mul c (f zero), none c 
 sum_longer c a b f (suc k) e h = omega (arith, linears, at e k, neg_mul c (f (suc k)), none c (f (suc k)) (at h (suc k)))
 
 module _ (A : IntegerMatrix) (g : IsAdmissible A) where
+  -- by any word of y; and 0 unless y ≤ w
   pub signed_r-respects : (w : List ℕ) → RespectsElements A (signed_r A w)
   signed_r-respects w x y e k = rw (word_length-equal A g e, r_polynomial-same A g e (same-refl A g w)) refl
 

@@ -23,6 +23,7 @@ abbrev pub signed_basis : IntegerMatrix → List ℕ → Family
 signed_basis A w x = scaled (sign (word_length A w)) (basis A w x)
 
 module _ (A : IntegerMatrix) (g : IsAdmissible A) where
+  -- at w, and elsewhere
   pub signed_basis-own : {w x : List ℕ} → SameElement A w x → signed_basis A w x ≡ scaled (sign (word_length A w)) one_polynomial
   signed_basis-own {w} {x} e = ap (scaled (sign (word_length A w))) (basis-own A g w x e)
 
@@ -30,6 +31,7 @@ module _ (A : IntegerMatrix) (g : IsAdmissible A) where
   signed_basis-other w x n =
       ap (scaled (sign (word_length A w))) (basis-other A g w x n) ∙ (λ i k. times_zero (sign (word_length A w)) i)
 
+  -- by any word of x
   pub signed_basis-respects : (w : List ℕ) → RespectsElements A (signed_basis A w)
   signed_basis-respects w x y e k = ap (λ (a : ℤ). sign (word_length A w) *ℤ a) (basis-respects A g w x y e k)
 

@@ -11,10 +11,12 @@ abbrev pub sign : ℕ → ℤ
 sign zero = pos 1
 sign (suc d) = neg_ℤ (sign d)
 
+-- a sign of a polynomial is a factor
 pub times_sign-scaled : (d : ℕ) (f : Coefficients) (k : ℕ) → times_sign d f k ≡ scaled (sign d) f k
 times_sign-scaled zero f k = omega (arith, ints)
 times_sign-scaled (suc d) f k = ap neg_ℤ (times_sign-scaled d f k) ∙ sym (neg_mul (sign d) (f k))
 
+-- 1 or -1
 pub sign-square : (d : ℕ) → sign d *ℤ sign d ≡ pos 1
 sign-square zero = omega (arith, ints)
 sign-square (suc d) = rw (neg_mul (sign d) (neg_ℤ (sign d)), mul_neg (sign d) (sign d), sign-square d) (omega (arith, ints))
@@ -23,6 +25,7 @@ sign-square (suc d) = rw (neg_mul (sign d) (neg_ℤ (sign d)), mul_neg (sign d) 
 pub sign-twice : (d : ℕ) (a : ℤ) → sign d *ℤ (sign d *ℤ a) ≡ a
 sign-twice d a = sym (mul_assoc (sign d) (sign d) a) ∙ ap (λ (c : ℤ). c *ℤ a) (sign-square d) ∙ one_times a
 
+-- the sign of a sum
 pub sign-add : (a d : ℕ) → sign (a + d) ≡ sign a *ℤ sign d
 sign-add zero d = let e : zero + d ≡ d = omega arith in rw e (sym (one_times (sign d)))
 sign-add (suc a) d =

@@ -1,4 +1,4 @@
--- Sums of products: their order can be exchanged, and they are turned round term by term.
+-- Sums of products: their order can be exchanged, and they are flipped term by term.
 use Rattle.std.proofs.Common.{◌≡◌, ℕ, ◌+ℤ◌, List, [], ◌∷◌, ap, sym, ◌∙◌}
 use Rattle.cox_poly.specs.Coefficients.{Coefficients}
 use Rattle.cox_poly.specs.Products.{product, flip}
@@ -38,6 +38,7 @@ sums-exchanged_back words r f t k =
     (λ y. ap (λ (h : Coefficients). product (r y) h k) (λ i j. sum_over-equal words (λ z. product (f y z) (t z))
     (λ z. product (t z) (f y z)) j (λ z. product-comm (f y z) (t z) j) i))
 
+-- a sum, flipped
 pub flip-sum_over : (d : ℕ) (words : List (List ℕ)) (f : Family) (k : ℕ)
     → flip d (sum_over words f) k ≡ sum_over words (λ z. flip d (f z)) k
 flip-sum_over d [] f k = ap (λ (h : Coefficients). h k) (flip-none d)

@@ -74,6 +74,7 @@ module _ (A : IntegerMatrix) (g : IsAdmissible A) (longest : List ℕ) (is : IsL
           up : (IsRightDescent A x s → ⊥) → IsBelow A (longest ++ w) (longest ++ x)
           up c = below-trans A g above (lower x (w ++ s ∷ []) size ((lift_up_right A g x w s d c).0 b))
 
+  -- where x ≤ w, w0 w ≤ w0 x; and back
   pub turned-below : (x w : List ℕ) → IsBelow A x w → IsBelow A (longest ++ w) (longest ++ x)
   turned-below x w b = turned_below (word_length A w) x w refl b
 
@@ -129,5 +130,6 @@ module _ (A : IntegerMatrix) (g : IsAdmissible A) (longest : List ℕ) (is : IsL
               ∙ lower (x ++ s ∷ []) (w ++ s ∷ []) size)
               ∙ sym (r-right_longer A g x w s d c)
 
+  -- R(w0 w, w0 x) = R(x,w)
   pub turned-r : (x w : List ℕ) → r_polynomial A (longest ++ w) (longest ++ x) ≡ r_polynomial A x w
   turned-r x w = turned_r (word_length A w) x w refl

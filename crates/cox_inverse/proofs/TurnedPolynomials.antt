@@ -54,6 +54,7 @@ signed_back A g longest words w z = sum_over words (λ y. product (r_polynomial 
 module _ (A : IntegerMatrix) (g : IsAdmissible A) where
   -- ---- P(x,z)
 
+  -- for each z a row; 0 unless x ≤ z, and 1 where they are equal
   pub kl-row : (z : List ℕ) → IsRow A z (λ x. kl_polynomial A g x z)
   kl-row z = kl_polynomial-is_row A g z
 
@@ -143,6 +144,7 @@ module _ (A : IntegerMatrix) (g : IsAdmissible A) where
 
     -- ---- with signs
 
+    -- by any word of z; 0 unless z ≤ w; its degree; the condition of rows
     pub signed_turned-respects : (w : List ℕ) → RespectsElements A (signed_turned A g longest w)
     signed_turned-respects w x y e k =
         rw (word_length-equal A g e) (ap (λ (a : ℤ). sign (word_length A y) *ℤ a) (turned-respects w x y e k))
@@ -166,6 +168,7 @@ module _ (A : IntegerMatrix) (g : IsAdmissible A) where
         (λ y. product-scaled (sign (word_length A z)) (r_polynomial A y w) (turned A g longest y z) k)
         ∙ sum_over-scaled words (sign (word_length A z)) (λ y. product (r_polynomial A y w) (turned A g longest y z)) k)
 
+    -- the sum in it is 0 unless z ≤ w
     pub signed_back-none : (w z : List ℕ) (words : List (List ℕ)) → (IsBelow A z w → ⊥)
         → signed_back A g longest words w z ≡ zero_polynomial
     signed_back-none w z words n = λ i k. sum_over-none words (λ y. product (r_polynomial A y w) (signed_turned A g longest y z)) k

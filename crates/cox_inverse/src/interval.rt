@@ -18,12 +18,7 @@ pub struct Interval {
 
 impl Interval {
     /// The members between the one with the number y and the one with the number w.
-    pub fn between(
-        alloc: Global,
-        ctx: &Context,
-        y: u32,
-        w: u32,
-    ) -> Result<Interval, AllocError>
+    pub fn between(alloc: Global, ctx: &Context, y: u32, w: u32) -> Result<Interval, AllocError>
         requires bottom { y < length ctx.now.members }
         requires top { w < length ctx.now.members }
         ensures interval { IfOk result (IsInterval ctx.now) }

@@ -58,7 +58,7 @@ fn first_in_row(
     requires least { pos 0 ≤ℤ limit }
     ensures some { IfSome result (λ fault. (most : ℤ)
         → ((u v : ℕ) → v < number_at interval.now.members.items k → IsPair ctx.now interval.now.bottom interval.now.top u v
-            → IsWithinLimit (integer_matrix ctx.now.matrix) MAX_COEFFICIENT (word_at ctx.now.members u) (word_at ctx.now.members v))
+        → IsWithinLimit (integer_matrix ctx.now.matrix) MAX_COEFFICIENT (word_at ctx.now.members u) (word_at ctx.now.members v))
         → IsInverseFault ctx.now interval.now.bottom interval.now.top most fault) }
     ensures none { IfNone result ((x : ℕ) → IsPair ctx.now interval.now.bottom interval.now.top x (number_at interval.now.members.items k)
         → IsWithinLimit (integer_matrix ctx.now.matrix) MAX_COEFFICIENT (word_at ctx.now.members x) (word_at ctx.now.members (number_at interval.now.members.items k))) }

@@ -27,9 +27,9 @@ loop-done-init g c =
     in rw (items, to_z-of_z w64 c.args.limit c.ranges.limit) record {
       size = refl;
       inverses = inverses-push c.args.ctx.now c.len-len.ensures.admissible c.len-len.ensures.closed c.args.interval.now.bottom c.args.interval.now.top c.requires.interval.top_member c.args.interval.now.members.items
-    c.requires.interval.between c.args.limit [] (pos 1 ∷ []) c.requires.some top.0 top.2 within
+          c.requires.interval.between c.args.limit [] (pos 1 ∷ []) c.requires.some top.0 top.2 within
           (inverses-none c.args.ctx.now c.len-len.ensures.admissible c.len-len.ensures.closed c.args.interval.now.bottom c.args.interval.now.top c.requires.interval.top_member c.args.interval.now.members.items
-    c.requires.interval.between c.args.limit);
+          c.requires.interval.between c.args.limit);
     }
 
 pub sum_up-requires-clause-inverses : goal.sum_up-requires-clause-inverses
@@ -68,6 +68,6 @@ loop-done-preserved g c =
     in rw (c.push_reserved-in-Ok-closed.ensures.items, to_z-of_z w64 c.args.limit c.ranges.limit) record {
       size = omega (arith, push-length c.loop-done.polynomials.items c.in-Ok-closed.polynomial, c.loop-done.invariant.size);
       inverses = inverses-keep c.args.ctx.now c.len-len.ensures.admissible c.len-len.ensures.closed c.args.interval.now.bottom c.args.interval.now.top c.requires.interval.top_member c.args.interval.now.members.items
-    c.requires.interval.between c.args.limit c.loop-done.polynomials.items c.sum_up.new.sums c.in-Ok-closed.polynomial more is
+          c.requires.interval.between c.args.limit c.loop-done.polynomials.items c.sum_up.new.sums c.in-Ok-closed.polynomial more is
           c.in-Ok-closed.ensures.same c.in-Ok-closed.ensures.trimmed within before;
     }
