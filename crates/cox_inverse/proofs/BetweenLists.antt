@@ -52,7 +52,8 @@ module _ (e : Elements) (y w : ℕ) where
         (cases_lt v z);
   }
 
-  pub found-keep : (z : ℕ) (numbers : List ℕ) → z < length e.members → IsBelow (integer_matrix e.matrix) (word_at e.members y) (word_at e.members z)
+  pub found-keep : (z : ℕ) (numbers : List ℕ) → z < length e.members → IsBelow (integer_matrix e.matrix) (word_at e.members y)
+      (word_at e.members z)
       → IsBelow (integer_matrix e.matrix) (word_at e.members z) (word_at e.members w)
       → AreFound e y w z numbers → AreFound e y w (z + 1) (numbers ++ z ∷ [])
   found-keep z numbers inside above below h = record {
@@ -73,6 +74,7 @@ module _ (e : Elements) (y w : ℕ) where
     above = h.above;
     below = h.below;
     whole = λ z l above below. ⊎_elim (λ (less : z < end). h.whole z less l above below)
-        (λ (more : end ≤ z). absurd (later-not_below (integer_matrix e.matrix) g e.members closed z w l inside (omega (arith, more, all)) below))
+        (λ (more : end ≤ z). absurd (later-not_below (integer_matrix e.matrix) g e.members closed z w l inside (omega
+        (arith, more, all)) below))
         (cases_lt z end);
   }

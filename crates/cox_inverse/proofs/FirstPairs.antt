@@ -1,4 +1,5 @@
--- Polynomials P(x,z) with a coefficient above the limit: the first one that is found, by rising z and then by rising x, is the first of all.
+-- Polynomials P(x,z) with a coefficient above the limit: the first one that is found, by rising z and then by rising x, is the first of
+-- all.
 use Rattle.std.proofs.Common.{◌≡◌, ℕ, ◌+◌, ◌<◌, ◌≤◌, List, length, ℤ, pos, refl, ◌∙◌, ⊎_elim, arith}
 use Rattle.std.specs.Prelude.{unsigned_abs, ◌<ℤ◌, ◌≤ℤ◌, true}
 use lib.Signed.{le_z}
@@ -86,13 +87,15 @@ module _ (e : Elements) (g : IsAdmissible (integer_matrix e.matrix)) (closed : I
   pub upper-place : (u v : ℕ) → IsPair e y w u v → (i : ℕ) × (i < length numbers) × (number_at numbers i ≡ v)
   upper-place u v p = are.whole v p.z_member (below-trans A g p.above p.order) p.below
 
-  pub small-before : (z n x : ℕ) → AreSmallTo e numbers z n → n < length numbers → x ≡ number_at numbers n → (u : ℕ) → u < x → IsPair e y w u z
+  pub small-before : (z n x : ℕ) → AreSmallTo e numbers z n → n < length numbers → x ≡ number_at numbers n →
+      (u : ℕ) → u < x → IsPair e y w u z
       → IsWithinLimit A MAX_COEFFICIENT (word_at e.members u) (word_at e.members z)
   small-before z n x small l is u less p =
       let place = lower-place u z p
       in rw place.2 at (small place.0 (place-less numbers are.rising place.0 n place.1 l (omega (arith, place.2, is, less))) place.1)
 
-  pub small-row : (k : ℕ) → k < length numbers → AreSmallTo e numbers (number_at numbers k) (k + 1) → (u : ℕ) → IsPair e y w u (number_at numbers k)
+  pub small-row : (k : ℕ) → k < length numbers → AreSmallTo e numbers (number_at numbers k) (k + 1) → (u : ℕ) → IsPair e y w u
+      (number_at numbers k)
       → IsWithinLimit A MAX_COEFFICIENT (word_at e.members u) (word_at e.members (number_at numbers k))
   small-row k l small u p =
       let place = lower-place u (number_at numbers k) p
@@ -107,7 +110,8 @@ module _ (e : Elements) (g : IsAdmissible (integer_matrix e.matrix)) (closed : I
       → IsBelow A (word_at e.members (number_at numbers j)) (word_at e.members (number_at numbers k))
       → IsKazhdanLusztig A (word_at e.members (number_at numbers j)) (word_at e.members (number_at numbers k)) (coefficient p)
       → IsFirstAbove MAX_COEFFICIENT p degree value → AreSmallTo e numbers (number_at numbers k) j
-      → ((u v : ℕ) → v < number_at numbers k → IsPair e y w u v → IsWithinLimit A MAX_COEFFICIENT (word_at e.members u) (word_at e.members v))
+      → ((u v : ℕ) → v < number_at numbers k → IsPair e y w u v → IsWithinLimit A MAX_COEFFICIENT (word_at e.members u)
+      (word_at e.members v))
       → IsFirstPair e y w (number_at numbers j) (number_at numbers k) degree value
   first-pair j k degree value p l m order is first small before = record {
     pair = record {
@@ -128,7 +132,8 @@ module _ (e : Elements) (g : IsAdmissible (integer_matrix e.matrix)) (closed : I
       → z ≡ number_at numbers k → IsBelow A (word_at e.members x) (word_at e.members z)
       → IsKazhdanLusztig A (word_at e.members x) (word_at e.members z) (coefficient p)
       → IsFirstAbove MAX_COEFFICIENT p degree value → AreSmallTo e numbers z j
-      → ((u v : ℕ) → v < number_at numbers k → IsPair e y w u v → IsWithinLimit A MAX_COEFFICIENT (word_at e.members u) (word_at e.members v))
+      → ((u v : ℕ) → v < number_at numbers k → IsPair e y w u v → IsWithinLimit A MAX_COEFFICIENT (word_at e.members u)
+      (word_at e.members v))
       → IsFirstPair e y w x z degree value
   first-pair_at x z j k degree value p l m at_x at_z order is first small before =
       rw (at_x, at_z) (first-pair j k degree value p l m (rw (at_x, at_z) at order) (rw (at_x, at_z) at is) first

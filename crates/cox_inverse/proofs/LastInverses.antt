@@ -83,11 +83,13 @@ module _ (e : Elements) (g : IsAdmissible (integer_matrix e.matrix)) (closed : I
 
   pub inverses-push : (polynomials : List (List ℤ)) (p : List ℤ) → length polynomials < length numbers
       → IsInverse A (word_at e.members (number_before numbers (length polynomials))) (word_at e.members w) (coefficient p)
-      → IsPolynomial p → AllWithin limit p → AreInverses e w limit numbers polynomials → AreInverses e w limit numbers (polynomials ++ p ∷ [])
+      → IsPolynomial p → AllWithin limit p → AreInverses e w limit numbers polynomials → AreInverses e w limit numbers
+      (polynomials ++ p ∷ [])
   inverses-push polynomials p more is trimmed within h = record {
     few = omega (arith, more, push-length polynomials p);
     trimmed = λ j l. each j (λ q k. IsPolynomial q) l h.trimmed trimmed;
-    value = λ j l. each j (λ q k. IsInverse A (word_at e.members (number_before numbers k)) (word_at e.members w) (coefficient q)) l h.value is;
+    value = λ j l. each j (λ q k. IsInverse A (word_at e.members (number_before numbers k)) (word_at e.members w)
+        (coefficient q)) l h.value is;
     within = λ j l. each j (λ q k. AllWithin limit q) l h.within within;
   }
     where
@@ -170,7 +172,8 @@ module _ (e : Elements) (g : IsAdmissible (integer_matrix e.matrix)) (closed : I
       order = before-below e g closed y w inside numbers are (length polynomials) more;
       below = below-refl A g (same-refl A g (word_at e.members w));
     };
-    least = least-large_inverse A g limit (word_at e.members (number_before numbers (length polynomials))) (word_at e.members w) sums is degree
+    least = least-large_inverse A g limit (word_at e.members (number_before numbers (length polynomials)))
+        (word_at e.members w) sums is degree
         value first;
     behind = inverses-behind polynomials more h;
   })

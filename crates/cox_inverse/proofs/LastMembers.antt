@@ -90,7 +90,8 @@ module _ (e : Elements) (g : IsAdmissible (integer_matrix e.matrix)) (closed : I
         length numbers - suc k.0,
         ⊎_elim (λ (less : k.0 < length numbers - suc n).
             let h = are.rising k.0 (length numbers - suc n) less (omega (arith, l))
-            in absurd (later-not_below A g e.members closed (number_before numbers n) z (before-member n l) m (omega (arith, h, k.2)) above))
+            in absurd (later-not_below A g e.members closed (number_before numbers n) z (before-member n l) m (omega
+            (arith, h, k.2)) above))
             (λ (more : length numbers - suc n ≤ k.0). omega (arith, more, k.1, l))
             (cases_lt k.0 (length numbers - suc n)),
         rw place k.2,
@@ -112,7 +113,8 @@ module _ (e : Elements) (g : IsAdmissible (integer_matrix e.matrix)) (closed : I
             (cases_lt k.0 (length numbers - suc 0)))
             (λ (more : w ≤ number_before numbers 0). ⊎_elim
             (λ (after : w < number_before numbers 0).
-            absurd (later-not_below A g e.members closed (number_before numbers 0) w (before-member 0 some) inside after (before-below 0 some)))
+            absurd (later-not_below A g e.members closed (number_before numbers 0) w (before-member 0 some) inside after
+            (before-below 0 some)))
             (λ (least : number_before numbers 0 ≤ w). omega (arith, more, least))
             (cases_lt w (number_before numbers 0)))
             (cases_lt (number_before numbers 0) w),
@@ -124,7 +126,8 @@ module _ (e : Elements) (g : IsAdmissible (integer_matrix e.matrix)) (closed : I
       → occurrences A z (last_words e.members numbers (suc n)) ≡ 1
   named-once n l z b =
       let member = below-member A g e.members closed z w inside b.below
-      in let found = behind n member.i l member.within (below-same A g (same-refl A g (word_at e.members (number_before numbers n))) member.same b.above)
+      in let found = behind n member.i l member.within (below-same A g (same-refl A g (word_at e.members
+      (number_before numbers n))) member.same b.above)
       (below-same A g member.same (same-refl A g (word_at e.members w)) b.below)
       in once member.i member.within member.same found.0 found.1 found.2
     where

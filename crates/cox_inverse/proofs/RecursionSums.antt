@@ -1,5 +1,6 @@
 -- The sums of the recursion: what is taken off for the members behind x, one after the other, and what is left is Q(x,w).
-use Rattle.std.proofs.Common.{◌≡◌, ℕ, zero, suc, ◌+◌, ◌-◌, ◌*◌, ◌<◌, ◌≤◌, List, [], ◌∷◌, length, ℤ, pos, ◌-ℤ◌, neg_ℤ, refl, ap, sym, ◌∙◌, ⊎_elim, arith}
+use Rattle.std.proofs.Common.{◌≡◌, ℕ, zero, suc, ◌+◌, ◌-◌, ◌*◌, ◌<◌, ◌≤◌, List, [], ◌∷◌, length, ℤ, pos, ◌-ℤ◌, neg_ℤ, refl, ap, sym, ◌∙◌}
+use Rattle.std.proofs.Common.{⊎_elim, arith}
 use Rattle.std.specs.Prelude.{unsigned_abs, ◌<ℤ◌, ◌≤ℤ◌}
 use Rattle.std.proofs.lemmas.Int.{ints, by_lt_z}
 use Rattle.std.proofs.lemmas.Bool.{cases_lt}
@@ -126,7 +127,8 @@ off-all e g closed y w inside numbers are n some l sums off = record {
     apart : SameElement A x top → ⊥
     apart same =
         let some_last : 0 < length numbers = omega (arith, l)
-        in let here = number-same A g e.members closed (number_before numbers n) w (before-member e g closed y w inside numbers are n l) inside same
+        in let here = number-same A g e.members closed (number_before numbers n) w (before-member e g closed y w inside numbers are n
+        l) inside same
         in let rises = before-rises e g closed y w inside numbers are n 0 some l
         in later-not_below A g e.members closed (number_before numbers 0) w (before-member e g closed y w inside numbers are 0 some_last)
         inside (omega (arith, rises, here)) (before-below e g closed y w inside numbers are 0 some_last)

@@ -1,5 +1,6 @@
 -- Products that are taken off sums with a sign, term by term.
-use Rattle.std.proofs.Common.{◌≡◌, ◌⊎◌, inl, inr, ℕ, zero, suc, ◌+◌, ◌*◌, ◌^◌, ◌%◌, ◌<◌, ◌≤◌, List, ℤ, pos, ◌+ℤ◌, ◌-ℤ◌, ◌*ℤ◌, refl, ap, sym, ◌∙◌, ⊎_elim, arith}
+use Rattle.std.proofs.Common.{◌≡◌, ◌⊎◌, inl, inr, ℕ, zero, suc, ◌+◌, ◌*◌, ◌^◌, ◌%◌, ◌<◌, ◌≤◌, List, ℤ, pos, ◌+ℤ◌, ◌-ℤ◌, ◌*ℤ◌, refl, ap}
+use Rattle.std.proofs.Common.{sym, ◌∙◌, ⊎_elim, arith}
 use Rattle.std.specs.Prelude.{unsigned_abs, neg_ℤ}
 use Rattle.std.proofs.lemmas.Bool.{cases_lt}
 use Rattle.std.proofs.lemmas.Int.{ints}
@@ -17,7 +18,8 @@ use Rattle.cox_inverse.specs.declared.fault.TheConstants.{MAX_COEFFICIENT}
 -- ---- signs
 
 -- what a sign does, by its parity
-pub times_sign-parity : (d : ℕ) (f : Coefficients) (k : ℕ) → ((d % 2 ≡ 0) × (times_sign d f k ≡ f k)) ⊎ ((d % 2 ≡ 1) × (times_sign d f k ≡ neg_ℤ (f k)))
+pub times_sign-parity : (d : ℕ) (f : Coefficients) (k : ℕ) → ((d % 2 ≡ 0) × (times_sign d f k ≡ f k)) ⊎ ((d % 2 ≡ 1) ×
+    (times_sign d f k ≡ neg_ℤ (f k)))
 times_sign-parity zero f k = inl (refl, refl)
 times_sign-parity (suc d) f k = elim (times_sign-parity d f k) [
   | inl even ↦ inr (omega (arith, even.0), omega (arith, ints, even.1))
@@ -51,7 +53,8 @@ factor-odd c d odd f k = elim (times_sign-parity d (scaled c f) k) [
 module _ (p r sums : List ℤ) (d : ℕ) where
   -- the terms below q^n of p, times r, are taken off
   abbrev pub AreTakenOff : ℕ → List ℤ → Type 0
-  AreTakenOff n new = (j : ℕ) → coefficient new j ≡ minus (coefficient sums) (times_sign d (product (terms_below n (coefficient p)) (coefficient r))) j
+  AreTakenOff n new = (j : ℕ) → coefficient new j ≡ minus (coefficient sums) (times_sign d (product (terms_below n (coefficient p))
+      (coefficient r))) j
 
   pub taken_off-none : AreTakenOff 0 sums
   taken_off-none j =

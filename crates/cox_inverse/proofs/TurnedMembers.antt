@@ -1,4 +1,5 @@
--- A context that is a whole finite group: products with the longest element are members, and where all its rows are within a limit, so are the
+-- A context that is a whole finite group: products with the longest element are members, and where all its rows are within a limit, so
+-- are the
 -- inverse rows.
 use Rattle.std.proofs.Common.{◌≡◌, ℕ, ◌+◌, ◌<◌, List, [], ◌∷◌, ◌++◌, length, get_or, take, ℤ, pos, refl, ap, sym, ◌∙◌, arith}
 use Rattle.std.specs.Prelude.{◌≤ℤ◌, ◌<ℤ◌, Contains}
@@ -43,7 +44,8 @@ module _ (e : Elements) (g : IsAdmissible (integer_matrix e.matrix)) (closed : I
   pub member-letter : (x : ℕ) → x < length e.members → (i : ℕ) → i < length (word_at e.members x)
       → IsLetter A.rank (get_or (word_at e.members x) i 0)
   member-letter x l i m =
-      All-get_or (IsLetter A.rank) (word_at e.members x) i 0 m (element-word A g (word_at e.members x) (element-at A g e.members closed x l))
+      All-get_or (IsLetter A.rank) (word_at e.members x) i 0 m (element-word A g (word_at e.members x)
+      (element-at A g e.members closed x l))
 
   -- no product with the longest element is above it
   turned-low : (x : List ℕ) → IsBelow A (word_at e.members longest ++ x) (word_at e.members longest)
@@ -107,7 +109,8 @@ module _ (e : Elements) (g : IsAdmissible (integer_matrix e.matrix)) (closed : I
           above = large.above;
         })
 
-    pub whole-within : (y : List ℕ) (w : ℕ) → w < length e.members → limit ≤ℤ MAX_COEFFICIENT → AreWithinLimits A limit y (word_at e.members w)
+    pub whole-within : (y : List ℕ) (w : ℕ) → w < length e.members → limit ≤ℤ MAX_COEFFICIENT → AreWithinLimits A limit y
+        (word_at e.members w)
     whole-within y w l most = record {
       polynomials = λ x z above order below. within-more A x z limit MAX_COEFFICIENT most (all-polynomials x z w l below);
       inverses = λ x above below. all-inverses x (word_at e.members w);

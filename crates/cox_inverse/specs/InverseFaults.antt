@@ -40,7 +40,8 @@ pub record IsPair (e : Elements) (y w x z : ℕ) : Type 0 where
   pub order : IsBelow (integer_matrix e.matrix) (word_at e.members x) (word_at e.members z)
   pub below : IsBelow (integer_matrix e.matrix) (word_at e.members z) (word_at e.members w)
 
--- y ≤ x ≤ z ≤ w, and P(x,z) has a coefficient above MAX_COEFFICIENT, the first one as told. No z before has such an x, and no x before has one
+-- y ≤ x ≤ z ≤ w, and P(x,z) has a coefficient above MAX_COEFFICIENT, the first one as told. No z before has such an x, and no x before
+-- has one
 -- with this z.
 pub record IsFirstPair (e : Elements) (y w x z degree : ℕ) (value : ℤ) : Type 0 where
   pub pair : IsPair e y w x z
@@ -50,7 +51,8 @@ pub record IsFirstPair (e : Elements) (y w x z degree : ℕ) (value : ℤ) : Typ
   pub before_z : (u v : ℕ) → v < z → IsPair e y w u v
       → IsWithinLimit (integer_matrix e.matrix) MAX_COEFFICIENT (word_at e.members u) (word_at e.members v)
 
--- No P(x,z) has a coefficient above MAX_COEFFICIENT; y ≤ x ≤ w, and Q(x,w) has one above the limit, the first one as told. No x behind has one.
+-- No P(x,z) has a coefficient above MAX_COEFFICIENT; y ≤ x ≤ w, and Q(x,w) has one above the limit, the first one as told. No x behind
+-- has one.
 pub record IsLastInverse (e : Elements) (y w : ℕ) (limit : ℤ) (x degree : ℕ) (value : ℤ) : Type 0 where
   pub small : (u v : ℕ) → IsPair e y w u v
       → IsWithinLimit (integer_matrix e.matrix) MAX_COEFFICIENT (word_at e.members u) (word_at e.members v)

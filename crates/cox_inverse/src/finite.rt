@@ -45,7 +45,8 @@ impl WholeGroup {
         Some(WholeGroup { longest })
     }
 
-    /// Q(y,w), read off the row of w0 y, for the members y <= w. The limit is that with which the group was found: no coefficient is above it.
+    /// Q(y,w), read off the row of w0 y, for the members y <= w. The limit is that with which the group was found: no coefficient is above
+    /// it.
     pub fn polynomial<'a, L: LowerRows>(
         self,
         ctx: &Context,
@@ -60,7 +61,8 @@ impl WholeGroup {
         requires y { y < length ctx.now.members }
         requires w { w < length ctx.now.members }
         requires below { IsBelow (integer_matrix ctx.now.matrix) (word_at ctx.now.members y) (word_at ctx.now.members w) }
-        ensures value { IsInverse (integer_matrix ctx.now.matrix) (word_at ctx.now.members y) (word_at ctx.now.members w) (coefficient result) }
+        ensures value { let A = integer_matrix ctx.now.matrix in
+            IsInverse A (word_at ctx.now.members y) (word_at ctx.now.members w) (coefficient result) }
         ensures within { AreWithinLimits (integer_matrix ctx.now.matrix) limit (word_at ctx.now.members y) (word_at ctx.now.members w) }
     {
         let _len = ctx.len();

@@ -61,7 +61,8 @@ fn first_in_row(
         → IsWithinLimit (integer_matrix ctx.now.matrix) MAX_COEFFICIENT (word_at ctx.now.members u) (word_at ctx.now.members v))
         → IsInverseFault ctx.now interval.now.bottom interval.now.top most fault) }
     ensures none { IfNone result ((x : ℕ) → IsPair ctx.now interval.now.bottom interval.now.top x (number_at interval.now.members.items k)
-        → IsWithinLimit (integer_matrix ctx.now.matrix) MAX_COEFFICIENT (word_at ctx.now.members x) (word_at ctx.now.members (number_at interval.now.members.items k))) }
+        → IsWithinLimit (integer_matrix ctx.now.matrix) MAX_COEFFICIENT (word_at ctx.now.members x)
+        (word_at ctx.now.members (number_at interval.now.members.items k))) }
 {
     let _len = ctx.len();
     if limit <= MAX_COEFFICIENT {

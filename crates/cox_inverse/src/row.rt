@@ -57,9 +57,9 @@ impl InverseRow {
 
 /// The inverse row of w from w down to y, for the members y and w with these numbers, from the rows of all members between them.
 ///
-/// `Coefficient` where a P(x,z) with y <= x <= z <= w has a coefficient above [`MAX_COEFFICIENT`] in absolute value: that of the first such z, of
-/// the first such x for it, and the first one of P(x,z). Else `Inverse` where a Q(x,w) with y <= x <= w has a coefficient above `limit`: that of the
-/// last such x, and the first one of Q(x,w).
+/// `Coefficient` where a P(x,z) with y <= x <= z <= w has a coefficient above [`MAX_COEFFICIENT`] in absolute value: that of the first such
+/// z, of the first such x for it, and the first one of P(x,z). Else `Inverse` where a Q(x,w) with y <= x <= w has a coefficient above
+/// `limit`: that of the last such x, and the first one of Q(x,w).
 pub fn inverse_row<L: LowerRows>(
     alloc: Global,
     ctx: &Context,
@@ -72,12 +72,14 @@ pub fn inverse_row<L: LowerRows>(
     requires w { w < length ctx.now.members }
     requires below { IsBelow (integer_matrix ctx.now.matrix) (word_at ctx.now.members y) (word_at ctx.now.members w) }
     requires lower { L.elements lower.now ≡ ctx.now }
-    requires rows { (z : ℕ) → z < length ctx.now.members → IsBelow (integer_matrix ctx.now.matrix) (word_at ctx.now.members y) (word_at ctx.now.members z)
+    requires rows { (z : ℕ) → z < length ctx.now.members
+        → IsBelow (integer_matrix ctx.now.matrix) (word_at ctx.now.members y) (word_at ctx.now.members z)
         → IsBelow (integer_matrix ctx.now.matrix) (word_at ctx.now.members z) (word_at ctx.now.members w) → L.holds lower.now z }
     requires least { pos 0 ≤ℤ limit }
     requires most { limit ≤ℤ MAX_COEFFICIENT }
     ensures row { IfOk result (IsInverseRowDown ctx.now y w limit) }
-    ensures within { OnOk result (AreWithinLimits (integer_matrix ctx.now.matrix) limit (word_at ctx.now.members y) (word_at ctx.now.members w)) }
+    ensures within { let A = integer_matrix ctx.now.matrix in
+        OnOk result (AreWithinLimits A limit (word_at ctx.now.members y) (word_at ctx.now.members w)) }
     ensures fault { IfErr result (IsInverseFault ctx.now y w limit) }
 {
     let _len = ctx.len();
@@ -103,7 +105,8 @@ fn all_polynomials<L: LowerRows>(
 ) -> Result<Vec<Poly>, InverseFault>
     requires interval { IsInterval ctx.now interval.now }
     requires some { 0 < length interval.now.members.items }
-    requires below { IsBelow (integer_matrix ctx.now.matrix) (word_at ctx.now.members interval.now.bottom) (word_at ctx.now.members interval.now.top) }
+    requires below { let A = integer_matrix ctx.now.matrix in
+        IsBelow A (word_at ctx.now.members interval.now.bottom) (word_at ctx.now.members interval.now.top) }
     requires lower { L.elements lower.now ≡ ctx.now }
     requires rows { AreRowsThere (L.holds lower.now) interval.now }
     requires small { ArePairsSmall ctx.now interval.now.bottom interval.now.top }

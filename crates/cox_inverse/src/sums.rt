@@ -18,7 +18,7 @@ use cox_context::Context;
 use cox_poly::{Acc, Poly, PolyView};
 use cox_row::{LowerRows, polynomial};
 
-/// The sums become those of Q(x,w), for the first member x of the interval behind which each one has its polynomial. At least one is behind it.
+/// The sums become those of Q(x,w), for the last member x of the interval that has no polynomial yet. At least one has.
 pub(crate) fn sum_up<L: LowerRows>(
     ctx: &Context,
     interval: &Interval,
@@ -33,8 +33,9 @@ pub(crate) fn sum_up<L: LowerRows>(
     requires inverses { AreInverses ctx.now interval.now.top MAX_COEFFICIENT interval.now.members.items polynomials.now }
     requires some { 0 < length polynomials.now }
     requires more { length polynomials.now < length interval.now.members.items }
-    ensures { IsInverse (integer_matrix ctx.now.matrix) (word_at ctx.now.members (number_before interval.now.members.items (length polynomials.now)))
-        (word_at ctx.now.members interval.now.top) (coefficient sums.new) }
+    ensures { let x = number_before interval.now.members.items (length polynomials.now) in
+        IsInverse (integer_matrix ctx.now.matrix) (word_at ctx.now.members x) (word_at ctx.now.members interval.now.top)
+        (coefficient sums.new) }
 {
     let _len = ctx.len();
     let last = interval.members.len() - 1;
@@ -56,7 +57,8 @@ fn take_off(p: &PolyView<'_>, r: &PolyView<'_>, d: u32, sums: &mut Acc)
     requires p_small { AllWithin MAX_COEFFICIENT p.now }
     requires r_small { AllWithin MAX_COEFFICIENT r.now }
     requires room { (k : ℕ) → unsigned_abs (coefficient sums.old k) ≤ 2 ^ 122 }
-    ensures sum { (k : ℕ) → coefficient sums.new k ≡ minus (coefficient sums.old) (times_sign d (product (coefficient p.now) (coefficient r.now))) k }
+    ensures sum { (k : ℕ) → coefficient sums.new k
+        ≡ minus (coefficient sums.old) (times_sign d (product (coefficient p.now) (coefficient r.now))) k }
     ensures size { (k : ℕ) → unsigned_abs (coefficient sums.new k) ≤ unsigned_abs (coefficient sums.old k) + 2 ^ 101 }
 {
     let Some(degree) = p.degree() else {

@@ -9,8 +9,10 @@ use Rattle.cox_inverse.proofs.finite.turned.Goals as goal
 
 pub right-requires-clause-letter : goal.right-requires-clause-letter
 right-requires-clause-letter c =
-    let same : c.as_slice-s-items.result.now ≡ word_at c.args.ctx.now.members c.args.x = c.as_slice-s-items.ensures.value ∙ c.word-word.ensures
-    in rw same (member-letter c.args.ctx.now c.len-len.ensures.admissible c.len-len.ensures.closed c.args.longest c.requires.longest c.args.x
+    let same : c.as_slice-s-items.result.now ≡ word_at c.args.ctx.now.members c.args.x = c.as_slice-s-items.ensures.value ∙
+    c.word-word.ensures
+    in rw same (member-letter c.args.ctx.now c.len-len.ensures.admissible c.len-len.ensures.closed c.args.longest c.requires.longest
+    c.args.x
     c.requires.x c.loop-s.s-index (rw same at c.loop-s-test.true))
 
 pub unreachable-requires : goal.unreachable-requires

@@ -8,5 +8,6 @@ use Rattle.cox_inverse.proofs.finite.turned.Given as goal
 abbrev pub invariant-loop-s : goal.invariant-loop-s
 invariant-loop-s l = record {
   inside : l.at < length l.ctx.members;
-  word : word_at l.ctx.members l.at ≡ normal_form (integer_matrix l.ctx.matrix) (word_at l.ctx.members l.longest ++ take l.s-index l.s-items);
+  word : word_at l.ctx.members l.at ≡ normal_form (integer_matrix l.ctx.matrix) (word_at l.ctx.members l.longest ++ take l.s-index
+      l.s-items);
 }

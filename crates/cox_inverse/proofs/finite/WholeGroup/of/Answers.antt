@@ -13,7 +13,8 @@ loop-i-preserved g c = record {
   small = λ x k l. ⊎_elim (λ (less : k < c.loop-i.i). c.loop-i.invariant.small x k less)
       (λ (more : c.loop-i.i ≤ k). let is : k ≡ c.loop-i.i = omega (arith, l, more)
       in let within = rw (to_z-of_z w64 c.args.limit c.ranges.limit) at (c.is_within.ensures c.if-not-is_within.false)
-      in rw (is, to_z-of_z w64 c.args.limit c.ranges.limit) (row-small c.args.ctx.now c.len-i-end.ensures.admissible c.len-i-end.ensures.closed c.loop-i.i
+      in rw (is, to_z-of_z w64 c.args.limit c.ranges.limit) (row-small c.args.ctx.now c.len-i-end.ensures.admissible
+      c.len-i-end.ensures.closed c.loop-i.i
       (omega (arith, c.loop-i-test.true, c.len-i-end.ensures.len)) c.args.limit c.requires.least
       c.row.result.now (rw c.requires.rows at c.row.ensures.row) within x))
       (cases_lt k c.loop-i.i);

@@ -2,7 +2,8 @@
 use Rattle.std.proofs.Common.{◌+◌, ◌<◌, ◌≤◌, length, arith}
 use Rattle.cox_inverse.proofs.BetweenLists.{found-start, found-skip, found-keep, found-all}
 use Rattle.cox_inverse.proofs.interval.Interval.between.Goals as goal
-use Rattle.cox_inverse.proofs.interval.Interval.between.Goals.{then-below+then-below-2+in_ok-push, else-below, else-below-via-then-below+else-below-2, else-below-via-else-below}
+use Rattle.cox_inverse.proofs.interval.Interval.between.Goals.{then-below+then-below-2+in_ok-push, else-below}
+use Rattle.cox_inverse.proofs.interval.Interval.between.Goals.{else-below-via-then-below+else-below-2, else-below-via-else-below}
 
 pub loop-z-init : goal.loop-z-init
 loop-z-init c =
