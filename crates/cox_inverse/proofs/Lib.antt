@@ -32,3 +32,21 @@ pub mod TurnedAround
 pub mod TurnedPolynomials
 -- P(w0 w, w0 x) is Q(x,w)
 pub mod InversionByLongest
+-- the members of an interval behind one of them
+pub mod LastMembers
+-- products that are taken off sums with a sign
+pub mod SignedProducts
+-- the sums of the recursion
+pub mod RecursionSums
+-- the members between two, as they are found
+pub mod BetweenLists
+-- the first polynomials with a large coefficient
+pub mod FirstPairs
+-- the inverse polynomials so far, and the last one with a large coefficient
+pub mod LastInverses
+-- members times the longest element
+pub mod TurnedMembers
+-- inverse rows as they are kept
+pub mod NumberedRows
+-- the members that the recursion goes through
+pub mod SummedMembers
