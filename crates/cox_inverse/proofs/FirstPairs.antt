@@ -21,7 +21,7 @@ use Rattle.cox_row.specs.RowOf.{IsRowAt}
 use Rattle.cox_row.specs.Polynomials.{polynomial_at}
 use Rattle.cox_row.specs.Within.{IsRowWithin}
 use Rattle.cox_klstep.specs.LargeMembers.{IsWithinLimit}
-use Rattle.cox_klstep.proofs.LargeLemmas.{least-large}
+use Rattle.cox_klstep.proofs.LargeCoefficients.{least-large}
 use Rattle.cox_klstep.proofs.Finished.{none-large}
 use Rattle.cox_inverse.specs.declared.fault.TheConstants.{MAX_COEFFICIENT}
 use Rattle.cox_inverse.specs.NumberedInverses.{AreBetween}

@@ -10,7 +10,7 @@ use Rattle.cox_reflect.proofs.Elements.{same-refl, same-sym, same-trans}
 use Rattle.cox_reflect.proofs.Search.{normal_form-same, normal_form-equal}
 use Rattle.cox_reflect.proofs.Bruhat.{below-same, below-refl, below-trans}
 use Rattle.cox_hecke.specs.ListedElements.{occurrences, LiesBetween}
-use Rattle.cox_hecke.proofs.SumLemmas.{occurrences-at}
+use Rattle.cox_hecke.proofs.ListSums.{occurrences-at}
 use Rattle.cox_context.specs.Closed.{Elements, IsClosed}
 use Rattle.cox_context.specs.Numbers.{word_at}
 use Rattle.cox_context.proofs.PlacedWords.{contains-placed, rising-place}

@@ -16,7 +16,7 @@ use Rattle.cox_context.specs.Numbers.{word_at}
 use Rattle.cox_context.proofs.PlacedWords.{contains-at}
 use Rattle.cox_context.proofs.Shifting.{length-at}
 use Rattle.cox_row.specs.Rising.{number_at}
-use Rattle.cox_row.proofs.RisingLemmas.{rising-few}
+use Rattle.cox_row.proofs.RisingNumbers.{rising-few}
 use Rattle.cox_inverse.specs.InverseRow.{IsInverse}
 use Rattle.cox_inverse.specs.NumberedInverses.{number_before, AreBetween}
 use Rattle.cox_inverse.specs.InverseFaults.{IsPair}

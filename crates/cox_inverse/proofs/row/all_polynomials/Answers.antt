@@ -1,7 +1,7 @@
 -- One polynomial more, or the first fault.
 use Rattle.std.proofs.Common.{◌≡◌, ℕ, ◌+◌, ◌-◌, ◌<◌, ◌≤◌, [], ◌∷◌, ◌++◌, length, pos, w64, refl, ◌∙◌, arith}
 use Rattle.std.proofs.lemmas.Int.{to_z-of_z}
-use Rattle.cox_lemmas.proofs.PushLemmas.{push-length}
+use Rattle.cox_lemmas.proofs.PushedItems.{push-length}
 use Rattle.cox_inverse.specs.declared.fault.TheConstants.{MAX_COEFFICIENT}
 use Rattle.cox_inverse.specs.NumberedInverses.{number_before}
 use Rattle.cox_inverse.proofs.LastInverses.{inverses-none, inverses-push, inverses-keep, inverses-more, sums-fault, top-value}

@@ -2,7 +2,7 @@
 use Rattle.std.proofs.Common.{◌≡◌, ◌-◌, ◌<◌, length, Ok, Err, [], ◌∙◌, arith}
 use Rattle.std.specs.Prelude.{Contains}
 use Rattle.std.proofs.lemmas.List.{get_or_default, get_or_read}
-use Rattle.cox_row.proofs.RisingLemmas.{found-rising}
+use Rattle.cox_row.proofs.RisingNumbers.{found-rising}
 use Rattle.cox_inverse.proofs.NumberedRows.{row-value}
 use Rattle.cox_inverse.proofs.row.InverseRow.polynomial.Goals as goal
 
