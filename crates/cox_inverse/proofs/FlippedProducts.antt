@@ -1,5 +1,5 @@
--- Products of polynomials are commutative. Flipped, that is with 1/q for q and a power of q as a factor, they are the products of the flipped
--- factors.
+-- Products of polynomials are commutative. Flipped, that is with 1/q for q and a power of q as a factor, they are the products of the
+-- flipped factors.
 use Rattle.std.proofs.Common.{◌≡◌, ℕ, zero, suc, ◌+◌, ◌-◌, ◌≤◌, ◌<◌, Bool, true, false, if◌then◌else◌, refl, ap, sym, ◌∙◌, ⊎_elim, arith}
 use Rattle.std.proofs.Common.{ℤ, pos, ◌+ℤ◌, ◌*ℤ◌}
 use Rattle.std.specs.Prelude.{nat_le}

@@ -17,8 +17,8 @@ use Rattle.cox_hecke.specs.Row.{IsRow}
 abbrev pub signed_term : IntegerMatrix → (List ℕ → Family) → Family → List ℕ → Family
 signed_term A rows q x z = times_sign (word_length A z - word_length A x) (product (rows z x) (q z))
 
--- q is the inverse row of w: q(x) = 0 unless x ≤ w; and for each x ≤ w the sum of (-1)^(l(z)-l(x)) P(x,z) q(z) over the z with x ≤ z ≤ w is 1
--- where x = w, else 0.
+-- q is the inverse row of w: q(x) = 0 unless x ≤ w; and for each x ≤ w the sum of (-1)^(l(z)-l(x)) P(x,z) q(z) over the z with
+-- x ≤ z ≤ w is 1 where x = w, else 0.
 pub record IsInverseRow (A : IntegerMatrix) (w : List ℕ) (q : Family) : Type 0 where
   pub element : RespectsElements A q
   pub outside : (x : List ℕ) → ¬ IsBelow A x w → (k : ℕ) → q x k ≡ pos 0

@@ -75,7 +75,8 @@ fn next_entries(
     requires ascent { ¬ IsRightDescent (integer_matrix ctx.now.matrix) (word_at ctx.now.members at) t }
     requires column { IsColumn (integer_matrix ctx.now.matrix) ctx.now.members (word_at ctx.now.members at) column.now }
     requires short { length (word_at ctx.now.members at) < MAX_DIFFERENCE }
-    ensures { IfOk result (λ entries. IsColumn (integer_matrix ctx.now.matrix) ctx.now.members (word_at ctx.now.members next) entries.items) }
+    ensures { IfOk result (λ entries. IsColumn (integer_matrix ctx.now.matrix) ctx.now.members
+        (word_at ctx.now.members next) entries.items) }
 {
     let _len = ctx.len();
     let mut entries = Vec::with_capacity(alloc, next as usize + 1)?;
@@ -103,12 +104,15 @@ pub(crate) fn longer(
     t: u8,
 ) -> Result<Column, AllocError>
     requires number { column.now.number < length ctx.now.members }
-    requires column { IsColumn (integer_matrix ctx.now.matrix) ctx.now.members (word_at ctx.now.members column.now.number) column.now.entries.items }
+    requires column { IsColumn (integer_matrix ctx.now.matrix) ctx.now.members
+        (word_at ctx.now.members column.now.number) column.now.entries.items }
     requires letter { IsLetter ctx.now.matrix.rank t }
     requires ascent { ¬ IsRightDescent (integer_matrix ctx.now.matrix) (word_at ctx.now.members column.now.number) t }
     requires short { length (word_at ctx.now.members column.now.number) < MAX_DIFFERENCE }
-    requires member { Contains ctx.now.members (normal_form (integer_matrix ctx.now.matrix) (word_at ctx.now.members column.now.number ++ t ∷ [])) }
-    ensures { IfOk result (IsColumnOf (integer_matrix ctx.now.matrix) ctx.now.members (word_at ctx.now.members column.now.number ++ t ∷ [])) }
+    requires member { Contains ctx.now.members
+        (normal_form (integer_matrix ctx.now.matrix) (word_at ctx.now.members column.now.number ++ t ∷ [])) }
+    ensures { IfOk result (IsColumnOf (integer_matrix ctx.now.matrix) ctx.now.members
+        (word_at ctx.now.members column.now.number ++ t ∷ [])) }
 {
     let Some(number) = ctx.right(t, column.number) else {
         unreachable!();

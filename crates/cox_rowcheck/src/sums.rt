@@ -42,7 +42,8 @@ fn add_column(ctx: &Context, sums: &mut Vec<Acc>, column: &Column, p: &Poly)
     requires sums { length sums.old.items ≡ length ctx.now.members }
     requires number { column.now.number < length ctx.now.members }
     requires short { length (word_at ctx.now.members column.now.number) ≤ MAX_DIFFERENCE }
-    requires column { IsColumn (integer_matrix ctx.now.matrix) ctx.now.members (word_at ctx.now.members column.now.number) column.now.entries.items }
+    requires column { IsColumn (integer_matrix ctx.now.matrix) ctx.now.members
+        (word_at ctx.now.members column.now.number) column.now.entries.items }
     requires small { IsSmall p.now }
     requires room { (i k : ℕ) → unsigned_abs (coefficient (numbered sums.old.items i) k) ≤ 2 ^ 124 }
     ensures size { length sums.new.items ≡ length sums.old.items }
