@@ -1,6 +1,6 @@
 -- What a session keeps: intervals that are part of a context, and faults of rows as causes of a refusal.
-use Rattle.std.proofs.Common.{◌≡◌, ℕ, ◌≤◌, Bool, List, length, filter, Contains, Option, None, Some, inl, inr, refl, ap, ◌∙◌, Err}
-use Rattle.std.proofs.Common.{arith, pos, ◌≤ℤ◌}
+use Rattle.std.proofs.Common.{◌≡◌, ℕ, ◌≤◌, Bool, List, length, filter, Contains, None, Some, inl, inr, refl, ap, ◌∙◌, Err}
+use Rattle.std.proofs.Common.{arith, pos, ◌≤ℤ◌, Result, Ok, OnOk, IfErr}
 use Rattle.std.proofs.lemmas.Int.{ints}
 use Rattle.std.proofs.lemmas.List.Sums.{length-filter, count_by-le-length}
 use Rattle.cox_base.specs.IntegerMatrix.{IntegerMatrix, integer_matrix}
@@ -31,7 +31,7 @@ use Rattle.cox_rows.specs.Holding.{Holding, HasRow}
 use Rattle.cox_rows.specs.Ensured.{IsEnsured}
 use Rattle.cox_rows.proofs.NeedDecided.{needs_beyond-same}
 use Rattle.cox_rows.proofs.RowsFaultLemmas.{fault-beyond}
-use Rattle.cox_answers.specs.Kept.{AreOf, IsMore, HoldsRow, Keeps, unanswered_by}
+use Rattle.cox_answers.specs.Kept.{AreOf, IsMore, HoldsRow, Keeps, unanswered_by, unless_fault}
 use Rattle.cox_answers.specs.Limits.{Limits}
 use Rattle.cox_answers.specs.Question.{IsRefused}
 use Rattle.cox_answers.specs.Listed.{RefusesLarge}
@@ -89,15 +89,21 @@ more-of G limits old new of more = record {
   few = rw more.same.elements of.few;
 }
 
--- the rows while that of w is ensured, under its number
-module _ (limits : Limits) (G : CoxeterMatrix) (g : IsAdmissible (integer_matrix G)) (w : List ℕ) (i : ℕ) (old new : Holding)
-    (of : AreOf G limits old) (number : IsNumberOf old.elements.members (normal_form (integer_matrix G) w) (Some i))
-    (ensured : IsEnsured (word_at old.elements.members i) old new) where
+-- the rows `old` that are kept, with which that of w has the number i, then maybe more of them, and those after that row is ensured
+module _ (limits : Limits) (G : CoxeterMatrix) (g : IsAdmissible (integer_matrix G)) (w : List ℕ) (i : ℕ) (old mid new : Holding)
+    (was : AreOf G limits old) (kept : IsNumberOf old.elements.members (normal_form (integer_matrix G) w) (Some i)) (more : IsMore old mid)
+    (ensured : IsEnsured (word_at mid.elements.members i) mid new) where
   abbrev A : IntegerMatrix
   A = integer_matrix G
 
   least : pos 0 ≤ℤ pos limits.coefficient
   least = omega (arith, ints)
+
+  of : AreOf G limits mid
+  of = more-of G limits old mid was more
+
+  number : IsNumberOf mid.elements.members (normal_form (integer_matrix G) w) (Some i)
+  number = rw more.same.elements kept
 
   -- they stay those of the group
   pub still-of : AreOf G limits new
@@ -107,32 +113,41 @@ module _ (limits : Limits) (G : CoxeterMatrix) (g : IsAdmissible (integer_matrix
     few = rw ensured.elements of.few;
   }
 
-  pub holds-row : HasRow new i → HoldsRow (integer_matrix G) w i new
+  holds-row : HasRow new i → HoldsRow (integer_matrix G) w i new
   holds-row there = record { within = rw ensured.elements number.0; word = rw ensured.elements number.1; held = there }
 
-  same : SameElement A (word_at old.elements.members i) w
+  same : SameElement A (word_at mid.elements.members i) w
   same = rw number.1 (normal_form-same A g w)
 
-  pub still-small : (NeedsBeyond (integer_matrix old.elements.matrix) old.limit (word_at old.elements.members i) → ⊥)
+  still-small : (NeedsBeyond (integer_matrix mid.elements.matrix) mid.limit (word_at mid.elements.members i) → ⊥)
       → NeedsBeyond (integer_matrix G) (pos limits.coefficient) w → ⊥
   still-small small beyond = small (rw (of.group, of.limit) (needs_beyond-same A g (pos limits.coefficient) least w
-      (word_at old.elements.members i) (same-sym A g same) beyond))
+      (word_at mid.elements.members i) (same-sym A g same) beyond))
 
-  beyond : (fault : StepFault) → IsRowsFault old.elements old.limit
-      (IsNeeded (integer_matrix old.elements.matrix) (word_at old.elements.members i)) fault → (fault ≡ NoMemory → ⊥)
+  beyond : (fault : StepFault) → IsRowsFault mid.elements mid.limit
+      (IsNeeded (integer_matrix mid.elements.matrix) (word_at mid.elements.members i)) fault → (fault ≡ NoMemory → ⊥)
       → NeedsBeyond A (pos limits.coefficient) w
   beyond fault is other =
-      let found = fault-beyond old.elements old.limit
-      (IsNeeded (integer_matrix old.elements.matrix) (word_at old.elements.members i)) fault other is in
-      let needs : NeedsBeyond (integer_matrix old.elements.matrix) old.limit (word_at old.elements.members i) =
-      record { element = word_at old.elements.members found.0; needed = found.1.one; beyond = found.2 } in
-      needs_beyond-same A g (pos limits.coefficient) least (word_at old.elements.members i) w same (rw (of.group, of.limit) at needs)
+      let found = fault-beyond mid.elements mid.limit
+      (IsNeeded (integer_matrix mid.elements.matrix) (word_at mid.elements.members i)) fault other is in
+      let needs : NeedsBeyond (integer_matrix mid.elements.matrix) mid.limit (word_at mid.elements.members i) =
+      record { element = word_at mid.elements.members found.0; needed = found.1.one; beyond = found.2 } in
+      needs_beyond-same A g (pos limits.coefficient) least (word_at mid.elements.members i) w same (rw (of.group, of.limit) at needs)
 
   -- a fault is a cause of the refusal, unless memory ran out
-  pub still-refused : (few : HasMoreThan limits.context (IsInInterval A w) → ⊥) (kept : Option Holding) (fault : StepFault)
-      → IsRowsFault old.elements old.limit (IsNeeded (integer_matrix old.elements.matrix) (word_at old.elements.members i)) fault
-      → Keeps {X = ℕ} (Err (unanswered_by fault)) (RefusesRow limits A w) (HoldsRow A w) kept
-  still-refused few kept (Coefficient x z degree value) is =
+  still-refused : (few : HasMoreThan limits.context (IsInInterval A w) → ⊥) (fault : StepFault)
+      → IsRowsFault mid.elements mid.limit (IsNeeded (integer_matrix mid.elements.matrix) (word_at mid.elements.members i)) fault
+      → Keeps {X = ℕ} (Err (unanswered_by fault)) (RefusesRow limits A w) (HoldsRow A w) (Some new)
+  still-refused few (Coefficient x z degree value) is =
       row-refused limits A w few (beyond (Coefficient x z degree value) is (λ e. absurd (cc e)))
-  still-refused few kept (Mu x z value) is = row-refused limits A w few (beyond (Mu x z value) is (λ e. absurd (cc e)))
-  still-refused few kept NoMemory is = tt
+  still-refused few (Mu x z value) is = row-refused limits A w few (beyond (Mu x z value) is (λ e. absurd (cc e)))
+  still-refused few NoMemory is = tt
+
+  -- the row is held then, or there was such a fault
+  pub still-keeps : (HasMoreThan limits.context (IsInInterval A w) → ⊥) → (made : Result Unit StepFault) → OnOk made (HasRow new i)
+      → OnOk made (NeedsBeyond (integer_matrix mid.elements.matrix) mid.limit (word_at mid.elements.members i) → ⊥)
+      → IfErr made (IsRowsFault mid.elements mid.limit
+      (IsNeeded (integer_matrix mid.elements.matrix) (word_at mid.elements.members i)))
+      → Keeps (unless_fault made i) (RefusesRow limits A w) (HoldsRow A w) (Some new)
+  still-keeps few (Ok done) there small fault = (row-allowed limits A w few (still-small small), holds-row there)
+  still-keeps few (Err why) there small fault = still-refused few why fault

@@ -61,7 +61,8 @@ module _ (A : IntegerMatrix) (g : IsAdmissible A) (members : List (List ℕ)) (c
 
   pub none-before : (low : ℕ) → low < length members → word_at members low ≡ normal_form A y → filter (is_below A y) (take low members) ≡ []
   none-before low within is =
-      filter-passes_none (is_below A y) low members (omega (arith, within)) (λ k before. false_from_ne_true (is_below A y (word_at members k))
+      filter-passes_none (is_below A y) low members (omega (arith, within))
+      (λ k before. false_from_ne_true (is_below A y (word_at members k))
       (λ e. not-before low k within is before ((is_below-tells A g y (word_at members k)).0 e)))
 
   -- no member is above an element that is none

@@ -15,7 +15,7 @@ use Rattle.cox_module.proofs.OneImage.{image-exists}
 use Rattle.cox_answers.specs.Limits.{Limits}
 use Rattle.cox_answers.specs.GroupReply.{RefusesGroupRows}
 use Rattle.cox_answers.specs.ModuleReply.{IsModuleText, module_text}
-use Rattle.cox_answers.specs.Answerable.{HasOneText, IsAnswerable}
+use Rattle.cox_answers.specs.Answerable.{IsAnswerable}
 use Rattle.cox_answers.proofs.CellLists.{some_cell}
 use Rattle.cox_answers.proofs.ModuleTexts.{module-same}
 use Rattle.cox_answers.proofs.GroupQuestions.{group_rows-decided, group-list}
@@ -27,7 +27,8 @@ module _ (A : IntegerMatrix) (g : IsAdmissible A) (w : List ℕ) (rank : ℕ) wh
       let are : AreImages A q.0 p.2 = subst (λ cell. AreImages A cell p.2) same p.3 in
       p.4 ∙ (λ i. module_text rank (same i) p.2 (letters A.rank)) ∙ module-same A g rank q.0 q.1.rising p.2 q.2 are q.3 ∙ sym q.4
 
-  pub module-of_cell : (cell : List (List ℕ)) → IsListOf (IsInCell Left A (normal_form A w)) cell → (text : List ℕ) × IsModuleText rank A w text
+  pub module-of_cell : (cell : List (List ℕ)) → IsListOf (IsInCell Left A (normal_form A w)) cell
+      → (text : List ℕ) × IsModuleText rank A w text
   module-of_cell cell is = (
     module_text rank cell (λ s k. (image-exists A g cell is.rising s k).0) (letters A.rank),
     (cell, is, _, (λ s k letter l. (image-exists A g cell is.rising s k).1), refl),

@@ -25,7 +25,8 @@ flat_map-same P f g (x ∷ xs) all same =
 
 all-below : (n a m : ℕ) → a + m ≤ n → All (λ k. k < n) (range_with_len a m)
 all-below n a zero most = All-nil (λ k. k < n)
-all-below n a (suc m) most = All-cons (λ k. k < n) a (range_with_len (a + 1) m) (omega (arith, most)) (all-below n (a + 1) m (omega (arith, most)))
+all-below n a (suc m) most =
+    All-cons (λ k. k < n) a (range_with_len (a + 1) m) (omega (arith, most)) (all-below n (a + 1) m (omega (arith, most)))
 
 pub head-same : (r rank : ℕ) (x y : List ℕ) → r ≡ rank → x ≡ y → term_head_text r x ≡ term_head_text rank y
 head-same r rank x y ranks words = λ i. term_head_text (ranks i) (words i)
@@ -45,7 +46,8 @@ pub letters-size : (rank : ℕ) → length (letters rank) ≡ rank
 unfolding letters
 letters-size rank = length-range_with_len 1 rank
 
-module _ (A : IntegerMatrix) (g : IsAdmissible A) (rank : ℕ) (cell : List (List ℕ)) (rising : IsRising cell) (images others : ℕ → ℕ → List Term)
+module _ (A : IntegerMatrix) (g : IsAdmissible A) (rank : ℕ) (cell : List (List ℕ)) (rising : IsRising cell)
+    (images others : ℕ → ℕ → List Term)
     (are : AreImages A cell images) (are' : AreImages A cell others) where
   operator-same : (s : ℕ) → IsLetter A.rank s → operator_text rank cell images s ≡ operator_text rank cell others s
   operator-same s letter = flat_map-same (λ k. k < length cell) (image_line rank cell images s)

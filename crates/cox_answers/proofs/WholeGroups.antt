@@ -1,6 +1,6 @@
 -- Whole groups among what is kept: when all elements are members, and what refuses them or their rows.
 use Rattle.std.proofs.Common.{◌≡◌, ℕ, ◌≤◌, ◌<◌, List, [], ◌∷◌, length, Contains, Option, None, Some, Err, inl, inr, refl, ap, ◌∙◌}
-use Rattle.std.proofs.Common.{arith, subst, pos}
+use Rattle.std.proofs.Common.{arith, subst, pos, Result, Ok, OnOk, IfErr}
 use Rattle.cox_base.specs.Matrix.{CoxeterMatrix, IsLetter}
 use Rattle.cox_base.specs.IntegerMatrix.{IntegerMatrix, integer_matrix}
 use Rattle.cox_base.specs.Admissible.{IsAdmissible}
@@ -23,7 +23,7 @@ use Rattle.cox_context.proofs.SortedLemmas.{HasMoreThan-few}
 use Rattle.cox_context.proofs.RefusalLemmas.{too_large-found}
 use Rattle.cox_klstep.specs.declared.fault.StepFault.{StepFault}
 use Rattle.cox_klstep.specs.declared.fault.StepFault.TheVariants.{Coefficient, Mu, NoMemory}
-use Rattle.cox_rows.specs.Holding.{Holding}
+use Rattle.cox_rows.specs.Holding.{Holding, HasRow}
 use Rattle.cox_rows.specs.RowsFaults.{IsFaultOfSome}
 use Rattle.cox_rows.specs.Beyond.{IsBeyond, NeedsBeyond}
 use Rattle.cox_rows.proofs.RowsFaultLemmas.{fault-beyond}
@@ -32,7 +32,8 @@ use Rattle.cox_command.specs.declared.refusal.Refusal.TheVariants.{LargeInterval
 use Rattle.cox_answers.specs.Limits.{Limits}
 use Rattle.cox_answers.specs.Question.{IsRefused}
 use Rattle.cox_answers.specs.GroupReply.{RefusesGroupRows}
-use Rattle.cox_answers.specs.Kept.{AreOf, HoldsGroup, HoldsAll, Keeps, unanswered_by}
+use Rattle.cox_answers.proofs.KeptLemmas.{more-of}
+use Rattle.cox_answers.specs.Kept.{AreOf, IsMore, HoldsGroup, HoldsAll, Keeps, unanswered_by, unless_fault}
 use Rattle.cox_answers.specs.GroupSize.{RefusesLargeGroup}
 
 module _ (A : IntegerMatrix) (g : IsAdmissible A) (members : List (List ℕ)) where
@@ -138,3 +139,23 @@ fault-refused table limits rows of whole small kept (Coefficient x w degree valu
 fault-refused table limits rows of whole small kept (Mu x w value) is =
     some-refused table limits rows of whole small (Mu x w value) (λ e. absurd (cc e)) is
 fault-refused table limits rows of whole small kept NoMemory is = tt
+
+-- the rows of all elements are held after they were made, or there was such a fault
+pub group-keeps : (table : CoxeterMatrix) (limits : Limits) (g : IsAdmissible (integer_matrix table)) (old mid new : Holding)
+    → AreOf table limits old → HoldsGroup (integer_matrix table) old → IsMore old mid
+    → (IsTooLarge (IsElement (integer_matrix table)) limits.context → ⊥) → new.elements ≡ mid.elements → (made : Result Unit StepFault)
+    → OnOk made ((i : ℕ) → i < length mid.elements.members → HasRow new i)
+    → OnOk made ((i : ℕ) → i < length mid.elements.members
+    → NeedsBeyond (integer_matrix mid.elements.matrix) mid.limit (word_at mid.elements.members i) → ⊥)
+    → IfErr made (IsFaultOfSome mid.elements mid.limit)
+    → Keeps {X = Unit {0}} (unless_fault made tt) (RefusesGroupRows limits (integer_matrix table))
+    (λ _ rows. HoldsAll (integer_matrix table) rows) (Some new)
+group-keeps table limits g old mid new was held more small elements (Ok done) there none fault =
+    let A = integer_matrix table in
+    let of : AreOf table limits mid = more-of table limits old mid was more in
+    let whole : HoldsGroup A mid = rw more.same.elements held in (
+      rows-allowed limits A g small mid.elements.members whole (λ i within. (rw (of.group, of.limit) at none) i within),
+      record { whole = rw elements whole; held = λ i within. there i (rw elements at within) },
+    )
+group-keeps table limits g old mid new was held more small elements (Err why) there none fault =
+    fault-refused table limits mid (more-of table limits old mid was more) (rw more.same.elements held) small (Some new) why fault

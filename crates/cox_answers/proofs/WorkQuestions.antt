@@ -102,5 +102,7 @@ module _ (A : IntegerMatrix) (g : IsAdmissible A) where
     })
     work-answerable words = record {
       decided = work-decided words;
-      answer = λ free. let totals = totals-exist words in let list = polynomials-of A words totals.0 totals.1 in (_, (list.0, list.1, refl));
+      answer = λ free.
+          let totals = totals-exist words in
+          let list = polynomials-of A words totals.0 totals.1 in (_, (list.0, list.1, refl));
     }

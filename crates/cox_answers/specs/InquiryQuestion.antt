@@ -1,5 +1,5 @@
 -- What each command on elements, or on the whole group, asks, in the terms of Coxeter groups.
-use Rattle.std.specs.Prelude.{ℤ, ◌≡◌, ℕ, ◌+◌, ◌<◌, ◌↔◌, Bool, IsTrue, List, reverse, decimal}
+use Rattle.std.specs.Prelude.{◌≡◌, ℕ, ◌+◌, ◌<◌, ◌↔◌, Bool, IsTrue, List, reverse, decimal}
 use Rattle.cox_base.specs.Matrix.{CoxeterMatrix}
 use Rattle.cox_base.specs.IntegerMatrix.{IntegerMatrix, integer_matrix}
 use Rattle.cox_base.specs.ShortLex.{normal_form}
@@ -63,15 +63,19 @@ one_question Inverse limits rank A w = text_question (element_text rank (normal_
 one_question Descent limits rank A w = text_question (descent_text rank (descent_set Left A w) (descent_set Right A w))
 one_question Coatoms limits rank A w = record { Refuses = RefusesLarge limits A w; IsText = IsOfList (IsCoatom A w) (elements_text rank) }
 one_question Betti limits rank A w = record { Refuses = RefusesLarge limits A w; IsText = IsOfList (IsInInterval A w) (counts_text A w) }
-one_question Klbasis limits rank A w = record { Refuses = RefusesRow limits A w; IsText = IsOfRow A w (IsInInterval A w) (pairs_text rank A w) }
-one_question Ihbetti limits rank A w = record { Refuses = RefusesRow limits A w; IsText = IsOfRow A w (IsInInterval A w) (ihbetti_text A w) }
-one_question Extremals limits rank A w = record { Refuses = RefusesRow limits A w; IsText = IsOfRow A w (IsExtremalBelow A w) (pairs_text rank A w) }
+one_question Klbasis limits rank A w =
+    record { Refuses = RefusesRow limits A w; IsText = IsOfRow A w (IsInInterval A w) (pairs_text rank A w) }
+one_question Ihbetti limits rank A w =
+    record { Refuses = RefusesRow limits A w; IsText = IsOfRow A w (IsInInterval A w) (ihbetti_text A w) }
+one_question Extremals limits rank A w =
+    record { Refuses = RefusesRow limits A w; IsText = IsOfRow A w (IsExtremalBelow A w) (pairs_text rank A w) }
 one_question Module limits rank A w = record { Refuses = RefusesGroupRows limits A; IsText = IsModuleText rank A w }
 
 -- what a command asks of the elements of y and w
 abbrev pub two_question : TwoWord → Limits → ℕ → IntegerMatrix → List ℕ → List ℕ → Question
 two_question Inorder limits rank A y w = record { Refuses = RefusesNone; IsText = IsOrderText A y w }
-two_question Interval limits rank A y w = record { Refuses = RefusesLarge limits A w; IsText = IsOfList (IsBetween A y w) (elements_text rank) }
+two_question Interval limits rank A y w =
+    record { Refuses = RefusesLarge limits A w; IsText = IsOfList (IsBetween A y w) (elements_text rank) }
 two_question Rpol limits rank A y w = record { Refuses = RefusesFar A y w; IsText = λ text. text ≡ r_text A y w }
 two_question Pol limits rank A y w = record { Refuses = RefusesRow limits A w; IsText = IsPolText A y w }
 two_question Mu limits rank A y w = record { Refuses = RefusesRow limits A w; IsText = IsMuText A y w }

@@ -78,3 +78,8 @@ Keeps (Err unanswered.NoMemory) Refuses Holds kept = Unit {0}
 abbrev pub unanswered_by : StepFault → Unanswered
 unanswered_by fault.NoMemory = unanswered.NoMemory
 unanswered_by _ = unanswered.Refused LargeRow
+
+-- a value, unless there was a fault of rows
+abbrev pub unless_fault : {X : Type 0} → Result Unit StepFault → X → Result X Unanswered
+unless_fault (Ok done) value = Ok value
+unless_fault (Err fault) value = Err (unanswered_by fault)

@@ -5,7 +5,7 @@
 //! - `polynomials`: R-polynomials
 //! - `kept`: the rows that a session keeps
 //! - `kept_group`: those of a whole group
-//! - `rows`: single Kazhdan-Lusztig polynomials, and mu
+//! - `rows`: the answers from the row of an element, and single polynomials of it, and mu
 //! - `pairs`: the polynomials of a row, all or the extremal ones
 //! - `sums`: the polynomials of a row, summed up
 //! - `graphs`: W-graphs and cells
@@ -35,17 +35,17 @@ mod pairs;
 mod polynomials;
 mod rows;
 mod sums;
-mod unanswered;
+pub(crate) mod unanswered;
 
 use crate::row_maker::RowMaker;
 use crate::workspace::Workspace;
-use cox_base::{MAX_RANK, Side, Word};
-use cox_cells::CellKind;
-use cox_command::{Inquiry, NoWord, OneWord, TwoWord};
+use cox_base::{MAX_RANK, Word};
+use cox_command::{Inquiry, OneWord, TwoWord};
 use cox_minroots::RootTable;
 use cox_print::{NoMemory, put_count, put_descent, put_element, put_end, put_truth};
 use intervals::{put_betti, put_coatoms, put_interval};
 use polynomials::put_rpol;
+use rows::{EntryKind, RowKind};
 pub use unanswered::Unanswered;
 use unanswered::unrefused;
 
@@ -92,20 +92,16 @@ impl Workspace {
             Inquiry::One(OneWord::Descent, w) => unrefused(put_both_descents(out, table, w)),
             Inquiry::One(OneWord::Coatoms, w) => put_coatoms(out, table, options, w),
             Inquiry::One(OneWord::Betti, w) => put_betti(out, table, options, w),
-            Inquiry::One(OneWord::Klbasis, w) => self.put_klbasis(maker, out, w),
-            Inquiry::One(OneWord::Ihbetti, w) => self.put_ihbetti(maker, out, w),
-            Inquiry::One(OneWord::Extremals, w) => self.put_extremals(maker, out, w),
+            Inquiry::One(OneWord::Klbasis, w) => self.put_row(maker, out, RowKind::Klbasis, w),
+            Inquiry::One(OneWord::Ihbetti, w) => self.put_row(maker, out, RowKind::Ihbetti, w),
+            Inquiry::One(OneWord::Extremals, w) => self.put_row(maker, out, RowKind::Extremals, w),
             Inquiry::One(OneWord::Module, w) => self.put_module(maker, out, w),
             Inquiry::Two(TwoWord::Inorder, y, w) => put_inorder(out, table, y, w),
             Inquiry::Two(TwoWord::Interval, y, w) => put_interval(out, table, options, y, w),
             Inquiry::Two(TwoWord::Rpol, y, w) => put_rpol(out, table, y, w),
-            Inquiry::Two(TwoWord::Pol, y, w) => self.put_pol(maker, out, y, w),
-            Inquiry::Two(TwoWord::Mu, y, w) => self.put_mu(maker, out, y, w),
-            Inquiry::Plain(NoWord::Lwgraph) => self.put_graph(maker, out, Side::Left),
-            Inquiry::Plain(NoWord::Rwgraph) => self.put_graph(maker, out, Side::Right),
-            Inquiry::Plain(NoWord::Lcells) => self.put_cells(maker, out, CellKind::Left),
-            Inquiry::Plain(NoWord::Rcells) => self.put_cells(maker, out, CellKind::Right),
-            Inquiry::Plain(NoWord::Lrcells) => self.put_cells(maker, out, CellKind::Both),
+            Inquiry::Two(TwoWord::Pol, y, w) => self.put_entry(maker, out, EntryKind::Pol, y, w),
+            Inquiry::Two(TwoWord::Mu, y, w) => self.put_entry(maker, out, EntryKind::Mu, y, w),
+            Inquiry::Plain(kind) => self.put_group(maker, out, *kind),
             Inquiry::Work { start, count } => self.put_generated(maker, out, *start, *count),
         }
     }
@@ -114,7 +110,8 @@ impl Workspace {
 /// Puts the normal form of w.
 fn put_normal_form(out: &mut Vec<u8>, table: &RootTable, w: &Word) -> Result<(), Unanswered>
     requires { IsWord table.now.rank w.now.items }
-    ensures { PutsUnless result RefusesNone (λ text. text ≡ element_text table.now.rank (normal_form (integer_matrix table.now) w.now.items))
+    ensures { PutsUnless result RefusesNone
+        (λ text. text ≡ element_text table.now.rank (normal_form (integer_matrix table.now) w.now.items))
         out.old.items out.new.items }
 {
     unrefused(put_element(out, table.group().rank(), &table.normal_form(w)))
@@ -124,7 +121,8 @@ fn put_normal_form(out: &mut Vec<u8>, table: &RootTable, w: &Word) -> Result<(),
 fn put_inverse(out: &mut Vec<u8>, table: &RootTable, w: &Word) -> Result<(), Unanswered>
     requires { IsWord table.now.rank w.now.items }
     ensures { PutsUnless result RefusesNone
-        (λ text. text ≡ element_text table.now.rank (normal_form (integer_matrix table.now) (reverse w.now.items))) out.old.items out.new.items }
+        (λ text. text ≡ element_text table.now.rank (normal_form (integer_matrix table.now) (reverse w.now.items)))
+        out.old.items out.new.items }
 {
     unrefused(put_element(out, table.group().rank(), &table.inverse(w)))
 }
@@ -141,7 +139,8 @@ fn put_inorder(out: &mut Vec<u8>, table: &RootTable, y: &Word, w: &Word) -> Resu
 /// Puts the left and the right descents of w.
 fn put_both_descents(out: &mut Vec<u8>, table: &RootTable, w: &Word) -> Result<(), NoMemory>
     requires { IsWord table.now.rank w.now.items }
-    ensures { Puts result (descent_text table.now.rank (left_descents (integer_matrix table.now) w.now.items) (right_descents (integer_matrix table.now) w.now.items))
+    ensures { Puts result (descent_text table.now.rank
+        (left_descents (integer_matrix table.now) w.now.items) (right_descents (integer_matrix table.now) w.now.items))
         out.old.items out.new.items }
 {
     put_descent(

@@ -1,5 +1,5 @@
 //! When the whole group is taken in the place of interval after interval.
-ghost use Rattle.std.specs.Prelude.{◌≡◌, ℕ, ◌≤◌, ◌<◌, ◌^◌, Contains, IfSome, IfNone};
+ghost use Rattle.std.specs.Prelude.{ℕ, ◌≤◌, Contains, IfSome, IfNone};
 ghost use Rattle.cox_base.specs.Admissible.{IsCoxeterMatrix};
 ghost use Rattle.cox_base.specs.Matrix.{IsLetter, IsWord};
 ghost use Rattle.cox_base.specs.IntegerMatrix.{integer_matrix};
@@ -13,8 +13,9 @@ const FIRST_TRY: u64 = 4096;
 
 /// What the extensions of the context that is kept have cost.
 ///
-/// An extension lists all members of the context anew, and so the members of each are counted. Once they are as many as a bound, the whole group is
-/// taken, if it has at most that many elements; else the bound is doubled. So all tries together cost at most about as much as the extensions do.
+/// An extension lists all members of the context anew, and so the members of each are counted. Once they are as many as a bound, the whole
+/// group is taken, if it has at most that many elements; else the bound is doubled. So all tries together cost at most about as much as the
+/// extensions do.
 #[derive(Clone, Copy, Debug, Drop)]
 pub struct Growth {
     /// How many members the contexts had together that were made so far.
@@ -32,12 +33,15 @@ impl Growth {
         }
     }
 
-    /// Counts a context that was made, with so many members.
-    pub fn count(&mut self, members: u32) {
-        self.listed = self.listed.saturating_add(u64::from(members));
+    /// Counts a context that was made, if there now are so many members where there were so many before.
+    pub fn count(&mut self, before: u32, now: u32) {
+        if now != before {
+            self.listed = self.listed.saturating_add(u64::from(now));
+        }
     }
 
-    /// How many elements the group may have that is to be tried now; `None` if none is to be tried. The next try is due when twice as many members were listed.
+    /// How many elements the group may have that is to be tried now; `None` if none is to be tried. The next try is due when twice as many
+    /// members were listed.
     pub fn due(&mut self, limit: u32) -> Option<u32>
         requires { 1 ≤ limit }
         ensures some { IfSome result (λ n. 1 ≤ n) }
@@ -52,12 +56,13 @@ impl Growth {
     }
 }
 
-/// A word with all letters among its right descents, found by adding letters that are not: in a finite group the longest element. `None` where there is
-/// none of at most `MAX_LETTERS` letters, as in each infinite group.
+/// A word with all letters among its right descents, found by adding letters that are not: in a finite group the longest element. `None`
+/// where there is none of at most `MAX_LETTERS` letters, as in each infinite group.
 pub fn longest_word(table: &RootTable) -> Option<Word>
     requires { IsCoxeterMatrix table.now }
     ensures word { IfSome result (λ w. IsWord table.now.rank w.items) }
-    ensures longest { IfSome result (λ w. (s : ℕ) → IsLetter table.now.rank s → Contains (right_descents (integer_matrix table.now) w.items) s) }
+    ensures longest { IfSome result (λ w. (s : ℕ) → IsLetter table.now.rank s
+        → Contains (right_descents (integer_matrix table.now) w.items) s) }
 {
     let mut word = Word::new();
     for _ in 0..MAX_LETTERS {
@@ -75,7 +80,8 @@ fn missing_letter(table: &RootTable, word: &Word) -> Option<u8>
     requires word { IsWord table.now.rank word.now.items }
     ensures letter { IfSome result (IsLetter table.now.rank) }
     ensures missing { IfSome result (λ s. ¬ Contains (right_descents (integer_matrix table.now) word.now.items) s) }
-    ensures none { IfNone result ((s : ℕ) → IsLetter table.now.rank s → Contains (right_descents (integer_matrix table.now) word.now.items) s) }
+    ensures none { IfNone result ((s : ℕ) → IsLetter table.now.rank s
+        → Contains (right_descents (integer_matrix table.now) word.now.items) s) }
 {
     let rank = table.group().rank();
     prove!(rank as usize <= MAX_RANK);

@@ -1,8 +1,9 @@
 //! What commands on elements work with.
 
 use crate::answers::Unanswered;
-use crate::answers::kept::{keep_row, widen};
-use crate::answers::kept_group::keep_group;
+use crate::answers::kept::{keep_interval, widen, with_row};
+use crate::answers::kept_group::{keep_elements, with_all};
+use crate::answers::unanswered::unless_fault;
 use crate::growth::{Growth, longest_word};
 use crate::row_maker::RowMaker;
 use cox_base::{MAX_RANK, Word};
@@ -12,7 +13,8 @@ use cox_rows::Rows;
 use std::alloc::Global;
 use std::marker::Model;
 
-/// What commands on elements work with: the group that is set, by its small roots, the options of the session, and the rows that were made so far.
+/// What commands on elements work with: the group that is set, by its small roots, the options of the session, and the rows that were made
+/// so far.
 ///
 /// Which rows are kept shows in no answer.
 #[derive(Drop)]
@@ -109,17 +111,21 @@ impl Workspace {
         ensures group { IsCoxeterMatrix self.old.table }
     {
         self.take_group();
-        let before = self.member_count();
-        let kept = keep_row(alloc, &mut self.rows, &self.table, self.options, maker, w);
-        let now = self.member_count();
-        if now != before {
-            self.growth.count(now);
-        }
-        kept
+        let before = member_count(&self.rows);
+        let number = keep_interval(alloc, &mut self.rows, &self.table, self.options, w);
+        self.growth.count(before, member_count(&self.rows));
+        let i = number?;
+        let Some(rows) = self.rows.take() else {
+            unreachable!();
+        };
+        let mut rows = with_row(alloc, rows, maker, i);
+        let made = rows.ensure(i);
+        self.rows = Some(rows);
+        unless_fault(made, i)
     }
 
-    /// Takes the whole group, if extensions have cost as much as that is expected to. No answer depends on it: the rows that are kept stay, under
-    /// their members' new numbers, and without memory none may be left.
+    /// Takes the whole group, if extensions have cost as much as that is expected to. No answer depends on it: the rows that are kept stay,
+    /// under their members' new numbers, and without memory none may be left.
     fn take_group(&mut self)
         ensures same { IsSameWork self.old self.new }
     {
@@ -129,14 +135,6 @@ impl Workspace {
         prove!(self.table.group().rank() as usize <= MAX_RANK);
         if let Some(longest) = longest_word(&self.table) {
             widen(&mut self.rows, &self.table, self.options, &longest, most);
-        }
-    }
-
-    /// How many members the context has that is kept; 0 where none is.
-    fn member_count(&self) -> u32 {
-        match &self.rows {
-            Some(rows) => rows.context().len(),
-            None => 0,
         }
     }
 
@@ -153,6 +151,21 @@ impl Workspace {
             (λ _ rows. HoldsAll (integer_matrix self.old.table) rows) self.new.rows }
         ensures group { IsCoxeterMatrix self.old.table }
     {
-        keep_group(alloc, &mut self.rows, &self.table, self.options, maker)
+        keep_elements(alloc, &mut self.rows, &self.table, self.options)?;
+        let Some(rows) = self.rows.take() else {
+            unreachable!();
+        };
+        let mut rows = with_all(alloc, rows, maker);
+        let made = rows.ensure_all();
+        self.rows = Some(rows);
+        unless_fault(made, ())
+    }
+}
+
+/// How many members the context of these rows has; 0 where there are none.
+fn member_count(rows: &Option<Rows>) -> u32 {
+    match rows {
+        Some(rows) => rows.context().len(),
+        None => 0,
     }
 }

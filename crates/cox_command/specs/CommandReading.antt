@@ -17,8 +17,8 @@ use Rattle.cox_command.specs.declared.command_word.CommandWord.TheVariants.{Name
 abbrev pub word_argument : Option ℕ → List (List ℕ) → ℕ → ArrayVec ℕ
 word_argument rank arguments place = record { items = word_of (rank_or_zero rank) (argument arguments place) }
 
--- The command that a command word gives with these arguments, where the group that is set, if any, has this rank. `type` sets the matrix of a
--- named type, `matrix` one by its rank and its labels above the diagonal, row by row.
+-- The command that a command word gives with these arguments, where the group that is set, if any, has this rank. `type` sets the matrix of
+-- a named type, `matrix` one by its rank and its labels above the diagonal, row by row.
 abbrev pub command_by : CommandWord → List (List ℕ) → Option ℕ → Command
 command_by Named arguments rank = gives.Group (type_matrix (slice_index (argument arguments 0) 0) (value_of (argument arguments 1)))
 command_by Matrix arguments rank =

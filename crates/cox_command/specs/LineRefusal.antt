@@ -77,9 +77,9 @@ takes_words (One word) = true
 takes_words (Two word) = true
 takes_words _ = false
 
--- Whether a refusal applies to a command with these arguments, where the group that is set, if any, has this rank. NoGroup: the command needs
--- a group, and none is set. LongWord: a word argument has more pieces than a word may have letters. ForeignLetter: a word argument is not `e`
--- and has a piece that is no letter of the group.
+-- Whether a refusal applies to a command with these arguments, where the group that is set, if any, has this rank. NoGroup: the command
+-- needs a group, and none is set. LongWord: a word argument has more pieces than a word may have letters. ForeignLetter: a word argument is
+-- not `e` and has a piece that is no letter of the group.
 abbrev pub applies : CommandWord → List (List ℕ) → Option ℕ → Refusal → Bool
 applies verb arguments rank WrongCount = has_wrong_count verb arguments
 applies verb arguments rank WrongNumber = has_wrong_number verb arguments

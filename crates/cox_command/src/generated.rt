@@ -1,5 +1,5 @@
 //! The words that `work` generates.
-ghost use Rattle.std.specs.Prelude.{◌≡◌, ◌≤◌, ◌<◌};
+ghost use Rattle.std.specs.Prelude.{◌≡◌, ◌≤◌};
 ghost use Rattle.cox_base.specs.Matrix.{IsWord, IsLetter};
 ghost use Rattle.cox_command.specs.Generated.{next_state, state_letter, state_behind_word, generated_word};
 

@@ -14,9 +14,9 @@ use cox_tokens::{Tokens, first_token, tokens_in};
 
 /// Reads a line: the command that it gives, where the group that is set, if any, has this rank.
 ///
-/// The error is the first refusal that applies, in the order `UnknownCommand`, `WrongCount`, `WrongNumber`, `NoGroup`, `UnknownType`, `WrongLabel`,
-/// `LongWord`, `ForeignLetter`; a blank line is never refused. For example `type A 2` gives the group A 2, and `length 13` is refused with `ForeignLetter`
-/// where the rank is 2, with `NoGroup` where no group is set.
+/// The error is the first refusal that applies, in the order `UnknownCommand`, `WrongCount`, `WrongNumber`, `NoGroup`, `UnknownType`,
+/// `WrongLabel`, `LongWord`, `ForeignLetter`; a blank line is never refused. For example `type A 2` gives the group A 2, and `length 13` is
+/// refused with `ForeignLetter` where the rank is 2, with `NoGroup` where no group is set.
 pub fn parse(line: &[u8], rank: Option<u32>) -> Result<Command, LineFault>
     requires size { length line.now < 2 ^ 32 }
     requires rank { IfSome rank (λ n. n ≤ MAX_RANK) }

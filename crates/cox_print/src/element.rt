@@ -11,7 +11,8 @@ use crate::putting::put_end;
 use cox_base::{MAX_RANK, Word, separator};
 use cox_poly::append::put_text;
 
-/// Appends an element: `e` for the empty word, else its letters, separated by dots in a group of rank 10 to 16. `rank` is that of the group.
+/// Appends an element: `e` for the empty word, else its letters, separated by dots in a group of rank 10 to 16. `rank` is that of the
+/// group.
 pub fn put_element(out: &mut Vec<u8>, rank: u32, w: &Word) -> Result<(), NoMemory>
     requires rank { rank ≤ MAX_RANK }
     requires word { IsWord rank w.now.items }
@@ -29,7 +30,8 @@ pub fn put_set(out: &mut Vec<u8>, rank: u32, letters: &Word) -> Result<(), NoMem
     put_letters_or(out, b"-", rank, letters)
 }
 
-/// Appends the next element of a list: the end of the line before, then the element. A list begins with `put_count`, the number of its elements.
+/// Appends the next element of a list: the end of the line before, then the element. A list begins with `put_count`, the number of its
+/// elements.
 pub fn put_next_element(out: &mut Vec<u8>, rank: u32, w: &Word) -> Result<(), NoMemory>
     requires rank { rank ≤ MAX_RANK }
     requires word { IsWord rank w.now.items }

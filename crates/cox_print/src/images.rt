@@ -7,14 +7,13 @@ ghost use Rattle.cox_poly.specs.PolynomialText.{factor_text};
 ghost use Rattle.cox_print.specs.AnswerText.{image_head_text, term_head_text, half_text};
 
 use crate::NoMemory;
-use crate::element::put_element;
 use crate::items::put_other_element;
 use crate::putting::put_natural;
 use cox_base::{MAX_RANK, Word};
 use cox_poly::append::{put_number, put_text};
 
-/// Appends what stands before the image of an element under a letter: the letter, a space, the element and `:`, as in `1 21:`. `rank` is that
-/// of the group.
+/// Appends what stands before the image of an element under a letter: the letter, a space, the element and `:`, as in `1 21:`. `rank` is
+/// that of the group.
 pub fn put_image_head(out: &mut Vec<u8>, rank: u32, s: u8, x: &Word) -> Result<(), NoMemory>
     requires rank { rank ≤ MAX_RANK }
     requires word { IsWord rank x.now.items }

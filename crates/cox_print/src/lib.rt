@@ -1,4 +1,5 @@
-//! The texts of answers. Each call appends one text to a vector of bytes. Where memory runs out it appends a prefix of that text, which may be empty.
+//! The texts of answers. Each call appends one text to a vector of bytes. Where memory runs out it appends a prefix of that text, which may
+//! be empty.
 //!
 //! The texts are definitions in `specs/AnswerText.antt`; `Puts` in `specs/Puts.antt` of `cox_poly` says how one is put behind others.
 //! It stands on `cox_poly` for bytes, numbers and polynomials, whose calls it hands on, and on `cox_base` for words.

@@ -1,6 +1,6 @@
 -- What is due is a prefix of the answer: the lines that were read are the first of the script's.
-use Rattle.std.proofs.Common.{◌≡◌, ◌⊎◌, ◌≤◌, ◌+◌, ◌-◌, ℕ, Bool, true, false, inl, inr, cond, nat_le, ◌==◌, Some, List, [], ◌∷◌, ◌++◌, length}
-use Rattle.std.proofs.Common.{take}
+use Rattle.std.proofs.Common.{◌≡◌, ◌⊎◌, ◌≤◌, ◌+◌, ◌-◌, ℕ, Bool, true, false, inl, inr, cond, nat_le, ◌==◌, Some, List, [], ◌∷◌, ◌++◌}
+use Rattle.std.proofs.Common.{length, take}
 use Rattle.std.proofs.Common.{refl, sym, ap, ◌∙◌, subst, arith, append_assoc, length-append}
 use Rattle.std.proofs.lemmas.List.{append-nil, take_all, take-append-le}
 use Rattle.std.proofs.lemmas.Bool.{leb-true, cases_lt}

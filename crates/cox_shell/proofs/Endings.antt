@@ -251,7 +251,8 @@ ends_stopping why.NoMemory refused old now next going p s = (ends_cut_off refuse
 ends_stopping why.InputLimit refused old now next going p s = ends_at_limit refused old now next going p s.0.0 s.1
 
 -- a fault stops the run exactly where the status tells it
-pub stopping-read_fault : (stopped : Stopped) (refused : Bool) → is_read_fault (status_of stopped refused) ≡ stopped_read_fault (Err stopped)
+pub stopping-read_fault : (stopped : Stopped) (refused : Bool)
+    → is_read_fault (status_of stopped refused) ≡ stopped_read_fault (Err stopped)
 stopping-read_fault why.End true = refl
 stopping-read_fault why.End false = refl
 stopping-read_fault why.ReadFault refused = refl
@@ -259,7 +260,8 @@ stopping-read_fault why.WriteFault refused = refl
 stopping-read_fault why.NoMemory refused = refl
 stopping-read_fault why.InputLimit refused = refl
 
-pub stopping-write_fault : (stopped : Stopped) (refused : Bool) → is_write_fault (status_of stopped refused) ≡ stopped_write_fault (Err stopped)
+pub stopping-write_fault : (stopped : Stopped) (refused : Bool)
+    → is_write_fault (status_of stopped refused) ≡ stopped_write_fault (Err stopped)
 stopping-write_fault why.End true = refl
 stopping-write_fault why.End false = refl
 stopping-write_fault why.ReadFault refused = refl

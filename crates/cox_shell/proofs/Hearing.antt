@@ -41,7 +41,8 @@ content_refusal-foreign content place short =
       found_some (Some before) e = refl
 
 -- what a session says to a line that is refused by its bytes
-pub hears_refused : (said : Result Said AllocError) (why : Refusal) (line : List ℕ) (state next : State) (halt : Option Stop) (old new : Ahead)
+pub hears_refused : (said : Result Said AllocError) (why : Refusal) (line : List ℕ) (state next : State) (halt : Option Stop)
+    (old new : Ahead)
     (before after : List ℕ)
     → content_refusal (content_of line) ≡ Some why → TakesNext halt line old new → before ≡ []
     → IfOk said (λ told. (reply : Reply) × (reply ≡ refusal state why) × Says told reply next before after)

@@ -1,6 +1,6 @@
 -- What a run over the lines says of the whole run.
-use Rattle.std.proofs.Common.{◌≡◌, ◌⊎◌, ◌<◌, ◌≤◌, ◌+◌, ℕ, Bool, true, false, inl, inr, Option, Some, None, List, [], ◌∷◌, ◌++◌, length, take}
-use Rattle.std.proofs.Common.{option_map, unwrap_or, ℤ, pos, unsigned_abs}
+use Rattle.std.proofs.Common.{◌≡◌, ◌⊎◌, ◌<◌, ◌≤◌, ◌+◌, ℕ, Bool, true, false, inl, inr, Option, Some, None, List, [], ◌∷◌, ◌++◌, length}
+use Rattle.std.proofs.Common.{take, option_map, unwrap_or, ℤ, pos, unsigned_abs}
 use Rattle.std.proofs.Common.{codes, refl, sym, ◌∙◌, subst, arith, length-append, ap}
 use Rattle.std.specs.Bool.{MatchBool}
 use Rattle.std.specs.Option.{IfSome}
@@ -183,7 +183,8 @@ module _ (limits : Limits) (script : Option (List ℕ)) (old : Outlet) (state : 
     given = part.has_read.taken ++ reader.feed.pending;
     taken = gave_all part.has_read.taken part.has_read.gave;
     lines = part.lines;
-    are_read = elim part.has_read.are_read as (λ _. IsPrefix part.lines (ended_lines (take INPUT_LIMIT (part.has_read.taken ++ reader.feed.pending)))
+    are_read = elim part.has_read.are_read as (λ _.
+        IsPrefix part.lines (ended_lines (take INPUT_LIMIT (part.has_read.taken ++ reader.feed.pending)))
         ⊎ (IsAtEnd supply.left × IsPrefix part.lines (script_lines (part.has_read.taken ++ reader.feed.pending)))) [
           | inl ended ↦ inl ended
           | inr whole ↦ inr (IsAtEnd-left reader.feed.pending supply.left whole.0, whole.1)

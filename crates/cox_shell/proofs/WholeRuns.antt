@@ -51,7 +51,8 @@ takes-none script = ([], sym (prepend_known-none script), omega arith)
 
 module _ (status : Status) (arguments : List (List ℕ)) (source : Supply) (state : State) (reader : Reader) (left : Supply)
     (old new : Outlet)
-    (right : IsTaken arguments) (runs : Runs status (beginning (given_limits arguments) source.left old) (stand state reader left new)) where
+    (right : IsTaken arguments)
+    (runs : Runs status (beginning (given_limits arguments) source.left old) (stand state reader left new)) where
   pub run-lines : SourceCause source left (is_read_fault status) → SinkCause old new (is_write_fault status)
       → IsRun status arguments source left old new
   run-lines reads writes = record {
@@ -157,7 +158,8 @@ pub run-unhindered : (status : Status) (arguments : List (List ℕ)) (source lef
     → IsSomeAnd source.left (λ script. length script ≤ INPUT_LIMIT) → IsUnhindered status
 run-unhindered Done arguments source left old new run right no_read no_write within = tt
 run-unhindered Refused arguments source left old new run right no_read no_write within = tt
-run-unhindered Usage arguments source left old new run right no_read no_write within = not-taken_and_wrong arguments right (run.usage refl).0
+run-unhindered Usage arguments source left old new run right no_read no_write within =
+    not-taken_and_wrong arguments right (run.usage refl).0
 run-unhindered ReadFault arguments source left old new run right no_read no_write within =
     no_read (rose-told source.faults left.faults run.read_fault.faults)
 run-unhindered WriteFault arguments source left old new run right no_read no_write within =

@@ -6,7 +6,8 @@ use Rattle.cox_answers.specs.Limits.{Limits}
 use Rattle.cox_shell.specs.Reply.{Reply}
 use Rattle.cox_shell.specs.Answer.{AreScriptReplies, texts, has_quit}
 
--- the replies to the script's lines within the limit were written, all and nothing else; none of them ends the run, and there are more bytes
+-- the replies to the script's lines within the limit were written, all and nothing else; none of them ends the run, and there are more
+-- bytes
 pub record AnswersWithin (limits : Limits) (script : List ℕ) (old new : Outlet) : Type 0 where
   pub replies : List Reply
   pub are_replies : AreScriptReplies limits script replies

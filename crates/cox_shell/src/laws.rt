@@ -24,8 +24,10 @@ pub fn some_answer()
 
 /// A script has at most one answer, and each of its lines at most one reply.
 pub fn one_answer()
-    ensures replies { (limits : Limits) → (script : List ℕ) → (one other : List Reply) → AreScriptReplies limits script one → AreScriptReplies limits script other → one ≡ other }
-    ensures text { (limits : Limits) → (script one other : List ℕ) → IsAnswer limits script one → IsAnswer limits script other → one ≡ other }
+    ensures replies { (limits : Limits) → (script : List ℕ) → (one other : List Reply) → AreScriptReplies limits script one
+        → AreScriptReplies limits script other → one ≡ other }
+    ensures text { (limits : Limits) → (script one other : List ℕ) → IsAnswer limits script one → IsAnswer limits script other
+        → one ≡ other }
 {}
 
 /// What is due of a script, wherever reading stands, is a prefix of its answer.
@@ -47,7 +49,8 @@ pub fn limit_answers_the_lines_within()
 
 /// Without faults a script within the limit is answered whole, unless memory runs out.
 pub fn complete()
-    ensures { (status : Status) (arguments : List (List ℕ)) (source left : Supply) (old new : Outlet) → IsRun status arguments source left old new
+    ensures { (status : Status) (arguments : List (List ℕ)) (source left : Supply) (old new : Outlet)
+        → IsRun status arguments source left old new
         → IsTaken arguments → ¬ Rose source.faults left.faults → ¬ Rose old.faults new.faults
         → IsSomeAnd source.left (λ script. length script ≤ INPUT_LIMIT) → IsUnhindered status }
 {}

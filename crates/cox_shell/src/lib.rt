@@ -6,8 +6,8 @@
 //! arguments say where rows are made.
 //! `run_one` has one thread, and is proved to return. A [`Session`] answers single lines.
 //!
-//! It stands on `cox_outside` for lines and bytes, on `cox_command` and `cox_print` for commands and texts, on `cox_options` for the arguments, on
-//! `cox_answers` for what is asked of a group, and on `cox_workers` for rows that several threads make.
+//! It stands on `cox_outside` for lines and bytes, on `cox_command` and `cox_print` for commands and texts, on `cox_options` for the
+//! arguments, on `cox_answers` for what is asked of a group, and on `cox_workers` for rows that several threads make.
 //!
 //! - `status`: how a run ends
 //! - `workers`: rows that are made by several threads

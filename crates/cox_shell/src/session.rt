@@ -67,7 +67,7 @@ impl Session {
     ghost use Rattle.std.specs.Prelude.{◌≡◌, ◌<◌, ◌≤◌, ◌^◌, length, IfOk, OnErr, IfSome, IsSomeAnd};
     ghost use Rattle.cox_command.specs.declared.command.Command.TheVariants.{Group};
     ghost use Rattle.cox_command.specs.ParseContract.{HasLetters, HasWordsOf};
-    ghost use Rattle.cox_shell.specs.Reply.{Reply, opening, with_group, refusal, rank_of};
+    ghost use Rattle.cox_shell.specs.Reply.{Reply, opening, refusal, rank_of};
     ghost use Rattle.cox_answers.specs.SessionLimits.{limits_of};
     ghost use Rattle.cox_shell.specs.ContentReply.{IsContentReply};
     ghost use Rattle.cox_shell.specs.CommandReply.{IsCommandReply, IsInquiryReply};
@@ -95,8 +95,8 @@ impl Session {
         self.answer_content(&OneThread, line, out)
     }
 
-    /// Answers a line in the same way, with as many workers as the options say where rows are made. Each of them passes the gate before each claim and
-    /// each publication of a row.
+    /// Answers a line in the same way, with as many workers as the options say where rows are made. Each of them passes the gate before
+    /// each claim and each publication of a row.
     pub fn answer_with<R: Threads + Wait + Sync, G: Gate + Sync>(
         &mut self,
         rt: &R,

@@ -1,7 +1,7 @@
 //! Workers that make rows into a store that they share.
 //!
-//! The rows that are there are moved into the store first, and all come back afterwards. What the workers could not make is left to whoever asked:
-//! one thread makes it then, or finds that a row is beyond a limit.
+//! The rows that are there are moved into the store first, and all come back afterwards. What the workers could not make is left to whoever
+//! asked: one thread makes it then, or finds that a row is beyond a limit.
 ghost use Rattle.std.specs.Prelude.{◌≡◌, ◌⊎◌, ℕ, ◌<◌, ◌≤◌, length};
 ghost use Rattle.cox_claims.specs.Seats.{HoldsNothing, HasSeen, view_of};
 ghost use Rattle.cox_claims.specs.Knowledge.{SeesAll};
@@ -42,8 +42,8 @@ impl<F: Fn(Rows, Global, &[u32]) -> Rows> RowMaker for ByWorkers<F> {
     }
 }
 
-/// The same rows, and those of the members with these numbers, by so many workers, as far as there is memory for them and none is beyond a limit.
-/// Each worker passes the gate before each claim and each publication.
+/// The same rows, and those of the members with these numbers, by so many workers, as far as there is memory for them and none is beyond a
+/// limit. Each worker passes the gate before each claim and each publication.
 pub fn make_rows<R: Threads + Wait + Sync, G: Gate + Sync>(
     rt: &R,
     gate: &G,
@@ -90,7 +90,8 @@ fn share<R: Threads + Wait + Sync, G: Gate + Sync>(
     Ok(())
 }
 
-/// Has the workers fill a store with rows of members with these numbers, and those that they are made from: one by one, or for a single row by what it needs.
+/// Has the workers fill a store with rows of members with these numbers, and those that they are made from: one by one, or for a single row
+/// by what it needs.
 fn fill_wanted<R: Threads + Wait + Sync, G: Gate + Sync>(
     rt: &R,
     gate: &G,

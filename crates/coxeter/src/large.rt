@@ -13,8 +13,9 @@ fn end_of(alloc: Global, script: &str) -> Result<(Status, MemorySink), AllocErro
     Ok((status, sink))
 }
 
-/// Scripts, and how what is written begins. The group A 6 has 5,040 elements, of which 232 are involutions or the identity; 7 has 15 partitions;
-/// an interval may be all of B 5, which has 3,840 elements, of lengths up to 25; and E 6, which has 51,840, has 17 families of representations.
+/// Scripts, and how what is written begins. The group A 6 has 5,040 elements, of which 232 are involutions or the identity; 7 has 15
+/// partitions; an interval may be all of B 5, which has 3,840 elements, of lengths up to 25; and E 6, which has 51,840, has 17 families of
+/// representations.
 const BEGINNINGS: &[(&str, &str)] = &[
     ("type A 6\nlcells\n", "232\n"),
     ("type A 6\nlrcells\n", "15\n"),

@@ -69,7 +69,8 @@ fn run_arguments<R: Threads + Wait + Sync, S: Source, K: Sink>(
     source: &mut S,
     sink: &mut K,
 ) -> Status
-    ensures run { IsRun result (map string_bytes arguments.now) (S.seen source.old) (S.seen source.new) (K.seen sink.old) (K.seen sink.new) }
+    ensures run { IsRun result (map string_bytes arguments.now)
+        (S.seen source.old) (S.seen source.new) (K.seen sink.old) (K.seen sink.new) }
     ensures reading { IsReadBy result (map string_bytes arguments.now) (S.seen source.old).left (S.seen source.new).left }
 {
     match texts(alloc, arguments) {

@@ -66,7 +66,8 @@ impl RowTotals {
     fn of(polynomial: &PolyView<'_>) -> RowTotals
         requires { HasDegreeBelow polynomial.now (MAX_LETTERS + 1) }
         ensures one { result.entries ≡ 1 }
-        ensures totals { (n : ℕ) → HasDegreeBelow polynomial.now (n + 1) → result ≡ polynomial_totals (coefficients_to n (coefficient polynomial.now)) }
+        ensures totals { (n : ℕ) → HasDegreeBelow polynomial.now (n + 1)
+            → result ≡ polynomial_totals (coefficients_to n (coefficient polynomial.now)) }
     {
         match polynomial.degree() {
             None => RowTotals {
@@ -125,7 +126,8 @@ impl Workspace {
     ) -> Result<RowTotals, Unanswered>
         requires numbers { AreWorkNumbers start count }
         requires ready { M.ready maker.now }
-        ensures totals { SumsUp result (RefusesWork (limits_of self.old.options) (integer_matrix self.old.table) (generated_words self.old.table.rank count start))
+        ensures totals { SumsUp result (RefusesWork (limits_of self.old.options) (integer_matrix self.old.table)
+            (generated_words self.old.table.rank count start))
             (AreTotals (integer_matrix self.old.table) (generated_words self.old.table.rank count start)) }
         ensures same { IsSameWork self.old self.new }
         ensures group { IsCoxeterMatrix self.old.table }

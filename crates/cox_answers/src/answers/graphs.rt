@@ -16,7 +16,8 @@ ghost use Rattle.cox_wgraph.specs.NumberedEdges.{joined_of};
 ghost use Rattle.cox_cells.specs.NumberedCells.{lists_of, words_of};
 ghost use Rattle.cox_answers.specs.Kept.{IsSameWork};
 ghost use Rattle.cox_answers.specs.SessionLimits.{limits_of};
-ghost use Rattle.cox_answers.specs.GroupReply.{RefusesGroupRows, IsGraphText, IsCellsText, vertex_text};
+ghost use Rattle.cox_answers.specs.Limits.{Limits};
+ghost use Rattle.cox_answers.specs.GroupReply.{RefusesGroupRows, IsGraphText, IsCellsText, group_question, vertex_text};
 ghost use Rattle.cox_answers.specs.Putting.{PutsSome, PutsUnless};
 
 use crate::answers::unanswered::{Unanswered, unrefused};
@@ -24,46 +25,47 @@ use crate::row_maker::RowMaker;
 use crate::workspace::Workspace;
 use cox_base::Side;
 use cox_cells::{CellKind, cells};
+use cox_command::NoWord;
 use cox_context::Context;
 use cox_print::{NoMemory, put_count, put_edge, put_end, put_head, put_member};
 use cox_rows::Rows;
 use cox_wgraph::{Edge, WGraph};
 
 impl Workspace {
-    /// Puts the W-graph of the group, with the descents on a side as labels.
-    pub(crate) fn put_graph<M: RowMaker>(
+    /// Puts the answer to a command on the whole group.
+    pub(crate) fn put_group<M: RowMaker>(
         &mut self,
         maker: &M,
         out: &mut Vec<u8>,
-        side: Side,
+        kind: NoWord,
     ) -> Result<(), Unanswered>
         requires ready { M.ready maker.now }
         ensures puts { PutsUnless result (RefusesGroupRows (limits_of self.old.options) (integer_matrix self.old.table))
-            (IsGraphText self.old.table.rank side (integer_matrix self.old.table)) out.old.items out.new.items }
+            (group_question kind (limits_of self.old.options) self.old.table.rank (integer_matrix self.old.table)).IsText
+            out.old.items out.new.items }
         ensures same { IsSameWork self.old self.new }
         ensures group { IsCoxeterMatrix self.old.table }
     {
         self.keep_group(maker, *out.allocator())?;
         let rows = self.rows();
-        unrefused(put_group_graph(out, rows, side))
+        unrefused(put_group_of(out, rows, kind))
     }
+}
 
-    /// Puts the cells of the group.
-    pub(crate) fn put_cells<M: RowMaker>(
-        &mut self,
-        maker: &M,
-        out: &mut Vec<u8>,
-        kind: CellKind,
-    ) -> Result<(), Unanswered>
-        requires ready { M.ready maker.now }
-        ensures puts { PutsUnless result (RefusesGroupRows (limits_of self.old.options) (integer_matrix self.old.table))
-            (IsCellsText self.old.table.rank kind (integer_matrix self.old.table)) out.old.items out.new.items }
-        ensures same { IsSameWork self.old self.new }
-        ensures group { IsCoxeterMatrix self.old.table }
-    {
-        self.keep_group(maker, *out.allocator())?;
-        let rows = self.rows();
-        unrefused(put_group_cells(out, rows, kind))
+/// Puts the answer to a command on the whole group, from the rows of all its elements.
+fn put_group_of(out: &mut Vec<u8>, rows: &Rows, kind: NoWord) -> Result<(), NoMemory>
+    requires whole { IsListOf (IsElement (integer_matrix rows.now.elements.matrix)) rows.now.elements.members }
+    requires held { (i : ℕ) → i < length rows.now.elements.members → HasRow rows.now i }
+    ensures { (limits : Limits) → PutsSome result
+        (group_question kind limits rows.now.elements.matrix.rank (integer_matrix rows.now.elements.matrix)).IsText
+        out.old.items out.new.items }
+{
+    match kind {
+        NoWord::Lwgraph => put_group_graph(out, rows, Side::Left),
+        NoWord::Rwgraph => put_group_graph(out, rows, Side::Right),
+        NoWord::Lcells => put_group_cells(out, rows, CellKind::Left),
+        NoWord::Rcells => put_group_cells(out, rows, CellKind::Right),
+        NoWord::Lrcells => put_group_cells(out, rows, CellKind::Both),
     }
 }
 
@@ -71,7 +73,8 @@ impl Workspace {
 fn put_group_graph(out: &mut Vec<u8>, rows: &Rows, side: Side) -> Result<(), NoMemory>
     requires whole { IsListOf (IsElement (integer_matrix rows.now.elements.matrix)) rows.now.elements.members }
     requires held { (i : ℕ) → i < length rows.now.elements.members → HasRow rows.now i }
-    ensures { PutsSome result (IsGraphText rows.now.elements.matrix.rank side (integer_matrix rows.now.elements.matrix)) out.old.items out.new.items }
+    ensures { PutsSome result (IsGraphText rows.now.elements.matrix.rank side (integer_matrix rows.now.elements.matrix))
+        out.old.items out.new.items }
 {
     prove!(rows.context().len() > 0);
     let graph = WGraph::build(*out.allocator(), rows.context(), rows)?;
@@ -82,7 +85,8 @@ fn put_group_graph(out: &mut Vec<u8>, rows: &Rows, side: Side) -> Result<(), NoM
 fn put_group_cells(out: &mut Vec<u8>, rows: &Rows, kind: CellKind) -> Result<(), NoMemory>
     requires whole { IsListOf (IsElement (integer_matrix rows.now.elements.matrix)) rows.now.elements.members }
     requires held { (i : ℕ) → i < length rows.now.elements.members → HasRow rows.now i }
-    ensures { PutsSome result (IsCellsText rows.now.elements.matrix.rank kind (integer_matrix rows.now.elements.matrix)) out.old.items out.new.items }
+    ensures { PutsSome result (IsCellsText rows.now.elements.matrix.rank kind (integer_matrix rows.now.elements.matrix))
+        out.old.items out.new.items }
 {
     prove!(rows.context().len() > 0);
     let cells = cells(*out.allocator(), rows.context(), rows, kind)?;
@@ -141,7 +145,8 @@ fn put_edges(out: &mut Vec<u8>, context: &Context, edges: &[Edge]) -> Result<(),
 /// Puts a list of cells, each given by the numbers of its members.
 fn put_cell_list(out: &mut Vec<u8>, context: &Context, cells: &[Vec<u32>]) -> Result<(), NoMemory>
     requires { All (All (λ i. i < length context.now.members)) (lists_of cells.now) }
-    ensures { Puts result (list_text (map (members_text context.now.matrix.rank) (words_of context.now.members cells.now))) out.old.items out.new.items }
+    ensures { Puts result (list_text (map (members_text context.now.matrix.rank) (words_of context.now.members cells.now)))
+        out.old.items out.new.items }
 {
     put_count(out, cells.len())?;
     for cell in cells {
@@ -157,7 +162,8 @@ pub(crate) fn put_next_cell(
     cell: &[u32],
 ) -> Result<(), NoMemory>
     requires { All (λ i. i < length context.now.members) cell.now }
-    ensures { Puts result (10 ∷ members_text context.now.matrix.rank (map (word_at context.now.members) cell.now)) out.old.items out.new.items }
+    ensures { Puts result (10 ∷ members_text context.now.matrix.rank (map (word_at context.now.members) cell.now))
+        out.old.items out.new.items }
 {
     let rank = context.matrix().rank();
     prove!(context.len() > 0);

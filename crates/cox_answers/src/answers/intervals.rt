@@ -10,7 +10,6 @@ ghost use Rattle.cox_base.specs.Interval.{IsBetween, IsCoatom, count_of_length};
 ghost use Rattle.cox_poly.specs.Puts.{Puts};
 ghost use Rattle.cox_print.specs.AnswerText.{elements_text};
 ghost use Rattle.cox_answers.specs.SessionLimits.{limits_of};
-ghost use Rattle.cox_print.specs.AnswerText.{elements_text};
 ghost use Rattle.cox_answers.specs.InquiryQuestion.{counts_text};
 ghost use Rattle.cox_answers.specs.Listed.{RefusesLarge, IsOfList};
 ghost use Rattle.cox_answers.specs.Putting.{PutsSome, PutsUnless, GivesInterval, words_at};
@@ -38,7 +37,8 @@ pub fn put_interval(
     requires first { IsWord table.now.rank y.now.items }
     requires second { IsWord table.now.rank w.now.items }
     ensures { PutsUnless result (RefusesLarge (limits_of options) (integer_matrix table.now) w.now.items)
-        (IsOfList (IsBetween (integer_matrix table.now) y.now.items w.now.items) (elements_text table.now.rank)) out.old.items out.new.items }
+        (IsOfList (IsBetween (integer_matrix table.now) y.now.items w.now.items) (elements_text table.now.rank))
+        out.old.items out.new.items }
 {
     let context = interval_of(*out.allocator(), table, options, w)?;
     unrefused(put_between(out, table, &context, y))
@@ -68,7 +68,8 @@ pub fn put_betti(
 ) -> Result<(), Unanswered>
     requires word { IsWord table.now.rank w.now.items }
     ensures { PutsUnless result (RefusesLarge (limits_of options) (integer_matrix table.now) w.now.items)
-        (IsOfList (IsInInterval (integer_matrix table.now) w.now.items) (counts_text (integer_matrix table.now) w.now.items)) out.old.items out.new.items }
+        (IsOfList (IsInInterval (integer_matrix table.now) w.now.items) (counts_text (integer_matrix table.now) w.now.items))
+        out.old.items out.new.items }
 {
     prove!(w.len() <= MAX_LETTERS);
     let context = interval_of(*out.allocator(), table, options, w)?;
@@ -122,7 +123,8 @@ fn put_shorter(out: &mut Vec<u8>, context: &Context, letters: u32) -> Result<(),
     requires group { IsCoxeterMatrix context.now.matrix }
     ensures { (w : List ℕ) → IsListOf (IsInInterval (integer_matrix context.now.matrix) w) context.now.members
         → letters ≡ word_length (integer_matrix context.now.matrix) w
-        → PutsSome result (IsOfList (IsCoatom (integer_matrix context.now.matrix) w) (elements_text context.now.matrix.rank)) out.old.items out.new.items }
+        → PutsSome result (IsOfList (IsCoatom (integer_matrix context.now.matrix) w) (elements_text context.now.matrix.rank))
+        out.old.items out.new.items }
 {
     let coatoms = members_below_length(*out.allocator(), context, letters)?;
     put_members(out, context, coatoms.as_slice())
@@ -133,7 +135,8 @@ fn put_counts(out: &mut Vec<u8>, context: &Context, letters: u32) -> Result<(), 
     requires short { letters ≤ MAX_LETTERS }
     ensures { (w : List ℕ) → IsListOf (IsInInterval (integer_matrix context.now.matrix) w) context.now.members
         → letters ≡ word_length (integer_matrix context.now.matrix) w
-        → PutsSome result (IsOfList (IsInInterval (integer_matrix context.now.matrix) w) (counts_text (integer_matrix context.now.matrix) w)) out.old.items out.new.items }
+        → PutsSome result (IsOfList (IsInInterval (integer_matrix context.now.matrix) w)
+        (counts_text (integer_matrix context.now.matrix) w)) out.old.items out.new.items }
 {
     let counts = counts(context);
     put_numbers(out, &counts[..letters as usize + 1])
@@ -174,7 +177,8 @@ fn members_below_length(
     letters: u32,
 ) -> Result<Vec<u32>, NoMemory>
     ensures within { IfOk result (λ numbers. All (λ i. i < length context.now.members) numbers.items) }
-    ensures coatoms { IfOk result (λ numbers. words_at context.now.members numbers.items ≡ filter (λ word. length word + 1 == letters) context.now.members) }
+    ensures coatoms { IfOk result (λ numbers. words_at context.now.members numbers.items
+        ≡ filter (λ word. length word + 1 == letters) context.now.members) }
 {
     let mut found = Vec::new(alloc);
     for i in 0..context.len() {

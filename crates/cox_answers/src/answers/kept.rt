@@ -5,11 +5,10 @@ ghost use Rattle.cox_base.specs.Admissible.{IsCoxeterMatrix};
 ghost use Rattle.cox_base.specs.IntegerMatrix.{integer_matrix};
 ghost use Rattle.cox_answers.specs.SessionLimits.{limits_of};
 ghost use Rattle.cox_answers.specs.Listed.{RefusesLarge};
-ghost use Rattle.cox_answers.specs.RowReply.{RefusesRow};
-ghost use Rattle.cox_answers.specs.Kept.{AreKept, HoldsElement, HoldsRow, Keeps, IsMore};
+ghost use Rattle.cox_answers.specs.Kept.{AreKept, HoldsElement, Keeps, IsMore};
 
 use crate::answers::intervals::interval_of;
-use crate::answers::unanswered::{Unanswered, unanswered_by};
+use crate::answers::unanswered::Unanswered;
 use crate::row_maker::RowMaker;
 use cox_base::{MAX_RANK, Word};
 use cox_context::{ContextFault, MAX_MEMBERS};
@@ -18,40 +17,8 @@ use cox_options::Options;
 use cox_rows::Rows;
 use std::alloc::Global;
 
-/// Sees to it that the row of w is held among the rows that are kept, and tells its number there.
-///
-/// What is kept grows by the interval from the identity to w. Where both together are too large, that interval alone is kept from then on.
-pub fn keep_row<M: RowMaker>(
-    alloc: Global,
-    kept: &mut Option<Rows>,
-    table: &RootTable,
-    options: Options,
-    maker: &M,
-    w: &Word,
-) -> Result<u32, Unanswered>
-    requires word { IsWord table.now.rank w.now.items }
-    requires kept { AreKept table.now (limits_of options) kept.old }
-    requires ready { M.ready maker.now }
-    ensures kept { AreKept table.now (limits_of options) kept.new }
-    ensures row { Keeps result (RefusesRow (limits_of options) (integer_matrix table.now) w.now.items)
-        (HoldsRow (integer_matrix table.now) w.now.items) kept.new }
-    ensures group { IsCoxeterMatrix table.now }
-{
-    let i = keep_interval(alloc, kept, table, options, w)?;
-    let Some(rows) = kept.take() else {
-        unreachable!();
-    };
-    let mut rows = with_row(alloc, rows, maker, i);
-    let made = rows.ensure(i);
-    *kept = Some(rows);
-    match made {
-        Ok(()) => Ok(i),
-        Err(fault) => Err(unanswered_by(fault)),
-    }
-}
-
 /// The same rows, and maybe more: that of the member with the number i is asked for, unless it is there.
-fn with_row<M: RowMaker>(alloc: Global, rows: Rows, maker: &M, i: u32) -> Rows
+pub fn with_row<M: RowMaker>(alloc: Global, rows: Rows, maker: &M, i: u32) -> Rows
     requires member { i < length rows.elements.members }
     requires ready { M.ready maker.now }
     ensures { IsMore rows result }
@@ -63,6 +30,8 @@ fn with_row<M: RowMaker>(alloc: Global, rows: Rows, maker: &M, i: u32) -> Rows
 }
 
 /// Sees to it that the interval from the identity to w is part of what is kept, and tells the number of w there.
+///
+/// What is kept grows by that interval. Where both together are too large, the interval alone is kept from then on.
 pub fn keep_interval(
     alloc: Global,
     kept: &mut Option<Rows>,

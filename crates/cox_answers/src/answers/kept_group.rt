@@ -9,11 +9,10 @@ ghost use Rattle.cox_base.specs.SortedList.{IsListOf};
 ghost use Rattle.cox_context.specs.Numbers.{word_at};
 ghost use Rattle.cox_row.specs.Rising.{AreWithin};
 ghost use Rattle.cox_answers.specs.SessionLimits.{limits_of};
-ghost use Rattle.cox_answers.specs.GroupReply.{RefusesGroupRows};
 ghost use Rattle.cox_answers.specs.GroupSize.{RefusesLargeGroup, GivesGroup};
-ghost use Rattle.cox_answers.specs.Kept.{AreKept, HoldsGroup, HoldsAll, Keeps, IsMore};
+ghost use Rattle.cox_answers.specs.Kept.{AreKept, HoldsGroup, Keeps, IsMore};
 
-use crate::answers::unanswered::{Unanswered, unanswered_by};
+use crate::answers::unanswered::Unanswered;
 use crate::row_maker::RowMaker;
 use cox_base::MAX_RANK;
 use cox_command::Refusal;
@@ -23,36 +22,8 @@ use cox_options::Options;
 use cox_rows::Rows;
 use std::alloc::{AllocError, Global};
 
-/// Sees to it that the rows of all elements of the group are held among the rows that are kept.
-pub fn keep_group<M: RowMaker>(
-    alloc: Global,
-    kept: &mut Option<Rows>,
-    table: &RootTable,
-    options: Options,
-    maker: &M,
-) -> Result<(), Unanswered>
-    requires kept { AreKept table.now (limits_of options) kept.old }
-    requires ready { M.ready maker.now }
-    ensures kept { AreKept table.now (limits_of options) kept.new }
-    ensures rows { Keeps result (RefusesGroupRows (limits_of options) (integer_matrix table.now))
-        (λ _ rows. HoldsAll (integer_matrix table.now) rows) kept.new }
-    ensures group { IsCoxeterMatrix table.now }
-{
-    keep_elements(alloc, kept, table, options)?;
-    let Some(rows) = kept.take() else {
-        unreachable!();
-    };
-    let mut rows = with_all(alloc, rows, maker);
-    let made = rows.ensure_all();
-    *kept = Some(rows);
-    match made {
-        Ok(()) => Ok(()),
-        Err(fault) => Err(unanswered_by(fault)),
-    }
-}
-
 /// The same rows, and maybe more: those of all members are asked for that are not there, if there is memory for their numbers.
-fn with_all<M: RowMaker>(alloc: Global, rows: Rows, maker: &M) -> Rows
+pub fn with_all<M: RowMaker>(alloc: Global, rows: Rows, maker: &M) -> Rows
     requires { M.ready maker.now }
     ensures { IsMore rows result }
 {

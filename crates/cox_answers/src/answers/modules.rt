@@ -1,5 +1,5 @@
 //! The answer on the module of a left cell.
-ghost use Rattle.std.specs.Prelude.{◌≡◌, ℕ, ◌+◌, ◌≤◌, ◌<◌, ◌^◌, ◌∷◌, length, List, All, Contains};
+ghost use Rattle.std.specs.Prelude.{◌≡◌, ℕ, ◌+◌, ◌<◌, ◌^◌, ◌∷◌, length, List, All, Contains};
 ghost use Rattle.std.specs.List.{flat_map};
 ghost use Rattle.cox_base.specs.Matrix.{IsLetter, IsWord};
 ghost use Rattle.cox_base.specs.Admissible.{IsCoxeterMatrix};
@@ -67,7 +67,8 @@ fn put_module_of(
     requires word { IsWord table.now.rank w.now.items }
     requires whole { IsListOf (IsElement (integer_matrix rows.now.elements.matrix)) rows.now.elements.members }
     requires held { (i : ℕ) → i < length rows.now.elements.members → HasRow rows.now i }
-    ensures { PutsSome result (IsModuleText rows.now.elements.matrix.rank (integer_matrix rows.now.elements.matrix) w.now.items) out.old.items out.new.items }
+    ensures { PutsSome result (IsModuleText rows.now.elements.matrix.rank (integer_matrix rows.now.elements.matrix) w.now.items)
+        out.old.items out.new.items }
 {
     let context = rows.context();
     let Some(i) = context.number_of(table, w) else {
@@ -83,7 +84,8 @@ fn put_cell_of(out: &mut Vec<u8>, rows: &Rows, cell: &[u32]) -> Result<(), NoMem
     requires held { (i : ℕ) → i < length rows.now.elements.members → HasRow rows.now i }
     requires rising { AreRising cell.now }
     requires within { AreWithin (length rows.now.elements.members) cell.now }
-    ensures { let A = integer_matrix rows.now.elements.matrix in (w : List ℕ) → IsListOf (IsInCell Left A (normal_form A w)) (cell_words rows.now.elements.members cell.now)
+    ensures { let A = integer_matrix rows.now.elements.matrix in (w : List ℕ)
+        → IsListOf (IsInCell Left A (normal_form A w)) (cell_words rows.now.elements.members cell.now)
         → PutsSome result (IsModuleText rows.now.elements.matrix.rank A w) out.old.items out.new.items }
 {
     let context = rows.context();
@@ -117,7 +119,8 @@ fn put_cell_module(
     requires letters { length action.now ≡ context.now.matrix.rank }
     requires places { All (λ images. length images ≡ length cell.now) action.now }
     requires images { AreImages (integer_matrix context.now.matrix) (cell_words context.now.members cell.now) (image_in action.now) }
-    ensures { let rank = context.now.matrix.rank in Puts result (module_text rank (cell_words context.now.members cell.now) (image_in action.now) (letters rank)) out.old.items out.new.items }
+    ensures { let rank = context.now.matrix.rank in Puts result (module_text rank (cell_words context.now.members cell.now)
+        (image_in action.now) (letters rank)) out.old.items out.new.items }
 {
     put_count(out, cell.len())?;
     put_next_cell(out, context, cell)?;
@@ -137,7 +140,8 @@ fn put_operators(
     requires places { All (λ images. length images ≡ length cell.now) action.now }
     requires images { AreImages (integer_matrix context.now.matrix) (cell_words context.now.members cell.now) (image_in action.now) }
     ensures { let rank = context.now.matrix.rank in
-        Puts result (flat_map (operator_text rank (cell_words context.now.members cell.now) (image_in action.now)) (letters rank)) out.old.items out.new.items }
+        Puts result (flat_map (operator_text rank (cell_words context.now.members cell.now) (image_in action.now)) (letters rank))
+        out.old.items out.new.items }
 {
     let rank = context.matrix().rank();
     for r in 0..rank {
@@ -160,7 +164,8 @@ fn put_operator(
     requires letters { length action.now ≡ context.now.matrix.rank }
     requires places { All (λ images. length images ≡ length cell.now) action.now }
     requires images { AreImages (integer_matrix context.now.matrix) (cell_words context.now.members cell.now) (image_in action.now) }
-    ensures { Puts result (operator_text context.now.matrix.rank (cell_words context.now.members cell.now) (image_in action.now) s) out.old.items out.new.items }
+    ensures { Puts result (operator_text context.now.matrix.rank (cell_words context.now.members cell.now) (image_in action.now) s)
+        out.old.items out.new.items }
 {
     for k in 0..cell.len() as u32 {
         put_image(out, context, cell, s, k, action.image(s, k))?;
@@ -199,7 +204,8 @@ fn put_terms(
 ) -> Result<(), NoMemory>
     requires within { All (λ i. i < length context.now.members) cell.now }
     requires terms { All (λ (t : Term). t.place < length cell.now) image.now }
-    ensures { Puts result (flat_map (term_text context.now.matrix.rank (cell_words context.now.members cell.now)) image.now) out.old.items out.new.items }
+    ensures { Puts result (flat_map (term_text context.now.matrix.rank (cell_words context.now.members cell.now)) image.now)
+        out.old.items out.new.items }
 {
     for term in image {
         put_term(out, context, cell, *term)?;

@@ -1,6 +1,5 @@
 //! The answers on all polynomials of a row, or those at its extremal elements.
 ghost use Rattle.std.specs.Prelude.{◌≡◌, ◌<◌, ℕ, List, All, length, IfOk};
-ghost use Rattle.cox_base.specs.Matrix.{IsWord};
 ghost use Rattle.cox_base.specs.Admissible.{IsCoxeterMatrix};
 ghost use Rattle.cox_base.specs.IntegerMatrix.{integer_matrix};
 ghost use Rattle.cox_base.specs.ShortLex.{normal_form};
@@ -12,66 +11,16 @@ ghost use Rattle.cox_base.specs.SortedList.{IsListOf};
 ghost use Rattle.cox_context.specs.Numbers.{word_at};
 ghost use Rattle.cox_rows.specs.Holding.{HasRow};
 ghost use Rattle.cox_poly.specs.Puts.{Puts};
-ghost use Rattle.cox_answers.specs.Kept.{IsSameWork};
-ghost use Rattle.cox_answers.specs.SessionLimits.{limits_of};
 ghost use Rattle.cox_answers.specs.Listed.{IsOfRow};
-ghost use Rattle.cox_answers.specs.RowReply.{RefusesRow, pairs_text, IsExtremalBelow};
-ghost use Rattle.cox_answers.specs.Putting.{PutsSome, PutsUnless, words_at};
+ghost use Rattle.cox_answers.specs.RowReply.{pairs_text, IsExtremalBelow};
+ghost use Rattle.cox_answers.specs.Putting.{PutsSome, words_at};
 
-use crate::answers::unanswered::{Unanswered, unrefused};
-use crate::row_maker::RowMaker;
-use crate::workspace::Workspace;
-use cox_base::Word;
 use cox_print::{NoMemory, put_count, put_next_pair};
 use cox_rows::Rows;
 use std::alloc::Global;
 
-impl Workspace {
-    /// Puts the list of the x <= w, each with P(x,w).
-    pub(crate) fn put_klbasis<M: RowMaker>(
-        &mut self,
-        maker: &M,
-        out: &mut Vec<u8>,
-        w: &Word,
-    ) -> Result<(), Unanswered>
-        requires word { IsWord self.old.table.rank w.now.items }
-        requires ready { M.ready maker.now }
-        ensures puts { PutsUnless result (RefusesRow (limits_of self.old.options) (integer_matrix self.old.table) w.now.items)
-            (IsOfRow (integer_matrix self.old.table) w.now.items (IsInInterval (integer_matrix self.old.table) w.now.items)
-            (pairs_text self.old.table.rank (integer_matrix self.old.table) w.now.items))
-            out.old.items out.new.items }
-        ensures same { IsSameWork self.old self.new }
-        ensures group { IsCoxeterMatrix self.old.table }
-    {
-        let i = self.keep_row(maker, *out.allocator(), w)?;
-        let rows = self.rows();
-        unrefused(put_all_pairs(out, rows, i))
-    }
-
-    /// Puts the list of the extremal x <= w, each with P(x,w).
-    pub(crate) fn put_extremals<M: RowMaker>(
-        &mut self,
-        maker: &M,
-        out: &mut Vec<u8>,
-        w: &Word,
-    ) -> Result<(), Unanswered>
-        requires word { IsWord self.old.table.rank w.now.items }
-        requires ready { M.ready maker.now }
-        ensures puts { PutsUnless result (RefusesRow (limits_of self.old.options) (integer_matrix self.old.table) w.now.items)
-            (IsOfRow (integer_matrix self.old.table) w.now.items (IsExtremalBelow (integer_matrix self.old.table) w.now.items)
-            (pairs_text self.old.table.rank (integer_matrix self.old.table) w.now.items))
-            out.old.items out.new.items }
-        ensures same { IsSameWork self.old self.new }
-        ensures group { IsCoxeterMatrix self.old.table }
-    {
-        let i = self.keep_row(maker, *out.allocator(), w)?;
-        let rows = self.rows();
-        unrefused(put_extremal_pairs(out, rows, i))
-    }
-}
-
 /// Puts the list of the members x <= w, each with P(x,w), for the member w with the number i.
-fn put_all_pairs(out: &mut Vec<u8>, rows: &Rows, i: u32) -> Result<(), NoMemory>
+pub fn put_all_pairs(out: &mut Vec<u8>, rows: &Rows, i: u32) -> Result<(), NoMemory>
     requires group { IsCoxeterMatrix rows.now.elements.matrix }
     requires member { i < length rows.now.elements.members }
     requires there { HasRow rows.now i }
@@ -84,7 +33,7 @@ fn put_all_pairs(out: &mut Vec<u8>, rows: &Rows, i: u32) -> Result<(), NoMemory>
 }
 
 /// Puts the list of the extremal members x <= w, each with P(x,w), for the member w with the number i.
-fn put_extremal_pairs(out: &mut Vec<u8>, rows: &Rows, i: u32) -> Result<(), NoMemory>
+pub fn put_extremal_pairs(out: &mut Vec<u8>, rows: &Rows, i: u32) -> Result<(), NoMemory>
     requires group { IsCoxeterMatrix rows.now.elements.matrix }
     requires member { i < length rows.now.elements.members }
     requires there { HasRow rows.now i }

@@ -1,7 +1,5 @@
 //! The answer on intersection cohomology: the polynomials of a row, summed up by length.
 ghost use Rattle.std.specs.Prelude.{◌≡◌, ◌+◌, ◌^◌, ◌<◌, ◌≤◌, ℕ, List, length, unsigned_abs};
-ghost use Rattle.cox_base.specs.Matrix.{IsWord};
-ghost use Rattle.cox_base.specs.Admissible.{IsCoxeterMatrix};
 ghost use Rattle.cox_base.specs.IntegerMatrix.{integer_matrix};
 ghost use Rattle.cox_base.specs.ShortLex.{normal_form};
 ghost use Rattle.cox_base.specs.Length.{word_length};
@@ -15,49 +13,23 @@ ghost use Rattle.cox_base.specs.Members.{IsInInterval};
 ghost use Rattle.cox_base.specs.SortedList.{IsListOf};
 ghost use Rattle.cox_context.specs.Numbers.{word_at};
 ghost use Rattle.cox_rows.specs.Holding.{HasRow};
-ghost use Rattle.cox_answers.specs.Kept.{IsSameWork};
-ghost use Rattle.cox_answers.specs.SessionLimits.{limits_of};
 ghost use Rattle.cox_answers.specs.Listed.{IsOfRow};
-ghost use Rattle.cox_answers.specs.RowReply.{RefusesRow, ihbetti_text};
-ghost use Rattle.cox_answers.specs.Putting.{PutsSome, PutsUnless};
+ghost use Rattle.cox_answers.specs.RowReply.{ihbetti_text};
+ghost use Rattle.cox_answers.specs.Putting.{PutsSome};
 
-use crate::answers::unanswered::{Unanswered, unrefused};
-use crate::row_maker::RowMaker;
-use crate::workspace::Workspace;
-use cox_base::{MAX_LETTERS, Word};
+use cox_base::MAX_LETTERS;
 use cox_poly::Acc;
 use cox_print::{NoMemory, put_numbers};
 use cox_rows::Rows;
 
-impl Workspace {
-    /// Puts the coefficients of the sum of q^l(x) P(x,w) over the x <= w.
-    pub(crate) fn put_ihbetti<M: RowMaker>(
-        &mut self,
-        maker: &M,
-        out: &mut Vec<u8>,
-        w: &Word,
-    ) -> Result<(), Unanswered>
-        requires word { IsWord self.old.table.rank w.now.items }
-        requires ready { M.ready maker.now }
-        ensures puts { PutsUnless result (RefusesRow (limits_of self.old.options) (integer_matrix self.old.table) w.now.items)
-            (IsOfRow (integer_matrix self.old.table) w.now.items (IsInInterval (integer_matrix self.old.table) w.now.items)
-            (ihbetti_text (integer_matrix self.old.table) w.now.items)) out.old.items out.new.items }
-        ensures same { IsSameWork self.old self.new }
-        ensures group { IsCoxeterMatrix self.old.table }
-    {
-        let i = self.keep_row(maker, *out.allocator(), w)?;
-        let rows = self.rows();
-        unrefused(put_sums(out, rows, i))
-    }
-}
-
 /// Puts the coefficients of the sum of q^l(x) P(x,w) over the members x <= w, for the member w with the number i.
-fn put_sums(out: &mut Vec<u8>, rows: &Rows, i: u32) -> Result<(), NoMemory>
+pub fn put_sums(out: &mut Vec<u8>, rows: &Rows, i: u32) -> Result<(), NoMemory>
     requires member { i < length rows.now.elements.members }
     requires there { HasRow rows.now i }
     ensures { (w : List ℕ) → word_at rows.now.elements.members i ≡ normal_form (integer_matrix rows.now.elements.matrix) w
         → PutsSome result (IsOfRow (integer_matrix rows.now.elements.matrix) w
-        (IsInInterval (integer_matrix rows.now.elements.matrix) w) (ihbetti_text (integer_matrix rows.now.elements.matrix) w)) out.old.items out.new.items }
+        (IsInInterval (integer_matrix rows.now.elements.matrix) w) (ihbetti_text (integer_matrix rows.now.elements.matrix) w))
+        out.old.items out.new.items }
 {
     prove!(rows.context().len() > 0);
     let sums = row_sums(rows, i);
@@ -90,7 +62,8 @@ fn add_member(sums: &mut Acc, rows: &Rows, i: u32, x: u32)
     requires room { (k : ℕ) → unsigned_abs (coefficient sums.old k) ≤ 2 ^ 125 }
     ensures sum { (p : Family) → IsRow (integer_matrix rows.now.elements.matrix) (word_at rows.now.elements.members i) p
         → (k : ℕ) → coefficient sums.new k ≡ plus (coefficient sums.old) (times_q_power
-        (word_length (integer_matrix rows.now.elements.matrix) (word_at rows.now.elements.members x)) (p (word_at rows.now.elements.members x))) k }
+        (word_length (integer_matrix rows.now.elements.matrix) (word_at rows.now.elements.members x))
+        (p (word_at rows.now.elements.members x))) k }
     ensures small { (k : ℕ) → unsigned_abs (coefficient sums.new k) ≤ unsigned_abs (coefficient sums.old k) + 2 ^ 94 }
 {
     prove!(rows.context().len() > 0);

@@ -1,6 +1,6 @@
 //! Why a command gets no answer.
 ghost use Rattle.std.specs.Prelude.{◌≡◌};
-ghost use Rattle.cox_answers.specs.Kept.{unanswered_by};
+ghost use Rattle.cox_answers.specs.Kept.{unanswered_by, unless_fault};
 ghost use Rattle.cox_answers.specs.Putting.{unrefused};
 ghost use Rattle.cox_answers.specs.declared.answers.unanswered.Unanswered.TheVariants.{NoMemory};
 
@@ -44,5 +44,15 @@ pub fn unanswered_by(fault: StepFault) -> Unanswered
             Unanswered::Refused(Refusal::LargeRow)
         }
         StepFault::NoMemory => Unanswered::NoMemory,
+    }
+}
+
+/// A value, unless there was a fault of rows.
+pub fn unless_fault<X: Copy>(made: Result<(), StepFault>, value: X) -> Result<X, Unanswered>
+    ensures { result ≡ unless_fault made value }
+{
+    match made {
+        Ok(()) => Ok(value),
+        Err(fault) => Err(unanswered_by(fault)),
     }
 }

@@ -6,7 +6,8 @@ use Rattle.cox_print.proofs.images.put_term_head.Goals as goal
 
 pub returns-in_err-put_other_element : goal.returns-in_err-put_other_element
 returns-in_err-put_other_element c =
-    Puts-first _ (codes " " ++ element_text c.args.rank c.args.y.now.items) (codes "=") _ _ (search rules) c.in_err-put_other_element.ensures
+    Puts-first _ (codes " " ++ element_text c.args.rank c.args.y.now.items) (codes "=") _ _ (search rules)
+    c.in_err-put_other_element.ensures
 
 pub returns : goal.returns
 returns c =

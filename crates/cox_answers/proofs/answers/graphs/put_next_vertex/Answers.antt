@@ -19,7 +19,8 @@ use Rattle.cox_answers.proofs.answers.graphs.put_next_vertex.Goals as goal
 
 pub returns-in_err-put_end : goal.returns-in_err-put_end
 returns-in_err-put_end c = λ v is at.
-    Puts-first _ (10 ∷ []) (vertex_text c.args.graph.now.matrix.rank (descent_set c.args.side (integer_matrix c.args.graph.now.matrix)) v) _ _ (search rules) (c.in_err-put_end.ensures {u = tt})
+    Puts-first _ (10 ∷ []) (vertex_text c.args.graph.now.matrix.rank (descent_set c.args.side (integer_matrix c.args.graph.now.matrix)) v)
+    _ _ (search rules) (c.in_err-put_end.ensures {u = tt})
 
 pub put_head-requires-clause-word : goal.put_head-requires-clause-word
 put_head-requires-clause-word c =
@@ -52,6 +53,8 @@ returns c = λ v is at.
     (joined_of e.members c.edges.result.now)) c.put_head.new.out.items c.put_edges.new.out.items) c.context-context.ensures
     c.put_edges.ensures in
     let last = rw joined at edges in
-    Puts-second _ (10 ∷ []) (vertex_text rank (descent_set c.args.side (integer_matrix graph.matrix)) v) _ _ _ (c.in_ok-put_end.ensures {u = tt})
-    (Puts-second _ (head_text rank v.element (descent_set c.args.side (integer_matrix graph.matrix) v.element)) (flat_map (λ (j : Joined). edge_text rank j.element j.value) v.joined) _ _ _ first
+    Puts-second _ (10 ∷ []) (vertex_text rank (descent_set c.args.side (integer_matrix graph.matrix)) v) _ _ _
+    (c.in_ok-put_end.ensures {u = tt})
+    (Puts-second _ (head_text rank v.element (descent_set c.args.side (integer_matrix graph.matrix) v.element))
+    (flat_map (λ (j : Joined). edge_text rank j.element j.value) v.joined) _ _ _ first
     last)

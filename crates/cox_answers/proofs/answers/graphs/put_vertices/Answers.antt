@@ -12,7 +12,8 @@ returns-in_err-put_count c = λ vertices are.
     let graph = c.args.graph.now in
     let A = integer_matrix graph.matrix in
     rw (vertices-text A graph.members c.requires.whole vertices are graph.matrix.rank (descent_set c.args.side A))
-    (Puts-first _ (decimal (length graph.members)) (flat_map (vertex_line graph.matrix.rank (descent_set c.args.side A)) vertices) _ _ (search rules)
+    (Puts-first _ (decimal (length graph.members)) (flat_map (vertex_line graph.matrix.rank (descent_set c.args.side A)) vertices) _ _
+    (search rules)
     (rw c.len-count.ensures.len at (c.in_err-put_count.ensures {u = tt})))
 
 pub returns-in_err-put_next_vertex : goal.returns-in_err-put_next_vertex
@@ -37,7 +38,8 @@ loop-i-preserved c = λ vertices are.
     let i = c.loop-i.i in
     let count = vertices-count A graph.members c.requires.whole vertices are in
     let below : i < length vertices = omega (arith, count, c.loop-i-test.true, c.len-count.ensures.len) in
-    append-next (vertex_line graph.matrix.rank (descent_set c.args.side A)) vertices i (get_or vertices i no_vertex) no_vertex _ _ _ below refl
+    append-next (vertex_line graph.matrix.rank (descent_set c.args.side A)) vertices i (get_or vertices i no_vertex) no_vertex
+    _ _ _ below refl
     (c.loop-i.invariant vertices are)
     (c.in_ok-put_next_vertex.ensures {u = tt} (get_or vertices i no_vertex) (are.each i no_vertex below)
     (vertex-element A graph.members c.requires.whole vertices are i below))

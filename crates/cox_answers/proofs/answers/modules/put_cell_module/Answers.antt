@@ -15,7 +15,8 @@ returns-in_err-put_count c =
     let words = cell_words c.args.context.now.members c.args.cell.now in
     rw (words-size c.args.context.now.members c.args.cell.now)
     (Puts-first_of_three _ (decimal (length c.args.cell.now)) (10 ∷ members_text rank words)
-    (flat_map (operator_text rank words (image_in c.args.action.now)) (letters rank)) _ _ (search rules) (c.in_err-put_count.ensures {u = tt}))
+    (flat_map (operator_text rank words (image_in c.args.action.now)) (letters rank)) _ _ (search rules)
+    (c.in_err-put_count.ensures {u = tt}))
 
 pub returns-in_err-put_next_cell : goal.returns-in_err-put_next_cell
 returns-in_err-put_next_cell c =

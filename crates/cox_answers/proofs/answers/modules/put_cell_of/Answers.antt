@@ -1,5 +1,5 @@
 -- The proof of `put_cell_of`.
-use Rattle.std.proofs.Common.{◌<◌, length, refl, arith, rules}
+use Rattle.std.proofs.Common.{length, refl, arith, rules}
 use Rattle.cox_base.specs.IntegerMatrix.{integer_matrix}
 use Rattle.cox_base.specs.ShortLex.{letters}
 use Rattle.cox_poly.proofs.Behind.{Puts-failed}

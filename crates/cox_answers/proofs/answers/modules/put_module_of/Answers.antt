@@ -1,5 +1,5 @@
 -- The proof of `put_module_of`.
-use Rattle.std.proofs.Common.{◌≡◌, length, refl, rules}
+use Rattle.std.proofs.Common.{length, refl, rules}
 use Rattle.cox_base.specs.IntegerMatrix.{integer_matrix}
 use Rattle.cox_base.specs.ShortLex.{normal_form}
 use Rattle.cox_reflect.proofs.NormalElements.{element-normal_form}
@@ -16,7 +16,8 @@ pub unreachable-requires : goal.unreachable-requires
 unreachable-requires c =
     let A = integer_matrix c.args.rows.now.elements.matrix in
     let none = rw (c.context-context.ensures.context, c.requires.matrix) at (c.in_default.ensures {u = tt}) in
-    none (c.requires.whole.whole (normal_form A c.args.w.now.items) (element-normal_form A c.context-context.ensures.admissible c.args.w.now.items))
+    none (c.requires.whole.whole (normal_form A c.args.w.now.items)
+    (element-normal_form A c.context-context.ensures.admissible c.args.w.now.items))
 
 pub returns-in_err-cells : goal.returns-in_err-cells
 returns-in_err-cells c =

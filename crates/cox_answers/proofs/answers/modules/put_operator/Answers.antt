@@ -1,5 +1,5 @@
 -- The proof of `put_operator`.
-use Rattle.std.proofs.Common.{◌≡◌, ◌<◌, ◌-◌, length, [], ap, arith, rules}
+use Rattle.std.proofs.Common.{◌<◌, ◌-◌, length, [], arith, rules}
 use Rattle.std.specs.List.{range_with_len}
 use Rattle.std.proofs.lemmas.List.FromFn.{length-range_with_len}
 use Rattle.cox_poly.proofs.Behind.{PutsPrefix-next, Puts-failed, append-all, append-next}
@@ -28,7 +28,8 @@ returns-in_err-put_image c =
     let size = words-size c.args.context.now.members c.args.cell.now in
     let inside : k < length words = omega (arith, size, c.loop-k-test.true) in
     let below : k < length places = omega (arith, inside, length-range_with_len 0 (length words)) in
-    Puts-failed _ _ _ _ (search rules) (PutsPrefix-next (image_line c.args.context.now.matrix.rank words (image_in c.args.action.now) c.args.s)
+    Puts-failed _ _ _ _ (search rules)
+    (PutsPrefix-next (image_line c.args.context.now.matrix.rank words (image_in c.args.action.now) c.args.s)
     places k k 0 _ _ _ below (place-at (length words) k inside) c.loop-k.invariant
     (rw c.image.ensures at (c.in_err-put_image.ensures {u = tt})))
 
@@ -49,4 +50,5 @@ returns c =
     let words = cell_words c.args.context.now.members c.args.cell.now in
     let size = words-size c.args.context.now.members c.args.cell.now in
     append-all (image_line c.args.context.now.matrix.rank words (image_in c.args.action.now) c.args.s) (range_with_len 0 (length words))
-    c.loop-k.k _ _ (omega (arith, size, length-range_with_len 0 (length words), c.loop-k-test.false, c.loop-k.auto.k-end)) c.loop-k.invariant
+    c.loop-k.k _ _ (omega (arith, size, length-range_with_len 0 (length words), c.loop-k-test.false, c.loop-k.auto.k-end))
+    c.loop-k.invariant

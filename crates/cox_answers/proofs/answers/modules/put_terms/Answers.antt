@@ -1,6 +1,6 @@
 -- The proof of `put_terms`.
-use Rattle.std.proofs.Common.{get_or, refl, arith, rules}
-use Rattle.cox_poly.proofs.Behind.{PutsPrefix-next, Puts-failed, append-all, append-next}
+use Rattle.std.proofs.Common.{refl, arith, rules}
+use Rattle.cox_poly.proofs.Behind.{PutsPrefix-next, Puts-failed, append-all}
 use Rattle.cox_module.specs.declared.term.Entry.TheVariants.{Minus}
 use Rattle.cox_module.specs.Images.{term, term_at}
 use Rattle.cox_module.specs.NumberedImages.{cell_words}

@@ -1,11 +1,21 @@
--- The proof of `Workspace::keep_group`.
-use Rattle.std.proofs.Common.{subst}
+-- The proof of `keep_group`.
+use Rattle.std.proofs.Common.{◌≡◌, sym, ap, ◌∙◌}
 use Rattle.cox_base.specs.IntegerMatrix.{integer_matrix}
+use Rattle.cox_base.proofs.AdmissibleMatrices.{IsAdmissible-integer_matrix}
 use Rattle.cox_answers.specs.SessionLimits.{limits_of}
-use Rattle.cox_answers.specs.GroupReply.{RefusesGroupRows}
-use Rattle.cox_answers.specs.Kept.{Work, HoldsAll, Keeps}
+use Rattle.cox_answers.specs.Kept.{Work}
+use Rattle.cox_answers.proofs.WholeGroups.{not-large, group-keeps}
 use Rattle.cox_answers.proofs.workspace.Workspace.keep_group.Goals as goal
 
 pub returns-clause-rows : goal.returns-clause-rows
-returns-clause-rows g c = subst (λ (work : Work). Keeps c.keep_group.result (RefusesGroupRows (limits_of work.options) (integer_matrix work.table))
-    (λ _ rows. HoldsAll (integer_matrix work.table) rows) c.keep_group.new.kept) c.self.view_is c.keep_group.ensures.rows
+returns-clause-rows g c =
+    let G = c.args.self.now.table in
+    let limits = limits_of c.args.self.now.options in
+    let table : c.self.inside.table ≡ G = ap (λ (work : Work). work.table) c.self.view_is in
+    let options : c.self.inside.options ≡ c.args.self.now.options = ap (λ (work : Work). work.options) c.self.view_is in
+    let told = rw (table, options) at (c.in_ok-keep_elements.ensures {u = tt}) in
+    let is = sym c.take.ensures.value ∙ c.in-Some.is in
+    let made = c.ensure_all-made.ensures in
+    rw c.unless_fault.ensures (group-keeps G limits (IsAdmissible-integer_matrix G told.group) c.in-Some.rows c.with_all-rows.result
+    c.ensure_all-made.new.self (rw is at told.kept) (rw is at told.elements.1) c.with_all-rows.ensures
+    (not-large limits (integer_matrix G) told.elements.0) made.elements c.ensure_all-made.result made.there made.small made.fault)

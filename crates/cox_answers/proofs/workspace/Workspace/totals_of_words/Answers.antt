@@ -48,5 +48,6 @@ pub returns-clause-totals : goal.returns-clause-totals
 returns-clause-totals g c =
     let table = c.args.self.now.table in
     let none : c.args.count - c.loop.counter ≡ 0 = omega arith in
-    reaches-all (limits_of c.args.self.now.options) (integer_matrix table) (generated_words table.rank c.args.count c.args.start) c.loop.totals
+    reaches-all (limits_of c.args.self.now.options) (integer_matrix table) (generated_words table.rank c.args.count c.args.start)
+    c.loop.totals
     (rw none at c.loop.invariant.reaches)

@@ -14,7 +14,8 @@ pub returns-in-Ok-clause-ok : goal.returns-in-Ok-clause-ok
 returns-in-Ok-clause-ok g c =
     let read = c.in-Ok.ensures {u = tt} in
     let accepted : line_refusal c.args.line.now (rank_of c.args.self.now) ≡ None = rw (← c.rank.ensures.rank) read.0 in
-    let given : command_of (tokens_of c.args.line.now) (rank_of c.args.self.now) ≡ Some c.in-Ok.command = rw (← c.rank.ensures.rank) read.1 in
+    let given : command_of (tokens_of c.args.line.now) (rank_of c.args.self.now) ≡ Some c.in-Ok.command =
+    rw (← c.rank.ensures.rank) read.1 in
     Says-follows _ (IsCommandReply c.in-Ok.command c.args.self.now) (IsContentReply c.args.self.now c.args.line.now) _ _ _
     (λ reply is. IsContentReply-command _ _ c.in-Ok.command reply accepted given is) c.obey.ensures.ok
 
@@ -22,7 +23,8 @@ pub returns-in-Ok-clause-err : goal.returns-in-Ok-clause-err
 returns-in-Ok-clause-err g c =
     let read = c.in-Ok.ensures {u = tt} in
     let accepted : line_refusal c.args.line.now (rank_of c.args.self.now) ≡ None = rw (← c.rank.ensures.rank) read.0 in
-    let given : command_of (tokens_of c.args.line.now) (rank_of c.args.self.now) ≡ Some c.in-Ok.command = rw (← c.rank.ensures.rank) read.1 in
+    let given : command_of (tokens_of c.args.line.now) (rank_of c.args.self.now) ≡ Some c.in-Ok.command =
+    rw (← c.rank.ensures.rank) read.1 in
     SaysPrefix-follows _ (IsCommandReply c.in-Ok.command c.args.self.now) (IsContentReply c.args.self.now c.args.line.now) _ _ _ _
     (λ reply is. IsContentReply-command _ _ c.in-Ok.command reply accepted given is) c.obey.ensures.err
 
