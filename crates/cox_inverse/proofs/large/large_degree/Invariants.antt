@@ -1,0 +1,8 @@
+-- None of the coefficients so far is large.
+use Rattle.std.proofs.Common.{ℕ, ◌<◌}
+use Rattle.cox_poly.specs.Polynomial.{coefficient}
+use Rattle.cox_poly.specs.Limit.{IsWithin}
+use Rattle.cox_inverse.proofs.large.large_degree.Given as goal
+
+abbrev pub invariant-loop-d : goal.invariant-loop-d
+invariant-loop-d l = (k : ℕ) → k < l.d → IsWithin l.limit (coefficient l.p k)

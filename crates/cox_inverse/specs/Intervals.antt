@@ -1,0 +1,36 @@
+-- The interval of an inverse row, by number.
+use Rattle.std.specs.Prelude.{ℕ, ◌<◌, List, length, ℤ}
+use Rattle.cox_base.specs.IntegerMatrix.{integer_matrix}
+use Rattle.cox_context.specs.Closed.{Elements}
+use Rattle.cox_context.specs.Numbers.{word_at}
+use Rattle.cox_row.specs.Rising.{number_at}
+use Rattle.cox_klstep.specs.LargeMembers.{IsWithinLimit}
+use Rattle.cox_poly.specs.Limit.{IsFirstAbove}
+use Rattle.std.specs.Prelude.{◌≡◌}
+use Rattle.cox_inverse.specs.declared.fault.TheConstants.{MAX_COEFFICIENT}
+use Rattle.cox_inverse.specs.declared.fault.InverseFault.{InverseFault}
+use Rattle.cox_inverse.specs.declared.fault.InverseFault.TheVariants.{Coefficient, Inverse, NoMemory}
+use Rattle.cox_inverse.specs.declared.interval.Interval.{Interval}
+use Rattle.cox_inverse.specs.NumberedInverses.{AreBetween}
+use Rattle.cox_inverse.specs.InverseFaults.{IsPair}
+
+-- the members from a bottom to a top
+pub record IsInterval (e : Elements) (interval : Interval) : Type 0 where
+  pub bottom_member : interval.bottom < length e.members
+  pub top_member : interval.top < length e.members
+  pub between : AreBetween e interval.bottom interval.top interval.members.items
+
+-- the row of each of its members is there
+abbrev pub AreRowsThere : (ℕ → Type 0) → Interval → Type 0
+AreRowsThere holds interval = (k : ℕ) → k < length interval.members.items → holds (number_at interval.members.items k)
+
+-- no P(x,z) with y ≤ x ≤ z ≤ w has a coefficient above MAX_COEFFICIENT
+abbrev pub ArePairsSmall : Elements → ℕ → ℕ → Type 0
+ArePairsSmall e y w = (x z : ℕ) → IsPair e y w x z
+    → IsWithinLimit (integer_matrix e.matrix) MAX_COEFFICIENT (word_at e.members x) (word_at e.members z)
+
+-- what a fault of the sums for the member x says of them
+abbrev pub IsSumFault : ℕ → ℤ → List ℤ → InverseFault → Type 0
+IsSumFault x limit sums (Coefficient u z degree value) = ⊥
+IsSumFault x limit sums (Inverse u degree value) = (u ≡ x) × IsFirstAbove limit sums degree value
+IsSumFault x limit sums NoMemory = Unit {0}

@@ -1,0 +1,127 @@
+//! Finite groups: with the longest element w0, Q(x,w) is P(w0 w, w0 x) (Kazhdan and Lusztig 1979, theorem 3.1).
+ghost use Rattle.std.specs.Prelude.{◌≡◌, ℕ, ◌<◌, pos, ◌≤ℤ◌, length, IfSome, IsTrue};
+ghost use Rattle.cox_base.specs.IntegerMatrix.{integer_matrix};
+ghost use Rattle.cox_base.specs.Bruhat.{IsBelow};
+ghost use Rattle.cox_poly.specs.Polynomial.{coefficient};
+ghost use Rattle.cox_poly.specs.Limit.{AllWithin};
+ghost use Rattle.cox_context.specs.Numbers.{word_at};
+ghost use Rattle.cox_row.specs.Polynomials.{polynomial_at};
+ghost use Rattle.cox_row.specs.Within.{IsRowWithin};
+ghost use Rattle.cox_inverse.specs.InverseRow.{IsInverse};
+ghost use Rattle.cox_inverse.specs.InverseFaults.{AreWithinLimits};
+ghost use Rattle.cox_inverse.specs.WholeGroups.{IsLongestMember, IsReadable, IsTurned};
+
+use crate::fault::MAX_COEFFICIENT;
+use crate::large::large_degree;
+use cox_context::Context;
+use cox_poly::PolyView;
+use cox_row::{LowerRows, Row, polynomial};
+
+/// A whole finite group with all its rows, off which inverse polynomials are read. It is known by the number of the longest element.
+#[derive(Clone, Copy, Drop)]
+pub struct WholeGroup {
+    pub(crate) longest: u32,
+}
+
+impl WholeGroup {
+    /// The group, if the members are a whole finite group, the row of each is there, and no coefficient of these rows is above the limit.
+    ///
+    /// Where the rows' own limit is not above it, no coefficient is looked at.
+    pub fn of<L: LowerRows>(ctx: &Context, rows: &L, limit: i64) -> Option<WholeGroup>
+        requires rows { L.elements rows.now ≡ ctx.now }
+        requires least { pos 0 ≤ℤ limit }
+        ensures { IfSome result (IsReadable ctx.now (L.holds rows.now) limit) }
+    {
+        let longest = longest_member(ctx)?;
+        let greatest = rows.limit();
+        for i in 0..ctx.len() {
+            if !rows.has(i) {
+                return None;
+            }
+            if !is_within(rows.row(i), greatest, limit) {
+                return None;
+            }
+        }
+        Some(WholeGroup { longest })
+    }
+
+    /// Q(y,w), read off the row of w0 y, for the members y <= w. The limit is that with which the group was found: no coefficient is above
+    /// it.
+    pub fn polynomial<'a, L: LowerRows>(
+        self,
+        ctx: &Context,
+        rows: &'a L,
+        y: u32,
+        w: u32,
+        limit: i64,
+    ) -> PolyView<'a>
+        requires rows { L.elements rows.now ≡ ctx.now }
+        requires readable { IsReadable ctx.now (L.holds rows.now) limit self }
+        requires most { limit ≤ℤ MAX_COEFFICIENT }
+        requires y { y < length ctx.now.members }
+        requires w { w < length ctx.now.members }
+        requires below { IsBelow (integer_matrix ctx.now.matrix) (word_at ctx.now.members y) (word_at ctx.now.members w) }
+        ensures value { let A = integer_matrix ctx.now.matrix in
+            IsInverse A (word_at ctx.now.members y) (word_at ctx.now.members w) (coefficient result) }
+        ensures within { AreWithinLimits (integer_matrix ctx.now.matrix) limit (word_at ctx.now.members y) (word_at ctx.now.members w) }
+    {
+        let _len = ctx.len();
+        let _ = limit;
+        let upper = turned(ctx, self.longest, y);
+        let lower = turned(ctx, self.longest, w);
+        match polynomial(ctx, rows.row(upper), upper, lower) {
+            Some(p) => p,
+            None => unreachable!(),
+        }
+    }
+}
+
+/// Whether no coefficient of a row is above the limit; none is above the greatest one.
+fn is_within(row: &Row, greatest: i64, limit: i64) -> bool
+    requires within { IsRowWithin greatest row.now }
+    requires least { pos 0 ≤ℤ limit }
+    ensures { IsTrue result → (j : ℕ) → j < length row.now.pool → AllWithin limit (polynomial_at row.now.pool j) }
+{
+    if greatest <= limit {
+        return true;
+    }
+    for k in 0..row.pool().len() {
+        if large_degree(&row.pool().at(k), limit).is_some() {
+            return false;
+        }
+    }
+    true
+}
+
+/// The number of w0 x.
+fn turned(ctx: &Context, longest: u32, x: u32) -> u32
+    requires longest { IsLongestMember ctx.now longest }
+    requires x { x < length ctx.now.members }
+    ensures { IsTurned ctx.now longest x result }
+{
+    let _len = ctx.len();
+    let word = ctx.word(x);
+    let mut at = longest;
+    for &s in word.as_slice() {
+        at = match ctx.right(s, at) {
+            Some(next) => next,
+            None => unreachable!(),
+        };
+    }
+    at
+}
+
+/// The number of the longest element, where the members are a whole finite group: the last one, if each letter is a right descent of it.
+fn longest_member(ctx: &Context) -> Option<u32>
+    ensures { IfSome result (IsLongestMember ctx.now) }
+{
+    let _len = ctx.len();
+    let last = ctx.len() - 1;
+    let descents = ctx.right_descent_set(last);
+    for r in 0..ctx.matrix().rank() {
+        if (descents >> r) & 1 == 0 {
+            return None;
+        }
+    }
+    Some(last)
+}
