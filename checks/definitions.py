@@ -1,4 +1,5 @@
-"""Finite Coxeter groups by their definitions, to compare the program with. It is slow, and shares nothing with the program.
+"""Coxeter groups by their definitions, to compare the program with: finite ones, and the elements of any up to some length. It is slow,
+and shares nothing with the program.
 
 An element is the number of its normal form in ShortLex order. A polynomial in q is its value at q = 2^64, an integer, since
 all coefficients here are below 2^63. `Group.text` gives the program's answer to a line.
@@ -44,16 +45,18 @@ def letters_text(letters, empty):
 
 
 class Group:
-    """A group with so many letters, at most 9, and these labels other than 2."""
+    """A group with so many letters, at most 9, and these labels other than 2; of an infinite one the elements of at most so many letters."""
 
-    def __init__(self, rank, labels):
+    def __init__(self, rank, labels, most=None):
         self.letters = range(1, rank + 1)
-        self.words, numbers = self.elements(self.reflections(rank, labels))
+        self.words, numbers = self.elements(self.reflections(rank, labels), most)
         number = {word: i for i, word in enumerate(self.words)}
         self.size, self.length = len(self.words), [len(word) for word in self.words]
-        self.left = {s: [number[numbers[s, word]] for word in self.words] for s in self.letters}
-        self.inverse = [self.element(word[::-1]) for word in self.words]
-        self.right = {s: [self.inverse[self.left[s][i]] for i in self.inverse] for s in self.letters}
+        # A longer element that is left out counts as one behind all others.
+        self.left = {s: [number.get(numbers[s, word], self.size) for word in self.words] for s in self.letters}
+        self.length.append(len(self.words[-1]) + 1)
+        self.inverse = [*(self.element(word[::-1]) for word in self.words), self.size]
+        self.right = {s: [self.inverse[self.left[s][self.inverse[i]]] for i in range(self.size)] for s in self.letters}
         self.lefts = [self.shortening(self.left, i) for i in range(self.size)]
         self.rights = [self.shortening(self.right, i) for i in range(self.size)]
         self.below = self.orders()
@@ -74,8 +77,8 @@ class Group:
         return matrices
 
     @staticmethod
-    def elements(matrices):
-        """The ShortLex-first word of each element, in ShortLex order; and that of s w by the letter s and the word of w."""
+    def elements(matrices, most):
+        """The ShortLex-first word of each element, in ShortLex order; and that of s w by the letter s and the word of w, if it is among them."""
 
         def times(a, b):
             columns = list(zip(*b))
@@ -84,7 +87,7 @@ class Group:
         letters = [s for s in matrices if s]
         first = {matrices[0]: ()}
         level = [matrices[0]]
-        while level:
+        while level and (most is None or len(first[level[0]]) < most):
             found = {}
             for m, s in itertools.product(level, letters):
                 further = times(m, matrices[s])
@@ -92,7 +95,7 @@ class Group:
                     found[further] = (*first[m], s)
             first.update(found)
             level = sorted(found, key=found.get)
-        moved = {(s, word): first[times(matrices[s], m)] for m, word in first.items() for s in letters}
+        moved = {(s, word): first.get(times(matrices[s], m)) for m, word in first.items() for s in letters}
         return list(first.values()), moved
 
     def element(self, word):
@@ -142,6 +145,14 @@ class Group:
             turned = sum(c * BASE ** (distance - k) for k, c in enumerate(low))
             assert turned - row[x] == total, "the row is not invariant"
         self.rows[w] = row
+        return row
+
+    def inverse_row(self, w):
+        """Q(x,w) for x <= w, by its definition: the sum of (-1)^(l(z)-l(x)) P(x,z) Q(z,w) over the z with x <= z <= w is 1 where x = w,
+        else 0, and P(x,x) = 1."""
+        row = {w: 1}
+        for x in reversed(self.below[w][:-1]):
+            row[x] = -sum((-1) ** (self.length[z] - self.length[x]) * self.row(z).get(x, 0) * q for z, q in row.items())
         return row
 
     def mu(self, x, w):
@@ -257,6 +268,7 @@ class Group:
             "interval": lambda: self.listed([self.name(x) for x in self.below[w] if y in self.rs[x]]),
             "rpol": lambda: [polynomial_text(self.rs[w].get(y, 0))],
             "pol": lambda: [polynomial_text(self.row(w).get(y, 0))],
+            "invpol": lambda: [polynomial_text(self.inverse_row(w).get(y, 0))],
             "mu": lambda: [str(self.mu(y, w))],
         }[command]()
 

@@ -36,6 +36,8 @@ coatoms 1232
 betti 121321
 rpol 2 12321
 pol e 2132
+invpol 2 2132
+invpol e 121321
 mu 2 2132
 klbasis 2132
 pol 4 x | error 16

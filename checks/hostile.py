@@ -100,7 +100,7 @@ def long_words(workers):
         (f"rpol {LONGEST} {LONGEST[1:]}", "0"),
     ]
     given += [(f"{command} {LONGEST}", "error 31") for command in ("coatoms", "betti", "klbasis", "extremals", "ihbetti")]
-    given += [(f"{command} e {LONGEST}", "error 31") for command in ("interval", "pol", "mu")]
+    given += [(f"{command} e {LONGEST}", "error 31") for command in ("interval", "pol", "invpol", "mu")]
     given += [(command, "error 31") for command in ("lwgraph", "rwgraph", "lcells", "rcells", "lrcells")]
     script, answers = lines(FREE, *(line for line, _ in given)), lines(*(out for _, out in given))
     begin = time.time()
@@ -152,6 +152,9 @@ betti 12 | error 31
 rpol e 121
 pol e e
 pol e 1 | error 31
+invpol e e
+invpol e 1 | error 31
+invpol 1 e
 mu e e
 mu e 1 | error 31
 klbasis e

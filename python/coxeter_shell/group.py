@@ -235,6 +235,15 @@ class CoxeterGroup(Elements):
         """
         return self._one(Polynomial.read, "pol", y, w)
 
+    def inverse_kazhdan_lusztig_polynomial(self, y, w):
+        """The inverse Kazhdan-Lusztig polynomial Q(y, w), zero unless y <= w: for x <= w the sum of (-1)^(l(z)-l(x)) P(x, z) Q(z, w)
+        over the z with x <= z <= w is 1 where x = w, else 0.
+
+        >>> CoxeterGroup("A", 3).inverse_kazhdan_lusztig_polynomial("2", "2132")
+        1+q
+        """
+        return self._one(Polynomial.read, "invpol", y, w)
+
     def mu_coefficient(self, y, w):
         """mu(y, w): the coefficient of P(y, w) in degree (l(w) - l(y) - 1) / 2, or 0 where that is no whole number.
 

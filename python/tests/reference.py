@@ -92,6 +92,18 @@ def polynomial(x, w):
     return found
 
 
+@functools.lru_cache(None)
+def inverse_polynomial(x, w):
+    """Q(x, w) by its definition: the sum of (-1)^(l(z)-l(x)) P(x, z) Q(z, w) over the z with x <= z <= w is 1 where x = w, else 0."""
+    if not below(x, w):
+        return ()
+    total = (1,) if x == w else ()
+    for z in group(len(w) - 1):
+        if z != x and below(x, z) and below(z, w):
+            total = plus(total, times(polynomial(x, z), inverse_polynomial(z, w)), -((-1) ** (length(z) - length(x))))
+    return total
+
+
 def mu(x, w):
     distance = length(w) - length(x)
     if distance < 1 or distance % 2 == 0:

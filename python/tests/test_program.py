@@ -559,6 +559,7 @@ class Wrong(unittest.TestCase):
             (lambda it: it.intersection_betti_numbers("1"), ["", "x", "1  1", "1 q"]),
             (lambda it: it.r_polynomial("1", "1"), polynomials),
             (lambda it: it.kazhdan_lusztig_polynomial("1", "1"), polynomials),
+            (lambda it: it.inverse_kazhdan_lusztig_polynomial("1", "1"), polynomials),
             (lambda it: it.mu_coefficient("1", "1"), ["x", "", "01", "+1", "-0", "1.0", "1 1", "--1", "q"]),
             (lambda it: it.work(1, 1), ["", "x", "words 1", work, f"{work} x", "1 1 1 1", f"{work} 1 x 1", f" {work} 1"]),
             (lambda it: it.bruhat_interval("1", "1"), lists(words, *order)),

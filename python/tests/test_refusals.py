@@ -76,7 +76,8 @@ class Refusals(unittest.TestCase):
             for call in (group.betti_numbers, group.coatoms, group.kazhdan_lusztig_basis, group.extremal_pairs):
                 self.refused(31, call, "121321")
             self.refused(31, group.intersection_betti_numbers, "121321")
-            for call in (group.bruhat_interval, group.kazhdan_lusztig_polynomial, group.mu_coefficient):
+            polynomials = (group.kazhdan_lusztig_polynomial, group.inverse_kazhdan_lusztig_polynomial, group.mu_coefficient)
+            for call in (group.bruhat_interval, *polynomials):
                 self.refused(31, call, "12132", "121321")
             self.refused(31, group.iter_left_cells)
             self.refused(31, group.iter_kazhdan_lusztig_basis, "121321")
@@ -88,7 +89,7 @@ class Refusals(unittest.TestCase):
             self.refused(34, group.r_polynomial, "e", "12" * 20)
             self.assertEqual(group.r_polynomial("e", "12" * 19 + "1").degree(), 39)
         with CoxeterGroup("A", 4, coef=1) as group:
-            for call in (group.kazhdan_lusztig_polynomial, group.mu_coefficient):
+            for call in (group.kazhdan_lusztig_polynomial, group.inverse_kazhdan_lusztig_polynomial, group.mu_coefficient):
                 self.refused(32, call, "e", "1234321")
             for call in (group.kazhdan_lusztig_basis, group.extremal_pairs, group.intersection_betti_numbers):
                 self.refused(32, call, "1234321")

@@ -78,6 +78,7 @@ class Symmetric(unittest.TestCase):
                 words = real.words[x], real.words[w]
                 self.assertEqual(group.r_polynomial(*words), reference.r_polynomial(x, w))
                 self.assertEqual(group.kazhdan_lusztig_polynomial(*words), reference.polynomial(x, w))
+                self.assertEqual(group.inverse_kazhdan_lusztig_polynomial(*words), reference.inverse_polynomial(x, w))
                 self.assertEqual(group.mu_coefficient(*words), reference.mu(x, w))
 
     def test_basis(self):

@@ -4,7 +4,7 @@ use Rattle.std.specs.Str.{bytes_eq}
 use Rattle.cox_command.specs.declared.inquiry.OneWord.TheVariants.{Compute, Length, Inverse, Descent, Coatoms, Betti, Klbasis, Ihbetti}
 use Rattle.cox_command.specs.declared.inquiry.OneWord.TheVariants.{Extremals, Module}
 use Rattle.cox_command.specs.declared.inquiry.NoWord.TheVariants.{Lwgraph, Rwgraph, Lcells, Rcells, Lrcells}
-use Rattle.cox_command.specs.declared.inquiry.TwoWord.TheVariants.{Inorder, Interval, Rpol, Pol, Mu}
+use Rattle.cox_command.specs.declared.inquiry.TwoWord.TheVariants.{Inorder, Interval, Rpol, Pol, Invpol, Mu}
 use Rattle.cox_command.specs.declared.command_word.CommandWord.{CommandWord}
 use Rattle.cox_command.specs.declared.command_word.CommandWord.TheVariants.{Named, Matrix, Quit, One, Two, Plain, Work}
 
@@ -27,6 +27,7 @@ command_word_of token = if bytes_eq token (codes "type") then Some Named
     else if bytes_eq token (codes "interval") then Some (Two Interval)
     else if bytes_eq token (codes "rpol") then Some (Two Rpol)
     else if bytes_eq token (codes "pol") then Some (Two Pol)
+    else if bytes_eq token (codes "invpol") then Some (Two Invpol)
     else if bytes_eq token (codes "mu") then Some (Two Mu)
     else if bytes_eq token (codes "lwgraph") then Some (Plain Lwgraph)
     else if bytes_eq token (codes "rwgraph") then Some (Plain Rwgraph)

@@ -61,6 +61,8 @@ pub fn command_word(token: &[u8]) -> Option<CommandWord>
         Some(CommandWord::Two(TwoWord::Rpol))
     } else if token == b"pol".as_slice() {
         Some(CommandWord::Two(TwoWord::Pol))
+    } else if token == b"invpol".as_slice() {
+        Some(CommandWord::Two(TwoWord::Invpol))
     } else if token == b"mu".as_slice() {
         Some(CommandWord::Two(TwoWord::Mu))
     } else if token == b"lwgraph".as_slice() {

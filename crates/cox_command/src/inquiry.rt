@@ -56,6 +56,8 @@ pub enum TwoWord {
     Rpol,
     /// Their Kazhdan-Lusztig polynomial P(y,w).
     Pol,
+    /// Their inverse Kazhdan-Lusztig polynomial Q(y,w).
+    Invpol,
     /// mu(y,w): the coefficient of P(y,w) at the degree (l(w) - l(y) - 1) / 2, if y is below w and that is whole.
     Mu,
 }
