@@ -65,8 +65,9 @@ impl<'a> Model for Builder<'a> {
     ghost Value = { Building };
 
     ghost view = { λ b. record {
-        search = record { matrix = b.scope.now.group; top = b.scope.now.top; earlier = b.earlier.now.members; limit = b.limit };
-        members = b.listing.members } };
+      search = record { matrix = b.scope.now.group; top = b.scope.now.top; earlier = b.earlier.now.members; limit = b.limit };
+      members = b.listing.members;
+    } };
 
     ghost invariant = { λ b. IsBuilder
         (record { matrix = b.scope.now.group; top = b.scope.now.top; earlier = b.earlier.now.members; limit = b.limit })
