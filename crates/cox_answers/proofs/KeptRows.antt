@@ -38,7 +38,7 @@ use Rattle.cox_answers.specs.Listed.{RefusesLarge}
 use Rattle.cox_answers.specs.RowReply.{RefusesRow}
 
 -- a filtered list is no longer
-filter-shorter : (test : List ℕ → Bool) (xs : List (List ℕ)) → length (filter test xs) ≤ length xs
+pub filter-shorter : (test : List ℕ → Bool) (xs : List (List ℕ)) → length (filter test xs) ≤ length xs
 filter-shorter test xs = rw (length-filter test xs) (count_by-le-length test xs)
 
 module _ (A : IntegerMatrix) (g : IsAdmissible A) (w : List ℕ) where

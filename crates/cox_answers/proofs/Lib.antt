@@ -5,6 +5,7 @@ pub mod RowQuestions
 pub mod WorkQuestions
 pub mod GroupQuestions
 pub mod ModuleQuestions
+pub mod InverseQuestions
 pub mod Questions
 -- the text of an R-polynomial
 pub mod PolynomialTexts
@@ -44,3 +45,12 @@ pub mod ListSearch
 -- the left cell of an element, and the text of its module
 pub mod CellLists
 pub mod ModuleTexts
+-- the text of an inverse polynomial, and whether one between two elements is too large
+pub mod InverseTexts
+pub mod InverseBeyond
+-- when an inverse polynomial is refused
+pub mod InverseRefusals
+-- refusals for a large interval, or else for large rows
+pub mod LargeOr
+-- rows of the elements between two, among those that are kept
+pub mod KeptBetween

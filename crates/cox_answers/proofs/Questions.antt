@@ -15,7 +15,7 @@ use Rattle.cox_command.specs.declared.inquiry.OneWord.{OneWord}
 use Rattle.cox_command.specs.declared.inquiry.OneWord.TheVariants.{Compute, Length, Inverse, Descent, Coatoms, Betti}
 use Rattle.cox_command.specs.declared.inquiry.OneWord.TheVariants.{Klbasis, Ihbetti, Extremals, Module}
 use Rattle.cox_command.specs.declared.inquiry.TwoWord.{TwoWord}
-use Rattle.cox_command.specs.declared.inquiry.TwoWord.TheVariants.{Inorder, Interval, Rpol, Pol, Mu}
+use Rattle.cox_command.specs.declared.inquiry.TwoWord.TheVariants.{Inorder, Interval, Rpol, Pol, Invpol, Mu}
 use Rattle.cox_base.specs.Members.{IsInInterval}
 use Rattle.cox_base.specs.SortedList.{IsListOf}
 use Rattle.cox_base.specs.Interval.{IsBetween, IsCoatom}
@@ -34,6 +34,7 @@ use Rattle.cox_answers.proofs.RowQuestions.{pol-unique, mu-unique_text, listed-b
 use Rattle.cox_answers.proofs.RowQuestions.{extremals-answerable, ihbetti-answerable}
 use Rattle.cox_answers.proofs.GroupQuestions.{group-one, group-answerable}
 use Rattle.cox_answers.proofs.ModuleQuestions.{module-one, module-answerable}
+use Rattle.cox_answers.proofs.InverseQuestions.{invpol-one, invpol-answerable}
 use Rattle.cox_answers.proofs.WorkQuestions.{work-one, work-answerable}
 
 -- the words with a property give one text
@@ -69,6 +70,7 @@ module _ (limits : Limits) (A : IntegerMatrix) (g : IsAdmissible A) where
   two-text rank Interval y w a b p q = listed-unique (IsBetween A y w) (elements_text rank) a b p q
   two-text rank Rpol y w a b p q = p ∙ sym q
   two-text rank Pol y w a b p q = pol-unique A g y w a b p q
+  two-text rank Invpol y w a b p q = invpol-one A g y w a b p q
   two-text rank Mu y w a b p q = mu-unique_text A g y w a b p q
 
 pub question-one : (inquiry : Inquiry) (limits : Limits) (g : CoxeterMatrix) → IsAdmissible (integer_matrix g)
@@ -136,6 +138,7 @@ module _ (limits : Limits) (A : IntegerMatrix) (g : IsAdmissible A) where
   two-answerable rank Interval y w = listed w (IsBetween A y w) _ (elements_text rank) (between-of A g y w)
   two-answerable rank Rpol y w = record { decided = far-decided y w; answer = λ free. (_, refl) }
   two-answerable rank Pol y w = pol-answerable A g limits y w
+  two-answerable rank Invpol y w = invpol-answerable A g limits y w
   two-answerable rank Mu y w = mu-answerable A g limits y w
 
 pub question-answerable : (inquiry : Inquiry) (limits : Limits) (g : CoxeterMatrix) → IsAdmissible (integer_matrix g)

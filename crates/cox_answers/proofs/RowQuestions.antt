@@ -44,7 +44,7 @@ implied-decided (inl p) (inl q) = inl (λ _. q)
 implied-decided (inl p) (inr none) = inr (λ f. none (f p))
 implied-decided (inr none) q = inl (λ p. absurd (none p))
 
-both-decided : {P Q : Type 0} → P ⊎ (P → ⊥) → Q ⊎ (Q → ⊥) → (P × Q) ⊎ (P × Q → ⊥)
+pub both-decided : {P Q : Type 0} → P ⊎ (P → ⊥) → Q ⊎ (Q → ⊥) → (P × Q) ⊎ (P × Q → ⊥)
 both-decided (inl p) (inl q) = inl (p, q)
 both-decided (inl p) (inr none) = inr (λ b. none b.1)
 both-decided (inr none) q = inr (λ b. none b.0)

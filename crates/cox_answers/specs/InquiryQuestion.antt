@@ -13,7 +13,7 @@ use Rattle.cox_command.specs.declared.inquiry.OneWord.{OneWord}
 use Rattle.cox_command.specs.declared.inquiry.OneWord.TheVariants.{Compute, Length, Inverse, Descent, Coatoms, Betti, Klbasis}
 use Rattle.cox_command.specs.declared.inquiry.OneWord.TheVariants.{Ihbetti, Extremals, Module}
 use Rattle.cox_command.specs.declared.inquiry.TwoWord.{TwoWord}
-use Rattle.cox_command.specs.declared.inquiry.TwoWord.TheVariants.{Inorder, Interval, Rpol, Pol, Mu}
+use Rattle.cox_command.specs.declared.inquiry.TwoWord.TheVariants.{Inorder, Interval, Rpol, Pol, Invpol, Mu}
 use Rattle.cox_poly.specs.PolynomialText.{polynomial_text}
 use Rattle.cox_rpoly.specs.RPolynomial.{r_polynomial}
 use Rattle.cox_rpoly.specs.declared.TheConstants.{MAX_DIFFERENCE}
@@ -28,6 +28,7 @@ use Rattle.cox_answers.specs.Listed.{RefusesLarge, IsOfList, IsOfRow}
 use Rattle.cox_answers.specs.RowReply.{RefusesRow, coefficients_to, IsPolText, IsMuText, pairs_text, IsExtremalBelow, ihbetti_text}
 use Rattle.cox_answers.specs.GroupReply.{RefusesGroupRows, group_question}
 use Rattle.cox_answers.specs.ModuleReply.{IsModuleText}
+use Rattle.cox_answers.specs.InverseReply.{RefusesInverse, IsInverseText}
 use Rattle.cox_answers.specs.WorkReply.{work_question}
 
 -- nothing refuses
@@ -78,6 +79,7 @@ two_question Interval limits rank A y w =
     record { Refuses = RefusesLarge limits A w; IsText = IsOfList (IsBetween A y w) (elements_text rank) }
 two_question Rpol limits rank A y w = record { Refuses = RefusesFar A y w; IsText = λ text. text ≡ r_text A y w }
 two_question Pol limits rank A y w = record { Refuses = RefusesRow limits A w; IsText = IsPolText A y w }
+two_question Invpol limits rank A y w = record { Refuses = RefusesInverse limits A y w; IsText = IsInverseText A y w }
 two_question Mu limits rank A y w = record { Refuses = RefusesRow limits A w; IsText = IsMuText A y w }
 
 -- what a command on elements asks of those of its words, in a group

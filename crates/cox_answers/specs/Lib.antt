@@ -14,6 +14,8 @@ pub mod RowCommands
 pub mod GroupReply
 -- what `module` asks: modules of left cells
 pub mod ModuleReply
+-- what `invpol` asks: inverse Kazhdan-Lusztig polynomials
+pub mod InverseReply
 -- what `work` asks
 pub mod WorkReply
 -- what each command on elements asks
@@ -24,6 +26,8 @@ pub mod Answerable
 pub mod Putting
 -- rows that are kept
 pub mod Kept
+-- rows of the elements between two, as they are kept
+pub mod KeptBetween
 -- totals of polynomials
 pub mod Totals
 -- totals of rows that are summed up

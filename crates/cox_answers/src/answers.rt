@@ -5,9 +5,11 @@
 //! - `polynomials`: R-polynomials
 //! - `kept`: the rows that a session keeps
 //! - `kept_group`: those of a whole group
+//! - `between`: those of the elements between two
 //! - `rows`: the answers from the row of an element, and single polynomials of it, and mu
 //! - `pairs`: the polynomials of a row, all or the extremal ones
 //! - `sums`: the polynomials of a row, summed up
+//! - `inverse`: single inverse Kazhdan-Lusztig polynomials
 //! - `graphs`: W-graphs and cells
 //! - `modules`: modules of left cells
 //! - `generated`: rows of generated words
@@ -25,9 +27,11 @@ ghost use Rattle.cox_answers.specs.InquiryQuestion.{RefusesNone, IsOrderText, qu
 ghost use Rattle.cox_command.specs.ParseContract.{HasLetters};
 ghost use Rattle.cox_answers.specs.Putting.{PutsUnless, IsEnded};
 
+pub(crate) mod between;
 mod generated;
 mod graphs;
 mod intervals;
+mod inverse;
 pub(crate) mod kept;
 pub(crate) mod kept_group;
 mod modules;
@@ -100,6 +104,7 @@ impl Workspace {
             Inquiry::Two(TwoWord::Interval, y, w) => put_interval(out, table, options, y, w),
             Inquiry::Two(TwoWord::Rpol, y, w) => put_rpol(out, table, y, w),
             Inquiry::Two(TwoWord::Pol, y, w) => self.put_entry(maker, out, EntryKind::Pol, y, w),
+            Inquiry::Two(TwoWord::Invpol, y, w) => self.put_invpol(maker, out, y, w),
             Inquiry::Two(TwoWord::Mu, y, w) => self.put_entry(maker, out, EntryKind::Mu, y, w),
             Inquiry::Plain(kind) => self.put_group(maker, out, *kind),
             Inquiry::Work { start, count } => self.put_generated(maker, out, *start, *count),

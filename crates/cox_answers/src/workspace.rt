@@ -1,12 +1,16 @@
 //! What commands on elements work with.
 
 use crate::answers::Unanswered;
+use crate::answers::between::{
+    ensure_each, find_whole, has_all, interval_between, is_large, with_rows,
+};
 use crate::answers::kept::{keep_interval, widen, with_row};
 use crate::answers::kept_group::{keep_elements, with_all};
 use crate::answers::unanswered::unless_fault;
 use crate::growth::{Growth, longest_word};
 use crate::row_maker::RowMaker;
 use cox_base::{MAX_RANK, Word};
+use cox_inverse::WholeGroup;
 use cox_minroots::RootTable;
 use cox_options::Options;
 use cox_rows::Rows;
@@ -23,6 +27,8 @@ pub struct Workspace {
     options: Options,
     // Rows of the group, with the context that they are over, once a row was asked for.
     rows: Option<Rows>,
+    // What inverse polynomials are read off, where these are all rows of a finite group, if that was looked for since the rows changed.
+    whole: Option<Option<WholeGroup>>,
     // What it has cost to make their context larger.
     growth: Growth,
 }
@@ -30,23 +36,34 @@ pub struct Workspace {
 impl Model for Workspace {
     ghost use Rattle.cox_answers.specs.SessionLimits.{limits_of};
     ghost use Rattle.cox_answers.specs.Kept.{Work, AreKept};
+    ghost use Rattle.cox_answers.specs.KeptBetween.{AreReadOff};
 
     ghost Value = { Work };
 
     ghost view = { λ w. record { table = w.table; options = w.options; rows = w.rows } };
 
-    ghost invariant = { λ w. AreKept w.table (limits_of w.options) w.rows };
+    ghost invariant = { λ w. AreKept w.table (limits_of w.options) w.rows × AreReadOff (limits_of w.options) w.rows w.whole };
 }
 
 impl Workspace {
-    ghost use Rattle.std.specs.Prelude.{◌≡◌, ◌≤◌, IsSome, Some};
+    ghost use Rattle.std.specs.Prelude.{◌≡◌, ℕ, ◌<◌, ◌≤◌, IsSome, IsSomeAnd, IfSome, IsTrue, Some, Contains, length};
     ghost use Rattle.cox_base.specs.Admissible.{IsCoxeterMatrix};
     ghost use Rattle.cox_base.specs.IntegerMatrix.{integer_matrix};
     ghost use Rattle.cox_base.specs.Matrix.{IsWord};
+    ghost use Rattle.cox_base.specs.ShortLex.{normal_form};
+    ghost use Rattle.cox_base.specs.Bruhat.{IsBelow};
+    ghost use Rattle.cox_base.specs.Members.{IsInInterval};
+    ghost use Rattle.cox_base.specs.SortedList.{HasMoreThan};
+    ghost use Rattle.cox_context.specs.Closed.{IsClosed};
+    ghost use Rattle.cox_context.specs.Numbers.{word_at};
+    ghost use Rattle.cox_rows.specs.Beyond.{IsBeyond};
+    ghost use Rattle.cox_rows.specs.Holding.{HasRow};
     ghost use Rattle.cox_answers.specs.SessionLimits.{limits_of};
     ghost use Rattle.cox_answers.specs.GroupReply.{RefusesGroupRows};
+    ghost use Rattle.cox_answers.specs.Listed.{RefusesLarge};
     ghost use Rattle.cox_answers.specs.RowReply.{RefusesRow};
-    ghost use Rattle.cox_answers.specs.Kept.{AreKept, HoldsRow, HoldsAll, IsSameWork, Keeps};
+    ghost use Rattle.cox_answers.specs.Kept.{AreKept, HoldsElement, HoldsRow, HoldsAll, IsSameWork, Keeps};
+    ghost use Rattle.cox_answers.specs.KeptBetween.{RefusesBetween, HoldsBetween, IsReadOff};
 
     /// A group with the options of the session; no row is made yet.
     pub fn new(table: RootTable, options: Options) -> Workspace
@@ -57,6 +74,7 @@ impl Workspace {
             table,
             options,
             rows: None,
+            whole: None,
             growth: Growth::new(),
         }
     }
@@ -95,6 +113,16 @@ impl Workspace {
         }
     }
 
+    /// What inverse polynomials are read off, where all rows of a finite group are kept.
+    pub(crate) fn whole(&self) -> Option<WholeGroup>
+        ensures { IfSome result (λ group. IsSomeAnd self.now.rows (λ rows. IsReadOff (limits_of self.now.options) rows group)) }
+    {
+        match self.whole {
+            Some(found) => found,
+            None => None,
+        }
+    }
+
     /// Sees to it that the row of w is kept, and tells its number.
     pub(crate) fn keep_row<M: RowMaker>(
         &mut self,
@@ -110,11 +138,8 @@ impl Workspace {
             (HoldsRow (integer_matrix self.old.table) w.now.items) self.new.rows }
         ensures group { IsCoxeterMatrix self.old.table }
     {
-        self.take_group();
-        let before = member_count(&self.rows);
-        let number = keep_interval(alloc, &mut self.rows, &self.table, self.options, w);
-        self.growth.count(before, member_count(&self.rows));
-        let i = number?;
+        let i = self.keep_interval(alloc, w)?;
+        self.whole = None;
         let Some(rows) = self.rows.take() else {
             unreachable!();
         };
@@ -122,6 +147,144 @@ impl Workspace {
         let made = rows.ensure(i);
         self.rows = Some(rows);
         unless_fault(made, i)
+    }
+
+    /// Sees to it that the interval from the identity to w is part of what is kept, and tells the number of w there.
+    pub(crate) fn keep_interval(&mut self, alloc: Global, w: &Word) -> Result<u32, Unanswered>
+        requires { IsWord self.old.table.rank w.now.items }
+        ensures same { IsSameWork self.old self.new }
+        ensures kept { AreKept self.old.table (limits_of self.old.options) self.new.rows }
+        ensures interval { Keeps result (RefusesLarge (limits_of self.old.options) (integer_matrix self.old.table) w.now.items)
+            (HoldsElement (integer_matrix self.old.table) w.now.items) self.new.rows }
+        ensures group { IsCoxeterMatrix self.old.table }
+    {
+        prove!(self.rank() as usize <= MAX_RANK);
+        if let Some(i) = self.number_of(w) {
+            return Ok(i);
+        }
+        self.take_group();
+        self.whole = None;
+        let before = member_count(&self.rows);
+        let number = keep_interval(alloc, &mut self.rows, &self.table, self.options, w);
+        self.growth.count(before, member_count(&self.rows));
+        number
+    }
+
+    /// The number of the element of w, if it is a member.
+    fn number_of(&self, w: &Word) -> Option<u32>
+        requires { IsWord self.now.table.rank w.now.items }
+        ensures number { IfSome result (λ i. IsSomeAnd self.now.rows (HoldsElement (integer_matrix self.now.table) w.now.items i)) }
+        ensures few { IfSome result (λ _. HasMoreThan (limits_of self.now.options).context
+            (IsInInterval (integer_matrix self.now.table) w.now.items) → ⊥) }
+        ensures kept { AreKept self.now.table (limits_of self.now.options) self.now.rows }
+    {
+        match &self.rows {
+            Some(rows) => rows.context().number_of(&self.table, w),
+            None => None,
+        }
+    }
+
+    /// Sees to it that the rows of all z with y <= z <= w are kept, where y <= w.
+    pub(crate) fn keep_between<M: RowMaker>(
+        &mut self,
+        maker: &M,
+        alloc: Global,
+        y: &Word,
+        w: &Word,
+    ) -> Result<(), Unanswered>
+        requires first { IsWord self.old.table.rank y.now.items }
+        requires second { IsWord self.old.table.rank w.now.items }
+        requires below { IsBelow (integer_matrix self.old.table) y.now.items w.now.items }
+        requires top { IsSomeAnd self.old.rows
+            (λ rows. Contains rows.elements.members (normal_form (integer_matrix self.old.table) w.now.items)) }
+        requires ready { M.ready maker.now }
+        ensures same { IsSameWork self.old self.new }
+        ensures kept { AreKept self.old.table (limits_of self.old.options) self.new.rows }
+        ensures rows { Keeps result (RefusesBetween (limits_of self.old.options) (integer_matrix self.old.table) y.now.items w.now.items)
+            (λ _ rows. HoldsBetween (integer_matrix self.old.table) y.now.items w.now.items rows) self.new.rows }
+        ensures group { IsCoxeterMatrix self.old.table }
+    {
+        prove!(self.rank() as usize <= MAX_RANK);
+        if self.has_small() {
+            return Ok(());
+        }
+        self.gather(maker, alloc, y, w)?;
+        self.whole = None;
+        let Some(rows) = self.rows.take() else {
+            unreachable!();
+        };
+        let between = interval_between(alloc, rows.context(), &self.table, y, w)?;
+        let mut rows = with_rows(alloc, rows, maker, between.members.as_slice());
+        let made = ensure_each(&mut rows, between.members.as_slice());
+        self.rows = Some(rows);
+        self.has_small();
+        unless_fault(made, ())
+    }
+
+    /// Whether the rows of all members are kept. Then it is looked at once whether inverse polynomials can be read off them.
+    fn has_small(&mut self) -> bool
+        ensures same { self.new ≡ self.old }
+        ensures kept { AreKept self.old.table (limits_of self.old.options) self.old.rows }
+        ensures closed { IsTrue result → IfSome self.old.rows
+            (λ rows. IsClosed (integer_matrix rows.elements.matrix) rows.elements.members) }
+        ensures there { IsTrue result → IfSome self.old.rows (λ rows. (i : ℕ) → i < length rows.elements.members → HasRow rows i) }
+        ensures small { IsTrue result → IfSome self.old.rows (λ rows. (i : ℕ) → i < length rows.elements.members
+            → ¬ IsBeyond (integer_matrix rows.elements.matrix) rows.limit (word_at rows.elements.members i)) }
+    {
+        let known = self.whole();
+        let Some(rows) = &self.rows else {
+            return false;
+        };
+        let _context = rows.context();
+        if known.is_some() {
+            return true;
+        }
+        if !has_all(rows) {
+            return false;
+        }
+        if self.whole.is_none() {
+            self.whole = Some(find_whole(rows, self.options));
+        }
+        true
+    }
+
+    /// Sees to it that the interval from the identity to w is part of what is kept, and tells the number of w there.
+    ///
+    /// Where there are many members between y and w, and the group is finite, the rows of the whole group are made. Where these are refused,
+    /// it is as if they had not been asked for.
+    fn gather<M: RowMaker>(
+        &mut self,
+        maker: &M,
+        alloc: Global,
+        y: &Word,
+        w: &Word,
+    ) -> Result<u32, Unanswered>
+        requires first { IsWord self.old.table.rank y.now.items }
+        requires second { IsWord self.old.table.rank w.now.items }
+        requires ready { M.ready maker.now }
+        ensures same { IsSameWork self.old self.new }
+        ensures kept { AreKept self.old.table (limits_of self.old.options) self.new.rows }
+        ensures interval { Keeps result (RefusesLarge (limits_of self.old.options) (integer_matrix self.old.table) w.now.items)
+            (HoldsElement (integer_matrix self.old.table) w.now.items) self.new.rows }
+        ensures group { IsCoxeterMatrix self.old.table }
+    {
+        self.whole = None;
+        prove!(self.rank() as usize <= MAX_RANK);
+        if self.is_large(y, w) && longest_word(&self.table).is_some() {
+            let _ = self.keep_group(maker, alloc);
+        }
+        self.keep_interval(alloc, w)
+    }
+
+    /// Whether there are many members between y and w.
+    fn is_large(&self, y: &Word, w: &Word) -> bool
+        requires first { IsWord self.now.table.rank y.now.items }
+        requires second { IsWord self.now.table.rank w.now.items }
+    {
+        match &self.rows {
+            Some(rows) => is_large(rows, &self.table, y, w),
+            None => false,
+        }
     }
 
     /// Takes the whole group, if extensions have cost as much as that is expected to. No answer depends on it: the rows that are kept stay,
@@ -134,6 +297,7 @@ impl Workspace {
         };
         prove!(self.table.group().rank() as usize <= MAX_RANK);
         if let Some(longest) = longest_word(&self.table) {
+            self.whole = None;
             widen(&mut self.rows, &self.table, self.options, &longest, most);
         }
     }
@@ -151,6 +315,7 @@ impl Workspace {
             (λ _ rows. HoldsAll (integer_matrix self.old.table) rows) self.new.rows }
         ensures group { IsCoxeterMatrix self.old.table }
     {
+        self.whole = None;
         keep_elements(alloc, &mut self.rows, &self.table, self.options)?;
         let Some(rows) = self.rows.take() else {
             unreachable!();

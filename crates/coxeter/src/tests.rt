@@ -112,6 +112,16 @@ const ANSWERS: &[(&str, &str, Status)] = &[
         Status::Done,
     ),
     (
+        "type A 3\ninvpol 2 2132\ninvpol e 2132\ninvpol 12 21\n",
+        "1+q\n1\n0\n",
+        Status::Done,
+    ),
+    (
+        "matrix 3 3 3 3\ninvpol 1 123121\ninvpol 3 32132132\ninvpol 12 12\n",
+        "1+q\n1+q+q^2\n1\n",
+        Status::Done,
+    ),
+    (
         "type A 3\nklbasis 2132\nihbetti 2132\nextremals 2132\n",
         concat!(
             "14\ne:1+q\n1:1\n2:1+q\n3:1\n12:1\n13:1\n21:1\n23:1\n32:1\n121:1\n132:1\n213:1\n232:1\n2132:1\n",
@@ -250,6 +260,12 @@ const OPTIONS: &[WithOptions] = &[
         Status::Refused,
     ),
     (
+        &["coxeter", "--coef", "1"],
+        "type A 4\ninvpol e 1234321\ninvpol 1234321 e\ninvpol 13 1234\n",
+        "error 32\n0\n1\n",
+        Status::Refused,
+    ),
+    (
         &["coxeter", "--coef", "9223372036854775807"],
         "type A 4\npol e 1234321\n",
         "1+2q+q^2\n",
@@ -257,8 +273,8 @@ const OPTIONS: &[WithOptions] = &[
     ),
     (
         &["coxeter", "--context", "14"],
-        "type A 3\nextremals 2132\npol e 12321\nextremals 2132\n",
-        "4\n2:1+q\n121:1\n232:1\n2132:1\nerror 31\n4\n2:1+q\n121:1\n232:1\n2132:1\n",
+        "type A 3\nextremals 2132\npol e 12321\ninvpol 12 12321\nextremals 2132\ninvpol 2 2132\n",
+        "4\n2:1+q\n121:1\n232:1\n2132:1\nerror 31\nerror 31\n4\n2:1+q\n121:1\n232:1\n2132:1\n1+q\n",
         Status::Refused,
     ),
     (

@@ -12,6 +12,7 @@ const SCRIPTS: &[&str] = &[
     "type B 3\nklbasis 12321\npol e 123212321\nlwgraph\nmu 1 12321\nrcells\nextremals 232123\n",
     "pol e 1\nmatrix 2 5\ntype H 3\nfoo\ncompute\nmatrix 10\nmatrix 2\ntype A x\n",
     "type A 4\npol e 123\nquit\n",
+    "type A 3\ninvpol 2 2132\ninvpol e 121321\nmatrix 3 3 3 3\ninvpol 3 32132132\n",
 ];
 
 /// Each number of workers.

@@ -1,5 +1,5 @@
 -- The proof of `keep_row`.
-use Rattle.std.proofs.Common.{◌≡◌, sym, ap, ◌∙◌}
+use Rattle.std.proofs.Common.{◌≡◌, Some, sym, ap, ◌∙◌}
 use Rattle.cox_base.specs.IntegerMatrix.{integer_matrix}
 use Rattle.cox_base.proofs.AdmissibleMatrices.{IsAdmissible-integer_matrix}
 use Rattle.cox_answers.specs.SessionLimits.{limits_of}
@@ -12,11 +12,9 @@ returns-clause-row g c =
     let G = c.args.self.now.table in
     let limits = limits_of c.args.self.now.options in
     let w = c.args.w.now.items in
-    let same = c.take_group.ensures.same in
-    let table : c.self.inside.table ≡ G = ap (λ (work : Work). work.table) c.self.view_is ∙ same.table in
-    let options : c.self.inside.options ≡ c.args.self.now.options = ap (λ (work : Work). work.options) c.self.view_is ∙ same.options in
-    let told = rw (table, options) at (c.in_ok-i.ensures {u = tt}) in
-    let is = sym c.take.ensures.value ∙ c.in-Some.is in
+    let told = c.in_ok-i.ensures {u = tt} in
+    let is : c.keep_interval.new.self.rows ≡ Some c.in-Some.rows =
+    sym (ap (λ (work : Work). work.rows) c.self.view_is) ∙ sym c.take.ensures.value ∙ c.in-Some.is in
     let made = c.ensure-made.ensures in
     rw c.unless_fault.ensures (still-keeps limits G (IsAdmissible-integer_matrix G told.group) w c.in_ok-i.i c.in-Some.rows
     c.with_row-rows.result c.ensure-made.new.self (rw is at told.kept) (rw is at told.interval.1) c.with_row-rows.ensures made.rows
