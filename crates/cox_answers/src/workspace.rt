@@ -250,8 +250,8 @@ impl Workspace {
 
     /// Sees to it that the interval from the identity to w is part of what is kept, and tells the number of w there.
     ///
-    /// Where there are many members between y and w, and the group is finite, the rows of the whole group are made. Where these are refused,
-    /// it is as if they had not been asked for.
+    /// Where there are many members between y and w, and the group is finite, the rows of the whole group are made. Where these are
+    /// refused, it is as if they had not been asked for.
     fn gather<M: RowMaker>(
         &mut self,
         maker: &M,
