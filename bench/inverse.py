@@ -4,13 +4,14 @@
     bench/inverse.py [--native FILE] [--groups "B 5,D 6"] [PROGRAM [PROGRAM]]
                         the program of this repository, if none is named; two programs run in turn
 
-All Q(x,w0) of a group, for its longest element w0: one script with a line `invpol x w0` for each x in ShortLex order. The time of a run that asks
-`length x` in place of these is taken off. The rows of the group are made on the way. And by the sums, where the rows are not all of a group:
-`invpol e w` in the affine group of A 2.
+All Q(x,w0) of a group, for its longest element w0: one script with a line `invpol x w0` for each x in ShortLex order. The time of a run
+that asks `length x` in place of these is taken off. The rows of the group are made on the way. And by the sums, where the rows are not all
+of a group: `invpol e w` in the affine group of A 2.
 
 `--native FILE` names a program that makes the same polynomials by the sums (called as FILE LETTER N, which writes `rows TIME` and
-`all Q(x,w): TIME`); it runs in turn with the others, and both times count. Each figure is the least of five runs, of sixty where a run takes less than
-a tenth of a second, or of one where it takes more than ten seconds. Memory is the peak of the whole run, as the kernel tells it.
+`all Q(x,w): TIME`); it runs in turn with the others, and both times count. Each figure is the least of five runs, of sixty where a run
+takes less than a tenth of a second, or of one where it takes more than ten seconds. Memory is the peak of the whole run, as the kernel
+tells it.
 """
 import argparse
 import os
@@ -43,7 +44,8 @@ def native(program, letter, rank):
 
 
 def cases(program, groups):
-    """The rows of the table: a name, the script, the script to be taken off, and the group for the native program, if it makes these polynomials."""
+    """The rows of the table: a name, the script, the script to be taken off, and the group for the native program, if it makes these
+    polynomials."""
     for letter, rank in groups:
         group, words = elements(program, letter, rank)
         yield (f"all Q(x,w0) of {letter} {rank}", group + "\n" + "".join(f"invpol {x} {words[-1]}\n" for x in words),

@@ -4,16 +4,17 @@
     bench/rows.py [--native FILE] [--instructions] [--groups "A 6,D 5"] [PROGRAM [PROGRAM]]
                         the program of this repository, if none is named; two programs run in turn
 
-- All rows of a group: `mu e w` for the longest element w, so that the context is the whole group, and then for each w in ShortLex order. The
-  time of a run that asks `length w` in place of these is taken off.
+- All rows of a group: `mu e w` for the longest element w, so that the context is the whole group, and then for each w in ShortLex order.
+  The time of a run that asks `length w` in place of these is taken off.
 - `klbasis` of 123 repeated 20 times in the affine group of A 2.
-- `pol e w` of many elements w, one after the other: 300 scattered ones of E 6 at random, rising and falling in ShortLex order, all of D 5 and B 5
-  rising and falling, and the first 3,000 below 1234 repeated eight times in the affine group of A 3, rising. What is kept grows with each of them.
+- `pol e w` of many elements w, one after the other: 300 scattered ones of E 6 at random, rising and falling in ShortLex order, all of D 5
+  and B 5 rising and falling, and the first 3,000 below 1234 repeated eight times in the affine group of A 3, rising. What is kept grows
+  with each of them.
 
-`--native FILE` names a program that makes the same rows (called as FILE LETTER N, which writes a line `rows TIME` to standard error); it runs in turn
-with the others. Each figure is the least of five runs, of sixty where a run takes less than a tenth of a second, or of one where it takes more than
-ten seconds. Memory is the peak of the whole
-run, as the kernel tells it. With `--instructions` each row has millions of instructions in place of times, counted by valgrind's callgrind.
+`--native FILE` names a program that makes the same rows (called as FILE LETTER N, which writes a line `rows TIME` to standard error); it
+runs in turn with the others. Each figure is the least of five runs, of sixty where a run takes less than a tenth of a second, or of one
+where it takes more than ten seconds. Memory is the peak of the whole run, as the kernel tells it. With `--instructions` each row has
+millions of instructions in place of times, counted by valgrind's callgrind.
 """
 import argparse
 import os
@@ -100,7 +101,8 @@ def native(program, letter, rank):
 
 
 def cases(program, groups):
-    """The rows of the table: a name, the script, the script to be taken off, and the group for the native program, if it makes these rows."""
+    """The rows of the table: a name, the script, the script to be taken off, and the group for the native program, if it makes these
+    rows."""
     for letter, rank in groups:
         group, words = elements(program, letter, rank)
         order = [words[-1]] + words

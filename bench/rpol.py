@@ -3,8 +3,8 @@
 
     bench/rpol.py [PROGRAM [PROGRAM]]   the program of this repository, if none is named; two programs run in turn
 
-Each row is `rpol y w` of one pair of elements: seconds of processor time, the least of three runs, and the peak of one run's memory in MiB, as the
-kernel keeps it (VmHWM), so this script runs on Linux alone. A run that sets the group alone is taken off both.
+Each row is `rpol y w` of one pair of elements: seconds of processor time, the least of three runs, and the peak of one run's memory in MiB,
+as the kernel keeps it (VmHWM), so this script runs on Linux alone. A run that sets the group alone is taken off both.
 """
 import os
 import random
@@ -32,7 +32,8 @@ def repeated(rank):
 
 
 def palindrome():
-    """A word that reads the same from both ends, no letter twice in a row: its first half has 2^19 subwords, and most of their elements differ."""
+    """A word that reads the same from both ends, no letter twice in a row: its first half has 2^19 subwords, and most of their elements
+    differ."""
     half = repeated(9)[:LETTERS // 2]
     return half + "5" + half[::-1]
 

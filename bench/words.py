@@ -4,9 +4,9 @@
     bench/words.py [--letters N] [--instructions] [PROGRAM [PROGRAM]]
                         the program of this repository, if none is named; two programs run in turn
 
-The words have 255 letters (or N), drawn at random with no letter twice in a row; the first word of a pair for `inorder` is some letters of the
-second, in order. Each row has milliseconds of processor time, the least of five runs; a run that sets the group alone is taken off. With
-`--instructions` each row has millions of instructions in their place, counted by valgrind's callgrind.
+The words have 255 letters (or N), drawn at random with no letter twice in a row; the first word of a pair for `inorder` is some letters of
+the second, in order. Each row has milliseconds of processor time, the least of five runs; a run that sets the group alone is taken off.
+With `--instructions` each row has millions of instructions in their place, counted by valgrind's callgrind.
 """
 import argparse
 import os
@@ -63,7 +63,8 @@ def run(program, script):
 
 
 def measure(programs, empty, script, counted):
-    """For each program what it takes beyond a run that sets the group, in milliseconds or millions of instructions; and whether all answer alike."""
+    """For each program what it takes beyond a run that sets the group, in milliseconds or millions of instructions; and whether all answer
+    alike."""
     outputs = {run(program, script)[0] for program in programs}
     if counted:
         return [(instructions(program, script) - instructions(program, empty)) / 1e6 for program in programs], len(outputs) == 1

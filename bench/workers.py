@@ -7,12 +7,12 @@
 - `lrcells` of a finite group: all rows, which the workers share, and then the cells, by one thread.
 - `pol e w` in E 6, where w is the longest element but for its last letter: one row, with those that it needs.
 
-The numbers of workers run in turn. Each figure is the least of five runs: seconds of the clock, how many times faster that is than with the first
-number of workers, and seconds of processor time of all threads. What is printed has to be the same for each number of workers. On a machine that
-does other work the clock tells little; as root, `chrt -r 1 bench/workers.py` lets the program go first.
+The numbers of workers run in turn. Each figure is the least of five runs: seconds of the clock, how many times faster that is than with the
+first number of workers, and seconds of processor time of all threads. What is printed has to be the same for each number of workers. On a
+machine that does other work the clock tells little; as root, `chrt -r 1 bench/workers.py` lets the program go first.
 
-The last column tells what the machine has to give at the time: as many runs with one worker as the greatest number says, side by side, and how much
-longer that takes than one of them alone. With so many whole processors it is 1.00.
+The last column tells what the machine has to give at the time: as many runs with one worker as the greatest number says, side by side, and
+how much longer that takes than one of them alone. With so many whole processors it is 1.00.
 """
 import argparse
 import os
@@ -60,7 +60,8 @@ def side_by_side(program, script, count):
 
 
 def measured(program, script, numbers, runs):
-    """For each number of workers the least seconds of the clock and of processor time, of runs in turn; and the least seconds of runs at once."""
+    """For each number of workers the least seconds of the clock and of processor time, of runs in turn; and the least seconds of runs at
+    once."""
     best = {number: (float("inf"), float("inf")) for number in numbers}
     at_once = float("inf")
     texts = set()

@@ -1,13 +1,14 @@
 #!/usr/bin/env python3
-"""Which definitions the clauses of `run` unfold to: what a reader has to believe, beside the toolchain.
+"""Which definitions the clauses of `run` unfold to, or those of `check`: what a reader has to believe, beside the toolchain.
 
-    checks/believed.py [--list] [--kit KIT] [--clause NAME] [FUNCTION]
+    checks/believed.py [--list] [--kit KIT] [--clause NAME] [--beyond OTHER] [FUNCTION]
 
-It begins with the names in the clauses of FUNCTION (`run` if none is named) in crates/cox_shell/src/top.rt, and
-follows them through the `use` lines and definitions of crates/*/specs. For each file it prints how many lines those of
+It begins with the names in the clauses of FUNCTION (`run` if none is named) in crates/cox_shell/src/top.rt, or of `check` in
+crates/cox_cert/src/checking.rt, and follows them through the `use` lines and definitions of crates/*/specs. For each file it prints how many lines those of
 its definitions have that are reached, and which are not reached; with `--list` also which are. Then come the types of
 the code that are reached, and the names of std and of the kit's crates. With `--kit`, the folder of the toolchain, the
-definitions of `clap` are followed too. With `--clause` it begins with the clause of that name alone.
+definitions of `clap` are followed too. With `--clause` it begins with the clause of that name alone. With `--beyond` it leaves out what
+the clauses of that function unfold to.
 
 Lines of a definition are those that are neither blank nor comment; `use` lines are not counted. It needs Python 3 alone.
 """
@@ -18,7 +19,9 @@ import sys
 from collections import defaultdict
 
 TOP = os.path.dirname(os.path.dirname(os.path.abspath(__file__)))
-START = os.path.join(TOP, "crates", "cox_shell", "src", "top.rt")
+# The file of each function that can be named.
+SHELL, CHECKER = "cox_shell/src/top.rt", "cox_cert/src/checking.rt"
+STARTS = {"run": SHELL, "run_one": SHELL, "check": CHECKER}
 NAME = r"[^\s(){}\[\].,;:λ→×∷≡≢≤<>=¬⊎⊥↔+\-*/&|\"]+(?:-[^\s(){}\[\].,;:]+)*"
 HEAD = re.compile(rf"(?:pub\s+)?(?:abbrev|unfoldable|record|data)\s+(?:pub\s+)?({NAME})")
 USE = re.compile(r"^(?:ghost\s+|pub\s+)?use\s+([\w.]+?)(?:\.\{([^}]*)\}|\s+as\s+(\w+))?;?[ \t]*$", re.M)
@@ -88,11 +91,11 @@ def specs(folders):
 
 
 def clauses(function, clause):
-    """The file top.rt, and the text of the clauses of a function there, or of the one with a name."""
-    here = File(START)
+    """The file of a function, and the text of its clauses, or of the one with a name."""
+    here = File(os.path.join(TOP, "crates", STARTS[function]))
     begin = re.search(rf"\bfn {function}\b", here.text)
     if not begin:
-        sys.exit(f"{START} has no function {function}")
+        sys.exit(f"{STARTS[function]} has no function {function}")
     head = here.text[begin.start() : here.text.index("\n{", begin.start())]
     head = re.sub(r"^\s*//.*$", "", head, flags=re.M)
     named = re.findall(r"\bensures\s+(\w+)\s*(\{.*?)(?=\bensures\b|$)", head, re.S)
@@ -171,7 +174,8 @@ def main():
     words.add_argument("--list", action="store_true", help="name the definitions that are reached")
     words.add_argument("--kit", help="the folder of the toolchain: follow the definitions of clap too")
     words.add_argument("--clause", help="follow the clause of this name alone")
-    words.add_argument("function", nargs="?", default="run", help="a function of top.rt (default: run)")
+    words.add_argument("--beyond", choices=STARTS, help="leave out what this function's clauses unfold to")
+    words.add_argument("function", nargs="?", choices=STARTS, default="run", help="whose clauses (default: run)")
     words = words.parse_args()
     listed = words.list
     crates = os.path.join(TOP, "crates")
@@ -180,6 +184,9 @@ def main():
         folders.append(os.path.join(words.kit, "rattle", "clap"))
     files = specs(folders)
     reached, outside = follow(files, *clauses(words.function, words.clause))
+    if words.beyond:
+        known, _ = follow(files, *clauses(words.beyond, None))
+        reached = defaultdict(set, {path: items - known[path] for path, items in reached.items()})
     total = commented = left = 0
     for path, file in files.items():
         if not reached[path]:

@@ -6,6 +6,9 @@ import sys
 
 TOP = os.path.dirname(os.path.dirname(os.path.abspath(__file__)))
 
+# What the launcher ends with where there is no program to run.
+NOT_BUILT = (70, 127)
+
 
 def program(words, name="coxeter"):
     """The program named by the script's arguments, else the one of this name in this checkout, which its launcher builds first if
@@ -18,7 +21,9 @@ def program(words, name="coxeter"):
             sys.exit(f"there is no program {words[0]}")
         return os.path.abspath(words[0])
     launcher = os.path.join(TOP, name)
-    if subprocess.run([launcher], stdin=subprocess.DEVNULL, stdout=subprocess.DEVNULL).returncode:
+    if not os.path.exists(launcher):
+        sys.exit(f"there is no program {name} in this checkout")
+    if subprocess.run([launcher], stdin=subprocess.DEVNULL, stdout=subprocess.DEVNULL).returncode in NOT_BUILT:
         sys.exit(f"the program {name} is not built")
     return os.path.join(TOP, "crates", name, "out", name)
 

@@ -3,14 +3,14 @@
 
     checks/counts.py [PROGRAM]
 
-Orders of finite groups, as the sum of the Betti numbers of a longest element, which is given by its word; the degrees of
-the group give both its order and these numbers (Humphreys, "Reflection Groups and Coxeter Groups", 1.11 and 3.15). And the
-numbers of small roots: with one less for `--roots` the group is refused by 21. A finite group has as many as reflections,
-affine A n has n(n+1) (Brink and Howlett 1993). And numbers of cells: the left cells of A n are as many as involutions
-(Kazhdan and Lusztig 1979), the cells of both sides as many as families of characters (Lusztig 1984); those of other types
-are in Geck and Pfeiffer's book. In A 3 the 6 pairs y <= w with P(y,w) other than 1 are those of Kazhdan and Lusztig's two
-singular Schubert varieties; and the numbers of `ihbetti w` are palindromes (Poincare duality). It prints what differs, and a last line with counts; the exit status is 1
-where something differs. It needs Python 3 alone, and is no part of the gate.
+Orders of finite groups, as the sum of the Betti numbers of a longest element, which is given by its word; the degrees of the group give
+both its order and these numbers (Humphreys, "Reflection Groups and Coxeter Groups", 1.11 and 3.15). And the numbers of small roots: with
+one less for `--roots` the group is refused by 21. A finite group has as many as reflections, affine A n has n(n+1) (Brink and Howlett
+1993). And numbers of cells: the left cells of A n are as many as involutions (Kazhdan and Lusztig 1979), the cells of both sides as many as
+families of characters (Lusztig 1984); those of other types are in Geck and Pfeiffer's book. In A 3 the 6 pairs y <= w with P(y,w) other
+than 1 are those of Kazhdan and Lusztig's two singular Schubert varieties; and the numbers of `ihbetti w` are palindromes (Poincare
+duality). It prints what differs, and a last line with counts; the exit status is 1 where something differs. It needs Python 3 alone, and is
+no part of the gate.
 """
 import subprocess
 import sys

@@ -45,7 +45,8 @@ def letters_text(letters, empty):
 
 
 class Group:
-    """A group with so many letters, at most 9, and these labels other than 2; of an infinite one the elements of at most so many letters."""
+    """A group with so many letters, at most 9, and these labels other than 2; of an infinite one the elements of at most so many
+    letters."""
 
     def __init__(self, rank, labels, most=None):
         self.letters = range(1, rank + 1)
@@ -78,7 +79,8 @@ class Group:
 
     @staticmethod
     def elements(matrices, most):
-        """The ShortLex-first word of each element, in ShortLex order; and that of s w by the letter s and the word of w, if it is among them."""
+        """The ShortLex-first word of each element, in ShortLex order; and that of s w by the letter s and the word of w, if it is among
+        them."""
 
         def times(a, b):
             columns = list(zip(*b))

@@ -1,7 +1,7 @@
 #!/usr/bin/env python3
-"""Runs the examples for Python users in README.md, docs/MANUAL.md and docs/EXAMPLES.md, and compares what comes out.
+"""Runs the examples for Python users in README.md and in docs/: MANUAL.md, COXCHECK.md, EXAMPLES.md; and compares what comes out.
 
-    checks/examples_python.py [PROGRAM]
+    checks/examples_python.py [PROGRAM [CHECKER]]
 
 An example is a block marked `python`, which is a program, or, in docs/EXAMPLES.md, `sh`, which are commands for the shell. The
 block after it, marked `text`, is what comes out. It prints what differs, and a last line with counts; the exit status is 1
@@ -20,12 +20,13 @@ from common import TOP, Count, examples, program
 DOCUMENTS = [
     ("README.md", ("python",)),
     (os.path.join("docs", "MANUAL.md"), ("python",)),
+    (os.path.join("docs", "COXCHECK.md"), ("python",)),
     (os.path.join("docs", "EXAMPLES.md"), ("python", "sh")),
 ]
 
 
 def main():
-    count, built = Count(), program(sys.argv[1:])
+    count, built, checker = Count(), program(sys.argv[1:2]), program(sys.argv[2:], "coxcheck")
     with tempfile.TemporaryDirectory() as folder:
         os.symlink(built, os.path.join(folder, "coxeter"))
         tools = os.path.join(folder, "tools")
@@ -33,7 +34,7 @@ def main():
         with open(os.path.join(tools, "python"), "w", encoding="utf-8") as python:
             python.write(f'#!/bin/sh\nexec {shlex.quote(sys.executable)} "$@"\n')
         os.chmod(os.path.join(tools, "python"), 0o755)
-        environment = {**os.environ, "COXETER": built, "PATH": f"{tools}:{os.environ['PATH']}"}
+        environment = {**os.environ, "COXETER": built, "COXCHECK": checker, "PATH": f"{tools}:{os.environ['PATH']}"}
         if importlib.util.find_spec("coxeter_shell") is None:
             environment["PYTHONPATH"] = os.path.join(TOP, "python")
         for document, marks in DOCUMENTS:

@@ -20,7 +20,8 @@ from common import Count, program
 from definitions import Group, labels_of, polynomial_text
 
 # The type and the rank, whether all rows are made first, and how many pairs are asked for, at random; all pairs where there is no number.
-FINITE = [("A", 4, False, None), ("B", 3, False, None), ("D", 4, False, None), ("F", 4, True, None), ("A", 5, False, 200), ("B", 4, False, 200)]
+FINITE = [("A", 4, False, None), ("B", 3, False, None), ("D", 4, False, None), ("F", 4, True, None)]
+FINITE += [("A", 5, False, 200), ("B", 4, False, 200)]
 # How many lines one run is given at most: the input of a run has a limit.
 LINES = 200_000
 # The line that sets the group, its rank, its labels other than 2, and the most letters.

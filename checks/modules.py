@@ -3,14 +3,15 @@
 
     checks/modules.py [PROGRAM]
 
-- In A 3, B 3, G 2, D 4 and F 4, for each left cell: the operators t(s) at v = 7 meet (t(s) + 1)(t(s) - v^2) = 0, and the braid relation of any two
-  letters; the sizes of the cells add up to the order of the group.
-- In A 4 at v = 1, where the relations are those of the symmetric group on 5 letters: the character of each left cell is irreducible, and that of the
-  cell of an involution w is the one of the shape that Robinson and Schensted's algorithm gives to w (Kazhdan and Lusztig 1979, theorem 1.4), by
-  Murnaghan and Nakayama's rule.
+- In A 3, B 3, G 2, D 4 and F 4, for each left cell: the operators t(s) at v = 7 meet (t(s) + 1)(t(s) - v^2) = 0, and the braid relation of
+  any two letters; the sizes of the cells add up to the order of the group.
+- In A 4 at v = 1, where the relations are those of the symmetric group on 5 letters: the character of each left cell is irreducible, and
+  that of the cell of an involution w is the one of the shape that Robinson and Schensted's algorithm gives to w (Kazhdan and Lusztig 1979,
+  theorem 1.4), by Murnaghan and Nakayama's rule.
 - Without its edges a module of A 2 meets the quadratic relations alone, so that the braid relations say more.
 
-It prints what differs, and a last line with counts; the exit status is 1 where something differs. It needs Python 3 alone, and is no part of the gate.
+It prints what differs, and a last line with counts; the exit status is 1 where something differs. It needs Python 3 alone, and is no part
+of the gate.
 """
 import re
 import subprocess
@@ -51,7 +52,8 @@ def entry(text, v):
 
 
 def read_module(lines, rank, v):
-    """The members of the cell, and for each letter the images of the members, each as a dict from places to numbers; and how many lines it took."""
+    """The members of the cell, and for each letter the images of the members, each as a dict from places to numbers; and how many lines it
+    took."""
     size = int(lines[0])
     members = lines[1].split(" ")
     if len(members) != size or len(set(members)) != size:

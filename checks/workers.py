@@ -19,7 +19,8 @@ from definitions import Group, labels_of
 SCRIPTS = [
     "type A 4\nlrcells\nwork 7 20\n",
     "type B 3\nklbasis 123212\nlcells\npol e 321323\ninvpol 2 321323\nrwgraph\nextremals 12321\n",
-    "matrix 3 3 3 3\nklbasis 123123123\nmu 1 123123\ninvpol e 12312312\nihbetti 321321321\nlcells\ntype D 4\ninvpol e 123412341234\nlrcells\npol 3 3431234\n",
+    "matrix 3 3 3 3\nklbasis 123123123\nmu 1 123123\ninvpol e 12312312\nihbetti 321321321\nlcells\n"
+    "type D 4\ninvpol e 123412341234\nlrcells\npol 3 3431234\n",
 ]
 
 

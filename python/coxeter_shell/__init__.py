@@ -1,5 +1,15 @@
 """Coxeter groups by the program `coxeter`, for Python and Sage."""
-from .errors import CoxeterError, ProgramClosed, ProgramEnded, ProgramError, ProgramNotFound, Refusal, UnexpectedAnswer
+from .certificates import Verdict, check
+from .errors import (
+    CheckFailed,
+    CoxeterError,
+    ProgramClosed,
+    ProgramEnded,
+    ProgramError,
+    ProgramNotFound,
+    Refusal,
+    UnexpectedAnswer,
+)
 from .graphs import HasseDiagram, Vertex, WGraph
 from .group import CoxeterGroup, Work
 from .modules import CellModule
@@ -11,6 +21,7 @@ from .texts import gap
 __all__ = [
     "CellModule",
     "Cells",
+    "CheckFailed",
     "CoxeterError",
     "CoxeterGroup",
     "ElementDict",
@@ -24,9 +35,11 @@ __all__ = [
     "Refusal",
     "Table",
     "UnexpectedAnswer",
+    "Verdict",
     "Vertex",
     "WGraph",
     "Work",
+    "check",
     "find_program",
     "gap",
 ]

@@ -13,9 +13,10 @@ MEANINGS = {
     18: "the line has more than 4,096 bytes",
     19: "the line has a byte that is no printing ASCII character and no space",
     21: "the group has more small roots than the option `roots` allows",
-    31: "the interval below the element, or the group, is infinite or has more members than the option `context` allows",
+    31: "the interval below the element, or the group, is infinite or has more members than the option `context` allows, "
+    "or than 4,096 in a certificate",
     32: "a coefficient of a Kazhdan-Lusztig polynomial is beyond the option `coef`, or a value of mu is too large",
-    34: "R-polynomials are refused for elements whose lengths differ by more than 39",
+    34: "R-polynomials are refused for elements whose lengths differ by more than 39, and certificates of longer elements",
 }
 
 STATUSES = {
@@ -78,6 +79,19 @@ class ProgramEnded(ProgramError):
             how += f": {STATUSES[self.status]}" if self.status in STATUSES else ""
         when = f"it had answered {shown(self.line)}" if self.line else "it was asked anything"
         return f"the program ended before {when} ({how})"
+
+
+class CheckFailed(ProgramError):
+    """The program `coxcheck` ended without saying yes or no. `status` is its exit status, negative for a signal."""
+
+    def __init__(self, status):
+        super().__init__(status)
+        self.status = status
+
+    def __str__(self):
+        how = f"by signal {-self.status}" if self.status < 0 else f"exit status {self.status}"
+        how += f": {STATUSES[self.status]}" if self.status in STATUSES else ""
+        return f"coxcheck ended before it had judged the certificate ({how})"
 
 
 class ProgramClosed(ProgramEnded):

@@ -3,9 +3,10 @@ import collections
 import operator
 import re
 
-from . import kinds, progress, texts
+from . import certificates, kinds, progress, texts
 from .elements import Elements
 from .graphs import HasseDiagram, Vertex, WGraph
+from .many import Many
 from .modules import CellModule
 from .polynomial import Polynomial
 from .program import Program
@@ -17,7 +18,7 @@ Work = collections.namedtuple("Work", "words entries degree sum")
 Work.__doc__ = "The answer to `work`: numbers of words and of polynomials, the largest degree, the sum of the coefficients."
 
 
-class CoxeterGroup(Elements):
+class CoxeterGroup(Elements, Many):
     """A Coxeter group, by its type, by its Coxeter matrix, or by a Cartan type, Coxeter matrix or group of Sage.
 
     >>> CoxeterGroup("A", 3) == CoxeterGroup("A 3") == CoxeterGroup("A3") == CoxeterGroup(["A", 3])
@@ -284,6 +285,26 @@ class CoxeterGroup(Elements):
         ((2,), 1+q)
         """
         return self._list(self._read_pair, "extremals", w)
+
+    def certificate(self, w):
+        """The certificate of the row of w, as a text: the group, w, and the x <= w, each with P(x, w). `check` judges it by another
+        program.
+
+        >>> print(CoxeterGroup("A", 2).certificate("12"), end="")
+        cert 2 3
+        element 12
+        rows 4
+        e:1
+        1:1
+        2:1
+        12:1
+        end
+        """
+        line = self._line("cert", (w,))
+        self._watch()
+        lines = self.program.ask(line)
+        self._read(lambda it: certificates.read_lines(self._spelling, self._matrix, it), line, lines)
+        return "".join(f"{it}\n" for it in lines)
 
     def intersection_betti_numbers(self, w):
         """The coefficients of the sum of q^l(x) P(x, w) over the x <= w: the even Betti numbers of intersection

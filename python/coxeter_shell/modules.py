@@ -18,8 +18,8 @@ class InV(Polynomial):
 class CellModule:
     """The module of a left cell: how the Hecke algebra acts from the left on the free module with the elements of the cell as its basis.
 
-    `elements` is the list of the elements, in ShortLex order. `images` has for each letter s the list of the t(s) x for the elements x, each as a
-    dictionary from elements to polynomials in v = q^(1/2), without zeros.
+    `elements` is the list of the elements, in ShortLex order. `images` has for each letter s the list of the t(s) x for the elements x,
+    each as a dictionary from elements to polynomials in v = q^(1/2), without zeros.
 
     >>> module = CellModule([(1,), (2, 1)], {1: [{(1,): InV([-1])}, {(1,): InV([0, 1]), (2, 1): InV([0, 0, 1])}]})
     >>> module, len(module)

@@ -323,30 +323,30 @@ def end(process, owner):
         return None
 
 
-def find_program(path=None):
-    """The path of the program.
+def find_program(path=None, name="coxeter"):
+    """The path of the program `coxeter`, or of `coxcheck`, by its name.
 
-    It is `path`, else what the environment variable COXETER names, else the program built in the checkout that this
-    package lies in or was installed from, else `coxeter` on the PATH.
+    It is `path`, else what the environment variable COXETER names, or COXCHECK, else the program built in the checkout that this
+    package lies in or was installed from, else the command on the PATH.
     """
-    named = path or os.environ.get("COXETER")
+    named = path or os.environ.get(name.upper())
     if named:
         found = shutil.which(named)
         if found is None:
-            by = "" if path else ", which the environment variable COXETER names"
+            by = "" if path else f", which the environment variable {name.upper()} names"
             raise ProgramNotFound(f"there is no program {os.fspath(named)!r}{by}")
         return found
     unbuilt = ""
     for checkout in checkouts():
-        built = os.path.join(checkout, "crates", "coxeter", "out", "coxeter")
+        built = os.path.join(checkout, "crates", name, "out", name)
         if os.path.isfile(built) and os.access(built, os.X_OK):
             return built
-        if os.path.isdir(os.path.join(checkout, "crates", "coxeter")):
-            unbuilt = f" It is not built yet in {checkout}: run ./coxeter </dev/null there once."
-    found = shutil.which("coxeter")
+        if os.path.isdir(os.path.join(checkout, "crates", name)):
+            unbuilt = f" It is not built yet in {checkout}: run ./{name} </dev/null there once."
+    found = shutil.which(name)
     if found is None:
-        ways = "give its path by the argument `program` or by the environment variable COXETER, or put it on the PATH."
-        raise ProgramNotFound(f"the program coxeter was not found: {ways}{unbuilt}")
+        ways = f"give its path by the argument `program` or by the environment variable {name.upper()}, or put it on the PATH."
+        raise ProgramNotFound(f"the program {name} was not found: {ways}{unbuilt}")
     return found
 
 

@@ -6,6 +6,7 @@ pub mod WorkQuestions
 pub mod GroupQuestions
 pub mod ModuleQuestions
 pub mod InverseQuestions
+pub mod CertQuestions
 pub mod Questions
 -- the text of an R-polynomial
 pub mod PolynomialTexts
@@ -54,3 +55,13 @@ pub mod InverseRefusals
 pub mod LargeOr
 -- rows of the elements between two, among those that are kept
 pub mod KeptBetween
+-- polynomials without trailing zeros
+pub mod TrimmedLists
+-- the certificate of a row, and its text
+pub mod CertTexts
+-- whether a row has a coefficient above a limit
+pub mod RowLimits
+-- when a certificate is refused
+pub mod CertRefusals
+-- certificates that are printed are accepted
+pub mod CertProofs

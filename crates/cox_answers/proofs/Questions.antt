@@ -13,7 +13,7 @@ use Rattle.cox_command.specs.declared.refusal.Refusal.{Refusal}
 use Rattle.cox_command.specs.declared.refusal.Refusal.TheVariants.{LargeInterval, FarApart}
 use Rattle.cox_command.specs.declared.inquiry.OneWord.{OneWord}
 use Rattle.cox_command.specs.declared.inquiry.OneWord.TheVariants.{Compute, Length, Inverse, Descent, Coatoms, Betti}
-use Rattle.cox_command.specs.declared.inquiry.OneWord.TheVariants.{Klbasis, Ihbetti, Extremals, Module}
+use Rattle.cox_command.specs.declared.inquiry.OneWord.TheVariants.{Klbasis, Ihbetti, Extremals, Cert, Module}
 use Rattle.cox_command.specs.declared.inquiry.TwoWord.{TwoWord}
 use Rattle.cox_command.specs.declared.inquiry.TwoWord.TheVariants.{Inorder, Interval, Rpol, Pol, Invpol, Mu}
 use Rattle.cox_base.specs.Members.{IsInInterval}
@@ -33,6 +33,7 @@ use Rattle.cox_answers.specs.Answerable.{HasOneText, IsAnswerable}
 use Rattle.cox_answers.proofs.RowQuestions.{pol-unique, mu-unique_text, listed-by_row, pol-answerable, mu-answerable, klbasis-answerable}
 use Rattle.cox_answers.proofs.RowQuestions.{extremals-answerable, ihbetti-answerable}
 use Rattle.cox_answers.proofs.GroupQuestions.{group-one, group-answerable}
+use Rattle.cox_answers.proofs.CertQuestions.{cert-one, cert-answerable}
 use Rattle.cox_answers.proofs.ModuleQuestions.{module-one, module-answerable}
 use Rattle.cox_answers.proofs.InverseQuestions.{invpol-one, invpol-answerable}
 use Rattle.cox_answers.proofs.WorkQuestions.{work-one, work-answerable}
@@ -50,21 +51,22 @@ truth-unique P true false p q = absurd (cc (q.1 (p.0 refl)))
 truth-unique P false true p q = absurd (cc (p.1 (q.0 refl)))
 truth-unique P false false p q = refl
 
-module _ (limits : Limits) (A : IntegerMatrix) (g : IsAdmissible A) where
-  -- each question has one right text at most
-  one-text : (rank : ℕ) (kind : OneWord) (w : List ℕ) → HasOneText (one_question kind limits rank A w)
-  one-text rank Compute w a b p q = p ∙ sym q
-  one-text rank Length w a b p q = p ∙ sym q
-  one-text rank Inverse w a b p q = p ∙ sym q
-  one-text rank Descent w a b p q = p ∙ sym q
-  one-text rank Coatoms w a b p q = listed-unique (IsCoatom A w) (elements_text rank) a b p q
-  one-text rank Betti w a b p q =
-      listed-unique (IsInInterval A w) (counts_text A w) a b p q
-  one-text rank Klbasis w a b p q = listed-by_row A g w (IsInInterval A w) (pairs_text rank A w) a b p q
-  one-text rank Ihbetti w a b p q = listed-by_row A g w (IsInInterval A w) (ihbetti_text A w) a b p q
-  one-text rank Extremals w a b p q = listed-by_row A g w (IsExtremalBelow A w) (pairs_text rank A w) a b p q
-  one-text rank Module w a b p q = module-one A g w rank a b p q
+-- each question has one right text at most
+module _ (limits : Limits) (m : CoxeterMatrix) (g : IsAdmissible (integer_matrix m)) where
+  one-text : (kind : OneWord) (w : List ℕ) → HasOneText (one_question kind limits m w)
+  one-text Compute w a b p q = p ∙ sym q
+  one-text Length w a b p q = p ∙ sym q
+  one-text Inverse w a b p q = p ∙ sym q
+  one-text Descent w a b p q = p ∙ sym q
+  one-text Coatoms w a b p q = listed-unique (IsCoatom (integer_matrix m) w) (elements_text m.rank) a b p q
+  one-text Betti w a b p q = listed-unique (IsInInterval (integer_matrix m) w) (counts_text (integer_matrix m) w) a b p q
+  one-text Klbasis w a b p q = listed-by_row (integer_matrix m) g w (IsInInterval (integer_matrix m) w) (pairs_text m.rank (integer_matrix m) w) a b p q
+  one-text Ihbetti w a b p q = listed-by_row (integer_matrix m) g w (IsInInterval (integer_matrix m) w) (ihbetti_text (integer_matrix m) w) a b p q
+  one-text Extremals w a b p q = listed-by_row (integer_matrix m) g w (IsExtremalBelow (integer_matrix m) w) (pairs_text m.rank (integer_matrix m) w) a b p q
+  one-text Cert w a b p q = cert-one m g w a b p q
+  one-text Module w a b p q = module-one (integer_matrix m) g w m.rank a b p q
 
+module _ (limits : Limits) (A : IntegerMatrix) (g : IsAdmissible A) where
   two-text : (rank : ℕ) (kind : TwoWord) (y w : List ℕ) → HasOneText (two_question kind limits rank A y w)
   two-text rank Inorder y w a b p q = p.2 ∙ ap truth_text (truth-unique (IsBelow A y w) p.0 q.0 p.1 q.1) ∙ sym q.2
   two-text rank Interval y w a b p q = listed-unique (IsBetween A y w) (elements_text rank) a b p q
@@ -75,7 +77,7 @@ module _ (limits : Limits) (A : IntegerMatrix) (g : IsAdmissible A) where
 
 pub question-one : (inquiry : Inquiry) (limits : Limits) (g : CoxeterMatrix) → IsAdmissible (integer_matrix g)
     → HasOneText (question_of inquiry limits g)
-question-one (One kind w) limits g admissible = one-text limits (integer_matrix g) admissible g.rank kind w.items
+question-one (One kind w) limits g admissible = one-text limits g admissible kind w.items
 question-one (Two kind y w) limits g admissible = two-text limits (integer_matrix g) admissible g.rank kind y.items w.items
 question-one (Plain kind) limits g admissible = group-one limits (integer_matrix g) admissible g.rank kind
 question-one (Work start count) limits g admissible = work-one (integer_matrix g) admissible (generated_words g.rank count start)
@@ -117,19 +119,6 @@ module _ (limits : Limits) (A : IntegerMatrix) (g : IsAdmissible A) where
   far-decided y w _ = inr (λ none. none)
 
   -- each question can be answered
-  one-answerable : (rank : ℕ) (kind : OneWord) (w : List ℕ) → IsAnswerable (one_question kind limits rank A w)
-  one-answerable rank Compute w = computed _
-  one-answerable rank Length w = computed _
-  one-answerable rank Inverse w = computed _
-  one-answerable rank Descent w = computed _
-  one-answerable rank Coatoms w = listed w (IsCoatom A w) _ (elements_text rank) (coatoms-of A g w)
-  one-answerable rank Betti w =
-      listed w (IsInInterval A w) (λ xs. xs) (counts_text A w) (λ xs a. a)
-  one-answerable rank Klbasis w = klbasis-answerable A g limits rank w
-  one-answerable rank Ihbetti w = ihbetti-answerable A g limits w
-  one-answerable rank Extremals w = extremals-answerable A g limits rank w
-  one-answerable rank Module w = module-answerable limits A g rank w
-
   two-answerable : (rank : ℕ) (kind : TwoWord) (y w : List ℕ) → IsAnswerable (two_question kind limits rank A y w)
   two-answerable rank Inorder y w = record {
     decided = λ why. inr (λ none. none);
@@ -141,9 +130,25 @@ module _ (limits : Limits) (A : IntegerMatrix) (g : IsAdmissible A) where
   two-answerable rank Invpol y w = invpol-answerable A g limits y w
   two-answerable rank Mu y w = mu-answerable A g limits y w
 
+module _ (limits : Limits) (m : CoxeterMatrix) (g : IsAdmissible (integer_matrix m)) where
+  one-answerable : (kind : OneWord) (w : List ℕ) → IsAnswerable (one_question kind limits m w)
+  one-answerable Compute w = computed _
+  one-answerable Length w = computed _
+  one-answerable Inverse w = computed _
+  one-answerable Descent w = computed _
+  one-answerable Coatoms w =
+      listed limits (integer_matrix m) g w (IsCoatom (integer_matrix m) w) _ (elements_text m.rank) (coatoms-of (integer_matrix m) g w)
+  one-answerable Betti w = listed limits (integer_matrix m) g w (IsInInterval (integer_matrix m) w) (λ xs. xs)
+      (counts_text (integer_matrix m) w) (λ xs a. a)
+  one-answerable Klbasis w = klbasis-answerable (integer_matrix m) g limits m.rank w
+  one-answerable Ihbetti w = ihbetti-answerable (integer_matrix m) g limits w
+  one-answerable Extremals w = extremals-answerable (integer_matrix m) g limits m.rank w
+  one-answerable Cert w = cert-answerable m g limits w
+  one-answerable Module w = module-answerable limits (integer_matrix m) g m.rank w
+
 pub question-answerable : (inquiry : Inquiry) (limits : Limits) (g : CoxeterMatrix) → IsAdmissible (integer_matrix g)
     → IsAnswerable (question_of inquiry limits g)
-question-answerable (One kind w) limits g admissible = one-answerable limits (integer_matrix g) admissible g.rank kind w.items
+question-answerable (One kind w) limits g admissible = one-answerable limits g admissible kind w.items
 question-answerable (Two kind y w) limits g admissible = two-answerable limits (integer_matrix g) admissible g.rank kind y.items w.items
 question-answerable (Plain kind) limits g admissible = group-answerable limits (integer_matrix g) admissible g.rank kind
 question-answerable (Work start count) limits g admissible =

@@ -11,7 +11,7 @@ use Rattle.cox_command.specs.declared.refusal.Refusal.{Refusal}
 use Rattle.cox_command.specs.declared.refusal.Refusal.TheVariants.{FarApart}
 use Rattle.cox_command.specs.declared.inquiry.OneWord.{OneWord}
 use Rattle.cox_command.specs.declared.inquiry.OneWord.TheVariants.{Compute, Length, Inverse, Descent, Coatoms, Betti, Klbasis}
-use Rattle.cox_command.specs.declared.inquiry.OneWord.TheVariants.{Ihbetti, Extremals, Module}
+use Rattle.cox_command.specs.declared.inquiry.OneWord.TheVariants.{Ihbetti, Extremals, Cert, Module}
 use Rattle.cox_command.specs.declared.inquiry.TwoWord.{TwoWord}
 use Rattle.cox_command.specs.declared.inquiry.TwoWord.TheVariants.{Inorder, Interval, Rpol, Pol, Invpol, Mu}
 use Rattle.cox_poly.specs.PolynomialText.{polynomial_text}
@@ -29,6 +29,7 @@ use Rattle.cox_answers.specs.RowReply.{RefusesRow, coefficients_to, IsPolText, I
 use Rattle.cox_answers.specs.GroupReply.{RefusesGroupRows, group_question}
 use Rattle.cox_answers.specs.ModuleReply.{IsModuleText}
 use Rattle.cox_answers.specs.InverseReply.{RefusesInverse, IsInverseText}
+use Rattle.cox_answers.specs.CertReply.{RefusesCert, IsCertText}
 use Rattle.cox_answers.specs.WorkReply.{work_question}
 
 -- nothing refuses
@@ -57,20 +58,25 @@ abbrev pub text_question : List ℕ → Question
 text_question answer = record { Refuses = RefusesNone; IsText = λ text. text ≡ answer }
 
 -- what a command asks of the element of w
-abbrev pub one_question : OneWord → Limits → ℕ → IntegerMatrix → List ℕ → Question
-one_question Compute limits rank A w = text_question (element_text rank (normal_form A w))
-one_question Length limits rank A w = text_question (decimal (word_length A w))
-one_question Inverse limits rank A w = text_question (element_text rank (normal_form A (reverse w)))
-one_question Descent limits rank A w = text_question (descent_text rank (descent_set Left A w) (descent_set Right A w))
-one_question Coatoms limits rank A w = record { Refuses = RefusesLarge limits A w; IsText = IsOfList (IsCoatom A w) (elements_text rank) }
-one_question Betti limits rank A w = record { Refuses = RefusesLarge limits A w; IsText = IsOfList (IsInInterval A w) (counts_text A w) }
-one_question Klbasis limits rank A w =
-    record { Refuses = RefusesRow limits A w; IsText = IsOfRow A w (IsInInterval A w) (pairs_text rank A w) }
-one_question Ihbetti limits rank A w =
+abbrev pub one_question : OneWord → Limits → CoxeterMatrix → List ℕ → Question
+one_question Compute limits g w = text_question (element_text g.rank (normal_form (integer_matrix g) w))
+one_question Length limits g w = text_question (decimal (word_length (integer_matrix g) w))
+one_question Inverse limits g w = text_question (element_text g.rank (normal_form (integer_matrix g) (reverse w)))
+one_question Descent limits g w = let A = integer_matrix g in
+    text_question (descent_text g.rank (descent_set Left A w) (descent_set Right A w))
+one_question Coatoms limits g w = let A = integer_matrix g in
+    record { Refuses = RefusesLarge limits A w; IsText = IsOfList (IsCoatom A w) (elements_text g.rank) }
+one_question Betti limits g w = let A = integer_matrix g in
+    record { Refuses = RefusesLarge limits A w; IsText = IsOfList (IsInInterval A w) (counts_text A w) }
+one_question Klbasis limits g w = let A = integer_matrix g in
+    record { Refuses = RefusesRow limits A w; IsText = IsOfRow A w (IsInInterval A w) (pairs_text g.rank A w) }
+one_question Ihbetti limits g w = let A = integer_matrix g in
     record { Refuses = RefusesRow limits A w; IsText = IsOfRow A w (IsInInterval A w) (ihbetti_text A w) }
-one_question Extremals limits rank A w =
-    record { Refuses = RefusesRow limits A w; IsText = IsOfRow A w (IsExtremalBelow A w) (pairs_text rank A w) }
-one_question Module limits rank A w = record { Refuses = RefusesGroupRows limits A; IsText = IsModuleText rank A w }
+one_question Extremals limits g w = let A = integer_matrix g in
+    record { Refuses = RefusesRow limits A w; IsText = IsOfRow A w (IsExtremalBelow A w) (pairs_text g.rank A w) }
+one_question Cert limits g w = record { Refuses = RefusesCert limits (integer_matrix g) w; IsText = IsCertText g w }
+one_question Module limits g w = let A = integer_matrix g in
+    record { Refuses = RefusesGroupRows limits A; IsText = IsModuleText g.rank A w }
 
 -- what a command asks of the elements of y and w
 abbrev pub two_question : TwoWord → Limits → ℕ → IntegerMatrix → List ℕ → List ℕ → Question
@@ -84,7 +90,7 @@ two_question Mu limits rank A y w = record { Refuses = RefusesRow limits A w; Is
 
 -- what a command on elements asks of those of its words, in a group
 abbrev pub question_of : Inquiry → Limits → CoxeterMatrix → Question
-question_of (One kind w) limits g = one_question kind limits g.rank (integer_matrix g) w.items
+question_of (One kind w) limits g = one_question kind limits g w.items
 question_of (Two kind y w) limits g = two_question kind limits g.rank (integer_matrix g) y.items w.items
 question_of (Plain kind) limits g = group_question kind limits g.rank (integer_matrix g)
 question_of (Work start count) limits g = work_question start count limits g.rank (integer_matrix g)

@@ -16,6 +16,8 @@ pub mod GroupReply
 pub mod ModuleReply
 -- what `invpol` asks: inverse Kazhdan-Lusztig polynomials
 pub mod InverseReply
+-- what `cert` asks: certificates of rows
+pub mod CertReply
 -- what `work` asks
 pub mod WorkReply
 -- what each command on elements asks

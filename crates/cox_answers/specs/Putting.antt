@@ -45,6 +45,12 @@ GivesInterval (Ok context) limits A w = IsListOf (IsInInterval A w) context.memb
 GivesInterval (Err (unanswered.Refused why)) limits A w = IsRefused (RefusesLarge limits A w) (Some why)
 GivesInterval (Err unanswered.NoMemory) limits A w = Unit {0}
 
+-- nothing refuses, and what was found is right; or it is refused; or memory ran out
+abbrev pub Finds : {X : Type 0} → Result X Unanswered → (Refusal → Type 0) → (X → Type 0) → Type 0
+Finds (Ok found) Refuses Is = IsRefused Refuses None × Is found
+Finds (Err (unanswered.Refused why)) Refuses Is = IsRefused Refuses (Some why)
+Finds (Err unanswered.NoMemory) Refuses Is = Unit {0}
+
 -- the words with these numbers
 abbrev pub words_at : List (List ℕ) → List ℕ → List (List ℕ)
 words_at words numbers = map (λ i. word_at words i) numbers

@@ -8,6 +8,7 @@
 //! - `between`: those of the elements between two
 //! - `rows`: the answers from the row of an element, and single polynomials of it, and mu
 //! - `pairs`: the polynomials of a row, all or the extremal ones
+//! - `certificates`: certificates of rows
 //! - `sums`: the polynomials of a row, summed up
 //! - `inverse`: single inverse Kazhdan-Lusztig polynomials
 //! - `graphs`: W-graphs and cells
@@ -28,6 +29,7 @@ ghost use Rattle.cox_command.specs.ParseContract.{HasLetters};
 ghost use Rattle.cox_answers.specs.Putting.{PutsUnless, IsEnded};
 
 pub(crate) mod between;
+mod certificates;
 mod generated;
 mod graphs;
 mod intervals;
@@ -99,6 +101,7 @@ impl Workspace {
             Inquiry::One(OneWord::Klbasis, w) => self.put_row(maker, out, RowKind::Klbasis, w),
             Inquiry::One(OneWord::Ihbetti, w) => self.put_row(maker, out, RowKind::Ihbetti, w),
             Inquiry::One(OneWord::Extremals, w) => self.put_row(maker, out, RowKind::Extremals, w),
+            Inquiry::One(OneWord::Cert, w) => self.put_cert(maker, out, w),
             Inquiry::One(OneWord::Module, w) => self.put_module(maker, out, w),
             Inquiry::Two(TwoWord::Inorder, y, w) => put_inorder(out, table, y, w),
             Inquiry::Two(TwoWord::Interval, y, w) => put_interval(out, table, options, y, w),

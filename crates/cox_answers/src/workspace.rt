@@ -46,7 +46,7 @@ impl Model for Workspace {
 }
 
 impl Workspace {
-    ghost use Rattle.std.specs.Prelude.{◌≡◌, ℕ, ◌<◌, ◌≤◌, IsSome, IsSomeAnd, IfSome, IsTrue, Some, Contains, length};
+    ghost use Rattle.std.specs.Prelude.{◌≡◌, ℕ, ◌<◌, ◌≤◌, List, IsSome, IsSomeAnd, IfSome, IfOk, IsTrue, Some, Contains, length};
     ghost use Rattle.cox_base.specs.Admissible.{IsCoxeterMatrix};
     ghost use Rattle.cox_base.specs.IntegerMatrix.{integer_matrix};
     ghost use Rattle.cox_base.specs.Matrix.{IsWord};
@@ -139,6 +139,29 @@ impl Workspace {
         ensures group { IsCoxeterMatrix self.old.table }
     {
         let i = self.keep_interval(alloc, w)?;
+        self.make_row(maker, alloc, i)
+    }
+
+    /// Sees to it that the row of the member with the number i is kept. The members stay, and the number is told again.
+    pub(crate) fn make_row<M: RowMaker>(
+        &mut self,
+        maker: &M,
+        alloc: Global,
+        i: u32,
+    ) -> Result<u32, Unanswered>
+        requires group { IsCoxeterMatrix self.old.table }
+        requires member { IsSomeAnd self.old.rows (λ rows. i < length rows.elements.members) }
+        requires kept { AreKept self.old.table (limits_of self.old.options) self.old.rows }
+        requires ready { M.ready maker.now }
+        ensures same { IsSameWork self.old self.new }
+        ensures kept { AreKept self.old.table (limits_of self.old.options) self.new.rows }
+        ensures row { (w : List ℕ) → IsSomeAnd self.old.rows (HoldsElement (integer_matrix self.old.table) w i)
+            → (HasMoreThan (limits_of self.old.options).context (IsInInterval (integer_matrix self.old.table) w) → ⊥)
+            → Keeps result (RefusesRow (limits_of self.old.options) (integer_matrix self.old.table) w)
+            (HoldsRow (integer_matrix self.old.table) w) self.new.rows }
+        ensures members { IfSome self.old.rows (λ old. IfSome self.new.rows (λ new. new.elements ≡ old.elements)) }
+        ensures number { IfOk result (λ j. j ≡ i) }
+    {
         self.whole = None;
         let Some(rows) = self.rows.take() else {
             unreachable!();

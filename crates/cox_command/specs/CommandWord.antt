@@ -2,7 +2,7 @@
 use Rattle.std.specs.Prelude.{ℕ, if◌then◌else◌, List, Option, None, Some, codes}
 use Rattle.std.specs.Str.{bytes_eq}
 use Rattle.cox_command.specs.declared.inquiry.OneWord.TheVariants.{Compute, Length, Inverse, Descent, Coatoms, Betti, Klbasis, Ihbetti}
-use Rattle.cox_command.specs.declared.inquiry.OneWord.TheVariants.{Extremals, Module}
+use Rattle.cox_command.specs.declared.inquiry.OneWord.TheVariants.{Extremals, Cert, Module}
 use Rattle.cox_command.specs.declared.inquiry.NoWord.TheVariants.{Lwgraph, Rwgraph, Lcells, Rcells, Lrcells}
 use Rattle.cox_command.specs.declared.inquiry.TwoWord.TheVariants.{Inorder, Interval, Rpol, Pol, Invpol, Mu}
 use Rattle.cox_command.specs.declared.command_word.CommandWord.{CommandWord}
@@ -22,6 +22,7 @@ command_word_of token = if bytes_eq token (codes "type") then Some Named
     else if bytes_eq token (codes "klbasis") then Some (One Klbasis)
     else if bytes_eq token (codes "ihbetti") then Some (One Ihbetti)
     else if bytes_eq token (codes "extremals") then Some (One Extremals)
+    else if bytes_eq token (codes "cert") then Some (One Cert)
     else if bytes_eq token (codes "module") then Some (One Module)
     else if bytes_eq token (codes "inorder") then Some (Two Inorder)
     else if bytes_eq token (codes "interval") then Some (Two Interval)

@@ -51,6 +51,8 @@ pub fn command_word(token: &[u8]) -> Option<CommandWord>
         Some(CommandWord::One(OneWord::Ihbetti))
     } else if token == b"extremals".as_slice() {
         Some(CommandWord::One(OneWord::Extremals))
+    } else if token == b"cert".as_slice() {
+        Some(CommandWord::One(OneWord::Cert))
     } else if token == b"module".as_slice() {
         Some(CommandWord::One(OneWord::Module))
     } else if token == b"inorder".as_slice() {

@@ -41,6 +41,8 @@ pub enum OneWord {
     Ihbetti,
     /// P(x,w) of those x below it that have each left and each right descent of w.
     Extremals,
+    /// The certificate of its row: the group, its normal form, and all x below it in Bruhat order, each with P(x,w).
+    Cert,
     /// The module of the Hecke algebra that its left cell carries.
     Module,
 }

@@ -22,8 +22,9 @@ use crate::members::{Link, MAX_MEMBERS};
 use crate::right_shifts::right_shifts;
 use crate::scope::Scope;
 use crate::shifts::entry;
-use cox_base::{Coxeter, MAX_LETTERS, Word};
+use cox_base::{Coxeter, MAX_LETTERS, Side, Word};
 use cox_minroots::RootTable;
+use cox_reflect::{LETTERS_OF_128_BITS, descents, normal_form};
 use std::alloc::Global;
 use std::marker::Model;
 
@@ -73,11 +74,59 @@ impl Context {
         ensures refused { IfErr result (IsRefusal (IsInInterval (integer_matrix group.now) w.now.items) limit) }
     {
         let top = group.normal_form(w);
+        let descents = group.left_descents(&top);
+        Context::up_to(alloc, group.group(), w, top, descents, limit)
+    }
+
+    /// The elements x with x <= w, for a word w of at most [`LETTERS_OF_128_BITS`] letters.
+    ///
+    /// It needs no table of small roots: it is for a program that checks what another one found, and takes a group as it comes. `Size`
+    /// where there are more than `limit` elements. In A 3 the interval of `2132` has 14.
+    pub fn of_short_interval(
+        alloc: Global,
+        group: &Coxeter,
+        w: &Word,
+        limit: u32,
+    ) -> Result<Context, ContextFault>
+        requires letters { IsWord group.now.rank w.now.items }
+        requires short { length w.now.items ≤ LETTERS_OF_128_BITS }
+        requires some { 1 ≤ limit }
+        requires limit { limit ≤ MAX_MEMBERS }
+        ensures matrix { IfOk result (λ c. c.matrix ≡ group.now) }
+        ensures members { IfOk result (λ c. IsListOf (IsInInterval (integer_matrix group.now) w.now.items) c.members) }
+        ensures few { IfOk result (λ c. length c.members ≤ limit) }
+        ensures refused { IfErr result (IsRefusal (IsInInterval (integer_matrix group.now) w.now.items) limit) }
+    {
+        let top = normal_form(group, w);
+        let descents = descents(group, &top, Side::Left);
+        Context::up_to(alloc, group, w, top, descents, limit)
+    }
+
+    /// The elements x with x <= w, by the normal form of w and the left descents of that.
+    fn up_to(
+        alloc: Global,
+        group: &Coxeter,
+        w: &Word,
+        top: Word,
+        descents: Word,
+        limit: u32,
+    ) -> Result<Context, ContextFault>
+        requires form { top.items ≡ normal_form (integer_matrix group.now) w.now.items }
+        requires letters { IsWord group.now.rank top.items }
+        requires descents { descents.items ≡ left_descents (integer_matrix group.now) top.items }
+        requires some { 1 ≤ limit }
+        requires limit { limit ≤ MAX_MEMBERS }
+        ensures matrix { IfOk result (λ c. c.matrix ≡ group.now) }
+        ensures members { IfOk result (λ c. IsListOf (IsInInterval (integer_matrix group.now) w.now.items) c.members) }
+        ensures few { IfOk result (λ c. length c.members ≤ limit) }
+        ensures refused { IfErr result (IsRefusal (IsInInterval (integer_matrix group.now) w.now.items) limit) }
+    {
+        let _ = w;
         prove!(top.len() <= MAX_LETTERS);
         let letters = top.len() as u32;
         let scope = Scope {
-            group: group.group().copy(),
-            descents: group.left_descents(&top),
+            group: group.copy(),
+            descents,
             top: Some(top),
         };
         let Ok(identity) = Listing::new(alloc, &scope.group) else {

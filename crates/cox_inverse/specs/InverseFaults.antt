@@ -41,8 +41,7 @@ pub record IsPair (e : Elements) (y w x z : ℕ) : Type 0 where
   pub below : IsBelow (integer_matrix e.matrix) (word_at e.members z) (word_at e.members w)
 
 -- y ≤ x ≤ z ≤ w, and P(x,z) has a coefficient above MAX_COEFFICIENT, the first one as told. No z before has such an x, and no x before
--- has one
--- with this z.
+-- has one with this z.
 pub record IsFirstPair (e : Elements) (y w x z degree : ℕ) (value : ℤ) : Type 0 where
   pub pair : IsPair e y w x z
   pub least : IsLeastLarge (integer_matrix e.matrix) MAX_COEFFICIENT (word_at e.members x) (word_at e.members z) degree value

@@ -13,7 +13,7 @@ use Rattle.cox_reflect.proofs.Search.{normal_form-same, word_length-equal}
 use Rattle.cox_reflect.proofs.Deletion.{right_length}
 use Rattle.cox_reflect.proofs.Bruhat.{below-length}
 use Rattle.cox_poly.specs.Coefficients.{Coefficients, zero_polynomial, plus, times_q, times_q_less_one}
-use Rattle.cox_poly.specs.Polynomial.{coefficient}
+use Rattle.cox_poly.specs.Polynomial.{coefficient, HasSmallCoefficients}
 use Rattle.cox_poly.proofs.Norms.{HasNormAtMost-coefficient}
 use Rattle.cox_rpoly.specs.declared.TheConstants.{MAX_DIFFERENCE}
 use Rattle.cox_rpoly.specs.RPolynomial.{r_polynomial}
@@ -53,6 +53,14 @@ module _ (A : IntegerMatrix) (g : IsAdmissible A) where
         in let power : 3 ^ 38 ≤ 2 ^ 61 = lit≤ tt
         in rw (is k) (omega (arith, bound, power));
   }
+
+  -- its coefficients have 64 bits
+  pub r-narrow : (x v : List ℕ) (p : List ℤ) → word_length A v ≤ MAX_DIFFERENCE → ((k : ℕ) → coefficient p k ≡ r_polynomial A x v k)
+      → HasSmallCoefficients p
+  r-narrow x v p short is k =
+      let bound = HasNormAtMost-coefficient (r_polynomial A x v) (3 ^ 39) (r_polynomial-norm A g x v 39 (omega (arith, short))) k
+      in let power : 3 ^ 39 ≤ 2 ^ 63 = lit≤ tt
+      in rw (is k) (omega (arith, bound, power))
 
   -- R(x,v) has no term of the degree n where l(v) < l(x) + n
   pub r-low : (x v : List ℕ) (n : ℕ) → word_length A v < word_length A x + n → (k : ℕ) → n ≤ k → r_polynomial A x v k ≡ pos 0

@@ -2,7 +2,9 @@
 use Rattle.std.proofs.Common.{◌≡◌, ℕ, zero, suc, ◌+◌, ◌<◌, ◌≤◌, List, [], ◌∷◌, ◌++◌, length, take, slice_index_or, Contains}
 use Rattle.std.proofs.Common.{ℤ, pos, refl, ap, sym, ◌∙◌, arith, ⊎_elim}
 use Rattle.std.proofs.lemmas.Bool.{cases_lt}
-use Rattle.std.proofs.lemmas.List.{append-nil, get_or_past, take_more, take-append-drop, length-take-le}
+use Rattle.std.proofs.lemmas.List.{append-nil, get_or_past, take_more, take-append-drop, length-take-le, get_or_append_left}
+use Rattle.std.proofs.lemmas.List.{length_push}
+use Rattle.std.proofs.Math.Seq.{get_or-append_seam}
 use Rattle.std.specs.Prelude.{drop}
 use Rattle.std.proofs.lemmas.List.Elements.{All-get_or}
 use Rattle.cox_base.specs.Matrix.{IsLetter}
@@ -21,6 +23,7 @@ use Rattle.cox_reflect.proofs.NormalElements.{element-word, element-length, elem
 use Rattle.cox_reflect.proofs.Bruhat.{below-length, below-equal_length}
 use Rattle.cox_poly.specs.Coefficients.{Coefficients, one_polynomial}
 use Rattle.cox_poly.specs.Polynomial.{coefficient}
+use Rattle.cox_poly.proofs.Polynomials.{coefficient-take}
 use Rattle.cox_rpoly.specs.RPolynomial.{r_polynomial}
 use Rattle.cox_rpoly.specs.Terms.{numbered}
 use Rattle.cox_rpoly.proofs.PolynomialsOfElements.{r_polynomial-same, r_polynomial-not_below}
@@ -30,6 +33,36 @@ use Rattle.cox_context.specs.Numbers.{word_at}
 use Rattle.cox_context.proofs.PlacedWords.{contains-placed, rising-place, rising-length}
 use Rattle.cox_context.proofs.Shifting.{first-member, element-at, length-at, member-below}
 use Rattle.cox_rowcheck.specs.Columns.{IsColumn}
+use Rattle.cox_rowcheck.proofs.ColumnSteps.{r-low}
+
+-- the entries of the first i members are theirs in the column of v
+pub record AreEntries (A : IntegerMatrix) (members : List (List ℕ)) (v : List ℕ) (i : ℕ) (list : List (List ℤ)) : Type 0 where
+  pub size : length list ≡ i
+  pub each : (j k : ℕ) → j < i → coefficient (numbered list j) k ≡ r_polynomial A (word_at members j) v k
+
+pub entries-none : (A : IntegerMatrix) (members : List (List ℕ)) (v : List ℕ) → AreEntries A members v 0 []
+entries-none A members v = record { size = refl; each = λ j k l. absurd (omega (arith, l)) }
+
+-- one more, of which the first n coefficients are kept: it has no other, as v has fewer letters
+pub entries-more : (A : IntegerMatrix) → IsAdmissible A → (members : List (List ℕ)) (v : List ℕ) (n i : ℕ) (list : List (List ℤ))
+    (entry : List ℤ) → AreEntries A members v i list → ((k : ℕ) → coefficient entry k ≡ r_polynomial A (word_at members i) v k)
+    → word_length A v < n → AreEntries A members v (i + 1) (list ++ take n entry ∷ [])
+entries-more A g members v n i list entry are is short = record {
+  size = omega (arith, length_push list (take n entry), are.size);
+  each = λ j k l. ⊎_elim
+      (λ (before : j < i). rw (get_or_append_left list (take n entry ∷ []) [] j (omega (arith, before, are.size))) (are.each j k before))
+      (λ (behind : i ≤ j). last j k (omega (arith, behind, l)))
+      (cases_lt j i);
+}
+  where
+    kept : (k : ℕ) → coefficient (take n entry) k ≡ coefficient entry k
+    kept k = coefficient-take entry n (λ j low. is j ∙ r-low A g (word_at members i) v n (omega (arith, short)) j low) k
+
+    last : (j k : ℕ) → j ≡ i → coefficient (numbered (list ++ take n entry ∷ []) j) k ≡ r_polynomial A (word_at members j) v k
+    last j k e =
+        let here : numbered (list ++ take n entry ∷ []) i ≡ take n entry
+        = ap (λ (m : ℕ). numbered (list ++ take n entry ∷ []) m) (sym are.size) ∙ get_or-append_seam list (take n entry) [] []
+        in rw (e, here) (kept k ∙ is k)
 
 module _ (A : IntegerMatrix) (g : IsAdmissible A) (members : List (List ℕ)) (closed : IsClosed A members) where
   -- R(x,e) is 1 for the identity, which is the first member, and else 0

@@ -10,6 +10,8 @@ pub mod OneList
 pub mod Conditions
 -- for code: columns of R-polynomials
 pub mod Columns
+-- for code: polynomials with the same number of coefficients each
+pub mod EntryLists
 -- for code: members with their columns, and those of the prefixes of a word
 pub mod Prefixes
 -- for code: the sums that are compared

@@ -15,6 +15,7 @@ ghost use Rattle.cox_context.specs.Numbers.{word_at};
 ghost use Rattle.cox_rowcheck.specs.Columns.{IsColumn};
 ghost use Rattle.cox_rowcheck.specs.Prefixes.{IsColumnOf};
 
+use crate::entries::Entries;
 use cox_context::Context;
 use cox_rpoly::terms::{Terms, combined, one, zero};
 use std::alloc::{AllocError, Global};
@@ -25,37 +26,37 @@ pub(crate) struct Column {
     /// The number of v.
     pub(crate) number: u32,
     /// R(x,v) for the members x up to v.
-    pub(crate) entries: Vec<Terms>,
+    pub(crate) entries: Entries,
 }
 
 /// The i-th entry of a column, which is 0 behind its end.
-fn entry<'a>(column: &'a [Terms], none: &'a Terms, i: u32) -> &'a Terms
-    requires { (k : ℕ) → coefficient none.now k ≡ pos 0 }
-    ensures { (k : ℕ) → coefficient result.now k ≡ coefficient (numbered column.now i) k }
+fn entry(column: &Entries, i: u32) -> Terms
+    ensures { (k : ℕ) → coefficient result k ≡ coefficient (numbered column.now.list i) k }
 {
-    match column.get(i as usize) {
-        Some(terms) => terms,
-        None => none,
+    let list = column.at(i as usize);
+    let mut terms = zero();
+    for k in 0..list.len() {
+        terms[k] = list[k];
     }
+    terms
 }
 
 /// R(x,vt) for the i-th member x, by the column of v, which is the member with the number `at`.
-fn next_entry(ctx: &Context, at: u32, t: u8, column: &[Terms], i: u32) -> Terms
+fn next_entry(ctx: &Context, at: u32, t: u8, column: &Entries, i: u32) -> Terms
     requires at { at < length ctx.now.members }
     requires letter { IsLetter ctx.now.matrix.rank t }
     requires ascent { ¬ IsRightDescent (integer_matrix ctx.now.matrix) (word_at ctx.now.members at) t }
-    requires column { IsColumn (integer_matrix ctx.now.matrix) ctx.now.members (word_at ctx.now.members at) column.now }
+    requires column { IsColumn (integer_matrix ctx.now.matrix) ctx.now.members (word_at ctx.now.members at) column.now.list }
     requires short { length (word_at ctx.now.members at) < MAX_DIFFERENCE }
     requires i { i < length ctx.now.members }
     ensures { (k : ℕ) → coefficient result k
         ≡ r_polynomial (integer_matrix ctx.now.matrix) (word_at ctx.now.members i) (word_at ctx.now.members at ++ t ∷ []) k }
 {
     let _len = ctx.len();
-    let none = zero();
     match ctx.right(t, i) {
-        Some(j) if j < i => *entry(column, &none, j),
-        Some(j) => combined(entry(column, &none, i), entry(column, &none, j)),
-        None => combined(entry(column, &none, i), &none),
+        Some(j) if j < i => entry(column, j),
+        Some(j) => combined(&entry(column, i), &entry(column, j)),
+        None => combined(&entry(column, i), &zero()),
     }
 }
 
@@ -66,22 +67,23 @@ fn next_entries(
     at: u32,
     t: u8,
     next: u32,
-    column: &[Terms],
-) -> Result<Vec<Terms>, AllocError>
+    column: &Entries,
+) -> Result<Entries, AllocError>
     requires at { at < length ctx.now.members }
     requires next { next < length ctx.now.members }
     requires leads { word_at ctx.now.members next ≡ normal_form (integer_matrix ctx.now.matrix) (word_at ctx.now.members at ++ t ∷ []) }
     requires letter { IsLetter ctx.now.matrix.rank t }
     requires ascent { ¬ IsRightDescent (integer_matrix ctx.now.matrix) (word_at ctx.now.members at) t }
-    requires column { IsColumn (integer_matrix ctx.now.matrix) ctx.now.members (word_at ctx.now.members at) column.now }
+    requires column { IsColumn (integer_matrix ctx.now.matrix) ctx.now.members (word_at ctx.now.members at) column.now.list }
     requires short { length (word_at ctx.now.members at) < MAX_DIFFERENCE }
     ensures { IfOk result (λ entries. IsColumn (integer_matrix ctx.now.matrix) ctx.now.members
-        (word_at ctx.now.members next) entries.items) }
+        (word_at ctx.now.members next) entries.list) }
 {
     let _len = ctx.len();
-    let mut entries = Vec::with_capacity(alloc, next as usize + 1)?;
+    let terms = ctx.length(next) as usize + 1;
+    let mut entries = Entries::new(alloc, terms, next + 1)?;
     for i in 0..next + 1 {
-        entries.push(next_entry(ctx, at, t, column, i))?;
+        entries.push(&next_entry(ctx, at, t, column, i))?;
     }
     Ok(entries)
 }
@@ -91,8 +93,8 @@ pub(crate) fn first(alloc: Global, ctx: &Context) -> Result<Column, AllocError>
     ensures { IfOk result (IsColumnOf (integer_matrix ctx.now.matrix) ctx.now.members []) }
 {
     let _len = ctx.len();
-    let mut entries = Vec::with_capacity(alloc, 1)?;
-    entries.push(one())?;
+    let mut entries = Entries::new(alloc, 1, 1)?;
+    entries.push(&one())?;
     Ok(Column { number: 0, entries })
 }
 
@@ -105,7 +107,7 @@ pub(crate) fn longer(
 ) -> Result<Column, AllocError>
     requires number { column.now.number < length ctx.now.members }
     requires column { IsColumn (integer_matrix ctx.now.matrix) ctx.now.members
-        (word_at ctx.now.members column.now.number) column.now.entries.items }
+        (word_at ctx.now.members column.now.number) column.now.entries.list }
     requires letter { IsLetter ctx.now.matrix.rank t }
     requires ascent { ¬ IsRightDescent (integer_matrix ctx.now.matrix) (word_at ctx.now.members column.now.number) t }
     requires short { length (word_at ctx.now.members column.now.number) < MAX_DIFFERENCE }
@@ -117,13 +119,6 @@ pub(crate) fn longer(
     let Some(number) = ctx.right(t, column.number) else {
         unreachable!();
     };
-    let entries = next_entries(
-        alloc,
-        ctx,
-        column.number,
-        t,
-        number,
-        column.entries.as_slice(),
-    )?;
+    let entries = next_entries(alloc, ctx, column.number, t, number, &column.entries)?;
     Ok(Column { number, entries })
 }

@@ -9,6 +9,7 @@
 //! - `row_check`: the conditions, one by one
 //! - `sums`: the sums of the R(x,y) p(y), for all x at once
 //! - `column`: R(x,y) for one y and all x
+//! - `entries`: the polynomials of a column, one behind another
 //! - `prefixes`: the columns of the prefixes of a word
 //! - `order`: the members in lexicographic order
 //! - `small`: whether polynomials are small
@@ -16,6 +17,7 @@
 #![tactic(auto)]
 
 mod column;
+mod entries;
 pub mod laws;
 mod limits;
 mod order;

@@ -13,9 +13,9 @@ ghost use Rattle.cox_rowcheck.specs.ListedRows.{AreRow};
 ghost use Rattle.cox_rowcheck.specs.SmallPolynomials.{IsSmall};
 ghost use Rattle.cox_rowcheck.specs.Conditions.{MeetsBound, AreBounded, AreTurned};
 
-use crate::sums::sums_of;
+use crate::sums::{SUM_TERMS, Sum, sums_of};
 use cox_context::Context;
-use cox_poly::{Acc, Poly};
+use cox_poly::Poly;
 use std::alloc::{AllocError, Global};
 
 /// Whether a polynomial is 1.
@@ -55,11 +55,11 @@ fn are_bounded(ctx: &Context, w: u32, polynomials: &[Poly]) -> bool
 }
 
 /// Whether the sum is q^d p(1/q).
-fn is_turned(p: &Poly, d: u32, sum: &Acc) -> bool
-    requires { d < 256 }
+fn is_turned(p: &Poly, d: u32, sum: &Sum) -> bool
+    requires { d < SUM_TERMS }
     ensures { IsTrue result ↔ ((k : ℕ) → flip d (coefficient p.now) k ≡ coefficient sum.now k) }
 {
-    for (k, &value) in sum.sums().iter().enumerate() {
+    for (k, &value) in sum.iter().enumerate() {
         let wanted = if k <= d as usize {
             p.coefficient(d - k as u32)
         } else {
@@ -73,8 +73,9 @@ fn is_turned(p: &Poly, d: u32, sum: &Acc) -> bool
 }
 
 /// Whether the sum of each member x is q^d p(x)(1/q), with d = l(w) - l(x).
-fn are_turned(ctx: &Context, w: u32, polynomials: &[Poly], sums: &[Acc]) -> bool
+fn are_turned(ctx: &Context, w: u32, polynomials: &[Poly], sums: &[Sum]) -> bool
     requires w { w < length ctx.now.members }
+    requires short { length (word_at ctx.now.members w) ≤ MAX_DIFFERENCE }
     requires polynomials { length polynomials.now ≡ length ctx.now.members }
     requires sums { length sums.now ≡ length ctx.now.members }
     ensures { IsTrue result ↔ AreTurned ctx.now.members w polynomials.now sums.now }

@@ -11,6 +11,7 @@ use cox_base::{Coxeter, Word, read_word};
 use cox_context::Context;
 use cox_minroots::{MAX_SMALL_ROOTS, RootTable};
 use cox_poly::Poly;
+use cox_reflect::LETTERS_OF_128_BITS;
 use cox_rpoly::MAX_DIFFERENCE;
 use std::alloc::Global;
 use std::process::Abort;
@@ -88,7 +89,8 @@ fn accepts_the_row_alone(rt: HostRuntime) -> Result<(), Fail> {
     let alloc = rt.alloc();
     let table = RootTable::build(alloc, &Coxeter::named(b'A', 3)?, MAX_SMALL_ROOTS)?;
     let top = read_word(b"2132", table.group().rank())?;
-    let ctx = Context::of_interval(alloc, &table, &top, 14)?;
+    assert!(rt; top.len() <= LETTERS_OF_128_BITS);
+    let ctx = Context::of_short_interval(alloc, table.group(), &top, 14)?;
     match number_of_top(&table, &ctx, &top) {
         Some(w) => accepts(&rt, alloc, &ctx, w),
         None => {

@@ -135,6 +135,16 @@ const ANSWERS: &[(&str, &str, Status)] = &[
         Status::Refused,
     ),
     (
+        "type A 2\ncert 12\ncert 3\ncert e\n",
+        "cert 2 3\nelement 12\nrows 4\ne:1\n1:1\n2:1\n12:1\nend\nerror 16\ncert 2 3\nelement e\nrows 1\ne:1\nend\n",
+        Status::Refused,
+    ),
+    (
+        "type B 3\ncert 2\ntype A 13\ncert 1.2.3.4.5.6.7.8.9.10.11.12.13\nmatrix 2 0\ncert 1212121212121212121212121212121212121212\n",
+        "cert 3 3 2 4\nelement 2\nrows 2\ne:1\n2:1\nend\nerror 31\nerror 34\n",
+        Status::Refused,
+    ),
+    (
         "pol e 1\nlcells\nwork 7 1\nmatrix 2 5\ntype A 2\nlcells 1\nwork 65537 1\nwork 1\n",
         "error 15\nerror 15\nerror 15\nerror 14\nerror 11\nerror 12\nerror 11\n",
         Status::Refused,
@@ -219,8 +229,8 @@ const OPTIONS: &[WithOptions] = &[
     ),
     (
         &["coxeter", "--context", "3"],
-        "type A 2\nbetti 12\ncoatoms 12\ninterval 12 1\ncompute 12\n",
-        "error 31\nerror 31\n0\n12\n",
+        "type A 2\nbetti 12\ncoatoms 12\ninterval 12 1\ncert 12\ncert 1\n",
+        "error 31\nerror 31\n0\nerror 31\ncert 2 3\nelement 1\nrows 2\ne:1\n1:1\nend\n",
         Status::Refused,
     ),
     (
@@ -255,7 +265,7 @@ const OPTIONS: &[WithOptions] = &[
     ),
     (
         &["coxeter", "--coef", "1"],
-        "type A 4\npol e 1234321\nmu e 1234321\npol 1234321 1234321\npol e 1\n",
+        "type A 4\npol e 1234321\nmu e 1234321\ncert 1234321\npol e 1\n",
         "error 32\nerror 32\nerror 32\n1\n",
         Status::Refused,
     ),

@@ -24,14 +24,14 @@ fn refuses_lines_in_order(rt: HostRuntime) {
         (
             0,
             Some(2),
-            "matrix 3 3 3 3\ninorder 12 21\nlength e\nklbasis 12\nlrcells\nwork 65536 1000000",
+            "matrix 3 3 3 3\ninorder 12 21\nlength e\nklbasis 12\ncert 12\nlrcells\nwork 65536 1000000",
         ),
         (0, Some(10), "descent 9.10.9\ncompute e"),
         (10, None, "Quit\nfoo 1x\ntype\tA 2\ntypes A 2"),
         (
             11,
             None,
-            "quit now\ntype A\ntype A 1 1\nmatrix\nmatrix 16\nmatrix 2\nmatrix 2 x x\ncompute\ninorder 1x\npol 1x\nlrcells e\nwork 7",
+            "quit now\ntype A\ntype A 1 1\nmatrix\nmatrix 16\nmatrix 2\nmatrix 2 x x\ncompute\ncert\ninorder 1x\npol 1x\nlrcells e\nwork 7",
         ),
         (
             12,

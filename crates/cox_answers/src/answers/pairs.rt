@@ -49,7 +49,7 @@ pub fn put_extremal_pairs(out: &mut Vec<u8>, rows: &Rows, i: u32) -> Result<(), 
 }
 
 /// Puts the list of the members with these numbers, each with its polynomial in the row of the member with the number i.
-fn put_pairs(out: &mut Vec<u8>, rows: &Rows, i: u32, numbers: &[u32]) -> Result<(), NoMemory>
+pub fn put_pairs(out: &mut Vec<u8>, rows: &Rows, i: u32, numbers: &[u32]) -> Result<(), NoMemory>
     requires group { IsCoxeterMatrix rows.now.elements.matrix }
     requires member { i < length rows.now.elements.members }
     requires there { HasRow rows.now i }

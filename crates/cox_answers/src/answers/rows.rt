@@ -63,8 +63,8 @@ impl Workspace {
         requires word { IsWord self.old.table.rank w.now.items }
         requires ready { M.ready maker.now }
         ensures puts { PutsUnless result (RefusesRow (limits_of self.old.options) (integer_matrix self.old.table) w.now.items)
-            (one_question (row_command kind) (limits_of self.old.options) self.old.table.rank
-            (integer_matrix self.old.table) w.now.items).IsText out.old.items out.new.items }
+            (one_question (row_command kind) (limits_of self.old.options) self.old.table w.now.items).IsText
+            out.old.items out.new.items }
         ensures same { IsSameWork self.old self.new }
         ensures group { IsCoxeterMatrix self.old.table }
     {
@@ -103,8 +103,7 @@ fn put_row_of(out: &mut Vec<u8>, rows: &Rows, i: u32, kind: RowKind) -> Result<(
     requires member { i < length rows.now.elements.members }
     requires there { HasRow rows.now i }
     ensures { (limits : Limits) (w : List ℕ) → word_at rows.now.elements.members i ≡ normal_form (integer_matrix rows.now.elements.matrix) w
-        → PutsSome result (one_question (row_command kind) limits rows.now.elements.matrix.rank
-        (integer_matrix rows.now.elements.matrix) w).IsText out.old.items out.new.items }
+        → PutsSome result (one_question (row_command kind) limits rows.now.elements.matrix w).IsText out.old.items out.new.items }
 {
     match kind {
         RowKind::Klbasis => put_all_pairs(out, rows, i),

@@ -1,4 +1,4 @@
--- The terms of r below q^k are done.
+-- The terms of p below q^k are done.
 use Rattle.cox_rowcheck.proofs.AddedProducts.{IsAdded}
 use Rattle.cox_rowcheck.proofs.sums.add_product.Given as goal
 

@@ -1,0 +1,176 @@
+-- The text of a certificate gives its lines.
+use Rattle.std.proofs.Common.{◌≡◌, ◌≢◌, ℕ, suc, ◌+◌, ◌-◌, ◌*◌, ◌<◌, ◌≤◌, ◌==◌, true, false, List, [], ◌∷◌, ◌++◌, map, length, flat_map}
+use Rattle.std.proofs.Common.{ℤ, codes, decimal, get_or, nat_lt, refl, ap, ◌∙◌, arith, append_assoc, IsTrue}
+use Rattle.std.specs.List.{All, join_by}
+use Rattle.std.proofs.lemmas.Bool.Decides.{nat_tests}
+use Rattle.std.proofs.lemmas.Bool.{ne_eqb, true≢false}
+use Rattle.std.proofs.lemmas.List.Elements.{All-head, All-tail, All-cons, All-nil, All-append, All-weaker, All-same, All-from_get_or}
+use Rattle.cox_base.specs.declared.limits.TheConstants.{MAX_RANK}
+use Rattle.cox_base.specs.Matrix.{CoxeterMatrix, is_label}
+use Rattle.cox_base.specs.Admissible.{IsCoxeterMatrix}
+use Rattle.cox_base.specs.WordText.{word_text}
+use Rattle.cox_poly.specs.PolynomialText.{polynomial_text}
+use Rattle.cox_poly.proofs.Splits.{AreNot}
+use Rattle.cox_outside.specs.Line.{line_feed, lines_of, content_of, is_foreign}
+use Rattle.cox_outside.specs.Unbroken.{IsUnbroken}
+use Rattle.cox_outside.specs.declared.limits.TheConstants.{LINE_LIMIT}
+use Rattle.cox_outside.proofs.Lines.{lines_of-line}
+use Rattle.cox_rowcheck.specs.declared.limits.TheConstants.{MAX_LISTED}
+use Rattle.cox_rowcheck.specs.SmallPolynomials.{IsSmall}
+use Rattle.cox_cert.specs.Certificate.{Certificate, IsShortWord, IsCertificate, IsLine, Gives, row_line, end_line, matrix_line}
+use Rattle.cox_cert.specs.Certificate.{count_line, top_line, certificate_lines, certificate_text, contents, polynomials_of}
+use Rattle.cox_cert.specs.Causes.{HasSmall}
+use Rattle.cox_cert.specs.LineReading.{labels_text}
+use Rattle.cox_cert.proofs.PlainTexts.{IsPlainText, AreNot-at, plain-append, plain-more, plain-flat_map, decimal-plain}
+use Rattle.cox_cert.proofs.WordLines.{word_text-plain}
+use Rattle.cox_cert.proofs.MatrixLines.{labels-digits, label_count-limit}
+use Rattle.cox_cert.proofs.PolynomialLines.{polynomial_text-plain}
+
+-- a line of plain bytes has no LF, and no CR at its end
+plain-unbroken : (line : List ℕ) → AreNot is_foreign line → IsUnbroken line
+plain-unbroken line plain =
+    All-from_get_or (λ byte. byte ≢ line_feed) line 0 (λ k within feed. true≢false (rw feed at (AreNot-at is_foreign line k plain within)))
+
+plain-content : (line : List ℕ) → AreNot is_foreign line → content_of line ≡ line
+plain-content [] plain = refl
+plain-content (byte ∷ line) plain =
+    let whole = byte ∷ line in
+    let last : suc (length line) - 1 ≡ length line = omega arith in
+    let some : nat_lt 0 (suc (length line)) ≡ true = grind (arith, nat_tests) in
+    let other : (get_or whole (length line) 0 == 13) ≡ false = ne_eqb (get_or whole (length line) 0) 13
+    (λ (e : get_or whole (length line) 0 ≡ 13). true≢false (rw e at (AreNot-at is_foreign whole (length line) plain (omega arith)))) in
+    rw (last, some, other) refl
+
+-- lines, each with its end
+ended : List (List ℕ) → List ℕ
+ended [] = []
+ended (line ∷ lines) = line ++ line_feed ∷ ended lines
+
+ended-lines : (lines : List (List ℕ)) → All IsUnbroken lines → lines_of (ended lines) ≡ lines
+unfolding ended
+ended-lines [] unbroken = refl
+ended-lines (line ∷ lines) unbroken =
+    lines_of-line line (ended lines) (All-head IsUnbroken line lines unbroken)
+    ∙ ap (λ rest. line ∷ rest) (ended-lines lines (All-tail IsUnbroken line lines unbroken))
+
+-- they are the lines with an end between each two, and one behind the last
+others-ended : (lines : List (List ℕ)) → flat_map (λ next. (line_feed ∷ []) ++ next) lines ++ line_feed ∷ [] ≡ line_feed ∷ ended lines
+unfolding ended
+others-ended [] = refl
+others-ended (next ∷ lines) =
+    ap (λ rest. line_feed ∷ rest)
+    (append_assoc next (flat_map (λ l. (line_feed ∷ []) ++ l) lines) (line_feed ∷ []) ∙ ap (λ rest. next ++ rest) (others-ended lines))
+
+joined-ended : (line : List ℕ) (lines : List (List ℕ))
+    → join_by (λ l. l) (line_feed ∷ []) (line ∷ lines) ++ line_feed ∷ [] ≡ ended (line ∷ lines)
+unfolding ended
+joined-ended line lines =
+    append_assoc line (flat_map (λ next. (line_feed ∷ []) ++ next) lines) (line_feed ∷ []) ∙ ap (λ rest. line ++ rest) (others-ended lines)
+
+-- plain lines are their contents
+lines-content : (lines : List (List ℕ)) → All (λ line. AreNot is_foreign line) lines → map content_of lines ≡ lines
+lines-content [] plain = refl
+lines-content (line ∷ lines) plain =
+    let first = plain-content line (All-head (λ l. AreNot is_foreign l) line lines plain) in
+    let rest = lines-content lines (All-tail (λ l. AreNot is_foreign l) line lines plain) in
+    ap (λ l. l ∷ map content_of lines) first ∙ ap (λ l. line ∷ l) rest
+
+-- the lines of a certificate are plain and short
+labels_text-plain : (labels : List ℕ) → All (λ m. IsTrue (is_label m)) labels → IsPlainText (2 * length labels) (labels_text labels)
+labels_text-plain labels admitted =
+    plain-flat_map (λ label. codes " " ++ decimal label) 2 labels
+    (All-weaker (λ m. m < 10) (λ m. IsPlainText 2 (codes " " ++ decimal m)) one labels (labels-digits labels admitted))
+  where
+    one : (m : ℕ) → m < 10 → IsPlainText 2 (codes " " ++ decimal m)
+    one m small =
+        plain-append 1 1 (codes " ") (decimal m) (record { size = omega arith; plain = (refl, tt) })
+        (decimal-plain 1 m (omega arith) (omega arith) (omega arith))
+
+pub matrix_line-plain : (g : CoxeterMatrix) → IsCoxeterMatrix g → g.rank ≤ MAX_RANK → IsPlainText LINE_LIMIT (matrix_line g)
+matrix_line-plain g is limit =
+    let few = label_count-limit g.rank limit in
+    let count = is.count in
+    plain-more (7 + 2 * length g.labels) LINE_LIMIT (matrix_line g) (omega arith)
+    (plain-append 7 (2 * length g.labels) (codes "cert " ++ decimal g.rank) (labels_text g.labels)
+    (plain-append 5 2 (codes "cert ") (decimal g.rank)
+    (record { size = omega arith; plain = (refl, (refl, (refl, (refl, (refl, tt))))) })
+    (decimal-plain 2 g.rank (omega arith) (omega arith) (omega arith)))
+    (labels_text-plain g.labels is.admitted))
+
+pub short_word-plain : (rank : ℕ) (word : List ℕ) → rank ≤ MAX_RANK → IsShortWord rank word → IsPlainText 766 (word_text rank word)
+short_word-plain rank word limit is =
+    let short = is.short in
+    plain-more (3 * length word + 1) 766 (word_text rank word) (omega arith) (word_text-plain rank word limit is.letters)
+
+pub top_line-plain : (rank : ℕ) (word : List ℕ) → rank ≤ MAX_RANK → IsShortWord rank word → IsPlainText LINE_LIMIT (top_line rank word)
+top_line-plain rank word limit is =
+    plain-more 774 LINE_LIMIT (top_line rank word) (omega arith)
+    (plain-append 8 766 (codes "element ") (word_text rank word)
+    (record { size = omega arith; plain = (refl, (refl, (refl, (refl, (refl, (refl, (refl, (refl, tt)))))))) })
+    (short_word-plain rank word limit is))
+
+pub count_line-plain : (n : ℕ) → n ≤ MAX_LISTED → IsPlainText LINE_LIMIT (count_line n)
+count_line-plain n few =
+    plain-more 9 LINE_LIMIT (count_line n) (omega arith)
+    (plain-append 5 4 (codes "rows ") (decimal n) (record { size = omega arith; plain = (refl, (refl, (refl, (refl, (refl, tt))))) })
+    (decimal-plain 4 n (omega arith) (omega arith) (omega arith)))
+
+row_line-plain : (rank : ℕ) (row : List ℕ × List ℤ) → rank ≤ MAX_RANK → IsLine rank row → IsSmall row.1
+    → IsPlainText LINE_LIMIT (row_line rank row)
+row_line-plain rank row limit is small =
+    plain-more 1728 LINE_LIMIT (row_line rank row) (omega arith)
+    (plain-append 767 961 (word_text rank row.0 ++ codes ":") (polynomial_text row.1)
+    (plain-append 766 1 (word_text rank row.0) (codes ":") (short_word-plain rank row.0 limit is.word)
+    (record { size = omega arith; plain = (refl, tt) }))
+    (polynomial_text-plain row.1 is.polynomial small))
+
+rows-plain : (rank : ℕ) (rows : List (List ℕ × List ℤ)) → rank ≤ MAX_RANK → All (IsLine rank) rows → All IsSmall (polynomials_of rows)
+    → All (IsPlainText LINE_LIMIT) (map (row_line rank) rows)
+rows-plain rank [] limit are small = All-nil (IsPlainText LINE_LIMIT)
+rows-plain rank (row ∷ rows) limit are small =
+    All-cons (IsPlainText LINE_LIMIT) (row_line rank row) (map (row_line rank) rows)
+    (row_line-plain rank row limit (All-head (IsLine rank) row rows are) (All-head IsSmall row.1 (polynomials_of rows) small))
+    (rows-plain rank rows limit (All-tail (IsLine rank) row rows are) (All-tail IsSmall row.1 (polynomials_of rows) small))
+
+pub end_line-plain : IsPlainText LINE_LIMIT end_line
+end_line-plain = record { size = omega arith; plain = (refl, (refl, (refl, tt))) }
+
+-- the lines behind the first
+abbrev later_lines : Certificate → List (List ℕ)
+later_lines c = (top_line c.matrix.rank c.top ∷ count_line (length c.rows) ∷ map (row_line c.matrix.rank) c.rows) ++ end_line ∷ []
+
+certificate_lines-plain : (c : Certificate) → IsCertificate c → HasSmall c → All (IsPlainText LINE_LIMIT) (certificate_lines c)
+certificate_lines-plain c is small =
+    let P = IsPlainText LINE_LIMIT in
+    let rank = c.matrix.rank in
+    let rows = map (row_line rank) c.rows in
+    let count = count_line (length c.rows) in
+    let top = top_line rank c.top in
+    All-append P (matrix_line c.matrix ∷ top ∷ count ∷ rows) (end_line ∷ [])
+    (All-cons P (matrix_line c.matrix) (top ∷ count ∷ rows) (matrix_line-plain c.matrix is.matrix is.rank)
+    (All-cons P top (count ∷ rows) (top_line-plain rank c.top is.rank is.top)
+    (All-cons P count rows (count_line-plain (length c.rows) is.few) (rows-plain rank c.rows is.rank is.rows small))))
+    (All-cons P end_line [] end_line-plain (All-nil P))
+
+-- a certificate is read as it is written
+certificate_text-contents : (c : Certificate) → IsCertificate c → HasSmall c
+    → contents (certificate_text c ++ line_feed ∷ []) ≡ certificate_lines c
+certificate_text-contents c is small =
+    let lines = certificate_lines c in
+    let plain = All-weaker (IsPlainText LINE_LIMIT) (λ line. AreNot is_foreign line) (λ line l. l.plain) lines
+    (certificate_lines-plain c is small) in
+    let unbroken = All-weaker (λ line. AreNot is_foreign line) IsUnbroken plain-unbroken lines plain in
+    ap contents (joined-ended (matrix_line c.matrix) (later_lines c)) ∙ ap (map content_of) (ended-lines lines unbroken)
+    ∙ lines-content lines plain
+
+pub certificate_text-gives : (c : Certificate) → IsCertificate c → HasSmall c → Gives (contents (certificate_text c ++ line_feed ∷ [])) c
+certificate_text-gives c is small =
+    let text = certificate_text c ++ line_feed ∷ [] in
+    let written = certificate_text-contents c is small in
+    let short = All-weaker (IsPlainText LINE_LIMIT) (λ line. length line ≤ LINE_LIMIT) (λ line l. l.size) (certificate_lines c)
+    (certificate_lines-plain c is small) in
+    record {
+      is = is;
+      written = written;
+      short = All-same (λ line. length line ≤ LINE_LIMIT) (contents text) (certificate_lines c) written short;
+    }

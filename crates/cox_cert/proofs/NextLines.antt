@@ -1,0 +1,194 @@
+-- A certificate, as far as its lines are read, with one more line.
+use Rattle.std.proofs.Common.{◌≡◌, ◌≢◌, ℕ, ◌+◌, ◌<◌, ◌≤◌, true, false, List, [], ◌∷◌, ◌++◌, length, map, All, ℤ, Some, refl, sym, ap, ◌∙◌}
+use Rattle.std.proofs.Common.{subst, arith, ◌⊎◌, ⊎_elim}
+use Rattle.std.proofs.lemmas.List.{length-map, map_push, length_push}
+use Rattle.std.proofs.lemmas.List.Elements.{All-nil, All-cons, All-head, All-tail, All-push}
+use Rattle.arrayvec.specs.ArrayVec.{ArrayVec}
+use Rattle.cox_base.specs.Matrix.{CoxeterMatrix}
+use Rattle.cox_base.specs.declared.limits.TheConstants.{MAX_RANK}
+use Rattle.cox_rowcheck.specs.SmallPolynomials.{IsSmall}
+use Rattle.cox_rowcheck.specs.declared.limits.TheConstants.{MAX_LISTED}
+use Rattle.cox_cert.specs.declared.draft.Draft.{Draft}
+use Rattle.cox_cert.specs.declared.draft.Form.{Form}
+use Rattle.cox_cert.specs.declared.draft.Form.TheVariants as form
+use Rattle.cox_cert.specs.Certificate.{Certificate, IsShortWord, IsLine, IsCertificate, Gives, words_of, polynomials_of}
+use Rattle.cox_cert.specs.Certificate.{matrix_line, top_line, count_line, row_line, end_line, certificate_lines}
+use Rattle.cox_cert.specs.Causes.{HasSmall}
+use Rattle.cox_cert.specs.Drafts.{letters_of, IsDraftOf, IsGroup, HasHead, HasRows, HasAll, IsForm, BeginsNone}
+use Rattle.cox_cert.proofs.FirstLines.{none-top, none-count, none-row, none-end, none-behind, unfinished-rows}
+
+-- ---- all but the last hold
+
+All-init : {X : Type 0} (P : X → Type 0) (xs : List X) (x : X) → All P (xs ++ x ∷ []) → All P xs
+All-init P [] x all = All-nil P
+All-init P (y ∷ xs) x all =
+    All-cons P y xs (All-head P y (xs ++ x ∷ []) all) (All-init P xs x (All-tail P y (xs ++ x ∷ []) all))
+
+All-last : {X : Type 0} (P : X → Type 0) (xs : List X) (x : X) → All P (xs ++ x ∷ []) → P x
+All-last P [] x all = All-head P x [] all
+All-last P (y ∷ xs) x all = All-last P xs x (All-tail P y (xs ++ x ∷ []) all)
+
+-- ---- the head
+
+-- an element behind the matrix
+pub head-top : (g : CoxeterMatrix) (top : List ℕ) (line : List ℕ) (lines : List (List ℕ)) → IsGroup g × (lines ≡ matrix_line g ∷ [])
+    → IsShortWord g.rank top → line ≡ top_line g.rank top → HasHead g top (lines ++ line ∷ [])
+head-top g top line lines h word is = record {
+  group = h.0;
+  word = word;
+  written = ap (λ l. l ++ line ∷ []) h.1 ∙ ap (λ t. matrix_line g ∷ t ∷ []) is;
+}
+
+pub head-none : (g : CoxeterMatrix) (line : List ℕ) (lines : List (List ℕ)) → IsGroup g × (lines ≡ matrix_line g ∷ [])
+    → ((w : List ℕ) → IsShortWord g.rank w → line ≢ top_line g.rank w) → BeginsNone (lines ++ line ∷ [])
+head-none g line lines h none = subst (λ l. BeginsNone (l ++ line ∷ [])) (sym h.1) (none-top g line h.0 none)
+
+-- the number of rows behind them
+pub count-first : (draft : Draft) (line : List ℕ) (lines : List (List ℕ)) → HasHead draft.group draft.top.items lines
+    → draft.words.items ≡ [] → draft.large ≡ false → draft.polynomials.items ≡ [] → 1 ≤ draft.count → draft.count ≤ MAX_LISTED
+    → line ≡ count_line draft.count → HasRows draft (lines ++ line ∷ [])
+count-first draft line lines h words large polynomials some few is = record {
+  certificate = record { matrix = draft.group; top = draft.top.items; rows = [] };
+  parts = record {
+    matrix = refl;
+    top = refl;
+    words = sym (ap letters_of words);
+    large = λ e. absurd (cc (e, large));
+    small = λ _. All-nil IsSmall;
+    polynomials = λ _. sym polynomials;
+  };
+  group = h.group;
+  word = h.word;
+  rows = All-nil (IsLine draft.group.rank);
+  some = some;
+  few = few;
+  within = omega arith;
+  written = ap (λ l. l ++ line ∷ []) h.written
+      ∙ ap (λ t. matrix_line draft.group ∷ top_line draft.group.rank draft.top.items ∷ t ∷ []) is;
+}
+
+pub count-none : (g : CoxeterMatrix) (top line : List ℕ) (lines : List (List ℕ)) → HasHead g top lines
+    → ((n : ℕ) → 1 ≤ n → n ≤ MAX_LISTED → line ≢ count_line n) → BeginsNone (lines ++ line ∷ [])
+count-none g top line lines h none =
+    subst (λ l. BeginsNone (l ++ line ∷ [])) (sym h.written) (none-count (matrix_line g) (top_line g.rank top) line none)
+
+-- ---- the rows
+
+-- the rows so far are as many as the words
+pub rows-size : (draft : Draft) (c : Certificate) → IsDraftOf draft c → length c.rows ≡ length draft.words.items
+rows-size draft c parts =
+    let e : length (words_of c.rows) ≡ length (letters_of draft.words.items) = ap length parts.words in
+    sym (length-map c.rows (λ (row : List ℕ × List ℤ). row.0)) ∙ e
+    ∙ length-map draft.words.items (λ (word : ArrayVec ℕ). word.items)
+
+-- the lines before the rows
+abbrev head : Certificate → ℕ → List (List ℕ)
+head c n = matrix_line c.matrix ∷ top_line c.matrix.rank c.top ∷ count_line n ∷ []
+
+-- one more row, whose parts were taken so
+pub rows-more : (draft next : Draft) (word : ArrayVec ℕ) (p : List ℤ) (line : List ℕ) (lines : List (List ℕ)) → HasRows draft lines
+    → length draft.words.items < draft.count → next.group ≡ draft.group → next.top ≡ draft.top → next.count ≡ draft.count
+    → next.words.items ≡ draft.words.items ++ word ∷ [] → IsLine draft.group.rank (word.items, p)
+    → line ≡ row_line draft.group.rank (word.items, p)
+    → (next.large ≡ true → (draft.large ≡ true) ⊎ ¬ IsSmall p)
+    → (next.large ≡ false → (draft.large ≡ false) × IsSmall p × (next.polynomials.items ≡ draft.polynomials.items ++ p ∷ []))
+    → HasRows next (lines ++ line ∷ [])
+rows-more draft next word p line lines h room group top count words is written large small =
+    let c = h.certificate in
+    let row : List ℕ × List ℤ = (word.items, p) in
+    let first : words_of (c.rows ++ row ∷ []) ≡ words_of c.rows ++ word.items ∷ [] =
+    map_push (λ (row : List ℕ × List ℤ). row.0) c.rows row in
+    let second : polynomials_of (c.rows ++ row ∷ []) ≡ polynomials_of c.rows ++ p ∷ [] =
+    map_push (λ (row : List ℕ × List ℤ). row.1) c.rows row in
+    record {
+      certificate = record { matrix = c.matrix; top = c.top; rows = c.rows ++ row ∷ [] };
+      parts = record {
+        matrix = h.parts.matrix ∙ sym group;
+        top = h.parts.top ∙ ap (λ (w : ArrayVec ℕ). w.items) (sym top);
+        words = first ∙ ap (λ l. l ++ word.items ∷ []) h.parts.words
+            ∙ sym (ap letters_of words ∙ map_push (λ (w : ArrayVec ℕ). w.items) draft.words.items word);
+        large = λ e all. ⊎_elim
+            (λ (before : draft.large ≡ true).
+            h.parts.large before (All-init IsSmall (polynomials_of c.rows) p (subst (λ l. All IsSmall l) second all)))
+            (λ (here : ¬ IsSmall p). here (All-last IsSmall (polynomials_of c.rows) p (subst (λ l. All IsSmall l) second all))) (large e);
+        small = λ e. subst (λ l. All IsSmall l) (sym second)
+            (All-push IsSmall (polynomials_of c.rows) p (h.parts.small (small e).0) (small e).1);
+        polynomials = λ e. second ∙ ap (λ l. l ++ p ∷ []) (h.parts.polynomials (small e).0) ∙ sym (small e).2;
+      };
+      group = h.group;
+      word = h.word;
+      rows = All-push (IsLine c.matrix.rank) c.rows row h.rows
+          (subst (λ (g : CoxeterMatrix). IsLine g.rank row) (sym h.parts.matrix) is);
+      some = subst (λ (n : ℕ). 1 ≤ n) (sym count) h.some;
+      few = subst (λ (n : ℕ). n ≤ MAX_LISTED) (sym count) h.few;
+      within = omega (arith, count, rows-size draft c h.parts, length_push c.rows row);
+      written = ap (λ l. l ++ line ∷ []) h.written
+          ∙ ap (λ l. (head c draft.count ++ map (row_line c.matrix.rank) c.rows) ++ l ∷ [])
+          (written ∙ ap (λ (g : CoxeterMatrix). row_line g.rank row) (sym h.parts.matrix))
+          ∙ ap (λ l. head c draft.count ++ l) (sym (map_push (row_line c.matrix.rank) c.rows row))
+          ∙ ap (λ n. head c n ++ map (row_line c.matrix.rank) (c.rows ++ row ∷ [])) (sym count);
+    }
+
+pub rows-none : (draft : Draft) (line : List ℕ) (lines : List (List ℕ)) → HasRows draft lines → length draft.words.items < draft.count
+    → ((row : List ℕ × List ℤ) → IsLine draft.group.rank row → line ≢ row_line draft.group.rank row) → BeginsNone (lines ++ line ∷ [])
+rows-none draft line lines h room none =
+    let c = h.certificate in
+    subst (λ l. BeginsNone (l ++ line ∷ [])) (sym h.written)
+    (none-row c.matrix (top_line c.matrix.rank c.top) draft.count (map (row_line c.matrix.rank) c.rows) line h.group h.few
+    (omega (arith, rows-size draft c h.parts, length-map c.rows (row_line c.matrix.rank)))
+    (λ row. subst (λ (g : CoxeterMatrix). IsLine g.rank row → line ≢ row_line g.rank row) (sym h.parts.matrix) (none row)))
+
+-- ---- the end
+
+pub end-all : (draft : Draft) (line : List ℕ) (lines : List (List ℕ)) → HasRows draft lines → draft.count ≤ length draft.words.items
+    → line ≡ end_line → HasAll draft (lines ++ line ∷ [])
+end-all draft line lines h full is =
+    let c = h.certificate in
+    let size : length c.rows ≡ draft.count = omega (arith, rows-size draft c h.parts, h.within) in
+    record {
+      certificate = c;
+      parts = h.parts;
+      is = record {
+        matrix = h.group.matrix;
+        rank = h.group.rank;
+        top = h.word;
+        rows = h.rows;
+        some = omega (arith, h.some, size);
+        few = omega (arith, h.few, size);
+      };
+      written = ap (λ l. l ++ line ∷ []) h.written
+          ∙ ap (λ l. (matrix_line c.matrix ∷ top_line c.matrix.rank c.top ∷ count_line draft.count
+          ∷ map (row_line c.matrix.rank) c.rows) ++ l ∷ []) is
+          ∙ ap (λ n. (matrix_line c.matrix ∷ top_line c.matrix.rank c.top ∷ count_line n
+          ∷ map (row_line c.matrix.rank) c.rows) ++ end_line ∷ []) (sym size);
+    }
+
+pub end-none : (draft : Draft) (line : List ℕ) (lines : List (List ℕ)) → HasRows draft lines → draft.count ≤ length draft.words.items
+    → line ≢ end_line → BeginsNone (lines ++ line ∷ [])
+end-none draft line lines h full none =
+    let c = h.certificate in
+    subst (λ l. BeginsNone (l ++ line ∷ [])) (sym h.written)
+    (none-end (matrix_line c.matrix) (top_line c.matrix.rank c.top) draft.count (map (row_line c.matrix.rank) c.rows) line h.few
+    (omega (arith, rows-size draft c h.parts, h.within, length-map c.rows (row_line c.matrix.rank))) none)
+
+pub behind-none : (draft : Draft) (line : List ℕ) (lines : List (List ℕ)) → HasAll draft lines → BeginsNone (lines ++ line ∷ [])
+behind-none draft line lines h = subst (λ l. BeginsNone (l ++ line ∷ [])) (sym h.written) (none-behind h.certificate line h.is)
+
+-- ---- too few lines
+
+pub few-start : (lines : List (List ℕ)) → lines ≡ [] → (c : Certificate) → ¬ Gives lines c
+few-start lines e c gives = cc (e, gives.written)
+
+pub few-matrix : (g : CoxeterMatrix) (lines : List (List ℕ)) → IsGroup g × (lines ≡ matrix_line g ∷ []) → (c : Certificate)
+    → ¬ Gives lines c
+few-matrix g lines h c gives = cc (h.1, gives.written)
+
+pub few-head : (g : CoxeterMatrix) (top : List ℕ) (lines : List (List ℕ)) → HasHead g top lines → (c : Certificate) → ¬ Gives lines c
+few-head g top lines h c gives = cc (h.written, gives.written)
+
+pub few-rows : (draft : Draft) (lines : List (List ℕ)) → HasRows draft lines → (c : Certificate) → ¬ Gives lines c
+few-rows draft lines h c =
+    let d = h.certificate in
+    subst (λ l. ¬ Gives l c) (sym h.written)
+    (unfinished-rows (matrix_line d.matrix) (top_line d.matrix.rank d.top) draft.count (map (row_line d.matrix.rank) d.rows) c h.few
+    (omega (arith, h.within, length-map d.rows (row_line d.matrix.rank))))

@@ -1,0 +1,102 @@
+-- The line of a row: its word, a colon and its polynomial.
+use Rattle.std.proofs.Common.{◌≡◌, ℕ, ◌≤◌, List, ◌∷◌, ◌++◌, codes, take, drop, refl, sym, ap, ◌∙◌, arith, append_assoc}
+use Rattle.std.proofs.Common.{◌≢◌, ℤ, subst, Result, Ok, Err, IfOk}
+use Rattle.std.specs.List.{position_or_len}
+use Rattle.std.proofs.lemmas.Bool.{eqb-true}
+use Rattle.std.proofs.lemmas.Bool.Decides.{nat_tests}
+use Rattle.cox_base.specs.declared.limits.TheConstants.{MAX_RANK}
+use Rattle.cox_base.specs.WordText.{word_text}
+use Rattle.cox_poly.specs.PolynomialText.{polynomial_text}
+use Rattle.cox_poly.specs.PolynomialReading.{IsTextOf}
+use Rattle.arrayvec.specs.ArrayVec.{ArrayVec}
+use Rattle.cox_poly.proofs.Polynomials.{same_polynomial}
+use Rattle.cox_poly.proofs.JoinedTerms.{polynomial_text-one}
+use Rattle.cox_poly.proofs.Splits.{AreNot, Begins, AreSame, split-one, behind-begins}
+use Rattle.cox_cert.specs.Certificate.{IsShortWord, IsLine, row_line}
+use Rattle.cox_cert.specs.declared.reading.RowLine.{RowLine}
+use Rattle.cox_cert.specs.declared.reading.RowLine.TheVariants.{Small, Large, Foreign}
+use Rattle.cox_cert.specs.LineReading.{ReadsPolynomial, ReadsRow}
+use Rattle.cox_cert.proofs.Cuts.{is_byte, cut-one, cut-whole}
+use Rattle.cox_cert.proofs.WordLines.{word_text-bytes, word_text-one}
+
+-- a word has no colon
+word_text-no_colon : (rank : ℕ) (word : List ℕ) → rank ≤ MAX_RANK → IsShortWord rank word → AreNot (is_byte 58) (word_text rank word)
+word_text-no_colon rank word limit is =
+    word_text-bytes (is_byte 58) rank word limit is.letters (λ d low. grind (arith, nat_tests)) refl refl
+
+-- the line in two parts
+pub row_line-split : (rank : ℕ) (row : List ℕ × List ℤ) → row_line rank row ≡ word_text rank row.0 ++ 58 ∷ polynomial_text row.1
+row_line-split rank row = append_assoc (word_text rank row.0) (codes ":") (polynomial_text row.1)
+
+-- a line is that of one row
+pub row_line-one : (rank : ℕ) (x y : List ℕ × List ℤ) → rank ≤ MAX_RANK → IsLine rank x → IsLine rank y
+    → row_line rank x ≡ row_line rank y → x ≡ y
+row_line-one rank x y limit x_is y_is same =
+    let parts = split-one (is_byte 58) (word_text rank x.0) (word_text rank y.0) (58 ∷ polynomial_text x.1) (58 ∷ polynomial_text y.1)
+    (word_text-no_colon rank x.0 limit x_is.word) (word_text-no_colon rank y.0 limit y_is.word) refl refl
+    (sym (row_line-split rank x) ∙ same ∙ row_line-split rank y) in
+    let word = word_text-one rank x.0 y.0 limit x_is.word y_is.word parts.front in
+    let texts : polynomial_text x.1 ≡ polynomial_text y.1 = ap (drop 1) parts.back in
+    let polynomial = same_polynomial x.1 y.1 x_is.polynomial y_is.polynomial (polynomial_text-one x.1 y.1 texts) in
+    ap (λ (w : List ℕ). pair w x.1) word ∙ ap (λ (p : List ℤ). pair y.0 p) polynomial
+  where
+    pair : List ℕ → List ℤ → List ℕ × List ℤ
+    pair w p = (w, p)
+
+-- for code: the parts of the line of a row
+pub row_line-parts : (line front back : List ℕ) (rank : ℕ) (row : List ℕ × List ℤ)
+    → front ≡ take (position_or_len (is_byte 58) line) line → back ≡ drop (position_or_len (is_byte 58) line) line → rank ≤ MAX_RANK
+    → IsLine rank row → line ≡ row_line rank row → AreSame (word_text rank row.0) front (58 ∷ polynomial_text row.1) back
+row_line-parts line front back rank row front_is back_is limit is same =
+    cut-one 58 line front back (word_text rank row.0) (58 ∷ polynomial_text row.1) front_is back_is (same ∙ row_line-split rank row)
+    (word_text-no_colon rank row.0 limit is.word) refl
+
+-- for code: a line is cut before its colon, and its word is read
+pub record HasWord (line text : List ℕ) (rank : ℕ) (word : ArrayVec ℕ) : Type 0 where
+  pub limit : rank ≤ MAX_RANK
+  pub is : IsShortWord rank word.items
+  pub written : line ≡ word_text rank word.items ++ 58 ∷ text
+
+pub HasWord-cut : (line front back text : List ℕ) (byte rank : ℕ) (word : ArrayVec ℕ)
+    → front ≡ take (position_or_len (is_byte 58) line) line → back ≡ drop (position_or_len (is_byte 58) line) line → back ≡ byte ∷ text
+    → rank ≤ MAX_RANK → IsShortWord rank word.items → word_text rank word.items ≡ front → HasWord line text rank word
+HasWord-cut line front back text byte rank word front_is back_is split limit is written =
+    let begins = subst (Begins (is_byte 58)) (sym back_is ∙ split) (behind-begins (is_byte 58) line) in
+    let colon : byte ≡ 58 = eqb-true byte 58 begins in
+    record {
+      limit = limit;
+      is = is;
+      written = cut-whole 58 line front back front_is back_is ∙ ap (λ l. l ++ back) (sym written)
+          ∙ ap (λ l. word_text rank word.items ++ l) (split ∙ ap (λ b. b ∷ text) colon);
+    }
+
+-- what the text of its polynomial gives, the line gives
+row-written : (line text : List ℕ) (rank : ℕ) (word : ArrayVec ℕ) (p : List ℤ) → HasWord line text rank word → IsTextOf p text
+    → IsLine rank (word.items, p) × (line ≡ row_line rank (word.items, p))
+row-written line text rank word p has is = (
+  record { word = has.is; polynomial = is.normal },
+  has.written ∙ ap (λ l. word_text rank word.items ++ 58 ∷ l) (sym is.written) ∙ sym (row_line-split rank (word.items, p)),
+)
+
+row-foreign : (line text : List ℕ) (rank : ℕ) (word : ArrayVec ℕ) → HasWord line text rank word → ((p : List ℤ) → ¬ IsTextOf p text)
+    → (row : List ℕ × List ℤ) → IsLine rank row → line ≢ row_line rank row
+row-foreign line text rank word has none row is same =
+    let parts = split-one (is_byte 58) (word_text rank word.items) (word_text rank row.0) (58 ∷ text) (58 ∷ polynomial_text row.1)
+    (word_text-no_colon rank word.items has.limit has.is) (word_text-no_colon rank row.0 has.limit is.word) refl refl
+    (sym has.written ∙ same ∙ row_line-split rank row) in
+    none row.1 (record { normal = is.polynomial; written = sym (ap (drop 1) parts.back) })
+
+row-read : (line text : List ℕ) (rank : ℕ) (word : ArrayVec ℕ) (row : RowLine) → HasWord line text rank word
+    → ReadsPolynomial row word text → ReadsRow row line rank
+row-read line text rank word (Small read p) has reads =
+    let row = row-written line text rank word p has reads.1 in
+    rw reads.0 (row.0, reads.2, row.1)
+row-read line text rank word (Large read) has reads =
+    let row = row-written line text rank word reads.1.0 has reads.1.1 in
+    rw reads.0 (has.is, (reads.1.0, row.0, reads.1.2, row.1))
+row-read line text rank word Foreign has reads = row-foreign line text rank word has reads
+
+pub rows-read : {E : Type 0} (line text : List ℕ) (rank : ℕ) (word : ArrayVec ℕ) (read : Result RowLine E) → HasWord line text rank word
+    → IfOk read (λ row. ReadsPolynomial row word text) → IfOk read (λ row. ReadsRow row line rank)
+rows-read line text rank word (Ok row) has reads = row-read line text rank word row has reads
+rows-read line text rank word (Err e) has reads = reads

@@ -1,0 +1,73 @@
+//! The whole check.
+ghost use Rattle.std.specs.Prelude.{◌≡◌, ◌<◌, length};
+ghost use Rattle.cox_outside.specs.Supply.{SourceCause};
+ghost use Rattle.cox_cert.specs.Checks.{IsCheck, IsDue, ReadsWithin, is_read_fault, words_behind};
+ghost use Rattle.cox_cert.specs.Verdicts.{IsVerdict, IsTold, Tells};
+
+use crate::collecting::collect;
+use crate::judging::judge;
+use crate::status::CheckStatus;
+use cox_outside::{LineReader, Sink, Source, write_all};
+use std::alloc::Global;
+
+/// Checks the certificate that the source gives, and writes the verdict. `words` are the arguments, and begin with the program's name;
+/// there may be no others.
+///
+/// The source is read to its end, or up to the first line that no certificate has there. Of the text
+/// `cert 1|element 1|rows 2|e:1|1:1|end`, with line ends for the bars, it writes `yes`.
+pub fn check<S: Source, K: Sink>(
+    alloc: Global,
+    words: &[&str],
+    source: &mut S,
+    sink: &mut K,
+) -> CheckStatus
+    ensures check { IsCheck result (words_behind words.now) (S.seen source.old) (S.seen source.new) (K.seen sink.old) (K.seen sink.new) }
+    ensures unread { 1 < length words.now → source.new ≡ source.old }
+{
+    let due = due(alloc, words, source);
+    tell(sink, due)
+}
+
+/// The status that is due, before anything is written.
+fn due<S: Source>(alloc: Global, words: &[&str], source: &mut S) -> CheckStatus
+    ensures due { IsDue result (words_behind words.now) (S.seen source.old).left (S.seen source.new).left }
+    ensures told { IsTold result }
+    ensures within { ReadsWithin (S.seen source.old).left (S.seen source.new).left }
+    ensures cause { SourceCause (S.seen source.old) (S.seen source.new) (is_read_fault result) }
+    ensures unread { 1 < length words.now → source.new ≡ source.old }
+{
+    if words.len() > 1 {
+        return CheckStatus::Usage;
+    }
+    verdict(alloc, source)
+}
+
+/// How the check of the text ends, before anything is written.
+fn verdict<S: Source>(alloc: Global, source: &mut S) -> CheckStatus
+    ensures is { IsVerdict result (S.seen source.old).left (S.seen source.new).left }
+    ensures within { ReadsWithin (S.seen source.old).left (S.seen source.new).left }
+    ensures cause { SourceCause (S.seen source.old) (S.seen source.new) (is_read_fault result) }
+{
+    let Ok(mut reader) = LineReader::new(alloc) else {
+        return CheckStatus::NoMemory;
+    };
+    match collect(alloc, &mut reader, source) {
+        Ok(draft) => judge(alloc, &draft),
+        Err(halt) => halt.status(),
+    }
+}
+
+/// Writes the text of the status that is due, and answers it, or that a write failed.
+fn tell<K: Sink>(sink: &mut K, due: CheckStatus) -> CheckStatus
+    requires { IsTold due }
+    ensures { Tells result due (K.seen sink.old) (K.seen sink.new) }
+{
+    let text = due.text();
+    if text.is_empty() {
+        return due;
+    }
+    match write_all(sink, text) {
+        Ok(()) => due,
+        Err(_) => CheckStatus::WriteFault,
+    }
+}

@@ -1,0 +1,28 @@
+//! Certificates of rows: a group, an element w of it, the elements x <= w, and P(x,w) for each of them, as lines of text.
+//!
+//! - `printing`: what stands before the list of the rows, and behind it
+//! - `status`: how a check ends
+//! - `reading`: the lines of a certificate, read: the element, the number of rows, the rows, the end
+//! - `matrix_reading`: its first line, read
+//! - `parts`: what stands in a line: a fixed text, a byte, a number, a word
+//! - `draft`: a certificate, as far as its lines are read
+//! - `collecting`: the certificate that the lines of a source give
+//! - `judging`: whether it states the row of its element
+//! - `checking`: the whole check, from the source to the sink
+//! - `laws`: what holds of certificates, of the verdicts on them, and of whole checks
+#![tactic(auto)]
+
+mod checking;
+mod collecting;
+mod draft;
+mod judging;
+pub mod laws;
+mod matrix_reading;
+mod parts;
+mod printing;
+mod reading;
+mod status;
+
+pub use checking::check;
+pub use printing::{put_foot, put_head};
+pub use status::{Cause, CheckStatus};

@@ -1,0 +1,18 @@
+-- The proof of `run_arguments`: words follow the name where there are two arguments.
+use Rattle.std.proofs.Common.{drop, map, refl, arith}
+use Rattle.std.specs.String.{string_bytes}
+use Rattle.cox_cert.proofs.WholeChecks.{check-words, behind-none, behind-some}
+use Rattle.coxcheck.proofs.run_arguments.Goals as goal
+
+pub returns-then-arguments-gt1-clause-check : goal.returns-then-arguments-gt1-clause-check
+returns-then-arguments-gt1-clause-check g c =
+    c.refuse.ensures.check (drop 1 (map string_bytes c.args.arguments.now))
+    (behind-some string_bytes c.args.arguments.now c.if-arguments-gt1.true)
+
+pub returns-clause-check : goal.returns-clause-check
+returns-clause-check g c =
+    check-words c.check.result _ (drop 1 (map string_bytes c.args.arguments.now)) _ _ _ _ (λ none. absurd (none refl))
+    (λ some. absurd (some (behind-none string_bytes c.args.arguments.now c.if-arguments-gt1.false))) c.check.ensures.check
+
+pub returns-clause-unread : goal.returns-clause-unread
+returns-clause-unread g c = λ some. absurd (some (behind-none string_bytes c.args.arguments.now c.if-arguments-gt1.false))

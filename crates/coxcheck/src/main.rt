@@ -1,0 +1,86 @@
+//! The program `coxcheck`: it checks the certificate on standard input, and writes the verdict on standard output.
+//!
+//! It ends with the number of a `cox_cert::CheckStatus`. What it writes is proved in `cox_cert`. Here the arguments are collected, which
+//! may run out of memory, and the check is handed a source and a sink. Of words behind the program's name it matters only that there are
+//! some, so where one is no text another stands for it. Each function but `main` is generic over the source and the sink, and its contract
+//! is that of one whole check, `IsCheck` of `cox_cert`, so nothing is read or written before it, behind it or beside it; `main` makes the
+//! standard streams, and gives the status out.
+//!
+//! - `tests`: whole checks over sources and sinks in memory
+#![tactic(auto)]
+
+#[cfg(test)]
+mod tests;
+
+ghost use Rattle.std.specs.Prelude.{◌≡◌, ◌≢◌, ℕ, List, [], map, drop};
+ghost use Rattle.std.specs.Process.{exit_status};
+ghost use Rattle.std.specs.String.{string_bytes};
+ghost use Rattle.cox_cert.specs.Checks.{IsCheck, code_of};
+
+use cox_cert::{CheckStatus, check};
+use cox_outside::{Sink, Source, StdSink, StdSource, arguments_of};
+use std::alloc::Global;
+use std::io;
+use std::process::ExitCode;
+use std::rt::Env;
+
+/// What the program is called, as its first argument.
+const NAME: &str = "coxcheck";
+
+/// A check where words follow the name, which is refused.
+fn refuse<S: Source, K: Sink>(alloc: Global, source: &mut S, sink: &mut K) -> CheckStatus
+    ensures check { (words : List (List ℕ)) → words ≢ []
+        → IsCheck result words (S.seen source.old) (S.seen source.new) (K.seen sink.old) (K.seen sink.new) }
+    ensures unread { source.new ≡ source.old }
+{
+    check(alloc, &[NAME, ""], source, sink)
+}
+
+/// Checks with these arguments.
+fn run_arguments<S: Source, K: Sink>(
+    alloc: Global,
+    arguments: &[String],
+    source: &mut S,
+    sink: &mut K,
+) -> CheckStatus
+    ensures check { IsCheck result (drop 1 (map string_bytes arguments.now))
+        (S.seen source.old) (S.seen source.new) (K.seen sink.old) (K.seen sink.new) }
+    ensures unread { drop 1 (map string_bytes arguments.now) ≢ [] → source.new ≡ source.old }
+{
+    if arguments.len() > 1 {
+        return refuse(alloc, source, sink);
+    }
+    check(alloc, &[NAME], source, sink)
+}
+
+/// Checks with the arguments of this environment. What an environment has for arguments no contract tells, so it is a check with some
+/// words behind the name.
+fn start<E: Env, S: Source, K: Sink>(
+    env: &E,
+    alloc: Global,
+    source: &mut S,
+    sink: &mut K,
+) -> CheckStatus
+    ensures { (words : List (List ℕ))
+        × IsCheck result words (S.seen source.old) (S.seen source.new) (K.seen sink.old) (K.seen sink.new)
+        × (words ≢ [] → source.new ≡ source.old) }
+{
+    match arguments_of(env, alloc, NAME) {
+        Ok(Some(arguments)) => run_arguments(alloc, &arguments, source, sink),
+        Ok(None) => refuse(alloc, source, sink),
+        Err(_) => CheckStatus::NoMemory,
+    }
+}
+
+/// What the program ends with.
+fn exit_code(status: CheckStatus) -> ExitCode
+    ensures { exit_status result ≡ code_of status }
+{
+    ExitCode::from(status.code())
+}
+
+fn main(rt: HostRuntime) -> ExitCode {
+    let mut source = StdSource::new(rt.reader());
+    let mut sink = StdSink::new(io::writer(&rt));
+    exit_code(start(&rt, rt.alloc(), &mut source, &mut sink))
+}

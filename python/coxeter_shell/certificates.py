@@ -1,0 +1,98 @@
+"""Certificates of rows, and the program `coxcheck` that judges them."""
+import collections
+import math
+import subprocess
+
+from . import parents, texts
+from .errors import CheckFailed, ProgramNotFound, UnexpectedAnswer
+from .program import check_interpreter, find_program
+from .tables import ElementDict
+
+# The causes of the checker, in the words of its manual.
+CAUSES = {
+    1: "it is no certificate, by its grammar",
+    2: "its element is no normal form, or has more than 39 letters",
+    3: "its words are not the elements below its element, in ShortLex order",
+    4: "it has a coefficient beyond 2,147,483,647, or a degree above 39",
+    5: "its polynomials are not the row of its element",
+}
+PROVED = "its polynomials are the row of its element"
+
+
+class Verdict(collections.namedtuple("Verdict", "ok cause meaning")):
+    """What the checker says of a text. It is true where `ok` is.
+
+    `ok` is whether the text is the certificate of a row. Where it is not, `cause` is the number of the first cause, else None. `meaning`
+    says it in words.
+
+    >>> check("cert 1").cause, bool(check("cert 1")), check("cert 1").meaning
+    (1, False, 'it is no certificate, by its grammar')
+    """
+
+    __slots__ = ()
+
+    def __bool__(self):
+        return self.ok
+
+
+def check(text, program=None):
+    """What the program `coxcheck` says of a certificate, which is given as a text or as bytes: a Verdict.
+
+    The checker is proved, and shares no algorithm with the program that made the certificate. `program` is its path; else it is found as
+    `find_program` says. A CheckFailed is raised where it ends without a verdict, as it does for want of memory and for more than 16 MiB.
+
+    >>> certificate = CoxeterGroup("A", 2).certificate("12")
+    >>> check(certificate)
+    Verdict(ok=True, cause=None, meaning='its polynomials are the row of its element')
+    >>> check(certificate.replace("e:1", "e:1+q"))
+    Verdict(ok=False, cause=5, meaning='its polynomials are not the row of its element')
+    """
+    data = bytes(text) if isinstance(text, (bytes, bytearray, memoryview)) else text.encode("utf-8", "surrogatepass")
+    path = find_program(program, "coxcheck")
+    check_interpreter(path)
+    try:
+        process = parents.start([path], stdin=subprocess.PIPE, stdout=subprocess.PIPE)
+    except OSError as error:
+        raise ProgramNotFound(f"the program {path!r} can't be run: {error}") from error
+    with process:
+        try:
+            said = process.communicate(data)[0].decode("latin-1")
+        except BaseException:
+            process.kill()
+            raise
+    return verdict(process.returncode, said)
+
+
+def verdict(status, said):
+    """What an exit status and a text of the checker mean."""
+    if status not in (0, 1):
+        raise CheckFailed(status)
+    if (status, said) == (0, "yes\n"):
+        return Verdict(True, None, PROVED)
+    for cause, meaning in CAUSES.items():
+        if (status, said) == (1, f"no {cause}\n"):
+            return Verdict(False, cause, meaning)
+    raise UnexpectedAnswer("a certificate", said, f"it should be `yes`, or `no` and a cause; the exit status is {status}")
+
+
+def read_lines(spelling, matrix, lines):
+    """The element, and the pairs of an element and a polynomial, of the lines of a certificate over the group with this Coxeter matrix.
+    Lines of another shape are a ValueError."""
+    labels = [0 if label == math.inf else label for s, row in enumerate(matrix) for label in row[s + 1 :]]
+    if lines[:1] != [" ".join(map(str, ["cert", len(matrix), *labels]))]:
+        raise ValueError("its first line should be `cert` and the group")
+    if len(lines) < 5 or not lines[1].startswith("element ") or lines[2] != f"rows {len(lines) - 4}" or lines[-1] != "end":
+        raise ValueError("it should have the lines `element`, `rows` and so many rows, and `end`")
+    element, pairs = spelling.element(lines[1][len("element ") :]), [texts.pair(spelling, line) for line in lines[3:-1]]
+    texts.check_rising([x for x, _ in pairs])
+    if pairs[-1][0] != element:
+        raise ValueError("its last row should be that of its element")
+    return element, pairs
+
+
+def row(group, w, lines):
+    """The row of the element w, by the lines of its certificate. Those of another one are a ValueError."""
+    element, pairs = read_lines(group._spelling, group._matrix, lines)
+    if element != w:
+        raise ValueError("it is the certificate of another element")
+    return ElementDict(group, pairs, "polynomial")
