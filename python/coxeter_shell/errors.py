@@ -17,6 +17,7 @@ MEANINGS = {
     "or than 4,096 in a certificate",
     32: "a coefficient of a Kazhdan-Lusztig polynomial is beyond the option `coef`, or a value of mu is too large",
     34: "R-polynomials are refused for elements whose lengths differ by more than 39, and certificates of longer elements",
+    35: "a list of jobs has more than 16 blocks, or more than 1,000 lines",
 }
 
 STATUSES = {

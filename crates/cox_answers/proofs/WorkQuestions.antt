@@ -12,7 +12,7 @@ use Rattle.cox_command.specs.declared.refusal.Refusal.{Refusal}
 use Rattle.cox_command.specs.declared.refusal.Refusal.TheVariants.{UnknownCommand, WrongCount, WrongNumber, UnknownType, WrongLabel}
 use Rattle.cox_command.specs.declared.refusal.Refusal.TheVariants.{NoGroup}
 use Rattle.cox_command.specs.declared.refusal.Refusal.TheVariants.{ForeignLetter, LongWord, LongLine, ForeignByte, ManyRoots, LargeInterval}
-use Rattle.cox_command.specs.declared.refusal.Refusal.TheVariants.{FarApart, LargeRow}
+use Rattle.cox_command.specs.declared.refusal.Refusal.TheVariants.{FarApart, LargeRow, LongList}
 use Rattle.cox_print.specs.AnswerText.{work_text}
 use Rattle.cox_answers.specs.Limits.{Limits}
 use Rattle.cox_answers.specs.Question.{command_refusals, IsRefused}
@@ -40,6 +40,7 @@ same_refusal ManyRoots ManyRoots = inl refl
 same_refusal LargeInterval LargeInterval = inl refl
 same_refusal FarApart FarApart = inl refl
 same_refusal LargeRow LargeRow = inl refl
+same_refusal LongList LongList = inl refl
 same_refusal _ _ = inr (λ e. absurd (cc e))
 
 module _ (A : IntegerMatrix) (g : IsAdmissible A) where

@@ -9,7 +9,7 @@ use crate::answers::kept_group::{keep_elements, with_all};
 use crate::answers::unanswered::unless_fault;
 use crate::growth::{Growth, longest_word};
 use crate::row_maker::RowMaker;
-use cox_base::{MAX_RANK, Word};
+use cox_base::{Coxeter, MAX_RANK, Word};
 use cox_inverse::WholeGroup;
 use cox_minroots::RootTable;
 use cox_options::Options;
@@ -86,6 +86,13 @@ impl Workspace {
         ensures matrix { IsCoxeterMatrix self.now.table }
     {
         self.table.group().rank()
+    }
+
+    /// The group.
+    pub fn group(&self) -> &Coxeter
+        ensures { result.now ≡ self.now.table }
+    {
+        self.table.group()
     }
 
     /// The options of the session.

@@ -11,7 +11,7 @@ use Rattle.cox_command.specs.declared.command.Command.{Command}
 use Rattle.cox_command.specs.declared.command.Command.TheVariants as gives
 use Rattle.cox_command.specs.declared.inquiry.Inquiry.TheVariants as asks
 use Rattle.cox_command.specs.declared.command_word.CommandWord.{CommandWord}
-use Rattle.cox_command.specs.declared.command_word.CommandWord.TheVariants.{Named, Matrix, Quit, One, Two, Plain, Work}
+use Rattle.cox_command.specs.declared.command_word.CommandWord.TheVariants.{Named, Matrix, Quit, Jobs, One, Two, Plain, Work}
 
 -- the word at a place among the arguments, in a group of this rank
 abbrev pub word_argument : Option ℕ → List (List ℕ) → ℕ → ArrayVec ℕ
@@ -24,6 +24,7 @@ command_by Named arguments rank = gives.Group (type_matrix (slice_index (argumen
 command_by Matrix arguments rank =
     gives.Group (record { rank = value_of (argument arguments 0); labels = map value_of (drop 1 arguments) })
 command_by Quit arguments rank = gives.Quit
+command_by Jobs arguments rank = gives.Jobs
 command_by (One kind) arguments rank = gives.Ask (asks.One kind (word_argument rank arguments 0))
 command_by (Two kind) arguments rank =
     gives.Ask (asks.Two kind (word_argument rank arguments 0) (word_argument rank arguments 1))

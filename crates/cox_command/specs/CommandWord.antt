@@ -6,13 +6,14 @@ use Rattle.cox_command.specs.declared.inquiry.OneWord.TheVariants.{Extremals, Ce
 use Rattle.cox_command.specs.declared.inquiry.NoWord.TheVariants.{Lwgraph, Rwgraph, Lcells, Rcells, Lrcells}
 use Rattle.cox_command.specs.declared.inquiry.TwoWord.TheVariants.{Inorder, Interval, Rpol, Pol, Invpol, Mu}
 use Rattle.cox_command.specs.declared.command_word.CommandWord.{CommandWord}
-use Rattle.cox_command.specs.declared.command_word.CommandWord.TheVariants.{Named, Matrix, Quit, One, Two, Plain, Work}
+use Rattle.cox_command.specs.declared.command_word.CommandWord.TheVariants.{Named, Matrix, Quit, Jobs, One, Two, Plain, Work}
 
 -- the command that a token names, if it names one
 abbrev pub command_word_of : List ℕ → Option CommandWord
 command_word_of token = if bytes_eq token (codes "type") then Some Named
     else if bytes_eq token (codes "matrix") then Some Matrix
     else if bytes_eq token (codes "quit") then Some Quit
+    else if bytes_eq token (codes "jobs") then Some Jobs
     else if bytes_eq token (codes "compute") then Some (One Compute)
     else if bytes_eq token (codes "length") then Some (One Length)
     else if bytes_eq token (codes "inverse") then Some (One Inverse)

@@ -8,5 +8,7 @@ pub mod LineRefusal
 pub mod CommandReading
 -- the words that `work` generates
 pub mod Generated
+-- lines in lists of blocks
+pub mod BlockLines
 -- what the calls that read a line answer
 pub mod ParseContract

@@ -14,7 +14,7 @@ use Rattle.cox_command.specs.declared.refusal.Refusal.{Refusal}
 use Rattle.cox_command.specs.declared.refusal.Refusal.TheVariants.{UnknownCommand, WrongCount, WrongNumber, UnknownType, WrongLabel}
 use Rattle.cox_command.specs.declared.refusal.Refusal.TheVariants.{NoGroup, ForeignLetter, LongWord}
 use Rattle.cox_command.specs.declared.command_word.CommandWord.{CommandWord}
-use Rattle.cox_command.specs.declared.command_word.CommandWord.TheVariants.{Named, Matrix, Quit, One, Two, Plain, Work}
+use Rattle.cox_command.specs.declared.command_word.CommandWord.TheVariants.{Named, Matrix, Quit, Jobs, One, Two, Plain, Work}
 
 -- the rank of the group that is set; 0 where none is
 abbrev pub rank_or_zero : Option ℕ → ℕ
@@ -35,6 +35,7 @@ has_wrong_count Named arguments = not (length arguments == 2)
 has_wrong_count Matrix arguments = if is_rank (argument arguments 0)
     then (let n = value_of (argument arguments 0) in not (length arguments == 1 + n * (n - 1) / 2)) else (length arguments == 0)
 has_wrong_count Quit arguments = not (length arguments == 0)
+has_wrong_count Jobs arguments = not (length arguments == 0)
 has_wrong_count (One word) arguments = not (length arguments == 1)
 has_wrong_count (Two word) arguments = not (length arguments == 2)
 has_wrong_count (Plain word) arguments = not (length arguments == 0)

@@ -3,7 +3,7 @@ use Rattle.std.specs.Prelude.{ℕ}
 use Rattle.cox_command.specs.declared.refusal.Refusal.{Refusal}
 use Rattle.cox_command.specs.declared.refusal.Refusal.TheVariants.{UnknownCommand, WrongCount, WrongNumber, UnknownType, WrongLabel}
 use Rattle.cox_command.specs.declared.refusal.Refusal.TheVariants.{NoGroup, ForeignLetter, LongWord, LongLine, ForeignByte}
-use Rattle.cox_command.specs.declared.refusal.Refusal.TheVariants.{ManyRoots, LargeInterval, LargeRow, FarApart}
+use Rattle.cox_command.specs.declared.refusal.Refusal.TheVariants.{ManyRoots, LargeInterval, LargeRow, FarApart, LongList}
 
 -- the number that the line `error N` tells
 abbrev pub refusal_number : Refusal → ℕ
@@ -21,3 +21,4 @@ refusal_number ManyRoots = 21
 refusal_number LargeInterval = 31
 refusal_number LargeRow = 32
 refusal_number FarApart = 34
+refusal_number LongList = 35

@@ -15,6 +15,8 @@ pub enum Command {
     Quit,
     /// `type` or `matrix`: sets the group.
     Group(Coxeter),
+    /// `jobs`: opens a list of blocks.
+    Jobs,
     /// A command on elements, or on the whole group.
     Ask(Inquiry),
 }

@@ -13,6 +13,8 @@ pub enum CommandWord {
     Matrix,
     /// `quit`
     Quit,
+    /// `jobs`
+    Jobs,
     /// A command with one word.
     One(OneWord),
     /// A command with two words.
@@ -33,6 +35,8 @@ pub fn command_word(token: &[u8]) -> Option<CommandWord>
         Some(CommandWord::Matrix)
     } else if token == b"quit".as_slice() {
         Some(CommandWord::Quit)
+    } else if token == b"jobs".as_slice() {
+        Some(CommandWord::Jobs)
     } else if token == b"compute".as_slice() {
         Some(CommandWord::One(OneWord::Compute))
     } else if token == b"length".as_slice() {

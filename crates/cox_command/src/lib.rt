@@ -16,9 +16,11 @@
 //! - `limits`: how far the numbers of `work` go
 //! - `parsing`: lines
 //! - `generated`: the words that `work` generates
+//! - `blocks`: the lines that part a list of blocks, and those that no block may have
 //! - `laws`: a line that is not refused gives a command
 #![tactic(auto)]
 
+mod blocks;
 mod command;
 mod command_word;
 mod generated;
@@ -32,6 +34,7 @@ mod refusal;
 mod word_arguments;
 mod work_arguments;
 
+pub use blocks::{ListWord, block_refusal, list_word};
 pub use command::{Command, LineFault};
 pub use generated::work_word;
 pub use inquiry::{Inquiry, NoWord, OneWord, TwoWord};

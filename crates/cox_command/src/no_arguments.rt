@@ -1,7 +1,7 @@
 //! The commands without arguments.
 ghost use Rattle.std.specs.Prelude.{ℕ, Option};
 ghost use Rattle.cox_command.specs.ParseContract.{ReadsArguments};
-ghost use Rattle.cox_command.specs.declared.command_word.CommandWord.TheVariants.{Quit, Plain};
+ghost use Rattle.cox_command.specs.declared.command_word.CommandWord.TheVariants.{Quit, Jobs, Plain};
 
 use crate::{Command, Inquiry, NoWord, Refusal};
 use cox_tokens::Tokens;
@@ -14,6 +14,19 @@ pub fn parse_quit(arguments: Tokens) -> Result<Command, Refusal>
         return Err(Refusal::WrongCount);
     }
     Ok(Command::Quit)
+}
+
+/// Nor has `jobs`, which needs a group.
+pub fn parse_jobs(arguments: Tokens, rank: Option<u32>) -> Result<Command, Refusal>
+    ensures { ReadsArguments result Jobs arguments.entry rank }
+{
+    if !arguments.has_count(0) {
+        return Err(Refusal::WrongCount);
+    }
+    if rank.is_none() {
+        return Err(Refusal::NoGroup);
+    }
+    Ok(Command::Jobs)
 }
 
 /// Nor has a command on the whole group, which needs a group.

@@ -5,7 +5,7 @@ ghost use Rattle.cox_tokens.specs.Tokens.{tokens_of};
 
 use crate::command_word::{CommandWord, command_word};
 use crate::group_arguments::{parse_matrix, parse_type};
-use crate::no_arguments::{parse_plain, parse_quit};
+use crate::no_arguments::{parse_jobs, parse_plain, parse_quit};
 use crate::word_arguments::{parse_one, parse_two};
 use crate::work_arguments::parse_work;
 use crate::{Command, LineFault, Refusal};
@@ -56,6 +56,7 @@ fn parse_arguments(
         CommandWord::Named => parse_type(arguments),
         CommandWord::Matrix => parse_matrix(arguments),
         CommandWord::Quit => parse_quit(arguments),
+        CommandWord::Jobs => parse_jobs(arguments, rank),
         CommandWord::One(kind) => parse_one(kind, arguments, rank),
         CommandWord::Two(kind) => parse_two(kind, arguments, rank),
         CommandWord::Plain(kind) => parse_plain(kind, arguments, rank),

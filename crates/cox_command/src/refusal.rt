@@ -33,6 +33,8 @@ pub enum Refusal {
     LargeRow,
     /// y is below w, and their lengths differ by more than is worked with.
     FarApart,
+    /// A list of blocks has too many blocks, or too many lines.
+    LongList,
 }
 
 impl Refusal {
@@ -55,6 +57,7 @@ impl Refusal {
             Refusal::LargeInterval => 31,
             Refusal::LargeRow => 32,
             Refusal::FarApart => 34,
+            Refusal::LongList => 35,
         }
     }
 }

@@ -1,8 +1,8 @@
--- The reply to a line by its content is one.
+-- The reply to a line by its content is one, where no list is open.
 use Rattle.std.proofs.Common.{◌≡◌, ℕ, List, Option, Some, None, IfSome, IsSomeAnd, MatchOption, sym, ◌∙◌}
 use Rattle.cox_command.specs.declared.refusal.Refusal.{Refusal}
 use Rattle.cox_command.specs.declared.command.Command.{Command}
-use Rattle.cox_command.specs.declared.command.Command.TheVariants.{Nothing, Quit, Group, Ask}
+use Rattle.cox_command.specs.declared.command.Command.TheVariants.{Nothing, Quit, Group, Jobs, Ask}
 use Rattle.cox_tokens.specs.Tokens.{tokens_of}
 use Rattle.cox_command.specs.LineRefusal.{line_refusal}
 use Rattle.cox_command.specs.CommandReading.{command_of}
@@ -38,6 +38,7 @@ IsCommandReply-unique : (command : Command) (state : State) → HasMatrix state 
     → IsCommandReply command state other → one ≡ other
 IsCommandReply-unique Nothing state matrix one other p q = p ∙ sym q
 IsCommandReply-unique Quit state matrix one other p q = p ∙ sym q
+IsCommandReply-unique Jobs state matrix one other p q = p ∙ sym q
 IsCommandReply-unique (Group g) state matrix one other p q =
     IsDecided-unique (RefusesGroup state.limits g) state (λ answer. answer ≡ silence (with_group state g))
     (λ a b e f. e ∙ sym f) one other p q

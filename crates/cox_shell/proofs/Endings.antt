@@ -1,14 +1,15 @@
 -- How a run that has come so far ends.
-use Rattle.std.proofs.Common.{◌≡◌, ◌<◌, ◌≤◌, ◌+◌, ℕ, Bool, true, false, cond, Option, Some, None, Err, List, [], ◌∷◌, ◌++◌}
-use Rattle.std.proofs.Common.{length, take, refl, sym, ap, ◌∙◌, subst, arith, append_assoc, length-append}
+use Rattle.std.proofs.Common.{◌≡◌, ◌<◌, ◌≤◌, ◌+◌, ℕ, Bool, true, false, cond, nat_le, inl, inr, Option, Some, None, Err, List, [], ◌∷◌, ◌++◌}
+use Rattle.std.proofs.Common.{length, take, refl, sym, ap, ◌∙◌, subst, arith, append_assoc, length-append, ◌⊎◌, ⊎_elim}
 use Rattle.std.specs.Option.{IsSome, IfSome}
 use Rattle.std.specs.Io.KnownBytes.{prepend_known, IsAtEnd}
 use Rattle.std.proofs.lemmas.List.{append-nil, take_at}
 use Rattle.std.proofs.Math.Bool.{or-false}
+use Rattle.std.proofs.lemmas.Bool.Decides.{nat_tests}
 use Rattle.cox_outside.specs.declared.limits.TheConstants.{CHUNK_SIZE}
 use Rattle.cox_outside.specs.declared.line_reader.Stop.{Stop}
 use Rattle.cox_outside.specs.declared.line_reader.Stop.TheVariants as stop
-use Rattle.cox_outside.specs.Line.{line_feed}
+use Rattle.cox_outside.specs.Line.{line_feed, lines_of}
 use Rattle.cox_outside.specs.Unbroken.{IsUnbroken}
 use Rattle.cox_outside.specs.Reader.{TakesNext}
 use Rattle.cox_outside.specs.Ahead.{Ahead, Takes, lines_ahead, MeetsEnd, MeetsFault, MeetsLimit}
@@ -21,15 +22,17 @@ use Rattle.cox_shell.specs.declared.status.Stopped.{Stopped}
 use Rattle.cox_shell.specs.declared.status.Stopped.TheVariants as why
 use Rattle.cox_shell.specs.Status.{is_read_fault, is_write_fault}
 use Rattle.cox_shell.specs.Stopping.{status_of}
-use Rattle.cox_shell.specs.Reply.{Reply}
+use Rattle.cox_shell.specs.Reply.{State, Reply}
 use Rattle.cox_shell.specs.Answer.{AreReplies, texts, has_quit, bytes_of}
 use Rattle.cox_shell.specs.Run.{Stand, IsServed, IsCutOff, Serves, stopped_read_fault, stopped_write_fault}
 use Rattle.cox_shell.specs.Outcome.{HasRead, WritesPrefix, WritesAll, StopsThere, IsCutShort, AnswersAll, AnswersEnded}
-use Rattle.cox_shell.specs.Outcome.{AnswersToFault, AnswersToLimit, Runs}
+use Rattle.cox_shell.specs.Outcome.{EndsReading, AnswersToFault, AnswersToLimit, Runs}
 use Rattle.cox_shell.proofs.KnownValues.{IfSome-made, IfSome-each, IfSome-follows}
 use Rattle.cox_shell.proofs.Replies.{AreReplies-one, AreReplies-quit}
 use Rattle.cox_shell.proofs.NoLines.{no_lines-end}
 use Rattle.cox_shell.proofs.TakenLines.{TakenLines, TakenLines-one, TakenLines-append, HasRead-taken, HasRead-begun, HasRead-limit}
+use Rattle.cox_shell.proofs.Quitting.{quits-closed}
+use Rattle.cox_shell.proofs.Progress.{state_behind-push}
 use Rattle.cox_shell.proofs.Progress.{Progress, going_lines, texts-push, has_refusal-push, has_quit-push, as_many-push}
 
 -- the replies so far are those to the lines so far
@@ -63,10 +66,11 @@ prefix_so_far refused old now next p read same = record {
 
 -- all replies were written, and nothing since
 all_so_far : (refused : Bool) (old now next : Stand) (p : Progress refused old now) → IfSome (lines_ahead now.ahead) (λ lines. lines ≡ [])
-    → next.out ≡ now.out → WritesAll old next
-all_so_far refused old now next p none same = record {
+    → next.out ≡ now.out → next.state ≡ now.state → WritesAll old next
+all_so_far refused old now next p none same stays = record {
   replies = p.done;
   are_replies = no_more refused old now p none;
+  behind = stays ∙ p.behind;
   writes = subst (λ out. Writes (texts p.done) old.out out) (sym same) p.writes;
 }
 
@@ -78,31 +82,54 @@ within_budget taken old new t end = rw t.bytes (by_known new.bytes end) where
   by_known None end = tt
   by_known (Some rest) end = omega (arith, t.cost, length-append taken rest, ap length end)
 
+-- the lines so far are all
+whole_lines : (refused : Bool) (old now : Stand) (p : Progress refused old now) → (now.stop ≡ None) ⊎ IsSome now.stop
+    → lines_of (p.read.taken ++ []) ≡ p.lines
+whole_lines refused old now p which = ⊎_elim
+    (λ (going : now.stop ≡ None). p.read.all going [] ∙ append-nil p.lines)
+    (λ (halted : IsSome now.stop). ap lines_of (append-nil p.read.taken) ∙ p.read.whole halted) which
+
 -- the end was met, and all was read to there
 meets_end : (refused : Bool) (old now next : Stand) (p : Progress refused old now) → HasRead p.lines old.ahead next.ahead
-    → MeetsEnd now.ahead next.ahead → next.out ≡ now.out → AnswersAll refused old next
+    → MeetsEnd now.ahead next.ahead → lines_of (p.read.taken ++ []) ≡ p.lines → next.out ≡ now.out → next.state ≡ now.state
+    → AnswersAll refused old next
 unfolding all_so_far
-meets_end refused old now next p read m same =
+meets_end refused old now next p read m whole same stays =
     let taken : Takes (p.read.taken ++ []) old.ahead next.ahead =
-    Takes-append p.read.taken [] old.ahead now.ahead next.ahead p.read.takes m.taken in record {
+    Takes-append p.read.taken [] old.ahead now.ahead next.ahead p.read.takes m.taken in
+    let within : length (p.read.taken ++ []) ≤ old.ahead.budget = omega (arith, taken.cost) in
+    let test : nat_le (length (p.read.taken ++ [])) old.ahead.budget ≡ true = grind (arith, nat_tests) in record {
       writes_prefix = prefix_so_far refused old now next p read same;
-      writes_all = all_so_far refused old now next p (no_lines-end now.ahead next.ahead m) same;
+      writes_all = all_so_far refused old now next p (no_lines-end now.ahead next.ahead m) same stays;
       refuses = p.refuses;
       ends = rw p.quits (within_budget (p.read.taken ++ []) old.ahead next.ahead taken m.end, m.end);
+      reading = inr (record {
+        given = p.read.taken ++ [];
+        gave = taken.bytes;
+        none_pending = m.none_pending;
+        lines = p.lines;
+        are_all = inr (m.end, rw test (sym whole));
+        replies = p.done;
+        are_replies = so_far refused old now p;
+        behind = stays ∙ p.behind;
+        writes = subst (λ out. Writes (texts p.done) old.out out) (sym same) p.writes;
+      });
     }
 
 -- the input has ended
 pub ends_at_end : (refused : Bool) (old now next : Stand) → now.stop ≡ None → Progress refused old now → MeetsEnd now.ahead next.ahead
-    → next.out ≡ now.out → AnswersAll refused old next
-ends_at_end refused old now next going p m same =
+    → next.out ≡ now.out → next.state ≡ now.state → AnswersAll refused old next
+ends_at_end refused old now next going p m same stays =
     meets_end refused old now next p
-    (HasRead-begun p.lines old.ahead now.ahead next.ahead [] (going_lines refused old now going p) m.taken m.none_pending) m same
+    (HasRead-begun p.lines old.ahead now.ahead next.ahead [] (going_lines refused old now going p) m.taken m.none_pending) m
+    (whole_lines refused old now p (inl going)) same stays
 
 -- the reader had stopped at the end of the input
 pub ends_stopped : (refused : Bool) (old now : Stand) → Progress refused old now → IsSome now.stop → AnswersAll refused old now
 ends_stopped refused old now p halted =
     meets_end refused old now now p (HasRead-taken p.lines now.stop old.ahead now.ahead p.read)
-    (record { taken = Takes-none now.ahead; end = p.read.end halted; none_pending = p.read.none_pending halted }) refl
+    (record { taken = Takes-none now.ahead; end = p.read.end halted; none_pending = p.read.none_pending halted })
+    (whole_lines refused old now p (inr halted)) refl refl
 
 -- after these lines no more was taken
 StopsThere-taken : (lines : List (List ℕ)) (replies : List Reply) (halt : Option Stop) (old now : Ahead) → TakenLines lines halt old now
@@ -147,11 +174,13 @@ ends_at_quit refused old now next going p s =
         are_replies = IfSome-made (λ more. lines ++ more) (λ all. AreReplies old.state all replies) (lines_ahead old.ahead)
             (lines_ahead next.ahead) read.cut
             (IfSome-each (λ more. AreReplies old.state (lines ++ more) replies) (lines_ahead next.ahead) (λ more. all more));
+        behind = s.state_after ∙ sym (state_behind-push old.state p.done s.reply);
         writes = written;
       };
       refuses = has_refusal-push p.done s.reply refused false p.refuses s.refuses ∙ or-false refused;
       ends = rw quits (StopsThere-taken lines replies next.stop old.ahead next.ahead read
           (as_many-push p.done p.lines s.reply s.taken.line p.as_many));
+      reading = inl (ap (λ (t : State). t.list) s.state_after ∙ quits-closed now.state s.taken.line s.reply s.taken.is_reply s.quitting);
     } where
       all : (more : List (List ℕ)) → AreReplies old.state ((p.lines ++ s.taken.line ∷ []) ++ more) (p.done ++ s.reply ∷ [])
       all more = subst (λ lines. AreReplies old.state lines (p.done ++ s.reply ∷ [])) (sym (append_assoc p.lines (s.taken.line ∷ []) more))
@@ -159,23 +188,25 @@ ends_at_quit refused old now next going p s =
 
 -- the lines so far are those that end among the bytes so far and the beginning of a line
 ended_so_far : (refused : Bool) (old now next : Stand) (p : Progress refused old now) (read : TakenLines p.lines None old.ahead now.ahead)
-    → (begun : List ℕ) → IsUnbroken begun → WritesPrefix old next → next.ahead.pending ≡ [] → next.out ≡ now.out
-    → AnswersEnded (read.taken ++ begun) old next
-ended_so_far refused old now next p read begun unbroken part none_pending same = record {
+    → (begun : List ℕ) → IsUnbroken begun → WritesPrefix old next → next.ahead.pending ≡ [] → length (read.taken ++ begun) ≤ old.ahead.budget
+    → next.out ≡ now.out → next.state ≡ now.state → AnswersEnded (read.taken ++ begun) old next
+ended_so_far refused old now next p read begun unbroken part none_pending within same stays = record {
   writes_prefix = part;
+  within = within;
   none_pending = none_pending;
   replies = p.done;
   are_replies = subst (λ lines. AreReplies old.state lines p.done)
       (sym (read.ended refl begun ∙ ap (λ l. p.lines ++ l) (ended_lines-none begun unbroken) ∙ append-nil p.lines))
       (so_far refused old now p);
+  behind = stays ∙ p.behind;
   none_quits = p.quits;
   writes = subst (λ out. Writes (texts p.done) old.out out) (sym same) p.writes;
 }
 
 -- the limit was met
 pub ends_at_limit : (refused : Bool) (old now next : Stand) → now.stop ≡ None → Progress refused old now → MeetsLimit now.ahead next.ahead
-    → next.out ≡ now.out → AnswersToLimit old next
-ends_at_limit refused old now next going p m same =
+    → next.out ≡ now.out → next.state ≡ now.state → AnswersToLimit old next
+ends_at_limit refused old now next going p m same stays =
     let read = going_lines refused old now going p in
     let taken = Takes-append read.taken m.begun old.ahead now.ahead m.spent read.takes m.part.taken in record {
       given = read.taken ++ m.begun;
@@ -183,19 +214,22 @@ ends_at_limit refused old now next going p m same =
       gave = taken.bytes ∙ ap (prepend_known (read.taken ++ m.begun)) m.beyond;
       spent = omega (arith, taken.cost, m.none_left);
       answers = ended_so_far refused old now next p read m.begun m.part.unbroken
-          (prefix_so_far refused old now next p (HasRead-limit p.lines old.ahead now.ahead next.ahead read m) same) m.none_pending same;
+          (prefix_so_far refused old now next p (HasRead-limit p.lines old.ahead now.ahead next.ahead read m) same) m.none_pending
+          (omega (arith, taken.cost)) same stays;
     }
 
 -- a read failed
 pub ends_at_fault : (refused : Bool) (old now next : Stand) → now.stop ≡ None → Progress refused old now → MeetsFault now.ahead next.ahead
-    → next.out ≡ now.out → AnswersToFault old next
-ends_at_fault refused old now next going p m same =
-    let read = going_lines refused old now going p in (
+    → next.out ≡ now.out → next.state ≡ now.state → AnswersToFault old next
+ends_at_fault refused old now next going p m same stays =
+    let read = going_lines refused old now going p in
+    let taken = Takes-append read.taken m.begun old.ahead now.ahead next.ahead read.takes m.part.taken in (
       read.taken ++ m.begun,
-      (Takes-append read.taken m.begun old.ahead now.ahead next.ahead read.takes m.part.taken).bytes,
+      taken.bytes,
       ended_so_far refused old now next p read m.begun m.part.unbroken
           (prefix_so_far refused old now next p
-          (HasRead-begun p.lines old.ahead now.ahead next.ahead m.begun read m.part.taken m.none_pending) same) m.none_pending same,
+          (HasRead-begun p.lines old.ahead now.ahead next.ahead m.begun read m.part.taken m.none_pending) same) m.none_pending
+          (omega (arith, taken.cost)) same stays,
     )
 
 -- a reply was cut off; where it needed more than there was room for, so did the replies
@@ -243,12 +277,12 @@ Runs-whole false old new h = h
 pub ends_stopping : (stopped : Stopped) (refused : Bool) (old now next : Stand) → now.stop ≡ None → Progress refused old now
     → Serves (Err stopped) now next → Runs (status_of stopped refused) old next
 ends_stopping why.End refused old now next going p s =
-    Runs-whole refused old next (ends_at_end refused old now next going p s.0.0 s.1)
-ends_stopping why.ReadFault refused old now next going p s = ends_at_fault refused old now next going p s.0.0 s.1
+    Runs-whole refused old next (ends_at_end refused old now next going p s.0.0 s.1 s.2)
+ends_stopping why.ReadFault refused old now next going p s = ends_at_fault refused old now next going p s.0.0 s.1 s.2
 ends_stopping why.WriteFault refused old now next going p s =
     let part = ends_cut_off refused old now next going p s.0 in (part.0, part.1 s.1)
 ends_stopping why.NoMemory refused old now next going p s = (ends_cut_off refused old now next going p s).0
-ends_stopping why.InputLimit refused old now next going p s = ends_at_limit refused old now next going p s.0.0 s.1
+ends_stopping why.InputLimit refused old now next going p s = ends_at_limit refused old now next going p s.0.0 s.1 s.2
 
 -- a fault stops the run exactly where the status tells it
 pub stopping-read_fault : (stopped : Stopped) (refused : Bool)

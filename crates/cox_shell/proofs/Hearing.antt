@@ -16,8 +16,8 @@ use Rattle.cox_shell.specs.declared.session.Said.{Said}
 use Rattle.cox_shell.specs.declared.session.Said.TheVariants.{Answered, Refused, Quit}
 use Rattle.cox_command.specs.RefusalNumber.{refusal_number}
 use Rattle.cox_outside.specs.Outlet.{Writes}
-use Rattle.cox_shell.specs.Reply.{State, Reply, refusal}
-use Rattle.cox_shell.specs.ContentReply.{IsContentReply}
+use Rattle.cox_shell.specs.Reply.{State, Reply}
+use Rattle.cox_shell.specs.ListReply.{IsReplyTo, unread_reply}
 use Rattle.cox_shell.specs.LineReply.{content_refusal}
 use Rattle.cox_shell.specs.Saying.{Says}
 use Rattle.cox_shell.specs.declared.status.Stopped.{Stopped}
@@ -45,28 +45,28 @@ pub hears_refused : (said : Result Said AllocError) (why : Refusal) (line : List
     (old new : Ahead)
     (before after : List ℕ)
     → content_refusal (content_of line) ≡ Some why → TakesNext halt line old new → before ≡ []
-    → IfOk said (λ told. (reply : Reply) × (reply ≡ refusal state why) × Says told reply next before after)
+    → IfOk said (λ told. (reply : Reply) × (reply ≡ unread_reply state why) × Says told reply next before after)
     → Hears (heard_of said) state next halt old new after
 hears_refused said why line state next halt old new before after refused takes empty says =
-    elim said as (λ s. IfOk s (λ told. (reply : Reply) × (reply ≡ refusal state why) × Says told reply next before after)
+    elim said as (λ s. IfOk s (λ told. (reply : Reply) × (reply ≡ unread_reply state why) × Says told reply next before after)
     → Hears (heard_of s) state next halt old new after) [
       | Ok told ↦ λ s. (s.0, taken s.0 s.1, subst (λ b. Says told s.0 next b after) empty s.2)
-      | Err error ↦ λ s. (refusal state why, taken (refusal state why) refl)
+      | Err error ↦ λ s. (unread_reply state why, taken (unread_reply state why) refl)
     ] says
   where
-    taken : (reply : Reply) → reply ≡ refusal state why → TakesReplied reply state halt old new
+    taken : (reply : Reply) → reply ≡ unread_reply state why → TakesReplied reply state halt old new
     taken reply is = record {
       line = line;
       takes = takes;
-      is_reply = subst (λ o. MatchOption o (IsContentReply state (content_of line) reply) (λ n. reply ≡ refusal state n))
+      is_reply = subst (λ o. MatchOption o (IsReplyTo state (content_of line) reply) (λ n. reply ≡ unread_reply state n))
           (sym refused) is;
     }
 
 -- where nothing was heard, or there was no memory, nothing is written
 pub Hears-serves : (stopped : Stopped) (old new : Stand) (buffer : List ℕ)
     → Hears (Err stopped) old.state new.state new.stop old.ahead new.ahead buffer → new.out ≡ old.out → Serves (Err stopped) old new
-Hears-serves why.End old new buffer h same = (h.0, same)
-Hears-serves why.ReadFault old new buffer h same = (h.0, same)
+Hears-serves why.End old new buffer h same = (h.0, same, h.2)
+Hears-serves why.ReadFault old new buffer h same = (h.0, same, h.2)
 Hears-serves why.WriteFault old new buffer h same = absurd h
 Hears-serves why.NoMemory old new buffer h same = record {
   reply = h.0;
@@ -75,7 +75,7 @@ Hears-serves why.NoMemory old new buffer h same = record {
   is_prefix = (h.0.text, refl);
   writes = rw same (Writes-none old.out);
 }
-Hears-serves why.InputLimit old new buffer h same = (h.0, same)
+Hears-serves why.InputLimit old new buffer h same = (h.0, same, h.2)
 
 -- a refusal is told
 told : (found : Option Refusal) (P : Refusal → Type 0) → IsSomeAnd found P → is_some found ≡ true

@@ -6,7 +6,7 @@ use Rattle.cox_base.specs.Matrix.{CoxeterMatrix}
 use Rattle.cox_base.specs.Admissible.{IsCoxeterMatrix}
 use Rattle.cox_command.specs.declared.refusal.Refusal.{Refusal}
 use Rattle.cox_command.specs.declared.command.Command.{Command}
-use Rattle.cox_command.specs.declared.command.Command.TheVariants.{Nothing, Quit, Group, Ask}
+use Rattle.cox_command.specs.declared.command.Command.TheVariants.{Nothing, Quit, Group, Jobs, Ask}
 use Rattle.cox_command.specs.declared.command_word.CommandWord.{CommandWord}
 use Rattle.cox_command.specs.CommandWord.{command_word_of}
 use Rattle.cox_tokens.specs.Tokens.{tokens_of}
@@ -20,8 +20,6 @@ use Rattle.cox_shell.specs.CommandReply.{Answers, IsInquiryReply, RefusesGroup, 
 use Rattle.cox_shell.proofs.DecidedReplies.{IsDecided-all}
 use Rattle.cox_shell.specs.ContentReply.{IsContentReply}
 use Rattle.cox_shell.proofs.SetMatrices.{group_set-is}
-use Rattle.cox_outside.specs.Line.{content_of}
-use Rattle.cox_shell.specs.LineReply.{IsReply, content_refusal}
 
 -- a command on elements leaves the state
 inquiry-state : (inquiry : Inquiry) (state : State) (g : CoxeterMatrix) (reply : Reply)
@@ -41,13 +39,14 @@ of_some (Some x) P S of is = of x refl is
 abbrev pub HasMatrix : State → Type 0
 HasMatrix state = IfSome state.group IsCoxeterMatrix
 
+-- the reply to a command on elements leaves the state
+pub IsInquiryReply-state : (inquiry : Inquiry) (state : State) (reply : Reply) → IsInquiryReply inquiry state reply → reply.after ≡ state
+IsInquiryReply-state inquiry state reply is = of_some state.group _ (reply.after ≡ state)
+    (λ g set. inquiry-state inquiry state g reply) is
+
 module _ (state : State) (matrix : HasMatrix state) (reply : Reply) where
   unchanged : reply.after ≡ state → HasMatrix reply.after
   unchanged same = subst HasMatrix (sym same) matrix
-
-  by_inquiry : (inquiry : Inquiry) → IsInquiryReply inquiry state reply → reply.after ≡ state
-  by_inquiry inquiry is = of_some state.group _ (reply.after ≡ state)
-      (λ g set. inquiry-state inquiry state g reply) is
 
   -- so it stays by a command that is given and accepted
   by_command : (command : Command) (tokens : List (List ℕ)) → tokens_refusal tokens (rank_of state) ≡ None
@@ -55,7 +54,8 @@ module _ (state : State) (matrix : HasMatrix state) (reply : Reply) where
       → IsCommandReply command state reply → HasMatrix reply.after
   by_command Nothing tokens accepted given is = unchanged (ap (λ (r : Reply). r.after) is)
   by_command Quit tokens accepted given is = unchanged (ap (λ (r : Reply). r.after) is)
-  by_command (Ask inquiry) tokens accepted given is = unchanged (by_inquiry inquiry is)
+  by_command Jobs tokens accepted given is = rw is matrix
+  by_command (Ask inquiry) tokens accepted given is = unchanged (IsInquiryReply-state inquiry state reply is)
   by_command (Group g) tokens accepted given is =
       IsDecided-all (RefusesGroup state.limits g) state (λ answer. answer ≡ silence (with_group state g)) (λ r. HasMatrix r.after)
       (λ why. matrix)
@@ -83,11 +83,3 @@ IsContentReply-matrix state content reply matrix is = by_refusal (line_refusal c
     by_refusal None e is = of_some (command_of (tokens_of content) (rank_of state)) _ (HasMatrix reply.after)
         (λ command given. by_command state matrix reply command (tokens_of content) e given) is
     by_refusal (Some why) e is = unchanged state matrix reply (ap (λ (r : Reply). r.after) is)
-
--- so it stays by the reply to a line
-pub IsReply-matrix : (state : State) (line : List ℕ) (reply : Reply) → HasMatrix state → IsReply state line reply → HasMatrix reply.after
-IsReply-matrix state line reply matrix is = by_refusal (content_refusal (content_of line)) is where
-  by_refusal : (o : Option Refusal) → MatchOption o (IsContentReply state (content_of line) reply) (λ why. reply ≡ refusal state why)
-      → HasMatrix reply.after
-  by_refusal None is = IsContentReply-matrix state (content_of line) reply matrix is
-  by_refusal (Some why) is = unchanged state matrix reply (ap (λ (r : Reply). r.after) is)

@@ -1,6 +1,6 @@
 -- the reply of a command is one and exists, for any question
 pub mod DecidedReplies
--- the reply to the content of a line is one
+-- the reply to the content of a line is one, where no list is open
 pub mod ContentReply
 -- replies to lines are one
 pub mod Replies
@@ -33,9 +33,25 @@ pub mod Sayings
 pub mod SetMatrices
 -- the reply to a command that sets a group
 pub mod GroupReplies
--- each line has a reply
+-- each content has a reply, where no list is open
 pub mod SomeReply
 -- the group that is set stays a Coxeter matrix
 pub mod KeptGroup
+-- a line that may stand in a block leaves the state
+pub mod BlockLines
+-- the reply to a line is one and exists, whether a list is open or none
+pub mod ListReplies
+-- no list is open behind a line that ends the run
+pub mod Quitting
+-- what is told of several lines and blocks
+pub mod ToldBlocks
+-- a line at the end of the last block
+pub mod Lists
+-- how many lines blocks have
+pub mod Counts
+-- the replies where a list is open
+pub mod Ends
+-- what is done at the end of reading
+pub mod Closings
 -- each script has an answer
 pub mod SomeAnswer

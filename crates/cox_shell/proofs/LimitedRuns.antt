@@ -10,7 +10,7 @@ use Rattle.cox_outside.specs.Supply.{Supply}
 use Rattle.cox_outside.specs.Outlet.{Outlet}
 use Rattle.cox_shell.specs.declared.status.Status.TheVariants.{InputLimit}
 use Rattle.cox_shell.specs.Reply.{opening}
-use Rattle.cox_shell.specs.Answer.{AreReplies, script_lines}
+use Rattle.cox_shell.specs.Answer.{AreAllReplies, script_lines}
 use Rattle.cox_shell.specs.Top.{given_limits}
 use Rattle.cox_shell.specs.WholeRun.{IsRun}
 use Rattle.cox_shell.specs.Limited.{AnswersWithin}
@@ -38,7 +38,7 @@ limit-within arguments script source left old new known run =
     let lines : script_lines script ≡ ended_lines answers.given =
     ap script_lines rest.1 ∙ script_lines-limited answers.given limit.0 rest.0 limit.2 in record {
       replies = answers.replies;
-      are_replies = subst (λ lines. AreReplies (opening (given_limits arguments)) lines answers.replies) (sym lines) answers.are_replies;
+      are_replies = subst (λ lines. AreAllReplies (opening (given_limits arguments)) lines answers.replies) (sym lines) answers.are_replies;
       none_quits = answers.none_quits;
       over = omega (arith, ap length rest.1, length-append answers.given (limit.0 ∷ rest.0), limit.2);
       writes = answers.writes;

@@ -9,8 +9,8 @@ use Rattle.std.proofs.Math.Bool.{or-false, or-true}
 use Rattle.cox_outside.specs.Feed.{HasFewPending}
 use Rattle.cox_outside.specs.Outlet.{Writes}
 use Rattle.cox_outside.proofs.Known.{Writes-none, Writes-append}
-use Rattle.cox_shell.specs.Reply.{Reply}
-use Rattle.cox_shell.specs.Answer.{AreReplies, texts, has_refusal, has_quit}
+use Rattle.cox_shell.specs.Reply.{State, Reply}
+use Rattle.cox_shell.specs.Answer.{AreReplies, state_behind, texts, has_refusal, has_quit}
 use Rattle.cox_shell.specs.Run.{Stand, IsServed}
 use Rattle.cox_shell.proofs.Replies.{AreReplies-cons, AreReplies-rejoin}
 use Rattle.cox_shell.proofs.TakenLines.{TakenLines, TakenLines-none, TakenLines-one, TakenLines-append}
@@ -23,6 +23,7 @@ pub record Progress (refused : Bool) (old now : Stand) : Type 0 where
   pub as_many : length done ≡ length lines
   pub says : (more : List (List ℕ)) (rest : List Reply) → AreReplies now.state more rest
       → AreReplies old.state (lines ++ more) (done ++ rest)
+  pub behind : now.state ≡ state_behind old.state done
   pub writes : Writes (texts done) old.out now.out
   pub refuses : has_refusal done ≡ refused
   pub quits : has_quit done ≡ false
@@ -46,6 +47,11 @@ pub has_quit-push : (done : List Reply) (reply : Reply) (before last : Bool) →
     → has_quit (done ++ reply ∷ []) ≡ (before || last)
 has_quit-push = any-push (λ reply. reply.quits)
 
+-- the state behind one more reply is the one after it
+pub state_behind-push : (state : State) (done : List Reply) (reply : Reply) → state_behind state (done ++ reply ∷ []) ≡ reply.after
+state_behind-push state [] reply = refl
+state_behind-push state (one ∷ done) reply = state_behind-push one.after done reply
+
 -- as many replies as lines, after one more of each
 pub as_many-push : (done : List Reply) (lines : List (List ℕ)) (reply : Reply) (line : List ℕ) → length done ≡ length lines
     → length (done ++ reply ∷ []) ≡ length (lines ++ line ∷ [])
@@ -59,6 +65,7 @@ Progress-start here going few = record {
   done = [];
   as_many = refl;
   says = λ more rest h. h;
+  behind = refl;
   writes = Writes-none here.out;
   refuses = refl;
   quits = refl;
@@ -81,6 +88,7 @@ Progress-more before refused old now next going p s = record {
   says = λ more rest h. AreReplies-rejoin old.state p.lines more p.done rest s.taken.line s.reply
       (p.says (s.taken.line ∷ more) (s.reply ∷ rest)
       (AreReplies-cons now.state next.state s.taken.line s.reply more rest s.taken.is_reply s.quitting s.state_after h));
+  behind = s.state_after ∙ sym (state_behind-push old.state p.done s.reply);
   writes = subst (λ t. Writes t old.out next.out) (sym (texts-push p.done s.reply))
       (Writes-append (texts p.done) s.reply.text old.out now.out next.out p.writes s.writes);
   refuses = has_refusal-push p.done s.reply before refused p.refuses s.refuses;

@@ -1,5 +1,5 @@
 -- Replies to lines are one, and those to the first lines are a prefix.
-use Rattle.std.proofs.Common.{◌≡◌, ℕ, true, false, List, [], ◌∷◌, ◌++◌, Option, Some, None, refl, sym, ap, ◌∙◌, subst, append_assoc}
+use Rattle.std.proofs.Common.{◌≡◌, ℕ, Bool, true, false, List, [], ◌∷◌, ◌++◌, Option, Some, None, refl, sym, ap, ◌∙◌, subst, append_assoc}
 use Rattle.std.specs.Option.{MatchOption}
 use Rattle.std.specs.Bool.{MatchBool}
 use Rattle.std.proofs.lemmas.Grind.{flat_map-append}
@@ -7,22 +7,44 @@ use Rattle.cox_outside.specs.Line.{content_of}
 use Rattle.cox_outside.specs.Outlet.{IsPrefix}
 use Rattle.cox_command.specs.declared.refusal.Refusal.{Refusal}
 use Rattle.cox_answers.specs.Limits.{Limits}
-use Rattle.cox_shell.specs.Reply.{State, Reply, refusal, opening}
-use Rattle.cox_shell.specs.ContentReply.{IsContentReply}
+use Rattle.cox_shell.specs.Reply.{OpenList, State, Reply, opening}
+use Rattle.cox_shell.specs.ListReply.{IsReplyTo, unread_reply}
+use Rattle.cox_shell.specs.Blocks.{IsListReply}
 use Rattle.cox_shell.specs.LineReply.{IsReply, content_refusal}
-use Rattle.cox_shell.specs.Answer.{AreReplies, texts, script_lines}
+use Rattle.cox_shell.specs.Answer.{AreReplies, AreAllReplies, IsClosing, state_behind, texts, script_lines}
 use Rattle.cox_shell.specs.ScriptAnswer.{IsAnswer}
-use Rattle.cox_shell.proofs.ContentReply.{IsContentReply-unique}
-use Rattle.cox_shell.proofs.KeptGroup.{HasMatrix, IsReply-matrix}
+use Rattle.cox_shell.proofs.ListReplies.{IsReplyTo-unique, IsReplyTo-matrix, IsListReply-unique, unread-matrix}
+use Rattle.cox_shell.proofs.KeptGroup.{HasMatrix}
 
 -- a line has at most one reply
 pub IsReply-unique : (state : State) (line : List ℕ) → HasMatrix state → (one other : Reply) → IsReply state line one
     → IsReply state line other → one ≡ other
 IsReply-unique state line matrix one other = by_refusal (content_refusal (content_of line)) where
-  by_refusal : (o : Option Refusal) → MatchOption o (IsContentReply state (content_of line) one) (λ why. one ≡ refusal state why)
-      → MatchOption o (IsContentReply state (content_of line) other) (λ why. other ≡ refusal state why) → one ≡ other
-  by_refusal None p q = IsContentReply-unique state (content_of line) matrix one other p q
+  by_refusal : (o : Option Refusal) → MatchOption o (IsReplyTo state (content_of line) one) (λ why. one ≡ unread_reply state why)
+      → MatchOption o (IsReplyTo state (content_of line) other) (λ why. other ≡ unread_reply state why) → one ≡ other
+  by_refusal None p q = IsReplyTo-unique state (content_of line) matrix one other p q
   by_refusal (Some why) p q = p ∙ sym q
+
+-- the group stays a Coxeter matrix by the reply to a line
+pub IsReply-matrix : (state : State) (line : List ℕ) (reply : Reply) → HasMatrix state → IsReply state line reply → HasMatrix reply.after
+IsReply-matrix state line reply matrix is = by_refusal (content_refusal (content_of line)) is where
+  by_refusal : (o : Option Refusal) → MatchOption o (IsReplyTo state (content_of line) reply) (λ why. reply ≡ unread_reply state why)
+      → HasMatrix reply.after
+  by_refusal None is = IsReplyTo-matrix state (content_of line) reply matrix is
+  by_refusal (Some why) is = subst (λ (r : Reply). HasMatrix r.after) (sym is) (unread-matrix state why matrix)
+
+-- and behind replies
+pub AreReplies-matrix : (state : State) (lines : List (List ℕ)) (replies : List Reply) → HasMatrix state → AreReplies state lines replies
+    → HasMatrix (state_behind state replies)
+AreReplies-matrix state [] replies matrix are = rw are matrix
+AreReplies-matrix state (line ∷ lines) [] matrix are = absurd are
+AreReplies-matrix state (line ∷ lines) (reply ∷ replies) matrix are =
+    let after : HasMatrix reply.after = IsReply-matrix state line reply matrix are.0 in
+    elim reply.quits as (λ b. MatchBool b (replies ≡ []) (AreReplies reply.after lines replies)
+    → HasMatrix (state_behind reply.after replies)) [
+      | true ↦ λ none. rw none after
+      | false ↦ λ rest. AreReplies-matrix reply.after lines replies after rest
+    ] are.1
 
 -- one more reply before the others, which does not end the run
 pub AreReplies-cons : (state next : State) (line : List ℕ) (reply : Reply) (lines : List (List ℕ)) (replies : List Reply)
@@ -97,17 +119,40 @@ AreReplies-unique state matrix (line ∷ lines) (reply ∷ one) (also ∷ other)
 pub IsPrefix-texts : (some more : List Reply) → IsPrefix (texts some) (texts (some ++ more))
 IsPrefix-texts some more = (texts more, flat_map-append (λ (reply : Reply). reply.text) some more)
 
+-- the end of reading has one reply at most
+IsClosing-unique : (state : State) → HasMatrix state → (one other : List Reply) → IsClosing state one → IsClosing state other
+    → one ≡ other
+IsClosing-unique state matrix one other p q = by_list state.list p q where
+  by_list : (o : Option OpenList)
+      → MatchOption o (one ≡ []) (λ list. (reply : Reply) × IsListReply state list reply × (one ≡ reply ∷ []))
+      → MatchOption o (other ≡ []) (λ list. (reply : Reply) × IsListReply state list reply × (other ≡ reply ∷ [])) → one ≡ other
+  by_list None p q = p ∙ sym q
+  by_list (Some list) p q = p.2 ∙ ap (λ r. r ∷ []) (IsListReply-unique state matrix list p.0 q.0 p.1 q.1) ∙ sym q.2
+
+pub AreAllReplies-unique : (state : State) → HasMatrix state → (lines : List (List ℕ)) (one other : List Reply)
+    → AreAllReplies state lines one → AreAllReplies state lines other → one ≡ other
+AreAllReplies-unique state matrix lines one other p q =
+    let same : p.replies ≡ q.replies = AreReplies-unique state matrix lines p.replies q.replies p.are_replies q.are_replies in
+    let closes : IsClosing (state_behind state q.replies) p.closing = subst (λ r. IsClosing (state_behind state r) p.closing) same p.closes in
+    p.all_are ∙ ap (λ r. r ++ p.closing) same
+    ∙ ap (λ c. q.replies ++ c) (IsClosing-unique (state_behind state q.replies) (AreReplies-matrix state lines q.replies matrix q.are_replies)
+    p.closing q.closing closes q.closes) ∙ sym q.all_are
+
 -- a script has one answer
 pub IsAnswer-unique : (limits : Limits) (script one other : List ℕ) → IsAnswer limits script one → IsAnswer limits script other → one
     ≡ other
-IsAnswer-unique limits script one other p q = p.2 ∙ ap texts (AreReplies-unique (opening limits) tt (script_lines script) p.0 q.0 p.1 q.1)
-    ∙ sym q.2
+IsAnswer-unique limits script one other p q =
+    p.2 ∙ ap texts (AreAllReplies-unique (opening limits) tt (script_lines script) p.0 q.0 p.1 q.1) ∙ sym q.2
 
 -- the text of the replies to the first of its lines is a prefix of it
 pub IsPrefix-answer : (limits : Limits) (script text : List ℕ) (first : List (List ℕ)) (replies : List Reply)
     → IsPrefix first (script_lines script) → AreReplies (opening limits) first replies → IsAnswer limits script text
     → IsPrefix (texts replies) text
 IsPrefix-answer limits script text first replies p are q =
-    let all : AreReplies (opening limits) (first ++ p.0) q.0 = subst (λ lines. AreReplies (opening limits) lines q.0) p.1 q.1 in
-    let more = AreReplies-prefix (opening limits) tt first p.0 replies q.0 are all in
-    subst (λ t. IsPrefix (texts replies) t) (ap texts (sym more.1) ∙ sym q.2) (IsPrefix-texts replies more.0)
+    let answer = q.1 in
+    let all : AreReplies (opening limits) (first ++ p.0) answer.replies =
+    subst (λ lines. AreReplies (opening limits) lines answer.replies) p.1 answer.are_replies in
+    let more = AreReplies-prefix (opening limits) tt first p.0 replies answer.replies are all in
+    let whole : q.0 ≡ replies ++ (more.0 ++ answer.closing) =
+    answer.all_are ∙ ap (λ r. r ++ answer.closing) more.1 ∙ append_assoc replies more.0 answer.closing in
+    subst (λ t. IsPrefix (texts replies) t) (ap texts (sym whole) ∙ sym q.2) (IsPrefix-texts replies (more.0 ++ answer.closing))

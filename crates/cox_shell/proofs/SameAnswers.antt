@@ -9,7 +9,7 @@ use Rattle.cox_shell.specs.Answer.{AreScriptReplies, texts, has_refusal, script_
 use Rattle.cox_shell.specs.Top.{given_limits, AnswersWhole}
 use Rattle.cox_shell.specs.WholeRun.{IsRun}
 use Rattle.cox_shell.specs.SameRuns.{IsWhole, DifferInWorkers, AnswersAlike}
-use Rattle.cox_shell.proofs.Replies.{AreReplies-unique}
+use Rattle.cox_shell.proofs.Replies.{AreAllReplies-unique}
 
 -- the status of a run that answered its script whole, by whether a reply is a refusal
 abbrev whole_status : Bool → Status
@@ -40,7 +40,7 @@ pub same-answers : (one other : List (List ℕ)) (script : List ℕ) → DifferI
 same-answers one other script h status status' source left source' left' old new old' new' known known' run run' whole whole' =
     let p = answered one script source left old new known status run whole in
     let q = answered other script source' left' old' new' known' status' run' whole' in
-    let same : q.0 ≡ p.0 = AreReplies-unique (opening (given_limits one)) tt (script_lines script) q.0 p.0
+    let same : q.0 ≡ p.0 = AreAllReplies-unique (opening (given_limits one)) tt (script_lines script) q.0 p.0
     (rw (same_limits one other h) at q.1) p.1 in (
       p.3 ∙ sym (ap (λ replies. whole_status (has_refusal replies)) same) ∙ sym q.3,
       texts p.0,

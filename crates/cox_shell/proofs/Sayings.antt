@@ -12,11 +12,12 @@ use Rattle.cox_shell.specs.declared.session.Said.{Said}
 use Rattle.cox_shell.specs.declared.session.Said.TheVariants.{Answered, Quit}
 use Rattle.cox_shell.specs.Reply.{State, Reply, refusal, silence, farewell, answered}
 use Rattle.cox_answers.specs.Question.{Question}
-use Rattle.cox_shell.specs.CommandReply.{IsDecided}
+use Rattle.cox_command.specs.declared.command.Command.TheVariants.{Jobs}
+use Rattle.cox_shell.specs.CommandReply.{IsDecided, IsCommandReply}
 use Rattle.cox_answers.specs.InquiryQuestion.{question_of}
 use Rattle.cox_shell.specs.CommandReply.{Answers, IsInquiryReply}
 use Rattle.cox_answers.proofs.Unless.{PutsPrefix-none}
-use Rattle.cox_shell.specs.Saying.{Says, SaysPrefix, Concludes}
+use Rattle.cox_shell.specs.Saying.{Says, SaysPrefix, Tells, Concludes}
 use Rattle.cox_answers.specs.Putting.{PutsUnless, IsEnded}
 
 -- nothing is said to a line that is answered nothing
@@ -107,3 +108,67 @@ pub SaysPrefix-broken : (result : Result Said AllocError) (reply : Reply) (state
     → OnErr result (SaysPrefix reply state state before after)
 SaysPrefix-broken (Ok said) reply state before after puts = tt
 SaysPrefix-broken (Err error) reply state before after puts = record { puts_prefix = puts; same_state = refl }
+
+-- nothing is said to a line that is kept, or that begins a block
+pub silent-says : (result : Result Said AllocError) (next after : State) (Is : Reply → Type 0) (out : List ℕ) → Is (silence after)
+    → IfOk result (λ said. (said ≡ Answered) × (next ≡ after))
+    → IfOk result (λ said. (reply : Reply) × Is reply × Says said reply next out out)
+silent-says (Ok said) next after Is out is done = (silence after, is, rw done.0 (Says-silence after next out done.1))
+silent-says (Err error) next after Is out is done = tt
+
+pub silent-breaks : (result : Result Said AllocError) (old next after : State) (Is : Reply → Type 0) (out : List ℕ) → Is (silence after)
+    → OnErr result (next ≡ old) → OnErr result ((reply : Reply) × Is reply × SaysPrefix reply old next out out)
+silent-breaks (Ok said) old next after Is out is same = tt
+silent-breaks (Err error) old next after Is out is same =
+    (silence after, is, record { puts_prefix = PutsPrefix-none (silence after).text out out refl; same_state = same })
+
+-- the same of the one reply that is right
+pub silent-one : (result : Result Said AllocError) (next after : State) (reply : Reply) (out : List ℕ) → reply ≡ silence after
+    → IfOk result (λ said. (said ≡ Answered) × (next ≡ after)) → IfOk result (λ said. Says said reply next out out)
+silent-one (Ok said) next after reply out is done = rw (done.0, is) (Says-silence after next out done.1)
+silent-one (Err error) next after reply out is done = tt
+
+pub silent-one_breaks : (result : Result Said AllocError) (old next after : State) (reply : Reply) (out : List ℕ) → reply ≡ silence after
+    → OnErr result (next ≡ old) → OnErr result (SaysPrefix reply old next out out)
+silent-one_breaks (Ok said) old next after reply out is same = tt
+silent-one_breaks (Err error) old next after reply out is same =
+    rw is (record { puts_prefix = PutsPrefix-none (silence after).text out out refl; same_state = same })
+
+-- a reply that was said was told
+pub Says-tells : (result : Result Said AllocError) (Was Is : Reply → Type 0) (state : State) (before after : List ℕ)
+    → ((reply : Reply) → Was reply → Is reply)
+    → IfOk result (λ said. (reply : Reply) × Was reply × Says said reply state before after)
+    → IfOk result (λ said. (reply : Reply) × Is reply × Tells said reply before after)
+Says-tells (Ok said) Was Is state before after of (reply, was, says) =
+    (reply, of reply was, record { tells = says.tells; text = says.text })
+Says-tells (Err error) Was Is state before after of says = tt
+
+pub Says-tells_reply : (result : Result Said AllocError) (Is : Reply → Type 0) (reply : Reply) (state : State) (before after : List ℕ)
+    → Is reply → IfOk result (λ said. Says said reply state before after)
+    → IfOk result (λ said. (reply : Reply) × Is reply × Tells said reply before after)
+Says-tells_reply (Ok said) Is reply state before after is says = (reply, is, record { tells = says.tells; text = says.text })
+Says-tells_reply (Err error) Is reply state before after is says = tt
+
+pub SaysPrefix-puts_reply : (result : Result Said AllocError) (Is : Reply → Type 0) (reply : Reply) (old new : State) (before after : List ℕ)
+    → Is reply → OnErr result (SaysPrefix reply old new before after)
+    → OnErr result ((reply : Reply) × Is reply × PutsPrefix reply.text before after)
+SaysPrefix-puts_reply (Ok said) Is reply old new before after is says = tt
+SaysPrefix-puts_reply (Err error) Is reply old new before after is says = (reply, is, says.puts_prefix)
+
+-- a reply that was told was said, where the state is the one after it
+pub Tells-says : (said : Said) (reply : Reply) (state : State) (before after : List ℕ) → Tells said reply before after
+    → state ≡ reply.after → Says said reply state before after
+Tells-says said reply state before after told same = record { tells = told.tells; text = told.text; state_after = same }
+
+-- a list was opened
+pub opened-says : (result : Result Said AllocError) (state next : State) (out : List ℕ)
+    → IfOk result (λ said. (said ≡ Answered) × IsCommandReply Jobs state (silence next))
+    → IfOk result (λ said. (reply : Reply) × IsCommandReply Jobs state reply × Says said reply next out out)
+opened-says (Ok said) state next out done = (silence next, done.1, rw done.0 (Says-silence next next out refl))
+opened-says (Err error) state next out done = tt
+
+-- nothing was put of a reply
+pub nothing-put : (result : Result Said AllocError) (Is : Reply → Type 0) (reply : Reply) (before after : List ℕ) → Is reply → after ≡ before
+    → OnErr result ((reply : Reply) × Is reply × PutsPrefix reply.text before after)
+nothing-put (Ok said) Is reply before after is same = tt
+nothing-put (Err error) Is reply before after is same = (reply, is, PutsPrefix-none reply.text before after same)

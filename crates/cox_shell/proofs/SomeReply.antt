@@ -1,4 +1,4 @@
--- Each line has a reply.
+-- Each content has a reply, where no list is open.
 use Rattle.std.proofs.Common.{◌≡◌, ℕ, Bool, ◌&&◌, true, false, List, [], ◌∷◌, Option, Some, None, IfSome, IsSomeAnd}
 use Rattle.std.proofs.Common.{MatchOption}
 use Rattle.std.proofs.Common.{◌⊎◌, inl, inr, ⊎_elim, refl, sym, true≢false}
@@ -11,7 +11,7 @@ use Rattle.cox_command.specs.declared.refusal.Refusal.{Refusal}
 use Rattle.cox_command.specs.declared.refusal.Refusal.TheVariants.{WrongCount, WrongNumber, NoGroup, ManyRoots}
 use Rattle.cox_command.specs.declared.command.Command.TheVariants.{Group}
 use Rattle.cox_command.specs.declared.command_word.CommandWord.{CommandWord}
-use Rattle.cox_command.specs.declared.command_word.CommandWord.TheVariants.{Named, Matrix, Quit, One, Two, Plain, Work}
+use Rattle.cox_command.specs.declared.command_word.CommandWord.TheVariants.{Named, Matrix, Quit, Jobs, One, Two, Plain, Work}
 use Rattle.cox_command.specs.CommandWord.{command_word_of}
 use Rattle.cox_tokens.specs.Tokens.{tokens_of}
 use Rattle.cox_command.specs.LineRefusal.{has_wrong_count, has_wrong_number, needs_group, command_refusal, tokens_refusal}
@@ -23,7 +23,8 @@ use Rattle.cox_command.specs.declared.inquiry.Inquiry.TheVariants as inquiry
 use Rattle.cox_small.proofs.Counting.{not_both}
 use Rattle.cox_small.proofs.Deciding.{HasMoreSmallRoots-decided}
 use Rattle.cox_answers.specs.Limits.{Limits}
-use Rattle.cox_shell.specs.Reply.{State, Reply, rank_of, with_group, refusal, silence, farewell}
+use Rattle.cox_shell.specs.Reply.{State, Reply, rank_of, with_group, with_list, refusal, silence, farewell}
+use Rattle.cox_shell.specs.OpenLists.{opening_list}
 use Rattle.cox_shell.specs.CommandReply.{IsDecided}
 use Rattle.cox_answers.specs.InquiryQuestion.{question_of}
 use Rattle.cox_shell.specs.CommandReply.{Answers, IsInquiryReply, RefusesGroup, IsCommandReply}
@@ -89,6 +90,7 @@ module _ (state : State) (matrix : IfSome state.group IsCoxeterMatrix) where
       let g = matrix_of arguments in
       group-reply state g (IsAdmissible-integer_matrix g (group_set-is Matrix arguments (rank_of state) g accepted refl))
   by_word Quit arguments accepted = (farewell state, refl)
+  by_word Jobs arguments accepted = (silence (with_list state opening_list), refl)
   by_word (One kind) arguments accepted =
       let w = word_argument (rank_of state) arguments 0 in
       some_reply (inquiry.One kind w) (needed (One kind) arguments state.group refl accepted)

@@ -1,7 +1,7 @@
--- The contract of a whole run, from the run over the lines, or from what was written of the usage line.
+-- The contract of a whole run, from the run over the lines and the end of a list that is open then, or from what was written of the usage line.
 use Rattle.std.proofs.Common.{◌≡◌, ◌⊎◌, ⊎_elim, inl, inr, ◌<◌, ◌≤◌, ◌+◌, ℕ, true, false, List, [], ◌∷◌, ◌++◌, length, Option, None, Some}
-use Rattle.std.proofs.Common.{refl, sym, ◌∙◌, arith, length-append}
-use Rattle.std.specs.Prelude.{IfSome, IsSomeAnd}
+use Rattle.std.proofs.Common.{refl, sym, ◌∙◌, ap, subst, cond, Bool, ◌||◌, arith, length-append}
+use Rattle.std.specs.Prelude.{IfSome, IsSome, IsSomeAnd}
 use Rattle.std.specs.Io.KnownBytes.{prepend_known}
 use Rattle.std.proofs.lemmas.List.{append-nil}
 use Rattle.cox_outside.specs.declared.limits.TheConstants.{INPUT_LIMIT}
@@ -10,18 +10,24 @@ use Rattle.cox_outside.specs.Supply.{Supply, SourceCause}
 use Rattle.cox_outside.specs.Outlet.{Outlet, Writes, IsPrefix, SinkCause}
 use Rattle.cox_outside.specs.Reader.{Reader}
 use Rattle.cox_outside.proofs.Known.{prepend_known-none}
-use Rattle.cox_options.specs.Arguments.{IsTaken, IsUsage}
+use Rattle.cox_options.specs.Arguments.{is_refused, IsTaken, IsUsage}
 use Rattle.cox_shell.specs.declared.status.Status.{Status}
 use Rattle.cox_shell.specs.declared.status.Status.TheVariants.{Done, Refused, Usage, ReadFault, WriteFault, NoMemory, InputLimit}
-use Rattle.cox_shell.specs.Reply.{State}
+use Rattle.cox_answers.specs.Limits.{Limits}
+use Rattle.cox_shell.specs.Reply.{OpenList, State, Reply}
+use Rattle.cox_shell.specs.Answer.{AreScriptReplies, texts}
 use Rattle.cox_shell.specs.Run.{stand}
 use Rattle.cox_shell.specs.Status.{is_read_fault, is_write_fault}
 use Rattle.cox_shell.specs.Unhindered.{Rose, IsUnhindered}
-use Rattle.cox_shell.specs.Outcome.{Runs}
-use Rattle.cox_shell.specs.Top.{usage_line, given_limits}
-use Rattle.cox_shell.specs.Reading.{IsReadBy}
+use Rattle.cox_shell.specs.Outcome.{Runs, WritesPrefix, AnswersAll, EndsReading}
+use Rattle.cox_shell.specs.declared.closing.Closed.{Closed}
+use Rattle.cox_shell.specs.declared.closing.Closed.TheVariants as closed
+use Rattle.cox_shell.specs.Closing.{Closes, IsClosingCut, EndsBy, closed_status, closed_write_fault}
+use Rattle.cox_shell.specs.Top.{usage_line, given_limits, AnswersWhole, AnswersGiven, AreDue, AreDueAtEnd, WritesDue}
+use Rattle.cox_shell.specs.Reading.{IsReadBy, IsReadWhole, StopsReading}
 use Rattle.cox_shell.specs.WholeRun.{IsRun}
-use Rattle.cox_shell.proofs.Whole.{beginning, AnswersAll-whole, AnswersAll-read, Runs-given, Runs-limit, Runs-takes, Runs-due}
+use Rattle.cox_shell.proofs.Whole.{beginning, AnswersAll-whole, AnswersAll-read, Runs-given, Runs-limit, Runs-takes, fault_reading, limit_reading}
+use Rattle.cox_shell.proofs.Whole.{cut_due, closed_due, closing_due, closing_lost}
 use Rattle.cox_shell.proofs.Whole.{WritesDue-none, IsDue-usage, IsCutShort-stops, StopsReading-none}
 
 -- arguments are not both taken and wrong
@@ -47,38 +53,357 @@ no_fault supply = record { faults = refl; same_sure = refl; unsure = λ e. absur
 takes-none : (script : Option (List ℕ)) → (given : List ℕ) × (script ≡ prepend_known given script) × (length given ≤ INPUT_LIMIT + 1)
 takes-none script = ([], sym (prepend_known-none script), omega arith)
 
--- ---- the run over the lines
+-- a list is not open and none
+none_some : (o : Option OpenList) → o ≡ None → IsSome o → ⊥
+none_some None none some = cc some
+none_some (Some list) none some = cc none
 
-module _ (status : Status) (arguments : List (List ℕ)) (source : Supply) (state : State) (reader : Reader) (left : Supply)
-    (old new : Outlet)
-    (right : IsTaken arguments)
-    (runs : Runs status (beginning (given_limits arguments) source.left old) (stand state reader left new)) where
-  pub run-lines : SourceCause source left (is_read_fault status) → SinkCause old new (is_write_fault status)
-      → IsRun status arguments source left old new
-  run-lines reads writes = record {
-    done = λ e. AnswersAll-whole (given_limits arguments) source.left old state reader left new false (rw e at runs);
-    refused = λ e. AnswersAll-whole (given_limits arguments) source.left old state reader left new true (rw e at runs);
-    given = λ e. Runs-given (given_limits arguments) source.left old state reader left new (rw e at runs);
-    limit = λ e. Runs-limit (given_limits arguments) source.left old state reader left new (rw e at runs);
-    usage = λ e. absurd (rw e at runs);
-    usage_always = λ wrong. absurd (not-taken_and_wrong arguments right wrong);
+-- ---- the run over the lines, and the end of a list that is open then
+
+module _ (arguments : List (List ℕ)) (source : Supply) (state : State) (reader : Reader) (left : Supply) (old mid new : Outlet)
+    (right : IsTaken arguments) where
+  abbrev limits : Limits
+  limits = given_limits arguments
+
+  abbrev RunsOver : Status → Type 0
+  RunsOver ended = Runs ended (beginning limits source.left old) (stand state reader left mid)
+
+  abbrev Reading : Bool → Type 0
+  Reading lost = EndsReading lost (beginning limits source.left old) (stand state reader left mid)
+
+  abbrev Prefix : Type 0
+  Prefix = WritesPrefix (beginning limits source.left old) (stand state reader left mid)
+
+  abbrev IsLost : Status → Bool → Type 0
+  IsLost status lost = lost ≡ true → (status ≡ ReadFault) ⊎ (((status ≡ WriteFault) ⊎ (status ≡ NoMemory))
+      × (replies : List Reply) × AreDueAtEnd true limits source.left left.left replies)
+
+  not_wrong : {X : Type 0} → is_refused arguments ≡ true → X
+  not_wrong wrong = absurd (not-taken_and_wrong arguments right wrong)
+
+  -- the script was answered whole
+  run-whole : (refused : Bool) → AnswersWhole refused limits source.left old new → SourceCause source left false → SinkCause old new false
+      → WritesDue false false arguments source.left left.left old new → IsRun (cond refused Refused Done) arguments source left old new
+  run-whole true answers reads writes due = record {
+    done = λ e. absurd (cc e);
+    refused = λ e. answers;
+    given = λ e. absurd (cc e);
+    limit = λ e. absurd (cc e);
+    usage = λ e. absurd (cc e);
+    usage_always = λ wrong. not_wrong wrong;
+    lost = false;
     read_fault = reads;
+    fault_lost = λ e. absurd (cc e);
+    lost_told = λ e. absurd (cc e);
     write_fault = writes;
-    prefix = Runs-due status arguments source.left old state reader left new right runs;
+    prefix = due;
+  }
+  run-whole false answers reads writes due = record {
+    done = λ e. answers;
+    refused = λ e. absurd (cc e);
+    given = λ e. absurd (cc e);
+    limit = λ e. absurd (cc e);
+    usage = λ e. absurd (cc e);
+    usage_always = λ wrong. not_wrong wrong;
+    lost = false;
+    read_fault = reads;
+    fault_lost = λ e. absurd (cc e);
+    lost_told = λ e. absurd (cc e);
+    write_fault = writes;
+    prefix = due;
   }
 
-  pub read-lines : IsReadBy status arguments source.left left.left
-  read-lines = record {
-    whole = λ which. ⊎_elim
-        (λ (e : status ≡ Done).
-        AnswersAll-read (given_limits arguments) source.left old state reader left new false (rw e at runs))
-        (λ (e : status ≡ Refused).
-        AnswersAll-read (given_limits arguments) source.left old state reader left new true (rw e at runs)) which;
-    stops = λ which taken. ⊎_elim
-        (λ (e : status ≡ WriteFault). IsCutShort-stops (given_limits arguments) source.left old state reader left new (rw e at runs).0)
-        (λ (e : status ≡ NoMemory). IsCutShort-stops (given_limits arguments) source.left old state reader left new (rw e at runs)) which;
-    within = Runs-takes (given_limits arguments) source.left old state reader left new status runs;
+  -- a read failed, and all that it left was answered
+  run-given : AnswersGiven limits source.left left.left old new → SourceCause source left true → SinkCause old new false
+      → WritesDue true false arguments source.left left.left old new → IsRun ReadFault arguments source left old new
+  run-given answers reads writes due = record {
+    done = λ e. absurd (cc e);
+    refused = λ e. absurd (cc e);
+    given = λ e. answers;
+    limit = λ e. absurd (cc e);
+    usage = λ e. absurd (cc e);
+    usage_always = λ wrong. not_wrong wrong;
+    lost = true;
+    read_fault = reads;
+    fault_lost = λ e. refl;
+    lost_told = λ e. inl refl;
+    write_fault = writes;
+    prefix = due;
   }
+
+  -- the limit was met
+  run-limit : (byte : ℕ) × (answers : AnswersGiven limits source.left (prepend_known (byte ∷ []) left.left) old new)
+      × (length answers.given ≡ INPUT_LIMIT) → SourceCause source left false → SinkCause old new false
+      → WritesDue false false arguments source.left left.left old new → IsRun InputLimit arguments source left old new
+  run-limit answers reads writes due = record {
+    done = λ e. absurd (cc e);
+    refused = λ e. absurd (cc e);
+    given = λ e. absurd (cc e);
+    limit = λ e. answers;
+    usage = λ e. absurd (cc e);
+    usage_always = λ wrong. not_wrong wrong;
+    lost = false;
+    read_fault = reads;
+    fault_lost = λ e. absurd (cc e);
+    lost_told = λ e. absurd (cc e);
+    write_fault = writes;
+    prefix = due;
+  }
+
+  -- a write failed
+  run-unwritten : (lost : Bool) → IsLost WriteFault lost → SourceCause source left lost → SinkCause old new true
+      → WritesDue lost true arguments source.left left.left old new → IsRun WriteFault arguments source left old new
+  run-unwritten lost told reads writes due = record {
+    done = λ e. absurd (cc e);
+    refused = λ e. absurd (cc e);
+    given = λ e. absurd (cc e);
+    limit = λ e. absurd (cc e);
+    usage = λ e. absurd (cc e);
+    usage_always = λ wrong. not_wrong wrong;
+    lost = lost;
+    read_fault = reads;
+    fault_lost = λ e. absurd (cc e);
+    lost_told = told;
+    write_fault = writes;
+    prefix = due;
+  }
+
+  -- memory ran out
+  run-no_memory : (lost : Bool) → IsLost NoMemory lost → SourceCause source left lost → SinkCause old new false
+      → WritesDue lost false arguments source.left left.left old new → IsRun NoMemory arguments source left old new
+  run-no_memory lost told reads writes due = record {
+    done = λ e. absurd (cc e);
+    refused = λ e. absurd (cc e);
+    given = λ e. absurd (cc e);
+    limit = λ e. absurd (cc e);
+    usage = λ e. absurd (cc e);
+    usage_always = λ wrong. not_wrong wrong;
+    lost = lost;
+    read_fault = reads;
+    fault_lost = λ e. absurd (cc e);
+    lost_told = told;
+    write_fault = writes;
+    prefix = due;
+  }
+
+  -- the replies that were due at the end of reading
+  at_end : (lost : Bool) → Reading lost → IsClosingCut state mid new
+      → (replies : List Reply) × AreDueAtEnd lost limits source.left left.left replies
+  at_end lost h cut = closing_lost arguments source.left old state reader left mid right new lost h cut
+
+  -- the list was ended, and its reply was cut off
+  run-closing : (lost : Bool) → Reading lost → (cut : IsClosingCut state mid new)
+      → SourceCause source left lost → SinkCause old new true → IfSome mid.room (λ room. room < length (texts cut.closing))
+      → IsRun WriteFault arguments source left old new
+  run-closing lost h cut reads writes small = run-unwritten lost
+      (λ e. let p = at_end true (subst (λ b. Reading b) e h) cut in inr (inl refl, p.0, p.1)) reads writes
+      (closing_due arguments source.left old state reader left mid right new lost true h cut (λ e. small))
+
+  run-closing_memory : (lost : Bool) → Reading lost → (cut : IsClosingCut state mid new)
+      → SourceCause source left lost → SinkCause old new false → IsRun NoMemory arguments source left old new
+  run-closing_memory lost h cut reads writes = run-no_memory lost
+      (λ e. let p = at_end true (subst (λ b. Reading b) e h) cut in inr (inr refl, p.0, p.1)) reads writes
+      (closing_due arguments source.left old state reader left mid right new lost false h cut (λ e. absurd (cc e)))
+
+  -- where a list is open reading has ended
+  in_list : (lost : Bool) → (state.list ≡ None) ⊎ Reading lost → IsSome state.list → Reading lost
+  in_list lost which some = ⊎_elim (λ (none : state.list ≡ None). absurd (none_some state.list none some)) (λ (h : Reading lost). h) which
+
+  -- one more count of faults behind none
+  later : (failed : Bool) → SinkCause old mid false → SinkCause mid new failed → SinkCause old new failed
+  later failed before at_end = at_end ∙ ap (count_after failed) before
+
+  -- the run over the lines answered them whole
+  whole-ends : (before : Bool) → AnswersAll before (beginning limits source.left old) (stand state reader left mid) → (closed : Closed) → Closes closed state mid new → SourceCause source left false
+      → SinkCause old mid false → SinkCause mid new (closed_write_fault closed)
+      → IsRun (closed_status closed (cond before Refused Done)) arguments source left old new
+  whole-ends before h closed.Answered c reads writes more = subst (λ status. IsRun status arguments source left old new)
+      (none_more before) (run-whole (before || false) (AnswersAll-whole limits source.left old state reader left mid new before false h c) reads
+      (later false writes more) (closed_due arguments source.left old state reader left mid right new false false h.writes_prefix h.reading c))
+    where
+      none_more : (b : Bool) → cond (b || false) Refused Done ≡ cond b Refused Done
+      none_more true = refl
+      none_more false = refl
+  whole-ends before h closed.Refused c reads writes more = subst (λ status. IsRun status arguments source left old new)
+      (one_more before) (run-whole (before || true) (AnswersAll-whole limits source.left old state reader left mid new before true h c) reads
+      (later false writes more) (closed_due arguments source.left old state reader left mid right new false true h.writes_prefix h.reading c))
+    where
+      one_more : (b : Bool) → cond (b || true) Refused Done ≡ closed_status closed.Refused (cond b Refused Done)
+      one_more true = refl
+      one_more false = refl
+  whole-ends before h closed.WriteFault c reads writes more =
+      run-closing false (in_list false h.reading c.0.some) c.0 reads (later true writes more) c.1
+  whole-ends before h closed.NoMemory c reads writes more =
+      run-closing_memory false (in_list false h.reading c.some) c reads (later false writes more)
+
+  -- a read failed
+  fault-ends : RunsOver ReadFault → (closed : Closed) → Closes closed state mid new → SourceCause source left true
+      → SinkCause old mid false → SinkCause mid new (closed_write_fault closed)
+      → IsRun (closed_status closed ReadFault) arguments source left old new
+  fault-ends h closed.Answered c reads writes more =
+      run-given (Runs-given limits source.left old state reader left mid new false h c) reads (later false writes more)
+      (closed_due arguments source.left old state reader left mid right new true false h.2.writes_prefix
+      (inr (fault_reading limits source.left old state reader left mid h)) c)
+  fault-ends h closed.Refused c reads writes more =
+      run-given (Runs-given limits source.left old state reader left mid new true h c) reads (later false writes more)
+      (closed_due arguments source.left old state reader left mid right new true true h.2.writes_prefix
+      (inr (fault_reading limits source.left old state reader left mid h)) c)
+  fault-ends h closed.WriteFault c reads writes more =
+      run-closing true (fault_reading limits source.left old state reader left mid h) c.0 reads (later true writes more) c.1
+  fault-ends h closed.NoMemory c reads writes more =
+      run-closing_memory true (fault_reading limits source.left old state reader left mid h) c reads (later false writes more)
+
+  -- the limit was met
+  limit-ends : RunsOver InputLimit → (closed : Closed) → Closes closed state mid new → SourceCause source left false
+      → SinkCause old mid false → SinkCause mid new (closed_write_fault closed)
+      → IsRun (closed_status closed InputLimit) arguments source left old new
+  limit-ends h closed.Answered c reads writes more =
+      run-limit (Runs-limit limits source.left old state reader left mid new false h c) reads (later false writes more)
+      (closed_due arguments source.left old state reader left mid right new false false h.answers.writes_prefix
+      (inr (limit_reading limits source.left old state reader left mid h)) c)
+  limit-ends h closed.Refused c reads writes more =
+      run-limit (Runs-limit limits source.left old state reader left mid new true h c) reads (later false writes more)
+      (closed_due arguments source.left old state reader left mid right new false true h.answers.writes_prefix
+      (inr (limit_reading limits source.left old state reader left mid h)) c)
+  limit-ends h closed.WriteFault c reads writes more =
+      run-closing false (limit_reading limits source.left old state reader left mid h) c.0 reads (later true writes more) c.1
+  limit-ends h closed.NoMemory c reads writes more =
+      run-closing_memory false (limit_reading limits source.left old state reader left mid h) c reads (later false writes more)
+
+  -- what it read
+  abbrev IsCut : Status → Type 0
+  IsCut status = (status ≡ WriteFault) ⊎ (status ≡ NoMemory)
+
+  Takes : Type 0
+  Takes = (given : List ℕ) × (source.left ≡ prepend_known given left.left) × (length given ≤ INPUT_LIMIT + 1)
+
+  read-whole : (status : Status) → ¬ IsCut status
+      → (replies : List Reply) × IfSome source.left (λ bytes. AreScriptReplies limits bytes replies) × IsReadWhole replies source.left left.left
+      → Takes → IsReadBy status arguments source.left left.left
+  unfolding Takes
+  read-whole status whole read takes = record {
+    whole = λ which. read;
+    stops = λ cut taken. absurd (whole cut);
+    within = takes;
+  }
+
+  read-cut : (status : Status) → ((status ≡ Done) ⊎ (status ≡ Refused) → ⊥)
+      → ((replies : List Reply) × AreDue limits source.left left.left replies × StopsReading replies source.left left.left)
+      ⊎ ((lost : Bool) × (replies : List Reply) × AreDueAtEnd lost limits source.left left.left replies)
+      → Takes → IsReadBy status arguments source.left left.left
+  unfolding Takes
+  read-cut status part stops takes = record {
+    whole = λ which. absurd (part which);
+    stops = λ cut taken. stops;
+    within = takes;
+  }
+
+  read-rest : (status : Status) → ((status ≡ Done) ⊎ (status ≡ Refused) → ⊥) → ¬ IsCut status → Takes
+      → IsReadBy status arguments source.left left.left
+  unfolding Takes
+  read-rest status part whole takes = record {
+    whole = λ which. absurd (part which);
+    stops = λ cut taken. absurd (whole cut);
+    within = takes;
+  }
+
+  -- the reply to the end of the list was cut off
+  read-closing : (status : Status) → ((status ≡ Done) ⊎ (status ≡ Refused) → ⊥) → (lost : Bool) → Reading lost → IsClosingCut state mid new
+      → Takes → IsReadBy status arguments source.left left.left
+  read-closing status part lost h cut takes = read-cut status part
+      (inr (let p = at_end lost h cut in (lost, p.0, p.1))) takes
+
+  read-whole-ends : (before : Bool) → AnswersAll before (beginning limits source.left old) (stand state reader left mid)
+      → (closed : Closed) → Closes closed state mid new → Takes
+      → IsReadBy (closed_status closed (cond before Refused Done)) arguments source.left left.left
+  read-whole-ends before h closed.Answered c takes = read-whole (cond before Refused Done) (not_cut before)
+      (AnswersAll-read limits source.left old state reader left mid new before false h c) takes
+    where
+      not_cut : (b : Bool) → ¬ IsCut (cond b Refused Done)
+      not_cut true which = ⊎_elim (λ e. cc e) (λ e. cc e) which
+      not_cut false which = ⊎_elim (λ e. cc e) (λ e. cc e) which
+  read-whole-ends before h closed.Refused c takes = read-whole (closed_status closed.Refused (cond before Refused Done)) (not_cut before)
+      (AnswersAll-read limits source.left old state reader left mid new before true h c) takes
+    where
+      not_cut : (b : Bool) → ¬ IsCut (closed_status closed.Refused (cond b Refused Done))
+      not_cut true which = ⊎_elim (λ e. cc e) (λ e. cc e) which
+      not_cut false which = ⊎_elim (λ e. cc e) (λ e. cc e) which
+  read-whole-ends before h closed.WriteFault c takes =
+      read-closing WriteFault (λ which. ⊎_elim (λ e. cc e) (λ e. cc e) which) false (in_list false h.reading c.0.some) c.0 takes
+  read-whole-ends before h closed.NoMemory c takes =
+      read-closing NoMemory (λ which. ⊎_elim (λ e. cc e) (λ e. cc e) which) false (in_list false h.reading c.some) c takes
+
+  read-other-ends : (ended : Status) → (ended ≡ ReadFault) ⊎ (ended ≡ InputLimit) → (lost : Bool) → Reading lost
+      → (closed : Closed) → Closes closed state mid new → Takes → IsReadBy (closed_status closed ended) arguments source.left left.left
+  read-other-ends ended which lost h closed.Answered c takes = ⊎_elim
+      (λ (e : ended ≡ ReadFault). rw e (read-rest ReadFault (λ w. ⊎_elim (λ e. cc e) (λ e. cc e) w) (λ w. ⊎_elim (λ e. cc e) (λ e. cc e) w) takes))
+      (λ (e : ended ≡ InputLimit). rw e (read-rest InputLimit (λ w. ⊎_elim (λ e. cc e) (λ e. cc e) w) (λ w. ⊎_elim (λ e. cc e) (λ e. cc e) w) takes))
+      which
+  read-other-ends ended which lost h closed.Refused c takes = ⊎_elim
+      (λ (e : ended ≡ ReadFault). rw e (read-rest ReadFault (λ w. ⊎_elim (λ e. cc e) (λ e. cc e) w) (λ w. ⊎_elim (λ e. cc e) (λ e. cc e) w) takes))
+      (λ (e : ended ≡ InputLimit). rw e (read-rest InputLimit (λ w. ⊎_elim (λ e. cc e) (λ e. cc e) w) (λ w. ⊎_elim (λ e. cc e) (λ e. cc e) w) takes))
+      which
+  read-other-ends ended which lost h closed.WriteFault c takes =
+      read-closing WriteFault (λ which. ⊎_elim (λ e. cc e) (λ e. cc e) which) lost h c.0 takes
+  read-other-ends ended which lost h closed.NoMemory c takes =
+      read-closing NoMemory (λ which. ⊎_elim (λ e. cc e) (λ e. cc e) which) lost h c takes
+
+module _ (arguments : List (List ℕ)) (source : Supply) (state : State) (reader : Reader) (left : Supply) (old mid : Outlet)
+    (right : IsTaken arguments) where
+  abbrev Over : Status → Type 0
+  Over ended = Runs ended (beginning (given_limits arguments) source.left old) (stand state reader left mid)
+
+  -- a run over the lines that was cut short is the whole
+  cut-unwritten : Over WriteFault → SourceCause source left false → SinkCause old mid true → IsRun WriteFault arguments source left old mid
+  cut-unwritten h reads writes = run-unwritten arguments source state reader left old mid mid right false (λ e. absurd (cc e)) reads writes
+      (cut_due arguments source.left old state reader left mid right false true h.0 (λ e. h.1))
+
+  cut-no_memory : Over NoMemory → SourceCause source left false → SinkCause old mid false → IsRun NoMemory arguments source left old mid
+  cut-no_memory h reads writes = run-no_memory arguments source state reader left old mid mid right false (λ e. absurd (cc e)) reads writes
+      (cut_due arguments source.left old state reader left mid right false false h (λ e. absurd (cc e)))
+
+  -- by the status that the run over the lines ended by
+  pub run-lines : (new : Outlet) (ended result : Status) → Over ended → EndsBy ended result state mid new
+      → SourceCause source left (is_read_fault ended) → SinkCause old mid (is_write_fault ended)
+      → IsRun result arguments source left old new
+  run-lines new Done result runs ends reads writes =
+      rw ends.3 (whole-ends arguments source state reader left old mid new right false runs ends.0 ends.1 reads writes ends.2)
+  run-lines new Refused result runs ends reads writes =
+      rw ends.3 (whole-ends arguments source state reader left old mid new right true runs ends.0 ends.1 reads writes ends.2)
+  run-lines new Usage result runs ends reads writes = absurd runs
+  run-lines new ReadFault result runs ends reads writes =
+      rw ends.3 (fault-ends arguments source state reader left old mid new right runs ends.0 ends.1 reads writes ends.2)
+  run-lines new InputLimit result runs ends reads writes =
+      rw ends.3 (limit-ends arguments source state reader left old mid new right runs ends.0 ends.1 reads writes ends.2)
+  run-lines new WriteFault result runs ends reads writes = rw (ends.0, ends.1) (cut-unwritten runs reads writes)
+  run-lines new NoMemory result runs ends reads writes = rw (ends.0, ends.1) (cut-no_memory runs reads writes)
+
+  pub read-lines : (new : Outlet) (ended result : Status) → Over ended → EndsBy ended result state mid new
+      → IsReadBy result arguments source.left left.left
+  unfolding Takes
+  read-lines new ended result runs ends = by_status ended runs ends
+      (Runs-takes (given_limits arguments) source.left old state reader left mid ended runs)
+    where
+      by_status : (ended : Status) → Over ended → EndsBy ended result state mid new
+          → (given : List ℕ) × (source.left ≡ prepend_known given left.left) × (length given ≤ INPUT_LIMIT + 1)
+          → IsReadBy result arguments source.left left.left
+      by_status Done runs ends takes =
+          rw ends.3 (read-whole-ends arguments source state reader left old mid new right false runs ends.0 ends.1 takes)
+      by_status Refused runs ends takes =
+          rw ends.3 (read-whole-ends arguments source state reader left old mid new right true runs ends.0 ends.1 takes)
+      by_status Usage runs ends takes = absurd runs
+      by_status ReadFault runs ends takes =
+          rw ends.3 (read-other-ends arguments source state reader left old mid new right ReadFault (inl refl) true
+          (fault_reading (given_limits arguments) source.left old state reader left mid runs) ends.0 ends.1 takes)
+      by_status InputLimit runs ends takes =
+          rw ends.3 (read-other-ends arguments source state reader left old mid new right InputLimit (inr refl) false
+          (limit_reading (given_limits arguments) source.left old state reader left mid runs) ends.0 ends.1 takes)
+      by_status WriteFault runs ends takes =
+          rw ends.0 (read-cut arguments source state reader left old mid new right WriteFault (λ w. ⊎_elim (λ e. cc e) (λ e. cc e) w)
+          (inl (IsCutShort-stops (given_limits arguments) source.left old state reader left mid runs.0)) takes)
+      by_status NoMemory runs ends takes =
+          rw ends.0 (read-cut arguments source state reader left old mid new right NoMemory (λ w. ⊎_elim (λ e. cc e) (λ e. cc e) w)
+          (inl (IsCutShort-stops (given_limits arguments) source.left old state reader left mid runs)) takes)
 
 -- ---- memory ran out before anything was read
 
@@ -90,7 +415,10 @@ run-none arguments supply outlet = record {
   limit = λ e. absurd (cc e);
   usage = λ e. absurd (cc e);
   usage_always = λ wrong. inr (inr refl);
+  lost = false;
   read_fault = no_fault supply;
+  fault_lost = λ e. absurd (cc e);
+  lost_told = λ e. absurd (cc e);
   write_fault = refl;
   prefix = WritesDue-none arguments supply.left outlet;
 }
@@ -98,7 +426,7 @@ run-none arguments supply outlet = record {
 pub read-none : (arguments : List (List ℕ)) (script : Option (List ℕ)) → IsReadBy NoMemory arguments script script
 read-none arguments script = record {
   whole = λ which. absurd (⊎_elim (λ e. cc e) (λ e. cc e) which);
-  stops = λ which taken. StopsReading-none (given_limits arguments) script;
+  stops = λ which taken. inl (StopsReading-none (given_limits arguments) script);
   within = takes-none script;
 }
 
@@ -113,11 +441,14 @@ module _ (arguments : List (List ℕ)) (supply : Supply) (old new : Outlet) (wro
     limit = λ e. absurd (cc e);
     usage = λ e. (wrong, writes);
     usage_always = λ wrong. inl refl;
+    lost = false;
     read_fault = no_fault supply;
+    fault_lost = λ e. absurd (cc e);
+    lost_told = λ e. absurd (cc e);
     write_fault = cause;
     prefix = (
       usage_line,
-      IsDue-usage arguments supply.left supply.left wrong,
+      IsDue-usage false arguments supply.left supply.left wrong,
       usage_line,
       ([], sym (append-nil usage_line)),
       writes,
@@ -134,9 +465,12 @@ module _ (arguments : List (List ℕ)) (supply : Supply) (old new : Outlet) (wro
     limit = λ e. absurd (cc e);
     usage = λ e. absurd (cc e);
     usage_always = λ wrong. inr (inl refl);
+    lost = false;
     read_fault = no_fault supply;
+    fault_lost = λ e. absurd (cc e);
+    lost_told = λ e. absurd (cc e);
     write_fault = cause;
-    prefix = (usage_line, IsDue-usage arguments supply.left supply.left wrong, written, prefix, writes, λ e. full);
+    prefix = (usage_line, IsDue-usage false arguments supply.left supply.left wrong, written, prefix, writes, λ e. full);
   }
 
 -- nothing is read then
@@ -161,7 +495,8 @@ run-unhindered Refused arguments source left old new run right no_read no_write 
 run-unhindered Usage arguments source left old new run right no_read no_write within =
     not-taken_and_wrong arguments right (run.usage refl).0
 run-unhindered ReadFault arguments source left old new run right no_read no_write within =
-    no_read (rose-told source.faults left.faults run.read_fault.faults)
+    no_read (rose-told source.faults left.faults (subst (λ lost. left.faults ≡ count_after lost source.faults) (run.fault_lost refl)
+    run.read_fault.faults))
 run-unhindered WriteFault arguments source left old new run right no_read no_write within =
     no_write (rose-told old.faults new.faults run.write_fault)
 run-unhindered NoMemory arguments source left old new run right no_read no_write within = tt

@@ -5,11 +5,12 @@ use Rattle.cox_base.specs.IntegerMatrix.{integer_matrix}
 use Rattle.cox_command.specs.declared.refusal.Refusal.{Refusal}
 use Rattle.cox_command.specs.declared.refusal.Refusal.TheVariants.{ManyRoots}
 use Rattle.cox_command.specs.declared.command.Command.{Command}
-use Rattle.cox_command.specs.declared.command.Command.TheVariants.{Nothing, Quit, Group, Ask}
+use Rattle.cox_command.specs.declared.command.Command.TheVariants.{Nothing, Quit, Group, Jobs, Ask}
 use Rattle.cox_small.specs.SmallRoots.{HasMoreSmallRoots}
 use Rattle.cox_command.specs.declared.inquiry.Inquiry.{Inquiry}
 use Rattle.cox_answers.specs.Limits.{Limits}
-use Rattle.cox_shell.specs.Reply.{State, Reply, refusal, with_group, silence, farewell, answered}
+use Rattle.cox_shell.specs.Reply.{State, Reply, refusal, with_group, with_list, silence, farewell, answered}
+use Rattle.cox_shell.specs.OpenLists.{opening_list}
 use Rattle.cox_answers.specs.Question.{Question, IsRefused}
 use Rattle.cox_answers.specs.InquiryQuestion.{question_of}
 use Rattle.std.specs.Prelude.{Option, MatchOption}
@@ -39,4 +40,5 @@ IsCommandReply Nothing state reply = reply ≡ silence state
 IsCommandReply Quit state reply = reply ≡ farewell state
 IsCommandReply (Group g) state reply =
     IsDecided state (RefusesGroup state.limits g) (λ answer. answer ≡ silence (with_group state g)) reply
+IsCommandReply Jobs state reply = reply ≡ silence (with_list state opening_list)
 IsCommandReply (Ask inquiry) state reply = IsInquiryReply inquiry state reply

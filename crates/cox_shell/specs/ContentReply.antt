@@ -1,4 +1,4 @@
--- The reply to a line by its content.
+-- The reply to a line by its content, where no list is open.
 use Rattle.std.specs.Prelude.{◌≡◌, ℕ, List, IsSomeAnd, MatchOption}
 use Rattle.cox_tokens.specs.Tokens.{tokens_of}
 use Rattle.cox_command.specs.LineRefusal.{line_refusal}

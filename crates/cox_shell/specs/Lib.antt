@@ -4,8 +4,14 @@ pub mod Reply
 pub mod SessionState
 -- the replies to commands, in the terms of Coxeter groups
 pub mod CommandReply
--- the reply to the content of a line
+-- the reply to the content of a line, where no list is open
 pub mod ContentReply
+-- lists of blocks that are open
+pub mod OpenLists
+-- what the blocks of a list are answered
+pub mod Blocks
+-- the reply to the content of a line, whether a list is open or none
+pub mod ListReply
 -- the reply to what was given of a line
 pub mod GivenReply
 -- the reply to a line
@@ -14,6 +20,10 @@ pub mod LineReply
 pub mod Answer
 -- the text that answers a script
 pub mod ScriptAnswer
+-- the state where a line is kept
+pub mod Keeping
+-- what is told of the lines of blocks
+pub mod ToldText
 -- what the calls that answer say of a reply
 pub mod Saying
 -- how a run ends
@@ -26,6 +36,8 @@ pub mod ExitCode
 pub mod Run
 -- what a run over the lines does
 pub mod Outcome
+-- what ending an open list does at the end of reading
+pub mod Closing
 -- what a whole run has written
 pub mod Top
 -- how far it has read

@@ -4,8 +4,8 @@ use Rattle.cox_outside.specs.declared.limits.TheConstants.{LINE_LIMIT}
 use Rattle.cox_outside.specs.Line.{is_foreign, content_of}
 use Rattle.cox_command.specs.declared.refusal.Refusal.{Refusal}
 use Rattle.cox_command.specs.declared.refusal.Refusal.TheVariants.{LongLine, ForeignByte}
-use Rattle.cox_shell.specs.Reply.{State, Reply, refusal}
-use Rattle.cox_shell.specs.ContentReply.{IsContentReply}
+use Rattle.cox_shell.specs.Reply.{State, Reply}
+use Rattle.cox_shell.specs.ListReply.{IsReplyTo, unread_reply}
 
 -- the content of a line is longer than the limit, or else a byte of it is outside 0x20 to 0x7E
 abbrev pub content_refusal : List ℕ → Option Refusal
@@ -14,5 +14,5 @@ content_refusal content = if nat_lt LINE_LIMIT (length content) then Some LongLi
 
 -- the reply to a line, given by its bytes up to its end
 abbrev pub IsReply : State → List ℕ → Reply → Type 0
-IsReply state line reply = MatchOption (content_refusal (content_of line)) (IsContentReply state (content_of line) reply)
-    (λ why. reply ≡ refusal state why)
+IsReply state line reply = MatchOption (content_refusal (content_of line)) (IsReplyTo state (content_of line) reply)
+    (λ why. reply ≡ unread_reply state why)

@@ -7,18 +7,36 @@ use Rattle.cox_command.specs.RefusalNumber.{refusal_number}
 use Rattle.cox_print.specs.AnswerText.{refusal_text}
 use Rattle.cox_answers.specs.Limits.{Limits}
 
--- the state of a session: its limits, and the Coxeter matrix of the group that is set, if one is
+-- a line that is kept in a list: its content, or why its bytes are refused
+pub record Kept : Type 0 where
+  pub content : List ℕ
+  pub refused : Option Refusal
+
+-- a list that is open: the lines of each of its blocks
+abbrev pub OpenList : Type 0
+OpenList = List (List Kept)
+
+-- the state of a session: its limits, the Coxeter matrix of the group that is set, if one is, and the list that is open, if one is
 pub record State : Type 0 where
   pub limits : Limits
   pub group : Option CoxeterMatrix
+  pub list : Option OpenList
 
--- the state of a session that begins: no group is set
+-- the state of a session that begins: no group is set, and no list is open
 abbrev pub opening : Limits → State
-opening limits = record { limits = limits; group = None }
+opening limits = record { limits = limits; group = None; list = None }
 
 -- the state after a group is set
 abbrev pub with_group : State → CoxeterMatrix → State
-with_group state g = record { limits = state.limits; group = Some g }
+with_group state g = record { limits = state.limits; group = Some g; list = state.list }
+
+-- the state with this list open
+abbrev pub with_list : State → OpenList → State
+with_list state list = record { limits = state.limits; group = state.group; list = Some list }
+
+-- the state with no list open
+abbrev pub closed : State → State
+closed state = record { limits = state.limits; group = state.group; list = None }
 
 -- the rank of the group that is set
 abbrev pub rank_of : State → Option ℕ

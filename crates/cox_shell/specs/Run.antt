@@ -78,8 +78,10 @@ abbrev pub Serves : Result Said Stopped → Stand → Stand → Type 0
 Serves (Ok Answered) old new = IsServed false false old new
 Serves (Ok (Refused number)) old new = IsServed true false old new
 Serves (Ok Quit) old new = IsServed false true old new
-Serves (Err End) old new = ReadsNext next.End new.stop old.ahead new.ahead × (new.out ≡ old.out)
-Serves (Err InputLimit) old new = ReadsNext next.Limit new.stop old.ahead new.ahead × (new.out ≡ old.out)
-Serves (Err ReadFault) old new = ReadsNext next.Failed new.stop old.ahead new.ahead × (new.out ≡ old.out)
+Serves (Err End) old new = ReadsNext next.End new.stop old.ahead new.ahead × (new.out ≡ old.out) × (new.state ≡ old.state)
+Serves (Err InputLimit) old new =
+    ReadsNext next.Limit new.stop old.ahead new.ahead × (new.out ≡ old.out) × (new.state ≡ old.state)
+Serves (Err ReadFault) old new =
+    ReadsNext next.Failed new.stop old.ahead new.ahead × (new.out ≡ old.out) × (new.state ≡ old.state)
 Serves (Err WriteFault) old new = (cut : IsCutOff old new) × IfSome old.out.room (λ left. left < length cut.reply.text)
 Serves (Err NoMemory) old new = IsCutOff old new

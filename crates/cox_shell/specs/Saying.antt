@@ -16,6 +16,11 @@ IsSaid Answered reply = (reply.refused ≡ None) × (reply.quits ≡ false)
 IsSaid (Refused number) reply = IsSomeAnd reply.refused (λ why. number ≡ refusal_number why) × (reply.quits ≡ false)
 IsSaid Quit reply = (reply.refused ≡ None) × (reply.quits ≡ true)
 
+-- a reply was told: its text was appended
+pub record Tells (said : Said) (reply : Reply) (before after : List ℕ) : Type 0 where
+  pub tells : IsSaid said reply
+  pub text : after ≡ before ++ reply.text
+
 -- a reply was given: its text was appended, and the state is the one after it
 pub record Says (said : Said) (reply : Reply) (state : State) (before after : List ℕ) : Type 0 where
   pub tells : IsSaid said reply

@@ -1,6 +1,6 @@
 -- What a whole run has written.
 use Rattle.std.specs.Prelude.{◌≡◌, ℕ, ◌<◌, ◌⊎◌, Bool, true, false, List, [], ◌∷◌, ◌++◌, length, take, map, codes, Option, IfSome}
-use Rattle.std.specs.Prelude.{unwrap_or, MatchBool}
+use Rattle.std.specs.Prelude.{unwrap_or, MatchBool, IsSome}
 use Rattle.std.specs.Borrow.{Bor}
 use Rattle.std.specs.Io.KnownBytes.{prepend_known, IsAtEnd}
 use Rattle.cox_outside.specs.declared.limits.TheConstants.{INPUT_LIMIT}
@@ -9,7 +9,7 @@ use Rattle.cox_outside.specs.Outlet.{Outlet, Writes, IsPrefix}
 use Rattle.cox_options.specs.Arguments.{is_refused, given_number}
 use Rattle.cox_answers.specs.Limits.{Limits}
 use Rattle.cox_shell.specs.Reply.{Reply, opening}
-use Rattle.cox_shell.specs.Answer.{AreReplies, AreScriptReplies, texts, has_refusal, has_quit, script_lines}
+use Rattle.cox_shell.specs.Answer.{AreReplies, AreAllReplies, AreScriptReplies, state_behind, texts, has_refusal, has_quit, script_lines}
 
 -- what is written for wrong arguments
 abbrev pub usage_line : List ℕ
@@ -32,12 +32,12 @@ pub record AnswersWhole (refused : Bool) (limits : Limits) (script : Option (Lis
   pub refuses : has_refusal replies ≡ refused
   pub writes : Writes (texts replies) old new
 
--- the lines that end by LF among the bytes that the source gave were answered, and none of them ends the run
+-- the lines that end by LF among the bytes that the source gave were answered, and then a list that was open; none of them ends the run
 pub record AnswersGiven (limits : Limits) (script left : Option (List ℕ)) (old new : Outlet) : Type 0 where
   pub given : List ℕ
   pub taken : script ≡ prepend_known given left
   pub replies : List Reply
-  pub are_replies : AreReplies (opening limits) (ended_lines given) replies
+  pub are_replies : AreAllReplies (opening limits) (ended_lines given) replies
   pub none_quits : has_quit replies ≡ false
   pub writes : Writes (texts replies) old new
 
@@ -49,12 +49,26 @@ pub record AreDue (limits : Limits) (script left : Option (List ℕ)) (replies :
   pub are_read : IsPrefix lines (ended_lines (take INPUT_LIMIT given)) ⊎ (IsAtEnd left × IsPrefix lines (script_lines given))
   pub are_replies : AreReplies (opening limits) lines replies
 
--- what is due: the replies to lines that were read, or the usage line for wrong arguments
-abbrev pub IsDue : List (List ℕ) → Option (List ℕ) → Option (List ℕ) → List ℕ → Type 0
-IsDue arguments script left text = MatchBool (is_refused arguments) (text ≡ usage_line)
-    ((replies : List Reply) × AreDue (given_limits arguments) script left replies × (text ≡ texts replies))
+-- Reading has ended inside a list, by a failed read or otherwise; these are the replies to all lines that were read, and to the end of the
+-- list. The lines are those that LF ends among the bytes given, after a failed read or at the limit; or all, where no byte is left.
+pub record AreDueAtEnd (lost : Bool) (limits : Limits) (script left : Option (List ℕ)) (replies : List Reply) : Type 0 where
+  pub given : List ℕ
+  pub taken : script ≡ prepend_known given left
+  pub lines : List (List ℕ)
+  pub are_read : (((lost ≡ true) ⊎ (INPUT_LIMIT < length given)) × (lines ≡ ended_lines (take INPUT_LIMIT given)))
+      ⊎ (IsAtEnd left × (lines ≡ script_lines given))
+  pub are_replies : AreAllReplies (opening limits) lines replies
+  pub some : IsSome (state_behind (opening limits) are_replies.replies).list
 
--- A prefix of what is due was written. Where a write failed, more was due than there was room for, if the sink tells its room.
-abbrev pub WritesDue : Bool → List (List ℕ) → Option (List ℕ) → Option (List ℕ) → Outlet → Outlet → Type 0
-WritesDue failed arguments script left old new = (text : List ℕ) × IsDue arguments script left text × (prefix : List ℕ)
+-- what is due: the replies to lines that were read, and to the end of a list that was open when reading ended; or the usage line for wrong
+-- arguments
+abbrev pub IsDue : Bool → List (List ℕ) → Option (List ℕ) → Option (List ℕ) → List ℕ → Type 0
+IsDue lost arguments script left text = MatchBool (is_refused arguments) (text ≡ usage_line)
+    ((replies : List Reply) × (AreDue (given_limits arguments) script left replies ⊎ AreDueAtEnd lost (given_limits arguments) script left replies)
+    × (text ≡ texts replies))
+
+-- A prefix of what is due was written, where a read failed or none. Where a write failed, more was due than there was room for, if the sink
+-- tells its room.
+abbrev pub WritesDue : Bool → Bool → List (List ℕ) → Option (List ℕ) → Option (List ℕ) → Outlet → Outlet → Type 0
+WritesDue lost failed arguments script left old new = (text : List ℕ) × IsDue lost arguments script left text × (prefix : List ℕ)
     × IsPrefix prefix text × Writes prefix old new × (failed ≡ true → IfSome old.room (λ count. count < length text))

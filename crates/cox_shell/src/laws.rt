@@ -1,12 +1,14 @@
 //! Laws on answers, over the definitions alone.
 
-ghost use Rattle.std.specs.Prelude.{◌≡◌, ◌≤◌, ℕ, List, length, Some, IsSomeAnd};
+ghost use Rattle.std.specs.Prelude.{◌≡◌, ◌≤◌, ◌∷◌, ◌++◌, ℕ, List, length, Some, IfSome, IsSomeAnd};
+ghost use Rattle.cox_base.specs.Admissible.{IsCoxeterMatrix};
 ghost use Rattle.cox_outside.specs.declared.limits.TheConstants.{INPUT_LIMIT};
 ghost use Rattle.cox_outside.specs.Supply.{Supply};
 ghost use Rattle.cox_outside.specs.Outlet.{Outlet, IsPrefix};
 ghost use Rattle.cox_options.specs.Arguments.{IsTaken};
 ghost use Rattle.cox_answers.specs.Limits.{Limits};
-ghost use Rattle.cox_shell.specs.Reply.{Reply};
+ghost use Rattle.cox_shell.specs.Reply.{Kept, State, Reply};
+ghost use Rattle.cox_shell.specs.Blocks.{Told, then_told, AnswersBlock, AnswersBlocks};
 ghost use Rattle.cox_shell.specs.Answer.{AreScriptReplies, texts};
 ghost use Rattle.cox_shell.specs.ScriptAnswer.{IsAnswer};
 ghost use Rattle.cox_shell.specs.Top.{given_limits, AreDue};
@@ -30,7 +32,15 @@ pub fn one_answer()
         → one ≡ other }
 {}
 
-/// What is due of a script, wherever reading stands, is a prefix of its answer.
+/// In a list each block is answered as it is alone, whatever the other blocks are. So two lists that agree on a block agree on its answer.
+pub fn blocks_are_alone()
+    ensures { (state : State) → IfSome state.group IsCoxeterMatrix → (before after : List (List Kept)) → (block : List Kept)
+        → (told alone : Told) → AnswersBlocks state (before ++ block ∷ after) told → AnswersBlock state block alone
+        → (first : Told) × (last : Told) × AnswersBlocks state before first × AnswersBlocks state after last
+        × (told ≡ then_told first (then_told alone last)) }
+{}
+
+/// What is due of a script before reading has ended, wherever it stands, is a prefix of its answer.
 pub fn due_begins_the_answer()
     ensures { (limits : Limits) → (script left text : List ℕ) → (replies : List Reply) → AreDue limits (Some script) (Some left) replies
         → IsAnswer limits script text → IsPrefix (texts replies) text }

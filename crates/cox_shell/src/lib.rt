@@ -11,23 +11,33 @@
 //!
 //! - `status`: how a run ends
 //! - `workers`: rows that are made by several threads
+//! - `list`, `limits`: lists of blocks, and how long they may be
+//! - `told`: what is told of the lines of blocks
 //! - `session`: the session, which answers the contents of lines
 //! - `serving`: one line, from the source to the sink
 //! - `running`: all lines, and the status that they lead to
+//! - `closing`: the end of reading, where an open list ends
 //! - `top`: the whole run, with the arguments of the program
-//! - `laws`: a script has exactly one answer, whatever the number of workers, and what is due to be written is a prefix of it
+//! - `laws`: a script has exactly one answer, whatever the number of workers, and what is due to be written is a prefix of it; a
+//!   block in a list is answered as it is alone
 #![tactic(auto)]
 
+mod closing;
 pub mod laws;
+mod limits;
+mod list;
 mod running;
 mod serving;
 mod session;
 mod status;
+mod told;
 mod top;
 mod workers;
 
 pub use cox_options::Options;
 pub use cox_outside::NoMemory;
+pub use limits::{MAX_BLOCKS, MAX_LINES};
+pub use list::{Block, KeptLine};
 pub use session::{Said, Session};
 pub use status::Status;
 pub use top::{run, run_one};

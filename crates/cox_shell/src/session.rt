@@ -1,9 +1,11 @@
 //! The session, which answers the contents of lines.
 
+use crate::list::{Block, JobList, KeptLine, is_long};
+use crate::told::ToldText;
 use crate::workers::{ByWorkers, make_rows};
 use cox_answers::{OneThread, RowMaker, Unanswered, Workspace};
 use cox_base::{Coxeter, MAX_RANK};
-use cox_command::{Command, Inquiry, Refusal, parse};
+use cox_command::{Command, Inquiry, ListWord, Refusal, block_refusal, list_word, parse};
 use cox_minroots::{RootFault, RootTable};
 use cox_options::Options;
 use cox_outside::Gate;
@@ -17,12 +19,27 @@ use std::thread::Threads;
 /// What a session says to a line.
 #[derive(Clone, Copy, Debug, PartialEq, Eq)]
 pub enum Said {
-    /// The line was answered.
+    /// The line was answered, or is kept in a list.
     Answered,
-    /// The line was refused, with this number. Nothing changed.
+    /// The line was refused, with this number, and nothing changed; or it ended a list, and this is the number of the first refusal there.
     Refused(u8),
     /// The line ends the run.
     Quit,
+}
+
+impl Said {
+    ghost use Rattle.std.specs.Prelude.{◌≡◌};
+    ghost use Rattle.cox_shell.specs.ToldText.{number_said};
+
+    /// The number of the refusal, if the line was refused.
+    pub(crate) fn number(self) -> Option<u8>
+        ensures { result ≡ number_said self }
+    {
+        match self {
+            Said::Refused(number) => Some(number),
+            Said::Answered | Said::Quit => None,
+        }
+    }
 }
 
 /// What was given of a line.
@@ -45,34 +62,45 @@ pub enum Stage {
 
 /// A session, which answers lines one by one, each by the lines before.
 ///
-/// Contracts see the limits that its options give, and the Coxeter matrix of the group that is set.
+/// Contracts see the limits that its options give, the Coxeter matrix of the group that is set, and the list of blocks that is open.
 #[derive(Drop)]
 pub struct Session {
     stage: Stage,
+    list: Option<JobList>,
 }
 
 impl Model for Session {
     ghost use Rattle.cox_shell.specs.Reply.{State};
-    ghost use Rattle.cox_shell.specs.SessionState.{state_of};
+    ghost use Rattle.cox_shell.specs.SessionState.{state_of, IsStage};
 
     ghost Value = { State };
 
-    ghost view = { λ s. state_of s.stage };
+    ghost view = { λ s. state_of s.stage s.list };
+
+    ghost invariant = { λ s. IsStage s.stage };
 }
 
 impl Session {
     ghost use Rattle.std.specs.Thread.{IsSync};
     ghost use Rattle.cox_row.specs.Rising.{AreWithin};
     ghost use Rattle.cox_answers.specs.Kept.{IsMore};
-    ghost use Rattle.std.specs.Prelude.{◌≡◌, ◌<◌, ◌≤◌, ◌^◌, length, IfOk, OnErr, IfSome, IsSomeAnd};
-    ghost use Rattle.cox_command.specs.declared.command.Command.TheVariants.{Group};
+    ghost use Rattle.std.specs.Prelude.{◌≡◌, ◌<◌, ◌≤◌, ◌⊎◌, ◌^◌, length, None, Some, is_some, IfOk, OnErr, OnOk, IfSome, IsSome, IsSomeAnd, MatchOption};
+    ghost use Rattle.cox_base.specs.Admissible.{IsCoxeterMatrix};
+    ghost use Rattle.cox_command.specs.declared.command.Command.TheVariants.{Group, Jobs};
     ghost use Rattle.cox_command.specs.ParseContract.{HasLetters, HasWordsOf};
-    ghost use Rattle.cox_shell.specs.Reply.{Reply, opening, refusal, rank_of};
+    ghost use Rattle.cox_shell.specs.declared.session.Said.TheVariants.{Answered};
+    ghost use Rattle.cox_shell.specs.Reply.{Reply, opening, closed, refusal, silence, rank_of};
     ghost use Rattle.cox_answers.specs.SessionLimits.{limits_of};
     ghost use Rattle.cox_shell.specs.ContentReply.{IsContentReply};
     ghost use Rattle.cox_shell.specs.CommandReply.{IsCommandReply, IsInquiryReply};
-    ghost use Rattle.cox_shell.specs.GivenReply.{IsShort, IsGivenReply};
-    ghost use Rattle.cox_shell.specs.Saying.{Says, SaysPrefix, Concludes};
+    ghost use Rattle.cox_shell.specs.OpenLists.{with_line, with_block};
+    ghost use Rattle.cox_shell.specs.ListReply.{IsReplyTo, unread_reply};
+    ghost use Rattle.cox_shell.specs.Blocks.{IsKeptReply, IsListReply, IsEndOfList};
+    ghost use Rattle.cox_shell.specs.ToldText.{TellsBlock, TellsBlocks, TellsLine};
+    ghost use Rattle.cox_shell.specs.GivenReply.{IsShort, IsGivenReply, IsBadReply};
+    ghost use Rattle.cox_shell.specs.Keeping.{with_kept, with_next};
+    ghost use Rattle.cox_shell.specs.Saying.{Says, SaysPrefix, Tells, Concludes};
+    ghost use Rattle.cox_poly.specs.Puts.{PutsPrefix};
 
     /// A session with these options, and no group.
     pub fn new(options: Options) -> Session
@@ -80,19 +108,22 @@ impl Session {
     {
         Session {
             stage: Stage::Opened(options),
+            list: None,
         }
     }
 
     /// Answers a line with this content, of bytes from 0x20 to 0x7E, behind what `out` has. On
     /// `NoMemory` the session is as before, and a prefix of the answer is appended.
+    ///
+    /// While a list of blocks is open a line is kept and answered nothing, and `end` is answered what the blocks are, one after another.
     pub fn answer(&mut self, line: &[u8], out: &mut Vec<u8>) -> Result<Said, AllocError>
         requires size { length line.now < 2 ^ 32 }
-        ensures ok { IfOk result (λ said. (reply : Reply) × IsContentReply self.old line.now reply
+        ensures ok { IfOk result (λ said. (reply : Reply) × IsReplyTo self.old line.now reply
             × Says said reply self.new out.old.items out.new.items) }
-        ensures err { OnErr result ((reply : Reply) × IsContentReply self.old line.now reply
+        ensures err { OnErr result ((reply : Reply) × IsReplyTo self.old line.now reply
             × SaysPrefix reply self.old self.new out.old.items out.new.items) }
     {
-        self.answer_content(&OneThread, line, out)
+        self.answer_line(&OneThread, line, out)
     }
 
     /// Answers a line in the same way, with as many workers as the options say where rows are made. Each of them passes the gate before
@@ -105,9 +136,9 @@ impl Session {
         gate: &G,
     ) -> Result<Said, AllocError>
         requires size { length line.now < 2 ^ 32 }
-        ensures ok { IfOk result (λ said. (reply : Reply) × IsContentReply self.old line.now reply
+        ensures ok { IfOk result (λ said. (reply : Reply) × IsReplyTo self.old line.now reply
             × Says said reply self.new out.old.items out.new.items) }
-        ensures err { OnErr result ((reply : Reply) × IsContentReply self.old line.now reply
+        ensures err { OnErr result ((reply : Reply) × IsReplyTo self.old line.now reply
             × SaysPrefix reply self.old self.new out.old.items out.new.items) }
     {
         let workers = self.options().workers();
@@ -120,10 +151,51 @@ impl Session {
                 ensures { IsMore rows result }
             { make_rows(rt, gate, workers, rows, alloc, wanted) },
         };
-        self.answer_content(&maker, line, out)
+        self.answer_line(&maker, line, out)
     }
 
-    /// Answers a line in the same way, by what was given of it, with rows by this maker.
+    /// Takes a line whose bytes are refused: `n` is 18 where the line is too long, 19 where it has a byte that no line may have. While a
+    /// list is open it is kept as one that is so refused, else it is answered `error n`. On `NoMemory` the session is as before, and a
+    /// prefix of the answer is appended.
+    pub fn bad(&mut self, n: u8, out: &mut Vec<u8>) -> Result<Said, AllocError>
+        requires { (n ≡ 18) ⊎ (n ≡ 19) }
+        ensures ok { IfOk result (λ said. (reply : Reply) × IsBadReply self.old n reply
+            × Says said reply self.new out.old.items out.new.items) }
+        ensures err { OnErr result ((reply : Reply) × IsBadReply self.old n reply
+            × SaysPrefix reply self.old self.new out.old.items out.new.items) }
+    {
+        if n == 18 {
+            return self.take_unread(Refusal::LongLine, out);
+        }
+        self.take_unread(Refusal::ForeignByte, out)
+    }
+
+    /// The blocks of the list that is open. `None` exactly where none is.
+    pub fn blocks(&self) -> Option<&[Block]>
+        ensures { MatchOption result (self.now.list ≡ None) (λ blocks. self.now.list ≡ Some blocks.now) }
+    {
+        match &self.list {
+            Some(list) => Some(list.blocks()),
+            None => None,
+        }
+    }
+
+    /// Answers the blocks of a list, behind what `out` has, as the end of that list is answered in this session: each by itself, in their
+    /// order, or `error 35` where there are more than 16 or have more than 1,000 lines. On `NoMemory` a prefix of the answer is appended.
+    ///
+    /// What is told is the number of the first refusal in the text, if there is one.
+    pub fn answer_jobs_one(&self, blocks: &[Block], out: &mut Vec<u8>) -> Result<Said, AllocError>
+        ensures ok { IfOk result (λ said. (reply : Reply) × IsListReply self.now blocks.now reply
+            × Tells said reply out.old.items out.new.items) }
+        ensures err { OnErr result ((reply : Reply) × IsListReply self.now blocks.now reply
+            × PutsPrefix reply.text out.old.items out.new.items) }
+    {
+        let _rank = self.rank();
+        let mut own = self.fresh(*out.allocator())?;
+        own.answer_blocks(&OneThread, blocks, out)
+    }
+
+    /// Answers a line in the same way as `answer`, by what was given of it, with rows by this maker.
     pub(crate) fn answer_given<M: RowMaker>(
         &mut self,
         maker: &M,
@@ -138,12 +210,242 @@ impl Session {
             × SaysPrefix reply self.old self.new out.old.items out.new.items) }
     {
         match given {
-            Given::Content(line) => self.answer_content(maker, line, out),
-            Given::Unread(why) => self.refuse(why, out),
+            Given::Content(line) => self.answer_line(maker, line, out),
+            Given::Unread(why) => self.take_unread(why, out),
+        }
+    }
+
+    /// Whether a list is open.
+    pub(crate) fn has_list(&self) -> bool
+        ensures { result ≡ is_some self.now.list }
+    {
+        self.list.is_some()
+    }
+
+    /// Ends the list that is open, and answers it. On `NoMemory` the session is as before, and a prefix of the answer is appended.
+    pub(crate) fn end_list<M: RowMaker>(
+        &mut self,
+        maker: &M,
+        out: &mut Vec<u8>,
+    ) -> Result<Said, AllocError>
+        requires open_list { IsSome self.old.list }
+        requires ready { M.ready maker.now }
+        ensures ok { IfOk result (λ said. (reply : Reply) × IsEndOfList self.old reply
+            × Says said reply self.new out.old.items out.new.items) }
+        ensures err { OnErr result ((reply : Reply) × IsEndOfList self.old reply
+            × SaysPrefix reply self.old self.new out.old.items out.new.items) }
+    {
+        let Some(list) = self.list.take() else {
+            unreachable!();
+        };
+        match self.answer_blocks(maker, list.blocks(), out) {
+            Ok(said) => Ok(said),
+            Err(error) => {
+                self.list = Some(list);
+                Err(error)
+            }
         }
     }
 
     /// Answers a line with this content, with rows by this maker.
+    fn answer_line<M: RowMaker>(
+        &mut self,
+        maker: &M,
+        line: &[u8],
+        out: &mut Vec<u8>,
+    ) -> Result<Said, AllocError>
+        requires size { length line.now < 2 ^ 32 }
+        requires ready { M.ready maker.now }
+        ensures ok { IfOk result (λ said. (reply : Reply) × IsReplyTo self.old line.now reply
+            × Says said reply self.new out.old.items out.new.items) }
+        ensures err { OnErr result ((reply : Reply) × IsReplyTo self.old line.now reply
+            × SaysPrefix reply self.old self.new out.old.items out.new.items) }
+    {
+        if self.has_list() {
+            return self.answer_in_list(maker, line, out);
+        }
+        self.answer_content(maker, line, out)
+    }
+
+    /// Answers a line with this content where a list is open.
+    fn answer_in_list<M: RowMaker>(
+        &mut self,
+        maker: &M,
+        line: &[u8],
+        out: &mut Vec<u8>,
+    ) -> Result<Said, AllocError>
+        requires size { length line.now < 2 ^ 32 }
+        requires open_list { IsSome self.old.list }
+        requires ready { M.ready maker.now }
+        ensures ok { IfOk result (λ said. (reply : Reply) × IsReplyTo self.old line.now reply
+            × Says said reply self.new out.old.items out.new.items) }
+        ensures err { OnErr result ((reply : Reply) × IsReplyTo self.old line.now reply
+            × SaysPrefix reply self.old self.new out.old.items out.new.items) }
+    {
+        match list_word(line) {
+            Some(ListWord::Next) => self.begin_block(),
+            Some(ListWord::End) => self.end_list(maker, out),
+            None => self.keep_content(line, *out.allocator()),
+        }
+    }
+
+    /// Takes a line whose bytes are refused so.
+    fn take_unread(&mut self, why: Refusal, out: &mut Vec<u8>) -> Result<Said, AllocError>
+        ensures ok { IfOk result (λ said. Says said (unread_reply self.old why) self.new out.old.items out.new.items) }
+        ensures err { OnErr result (SaysPrefix (unread_reply self.old why) self.old self.new out.old.items out.new.items) }
+    {
+        if self.has_list() {
+            return self.keep(KeptLine::refused(*out.allocator(), why));
+        }
+        self.refuse(why, out)
+    }
+
+    /// Begins a block in the list that is open. Without memory nothing changes.
+    fn begin_block(&mut self) -> Result<Said, AllocError>
+        requires { IsSome self.old.list }
+        ensures ok { IfOk result (λ said. (said ≡ Answered) × (self.new ≡ with_next self.old)) }
+        ensures err { OnErr result (self.new ≡ self.old) }
+    {
+        let Some(list) = &mut self.list else {
+            unreachable!();
+        };
+        list.begin_block()?;
+        Ok(Said::Answered)
+    }
+
+    /// Keeps a line with this content in the list that is open. Without memory nothing changes.
+    fn keep_content(&mut self, line: &[u8], alloc: Global) -> Result<Said, AllocError>
+        requires size { length line.now < 2 ^ 32 }
+        requires open_list { IsSome self.old.list }
+        ensures ok { IfOk result (λ said. (said ≡ Answered)
+            × (self.new ≡ with_kept self.old (record { content = line.now; refused = None }))) }
+        ensures err { OnErr result (self.new ≡ self.old) }
+    {
+        self.keep(KeptLine::new(alloc, line)?)
+    }
+
+    /// Keeps a line in the list that is open. Without memory nothing changes.
+    fn keep(&mut self, line: KeptLine) -> Result<Said, AllocError>
+        requires { IsSome self.old.list }
+        ensures ok { IfOk result (λ said. (said ≡ Answered) × (self.new ≡ with_kept self.old line)) }
+        ensures err { OnErr result (self.new ≡ self.old) }
+    {
+        let Some(list) = &mut self.list else {
+            unreachable!();
+        };
+        list.add(line)?;
+        Ok(Said::Answered)
+    }
+
+    /// A session of its own in the same state, where no list is open. No row is made in it yet.
+    fn fresh(&self, alloc: Global) -> Result<Session, AllocError>
+        ensures { IfOk result (λ own. own ≡ closed self.now) }
+    {
+        match &self.stage {
+            Stage::Opened(options) => Ok(Session::new(*options)),
+            Stage::Set(work) => fresh_work(work, alloc),
+        }
+    }
+
+    /// Answers blocks, behind what `out` has, where no list is open. On `NoMemory` a prefix of the answer is appended.
+    fn answer_blocks<M: RowMaker>(
+        &mut self,
+        maker: &M,
+        blocks: &[Block],
+        out: &mut Vec<u8>,
+    ) -> Result<Said, AllocError>
+        requires outside { self.old.list ≡ None }
+        requires ready { M.ready maker.now }
+        ensures same { self.new ≡ self.old }
+        ensures ok { IfOk result (λ said. (reply : Reply) × IsListReply self.old blocks.now reply
+            × Tells said reply out.old.items out.new.items) }
+        ensures err { OnErr result ((reply : Reply) × IsListReply self.old blocks.now reply
+            × PutsPrefix reply.text out.old.items out.new.items) }
+    {
+        let _rank = self.rank();
+        if is_long(blocks) {
+            return self.refuse(Refusal::LongList, out);
+        }
+        let mut told = ToldText::new(*out.allocator());
+        self.tell_blocks(maker, blocks, &mut told)?;
+        out.extend_from_slice(told.text())?;
+        Ok(told.said())
+    }
+
+    /// Tells what blocks are answered, one after another.
+    fn tell_blocks<M: RowMaker>(
+        &mut self,
+        maker: &M,
+        blocks: &[Block],
+        told: &mut ToldText,
+    ) -> Result<(), AllocError>
+        requires ready { M.ready maker.now }
+        ensures same { self.new ≡ self.old }
+        ensures told { OnOk result (TellsBlocks self.old blocks.now told.old told.new) }
+    {
+        'each: for block in blocks {
+            self.tell_block(maker, block, told)?;
+        }
+        Ok(())
+    }
+
+    /// Tells what the lines of a block are answered, one after another.
+    fn tell_block<M: RowMaker>(
+        &mut self,
+        maker: &M,
+        block: &Block,
+        told: &mut ToldText,
+    ) -> Result<(), AllocError>
+        requires ready { M.ready maker.now }
+        ensures same { self.new ≡ self.old }
+        ensures told { OnOk result (TellsBlock self.old block.now told.old told.new) }
+    {
+        'lines: for line in block.lines() {
+            self.tell_line(maker, line, told)?;
+        }
+        Ok(())
+    }
+
+    /// Tells what a line of a block is answered.
+    fn tell_line<M: RowMaker>(
+        &mut self,
+        maker: &M,
+        line: &KeptLine,
+        told: &mut ToldText,
+    ) -> Result<(), AllocError>
+        requires ready { M.ready maker.now }
+        ensures same { self.new ≡ self.old }
+        ensures told { OnOk result (TellsLine self.old line.now told.old told.new) }
+    {
+        let mut text = told.take();
+        let said = self.answer_kept(maker, line, &mut text)?;
+        told.put(text, said);
+        Ok(())
+    }
+
+    /// Answers a line of a block, behind what `out` has.
+    fn answer_kept<M: RowMaker>(
+        &mut self,
+        maker: &M,
+        line: &KeptLine,
+        out: &mut Vec<u8>,
+    ) -> Result<Said, AllocError>
+        requires ready { M.ready maker.now }
+        ensures same { self.new ≡ self.old }
+        ensures ok { IfOk result (λ said. (reply : Reply) × IsKeptReply self.old line.now reply
+            × Tells said reply out.old.items out.new.items) }
+    {
+        if let Some(why) = line.refusal() {
+            return self.refuse(why, out);
+        }
+        let content = line.content();
+        if let Some(why) = block_refusal(content) {
+            return self.refuse(why, out);
+        }
+        self.answer_content(maker, content, out)
+    }
+
+    /// Answers a line with this content as where no list is open, with rows by this maker.
     fn answer_content<M: RowMaker>(
         &mut self,
         maker: &M,
@@ -167,6 +469,7 @@ impl Session {
     fn rank(&self) -> Option<u32>
         ensures rank { result ≡ rank_of self.now }
         ensures limit { IfSome result (λ n. n ≤ MAX_RANK) }
+        ensures matrix { IfSome self.now.group IsCoxeterMatrix }
     {
         match &self.stage {
             Stage::Opened(_) => None,
@@ -202,6 +505,7 @@ impl Session {
             Command::Nothing => Ok(Said::Answered),
             Command::Quit => Ok(Said::Quit),
             Command::Group(group) => self.set_group(&group, out),
+            Command::Jobs => self.open_list(*out.allocator()),
             Command::Ask(inquiry) => self.answer_inquiry(maker, &inquiry, out),
         }
     }
@@ -223,6 +527,15 @@ impl Session {
             Err(RootFault::TooMany { .. }) => self.refuse(Refusal::ManyRoots, out),
             Err(RootFault::NoMemory) => Err(AllocError),
         }
+    }
+
+    /// Opens a list of one empty block. Without memory nothing changes.
+    fn open_list(&mut self, alloc: Global) -> Result<Said, AllocError>
+        ensures ok { IfOk result (λ said. (said ≡ Answered) × IsCommandReply Jobs self.old (silence self.new)) }
+        ensures err { OnErr result (self.new ≡ self.old) }
+    {
+        self.list = Some(JobList::new(alloc)?);
+        Ok(Said::Answered)
     }
 
     /// Answers a command on elements.
@@ -267,5 +580,28 @@ impl Session {
         put_refusal(out, why.number())?;
         put_end(out)?;
         Ok(Said::Refused(why.number()))
+    }
+}
+
+ghost use Rattle.std.specs.Prelude.{◌≡◌, None, Some, IfOk};
+ghost use Rattle.cox_base.specs.IntegerMatrix.{integer_matrix};
+ghost use Rattle.cox_small.specs.RootCounts.{HasFewSmallRoots};
+ghost use Rattle.cox_answers.specs.SessionLimits.{limits_of};
+
+/// A session with the same group and options, where no row is made yet.
+fn fresh_work(work: &Workspace, alloc: Global) -> Result<Session, AllocError>
+    requires { HasFewSmallRoots (integer_matrix work.now.table) (limits_of work.now.options).roots }
+    ensures { IfOk result (λ own. own ≡ record { limits = limits_of work.now.options; group = Some work.now.table; list = None }) }
+{
+    let group = work.group();
+    let options = work.options();
+    prove!(group.rank() as usize <= MAX_RANK);
+    match RootTable::build(alloc, group, options.roots()) {
+        Ok(table) => Ok(Session {
+            stage: Stage::Set(Workspace::new(table, options)),
+            list: None,
+        }),
+        Err(RootFault::TooMany { .. }) => unreachable!(),
+        Err(RootFault::NoMemory) => Err(AllocError),
     }
 }

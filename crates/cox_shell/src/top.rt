@@ -12,6 +12,7 @@ ghost use Rattle.cox_shell.specs.GivenLimits.{GiveLimits};
 ghost use Rattle.cox_shell.specs.Reading.{IsReadBy};
 ghost use Rattle.cox_shell.specs.WholeRun.{IsRun};
 
+use crate::closing::end_with;
 use crate::running::run_lines;
 use crate::session::Session;
 use crate::status::Status;
@@ -30,6 +31,8 @@ const USAGE: &[u8] = b"usage: coxeter [--workers N] [--context N] [--coef N] [--
 
 /// Answers the script that the source gives, into the sink, with as many workers as the arguments say. `words` are the
 /// arguments, and begin with the program's name; the others give the options.
+///
+/// A list of blocks that is open where reading ends is answered then, as by a line `end`.
 ///
 /// What it writes does not depend on the workers: `IsRun` is the contract of [`run_one`] too, which has the same answers by one
 /// thread. Each worker passes the gate before each claim and each publication of a row. What the session takes of memory is not
@@ -134,7 +137,8 @@ fn run_by<M: RowMaker, S: Source, K: Sink>(
     };
     let mut session = Session::new(options);
     let mut buffer = Vec::new(alloc);
-    let status = run_lines(maker, &mut reader, &mut session, &mut buffer, source, sink);
+    let ended = run_lines(maker, &mut reader, &mut session, &mut buffer, source, sink);
+    let status = end_with(ended, maker, &mut session, &mut buffer, sink);
     mem::forget(session);
     status
 }

@@ -77,6 +77,37 @@ const ANSWERS: &[(&str, &str, Status)] = &[
     ),
     ("foo\nquit\ncompute 1\n", "error 10\n", Status::Refused),
     (
+        "type A 3\njobs\npol 2 2132\nnext\nmu 2 2132\ncompute 1x\nend\nlength 21\n",
+        "1+q\n1\nerror 16\n2\n",
+        Status::Refused,
+    ),
+    ("jobs\nend\n", "error 15\nerror 10\n", Status::Refused),
+    (
+        "type A 2\njobs\ntype A 3\nend\ncompute 323\n",
+        "error 10\nerror 16\n",
+        Status::Refused,
+    ),
+    (
+        "type A 1\njobs\nnext\nnext\nnext\nnext\nnext\nnext\nnext\nnext\nnext\nnext\nnext\nnext\nnext\nnext\nnext\nnext\n",
+        "error 35\n",
+        Status::Refused,
+    ),
+    (
+        "type A 1\njobs\nnext\nnext\nnext\nnext\nnext\nnext\nnext\nnext\nnext\nnext\nnext\nnext\nnext\nnext\nnext\n",
+        "",
+        Status::Done,
+    ),
+    (
+        "type A 2\njobs 1\njobs\njobs\nquit\nnext 1\n end 1\n\t\n next \n\nlength 121\n  end\nlength 12\nend\n",
+        "error 11\nerror 10\nerror 10\nerror 11\nerror 11\nerror 19\n3\n2\nerror 10\n",
+        Status::Refused,
+    ),
+    (
+        "type A 2\njobs\nlength 121\nnext\nlength 12",
+        "3\n2\n",
+        Status::Done,
+    ),
+    (
         "type\tA 1\nqu\rit\n",
         "error 19\nerror 19\n",
         Status::Refused,

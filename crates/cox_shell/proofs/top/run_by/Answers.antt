@@ -1,4 +1,4 @@
--- The run over the lines is the run of a fresh session.
+-- The run over the lines, and the end of a list that is open then, are the run of a fresh session.
 use Rattle.std.proofs.Common.{ap, ◌∙◌}
 use Rattle.cox_shell.specs.Reply.{opening}
 use Rattle.cox_shell.proofs.Whole.{Runs-beginning}
@@ -13,17 +13,16 @@ returns-in_default-clause-reading g c arguments give = read-none arguments _
 
 pub returns-clause-run : goal.returns-clause-run
 returns-clause-run g c arguments give =
-    run-lines c.run_lines-status.result arguments (g.S.Source.seen c.args.source.now) _ _
-    (g.S.Source.seen c.run_lines-status.new.source) _ _
-    give.taken
-    (Runs-beginning c.run_lines-status.result _ _ _ (g.S.Source.seen c.args.source.now) _ _
-    (c.new-session.ensures ∙ ap opening give.limits_are) c.in-Ok.ensures c.run_lines-status.ensures.runs)
-    c.run_lines-status.ensures.source_cause c.run_lines-status.ensures.sink_cause
+    run-lines arguments (g.S.Source.seen c.args.source.now) _ _ (g.S.Source.seen c.run_lines-ended.new.source) _ _
+    give.taken _ c.run_lines-ended.result c.end_with-status.result
+    (Runs-beginning c.run_lines-ended.result _ _ _ (g.S.Source.seen c.args.source.now) _ _
+    (c.new-session.ensures ∙ ap opening give.limits_are) c.in-Ok.ensures c.run_lines-ended.ensures.runs)
+    c.end_with-status.ensures c.run_lines-ended.ensures.source_cause c.run_lines-ended.ensures.sink_cause
 
 pub returns-clause-reading : goal.returns-clause-reading
 returns-clause-reading g c arguments give =
-    read-lines c.run_lines-status.result arguments (g.S.Source.seen c.args.source.now) _ _
-    (g.S.Source.seen c.run_lines-status.new.source) _ _
-    give.taken
-    (Runs-beginning c.run_lines-status.result _ _ _ (g.S.Source.seen c.args.source.now) _ _
-    (c.new-session.ensures ∙ ap opening give.limits_are) c.in-Ok.ensures c.run_lines-status.ensures.runs)
+    read-lines arguments (g.S.Source.seen c.args.source.now) _ _ (g.S.Source.seen c.run_lines-ended.new.source) _ _
+    give.taken _ c.run_lines-ended.result c.end_with-status.result
+    (Runs-beginning c.run_lines-ended.result _ _ _ (g.S.Source.seen c.args.source.now) _ _
+    (c.new-session.ensures ∙ ap opening give.limits_are) c.in-Ok.ensures c.run_lines-ended.ensures.runs)
+    c.end_with-status.ensures

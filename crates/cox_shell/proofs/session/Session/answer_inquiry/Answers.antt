@@ -5,6 +5,7 @@ use Rattle.cox_answers.specs.SessionLimits.{limits_of}
 use Rattle.cox_answers.specs.Question.{Question}
 use Rattle.cox_answers.specs.InquiryQuestion.{question_of}
 use Rattle.cox_answers.proofs.Questions.{question-answerable}
+use Rattle.cox_shell.specs.declared.session.Stage.{Stage}
 use Rattle.cox_shell.specs.declared.session.Stage.TheVariants.{Set}
 use Rattle.cox_shell.specs.Reply.{State, Reply}
 use Rattle.cox_shell.specs.SessionState.{state_of}
@@ -24,7 +25,8 @@ returns g c =
     let question : Question = question_of inquiry state.limits work.table in
     let Was : Reply → Type 0 = IsDecided state question.Refuses (Answers state question) in
     let Is : Reply → Type 0 = IsInquiryReply inquiry state in
-    let was : state_of (Set work) ≡ state = ap state_of (sym c.in-Set.is) ∙ c.self.view_is in
+    let list = c.self.inside.list in
+    let was : state_of (Set work) list ≡ state = ap (λ (s : Stage). state_of s list) (sym c.in-Set.is) ∙ c.self.view_is in
     let set : state.group ≡ Some work.table = ap (λ (s : State). s.group) (sym was) in
     let limits : limits_of work.options ≡ state.limits = ap (λ (s : State). s.limits) was in
     let put = rw limits at told.puts in
@@ -32,7 +34,7 @@ returns g c =
     (question-answerable inquiry state.limits work.table (IsAdmissible-integer_matrix work.table told.group)) in
     let is : (reply : Reply) → Was reply
     → Is reply = λ reply decided. IsInquiryReply-decided inquiry state work.table reply set decided in
-    let after : State = state_of (Set new_work) in
+    let after : State = state_of (Set new_work) list in
     let kept : after ≡ state = rw (told.same.table, told.same.options) was in
     let concludes = subst (λ (s : State). Concludes c.put_answer-put.result s c.conclude.result c.put_answer-put.new.out.items
     c.conclude.new.out.items) kept c.conclude.ensures in

@@ -1,5 +1,5 @@
 -- The proof of `Session::set_group`.
-use Rattle.std.proofs.Common.{refl, ap, ◌∙◌}
+use Rattle.std.proofs.Common.{◌≡◌, refl, ap, ◌∙◌}
 use Rattle.cox_base.specs.IntegerMatrix.{integer_matrix}
 use Rattle.cox_base.proofs.AdmissibleMatrices.{IsAdmissible-integer_matrix}
 use Rattle.cox_small.specs.RootCounts.{HasFewSmallRoots}
@@ -10,6 +10,7 @@ use Rattle.cox_shell.specs.Reply.{refusal, silence, with_group}
 use Rattle.cox_shell.specs.CommandReply.{IsCommandReply}
 use Rattle.cox_shell.proofs.Sayings.{Says-silence, Says-reply, SaysPrefix-reply}
 use Rattle.cox_answers.proofs.Unless.{PutsPrefix-none}
+use Rattle.cox_shell.proofs.Ends.{list_of}
 use Rattle.cox_shell.proofs.GroupReplies.{group-set, group-refused}
 use Rattle.cox_shell.proofs.SomeReply.{group-reply}
 use Rattle.cox_shell.proofs.session.Session.set_group.Goals as goal
@@ -17,10 +18,11 @@ use Rattle.cox_shell.proofs.session.Session.set_group.Goals as goal
 pub returns-in-Ok-clause-ok : goal.returns-in-Ok-clause-ok
 returns-in-Ok-clause-ok c =
     let limit = c.roots.ensures.roots ∙ ap (λ (l : Limits). l.roots) c.options-options.ensures in
-    let few : HasFewSmallRoots (integer_matrix c.args.group.now) c.args.self.now.limits.roots = rw limit at c.in-Ok.ensures.few in (
+    let few : HasFewSmallRoots (integer_matrix c.args.group.now) c.args.self.now.limits.roots = rw limit at c.in-Ok.ensures.few in
+    let list : c.self.inside.list ≡ c.args.self.now.list = list_of c.self.inside.stage c.self.inside.list c.args.self.now c.self.view_is in (
       silence (with_group c.args.self.now c.args.group.now),
       group-set c.args.self.now c.args.group.now few,
-      Says-silence _ _ _ (rw (c.new.ensures.options, c.new.ensures.table, c.in-Ok.ensures.group, c.options-options.ensures) refl),
+      Says-silence _ _ _ (rw (c.new.ensures.options, c.new.ensures.table, c.in-Ok.ensures.group, c.options-options.ensures, list) refl),
     )
 
 pub returns-in-Err-TooMany-clause-ok : goal.returns-in-Err-TooMany-clause-ok

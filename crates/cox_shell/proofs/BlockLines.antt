@@ -1,0 +1,88 @@
+-- A line that may stand in a block leaves the state.
+use Rattle.std.proofs.Common.{◌≡◌, ◌⊎◌, inl, inr, ℕ, List, [], ◌∷◌, Option, Some, None, IsSomeAnd, MatchOption, refl, sym, ap, ◌∙◌, subst, ⊎_elim}
+use Rattle.std.specs.Option.{option_map}
+use Rattle.cox_tokens.specs.Tokens.{tokens_of}
+use Rattle.cox_command.specs.declared.refusal.Refusal.{Refusal}
+use Rattle.cox_command.specs.declared.command.Command.{Command}
+use Rattle.cox_command.specs.declared.command.Command.TheVariants.{Nothing, Quit, Group, Jobs, Ask}
+use Rattle.cox_command.specs.declared.command_word.CommandWord.{CommandWord}
+use Rattle.cox_command.specs.declared.command_word.CommandWord.TheVariants as word
+use Rattle.cox_command.specs.declared.inquiry.Inquiry.{Inquiry}
+use Rattle.cox_command.specs.CommandWord.{command_word_of}
+use Rattle.cox_command.specs.LineRefusal.{line_refusal}
+use Rattle.cox_command.specs.CommandReading.{command_by, command_of}
+use Rattle.cox_command.specs.BlockLines.{word_refusal, tokens_block_refusal, block_refusal}
+use Rattle.cox_shell.specs.Reply.{State, Reply, rank_of, refusal}
+use Rattle.cox_shell.specs.CommandReply.{IsCommandReply}
+use Rattle.cox_shell.specs.ContentReply.{IsContentReply}
+use Rattle.std.specs.Prelude.{Result, Ok, Err, IfOk, OnErr}
+use Rattle.std.specs.declared.alloc.AllocError.{AllocError}
+use Rattle.cox_shell.specs.declared.session.Said.{Said}
+use Rattle.cox_shell.specs.Saying.{Says, SaysPrefix}
+use Rattle.cox_shell.proofs.KeptGroup.{IsInquiryReply-state}
+
+-- a command is on elements
+abbrev IsAsking : Command → Type 0
+IsAsking command = (inquiry : Inquiry) × (command ≡ Ask inquiry)
+
+-- a command word that may begin a line of a block gives one
+asking : (verb : CommandWord) (name : List ℕ) (arguments : List (List ℕ)) (rank : Option ℕ) → word_refusal name (Some verb) ≡ None
+    → IsAsking (command_by verb arguments rank)
+asking word.Named name arguments rank free = absurd (cc free)
+asking word.Matrix name arguments rank free = absurd (cc free)
+asking word.Quit name arguments rank free = absurd (cc free)
+asking word.Jobs name arguments rank free = absurd (cc free)
+asking (word.One kind) name arguments rank free = (_, refl)
+asking (word.Two kind) name arguments rank free = (_, refl)
+asking (word.Plain kind) name arguments rank free = (_, refl)
+asking word.Work name arguments rank free = (_, refl)
+
+-- and so do tokens that may be a line of a block, unless there is none
+asking_tokens : (tokens : List (List ℕ)) (rank : Option ℕ) (command : Command) → tokens_block_refusal tokens ≡ None
+    → command_of tokens rank ≡ Some command → (command ≡ Nothing) ⊎ IsAsking command
+asking_tokens [] rank command free given = inl (cc given)
+asking_tokens (name ∷ arguments) rank command free given = by_name (command_word_of name) free given
+  where
+    by_name : (o : Option CommandWord) → word_refusal name o ≡ None
+        → option_map (λ verb. command_by verb arguments rank) o ≡ Some command → (command ≡ Nothing) ⊎ IsAsking command
+    by_name None free given = absurd (cc given)
+    by_name (Some verb) free given =
+        let same : command_by verb arguments rank ≡ command = cc given in
+        inr (subst IsAsking same (asking verb name arguments rank free))
+
+-- such a command leaves the state
+asking-state : (command : Command) (state : State) (reply : Reply) → (command ≡ Nothing) ⊎ IsAsking command
+    → IsCommandReply command state reply → reply.after ≡ state
+asking-state command state reply which is = ⊎_elim
+    (λ (e : command ≡ Nothing). let nothing : IsCommandReply Nothing state reply = subst (λ c. IsCommandReply c state reply) e is in
+    ap (λ (r : Reply). r.after) nothing)
+    (λ (asks : IsAsking command). IsInquiryReply-state asks.0 state reply (subst (λ c. IsCommandReply c state reply) asks.1 is)) which
+
+pub block_reply-state : (state : State) (content : List ℕ) (reply : Reply) → block_refusal content ≡ None
+    → IsContentReply state content reply → reply.after ≡ state
+unfolding IsContentReply
+block_reply-state state content reply free is = by_refusal (line_refusal content (rank_of state)) is
+  where
+    by_command : (o : Option Command) → command_of (tokens_of content) (rank_of state) ≡ o
+        → IsSomeAnd o (λ command. IsCommandReply command state reply) → reply.after ≡ state
+    by_command None given is = absurd is
+    by_command (Some command) given is =
+        asking-state command state reply (asking_tokens (tokens_of content) (rank_of state) command free given) is
+
+    by_refusal : (o : Option Refusal)
+        → MatchOption o (IsSomeAnd (command_of (tokens_of content) (rank_of state)) (λ command. IsCommandReply command state reply))
+        (λ why. reply ≡ refusal state why) → reply.after ≡ state
+    by_refusal None is = by_command (command_of (tokens_of content) (rank_of state)) refl is
+    by_refusal (Some why) is = ap (λ (r : Reply). r.after) is
+
+-- so the state stays whatever was said to it
+pub block_said-same : (result : Result Said AllocError) (state next : State) (content before after : List ℕ) → block_refusal content ≡ None
+    → IfOk result (λ said. (reply : Reply) × IsContentReply state content reply × Says said reply next before after)
+    → OnErr result ((reply : Reply) × IsContentReply state content reply × SaysPrefix reply state next before after) → next ≡ state
+block_said-same (Ok said) state next content before after free ok err =
+    ok.2.state_after ∙ block_reply-state state content ok.0 free ok.1
+block_said-same (Err error) state next content before after free ok err = err.2.same_state
+
+pub none_of : {X : Type 0} (o : Option X) → ((x : X) → o ≡ Some x → ⊥) → o ≡ None
+none_of None never = refl
+none_of (Some x) never = absurd (never x refl)

@@ -1,0 +1,200 @@
+-- The reply to a line is one and exists, whether a list is open or none, and the group stays a Coxeter matrix.
+use Rattle.std.proofs.Common.{◌≡◌, ℕ, Bool, true, false, List, [], ◌∷◌, ◌++◌, Option, Some, None, MatchOption, sym, ◌∙◌, ap, refl, subst}
+use Rattle.std.proofs.Common.{append_assoc}
+use Rattle.std.specs.Bool.{MatchBool}
+use Rattle.cox_tokens.specs.Tokens.{tokens_of}
+use Rattle.cox_command.specs.declared.blocks.ListWord.{ListWord}
+use Rattle.cox_command.specs.declared.blocks.ListWord.TheVariants.{Next, End}
+use Rattle.cox_command.specs.declared.refusal.Refusal.{Refusal}
+use Rattle.cox_command.specs.declared.refusal.Refusal.TheVariants.{LongList}
+use Rattle.cox_command.specs.BlockLines.{block_refusal, list_word_of}
+use Rattle.cox_shell.specs.Reply.{Kept, OpenList, State, Reply, closed, with_list, refusal, silence}
+use Rattle.cox_shell.specs.ContentReply.{IsContentReply}
+use Rattle.cox_shell.specs.OpenLists.{is_long, with_block}
+use Rattle.cox_shell.specs.Blocks.{IsBlockReply, IsKeptReply, Told, nothing, then_told, told_by, first_of, AnswersBlock, AnswersBlocks}
+use Rattle.cox_shell.specs.Blocks.{IsListReply, list_answered}
+use Rattle.cox_shell.specs.ListReply.{IsWordReply, IsReplyInList, IsReplyTo, kept_reply, unread_reply, kept_refusal}
+use Rattle.cox_shell.proofs.ContentReply.{IsContentReply-unique}
+use Rattle.cox_shell.proofs.SomeReply.{IsContentReply-exists}
+use Rattle.cox_shell.proofs.KeptGroup.{HasMatrix, IsContentReply-matrix}
+
+-- what is one where there is no refusal is one; and it exists where it does
+by_option : (o : Option Refusal) (P : Reply → Type 0) (state : State) → ((x y : Reply) → P x → P y → x ≡ y) → (x y : Reply)
+    → MatchOption o (P x) (λ why. x ≡ refusal state why) → MatchOption o (P y) (λ why. y ≡ refusal state why) → x ≡ y
+by_option None P state one x y p q = one x y p q
+by_option (Some why) P state one x y p q = p ∙ sym q
+
+some_option : (o : Option Refusal) (P : Reply → Type 0) (state : State) → (r : Reply) × P r
+    → (r : Reply) × MatchOption o (P r) (λ why. r ≡ refusal state why)
+some_option None P state p = p
+some_option (Some why) P state p = (refusal state why, refl)
+
+module _ (state : State) (matrix : HasMatrix state) where
+  -- a line of a block has one reply
+  IsKeptReply-unique : (line : Kept) (one other : Reply) → IsKeptReply state line one → IsKeptReply state line other → one ≡ other
+  IsKeptReply-unique line = by_option line.refused (λ r. IsBlockReply state line.content r) state
+      (by_option (block_refusal line.content) (λ r. IsContentReply state line.content r) state
+      (IsContentReply-unique state line.content matrix))
+
+  kept-exists : (line : Kept) → (reply : Reply) × IsKeptReply state line reply
+  kept-exists line = some_option line.refused (λ r. IsBlockReply state line.content r) state
+      (some_option (block_refusal line.content) (λ r. IsContentReply state line.content r) state
+      (IsContentReply-exists state line.content matrix))
+
+  -- blocks are answered in one way
+  pub AnswersBlock-unique : (lines : List Kept) (one other : Told) → AnswersBlock state lines one → AnswersBlock state lines other
+      → one ≡ other
+  AnswersBlock-unique [] one other p q = p ∙ sym q
+  AnswersBlock-unique (line ∷ lines) one other p q =
+      p.4 ∙ ap (λ r. then_told (told_by r) p.2) (IsKeptReply-unique line p.0 q.0 p.1 q.1)
+      ∙ ap (λ t. then_told (told_by q.0) t) (AnswersBlock-unique lines p.2 q.2 p.3 q.3) ∙ sym q.4
+
+  AnswersBlocks-unique : (blocks : List (List Kept)) (one other : Told) → AnswersBlocks state blocks one → AnswersBlocks state blocks other
+      → one ≡ other
+  AnswersBlocks-unique [] one other p q = p ∙ sym q
+  AnswersBlocks-unique (block ∷ blocks) one other p q =
+      p.4 ∙ ap (λ t. then_told t p.2) (AnswersBlock-unique block p.0 q.0 p.1 q.1)
+      ∙ ap (λ t. then_told q.0 t) (AnswersBlocks-unique blocks p.2 q.2 p.3 q.3) ∙ sym q.4
+
+  block-exists : (lines : List Kept) → (told : Told) × AnswersBlock state lines told
+  block-exists [] = (nothing, refl)
+  block-exists (line ∷ lines) =
+      let one = kept-exists line in
+      let rest = block-exists lines in
+      (then_told (told_by one.0) rest.0, (one.0, one.1, rest.0, rest.1, refl))
+
+  blocks-exist : (blocks : List (List Kept)) → (told : Told) × AnswersBlocks state blocks told
+  blocks-exist [] = (nothing, refl)
+  blocks-exist (block ∷ blocks) =
+      let one = block-exists block in
+      let rest = blocks-exist blocks in
+      (then_told one.0 rest.0, (one.0, one.1, rest.0, rest.1, refl))
+
+-- a list is answered in one way
+pub IsListReply-unique : (state : State) → HasMatrix state → (list : OpenList) (one other : Reply) → IsListReply state list one
+    → IsListReply state list other → one ≡ other
+IsListReply-unique state matrix list one other p q = by_test (is_long list) p q where
+  by_test : (b : Bool) → MatchBool b (one ≡ refusal (closed state) LongList)
+      ((told : Told) × AnswersBlocks (closed state) list told × (one ≡ list_answered (closed state) told))
+      → MatchBool b (other ≡ refusal (closed state) LongList)
+      ((told : Told) × AnswersBlocks (closed state) list told × (other ≡ list_answered (closed state) told)) → one ≡ other
+  by_test true p q = p ∙ sym q
+  by_test false p q = p.2 ∙ ap (list_answered (closed state)) (AnswersBlocks-unique (closed state) matrix list p.0 q.0 p.1 q.1)
+      ∙ sym q.2
+
+pub IsListReply-exists : (state : State) → HasMatrix state → (list : OpenList) → (reply : Reply) × IsListReply state list reply
+IsListReply-exists state matrix list = by_test (is_long list) where
+  by_test : (b : Bool) → (reply : Reply) × MatchBool b (reply ≡ refusal (closed state) LongList)
+      ((told : Told) × AnswersBlocks (closed state) list told × (reply ≡ list_answered (closed state) told))
+  by_test true = (refusal (closed state) LongList, refl)
+  by_test false =
+      let told = blocks-exist (closed state) matrix list in
+      (list_answered (closed state) told.0, (told.0, told.1, refl))
+
+-- no list is open after it, and it does not end the run
+pub IsListReply-closed : (state : State) (list : OpenList) (reply : Reply) → IsListReply state list reply
+    → (reply.after ≡ closed state) × (reply.quits ≡ false)
+IsListReply-closed state list reply is = by_test (is_long list) is where
+  by_test : (b : Bool) → MatchBool b (reply ≡ refusal (closed state) LongList)
+      ((told : Told) × AnswersBlocks (closed state) list told × (reply ≡ list_answered (closed state) told))
+      → (reply.after ≡ closed state) × (reply.quits ≡ false)
+  by_test true is = (ap (λ (r : Reply). r.after) is, ap (λ (r : Reply). r.quits) is)
+  by_test false is = (ap (λ (r : Reply). r.after) is.2, ap (λ (r : Reply). r.quits) is.2)
+
+module _ (state : State) (list : OpenList) (content : List ℕ) where
+  in_list-unique : HasMatrix state → (one other : Reply) → IsReplyInList state list content one → IsReplyInList state list content other
+      → one ≡ other
+  in_list-unique matrix one other p q = by_word (list_word_of (tokens_of content)) p q where
+    by_word : (o : Option ListWord)
+        → MatchOption o (one ≡ kept_reply state list (record { content = content; refused = None })) (λ word. IsWordReply word state list one)
+        → MatchOption o (other ≡ kept_reply state list (record { content = content; refused = None }))
+        (λ word. IsWordReply word state list other) → one ≡ other
+    by_word None p q = p ∙ sym q
+    by_word (Some Next) p q = p ∙ sym q
+    by_word (Some End) p q = IsListReply-unique state matrix list one other p q
+
+  in_list-exists : HasMatrix state → (reply : Reply) × IsReplyInList state list content reply
+  in_list-exists matrix = by_word (list_word_of (tokens_of content)) where
+    by_word : (o : Option ListWord) → (reply : Reply)
+        × MatchOption o (reply ≡ kept_reply state list (record { content = content; refused = None }))
+        (λ word. IsWordReply word state list reply)
+    by_word None = (kept_reply state list (record { content = content; refused = None }), refl)
+    by_word (Some Next) = (silence (with_list state (with_block list)), refl)
+    by_word (Some End) = IsListReply-exists state matrix list
+
+  -- the group stays as it is in a list, and no line there ends the run
+  pub in_list-group : (reply : Reply) → IsReplyInList state list content reply → (reply.after.group ≡ state.group) × (reply.quits ≡ false)
+  in_list-group reply is = by_word (list_word_of (tokens_of content)) is where
+    by_word : (o : Option ListWord)
+        → MatchOption o (reply ≡ kept_reply state list (record { content = content; refused = None }))
+        (λ word. IsWordReply word state list reply) → (reply.after.group ≡ state.group) × (reply.quits ≡ false)
+    by_word None is = (ap (λ (r : Reply). r.after.group) is, ap (λ (r : Reply). r.quits) is)
+    by_word (Some Next) is = (ap (λ (r : Reply). r.after.group) is, ap (λ (r : Reply). r.quits) is)
+    by_word (Some End) is =
+        let after = IsListReply-closed state list reply is in (ap (λ (s : State). s.group) after.0, after.1)
+
+-- a content has one reply
+pub IsReplyTo-unique : (state : State) (content : List ℕ) → HasMatrix state → (one other : Reply) → IsReplyTo state content one
+    → IsReplyTo state content other → one ≡ other
+IsReplyTo-unique state content matrix one other p q = by_list state.list p q where
+  by_list : (o : Option OpenList) → MatchOption o (IsContentReply state content one) (λ list. IsReplyInList state list content one)
+      → MatchOption o (IsContentReply state content other) (λ list. IsReplyInList state list content other) → one ≡ other
+  by_list None p q = IsContentReply-unique state content matrix one other p q
+  by_list (Some list) p q = in_list-unique state list content matrix one other p q
+
+pub IsReplyTo-exists : (state : State) (content : List ℕ) → HasMatrix state → (reply : Reply) × IsReplyTo state content reply
+IsReplyTo-exists state content matrix = by_list state.list where
+  by_list : (o : Option OpenList)
+      → (reply : Reply) × MatchOption o (IsContentReply state content reply) (λ list. IsReplyInList state list content reply)
+  by_list None = IsContentReply-exists state content matrix
+  by_list (Some list) = in_list-exists state list content matrix
+
+pub IsReplyTo-matrix : (state : State) (content : List ℕ) (reply : Reply) → HasMatrix state → IsReplyTo state content reply
+    → HasMatrix reply.after
+IsReplyTo-matrix state content reply matrix is = by_list state.list is where
+  by_list : (o : Option OpenList) → MatchOption o (IsContentReply state content reply) (λ list. IsReplyInList state list content reply)
+      → HasMatrix reply.after
+  by_list None is = IsContentReply-matrix state content reply matrix is
+  by_list (Some list) is = rw (in_list-group state list content reply is).0 matrix
+
+-- so does a line that is refused by its bytes
+pub unread-matrix : (state : State) (why : Refusal) → HasMatrix state → HasMatrix (unread_reply state why).after
+unread-matrix state why matrix = by_list state.list where
+  by_list : (o : Option OpenList) → HasMatrix (kept_refusal o state why).after
+  by_list None = matrix
+  by_list (Some list) = matrix
+
+pub first_of-assoc : {X : Type 0} (a b c : Option X) → first_of (first_of a b) c ≡ first_of a (first_of b c)
+first_of-assoc None b c = refl
+first_of-assoc (Some n) b c = refl
+
+abbrev pub told_of : List ℕ → Option Refusal → Told
+told_of text refused = record { text = text; refused = refused }
+
+pub same_told : (t u : List ℕ) (r q : Option Refusal) → t ≡ u → r ≡ q → told_of t r ≡ told_of u q
+same_told t u r q e f = rw (e, f) refl
+
+nothing_then : (a : Told) → then_told nothing a ≡ a
+nothing_then a = refl
+
+pub then_assoc : (a b c : Told) → then_told (then_told a b) c ≡ then_told a (then_told b c)
+then_assoc a b c = same_told ((a.text ++ b.text) ++ c.text) (a.text ++ (b.text ++ c.text))
+    (first_of (first_of a.refused b.refused) c.refused) (first_of a.refused (first_of b.refused c.refused))
+    (append_assoc a.text b.text c.text) (first_of-assoc a.refused b.refused c.refused)
+
+-- a block in a list is answered as it is alone, whatever stands before and behind it
+pub block_alone : (state : State) (before after : List (List Kept)) (block : List Kept) (told : Told)
+    → AnswersBlocks state (before ++ block ∷ after) told
+    → (first : Told) × (alone : Told) × (last : Told) × AnswersBlocks state before first × AnswersBlock state block alone
+    × AnswersBlocks state after last × (told ≡ then_told first (then_told alone last))
+block_alone state [] after block told is = (nothing, is.0, is.2, refl, is.1, is.3, is.4 ∙ sym (nothing_then (then_told is.0 is.2)))
+block_alone state (one ∷ before) after block told is =
+    let rest = block_alone state before after block is.2 is.3 in (
+      then_told is.0 rest.0,
+      rest.1,
+      rest.2,
+      (is.0, is.1, rest.0, rest.3, refl),
+      rest.4,
+      rest.5,
+      is.4 ∙ ap (λ t. then_told is.0 t) rest.6 ∙ sym (then_assoc is.0 rest.0 (then_told rest.1 rest.2)),
+    )

@@ -1,0 +1,198 @@
+//! Lists of blocks, and the lines that are kept in them.
+use crate::limits::{MAX_BLOCKS, MAX_LINES};
+use cox_command::Refusal;
+use std::alloc::{AllocError, Global};
+use std::marker::Model;
+
+/// A line that is kept in a list: its content, or why its bytes are refused.
+#[derive(Drop)]
+pub struct KeptLine {
+    content: Vec<u8>,
+    refused: Option<Refusal>,
+}
+
+impl Model for KeptLine {
+    ghost use Rattle.std.specs.Prelude.{◌<◌, ◌^◌, length};
+    ghost use Rattle.cox_shell.specs.Reply.{Kept};
+
+    ghost Value = { Kept };
+
+    ghost view = { λ line. record { content = line.content.items; refused = line.refused } };
+
+    ghost invariant = { λ line. length line.content.items < 2 ^ 32 };
+}
+
+impl KeptLine {
+    ghost use Rattle.std.specs.Prelude.{◌≡◌, ◌<◌, ◌^◌, [], None, Some, length, IfOk};
+
+    /// A line with this content.
+    pub fn new(alloc: Global, content: &[u8]) -> Result<KeptLine, AllocError>
+        requires { length content.now < 2 ^ 32 }
+        ensures { IfOk result (λ line. line ≡ record { content = content.now; refused = None }) }
+    {
+        let mut bytes = Vec::new(alloc);
+        bytes.extend_from_slice(content)?;
+        Ok(KeptLine {
+            content: bytes,
+            refused: None,
+        })
+    }
+
+    /// A line whose bytes are refused.
+    pub fn refused(alloc: Global, why: Refusal) -> KeptLine
+        ensures { result ≡ record { content = []; refused = Some why } }
+    {
+        KeptLine {
+            content: Vec::new(alloc),
+            refused: Some(why),
+        }
+    }
+
+    /// Its content. Nothing where its bytes are refused.
+    pub fn content(&self) -> &[u8]
+        ensures content { result.now ≡ self.now.content }
+        ensures size { length result.now < 2 ^ 32 }
+    {
+        self.content.as_slice()
+    }
+
+    /// Why its bytes are refused, if they are.
+    pub fn refusal(&self) -> Option<Refusal>
+        ensures { result ≡ self.now.refused }
+    {
+        self.refused
+    }
+}
+
+/// A block of a list: lines that are kept. Contracts see the list of them.
+#[derive(Drop)]
+pub struct Block {
+    lines: Vec<KeptLine>,
+}
+
+impl Model for Block {
+    ghost use Rattle.std.specs.Prelude.{List};
+    ghost use Rattle.cox_shell.specs.Reply.{Kept};
+
+    ghost Value = { List Kept };
+
+    ghost view = { λ block. block.lines.items };
+}
+
+impl Block {
+    ghost use Rattle.std.specs.Prelude.{◌≡◌, [], ◌∷◌, ◌++◌, OnOk, OnErr};
+
+    /// An empty block.
+    pub fn new(alloc: Global) -> Block
+        ensures { result ≡ [] }
+    {
+        Block {
+            lines: Vec::new(alloc),
+        }
+    }
+
+    /// Adds a line. Without memory nothing changes.
+    pub fn push(&mut self, line: KeptLine) -> Result<(), AllocError>
+        ensures ok { OnOk result (self.new ≡ self.old ++ line ∷ []) }
+        ensures err { OnErr result (self.new ≡ self.old) }
+    {
+        self.lines.push(line)?;
+        Ok(())
+    }
+
+    /// Its lines.
+    pub fn lines(&self) -> &[KeptLine]
+        ensures { result.now ≡ self.now }
+    {
+        self.lines.as_slice()
+    }
+}
+
+/// A list of blocks that is open. Contracts see the lines of each block.
+#[derive(Drop)]
+pub struct JobList {
+    blocks: Vec<Block>,
+}
+
+impl Model for JobList {
+    ghost use Rattle.std.specs.Prelude.{◌<◌, length};
+    ghost use Rattle.cox_shell.specs.Reply.{OpenList};
+
+    ghost Value = { OpenList };
+
+    ghost view = { λ list. list.blocks.items };
+
+    ghost invariant = { λ list. 0 < length list.blocks.items };
+}
+
+impl JobList {
+    ghost use Rattle.std.specs.Prelude.{◌≡◌, IfOk, OnOk, OnErr};
+    ghost use Rattle.cox_shell.specs.OpenLists.{opening_list, with_line, with_block};
+
+    /// A list of one empty block.
+    pub fn new(alloc: Global) -> Result<JobList, AllocError>
+        ensures { IfOk result (λ list. list ≡ opening_list) }
+    {
+        let mut blocks = Vec::new(alloc);
+        blocks.push(Block::new(alloc))?;
+        Ok(JobList { blocks })
+    }
+
+    /// Adds a line to the last block. Without memory nothing changes.
+    pub fn add(&mut self, line: KeptLine) -> Result<(), AllocError>
+        ensures ok { OnOk result (self.new ≡ with_line self.old line) }
+        ensures err { OnErr result (self.new ≡ self.old) }
+    {
+        add_to_last(&mut self.blocks, line)
+    }
+
+    /// Adds an empty block. Without memory nothing changes.
+    pub fn begin_block(&mut self) -> Result<(), AllocError>
+        ensures ok { OnOk result (self.new ≡ with_block self.old) }
+        ensures err { OnErr result (self.new ≡ self.old) }
+    {
+        let alloc = *self.blocks.allocator();
+        self.blocks.push(Block::new(alloc))?;
+        Ok(())
+    }
+
+    /// Its blocks.
+    pub fn blocks(&self) -> &[Block]
+        ensures { result.now ≡ self.now }
+    {
+        self.blocks.as_slice()
+    }
+}
+
+ghost use Rattle.std.specs.Prelude.{◌≡◌, ◌<◌, length, OnOk, OnErr};
+ghost use Rattle.cox_shell.specs.OpenLists.{with_line, is_long};
+
+/// Adds a line to the last of some blocks. Without memory nothing changes.
+fn add_to_last(blocks: &mut Vec<Block>, line: KeptLine) -> Result<(), AllocError>
+    requires { 0 < length blocks.old.items }
+    ensures ok { OnOk result (blocks.new.items ≡ with_line blocks.old.items line) }
+    ensures err { OnErr result (blocks.new.items ≡ blocks.old.items) }
+    ensures count { length blocks.new.items ≡ length blocks.old.items }
+{
+    let last = blocks.len() - 1;
+    blocks[last].push(line)?;
+    Ok(())
+}
+
+/// Whether there are too many blocks, or too many lines in all.
+pub fn is_long(blocks: &[Block]) -> bool
+    ensures { result ≡ is_long blocks.now }
+{
+    if blocks.len() > MAX_BLOCKS {
+        return true;
+    }
+    let mut lines = 0;
+    'each: for block in blocks {
+        let count = block.lines().len();
+        if count > MAX_LINES - lines {
+            return true;
+        }
+        lines += count;
+    }
+    false
+}
