@@ -14,5 +14,7 @@ pub mod Numerals
 pub mod TextPieces
 -- the text of a word, and its pieces
 pub mod WordTexts
+-- the word that a text names
+pub mod NamedWords
 -- labels that are not admitted
 pub mod RefusedLabels

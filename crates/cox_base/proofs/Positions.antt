@@ -1,5 +1,5 @@
--- The first element that passes a test.
-use Rattle.std.proofs.Common.{◌≡◌, ℕ, zero, suc, ◌+◌, ◌<◌, ◌≤◌, Bool, true, false, cond, Some, None, List, ◌∷◌, length, get_or}
+-- The first element that passes a test, and what `find` finds.
+use Rattle.std.proofs.Common.{◌≡◌, ℕ, zero, suc, ◌+◌, ◌<◌, ◌≤◌, Bool, true, false, cond, Some, None, List, [], ◌∷◌, length, get_or}
 use Rattle.std.proofs.Common.{arith, refl, ap, ⊎_elim}
 use Rattle.std.specs.Option.{option_map}
 use Rattle.std.specs.List.{position, position_or_len, find, range_with_len}
@@ -33,6 +33,15 @@ position-cons_no p x xs h =
     rw (h, lt-ltb n (length xs) within, lt-ltb (1 + n) (suc (length xs)) (omega arith)) (ap Some (omega arith)))
     (λ (beyond : length xs ≤ n). rw (h, le-ltb n (length xs) beyond, le-ltb (1 + n) (suc (length xs)) (omega arith)))
     (cases_lt n (length xs))
+
+-- what is found passes
+pub find-passes : {X : Type 0} (p : X → Bool) (xs : List X) (x : X) → find p xs ≡ Some x → p x ≡ true
+find-passes p [] x e = absurd (cc)
+find-passes p (y ∷ xs) x e = go (p y) refl (find-passes p xs x)
+  where
+    go : (b : Bool) → p y ≡ b → (find p xs ≡ Some x → p x ≡ true) → p x ≡ true
+    go true q rest = let f = rw q at e in let same : y ≡ x = cc in rw (← same) q
+    go false q rest = rest (rw q at e)
 
 -- no number of a range passes
 pub find-range_none : (p : ℕ → Bool) (a n : ℕ) → ((k : ℕ) → a ≤ k → k < a + n → p k ≡ false) → find p (range_with_len a n) ≡ None

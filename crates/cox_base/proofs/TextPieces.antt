@@ -15,7 +15,7 @@ use Rattle.cox_base.specs.declared.limits.TheConstants.{MAX_RANK}
 use Rattle.cox_base.specs.Matrix.{IsLetter, IsWord}
 use Rattle.cox_base.specs.ShortLex.{letters}
 use Rattle.cox_base.specs.WordText.{has_digits, separator, is_dot, pieces_of, letter_of}
-use Rattle.cox_base.proofs.Positions.{position-cons_yes, position-cons_no, find-range_none, find-range_some, find-range_within}
+use Rattle.cox_base.proofs.Positions.{position-cons_yes, position-cons_no, find-passes, find-range_none, find-range_some, find-range_within}
 
 -- whether a piece is no letter
 abbrev is_foreign : ℕ → List ℕ → Bool
@@ -81,6 +81,11 @@ letter_of-outside rank n piece limit small is outside =
     letter_of-none rank piece (λ s letter e.
     let same : s ≡ n = decimal_injective s n (omega (arith, letter.to_rank, limit)) (omega arith) (e ∙ sym is) in
     ⊎_elim (λ (none : n ≡ 0). omega (arith, same, letter.from_one)) (λ (beyond : rank < n). omega (arith, same, letter.to_rank)) outside)
+
+-- a piece that names a letter is its numeral
+pub letter_of-is : (rank s : ℕ) (piece : List ℕ) → letter_of rank piece ≡ Some s → decimal s ≡ piece
+letter_of-is rank s piece is =
+    (bytes_eq-Decides (decimal s) piece).0 (find-passes (λ t. bytes_eq (decimal t) piece) (letters rank) s is)
 
 -- what a piece names is a letter
 pub letter_of-IsLetter : (rank s : ℕ) (piece : List ℕ) → letter_of rank piece ≡ Some s → IsLetter rank s

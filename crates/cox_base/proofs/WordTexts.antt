@@ -1,6 +1,6 @@
 -- The text of a word, and its pieces.
 use Rattle.std.proofs.Common.{◌≡◌, ℕ, ◌+◌, ◌/◌, ◌%◌, ◌<◌, ◌≤◌, false, None, List, [], ◌∷◌, ◌++◌, map, length, decimal, codes}
-use Rattle.std.proofs.Common.{Result, Ok, Err, IsOkAnd, refl, ap, ◌∙◌, arith, ⊎_elim}
+use Rattle.std.proofs.Common.{Result, Ok, Err, IsOkAnd, refl, sym, ap, ◌∙◌, arith, ⊎_elim}
 use Rattle.std.specs.List.{filter_map, flat_map, slice_split, All}
 use Rattle.arrayvec.specs.ArrayVec.{ArrayVec}
 use Rattle.std.proofs.lemmas.Bool.{cases_Bool, cases_lt}
@@ -90,6 +90,21 @@ is_e-letters s rest small =
     byte b [] below = grind (arith, nat_tests)
     byte b (next ∷ rest) below = refl
 
+-- the text of a word names the word
+pub word_of-text : (rank : ℕ) (word : List ℕ) → rank ≤ MAX_RANK → IsWord rank word → word_of rank (word_text rank word) ≡ word
+word_of-text rank [] limit letters = refl
+word_of-text rank (s ∷ word) limit letters =
+    let other = is_e-letters s (others_text (separator rank) word)
+    (omega (arith, limit, (All-head (IsLetter rank) s word letters).to_rank)) in
+    rw other (ap (filter_map (letter_of rank)) (pieces_of-letters rank s word limit letters)
+    ∙ filter_map-numerals rank (s ∷ word) limit letters)
+
+-- and no other word
+pub word_text-one : (rank : ℕ) (v w : List ℕ) → rank ≤ MAX_RANK → IsWord rank v → IsWord rank w → word_text rank v ≡ word_text rank w
+    → v ≡ w
+word_text-one rank v w limit v_is w_is same =
+    sym (word_of-text rank v limit v_is) ∙ ap (word_of rank) same ∙ word_of-text rank w limit w_is
+
 -- what reading a text answers, where its pieces are letters
 read-whole : (rank : ℕ) (text word : List ℕ) (read : Result (ArrayVec ℕ) WordFault) → length (pieces_of rank text) ≤ MAX_LETTERS
     → first_foreign rank text ≡ None → word_of rank text ≡ word → ReadsWord read text rank → IsOkAnd read (λ again. again.items ≡ word)
@@ -111,4 +126,4 @@ text-read rank (s ∷ word) read limit letters short reads =
     (omega (arith, limit, (All-head (IsLetter rank) s word letters).to_rank)) in
     read-whole rank text (s ∷ word) read (omega (arith, ap length pieces, length-map (s ∷ word) decimal, short))
     (rw other (ap (foreign_piece rank) pieces ∙ foreign_from-numerals rank (s ∷ word) 1 limit letters))
-    (rw other (ap (filter_map (letter_of rank)) pieces ∙ filter_map-numerals rank (s ∷ word) limit letters)) reads
+    (word_of-text rank (s ∷ word) limit letters) reads

@@ -7,8 +7,8 @@ use Rattle.std.proofs.lemmas.List.Elements.{All-head, All-tail}
 use Rattle.cox_base.specs.declared.limits.TheConstants.{MAX_RANK}
 use Rattle.cox_base.specs.Matrix.{CoxeterMatrix}
 use Rattle.cox_base.specs.WordText.{word_text}
+use Rattle.cox_base.proofs.WordTexts.{word_text-one}
 use Rattle.cox_cert.specs.Certificate.{Certificate, IsCertificate, IsLine, Gives, row_line, end_line, certificate_lines}
-use Rattle.cox_cert.proofs.WordLines.{word_text-one}
 use Rattle.cox_cert.proofs.MatrixLines.{matrix_line-one}
 use Rattle.cox_cert.proofs.RowLines.{row_line-one}
 
@@ -37,7 +37,7 @@ same_matrix-one : (g : CoxeterMatrix) (t u : List ℕ) (xs ys : List (List ℕ �
 same_matrix-one g t u xs ys c_is d_is same =
     let top_line : codes "element " ++ word_text g.rank t ≡ codes "element " ++ word_text g.rank u = cc in
     let texts = append_cancel_left (codes "element ") (word_text g.rank t) (word_text g.rank u) top_line in
-    let top = word_text-one g.rank t u c_is.rank c_is.top d_is.top texts in
+    let top = word_text-one g.rank t u c_is.rank c_is.top.letters d_is.top.letters texts in
     let behind : map (row_line g.rank) xs ++ end_line ∷ [] ≡ map (row_line g.rank) ys ++ end_line ∷ [] = cc in
     let rows = rows-one g.rank xs ys c_is.rank c_is.rows d_is.rows behind in
     ap (λ w. made g w xs) top ∙ ap (λ l. made g u l) rows

@@ -6,6 +6,7 @@ use Rattle.std.proofs.lemmas.Bool.{eqb-true}
 use Rattle.std.proofs.lemmas.Bool.Decides.{nat_tests}
 use Rattle.cox_base.specs.declared.limits.TheConstants.{MAX_RANK}
 use Rattle.cox_base.specs.WordText.{word_text}
+use Rattle.cox_base.proofs.WordTexts.{word_text-one}
 use Rattle.cox_poly.specs.PolynomialText.{polynomial_text}
 use Rattle.cox_poly.specs.PolynomialReading.{IsTextOf}
 use Rattle.arrayvec.specs.ArrayVec.{ArrayVec}
@@ -17,7 +18,7 @@ use Rattle.cox_cert.specs.declared.reading.RowLine.{RowLine}
 use Rattle.cox_cert.specs.declared.reading.RowLine.TheVariants.{Small, Large, Foreign}
 use Rattle.cox_cert.specs.LineReading.{ReadsPolynomial, ReadsRow}
 use Rattle.cox_cert.proofs.Cuts.{is_byte, cut-one, cut-whole}
-use Rattle.cox_cert.proofs.WordLines.{word_text-bytes, word_text-one}
+use Rattle.cox_cert.proofs.WordLines.{word_text-bytes}
 
 -- a word has no colon
 word_text-no_colon : (rank : ℕ) (word : List ℕ) → rank ≤ MAX_RANK → IsShortWord rank word → AreNot (is_byte 58) (word_text rank word)
@@ -35,7 +36,7 @@ row_line-one rank x y limit x_is y_is same =
     let parts = split-one (is_byte 58) (word_text rank x.0) (word_text rank y.0) (58 ∷ polynomial_text x.1) (58 ∷ polynomial_text y.1)
     (word_text-no_colon rank x.0 limit x_is.word) (word_text-no_colon rank y.0 limit y_is.word) refl refl
     (sym (row_line-split rank x) ∙ same ∙ row_line-split rank y) in
-    let word = word_text-one rank x.0 y.0 limit x_is.word y_is.word parts.front in
+    let word = word_text-one rank x.0 y.0 limit x_is.word.letters y_is.word.letters parts.front in
     let texts : polynomial_text x.1 ≡ polynomial_text y.1 = ap (drop 1) parts.back in
     let polynomial = same_polynomial x.1 y.1 x_is.polynomial y_is.polynomial (polynomial_text-one x.1 y.1 texts) in
     ap (λ (w : List ℕ). pair w x.1) word ∙ ap (λ (p : List ℤ). pair y.0 p) polynomial

@@ -18,7 +18,7 @@ pub mod ClosedContexts
 pub mod Extensions
 -- where the entries of a table of shifts stand
 pub mod ShiftPlaces
--- shifts of members: which are members, and which come before
+-- what is below members; shifts of members: which are members, and which come before
 pub mod Shifting
 -- two letters in turn behind an element
 pub mod Rounds

@@ -1,4 +1,4 @@
--- Shifts of the members of a closed list.
+-- The members of a closed list: what is below them, and their shifts.
 use Rattle.std.proofs.Common.{◌≡◌, ℕ, ◌+◌, ◌≤◌, ◌<◌, List, [], ◌∷◌, ◌++◌, length, Contains, ◌↔◌, Option, None, Some, IsSome, refl, ap, sym}
 use Rattle.std.proofs.Common.{◌∙◌, ◌⊎◌, ⊎_elim, arith}
 use Rattle.std.proofs.lemmas.Bool.{cases_order}
@@ -15,13 +15,14 @@ use Rattle.cox_reflect.proofs.Elements.{same-refl, same-sym, same-trans, same-eq
 use Rattle.cox_reflect.proofs.Search.{normal_form-same, normal_form-equal}
 use Rattle.cox_reflect.proofs.Lengths.{word_length-is}
 use Rattle.cox_reflect.proofs.Deletion.{left_length, right_length, sides_same}
-use Rattle.cox_reflect.proofs.Bruhat.{below-same, below-refl, below-trans, below-least, below-descent, below-ascent, below-push}
+use Rattle.cox_reflect.proofs.Bruhat.{below-same, below-refl, below-trans, below-least, below-length, below-equal_length}
+use Rattle.cox_reflect.proofs.Bruhat.{below-descent, below-ascent, below-push}
 use Rattle.cox_reflect.proofs.NormalElements.{element-normal_form, element-word, element-length}
 use Rattle.cox_base.specs.Members.{IsElement}
 use Rattle.cox_context.specs.Closed.{IsClosed}
 use Rattle.cox_context.specs.Numbers.{word_at}
 use Rattle.cox_context.specs.Numbering.{IsNumberOf}
-use Rattle.cox_context.proofs.PlacedWords.{IsPlaced, contains-placed, contains-at, rising-length}
+use Rattle.cox_context.proofs.PlacedWords.{IsPlaced, contains-placed, contains-at, rising-place, rising-length}
 use Rattle.cox_context.proofs.Ideals.{element-nil, element-tail, below-tail}
 
 module _ (A : IntegerMatrix) (g : IsAdmissible A) (words : List (List ℕ)) (closed : IsClosed A words) where
@@ -36,6 +37,17 @@ module _ (A : IntegerMatrix) (g : IsAdmissible A) (words : List (List ℕ)) (clo
   member-below y i l b =
       closed.down (normal_form A y) (word_at words i) (contains-at words i l) (element-normal_form A g y)
       (below-same A g (same-sym A g (normal_form-same A g y)) (same-refl A g (word_at words i)) b)
+
+  -- a member with a greater number is not below
+  pub later-not_below : (i j : ℕ) → i < length words → j < length words → j < i → IsBelow A (word_at words i) (word_at words j) → ⊥
+  later-not_below i j l m h b =
+      let size : length (word_at words j) ≤ length (word_at words i) = rising-length words j i closed.rising (omega arith) l
+      in let same : SameElement A (word_at words i) (word_at words j)
+      = below-equal_length A g b (omega (arith, size, below-length A g b, length-at i l, length-at j m))
+      in omega (
+        arith,
+        rising-place words i j closed.rising l m (sym (element-at i l).normal ∙ normal_form-equal A g same ∙ (element-at j m).normal),
+      )
 
   -- the identity is the first member
   pub first-member : word_at words 0 ≡ []

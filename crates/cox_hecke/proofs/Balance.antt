@@ -1,8 +1,7 @@
 -- Families F that turned round in the degrees n - l(x) are G: they are closed under 1 + T(s), multiples by powers of q, sums and
 -- differences. The last condition of a row of w says that of n = l(w), with the sums of R(x,y) p(y) for G.
-use Rattle.std.proofs.Common.{◌≡◌, ℕ, zero, suc, ◌+◌, ◌-◌, ◌*◌, ◌≤◌, ◌<◌, Bool, true, false, if◌then◌else◌, List, ◌∷◌}
+use Rattle.std.proofs.Common.{◌≡◌, ℕ, zero, suc, ◌+◌, ◌*◌, ◌≤◌, ◌<◌, Bool, true, false, if◌then◌else◌, List, ◌∷◌}
 use Rattle.std.proofs.Common.{ℤ, pos, ◌+ℤ◌, ◌-ℤ◌, ◌*ℤ◌, neg_ℤ, refl, ap, sym, ◌∙◌, subst, arith}
-use Rattle.std.specs.Prelude.{nat_le}
 use Rattle.std.proofs.lemmas.Int.{ints}
 use lib.IntN.{+ℤ_comm}
 use Rattle.cox_base.specs.declared.side.Side.TheVariants.{Left}
@@ -10,11 +9,12 @@ use Rattle.cox_base.specs.Matrix.{IsLetter}
 use Rattle.cox_base.specs.IntegerMatrix.{IntegerMatrix}
 use Rattle.cox_base.specs.Admissible.{IsAdmissible}
 use Rattle.cox_base.specs.Length.{word_length}
-use Rattle.cox_poly.specs.Coefficients.{Coefficients, zero_polynomial, one_polynomial, plus, times_q}
+use Rattle.cox_poly.specs.Coefficients.{Coefficients, zero_polynomial, plus, times_q}
 use Rattle.cox_poly.specs.Products.{times_q_power, flip, product}
 use Rattle.cox_poly.specs.Multiples.{minus, scaled}
 use Rattle.cox_poly.specs.Size.{HasDegreeAtMost}
-use Rattle.cox_poly.proofs.Coefficients.{times_q_power-zero, times_q_power-suc, flip_at, flip_above, flip-suc, flip-times_q}
+use Rattle.cox_poly.proofs.Coefficients.{times_q_power-zero, times_q_power-suc}
+use Rattle.cox_poly.proofs.Coefficients.{flip-none, flip-plus, flip-minus, flip-scaled, flip-suc, flip-times_q, flip_low-times_q}
 use Rattle.cox_poly.proofs.Products.{product-plus, product-negated, product-scaled, product-times_q}
 use Rattle.cox_rpoly.specs.RPolynomial.{r_polynomial}
 use Rattle.cox_hecke.specs.Family.{Family}
@@ -42,50 +42,6 @@ plus-none = λ i k. at k i
   where
     at : (k : ℕ) → plus zero_polynomial zero_polynomial k ≡ pos 0
     at k = refl
-
-pub flip-none : (d : ℕ) → flip d zero_polynomial ≡ zero_polynomial
-flip-none d = λ i k. at k (nat_le k d) i
-  where
-    at : (k : ℕ) (b : Bool) → (if b then pos 0 else pos 0) ≡ pos 0
-    at k true = refl
-    at k false = refl
-
-pub flip-one : flip 0 one_polynomial ≡ one_polynomial
-flip-one = λ i k. at k i
-  where
-    at : (k : ℕ) → flip 0 one_polynomial k ≡ one_polynomial k
-    at zero = flip_at one_polynomial 0 0 0 (omega arith)
-    at (suc k) = flip_above one_polynomial 0 (suc k) (omega arith)
-
-pub flip-plus : (d : ℕ) (f h : Coefficients) → flip d (plus f h) ≡ plus (flip d f) (flip d h)
-flip-plus d f h = λ i k. at k (nat_le k d) i
-  where
-    at : (k : ℕ) (b : Bool) → (if b then f (d - k) +ℤ h (d - k) else pos 0)
-        ≡ (if b then f (d - k) else pos 0) +ℤ (if b then h (d - k) else pos 0)
-    at k true = refl
-    at k false = refl
-
-pub flip-minus : (d : ℕ) (f h : Coefficients) → flip d (minus f h) ≡ minus (flip d f) (flip d h)
-flip-minus d f h = λ i k. at k (nat_le k d) i
-  where
-    at : (k : ℕ) (b : Bool) → (if b then f (d - k) -ℤ h (d - k) else pos 0)
-        ≡ (if b then f (d - k) else pos 0) -ℤ (if b then h (d - k) else pos 0)
-    at k true = refl
-    at k false = refl
-
-flip-scaled : (d : ℕ) (c : ℤ) (f : Coefficients) → flip d (scaled c f) ≡ scaled c (flip d f)
-flip-scaled d c f = λ i k. at k (nat_le k d) i
-  where
-    at : (k : ℕ) (b : Bool) → (if b then c *ℤ f (d - k) else pos 0) ≡ c *ℤ (if b then f (d - k) else pos 0)
-    at k true = refl
-    at k false = omega (arith, ints)
-
-flip_low-times_q : (f : Coefficients) → flip 0 (times_q f) ≡ zero_polynomial
-flip_low-times_q f = λ i k. at k i
-  where
-    at : (k : ℕ) → flip 0 (times_q f) k ≡ pos 0
-    at zero = flip_at (times_q f) 0 0 0 (omega arith)
-    at (suc k) = flip_above (times_q f) 0 (suc k) (omega arith)
 
 degree-none : {f : Coefficients} (d : ℕ) → f ≡ zero_polynomial → HasDegreeAtMost f d
 degree-none d e k l = ap (λ (f : Coefficients). f k) e
@@ -132,7 +88,7 @@ module _ (A : IntegerMatrix) where
     none = λ x l. ap (scaled c) (b.none x l) ∙ multiple;
     none_sum = λ x l. ap (scaled c) (b.none_sum x l) ∙ multiple;
     low = λ x d e k l. omega (arith, ints, ap (λ (z : ℤ). c *ℤ z) (b.low x d e k l));
-    turned = λ x d e. flip-scaled d c (F x) ∙ ap (scaled c) (b.turned x d e);
+    turned = λ x d e. (λ i k. flip-scaled d c (F x) k i) ∙ ap (scaled c) (b.turned x d e);
   }
     where
       multiple : scaled c zero_polynomial ≡ zero_polynomial

@@ -15,7 +15,7 @@ use Rattle.cox_reflect.proofs.Bruhat.{below-same, below-trans, below-length, bel
 use Rattle.cox_poly.specs.Coefficients.{Coefficients, zero_polynomial, one_polynomial}
 use Rattle.cox_poly.specs.Products.{flip, product}
 use Rattle.cox_poly.specs.Multiples.{minus}
-use Rattle.cox_poly.proofs.Coefficients.{flip_at}
+use Rattle.cox_poly.proofs.Coefficients.{flip_at, flip-none}
 use Rattle.cox_poly.proofs.Products.{product_of_none, product-zero, one-product}
 use Rattle.cox_rpoly.specs.RPolynomial.{r_polynomial}
 use Rattle.cox_rpoly.proofs.PolynomialsOfElements.{r_polynomial-not_below, r_polynomial-equal}
@@ -26,7 +26,7 @@ use Rattle.cox_hecke.specs.ListedElements.{is_same, occurrences, LiesBetween}
 use Rattle.cox_hecke.proofs.ListSums.{sum_over-equal, sum_over-none, sum_over-one, sum_over-lists, same-is_same}
 use Rattle.cox_hecke.proofs.ElementLists.{Tells-ListsEach, below_list, below_or_not, sorted_between, sorted-once}
 use Rattle.cox_hecke.proofs.BarSums.{bar_term-respects}
-use Rattle.cox_hecke.proofs.Balance.{Balanced, Balanced-minus, bar_sum-minus, flip-none}
+use Rattle.cox_hecke.proofs.Balance.{Balanced, Balanced-minus, bar_sum-minus}
 
 -- a polynomial of a degree below n/2 that is itself when turned round in degree n is 0
 flip_low : (n : ℕ) (f : Coefficients) → ((k : ℕ) → n ≤ 2 * k → f k ≡ pos 0) → ((k : ℕ) → flip n f k ≡ f k) → (k : ℕ) → f k ≡ pos 0

@@ -19,6 +19,7 @@ use Rattle.cox_reflect.proofs.Lengths.{empty_same}
 use Rattle.cox_poly.specs.Coefficients.{Coefficients, zero_polynomial, one_polynomial}
 use Rattle.cox_poly.specs.Products.{flip, product}
 use Rattle.cox_poly.specs.Size.{HasDegreeAtMost}
+use Rattle.cox_poly.proofs.Coefficients.{flip-one}
 use Rattle.cox_poly.proofs.Products.{one-product}
 use Rattle.cox_rpoly.specs.RPolynomial.{r_polynomial}
 use Rattle.cox_rpoly.proofs.PolynomialsOfElements.{r_polynomial-equal}
@@ -30,7 +31,7 @@ use Rattle.cox_hecke.proofs.Descents.{nat_lt-yes, shortens_left-back, some_left_
 use Rattle.cox_hecke.proofs.RPolynomials.{unit, unit-one, unit-respects, unit-other}
 use Rattle.cox_hecke.proofs.ListSums.{same-is_same}
 use Rattle.cox_hecke.proofs.ElementLists.{below_list}
-use Rattle.cox_hecke.proofs.Balance.{Balanced, flip-one}
+use Rattle.cox_hecke.proofs.Balance.{Balanced}
 use Rattle.cox_hecke.proofs.OneRow.{bar_sum-none, row-from, row-same, one_above}
 use Rattle.cox_hecke.proofs.StepRow.{step_row}
 use Rattle.cox_hecke.proofs.StepIsRow.{step_row-is}

@@ -15,12 +15,11 @@ use Rattle.cox_poly.specs.Coefficients.{Coefficients, zero_polynomial, plus, tim
 use Rattle.cox_poly.specs.Products.{flip}
 use Rattle.cox_poly.specs.Multiples.{minus, negated}
 use Rattle.cox_poly.specs.Size.{HasDegreeAtMost}
-use Rattle.cox_poly.proofs.Coefficients.{flip_at, flip_above, flip-suc, flip-times_q}
+use Rattle.cox_poly.proofs.Coefficients.{flip_at, flip_above, flip-none, flip-one, flip-plus, flip-minus, flip-suc, flip-times_q}
 use Rattle.cox_rpoly.specs.RPolynomial.{r_along, r_polynomial}
 use Rattle.cox_rpoly.proofs.AlongWords.{along-identity, along-shorter, along-longer, along-long, along-degree, shortens}
 use Rattle.cox_rpoly.proofs.PolynomialsOfElements.{r_polynomial-is}
 use Rattle.cox_hecke.specs.Sign.{times_sign}
-use Rattle.cox_hecke.proofs.Balance.{flip-one, flip-none, flip-plus, flip-minus}
 
 times_sign-plus : (d : ℕ) (f h : Coefficients) (k : ℕ) → times_sign d (plus f h) k ≡ times_sign d f k +ℤ times_sign d h k
 times_sign-plus zero f h k = refl

@@ -6,9 +6,9 @@ use Rattle.cox_base.specs.Admissible.{IsAdmissible}
 use Rattle.cox_base.specs.Bruhat.{IsBelow}
 use Rattle.cox_context.specs.Closed.{Elements, IsClosed}
 use Rattle.cox_context.specs.Numbers.{word_at}
+use Rattle.cox_context.proofs.Shifting.{later-not_below}
 use Rattle.cox_row.specs.Rising.{number_at, AreRising, AreWithin}
 use Rattle.cox_row.proofs.RisingNumbers.{each-push, rising-push, within-push, found-push}
-use Rattle.cox_row.proofs.Raising.{later-not_below}
 use Rattle.cox_inverse.specs.NumberedInverses.{AreBetween}
 
 -- the numbers before end of the members z with y ≤ z ≤ w, rising

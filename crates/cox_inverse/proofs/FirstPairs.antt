@@ -1,7 +1,7 @@
 -- Polynomials P(x,z) with a coefficient above the limit: the first one that is found, by rising z and then by rising x, is the first of
 -- all.
 use Rattle.std.proofs.Common.{◌≡◌, ℕ, ◌+◌, ◌<◌, ◌≤◌, List, length, ℤ, pos, refl, ◌∙◌, ⊎_elim, arith}
-use Rattle.std.specs.Prelude.{unsigned_abs, ◌<ℤ◌, ◌≤ℤ◌, true}
+use Rattle.std.specs.Prelude.{◌≤ℤ◌, true}
 use lib.Signed.{le_z}
 use Rattle.std.proofs.lemmas.Bool.{cases_lt}
 use Rattle.std.proofs.lemmas.Int.{ints}
@@ -14,8 +14,8 @@ use Rattle.cox_poly.specs.Limit.{AllWithin, IsFirstAbove}
 use Rattle.cox_hecke.specs.Row.{IsKazhdanLusztig}
 use Rattle.cox_context.specs.Closed.{Elements, IsClosed}
 use Rattle.cox_context.specs.Numbers.{word_at}
+use Rattle.cox_context.proofs.Shifting.{later-not_below}
 use Rattle.cox_row.specs.Rising.{number_at, AreRising}
-use Rattle.cox_row.proofs.Raising.{later-not_below}
 use Rattle.cox_row.specs.declared.row.Row.{Row}
 use Rattle.cox_row.specs.RowOf.{IsRowAt}
 use Rattle.cox_row.specs.Polynomials.{polynomial_at}
@@ -42,15 +42,6 @@ place-less numbers rising i j l m less = ⊎_elim (λ (before : i < j). before)
 -- what a test of two limits says
 pub at_most : (a b : ℤ) → le_z a b ≡ true → a ≤ℤ b
 at_most a b e = grind (arith, ints)
-
--- a smaller limit
-pub within-more : (A : IntegerMatrix) (x w : List ℕ) (limit most : ℤ) → limit ≤ℤ most → IsWithinLimit A limit x w → IsWithinLimit A most x w
-within-more A x w limit most l small k c large = small k c (record {
-  polynomial = large.polynomial;
-  is = large.is;
-  value = large.value;
-  above = omega (arith, ints, l, large.above);
-})
 
 -- where the polynomials of a row are within a limit, no P(x,z) of it has a coefficient above it
 pub row-small : (e : Elements) → IsAdmissible (integer_matrix e.matrix) → IsClosed (integer_matrix e.matrix) e.members → (i : ℕ)

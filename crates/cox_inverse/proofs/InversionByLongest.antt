@@ -20,7 +20,9 @@ use Rattle.cox_reflect.proofs.Bruhat.{below-refl, below-trans, below-length, bel
 use Rattle.cox_poly.specs.Coefficients.{Coefficients, zero_polynomial, one_polynomial, plus}
 use Rattle.cox_poly.specs.Products.{product, flip}
 use Rattle.cox_poly.specs.Multiples.{minus, scaled}
+use Rattle.cox_poly.proofs.Coefficients.{flip-none, flip-plus, flip-minus}
 use Rattle.cox_poly.proofs.Products.{product-zero, zero-product, one-product, product-one, product-scaled, HasDegreeAtMost-product}
+use Rattle.cox_poly.proofs.FlippedProducts.{flip-product}
 use Rattle.cox_rpoly.specs.RPolynomial.{r_polynomial}
 use Rattle.cox_rpoly.proofs.PolynomialsOfElements.{r_polynomial-equal, r_polynomial-not_below}
 use Rattle.cox_hecke.specs.Family.{Family, RespectsElements}
@@ -31,7 +33,7 @@ use Rattle.cox_hecke.specs.ListedElements.{is_same, occurrences, LiesBetween}
 use Rattle.cox_hecke.proofs.ListSums.{sum_over-equal, sum_over-none, sum_over-plus, sum_over-scaled, sum_over-one}
 use Rattle.cox_hecke.proofs.ListSums.{same_or_not, same-is_same, is_same-same, not_same-is_same}
 use Rattle.cox_hecke.proofs.ElementLists.{Tells-ListsEach, below_list, below_or_not, sorted-once}
-use Rattle.cox_hecke.proofs.Balance.{flip-none, flip-plus, flip-minus, bar_sum-plus}
+use Rattle.cox_hecke.proofs.Balance.{bar_sum-plus}
 use Rattle.cox_hecke.proofs.OneRow.{between_or_not, bar_sum-none, bar_sum-lists, row-bar, row-unique}
 use Rattle.cox_hecke.proofs.PolynomialValues.{kl_polynomial, kl_polynomial-row, kl_polynomial-value}
 use Rattle.cox_hecke.proofs.PolynomialValues.{kl_polynomial-same, kl_polynomial-outside}
@@ -40,7 +42,6 @@ use Rattle.cox_inverse.specs.Longest.{IsLongest}
 use Rattle.cox_inverse.proofs.InverseSums.{above-longer}
 use Rattle.cox_inverse.proofs.OneInverseRow.{inverse_row-from}
 use Rattle.cox_inverse.proofs.Signs.{sign, times_sign-scaled, sign-less}
-use Rattle.cox_inverse.proofs.FlippedProducts.{flip-product}
 use Rattle.cox_inverse.proofs.SumsOfProducts.{sums-exchanged, sums-exchanged_back, flip-sum_over}
 use Rattle.cox_inverse.proofs.RInversion.{signed_r, signed_r-respects, signed_r-outside, r-inversion}
 use Rattle.cox_hecke.proofs.AllRows.{row_of, row_of-is}

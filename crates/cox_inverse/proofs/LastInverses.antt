@@ -1,6 +1,6 @@
 -- The inverse polynomials from w down so far: one more, or the last one with a coefficient above the limit.
 use Rattle.std.proofs.Common.{◌≡◌, ℕ, zero, suc, ◌+◌, ◌-◌, ◌<◌, ◌≤◌, List, [], ◌∷◌, ◌++◌, length, ℤ, pos, refl, ap, sym, ◌∙◌, ⊎_elim, arith}
-use Rattle.std.specs.Prelude.{unsigned_abs, ◌<ℤ◌, ◌≤ℤ◌}
+use Rattle.std.specs.Prelude.{◌≤ℤ◌}
 use Rattle.std.proofs.lemmas.Int.{ints}
 use Rattle.std.proofs.lemmas.Bool.{cases_lt}
 use Rattle.cox_lemmas.proofs.PushedItems.{push-length, push-old, push-new, push_cases}
@@ -13,13 +13,13 @@ use Rattle.cox_reflect.proofs.Bruhat.{below-same, below-refl, below-trans}
 use Rattle.cox_poly.specs.Polynomial.{coefficient, IsPolynomial, SameCoefficients}
 use Rattle.cox_poly.specs.Coefficients.{one_polynomial}
 use Rattle.cox_poly.specs.Limit.{AllWithin, IsWithin, IsFirstAbove}
+use Rattle.cox_poly.proofs.Limits.{within-not_above}
 use Rattle.cox_poly.proofs.Polynomials.{AllWithin-same}
-use Rattle.cox_hecke.proofs.PolynomialValues.{kazhdan_lusztig-same}
 use Rattle.cox_context.specs.Closed.{Elements, IsClosed}
 use Rattle.cox_context.specs.Numbers.{word_at}
 use Rattle.cox_row.specs.Rising.{number_at}
 use Rattle.cox_row.specs.Polynomials.{polynomial_at}
-use Rattle.cox_klstep.specs.LargeMembers.{IsWithinLimit}
+use Rattle.cox_klstep.proofs.LargeCoefficients.{within-same}
 use Rattle.cox_inverse.specs.declared.fault.TheConstants.{MAX_COEFFICIENT}
 use Rattle.cox_inverse.specs.declared.fault.InverseFault.{InverseFault}
 use Rattle.cox_inverse.specs.declared.fault.InverseFault.TheVariants.{Coefficient, Inverse, NoMemory}
@@ -32,14 +32,11 @@ use Rattle.cox_inverse.proofs.InverseRowExists.{inverse_of, inverse_of-is, inver
 use Rattle.cox_inverse.proofs.LastMembers.{HasMember, below-member, before-member, before-above, before-below, last-top}
 use Rattle.cox_inverse.proofs.FirstPairs.{place-less, lower-place}
 
-not_both : (limit a b : ℤ) → a ≡ b → pos (unsigned_abs a) ≤ℤ limit → limit <ℤ pos (unsigned_abs b) → ⊥
-not_both limit a b e l h = let g : limit <ℤ pos (unsigned_abs a) = rw e h in omega (arith, ints, l, g)
-
 module _ (A : IntegerMatrix) (g : IsAdmissible A) (limit : ℤ) (x w : List ℕ) where
   module _ (sums : List ℤ) (is : IsInverse A x w (coefficient sums)) where
     small_not_large : (k : ℕ) (c : ℤ) → IsWithin limit (coefficient sums k) → IsLargeInverse A limit x w k c → ⊥
     small_not_large k c l h =
-        not_both limit (coefficient sums k) c (inverse-unique A g x w (coefficient sums) h.polynomial is h.is k ∙ h.value) l h.above
+        within-not_above limit (coefficient sums k) c (inverse-unique A g x w (coefficient sums) h.polynomial is h.is k ∙ h.value) l h.above
 
     pub inverse-within : AllWithin limit sums → IsInverseWithin A limit x w
     inverse-within l k c h = small_not_large k c (l k) h
@@ -58,15 +55,6 @@ module _ (A : IntegerMatrix) (g : IsAdmissible A) (limit : ℤ) (x w : List ℕ)
     value = h.value;
     above = h.above;
   })
-
-pub within-same : (A : IntegerMatrix) (g : IsAdmissible A) (limit : ℤ) (x u z v : List ℕ) → SameElement A x u → SameElement A z v
-    → IsWithinLimit A limit u v → IsWithinLimit A limit x z
-within-same A g limit x u z v same other small k c h = small k c (record {
-  polynomial = h.polynomial;
-  is = kazhdan_lusztig-same A g x u z v h.polynomial same other h.is;
-  value = h.value;
-  above = h.above;
-})
 
 module _ (e : Elements) (g : IsAdmissible (integer_matrix e.matrix)) (closed : IsClosed (integer_matrix e.matrix) e.members)
     (y w : ℕ) (inside : w < length e.members) (numbers : List ℕ) (are : AreBetween e y w numbers) (limit : ℤ) where
@@ -120,23 +108,25 @@ module _ (e : Elements) (g : IsAdmissible (integer_matrix e.matrix)) (closed : I
     within = λ j l k. let small = h.within j l k in omega (arith, ints, small, least);
   }
 
-  -- the last of the numbers is the top, and its polynomial is 1
+  -- there is a last one of the numbers; it is the top, and its polynomial is 1
   pub top-value : IsBelow A (word_at e.members y) (word_at e.members w)
-      → IsInverse A (word_at e.members (number_before numbers 0)) (word_at e.members w) (coefficient (pos 1 ∷ []))
+      → (0 < length numbers)
+      × IsInverse A (word_at e.members (number_before numbers 0)) (word_at e.members w) (coefficient (pos 1 ∷ []))
       × (number_before numbers 0 ≡ w) × IsPolynomial (pos 1 ∷ [])
   top-value b = (
+    last.0,
     record {
       row = inverse_of A g (word_at e.members w);
       is = inverse_of-is A g (word_at e.members w);
-      at = λ k. one k ∙ sym (ap (λ (x : List ℕ). inverse_of A g (word_at e.members w) x k) (ap (word_at e.members) last)
+      at = λ k. one k ∙ sym (ap (λ (x : List ℕ). inverse_of A g (word_at e.members w) x k) (ap (word_at e.members) last.1)
           ∙ inverse_row-top A g (word_at e.members w) (inverse_of A g (word_at e.members w)) (inverse_of-is A g (word_at e.members w)) k);
     },
-    last,
+    last.1,
     λ some none. omega (arith, ints, none),
   )
     where
-      last : number_before numbers 0 ≡ w
-      last = (last-top e g closed y w inside numbers are b).1
+      last : (0 < length numbers) × (number_before numbers 0 ≡ w)
+      last = last-top e g closed y w inside numbers are b
 
       one : (k : ℕ) → coefficient (pos 1 ∷ []) k ≡ one_polynomial k
       one zero = refl

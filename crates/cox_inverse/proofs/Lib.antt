@@ -1,4 +1,4 @@
--- products of three polynomials, and of sums
+-- products with sums over elements, and with signs
 pub mod ProductLaws
 -- T(w) by its coefficients
 pub mod BasisElements
@@ -14,8 +14,6 @@ pub mod InversePolynomials
 pub mod InverseDegree
 -- the sum from the other side
 pub mod OtherSide
--- products of flipped polynomials
-pub mod FlippedProducts
 -- signs as integers
 pub mod Signs
 -- sums of products

@@ -14,7 +14,7 @@ use Rattle.cox_reflect.proofs.Search.{word_length-equal}
 use Rattle.cox_reflect.proofs.Bruhat.{below-refl, below-trans}
 use Rattle.cox_poly.specs.Coefficients.{Coefficients, zero_polynomial, one_polynomial}
 use Rattle.cox_poly.specs.Products.{product}
-use Rattle.cox_poly.proofs.Products.{product_of_none, product-zero, zero-product, product-one, one-product}
+use Rattle.cox_poly.proofs.Products.{product_of_none, product-zero, zero-product, product-one, one-product, product-associative}
 use Rattle.cox_hecke.specs.Family.{Family, RespectsElements}
 use Rattle.cox_hecke.specs.Operators.{basis}
 use Rattle.cox_hecke.specs.Sign.{times_sign}
@@ -29,7 +29,7 @@ use Rattle.cox_hecke.proofs.OneRow.{between_or_not}
 use Rattle.cox_hecke.proofs.TurnedR.{times_sign-none}
 use Rattle.cox_hecke.proofs.AllRows.{row_of, row_of-is, row_of-same, row_of-value}
 use Rattle.cox_inverse.specs.InverseRow.{IsInverseRow}
-use Rattle.cox_inverse.proofs.ProductLaws.{product-associative, product-sum_over, sum_over-product, times_sign-product, product-times_sign}
+use Rattle.cox_inverse.proofs.ProductLaws.{product-sum_over, sum_over-product, times_sign-product, product-times_sign}
 use Rattle.cox_inverse.proofs.InverseSums.{term, term-apart, term-none, named-below, term_sums-determine}
 use Rattle.cox_inverse.proofs.OneInverseRow.{inverse_row-any_list, inverse_row-same, inverse_row-unique}
 use Rattle.cox_inverse.proofs.BasisElements.{basis-own, basis-other, basis-respects}

@@ -1,30 +1,11 @@
--- Products of polynomials with three factors, with sums over elements, and with signs.
-use Rattle.std.proofs.Common.{◌≡◌, ℕ, zero, suc, List, [], ◌∷◌, ◌+ℤ◌, neg_ℤ, refl, ap, sym, ◌∙◌, arith}
-use Rattle.std.proofs.lemmas.Int.{ints}
-use Rattle.cox_lemmas.proofs.Ring.{mul_assoc}
-use Rattle.cox_poly.specs.Coefficients.{Coefficients, times_q}
-use Rattle.cox_poly.specs.Products.{without_constant, product}
-use Rattle.cox_poly.specs.Multiples.{scaled}
-use Rattle.cox_poly.proofs.Products.{product-zero, zero-product, product-plus, plus-product}
-use Rattle.cox_poly.proofs.Products.{product-negated, negated-product, scaled-product, times_q-product}
+-- Products of polynomials with sums over elements, and with signs.
+use Rattle.std.proofs.Common.{◌≡◌, ℕ, zero, suc, List, [], ◌∷◌, ◌+ℤ◌, neg_ℤ, refl, ap, sym, ◌∙◌}
+use Rattle.cox_poly.specs.Coefficients.{Coefficients}
+use Rattle.cox_poly.specs.Products.{product}
+use Rattle.cox_poly.proofs.Products.{product-zero, zero-product, product-plus, plus-product, product-negated, negated-product}
 use Rattle.cox_hecke.specs.Family.{Family}
 use Rattle.cox_hecke.specs.Sign.{times_sign}
 use Rattle.cox_hecke.specs.Sums.{sum_over}
-
--- by the constant term of f and the rest
-pub product-parts : (f g : Coefficients) (k : ℕ)
-    → product f g k ≡ scaled (f zero) g k +ℤ times_q (product (without_constant f) g) k
-product-parts f g zero = omega (arith, ints)
-product-parts f g (suc k) = refl
-
--- (f g) h = f (g h)
-pub product-associative : (f g h : Coefficients) (k : ℕ) → product (product f g) h k ≡ product f (product g h) k
-product-associative f g h zero = mul_assoc (f zero) (g zero) (h zero)
-product-associative f g h (suc k) =
-    ap (λ (p : Coefficients). product p h (suc k)) (λ i j. product-parts f g j i)
-    ∙ plus-product (scaled (f zero) g) (times_q (product (without_constant f) g)) h (suc k)
-    ∙ (λ i. scaled-product (f zero) g h (suc k) i
-    +ℤ (times_q-product (product (without_constant f) g) h (suc k) ∙ product-associative (without_constant f) g h k) i)
 
 -- a sum as the second factor
 pub product-sum_over : (f : Coefficients) (words : List (List ℕ)) (h : Family) (k : ℕ)

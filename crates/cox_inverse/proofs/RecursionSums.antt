@@ -24,7 +24,7 @@ use Rattle.cox_hecke.proofs.PolynomialValues.{kl_polynomial-value, kl_polynomial
 use Rattle.cox_hecke.proofs.ElementLists.{below_or_not}
 use Rattle.cox_context.specs.Closed.{Elements, IsClosed}
 use Rattle.cox_context.specs.Numbers.{word_at}
-use Rattle.cox_row.proofs.Raising.{later-not_below}
+use Rattle.cox_context.proofs.Shifting.{later-not_below}
 use Rattle.cox_klstep.specs.Limits.{IsLargeCoefficient}
 use Rattle.cox_klstep.specs.LargeMembers.{IsWithinLimit}
 use Rattle.cox_inverse.specs.InverseRow.{signed_term, IsInverse}

@@ -10,13 +10,12 @@ use Rattle.cox_reflect.proofs.Search.{word_length-equal}
 use Rattle.cox_poly.specs.Coefficients.{Coefficients, zero_polynomial, one_polynomial}
 use Rattle.cox_poly.specs.Products.{flip}
 use Rattle.cox_poly.specs.Multiples.{scaled}
+use Rattle.cox_poly.proofs.Coefficients.{flip-none, flip-one, flip-scaled}
 use Rattle.cox_hecke.specs.Family.{Family, RespectsElements}
 use Rattle.cox_hecke.specs.Operators.{basis}
 use Rattle.cox_hecke.proofs.ListSums.{same_or_not, is_same-respects}
-use Rattle.cox_hecke.proofs.Balance.{flip-none, flip-one}
 use Rattle.cox_inverse.proofs.BasisElements.{basis-own, basis-other, basis-respects}
 use Rattle.cox_inverse.proofs.Signs.{sign, sign-twice}
-use Rattle.cox_inverse.proofs.FlippedProducts.{flip-multiple}
 
 -- (-1)^l(w) T(w)
 abbrev pub signed_basis : IntegerMatrix → List ℕ → Family
@@ -59,5 +58,5 @@ module _ (A : IntegerMatrix) (g : IsAdmissible A) where
       here e =
           let none : word_length A w - word_length A x ≡ 0 = omega (arith, word_length-equal A g e)
           in ap (λ (d : ℕ). flip d (signed_basis A w x) k) none ∙ ap (λ (f : Coefficients). flip 0 f k) (signed_basis-own e)
-          ∙ flip-multiple 0 (sign (word_length A w)) one_polynomial k
+          ∙ flip-scaled 0 (sign (word_length A w)) one_polynomial k
           ∙ ap (λ (f : Coefficients). sign (word_length A w) *ℤ f k) flip-one ∙ ap (λ (f : Coefficients). f k) (sym (signed_basis-own e))

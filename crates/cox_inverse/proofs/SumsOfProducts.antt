@@ -2,12 +2,12 @@
 use Rattle.std.proofs.Common.{◌≡◌, ℕ, ◌+ℤ◌, List, [], ◌∷◌, ap, sym, ◌∙◌}
 use Rattle.cox_poly.specs.Coefficients.{Coefficients}
 use Rattle.cox_poly.specs.Products.{product, flip}
+use Rattle.cox_poly.proofs.Coefficients.{flip-none, flip-plus}
+use Rattle.cox_poly.proofs.Products.{product-comm, product-associative}
 use Rattle.cox_hecke.specs.Family.{Family}
 use Rattle.cox_hecke.specs.Sums.{sum_over}
-use Rattle.cox_hecke.proofs.Balance.{flip-none, flip-plus}
 use Rattle.cox_hecke.proofs.ListSums.{sum_over-equal, sum_over-swap}
-use Rattle.cox_inverse.proofs.ProductLaws.{product-associative, product-sum_over, sum_over-product}
-use Rattle.cox_inverse.proofs.FlippedProducts.{product-comm}
+use Rattle.cox_inverse.proofs.ProductLaws.{product-sum_over, sum_over-product}
 
 -- the sum over z of (the sum over y of r(y) f(y,z)) t(z)
 pub sums-exchanged : (words : List (List ℕ)) (r : Family) (f : List ℕ → Family) (t : Family) (k : ℕ)

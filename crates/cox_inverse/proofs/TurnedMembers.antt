@@ -23,6 +23,7 @@ use Rattle.cox_context.specs.Closed.{Elements, IsClosed}
 use Rattle.cox_context.specs.Numbers.{word_at}
 use Rattle.cox_context.proofs.Shifting.{element-at, member-below}
 use Rattle.cox_klstep.specs.LargeMembers.{IsWithinLimit}
+use Rattle.cox_klstep.proofs.LargeCoefficients.{within-more, within-same}
 use Rattle.cox_inverse.specs.declared.fault.TheConstants.{MAX_COEFFICIENT}
 use Rattle.cox_inverse.specs.Longest.{IsLongest}
 use Rattle.cox_inverse.specs.WholeGroups.{IsLongestMember, IsTurned}
@@ -32,8 +33,6 @@ use Rattle.cox_inverse.proofs.InversePolynomials.{inverse-unique}
 use Rattle.cox_inverse.proofs.TurnedAround.{turned-below}
 use Rattle.cox_inverse.proofs.InversionByLongest.{inversion-longest}
 use Rattle.cox_inverse.proofs.LastMembers.{HasMember, below-member}
-use Rattle.cox_inverse.proofs.FirstPairs.{within-more}
-use Rattle.cox_inverse.proofs.LastInverses.{within-same}
 
 module _ (e : Elements) (g : IsAdmissible (integer_matrix e.matrix)) (closed : IsClosed (integer_matrix e.matrix) e.members)
     (longest : ℕ) (is : IsLongestMember e longest) where

@@ -16,6 +16,7 @@ use Rattle.cox_poly.specs.Coefficients.{Coefficients, zero_polynomial, one_polyn
 use Rattle.cox_poly.specs.Products.{product, flip}
 use Rattle.cox_poly.specs.Multiples.{scaled}
 use Rattle.cox_poly.specs.Size.{HasDegreeAtMost}
+use Rattle.cox_poly.proofs.Coefficients.{flip-scaled}
 use Rattle.cox_poly.proofs.Products.{product-zero, zero-product, product-scaled}
 use Rattle.cox_rpoly.specs.RPolynomial.{r_polynomial}
 use Rattle.cox_rpoly.proofs.PolynomialsOfElements.{r_polynomial-not_below}
@@ -31,7 +32,6 @@ use Rattle.cox_hecke.proofs.PolynomialValues.{kl_polynomial, kl_polynomial-is_ro
 use Rattle.cox_hecke.proofs.PolynomialValues.{kl_polynomial-same, kl_polynomial-outside}
 use Rattle.cox_inverse.specs.Longest.{IsLongest}
 use Rattle.cox_inverse.proofs.Signs.{sign}
-use Rattle.cox_inverse.proofs.FlippedProducts.{flip-multiple}
 use Rattle.cox_inverse.proofs.LongestElement.{longest-length, turned-back, turned-same}
 use Rattle.cox_inverse.proofs.TurnedAround.{turned-below, below-turned, turned-r}
 
@@ -161,7 +161,7 @@ module _ (A : IntegerMatrix) (g : IsAdmissible A) where
     pub signed_turned-bar : (w z : List ℕ) (words : List (List ℕ)) → NamesBelow A w words → IsBelow A z w → (k : ℕ)
         → flip (word_length A w - word_length A z) (signed_turned A g longest w z) k ≡ signed_back A g longest words w z k
     signed_turned-bar w z words once b k =
-        flip-multiple (word_length A w - word_length A z) (sign (word_length A z)) (turned A g longest w z) k
+        flip-scaled (word_length A w - word_length A z) (sign (word_length A z)) (turned A g longest w z) k
         ∙ ap (λ (a : ℤ). sign (word_length A z) *ℤ a) (turned-bar w z words once b k)
         ∙ sym (sum_over-equal words (λ y. product (r_polynomial A y w) (signed_turned A g longest y z))
         (λ y. scaled (sign (word_length A z)) (product (r_polynomial A y w) (turned A g longest y z))) k

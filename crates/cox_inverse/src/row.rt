@@ -104,7 +104,6 @@ fn all_polynomials<L: LowerRows>(
     limit: i64,
 ) -> Result<Vec<Poly>, InverseFault>
     requires interval { IsInterval ctx.now interval.now }
-    requires some { 0 < length interval.now.members.items }
     requires below { let A = integer_matrix ctx.now.matrix in
         IsBelow A (word_at ctx.now.members interval.now.bottom) (word_at ctx.now.members interval.now.top) }
     requires lower { L.elements lower.now ≡ ctx.now }

@@ -11,10 +11,10 @@ use Rattle.cox_hecke.proofs.Descended.{mu-below}
 use Rattle.cox_hecke.proofs.ElementLists.{below_or_not}
 use Rattle.cox_context.specs.Closed.{Elements, IsClosed}
 use Rattle.cox_context.specs.Numbers.{word_at}
+use Rattle.cox_context.proofs.Shifting.{later-not_below}
 use Rattle.cox_row.specs.Extremal.{IsExtremal}
 use Rattle.cox_row.specs.ExtremalNumbers.{AreExtremal}
 use Rattle.cox_row.specs.Mus.{AreMus}
-use Rattle.cox_row.proofs.Raising.{later-not_below}
 use Rattle.cox_klstep.specs.declared.making.Draft.{Draft}
 use Rattle.cox_klstep.specs.declared.making.Target.{Target}
 use Rattle.cox_klstep.specs.TargetOf.{IsTarget}

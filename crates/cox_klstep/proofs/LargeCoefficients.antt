@@ -1,30 +1,52 @@
--- Coefficients above the limit: read off sums, and moved from an element to one that stands for it.
-use Rattle.std.proofs.Common.{◌≡◌, ℕ, List, ℤ, pos, sym, ◌∙◌, arith}
-use Rattle.std.specs.Prelude.{unsigned_abs, ◌<ℤ◌, ◌≤ℤ◌}
+-- Coefficients above the limit: read off sums, and moved to other words and from an element to one that stands for it.
+use Rattle.std.proofs.Common.{ℕ, List, ℤ, pos, sym, ◌∙◌, arith}
+use Rattle.std.specs.Prelude.{◌≤ℤ◌}
 use Rattle.std.proofs.lemmas.Int.{ints}
 use Rattle.cox_base.specs.IntegerMatrix.{IntegerMatrix}
 use Rattle.cox_base.specs.Admissible.{IsAdmissible}
+use Rattle.cox_base.specs.Element.{SameElement}
 use Rattle.cox_base.specs.Bruhat.{IsBelow}
 use Rattle.cox_poly.specs.Polynomial.{coefficient}
 use Rattle.cox_poly.specs.Limit.{IsWithin, AllWithin, IsFirstAbove}
+use Rattle.cox_poly.proofs.Limits.{within-not_above}
 use Rattle.cox_hecke.specs.Row.{IsKazhdanLusztig}
 use Rattle.cox_hecke.proofs.PolynomialValues.{kazhdan_lusztig-exists, kazhdan_lusztig-unique, kazhdan_lusztig-outside}
+use Rattle.cox_hecke.proofs.PolynomialValues.{kazhdan_lusztig-same}
 use Rattle.cox_row.specs.Raised.{StandsFor}
 use Rattle.cox_klstep.specs.Limits.{IsLargeCoefficient}
 use Rattle.cox_klstep.specs.LargeMembers.{IsWithinLimit, IsLeastLarge}
 
-not_both : (limit a b : ℤ) → a ≡ b → pos (unsigned_abs a) ≤ℤ limit → limit <ℤ pos (unsigned_abs b) → ⊥
-not_both limit a b e l h = let g : limit <ℤ pos (unsigned_abs a) = rw e h in omega (arith, ints, l, g)
+-- a smaller limit
+pub within-more : (A : IntegerMatrix) (x w : List ℕ) (limit most : ℤ) → limit ≤ℤ most → IsWithinLimit A limit x w → IsWithinLimit A most x w
+within-more A x w limit most l small k c large = small k c (record {
+  polynomial = large.polynomial;
+  is = large.is;
+  value = large.value;
+  above = omega (arith, ints, l, large.above);
+})
+
+-- other words of the elements
+module _ (A : IntegerMatrix) (g : IsAdmissible A) (limit : ℤ) (x u z v : List ℕ) (same : SameElement A x u) (other : SameElement A z v) where
+  pub large-words : (k : ℕ) (c : ℤ) → IsLargeCoefficient A limit x z k c → IsLargeCoefficient A limit u v k c
+  large-words k c h = record {
+    polynomial = h.polynomial;
+    is = kazhdan_lusztig-same A g x u z v h.polynomial same other h.is;
+    value = h.value;
+    above = h.above;
+  }
+
+  pub within-same : IsWithinLimit A limit u v → IsWithinLimit A limit x z
+  within-same small k c h = small k c (large-words k c h)
 
 module _ (A : IntegerMatrix) (g : IsAdmissible A) (limit : ℤ) (x w : List ℕ) where
   pub outside-none : pos 0 ≤ℤ limit → (IsBelow A x w → ⊥) → IsWithinLimit A limit x w
   outside-none l none k c h =
-      not_both limit (pos 0) c (sym (kazhdan_lusztig-outside A g x w h.polynomial none h.is k) ∙ h.value) l h.above
+      within-not_above limit (pos 0) c (sym (kazhdan_lusztig-outside A g x w h.polynomial none h.is k) ∙ h.value) l h.above
 
   module _ (sums : List ℤ) (is : IsKazhdanLusztig A x w (coefficient sums)) where
     small_not_large : (k : ℕ) (c : ℤ) → IsWithin limit (coefficient sums k) → IsLargeCoefficient A limit x w k c → ⊥
     small_not_large k c l h =
-        not_both limit (coefficient sums k) c (kazhdan_lusztig-unique A g x w (coefficient sums) h.polynomial is h.is k ∙ h.value) l h.above
+        within-not_above limit (coefficient sums k) c (kazhdan_lusztig-unique A g x w (coefficient sums) h.polynomial is h.is k ∙ h.value) l h.above
 
     pub within-none : AllWithin limit sums → IsWithinLimit A limit x w
     within-none l k c h = small_not_large k c (l k) h

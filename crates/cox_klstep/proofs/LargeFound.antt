@@ -8,10 +8,10 @@ use Rattle.cox_base.specs.Bruhat.{IsBelow}
 use Rattle.cox_hecke.proofs.ElementLists.{below_or_not}
 use Rattle.cox_context.specs.Closed.{IsClosed}
 use Rattle.cox_context.specs.Numbers.{word_at}
+use Rattle.cox_context.proofs.Shifting.{later-not_below}
 use Rattle.cox_row.specs.Rising.{number_at}
 use Rattle.cox_row.specs.Extremal.{IsExtremal}
 use Rattle.cox_row.specs.Raised.{StandsFor}
-use Rattle.cox_row.proofs.Raising.{later-not_below}
 use Rattle.cox_klstep.specs.declared.values.LargeCoefficient.{LargeCoefficient}
 use Rattle.cox_klstep.specs.Limits.{IsLargeCoefficient}
 use Rattle.cox_klstep.specs.LargeMembers.{IsWithinLimit, IsLeastLarge, coefficient_at, fault_by, AreLarge}

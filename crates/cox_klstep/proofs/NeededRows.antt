@@ -16,7 +16,7 @@ use Rattle.cox_hecke.proofs.Descended.{mu-below}
 use Rattle.cox_context.specs.Closed.{Elements, IsClosed}
 use Rattle.cox_context.specs.Numbers.{word_at}
 use Rattle.cox_context.proofs.PlacedWords.{rising-place}
-use Rattle.cox_row.proofs.Raising.{later-not_below}
+use Rattle.cox_context.proofs.Shifting.{later-not_below}
 use Rattle.cox_row.specs.Rising.{number_at}
 use Rattle.cox_klstep.specs.declared.step.Descent.{Descent}
 use Rattle.cox_klstep.specs.StepOf.{IsDescentAt}

@@ -12,7 +12,7 @@ use Rattle.cox_row.proofs.RisingNumbers.{rising-most}
 use Rattle.cox_base.specs.IntegerMatrix.{integer_matrix}
 use Rattle.cox_base.specs.Admissible.{IsAdmissible}
 use Rattle.cox_context.specs.Closed.{IsClosed}
-use Rattle.cox_row.proofs.Raising.{later-not_below}
+use Rattle.cox_context.proofs.Shifting.{later-not_below}
 use Rattle.cox_klstep.specs.Drafts.{AreBare}
 use Rattle.cox_klstep.specs.CountedSteps.{counted, IsWithinCost, IsWithinCostTo, IsCounted, IsCountedTo}
 

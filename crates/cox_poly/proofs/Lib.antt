@@ -2,6 +2,8 @@
 pub mod Coefficients
 -- products
 pub mod Products
+-- products turned round
+pub mod FlippedProducts
 -- sums of absolute coefficients
 pub mod Norms
 -- lists of coefficients
@@ -14,7 +16,7 @@ pub mod AddedMultiples
 pub mod Behind
 -- for code: the terms of a polynomial, one by one
 pub mod Terms
--- the first coefficient beyond a limit
+-- coefficients beyond a limit
 pub mod Limits
 -- for code: polynomials that stand one behind another
 pub mod Stored

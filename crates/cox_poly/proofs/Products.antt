@@ -1,13 +1,14 @@
 -- Products of polynomials as coefficient functions.
-use Rattle.std.proofs.Common.{◌≡◌, ℕ, zero, suc, ◌+◌, ◌≤◌, refl, sym, ap, arith}
+use Rattle.std.proofs.Common.{◌≡◌, ℕ, zero, suc, ◌+◌, ◌≤◌, refl, sym, ap, ◌∙◌, arith}
 use Rattle.std.proofs.Common.{ℤ, pos, ◌+ℤ◌, ◌*ℤ◌, neg_ℤ}
 use Rattle.std.proofs.lemmas.Int.{ints}
+use lib.IntN.{*ℤ_comm}
 use Rattle.cox_poly.specs.Coefficients.{Coefficients, zero_polynomial, one_polynomial, plus, times_q}
 use Rattle.cox_poly.specs.Products.{times_q_power, without_constant, product}
 use Rattle.cox_poly.specs.Multiples.{negated, scaled}
 use Rattle.cox_poly.specs.Size.{HasDegreeAtMost}
-use Rattle.cox_poly.proofs.Coefficients.{times_q_power_at, times_q_power_below, times_q_power-suc}
-use Rattle.cox_lemmas.proofs.Ring.{multiply_out, mul_left_comm}
+use Rattle.cox_poly.proofs.Coefficients.{times_q_power_at, times_q_power_below, times_q_power-zero, times_q_power-suc}
+use Rattle.cox_lemmas.proofs.Ring.{multiply_out, mul_assoc, mul_left_comm}
 
 -- with 0 and 1
 pub product_of_none : (f g : Coefficients) → ((j : ℕ) → f j ≡ pos 0) → (k : ℕ) → product f g k ≡ pos 0
@@ -65,6 +66,39 @@ product-times_q f g (suc (suc k)) = omega (arith, ints, product-times_q (without
 pub times_q-product : (f g : Coefficients) (k : ℕ) → product (times_q f) g k ≡ times_q (product f g) k
 times_q-product f g zero = omega (arith, ints)
 times_q-product f g (suc k) = omega (arith, ints)
+
+pub times_q_power-product : (n : ℕ) (f g : Coefficients) (k : ℕ) → product (times_q_power n f) g k ≡ times_q_power n (product f g) k
+times_q_power-product zero f g k =
+    ap (λ (p : Coefficients). product p g k) (times_q_power-zero f)
+    ∙ ap (λ (p : Coefficients). p k) (sym (times_q_power-zero (product f g)))
+times_q_power-product (suc n) f g k =
+    ap (λ (p : Coefficients). product p g k) (times_q_power-suc n f) ∙ times_q-product (times_q_power n f) g k
+    ∙ ap (λ (p : Coefficients). times_q p k) (λ i j. times_q_power-product n f g j i)
+    ∙ ap (λ (p : Coefficients). p k) (sym (times_q_power-suc n (product f g)))
+
+-- by the last term of f, so f g = g f
+product-last : (f g : Coefficients) (k : ℕ) → product f g (suc k) ≡ product f (without_constant g) k +ℤ (f (suc k) *ℤ g zero)
+product-last f g zero = refl
+product-last f g (suc k) = omega (arith, ints, product-last (without_constant f) g k)
+
+pub product-comm : (f g : Coefficients) (k : ℕ) → product f g k ≡ product g f k
+product-comm f g zero = *ℤ_comm (f zero) (g zero)
+product-comm f g (suc k) =
+    omega (arith, ints, product-last g f k, product-comm (without_constant f) g k, *ℤ_comm (f zero) (g (suc k)))
+
+-- by the constant term of f and the rest, so (f g) h = f (g h)
+pub product-parts : (f g : Coefficients) (k : ℕ)
+    → product f g k ≡ scaled (f zero) g k +ℤ times_q (product (without_constant f) g) k
+product-parts f g zero = omega (arith, ints)
+product-parts f g (suc k) = refl
+
+pub product-associative : (f g h : Coefficients) (k : ℕ) → product (product f g) h k ≡ product f (product g h) k
+product-associative f g h zero = mul_assoc (f zero) (g zero) (h zero)
+product-associative f g h (suc k) =
+    ap (λ (p : Coefficients). product p h (suc k)) (λ i j. product-parts f g j i)
+    ∙ plus-product (scaled (f zero) g) (times_q (product (without_constant f) g)) h (suc k)
+    ∙ (λ i. scaled-product (f zero) g h (suc k) i
+    +ℤ (times_q-product (product (without_constant f) g) h (suc k) ∙ product-associative (without_constant f) g h k) i)
 
 -- the terms of f below q^n
 abbrev pub terms_below : ℕ → Coefficients → Coefficients

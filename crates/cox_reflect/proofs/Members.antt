@@ -76,14 +76,6 @@ Each-from (x ∷ xs) h = more (h x here) (Each-from xs (λ y i. h y (there i)))
 
 -- ---- find
 
-pub find-passes : {X : Type 0} (p : X → Bool) (xs : List X) (x : X) → find p xs ≡ Some x → p x ≡ true
-find-passes p [] x e = absurd (cc)
-find-passes p (y ∷ xs) x e = go (p y) refl (find-passes p xs x)
-  where
-    go : (b : Bool) → p y ≡ b → (find p xs ≡ Some x → p x ≡ true) → p x ≡ true
-    go true q rest = let f = rw q at e in let same : y ≡ x = cc in rw (← same) q
-    go false q rest = rest (rw q at e)
-
 pub find-in : {X : Type 0} (p : X → Bool) {x : X} {xs : List X} → In x xs → p x ≡ true → (y : X) × (find p xs ≡ Some y)
 find-in p {x} (here {xs = xs}) t = (x, rw t)
 find-in {X = X} p (there {y = y} {xs = xs} i) t = go (p y) refl (find-in p i t)

@@ -14,10 +14,11 @@ use Rattle.std.proofs.lemmas.List.{append-nil, append_assoc}
 use Rattle.std.proofs.lemmas.List.Elements.{All-nil, All-cons, All-head, All-tail}
 use Rattle.cox_reflect.proofs.Sums.{letter_above, last_letter, letter_cases}
 use Rattle.cox_base.specs.Length.{word_length}
+use Rattle.cox_base.proofs.Positions.{find-passes}
 use Rattle.std.specs.Bool.{one_answer}
 use Rattle.cox_reflect.proofs.Elements.{same-refl, same-equal, same-sym, same-trans, same-cons, same-outside}
 use Rattle.cox_reflect.proofs.Members.{In, here, Each, none, more, In-append_left, In-append_right, In-map, In-flat_map, In-range}
-use Rattle.cox_reflect.proofs.Members.{Each-append, Each-map, Each-flat_map, Each-weaker, Each-range, Each-find, find-passes}
+use Rattle.cox_reflect.proofs.Members.{Each-append, Each-map, Each-flat_map, Each-weaker, Each-range, Each-find}
 use Rattle.cox_reflect.proofs.Members.{find-in, find-prefix}
 
 each_letter-out : (n : ℕ) (test : ℕ → Bool) → each_letter n test ≡ true → (t : ℕ) → IsLetter n t → test t ≡ true

@@ -1,5 +1,5 @@
 -- Raising an element by the descents of another: what is raised stands for what it comes from, and comes later among the members.
-use Rattle.std.proofs.Common.{◌≡◌, ℕ, ◌+◌, ◌<◌, ◌≤◌, List, [], ◌∷◌, ◌++◌, length, Option, None, Some, sym, ◌∙◌, ⊎_elim, arith}
+use Rattle.std.proofs.Common.{◌≡◌, ℕ, ◌+◌, ◌<◌, ◌≤◌, List, [], ◌∷◌, ◌++◌, length, Option, None, Some, ⊎_elim, arith}
 use Rattle.std.proofs.lemmas.Bool.{cases_lt}
 use Rattle.cox_base.specs.IntegerMatrix.{IntegerMatrix}
 use Rattle.cox_base.specs.Admissible.{IsAdmissible}
@@ -8,16 +8,16 @@ use Rattle.cox_base.specs.ShortLex.{normal_form}
 use Rattle.cox_base.specs.Length.{word_length}
 use Rattle.cox_base.specs.Bruhat.{IsBelow}
 use Rattle.cox_reflect.proofs.Elements.{same-refl, same-sym, same-square, same-push_twice}
-use Rattle.cox_reflect.proofs.Search.{normal_form-same, normal_form-equal, word_length-equal}
+use Rattle.cox_reflect.proofs.Search.{normal_form-same, word_length-equal}
 use Rattle.cox_reflect.proofs.Deletion.{left_length, right_length}
 use Rattle.cox_reflect.proofs.Roots.{left_descent-letter, descent-letter}
-use Rattle.cox_reflect.proofs.Bruhat.{below-same, below-length, below-equal_length, below-cons, below-push}
+use Rattle.cox_reflect.proofs.Bruhat.{below-same, below-cons, below-push}
 use Rattle.cox_hecke.proofs.PolynomialValues.{kazhdan_lusztig-same, kazhdan_lusztig-left, kazhdan_lusztig-right}
 use Rattle.cox_context.specs.Closed.{IsClosed}
 use Rattle.cox_context.specs.Numbers.{word_at}
 use Rattle.cox_context.specs.Numbering.{IsNumberOf}
-use Rattle.cox_context.proofs.PlacedWords.{rising-place, rising-length}
-use Rattle.cox_context.proofs.Shifting.{element-at, length-at, member-below}
+use Rattle.cox_context.proofs.PlacedWords.{rising-length}
+use Rattle.cox_context.proofs.Shifting.{length-at, member-below}
 use Rattle.cox_row.specs.Raised.{IsRaised, on_left, on_right, IsRaisedTo, raise_to, LeadsTo, StandsFor}
 use Rattle.cox_row.specs.LetterSets.{IsMissing, AreLeftDescents, AreRightDescents}
 
@@ -98,16 +98,3 @@ module _ (A : IntegerMatrix) (g : IsAdmissible A) where
     pub raised-outside : (i j : ℕ) → j < length words → IsRaisedTo A words (word_at words j) (word_at words i) None
         → IsBelow A (word_at words i) (word_at words j) → ⊥
     raised-outside i j l r b = r.number (member-below A g words closed r.y j l ((raised-stands r.raised).to b))
-
-    -- a member with a greater number is not below
-    pub later-not_below : (i j : ℕ) → i < length words → j < length words → j < i → IsBelow A (word_at words i) (word_at words j) → ⊥
-    later-not_below i j l m h b =
-        let size : length (word_at words j) ≤ length (word_at words i) = rising-length words j i closed.rising (omega arith) l
-        in let same : SameElement A (word_at words i) (word_at words j)
-        = below-equal_length A g b
-        (omega (arith, size, below-length A g b, length-at A g words closed i l, length-at A g words closed j m))
-        in omega (
-          arith,
-          rising-place words i j closed.rising l m
-              (sym (element-at A g words closed i l).normal ∙ normal_form-equal A g same ∙ (element-at A g words closed j m).normal),
-        )

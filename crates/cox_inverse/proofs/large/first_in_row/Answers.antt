@@ -1,5 +1,5 @@
 -- One member more.
-use Rattle.std.proofs.Common.{◌≡◌, ℕ, ◌+◌, ◌<◌, ◌≤◌, length, pos, FitsSigned, w64, rules, refl, sym, ⊎_elim, arith}
+use Rattle.std.proofs.Common.{◌≡◌, ◌<◌, ◌≤◌, length, FitsSigned, w64, rules, refl, ⊎_elim, arith}
 use Rattle.std.specs.Prelude.{◌≤ℤ◌}
 use Rattle.std.proofs.lemmas.Bool.{cases_lt}
 use Rattle.std.proofs.lemmas.Int.{ints, to_z-of_z}
@@ -8,9 +8,9 @@ use Rattle.cox_base.specs.IntegerMatrix.{integer_matrix}
 use Rattle.cox_poly.specs.Polynomial.{coefficient}
 use Rattle.cox_context.specs.Numbers.{word_at}
 use Rattle.cox_row.specs.Rising.{number_at}
-use Rattle.cox_klstep.proofs.LargeCoefficients.{within-none, outside-none}
+use Rattle.cox_klstep.proofs.LargeCoefficients.{within-none, outside-none, within-more}
 use Rattle.cox_inverse.specs.declared.fault.TheConstants.{MAX_COEFFICIENT}
-use Rattle.cox_inverse.proofs.FirstPairs.{at_most, within-more, row-within, small-row, first-pair_at}
+use Rattle.cox_inverse.proofs.FirstPairs.{at_most, row-within, small-row, first-pair_at}
 use Rattle.cox_inverse.proofs.large.first_in_row.Goals as goal
 use Rattle.cox_inverse.proofs.large.first_in_row.Goals.{in-Some+in_default-large_degree, in_default}
 

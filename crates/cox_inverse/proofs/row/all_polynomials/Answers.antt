@@ -1,9 +1,10 @@
 -- One polynomial more, or the first fault.
-use Rattle.std.proofs.Common.{◌≡◌, ℕ, ◌+◌, ◌-◌, ◌<◌, ◌≤◌, [], ◌∷◌, ◌++◌, length, pos, w64, refl, ◌∙◌, arith}
+use Rattle.std.proofs.Common.{◌≡◌, ◌<◌, [], ◌∷◌, length, pos, w64, refl, arith}
 use Rattle.std.proofs.lemmas.Int.{to_z-of_z}
 use Rattle.cox_lemmas.proofs.PushedItems.{push-length}
 use Rattle.cox_inverse.specs.declared.fault.TheConstants.{MAX_COEFFICIENT}
 use Rattle.cox_inverse.specs.NumberedInverses.{number_before}
+use Rattle.cox_inverse.proofs.LastMembers.{last-top}
 use Rattle.cox_inverse.proofs.LastInverses.{inverses-none, inverses-push, inverses-keep, inverses-more, sums-fault, top-value}
 use Rattle.cox_inverse.proofs.SummedMembers.{read-number}
 use Rattle.cox_inverse.proofs.row.all_polynomials.Goals as goal
@@ -17,9 +18,23 @@ returns-in-Err-clause-fault g c =
     in sums-fault c.args.ctx.now c.len-len.ensures.admissible c.len-len.ensures.closed c.args.interval.now.bottom
     c.args.interval.now.top c.requires.interval.top_member c.args.interval.now.members.items
     c.requires.interval.between c.args.limit [] (pos 1 ∷ []) c.in-Err.fault c.requires.small
-    c.requires.some (inverses-none c.args.ctx.now c.len-len.ensures.admissible c.len-len.ensures.closed c.args.interval.now.bottom
+    top.0 (inverses-none c.args.ctx.now c.len-len.ensures.admissible c.len-len.ensures.closed c.args.interval.now.bottom
     c.args.interval.now.top c.requires.interval.top_member c.args.interval.now.members.items
-    c.requires.interval.between c.args.limit) top.0 (rw top.1 fault)
+    c.requires.interval.between c.args.limit) top.1 (rw top.2 fault)
+
+pub push_reserved-requires : goal.push_reserved-requires
+push_reserved-requires g c =
+    let top = last-top c.args.ctx.now c.len-len.ensures.admissible c.len-len.ensures.closed c.args.interval.now.bottom
+    c.args.interval.now.top c.requires.interval.top_member c.args.interval.now.members.items
+    c.requires.interval.between c.requires.below
+    in omega (
+      arith,
+      top.0,
+      c.len.ensures,
+      c.in_ok-polynomials.ensures.len,
+      c.in_ok-polynomials.ensures.capacity,
+      c.args.interval.now.members.ok,
+    )
 
 pub loop-done-init : goal.loop-done-init
 loop-done-init g c =
@@ -32,7 +47,7 @@ loop-done-init g c =
       size = refl;
       inverses = inverses-push c.args.ctx.now c.len-len.ensures.admissible c.len-len.ensures.closed c.args.interval.now.bottom
           c.args.interval.now.top c.requires.interval.top_member c.args.interval.now.members.items
-          c.requires.interval.between c.args.limit [] (pos 1 ∷ []) c.requires.some top.0 top.2 within
+          c.requires.interval.between c.args.limit [] (pos 1 ∷ []) top.0 top.1 top.3 within
           (inverses-none c.args.ctx.now c.len-len.ensures.admissible c.len-len.ensures.closed c.args.interval.now.bottom
           c.args.interval.now.top c.requires.interval.top_member c.args.interval.now.members.items
           c.requires.interval.between c.args.limit);

@@ -3,10 +3,10 @@ use Rattle.std.proofs.Common.{◌+◌, ◌<◌, length, arith}
 use Rattle.std.proofs.lemmas.List.{take_all}
 use Rattle.cox_base.specs.IntegerMatrix.{integer_matrix}
 use Rattle.cox_context.specs.Numbers.{word_at}
+use Rattle.cox_context.proofs.Shifting.{later-not_below}
 use Rattle.cox_poly.specs.Polynomial.{coefficient}
 use Rattle.cox_klstep.specs.StepOf.{correction_at}
 use Rattle.cox_hecke.proofs.PolynomialValues.{kazhdan_lusztig-outside}
-use Rattle.cox_row.proofs.Raising.{later-not_below}
 use Rattle.cox_klstep.proofs.AddedSums.{none-scaled}
 use Rattle.cox_klstep.proofs.NumberedLists.{taken, passed}
 use Rattle.cox_klstep.proofs.NumberedRecursion.{shift-low, corrections-few}

@@ -2,8 +2,9 @@
 use Rattle.std.proofs.Common.{arith}
 use Rattle.cox_base.specs.IntegerMatrix.{integer_matrix}
 use Rattle.cox_context.specs.Numbers.{word_at}
+use Rattle.cox_context.proofs.Shifting.{later-not_below}
 use Rattle.cox_row.proofs.LetterBits.{left-letters, right-letters}
-use Rattle.cox_row.proofs.Raising.{raised-later, raised-outside, later-not_below, stands-trans}
+use Rattle.cox_row.proofs.Raising.{raised-later, raised-outside, stands-trans}
 use Rattle.cox_row.proofs.raised.raise_fully.Goals as goal
 
 pub loop-at-smaller : goal.loop-at-smaller
