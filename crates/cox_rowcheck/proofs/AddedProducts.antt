@@ -1,16 +1,16 @@
 -- A product that is added term by term: where the sum stands after k terms, and how large it becomes.
-use Rattle.std.proofs.Common.{◌≡◌, ℕ, suc, ◌+◌, ◌*◌, ◌^◌, ◌≤◌, ◌<◌, min, List, length, take, ⊎_elim, ℤ, pos, unsigned_abs, ◌+ℤ◌, ◌*ℤ◌, refl, ap, sym, ◌∙◌, arith}
+use Rattle.std.proofs.Common.{◌≡◌, ℕ, suc, ◌+◌, ◌*◌, ◌^◌, ◌≤◌, ◌<◌, min, List, length, take, ⊎_elim}
+use Rattle.std.proofs.Common.{ℤ, pos, unsigned_abs, ◌+ℤ◌, ◌*ℤ◌, refl, ap, sym, ◌∙◌, arith}
 use Rattle.std.proofs.lemmas.Int.{ints}
 use Rattle.std.proofs.lemmas.Bool.{cases_lt}
 use Rattle.cox_poly.specs.Coefficients.{Coefficients, plus}
 use Rattle.cox_poly.specs.Polynomial.{coefficient, coefficient_after, HasDegreeBelow, HasSmallCoefficients}
 use Rattle.cox_poly.specs.Products.{product, times_q_power}
-use Rattle.cox_poly.proofs.Products.{terms_below, terms_below-product, terms_below-all, product_of_none}
+use Rattle.cox_poly.proofs.Products.{terms_below, terms_below-product, terms_below-all, product_of_none, product-comm}
 use Rattle.cox_poly.proofs.Polynomials.{coefficient_past, coefficient-take}
 use Rattle.cox_poly.proofs.Norms.{absolute_after}
 use Rattle.cox_rowcheck.specs.SmallPolynomials.{IsSmall}
 use Rattle.cox_rowcheck.specs.MemberSums.{HasAdded}
-use Rattle.cox_rowcheck.proofs.ProductOrder.{product-turned}
 
 -- the terms of p below q^k, times r, were added
 pub record IsAdded (old new r p : List ℤ) (k : ℕ) : Type 0 where
@@ -60,7 +60,7 @@ pub added-all : (first new f r p : List ℤ) (n : ℕ) → IsAdded first new r p
 added-all first new f r p n h low same j =
     h.value j ∙ ap (λ (a : ℤ). coefficient first j +ℤ a)
     (ap (λ (g : Coefficients). product g (coefficient r) j) (λ i k. terms_below-all (coefficient p) n low k i)
-    ∙ product-turned (coefficient p) (coefficient r) j
+    ∙ product-comm (coefficient p) (coefficient r) j
     ∙ ap (λ (g : Coefficients). product g (coefficient p) j) (λ i k. same k i))
 
 -- the first terms of r, where it has no others

@@ -12,10 +12,8 @@ pub mod WordColumns
 pub mod PrefixColumns
 -- the members in some order
 pub mod ListedMembers
--- polynomials with the same number of coefficients each, one behind another
+-- polynomials one behind another in one list, and how an entry is written
 pub mod StoredEntries
--- products of polynomials are commutative
-pub mod ProductOrder
 -- products that are added to sums
 pub mod AddedProducts
 -- sums over more and more members

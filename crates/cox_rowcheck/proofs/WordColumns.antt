@@ -1,6 +1,6 @@
 -- The column of the identity, that of a member which a letter leads to, and the way to any member along its word.
 use Rattle.std.proofs.Common.{◌≡◌, ℕ, zero, suc, ◌+◌, ◌<◌, ◌≤◌, List, [], ◌∷◌, ◌++◌, length, take, slice_index_or, Contains}
-use Rattle.std.proofs.Common.{ℤ, pos, refl, ap, sym, ◌∙◌, arith, ⊎_elim}
+use Rattle.std.proofs.Common.{ℤ, refl, ap, sym, ◌∙◌, arith, ⊎_elim}
 use Rattle.std.proofs.lemmas.Bool.{cases_lt}
 use Rattle.std.proofs.lemmas.List.{append-nil, get_or_past, take_more, take-append-drop, length-take-le, get_or_append_left}
 use Rattle.std.proofs.lemmas.List.{length_push}
@@ -19,21 +19,19 @@ use Rattle.cox_reflect.proofs.WordsAndSubwords.{IsSubword-refl, IsSubword-nil, I
 use Rattle.cox_reflect.proofs.Elements.{same-refl, same-sym, same-push}
 use Rattle.cox_reflect.proofs.Search.{normal_form-same, normal_form-equal, word_length-equal}
 use Rattle.cox_reflect.proofs.Lengths.{IsReduced-nil, IsReduced-prefix}
-use Rattle.cox_reflect.proofs.NormalElements.{element-word, element-length, element-unique}
-use Rattle.cox_reflect.proofs.Bruhat.{below-length, below-equal_length}
+use Rattle.cox_reflect.proofs.NormalElements.{element-word, element-length}
 use Rattle.cox_poly.specs.Coefficients.{Coefficients, one_polynomial}
 use Rattle.cox_poly.specs.Polynomial.{coefficient}
-use Rattle.cox_poly.proofs.Polynomials.{coefficient-take}
 use Rattle.cox_rpoly.specs.RPolynomial.{r_polynomial}
 use Rattle.cox_rpoly.specs.Terms.{numbered}
 use Rattle.cox_rpoly.proofs.PolynomialsOfElements.{r_polynomial-same, r_polynomial-not_below}
 use Rattle.cox_hecke.proofs.RPolynomials.{unit, unit-one, unit-other, r-word}
 use Rattle.cox_context.specs.Closed.{IsClosed}
 use Rattle.cox_context.specs.Numbers.{word_at}
-use Rattle.cox_context.proofs.PlacedWords.{contains-placed, rising-place, rising-length}
-use Rattle.cox_context.proofs.Shifting.{first-member, element-at, length-at, member-below}
+use Rattle.cox_context.proofs.PlacedWords.{contains-placed, rising-place}
+use Rattle.cox_context.proofs.Shifting.{first-member, length-at, member-below, later-not_below}
 use Rattle.cox_rowcheck.specs.Columns.{IsColumn}
-use Rattle.cox_rowcheck.proofs.ColumnSteps.{r-low}
+use Rattle.cox_rowcheck.specs.EntryLists.{HasOneMore}
 
 -- the entries of the first i members are theirs in the column of v
 pub record AreEntries (A : IntegerMatrix) (members : List (List ℕ)) (v : List ℕ) (i : ℕ) (list : List (List ℤ)) : Type 0 where
@@ -43,26 +41,29 @@ pub record AreEntries (A : IntegerMatrix) (members : List (List ℕ)) (v : List 
 pub entries-none : (A : IntegerMatrix) (members : List (List ℕ)) (v : List ℕ) → AreEntries A members v 0 []
 entries-none A members v = record { size = refl; each = λ j k l. absurd (omega (arith, l)) }
 
--- one more, of which the first n coefficients are kept: it has no other, as v has fewer letters
-pub entries-more : (A : IntegerMatrix) → IsAdmissible A → (members : List (List ℕ)) (v : List ℕ) (n i : ℕ) (list : List (List ℤ))
-    (entry : List ℤ) → AreEntries A members v i list → ((k : ℕ) → coefficient entry k ≡ r_polynomial A (word_at members i) v k)
-    → word_length A v < n → AreEntries A members v (i + 1) (list ++ take n entry ∷ [])
-entries-more A g members v n i list entry are is short = record {
-  size = omega (arith, length_push list (take n entry), are.size);
+-- one more
+pub entries-more : (A : IntegerMatrix) (members : List (List ℕ)) (v : List ℕ) (i : ℕ) (old new : List (List ℤ))
+    → AreEntries A members v i old → HasOneMore old new (r_polynomial A (word_at members i) v) → AreEntries A members v (i + 1) new
+entries-more A members v i old new are more = rw more.list record {
+  size = omega (arith, length_push old more.entry, are.size);
   each = λ j k l. ⊎_elim
-      (λ (before : j < i). rw (get_or_append_left list (take n entry ∷ []) [] j (omega (arith, before, are.size))) (are.each j k before))
+      (λ (before : j < i). rw (get_or_append_left old (more.entry ∷ []) [] j (omega (arith, before, are.size))) (are.each j k before))
       (λ (behind : i ≤ j). last j k (omega (arith, behind, l)))
       (cases_lt j i);
 }
   where
-    kept : (k : ℕ) → coefficient (take n entry) k ≡ coefficient entry k
-    kept k = coefficient-take entry n (λ j low. is j ∙ r-low A g (word_at members i) v n (omega (arith, short)) j low) k
-
-    last : (j k : ℕ) → j ≡ i → coefficient (numbered (list ++ take n entry ∷ []) j) k ≡ r_polynomial A (word_at members j) v k
+    last : (j k : ℕ) → j ≡ i → coefficient (numbered (old ++ more.entry ∷ []) j) k ≡ r_polynomial A (word_at members j) v k
     last j k e =
-        let here : numbered (list ++ take n entry ∷ []) i ≡ take n entry
-        = ap (λ (m : ℕ). numbered (list ++ take n entry ∷ []) m) (sym are.size) ∙ get_or-append_seam list (take n entry) [] []
-        in rw (e, here) (kept k ∙ is k)
+        let here : numbered (old ++ more.entry ∷ []) i ≡ more.entry
+        = ap (λ (m : ℕ). numbered (old ++ more.entry ∷ []) m) (sym are.size) ∙ get_or-append_seam old more.entry [] []
+        in rw (e, here) (more.value k)
+
+-- the member `at` is the first i letters of the word, and the next letter leads on from it
+pub record LeadsOn (A : IntegerMatrix) (members : List (List ℕ)) (word : List ℕ) (i at : ℕ) : Type 0 where
+  pub letter : IsLetter A.rank (slice_index_or word i 0)
+  pub ascent : IsRightDescent A (word_at members at) (slice_index_or word i 0) → ⊥
+  pub short : length (word_at members at) ≡ i
+  pub there : Contains members (normal_form A (word_at members at ++ slice_index_or word i 0 ∷ []))
 
 module _ (A : IntegerMatrix) (g : IsAdmissible A) (members : List (List ℕ)) (closed : IsClosed A members) where
   -- R(x,e) is 1 for the identity, which is the first member, and else 0
@@ -86,22 +87,6 @@ module _ (A : IntegerMatrix) (g : IsAdmissible A) (members : List (List ℕ)) (c
           (empty (word_at members (suc i)) (sym (length-at A g members closed (suc i) l) ∙ z) ∙ sym (first-member A g members closed))
           in omega (arith, first))))
 
-  -- R(x,v) is 0 for a member x behind v
-  later-none : (i j : ℕ) → i < length members → j < length members → j < i → (k : ℕ)
-      → r_polynomial A (word_at members i) (word_at members j) k ≡ pos 0
-  later-none i j l m later = r_polynomial-not_below A g (word_at members i) (word_at members j) (λ b.
-      let same : SameElement A (word_at members i) (word_at members j)
-      = below-equal_length A g b (omega (
-        arith,
-        rising-length members j i closed.rising (omega (arith, later)) l,
-        below-length A g b,
-        length-at A g members closed i l,
-        length-at A g members closed j m,
-      ))
-      in let equal : i ≡ j = rising-place members i j closed.rising l m (element-unique A g (word_at members i) (word_at members j)
-      (element-at A g members closed i l) (element-at A g members closed j m) same)
-      in omega (arith, later, equal))
-
   -- the entries up to v t, which is a member, are its column
   pub column-next : (at t next : ℕ) → next < length members → word_at members next ≡ normal_form A (word_at members at ++ t ∷ [])
       → (column : List (List ℤ)) → length column ≡ next + 1
@@ -114,7 +99,8 @@ module _ (A : IntegerMatrix) (g : IsAdmissible A) (members : List (List ℕ)) (c
         ∙ ap (λ (f : Coefficients). f k) (r_polynomial-same A g (same-refl A g (word_at members i))
         (rw e (same-sym A g (normal_form-same A g (word_at members at ++ t ∷ []))))))
         (λ (later : next + 1 ≤ i). ap (λ (p : List ℤ). coefficient p k) (get_or_past column i [] (omega (arith, size, later)))
-        ∙ sym (later-none i next l n_in (omega (arith, later)) k))
+        ∙ sym (r_polynomial-not_below A g (word_at members i) (word_at members next)
+        (later-not_below A g members closed i next l n_in (omega (arith, later))) k))
         (cases_lt i (next + 1));
   }
 
@@ -138,11 +124,11 @@ module _ (A : IntegerMatrix) (g : IsAdmissible A) (members : List (List ℕ)) (c
     same = rw is (normal_form-same A g (take i word))
 
     -- the next letter is one
-    pub way-letter : IsLetter A.rank (slice_index_or word i 0)
+    way-letter : IsLetter A.rank (slice_index_or word i 0)
     way-letter = All-get_or (IsLetter A.rank) word i 0 i_in (element-word A g word (closed.element word member))
 
     -- it makes the member longer
-    pub way-ascent : IsRightDescent A (word_at members at) (slice_index_or word i 0) → ⊥
+    way-ascent : IsRightDescent A (word_at members at) (slice_index_or word i 0) → ⊥
     way-ascent d =
         omega (
           arith,
@@ -155,11 +141,11 @@ module _ (A : IntegerMatrix) (g : IsAdmissible A) (members : List (List ℕ)) (c
         )
 
     -- so far it has i letters
-    pub way-short : at < length members → length (word_at members at) ≡ i
+    way-short : at < length members → length (word_at members at) ≡ i
     way-short l = sym (length-at A g members closed at l) ∙ word_length-equal A g same ∙ length_at i (omega (arith, i_in))
 
     -- what the next letter leads to is a member
-    pub way-there : Contains members (normal_form A (word_at members at ++ slice_index_or word i 0 ∷ []))
+    way-there : Contains members (normal_form A (word_at members at ++ slice_index_or word i 0 ∷ []))
     way-there =
         let next : SameElement A (take (i + 1) word) (word_at members at ++ letter ∷ [])
         = rw more (same-push A g letter (same-sym A g same))
@@ -172,3 +158,6 @@ module _ (A : IntegerMatrix) (g : IsAdmissible A) (members : List (List ℕ)) (c
           subword = rw (place.is, (closed.element word member).normal) front;
           same = same-refl A g (take (i + 1) word);
         }))
+
+    pub leads-on : at < length members → LeadsOn A members word i at
+    leads-on l = record { letter = way-letter; ascent = way-ascent; short = way-short l; there = way-there }

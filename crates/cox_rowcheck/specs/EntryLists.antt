@@ -1,16 +1,30 @@
--- For code: polynomials with the same number of coefficients each, one behind another in one list.
-use Rattle.std.specs.Prelude.{ℕ, ◌*◌, List, map, take, drop, ℤ}
-use Rattle.std.specs.List.{range_with_len}
+-- For code: polynomials one behind another in one list of coefficients; for each of them another list has where it stands.
+use Rattle.std.specs.Prelude.{◌≡◌, ℕ, ◌-◌, ◌≤◌, List, [], ◌∷◌, ◌++◌, map, take, drop, ℤ}
+use Rattle.cox_poly.specs.Coefficients.{Coefficients}
+use Rattle.cox_poly.specs.Polynomial.{coefficient}
+use Rattle.cox_rowcheck.specs.declared.entries.Span.{Span}
 
--- the one at a place
-abbrev pub piece : ℕ → List ℤ → ℕ → List ℤ
-piece terms coefficients i = take terms (drop (i * terms) coefficients)
+-- the polynomial that stands there
+abbrev pub piece : List ℤ → Span → List ℤ
+piece coefficients span = take (span.end - span.start) (drop span.start coefficients)
 
--- so many of them
-abbrev pub pieces : ℕ → ℕ → List ℤ → List (List ℤ)
-pieces terms count coefficients = map (piece terms coefficients) (range_with_len 0 count)
+-- all of them
+abbrev pub pieces : List ℤ → List Span → List (List ℤ)
+pieces coefficients spans = map (piece coefficients) spans
 
--- how many coefficients each has, and all of them
-pub record EntryList : Type 0 where
-  pub terms : ℕ
-  pub list : List (List ℤ)
+-- it ends within so many coefficients
+pub record IsSpan (size : ℕ) (span : Span) : Type 0 where
+  pub order : span.start ≤ span.end
+  pub within : span.end ≤ size
+
+-- one polynomial more, which is f
+pub record HasOneMore (old new : List (List ℤ)) (f : Coefficients) : Type 0 where
+  pub entry : List ℤ
+  pub list : new ≡ old ++ entry ∷ []
+  pub value : (k : ℕ) → coefficient entry k ≡ f k
+
+-- the coefficients of f behind the others
+pub record HasAppended (old new : List ℤ) (f : Coefficients) : Type 0 where
+  pub part : List ℤ
+  pub list : new ≡ old ++ part
+  pub value : (k : ℕ) → coefficient part k ≡ f k

@@ -10,7 +10,7 @@ pub mod OneList
 pub mod Conditions
 -- for code: columns of R-polynomials
 pub mod Columns
--- for code: polynomials with the same number of coefficients each
+-- for code: polynomials one behind another in one list
 pub mod EntryLists
 -- for code: members with their columns, and those of the prefixes of a word
 pub mod Prefixes

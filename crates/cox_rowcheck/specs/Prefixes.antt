@@ -15,7 +15,7 @@ letters_of word = word.items
 pub record IsColumnOf (A : IntegerMatrix) (members : List (List ℕ)) (v : List ℕ) (column : Column) : Type 0 where
   pub inside : column.number < length members
   pub named : word_at members column.number ≡ normal_form A v
-  pub entries : IsColumn A members (word_at members column.number) column.entries.list
+  pub entries : IsColumn A members (word_at members column.number) column.entries
 
 -- those of the first letters of a word: of none, of one, and so on, as far as the list goes
 pub record ArePrefixes (A : IntegerMatrix) (members : List (List ℕ)) (word : List ℕ) (stack : List Column) : Type 0 where

@@ -2,22 +2,20 @@
 //!
 //! The column of vt, for a letter t that makes v longer, is made from that of v: R(x,vt) is R(xt,v) where t shortens x, else
 //! (q-1) R(x,v) + q R(xt,v) (Humphreys 7.5). Where xt is no member it is not below v, and R(xt,v) is 0.
-ghost use Rattle.std.specs.Prelude.{◌≡◌, ℕ, ◌+◌, ◌<◌, ◌≤◌, ◌∷◌, [], ◌++◌, length, Contains, IfOk, pos};
+ghost use Rattle.std.specs.Prelude.{◌≡◌, ℕ, ◌<◌, ◌∷◌, [], ◌++◌, length, Contains, IfOk, OnOk};
 ghost use Rattle.cox_base.specs.Matrix.{IsLetter};
 ghost use Rattle.cox_base.specs.IntegerMatrix.{integer_matrix};
 ghost use Rattle.cox_base.specs.ShortLex.{normal_form};
 ghost use Rattle.cox_base.specs.Descents.{IsRightDescent};
-ghost use Rattle.cox_poly.specs.Polynomial.{coefficient};
 ghost use Rattle.cox_rpoly.specs.declared.TheConstants.{MAX_DIFFERENCE};
 ghost use Rattle.cox_rpoly.specs.RPolynomial.{r_polynomial};
-ghost use Rattle.cox_rpoly.specs.Terms.{numbered};
 ghost use Rattle.cox_context.specs.Numbers.{word_at};
 ghost use Rattle.cox_rowcheck.specs.Columns.{IsColumn};
+ghost use Rattle.cox_rowcheck.specs.EntryLists.{HasOneMore};
 ghost use Rattle.cox_rowcheck.specs.Prefixes.{IsColumnOf};
 
 use crate::entries::Entries;
 use cox_context::Context;
-use cox_rpoly::terms::{Terms, combined, one, zero};
 use std::alloc::{AllocError, Global};
 
 /// A member v and its column.
@@ -29,34 +27,30 @@ pub(crate) struct Column {
     pub(crate) entries: Entries,
 }
 
-/// The i-th entry of a column, which is 0 behind its end.
-fn entry(column: &Entries, i: u32) -> Terms
-    ensures { (k : ℕ) → coefficient result k ≡ coefficient (numbered column.now.list i) k }
-{
-    let list = column.at(i as usize);
-    let mut terms = zero();
-    for k in 0..list.len() {
-        terms[k] = list[k];
-    }
-    terms
-}
-
-/// R(x,vt) for the i-th member x, by the column of v, which is the member with the number `at`.
-fn next_entry(ctx: &Context, at: u32, t: u8, column: &Entries, i: u32) -> Terms
+/// Puts R(x,vt) for the i-th member x behind the entries, by the column of v, which is the member with the number `at`.
+fn push_next(
+    ctx: &Context,
+    at: u32,
+    t: u8,
+    column: &Entries,
+    i: u32,
+    entries: &mut Entries,
+) -> Result<(), AllocError>
     requires at { at < length ctx.now.members }
     requires letter { IsLetter ctx.now.matrix.rank t }
     requires ascent { ¬ IsRightDescent (integer_matrix ctx.now.matrix) (word_at ctx.now.members at) t }
-    requires column { IsColumn (integer_matrix ctx.now.matrix) ctx.now.members (word_at ctx.now.members at) column.now.list }
+    requires column { IsColumn (integer_matrix ctx.now.matrix) ctx.now.members (word_at ctx.now.members at) column.now }
     requires short { length (word_at ctx.now.members at) < MAX_DIFFERENCE }
     requires i { i < length ctx.now.members }
-    ensures { (k : ℕ) → coefficient result k
-        ≡ r_polynomial (integer_matrix ctx.now.matrix) (word_at ctx.now.members i) (word_at ctx.now.members at ++ t ∷ []) k }
+    ensures { OnOk result (HasOneMore entries.old entries.new
+        (r_polynomial (integer_matrix ctx.now.matrix) (word_at ctx.now.members i) (word_at ctx.now.members at ++ t ∷ []))) }
 {
     let _len = ctx.len();
+    let here = column.at(i as usize);
     match ctx.right(t, i) {
-        Some(j) if j < i => entry(column, j),
-        Some(j) => combined(&entry(column, i), &entry(column, j)),
-        None => combined(&entry(column, i), &zero()),
+        Some(j) if j < i => entries.push(column.at(j as usize)),
+        Some(j) => entries.push_combined(here, column.at(j as usize)),
+        None => entries.push_combined(here, &[]),
     }
 }
 
@@ -74,16 +68,15 @@ fn next_entries(
     requires leads { word_at ctx.now.members next ≡ normal_form (integer_matrix ctx.now.matrix) (word_at ctx.now.members at ++ t ∷ []) }
     requires letter { IsLetter ctx.now.matrix.rank t }
     requires ascent { ¬ IsRightDescent (integer_matrix ctx.now.matrix) (word_at ctx.now.members at) t }
-    requires column { IsColumn (integer_matrix ctx.now.matrix) ctx.now.members (word_at ctx.now.members at) column.now.list }
+    requires column { IsColumn (integer_matrix ctx.now.matrix) ctx.now.members (word_at ctx.now.members at) column.now }
     requires short { length (word_at ctx.now.members at) < MAX_DIFFERENCE }
     ensures { IfOk result (λ entries. IsColumn (integer_matrix ctx.now.matrix) ctx.now.members
-        (word_at ctx.now.members next) entries.list) }
+        (word_at ctx.now.members next) entries) }
 {
     let _len = ctx.len();
-    let terms = ctx.length(next) as usize + 1;
-    let mut entries = Entries::new(alloc, terms, next + 1)?;
+    let mut entries = Entries::new(alloc, next + 1, ctx.length(next) + 1)?;
     for i in 0..next + 1 {
-        entries.push(&next_entry(ctx, at, t, column, i))?;
+        push_next(ctx, at, t, column, i, &mut entries)?;
     }
     Ok(entries)
 }
@@ -94,7 +87,7 @@ pub(crate) fn first(alloc: Global, ctx: &Context) -> Result<Column, AllocError>
 {
     let _len = ctx.len();
     let mut entries = Entries::new(alloc, 1, 1)?;
-    entries.push(&one())?;
+    entries.push(&[1])?;
     Ok(Column { number: 0, entries })
 }
 
@@ -107,7 +100,7 @@ pub(crate) fn longer(
 ) -> Result<Column, AllocError>
     requires number { column.now.number < length ctx.now.members }
     requires column { IsColumn (integer_matrix ctx.now.matrix) ctx.now.members
-        (word_at ctx.now.members column.now.number) column.now.entries.list }
+        (word_at ctx.now.members column.now.number) column.now.entries }
     requires letter { IsLetter ctx.now.matrix.rank t }
     requires ascent { ¬ IsRightDescent (integer_matrix ctx.now.matrix) (word_at ctx.now.members column.now.number) t }
     requires short { length (word_at ctx.now.members column.now.number) < MAX_DIFFERENCE }

@@ -57,40 +57,37 @@ fn size(p: &Poly) -> u32
     }
 }
 
-/// Adds r p to a sum; r has so many terms.
-fn add_product(sum: &mut Sum, r: &[i64], terms: usize, p: &Poly)
-    requires terms { terms ≤ TERMS }
-    requires low { HasDegreeBelow r.now terms }
+/// Adds r p to a sum.
+fn add_product(sum: &mut Sum, r: &[i64], p: &Poly)
+    requires low { HasDegreeBelow r.now TERMS }
     requires narrow { HasSmallCoefficients r.now }
     requires small { IsSmall p.now }
     requires room { (k : ℕ) → unsigned_abs (coefficient sum.old k) ≤ 2 ^ 125 }
     ensures sum { (k : ℕ) → coefficient sum.new k ≡ plus (coefficient sum.old) (product (coefficient r.now) (coefficient p.now)) k }
     ensures grown { (k : ℕ) → unsigned_abs (coefficient sum.new k) ≤ unsigned_abs (coefficient sum.old k) + 2 ^ 100 }
 {
-    let r = &r[..terms.min(r.len())];
+    let r = &r[..TERMS.min(r.len())];
     for k in 0..size(p) {
         add_multiple(sum, r, p.coefficient(k), k as usize);
     }
 }
 
-/// Adds R(x,y) p to the sum of each member x, by the column of y. The degree of R(x,y) is l(y) - l(x) at most.
+/// Adds R(x,y) p to the sum of each member x, by the column of y.
 fn add_column(ctx: &Context, sums: &mut Vec<Sum>, column: &Column, p: &Poly)
     requires sums { length sums.old.items ≡ length ctx.now.members }
     requires number { column.now.number < length ctx.now.members }
     requires short { length (word_at ctx.now.members column.now.number) ≤ MAX_DIFFERENCE }
     requires column { IsColumn (integer_matrix ctx.now.matrix) ctx.now.members
-        (word_at ctx.now.members column.now.number) column.now.entries.list }
+        (word_at ctx.now.members column.now.number) column.now.entries }
     requires small { IsSmall p.now }
     requires room { (i k : ℕ) → unsigned_abs (coefficient (numbered sums.old.items i) k) ≤ 2 ^ 124 }
     ensures size { length sums.new.items ≡ length sums.old.items }
     ensures sum { (i : ℕ) → i < length sums.old.items
-        → HasAdded (numbered sums.old.items i) (numbered sums.new.items i) (numbered column.now.entries.list i) p.now }
+        → HasAdded (numbered sums.old.items i) (numbered sums.new.items i) (numbered column.now.entries i) p.now }
 {
     let _len = ctx.len();
-    let top = ctx.length(column.number) + 1;
     for i in 0..column.entries.len() {
-        let terms = top.saturating_sub(ctx.length(i as u32)) as usize;
-        add_product(&mut sums[i], column.entries.at(i), terms, p);
+        add_product(&mut sums[i], column.entries.at(i), p);
     }
 }
 

@@ -8,6 +8,6 @@ abbrev pub invariant-loop-i : goal.invariant-loop-i
 invariant-loop-i l = record {
   size : length l.sums.items ≡ length l.initial.sums.items;
   added : (j : ℕ) → j < l.i
-      → HasAdded (numbered l.initial.sums.items j) (numbered l.sums.items j) (numbered l.column.entries.list j) l.p;
+      → HasAdded (numbered l.initial.sums.items j) (numbered l.sums.items j) (numbered l.column.entries j) l.p;
   left : (j : ℕ) → l.i ≤ j → numbered l.sums.items j ≡ numbered l.initial.sums.items j;
 }

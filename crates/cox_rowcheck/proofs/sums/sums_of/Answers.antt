@@ -81,14 +81,14 @@ loop-word-preserved c =
     in record {
       prefixes = rw c.copy_word-last.ensures climbed.prefixes;
       sums = sums-more A members polynomials (map letters_of words) n c.loop-word.sums.items c.add_column.new.sums.items
-          column.entries.list p (omega (arith, c.loop-word-test.true, length-map words letters_of)) c.loop-word.invariant.sums
+          column.entries p (omega (arith, c.loop-word-test.true, length-map words letters_of)) c.loop-word.invariant.sums
           (ap coefficient (sym here)
           ∙ sym (family-at A members polynomials column.number (λ i j l m e. rising-place members i j closed.rising l m e)
           (element-at A g members closed column.number prefix.inside) c.requires.count prefix.inside)
           ∙ ap (family_of A members polynomials) named)
-          c.add_column.ensures.size (subst (λ (v : List ℕ). IsColumn A members v column.entries.list) named prefix.entries)
+          c.add_column.ensures.size (subst (λ (v : List ℕ). IsColumn A members v column.entries) named prefix.entries)
           c.add_column.ensures.sum;
-      small = sums-grown c.loop-word.sums.items c.add_column.new.sums.items column.entries.list p n c.add_column.ensures.size
+      small = sums-grown c.loop-word.sums.items c.add_column.new.sums.items column.entries p n c.add_column.ensures.size
           c.loop-word.invariant.small c.add_column.ensures.sum;
     }
 
