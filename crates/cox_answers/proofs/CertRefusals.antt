@@ -139,6 +139,11 @@ module _ (limits : Limits) (A : IntegerMatrix) (w : List ℕ) where
   row-none (inr (_, inr (few, inr (near, inl (large, e))))) = absurd (cc e)
   row-none (inr (_, inr (few, inr (near, inr (small, e))))) = small
 
+  pub row-few : IsRefused (RefusesRow limits A w) None → HasMoreThan limits.context (IsInInterval A w) → ⊥
+  row-few (inl (none, e)) = absurd none
+  row-few (inr (_, inl (many, e))) = absurd (cc e)
+  row-few (inr (_, inr (few, rest))) = few
+
 -- what is refused while rows are kept, or while the members are listed, puts nothing
 module _ {X : Type 0} (Old New : Refusal → Type 0) (IsText : List ℕ → Type 0) (before : List ℕ)
     (more : (why : Refusal) → IsRefused Old (Some why) → IsRefused New (Some why)) where

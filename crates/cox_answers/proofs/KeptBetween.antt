@@ -104,6 +104,16 @@ module _ (limits : Limits) (G : CoxeterMatrix) (g : IsAdmissible (integer_matrix
       (λ some. none-needed (integer_matrix G) g whole_members closed w top (pos limits.coefficient) (omega (arith, ints))
       (rw (of.group, of.limit) at small) some.0 some.1.below some.2)
 
+-- where inverse polynomials are read off the rows, the rows between a member and what is below it are held, and not refused
+pub read_off-keeps : (limits : Limits) (G : CoxeterMatrix) → IsAdmissible (integer_matrix G) → (y w : List ℕ) (i : ℕ) (rows : Holding)
+    (whole : WholeGroup) → AreOf G limits rows → IsReadOff limits rows whole → IsClosed (integer_matrix G) rows.elements.members
+    → IsNumberOf rows.elements.members (normal_form (integer_matrix G) w) (Some i) → IsBelow (integer_matrix G) y w
+    → IsRefused (RefusesBetween limits (integer_matrix G) y w) None × HoldsBetween (integer_matrix G) y w rows
+read_off-keeps limits G g y w i rows whole of read closed number below =
+    let top = placed-contains rows.elements.members (normal_form (integer_matrix G) w)
+    (record { i = i; within = number.0; is = number.1 }) in
+    (all-allowed limits G g y w rows of closed top read.small, all-holds limits G g y w rows of closed top read.readable.there below)
+
 -- so that is held which was asked for
 pub all-keeps : (limits : Limits) (G : CoxeterMatrix) → IsAdmissible (integer_matrix G) → (y w : List ℕ) (kept : Option Holding)
     → AreKept G limits kept → IsSomeAnd kept (λ rows. Contains rows.elements.members (normal_form (integer_matrix G) w))

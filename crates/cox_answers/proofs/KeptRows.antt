@@ -151,3 +151,20 @@ module _ (limits : Limits) (G : CoxeterMatrix) (g : IsAdmissible (integer_matrix
       → Keeps (unless_fault made i) (RefusesRow limits A w) (HoldsRow A w) (Some new)
   still-keeps few (Ok done) there small fault = (row-allowed limits A w few (still-small small), holds-row there)
   still-keeps few (Err why) there small fault = still-refused few why fault
+
+-- a row that is held, and whose Need is settled, is not refused
+pub settled-keeps : (limits : Limits) (G : CoxeterMatrix) → IsAdmissible (integer_matrix G) → (w : List ℕ) (i : ℕ) (rows : Holding)
+    → AreOf G limits rows → IsNumberOf rows.elements.members (normal_form (integer_matrix G) w) (Some i)
+    → (HasMoreThan limits.context (IsInInterval (integer_matrix G) w) → ⊥) → HasRow rows i
+    → (NeedsBeyond (integer_matrix rows.elements.matrix) rows.limit (word_at rows.elements.members i) → ⊥)
+    → IsRefused (RefusesRow limits (integer_matrix G) w) None × HoldsRow (integer_matrix G) w i rows
+settled-keeps limits G g w i rows of number few there small =
+    let more : IsMore rows rows = record { same = record { elements = refl; limit = refl }; there = λ j held. held } in
+    let ensured : IsEnsured (word_at rows.elements.members i) rows rows = record {
+      elements = refl;
+      limit = refl;
+      kept = λ j held. held;
+      needed = λ j held. inl held;
+      again = λ _. refl;
+    } in
+    still-keeps limits G g w i rows rows rows of number more ensured few (Ok tt) there small tt

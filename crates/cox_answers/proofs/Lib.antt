@@ -65,3 +65,5 @@ pub mod RowLimits
 pub mod CertRefusals
 -- certificates that are printed are accepted
 pub mod CertProofs
+-- Coxeter matrices with the same labels
+pub mod SameMatrices

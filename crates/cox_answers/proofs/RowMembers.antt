@@ -19,11 +19,10 @@ use Rattle.cox_context.specs.Numbers.{word_at}
 use Rattle.cox_context.proofs.PlacedWords.{IsPlaced, contains-placed, placed-contains, contains-at}
 use Rattle.cox_context.proofs.ShortLexLists.{IsListOf-filter}
 use Rattle.cox_context.proofs.IntervalLists.{is_below, is_below-tells}
-use Rattle.cox_context.proofs.Shifting.{element-at}
+use Rattle.cox_context.proofs.Shifting.{element-at, later-not_below}
 use Rattle.cox_row.specs.Extremal.{IsExtremal}
 use Rattle.cox_row.specs.ExtremalNumbers.{AreExtremal}
 use Rattle.cox_row.specs.Rising.{number_at}
-use Rattle.cox_row.proofs.Raising.{later-not_below}
 use Rattle.cox_answers.specs.RowReply.{IsExtremalBelow}
 use Rattle.cox_answers.specs.Putting.{words_at}
 

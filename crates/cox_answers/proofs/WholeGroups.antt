@@ -94,21 +94,24 @@ module _ (limits : Limits) (A : IntegerMatrix) where
       → IsRefused (RefusesGroupRows limits A) (Some LargeRow)
   rows-refused small w e beyond = inr (λ none. none, inr (small, inr (λ none. none, inl ((small, w, e, beyond), refl))))
 
+  -- no row of a member is beyond the limits
+  pub rows-within : (IsTooLarge (IsElement A) limits.context → ⊥) → (members : List (List ℕ)) → IsListOf (IsElement A) members
+      → ((i : ℕ) → i < length members → IsBeyond A (pos limits.coefficient) (word_at members i) → ⊥)
+      → IsRefused (RefusesGroupRows limits A) None
+  rows-within small members all none =
+      inr (λ no. no, inr (small, inr (λ no. no, inr (within, refl))))
+    where
+      within : RefusesGroupRows limits A LargeRow → ⊥
+      within r = let p = contains-placed members r.1 (all.whole r.1 r.2) in none p.i p.within (rw p.is r.3)
+
+  -- none needs one that is
   pub rows-allowed : IsAdmissible A → (IsTooLarge (IsElement A) limits.context → ⊥) → (members : List (List ℕ))
       → IsListOf (IsElement A) members
       → ((i : ℕ) → i < length members → NeedsBeyond A (pos limits.coefficient) (word_at members i) → ⊥)
       → IsRefused (RefusesGroupRows limits A) None
-  rows-allowed g small members all none =
-      inr (λ no. no, inr (small, inr (λ no. no, inr (within, refl))))
-    where
-      within : RefusesGroupRows limits A LargeRow → ⊥
-      within r = let p = contains-placed members r.1 (all.whole r.1 r.2) in
-          none p.i p.within (record {
-            element = word_at members p.i;
-            needed = itself
-                (same-refl A g (word_at members p.i));
-            beyond = rw p.is r.3;
-          })
+  rows-allowed g small members all none = rows-within small members all
+      (λ i within beyond. none i within
+      (record { element = word_at members i; needed = itself (same-refl A g (word_at members i)); beyond = beyond }))
 
 -- where the row of a member is beyond a limit, the rows of the group are refused
 beyond-refused : (table : CoxeterMatrix) (limits : Limits) (rows : Holding) → AreOf table limits rows
@@ -159,3 +162,18 @@ group-keeps table limits g old mid new was held more small elements (Ok done) th
     )
 group-keeps table limits g old mid new was held more small elements (Err why) there none fault =
     fault-refused table limits mid (more-of table limits old mid was more) (rw more.same.elements held) small (Some new) why fault
+
+-- the rows of all elements are not refused where they are held, and none is beyond the limits
+pub all-kept : (table : CoxeterMatrix) (limits : Limits) (rows : Holding) → AreOf table limits rows
+    → IsClosed (integer_matrix rows.elements.matrix) rows.elements.members → HoldsAll (integer_matrix rows.elements.matrix) rows
+    → ((i : ℕ) → i < length rows.elements.members
+    → IsBeyond (integer_matrix rows.elements.matrix) rows.limit (word_at rows.elements.members i) → ⊥)
+    → IsRefused (RefusesGroupRows limits (integer_matrix table)) None × HoldsAll (integer_matrix table) rows
+all-kept table limits rows of closed all small =
+    let A = integer_matrix table in
+    let members = rows.elements.members in
+    let whole : HoldsAll A rows = subst (λ (m : CoxeterMatrix). HoldsAll (integer_matrix m) rows) of.group all in (
+      rows-within limits A (not-too_large A limits.context members (rw of.group at closed) whole.whole of.few) members whole.whole
+          (rw (of.group, of.limit) at small),
+      whole,
+    )

@@ -1,6 +1,8 @@
 //! The lines that commands on elements answer.
 //!
 //! - `unanswered`: why a command gets no answer
+//! - `at_hand`: answers from rows that are kept already
+//! - `ahead`: rows that are made before they are asked for
 //! - `intervals`: Bruhat intervals
 //! - `polynomials`: R-polynomials
 //! - `kept`: the rows that a session keeps
@@ -28,6 +30,8 @@ ghost use Rattle.cox_answers.specs.InquiryQuestion.{RefusesNone, IsOrderText, qu
 ghost use Rattle.cox_command.specs.ParseContract.{HasLetters};
 ghost use Rattle.cox_answers.specs.Putting.{PutsUnless, IsEnded};
 
+pub(crate) mod ahead;
+mod at_hand;
 pub(crate) mod between;
 mod certificates;
 mod generated;
@@ -76,8 +80,27 @@ impl Workspace {
         Ok(())
     }
 
-    /// Puts that text without the end of its last line.
+    /// Puts that text without the end of its last line: from rows that the maker shares where they give it, else from its own.
     fn put_text_of<M: RowMaker>(
+        &mut self,
+        maker: &M,
+        out: &mut Vec<u8>,
+        inquiry: &Inquiry,
+    ) -> Result<(), Unanswered>
+        requires words { HasLetters self.old.table.rank inquiry.now }
+        requires ready { M.ready maker.now }
+        ensures puts { PutsUnless result (question_of inquiry.now (limits_of self.old.options) self.old.table).Refuses
+            (question_of inquiry.now (limits_of self.old.options) self.old.table).IsText out.old.items out.new.items }
+        ensures same { IsSameWork self.old self.new }
+    {
+        match self.put_shared(maker, out, inquiry) {
+            Some(put) => put,
+            None => self.put_own_text(maker, out, inquiry),
+        }
+    }
+
+    /// Puts that text from rows of its own.
+    fn put_own_text<M: RowMaker>(
         &mut self,
         maker: &M,
         out: &mut Vec<u8>,

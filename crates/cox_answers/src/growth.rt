@@ -56,8 +56,10 @@ impl Growth {
     }
 }
 
-/// A word with all letters among its right descents, found by adding letters that are not: in a finite group the longest element. `None`
-/// where there is none of at most `MAX_LETTERS` letters, as in each infinite group.
+/// A word with all letters among its right descents, found by adding letters that are not: the longest element of a finite group.
+///
+/// It is `None` in each infinite group, and where the longest element has `MAX_LETTERS` letters or more, as in B 16. A caller may not take
+/// `None` for a fact about the group: the contract says nothing of it.
 pub fn longest_word(table: &RootTable) -> Option<Word>
     requires { IsCoxeterMatrix table.now }
     ensures word { IfSome result (λ w. IsWord table.now.rank w.items) }

@@ -6,6 +6,7 @@
 //! they are asked for: a [`RowMaker`] may make them first, by several threads, say, and one thread makes what is missing then.
 //!
 //! - `row_maker`: what makes rows that are asked for
+//! - `likeness`: whether two workspaces have the same group and limits
 //! - `growth`: when the whole group is taken in the place of interval after interval
 //! - `workspace`: what answers work with
 //! - `answers`: the texts
@@ -15,6 +16,7 @@
 mod answers;
 mod growth;
 pub mod laws;
+mod likeness;
 mod row_maker;
 mod workspace;
 

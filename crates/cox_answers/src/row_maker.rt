@@ -3,6 +3,7 @@ ghost use Rattle.std.specs.Prelude.{length};
 ghost use Rattle.cox_row.specs.Rising.{AreWithin};
 ghost use Rattle.cox_answers.specs.Kept.{IsMore};
 
+use crate::workspace::Workspace;
 use cox_rows::Rows;
 use std::alloc::Global;
 
@@ -16,6 +17,9 @@ pub trait RowMaker {
         requires ready { ready self.now }
         requires members { AreWithin (length rows.elements.members) wanted.now }
         ensures { IsMore rows result };
+
+    /// A workspace that others read too, whose rows may give an answer before any is made; `None` where there is none.
+    fn shared(&self) -> Option<&Workspace>;
 }
 
 /// Makes no row: whoever asks makes what is missing, by one thread.
@@ -29,5 +33,9 @@ impl RowMaker for OneThread {
         let _ = alloc;
         let _ = wanted;
         rows
+    }
+
+    fn shared(&self) -> Option<&Workspace> {
+        None
     }
 }

@@ -1,20 +1,22 @@
 //! What commands on elements work with.
 
 use crate::answers::Unanswered;
+use crate::answers::ahead::{is_on_group, row_word, with_asked};
 use crate::answers::between::{
     ensure_each, find_whole, has_all, interval_between, is_large, with_rows,
 };
-use crate::answers::kept::{keep_interval, widen, with_row};
-use crate::answers::kept_group::{keep_elements, with_all};
+use crate::answers::kept::{add_interval, keep_interval, widen, with_row};
+use crate::answers::kept_group::{holds_group, keep_elements, with_all};
 use crate::answers::unanswered::unless_fault;
 use crate::growth::{Growth, longest_word};
 use crate::row_maker::RowMaker;
 use cox_base::{Coxeter, MAX_RANK, Word};
+use cox_command::{Inquiry, TwoWord};
 use cox_inverse::WholeGroup;
 use cox_minroots::RootTable;
 use cox_options::Options;
 use cox_rows::Rows;
-use std::alloc::Global;
+use std::alloc::{AllocError, Global};
 use std::marker::Model;
 
 /// What commands on elements work with: the group that is set, by its small roots, the options of the session, and the rows that were made
@@ -46,7 +48,7 @@ impl Model for Workspace {
 }
 
 impl Workspace {
-    ghost use Rattle.std.specs.Prelude.{◌≡◌, ℕ, ◌<◌, ◌≤◌, List, IsSome, IsSomeAnd, IfSome, IfOk, IsTrue, Some, Contains, length};
+    ghost use Rattle.std.specs.Prelude.{◌≡◌, ℕ, ◌<◌, ◌≤◌, List, IsSome, IsSomeAnd, IfSome, IfOk, IsTrue, None, Some, Contains, length, All};
     ghost use Rattle.cox_base.specs.Admissible.{IsCoxeterMatrix};
     ghost use Rattle.cox_base.specs.IntegerMatrix.{integer_matrix};
     ghost use Rattle.cox_base.specs.Matrix.{IsWord};
@@ -58,9 +60,11 @@ impl Workspace {
     ghost use Rattle.cox_context.specs.Numbers.{word_at};
     ghost use Rattle.cox_rows.specs.Beyond.{IsBeyond};
     ghost use Rattle.cox_rows.specs.Holding.{HasRow};
+    ghost use Rattle.cox_command.specs.ParseContract.{HasLetters};
     ghost use Rattle.cox_answers.specs.SessionLimits.{limits_of};
     ghost use Rattle.cox_answers.specs.GroupReply.{RefusesGroupRows};
     ghost use Rattle.cox_answers.specs.Listed.{RefusesLarge};
+    ghost use Rattle.cox_answers.specs.Question.{IsRefused};
     ghost use Rattle.cox_answers.specs.RowReply.{RefusesRow};
     ghost use Rattle.cox_answers.specs.Kept.{AreKept, HoldsElement, HoldsRow, HoldsAll, IsSameWork, Keeps};
     ghost use Rattle.cox_answers.specs.KeptBetween.{RefusesBetween, HoldsBetween, IsReadOff};
@@ -201,7 +205,7 @@ impl Workspace {
     }
 
     /// The number of the element of w, if it is a member.
-    fn number_of(&self, w: &Word) -> Option<u32>
+    pub(crate) fn number_of(&self, w: &Word) -> Option<u32>
         requires { IsWord self.now.table.rank w.now.items }
         ensures number { IfSome result (λ i. IsSomeAnd self.now.rows (HoldsElement (integer_matrix self.now.table) w.now.items i)) }
         ensures few { IfSome result (λ _. HasMoreThan (limits_of self.now.options).context
@@ -211,6 +215,40 @@ impl Workspace {
         match &self.rows {
             Some(rows) => rows.context().number_of(&self.table, w),
             None => None,
+        }
+    }
+
+    /// The number of the element of w, if its row is kept, and it is known that no row that it needs is beyond a limit.
+    pub(crate) fn settled_number(&self, w: &Word) -> Option<u32>
+        requires { IsWord self.now.table.rank w.now.items }
+        ensures row { IfSome result (λ i. IsSomeAnd self.now.rows (HoldsRow (integer_matrix self.now.table) w.now.items i)) }
+        ensures free { IfSome result (λ _. IsRefused
+            (RefusesRow (limits_of self.now.options) (integer_matrix self.now.table) w.now.items) None) }
+        ensures kept { AreKept self.now.table (limits_of self.now.options) self.now.rows }
+        ensures group { IsCoxeterMatrix self.now.table }
+    {
+        prove!(self.rank() as usize <= MAX_RANK);
+        let i = self.number_of(w)?;
+        if !self.rows().is_settled(i) {
+            return None;
+        }
+        Some(i)
+    }
+
+    /// Whether the rows of all elements of the group are kept. Then they are not refused.
+    pub(crate) fn has_group(&self) -> bool
+        ensures rows { IsTrue result → IsSomeAnd self.now.rows (HoldsAll (integer_matrix self.now.table)) }
+        ensures free { IsTrue result → IsRefused (RefusesGroupRows (limits_of self.now.options) (integer_matrix self.now.table)) None }
+        ensures kept { AreKept self.now.table (limits_of self.now.options) self.now.rows }
+        ensures group { IsCoxeterMatrix self.now.table }
+    {
+        prove!(self.rank() as usize <= MAX_RANK);
+        match &self.rows {
+            Some(rows) => {
+                let _context = rows.context();
+                holds_group(rows)
+            }
+            None => false,
         }
     }
 
@@ -328,7 +366,7 @@ impl Workspace {
         prove!(self.table.group().rank() as usize <= MAX_RANK);
         if let Some(longest) = longest_word(&self.table) {
             self.whole = None;
-            widen(&mut self.rows, &self.table, self.options, &longest, most);
+            let _ = widen(&mut self.rows, &self.table, self.options, &longest, most);
         }
     }
 
@@ -355,6 +393,97 @@ impl Workspace {
         self.rows = Some(rows);
         unless_fault(made, ())
     }
+
+    /// Makes the rows that commands will ask for, as far as the elements below theirs fit together into what is kept, and settles them.
+    ///
+    /// Where a command is on the whole group, and the group is finite, all its rows are made first. The rows that `work` and `invpol` ask
+    /// for are left to them. No answer depends on it: what is refused, and what memory runs out for, is left to whoever asks.
+    pub fn make_ahead<M: RowMaker>(&mut self, maker: &M, alloc: Global, inquiries: &[Inquiry])
+        requires words { All (HasLetters self.old.table.rank) inquiries.now }
+        requires ready { M.ready maker.now }
+        ensures { IsSameWork self.old self.new }
+    {
+        if self.make_group_ahead(maker, alloc, inquiries).is_ok()
+            && self.add_intervals(alloc, inquiries).is_ok()
+        {
+            self.make_rows_ahead(maker, alloc, inquiries);
+        }
+    }
+
+    /// Makes the rows of the whole group, if a command is on it and it is finite. `Err` where memory ran out.
+    fn make_group_ahead<M: RowMaker>(
+        &mut self,
+        maker: &M,
+        alloc: Global,
+        inquiries: &[Inquiry],
+    ) -> Result<(), AllocError>
+        requires { M.ready maker.now }
+        ensures { IsSameWork self.old self.new }
+    {
+        prove!(self.rank() as usize <= MAX_RANK);
+        if !inquiries.iter().any(|inquiry| is_on_group(inquiry))
+            || longest_word(&self.table).is_none()
+        {
+            return Ok(());
+        }
+        match self.keep_group(maker, alloc) {
+            Err(Unanswered::NoMemory) => Err(AllocError),
+            _ => Ok(()),
+        }
+    }
+
+    /// Adds the elements below those whose rows the commands ask for to what is kept, as far as they fit beside it. `Err` where memory ran
+    /// out.
+    fn add_intervals(&mut self, alloc: Global, inquiries: &[Inquiry]) -> Result<(), AllocError>
+        requires { All (HasLetters self.old.table.rank) inquiries.now }
+        ensures { IsSameWork self.old self.new }
+    {
+        'each: for inquiry in inquiries {
+            if let Some(w) = row_word(inquiry) {
+                self.add_interval(alloc, w)?;
+            }
+        }
+        Ok(())
+    }
+
+    /// Adds the elements below w to what is kept, if they fit beside it. `Err` where memory ran out.
+    fn add_interval(&mut self, alloc: Global, w: &Word) -> Result<(), AllocError>
+        requires { IsWord self.old.table.rank w.now.items }
+        ensures { IsSameWork self.old self.new }
+    {
+        if self.number_of(w).is_some() {
+            return Ok(());
+        }
+        self.take_group();
+        self.whole = None;
+        let before = member_count(&self.rows);
+        let added = add_interval(alloc, &mut self.rows, &self.table, self.options, w);
+        self.growth.count(before, member_count(&self.rows));
+        added
+    }
+
+    /// Makes the rows of members that the commands ask for, and looks whether inverse polynomials can be read off those that are kept, if
+    /// they are asked for.
+    fn make_rows_ahead<M: RowMaker>(&mut self, maker: &M, alloc: Global, inquiries: &[Inquiry])
+        requires words { All (HasLetters self.old.table.rank) inquiries.now }
+        requires ready { M.ready maker.now }
+        ensures { IsSameWork self.old self.new }
+    {
+        self.whole = None;
+        let Some(rows) = self.rows.take() else {
+            return;
+        };
+        let rows = with_asked(alloc, rows, &self.table, maker, inquiries);
+        self.rows = Some(rows);
+        if inquiries.iter().any(|inquiry| is_inverse(inquiry)) {
+            self.has_small();
+        }
+    }
+}
+
+/// Whether a command asks for an inverse polynomial.
+fn is_inverse(inquiry: &Inquiry) -> bool {
+    matches!(inquiry, Inquiry::Two(TwoWord::Invpol, _, _))
 }
 
 /// How many members the context of these rows has; 0 where there are none.

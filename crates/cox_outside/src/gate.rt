@@ -8,13 +8,17 @@ pub enum Point {
     Claim,
     /// Before it publishes a row.
     Publish,
+    /// Before the block of a list with this number begins.
+    Block,
 }
 
-/// A gate that each worker passes before each claim and each publication.
+/// A gate that each worker passes before each claim and each publication, and before each block of a list.
+///
+/// The thread that answers the block with the number k passes under the number k, from 1, with row 0, before it begins the block.
 ///
 /// A gate has no meaning, and no answer depends on it. A test's gate may hold a worker for a time.
 pub trait Gate {
-    /// The worker with this number, from 1, passes before it claims or publishes this row.
+    /// The worker with this number, from 1, passes before it claims or publishes this row, or begins the block with that number.
     fn pass<R: Wait>(&self, rt: &R, worker: u32, point: Point, row: u32);
 }
 

@@ -10,11 +10,12 @@ use std::thread;
 /// How often a worker is held, at most, while the other does not come.
 const TURNS: u32 = 100_000_000;
 
-/// How often a worker has passed before a claim, and before a publication.
+/// How often a worker has passed before a claim, before a publication, and before a block.
 #[derive(Drop)]
 struct Passes {
     claims: AtomicU64,
     publications: AtomicU64,
+    blocks: AtomicU64,
 }
 
 impl Passes {
@@ -22,12 +23,14 @@ impl Passes {
         Passes {
             claims: AtomicU64::new(0),
             publications: AtomicU64::new(0),
+            blocks: AtomicU64::new(0),
         }
     }
 }
 
-/// It holds each worker at its first claim until the other has come to a claim, and at its second publication until the other has come to a
-/// publication. It counts the claims, the publications of each row, and the holds that ended before the other came.
+/// It holds each worker at its first claim until the other has come to a claim, at its second publication until the other has come to a
+/// publication, and the first block of a list before it begins until the second has come to its own beginning, and the other way round. It
+/// counts the claims, the publications of each row, the blocks, and the holds that ended before the other came.
 #[derive(Drop)]
 pub struct MeetingGate {
     first: Passes,
@@ -62,6 +65,11 @@ impl MeetingGate {
     /// How often a worker has passed before a claim.
     pub fn claims(&self) -> u128 {
         u128::from(self.first.claims.load(SeqCst)) + u128::from(self.second.claims.load(SeqCst))
+    }
+
+    /// How often a block has passed before it began.
+    pub fn blocks(&self) -> u128 {
+        u128::from(self.first.blocks.load(SeqCst)) + u128::from(self.second.blocks.load(SeqCst))
     }
 
     /// How many holds ended before the other worker came.
@@ -101,6 +109,11 @@ impl Gate for MeetingGate {
                 }
                 if mine.publications.fetch_add(1, SeqCst) == 1 {
                     self.hold(&other.publications);
+                }
+            }
+            Point::Block => {
+                if mine.blocks.fetch_add(1, SeqCst) == 0 {
+                    self.hold(&other.blocks);
                 }
             }
         }

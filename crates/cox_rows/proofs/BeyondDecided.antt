@@ -1,8 +1,7 @@
 -- Whether the row of w is beyond the limits can be told: only the x ≤ w count, of which there is a list, and only degrees up to the length.
-use Rattle.std.proofs.Common.{◌≡◌, ℕ, zero, suc, ◌<◌, ◌≤◌, List, [], ◌∷◌, ℤ, pos, ◌⊎◌, inl, inr, ⊎_elim, sym, ◌∙◌, refl}
+use Rattle.std.proofs.Common.{◌≡◌, ℕ, suc, List, [], ◌∷◌, ℤ, pos, ◌⊎◌, inl, inr, ⊎_elim, sym, ◌∙◌, refl}
 use Rattle.std.proofs.Common.{arith}
 use Rattle.std.specs.Prelude.{unsigned_abs, ◌<ℤ◌, ◌≤ℤ◌}
-use Rattle.std.proofs.lemmas.Bool.{cases_lt}
 use Rattle.std.proofs.lemmas.Int.{ints, by_lt_z}
 use Rattle.cox_base.specs.IntegerMatrix.{IntegerMatrix}
 use Rattle.cox_base.specs.Admissible.{IsAdmissible}
@@ -10,17 +9,17 @@ use Rattle.cox_base.specs.Element.{SameElement}
 use Rattle.cox_base.specs.Length.{word_length}
 use Rattle.cox_base.specs.Bruhat.{IsBelow}
 use Rattle.cox_reflect.proofs.Elements.{same-refl}
+use Rattle.cox_poly.proofs.Limits.{within-not_above, tell-above}
 use Rattle.cox_hecke.specs.ListedElements.{occurrences}
 use Rattle.cox_hecke.proofs.ListSums.{same_or_not, not_same-is_same}
 use Rattle.cox_hecke.proofs.ElementLists.{below_or_not, below_list}
 use Rattle.cox_hecke.proofs.AllRows.{mu-exists, mu-unique}
 use Rattle.cox_hecke.proofs.Descended.{mu-below}
 use Rattle.cox_hecke.proofs.PolynomialValues.{kl_polynomial, kl_polynomial-is, kl_polynomial-low, kazhdan_lusztig-unique}
-use Rattle.cox_hecke.proofs.PolynomialValues.{kazhdan_lusztig-outside}
-use Rattle.cox_hecke.proofs.PolynomialValues.{kazhdan_lusztig-same}
 use Rattle.cox_row.proofs.MuOfElements.{mu-words}
 use Rattle.cox_row.specs.declared.row.TheConstants.{MU_LIMIT}
 use Rattle.cox_klstep.specs.Limits.{IsLargeCoefficient, IsLargeMu}
+use Rattle.cox_klstep.proofs.LargeCoefficients.{outside-none, large-words}
 use Rattle.cox_rows.specs.Beyond.{IsBeyond}
 use Rattle.cox_rows.proofs.LargeRows.{coefficient-beyond, mu-beyond, beyond-cases}
 
@@ -47,19 +46,15 @@ module _ (A : IntegerMatrix) (g : IsAdmissible A) (limit : ℤ) (least : pos 0 �
     large_coefficient : {k : ℕ} {c : ℤ} → IsLargeCoefficient A limit x w k c → IsBeyondAt w x
     large_mu : {m : ℤ} → IsLargeMu A (pos MU_LIMIT) x w m → IsBeyondAt w x
 
-  not_above : (bound : ℤ) → pos 0 ≤ℤ bound → (c : ℤ) → c ≡ pos 0 → bound <ℤ pos (unsigned_abs c) → ⊥
-  not_above bound l c e h = let zero : bound <ℤ pos 0 = rw e at h in omega (arith, ints, zero, l)
-
   -- ---- only the elements below w count
 
   coefficient-below : (w x : List ℕ) (k : ℕ) (c : ℤ) → IsLargeCoefficient A limit x w k c → IsBelow A x w
   coefficient-below w x k c h = ⊎_elim (λ b. b)
-      (λ (n : IsBelow A x w → ⊥). absurd (not_above limit least c
-      (sym h.value ∙ kazhdan_lusztig-outside A g x w h.polynomial n h.is k) h.above))
+      (λ (n : IsBelow A x w → ⊥). absurd (outside-none A g limit x w least n k c h))
       (below_or_not A g x w)
 
   mu_large-below : (w x : List ℕ) (m : ℤ) → IsLargeMu A (pos MU_LIMIT) x w m → IsBelow A x w
-  mu_large-below w x m h = mu-below A g x w m h.is (λ e. not_above (pos MU_LIMIT) (omega (arith, ints)) m e h.above)
+  mu_large-below w x m h = mu-below A g x w m h.is (λ e. within-not_above (pos MU_LIMIT) (pos 0) m (sym e) (omega (arith, ints)) h.above)
 
   beyond_at-below : (w x : List ℕ) → IsBeyondAt w x → IsBelow A x w
   beyond_at-below w x (large_coefficient {k} {c} h) = coefficient-below w x k c h
@@ -67,28 +62,19 @@ module _ (A : IntegerMatrix) (g : IsAdmissible A) (limit : ℤ) (least : pos 0 �
 
   -- ---- the words do not count
 
-  coefficient-words : (v w x y : List ℕ) (k : ℕ) (c : ℤ) → SameElement A x y → SameElement A v w → IsLargeCoefficient A limit x v k c
-      → IsLargeCoefficient A limit y w k c
-  coefficient-words v w x y k c e f h = record {
-    polynomial = h.polynomial;
-    is = kazhdan_lusztig-same A g x y v w h.polynomial e f h.is;
-    value = h.value;
-    above = h.above;
-  }
-
   mu_large-words : (v w x y : List ℕ) (m : ℤ) → SameElement A x y → SameElement A v w → IsLargeMu A (pos MU_LIMIT) x v m
       → IsLargeMu A (pos MU_LIMIT) y w m
   mu_large-words v w x y m e f h = record { is = mu-words A g m e f h.is; above = h.above }
 
   beyond_at-same : (w x y : List ℕ) → SameElement A x y → IsBeyondAt w x → IsBeyondAt w y
-  beyond_at-same w x y e (large_coefficient {k} {c} h) = large_coefficient (coefficient-words w w x y k c e (same-refl A g w) h)
+  beyond_at-same w x y e (large_coefficient {k} {c} h) = large_coefficient (large-words A g limit x y w w e (same-refl A g w) k c h)
   beyond_at-same w x y e (large_mu {m} h) = large_mu (mu_large-words w w x y m e (same-refl A g w) h)
 
   pub beyond-same : (v w : List ℕ) → SameElement A v w → IsBeyond A limit v → IsBeyond A limit w
   beyond-same v w e h = ⊎_elim
       (λ (found : (x : List ℕ) × (k : ℕ) × (c : ℤ) × IsLargeCoefficient A limit x v k c).
       coefficient-beyond A limit w found.0 found.1 found.2
-      (coefficient-words v w found.0 found.0 found.1 found.2 (same-refl A g found.0) e found.3))
+      (large-words A g limit found.0 found.0 v w (same-refl A g found.0) e found.1 found.2 found.3))
       (λ (found : (x : List ℕ) × (m : ℤ) × IsLargeMu A (pos MU_LIMIT) x v m).
       mu-beyond A limit w found.0 found.1 (mu_large-words v w found.0 found.0 found.1 (same-refl A g found.0) e found.2))
       (beyond-cases A limit v h)
@@ -99,23 +85,7 @@ module _ (A : IntegerMatrix) (g : IsAdmissible A) (limit : ℤ) (least : pos 0 �
 
   -- ---- one element
 
-  -- a coefficient of a degree below n is above the limit, or none is
-  large_below : (w x : List ℕ) (n : ℕ)
-      → ((k : ℕ) × (limit <ℤ pos (unsigned_abs (kl_polynomial A g x w k))))
-      ⊎ ((k : ℕ) → k < n → limit <ℤ pos (unsigned_abs (kl_polynomial A g x w k)) → ⊥)
-  large_below w x zero = inr (λ k l. absurd (omega (arith, l)))
-  large_below w x (suc n) = ⊎_elim
-      (λ (found : (k : ℕ) × (limit <ℤ pos (unsigned_abs (kl_polynomial A g x w k)))). inl found)
-      (λ (none : (k : ℕ) → k < n → limit <ℤ pos (unsigned_abs (kl_polynomial A g x w k)) → ⊥). by_lt_z
-      limit (pos (unsigned_abs (kl_polynomial A g x w n)))
-      (λ above. inl (n, above))
-      (λ small. inr (λ k l above. ⊎_elim (λ (less : k < n). none k less above)
-      (λ (more : n ≤ k). let e : k ≡ n = omega (arith, l, more)
-      in let h : limit <ℤ pos (unsigned_abs (kl_polynomial A g x w n)) = rw e at above in omega (arith, ints, h, small))
-      (cases_lt k n))))
-      (large_below w x n)
-
-  tell-coefficient : (w x : List ℕ)
+  pub tell-coefficient : (w x : List ℕ)
       → ((k : ℕ) × (c : ℤ) × IsLargeCoefficient A limit x w k c) ⊎ ((k : ℕ) (c : ℤ) → IsLargeCoefficient A limit x w k c → ⊥)
   tell-coefficient w x = ⊎_elim
       (λ (found : (k : ℕ) × (limit <ℤ pos (unsigned_abs (kl_polynomial A g x w k)))).
@@ -124,14 +94,12 @@ module _ (A : IntegerMatrix) (g : IsAdmissible A) (limit : ℤ) (least : pos 0 �
         kl_polynomial A g x w found.0,
         record { polynomial = kl_polynomial A g x w; is = kl_polynomial-is A g x w; value = refl; above = found.1 },
       ))
-      (λ (none : (k : ℕ) → k < suc (word_length A w) → limit <ℤ pos (unsigned_abs (kl_polynomial A g x w k)) → ⊥).
-      inr (λ k c h. let e : kl_polynomial A g x w k ≡ c
+      (λ (none : (k : ℕ) → limit <ℤ pos (unsigned_abs (kl_polynomial A g x w k)) → ⊥). inr (λ k c h.
+      let e : kl_polynomial A g x w k ≡ c
       = kazhdan_lusztig-unique A g x w (kl_polynomial A g x w) h.polynomial (kl_polynomial-is A g x w) h.is k ∙ h.value
-      in ⊎_elim (λ (less : k < suc (word_length A w)). none k less (rw e h.above))
-      (λ (more : suc (word_length A w) ≤ k). not_above limit least c
-      (sym e ∙ kl_polynomial-low A g x w k (omega (arith, more)) (omega (arith, more))) h.above)
-      (cases_lt k (suc (word_length A w)))))
-      (large_below w x (suc (word_length A w)))
+      in none k (rw e h.above)))
+      (tell-above limit least (kl_polynomial A g x w) (suc (word_length A w))
+      (λ k high. kl_polynomial-low A g x w k (omega (arith, high)) (omega (arith, high))))
 
   tell-mu : (w x : List ℕ) → ((m : ℤ) × IsLargeMu A (pos MU_LIMIT) x w m) ⊎ ((m : ℤ) → IsLargeMu A (pos MU_LIMIT) x w m → ⊥)
   tell-mu w x =

@@ -91,6 +91,18 @@ impl Rows {
         Ok(())
     }
 
+    /// Whether the row of the member with the number i is held, and it is known that no row of its Need is beyond a limit. Then `ensure`
+    /// has nothing to do; after `ensure` or `ensure_all` it is so, unless there was a fault.
+    pub fn is_settled(&self, i: u32) -> bool
+        ensures there { IsTrue result → HasRow self.now i }
+        ensures small { IsTrue result → IsSettled self.now i }
+    {
+        match self.settled.get(i as usize) {
+            Some(settled) => *settled && self.has(i),
+            None => false,
+        }
+    }
+
     /// Makes the row of the member with the number i, unless it is there, where those of all members before it are there and settled. The
     /// row is made from those.
     fn ensure_next(&mut self, i: u32) -> Result<(), StepFault>
@@ -180,17 +192,6 @@ impl Rows {
         match self.tables.take() {
             Some(tables) => Ok(tables),
             None => Tables::of(alloc, self.held.context()),
-        }
-    }
-
-    /// Whether the member with the number i is known to be settled, and its row is held.
-    fn is_settled(&self, i: u32) -> bool
-        ensures there { IsTrue result → HasRow self.now i }
-        ensures small { IsTrue result → IsSettled self.now i }
-    {
-        match self.settled.get(i as usize) {
-            Some(settled) => *settled && self.has(i),
-            None => false,
         }
     }
 

@@ -1,10 +1,10 @@
 -- A line that may stand in a block leaves the state.
-use Rattle.std.proofs.Common.{◌≡◌, ◌⊎◌, inl, inr, ℕ, List, [], ◌∷◌, Option, Some, None, IsSomeAnd, MatchOption, refl, sym, ap, ◌∙◌, subst, ⊎_elim}
+use Rattle.std.proofs.Common.{◌≡◌, ◌⊎◌, inl, inr, ℕ, List, [], ◌∷◌, Option, Some, None, IsSomeAnd, MatchOption, refl, ap, ◌∙◌, subst, ⊎_elim}
 use Rattle.std.specs.Option.{option_map}
 use Rattle.cox_tokens.specs.Tokens.{tokens_of}
 use Rattle.cox_command.specs.declared.refusal.Refusal.{Refusal}
 use Rattle.cox_command.specs.declared.command.Command.{Command}
-use Rattle.cox_command.specs.declared.command.Command.TheVariants.{Nothing, Quit, Group, Jobs, Ask}
+use Rattle.cox_command.specs.declared.command.Command.TheVariants.{Nothing, Ask}
 use Rattle.cox_command.specs.declared.command_word.CommandWord.{CommandWord}
 use Rattle.cox_command.specs.declared.command_word.CommandWord.TheVariants as word
 use Rattle.cox_command.specs.declared.inquiry.Inquiry.{Inquiry}

@@ -1,5 +1,5 @@
 -- What is done at the end of reading.
-use Rattle.std.proofs.Common.{◌≡◌, ◌||◌, true, false, List, [], ◌∷◌, Option, Some, None, IsSomeAnd, Result, Ok, Err, refl, sym, ap, ◌∙◌, subst}
+use Rattle.std.proofs.Common.{◌≡◌, ◌||◌, true, false, [], ◌∷◌, Option, Some, None, IsSomeAnd, Result, Ok, Err, refl, sym, ap, subst}
 use Rattle.std.specs.Prelude.{OnErr, OnOk}
 use Rattle.std.specs.Option.{is_some}
 use Rattle.std.specs.declared.alloc.AllocError.{AllocError}
@@ -10,7 +10,7 @@ use Rattle.cox_outside.specs.Outlet.{Outlet, Writes}
 use Rattle.cox_shell.specs.declared.session.Said.{Said}
 use Rattle.cox_shell.specs.declared.session.Said.TheVariants.{Answered, Refused, Quit}
 use Rattle.cox_shell.specs.Reply.{State, Reply}
-use Rattle.cox_shell.specs.Answer.{IsClosing, texts}
+use Rattle.cox_shell.specs.Answer.{IsClosing}
 use Rattle.cox_shell.specs.Closing.{Closes, closed_by}
 use Rattle.cox_shell.specs.Saying.{IsSaid}
 

@@ -1,5 +1,5 @@
 -- How many lines blocks have.
-use Rattle.std.proofs.Common.{◌≡◌, ℕ, suc, ◌+◌, ◌<◌, ◌≤◌, List, [], ◌∷◌, length, drop, get_or, true, false, nat_lt, ap, refl, sym, ◌∙◌, arith}
+use Rattle.std.proofs.Common.{◌≡◌, ℕ, ◌+◌, ◌<◌, ◌≤◌, List, length, drop, get_or, true, false, ap, refl, arith}
 use Rattle.std.proofs.lemmas.List.{drop_all}
 use Rattle.std.proofs.lemmas.Bool.Decides.{nat_tests}
 use Rattle.cox_shell.specs.Reply.{Kept, OpenList}
@@ -22,3 +22,6 @@ long_by_blocks blocks many = grind (arith, nat_tests)
 
 pub not_long : (blocks : OpenList) → length blocks ≤ 16 → lines_in blocks ≤ 1000 → is_long blocks ≡ false
 not_long blocks few short = grind (arith, nat_tests)
+
+pub few_blocks : (blocks : OpenList) → is_long blocks ≡ false → length blocks ≤ 16
+few_blocks blocks short = grind (arith, nat_tests)

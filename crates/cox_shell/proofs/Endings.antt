@@ -26,7 +26,7 @@ use Rattle.cox_shell.specs.Reply.{State, Reply}
 use Rattle.cox_shell.specs.Answer.{AreReplies, texts, has_quit, bytes_of}
 use Rattle.cox_shell.specs.Run.{Stand, IsServed, IsCutOff, Serves, stopped_read_fault, stopped_write_fault}
 use Rattle.cox_shell.specs.Outcome.{HasRead, WritesPrefix, WritesAll, StopsThere, IsCutShort, AnswersAll, AnswersEnded}
-use Rattle.cox_shell.specs.Outcome.{EndsReading, AnswersToFault, AnswersToLimit, Runs}
+use Rattle.cox_shell.specs.Outcome.{AnswersToFault, AnswersToLimit, Runs}
 use Rattle.cox_shell.proofs.KnownValues.{IfSome-made, IfSome-each, IfSome-follows}
 use Rattle.cox_shell.proofs.Replies.{AreReplies-one, AreReplies-quit}
 use Rattle.cox_shell.proofs.NoLines.{no_lines-end}

@@ -1,5 +1,5 @@
 -- The replies where a list is open, and where none is.
-use Rattle.std.proofs.Common.{◌≡◌, ℕ, List, [], ◌∷◌, Bool, true, false, Option, Some, None, IsSomeAnd, MatchOption, IsSome, refl, sym, ap, subst, ◌∙◌}
+use Rattle.std.proofs.Common.{◌≡◌, ℕ, List, [], ◌∷◌, Bool, true, false, Option, Some, None, IsSomeAnd, MatchOption, IsSome, refl, sym, ap, subst}
 use Rattle.std.specs.Option.{option_map, is_some}
 use Rattle.std.specs.Bool.{MatchBool}
 use Rattle.cox_tokens.specs.Tokens.{tokens_of}
@@ -8,16 +8,15 @@ use Rattle.cox_command.specs.declared.refusal.Refusal.{Refusal}
 use Rattle.cox_command.specs.declared.refusal.Refusal.TheVariants.{LongList}
 use Rattle.cox_command.specs.RefusalNumber.{refusal_number}
 use Rattle.cox_command.specs.BlockLines.{list_word_of}
-use Rattle.cox_shell.specs.declared.session.Said.TheVariants.{Answered, Refused, Quit}
-use Rattle.cox_shell.specs.Reply.{Kept, OpenList, State, Reply, closed, refusal, silence}
+use Rattle.cox_shell.specs.Reply.{OpenList, State, Reply, closed, refusal, silence}
 use Rattle.cox_shell.specs.OpenLists.{is_long}
 use Rattle.cox_shell.specs.ContentReply.{IsContentReply}
 use Rattle.cox_shell.specs.Blocks.{Told, AnswersBlocks, IsListReply, IsEndOfList, list_answered}
-use Rattle.cox_shell.specs.ListReply.{IsReplyTo, IsReplyInList, IsWordReply, kept_refusal, unread_reply}
+use Rattle.cox_shell.specs.ListReply.{IsReplyTo, IsReplyInList, kept_refusal, unread_reply}
 use Rattle.cox_shell.specs.Answer.{IsClosing}
 use Rattle.cox_shell.specs.Keeping.{with_kept, with_next}
 use Rattle.cox_shell.specs.Saying.{IsSaid}
-use Rattle.cox_shell.specs.ToldText.{said_by}
+use Rattle.cox_shell.specs.ToldText.{Numbered, no_text, said_by, TellsBlocks, IsToldOf}
 use Rattle.cox_shell.specs.declared.session.Stage.{Stage}
 use Rattle.cox_shell.specs.declared.session.Stage.TheVariants.{Opened, Set}
 use Rattle.cox_shell.specs.SessionState.{state_of}
@@ -83,13 +82,15 @@ module _ (state : State) (list : OpenList) where
   pub long_reply : state.list ≡ None → is_long list ≡ true → IsListReply state list (refusal state LongList)
   long_reply none long = of_test true (refusal state LongList) long (ap (λ s. refusal s LongList) (sym (closed-same state none)))
 
-  pub told_reply : (told : Told) → state.list ≡ None → is_long list ≡ false → AnswersBlocks state list told
-      → IsListReply state list (list_answered state told)
-  told_reply told none short are = of_test false (list_answered state told) short (
-    told,
-    subst (λ s. AnswersBlocks s list told) (sym (closed-same state none)) are,
-    ap (λ s. list_answered s told) (sym (closed-same state none)),
-  )
+  pub told_reply : (told : Told) → is_long list ≡ false → AnswersBlocks (closed state) list told
+      → IsListReply state list (list_answered (closed state) told)
+  told_reply told short are = of_test false (list_answered (closed state) told) short (told, are, refl)
+
+-- what was told from nothing where none is open
+pub told-outside : (state : State) (blocks : OpenList) (before told : Numbered) → state.list ≡ None → before ≡ no_text
+    → TellsBlocks state blocks before told → IsToldOf state blocks told
+told-outside state blocks before told none empty are =
+    subst (λ s. TellsBlocks s blocks no_text told) (sym (closed-same state none)) (subst (λ b. TellsBlocks state blocks b told) empty are)
 
 -- what is said of it
 pub said_by-is : (state : State) (told : Told) → IsSaid (said_by (option_map refusal_number told.refused)) (list_answered state told)

@@ -8,9 +8,10 @@ use Rattle.cox_command.specs.declared.refusal.Refusal.{Refusal}
 use Rattle.cox_command.specs.RefusalNumber.{refusal_number}
 use Rattle.cox_shell.specs.declared.session.Said.{Said}
 use Rattle.cox_shell.specs.declared.session.Said.TheVariants.{Answered, Refused, Quit}
-use Rattle.cox_shell.specs.Reply.{Kept, State, Reply}
-use Rattle.cox_shell.specs.Blocks.{Told, first_of, nothing, then_told, told_by, IsKeptReply, AnswersBlock, AnswersBlocks}
-use Rattle.cox_shell.specs.ToldText.{Numbered, numbered, no_text, then_numbered, number_said, said_by, TellsLine, TellsBlock, TellsBlocks}
+use Rattle.cox_shell.specs.Reply.{Kept, State, Reply, closed}
+use Rattle.cox_shell.specs.Blocks.{Told, first_of, nothing, then_told, told_by, AnswersBlock, AnswersBlocks}
+use Rattle.cox_shell.specs.ToldText.{Numbered, numbered, no_text, then_numbered, number_said, TellsLine, TellsBlock, TellsBlocks}
+use Rattle.cox_shell.specs.ToldText.{IsToldOf}
 use Rattle.cox_shell.specs.Saying.{IsSaid}
 use Rattle.cox_shell.proofs.ListReplies.{first_of-assoc, same_told, then_assoc}
 
@@ -118,3 +119,18 @@ module _ (state : State) (blocks : List (List Kept)) where
     subst (λ t. AnswersBlocks state blocks t) (then_nothing h.told) (h.goes nothing (rw (drop_all i blocks end) refl)),
     h.is,
   )
+
+-- what is told of some blocks, and then of others
+both_told : (state : State) (first rest : List (List Kept)) (a b : Told) → AnswersBlocks state first a → AnswersBlocks state rest b
+    → AnswersBlocks state (first ++ rest) (then_told a b)
+both_told state [] rest a b p q = subst (λ t. AnswersBlocks state rest t) (sym (ap (λ x. then_told x b) p)) q
+both_told state (block ∷ first) rest a b p q =
+    (p.0, p.1, then_told p.2 b, both_told state first rest p.2 b p.3 q, ap (λ x. then_told x b) p.4 ∙ then_assoc p.0 p.2 b)
+
+pub IsToldOf-both : (state : State) (first rest : List (List Kept)) (a b : Numbered) → IsToldOf state first a → IsToldOf state rest b
+    → IsToldOf state (first ++ rest) (then_numbered a b)
+IsToldOf-both state first rest a b p q = (
+  then_told p.0 q.0,
+  both_told (closed state) first rest p.0 q.0 p.1 q.1,
+  ap (λ x. then_numbered x b) p.2 ∙ ap (λ x. then_numbered (numbered p.0) x) q.2 ∙ sym (numbered-then p.0 q.0),
+)

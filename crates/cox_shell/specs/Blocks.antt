@@ -3,8 +3,6 @@ use Rattle.std.specs.Prelude.{◌≡◌, ℕ, false, MatchBool, IsSomeAnd, List,
 use Rattle.cox_command.specs.declared.refusal.Refusal.{Refusal}
 use Rattle.cox_command.specs.declared.refusal.Refusal.TheVariants.{LongList}
 use Rattle.cox_command.specs.BlockLines.{block_refusal}
-use Rattle.cox_command.specs.RefusalNumber.{refusal_number}
-use Rattle.std.specs.Option.{option_map}
 use Rattle.cox_shell.specs.Reply.{Kept, OpenList, State, Reply, closed, refusal}
 use Rattle.cox_shell.specs.ContentReply.{IsContentReply}
 use Rattle.cox_shell.specs.OpenLists.{is_long}

@@ -1,5 +1,4 @@
 -- The state of a session where a line is kept in the list that is open, or a block begins there.
-use Rattle.std.specs.Prelude.{Option}
 use Rattle.std.specs.Option.{option_map}
 use Rattle.cox_shell.specs.Reply.{Kept, State}
 use Rattle.cox_shell.specs.OpenLists.{with_line, with_block}

@@ -1,10 +1,11 @@
 -- What is told of several lines, with the number of the first refusal among them.
-use Rattle.std.specs.Prelude.{◌≡◌, ℕ, List, [], ◌++◌, Option, None, Some}
+use Rattle.std.specs.Prelude.{◌≡◌, ℕ, List, [], ◌++◌, Option, None, Some, Result, Ok, Err}
 use Rattle.std.specs.Option.{option_map}
+use Rattle.std.specs.declared.alloc.AllocError.{AllocError}
 use Rattle.cox_command.specs.RefusalNumber.{refusal_number}
 use Rattle.cox_shell.specs.declared.session.Said.{Said}
 use Rattle.cox_shell.specs.declared.session.Said.TheVariants.{Answered, Refused, Quit}
-use Rattle.cox_shell.specs.Reply.{Kept, State, Reply}
+use Rattle.cox_shell.specs.Reply.{Kept, State, Reply, closed}
 use Rattle.cox_shell.specs.Blocks.{Told, told_by, first_of, IsKeptReply, AnswersBlock, AnswersBlocks}
 
 -- the texts, and the number
@@ -43,3 +44,12 @@ TellsBlock state lines before after = (told : Told) × AnswersBlock state lines 
 
 abbrev pub TellsBlocks : State → List (List Kept) → Numbered → Numbered → Type 0
 TellsBlocks state blocks before after = (told : Told) × AnswersBlocks state blocks told × (after ≡ then_numbered before (numbered told))
+
+-- what blocks are answered in this state, if no list is open there
+abbrev pub IsToldOf : State → List (List Kept) → Numbered → Type 0
+IsToldOf state blocks told = TellsBlocks (closed state) blocks no_text told
+
+-- that was told, unless memory ran out
+abbrev pub IsToldUnless : Result Numbered AllocError → State → List (List Kept) → Type 0
+IsToldUnless (Ok told) state blocks = IsToldOf state blocks told
+IsToldUnless (Err error) state blocks = Unit {0}

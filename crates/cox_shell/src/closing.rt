@@ -3,9 +3,9 @@ ghost use Rattle.std.specs.Prelude.{◌≡◌};
 ghost use Rattle.cox_outside.specs.Outlet.{SinkCause};
 ghost use Rattle.cox_shell.specs.Closing.{Closes, EndsBy, closed_by, closed_status, closed_write_fault};
 
+use crate::block_teller::BlockTeller;
 use crate::session::{Said, Session};
 use crate::status::Status;
-use cox_answers::RowMaker;
 use cox_outside::{Sink, write_all};
 
 /// What ending an open list led to.
@@ -48,7 +48,7 @@ impl Closed {
 
 /// Ends the list that is open, if one is, where a run over the lines ended by this status; the status that this leads to. Where a write
 /// failed or memory ran out nothing more is done. What the buffer held is lost.
-pub fn end_with<M: RowMaker, K: Sink>(
+pub fn end_with<M: BlockTeller, K: Sink>(
     ended: Status,
     maker: &M,
     session: &mut Session,
@@ -67,7 +67,7 @@ pub fn end_with<M: RowMaker, K: Sink>(
 }
 
 /// Ends the list that is open, if one is: its answer is written before this returns. What the buffer held is lost.
-fn close_list<M: RowMaker, K: Sink>(
+fn close_list<M: BlockTeller, K: Sink>(
     maker: &M,
     session: &mut Session,
     buffer: &mut Vec<u8>,

@@ -3,7 +3,7 @@
 //! [`run`] and [`run_one`] read lines, answer each before they ask for the next, and end by a [`Status`]. Their
 //! contract, `IsRun` in `specs/WholeRun.antt`, says, by the replies to the lines that the definitions give, what was
 //! written at each status and what the status came from. `run` has as many workers as the
-//! arguments say where rows are made.
+//! arguments say where rows are made, and where a list of blocks is answered.
 //! `run_one` has one thread, and is proved to return. A [`Session`] answers single lines.
 //!
 //! It stands on `cox_outside` for lines and bytes, on `cox_command` and `cox_print` for commands and texts, on `cox_options` for the
@@ -11,6 +11,8 @@
 //!
 //! - `status`: how a run ends
 //! - `workers`: rows that are made by several threads
+//! - `block_teller`, `at_once`: what answers the blocks of a list at once, and how threads do that
+//! - `ahead`: rows that are made before the lines of blocks ask for them, and that all threads read
 //! - `list`, `limits`: lists of blocks, and how long they may be
 //! - `told`: what is told of the lines of blocks
 //! - `session`: the session, which answers the contents of lines
@@ -22,6 +24,9 @@
 //!   block in a list is answered as it is alone
 #![tactic(auto)]
 
+mod ahead;
+mod at_once;
+mod block_teller;
 mod closing;
 pub mod laws;
 mod limits;

@@ -108,7 +108,8 @@ impl Block {
     }
 }
 
-/// A list of blocks that is open. Contracts see the lines of each block.
+/// A list of blocks that is open. Contracts see the lines of each block. It takes no more once it is too long, so it has at most one block
+/// or one line more than a list may have.
 #[derive(Drop)]
 pub struct JobList {
     blocks: Vec<Block>,
@@ -138,19 +139,25 @@ impl JobList {
         Ok(JobList { blocks })
     }
 
-    /// Adds a line to the last block. Without memory nothing changes.
+    /// Adds a line to the last block, unless the list is too long. Without memory nothing changes.
     pub fn add(&mut self, line: KeptLine) -> Result<(), AllocError>
         ensures ok { OnOk result (self.new ≡ with_line self.old line) }
         ensures err { OnErr result (self.new ≡ self.old) }
     {
+        if is_long(self.blocks()) {
+            return Ok(());
+        }
         add_to_last(&mut self.blocks, line)
     }
 
-    /// Adds an empty block. Without memory nothing changes.
+    /// Adds an empty block, unless the list is too long. Without memory nothing changes.
     pub fn begin_block(&mut self) -> Result<(), AllocError>
         ensures ok { OnOk result (self.new ≡ with_block self.old) }
         ensures err { OnErr result (self.new ≡ self.old) }
     {
+        if is_long(self.blocks()) {
+            return Ok(());
+        }
         let alloc = *self.blocks.allocator();
         self.blocks.push(Block::new(alloc))?;
         Ok(())
@@ -165,12 +172,12 @@ impl JobList {
 }
 
 ghost use Rattle.std.specs.Prelude.{◌≡◌, ◌<◌, length, OnOk, OnErr};
-ghost use Rattle.cox_shell.specs.OpenLists.{with_line, is_long};
+ghost use Rattle.cox_shell.specs.OpenLists.{then_line, is_long};
 
 /// Adds a line to the last of some blocks. Without memory nothing changes.
 fn add_to_last(blocks: &mut Vec<Block>, line: KeptLine) -> Result<(), AllocError>
     requires { 0 < length blocks.old.items }
-    ensures ok { OnOk result (blocks.new.items ≡ with_line blocks.old.items line) }
+    ensures ok { OnOk result (blocks.new.items ≡ then_line blocks.old.items line) }
     ensures err { OnErr result (blocks.new.items ≡ blocks.old.items) }
     ensures count { length blocks.new.items ≡ length blocks.old.items }
 {

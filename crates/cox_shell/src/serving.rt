@@ -6,16 +6,16 @@ ghost use Rattle.cox_outside.specs.Supply.{SourceCause};
 ghost use Rattle.cox_outside.specs.Outlet.{SinkCause};
 ghost use Rattle.cox_shell.specs.Run.{stand, Hears, Serves, heard_of, stopped_read_fault, stopped_write_fault};
 
+use crate::block_teller::BlockTeller;
 use crate::session::{Given, Said, Session};
 use crate::status::Stopped;
-use cox_answers::RowMaker;
 use cox_command::Refusal;
 use cox_outside::{LineReader, Next, Sink, Source, write_all};
 use std::alloc::AllocError;
 
 /// Serves the next line: its reply is written before this returns. What the buffer held
 /// is lost.
-pub fn serve_line<M: RowMaker, S: Source, K: Sink>(
+pub fn serve_line<M: BlockTeller, S: Source, K: Sink>(
     maker: &M,
     reader: &mut LineReader,
     session: &mut Session,
@@ -40,7 +40,7 @@ pub fn serve_line<M: RowMaker, S: Source, K: Sink>(
 }
 
 /// Reads the next line, and puts its reply into the empty buffer.
-fn hear_line<M: RowMaker, S: Source>(
+fn hear_line<M: BlockTeller, S: Source>(
     maker: &M,
     reader: &mut LineReader,
     session: &mut Session,

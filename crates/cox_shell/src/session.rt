@@ -1,5 +1,8 @@
 //! The session, which answers the contents of lines.
 
+use crate::ahead::{Beside, inquiries_of};
+use crate::at_once::tell_list;
+use crate::block_teller::BlockTeller;
 use crate::list::{Block, JobList, KeptLine, is_long};
 use crate::told::ToldText;
 use crate::workers::{ByWorkers, make_rows};
@@ -84,7 +87,7 @@ impl Session {
     ghost use Rattle.std.specs.Thread.{IsSync};
     ghost use Rattle.cox_row.specs.Rising.{AreWithin};
     ghost use Rattle.cox_answers.specs.Kept.{IsMore};
-    ghost use Rattle.std.specs.Prelude.{◌≡◌, ◌<◌, ◌≤◌, ◌⊎◌, ◌^◌, length, None, Some, is_some, IfOk, OnErr, OnOk, IfSome, IsSome, IsSomeAnd, MatchOption};
+    ghost use Rattle.std.specs.Prelude.{◌≡◌, ◌<◌, ◌≤◌, ◌⊎◌, ◌^◌, false, length, None, Some, is_some, IfOk, OnErr, OnOk, IfSome, IsSome, IsSomeAnd, MatchOption};
     ghost use Rattle.cox_base.specs.Admissible.{IsCoxeterMatrix};
     ghost use Rattle.cox_command.specs.declared.command.Command.TheVariants.{Group, Jobs};
     ghost use Rattle.cox_command.specs.ParseContract.{HasLetters, HasWordsOf};
@@ -93,10 +96,10 @@ impl Session {
     ghost use Rattle.cox_answers.specs.SessionLimits.{limits_of};
     ghost use Rattle.cox_shell.specs.ContentReply.{IsContentReply};
     ghost use Rattle.cox_shell.specs.CommandReply.{IsCommandReply, IsInquiryReply};
-    ghost use Rattle.cox_shell.specs.OpenLists.{with_line, with_block};
+    ghost use Rattle.cox_shell.specs.OpenLists.{with_line, with_block, is_long};
     ghost use Rattle.cox_shell.specs.ListReply.{IsReplyTo, unread_reply};
     ghost use Rattle.cox_shell.specs.Blocks.{IsKeptReply, IsListReply, IsEndOfList};
-    ghost use Rattle.cox_shell.specs.ToldText.{TellsBlock, TellsBlocks, TellsLine};
+    ghost use Rattle.cox_shell.specs.ToldText.{TellsBlock, TellsBlocks, TellsLine, IsToldOf};
     ghost use Rattle.cox_shell.specs.GivenReply.{IsShort, IsGivenReply, IsBadReply};
     ghost use Rattle.cox_shell.specs.Keeping.{with_kept, with_next};
     ghost use Rattle.cox_shell.specs.Saying.{Says, SaysPrefix, Tells, Concludes};
@@ -126,8 +129,8 @@ impl Session {
         self.answer_line(&OneThread, line, out)
     }
 
-    /// Answers a line in the same way, with as many workers as the options say where rows are made. Each of them passes the gate before
-    /// each claim and each publication of a row.
+    /// Answers a line in the same way, with as many workers as the options say where rows are made, and where a list of blocks ends. Each of
+    /// them passes the gate before each claim and each publication of a row, and before each block.
     pub fn answer_with<R: Threads + Wait + Sync, G: Gate + Sync>(
         &mut self,
         rt: &R,
@@ -150,6 +153,10 @@ impl Session {
                 requires { IsSync R.row × IsSync G.row × (1 ≤ workers) × AreWithin (length rows.elements.members) wanted.now }
                 ensures { IsMore rows result }
             { make_rows(rt, gate, workers, rows, alloc, wanted) },
+            tell: |session: &Session, alloc: Global, blocks: &[Block]| -> Option<ToldText>
+                requires { IsSync R.row × IsSync G.row × (1 ≤ workers) × (is_long blocks.now ≡ false) }
+                ensures { IfSome result (λ told. IsToldOf session.now blocks.now told) }
+            { tell_list(rt, gate, workers, session, alloc, blocks) },
         };
         self.answer_line(&maker, line, out)
     }
@@ -195,8 +202,41 @@ impl Session {
         own.answer_blocks(&OneThread, blocks, out)
     }
 
+    /// Answers the blocks of a list in the same way, with as many workers as the options say: so many blocks at once, each by one thread.
+    /// The thread of a block passes the gate under the number of the block, from 1, before it begins the block.
+    pub fn answer_jobs<R: Threads + Wait + Sync, G: Gate + Sync>(
+        &self,
+        rt: &R,
+        blocks: &[Block],
+        out: &mut Vec<u8>,
+        gate: &G,
+    ) -> Result<Said, AllocError>
+        ensures ok { IfOk result (λ said. (reply : Reply) × IsListReply self.now blocks.now reply
+            × Tells said reply out.old.items out.new.items) }
+        ensures err { OnErr result ((reply : Reply) × IsListReply self.now blocks.now reply
+            × PutsPrefix reply.text out.old.items out.new.items) }
+    {
+        let workers = self.options().workers();
+        if workers == 1 {
+            return self.answer_jobs_one(blocks, out);
+        }
+        let _rank = self.rank();
+        let maker = ByWorkers {
+            make: |rows: Rows, alloc: Global, wanted: &[u32]| -> Rows
+                requires { IsSync R.row × IsSync G.row × (1 ≤ workers) × AreWithin (length rows.elements.members) wanted.now }
+                ensures { IsMore rows result }
+            { make_rows(rt, gate, workers, rows, alloc, wanted) },
+            tell: |session: &Session, alloc: Global, blocks: &[Block]| -> Option<ToldText>
+                requires { IsSync R.row × IsSync G.row × (1 ≤ workers) × (is_long blocks.now ≡ false) }
+                ensures { IfSome result (λ told. IsToldOf session.now blocks.now told) }
+            { tell_list(rt, gate, workers, session, alloc, blocks) },
+        };
+        let mut own = self.fresh(*out.allocator())?;
+        own.answer_blocks(&maker, blocks, out)
+    }
+
     /// Answers a line in the same way as `answer`, by what was given of it, with rows by this maker.
-    pub(crate) fn answer_given<M: RowMaker>(
+    pub(crate) fn answer_given<M: BlockTeller>(
         &mut self,
         maker: &M,
         given: Given<'_>,
@@ -223,7 +263,7 @@ impl Session {
     }
 
     /// Ends the list that is open, and answers it. On `NoMemory` the session is as before, and a prefix of the answer is appended.
-    pub(crate) fn end_list<M: RowMaker>(
+    pub(crate) fn end_list<M: BlockTeller>(
         &mut self,
         maker: &M,
         out: &mut Vec<u8>,
@@ -248,7 +288,7 @@ impl Session {
     }
 
     /// Answers a line with this content, with rows by this maker.
-    fn answer_line<M: RowMaker>(
+    fn answer_line<M: BlockTeller>(
         &mut self,
         maker: &M,
         line: &[u8],
@@ -268,7 +308,7 @@ impl Session {
     }
 
     /// Answers a line with this content where a list is open.
-    fn answer_in_list<M: RowMaker>(
+    fn answer_in_list<M: BlockTeller>(
         &mut self,
         maker: &M,
         line: &[u8],
@@ -348,7 +388,7 @@ impl Session {
     }
 
     /// Answers blocks, behind what `out` has, where no list is open. On `NoMemory` a prefix of the answer is appended.
-    fn answer_blocks<M: RowMaker>(
+    fn answer_blocks<M: BlockTeller>(
         &mut self,
         maker: &M,
         blocks: &[Block],
@@ -366,10 +406,67 @@ impl Session {
         if is_long(blocks) {
             return self.refuse(Refusal::LongList, out);
         }
-        let mut told = ToldText::new(*out.allocator());
-        self.tell_blocks(maker, blocks, &mut told)?;
+        let told = self.tell_all(maker, blocks, *out.allocator())?;
         out.extend_from_slice(told.text())?;
         Ok(told.said())
+    }
+
+    /// Tells what the blocks of a list are answered, which is not too long: at once, where the maker does that, or else one after another.
+    fn tell_all<M: BlockTeller>(
+        &mut self,
+        maker: &M,
+        blocks: &[Block],
+        alloc: Global,
+    ) -> Result<ToldText, AllocError>
+        requires outside { self.old.list ≡ None }
+        requires short { is_long blocks.now ≡ false }
+        requires ready { M.ready maker.now }
+        ensures same { self.new ≡ self.old }
+        ensures told { IfOk result (λ told. IsToldOf self.old blocks.now told) }
+    {
+        if let Some(told) = maker.tell(self, alloc, blocks) {
+            return Ok(told);
+        }
+        let mut told = ToldText::new(alloc);
+        self.tell_blocks(maker, blocks, &mut told)?;
+        Ok(told)
+    }
+
+    /// Tells what a block is answered, in a session of its own, which reads the rows of this one.
+    pub(crate) fn tell_alone(
+        &self,
+        block: &Block,
+        told: &mut ToldText,
+        alloc: Global,
+    ) -> Result<(), AllocError>
+        ensures { OnOk result (TellsBlock (closed self.now) block.now told.old told.new) }
+    {
+        let mut own = self.fresh(alloc)?;
+        let maker = Beside {
+            shared: self.workspace(),
+        };
+        own.tell_block(&maker, block, told)
+    }
+
+    /// What the session works with, if a group is set.
+    fn workspace(&self) -> Option<&Workspace> {
+        match &self.stage {
+            Stage::Opened(_) => None,
+            Stage::Set(work) => Some(work),
+        }
+    }
+
+    /// Makes the rows that the lines of these blocks will ask for. No answer depends on it.
+    pub(crate) fn make_ahead<M: RowMaker>(&mut self, maker: &M, alloc: Global, blocks: &[Block])
+        requires { M.ready maker.now }
+        ensures { self.new ≡ self.old }
+    {
+        let Stage::Set(work) = &mut self.stage else {
+            return;
+        };
+        if let Ok(inquiries) = inquiries_of(alloc, blocks, work.rank()) {
+            work.make_ahead(maker, alloc, inquiries.as_slice());
+        }
     }
 
     /// Tells what blocks are answered, one after another.

@@ -1,6 +1,6 @@
 //! What is told of the lines of blocks.
 use crate::session::Said;
-use std::alloc::Global;
+use std::alloc::{AllocError, Global};
 use std::marker::Model;
 use std::mem;
 
@@ -20,9 +20,9 @@ impl Model for ToldText {
 }
 
 impl ToldText {
-    ghost use Rattle.std.specs.Prelude.{◌≡◌, []};
+    ghost use Rattle.std.specs.Prelude.{◌≡◌, [], OnOk};
     ghost use Rattle.cox_shell.specs.Blocks.{first_of};
-    ghost use Rattle.cox_shell.specs.ToldText.{no_text, number_said, said_by};
+    ghost use Rattle.cox_shell.specs.ToldText.{no_text, then_numbered, number_said, said_by};
 
     /// Nothing.
     pub fn new(alloc: Global) -> ToldText
@@ -58,6 +58,17 @@ impl ToldText {
         if self.refused.is_none() {
             self.refused = said.number();
         }
+    }
+
+    /// Puts what was told of the lines that follow behind it.
+    pub fn append(&mut self, mut more: ToldText) -> Result<(), AllocError>
+        ensures { OnOk result (self.new ≡ then_numbered self.old more) }
+    {
+        self.text.append(&mut more.text)?;
+        if self.refused.is_none() {
+            self.refused = more.refused;
+        }
+        Ok(())
     }
 
     /// What is said of the lines.

@@ -1,6 +1,6 @@
 //! The whole run, with the arguments of the program.
 
-ghost use Rattle.std.specs.Prelude.{◌≡◌, ◌≤◌, ℕ, true, List, length};
+ghost use Rattle.std.specs.Prelude.{◌≡◌, ◌≤◌, ℕ, true, false, List, length, IfSome};
 ghost use Rattle.std.specs.Thread.{IsSync};
 ghost use Rattle.cox_row.specs.Rising.{AreWithin};
 ghost use Rattle.cox_answers.specs.Kept.{IsMore};
@@ -11,13 +11,19 @@ ghost use Rattle.cox_shell.specs.Top.{argument_texts};
 ghost use Rattle.cox_shell.specs.GivenLimits.{GiveLimits};
 ghost use Rattle.cox_shell.specs.Reading.{IsReadBy};
 ghost use Rattle.cox_shell.specs.WholeRun.{IsRun};
+ghost use Rattle.cox_shell.specs.OpenLists.{is_long};
+ghost use Rattle.cox_shell.specs.ToldText.{IsToldOf};
 
+use crate::at_once::tell_list;
+use crate::block_teller::BlockTeller;
 use crate::closing::end_with;
+use crate::list::Block;
 use crate::running::run_lines;
 use crate::session::Session;
 use crate::status::Status;
+use crate::told::ToldText;
 use crate::workers::{ByWorkers, make_rows};
-use cox_answers::{OneThread, RowMaker};
+use cox_answers::OneThread;
 use cox_options::{OptionFault, Options, read};
 use cox_outside::{Gate, LineReader, Sink, Source, write_all};
 use cox_rows::Rows;
@@ -35,8 +41,8 @@ const USAGE: &[u8] = b"usage: coxeter [--workers N] [--context N] [--coef N] [--
 /// A list of blocks that is open where reading ends is answered then, as by a line `end`.
 ///
 /// What it writes does not depend on the workers: `IsRun` is the contract of [`run_one`] too, which has the same answers by one
-/// thread. Each worker passes the gate before each claim and each publication of a row. What the session takes of memory is not
-/// given back at the end: a process makes one run.
+/// thread. Each worker passes the gate before each claim and each publication of a row, and before each block of a list, whose blocks are
+/// answered at once. What the session takes of memory is not given back at the end: a process makes one run.
 pub fn run<R: Threads + Wait + Sync, S: Source, K: Sink, G: Gate + Sync>(
     rt: &R,
     alloc: Global,
@@ -112,6 +118,10 @@ fn run_with<R: Threads + Wait + Sync, S: Source, K: Sink, G: Gate + Sync>(
             requires { IsSync R.row × IsSync G.row × (1 ≤ workers) × AreWithin (length rows.elements.members) wanted.now }
             ensures { IsMore rows result }
         { make_rows(rt, gate, workers, rows, alloc, wanted) },
+        tell: |session: &Session, alloc: Global, blocks: &[Block]| -> Option<ToldText>
+            requires { IsSync R.row × IsSync G.row × (1 ≤ workers) × (is_long blocks.now ≡ false) }
+            ensures { IfSome result (λ told. IsToldOf session.now blocks.now told) }
+        { tell_list(rt, gate, workers, session, alloc, blocks) },
     };
     run_by(&maker, alloc, options, source, sink)
 }
@@ -119,7 +129,7 @@ fn run_with<R: Threads + Wait + Sync, S: Source, K: Sink, G: Gate + Sync>(
 /// Answers the script that the source gives, into the sink, with these options and rows by this maker.
 ///
 /// The session is forgotten at the end: its memory has several pieces for each row, and the process ends after the run.
-fn run_by<M: RowMaker, S: Source, K: Sink>(
+fn run_by<M: BlockTeller, S: Source, K: Sink>(
     maker: &M,
     alloc: Global,
     options: Options,

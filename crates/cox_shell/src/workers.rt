@@ -1,4 +1,4 @@
-//! Workers that make rows into a store that they share.
+//! Workers that make rows into a store that they share, and that answer the blocks of a list.
 //!
 //! The rows that are there are moved into the store first, and all come back afterwards. What the workers could not make is left to whoever
 //! asked: one thread makes it then, or finds that a row is beyond a limit.
@@ -10,7 +10,11 @@ ghost use Rattle.cox_row_store.specs.Stores.{elements_of, limit_of, IsSeat};
 ghost use Rattle.cox_rows.specs.Holding.{HasRow};
 ghost use Rattle.cox_answers.specs.Kept.{IsSameContext, IsMore};
 
-use cox_answers::RowMaker;
+use crate::block_teller::BlockTeller;
+use crate::list::Block;
+use crate::session::Session;
+use crate::told::ToldText;
+use cox_answers::{RowMaker, Workspace};
 use cox_context::Context;
 use cox_outside::Gate;
 use cox_row_store::{Claimed, RowStore, Seat};
@@ -20,25 +24,52 @@ use std::alloc::{AllocError, Global};
 use std::sync::Wait;
 use std::thread::Threads;
 
-/// Rows are made by a function that runs workers.
+/// Rows are made, and blocks are answered, by functions that run workers.
 #[derive(Clone, Copy, Drop)]
-pub struct ByWorkers<F> {
+pub struct ByWorkers<F, T> {
     /// Makes the rows of the members with these numbers.
     pub make: F,
+    /// Tells what the blocks of a list are answered, where there are several. Their rows are made first.
+    pub tell: T,
 }
 
-impl<F: Fn(Rows, Global, &[u32]) -> Rows> RowMaker for ByWorkers<F> {
-    ghost use Rattle.std.specs.Prelude.{length};
+impl<
+    F: Fn(Rows, Global, &[u32]) -> Rows,
+    T: Fn(&Session, Global, &[Block]) -> Option<ToldText>,
+> RowMaker for ByWorkers<F, T> {
+    ghost use Rattle.std.specs.Prelude.{◌≡◌, false, length, Option, IfSome};
     ghost use Rattle.cox_row.specs.Rising.{AreWithin};
     ghost use Rattle.cox_rows.specs.Holding.{Holding};
     ghost use Rattle.cox_answers.specs.Kept.{IsMore};
+    ghost use Rattle.cox_shell.specs.OpenLists.{is_long};
+    ghost use Rattle.cox_shell.specs.ToldText.{Numbered, IsToldOf};
 
     ghost ready = { λ workers. ((rows : Holding) (alloc : _) (wanted : _) → AreWithin (length rows.elements.members) wanted.now
         → F.pre workers.make rows alloc wanted)
-        × ((rows made : Holding) (alloc : _) (wanted : _) → F.post workers.make rows alloc wanted made → IsMore rows made) };
+        × ((rows made : Holding) (alloc : _) (wanted : _) → F.post workers.make rows alloc wanted made → IsMore rows made)
+        × ((session : _) (alloc : _) (blocks : _) → is_long blocks.now ≡ false → T.pre workers.tell session alloc blocks)
+        × ((session : _) (alloc : _) (blocks : _) (told : Option Numbered) → T.post workers.tell session alloc blocks told
+        → IfSome told (λ t. IsToldOf session.now blocks.now t)) };
 
     fn make(&self, alloc: Global, rows: Rows, wanted: &[u32]) -> Rows {
         (self.make)(rows, alloc, wanted)
+    }
+
+    fn shared(&self) -> Option<&Workspace> {
+        None
+    }
+}
+
+impl<
+    F: Fn(Rows, Global, &[u32]) -> Rows,
+    T: Fn(&Session, Global, &[Block]) -> Option<ToldText>,
+> BlockTeller for ByWorkers<F, T> {
+    fn tell(&self, session: &mut Session, alloc: Global, blocks: &[Block]) -> Option<ToldText> {
+        if blocks.len() < 2 {
+            return None;
+        }
+        session.make_ahead(self, alloc, blocks);
+        (self.tell)(session, alloc, blocks)
     }
 }
 

@@ -29,6 +29,7 @@ mod workers;
 ghost use Rattle.std.specs.Prelude.{◌≡◌, ℕ, List, map};
 ghost use Rattle.std.specs.Process.{exit_status};
 ghost use Rattle.std.specs.String.{string_bytes};
+ghost use Rattle.cox_options.specs.Arguments.{IsUsage};
 ghost use Rattle.cox_shell.specs.ExitCode.{code_of};
 ghost use Rattle.cox_shell.specs.Top.{argument_texts};
 ghost use Rattle.cox_shell.specs.Reading.{IsReadBy};
@@ -79,6 +80,20 @@ fn run_arguments<R: Threads + Wait + Sync, S: Source, K: Sink>(
     }
 }
 
+/// Runs the shell with arguments that give no options, which stand for those of which one is no text.
+fn refuse<R: Threads + Wait + Sync, S: Source, K: Sink>(
+    rt: &R,
+    alloc: Global,
+    source: &mut S,
+    sink: &mut K,
+) -> Status
+    ensures { (arguments : List (List ℕ)) × IsUsage arguments
+        × IsRun result arguments (S.seen source.old) (S.seen source.new) (K.seen sink.old) (K.seen sink.new)
+        × IsReadBy result arguments (S.seen source.old).left (S.seen source.new).left }
+{
+    run(rt, alloc, &wrong_arguments(), source, sink)
+}
+
 /// Runs the shell with the arguments of this environment. Wrong ones stand for those of which one is no text. What an environment
 /// has for arguments no contract tells, so it is a run with some arguments.
 fn start<R: Threads + Wait + Sync, E: Env, S: Source, K: Sink>(
@@ -94,7 +109,7 @@ fn start<R: Threads + Wait + Sync, E: Env, S: Source, K: Sink>(
 {
     match arguments_of(env, alloc, NAME) {
         Ok(Some(arguments)) => run_arguments(rt, alloc, &arguments, source, sink),
-        Ok(None) => run(rt, alloc, &wrong_arguments(), source, sink),
+        Ok(None) => refuse(rt, alloc, source, sink),
         Err(_) => Status::NoMemory,
     }
 }

@@ -13,6 +13,7 @@ const SCRIPTS: &[&str] = &[
     "pol e 1\nmatrix 2 5\ntype H 3\nfoo\ncompute\nmatrix 10\nmatrix 2\ntype A x\n",
     "type A 4\npol e 123\nquit\n",
     "type A 3\ninvpol 2 2132\ninvpol e 121321\nmatrix 3 3 3 3\ninvpol 3 32132132\n",
+    "type A 3\njobs\nlrcells\nnext\nfoo\n\tpol\nnext\n\nnext\nquit\nmu 2 2132\nnext\nend\njobs\nklbasis 2132\nnext\npol 2 2132",
 ];
 
 /// Each number of workers.
@@ -67,6 +68,42 @@ fn meet_at_a_gate(rt: HostRuntime) -> Result<(), Fail> {
     assert_eq!(rt; gate.late(), 0);
     assert_eq!(rt; gate.published_once(), 120);
     assert!(rt; gate.claims() >= 120);
+    Ok(())
+}
+
+/// Each of two blocks is held before it begins, until the other has come there.
+#[test]
+fn blocks_meet_at_a_gate(rt: HostRuntime) -> Result<(), Fail> {
+    let alloc = rt.alloc();
+    let script = "type A 4\njobs\nklbasis 2132\nnext\nklbasis 12321\nend\n";
+    let gate = MeetingGate::new(alloc, 120)?;
+    let (status, sink) = run_by(&rt, alloc, script, "2", &gate)?;
+    let (_, one) = run_by(&rt, alloc, script, "1", &Open)?;
+    assert_eq!(rt; status, Status::Done);
+    assert_eq!(rt; gate.blocks(), 2);
+    assert_eq!(rt; gate.late(), 0);
+    assert_eq!(rt; sink.bytes(), one.bytes());
+    Ok(())
+}
+
+#[test]
+fn answer_an_open_list(rt: HostRuntime) -> Result<(), Fail> {
+    let alloc = rt.alloc();
+    let options = cox_options::read(alloc, &["coxeter", "--workers", "3"])?;
+    let mut session = Session::new(options);
+    let mut out = Vec::new(alloc);
+    session.answer_with(&rt, b"type A 3", &mut out, &Open)?;
+    session.answer_with(&rt, b"jobs", &mut out, &Open)?;
+    session.answer_with(&rt, b"pol 2 2132", &mut out, &Open)?;
+    session.answer_with(&rt, b"next", &mut out, &Open)?;
+    session.bad(18, &mut out)?;
+    let blocks = session.blocks().expect(&rt, "a list is open");
+    session.answer_jobs(&rt, blocks, &mut out, &Open)?;
+    session.answer_jobs_one(blocks, &mut out)?;
+    assert_eq!(rt;
+        out.as_slice(),
+        b"1+q\nerror 18\n1+q\nerror 18\n".as_slice()
+    );
     Ok(())
 }
 

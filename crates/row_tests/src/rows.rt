@@ -11,7 +11,9 @@ fn makes_the_rows_of_the_longest_element(rt: HostRuntime) -> Result<(), Fail> {
     let context = elements(&rt, alloc, b'A', 2, 6)?;
     let mut rows = Rows::new(alloc, context, i64::MAX)?;
     assert!(rt; !rows.has(5));
+    assert!(rt; !rows.is_settled(5));
     rows.ensure(5)?;
+    assert!(rt; rows.is_settled(5));
     assert_eq!(rt; rows.pool_len(5), 1);
     assert_eq!(rt; rows.mu(5, 0), 0);
     match rows.polynomial(5, 0) {

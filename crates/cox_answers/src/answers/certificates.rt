@@ -22,7 +22,7 @@ ghost use Rattle.cox_answers.specs.Kept.{IsSameWork};
 ghost use Rattle.cox_answers.specs.SessionLimits.{limits_of};
 ghost use Rattle.cox_answers.specs.Limits.{Limits};
 ghost use Rattle.cox_answers.specs.Question.{IsRefused};
-ghost use Rattle.cox_answers.specs.RowReply.{pairs_text};
+ghost use Rattle.cox_answers.specs.RowReply.{RefusesRow, pairs_text};
 ghost use Rattle.cox_answers.specs.CertReply.{RefusesListing, RefusesCert, IsCertText};
 ghost use Rattle.cox_answers.specs.Putting.{PutsUnless, Finds, words_at};
 
@@ -61,11 +61,41 @@ impl Workspace {
         self.make_row(maker, alloc, i)?;
         put_certificate(out, self.rows(), i, below.as_slice())
     }
+
+    /// Puts the certificate of the row of w, if that is kept and settled. `None`, and nothing is put, where it is not.
+    pub(crate) fn put_kept_cert(
+        &self,
+        out: &mut Vec<u8>,
+        w: &Word,
+    ) -> Option<Result<(), Unanswered>>
+        requires word { IsWord self.now.table.rank w.now.items }
+        ensures puts { IfSome result (λ put. PutsUnless put
+            (RefusesCert (limits_of self.now.options) (integer_matrix self.now.table) w.now.items)
+            (IsCertText self.now.table w.now.items) out.old.items out.new.items) }
+        ensures none { IfNone result (out.new ≡ out.old) }
+    {
+        let i = self.settled_number(w)?;
+        Some(put_cert_of(out, self.rows(), i))
+    }
+}
+
+/// Puts the certificate of the row of w, the member with the number i, whose row is there.
+fn put_cert_of(out: &mut Vec<u8>, rows: &Rows, i: u32) -> Result<(), Unanswered>
+    requires group { IsCoxeterMatrix rows.now.elements.matrix }
+    requires member { i < length rows.now.elements.members }
+    requires there { HasRow rows.now i }
+    ensures { (limits : Limits) (w : List ℕ) → word_at rows.now.elements.members i ≡ normal_form (integer_matrix rows.now.elements.matrix) w
+        → IsRefused (RefusesRow limits (integer_matrix rows.now.elements.matrix) w) None
+        → PutsUnless result (RefusesCert limits (integer_matrix rows.now.elements.matrix) w) (IsCertText rows.now.elements.matrix w)
+        out.old.items out.new.items }
+{
+    let below = listed_below(*out.allocator(), rows, i)?;
+    put_certificate(out, rows, i, below.as_slice())
 }
 
 /// The numbers of the members x <= w, rising, for the member w with the number i. It is refused where there are more than a check takes, or
 /// where w is longer than it takes.
-fn listed_below(alloc: Global, rows: &Rows, i: u32) -> Result<Vec<u32>, Unanswered>
+pub fn listed_below(alloc: Global, rows: &Rows, i: u32) -> Result<Vec<u32>, Unanswered>
     requires member { i < length rows.now.elements.members }
     ensures within { IfOk result (λ numbers. All (λ x. x < length rows.now.elements.members) numbers.items) }
     ensures below { IfOk result (λ numbers. All (λ x. IsBelow (integer_matrix rows.now.elements.matrix)

@@ -1,5 +1,5 @@
 //! The answers on the whole group: W-graphs and cells.
-ghost use Rattle.std.specs.Prelude.{◌≡◌, ℕ, ◌<◌, ◌∷◌, false, List, map, length, All};
+ghost use Rattle.std.specs.Prelude.{◌≡◌, ℕ, ◌<◌, ◌∷◌, false, List, map, length, All, IfSome, IfNone};
 ghost use Rattle.std.specs.List.{flat_map};
 ghost use Rattle.cox_base.specs.Admissible.{IsCoxeterMatrix};
 ghost use Rattle.cox_base.specs.IntegerMatrix.{integer_matrix};
@@ -49,6 +49,25 @@ impl Workspace {
         self.keep_group(maker, *out.allocator())?;
         let rows = self.rows();
         unrefused(put_group_of(out, rows, kind))
+    }
+
+    /// Puts the answer to a command on the whole group, if the rows of all its elements are kept. `None`, and nothing is put, where they are
+    /// not.
+    pub(crate) fn put_kept_group(
+        &self,
+        out: &mut Vec<u8>,
+        kind: NoWord,
+    ) -> Option<Result<(), Unanswered>>
+        ensures puts { IfSome result (λ put. PutsUnless put (RefusesGroupRows (limits_of self.now.options) (integer_matrix self.now.table))
+            (group_question kind (limits_of self.now.options) self.now.table.rank (integer_matrix self.now.table)).IsText
+            out.old.items out.new.items) }
+        ensures none { IfNone result (out.new ≡ out.old) }
+    {
+        if !self.has_group() {
+            return None;
+        }
+        let rows = self.rows();
+        Some(unrefused(put_group_of(out, rows, kind)))
     }
 }
 

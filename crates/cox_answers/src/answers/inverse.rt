@@ -1,5 +1,5 @@
 //! The answers on inverse Kazhdan-Lusztig polynomials.
-ghost use Rattle.std.specs.Prelude.{◌≡◌, None, IfSome};
+ghost use Rattle.std.specs.Prelude.{◌≡◌, None, IfSome, IfNone};
 ghost use Rattle.cox_base.specs.Matrix.{IsWord};
 ghost use Rattle.cox_base.specs.Admissible.{IsCoxeterMatrix};
 ghost use Rattle.cox_base.specs.IntegerMatrix.{integer_matrix};
@@ -15,7 +15,7 @@ use crate::answers::between::{inverse_limit, member};
 use crate::answers::unanswered::{Unanswered, unrefused};
 use crate::row_maker::RowMaker;
 use crate::workspace::Workspace;
-use cox_base::Word;
+use cox_base::{MAX_RANK, Word};
 use cox_command::Refusal;
 use cox_inverse::{InverseFault, WholeGroup, inverse_row};
 use cox_minroots::RootTable;
@@ -49,6 +49,31 @@ impl Workspace {
         self.keep_between(maker, alloc, y, w)?;
         let whole = self.whole();
         put_inverse(out, self.rows(), self.table(), self.options(), whole, y, w)
+    }
+
+    /// Puts Q(y,w), if it can be read off the rows that are kept, and that is known. `None`, and nothing is put, where it is not.
+    pub(crate) fn put_kept_invpol(
+        &self,
+        out: &mut Vec<u8>,
+        y: &Word,
+        w: &Word,
+    ) -> Option<Result<(), Unanswered>>
+        requires first { IsWord self.now.table.rank y.now.items }
+        requires second { IsWord self.now.table.rank w.now.items }
+        ensures puts { IfSome result (λ put. PutsUnless put
+            (RefusesInverse (limits_of self.now.options) (integer_matrix self.now.table) y.now.items w.now.items)
+            (IsInverseText (integer_matrix self.now.table) y.now.items w.now.items) out.old.items out.new.items) }
+        ensures none { IfNone result (out.new ≡ out.old) }
+    {
+        prove!(self.rank() as usize <= MAX_RANK);
+        let whole = self.whole()?;
+        let _number = self.number_of(w)?;
+        if !self.table().below(y, w) {
+            return Some(unrefused(put_text(out, b"0")));
+        }
+        let rows = self.rows();
+        let _context = rows.context();
+        Some(put_inverse(out, rows, self.table(), self.options(), Some(whole), y, w))
     }
 }
 

@@ -15,7 +15,7 @@ use cox_context::{ContextFault, MAX_MEMBERS};
 use cox_minroots::RootTable;
 use cox_options::Options;
 use cox_rows::Rows;
-use std::alloc::Global;
+use std::alloc::{AllocError, Global};
 
 /// The same rows, and maybe more: that of the member with the number i is asked for, unless it is there.
 pub fn with_row<M: RowMaker>(alloc: Global, rows: Rows, maker: &M, i: u32) -> Rows
@@ -61,8 +61,35 @@ pub fn keep_interval(
     keep_alone(alloc, kept, table, options, w)
 }
 
+/// Adds the elements below w to what is kept, if they fit beside it; where nothing is kept, they alone are. Without memory nothing is kept.
+pub fn add_interval(
+    alloc: Global,
+    kept: &mut Option<Rows>,
+    table: &RootTable,
+    options: Options,
+    w: &Word,
+) -> Result<(), AllocError>
+    requires word { IsWord table.now.rank w.now.items }
+    requires kept { AreKept table.now (limits_of options) kept.old }
+    ensures { AreKept table.now (limits_of options) kept.new }
+{
+    if kept.is_some() {
+        return widen(kept, table, options, w, options.context());
+    }
+    match keep_alone(alloc, kept, table, options, w) {
+        Err(Unanswered::NoMemory) => Err(AllocError),
+        _ => Ok(()),
+    }
+}
+
 /// Adds the elements below w to what is kept, if it has at most so many members then. Without memory nothing is kept.
-pub fn widen(kept: &mut Option<Rows>, table: &RootTable, options: Options, w: &Word, most: u32)
+pub fn widen(
+    kept: &mut Option<Rows>,
+    table: &RootTable,
+    options: Options,
+    w: &Word,
+    most: u32,
+) -> Result<(), AllocError>
     requires word { IsWord table.now.rank w.now.items }
     requires some { 1 ≤ most }
     requires limit { most ≤ options.context }
@@ -73,12 +100,15 @@ pub fn widen(kept: &mut Option<Rows>, table: &RootTable, options: Options, w: &W
     if let Some(rows) = kept {
         let _context = rows.context();
         match rows.extend(table, w, most) {
-            Ok(_) => return,
-            Err(ContextFault::NoMemory) => {}
-            Err(_) => return,
+            Ok(_) => return Ok(()),
+            Err(ContextFault::NoMemory) => {
+                *kept = None;
+                return Err(AllocError);
+            }
+            Err(_) => return Ok(()),
         }
     }
-    *kept = None;
+    Ok(())
 }
 
 /// Keeps the interval from the identity to w alone, with no rows, and tells the number of w there. What was kept is given up first.

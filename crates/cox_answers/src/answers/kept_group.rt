@@ -8,10 +8,12 @@ ghost use Rattle.cox_base.specs.Members.{IsElement};
 ghost use Rattle.cox_base.specs.SortedList.{IsListOf};
 ghost use Rattle.cox_context.specs.Numbers.{word_at};
 ghost use Rattle.cox_row.specs.Rising.{AreWithin};
+ghost use Rattle.cox_rows.specs.Beyond.{IsBeyond};
 ghost use Rattle.cox_answers.specs.SessionLimits.{limits_of};
 ghost use Rattle.cox_answers.specs.GroupSize.{RefusesLargeGroup, GivesGroup};
-ghost use Rattle.cox_answers.specs.Kept.{AreKept, HoldsGroup, Keeps, IsMore};
+ghost use Rattle.cox_answers.specs.Kept.{AreKept, HoldsGroup, HoldsAll, Keeps, IsMore};
 
+use crate::answers::between::has_all;
 use crate::answers::unanswered::Unanswered;
 use crate::row_maker::RowMaker;
 use cox_base::MAX_RANK;
@@ -74,6 +76,18 @@ pub fn keep_elements(
     let context = group_of(alloc, table, options)?;
     *kept = Some(Rows::new(alloc, context, options.coef())?);
     Ok(())
+}
+
+/// Whether the members are all elements of the group, and the rows of all of them are there.
+pub fn holds_group(rows: &Rows) -> bool
+    ensures all { IsTrue result → HoldsAll (integer_matrix rows.now.elements.matrix) rows.now }
+    ensures small { IsTrue result → (i : ℕ) → i < length rows.now.elements.members
+        → ¬ IsBeyond (integer_matrix rows.now.elements.matrix) rows.now.limit (word_at rows.now.elements.members i) }
+{
+    if !is_whole(rows.context()) {
+        return false;
+    }
+    has_all(rows)
 }
 
 /// All elements of the group. They are refused where there are more than the options admit.

@@ -1,5 +1,5 @@
 //! The answer on the module of a left cell.
-ghost use Rattle.std.specs.Prelude.{◌≡◌, ℕ, ◌+◌, ◌<◌, ◌^◌, ◌∷◌, length, List, All, Contains};
+ghost use Rattle.std.specs.Prelude.{◌≡◌, ℕ, ◌+◌, ◌<◌, ◌^◌, ◌∷◌, length, List, All, Contains, IfSome, IfNone};
 ghost use Rattle.std.specs.List.{flat_map};
 ghost use Rattle.cox_base.specs.Matrix.{IsLetter, IsWord};
 ghost use Rattle.cox_base.specs.Admissible.{IsCoxeterMatrix};
@@ -53,6 +53,23 @@ impl Workspace {
     {
         self.keep_group(maker, *out.allocator())?;
         unrefused(put_module_of(out, self.table(), self.rows(), w))
+    }
+
+    /// Puts the module of the left cell of w, if the rows of all elements are kept. `None`, and nothing is put, where they are not.
+    pub(crate) fn put_kept_module(
+        &self,
+        out: &mut Vec<u8>,
+        w: &Word,
+    ) -> Option<Result<(), Unanswered>>
+        requires word { IsWord self.now.table.rank w.now.items }
+        ensures puts { IfSome result (λ put. PutsUnless put (RefusesGroupRows (limits_of self.now.options) (integer_matrix self.now.table))
+            (IsModuleText self.now.table.rank (integer_matrix self.now.table) w.now.items) out.old.items out.new.items) }
+        ensures none { IfNone result (out.new ≡ out.old) }
+    {
+        if !self.has_group() {
+            return None;
+        }
+        Some(unrefused(put_module_of(out, self.table(), self.rows(), w)))
     }
 }
 

@@ -73,6 +73,25 @@ impl Workspace {
         unrefused(put_row_of(out, rows, i, kind))
     }
 
+    /// Puts the answer to a command on w, from the row of w, if that is kept and settled. `None`, and nothing is put, where it is not.
+    pub(crate) fn put_kept_row(
+        &self,
+        out: &mut Vec<u8>,
+        kind: RowKind,
+        w: &Word,
+    ) -> Option<Result<(), Unanswered>>
+        requires word { IsWord self.now.table.rank w.now.items }
+        ensures puts { IfSome result (λ put. PutsUnless put
+            (RefusesRow (limits_of self.now.options) (integer_matrix self.now.table) w.now.items)
+            (one_question (row_command kind) (limits_of self.now.options) self.now.table w.now.items).IsText
+            out.old.items out.new.items) }
+        ensures none { IfNone result (out.new ≡ out.old) }
+    {
+        let i = self.settled_number(w)?;
+        let rows = self.rows();
+        Some(unrefused(put_row_of(out, rows, i, kind)))
+    }
+
     /// Puts the answer to a command on y and w, from the row of w.
     pub(crate) fn put_entry<M: RowMaker>(
         &mut self,
@@ -94,6 +113,27 @@ impl Workspace {
         let i = self.keep_row(maker, *out.allocator(), w)?;
         let rows = self.rows();
         unrefused(put_entry_of(out, rows, self.table(), i, kind, y))
+    }
+
+    /// Puts the answer to a command on y and w, from the row of w, if that is kept and settled. `None`, and nothing is put, where it is not.
+    pub(crate) fn put_kept_entry(
+        &self,
+        out: &mut Vec<u8>,
+        kind: EntryKind,
+        y: &Word,
+        w: &Word,
+    ) -> Option<Result<(), Unanswered>>
+        requires first { IsWord self.now.table.rank y.now.items }
+        requires second { IsWord self.now.table.rank w.now.items }
+        ensures puts { IfSome result (λ put. PutsUnless put
+            (RefusesRow (limits_of self.now.options) (integer_matrix self.now.table) w.now.items)
+            (two_question (entry_command kind) (limits_of self.now.options) self.now.table.rank (integer_matrix self.now.table)
+            y.now.items w.now.items).IsText out.old.items out.new.items) }
+        ensures none { IfNone result (out.new ≡ out.old) }
+    {
+        let i = self.settled_number(w)?;
+        let rows = self.rows();
+        Some(unrefused(put_entry_of(out, rows, self.table(), i, kind, y)))
     }
 }
 

@@ -7,7 +7,7 @@ pub returns-in-Ok-Some : goal.returns-in-Ok-Some
 returns-in-Ok-Some g c = (_, c.run_arguments.ensures.run, c.run_arguments.ensures.reading)
 
 pub returns-in-Ok-None : goal.returns-in-Ok-None
-returns-in-Ok-None g c = (_, c.run.ensures.run, c.run.ensures.reading)
+returns-in-Ok-None g c = (c.refuse.ensures.0, c.refuse.ensures.2, c.refuse.ensures.3)
 
 pub returns-in-Err : goal.returns-in-Err
 returns-in-Err g c = ([], run-none [] _ _, read-none [] _)

@@ -1,5 +1,5 @@
 -- A block of a list is answered in one way.
-use Rattle.std.proofs.Common.{◌≡◌, ap, ◌∙◌}
+use Rattle.std.proofs.Common.{ap, ◌∙◌}
 use Rattle.cox_shell.specs.Blocks.{then_told}
 use Rattle.cox_shell.proofs.ListReplies.{AnswersBlock-unique, block_alone}
 use Rattle.cox_shell.proofs.laws.blocks_are_alone.Goals as goal

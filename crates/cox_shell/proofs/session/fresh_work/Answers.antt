@@ -1,5 +1,5 @@
 -- The group has no more small roots than the options admit.
-use Rattle.std.proofs.Common.{◌≡◌, ap, ◌∙◌}
+use Rattle.std.proofs.Common.{ap, ◌∙◌}
 use Rattle.cox_base.specs.IntegerMatrix.{integer_matrix}
 use Rattle.cox_options.specs.declared.options.Options.{Options}
 use Rattle.cox_answers.specs.SessionLimits.{limits_of}

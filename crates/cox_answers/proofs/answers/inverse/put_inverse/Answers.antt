@@ -15,6 +15,21 @@ use Rattle.cox_answers.specs.KeptBetween.{IsReadOff}
 use Rattle.cox_answers.proofs.InverseRefusals.{ends-below, above-words, below-words, fault-inverse_beyond}
 use Rattle.cox_answers.proofs.InverseRefusals.{PutsUnless-inverse_fault, PutsUnless-inverse}
 use Rattle.cox_answers.proofs.answers.inverse.put_inverse.Goals as goal
+use Rattle.cox_answers.proofs.answers.inverse.put_inverse.Goals.{After-inverse_limit-limit}
+
+-- ---- the context, and the members that are y and w
+
+matrix : (c : After-inverse_limit-limit) → c.context-context.result.now.matrix ≡ c.args.table.now
+matrix c = ap (λ (e : Elements). e.matrix) c.context-context.ensures.context ∙ c.requires.rows.group
+
+admissible : (c : After-inverse_limit-limit) → IsAdmissible (integer_matrix c.args.table.now)
+admissible c = rw c.requires.rows.group at c.context-context.ensures.admissible
+
+ends : (c : After-inverse_limit-limit) → IsBelow (integer_matrix c.context-context.result.now.matrix)
+    (word_at c.context-context.result.now.members c.member-low.result) (word_at c.context-context.result.now.members c.member-high.result)
+ends c =
+    rw (matrix c) (ends-below (integer_matrix c.args.table.now) (admissible c) c.args.y.now.items c.args.w.now.items _ _
+    c.member-low.ensures.1 c.member-high.ensures.1 c.requires.below)
 
 -- ---- read off
 
@@ -26,91 +41,66 @@ polynomial-polynomial-requires-clause-readable c =
     whole.readable
 
 pub polynomial-polynomial-requires-clause-below : goal.polynomial-polynomial-requires-clause-below
-polynomial-polynomial-requires-clause-below c =
-    let A = integer_matrix c.args.table.now in
-    let matrix : c.context-context.result.now.matrix ≡ c.args.table.now
-    = ap (λ (e : Elements). e.matrix) c.context-context.ensures.context ∙ c.requires.rows.group in
-    let g : IsAdmissible A = rw c.requires.rows.group at c.context-context.ensures.admissible in
-    rw matrix (ends-below A g c.args.y.now.items c.args.w.now.items _ _ c.member-low.ensures.1 c.member-high.ensures.1 c.requires.below)
+polynomial-polynomial-requires-clause-below c = ends (goal.at.polynomial-polynomial-requires-clause-below c).After-inverse_limit-limit
 
 pub returns-in-Some : goal.returns-in-Some
 returns-in-Some c =
     let fits : FitsSigned w64 c.inverse_limit-limit.result = search rules in
-    let A = integer_matrix c.args.table.now in
-    let matrix : c.context-context.result.now.matrix ≡ c.args.table.now
-    = ap (λ (e : Elements). e.matrix) c.context-context.ensures.context ∙ c.requires.rows.group in
-    let g : IsAdmissible A = rw c.requires.rows.group at c.context-context.ensures.admissible in
-    rw c.unrefused.ensures (PutsUnless-inverse (limits_of c.args.options) A g c.args.y.now.items c.args.w.now.items _ _
-    c.member-low.ensures.1 c.member-high.ensures.1 _ _ _ _ c.requires.free
-    (rw (matrix, to_z-of_z w64 c.inverse_limit-limit.result fits, c.inverse_limit-limit.ensures.limit) at
+    let at = (goal.at.returns-in-Some c).After-inverse_limit-limit in
+    rw c.unrefused.ensures (PutsUnless-inverse (limits_of c.args.options) (integer_matrix c.args.table.now) (admissible at)
+    c.args.y.now.items c.args.w.now.items _ _ c.member-low.ensures.1 c.member-high.ensures.1 _ _ _ _ c.requires.free
+    (rw (matrix at, to_z-of_z w64 c.inverse_limit-limit.result fits, c.inverse_limit-limit.ensures.limit) at
     c.polynomial-polynomial.ensures.within)
-    (rw matrix at c.polynomial-polynomial.ensures.value) c.put_text.ensures)
+    (rw (matrix at) at c.polynomial-polynomial.ensures.value) c.put_text.ensures)
 
 -- ---- summed up
 
 pub inverse_row-requires-clause-below : goal.inverse_row-requires-clause-below
-inverse_row-requires-clause-below c =
-    let A = integer_matrix c.args.table.now in
-    let matrix : c.context-context.result.now.matrix ≡ c.args.table.now
-    = ap (λ (e : Elements). e.matrix) c.context-context.ensures.context ∙ c.requires.rows.group in
-    let g : IsAdmissible A = rw c.requires.rows.group at c.context-context.ensures.admissible in
-    rw matrix (ends-below A g c.args.y.now.items c.args.w.now.items _ _ c.member-low.ensures.1 c.member-high.ensures.1 c.requires.below)
+inverse_row-requires-clause-below c = ends (goal.at.inverse_row-requires-clause-below c).After-inverse_limit-limit
 
 pub inverse_row-requires-clause-rows : goal.inverse_row-requires-clause-rows
 inverse_row-requires-clause-rows c = λ z within above below.
+    let at = (goal.at.inverse_row-requires-clause-rows c).After-inverse_limit-limit in
     let A = integer_matrix c.args.table.now in
-    let matrix : c.context-context.result.now.matrix ≡ c.args.table.now
-    = ap (λ (e : Elements). e.matrix) c.context-context.ensures.context ∙ c.requires.rows.group in
-    let g : IsAdmissible A = rw c.requires.rows.group at c.context-context.ensures.admissible in
+    let g = admissible at in
     let y = c.args.y.now.items in
     let w = c.args.w.now.items in
-    let over = above-words A g y w _ _ c.member-low.ensures.1 c.member-high.ensures.1 _ (rw matrix at above) in
-    let under = below-words A g y w _ _ c.member-low.ensures.1 c.member-high.ensures.1 _ (rw matrix at below) in
+    let over = above-words A g y w _ _ c.member-low.ensures.1 c.member-high.ensures.1 _ (rw (matrix at) at above) in
+    let under = below-words A g y w _ _ c.member-low.ensures.1 c.member-high.ensures.1 _ (rw (matrix at) at below) in
     c.requires.held.held z (rw c.context-context.ensures.context at within)
     (record { above = rw c.context-context.ensures.context at over; below = rw c.context-context.ensures.context at under })
 
 pub polynomial-requires : goal.polynomial-requires
 polynomial-requires c =
-    let A = integer_matrix c.args.table.now in
-    let matrix : c.context-context.result.now.matrix ≡ c.args.table.now
-    = ap (λ (e : Elements). e.matrix) c.context-context.ensures.context ∙ c.requires.rows.group in
-    let g : IsAdmissible A = rw c.requires.rows.group at c.context-context.ensures.admissible in
+    let at = (goal.at.polynomial-requires c).After-inverse_limit-limit in
     let low = c.member-low.result in
     let bottom = word_at c.context-context.result.now.members low in
-    let top = word_at c.context-context.result.now.members c.member-high.result in
     let itself : IsBelow (integer_matrix c.context-context.result.now.matrix) bottom bottom
-    = rw matrix (below-refl A g (same-refl A g bottom)) in
-    let below : IsBelow (integer_matrix c.context-context.result.now.matrix) bottom top
-    = rw matrix (ends-below A g c.args.y.now.items c.args.w.now.items _ _ c.member-low.ensures.1 c.member-high.ensures.1
-    c.requires.below) in
-    let found = (c.in-Ok.ensures {u = tt}).row.between.whole low c.member-low.ensures.0 itself below in
+    = rw (matrix at) (below-refl (integer_matrix c.args.table.now) (admissible at)
+    (same-refl (integer_matrix c.args.table.now) (admissible at) bottom)) in
+    let found = (c.in-Ok.ensures {u = tt}).row.between.whole low c.member-low.ensures.0 itself (ends at) in
     subst (Contains c.in-Ok.row.numbers) found.2 (Contains-get_or c.in-Ok.row.numbers found.0 0 found.1)
 
 pub returns-in-Ok : goal.returns-in-Ok
 returns-in-Ok c =
     let fits : FitsSigned w64 c.inverse_limit-limit.result = search rules in
-    let A = integer_matrix c.args.table.now in
-    let matrix : c.context-context.result.now.matrix ≡ c.args.table.now
-    = ap (λ (e : Elements). e.matrix) c.context-context.ensures.context ∙ c.requires.rows.group in
-    let g : IsAdmissible A = rw c.requires.rows.group at c.context-context.ensures.admissible in
+    let at = (goal.at.returns-in-Ok c).After-inverse_limit-limit in
     let told = c.in-Ok.ensures {u = tt} in
-    rw c.unrefused-in-Ok.ensures (PutsUnless-inverse (limits_of c.args.options) A g c.args.y.now.items c.args.w.now.items _ _
-    c.member-low.ensures.1 c.member-high.ensures.1 _ _ _ _ c.requires.free
-    (rw (matrix, to_z-of_z w64 c.inverse_limit-limit.result fits, c.inverse_limit-limit.ensures.limit) at told.within)
-    (rw matrix at (c.polynomial.ensures c.context-context.result.now c.member-low.result c.member-high.result _ told.row))
+    rw c.unrefused-in-Ok.ensures (PutsUnless-inverse (limits_of c.args.options) (integer_matrix c.args.table.now) (admissible at)
+    c.args.y.now.items c.args.w.now.items _ _ c.member-low.ensures.1 c.member-high.ensures.1 _ _ _ _ c.requires.free
+    (rw (matrix at, to_z-of_z w64 c.inverse_limit-limit.result fits, c.inverse_limit-limit.ensures.limit) at told.within)
+    (rw (matrix at) at (c.polynomial.ensures c.context-context.result.now c.member-low.result c.member-high.result _ told.row))
     c.put_text-in-Ok.ensures)
 
 pub returns-in-Err : goal.returns-in-Err
 returns-in-Err c =
     let fits : FitsSigned w64 c.inverse_limit-limit.result = search rules in
+    let at = (goal.at.returns-in-Err c).After-inverse_limit-limit in
     let A = integer_matrix c.args.table.now in
-    let matrix : c.context-context.result.now.matrix ≡ c.args.table.now
-    = ap (λ (e : Elements). e.matrix) c.context-context.ensures.context ∙ c.requires.rows.group in
-    let g : IsAdmissible A = rw c.requires.rows.group at c.context-context.ensures.admissible in
     let y = c.args.y.now.items in
     let w = c.args.w.now.items in
     rw c.unanswered_by.ensures (PutsUnless-inverse_fault (limits_of c.args.options) A y w _ _ c.requires.free c.requires.below
-    c.in-Err.fault (λ other. fault-inverse_beyond A g y w _ _ c.member-low.ensures.1 c.member-high.ensures.1 c.context-context.result.now
-    (ap (λ (m : CoxeterMatrix). integer_matrix m) matrix) c.member-low.result c.member-high.result refl refl
-    (limits_of c.args.options).coefficient c.in-Err.fault other
+    c.in-Err.fault (λ other. fault-inverse_beyond A (admissible at) y w _ _ c.member-low.ensures.1 c.member-high.ensures.1
+    c.context-context.result.now (ap (λ (m : CoxeterMatrix). integer_matrix m) (matrix at)) c.member-low.result c.member-high.result
+    refl refl (limits_of c.args.options).coefficient c.in-Err.fault other
     (rw (to_z-of_z w64 c.inverse_limit-limit.result fits, c.inverse_limit-limit.ensures.limit) at (c.in-Err.ensures {u = tt}).fault)))

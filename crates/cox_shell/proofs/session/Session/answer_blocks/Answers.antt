@@ -2,9 +2,9 @@
 use Rattle.std.proofs.Common.{◌≡◌, ◌++◌, refl, sym, ap, ◌∙◌, subst}
 use Rattle.cox_command.specs.declared.refusal.Refusal.TheVariants.{LongList}
 use Rattle.cox_shell.specs.declared.session.Said.{Said}
-use Rattle.cox_shell.specs.Reply.{refusal}
+use Rattle.cox_shell.specs.Reply.{closed, refusal}
 use Rattle.cox_shell.specs.Blocks.{IsListReply, list_answered}
-use Rattle.cox_shell.specs.ToldText.{Numbered, numbered, then_numbered, said_by}
+use Rattle.cox_shell.specs.ToldText.{Numbered, numbered, said_by}
 use Rattle.cox_shell.specs.Saying.{IsSaid}
 use Rattle.cox_shell.proofs.ListReplies.{IsListReply-exists}
 use Rattle.cox_shell.proofs.Ends.{long_reply, told_reply, said_by-is}
@@ -16,20 +16,21 @@ returns-then-is_long-clause-err g c =
     SaysPrefix-puts_reply _ (IsListReply c.args.self.now c.args.blocks.now) (refusal c.args.self.now LongList) c.args.self.now c.args.self.now
     _ _ (long_reply c.args.self.now c.args.blocks.now c.requires.outside (sym c.is_long.ensures ∙ c.if-is_long.true)) c.refuse.ensures.err
 
-pub returns-in_err-tell_blocks-clause-err : goal.returns-in_err-tell_blocks-clause-err
-returns-in_err-tell_blocks-clause-err g c =
+pub returns-in_err-told-clause-err : goal.returns-in_err-told-clause-err
+returns-in_err-told-clause-err g c =
     let found = IsListReply-exists c.args.self.now c.rank-rank.ensures.matrix c.args.blocks.now in
     nothing-put _ (IsListReply c.args.self.now c.args.blocks.now) found.0 _ _ found.1 refl
 
 pub returns-clause-ok : goal.returns-clause-ok
 returns-clause-ok g c =
-    let told = (c.in_ok-tell_blocks.ensures {u = tt}).told in
-    let is : c.tell_blocks.new.told ≡ numbered told.0 = told.2 ∙ ap (λ b. then_numbered b (numbered told.0)) c.new-told.ensures in (
-      list_answered c.args.self.now told.0,
-      told_reply c.args.self.now c.args.blocks.now told.0 c.requires.outside (sym c.is_long.ensures ∙ c.if-is_long.false) told.1,
+    let told = (c.in_ok-told.ensures {u = tt}).told in
+    let state = closed c.args.self.now in
+    let is : c.in_ok-told.told ≡ numbered told.0 = told.2 in (
+      list_answered state told.0,
+      told_reply c.args.self.now c.args.blocks.now told.0 (sym c.is_long.ensures ∙ c.if-is_long.false) told.1,
       record {
-        tells = subst (λ (s : Said). IsSaid s (list_answered c.args.self.now told.0))
-            (sym (c.said.ensures ∙ ap (λ (n : Numbered). said_by n.refused) is)) (said_by-is c.args.self.now told.0);
+        tells = subst (λ (s : Said). IsSaid s (list_answered state told.0))
+            (sym (c.said.ensures ∙ ap (λ (n : Numbered). said_by n.refused) is)) (said_by-is state told.0);
         text = (c.in_ok-extend_from_slice.ensures {u = tt}).items
             ∙ ap (λ t. c.args.out.now.items ++ t) (c.text.ensures ∙ ap (λ (n : Numbered). n.text) is);
       },

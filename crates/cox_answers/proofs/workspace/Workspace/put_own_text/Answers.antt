@@ -1,7 +1,7 @@
--- The proof of `put_text_of`.
+-- The proof of `put_own_text`.
 use Rattle.std.proofs.Common.{◌≡◌, refl, arith}
 use Rattle.cox_command.specs.declared.inquiry.TwoWord.TheVariants.{Rpol, Invpol}
-use Rattle.cox_answers.proofs.workspace.Workspace.put_text_of.Goals as goal
+use Rattle.cox_answers.proofs.workspace.Workspace.put_own_text.Goals as goal
 
 pub returns-in-Two-Rpol-default-default : goal.returns-in-Two-Rpol-default-default
 returns-in-Two-Rpol-default-default g c =

@@ -1,0 +1,8 @@
+-- What was told so far.
+use Rattle.cox_shell.specs.Reply.{closed}
+use Rattle.cox_shell.specs.ToldText.{no_text}
+use Rattle.cox_shell.proofs.ToldBlocks.{HasToldBlocks}
+use Rattle.cox_shell.proofs.at_once.tell_by_turns.Given as goal
+
+abbrev pub invariant-turns : goal.invariant-turns
+invariant-turns g l = HasToldBlocks (closed l.fn.session) l.fn.blocks l.place no_text l.told

@@ -1,0 +1,59 @@
+//! Rows that are made before the lines of blocks ask for them, and that all threads read.
+ghost use Rattle.std.specs.Prelude.{◌≤◌, All, IfOk, IfSome};
+ghost use Rattle.cox_command.specs.ParseContract.{HasLetters};
+
+use crate::list::{Block, KeptLine};
+use cox_answers::{RowMaker, Workspace};
+use cox_base::MAX_RANK;
+use cox_command::{Command, Inquiry, parse};
+use cox_rows::Rows;
+use std::alloc::{AllocError, Global};
+
+/// Makes no row. Whoever asks finds those that a session has made, where it has a group, and makes what is missing.
+#[derive(Clone, Copy, Drop)]
+pub struct Beside<'a> {
+    /// What the session has.
+    pub shared: Option<&'a Workspace>,
+}
+
+impl RowMaker for Beside<'_> {
+    ghost ready = { λ _. Unit {0} };
+
+    fn make(&self, alloc: Global, rows: Rows, wanted: &[u32]) -> Rows {
+        let _ = alloc;
+        let _ = wanted;
+        rows
+    }
+
+    fn shared(&self) -> Option<&Workspace> {
+        self.shared
+    }
+}
+
+/// The commands on elements, or on the whole group, that the lines of these blocks give, where the group has this rank.
+pub fn inquiries_of(alloc: Global, blocks: &[Block], rank: u32) -> Result<Vec<Inquiry>, AllocError>
+    requires { rank ≤ MAX_RANK }
+    ensures { IfOk result (λ inquiries. All (HasLetters rank) inquiries.items) }
+{
+    let mut inquiries = Vec::new(alloc);
+    'each: for block in blocks {
+        'lines: for line in block.lines() {
+            if let Some(inquiry) = inquiry_of(line, rank) {
+                inquiries.push(inquiry)?;
+            }
+        }
+    }
+    Ok(inquiries)
+}
+
+/// The command on elements, or on the whole group, that a line gives, if it gives one.
+fn inquiry_of(line: &KeptLine, rank: u32) -> Option<Inquiry>
+    requires { rank ≤ MAX_RANK }
+    ensures { IfSome result (λ inquiry. HasLetters rank inquiry) }
+{
+    match parse(line.content(), Some(rank)) {
+        Ok(Command::Ask(inquiry)) => Some(inquiry),
+        Ok(_) => None,
+        Err(_) => None,
+    }
+}

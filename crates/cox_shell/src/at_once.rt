@@ -1,0 +1,103 @@
+//! Blocks that are answered at once, each by one thread.
+//!
+//! Each block is answered in a session of its own. What was told of the blocks is put together in their order, so it does not depend on the
+//! threads.
+ghost use Rattle.std.specs.Prelude.{◌≡◌, ◌<◌, ◌≤◌, ◌+◌, ◌^◌, false, length, IfSome};
+ghost use Rattle.std.specs.Thread.{IsSync};
+ghost use Rattle.cox_shell.specs.OpenLists.{is_long};
+ghost use Rattle.cox_shell.specs.ToldText.{IsToldOf, IsToldUnless};
+
+use crate::list::Block;
+use crate::session::Session;
+use crate::told::ToldText;
+use cox_outside::{Gate, Point};
+use std::alloc::{AllocError, Global};
+use std::sync::Wait;
+use std::thread::{Threads, join};
+
+/// What the blocks of a list are answered, which is not too long, told at once by so many threads at most. `None` where memory ran out among
+/// them.
+///
+/// The thread of each block passes the gate under the number of the block, from 1, before it begins the block.
+pub fn tell_list<R: Threads + Wait + Sync, G: Gate + Sync>(
+    rt: &R,
+    gate: &G,
+    workers: u32,
+    session: &Session,
+    alloc: Global,
+    blocks: &[Block],
+) -> Option<ToldText>
+    requires workers { 1 ≤ workers }
+    requires short { is_long blocks.now ≡ false }
+    ensures { IfSome result (λ told. IsToldOf session.now blocks.now told) }
+{
+    tell_at_once(rt, gate, session, alloc, blocks, 1, workers).ok()
+}
+
+/// What blocks are answered, told at once by so many threads at most. The first of them has the number `first`.
+fn tell_at_once<R: Threads + Wait + Sync, G: Gate + Sync>(
+    rt: &R,
+    gate: &G,
+    session: &Session,
+    alloc: Global,
+    blocks: &[Block],
+    first: u32,
+    workers: u32,
+) -> Result<ToldText, AllocError>
+    requires workers { 1 ≤ workers }
+    requires numbers { first + length blocks.now < 2 ^ 32 }
+    ensures { IsToldUnless result session.now blocks.now }
+{
+    if workers == 1 || blocks.len() < 2 {
+        return tell_by_turns(rt, gate, session, alloc, blocks, first);
+    }
+    let low = workers / 2;
+    let high = workers - low;
+    let (mine, others) = blocks.split_at(share_of(blocks.len(), low, workers));
+    let next = first + mine.len() as u32;
+    let (front, back) = join(
+        rt,
+        move || -> Result<ToldText, AllocError>
+            requires { IsSync R.row × IsSync G.row × (1 ≤ low) × (first + length mine.now < 2 ^ 32) }
+            ensures { IsToldUnless result session.entry.now mine.entry.now }
+        { tell_at_once(rt, gate, session, alloc, mine, first, low) },
+        move || -> Result<ToldText, AllocError>
+            requires { IsSync R.row × IsSync G.row × (1 ≤ high) × (next + length others.now < 2 ^ 32) }
+            ensures { IsToldUnless result session.entry.now others.entry.now }
+        { tell_at_once(rt, gate, session, alloc, others, next, high) },
+    );
+    let mut told = front?;
+    told.append(back?)?;
+    Ok(told)
+}
+
+/// How many of so many blocks fall to some of all workers, rounded up.
+fn share_of(count: usize, some: u32, all: u32) -> usize
+    requires { 1 ≤ all }
+    ensures { result ≤ count }
+{
+    let parts = count
+        .saturating_mul(some as usize)
+        .saturating_add(all as usize - 1);
+    count.min(parts / all as usize)
+}
+
+/// What blocks are answered, told by this thread one after another.
+fn tell_by_turns<R: Wait, G: Gate>(
+    rt: &R,
+    gate: &G,
+    session: &Session,
+    alloc: Global,
+    blocks: &[Block],
+    first: u32,
+) -> Result<ToldText, AllocError>
+    requires { first + length blocks.now < 2 ^ 32 }
+    ensures { IsToldUnless result session.now blocks.now }
+{
+    let mut told = ToldText::new(alloc);
+    'turns: for place in 0..blocks.len() {
+        gate.pass(rt, first + place as u32, Point::Block, 0);
+        session.tell_alone(&blocks[place], &mut told, alloc)?;
+    }
+    Ok(told)
+}

@@ -1,0 +1,5 @@
+-- The proof of `refuse`: the arguments of the run give no options.
+use Rattle.coxeter.proofs.refuse.Goals as goal
+
+pub returns : goal.returns
+returns g c = (_, c.wrong_arguments.ensures, c.run.ensures.run, c.run.ensures.reading)
