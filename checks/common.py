@@ -1,8 +1,11 @@
 """What the scripts beside this one share: which program they try, and the count of what differs."""
+import fcntl
 import os
 import re
 import subprocess
 import sys
+import termios
+import time
 
 TOP = os.path.dirname(os.path.dirname(os.path.abspath(__file__)))
 
@@ -71,3 +74,17 @@ def examples(path, marks):
             if next_mark != "text":
                 sys.exit(f"{path}:{line}: what comes out of this example?")
             yield f"{path}:{line}", mark, text, out
+
+
+def unread(descriptor):
+    """How many bytes of a pipe have not been read."""
+    return int.from_bytes(fcntl.ioctl(descriptor, termios.FIONREAD, bytes(4)), sys.byteorder)
+
+
+def peak(child):
+    """The most memory that a process has had by now, in KiB, once it has read what it was given."""
+    while unread(child.stdin.fileno()):
+        time.sleep(0.01)
+    time.sleep(0.2)
+    with open(f"/proc/{child.pid}/status", encoding="ascii") as status:
+        return next(int(line.split()[1]) for line in status if line.startswith("VmHWM"))

@@ -295,13 +295,14 @@ def group_of(line):
 
 
 def example(text):
-    """A script and what answers it, as bytes. Behind a line that is refused stands its answer, after a bar."""
+    """A script and what answers it, as bytes. Behind a line that is refused stands its answer, after a bar. `jobs`, `next` and `end` are
+    answered nothing, and the lines of a list as outside."""
     group, script, answers, ended = None, "", "", False
     for line in text.splitlines():
         line, _, refusal = line.partition(" | ")
         script += f"{line}\n"
-        ended = ended or line == "quit"
-        if ended or not line.strip():
+        ended = ended or (line == "quit" and not refusal)
+        if ended or line.strip() in ("", *(() if refusal else ("jobs", "next", "end"))):
             continue
         if refusal:
             answers += f"{refusal}\n"

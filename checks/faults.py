@@ -58,6 +58,27 @@ quit
 compute 1
 """
 
+LISTS = """\
+type A 3
+jobs
+klbasis 2132
+work 7 3
+next
+pol 4 x | error 16
+lrcells
+quit | error 10
+next
+rpol 2 12321
+interval e 2132
+end
+length 21
+jobs
+next
+pol e 2132
+next
+invpol e 121321
+"""
+
 # The name, the script, the arguments, and the usual status.
 SCRIPTS = [
     ("an interval", "type A 3\ninterval e 121321\nbetti 121321\ncoatoms 121321\ncoatoms e\n", [], DONE),
@@ -65,6 +86,7 @@ SCRIPTS = [
     ("cells and work", "type A 4\nlrcells\nwork 7 20\n", [], DONE),
     ("every command", EVERY_COMMAND, [], REFUSED),
     ("cells of B 3", "type B 3\nlrcells\n", [], DONE),
+    ("lists of jobs", LISTS, [], REFUSED),
 ]
 
 

@@ -13,10 +13,9 @@ import functools
 import os
 import subprocess
 import sys
-import termios
 import time
 
-from common import WORKERS, Count, program
+from common import WORKERS, Count, peak, program
 from definitions import Group, example, labels_of
 
 COXETER = program(sys.argv[1:])
@@ -199,20 +198,6 @@ def many_lines(workers):
 
 
 # ---- a line that does not end
-
-
-def unread(descriptor):
-    """How many bytes of a pipe have not been read."""
-    return int.from_bytes(fcntl.ioctl(descriptor, termios.FIONREAD, bytes(4)), sys.byteorder)
-
-
-def peak(child):
-    """The most memory that a process has had by now, in KiB, once it has read what it was given."""
-    while unread(child.stdin.fileno()):
-        time.sleep(0.01)
-    time.sleep(0.2)
-    with open(f"/proc/{child.pid}/status", encoding="ascii") as status:
-        return next(int(line.split()[1]) for line in status if line.startswith("VmHWM"))
 
 
 def endless_line(workers):

@@ -15,12 +15,15 @@ import subprocess
 from common import TOP, Count, program
 from definitions import Group, labels_of
 
-# Whole groups, whose rows several workers share; single rows, dealt out as chains; rows that are kept from line to line; and refusals.
+# Whole groups, whose rows several workers share; single rows, dealt out as chains; rows that are kept from line to line; refusals; and
+# lists of jobs, whose blocks are answered at once.
 SCRIPTS = [
     "type A 4\nlrcells\nwork 7 20\n",
     "type B 3\nklbasis 123212\nlcells\npol e 321323\ninvpol 2 321323\nrwgraph\nextremals 12321\n",
     "matrix 3 3 3 3\nklbasis 123123123\nmu 1 123123\ninvpol e 12312312\nihbetti 321321321\nlcells\n"
     "type D 4\ninvpol e 123412341234\nlrcells\npol 3 3431234\n",
+    "type A 4\njobs\nlrcells\nnext\nklbasis 2132\npol e 12321\nnext\nwork 7 20\ninterval e 1234\nnext\ninvpol e 12321\ncert 2132\nmodule 2\n"
+    "next\nfoo\nquit\nrpol 2 12321\nend\nmu 2 2132\njobs\nklbasis 123412\nnext\nlcells\nnext\nihbetti 4321\n",
 ]
 
 
