@@ -3,6 +3,7 @@ from .certificates import Verdict, check
 from .errors import (
     CheckFailed,
     CoxeterError,
+    JobRefusal,
     ProgramClosed,
     ProgramEnded,
     ProgramError,
@@ -10,22 +11,28 @@ from .errors import (
     Refusal,
     UnexpectedAnswer,
 )
-from .graphs import HasseDiagram, Vertex, WGraph
+from .graphs import CellOrder, HasseDiagram, Vertex, WGraph
 from .group import CoxeterGroup, Work
+from .jobs import Answers
 from .modules import CellModule
 from .polynomial import Polynomial
 from .program import Program, find_program
-from .tables import Cells, ElementDict, Table
+from .schubert import SchubertVariety
+from .tables import Cells, ElementDict, PairDict, Table
 from .texts import gap
 
 __all__ = [
+    "Answers",
     "CellModule",
+    "CellOrder",
     "Cells",
     "CheckFailed",
     "CoxeterError",
     "CoxeterGroup",
     "ElementDict",
     "HasseDiagram",
+    "JobRefusal",
+    "PairDict",
     "Polynomial",
     "Program",
     "ProgramClosed",
@@ -33,6 +40,7 @@ __all__ = [
     "ProgramError",
     "ProgramNotFound",
     "Refusal",
+    "SchubertVariety",
     "Table",
     "UnexpectedAnswer",
     "Verdict",

@@ -23,6 +23,14 @@ class Elements:
         """
         return [list(row) for row in self._matrix]
 
+    def is_simply_laced(self):
+        """Whether all labels of the Coxeter matrix are 2 and 3, as in types A, D and E.
+
+        >>> CoxeterGroup("D", 4).is_simply_laced(), CoxeterGroup("B", 3).is_simply_laced()
+        (True, False)
+        """
+        return all(label in (1, 2, 3) for row in self._matrix for label in row)
+
     def is_finite(self):
         """Whether the group is finite.
 

@@ -51,6 +51,18 @@ class Refusal(CoxeterError):
         return f"error {self.number}: {self.meaning} (the line was {shown(self.line)})"
 
 
+class JobRefusal(Refusal):
+    """The program refused a line of a list of jobs. `block` is the number of its block and `index` that of the line in it, both from 0."""
+
+    def __init__(self, number, line, block, index):
+        super().__init__(number, line)
+        self.args = number, line, block, index
+        self.block, self.index = block, index
+
+    def __str__(self):
+        return f"{super().__str__()[:-1]}, line {self.index} of block {self.block}, both from 0)"
+
+
 class ProgramNotFound(CoxeterError):
     """There is no program to drive."""
 

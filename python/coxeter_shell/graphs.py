@@ -1,4 +1,4 @@
-"""W-graphs, and Hasse diagrams of intervals."""
+"""W-graphs, Hasse diagrams of intervals, and the order of cells."""
 import collections
 
 from . import drawing, pictures
@@ -93,6 +93,21 @@ class WGraph(Drawn, Table):
                 if not descents[element] <= descents[other]:
                     yield element, other, value
 
+    def part(self, elements):
+        """The part of the graph that has these elements alone, and the edges between them.
+
+        >>> CoxeterGroup("A", 2).W_graph().part(["1", "21"])["21"].edges
+        {(1,): 1}
+        """
+        keys = {self.vertices._key(it) for it in elements}
+        found = []
+        for x in keys:
+            vertex = self.vertices[x]
+            edges = ((y, value) for y, value in vertex.edges.items() if y in keys)
+            found.append(vertex._replace(edges=ElementDict(self.group, edges, "mu")))
+        found.sort(key=lambda vertex: (len(vertex.element), vertex.element))
+        return WGraph(self.group, self.side, found)
+
     def rows(self):
         descents = {element: vertex.descents for element, vertex in self.vertices.items()}
         return ((x, descents[x], y, descents[y], value) for x, y, value in self.edges())
@@ -186,4 +201,117 @@ class HasseDiagram(Drawn, ElementDict):
         graph = networkx.DiGraph()
         graph.add_nodes_from(self)
         graph.add_edges_from((z, x) for x, z in self.edges())
+        return graph
+
+
+class CellOrder(Drawn, Table):
+    """The order of the left, right or two-sided cells of a finite group. Each cell has the name of its first element.
+
+    `cells` is a dictionary from the names to the lists of elements. x <= y where chains of steps of the W-graph lead from x to y (Kazhdan
+    and Lusztig 1979), so that the cell of the identity is the greatest. As a table, and as a graph, it has the pairs of a cell and one that
+    it covers.
+
+    >>> order = CoxeterGroup("A", 2).cell_order()
+    >>> list(order), order.le("12", "e"), order.le("1", "2")
+    ([(), (1,), (2,), (1, 2, 1)], True, False)
+    """
+
+    columns = "cell", "covered"
+
+    def __init__(self, group, side, cells, steps):
+        self.group, self.side = group, side
+        self.cells = ElementDict(group, ((cell[0], cell) for cell in cells), "cell")
+        self._names = ElementDict(group, ((x, cell[0]) for cell in cells for x in cell), "cell")
+        self._below = self._closed(steps)
+
+    def _closed(self, steps):
+        """For each cell the set of the cells below it, and itself. Cells that are below each other are a ValueError."""
+        next_lower = {name: set() for name in self.cells}
+        for x, y, _ in steps:
+            if self._names[x] != self._names[y]:
+                next_lower[self._names[y]].add(self._names[x])
+        below = {}
+        for name in self.cells:
+            path = [name]
+            while path:
+                at = path[-1]
+                left = [it for it in next_lower[at] if it not in below]
+                if set(left) & set(path):
+                    raise ValueError("its cells should be the strong components of the steps")
+                if left:
+                    path.append(left[0])
+                else:
+                    below[at] = {at}.union(*(below[it] for it in next_lower[at]))
+                    path.pop()
+        return below
+
+    def __repr__(self):
+        return f"<the order of {len(self.cells)} {self.side} cells>"
+
+    def __len__(self):
+        return len(self.cells)
+
+    def __iter__(self):
+        return iter(self.cells)
+
+    def __contains__(self, word):
+        return word in self._names
+
+    def __getitem__(self, word):
+        """The cell of an element.
+
+        >>> CoxeterGroup("A", 2).cell_order()["21"]
+        [(1,), (2, 1)]
+        """
+        return self.cells[self._names[word]]
+
+    def le(self, x, y):
+        """Whether the cell of x is the cell of y, or below it.
+
+        >>> order = CoxeterGroup("A", 2).cell_order("two-sided")
+        >>> order.le("1", "2"), order.le("121", "1"), order.le("e", "1")
+        (True, True, False)
+        """
+        return self._names[x] in self._below[self._names[y]]
+
+    def edges(self):
+        """The pairs of a cell and one that it covers, by their first elements.
+
+        >>> list(CoxeterGroup("A", 2).cell_order().edges())
+        [((), (1,)), ((), (2,)), ((1,), (1, 2, 1)), ((2,), (1, 2, 1))]
+        """
+        for name in self.cells:
+            below = self._below[name] - {name}
+            further = set().union(*(self._below[it] - {it} for it in below))
+            yield from ((name, it) for it in self.cells if it in below and it not in further)
+
+    def rows(self):
+        return self.edges()
+
+    def dot(self):
+        """The order as a DOT text. The label of a cell has the number of its elements in its second line."""
+        return pictures.cell_order_text(self)
+
+    def layers(self):
+        height, rows = {}, []
+        for name in sorted(self.cells, key=lambda it: len(self._below[it])):
+            height[name] = max((height[it] + 1 for it in self._below[name] - {name}), default=0)
+            rows += [[]] * (height[name] == len(rows))
+            text = self.group.text(name)
+            rows[height[name]] = [*rows[height[name]], (text, f"{text} {{{len(self.cells[name])}}}")]
+        return rows, [(self.group.text(y), self.group.text(x), "") for x, y in self.edges()]
+
+    def sage(self):
+        """The same as a poset of Sage. It needs Sage."""
+        from sage.all import Poset
+
+        return Poset((list(self), [[y, x] for x, y in self.edges()]), cover_relations=True)
+
+    def networkx(self):
+        """The same as a directed graph of networkx, whose edges go up; nodes have an attribute `cell`. It needs networkx."""
+        import networkx
+
+        graph = networkx.DiGraph(side=self.side)
+        graph.add_nodes_from((name, {"cell": cell}) for name, cell in self.cells.items())
+        graph.add_edges_from((y, x) for x, y in self.edges())
         return graph

@@ -4,12 +4,15 @@ import operator
 import re
 
 from . import certificates, kinds, progress, texts
+from .cells import CellTheory
 from .elements import Elements
 from .graphs import HasseDiagram, Vertex, WGraph
+from .jobs import Jobs
 from .many import Many
 from .modules import CellModule
 from .polynomial import Polynomial
 from .program import Program
+from .schubert import Schubert
 from .tables import Cells, ElementDict
 
 SIDES = ("left", "right")
@@ -18,7 +21,7 @@ Work = collections.namedtuple("Work", "words entries degree sum")
 Work.__doc__ = "The answer to `work`: numbers of words and of polynomials, the largest degree, the sum of the coefficients."
 
 
-class CoxeterGroup(Elements, Many):
+class CoxeterGroup(Elements, CellTheory, Schubert, Many, Jobs):
     """A Coxeter group, by its type, by its Coxeter matrix, or by a Cartan type, Coxeter matrix or group of Sage.
 
     >>> CoxeterGroup("A", 3) == CoxeterGroup("A 3") == CoxeterGroup("A3") == CoxeterGroup(["A", 3])
@@ -47,8 +50,10 @@ class CoxeterGroup(Elements, Many):
         self._letters = range(1, self.rank + 1)
         self._spelling = texts.Spelling(self.rank)
         self._progress = progress
-        # What is worked out once: the longest element, the reflections, and cosets for random elements.
+        # What is worked out once: the longest element, the reflections, cosets for random elements; the kinds of cells, and for the
+        # first element of each left cell the a-value and the Duflo involution.
         self._long = self._reflections = self._cosets = None
+        self._cells, self._a_values = {}, {}
         # The group of Sage, and the one that elements came from last.
         self._sage_group = kind if hasattr(kind, "from_reduced_word") else None
         self._parent = self._parent_letters = None

@@ -56,6 +56,14 @@ def w_graph_text(graph):
     return dot("wgraph", lines + edges(graph))
 
 
+def cell_order_text(order):
+    """The order of cells as a DOT text. The second line of a label has the number of the elements."""
+    group, lines = order.group, ["rankdir=BT", "node [shape=plaintext]"]
+    for x, cell in order.cells.items():
+        lines.append(f'{name(group, x)} [label="{group.text(x)}\\n{{{len(cell)}}}"]')
+    return dot("cells", lines + [f"{name(group, y)} -- {name(group, x)}" for x, y in order.edges()])
+
+
 def name(group, element):
     """An element as a node of DOT: its normal form."""
     return f'"{group.text(element)}"'

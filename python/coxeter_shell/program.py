@@ -5,9 +5,12 @@ single TAB. The program answers `error 19` to it, whatever the group is and whet
 stand in a line, and nothing but the length of a line is judged before that. No question has this answer, since a line
 with such a character is refused here and never sent. So the lines before `error 19` are the answer to the question:
 none where `type` or `matrix` was accepted, one line `error N` where the question was refused, else a line or a list.
+
+In a list of jobs a mark stands behind each line, and is answered as it is elsewhere, since it is a line of its block.
 """
 import collections
 import importlib.metadata
+import itertools
 import json
 import os
 import re
@@ -28,9 +31,18 @@ MARK_ANSWER = "error 19"
 MOST_OF_LINE = 4096
 MOST_OF_INPUT = 16_777_216
 
+# The most blocks of a list of jobs, and the most lines of them all. The lines that part a list are no lines of its blocks.
+MOST_OF_BLOCKS = 16
+MOST_OF_JOBS = 1000
+PARTS = (["next"], ["end"])
+TOO_LONG = "error 35"
+
 # The most letters of a word, and the most members of an interval where the option `context` says nothing else.
 MOST_OF_WORD = 255
 MOST_OF_CONTEXT = 1_048_576
+
+# What is sent besides a question: the mark behind it, and the empty list before a list.
+ROOM = len(f"jobs\nend\n{MARK}\n\n{MARK}\n")
 
 OPTIONS = ("workers", "context", "roots", "coef")
 
@@ -66,6 +78,7 @@ class Program:
         self._sent = 0  # bytes
         self._asked = ""  # the last question
         self._unread = None  # a weak reference to its answer, until that is read to its end
+        self._marks = 0  # so many are still to come then
         # Whether the group is set, and whether it is known what comes next from the process: an interrupt may come anywhere.
         self._begun = self._sure = False
 
@@ -85,14 +98,48 @@ class Program:
                 self.group = line
             return answer
 
-    def start(self):
-        """Starts the process and sets the group, unless a process is there that can take one more question."""
+    def ask_list(self, blocks):
+        """The answers to the lines of some blocks, which are asked as a list of jobs: for each block the list of the answers to its
+        lines, each as its lines. A refusal is the one line `error N` there.
+
+        There may be 16 blocks, and 500 lines in them all: the marks behind the lines are lines too. Else the list is refused by 35.
+
+        >>> with Program(group="type A 3") as program:
+        ...     program.ask_list([["coatoms 121", "length 4"], ["pol 2 2132"]])
+        [[['2', '12', '21'], ['error 16']], [['1+q']]]
+        """
+        blocks = list(map(list, blocks))
+        parts = []
+        for block in blocks:
+            for line in block:
+                if check_characters(line) in PARTS:
+                    raise ValueError(f"{line!r} parts the blocks of a list, and is no line of one")
+            parts.append("".join(f"{line}\n{MARK}\n" for line in block))
+        text = "jobs\n" + "next\n".join(parts) + "end"
+        with self._lock:
+            self.start(len(text))
+            # Without a group, or in a program that has no lists, each line would be answered before the next is read. So an empty
+            # list is tried first, which has no answer.
+            [said] = self._exchange("jobs\nend", 1)
+            if said:
+                number = self.refusal(said[:1], "jobs")
+                if number is None:
+                    self.unexpected("jobs", said, "nothing should have come")
+                raise Refusal(number, "jobs")
+            *answers, said = self._exchange(text, sum(map(len, blocks)) + 1)
+            if said:
+                self.unexpected("jobs", said, "the list should have as many answers as lines")
+        left = iter(answers)
+        return [list(itertools.islice(left, len(block))) for block in blocks]
+
+    def start(self, size=MOST_OF_LINE):
+        """Starts the process and sets the group, unless a process is there that can take one more question of this size."""
         with self._lock:
             if self._process is not None and (self.foreign() or not self._begun or not self._sure):
                 self.close()
             if self._process is not None:
                 self._read_rest()
-                if self._sent + MOST_OF_LINE + len("\n" + MARK + "\n") > MOST_OF_INPUT:
+                if self._sent + size + ROOM > MOST_OF_INPUT:
                     self.close()
             if self._process is None:
                 self._spawn()
@@ -149,11 +196,36 @@ class Program:
 
     def _question(self, line):
         """Sends a question and the mark behind it. Reads the first line of the answer, and raises it if it's a refusal."""
-        data = f"{line}\n{MARK}\n".encode("ascii")
         answer = Answer(self, line)
+        self._send(line, answer)
+        answer.begin()
+        return answer
+
+    def _exchange(self, text, marks):
+        """Sends lines, the first of which is `jobs`, and gives what comes before each of so many marks."""
+        answer = Answer(self, "jobs")
+        self._send(text, answer, marks)
+        found = []
+        while len(found) < marks:
+            lines, line = [], self.read_line(first=not found)
+            while line is not None:
+                lines.append(line)
+                line = self.read_line()
+            found.append(lines)
+            if found == [[TOO_LONG]]:
+                # The list as a whole is refused, and no other mark comes.
+                self._unread = None
+                raise Refusal(35, "jobs")
+        return found
+
+    def _send(self, text, answer, marks=1):
+        """Sends lines and a mark behind them. What comes up to the last of so many marks is the answer."""
+        data = f"{text}\n{MARK}\n".encode("ascii")
+        line = answer.line
         self._sure = False
         self._asked = line
         self._unread = weakref.ref(answer)
+        self._marks = marks
         self._sent += len(data)
         try:
             self._process.stdin.write(data)
@@ -167,8 +239,6 @@ class Program:
             self._kill()
             raise
         self._sure = True
-        answer.begin()
-        return answer
 
     def _told(self, line):
         """What a process wrote that ended before its first question: the usage line, if its options are wrong."""
@@ -186,12 +256,11 @@ class Program:
         answer = self._unread and self._unread()
         if answer is not None:
             answer.keep_rest()
-        elif self._unread is not None:
-            while self.read_line() is not None:
-                pass
+        while self._unread is not None:
+            self.read_line()
 
     def read_line(self, first=False):
-        """The next line of the answer to the last question, None at its end."""
+        """The next line of the answer to the last question, None at a mark, and at its end."""
         if self._unread is None:
             return None
         question, self._sure = self._asked, False
@@ -210,7 +279,9 @@ class Program:
         if not re.fullmatch("[ -~]+", line):
             self.unexpected(question, line, "a line should be of printing ASCII characters and spaces")
         if line == MARK_ANSWER:
-            self._unread = line = None
+            self._marks, line = self._marks - 1, None
+            if not self._marks:
+                self._unread = None
         self._sure = True
         return line
 
@@ -219,6 +290,15 @@ class Program:
         if self._process is not None:
             self._process.kill()
             self._stop()
+
+    def refusal(self, lines, question):
+        """The number of the refusal that the lines of an answer are, None where they are another answer."""
+        if not lines or not lines[0].startswith("error"):
+            return None
+        found = re.fullmatch("error ([1-9][0-9])", lines[0])
+        if found is None or len(lines) > 1:
+            self.unexpected(question, lines, "a refusal should be one line, `error` and a number")
+        return int(found.group(1))
 
     def unexpected(self, question, answer, why):
         """Ends the process, since its answers can't be trusted, and raises the error."""
@@ -249,12 +329,8 @@ class Answer:
         if not first.startswith("error"):
             self._kept.append(first)
             return
-        refused = re.fullmatch("error ([1-9][0-9])", first)
         more = self._read()
-        if refused is None or more is not None:
-            lines = [first] if more is None else [first, more]
-            self._program.unexpected(self.line, lines, "a refusal should be one line, `error` and a number")
-        raise Refusal(int(refused.group(1)), self.line)
+        raise Refusal(self._program.refusal([first] if more is None else [first, more], self.line), self.line)
 
     def _read(self, first=False):
         """The next line from the program, None at the end."""
@@ -284,15 +360,22 @@ class Answer:
 
 
 def check_line(line):
-    """The parts of a line. Refuses what may not be sent, by the numbers that the program would refuse it by."""
+    """The parts of a line. Refuses what may not be sent."""
+    words = check_characters(line)
+    if words == ["quit"]:
+        raise ValueError("`quit` ends the program before it answers: use close()")
+    if words == ["jobs"]:
+        raise ValueError("`jobs` is not answered before its list ends: use jobs(..), or ask_list(..) of a program")
+    return words
+
+
+def check_characters(line):
+    """The parts of a line. Refuses one that is too long, or has a wrong byte, by the number that the program would refuse it by."""
     if len(line.encode("utf-8", "surrogatepass")) > MOST_OF_LINE:
         raise Refusal(18, line)
     if not re.fullmatch("[ -~]*", line):
         raise Refusal(19, line)
-    words = line.split()
-    if words == ["quit"]:
-        raise ValueError("`quit` ends the program before it answers: use close()")
-    return words
+    return line.split()
 
 
 def check_interpreter(path):

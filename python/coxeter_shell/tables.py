@@ -107,6 +107,30 @@ class ElementDict(Table, dict):
         return type(self), (self.group, dict(self), self.value)
 
 
+class PairDict(ElementDict):
+    """A dictionary whose keys are pairs of elements. Any words of the two find the value.
+
+    >>> table = CoxeterGroup("A", 3).mu_table()
+    >>> table["2", "2312"], table.get(("e", "1"), 0)
+    (1, 0)
+    """
+
+    __slots__ = ()
+
+    @property
+    def columns(self):
+        return "x", "w", self.value
+
+    def rows(self):
+        return ((x, w, value) for (x, w), value in self.items())
+
+    def _key(self, words):
+        x, w = (word if isinstance(word, tuple) else self.group.normal_form(word) for word in words)
+        if dict.__contains__(self, (x, w)):
+            return x, w
+        return self.group.normal_form(x), self.group.normal_form(w)
+
+
 class Cells(Table, list):
     """The cells of a group: a list of lists of elements.
 

@@ -112,6 +112,151 @@ def mu(x, w):
     return p[distance // 2] if len(p) > distance // 2 else 0
 
 
+# ---- parabolic polynomials
+
+
+def is_shortest(w, letters):
+    """Whether w is the shortest element of its coset wW_J, where J are these letters."""
+    return not set(letters) & set(right_descents(w))
+
+
+@functools.lru_cache(None)
+def parabolic_r_polynomial(u, v, letters, kind):
+    """Deodhar's R(u, v) for the cosets of W_J, by his recursion. The kind is a polynomial: q or -1."""
+    if not below(u, v):
+        return ()
+    if u == v:
+        return (1,)
+    s = left_descents(v)[0]
+    su, sv = left(u, s), left(v, s)
+    if s in left_descents(u):
+        return parabolic_r_polynomial(su, sv, letters, kind)
+    shorter = parabolic_r_polynomial(u, sv, letters, kind)
+    if is_shortest(su, letters):
+        return plus(times((-1, 1), shorter), parabolic_r_polynomial(su, sv, letters, kind), 1, 1)
+    return times(plus((-1, 1), kind, -1), shorter)
+
+
+@functools.lru_cache(None)
+def parabolic_polynomial(u, v, letters, kind):
+    """Deodhar's P(u, v), by its definition: as `polynomial`, over the shortest elements of cosets alone."""
+    if not below(u, v):
+        return ()
+    if u == v:
+        return (1,)
+    total = ()
+    for z in group(len(v) - 1):
+        if z != u and is_shortest(z, letters) and below(u, z) and below(z, v):
+            r = parabolic_r_polynomial(u, z, letters, kind)
+            total = plus(total, times(r, parabolic_polynomial(z, v, letters, kind)))
+    distance = length(v) - length(u)
+    found = plus((), [-it for it in total[: (distance - 1) // 2 + 1]])
+    reverse = plus((), [0] * (distance - len(found) + 1) + list(reversed(found)))
+    assert plus(reverse, found, -1) == total
+    return found
+
+
+# ---- Schubert varieties
+
+
+def has_pattern(w, pattern):
+    """Whether some values of w, in their order, are in the relative order of the pattern."""
+    return any(
+        all((part[i] < part[j]) == (pattern[i] < pattern[j]) for i, j in itertools.combinations(range(len(pattern)), 2))
+        for part in itertools.combinations(w, len(pattern))
+    )
+
+
+def is_smooth(w):
+    """Whether the Schubert variety of w is smooth: w avoids the patterns 3412 and 4231 (Lakshmibai and Sandhya 1990)."""
+    return not has_pattern(w, (3, 4, 1, 2)) and not has_pattern(w, (4, 2, 3, 1))
+
+
+def is_smooth_at(w, x):
+    """Whether it is smooth at x: the dimension of its tangent space there, which is the number of the transpositions t with xt <= w, is
+    l(w) (Lakshmibai and Seshadri 1984)."""
+    count = 0
+    for i, j in itertools.combinations(range(len(x)), 2):
+        values = list(x)
+        values[i], values[j] = values[j], values[i]
+        count += below(tuple(values), w)
+    return count == length(w)
+
+
+# ---- a-values and characters
+
+
+def a_values(n):
+    """Lusztig's function a on A n by its definition: the greatest degree in v of the coefficient of C(z) in a product C(x) C(y) of elements
+    of the Kazhdan-Lusztig basis. These coefficients are polynomials in v + 1/v, and have the same degree in it."""
+    elements = list(group(n))
+    below_by = {}
+    for s, w in itertools.product(range(1, n + 1), elements):
+        below_by[s, w] = [(z, mu(z, w)) for z in elements if s in left_descents(z) and mu(z, w)]
+
+    def add(vector, other, factor):
+        for z, p in other.items():
+            vector[z] = plus(vector.get(z, ()), times(p, factor))
+
+    def by_letter(s, vector):
+        """C(s) times a combination of basis elements."""
+        found = {}
+        for w, p in vector.items():
+            if s in left_descents(w):
+                add(found, {w: p}, (0, 1))
+            else:
+                add(found, {left(w, s): p}, (1,))
+                add(found, {z: times(p, (value,)) for z, value in below_by[s, w]}, (1,))
+        return found
+
+    greatest = dict.fromkeys(elements, 0)
+    for y in elements:
+        products = {elements[0]: {y: (1,)}}
+        for x in elements[1:]:
+            s = left_descents(x)[0]
+            shorter = left(x, s)
+            product = by_letter(s, products[shorter])
+            for z, value in below_by[s, shorter]:
+                add(product, products[z], (-value,))
+            products[x] = product
+            for z, p in product.items():
+                greatest[z] = max(greatest[z], len(p) - 1)
+    return greatest
+
+
+def partitions(n, most=None):
+    """The partitions of n with parts of at most this."""
+    if n == 0:
+        yield ()
+    for part in range(min(n, most or n), 0, -1):
+        for rest in partitions(n - part, part):
+            yield (part, *rest)
+
+
+def character(shape, cycles):
+    """The value of the irreducible character of a shape on permutations with these cycles, by the rule of Murnaghan and Nakayama: rim hooks
+    are taken away, each of the length of a cycle."""
+    if not cycles:
+        return 1
+    hook, total = cycles[0], 0
+    beads = [part + len(shape) - 1 - k for k, part in enumerate(shape)]
+    for bead in beads:
+        if bead >= hook and bead - hook not in beads:
+            over = sum(bead - hook < other < bead for other in beads)
+            moved = sorted([bead - hook, *(other for other in beads if other != bead)], reverse=True)
+            total += (-1) ** over * character(tuple(it - len(moved) + 1 + k for k, it in enumerate(moved)), cycles[1:])
+    return total
+
+
+def word_with_cycles(cycles):
+    """A word of a permutation with these lengths of cycles."""
+    word, first = [], 1
+    for size in cycles:
+        word += range(first, first + size - 1)
+        first += size
+    return word
+
+
 class Group:
     """A n: its elements in ShortLex order of their normal forms. `words` has the normal form of each."""
 
@@ -186,3 +331,8 @@ def tableaux(w):
             rows.append([value])
             recording.append([place])
     return tuple(map(tuple, rows)), tuple(map(tuple, recording))
+
+
+def shape(w):
+    """The shape of the two tableaux."""
+    return tuple(map(len, tableaux(w)[0]))

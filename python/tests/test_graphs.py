@@ -58,6 +58,10 @@ class Graphs(unittest.TestCase):
                 self.assertEqual(modules["networkx"].Graph.call_args[1], {"side": "left"})
                 made = group.hasse_diagram("e", "1").networkx()
                 self.assertEqual(list(made.add_edges_from.call_args[0][0]), [((), (1,))])
+                made = group.cell_order("right").networkx()
+                self.assertEqual(modules["networkx"].DiGraph.call_args[1], {"side": "right"})
+                self.assertEqual(list(made.add_nodes_from.call_args[0][0]), [((), {"cell": [()]}), ((1,), {"cell": [(1,)]})])
+                self.assertEqual(list(made.add_edges_from.call_args[0][0]), [((1,), ())])
 
     def test_sage(self):
         """What Sage is asked for. Without Sage it is an ImportError."""
@@ -74,11 +78,13 @@ class Graphs(unittest.TestCase):
                 self.assertEqual(made.set_vertices.call_args[0], ({(): (), (1,): (1,)},))
                 group.hasse_diagram("e", "1").sage()
                 self.assertEqual(stub.Poset.call_args[0], (([(), (1,)], [[(), (1,)]]),))
+                group.cell_order().sage()
+                self.assertEqual(stub.Poset.call_args, unittest.mock.call(([(), (1,)], [[(1,), ()]]), cover_relations=True))
                 ring = unittest.mock.MagicMock()
                 self.assertIs(Polynomial([1, 0, 2])._polynomial_(ring), ring.return_value)
                 self.assertEqual(ring.call_args[0], ([1, 0, 2],))
             with unittest.mock.patch.dict(sys.modules, {"sage": None, "sage.all": None}):
-                for call in (Polynomial([1]).sage, group.W_graph().sage, group.sage):
+                for call in (Polynomial([1]).sage, group.W_graph().sage, group.cell_order().sage, group.sage):
                     with self.assertRaises(ImportError):
                         call()
 

@@ -37,6 +37,14 @@ class Networkx(unittest.TestCase):
             steps.add_edges_from(it[:2] for it in graph.steps())
             found = set(map(frozenset, networkx.strongly_connected_components(steps)))
             self.assertEqual(found, set(map(frozenset, group.left_cells())))
+            # Their order is what the steps give, and its covers are those that no other chain gives.
+            order, whole = group.cell_order().networkx(), networkx.condensation(steps)
+            names = {number: min(members, key=lambda x: (len(x), x)) for number, members in whole.nodes(data="members")}
+            covers = {(names[x], names[y]) for x, y in networkx.transitive_reduction(whole).edges()}
+            self.assertEqual(set(order.edges()), covers)
+            members = {names[it]: whole.nodes[it]["members"] for it in whole}
+            self.assertEqual({x: set(cell) for x, cell in order.nodes(data="cell")}, members)
+            self.assertEqual(order.graph["side"], "left")
             # Bruhat intervals are graded, and their Möbius function has the values 1 and -1 (Verma): so there are as many
             # elements of even as of odd length.
             diagram = group.hasse_diagram("1", "12321").networkx()
@@ -218,6 +226,10 @@ class Sage(unittest.TestCase):
             self.assertEqual((graph.order(), graph.get_vertex((1, 3))), (24, (1, 3)))
             poset = group.hasse_diagram("e", "2132").sage()
             self.assertEqual((poset.cardinality(), poset.is_eulerian()), (14, True))
+            order = group.cell_order()
+            poset = order.sage()
+            self.assertEqual((poset.cardinality(), poset.top(), poset.bottom()), (10, (), group.long_element()))
+            self.assertTrue(all(poset.is_lequal(x, y) == order.le(x, y) for x in order for y in order))
 
 
 if __name__ == "__main__":

@@ -202,11 +202,13 @@ class Life(unittest.TestCase):
                         for _ in range(20):
                             group.length("21321")
                             group.bruhat_interval("e", "12321")
+                            group.jobs([["length 21321"], ["coatoms 121", "length 12"]])
                             next(group.iter_left_cells())
                         signal.setitimer(signal.ITIMER_REAL, 0)
                     except KeyboardInterrupt:
                         count += 1
                     self.assertEqual((group.length(word), len(group.left_cells())), (number % 4, 10))
+                    self.assertEqual(group.jobs([[f"length {word}"], ["length 12"]]), [[[str(number % 4)]], [["2"]]])
         finally:
             signal.signal(signal.SIGALRM, before)
         self.assertGreater(count, 100)

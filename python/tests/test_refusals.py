@@ -106,6 +106,9 @@ class Refusals(unittest.TestCase):
             self.refused(14, program.ask, "matrix 2 5")
             self.assertEqual(program.ask("length 123"), ["3"])
             self.refused(19, program.ask, "\t")
+            for blocks in ([[]] * 17, [["length 1"] * 501], [["length 1"] * 250, ["length 1"] * 251]):
+                self.refused(35, program.ask_list, blocks)
+                self.assertEqual(program.ask("length 123"), ["3"])
         self.assertEqual(self.seen, set(MEANINGS))
 
     def test_those_not_sent(self):

@@ -1,0 +1,97 @@
+"""Lists of jobs: many lines at once, in blocks, which the program may answer side by side."""
+import collections
+import itertools
+import operator
+
+from . import progress
+from .errors import JobRefusal, Refusal
+from .program import MOST_OF_BLOCKS, MOST_OF_JOBS, PARTS, check_characters
+
+# So many lines of blocks fit into a list, since each has a mark behind it.
+MOST_OF_LINES = MOST_OF_JOBS // 2
+
+Job = collections.namedtuple("Job", "block index line")
+
+
+class Answers(list):
+    """The answers to some blocks: for each block a list, with the lines of the answer to each of its lines, or a JobRefusal.
+
+    >>> answers = CoxeterGroup("A", 3).jobs([["pol 2 2132", "length 4"], ["coatoms 121"]])
+    >>> answers[0][0], answers[1][0], [(it.block, it.index, it.number) for it in answers.refusals]
+    (['1+q'], ['2', '12', '21'], [(0, 1, 16)])
+    """
+
+    @property
+    def refusals(self):
+        """The refused lines, in their order."""
+        return [answer for block in self for answer in block if isinstance(answer, Refusal)]
+
+
+class Jobs:
+    """The methods of a group that ask lines in blocks."""
+
+    def jobs(self, blocks):
+        """The answers to the lines of some blocks, which are lists of lines as the program reads them: for each block a list, with the
+        lines of each answer. A line that is refused does not cost the other answers: a JobRefusal stands in the place of its own, and
+        tells which block and which line it is. `.refusals` of the answers has them all.
+
+        The program is given as many blocks at once as it takes, by its commands `jobs`, `next` and `end`. It answers each line as it
+        would alone.
+
+        >>> CoxeterGroup("A", 3).jobs([["pol 2 2132", "mu 2 2132"], ["interval 12 1232"], []])
+        [[['1+q'], ['1']], [['4', '12', '123', '132', '1232']], []]
+        """
+        return Answers(self.iter_jobs(blocks))
+
+    def iter_jobs(self, blocks):
+        """The same block by block.
+
+        >>> next(CoxeterGroup("A", 3).iter_jobs([["length 12", "length 1"], ["length 123"]]))
+        [['2'], ['1']]
+        """
+        blocks = [read_block(number, block) for number, block in enumerate(blocks)]
+        found = self._job_answers(blocks)
+        return progress.shown(found, len(blocks), "jobs") if self._watch() else found
+
+    def _job_answers(self, blocks):
+        answers = [[line if isinstance(line, Refusal) else None for line in block] for block in blocks]
+        asked = [Job(b, k, blocks[b][k]) for b, block in enumerate(answers) for k, answer in enumerate(block) if answer is None]
+        done = 0
+        for some in lists(asked):
+            # The blocks before the first one that is asked for now have all their answers.
+            yield from answers[done : some[0].block]
+            done = some[0].block
+            pieces = [list(it) for _, it in itertools.groupby(some, operator.attrgetter("block"))]
+            found = self.program.ask_list([[job.line for job in piece] for piece in pieces])
+            for job, lines in zip(some, itertools.chain.from_iterable(found)):
+                number = self.program.refusal(lines, job.line)
+                answers[job.block][job.index] = lines if number is None else JobRefusal(number, job.line, job.block, job.index)
+        yield from answers[done:]
+
+
+def read_block(number, block):
+    """The lines of a block. In the place of one that may not be sent stands its refusal."""
+    if isinstance(block, str):
+        raise TypeError("a block is a list of lines, and no text")
+    lines = []
+    for index, line in enumerate(block):
+        try:
+            if check_characters(line) in PARTS:
+                raise ValueError(f"{line!r} parts the blocks of a list, and is no line of one")
+        except Refusal as refusal:
+            line = JobRefusal(refusal.number, line, number, index)
+        lines.append(line)
+    return lines
+
+
+def lists(jobs):
+    """The same jobs in parts of as many blocks and lines as a list may have."""
+    some, blocks = [], set()
+    for job in jobs:
+        blocks.add(job.block)
+        if len(some) == MOST_OF_LINES or len(blocks) > MOST_OF_BLOCKS:
+            yield some
+            some, blocks = [], {job.block}
+        some.append(job)
+    if some:
+        yield some
