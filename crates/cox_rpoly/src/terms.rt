@@ -12,7 +12,7 @@ use std::alloc::Global;
 pub const TERMS: usize = MAX_DIFFERENCE + 1;
 
 /// The coefficients of q^0, q^1, ..
-pub type Terms = [i64; TERMS];
+pub(crate) type Terms = [i64; TERMS];
 
 /// Where the value R(x,su) comes from, among the values R(y,u).
 #[derive(Clone, Copy)]
@@ -24,14 +24,14 @@ pub(crate) enum Link {
 }
 
 /// The polynomial 0.
-pub fn zero() -> Terms
+fn zero() -> Terms
     ensures { (k : ℕ) → coefficient result k ≡ zero_polynomial k }
 {
     [0; TERMS]
 }
 
 /// The polynomial 1.
-pub fn one() -> Terms
+fn one() -> Terms
     ensures { (k : ℕ) → coefficient result k ≡ one_polynomial k }
 {
     let mut terms = [0; TERMS];
@@ -77,7 +77,7 @@ fn linked(link: Link, next: &[Terms]) -> Terms
 }
 
 /// (q - 1) f + q h, of a degree of at most [`MAX_DIFFERENCE`] too.
-pub fn combined(f: &Terms, h: &Terms) -> Terms
+fn combined(f: &Terms, h: &Terms) -> Terms
     requires small_f { LeavesRoom f.now }
     requires small_h { LeavesRoom h.now }
     ensures { (k : ℕ) → coefficient result k ≡ plus (times_q_less_one (coefficient f.now)) (times_q (coefficient h.now)) k }
