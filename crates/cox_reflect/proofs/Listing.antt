@@ -30,7 +30,7 @@ before-trans {u} {v} {w} a b =
     (before-shortlex_cmp b))
 
 -- each word comes before those behind it
-data Rises : List (List ℕ) → Type 0 where
+pub data Rises : List (List ℕ) → Type 0 where
   rises_none : Rises []
   rises_more : {x : List ℕ} {xs : List (List ℕ)} → Each (IsBefore x) xs → Rises xs → Rises (x ∷ xs)
 
@@ -39,7 +39,7 @@ in-at [] i l = absurd (omega (arith, l))
 in-at (x ∷ words) zero l = here
 in-at (x ∷ words) (suc i) l = there (in-at words i (omega (arith, l)))
 
-rises-rising : {words : List (List ℕ)} → Rises words → IsRising words
+pub rises-rising : {words : List (List ℕ)} → Rises words → IsRising words
 rises-rising rises_none i j l k = absurd (omega (arith, k))
 rises-rising (rises_more h r) i zero l k = absurd (omega (arith, l))
 rises-rising (rises_more {xs = words} h r) zero (suc j) l k = before-shortlex_cmp (Each-in h (in-at words j (omega (arith, k))))
