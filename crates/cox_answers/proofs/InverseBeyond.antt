@@ -1,9 +1,8 @@
 -- Whether some polynomial between two elements is too large can be told: there is a list of the elements between them, and only degrees
 -- up to the length count.
-use Rattle.std.proofs.Common.{◌≡◌, ℕ, zero, suc, ◌<◌, ◌≤◌, List, ◌⊎◌, inl, inr, ⊎_elim, ℤ, pos, sym, ◌∙◌, refl, arith, ap}
+use Rattle.std.proofs.Common.{◌≡◌, ℕ, suc, ◌<◌, ◌≤◌, List, ◌⊎◌, inl, inr, ⊎_elim, ℤ, pos, sym, ◌∙◌, refl, arith, ap}
 use Rattle.std.specs.Prelude.{unsigned_abs, ◌<ℤ◌, ◌≤ℤ◌}
-use Rattle.std.proofs.lemmas.Bool.{cases_lt}
-use Rattle.std.proofs.lemmas.Int.{ints, by_lt_z, clamps}
+use Rattle.std.proofs.lemmas.Int.{ints, clamps}
 use Rattle.cox_base.specs.IntegerMatrix.{IntegerMatrix}
 use Rattle.cox_base.specs.Admissible.{IsAdmissible}
 use Rattle.cox_base.specs.Element.{SameElement}
@@ -12,46 +11,22 @@ use Rattle.cox_base.specs.Bruhat.{IsBelow}
 use Rattle.cox_reflect.proofs.Elements.{same-refl}
 use Rattle.cox_reflect.proofs.Bruhat.{below-same, below-trans}
 use Rattle.cox_poly.specs.Coefficients.{Coefficients}
+use Rattle.cox_poly.proofs.Limits.{tell-above}
 use Rattle.cox_hecke.specs.ListedElements.{LiesBetween, occurrences}
 use Rattle.cox_hecke.proofs.ElementLists.{below_or_not, between_list}
-use Rattle.cox_hecke.proofs.PolynomialValues.{kl_polynomial, kl_polynomial-is, kl_polynomial-low, kl_polynomial-value, kazhdan_lusztig-same}
 use Rattle.cox_klstep.specs.Limits.{IsLargeCoefficient}
+use Rattle.cox_klstep.proofs.LargeCoefficients.{large-words}
 use Rattle.cox_rows.specs.Beyond.{NeedsBeyond}
-use Rattle.cox_rows.proofs.BeyondDecided.{tell-listed}
+use Rattle.cox_rows.proofs.BeyondDecided.{tell-listed, tell-coefficient}
 use Rattle.cox_rows.proofs.NeedDecided.{tell-needs_beyond, needs_beyond-same}
 use Rattle.cox_inverse.specs.declared.fault.TheConstants.{MAX_COEFFICIENT}
 use Rattle.cox_inverse.specs.InverseFaults.{IsLargeInverse}
 use Rattle.cox_inverse.proofs.InverseRowExists.{inverse_of, inverse_of-is}
-use Rattle.cox_inverse.proofs.InversePolynomials.{inverse-value, inverse-same}
+use Rattle.cox_inverse.proofs.InversePolynomials.{inverse-value}
+use Rattle.cox_inverse.proofs.LastInverses.{large_inverse-words}
 use Rattle.cox_answers.specs.InverseReply.{inverse_limit, IsInverseBeyond, row, polynomial, inverse}
 use Rattle.cox_answers.proofs.InverseTexts.{inverse_of-high}
 use Rattle.cox_answers.proofs.RowQuestions.{both-decided}
-
--- ---- coefficients above a limit
-
--- the coefficient of a degree is above the limit, or none is, where they are 0 from some degree on
-tell-below : (limit : ℤ) (f : Coefficients) (n : ℕ)
-    → ((k : ℕ) × (limit <ℤ pos (unsigned_abs (f k)))) ⊎ ((k : ℕ) → k < n → limit <ℤ pos (unsigned_abs (f k)) → ⊥)
-tell-below limit f zero = inr (λ k l. absurd (omega (arith, l)))
-tell-below limit f (suc n) = ⊎_elim
-    (λ (found : (k : ℕ) × (limit <ℤ pos (unsigned_abs (f k)))). inl found)
-    (λ (none : (k : ℕ) → k < n → limit <ℤ pos (unsigned_abs (f k)) → ⊥). by_lt_z limit (pos (unsigned_abs (f n)))
-    (λ above. inl (n, above))
-    (λ small. inr (λ k l above. ⊎_elim (λ (less : k < n). none k less above)
-    (λ (more : n ≤ k). let e : k ≡ n = omega (arith, l, more)
-    in let h : limit <ℤ pos (unsigned_abs (f n)) = rw e at above in omega (arith, ints, h, small))
-    (cases_lt k n))))
-    (tell-below limit f n)
-
-tell-large : (limit : ℤ) → pos 0 ≤ℤ limit → (f : Coefficients) (n : ℕ) → ((k : ℕ) → n ≤ k → f k ≡ pos 0)
-    → ((k : ℕ) × (limit <ℤ pos (unsigned_abs (f k)))) ⊎ ((k : ℕ) → limit <ℤ pos (unsigned_abs (f k)) → ⊥)
-tell-large limit least f n high = ⊎_elim
-    (λ (found : (k : ℕ) × (limit <ℤ pos (unsigned_abs (f k)))). inl found)
-    (λ (none : (k : ℕ) → k < n → limit <ℤ pos (unsigned_abs (f k)) → ⊥). inr (λ k above. ⊎_elim
-    (λ (less : k < n). none k less above)
-    (λ (more : n ≤ k). let zero_above : limit <ℤ pos 0 = rw (high k more) at above in omega (arith, ints, zero_above, least))
-    (cases_lt k n)))
-    (tell-below limit f n)
 
 module _ (A : IntegerMatrix) (g : IsAdmissible A) where
   -- a property of elements that can be told: some element between y and w has it, or none
@@ -87,30 +62,12 @@ module _ (A : IntegerMatrix) (g : IsAdmissible A) where
   HasLarge limit x z = (k : ℕ) × (c : ℤ) × IsLargeCoefficient A limit x z k c
 
   tell-polynomial : (limit : ℤ) → pos 0 ≤ℤ limit → (x z : List ℕ) → HasLarge limit x z ⊎ (HasLarge limit x z → ⊥)
-  tell-polynomial limit least x z = ⊎_elim
-      (λ (found : (k : ℕ) × (limit <ℤ pos (unsigned_abs (kl_polynomial A g x z k)))). inl (
-        found.0,
-        kl_polynomial A g x z found.0,
-        record { polynomial = kl_polynomial A g x z; is = kl_polynomial-is A g x z; value = refl; above = found.1 },
-      ))
-      (λ (none : (k : ℕ) → limit <ℤ pos (unsigned_abs (kl_polynomial A g x z k)) → ⊥). inr (λ large.
-      let e : kl_polynomial A g x z large.0 ≡ large.1
-      = ap (λ (f : Coefficients). f large.0) (sym (kl_polynomial-value A g x z large.2.polynomial large.2.is)) ∙ large.2.value
-      in none large.0 (rw e large.2.above)))
-      (tell-large limit least (kl_polynomial A g x z) (suc (word_length A z))
-      (λ k high. kl_polynomial-low A g x z k (omega (arith, high)) (omega (arith, high))))
+  tell-polynomial limit least x z = ⊎_elim (λ large. inl large)
+      (λ (none : (k : ℕ) (c : ℤ) → IsLargeCoefficient A limit x z k c → ⊥). inr (λ large. none large.0 large.1 large.2))
+      (tell-coefficient A g limit least z x)
 
   large-same : (limit : ℤ) (x y v w : List ℕ) → SameElement A x y → SameElement A v w → HasLarge limit x v → HasLarge limit y w
-  large-same limit x y v w e f (k, c, h) = (
-    k,
-    c,
-    record {
-      polynomial = h.polynomial;
-      is = kazhdan_lusztig-same A g x y v w h.polynomial e f h.is;
-      value = h.value;
-      above = h.above;
-    },
-  )
+  large-same limit x y v w e f (k, c, h) = (k, c, large-words A g limit x y v w e f k c h)
 
   -- Q(x,w) has a coefficient above the limit
   abbrev HasLargeInverse : ℤ → List ℕ → List ℕ → Type 0
@@ -132,20 +89,11 @@ module _ (A : IntegerMatrix) (g : IsAdmissible A) where
       let e : inverse_of A g w x large.0 ≡ large.1
       = ap (λ (f : Coefficients). f large.0) (sym (inverse-value A g x w large.2.polynomial large.2.is)) ∙ large.2.value
       in none large.0 (rw e large.2.above)))
-      (tell-large limit least (inverse_of A g w x) (suc (word_length A w))
+      (tell-above limit least (inverse_of A g w x) (suc (word_length A w))
       (λ k high. inverse_of-high A g w x k (omega (arith, high)) (omega (arith, high))))
 
   inverse-words : (limit : ℤ) (w x y : List ℕ) → SameElement A x y → HasLargeInverse limit w x → HasLargeInverse limit w y
-  inverse-words limit w x y e (k, c, h) = (
-    k,
-    c,
-    record {
-      polynomial = h.polynomial;
-      is = inverse-same A g x y w w h.polynomial e (same-refl A g w) h.is;
-      value = h.value;
-      above = h.above;
-    },
-  )
+  inverse-words limit w x y e (k, c, h) = (k, c, large_inverse-words A g limit x y w w e (same-refl A g w) k c h)
 
   -- ---- all polynomials between two elements
 

@@ -16,10 +16,11 @@ use Rattle.cox_poly.specs.Puts.{Puts}
 use Rattle.cox_context.specs.Closed.{Elements}
 use Rattle.cox_context.specs.Numbers.{word_at}
 use Rattle.cox_inverse.specs.InverseRow.{IsInverse}
-use Rattle.cox_inverse.specs.InverseFaults.{IsLargeInverse, AreWithinLimits, IsInverseFault}
+use Rattle.cox_inverse.specs.InverseFaults.{AreWithinLimits, IsInverseFault}
 use Rattle.cox_inverse.specs.declared.fault.InverseFault.{InverseFault}
 use Rattle.cox_inverse.specs.declared.fault.InverseFault.TheVariants.{Coefficient, Inverse, NoMemory}
 use Rattle.cox_inverse.proofs.InversePolynomials.{inverse-same}
+use Rattle.cox_inverse.proofs.LastInverses.{large_inverse-words}
 use Rattle.cox_command.specs.declared.refusal.Refusal.{Refusal}
 use Rattle.cox_command.specs.declared.refusal.Refusal.TheVariants.{LargeRow}
 use Rattle.cox_rows.specs.Holding.{Holding}
@@ -84,22 +85,6 @@ module _ (A : IntegerMatrix) (g : IsAdmissible A) (y w v u : List ℕ) (bottom :
   pub inverse-words : (f : Coefficients) → IsInverse A v u f → IsInverse A y w f
   inverse-words f is = inverse-same A g v y u w f bottom-same top-same is
 
-  large_inverse-words : (limit : ℤ) (x : List ℕ) (k : ℕ) (c : ℤ) → IsLargeInverse A limit x u k c → IsLargeInverse A limit x w k c
-  large_inverse-words limit x k c large = record {
-    polynomial = large.polynomial;
-    is = inverse-same A g x x u w large.polynomial (same-refl A g x) top-same large.is;
-    value = large.value;
-    above = large.above;
-  }
-
-  large_inverse-back : (limit : ℤ) (x : List ℕ) (k : ℕ) (c : ℤ) → IsLargeInverse A limit x w k c → IsLargeInverse A limit x u k c
-  large_inverse-back limit x k c large = record {
-    polynomial = large.polynomial;
-    is = inverse-same A g x x w u large.polynomial (same-refl A g x) (same-sym A g top-same) large.is;
-    value = large.value;
-    above = large.above;
-  }
-
   -- above y, and below w
   pub above-words : (x : List ℕ) → IsBelow A v x → IsBelow A y x
   above-words x b = below-same A g bottom-same (same-refl A g x) b
@@ -120,7 +105,8 @@ module _ (A : IntegerMatrix) (g : IsAdmissible A) (y w v u : List ℕ) (bottom :
   limits-words limit within = record {
     polynomials = λ x z above order below. within.polynomials x z (above-back x above) order (below-back z below);
     inverses = λ x above below k c large.
-        within.inverses x (above-back x above) (below-back x below) k c (large_inverse-back limit x k c large);
+        within.inverses x (above-back x above) (below-back x below) k c
+        (large_inverse-words A g limit x x w u (same-refl A g x) (same-sym A g top-same) k c large);
   }
 
   -- a fault is a polynomial that is too large, unless memory ran out
@@ -136,7 +122,8 @@ module _ (A : IntegerMatrix) (g : IsAdmissible A) (y w v u : List ℕ) (bottom :
     fault-inverse_beyond (Inverse x degree value) other is = inverse
         (above-words (word_at e.members x) (rw (matrix, is_low) at is.pair.above))
         (below-words (word_at e.members x) (rw (matrix, is_high) at is.pair.order))
-        (large_inverse-words (inverse_limit coefficient) (word_at e.members x) degree value (rw (matrix, is_high) at is.least.large))
+        (large_inverse-words A g (inverse_limit coefficient) (word_at e.members x) (word_at e.members x) u w
+        (same-refl A g (word_at e.members x)) top-same degree value (rw (matrix, is_high) at is.least.large))
     fault-inverse_beyond NoMemory other is = absurd (other refl)
 
 -- what becomes of a text where there is a fault

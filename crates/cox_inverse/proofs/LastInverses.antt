@@ -32,6 +32,16 @@ use Rattle.cox_inverse.proofs.InverseRowExists.{inverse_of, inverse_of-is, inver
 use Rattle.cox_inverse.proofs.LastMembers.{HasMember, below-member, before-member, before-above, before-below, last-top}
 use Rattle.cox_inverse.proofs.FirstPairs.{place-less, lower-place}
 
+-- other words of the elements
+module _ (A : IntegerMatrix) (g : IsAdmissible A) (limit : ℤ) (x u w v : List ℕ) (same : SameElement A x u) (other : SameElement A w v) where
+  pub large_inverse-words : (k : ℕ) (c : ℤ) → IsLargeInverse A limit x w k c → IsLargeInverse A limit u v k c
+  large_inverse-words k c h = record {
+    polynomial = h.polynomial;
+    is = inverse-same A g x u w v h.polynomial same other h.is;
+    value = h.value;
+    above = h.above;
+  }
+
 module _ (A : IntegerMatrix) (g : IsAdmissible A) (limit : ℤ) (x w : List ℕ) where
   module _ (sums : List ℤ) (is : IsInverse A x w (coefficient sums)) where
     small_not_large : (k : ℕ) (c : ℤ) → IsWithin limit (coefficient sums k) → IsLargeInverse A limit x w k c → ⊥
@@ -49,12 +59,7 @@ module _ (A : IntegerMatrix) (g : IsAdmissible A) (limit : ℤ) (x w : List ℕ)
 
   -- another word of x
   pub inverse-within_same : (u : List ℕ) → SameElement A x u → IsInverseWithin A limit u w → IsInverseWithin A limit x w
-  inverse-within_same u same small k c h = small k c (record {
-    polynomial = h.polynomial;
-    is = inverse-same A g x u w w h.polynomial same (same-refl A g w) h.is;
-    value = h.value;
-    above = h.above;
-  })
+  inverse-within_same u same small k c h = small k c (large_inverse-words A g limit x u w w same (same-refl A g w) k c h)
 
 module _ (e : Elements) (g : IsAdmissible (integer_matrix e.matrix)) (closed : IsClosed (integer_matrix e.matrix) e.members)
     (y w : ℕ) (inside : w < length e.members) (numbers : List ℕ) (are : AreBetween e y w numbers) (limit : ℤ) where
