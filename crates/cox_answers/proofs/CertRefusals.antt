@@ -22,6 +22,7 @@ use Rattle.cox_answers.specs.RowReply.{RefusesRow}
 use Rattle.cox_answers.specs.CertReply.{listed_limit, RefusesListing, RefusesCert}
 use Rattle.cox_answers.specs.Kept.{Keeps}
 use Rattle.cox_answers.specs.Putting.{PutsUnless, Finds}
+use Rattle.cox_answers.proofs.LargeOr.{large_or-none}
 
 module _ (limits : Limits) (A : IntegerMatrix) (w : List ℕ) where
   -- ---- the members
@@ -133,16 +134,10 @@ module _ (limits : Limits) (A : IntegerMatrix) (w : List ℕ) where
   cert-row why few free (inr (_, inr (_, inr (_, inr (small, e))))) = absurd (cc e)
 
   pub row-none : IsRefused (RefusesRow limits A w) None → NeedsBeyond A (pos limits.coefficient) w → ⊥
-  row-none (inl (none, e)) = absurd none
-  row-none (inr (_, inl (many, e))) = absurd (cc e)
-  row-none (inr (_, inr (few, inl (far, e)))) = absurd far
-  row-none (inr (_, inr (few, inr (near, inl (large, e))))) = absurd (cc e)
-  row-none (inr (_, inr (few, inr (near, inr (small, e))))) = small
+  row-none free = (large_or-none limits A w (NeedsBeyond A (pos limits.coefficient) w) free).1
 
   pub row-few : IsRefused (RefusesRow limits A w) None → HasMoreThan limits.context (IsInInterval A w) → ⊥
-  row-few (inl (none, e)) = absurd none
-  row-few (inr (_, inl (many, e))) = absurd (cc e)
-  row-few (inr (_, inr (few, rest))) = few
+  row-few free = (large_or-none limits A w (NeedsBeyond A (pos limits.coefficient) w) free).0
 
 -- what is refused while rows are kept, or while the members are listed, puts nothing
 module _ {X : Type 0} (Old New : Refusal → Type 0) (IsText : List ℕ → Type 0) (before : List ℕ)

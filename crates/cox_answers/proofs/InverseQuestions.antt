@@ -1,20 +1,20 @@
 -- The question of `invpol` has one right text at most, and can be answered.
-use Rattle.std.proofs.Common.{◌≡◌, ◌⊎◌, ℕ, List, inl, inr, refl, sym, ap, ◌∙◌, ⊎_elim}
+use Rattle.std.proofs.Common.{◌≡◌, ◌⊎◌, ℕ, List, refl, sym, ap, ◌∙◌}
 use Rattle.cox_base.specs.IntegerMatrix.{IntegerMatrix}
 use Rattle.cox_base.specs.Admissible.{IsAdmissible}
 use Rattle.cox_base.specs.Length.{word_length}
+use Rattle.cox_base.specs.Bruhat.{IsBelow}
 use Rattle.cox_poly.specs.PolynomialText.{polynomial_text}
 use Rattle.cox_hecke.specs.Family.{Family}
 use Rattle.cox_hecke.proofs.ElementLists.{below_or_not}
 use Rattle.cox_inverse.specs.InverseRow.{IsInverseRow}
 use Rattle.cox_inverse.proofs.InverseRowExists.{inverse_of, inverse_of-is, inverse_of-value}
-use Rattle.cox_context.proofs.IntervalLists.{interval-decided}
 use Rattle.cox_command.specs.declared.refusal.Refusal.{Refusal}
-use Rattle.cox_command.specs.declared.refusal.Refusal.TheVariants.{LargeInterval, LargeRow}
 use Rattle.cox_answers.specs.Limits.{Limits}
 use Rattle.cox_answers.specs.RowReply.{coefficients_to}
-use Rattle.cox_answers.specs.InverseReply.{RefusesInverse, IsInverseText}
+use Rattle.cox_answers.specs.InverseReply.{RefusesInverse, IsInverseText, IsInverseBeyond}
 use Rattle.cox_answers.specs.Answerable.{IsAnswerable}
+use Rattle.cox_answers.proofs.LargeOr.{large_or-decided}
 use Rattle.cox_answers.proofs.RowQuestions.{both-decided}
 use Rattle.cox_answers.proofs.InverseBeyond.{tell-inverse_beyond}
 
@@ -29,9 +29,8 @@ module _ (A : IntegerMatrix) (g : IsAdmissible A) where
 
   inverse-decided : (limits : Limits) (y w : List ℕ) (why : Refusal)
       → RefusesInverse limits A y w why ⊎ (RefusesInverse limits A y w why → ⊥)
-  inverse-decided limits y w LargeInterval = ⊎_elim (λ many. inl many) (λ few. inr few.0) (interval-decided A g limits.context w)
-  inverse-decided limits y w LargeRow = both-decided (below_or_not A g y w) (tell-inverse_beyond A g limits.coefficient y w)
-  inverse-decided limits y w _ = inr (λ none. none)
+  inverse-decided limits y w = large_or-decided limits A w g (IsBelow A y w × IsInverseBeyond A limits.coefficient y w)
+      (both-decided (below_or_not A g y w) (tell-inverse_beyond A g limits.coefficient y w))
 
   pub invpol-answerable : (limits : Limits) (y w : List ℕ) → IsAnswerable (record
       { Refuses = RefusesInverse limits A y w; IsText = IsInverseText A y w })

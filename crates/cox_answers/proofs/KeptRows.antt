@@ -19,8 +19,6 @@ use Rattle.cox_rows.specs.Beyond.{NeedsBeyond}
 use Rattle.cox_rows.specs.RowsFaults.{IsRowsFault}
 use Rattle.cox_klstep.specs.declared.fault.StepFault.{StepFault}
 use Rattle.cox_klstep.specs.declared.fault.StepFault.TheVariants.{Coefficient, Mu, NoMemory}
-use Rattle.cox_command.specs.declared.refusal.Refusal.{Refusal}
-use Rattle.cox_command.specs.declared.refusal.Refusal.TheVariants.{LargeRow}
 use Rattle.cox_base.specs.Matrix.{CoxeterMatrix}
 use Rattle.cox_base.specs.Element.{SameElement}
 use Rattle.cox_reflect.proofs.Elements.{same-sym}
@@ -36,6 +34,7 @@ use Rattle.cox_answers.specs.Limits.{Limits}
 use Rattle.cox_answers.specs.Question.{IsRefused}
 use Rattle.cox_answers.specs.Listed.{RefusesLarge}
 use Rattle.cox_answers.specs.RowReply.{RefusesRow}
+use Rattle.cox_answers.proofs.LargeOr.{large_or-allowed, large_or-refused}
 
 -- a filtered list is no longer
 pub filter-shorter : (test : List ℕ → Bool) (xs : List (List ℕ)) → length (filter test xs) ≤ length xs
@@ -66,21 +65,6 @@ module _ (limits : Limits) (A : IntegerMatrix) (w : List ℕ) where
   large-free (inr (_, inl (many, e))) = absurd (cc e)
   large-free (inr (_, inr (few, rest))) = few
 
-  pub large-row : (why : Refusal) → IsRefused (RefusesLarge limits A w) (Some why) → IsRefused (RefusesRow limits A w) (Some why)
-  large-row why (inl (none, e)) = absurd none
-  large-row why (inr (none, inl large)) = inr (none, inl large)
-  large-row why (inr (none, inr (few, inl (far, e)))) = absurd far
-  large-row why (inr (none, inr (few, inr (near, inl (beyond, e))))) = absurd beyond
-  large-row why (inr (none, inr (few, inr (near, inr (small, e))))) = absurd (cc e)
-
-  pub row-allowed : (HasMoreThan limits.context (IsInInterval A w) → ⊥) → (NeedsBeyond A (pos limits.coefficient) w → ⊥)
-      → IsRefused (RefusesRow limits A w) None
-  row-allowed few small = inr (λ none. none, inr (few, inr (λ none. none, inr (small, refl))))
-
-  pub row-refused : (HasMoreThan limits.context (IsInInterval A w) → ⊥) → NeedsBeyond A (pos limits.coefficient) w
-      → IsRefused (RefusesRow limits A w) (Some LargeRow)
-  row-refused few beyond = inr (λ none. none, inr (few, inr (λ none. none, inl (beyond, refl))))
-
 -- more rows of a group are rows of the group
 pub more-of : (G : CoxeterMatrix) (limits : Limits) (old new : Holding) → AreOf G limits old → IsMore old new → AreOf G limits new
 more-of G limits old new of more = record {
@@ -95,6 +79,10 @@ module _ (limits : Limits) (G : CoxeterMatrix) (g : IsAdmissible (integer_matrix
     (ensured : IsEnsured (word_at mid.elements.members i) mid new) where
   abbrev A : IntegerMatrix
   A = integer_matrix G
+
+  -- a row that the row of w needs is too large
+  abbrev Beyond : Type 0
+  Beyond = NeedsBeyond A (pos limits.coefficient) w
 
   least : pos 0 ≤ℤ pos limits.coefficient
   least = omega (arith, ints)
@@ -139,8 +127,8 @@ module _ (limits : Limits) (G : CoxeterMatrix) (g : IsAdmissible (integer_matrix
       → IsRowsFault mid.elements mid.limit (IsNeeded (integer_matrix mid.elements.matrix) (word_at mid.elements.members i)) fault
       → Keeps {X = ℕ} (Err (unanswered_by fault)) (RefusesRow limits A w) (HoldsRow A w) (Some new)
   still-refused few (Coefficient x z degree value) is =
-      row-refused limits A w few (beyond (Coefficient x z degree value) is (λ e. absurd (cc e)))
-  still-refused few (Mu x z value) is = row-refused limits A w few (beyond (Mu x z value) is (λ e. absurd (cc e)))
+      large_or-refused limits A w Beyond few (beyond (Coefficient x z degree value) is (λ e. absurd (cc e)))
+  still-refused few (Mu x z value) is = large_or-refused limits A w Beyond few (beyond (Mu x z value) is (λ e. absurd (cc e)))
   still-refused few NoMemory is = tt
 
   -- the row is held then, or there was such a fault
@@ -149,7 +137,7 @@ module _ (limits : Limits) (G : CoxeterMatrix) (g : IsAdmissible (integer_matrix
       → IfErr made (IsRowsFault mid.elements mid.limit
       (IsNeeded (integer_matrix mid.elements.matrix) (word_at mid.elements.members i)))
       → Keeps (unless_fault made i) (RefusesRow limits A w) (HoldsRow A w) (Some new)
-  still-keeps few (Ok done) there small fault = (row-allowed limits A w few (still-small small), holds-row there)
+  still-keeps few (Ok done) there small fault = (large_or-allowed limits A w Beyond few (still-small small), holds-row there)
   still-keeps few (Err why) there small fault = still-refused few why fault
 
 -- a row that is held, and whose Need is settled, is not refused

@@ -1,10 +1,12 @@
 -- Refusals for a large interval, or else for large rows.
-use Rattle.std.proofs.Common.{ℕ, List, None, Some, inl, inr, refl}
+use Rattle.std.proofs.Common.{ℕ, List, None, Some, ◌⊎◌, inl, inr, ⊎_elim, refl}
 use Rattle.cox_base.specs.IntegerMatrix.{IntegerMatrix}
+use Rattle.cox_base.specs.Admissible.{IsAdmissible}
 use Rattle.cox_base.specs.Members.{IsInInterval}
 use Rattle.cox_base.specs.SortedList.{HasMoreThan}
+use Rattle.cox_context.proofs.IntervalLists.{interval-decided}
 use Rattle.cox_command.specs.declared.refusal.Refusal.{Refusal}
-use Rattle.cox_command.specs.declared.refusal.Refusal.TheVariants.{LargeRow}
+use Rattle.cox_command.specs.declared.refusal.Refusal.TheVariants.{LargeInterval, LargeRow}
 use Rattle.cox_answers.specs.Limits.{Limits}
 use Rattle.cox_answers.specs.Question.{IsRefused}
 use Rattle.cox_answers.specs.Listed.{RefusesLarge, RefusesLargeOr}
@@ -46,3 +48,10 @@ module _ (limits : Limits) (A : IntegerMatrix) (w : List ℕ) where
   large_or-weaker Large Larger weaker why (inr (none, inr (few, inr (near, inl (large, e))))) =
       inr (none, inr (few, inr (near, inl (weaker large, e))))
   large_or-weaker Large Larger weaker why (inr (none, inr (few, inr (near, inr (small, e))))) = absurd (cc e)
+
+  -- whether there is a cause is decided, if it is whether the rows are too large
+  pub large_or-decided : IsAdmissible A → (Large : Type 0) → Large ⊎ (Large → ⊥) → (why : Refusal)
+      → RefusesLargeOr limits A w Large why ⊎ (RefusesLargeOr limits A w Large why → ⊥)
+  large_or-decided g Large tell LargeInterval = ⊎_elim (λ many. inl many) (λ few. inr few.0) (interval-decided A g limits.context w)
+  large_or-decided g Large tell LargeRow = tell
+  large_or-decided g Large tell _ = inr (λ none. none)

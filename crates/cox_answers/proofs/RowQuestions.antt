@@ -18,14 +18,15 @@ use Rattle.cox_hecke.proofs.AllRows.{row_of, row_of-is, row_of-value, mu-unique,
 use Rattle.cox_base.specs.Members.{IsInInterval}
 use Rattle.cox_base.specs.SortedList.{IsListOf}
 use Rattle.cox_context.proofs.ShortLexLists.{IsListOf-unique, IsListOf-filter}
-use Rattle.cox_context.proofs.IntervalLists.{interval-exists, interval-decided}
+use Rattle.cox_context.proofs.IntervalLists.{interval-exists}
+use Rattle.cox_rows.specs.Beyond.{NeedsBeyond}
 use Rattle.cox_rows.proofs.NeedDecided.{tell-needs_beyond}
 use Rattle.cox_command.specs.declared.refusal.Refusal.{Refusal}
-use Rattle.cox_command.specs.declared.refusal.Refusal.TheVariants.{LargeInterval, LargeRow}
 use Rattle.cox_answers.specs.Limits.{Limits}
 use Rattle.cox_answers.specs.Listed.{IsOfRow}
 use Rattle.cox_answers.specs.RowReply.{RefusesRow, coefficients_to, IsPolText, IsMuText, pairs_text, IsExtremalBelow, ihbetti_text}
 use Rattle.cox_answers.specs.Answerable.{IsAnswerable}
+use Rattle.cox_answers.proofs.LargeOr.{large_or-decided}
 
 -- a decision as a test
 abbrev is_left : {P : Type 0} → P ⊎ (P → ⊥) → Bool
@@ -86,9 +87,8 @@ module _ (A : IntegerMatrix) (g : IsAdmissible A) where
 
   -- whether a row is refused is decided
   pub row-decided : (limits : Limits) (w : List ℕ) (why : Refusal) → RefusesRow limits A w why ⊎ (RefusesRow limits A w why → ⊥)
-  row-decided limits w LargeInterval = ⊎_elim (λ many. inl many) (λ few. inr few.0) (interval-decided A g limits.context w)
-  row-decided limits w LargeRow = tell-needs_beyond A g (pos limits.coefficient) (omega (arith, ints)) w
-  row-decided limits w _ = inr (λ none. none)
+  row-decided limits w = large_or-decided limits A w g (NeedsBeyond A (pos limits.coefficient) w)
+      (tell-needs_beyond A g (pos limits.coefficient) (omega (arith, ints)) w)
 
   -- a text by the row of w and the elements that are kept of its interval
   listed : (limits : Limits) (w : List ℕ) (P : List ℕ → Type 0) (keep : List (List ℕ) → List (List ℕ))

@@ -14,16 +14,14 @@ use Rattle.cox_base.specs.Members.{IsInInterval}
 use Rattle.cox_row.specs.Extremal.{IsExtremal}
 use Rattle.cox_rows.specs.Beyond.{NeedsBeyond}
 use Rattle.cox_command.specs.declared.refusal.Refusal.{Refusal}
-use Rattle.cox_command.specs.declared.refusal.Refusal.TheVariants.{LargeRow}
 use Rattle.cox_print.specs.AnswerText.{numbers_text, list_text, pair_text}
 use Rattle.cox_answers.specs.Limits.{Limits}
-use Rattle.cox_answers.specs.Listed.{RefusesLarge}
+use Rattle.cox_answers.specs.Listed.{RefusesLargeOr}
 
 -- the interval from the identity to w has more members than the limit; or some row that the row of w needs has a coefficient, or a value of
 -- mu, above its limit
 abbrev pub RefusesRow : Limits → IntegerMatrix → List ℕ → Refusal → Type 0
-RefusesRow limits A w LargeRow = NeedsBeyond A (pos limits.coefficient) w
-RefusesRow limits A w why = RefusesLarge limits A w why
+RefusesRow limits A w = RefusesLargeOr limits A w (NeedsBeyond A (pos limits.coefficient) w)
 
 -- the coefficients of a polynomial from degree 0 to n
 abbrev pub coefficients_to : ℕ → Coefficients → List ℤ
