@@ -1,6 +1,6 @@
 -- Rows of the elements between two, among those that are kept: which elements are members, and what faults of their rows say.
 use Rattle.std.proofs.Common.{◌≡◌, ℕ, ◌+◌, ◌<◌, ◌≤◌, ⊎_elim, List, ◌∷◌, length, filter, Contains, Option, None, Some, Result, Ok, Err}
-use Rattle.std.proofs.Common.{refl, ◌∙◌, subst, arith, ℤ, pos, ◌≤ℤ◌}
+use Rattle.std.proofs.Common.{refl, sym, ap, ◌∙◌, subst, arith, ℤ, pos, ◌≤ℤ◌}
 use Rattle.std.specs.Prelude.{IfSome, IsSomeAnd, OnOk, IfErr}
 use Rattle.std.proofs.lemmas.Int.{ints}
 use Rattle.std.proofs.lemmas.Bool.{cases_lt}
@@ -39,12 +39,15 @@ use Rattle.cox_inverse.specs.declared.interval.Interval.{Interval}
 use Rattle.cox_inverse.specs.Intervals.{IsInterval}
 use Rattle.cox_inverse.specs.declared.finite.WholeGroup.{WholeGroup}
 use Rattle.cox_inverse.specs.WholeGroups.{IsReadable}
-use Rattle.cox_answers.specs.Kept.{AreOf, AreKept, IsMore, Keeps, unanswered_by, unless_fault}
+use Rattle.cox_options.specs.declared.options.Options.{Options}
+use Rattle.cox_answers.specs.Kept.{Work, IsSameWork, AreOf, AreKept, HoldsElement, IsMore, Keeps, unanswered_by, unless_fault}
 use Rattle.cox_answers.specs.KeptBetween.{IsSomeBeyond, RefusesBetween, HoldsBetween, IsFaultOfOne, IsReadOff}
 use Rattle.cox_answers.specs.InverseReply.{inverse_limit}
 use Rattle.cox_answers.specs.Limits.{Limits}
+use Rattle.cox_answers.specs.Listed.{RefusesLarge}
 use Rattle.cox_answers.specs.Question.{IsRefused}
-use Rattle.cox_answers.proofs.KeptRows.{filter-shorter}
+use Rattle.cox_answers.specs.SessionLimits.{limits_of}
+use Rattle.cox_answers.proofs.KeptRows.{filter-shorter, large-free}
 use Rattle.cox_answers.proofs.RowMembers.{interval-list}
 use Rattle.cox_answers.proofs.LargeOr.{large_or-allowed, large_or-refused}
 
@@ -72,6 +75,10 @@ module _ (A : IntegerMatrix) (g : IsAdmissible A) where
         let u = h.element in
         let p = contains-placed members (normal_form A u) (below-contained u (below-trans A g (needed-below z u h.needed) below)) in
         none p.i p.within (rw p.is (beyond-same A g limit least u (normal_form A u) (same-sym A g (normal_form-same A g u)) h.beyond))
+
+-- what has a number is a member
+pub number-contains : (members : List (List ℕ)) (word : List ℕ) (i : ℕ) → IsNumberOf members word (Some i) → Contains members word
+number-contains members word i number = placed-contains members word (record { i = i; within = number.0; is = number.1 })
 
 -- where the rows of all members are there, and none is beyond the limits
 module _ (limits : Limits) (G : CoxeterMatrix) (g : IsAdmissible (integer_matrix G)) (y w : List ℕ) (rows : Holding)
@@ -110,8 +117,7 @@ pub read_off-keeps : (limits : Limits) (G : CoxeterMatrix) → IsAdmissible (int
     → IsNumberOf rows.elements.members (normal_form (integer_matrix G) w) (Some i) → IsBelow (integer_matrix G) y w
     → IsRefused (RefusesBetween limits (integer_matrix G) y w) None × HoldsBetween (integer_matrix G) y w rows
 read_off-keeps limits G g y w i rows whole of read closed number below =
-    let top = placed-contains rows.elements.members (normal_form (integer_matrix G) w)
-    (record { i = i; within = number.0; is = number.1 }) in
+    let top = number-contains rows.elements.members (normal_form (integer_matrix G) w) i number in
     (all-allowed limits G g y w rows of closed top read.small, all-holds limits G g y w rows of closed top read.readable.there below)
 
 -- so that is held which was asked for
@@ -142,7 +148,30 @@ pub found-few : (limits : Limits) (G : CoxeterMatrix) → IsAdmissible (integer_
     → IfSome found (λ i. HasMoreThan limits.context (IsInInterval (integer_matrix G) w) → ⊥)
 found-few limits G g w rows of closed None none = tt
 found-few limits G g w rows of closed (Some i) number = member-few limits G g w w rows of closed
-    (placed-contains rows.elements.members (normal_form (integer_matrix G) w) (record { i = i; within = number.0; is = number.1 }))
+    (number-contains rows.elements.members (normal_form (integer_matrix G) w) i number)
+
+-- rows that were taken out of a workspace with this group and these options: w has the number i among their members
+pub record AreTaken (G : CoxeterMatrix) (set : Options) (w : List ℕ) (i : ℕ) (rest : Work) (rows : Holding) : Type 0 where
+  pub table : rest.table ≡ G
+  pub options : rest.options ≡ set
+  pub of : AreOf G (limits_of set) rows
+  pub number : IsNumberOf rows.elements.members (normal_form (integer_matrix G) w) (Some i)
+  pub few : HasMoreThan (limits_of set).context (IsInInterval (integer_matrix G) w) → ⊥
+
+-- they are such, after the interval from the identity to w was added to what is kept
+pub are-taken : (old rest new : Work) (w : List ℕ) (i : ℕ) (rows : Holding) (taken : Option Holding) → rest ≡ new → IsSameWork old new
+    → AreKept old.table (limits_of old.options) new.rows
+    → Keeps {X = ℕ} (Ok i) (RefusesLarge (limits_of old.options) (integer_matrix old.table) w) (HoldsElement (integer_matrix old.table) w)
+    new.rows → taken ≡ rest.rows → taken ≡ Some rows → AreTaken old.table old.options w i rest rows
+are-taken old rest new w i rows taken is same kept interval value some =
+    let here : new.rows ≡ Some rows = sym (ap (λ (work : Work). work.rows) is) ∙ sym value ∙ some in
+    record {
+      table = ap (λ (work : Work). work.table) is ∙ same.table;
+      options = ap (λ (work : Work). work.options) is ∙ same.options;
+      of = rw here at kept;
+      number = rw here at interval.1;
+      few = large-free (limits_of old.options) (integer_matrix old.table) w interval.0;
+    }
 
 -- the members between y and w, while their rows are made
 module _ (limits : Limits) (G : CoxeterMatrix) (g : IsAdmissible (integer_matrix G)) (y w : List ℕ) (old new : Holding)
