@@ -1,12 +1,12 @@
 -- The proof of `has_group`.
-use Rattle.std.proofs.Common.{◌≡◌, Some, sym, ap, ◌∙◌}
+use Rattle.std.proofs.Common.{◌≡◌, Some, IsTrue, sym, ap, ◌∙◌, rules}
 use Rattle.cox_answers.specs.SessionLimits.{limits_of}
 use Rattle.cox_answers.specs.Kept.{Work, AreOf}
 use Rattle.cox_answers.proofs.WholeGroups.{all-kept}
 use Rattle.cox_answers.proofs.workspace.Workspace.has_group.Goals as goal
 
-pub returns-in-Some-clause-free : goal.returns-in-Some-clause-free
-returns-in-Some-clause-free c =
+pub returns-in-Some : goal.returns-in-Some
+returns-in-Some c =
     let G = c.args.self.now.table in
     let limits = limits_of c.args.self.now.options in
     let rows = c.in-Some.rows in
@@ -14,15 +14,7 @@ returns-in-Some-clause-free c =
     let options : c.self.inside.options ≡ c.args.self.now.options = ap (λ (work : Work). work.options) c.self.view_is in
     let is : c.args.self.now.rows ≡ Some rows = sym (ap (λ (work : Work). work.rows) c.self.view_is) ∙ c.in-Some.is in
     let of : AreOf G limits rows = rw (table, options) at (rw c.in-Some.is at c.self.invariant.0) in
-    λ done. (all-kept G limits rows of c.context-context.ensures.closed (c.holds_group.ensures.all done) (c.holds_group.ensures.small done)).0
-
-pub returns-in-Some-clause-rows : goal.returns-in-Some-clause-rows
-returns-in-Some-clause-rows c =
-    let G = c.args.self.now.table in
-    let limits = limits_of c.args.self.now.options in
-    let rows = c.in-Some.rows in
-    let table : c.self.inside.table ≡ G = ap (λ (work : Work). work.table) c.self.view_is in
-    let options : c.self.inside.options ≡ c.args.self.now.options = ap (λ (work : Work). work.options) c.self.view_is in
-    let is : c.args.self.now.rows ≡ Some rows = sym (ap (λ (work : Work). work.rows) c.self.view_is) ∙ c.in-Some.is in
-    let of : AreOf G limits rows = rw (table, options) at (rw c.in-Some.is at c.self.invariant.0) in
-    λ done. rw is (all-kept G limits rows of c.context-context.ensures.closed (c.holds_group.ensures.all done) (c.holds_group.ensures.small done)).1
+    let held = c.holds_group.ensures in
+    let all = λ (done : IsTrue c.holds_group.result). all-kept G limits rows of c.context-context.ensures.closed (held.all done)
+    (held.small done) in
+    record { rows = λ done. rw is (all done).1; free = λ done. (all done).0; kept = search rules; group = search rules }

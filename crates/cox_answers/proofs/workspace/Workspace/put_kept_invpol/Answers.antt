@@ -1,5 +1,5 @@
 -- The proof of `put_kept_invpol`.
-use Rattle.std.proofs.Common.{Some, sym, ◌∙◌}
+use Rattle.std.proofs.Common.{Some, sym, ◌∙◌, rules}
 use Rattle.std.proofs.lemmas.Bool.{false≢true}
 use Rattle.cox_base.specs.IntegerMatrix.{integer_matrix}
 use Rattle.cox_base.specs.ShortLex.{normal_form}
@@ -28,8 +28,8 @@ returns-then-not-below-clause-puts c =
     rw c.unrefused.ensures (PutsUnless-put _ _ _ _ _ (inverse-none limits A y w (large-allowed limits A w c.in_ok-_number.ensures.few) none)
     (_, invpol-zero A (IsAdmissible-integer_matrix G c.rank.ensures.matrix) y w none, c.put_text.ensures))
 
-pub put_inverse-requires-clause-free : goal.put_inverse-requires-clause-free
-put_inverse-requires-clause-free c =
+pub put_inverse-requires : goal.put_inverse-requires
+put_inverse-requires c =
     let G = c.args.self.now.table in
     let A = integer_matrix G in
     let limits = limits_of c.args.self.now.options in
@@ -43,26 +43,17 @@ put_inverse-requires-clause-free c =
     let read : IsReadOff limits rows c.in_ok-whole.whole = rw c.rows-rows.ensures at c.in_ok-whole.ensures in
     let closed : IsClosed A rows.elements.members = rw of.group at c.context-context.ensures.closed in
     let below : IsBelow A y w = (rw c.table.ensures at c.below.ensures).0 c.if-not-below.false in
-    rw (c.options.ensures, c.table-2.ensures) (read_off-keeps limits G (IsAdmissible-integer_matrix G c.rank.ensures.matrix) y w i rows
-    c.in_ok-whole.whole of read closed number below).0
-
-pub put_inverse-requires-clause-held : goal.put_inverse-requires-clause-held
-put_inverse-requires-clause-held c =
-    let G = c.args.self.now.table in
-    let A = integer_matrix G in
-    let limits = limits_of c.args.self.now.options in
-    let y = c.args.y.now.items in
-    let w = c.args.w.now.items in
-    let i = c.in_ok-_number._number in
-    let rows = c.rows-rows.result.now in
-    let told = c.in_ok-_number.ensures in
-    let of : AreOf G limits rows = rw c.rows-rows.ensures at told.kept in
-    let number : IsNumberOf rows.elements.members (normal_form A w) (Some i) = rw c.rows-rows.ensures at told.number in
-    let read : IsReadOff limits rows c.in_ok-whole.whole = rw c.rows-rows.ensures at c.in_ok-whole.ensures in
-    let closed : IsClosed A rows.elements.members = rw of.group at c.context-context.ensures.closed in
-    let below : IsBelow A y w = (rw c.table.ensures at c.below.ensures).0 c.if-not-below.false in
-    rw c.table-2.ensures (read_off-keeps limits G (IsAdmissible-integer_matrix G c.rank.ensures.matrix) y w i rows
-    c.in_ok-whole.whole of read closed number below).1
+    let keeps = read_off-keeps limits G (IsAdmissible-integer_matrix G c.rank.ensures.matrix) y w i rows c.in_ok-whole.whole of read closed
+    number below in
+    record {
+      rows = search rules;
+      first = search rules;
+      second = search rules;
+      below = search rules;
+      held = rw c.table-2.ensures keeps.1;
+      free = rw (c.options.ensures, c.table-2.ensures) keeps.0;
+      whole = search rules;
+    }
 
 pub returns-clause-puts : goal.returns-clause-puts
 returns-clause-puts c = rw (c.options.ensures, c.table-2.ensures) at c.put_inverse.ensures

@@ -1,5 +1,5 @@
 -- The proof of `settled_number`.
-use Rattle.std.proofs.Common.{Some}
+use Rattle.std.proofs.Common.{Some, rules}
 use Rattle.cox_base.specs.IntegerMatrix.{integer_matrix}
 use Rattle.cox_base.specs.ShortLex.{normal_form}
 use Rattle.cox_base.proofs.AdmissibleMatrices.{IsAdmissible-integer_matrix}
@@ -9,8 +9,8 @@ use Rattle.cox_answers.specs.Kept.{AreOf}
 use Rattle.cox_answers.proofs.KeptRows.{settled-keeps}
 use Rattle.cox_answers.proofs.workspace.Workspace.settled_number.Goals as goal
 
-pub returns-clause-free : goal.returns-clause-free
-returns-clause-free c =
+pub returns : goal.returns
+returns c =
     let G = c.args.self.now.table in
     let limits = limits_of c.args.self.now.options in
     let w = c.args.w.now.items in
@@ -20,19 +20,6 @@ returns-clause-free c =
     let of : AreOf G limits rows = rw c.rows.ensures at told.kept in
     let number : IsNumberOf rows.elements.members (normal_form (integer_matrix G) w) (Some i) = rw c.rows.ensures at told.number in
     let settled = c.is_settled.ensures in
-    (settled-keeps limits G (IsAdmissible-integer_matrix G c.rank.ensures.matrix) w i rows of number told.few
-    (settled.there c.if-not-is_settled.false) (settled.small c.if-not-is_settled.false).small).0
-
-pub returns-clause-row : goal.returns-clause-row
-returns-clause-row c =
-    let G = c.args.self.now.table in
-    let limits = limits_of c.args.self.now.options in
-    let w = c.args.w.now.items in
-    let i = c.in_ok-i.i in
-    let rows = c.rows.result.now in
-    let told = c.in_ok-i.ensures in
-    let of : AreOf G limits rows = rw c.rows.ensures at told.kept in
-    let number : IsNumberOf rows.elements.members (normal_form (integer_matrix G) w) (Some i) = rw c.rows.ensures at told.number in
-    let settled = c.is_settled.ensures in
-    rw c.rows.ensures (settled-keeps limits G (IsAdmissible-integer_matrix G c.rank.ensures.matrix) w i rows of number told.few
-    (settled.there c.if-not-is_settled.false) (settled.small c.if-not-is_settled.false).small).1
+    let keeps = settled-keeps limits G (IsAdmissible-integer_matrix G c.rank.ensures.matrix) w i rows of number told.few
+    (settled.there c.if-not-is_settled.false) (settled.small c.if-not-is_settled.false).small in
+    record { row = rw c.rows.ensures keeps.1; free = keeps.0; kept = search rules; group = search rules }
