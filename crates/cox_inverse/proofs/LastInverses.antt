@@ -33,7 +33,8 @@ use Rattle.cox_inverse.proofs.LastMembers.{HasMember, below-member, before-membe
 use Rattle.cox_inverse.proofs.FirstPairs.{place-less, lower-place}
 
 -- other words of the elements
-module _ (A : IntegerMatrix) (g : IsAdmissible A) (limit : ℤ) (x u w v : List ℕ) (same : SameElement A x u) (other : SameElement A w v) where
+module _ (A : IntegerMatrix) (g : IsAdmissible A) (limit : ℤ) (x u w v : List ℕ) (same : SameElement A x u)
+    (other : SameElement A w v) where
   pub large_inverse-words : (k : ℕ) (c : ℤ) → IsLargeInverse A limit x w k c → IsLargeInverse A limit u v k c
   large_inverse-words k c h = record {
     polynomial = h.polynomial;
