@@ -1,5 +1,6 @@
 -- How a run that has come so far ends.
-use Rattle.std.proofs.Common.{◌≡◌, ◌<◌, ◌≤◌, ◌+◌, ℕ, Bool, true, false, cond, nat_le, inl, inr, Option, Some, None, Err, List, [], ◌∷◌, ◌++◌}
+use Rattle.std.proofs.Common.{◌≡◌, ◌<◌, ◌≤◌, ◌+◌, ℕ, Bool, true, false, cond, nat_le, inl, inr, Option, Some, None, Err}
+use Rattle.std.proofs.Common.{List, [], ◌∷◌, ◌++◌}
 use Rattle.std.proofs.Common.{length, take, refl, sym, ap, ◌∙◌, subst, arith, append_assoc, length-append, ◌⊎◌, ⊎_elim}
 use Rattle.std.specs.Option.{IsSome, IfSome}
 use Rattle.std.specs.Io.KnownBytes.{prepend_known, IsAtEnd}
@@ -188,8 +189,9 @@ ends_at_quit refused old now next going p s =
 
 -- the lines so far are those that end among the bytes so far and the beginning of a line
 ended_so_far : (refused : Bool) (old now next : Stand) (p : Progress refused old now) (read : TakenLines p.lines None old.ahead now.ahead)
-    → (begun : List ℕ) → IsUnbroken begun → WritesPrefix old next → next.ahead.pending ≡ [] → length (read.taken ++ begun) ≤ old.ahead.budget
-    → next.out ≡ now.out → next.state ≡ now.state → AnswersEnded (read.taken ++ begun) old next
+    → (begun : List ℕ) → IsUnbroken begun → WritesPrefix old next → next.ahead.pending ≡ []
+    → length (read.taken ++ begun) ≤ old.ahead.budget → next.out ≡ now.out → next.state ≡ now.state
+    → AnswersEnded (read.taken ++ begun) old next
 ended_so_far refused old now next p read begun unbroken part none_pending within same stays = record {
   writes_prefix = part;
   within = within;

@@ -1,5 +1,6 @@
 -- The replies where a list is open, and where none is.
-use Rattle.std.proofs.Common.{◌≡◌, ℕ, List, [], ◌∷◌, Bool, true, false, Option, Some, None, IsSomeAnd, MatchOption, IsSome, refl, sym, ap, subst}
+use Rattle.std.proofs.Common.{◌≡◌, ℕ, List, [], ◌∷◌, Bool, true, false, Option, Some, None, IsSomeAnd, MatchOption, IsSome}
+use Rattle.std.proofs.Common.{refl, sym, ap, subst}
 use Rattle.std.specs.Option.{option_map, is_some}
 use Rattle.std.specs.Bool.{MatchBool}
 use Rattle.cox_tokens.specs.Tokens.{tokens_of}

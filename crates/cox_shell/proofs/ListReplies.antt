@@ -106,7 +106,8 @@ module _ (state : State) (list : OpenList) (content : List ℕ) where
       → one ≡ other
   in_list-unique matrix one other p q = by_word (list_word_of (tokens_of content)) p q where
     by_word : (o : Option ListWord)
-        → MatchOption o (one ≡ kept_reply state list (record { content = content; refused = None })) (λ word. IsWordReply word state list one)
+        → MatchOption o (one ≡ kept_reply state list (record { content = content; refused = None }))
+        (λ word. IsWordReply word state list one)
         → MatchOption o (other ≡ kept_reply state list (record { content = content; refused = None }))
         (λ word. IsWordReply word state list other) → one ≡ other
     by_word None p q = p ∙ sym q

@@ -133,10 +133,11 @@ pub AreAllReplies-unique : (state : State) → HasMatrix state → (lines : List
     → AreAllReplies state lines one → AreAllReplies state lines other → one ≡ other
 AreAllReplies-unique state matrix lines one other p q =
     let same : p.replies ≡ q.replies = AreReplies-unique state matrix lines p.replies q.replies p.are_replies q.are_replies in
-    let closes : IsClosing (state_behind state q.replies) p.closing = subst (λ r. IsClosing (state_behind state r) p.closing) same p.closes in
+    let behind = state_behind state q.replies in
+    let closes : IsClosing behind p.closing = subst (λ r. IsClosing (state_behind state r) p.closing) same p.closes in
+    let behind_matrix = AreReplies-matrix state lines q.replies matrix q.are_replies in
     p.all_are ∙ ap (λ r. r ++ p.closing) same
-    ∙ ap (λ c. q.replies ++ c) (IsClosing-unique (state_behind state q.replies) (AreReplies-matrix state lines q.replies matrix q.are_replies)
-    p.closing q.closing closes q.closes) ∙ sym q.all_are
+    ∙ ap (λ c. q.replies ++ c) (IsClosing-unique behind behind_matrix p.closing q.closing closes q.closes) ∙ sym q.all_are
 
 -- a script has one answer
 pub IsAnswer-unique : (limits : Limits) (script one other : List ℕ) → IsAnswer limits script one → IsAnswer limits script other → one

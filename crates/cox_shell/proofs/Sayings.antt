@@ -149,8 +149,8 @@ pub Says-tells_reply : (result : Result Said AllocError) (Is : Reply → Type 0)
 Says-tells_reply (Ok said) Is reply state before after is says = (reply, is, record { tells = says.tells; text = says.text })
 Says-tells_reply (Err error) Is reply state before after is says = tt
 
-pub SaysPrefix-puts_reply : (result : Result Said AllocError) (Is : Reply → Type 0) (reply : Reply) (old new : State) (before after : List ℕ)
-    → Is reply → OnErr result (SaysPrefix reply old new before after)
+pub SaysPrefix-puts_reply : (result : Result Said AllocError) (Is : Reply → Type 0) (reply : Reply) (old new : State)
+    (before after : List ℕ) → Is reply → OnErr result (SaysPrefix reply old new before after)
     → OnErr result ((reply : Reply) × Is reply × PutsPrefix reply.text before after)
 SaysPrefix-puts_reply (Ok said) Is reply old new before after is says = tt
 SaysPrefix-puts_reply (Err error) Is reply old new before after is says = (reply, is, says.puts_prefix)
@@ -168,7 +168,7 @@ opened-says (Ok said) state next out done = (silence next, done.1, rw done.0 (Sa
 opened-says (Err error) state next out done = tt
 
 -- nothing was put of a reply
-pub nothing-put : (result : Result Said AllocError) (Is : Reply → Type 0) (reply : Reply) (before after : List ℕ) → Is reply → after ≡ before
-    → OnErr result ((reply : Reply) × Is reply × PutsPrefix reply.text before after)
+pub nothing-put : (result : Result Said AllocError) (Is : Reply → Type 0) (reply : Reply) (before after : List ℕ) → Is reply
+    → after ≡ before → OnErr result ((reply : Reply) × Is reply × PutsPrefix reply.text before after)
 nothing-put (Ok said) Is reply before after is same = tt
 nothing-put (Err error) Is reply before after is same = (reply, is, PutsPrefix-none reply.text before after same)

@@ -85,7 +85,8 @@ module _ (state : State) (lines : List Kept) where
         ∙ ap (then_numbered before) (sym (numbered-then h.told (told_by one.0)));
   }
 
-  pub HasTold-all : (i : ℕ) (before now : Numbered) → length lines ≤ i → HasTold state lines i before now → TellsBlock state lines before now
+  pub HasTold-all : (i : ℕ) (before now : Numbered) → length lines ≤ i → HasTold state lines i before now
+      → TellsBlock state lines before now
   HasTold-all i before now end h = (
     h.told,
     subst (λ t. AnswersBlock state lines t) (then_nothing h.told) (h.goes nothing (rw (drop_all i lines end) refl)),

@@ -96,7 +96,8 @@ texts-append some more = flat_map-append (λ (reply : Reply). reply.text) some m
 -- no reply to the end of reading ends the run, and there is none where no list is open
 none_quits : (state : State) (closing : List Reply) → IsClosing state closing → has_quit closing ≡ false
 none_quits state closing is = by_list state.list is where
-  by_list : (o : Option OpenList) → MatchOption o (closing ≡ []) (λ list. (reply : Reply) × IsListReply state list reply × (closing ≡ reply ∷ []))
+  by_list : (o : Option OpenList)
+      → MatchOption o (closing ≡ []) (λ list. (reply : Reply) × IsListReply state list reply × (closing ≡ reply ∷ []))
       → has_quit closing ≡ false
   by_list None e = ap has_quit e
   by_list (Some list) e = ap has_quit e.2 ∙ ap (λ b. b || false) (IsListReply-closed state list e.0 e.1).1
@@ -160,7 +161,8 @@ module _ (limits : Limits) (script : Option (List ℕ)) (old : Outlet) (state : 
       IfSome-follows (λ bytes. AreReplies (opening limits) (script_lines bytes) all.replies)
       (λ bytes. AreScriptReplies limits bytes (all.replies ++ closing)) script
       (λ bytes are. all_replies (script_lines bytes) all.replies closing are all.behind closes)
-      (IfSome-unmade (λ bytes. lines_within INPUT_LIMIT bytes) (λ lines. AreReplies (opening limits) lines all.replies) script all.are_replies)
+      (IfSome-unmade (λ bytes. lines_within INPUT_LIMIT bytes) (λ lines. AreReplies (opening limits) lines all.replies) script
+      all.are_replies)
 
   -- where reading has ended inside a list, the replies to all that was read, and to the end of the list, are due
   EndsReading-due : (lost : Bool) (h : EndsReading lost begins ends) (closing : List Reply) → IsClosing state closing → IsSome state.list
@@ -169,7 +171,8 @@ module _ (limits : Limits) (script : Option (List ℕ)) (old : Outlet) (state : 
     given = h.given;
     taken = h.gave ∙ ap (prepend_known h.given) (none_pending-left h.none_pending);
     lines = h.lines;
-    are_read = elim h.are_all as (λ _. (((lost ≡ true) ⊎ (INPUT_LIMIT < length h.given)) × (h.lines ≡ ended_lines (take INPUT_LIMIT h.given)))
+    are_read = elim h.are_all as (λ _.
+        (((lost ≡ true) ⊎ (INPUT_LIMIT < length h.given)) × (h.lines ≡ ended_lines (take INPUT_LIMIT h.given)))
         ⊎ (IsAtEnd supply.left × (h.lines ≡ script_lines h.given))) [
           | inl ended ↦ inl ended
           | inr whole ↦ inr (IsAtEnd-left reader.feed.pending supply.left whole.0, whole.1)
@@ -411,8 +414,8 @@ module _ (arguments : List (List ℕ)) (script : Option (List ℕ)) (old : Outle
           ),
           Writes-append (texts h.replies) cut.prefix old mid new h.writes cut.writes,
           λ e. IfSome-made (λ left. left + length (texts h.replies)) (λ count. count < length (texts all)) old.room mid.room h.writes.room
-              (IfSome-follows (λ left. left < length (texts cut.closing)) (λ left. left + length (texts h.replies) < length (texts all)) mid.room
-              (λ left less. omega (
+              (IfSome-follows (λ left. left < length (texts cut.closing)) (λ left. left + length (texts h.replies) < length (texts all))
+              mid.room (λ left less. omega (
                 arith,
                 ap length (texts-append h.replies cut.closing),
                 length-append (texts h.replies) (texts cut.closing),

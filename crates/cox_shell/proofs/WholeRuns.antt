@@ -1,4 +1,5 @@
--- The contract of a whole run, from the run over the lines and the end of a list that is open then, or from what was written of the usage line.
+-- The contract of a whole run, from the run over the lines and the end of a list that is open then, or from what was written of the usage
+-- line.
 use Rattle.std.proofs.Common.{◌≡◌, ◌⊎◌, ⊎_elim, inl, inr, ◌<◌, ◌≤◌, ◌+◌, ℕ, true, false, List, [], ◌∷◌, ◌++◌, length, Option, None, Some}
 use Rattle.std.proofs.Common.{refl, sym, ◌∙◌, ap, subst, cond, Bool, ◌||◌, arith, length-append}
 use Rattle.std.specs.Prelude.{IfSome, IsSome, IsSomeAnd}
@@ -26,8 +27,8 @@ use Rattle.cox_shell.specs.Closing.{Closes, IsClosingCut, EndsBy, closed_status,
 use Rattle.cox_shell.specs.Top.{usage_line, given_limits, AnswersWhole, AnswersGiven, AreDue, AreDueAtEnd, WritesDue}
 use Rattle.cox_shell.specs.Reading.{IsReadBy, IsReadWhole, StopsReading}
 use Rattle.cox_shell.specs.WholeRun.{IsRun}
-use Rattle.cox_shell.proofs.Whole.{beginning, AnswersAll-whole, AnswersAll-read, Runs-given, Runs-limit, Runs-takes, fault_reading, limit_reading}
-use Rattle.cox_shell.proofs.Whole.{cut_due, closed_due, closing_due, closing_lost}
+use Rattle.cox_shell.proofs.Whole.{beginning, AnswersAll-whole, AnswersAll-read, Runs-given, Runs-limit, Runs-takes}
+use Rattle.cox_shell.proofs.Whole.{fault_reading, limit_reading, cut_due, closed_due, closing_due, closing_lost}
 use Rattle.cox_shell.proofs.Whole.{WritesDue-none, IsDue-usage, IsCutShort-stops, StopsReading-none}
 
 -- arguments are not both taken and wrong
@@ -214,19 +215,24 @@ module _ (arguments : List (List ℕ)) (source : Supply) (state : State) (reader
   later failed before at_end = at_end ∙ ap (count_after failed) before
 
   -- the run over the lines answered them whole
-  whole-ends : (before : Bool) → AnswersAll before (beginning limits source.left old) (stand state reader left mid) → (closed : Closed) → Closes closed state mid new → SourceCause source left false
-      → SinkCause old mid false → SinkCause mid new (closed_write_fault closed)
+  whole-ends : (before : Bool) → AnswersAll before (beginning limits source.left old) (stand state reader left mid) → (closed : Closed)
+      → Closes closed state mid new → SourceCause source left false → SinkCause old mid false
+      → SinkCause mid new (closed_write_fault closed)
       → IsRun (closed_status closed (cond before Refused Done)) arguments source left old new
   whole-ends before h closed.Answered c reads writes more = subst (λ status. IsRun status arguments source left old new)
-      (none_more before) (run-whole (before || false) (AnswersAll-whole limits source.left old state reader left mid new before false h c) reads
-      (later false writes more) (closed_due arguments source.left old state reader left mid right new false false h.writes_prefix h.reading c))
+      (none_more before)
+      (run-whole (before || false) (AnswersAll-whole limits source.left old state reader left mid new before false h c) reads
+      (later false writes more)
+      (closed_due arguments source.left old state reader left mid right new false false h.writes_prefix h.reading c))
     where
       none_more : (b : Bool) → cond (b || false) Refused Done ≡ cond b Refused Done
       none_more true = refl
       none_more false = refl
   whole-ends before h closed.Refused c reads writes more = subst (λ status. IsRun status arguments source left old new)
-      (one_more before) (run-whole (before || true) (AnswersAll-whole limits source.left old state reader left mid new before true h c) reads
-      (later false writes more) (closed_due arguments source.left old state reader left mid right new false true h.writes_prefix h.reading c))
+      (one_more before)
+      (run-whole (before || true) (AnswersAll-whole limits source.left old state reader left mid new before true h c) reads
+      (later false writes more)
+      (closed_due arguments source.left old state reader left mid right new false true h.writes_prefix h.reading c))
     where
       one_more : (b : Bool) → cond (b || true) Refused Done ≡ closed_status closed.Refused (cond b Refused Done)
       one_more true = refl
@@ -278,8 +284,8 @@ module _ (arguments : List (List ℕ)) (source : Supply) (state : State) (reader
   Takes = (given : List ℕ) × (source.left ≡ prepend_known given left.left) × (length given ≤ INPUT_LIMIT + 1)
 
   read-whole : (status : Status) → ¬ IsCut status
-      → (replies : List Reply) × IfSome source.left (λ bytes. AreScriptReplies limits bytes replies) × IsReadWhole replies source.left left.left
-      → Takes → IsReadBy status arguments source.left left.left
+      → (replies : List Reply) × IfSome source.left (λ bytes. AreScriptReplies limits bytes replies)
+      × IsReadWhole replies source.left left.left → Takes → IsReadBy status arguments source.left left.left
   unfolding Takes
   read-whole status whole read takes = record {
     whole = λ which. read;
@@ -306,6 +312,12 @@ module _ (arguments : List (List ℕ)) (source : Supply) (state : State) (reader
     stops = λ cut taken. absurd (whole cut);
     within = takes;
   }
+
+  read-fault : Takes → IsReadBy ReadFault arguments source.left left.left
+  read-fault takes = read-rest ReadFault (λ w. ⊎_elim (λ e. cc e) (λ e. cc e) w) (λ w. ⊎_elim (λ e. cc e) (λ e. cc e) w) takes
+
+  read-limit : Takes → IsReadBy InputLimit arguments source.left left.left
+  read-limit takes = read-rest InputLimit (λ w. ⊎_elim (λ e. cc e) (λ e. cc e) w) (λ w. ⊎_elim (λ e. cc e) (λ e. cc e) w) takes
 
   -- the reply to the end of the list was cut off
   read-closing : (status : Status) → ((status ≡ Done) ⊎ (status ≡ Refused) → ⊥) → (lost : Bool) → Reading lost → IsClosingCut state mid new
@@ -335,14 +347,10 @@ module _ (arguments : List (List ℕ)) (source : Supply) (state : State) (reader
 
   read-other-ends : (ended : Status) → (ended ≡ ReadFault) ⊎ (ended ≡ InputLimit) → (lost : Bool) → Reading lost
       → (closed : Closed) → Closes closed state mid new → Takes → IsReadBy (closed_status closed ended) arguments source.left left.left
-  read-other-ends ended which lost h closed.Answered c takes = ⊎_elim
-      (λ (e : ended ≡ ReadFault). rw e (read-rest ReadFault (λ w. ⊎_elim (λ e. cc e) (λ e. cc e) w) (λ w. ⊎_elim (λ e. cc e) (λ e. cc e) w) takes))
-      (λ (e : ended ≡ InputLimit). rw e (read-rest InputLimit (λ w. ⊎_elim (λ e. cc e) (λ e. cc e) w) (λ w. ⊎_elim (λ e. cc e) (λ e. cc e) w) takes))
-      which
-  read-other-ends ended which lost h closed.Refused c takes = ⊎_elim
-      (λ (e : ended ≡ ReadFault). rw e (read-rest ReadFault (λ w. ⊎_elim (λ e. cc e) (λ e. cc e) w) (λ w. ⊎_elim (λ e. cc e) (λ e. cc e) w) takes))
-      (λ (e : ended ≡ InputLimit). rw e (read-rest InputLimit (λ w. ⊎_elim (λ e. cc e) (λ e. cc e) w) (λ w. ⊎_elim (λ e. cc e) (λ e. cc e) w) takes))
-      which
+  read-other-ends ended which lost h closed.Answered c takes =
+      ⊎_elim (λ (e : ended ≡ ReadFault). rw e (read-fault takes)) (λ (e : ended ≡ InputLimit). rw e (read-limit takes)) which
+  read-other-ends ended which lost h closed.Refused c takes =
+      ⊎_elim (λ (e : ended ≡ ReadFault). rw e (read-fault takes)) (λ (e : ended ≡ InputLimit). rw e (read-limit takes)) which
   read-other-ends ended which lost h closed.WriteFault c takes =
       read-closing WriteFault (λ which. ⊎_elim (λ e. cc e) (λ e. cc e) which) lost h c.0 takes
   read-other-ends ended which lost h closed.NoMemory c takes =

@@ -42,7 +42,8 @@ state_behind state (reply ∷ replies) = state_behind reply.after replies
 
 -- the reply to the end of reading: a list that is open then ends, as by a line `end`; else there is none
 abbrev pub IsClosing : State → List Reply → Type 0
-IsClosing state closing = MatchOption state.list (closing ≡ []) (λ list. (reply : Reply) × IsListReply state list reply × (closing ≡ reply ∷ []))
+IsClosing state closing = MatchOption state.list (closing ≡ [])
+    (λ list. (reply : Reply) × IsListReply state list reply × (closing ≡ reply ∷ []))
 
 -- these are the replies to the lines, in order, up to one that ends the run, and to the end of reading behind them
 pub record AreAllReplies (state : State) (lines : List (List ℕ)) (all : List Reply) : Type 0 where

@@ -25,8 +25,8 @@ pub record IsReadBy (status : Status) (arguments : List (List ℕ)) (script left
   -- At these the script was read to its end, or to the line that ends the run.
   pub whole : (status ≡ Done) ⊎ (status ≡ Refused) → (replies : List Reply)
       × IfSome script (λ bytes. AreScriptReplies (given_limits arguments) bytes replies) × IsReadWhole replies script left
-  -- Where a write failed or memory ran out, less than a chunk was read beyond lines whose replies are due, of which one that ends the run is
-  -- the last; or reading had ended inside a list.
+  -- Where a write failed or memory ran out, less than a chunk was read beyond lines whose replies are due, of which one that ends the run
+  -- is the last; or reading had ended inside a list.
   pub stops : (status ≡ WriteFault) ⊎ (status ≡ NoMemory) → is_refused arguments ≡ false
       → ((replies : List Reply) × AreDue (given_limits arguments) script left replies × StopsReading replies script left)
       ⊎ ((lost : Bool) × (replies : List Reply) × AreDueAtEnd lost (given_limits arguments) script left replies)

@@ -64,7 +64,8 @@ pub record AreDueAtEnd (lost : Bool) (limits : Limits) (script left : Option (Li
 -- arguments
 abbrev pub IsDue : Bool → List (List ℕ) → Option (List ℕ) → Option (List ℕ) → List ℕ → Type 0
 IsDue lost arguments script left text = MatchBool (is_refused arguments) (text ≡ usage_line)
-    ((replies : List Reply) × (AreDue (given_limits arguments) script left replies ⊎ AreDueAtEnd lost (given_limits arguments) script left replies)
+    ((replies : List Reply)
+    × (AreDue (given_limits arguments) script left replies ⊎ AreDueAtEnd lost (given_limits arguments) script left replies)
     × (text ≡ texts replies))
 
 -- A prefix of what is due was written, where a read failed or none. Where a write failed, more was due than there was room for, if the sink

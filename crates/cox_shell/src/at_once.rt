@@ -15,8 +15,8 @@ use std::alloc::{AllocError, Global};
 use std::sync::Wait;
 use std::thread::{Threads, join};
 
-/// What the blocks of a list are answered, which is not too long, told at once by so many threads at most. `None` where memory ran out among
-/// them.
+/// What the blocks of a list are answered, which is not too long, told at once by so many threads at most. `None` where memory ran out
+/// among them.
 ///
 /// The thread of each block passes the gate under the number of the block, from 1, before it begins the block.
 pub fn tell_list<R: Threads + Wait + Sync, G: Gate + Sync>(

@@ -11,8 +11,8 @@ use std::alloc::Global;
 
 /// Makes rows that will be asked for, and may answer the blocks of a list at once. No answer depends on it.
 pub trait BlockTeller: RowMaker {
-    /// What the blocks of a list are answered in this session, which is not too long. `None` where they are to be answered one after another.
-    /// The session may have made rows.
+    /// What the blocks of a list are answered in this session, which is not too long. `None` where they are to be answered one after
+    /// another. The session may have made rows.
     fn tell(&self, session: &mut Session, alloc: Global, blocks: &[Block]) -> Option<ToldText>
         requires ready { Self.ready self.now }
         requires short { is_long blocks.now ≡ false }

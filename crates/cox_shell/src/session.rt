@@ -87,7 +87,8 @@ impl Session {
     ghost use Rattle.std.specs.Thread.{IsSync};
     ghost use Rattle.cox_row.specs.Rising.{AreWithin};
     ghost use Rattle.cox_answers.specs.Kept.{IsMore};
-    ghost use Rattle.std.specs.Prelude.{◌≡◌, ◌<◌, ◌≤◌, ◌⊎◌, ◌^◌, false, length, None, Some, is_some, IfOk, OnErr, OnOk, IfSome, IsSome, IsSomeAnd, MatchOption};
+    ghost use Rattle.std.specs.Prelude.{◌≡◌, ◌<◌, ◌≤◌, ◌⊎◌, ◌^◌, false, length, None, Some, is_some, IfOk, OnErr, OnOk};
+    ghost use Rattle.std.specs.Prelude.{IfSome, IsSome, IsSomeAnd, MatchOption};
     ghost use Rattle.cox_base.specs.Admissible.{IsCoxeterMatrix};
     ghost use Rattle.cox_command.specs.declared.command.Command.TheVariants.{Group, Jobs};
     ghost use Rattle.cox_command.specs.ParseContract.{HasLetters, HasWordsOf};
@@ -129,8 +130,8 @@ impl Session {
         self.answer_line(&OneThread, line, out)
     }
 
-    /// Answers a line in the same way, with as many workers as the options say where rows are made, and where a list of blocks ends. Each of
-    /// them passes the gate before each claim and each publication of a row, and before each block.
+    /// Answers a line in the same way, with as many workers as the options say where rows are made, and where a list of blocks ends. Each
+    /// of them passes the gate before each claim and each publication of a row, and before each block.
     pub fn answer_with<R: Threads + Wait + Sync, G: Gate + Sync>(
         &mut self,
         rt: &R,

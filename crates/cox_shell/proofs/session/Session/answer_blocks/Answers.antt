@@ -13,8 +13,9 @@ use Rattle.cox_shell.proofs.session.Session.answer_blocks.Goals as goal
 
 pub returns-then-is_long-clause-err : goal.returns-then-is_long-clause-err
 returns-then-is_long-clause-err g c =
-    SaysPrefix-puts_reply _ (IsListReply c.args.self.now c.args.blocks.now) (refusal c.args.self.now LongList) c.args.self.now c.args.self.now
-    _ _ (long_reply c.args.self.now c.args.blocks.now c.requires.outside (sym c.is_long.ensures ∙ c.if-is_long.true)) c.refuse.ensures.err
+    SaysPrefix-puts_reply _ (IsListReply c.args.self.now c.args.blocks.now) (refusal c.args.self.now LongList) c.args.self.now
+    c.args.self.now _ _ (long_reply c.args.self.now c.args.blocks.now c.requires.outside (sym c.is_long.ensures ∙ c.if-is_long.true))
+    c.refuse.ensures.err
 
 pub returns-in_err-told-clause-err : goal.returns-in_err-told-clause-err
 returns-in_err-told-clause-err g c =

@@ -19,7 +19,8 @@ pub returns-in-Ok-clause-ok : goal.returns-in-Ok-clause-ok
 returns-in-Ok-clause-ok c =
     let limit = c.roots.ensures.roots ∙ ap (λ (l : Limits). l.roots) c.options-options.ensures in
     let few : HasFewSmallRoots (integer_matrix c.args.group.now) c.args.self.now.limits.roots = rw limit at c.in-Ok.ensures.few in
-    let list : c.self.inside.list ≡ c.args.self.now.list = list_of c.self.inside.stage c.self.inside.list c.args.self.now c.self.view_is in (
+    let list : c.self.inside.list ≡ c.args.self.now.list
+    = list_of c.self.inside.stage c.self.inside.list c.args.self.now c.self.view_is in (
       silence (with_group c.args.self.now c.args.group.now),
       group-set c.args.self.now c.args.group.now few,
       Says-silence _ _ _ (rw (c.new.ensures.options, c.new.ensures.table, c.in-Ok.ensures.group, c.options-options.ensures, list) refl),
