@@ -1,7 +1,7 @@
 -- What was read of a text, line by line.
-use Rattle.std.proofs.Common.{◌≡◌, ℕ, ◌+◌, ◌<◌, ◌≤◌, ◌⊎◌, ⊎_elim, Bool, true, false, cond, is_some, List, [], ◌∷◌, ◌++◌, length, All}
+use Rattle.std.proofs.Common.{◌≡◌, ℕ, ◌+◌, ◌<◌, ◌≤◌, ⊎_elim, Bool, false, cond, is_some, List, [], ◌∷◌, ◌++◌, length, All}
 use Rattle.std.proofs.Common.{Option, Some, None}
-use Rattle.std.proofs.Common.{Ok, Err, refl, sym, ap, ◌∙◌, subst, arith, append_assoc, length-append, position}
+use Rattle.std.proofs.Common.{Ok, Err, refl, sym, ap, ◌∙◌, subst, arith, length-append, position}
 use Rattle.std.specs.Option.{IfSome, IsSome, option_map}
 use Rattle.std.specs.Io.KnownBytes.{prepend_known, IsAtEnd}
 use Rattle.std.proofs.lemmas.List.{append-nil}
@@ -10,10 +10,10 @@ use Rattle.cox_outside.specs.declared.limits.TheConstants.{LINE_LIMIT, INPUT_LIM
 use Rattle.cox_outside.specs.declared.line_reader.Stop.{Stop}
 use Rattle.cox_outside.specs.declared.line_reader.Stop.TheVariants as stop
 use Rattle.cox_outside.specs.Line.{content_of, is_foreign}
-use Rattle.cox_outside.specs.Ahead.{Ahead, ahead, Takes, MeetsEnd, MeetsFault, MeetsLimit}
+use Rattle.cox_outside.specs.Ahead.{Ahead, ahead, Takes, MeetsEnd, MeetsLimit}
 use Rattle.cox_outside.specs.Reader.{Reader, TakesNext, fresh_reader}
 use Rattle.cox_outside.proofs.Known.{prepend_known-append, prepend_known-none}
-use Rattle.cox_outside.proofs.Taking.{Takes-none, Takes-append}
+use Rattle.cox_outside.proofs.Taking.{Takes-append}
 use Rattle.cox_cert.specs.declared.status.Cause.TheVariants.{Grammar}
 use Rattle.cox_cert.specs.declared.draft.Draft.{Draft}
 use Rattle.cox_cert.specs.declared.draft.Form.{Form}
@@ -23,8 +23,8 @@ use Rattle.cox_cert.specs.declared.collecting.Halt.TheVariants as halt
 use Rattle.cox_cert.specs.Certificate.{Certificate, Gives, contents}
 use Rattle.cox_cert.specs.Causes.{IsFirstCause}
 use Rattle.cox_cert.specs.Checks.{ReadsAll, ReadsWithin}
-use Rattle.cox_cert.specs.Drafts.{IsForm, BeginsNone, Finishes, HasAll}
-use Rattle.cox_cert.specs.Collected.{TakesFitting, TakesNone, TakesForeign, Steps, GivesAll, Gathers}
+use Rattle.cox_cert.specs.Drafts.{IsForm, BeginsNone, HasAll}
+use Rattle.cox_cert.specs.Collected.{TakesFitting, TakesNone, TakesForeign, Steps, Gathers}
 use Rattle.cox_cert.proofs.TakenContents.{HasHalted, HasTaken, HasTaken-one, HasTaken-none, HasTaken-end, HasTaken-append, budget-smaller}
 use Rattle.cox_cert.proofs.FirstLines.{none-long, none-byte}
 use Rattle.cox_cert.proofs.TakenContents.{contents-whole, contents-all, within-budget, IsAtEnd-left}

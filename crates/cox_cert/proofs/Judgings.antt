@@ -1,10 +1,10 @@
 -- Which cause is the first that applies to a certificate, by its parts.
-use Rattle.std.proofs.Common.{◌≡◌, ◌↔◌, Bool, IsTrue, ℕ, ◌+◌, ◌-◌, ◌≤◌, ◌<◌, true, false, List, [], length, map, take, get_or, All}
+use Rattle.std.proofs.Common.{◌≡◌, ◌↔◌, Bool, IsTrue, ℕ, ◌+◌, ◌-◌, ◌≤◌, ◌<◌, false, List, [], length, take, get_or, All}
 use Rattle.std.proofs.Common.{ℤ, sym, ap, ◌∙◌, subst, arith}
 use Rattle.std.proofs.lemmas.List.{length-map, get_or-map, take_more_same}
 use Rattle.arrayvec.specs.ArrayVec.{ArrayVec}
 use Rattle.cox_base.specs.Matrix.{CoxeterMatrix, IsWord}
-use Rattle.cox_base.specs.IntegerMatrix.{IntegerMatrix, integer_matrix}
+use Rattle.cox_base.specs.IntegerMatrix.{integer_matrix}
 use Rattle.cox_base.specs.ShortLex.{normal_form}
 use Rattle.cox_base.specs.Members.{IsInInterval}
 use Rattle.cox_base.specs.SortedList.{IsListOf}
@@ -13,12 +13,8 @@ use Rattle.cox_rowcheck.specs.ListedRows.{AreRow}
 use Rattle.cox_rowcheck.specs.SmallPolynomials.{IsSmall}
 use Rattle.cox_rowcheck.specs.declared.limits.TheConstants.{MAX_LISTED}
 use Rattle.cox_cert.specs.declared.draft.Draft.{Draft}
-use Rattle.cox_cert.specs.declared.status.CheckStatus.{CheckStatus}
-use Rattle.cox_cert.specs.declared.status.CheckStatus.TheVariants as status
-use Rattle.cox_cert.specs.declared.status.Cause.{Cause}
-use Rattle.cox_cert.specs.declared.status.Cause.TheVariants as cause
-use Rattle.cox_cert.specs.Certificate.{Certificate, IsCertificate, Gives, words_of, polynomials_of}
-use Rattle.cox_cert.specs.Causes.{HasTop, HasInterval, HasSmall, HasRow, IsFirstCause, IsProof}
+use Rattle.cox_cert.specs.Certificate.{Certificate, words_of, polynomials_of}
+use Rattle.cox_cert.specs.Causes.{HasTop, HasInterval, HasRow}
 use Rattle.cox_cert.specs.Drafts.{IsDraftOf, letters_of}
 use Rattle.cox_cert.specs.Judgements.{HasCertificate, IsTop, IsInterval, IsRow}
 use Rattle.cox_base.specs.Admissible.{IsCoxeterMatrix, IsAdmissible}

@@ -1,9 +1,8 @@
 -- The labels of a Coxeter matrix in their order: the nodes of the first, and those of the next.
-use Rattle.std.proofs.Common.{◌≡◌, ◌⊎◌, ℕ, ◌+◌, ◌-◌, ◌*◌, ◌/◌, ◌<◌, ◌≤◌, inl, inr, ⊎_elim, arith, refl, slice_index, if◌then◌else◌, ◌==◌}
-use Rattle.std.specs.Prelude.{nat_lt}
-use Rattle.std.proofs.lemmas.Bool.{cases_lt, eq-eqb}
-use Rattle.cox_base.specs.Matrix.{CoxeterMatrix, IsLetter, labels_before, place, label}
-use Rattle.cox_base.proofs.LabelPlaces.{labels_before-all, labels_before-next, place-within}
+use Rattle.std.proofs.Common.{◌≡◌, ℕ, ◌+◌, ◌-◌, ◌*◌, ◌/◌, ◌<◌, ◌≤◌, ⊎_elim, arith, refl}
+use Rattle.std.proofs.lemmas.Bool.{cases_lt}
+use Rattle.cox_base.specs.Matrix.{labels_before, place}
+use Rattle.cox_base.proofs.LabelPlaces.{labels_before-all, labels_before-next}
 use Rattle.cox_cert.specs.LabelPairs.{IsNextPair}
 
 -- the nodes of the label at the place k, if there is one: s and t with s < t; behind the last label s is the rank

@@ -1,20 +1,16 @@
 -- A certificate, as far as its lines are read, with one more line.
-use Rattle.std.proofs.Common.{◌≡◌, ◌≢◌, ℕ, ◌+◌, ◌<◌, ◌≤◌, true, false, List, [], ◌∷◌, ◌++◌, length, map, All, ℤ, Some, refl, sym, ap, ◌∙◌}
+use Rattle.std.proofs.Common.{◌≡◌, ◌≢◌, ℕ, ◌<◌, ◌≤◌, true, false, List, [], ◌∷◌, ◌++◌, length, map, All, ℤ, refl, sym, ap, ◌∙◌}
 use Rattle.std.proofs.Common.{subst, arith, ◌⊎◌, ⊎_elim}
 use Rattle.std.proofs.lemmas.List.{length-map, map_push, length_push}
 use Rattle.std.proofs.lemmas.List.Elements.{All-nil, All-cons, All-head, All-tail, All-push}
 use Rattle.arrayvec.specs.ArrayVec.{ArrayVec}
 use Rattle.cox_base.specs.Matrix.{CoxeterMatrix}
-use Rattle.cox_base.specs.declared.limits.TheConstants.{MAX_RANK}
 use Rattle.cox_rowcheck.specs.SmallPolynomials.{IsSmall}
 use Rattle.cox_rowcheck.specs.declared.limits.TheConstants.{MAX_LISTED}
 use Rattle.cox_cert.specs.declared.draft.Draft.{Draft}
-use Rattle.cox_cert.specs.declared.draft.Form.{Form}
-use Rattle.cox_cert.specs.declared.draft.Form.TheVariants as form
-use Rattle.cox_cert.specs.Certificate.{Certificate, IsShortWord, IsLine, IsCertificate, Gives, words_of, polynomials_of}
-use Rattle.cox_cert.specs.Certificate.{matrix_line, top_line, count_line, row_line, end_line, certificate_lines}
-use Rattle.cox_cert.specs.Causes.{HasSmall}
-use Rattle.cox_cert.specs.Drafts.{letters_of, IsDraftOf, IsGroup, HasHead, HasRows, HasAll, IsForm, BeginsNone}
+use Rattle.cox_cert.specs.Certificate.{Certificate, IsShortWord, IsLine, Gives, words_of, polynomials_of}
+use Rattle.cox_cert.specs.Certificate.{matrix_line, top_line, count_line, row_line, end_line}
+use Rattle.cox_cert.specs.Drafts.{letters_of, IsDraftOf, IsGroup, HasHead, HasRows, HasAll, BeginsNone}
 use Rattle.cox_cert.proofs.FirstLines.{none-top, none-count, none-row, none-end, none-behind, unfinished-rows}
 
 -- ---- all but the last hold

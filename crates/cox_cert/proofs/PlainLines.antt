@@ -1,7 +1,7 @@
 -- Each line of a certificate is made of bytes that may stand in a line, whatever the size of its polynomials.
-use Rattle.std.proofs.Common.{◌≡◌, ℕ, zero, suc, ◌+◌, ◌%◌, ◌/◌, ◌<◌, ◌≤◌, ◌^◌, true, false, Bool, cond, List, [], ◌∷◌, ◌++◌, length, map}
+use Rattle.std.proofs.Common.{◌≡◌, ℕ, zero, suc, ◌+◌, ◌%◌, ◌/◌, ◌<◌, ◌≤◌, true, false, Bool, cond, List, [], ◌∷◌, ◌++◌, length, map}
 use Rattle.std.proofs.Common.{ℤ, pos, negsuc}
-use Rattle.std.proofs.Common.{Option, Some, None, position, codes, decimal, nat_lt, eqb, refl, ap, ◌∙◌, arith}
+use Rattle.std.proofs.Common.{codes, decimal, nat_lt, eqb, refl, arith}
 use Rattle.std.specs.Prelude.{int_lt}
 use Rattle.std.specs.Ordering.{int_eq}
 use Rattle.std.specs.List.{All, flat_map}

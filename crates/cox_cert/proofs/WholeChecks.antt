@@ -1,11 +1,10 @@
 -- The contract of a whole check, from what was read and what was written.
-use Rattle.std.proofs.Common.{◌≡◌, ◌≢◌, ◌⊎◌, inl, inr, ℕ, ◌+◌, ◌<◌, ◌≤◌, Bool, true, false, List, [], ◌∷◌, ◌++◌, length, map, drop}
+use Rattle.std.proofs.Common.{◌≡◌, ◌≢◌, inl, inr, ℕ, ◌<◌, ◌≤◌, true, false, List, [], ◌∷◌, length, map, drop}
 use Rattle.std.proofs.Common.{Option, Some, None}
-use Rattle.std.proofs.Common.{Ok, Err, refl, sym, ap, ◌∙◌, subst, arith, length-append}
+use Rattle.std.proofs.Common.{Err, refl, sym, ◌∙◌, subst, arith}
 use Rattle.std.specs.Prelude.{IsSomeAnd}
 use Rattle.std.specs.Option.{IfSome}
 use Rattle.std.specs.Borrow.{Bor}
-use Rattle.std.specs.Io.KnownBytes.{prepend_known, IsAtEnd}
 use Rattle.cox_outside.specs.declared.limits.TheConstants.{INPUT_LIMIT}
 use Rattle.cox_outside.specs.FaultCount.{count_after}
 use Rattle.cox_outside.specs.Supply.{Supply, SourceCause}
@@ -16,11 +15,11 @@ use Rattle.cox_cert.specs.declared.status.CheckStatus.{CheckStatus}
 use Rattle.cox_cert.specs.declared.status.CheckStatus.TheVariants.{Yes, No, Usage, ReadFault, WriteFault, NoMemory, InputLimit}
 use Rattle.cox_cert.specs.declared.collecting.Halt.{Halt}
 use Rattle.cox_cert.specs.declared.collecting.Halt.TheVariants as halt
-use Rattle.cox_cert.specs.Certificate.{Certificate, Gives, contents}
+use Rattle.cox_cert.specs.Certificate.{Certificate, Gives}
 use Rattle.cox_cert.specs.Causes.{IsFirstCause, IsProof}
-use Rattle.cox_cert.specs.Checks.{ReadsAll, Says, IsDue, IsCutShort, ReadsWithin, IsCheck, words_behind}
+use Rattle.cox_cert.specs.Checks.{ReadsAll, Says, IsDue, ReadsWithin, IsCheck, words_behind}
 use Rattle.cox_cert.specs.Checks.{status_text, is_read_fault, is_write_fault}
-use Rattle.cox_cert.specs.Collected.{GivesAll, Gathers, status_of}
+use Rattle.cox_cert.specs.Collected.{Gathers, status_of}
 use Rattle.cox_cert.specs.Judgements.{IsJudged}
 use Rattle.cox_cert.specs.Unhindered.{Rose, IsUnhindered}
 use Rattle.cox_cert.specs.Verdicts.{IsTold, IsVerdict, IsCut, Tells}

@@ -1,6 +1,6 @@
 -- Polynomials P(x,z) with a coefficient above the limit: the first one that is found, by rising z and then by rising x, is the first of
 -- all.
-use Rattle.std.proofs.Common.{◌≡◌, ℕ, ◌+◌, ◌<◌, ◌≤◌, List, length, ℤ, pos, refl, ◌∙◌, ⊎_elim, arith}
+use Rattle.std.proofs.Common.{◌≡◌, ℕ, ◌+◌, ◌<◌, ◌≤◌, List, length, ℤ, pos, refl, ⊎_elim, arith}
 use Rattle.std.specs.Prelude.{◌≤ℤ◌, true}
 use lib.Signed.{le_z}
 use Rattle.std.proofs.lemmas.Bool.{cases_lt}

@@ -1,15 +1,14 @@
 -- The inverse polynomials from w down so far: one more, or the last one with a coefficient above the limit.
-use Rattle.std.proofs.Common.{◌≡◌, ℕ, zero, suc, ◌+◌, ◌-◌, ◌<◌, ◌≤◌, List, [], ◌∷◌, ◌++◌, length, ℤ, pos, refl, ap, sym, ◌∙◌, ⊎_elim, arith}
+use Rattle.std.proofs.Common.{◌≡◌, ℕ, zero, suc, ◌-◌, ◌<◌, List, [], ◌∷◌, ◌++◌, length, ℤ, pos, refl, ap, sym, ◌∙◌, ⊎_elim, arith}
 use Rattle.std.specs.Prelude.{◌≤ℤ◌}
 use Rattle.std.proofs.lemmas.Int.{ints}
-use Rattle.std.proofs.lemmas.Bool.{cases_lt}
 use Rattle.cox_lemmas.proofs.PushedItems.{push-length, push-old, push-new, push_cases}
 use Rattle.cox_base.specs.IntegerMatrix.{IntegerMatrix, integer_matrix}
 use Rattle.cox_base.specs.Admissible.{IsAdmissible}
 use Rattle.cox_base.specs.Element.{SameElement}
 use Rattle.cox_base.specs.Bruhat.{IsBelow}
-use Rattle.cox_reflect.proofs.Elements.{same-refl, same-sym}
-use Rattle.cox_reflect.proofs.Bruhat.{below-same, below-refl, below-trans}
+use Rattle.cox_reflect.proofs.Elements.{same-refl}
+use Rattle.cox_reflect.proofs.Bruhat.{below-same, below-refl}
 use Rattle.cox_poly.specs.Polynomial.{coefficient, IsPolynomial, SameCoefficients}
 use Rattle.cox_poly.specs.Coefficients.{one_polynomial}
 use Rattle.cox_poly.specs.Limit.{AllWithin, IsWithin, IsFirstAbove}
@@ -17,7 +16,6 @@ use Rattle.cox_poly.proofs.Limits.{within-not_above}
 use Rattle.cox_poly.proofs.Polynomials.{AllWithin-same}
 use Rattle.cox_context.specs.Closed.{Elements, IsClosed}
 use Rattle.cox_context.specs.Numbers.{word_at}
-use Rattle.cox_row.specs.Rising.{number_at}
 use Rattle.cox_row.specs.Polynomials.{polynomial_at}
 use Rattle.cox_klstep.proofs.LargeCoefficients.{within-same}
 use Rattle.cox_inverse.specs.declared.fault.TheConstants.{MAX_COEFFICIENT}
@@ -29,7 +27,7 @@ use Rattle.cox_inverse.specs.InverseFaults.{IsLargeInverse, IsInverseWithin, IsL
 use Rattle.cox_inverse.specs.Intervals.{ArePairsSmall, IsSumFault}
 use Rattle.cox_inverse.proofs.InversePolynomials.{inverse-unique, inverse-same}
 use Rattle.cox_inverse.proofs.InverseRowExists.{inverse_of, inverse_of-is, inverse_row-top}
-use Rattle.cox_inverse.proofs.LastMembers.{HasMember, below-member, before-member, before-above, before-below, last-top}
+use Rattle.cox_inverse.proofs.LastMembers.{below-member, before-member, before-above, before-below, last-top}
 use Rattle.cox_inverse.proofs.FirstPairs.{place-less, lower-place}
 
 -- other words of the elements

@@ -1,5 +1,5 @@
 -- Inverse rows as they are kept: the polynomial of a member has the place that is told from the end.
-use Rattle.std.proofs.Common.{◌≡◌, ℕ, suc, ◌-◌, ◌<◌, ◌≤◌, List, length, ℤ, ap, ◌∙◌, arith}
+use Rattle.std.proofs.Common.{◌≡◌, ℕ, suc, ◌-◌, ◌<◌, List, length, ℤ, ap, ◌∙◌, arith}
 use Rattle.cox_base.specs.IntegerMatrix.{integer_matrix}
 use Rattle.cox_poly.specs.Polynomial.{coefficient}
 use Rattle.cox_context.specs.Closed.{Elements}

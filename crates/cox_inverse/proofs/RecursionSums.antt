@@ -1,7 +1,7 @@
 -- The sums of the recursion: what is taken off for the members behind x, one after the other, and what is left is Q(x,w).
-use Rattle.std.proofs.Common.{◌≡◌, ℕ, zero, suc, ◌+◌, ◌-◌, ◌*◌, ◌<◌, ◌≤◌, List, [], ◌∷◌, length, ℤ, pos, ◌-ℤ◌, neg_ℤ, refl, ap, sym, ◌∙◌}
+use Rattle.std.proofs.Common.{◌≡◌, ℕ, zero, suc, ◌-◌, ◌*◌, ◌<◌, ◌≤◌, List, length, ℤ, pos, neg_ℤ, refl, ap, sym, ◌∙◌}
 use Rattle.std.proofs.Common.{⊎_elim, arith}
-use Rattle.std.specs.Prelude.{unsigned_abs, ◌<ℤ◌, ◌≤ℤ◌}
+use Rattle.std.specs.Prelude.{unsigned_abs}
 use Rattle.std.proofs.lemmas.Int.{ints, by_lt_z}
 use Rattle.std.proofs.lemmas.Bool.{cases_lt}
 use Rattle.cox_base.specs.IntegerMatrix.{IntegerMatrix, integer_matrix}
@@ -25,9 +25,8 @@ use Rattle.cox_hecke.proofs.ElementLists.{below_or_not}
 use Rattle.cox_context.specs.Closed.{Elements, IsClosed}
 use Rattle.cox_context.specs.Numbers.{word_at}
 use Rattle.cox_context.proofs.Shifting.{later-not_below}
-use Rattle.cox_klstep.specs.Limits.{IsLargeCoefficient}
 use Rattle.cox_klstep.specs.LargeMembers.{IsWithinLimit}
-use Rattle.cox_inverse.specs.InverseRow.{signed_term, IsInverse}
+use Rattle.cox_inverse.specs.InverseRow.{IsInverse}
 use Rattle.cox_inverse.specs.NumberedInverses.{number_before, AreBetween}
 use Rattle.cox_inverse.proofs.InverseSums.{term, term-apart}
 use Rattle.cox_inverse.proofs.InverseRowExists.{inverse_of, inverse_of-is, inverse_row-recursion}

@@ -1,5 +1,5 @@
 -- Products that are taken off sums with a sign, term by term.
-use Rattle.std.proofs.Common.{◌≡◌, ◌⊎◌, inl, inr, ℕ, zero, suc, ◌+◌, ◌*◌, ◌^◌, ◌%◌, ◌<◌, ◌≤◌, List, ℤ, pos, ◌+ℤ◌, ◌-ℤ◌, ◌*ℤ◌, refl, ap}
+use Rattle.std.proofs.Common.{◌≡◌, ◌⊎◌, inl, inr, ℕ, zero, suc, ◌+◌, ◌^◌, ◌%◌, ◌<◌, ◌≤◌, List, ℤ, pos, ◌+ℤ◌, refl, ap}
 use Rattle.std.proofs.Common.{sym, ◌∙◌, ⊎_elim, arith}
 use Rattle.std.specs.Prelude.{unsigned_abs, neg_ℤ}
 use Rattle.std.proofs.lemmas.Bool.{cases_lt}
@@ -7,9 +7,9 @@ use Rattle.std.proofs.lemmas.Int.{ints}
 use Rattle.cox_lemmas.proofs.Ring.{neg_mul}
 use Rattle.cox_poly.specs.Coefficients.{Coefficients}
 use Rattle.cox_poly.specs.Products.{times_q_power, product}
-use Rattle.cox_poly.specs.Multiples.{minus, scaled, negated}
+use Rattle.cox_poly.specs.Multiples.{minus, scaled}
 use Rattle.cox_poly.specs.Polynomial.{coefficient, coefficient_after, HasDegreeBelow, IsDegree}
-use Rattle.cox_poly.specs.Limit.{IsWithin, AllWithin}
+use Rattle.cox_poly.specs.Limit.{AllWithin}
 use Rattle.cox_poly.proofs.Norms.{absolute_after}
 use Rattle.cox_poly.proofs.Products.{terms_below, terms_below-product, terms_below-all, zero-product}
 use Rattle.cox_hecke.specs.Sign.{times_sign}

@@ -1,8 +1,8 @@
 -- A context that is a whole finite group: products with the longest element are members, and where all its rows are within a limit, so
 -- are the
 -- inverse rows.
-use Rattle.std.proofs.Common.{◌≡◌, ℕ, ◌+◌, ◌<◌, List, [], ◌∷◌, ◌++◌, length, get_or, take, ℤ, pos, refl, ap, sym, ◌∙◌, arith}
-use Rattle.std.specs.Prelude.{◌≤ℤ◌, ◌<ℤ◌, Contains}
+use Rattle.std.proofs.Common.{◌≡◌, ℕ, ◌+◌, ◌<◌, List, [], ◌∷◌, ◌++◌, length, get_or, take, ℤ, ◌∙◌}
+use Rattle.std.specs.Prelude.{◌≤ℤ◌, Contains}
 use Rattle.std.proofs.lemmas.List.{append-nil, append_assoc, take_more}
 use Rattle.std.proofs.lemmas.List.Elements.{All-get_or}
 use Rattle.cox_base.specs.Matrix.{IsLetter}
@@ -16,7 +16,6 @@ use Rattle.cox_reflect.proofs.Search.{normal_form-same, normal_form-equal}
 use Rattle.cox_reflect.proofs.Bruhat.{below-same, below-least}
 use Rattle.cox_reflect.proofs.NormalElements.{element-word}
 use Rattle.cox_poly.specs.Coefficients.{Coefficients}
-use Rattle.cox_poly.specs.Polynomial.{coefficient}
 use Rattle.cox_hecke.specs.Row.{IsKazhdanLusztig}
 use Rattle.cox_hecke.proofs.PolynomialValues.{kazhdan_lusztig-exists, kazhdan_lusztig-same}
 use Rattle.cox_context.specs.Closed.{Elements, IsClosed}
@@ -25,14 +24,13 @@ use Rattle.cox_context.proofs.Shifting.{element-at, member-below}
 use Rattle.cox_klstep.specs.LargeMembers.{IsWithinLimit}
 use Rattle.cox_klstep.proofs.LargeCoefficients.{within-more, within-same}
 use Rattle.cox_inverse.specs.declared.fault.TheConstants.{MAX_COEFFICIENT}
-use Rattle.cox_inverse.specs.Longest.{IsLongest}
 use Rattle.cox_inverse.specs.WholeGroups.{IsLongestMember, IsTurned}
 use Rattle.cox_inverse.specs.InverseRow.{IsInverse}
 use Rattle.cox_inverse.specs.InverseFaults.{IsInverseWithin, AreWithinLimits}
 use Rattle.cox_inverse.proofs.InversePolynomials.{inverse-unique}
 use Rattle.cox_inverse.proofs.TurnedAround.{turned-below}
 use Rattle.cox_inverse.proofs.InversionByLongest.{inversion-longest}
-use Rattle.cox_inverse.proofs.LastMembers.{HasMember, below-member}
+use Rattle.cox_inverse.proofs.LastMembers.{below-member}
 
 module _ (e : Elements) (g : IsAdmissible (integer_matrix e.matrix)) (closed : IsClosed (integer_matrix e.matrix) e.members)
     (longest : ℕ) (is : IsLongestMember e longest) where

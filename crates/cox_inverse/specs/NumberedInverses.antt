@@ -1,6 +1,6 @@
 -- Inverse rows by the numbers of members: the members between two, and the polynomials Q(x,w) at some of them.
 use Rattle.std.specs.Prelude.{◌≡◌, ℕ, suc, ◌-◌, ◌<◌, ◌≤◌, List, length, ℤ}
-use Rattle.cox_base.specs.IntegerMatrix.{IntegerMatrix, integer_matrix}
+use Rattle.cox_base.specs.IntegerMatrix.{integer_matrix}
 use Rattle.cox_base.specs.Bruhat.{IsBelow}
 use Rattle.cox_poly.specs.Polynomial.{coefficient, IsPolynomial}
 use Rattle.cox_poly.specs.Limit.{AllWithin}

@@ -1,7 +1,5 @@
 -- The certificate that was read is judged.
-use Rattle.std.proofs.Common.{sym, subst}
-use Rattle.cox_outside.specs.Supply.{SourceCause}
-use Rattle.cox_cert.proofs.WholeChecks.{verdict-judged, judged-no_fault}
+use Rattle.cox_cert.proofs.WholeChecks.{verdict-judged}
 use Rattle.cox_cert.proofs.checking.verdict.Goals as goal
 
 pub returns-in-Ok-collect-clause-is : goal.returns-in-Ok-collect-clause-is

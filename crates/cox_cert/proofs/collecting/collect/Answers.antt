@@ -1,6 +1,5 @@
 -- Each line that is taken carries the reading on, or ends it.
-use Rattle.std.proofs.Common.{◌≡◌, None, refl, sym, ap, ◌∙◌}
-use Rattle.cox_outside.specs.FaultCount.{count_after}
+use Rattle.std.proofs.Common.{refl, sym, ap, ◌∙◌}
 use Rattle.cox_outside.specs.Reader.{Reader}
 use Rattle.cox_cert.proofs.Collections.{Progress-start, Progress-step, step-smaller, begins-fresh, limit-fresh, going}
 use Rattle.cox_cert.proofs.Collections.{gathers-halted, gathers-all, gathers-none, reads-within}

@@ -1,5 +1,5 @@
 -- Another line than the last goes on with no certificate whose rows are all there.
-use Rattle.std.proofs.Common.{◌≤◌, length, refl, arith}
+use Rattle.std.proofs.Common.{refl, arith}
 use Rattle.std.proofs.lemmas.Bool.{false≢true}
 use Rattle.cox_cert.proofs.NextLines.{end-all, end-none}
 use Rattle.cox_cert.proofs.draft.take_end.Goals as goal

@@ -1,5 +1,5 @@
 -- A row that is read is one more row of the certificate; a line of no row goes on with none.
-use Rattle.std.proofs.Common.{◌<◌, length, inl, inr, sym, ◌∙◌, arith}
+use Rattle.std.proofs.Common.{inl, inr, sym, ◌∙◌, arith}
 use Rattle.cox_cert.proofs.NextLines.{rows-more, rows-none}
 use Rattle.cox_cert.proofs.draft.take_row.Goals as goal
 

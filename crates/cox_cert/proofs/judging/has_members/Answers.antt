@@ -1,5 +1,5 @@
 -- One more word is the member at its place, or it is another.
-use Rattle.std.proofs.Common.{refl, ◌∙◌, sym, ◌<◌, length, arith}
+use Rattle.std.proofs.Common.{refl, ◌∙◌, sym, arith}
 use Rattle.std.proofs.lemmas.Bool.{false≢true}
 use Rattle.cox_cert.proofs.Judgings.{members-more, members-differ}
 use Rattle.cox_cert.proofs.judging.has_members.Goals as goal

@@ -1,5 +1,5 @@
 -- The last of the members is the element.
-use Rattle.std.proofs.Common.{◌≡◌, sym, ap, ◌∙◌, length, subst}
+use Rattle.std.proofs.Common.{sym, ap, ◌∙◌, length}
 use Rattle.std.proofs.lemmas.Result.{IfOk-weaker}
 use Rattle.cox_cert.proofs.Judgings.{draft-small, draft-count, last-inside, row-interval, row-short, row-few, row-decided}
 use Rattle.cox_cert.proofs.judging.has_row.Goals as goal

@@ -1,5 +1,5 @@
 -- One letter more: the product is a member.
-use Rattle.std.proofs.Common.{◌≡◌, List, ℕ, take, sym, ◌∙◌, arith}
+use Rattle.std.proofs.Common.{◌≡◌, take, sym, ◌∙◌}
 use Rattle.std.proofs.lemmas.List.{append-nil, take_all}
 use Rattle.cox_base.specs.IntegerMatrix.{integer_matrix}
 use Rattle.cox_context.specs.Numbers.{word_at}

@@ -1,5 +1,5 @@
 -- One row more.
-use Rattle.std.proofs.Common.{◌≡◌, ◌+◌, ◌<◌, ◌≤◌, length, ⊎_elim, arith}
+use Rattle.std.proofs.Common.{◌≡◌, ◌<◌, ◌≤◌, length, ⊎_elim, arith}
 use Rattle.std.proofs.lemmas.Bool.{cases_lt}
 use Rattle.cox_inverse.proofs.FirstPairs.{rows-before, rows-all}
 use Rattle.cox_inverse.proofs.large.first_large.Goals as goal

@@ -1,5 +1,5 @@
 -- The coefficient above the limit is that of the sums.
-use Rattle.std.proofs.Common.{◌≡◌, refl, FitsSigned, w64, rules}
+use Rattle.std.proofs.Common.{refl, FitsSigned, w64, rules}
 use Rattle.std.specs.Int.{w128}
 use Rattle.std.proofs.lemmas.Int.{to_z-of_z}
 use Rattle.cox_inverse.proofs.row.closed.Goals as goal

@@ -1,13 +1,12 @@
 -- The members behind x, one after the other.
-use Rattle.std.proofs.Common.{◌≡◌, ℕ, suc, ◌+◌, ◌-◌, ◌*◌, ◌^◌, ◌<◌, ◌≤◌, [], length, refl, ◌∙◌, arith}
+use Rattle.std.proofs.Common.{◌≡◌, ◌+◌, ◌<◌, [], length, refl, ◌∙◌, arith}
 use Rattle.std.proofs.lemmas.List.{get_or_read}
 use Rattle.cox_base.specs.IntegerMatrix.{integer_matrix}
 use Rattle.cox_context.specs.Numbers.{word_at}
 use Rattle.cox_row.specs.Polynomials.{polynomial_at}
 use Rattle.cox_inverse.specs.declared.fault.TheConstants.{MAX_COEFFICIENT}
 use Rattle.cox_inverse.specs.NumberedInverses.{number_before}
-use Rattle.cox_inverse.proofs.LastMembers.{before-member}
-use Rattle.cox_inverse.proofs.RecursionSums.{polynomial-degree_below, inverse-degree_below, polynomial-within, off-none, off-all}
+use Rattle.cox_inverse.proofs.RecursionSums.{polynomial-degree_below, inverse-degree_below, polynomial-within, off-all}
 use Rattle.cox_inverse.proofs.SummedMembers.{read-number, member-short, lengths-below, read-member, read-pair, numbers-few, off-taken}
 use Rattle.cox_inverse.proofs.SummedMembers.{off-passed}
 use Rattle.cox_inverse.proofs.sums.sum_up.Goals as goal

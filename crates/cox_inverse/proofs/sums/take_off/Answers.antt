@@ -1,5 +1,5 @@
 -- One term more is taken off.
-use Rattle.std.proofs.Common.{◌≡◌, suc, ◌+◌, ◌*◌, ◌^◌, ◌<◌, [], length, FitsSigned, w64, rules, refl, ap, arith}
+use Rattle.std.proofs.Common.{◌≡◌, suc, ◌+◌, [], FitsSigned, w64, rules, refl, arith}
 use Rattle.std.proofs.lemmas.Int.{ints, to_z-of_z}
 use Rattle.cox_poly.proofs.Polynomials.{coefficient_past}
 use Rattle.cox_inverse.proofs.SignedProducts.{taken_off-none, taken_off-more, taken_off-all, degree-less, term-small}

@@ -1,5 +1,4 @@
 -- P(w0 w, w0 y) by its members.
-use Rattle.std.proofs.Common.{◌≡◌}
 use Rattle.cox_context.specs.Numbers.{word_at}
 use Rattle.cox_inverse.proofs.TurnedMembers.{turned-value, turned-order, whole-within}
 use Rattle.cox_inverse.proofs.finite.WholeGroup.polynomial.Goals as goal

@@ -1,5 +1,5 @@
 -- Each member is looked at, from y to w.
-use Rattle.std.proofs.Common.{◌+◌, ◌<◌, ◌≤◌, length, arith}
+use Rattle.std.proofs.Common.{arith}
 use Rattle.cox_inverse.proofs.BetweenLists.{found-start, found-skip, found-keep, found-all}
 use Rattle.cox_inverse.proofs.interval.Interval.between.Goals as goal
 use Rattle.cox_inverse.proofs.interval.Interval.between.Goals.{then-below+then-below-2+in_ok-push, else-below}
