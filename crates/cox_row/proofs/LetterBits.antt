@@ -92,6 +92,14 @@ module _ (A : IntegerMatrix) (g : IsAdmissible A) where
         in rw e at ((h (s - 1)).0 (none_right (s - 1) ((r (s - 1)).1 (rw e d))));
   }
 
+-- and no letter is missing where x is extremal
+module _ (A : IntegerMatrix) (w x : List ℕ) (wanted present : ℕ) (extremal : IsExtremal A w x) where
+  pub extremal-left : AreLeftDescents A w wanted → AreLeftDescents A x present → IsSubset wanted present
+  extremal-left l m k b = (m k).1 (extremal.left (k + 1) ((l k).0 b))
+
+  pub extremal-right : AreRightDescents A w wanted → AreRightDescents A x present → IsSubset wanted present
+  extremal-right r h k b = (h k).1 (extremal.right (k + 1) ((r k).0 b))
+
 -- the lowest bit of a set that has one
 pub lowest-bit : (set : ℕ) → set < 2 ^ 16 → set ≢ 0 → IsBitSet set (trailing_zeros w16 set) × ((k : ℕ) → IsBitSet set k
     → trailing_zeros w16 set ≤ k)

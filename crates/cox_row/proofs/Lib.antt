@@ -14,3 +14,13 @@ pub mod LookUps
 pub mod Renumbering
 -- the polynomials of a row, each once
 pub mod PoolOfRow
+-- lists of images, by their entries
+pub mod ImageLists
+-- the polynomials of an element, read off those of another
+pub mod ViewedPolynomials
+-- images under new numbers
+pub mod MovedImages
+-- the numbers of extremal elements, one after another
+pub mod ListedExtremals
+-- rows in a larger context, by their parts
+pub mod RenumberedRows

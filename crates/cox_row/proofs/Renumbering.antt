@@ -1,7 +1,8 @@
 -- The row of w is still its row in a larger context, by the new numbers: what is below w was a member before.
-use Rattle.std.proofs.Common.{◌≡◌, ℕ, zero, suc, ◌<◌, List, [], ◌∷◌, ◌++◌, length, map, take, drop, set, get_or, Contains, ℤ, refl, sym}
-use Rattle.std.proofs.Common.{ap, ◌∙◌}
-use Rattle.std.proofs.Common.{arith}
+use Rattle.std.proofs.Common.{◌≡◌, ℕ, zero, suc, ◌<◌, List, [], ◌∷◌, ◌++◌, length, map, take, drop, set, get_or, Contains}
+use Rattle.std.proofs.Common.{Option, None, Some, ℤ, refl, sym, ap, ◌∙◌, arith}
+use Rattle.std.specs.Arc.{arc_value}
+use Rattle.std.specs.Option.{IfSome}
 use Rattle.std.proofs.lemmas.List.{length-map, get_or-map}
 use Rattle.cox_base.specs.IntegerMatrix.{IntegerMatrix}
 use Rattle.cox_base.specs.Admissible.{IsAdmissible}
@@ -11,10 +12,37 @@ use Rattle.cox_context.specs.Closed.{IsClosed}
 use Rattle.cox_context.specs.Numbers.{word_at}
 use Rattle.cox_context.specs.Numbering.{AreMoved}
 use Rattle.cox_context.proofs.PlacedWords.{contains-placed, contains-at, rising-place}
+use Rattle.cox_row.specs.declared.row.Row.{Row}
+use Rattle.cox_row.specs.declared.row.View.{View}
 use Rattle.cox_row.specs.Rising.{number_at, AreRising, AreWithin}
 use Rattle.cox_row.specs.ExtremalNumbers.{AreExtremal}
 use Rattle.cox_row.specs.Polynomials.{HavePolynomials}
 use Rattle.cox_row.specs.Mus.{AreMus}
+use Rattle.cox_row.specs.Views.{ServesFor}
+use Rattle.cox_row.specs.RowOf.{IsRowOf}
+use Rattle.cox_row.specs.Movable.{IsViewWithin, IsRowBelow}
+use Rattle.cox_row.proofs.ImageLists.{image-within}
+
+-- the numbers of a row are those of members
+view-within : (A : IntegerMatrix) (members : List (List ℕ)) (w : List ℕ) (view : Option View) (v : List ℕ) → ServesFor A members w view v
+    → IfSome view (IsViewWithin (length members))
+view-within A members w None v e = tt
+view-within A members w (Some view) v (h, e) = record {
+  member = h.within;
+  images = record {
+    size = let size = h.images.size in omega (arith, size);
+    each = λ x y image. let inside = image-within (arc_value view.images) x y image
+        in (h.images.right x y (omega (arith, inside, h.images.size)) image).0;
+  };
+}
+
+pub row-below : {A : IntegerMatrix} {members : List (List ℕ)} {w : List ℕ} {row : Row} → IsRowOf A members w row
+    → IsRowBelow (length members) row
+row-below {A} {members} {w} {row} is = record {
+  extremal = is.values.extremal.within;
+  view = view-within A members w row.view is.kept is.serves;
+  neighbours = is.mus.within;
+}
 
 -- one number more
 pub rename-next : (f : ℕ → ℕ) (xs : List ℕ) (i : ℕ) → i < length xs
@@ -64,12 +92,12 @@ module _ (A : IntegerMatrix) (old new : List (List ℕ)) (moved : List ℕ) (fro
 
   module _ (g : IsAdmissible A) (w : List ℕ) (member : Contains old w) where
     -- what is below w was a member
-    record WasMember (x : List ℕ) : Type 0 where
+    pub record WasMember (x : List ℕ) : Type 0 where
       pub j : ℕ
       pub within : j < length old
       pub is : word_at old j ≡ x
 
-    was_member : (i : ℕ) → i < length new → IsBelow A (word_at new i) w → WasMember (word_at new i)
+    pub was_member : (i : ℕ) → i < length new → IsBelow A (word_at new i) w → WasMember (word_at new i)
     was_member i l b =
         let place = contains-placed old (word_at new i) (from.down (word_at new i) w member
         (to.element (word_at new i) (contains-at new i l)) b)

@@ -8,6 +8,10 @@ pub mod ExtremalNumbers
 pub mod Polynomials
 -- the values of mu that are not 0
 pub mod Mus
+-- numbers of members in 32 bits
+pub mod Entries
+-- rows that are read off the polynomials of another element
+pub mod Views
 -- the row of an element
 pub mod RowOf
 -- rows within limits
@@ -20,3 +24,5 @@ pub mod LetterSets
 pub mod Raised
 -- lists with rows at some places
 pub mod RowLists
+-- rows under new numbers
+pub mod Movable

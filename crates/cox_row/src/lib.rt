@@ -8,20 +8,29 @@
 //! That a row is that of an element, `IsRowOf`, is a property of the row and of the members of a context. Each look-up requires it, and
 //! whoever makes a row has to prove it.
 //!
-//! - `row`: the row, its parts, the limit of mu, and new numbers for it when a context grows
+//! A row may also read its polynomials off those that are kept for another element. Where a symmetry of the group, with inversion or
+//! without, takes w to v, it takes x to some y, and P(x,w) is P(y,v). So the row of w keeps where the members are taken, and shares the
+//! polynomials of v.
+//!
+//! - `row`: the row and its parts
+//! - `images`: where members are taken, by number
+//! - `new_numbers`: new numbers for a row when its context grows
 //! - `raised`: raising a member by the descents of another
-//! - `look_up`: the polynomial and mu of any member, and how many polynomials there are
+//! - `look_up`: the polynomial and mu of any member, how many polynomials there are, and the extremal members
 //! - `search`: the place of a number in a list that rises
 //! - `lower_rows`: rows that are at hand, by number
 #![tactic(auto)]
 
+mod images;
 mod look_up;
 mod lower_rows;
+mod new_numbers;
 mod raised;
 mod row;
 mod search;
 
-pub use look_up::{mu, polynomial, pool_len};
+pub use images::Images;
+pub use look_up::{extremal_members, mu, polynomial, pool_len};
 pub use lower_rows::LowerRows;
-pub use raised::raise_fully;
-pub use row::{MU_LIMIT, Row};
+pub use raised::{is_extremal, is_subset, raise_fully};
+pub use row::{MU_LIMIT, Row, RowParts, Values, View};

@@ -1,8 +1,9 @@
 //! Raising a member x by the descents of a member w: as long as some letter shortens w on a side and not x, it is put before or behind x.
-ghost use Rattle.std.specs.Prelude.{◌≡◌, ℕ, List, ◌<◌, length, IfSome, IfNone};
+ghost use Rattle.std.specs.Prelude.{◌≡◌, ℕ, List, ◌<◌, ◌↔◌, length, IfSome, IfNone, IsTrue};
 ghost use Rattle.cox_base.specs.Admissible.{IsAdmissible};
 ghost use Rattle.cox_base.specs.IntegerMatrix.{integer_matrix};
 ghost use Rattle.cox_context.specs.Numbers.{word_at};
+ghost use Rattle.cox_row.specs.Extremal.{IsExtremal};
 ghost use Rattle.cox_row.specs.LetterSets.{IsSubset, IsMissing, AreLetters, AreLeftDescents, AreRightDescents};
 ghost use Rattle.cox_row.specs.Raised.{raise_to, LeadsTo, IsRaisedFully};
 
@@ -38,6 +39,24 @@ pub fn raise_fully(ctx: &Context, i: u32, x: u32) -> Option<u32>
         }
     }
     None
+}
+
+/// Whether the member x is extremal for the member w with the number i: each descent of w is one of x, on both sides.
+pub fn is_extremal(ctx: &Context, i: u32, x: u32) -> bool
+    requires i { i < length ctx.now.members }
+    requires x { x < length ctx.now.members }
+    ensures { IsTrue result ↔ IsExtremal (integer_matrix ctx.now.matrix) (word_at ctx.now.members i) (word_at ctx.now.members x) }
+{
+    let _len = ctx.len();
+    is_subset(ctx.left_descent_set(i), ctx.left_descent_set(x))
+        && is_subset(ctx.right_descent_set(i), ctx.right_descent_set(x))
+}
+
+/// Whether each letter of the one set is in the other.
+pub fn is_subset(wanted: u16, present: u16) -> bool
+    ensures { IsTrue result ↔ IsSubset wanted present }
+{
+    wanted & !present == 0
 }
 
 /// Where raising the member x by one letter leads, for a w with these descents.

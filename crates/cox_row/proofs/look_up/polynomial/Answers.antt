@@ -1,21 +1,39 @@
--- An element that the row has at the place stands for x, and where there is none x is not below w.
-use Rattle.std.proofs.Common.{refl}
+-- What is read off at the image of x is right for x.
+use Rattle.std.proofs.Common.{◌≡◌, Some, sym}
+use Rattle.std.proofs.lemmas.Option.{IfSome_then}
+use Rattle.std.specs.Arc.{arc_value}
 use Rattle.cox_base.specs.IntegerMatrix.{integer_matrix}
-use Rattle.cox_context.specs.Numbers.{word_at}
-use Rattle.cox_row.proofs.LookUps.{value-raised, below-at}
+use Rattle.cox_poly.specs.Polynomial.{coefficient}
+use Rattle.cox_row.specs.Views.{image_at}
+use Rattle.cox_row.proofs.ViewedPolynomials.{viewed-below, viewed-polynomial}
 use Rattle.cox_row.proofs.look_up.polynomial.Goals as goal
 
-pub returns-clause-value : goal.returns-clause-value
-returns-clause-value c = rw (c.at.ensures, c.pool.ensures, c.places.ensures)
-    (value-raised (integer_matrix c.args.ctx.now.matrix) c.args.ctx.now.members (word_at c.args.ctx.now.members c.args.i)
-    (word_at c.args.ctx.now.members c.args.x) c.in_ok-top.top c.in_ok-k.k c.args.row.now.extremal.items
-    c.args.row.now.places.items c.args.row.now.pool c.requires.row.polynomials c.in_ok-top.ensures.2
-    (rw c.extremal.ensures at c.in_ok-k.ensures.within) (rw c.extremal.ensures at c.in_ok-k.ensures.place))
+pub kept_polynomial-requires-in-Some-clause-x : goal.kept_polynomial-requires-in-Some-clause-x
+kept_polynomial-requires-in-Some-clause-x c =
+    let serves = rw c.in-Some.ensures.some at c.requires.row.serves
+    in let view = serves.0
+    in let image : image_at (arc_value c.in-Some.view.now.images) c.args.x ≡ Some c.in_ok-at-in-Some.field-0
+    = sym (rw c.deref.ensures at c.in_ok-at-in-Some.ensures)
+    in (view.images.right c.args.x c.in_ok-at-in-Some.field-0 c.requires.x image).0
 
-pub returns-clause-exactly : goal.returns-clause-exactly
-returns-clause-exactly c = (
-  λ _. below-at (integer_matrix c.args.ctx.now.matrix) c.args.ctx.now.members (word_at c.args.ctx.now.members c.args.i)
-      (word_at c.args.ctx.now.members c.args.x) c.in_ok-top.top c.in_ok-k.k c.args.row.now.extremal.items c.requires.row.extremal
-      c.in_ok-top.ensures.2 (rw c.extremal.ensures at c.in_ok-k.ensures.within) (rw c.extremal.ensures at c.in_ok-k.ensures.place),
-  λ _. refl,
-)
+pub returns-in_ok-at-in-Some-clause-value : goal.returns-in_ok-at-in-Some-clause-value
+returns-in_ok-at-in-Some-clause-value c =
+    let serves = rw c.in-Some.ensures.some at c.requires.row.serves
+    in let image : image_at (arc_value c.in-Some.view.now.images) c.args.x ≡ Some c.in_ok-at-in-Some.field-0
+    = sym (rw c.deref.ensures at c.in_ok-at-in-Some.ensures)
+    in IfSome_then c.kept_polynomial-in-Some.result c.kept_polynomial-in-Some.ensures.value
+    (λ p k. viewed-polynomial (integer_matrix c.args.ctx.now.matrix) c.len-len.ensures.admissible c.args.ctx.now.members
+    c.len-len.ensures.closed c.args.i c.args.x c.requires.i c.requires.x c.in-Some.view.now serves.0 c.in_ok-at-in-Some.field-0
+    (coefficient p) image k)
+
+pub returns-in_ok-at-in-Some-clause-exactly : goal.returns-in_ok-at-in-Some-clause-exactly
+returns-in_ok-at-in-Some-clause-exactly c =
+    let serves = rw c.in-Some.ensures.some at c.requires.row.serves
+    in let image : image_at (arc_value c.in-Some.view.now.images) c.args.x ≡ Some c.in_ok-at-in-Some.field-0
+    = sym (rw c.deref.ensures at c.in_ok-at-in-Some.ensures)
+    in let same = viewed-below (integer_matrix c.args.ctx.now.matrix) c.len-len.ensures.admissible c.args.ctx.now.members
+    c.len-len.ensures.closed c.args.i c.args.x c.requires.i c.requires.x c.in-Some.view.now serves.0 c.in_ok-at-in-Some.field-0 image
+    in (
+      λ s. same.0 (c.kept_polynomial-in-Some.ensures.exactly.0 s),
+      λ b. c.kept_polynomial-in-Some.ensures.exactly.1 (same.1 b),
+    )
