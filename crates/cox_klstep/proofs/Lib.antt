@@ -24,8 +24,6 @@ pub mod Finished
 pub mod IdentityRow
 -- the rows that a row is made from: where they stand, and when they are there
 pub mod NeededRows
--- inverses by number
-pub mod InverseNumbers
 -- numbers that are picked from a list
 pub mod Picked
 -- the corrections of the step by the least left descent, picked from the neighbours
@@ -44,5 +42,15 @@ pub mod Candidates
 pub mod StepCounts
 -- fingerprints of the polynomials of a pool
 pub mod PoolPrints
--- inverses as they are listed and sorted, and the row that they give
+-- where a symmetry takes the members, and the views that their images give
+pub mod TurnedMembers
+-- numbers of turned members as they are found, and as they are undone
+pub mod TurnNumbers
+-- members taken by one symmetry after another
+pub mod ComposedImages
+-- turned members as they are listed and sorted
+pub mod TurnedLists
+-- the row of a member that reads its polynomials off those of an image
 pub mod TurnedRows
+-- the values of mu of a turned member
+pub mod TurnedMus

@@ -1,11 +1,9 @@
 -- How many polynomials are added up for a row.
-use Rattle.std.specs.Prelude.{◌≡◌, ℕ, ◌+◌, ◌-◌, ◌*◌, ◌^◌, ◌<◌, ◌≤◌, List, length, min, reverse, Some}
+use Rattle.std.specs.Prelude.{◌≡◌, ℕ, ◌+◌, ◌-◌, ◌*◌, ◌^◌, ◌<◌, ◌≤◌, List, length, min}
 use Rattle.cox_base.specs.IntegerMatrix.{integer_matrix}
-use Rattle.cox_base.specs.ShortLex.{normal_form}
 use Rattle.cox_reflect.specs.LeastDescent.{IsLeastLeftDescent}
 use Rattle.cox_context.specs.Closed.{Elements}
 use Rattle.cox_context.specs.Numbers.{word_at}
-use Rattle.cox_context.specs.Numbering.{IsNumberOf}
 use Rattle.cox_row.specs.Rising.{number_at}
 use Rattle.cox_row.specs.ExtremalNumbers.{AreExtremal}
 use Rattle.cox_klstep.specs.NeedsOf.{AreNeeds}
@@ -41,14 +39,3 @@ pub record IsCountedTo (e : Elements) (i done old new : ℕ) : Type 0 where
   pub kept : old ≤ new
   pub each : (extremal : List ℕ) → AreExtremal (integer_matrix e.matrix) e.members (word_at e.members i) extremal
       → (k : ℕ) → k < length extremal → number_at extremal k < done → counted old (k + 1) ≤ new
-
--- the inverse of the member i is the member j, which has a lesser number, and its row is there
-pub record IsInverseAtHand (e : Elements) (holds : ℕ → Type 0) (i j : ℕ) : Type 0 where
-  pub less : j < i
-  pub number : IsNumberOf e.members (normal_form (integer_matrix e.matrix) (reverse (word_at e.members i))) (Some j)
-  pub there : holds j
-
--- the member i is not the identity, and no row of its inverse is there under a lesser number
-pub record IsMadeByStep (e : Elements) (holds : ℕ → Type 0) (i : ℕ) : Type 0 where
-  pub some : 0 < i
-  pub alone : (j : ℕ) → ¬ IsInverseAtHand e holds i j

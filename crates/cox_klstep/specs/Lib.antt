@@ -8,8 +8,12 @@ pub mod StepOf
 pub mod CorrectionSums
 -- the member whose row is made
 pub mod TargetOf
--- the inverses of members
-pub mod Inverses
+-- symmetries as they take members
+pub mod TurnsOf
+-- members and their images as a view is made
+pub mod TurnedLists
+-- rows of images that are there
+pub mod ImagesAtHand
 -- what the polynomials of a row come from
 pub mod SourceOf
 -- which step is chosen

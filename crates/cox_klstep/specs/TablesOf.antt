@@ -7,7 +7,7 @@ use Rattle.std.specs.Global.{Vec}
 use Rattle.cox_context.specs.Closed.{Elements}
 use Rattle.cox_context.specs.Numbers.{word_at}
 use Rattle.cox_row.specs.Rising.{number_at, AreRising, AreWithin}
-use Rattle.cox_klstep.specs.Inverses.{AreInverses}
+use Rattle.cox_klstep.specs.TurnsOf.{AreTurns}
 use Rattle.cox_klstep.specs.declared.tables.Tables.{Tables}
 
 -- the letters of the set are left descents of the member
@@ -21,9 +21,9 @@ pub record AreCandidates (e : Elements) (end set : ℕ) (numbers : List ℕ) : T
   pub each : (k : ℕ) → k < length numbers → HasDescents e set (number_at numbers k)
   pub whole : (x : ℕ) → x < end → HasDescents e set x → (k : ℕ) × (k < length numbers) × (number_at numbers k ≡ x)
 
--- the tables are those of a context: the numbers of inverses, and for each set of letters the candidates, or nothing yet
+-- the tables are those of a context: symmetries as they take its members, and for each set of letters the candidates, or nothing yet
 pub record AreTables (e : Elements) (tables : Tables) : Type 0 where
-  pub inverses : AreInverses e tables.inverses.items
+  pub turns : AreTurns e tables.turns.items
   pub candidates : (set : ℕ) → IfSome (slice_get tables.candidates.items set)
       (λ list. (list.items ≡ []) ⊎ AreCandidates e (length e.members) set list.items)
 

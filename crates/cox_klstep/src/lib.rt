@@ -3,7 +3,7 @@
 //! For a descent s of w on the left, v = sw, and an extremal x <= w, P(x,w) is P(sx,v) + q P(x,v), less the sum of mu(u,v)
 //! q^((l(w)-l(u))/2) P(x,u) over the u with su < u (Kazhdan and Lusztig 1979, 2.2.c; Humphreys 7.11); and the same on the right. Of all
 //! descents whose rows are there the one with the cheapest corrections is taken; it is proved that these cost no more than those of the
-//! least left descent. Where the row of the inverse of w is there, P(x,w) is read off that as P(x^-1,w^-1).
+//! least left descent. Where the row of the inverse of w is there, or that of another image under a symmetry, P(x,w) is read off that.
 //!
 //! - `member`: the row of a member, the row of the identity, and the rows that a row is made from
 //! - `choice`: which step is taken
@@ -11,8 +11,9 @@
 //! - `making`: the row, candidate by candidate
 //! - `sums`: the polynomial at one extremal member, by the recursion, and how much was added up
 //! - `values`: what a row that is being made has: polynomials, values of mu, and members with a coefficient above the limit
-//! - `turned`: the row from that of the inverse
-//! - `tables`: lists of candidates, and inverses
+//! - `views`: the row from that of an image under a symmetry
+//! - `turns`: symmetries as they take the members
+//! - `tables`: lists of candidates, and symmetries
 //! - `fault`: why a row is not made
 #![tactic(auto)]
 
@@ -23,8 +24,9 @@ mod member;
 mod step;
 mod sums;
 mod tables;
-mod turned;
+mod turns;
 mod values;
+mod views;
 
 pub use choice::correction_sum;
 pub use fault::StepFault;
@@ -32,3 +34,4 @@ pub use member::{identity_row, needs, row};
 pub use step::{Descent, shift, shortens};
 pub use sums::Steps;
 pub use tables::Tables;
+pub use views::shared_row;

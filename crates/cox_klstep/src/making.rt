@@ -22,7 +22,7 @@ use crate::sums::{Source, Steps, put_polynomial};
 use crate::values::{LargeCoefficient, LargeMembers, Mus, Values, middle};
 use cox_context::Context;
 use cox_poly::{Acc, PolyFault};
-use cox_row::{MU_LIMIT, Row};
+use cox_row::{MU_LIMIT, Row, is_subset};
 use std::alloc::{AllocError, Global};
 
 /// The row of a member, from what its polynomials come from and the candidates up to the member for its left descents.
@@ -72,7 +72,7 @@ pub(crate) fn make_row(
         places,
         pool,
     } = values;
-    Ok(Row::of_parts(alloc, extremal, places, pool.into_list(), mus.numbers, mu)?)
+    Ok(Row::whole(alloc, extremal, places, pool.into_list(), mus.numbers, mu)?)
 }
 
 /// The values of mu of the row of the member w in fewer bits.
@@ -234,13 +234,6 @@ impl Target {
             right: ctx.right_descent_set(i),
         }
     }
-}
-
-/// Whether each letter of the one set is in the other.
-pub(crate) fn is_subset(wanted: u16, present: u16) -> bool
-    ensures { IsTrue result ↔ IsSubset wanted present }
-{
-    wanted & !present == 0
 }
 
 /// The least number from a given one on of a shift sw or ws that is shorter than w, for the member w with the number i; i where there is
