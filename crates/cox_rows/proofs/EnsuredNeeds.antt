@@ -161,11 +161,11 @@ module _ (e : Elements) (g : IsAdmissible (integer_matrix e.matrix)) (closed : I
   w = word_at e.members d.member
 
   -- where the shorter element and the corrections need nothing beyond the limits
-  pub needs-small : (limit : ℤ) → pos 0 ≤ℤ limit → (numbers : List ℕ) → AreNeeds A e.members d.letter w numbers
-      → (NeedsBeyond A limit (word_at e.members d.lower) → ⊥)
-      → ((k : ℕ) → k < length numbers → NeedsBeyond A limit (word_at e.members (number_at numbers k)) → ⊥)
+  pub needs-small : (limit : ℤ) → pos 0 ≤ℤ limit → (NeedsBeyond A limit (word_at e.members d.lower) → ⊥)
+      → ((u : ℕ) (m : ℤ) → u < length e.members → IsCorrection Left A d.letter (d.letter ∷ w) (word_at e.members u) m
+      → NeedsBeyond A limit (word_at e.members u) → ⊥)
       → AreNeedsSmall A limit w
-  needs-small limit least numbers are lower each = record {
+  needs-small limit least lower each = record {
     shorter = λ s f h. lower (needs_beyond-same A g limit least (d.letter ∷ w) (word_at e.members d.lower)
         (same-sym A g (lower-same e g closed d is)) (rw (least-unique A g w d.letter s is.least f) at h));
     corrected = λ s u m f c h.
@@ -173,10 +173,18 @@ module _ (e : Elements) (g : IsAdmissible (integer_matrix e.matrix)) (closed : I
         in let place = contains-placed e.members (normal_form A u) (member-below A g e.members closed u d.lower is.lower_within
         (below-same A g (same-refl A g u) (same-sym A g (lower-same e g closed d is)) (mu-below A g u (d.letter ∷ w) m c.is_mu c.some)))
         in let same : SameElement A u (word_at e.members place.i) = rw place.is (same-sym A g (normal_form-same A g u))
-        in let k = are.whole place.i m place.within
+        in each place.i m place.within
         (correction-words A g d.letter (d.letter ∷ w) (d.letter ∷ w) u (word_at e.members place.i) m (same-refl A g (d.letter ∷ w)) same c)
-        in each k.0 k.1 (rw k.2 (needs_beyond-same A g limit least u (word_at e.members place.i) same h));
+        (needs_beyond-same A g limit least u (word_at e.members place.i) same h);
   }
+
+  -- the same for a list of the corrections
+  pub listed-small : (limit : ℤ) → pos 0 ≤ℤ limit → (numbers : List ℕ) → AreNeeds A e.members d.letter w numbers
+      → (NeedsBeyond A limit (word_at e.members d.lower) → ⊥)
+      → ((k : ℕ) → k < length numbers → NeedsBeyond A limit (word_at e.members (number_at numbers k)) → ⊥)
+      → AreNeedsSmall A limit w
+  listed-small limit least numbers are lower each = needs-small limit least lower
+      (λ u m l c h. let k = are.whole u m l c in each k.0 k.1 (rw k.2 h))
 
 -- where no member before it needs a row beyond the limits, nothing that the row of a member is made from does
 module _ (e : Elements) (g : IsAdmissible (integer_matrix e.matrix)) (closed : IsClosed (integer_matrix e.matrix) e.members) (limit : ℤ)

@@ -1,5 +1,5 @@
 -- Settled members stay settled in a larger context; a union with the interval of w has w; and a context that has w already is that union.
-use Rattle.std.proofs.Common.{◌≡◌, inl, inr, ⊎_elim, ℕ, ◌<◌, List, length, Bool, true, false, Option, None, Some, refl}
+use Rattle.std.proofs.Common.{◌≡◌, inl, inr, ⊎_elim, ℕ, ◌<◌, List, length, Bool, true, false, Option, Some, refl}
 use Rattle.std.proofs.Common.{◌∙◌, arith, zero-add}
 use Rattle.std.specs.Prelude.{slice_index, slice_index_or, Contains}
 use Rattle.std.specs.List.{range_with_len}
@@ -18,9 +18,10 @@ use Rattle.cox_base.specs.SortedList.{IsListOf}
 use Rattle.cox_context.specs.Numbering.{IsNumberOf}
 use Rattle.cox_context.proofs.PlacedWords.{contains-at}
 use Rattle.cox_klstep.specs.declared.tables.Tables.{Tables}
+use Rattle.cox_klstep.specs.TablesOf.{AreTables}
 use Rattle.cox_rows.specs.Holding.{Holding, HasRow}
 use Rattle.cox_rows.specs.Ensured.{IsSettled, IsStore}
-use Rattle.cox_rows.specs.Spread.{AreCarried}
+use Rattle.cox_rows.specs.Carried.{AreCarried}
 use Rattle.cox_rows.specs.Extended.{IsExtended}
 
 -- ---- settled members
@@ -32,16 +33,16 @@ settled-carried old new moved matrix limit are i h = record {
   small = λ n. h.small (rw (matrix, limit, are.numbers.word i h.member) at n);
 }
 
-pub store-carried : (old new : Holding) (moved : List ℕ) (settled flags : List Bool) (tables : Option Tables)
+pub store-carried : (old new : Holding) (moved : List ℕ) (settled flags : List Bool) (before : Option Tables) (tables : Tables)
     → new.elements.matrix ≡ old.elements.matrix → new.limit ≡ old.limit
-    → AreCarried old new moved → IsStore old settled tables
+    → AreCarried old new moved → AreTables new.elements tables → IsStore old settled before
     → ((j : ℕ) → slice_index_or flags j false ≡ true
     → (i : ℕ) × (slice_index_or settled i false ≡ true) × (slice_index moved i ≡ j))
-    → IsStore new flags None
-store-carried old new moved settled flags tables matrix limit are store from = record {
+    → IsStore new flags (Some tables)
+store-carried old new moved settled flags before tables matrix limit are usable store from = record {
   known = λ j set. let i = from j set
       in rw i.2 at (settled-carried old new moved matrix limit are i.0 (store.known i.0 i.1));
-  usable = tt;
+  usable = usable;
 }
 
 -- ---- nothing new

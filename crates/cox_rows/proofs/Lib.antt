@@ -19,7 +19,7 @@ pub mod StepsMade
 -- settled members
 pub mod SettledMembers
 -- rows under new numbers
-pub mod SpreadRows
+pub mod CarriedRows
 -- larger contexts
 pub mod LargerContexts
 -- rows of two lists

@@ -1,23 +1,30 @@
 -- A row within the limits is not beyond them, so no row that is held is.
-use Rattle.std.proofs.Common.{◌≡◌, ℕ, ◌<◌, List, length, true, false, Option, ℤ, pos, ⊎_elim, arith}
+use Rattle.std.proofs.Common.{◌≡◌, ℕ, ◌<◌, List, length, true, false, Option, None, Some, ℤ, pos, ⊎_elim, arith}
 use Rattle.std.specs.Prelude.{slice_index_or, unsigned_abs, ◌<ℤ◌, ◌≤ℤ◌}
+use Rattle.std.specs.Arc.{arc_value}
 use Rattle.std.proofs.lemmas.Int.{ints}
 use Rattle.cox_base.specs.IntegerMatrix.{IntegerMatrix, integer_matrix}
 use Rattle.cox_base.specs.Admissible.{IsAdmissible}
 use Rattle.cox_base.specs.ShortLex.{normal_form}
 use Rattle.cox_reflect.proofs.Elements.{same-refl, same-sym}
-use Rattle.cox_reflect.proofs.Search.{normal_form-same}
+use Rattle.cox_reflect.proofs.Search.{normal_form-same, IsWord-normal_form}
+use Rattle.cox_reflect.proofs.NormalElements.{element-word}
 use Rattle.cox_hecke.specs.Row.{IsMu}
 use Rattle.cox_hecke.proofs.AllRows.{mu-unique}
 use Rattle.cox_hecke.proofs.Descended.{mu-below}
+use Rattle.cox_hecke.proofs.PolynomialValues.{kazhdan_lusztig-same}
+use Rattle.cox_symmetry.specs.Turns.{turn}
+use Rattle.cox_symmetry.proofs.Turned.{kazhdan_lusztig_turned}
 use Rattle.cox_context.specs.Closed.{Elements, IsClosed}
 use Rattle.cox_context.specs.Numbers.{word_at}
 use Rattle.cox_context.proofs.PlacedWords.{contains-placed}
-use Rattle.cox_context.proofs.Shifting.{member-below}
+use Rattle.cox_context.proofs.Shifting.{element-at, member-below}
 use Rattle.cox_row.specs.declared.row.Row.{Row}
 use Rattle.cox_row.specs.declared.row.TheConstants.{MU_LIMIT}
 use Rattle.cox_row.specs.Mus.{value_at}
-use Rattle.cox_row.specs.RowOf.{IsRowOf}
+use Rattle.cox_row.specs.declared.row.View.{View}
+use Rattle.cox_row.specs.Views.{ServesFor}
+use Rattle.cox_row.specs.RowOf.{AreValuesOf, IsRowOf, pool_of}
 use Rattle.cox_row.specs.Within.{IsRowWithin}
 use Rattle.cox_row.proofs.MuOfElements.{mu-words}
 use Rattle.cox_klstep.specs.Limits.{IsLargeCoefficient, IsLargeMu}
@@ -30,9 +37,32 @@ use Rattle.cox_rows.proofs.HeldRows.{held-row}
 module _ (A : IntegerMatrix) (g : IsAdmissible A) (members : List (List ℕ)) (closed : IsClosed A members) (i : ℕ)
     (inside : i < length members)
     (limit : ℤ) (least : pos 0 ≤ℤ limit) (row : Row) (is : IsRowOf A members (word_at members i) row) (within : IsRowWithin limit row) where
+  kept-coefficient : (j : ℕ) → j < length members → AreValuesOf A members (word_at members j) (arc_value row.values) → (x : List ℕ) (k : ℕ)
+      (c : ℤ) → IsLargeCoefficient A limit x (word_at members j) k c → ⊥
+  kept-coefficient j l are = none-large A g members closed j l limit least (arc_value row.values).extremal.items
+      (arc_value row.values).places.items (pool_of row) are.extremal are.polynomials within.coefficients
+
+  -- a coefficient of P(x,w) is one of P(g(x),g(w))
+  served-coefficient : (view : Option View) (v : List ℕ) → ServesFor A members (word_at members i) view v
+      → AreValuesOf A members v (arc_value row.values) → (x : List ℕ) (k : ℕ) (c : ℤ)
+      → IsLargeCoefficient A limit x (word_at members i) k c → ⊥
+  served-coefficient None v e are x k c h = kept-coefficient i inside (rw e at are) x k c h
+  served-coefficient (Some view) v (served, e) are x k c h =
+      let image = turn served.p served.inverted (normal_form A x)
+      in let turned = kazhdan_lusztig_turned A g served.p served.symmetry served.inverted (normal_form A x) (word_at members i) h.polynomial
+      (IsWord-normal_form A g x) (element-word A g (word_at members i) (element-at A g members closed i inside))
+      in let there = turned.1 (kazhdan_lusztig-same A g x (normal_form A x) (word_at members i) (word_at members i) h.polynomial
+      (same-sym A g (normal_form-same A g x)) (same-refl A g (word_at members i)) h.is)
+      in kept-coefficient view.member served.within (rw e at are) image k c (record {
+        polynomial = h.polynomial;
+        is = kazhdan_lusztig-same A g image image (turn served.p served.inverted (word_at members i)) (word_at members view.member)
+            h.polynomial (same-refl A g image) (same-sym A g served.element) there;
+        value = h.value;
+        above = h.above;
+      })
+
   none-coefficient : (x : List ℕ) (k : ℕ) (c : ℤ) → IsLargeCoefficient A limit x (word_at members i) k c → ⊥
-  none-coefficient x k c h = none-large A g members closed i inside limit least row.extremal.items row.places.items row.pool
-      is.extremal is.polynomials within.coefficients x k c h
+  none-coefficient = served-coefficient row.view is.kept is.serves is.values
 
   not_zero : (m : ℤ) → pos MU_LIMIT <ℤ pos (unsigned_abs m) → m ≡ pos 0 → ⊥
   not_zero m l e = let zero : pos MU_LIMIT <ℤ pos 0 = rw e at l in omega (arith, ints, zero)

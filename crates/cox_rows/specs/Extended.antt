@@ -3,7 +3,7 @@ use Rattle.std.specs.Prelude.{◌≡◌, ◌≢◌, ℕ, List}
 use Rattle.cox_context.specs.declared.fault.ContextFault.{ContextFault}
 use Rattle.cox_context.specs.declared.fault.ContextFault.TheVariants.{NoMemory}
 use Rattle.cox_rows.specs.Holding.{Holding}
-use Rattle.cox_rows.specs.Spread.{AreCarried}
+use Rattle.cox_rows.specs.Carried.{AreCarried}
 
 -- the members have new numbers, and the rows are held under them; none is made
 pub record IsExtended (old new : Holding) : Type 0 where

@@ -7,6 +7,6 @@ pub mod RowsFaults
 -- how rows change while others are made
 pub mod Ensured
 -- rows under new numbers
-pub mod Spread
+pub mod Carried
 -- a context that grows
 pub mod Extended

@@ -4,15 +4,19 @@
 //! made first, by recursion to smaller numbers. Where all rows are asked for, they are made in the order of the members, and corrections
 //! are not looked for. A member is settled when no row of its Need is beyond the limits; that is noted where its row is held, so that
 //! nothing is looked at twice. It stays so when rows are taken out and come back.
-ghost use Rattle.std.specs.Prelude.{◌≡◌, ◌≢◌, ℕ, ◌<◌, ◌≤◌, length, IsTrue, IfOk, IfErr, OnOk, false};
+ghost use Rattle.std.specs.Prelude.{◌≡◌, ◌≢◌, ℕ, ℤ, ◌<◌, ◌≤◌, ◌∷◌, length, IsTrue, IfOk, IfErr, OnOk, false};
+ghost use Rattle.cox_base.specs.declared.side.Side.TheVariants.{Left};
 ghost use Rattle.cox_base.specs.IntegerMatrix.{integer_matrix};
 ghost use Rattle.cox_hecke.specs.Needs.{IsNeeded};
+ghost use Rattle.cox_hecke.specs.Step.{IsCorrection};
 ghost use Rattle.cox_context.specs.Numbers.{word_at};
+ghost use Rattle.cox_row.specs.RowOf.{IsRowAt};
 ghost use Rattle.cox_klstep.specs.StepOf.{IsDescentAt};
 ghost use Rattle.cox_klstep.specs.NeedsOf.{HasNeeds, AreNeeds};
 ghost use Rattle.cox_klstep.specs.TablesOf.{AreTables};
 ghost use Rattle.cox_klstep.specs.Faults.{IsFault};
-ghost use Rattle.cox_klstep.specs.CountedSteps.{IsWithinSteps, IsCounted, IsMadeByStep};
+ghost use Rattle.cox_klstep.specs.CountedSteps.{IsWithinSteps, IsCounted};
+ghost use Rattle.cox_klstep.specs.ImagesAtHand.{IsMadeByStep};
 ghost use Rattle.cox_rows.specs.Beyond.{NeedsBeyond};
 ghost use Rattle.cox_rows.specs.Holding.{HasRow, held};
 ghost use Rattle.cox_rows.specs.RowsFaults.{IsRowsFault, IsFaultOfSome};
@@ -20,7 +24,9 @@ ghost use Rattle.cox_rows.specs.Ensured.{IsEnsured, IsSettled, AreNeedsSmall};
 
 use crate::Rows;
 use crate::flags::set_at;
-use cox_klstep::{Descent, StepFault, Steps, Tables, needs, row};
+use cox_base::Side;
+use cox_klstep::{Descent, StepFault, Steps, Tables, needs, row, shortens};
+use cox_row::Row;
 use std::alloc::{AllocError, Global};
 
 impl Rows {
@@ -99,6 +105,79 @@ impl Rows {
     {
         match self.settled.get(i as usize) {
             Some(settled) => *settled && self.has(i),
+            None => false,
+        }
+    }
+
+    /// Notes which members are settled, of those whose rows are held. No row is made. Then `ensure` has nothing left to do for a member
+    /// whose Need has no rows but those that are held.
+    ///
+    /// The members are gone through in their order, so those that a row is made from come before it. Where memory runs out, the others are
+    /// left.
+    pub fn settle_held(&mut self)
+        ensures { self.new ≡ self.old }
+    {
+        let mut all = true;
+        'members: for i in 0..self.context().len() {
+            if self.is_known(i) {
+                continue;
+            }
+            if !self.can_settle(i, all) {
+                all = false;
+                continue;
+            }
+            let Ok(()) = self.settle(i) else {
+                return;
+            };
+        }
+    }
+
+    /// Whether the row of the member with the number i is held, and the members whose rows it is made from are known to be settled. These
+    /// are not looked for where all members before it are settled.
+    fn can_settle(&self, i: u32, all: bool) -> bool
+        requires { IsTrue all → (j : ℕ) → j < i → IsSettled self.now j }
+        ensures there { IsTrue result → HasRow self.now i }
+        ensures needs { IsTrue result → AreNeedsSmall (integer_matrix self.now.elements.matrix) self.now.limit
+            (word_at self.now.elements.members i) }
+    {
+        let context = self.context();
+        if !self.has(i) {
+            return false;
+        }
+        if all || i == 0 {
+            return true;
+        }
+        let descent = Descent::of(context, i);
+        match self.held.get(descent.lower) {
+            Some(lower) => self.is_known(descent.lower) && self.are_known(&descent, lower),
+            None => false,
+        }
+    }
+
+    /// Whether the members that correct the step by a descent are known to be settled.
+    fn are_known(&self, descent: &Descent, lower: &Row) -> bool
+        requires descent { IsDescentAt self.now.elements descent.now }
+        requires lower { IsRowAt self.now.elements descent.now.lower lower.now }
+        ensures { IsTrue result → (u : ℕ) → (m : ℤ) → u < length self.now.elements.members
+            → IsCorrection Left (integer_matrix self.now.elements.matrix) descent.now.letter
+            (descent.now.letter ∷ word_at self.now.elements.members descent.now.member) (word_at self.now.elements.members u) m
+            → IsSettled self.now u }
+    {
+        let context = self.context();
+        for &u in lower.neighbours() {
+            if shortens(context, Side::Left, descent.letter, u) && !self.is_known(u) {
+                return false;
+            }
+        }
+        true
+    }
+
+    /// Whether the member with the number i is noted as settled, be its row held or not.
+    fn is_known(&self, i: u32) -> bool
+        ensures { IsTrue result → IsSettled self.now i }
+    {
+        match self.settled.get(i as usize) {
+            Some(settled) => *settled,
             None => false,
         }
     }

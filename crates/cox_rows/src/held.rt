@@ -13,12 +13,14 @@ ghost use Rattle.cox_row.specs.RowLists.{row_at};
 ghost use Rattle.cox_klstep.specs.CountedSteps.{counted};
 ghost use Rattle.cox_rows.specs.Beyond.{IsBeyond};
 ghost use Rattle.cox_rows.specs.Holding.{Holding, HasRow, IsHeldRow, AreBoth, held};
-ghost use Rattle.cox_rows.specs.Spread.{IsMovable, AreSpread, AreCarried};
+ghost use Rattle.cox_rows.specs.Carried.{WasRow, WereRows, AreCarried};
+ghost use Rattle.cox_klstep.specs.TablesOf.{AreTables};
+ghost use Rattle.cox_row.specs.Rising.{number_at};
 ghost use Rattle.cox_rows.specs.Extended.{IsLeft};
 
 use cox_base::Word;
 use cox_context::{Context, ContextFault, MAX_MEMBERS};
-use cox_klstep::Steps;
+use cox_klstep::{Steps, Tables, shared_row};
 use cox_minroots::RootTable;
 use cox_row::{LowerRows, Row};
 use std::alloc::{AllocError, Global};
@@ -151,14 +153,14 @@ impl Held {
         self.rows = both(old, rows);
     }
 
-    /// Adds the elements x with x <= w to the context; the new number of each member that was there before. Without memory no row may be
-    /// left.
+    /// Adds the elements x with x <= w to the context; the new number of each member that was there before, and the tables of the larger
+    /// context. Without memory no row may be left.
     pub(crate) fn extend(
         &mut self,
         group: &RootTable,
         w: &Word,
         limit: u32,
-    ) -> Result<Vec<u32>, ContextFault>
+    ) -> Result<Grown, ContextFault>
         requires matrix { group.now ≡ self.old.elements.matrix }
         requires letters { IsWord group.now.rank w.now.items }
         requires some { 1 ≤ limit }
@@ -168,7 +170,8 @@ impl Held {
         ensures members { OnOk result (IsListOf (IsInUnion (integer_matrix group.now) w.now.items self.old.elements.members)
             self.new.elements.members) }
         ensures few { OnOk result (length self.new.elements.members ≤ limit) }
-        ensures carried { IfOk result (λ moved. AreCarried self.old self.new moved.items) }
+        ensures carried { IfOk result (λ grown. AreCarried self.old self.new grown.moved.items) }
+        ensures tables { IfOk result (λ grown. AreTables self.new.elements grown.tables) }
         ensures refused { IfErr result (IsRefusal (IsInUnion (integer_matrix group.now) w.now.items self.old.elements.members) limit) }
         ensures unchanged { IfErr result (IsLeft self.old self.new) }
         ensures steps { self.new.steps ≡ self.old.steps }
@@ -178,14 +181,71 @@ impl Held {
         let _new = self.context.len();
         let alloc = *self.rows.allocator();
         let rows = mem::replace(&mut self.rows, Vec::new(alloc));
-        match spread(alloc, rows, moved.as_slice()) {
-            Ok(rows) => {
-                self.rows = rows;
-                Ok(moved)
-            }
+        match self.carry(alloc, rows, moved.as_slice()) {
+            Ok(tables) => Ok(Grown { moved, tables }),
             Err(_) => Err(ContextFault::NoMemory),
         }
     }
+
+    /// Puts rows of a smaller context, each under its new number; the tables of this context.
+    fn carry(
+        &mut self,
+        alloc: Global,
+        rows: Vec<Option<Row>>,
+        moved: &[u32],
+    ) -> Result<Tables, AllocError>
+        requires none { self.old.holds ≡ [] }
+        requires rows { WereRows self.old.elements self.old.limit moved.now rows.items }
+        ensures elements { self.new.elements ≡ self.old.elements }
+        ensures limit { self.new.limit ≡ self.old.limit }
+        ensures steps { self.new.steps ≡ self.old.steps }
+        ensures there { OnOk result ((i : ℕ) → is_some (row_at rows.items i) ≡ true → HasRow self.new (number_at moved.now i)) }
+        ensures only { OnOk result ((j : ℕ) → HasRow self.new j
+            → (i : ℕ) × (is_some (row_at rows.items i) ≡ true) × (number_at moved.now i ≡ j)) }
+        ensures tables { IfOk result (AreTables self.old.elements) }
+    {
+        let tables = Tables::of(alloc, self.context())?;
+        let mut rows = rows;
+        'rows: for i in 0..rows.len() {
+            if let Some(row) = take_at(&mut rows, i) {
+                let number = moved[i];
+                let row = self.carried(alloc, row, moved, number, &tables)?;
+                self.put(number, row)?;
+            }
+        }
+        Ok(tables)
+    }
+
+    /// The row of the member with the number i, which it has had under another number in a smaller context. If it shared polynomials, it
+    /// shares those of a row that is there already, where one can serve.
+    fn carried(
+        &self,
+        alloc: Global,
+        row: Row,
+        moved: &[u32],
+        i: u32,
+        tables: &Tables,
+    ) -> Result<Row, AllocError>
+        requires i { i < length self.now.elements.members }
+        requires row { WasRow self.now.elements self.now.limit moved.now i row }
+        requires tables { AreTables self.now.elements tables.now }
+        ensures { IfOk result (IsHeldRow self.now.elements self.now.limit i) }
+    {
+        let context = self.context();
+        if row.view().is_some()
+            && let Some(shared) = shared_row(alloc, context, i, self, tables)?
+        {
+            return Ok(shared);
+        }
+        row.renumbered(alloc, moved, context.len())
+    }
+}
+
+/// What a context has when it has grown: the new number of each member that was there before, and the tables of the larger context.
+#[derive(Drop)]
+pub(crate) struct Grown {
+    pub(crate) moved: Vec<u32>,
+    pub(crate) tables: Tables,
 }
 
 /// Takes the row at a place out, if there is one.
@@ -281,24 +341,4 @@ fn set_at(rows: &mut Vec<Option<Row>>, i: usize, row: Row)
     ensures count { length rows.new.items ≡ length rows.old.items }
 {
     rows[i] = Some(row);
-}
-
-/// The rows at their new places, with new numbers.
-fn spread(
-    alloc: Global,
-    rows: Vec<Option<Row>>,
-    moved: &[u32],
-) -> Result<Vec<Option<Row>>, AllocError>
-    requires { (i : ℕ) → IfSome (row_at rows.items i) (IsMovable moved.now i) }
-    ensures { IfOk result (λ spread. AreSpread rows.items moved.now (length rows.items) spread.items) }
-{
-    let mut rows = rows;
-    let mut spread = Vec::new(alloc);
-    'rows: for i in 0..rows.len() {
-        if let Some(mut row) = take_at(&mut rows, i) {
-            row.renumber(moved);
-            put_at(&mut spread, moved[i] as usize, row)?;
-        }
-    }
-    Ok(spread)
 }

@@ -205,11 +205,13 @@ impl Rows {
         let settled = mem::replace(&mut self.settled, Vec::new(alloc));
         let tables = self.tables.take();
         match self.held.extend(group, w, limit) {
-            Ok(moved) => {
-                let Ok(settled) = spread_flags(alloc, settled.as_slice(), moved.as_slice()) else {
+            Ok(grown) => {
+                let moved = grown.moved.as_slice();
+                let Ok(settled) = spread_flags(alloc, settled.as_slice(), moved) else {
                     return Err(ContextFault::NoMemory);
                 };
                 self.settled = settled;
+                self.tables = Some(grown.tables);
                 match self.context().number_of(group, w) {
                     Some(i) => Ok(i),
                     None => unreachable!(),

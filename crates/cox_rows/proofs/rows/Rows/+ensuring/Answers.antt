@@ -13,7 +13,7 @@ use Rattle.cox_klstep.specs.Faults.{IsFault}
 use Rattle.cox_rows.specs.RowsFaults.{IsRowsFault}
 use Rattle.cox_rows.proofs.EnsuredNeeds.{ensured-needed, ensured-then, fault-needed, fault-own}
 use Rattle.cox_rows.proofs.EnsuredNeeds.{under_way-start, under_way-rows, under_way-next}
-use Rattle.cox_rows.proofs.EnsuredNeeds.{needs-small}
+use Rattle.cox_rows.proofs.EnsuredNeeds.{listed-small}
 use Rattle.cox_rows.proofs.EnsuredNeeds.{identity-small}
 use Rattle.cox_rows.proofs.rows.Rows.+ensuring.Goals as goal
 
@@ -183,7 +183,7 @@ ensure_lower-returns-clause-small t c =
     in let are : AreNeeds (integer_matrix c.args.self.now.elements.matrix) c.args.self.now.elements.members c.of-descent.result.letter
     (word_at c.args.self.now.elements.members c.of-descent.result.member) c.deref-u-items.result.now
     = rw c.deref-u-items.ensures.value (rw c.ensure.ensures.rows.elements at c.in_ok-corrections.ensures)
-    in rw c.of-descent.ensures.number at (needs-small c.args.self.now.elements c.context-context.ensures.admissible
+    in rw c.of-descent.ensures.number at (listed-small c.args.self.now.elements c.context-context.ensures.admissible
     c.context-context.ensures.closed c.of-descent.result is c.args.self.now.limit c.context-context.ensures.least
     c.deref-u-items.result.now are c.in_ok-ensure.ensures.small
     (λ k l. c.each.invariant.small k (omega (arith, l))))

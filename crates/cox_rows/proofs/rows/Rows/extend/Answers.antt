@@ -25,7 +25,8 @@ unreachable-requires c =
 
 pub invariant_of-self-in-Ok : goal.invariant_of-self-in-Ok
 invariant_of-self-in-Ok c =
-    rw c.take-tables.ensures.after (store-carried c.self.inside.held c.extend.new.self c.in-Ok.moved.items c.self.inside.settled.items
-    c.in-Ok-spread_flags.settled.items c.self.inside.tables c.in-Ok.ensures.matrix c.in-Ok.ensures.limit c.in-Ok.ensures.carried
-    c.self.invariant (rw (c.as_slice.ensures.value, c.as_slice-in-Ok.ensures.value, c.replace-settled.ensures.value) at
-    (c.in-Ok-spread_flags.ensures {u = tt})))
+    store-carried c.self.inside.held c.extend.new.self c.in-Ok.grown.moved.items c.self.inside.settled.items
+    c.in-Ok-spread_flags.settled.items c.self.inside.tables c.in-Ok.grown.tables c.in-Ok.ensures.matrix c.in-Ok.ensures.limit
+    c.in-Ok.ensures.carried c.in-Ok.ensures.tables c.self.invariant
+    (rw (c.as_slice.ensures.value, c.as_slice-moved.ensures.value, c.replace-settled.ensures.value) at
+    (c.in-Ok-spread_flags.ensures {u = tt}))

@@ -1,8 +1,11 @@
 -- The tables are taken out of the same rows, and what the row took is added to the count.
-use Rattle.std.proofs.Common.{subst, sym, ◌∙◌}
+use Rattle.std.proofs.Common.{subst, sym, ap, ◌∙◌}
+use Rattle.cox_klstep.specs.CountedSteps.{counted, IsCounted}
+use Rattle.cox_klstep.specs.ImagesAtHand.{IsMadeByStep}
 use Rattle.cox_klstep.specs.NeedsOf.{HasNeeds}
 use Rattle.cox_rows.specs.Holding.{Holding, HasRow}
 use Rattle.cox_rows.proofs.SettledMembers.{store-put}
+use Rattle.cox_rows.proofs.StepsMade.{counted-added}
 use Rattle.cox_rows.proofs.rows.Rows.make.Goals as goal
 
 pub row-made-requires-clause-needs : goal.row-made-requires-clause-needs
@@ -21,3 +24,14 @@ invariant_of-self-in-Ok c = store-put c.self-2.inside.held c.put.new.self c.self
     c.row-made.new.tables (c.in_ok-put-in-Ok.ensures.elements ∙ c.add_steps.ensures.elements)
     (c.in_ok-put-in-Ok.ensures.limit ∙ c.add_steps.ensures.limit)
     c.self-2.invariant (rw c.context.ensures.context at c.row-made.ensures.tables)
+
+pub returns-in_ok-put-in-Ok-clause-counted : goal.returns-in_ok-put-in-Ok-clause-counted
+returns-in_ok-put-in-Ok-clause-counted c = λ none by_step.
+    let same = c.self-2.view_is ∙ c.take_tables.ensures.same
+    in let P : Holding → Type 0 = λ h. IsMadeByStep h.elements (HasRow h) c.args.i
+    in let Q : Holding → Type 0 = λ h. IsCounted h.elements c.args.i 0 c.row-made.new.steps
+    in let counts : Q c.self-2.inside.held = rw (c.context.ensures.context, c.new-steps.ensures) at
+    (c.in-Ok.ensures.counted (rw c.context.ensures.context (subst P (sym same) by_step)))
+    in counted-added c.args.self.now.elements c.args.i c.args.self.now.steps c.row-made.new.steps c.put.new.self.steps
+    (c.in_ok-put-in-Ok.ensures.steps ∙ c.add_steps.ensures.counted ∙ ap (λ h. counted h.steps c.row-made.new.steps) same)
+    (subst Q same counts)
