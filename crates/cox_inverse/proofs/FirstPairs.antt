@@ -1,23 +1,34 @@
 -- Polynomials P(x,z) with a coefficient above the limit: the first one that is found, by rising z and then by rising x, is the first of
 -- all.
-use Rattle.std.proofs.Common.{◌≡◌, ℕ, ◌+◌, ◌<◌, ◌≤◌, List, length, ℤ, pos, refl, ⊎_elim, arith}
+use Rattle.std.proofs.Common.{◌≡◌, ℕ, ◌+◌, ◌<◌, ◌≤◌, List, length, Option, None, Some, ℤ, pos, refl, ⊎_elim, arith}
 use Rattle.std.specs.Prelude.{◌≤ℤ◌, true}
+use Rattle.std.specs.Arc.{arc_value}
 use lib.Signed.{le_z}
 use Rattle.std.proofs.lemmas.Bool.{cases_lt}
 use Rattle.std.proofs.lemmas.Int.{ints}
 use Rattle.cox_base.specs.IntegerMatrix.{IntegerMatrix, integer_matrix}
 use Rattle.cox_base.specs.Admissible.{IsAdmissible}
+use Rattle.cox_base.specs.ShortLex.{normal_form}
 use Rattle.cox_base.specs.Bruhat.{IsBelow}
+use Rattle.cox_reflect.proofs.Elements.{same-refl, same-sym}
+use Rattle.cox_reflect.proofs.Search.{normal_form-same, IsWord-normal_form}
+use Rattle.cox_reflect.proofs.NormalElements.{element-word}
 use Rattle.cox_reflect.proofs.Bruhat.{below-trans}
 use Rattle.cox_poly.specs.Polynomial.{coefficient}
 use Rattle.cox_poly.specs.Limit.{AllWithin, IsFirstAbove}
 use Rattle.cox_hecke.specs.Row.{IsKazhdanLusztig}
+use Rattle.cox_hecke.proofs.PolynomialValues.{kazhdan_lusztig-same}
+use Rattle.cox_symmetry.specs.Turns.{turn}
+use Rattle.cox_symmetry.proofs.Turned.{kazhdan_lusztig_turned}
 use Rattle.cox_context.specs.Closed.{Elements, IsClosed}
 use Rattle.cox_context.specs.Numbers.{word_at}
-use Rattle.cox_context.proofs.Shifting.{later-not_below}
+use Rattle.cox_context.proofs.Shifting.{element-at, later-not_below}
 use Rattle.cox_row.specs.Rising.{number_at, AreRising}
 use Rattle.cox_row.specs.declared.row.Row.{Row}
-use Rattle.cox_row.specs.RowOf.{IsRowAt}
+use Rattle.cox_row.specs.declared.row.Values.{Values}
+use Rattle.cox_row.specs.declared.row.View.{View}
+use Rattle.cox_row.specs.Views.{IsViewOf, ServesFor}
+use Rattle.cox_row.specs.RowOf.{AreValuesOf, IsRowAt, pool_of}
 use Rattle.cox_row.specs.Polynomials.{polynomial_at}
 use Rattle.cox_row.specs.Within.{IsRowWithin}
 use Rattle.cox_klstep.specs.LargeMembers.{IsWithinLimit}
@@ -43,14 +54,47 @@ place-less numbers rising i j l m less = ⊎_elim (λ (before : i < j). before)
 pub at_most : (a b : ℤ) → le_z a b ≡ true → a ≤ℤ b
 at_most a b e = grind (arith, ints)
 
--- where the polynomials of a row are within a limit, no P(x,z) of it has a coefficient above it
+-- where the polynomials of a row are within a limit, no P(x,w) of it has a coefficient above it
+module _ (A : IntegerMatrix) (g : IsAdmissible A) (members : List (List ℕ)) (closed : IsClosed A members) (i : ℕ)
+    (inside : i < length members)
+    (limit : ℤ) (least : pos 0 ≤ℤ limit) where
+  -- P(x,w) is P(g(x),g(w)), and g(w) is the element whose polynomials are kept
+  view-small : (view : View) → IsViewOf A members (word_at members i) view
+      → ((y : List ℕ) → IsWithinLimit A limit y (word_at members view.member))
+      → (x : List ℕ) → IsWithinLimit A limit x (word_at members i)
+  view-small view is small x k c h =
+      let image = turn is.p is.inverted (normal_form A x)
+      in let letters = element-word A g (word_at members i) (element-at A g members closed i inside)
+      in let there = (kazhdan_lusztig_turned A g is.p is.symmetry is.inverted (normal_form A x) (word_at members i) h.polynomial
+      (IsWord-normal_form A g x) letters).1 (kazhdan_lusztig-same A g x (normal_form A x) (word_at members i) (word_at members i)
+      h.polynomial (same-sym A g (normal_form-same A g x)) (same-refl A g (word_at members i)) h.is)
+      in small image k c (record {
+        polynomial = h.polynomial;
+        is = kazhdan_lusztig-same A g image image (turn is.p is.inverted (word_at members i)) (word_at members view.member) h.polynomial
+            (same-refl A g image) (same-sym A g is.element) there;
+        value = h.value;
+        above = h.above;
+      })
+
+  module _ (values : Values) (small : (j : ℕ) → j < length values.pool → AllWithin limit (polynomial_at values.pool j)) where
+    own-small : (m : ℕ) → m < length members → AreValuesOf A members (word_at members m) values
+        → (x : List ℕ) → IsWithinLimit A limit x (word_at members m)
+    own-small m l are = none-large A g members closed m l limit least values.extremal.items values.places.items values.pool are.extremal
+        are.polynomials small
+
+    values-small : (view : Option View) (v : List ℕ) → ServesFor A members (word_at members i) view v → AreValuesOf A members v values
+        → (x : List ℕ) → IsWithinLimit A limit x (word_at members i)
+    values-small None v e are = own-small i inside (rw e at are)
+    values-small (Some view) v (is, e) are = view-small view is (own-small view.member is.within (rw e at are))
+
+-- the same of the member i of a context
 pub row-small : (e : Elements) → IsAdmissible (integer_matrix e.matrix) → IsClosed (integer_matrix e.matrix) e.members → (i : ℕ)
     → i < length e.members → (limit : ℤ) → pos 0 ≤ℤ limit → (row : Row) → IsRowAt e i row
-    → ((j : ℕ) → j < length row.pool → AllWithin limit (polynomial_at row.pool j))
+    → ((j : ℕ) → j < length (pool_of row) → AllWithin limit (polynomial_at (pool_of row) j))
     → (x : List ℕ) → IsWithinLimit (integer_matrix e.matrix) limit x (word_at e.members i)
-row-small e g closed i inside limit least row is within x =
-    none-large (integer_matrix e.matrix) g e.members closed i inside limit least row.extremal.items row.places.items row.pool is.extremal
-    is.polynomials within x
+row-small e g closed i inside limit least row is within =
+    values-small (integer_matrix e.matrix) g e.members closed i inside limit least (arc_value row.values) within row.view is.kept is.serves
+    is.values
 
 pub row-within : (e : Elements) → IsAdmissible (integer_matrix e.matrix) → IsClosed (integer_matrix e.matrix) e.members → (i : ℕ)
     → i < length e.members → (limit : ℤ) → pos 0 ≤ℤ limit → (row : Row) → IsRowAt e i row → IsRowWithin limit row

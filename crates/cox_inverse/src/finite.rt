@@ -6,6 +6,7 @@ ghost use Rattle.cox_poly.specs.Polynomial.{coefficient};
 ghost use Rattle.cox_poly.specs.Limit.{AllWithin};
 ghost use Rattle.cox_context.specs.Numbers.{word_at};
 ghost use Rattle.cox_row.specs.Polynomials.{polynomial_at};
+ghost use Rattle.cox_row.specs.RowOf.{pool_of};
 ghost use Rattle.cox_row.specs.Within.{IsRowWithin};
 ghost use Rattle.cox_inverse.specs.InverseRow.{IsInverse};
 ghost use Rattle.cox_inverse.specs.InverseFaults.{AreWithinLimits};
@@ -80,7 +81,7 @@ impl WholeGroup {
 fn is_within(row: &Row, greatest: i64, limit: i64) -> bool
     requires within { IsRowWithin greatest row.now }
     requires least { pos 0 ≤ℤ limit }
-    ensures { IsTrue result → (j : ℕ) → j < length row.now.pool → AllWithin limit (polynomial_at row.now.pool j) }
+    ensures { IsTrue result → (j : ℕ) → j < length (pool_of row.now) → AllWithin limit (polynomial_at (pool_of row.now) j) }
 {
     if greatest <= limit {
         return true;

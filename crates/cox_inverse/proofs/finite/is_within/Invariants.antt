@@ -2,7 +2,8 @@
 use Rattle.std.proofs.Common.{ℕ, ◌<◌}
 use Rattle.cox_poly.specs.Limit.{AllWithin}
 use Rattle.cox_row.specs.Polynomials.{polynomial_at}
+use Rattle.cox_row.specs.RowOf.{pool_of}
 use Rattle.cox_inverse.proofs.finite.is_within.Given as goal
 
 abbrev pub invariant-loop-k : goal.invariant-loop-k
-invariant-loop-k l = (j : ℕ) → j < l.k → AllWithin l.limit (polynomial_at l.row.pool j)
+invariant-loop-k l = (j : ℕ) → j < l.k → AllWithin l.limit (polynomial_at (pool_of l.row) j)
