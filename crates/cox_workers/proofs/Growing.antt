@@ -1,5 +1,5 @@
 -- What a seat has published, voided and seen: step after step, and when it met another.
-use Rattle.std.proofs.Common.{◌≡◌, ◌⊎◌, inl, inr, ⊎_elim, ℕ, ◌+◌, ◌<◌, ◌||◌, List, length, [], ◌∷◌, ◌++◌, true, sym, ap, ◌∙◌, arith}
+use Rattle.std.proofs.Common.{◌≡◌, ◌⊎◌, inl, inr, ⊎_elim, ℕ, ◌+◌, ◌<◌, ◌||◌, List, length, [], ◌∷◌, ◌++◌, true, refl, sym, ap, ◌∙◌, arith}
 use Rattle.std.proofs.lemmas.Bool.{or_cases, or_left, or_right}
 use Rattle.cox_context.specs.Closed.{Elements}
 use Rattle.cox_claims.specs.declared.seat.Seat.{Seat}
@@ -12,13 +12,23 @@ use Rattle.cox_claims.proofs.Splits.{how_many-append}
 use Rattle.cox_klstep.specs.NeedsOf.{HasNeeds}
 use Rattle.cox_workers.specs.Work.{IsNeededAt, HasEnded, MadeOfSeen, IsSeatKept}
 use Rattle.cox_workers.specs.Filled.{HasSeenEnd, IsNeededForSome, IsSeatGrown, HasMetAll}
-use Rattle.cox_workers.proofs.SeatSteps.{same_seats-trans, needs-map, made-trans}
-use Rattle.cox_claims.proofs.Views.{sees-trans}
+use Rattle.cox_workers.proofs.SeatSteps.{same_seats-refl, same_seats-trans, needs-map, made-trans}
+use Rattle.cox_claims.proofs.Views.{sees-refl, sees-trans}
 
 -- a row that was seen Published or Void is seen so from then on
 pub ended-still : (a b : Seat) → SeesAll (view_of a) (view_of b) → (i : ℕ) → HasSeenEnd a i → HasSeenEnd b i
 ended-still a b seen i end =
     ⊎_elim (λ (h : HasSeen a i). inl (seen.published i h)) (λ (h : HasSeenVoid a i). inr (seen.void i h)) end
+
+pub grown-refl : {e : Elements} {wanted : List ℕ} {a : Seat} → IsSeatGrown e wanted a a
+grown-refl {e} {wanted} {a} = record {
+  same = record { table = refl; number = refl };
+  seats = same_seats-refl (view_of a);
+  held = refl;
+  seen = sees-refl (view_of a);
+  ended = λ j h. inl h;
+  made = λ j h. inl h;
+}
 
 pub grown-trans : {e : Elements} {wanted : List ℕ} {a b c : Seat} → IsSeatGrown e wanted a b → IsSeatGrown e wanted b c
     → IsSeatGrown e wanted a c

@@ -1,6 +1,7 @@
 -- What work leaves: a worker that can go on, a seat that is kept, and a shelf that has what it had.
-use Rattle.std.proofs.Common.{◌≡◌, ℕ}
+use Rattle.std.proofs.Common.{◌≡◌, ℕ, Option, Some, None, IfSome}
 use Rattle.std.specs.Global.{Vec}
+use Rattle.std.specs.Option.{option_or}
 use Rattle.cox_base.specs.IntegerMatrix.{integer_matrix}
 use Rattle.cox_base.specs.Admissible.{IsAdmissible}
 use Rattle.cox_claims.specs.declared.seat.Seat.{Seat}
@@ -73,3 +74,8 @@ work-list list w = record {
   kept = w.kept;
   shelf = w.shelf;
 }
+
+-- what holds of two values that may be there holds of the first one that is
+pub option_or-both : (P : ℕ → Type 0) (a b : Option ℕ) → IfSome a P → IfSome b P → IfSome (option_or a b) P
+option_or-both P (Some x) b h k = h
+option_or-both P None b h k = k

@@ -9,9 +9,27 @@ use cox_row_store::{Claimed, RowState, Seat};
 use std::sync::Wait;
 
 impl<'a> Bench<'a> {
-    ghost use Rattle.cox_workers.specs.Ready.{IsSeatWith};
+    ghost use Rattle.cox_workers.specs.Ready.{IsSeatWith, IsWorkerReady, IsWorkFor};
     ghost use Rattle.cox_workers.specs.Work.{IsSeatKept};
     ghost use Rattle.cox_workers.specs.Filled.{HasSeenEnd};
+
+    /// Makes the row of a member, unless another worker has claimed it.
+    pub(crate) fn make_free<R: Wait, G: Gate>(
+        &self,
+        rt: &R,
+        gate: &G,
+        seat: &mut Seat,
+        hand: &mut Hand<'a>,
+        member: u32,
+    )
+        requires ready { IsWorkerReady self.now seat.old hand.old }
+        requires member { member < length self.now.context.now.members }
+        ensures { IsWorkFor self.now member seat.old seat.new hand.old hand.new }
+    {
+        if self.look(seat, member) == RowState::Free {
+            let _ = self.ensure(rt, gate, seat, hand, member);
+        }
+    }
 
     /// Sees to it that the row of a member is Published or Void, if it is not so already: makes it, or gives it up where there is no hand.
     pub(crate) fn settle<R: Wait, G: Gate>(

@@ -1,4 +1,4 @@
-//! One row by several workers: each makes rows that it needs.
+//! Rows by several workers: each makes rows that they need and that nobody has claimed.
 ghost use Rattle.std.specs.Prelude.{◌≡◌, ℕ, ◌<◌, ◌+◌, ◌^◌, ◌%◌, length, IfSome};
 ghost use Rattle.cox_row.specs.Rising.{number_at};
 
@@ -13,32 +13,6 @@ use std::sync::Wait;
 
 impl<'a> Bench<'a> {
     ghost use Rattle.cox_workers.specs.Ready.{IsWorkerReady, IsWorkFor};
-
-    /// Makes rows that the row of the member with the number i needs, while other workers do the same, until all of these are Published or
-    /// Void. It ends earlier where it cannot tell what is needed: if memory runs out, or the row of the shorter element is Void.
-    ///
-    /// While other workers make all that is left, this one sleeps.
-    pub(crate) fn share<R: Wait, G: Gate>(
-        &self,
-        rt: &R,
-        gate: &G,
-        seat: &mut Seat,
-        hand: &mut Hand<'a>,
-        i: u32,
-    )
-        requires ready { IsWorkerReady self.now seat.old hand.old }
-        requires member { i < length self.now.context.now.members }
-        ensures { IsWorkFor self.now i seat.old seat.new hand.old hand.new }
-    {
-        let _len = self.context.len();
-        for _ in rt.forever() {
-            match self.supply(rt, gate, seat, hand, i) {
-                Some(j) => self.store.sleep_on(rt, j),
-                None => return,
-            }
-        }
-        unreachable!()
-    }
 
     /// Makes those rows that the row of the member with the number i needs and that no worker has claimed.
     ///
@@ -85,11 +59,12 @@ impl<'a> Bench<'a> {
         claimed
     }
 
-    /// Makes the row of the member with the number u, after those that it needs, if no worker has claimed one of these rows.
+    /// Makes the row of the member with the number u, after those that it needs, if no worker has claimed one of these rows. Where one has,
+    /// makes the others that it needs and that are not claimed, as far as it can tell what it needs.
     ///
-    /// Gives one that another worker has claimed, if there is one.
+    /// Gives one that another worker has claimed, if there is one. The caller is to wait for it and then to try again.
     #[cycle(supply)]
-    fn provide<R: Wait, G: Gate>(
+    pub(crate) fn provide<R: Wait, G: Gate>(
         &self,
         rt: &R,
         gate: &G,
@@ -104,7 +79,8 @@ impl<'a> Bench<'a> {
     {
         match self.look(seat, u) {
             RowState::Free => {}
-            RowState::Claimed => return Some(u),
+            // Who has claimed it may be making what it needs.
+            RowState::Claimed => return self.supply(rt, gate, seat, hand, u).or(Some(u)),
             _ => return None,
         }
         let claimed = self.supply(rt, gate, seat, hand, u);

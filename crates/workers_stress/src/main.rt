@@ -22,11 +22,11 @@ use std::thread::Threads;
 /// The greatest coefficient.
 const LIMIT: i64 = 2_147_483_647;
 
-/// How many rows there are, how many extremal members and values of mu they have together.
+/// How many rows there are, how many polynomials and values of mu they have together.
 #[derive(Clone, Copy, Debug, PartialEq, Eq)]
 struct Counts {
     rows: usize,
-    extremal: usize,
+    polynomials: usize,
     mus: usize,
 }
 
@@ -113,13 +113,13 @@ impl Gate for ClaimGate {
 fn count_all(rows: &[Option<Row>]) -> Counts {
     let mut sum = Counts {
         rows: 0,
-        extremal: 0,
+        polynomials: 0,
         mus: 0,
     };
     for row in rows {
         if let Some(row) = row {
             sum.rows = sum.rows.saturating_add(1);
-            sum.extremal = sum.extremal.saturating_add(row.extremal().len());
+            sum.polynomials = sum.polynomials.saturating_add(row.pool().len());
             sum.mus = sum.mus.saturating_add(row.mu().len());
         }
     }
@@ -134,15 +134,15 @@ fn main(rt: HostRuntime) -> anyhow::Result<()> {
     for workers in [1, 2, 4, 16] {
         let sum = count_all(all_rows(&rt, alloc, &context, workers, &Open)?.as_slice());
         println!(rt;
-            "{} rows, {} extremal members, {} values of mu",
-            sum.rows, sum.extremal, sum.mus
+            "{} rows, {} polynomials, {} values of mu",
+            sum.rows, sum.polynomials, sum.mus
         )?;
     }
     for workers in [1, 2, 4, 16] {
         let sum = count_all(last_row(&rt, alloc, &context, workers, &Open)?.as_slice());
         println!(rt;
-            "of the last one {} rows, {} extremal members, {} values of mu",
-            sum.rows, sum.extremal, sum.mus
+            "of the last one {} rows, {} polynomials, {} values of mu",
+            sum.rows, sum.polynomials, sum.mus
         )?;
     }
     let gate = ClaimGate::new(alloc, context.len())?;

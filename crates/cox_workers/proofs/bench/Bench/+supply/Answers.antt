@@ -1,19 +1,18 @@
 -- The worker's steps.
-use Rattle.std.proofs.Common.{ℕ, Option, Some, None, IfSome, arith}
-use Rattle.std.specs.Option.{option_or}
+use Rattle.std.proofs.Common.{Some, arith}
 use Rattle.cox_klstep.proofs.NeededRows.{lower-before}
 use Rattle.cox_workers.specs.Work.{IsNeededAt}
-use Rattle.cox_workers.proofs.Working.{work-trans, work-same, work-again, work-lower, work-needed, work-list}
+use Rattle.cox_workers.proofs.Working.{work-trans, work-same, work-again, work-lower, work-needed, work-list, option_or-both}
 use Rattle.cox_workers.proofs.NeedsByNumber.{correction-needed_at, correction-before_at}
 use Rattle.cox_workers.proofs.bench.Bench.+supply.Goals as goal
 
--- what holds of two values that may be there holds of the first one that is
-or-both : (P : ℕ → Type 0) (a b : Option ℕ) → IfSome a P → IfSome b P → IfSome (option_or a b) P
-or-both P (Some x) b h k = h
-or-both P None b h k = k
-
 pub provide-returns-in-Claimed-clause-work : goal.provide-returns-in-Claimed-clause-work
-provide-returns-in-Claimed-clause-work g t c = work-same c.requires.ready c.look.ensures.own (c.look.ensures.kept c.args.u)
+provide-returns-in-Claimed-clause-work g t c =
+    work-trans (work-same c.requires.ready c.look.ensures.own (c.look.ensures.kept c.args.u)) c.supply.ensures.work
+
+pub provide-returns-in-Claimed-clause-claimed : goal.provide-returns-in-Claimed-clause-claimed
+provide-returns-in-Claimed-clause-claimed g t c =
+    rw c.or.ensures (option_or-both _ c.supply.result (Some c.args.u) c.supply.ensures.claimed c.requires.member)
 
 pub provide-returns-in_default-clause-work : goal.provide-returns-in_default-clause-work
 provide-returns-in_default-clause-work g t c = work-same c.requires.ready c.look.ensures.own (c.look.ensures.kept c.args.u)
@@ -105,7 +104,7 @@ supply-corrections-preserved g t c =
     in record {
       work = work-trans c.corrections.invariant.work (work-needed c.len-len.ensures.admissible needed c.provide.ensures.work);
       claimed = rw c.or-claimed.ensures
-          (or-both _ c.provide.result c.corrections.claimed c.provide.ensures.claimed c.corrections.invariant.claimed);
+          (option_or-both _ c.provide.result c.corrections.claimed c.provide.ensures.claimed c.corrections.invariant.claimed);
     }
 
 pub supply-returns-clause-work : goal.supply-returns-clause-work
