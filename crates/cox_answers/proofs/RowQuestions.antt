@@ -124,6 +124,9 @@ module _ (A : IntegerMatrix) (g : IsAdmissible A) where
       (λ e. record { member = member; extremal = tells.0 e }, λ x. tells.1 x.extremal))
       (λ word x. x.member)
 
+  pub extremals-exist : (w : List ℕ) → (words : List (List ℕ)) × IsListOf (IsExtremalBelow A w) words
+  extremals-exist w = let members = interval-exists A g w in (_, extremals-of w members.0 members.1)
+
   pub pol-answerable : (limits : Limits) (y w : List ℕ) → IsAnswerable (record
       { Refuses = RefusesRow limits A w; IsText = IsPolText A y w })
   pol-answerable limits y w =

@@ -16,6 +16,7 @@ ghost use Rattle.cox_answers.specs.RowReply.{pairs_text, IsExtremalBelow};
 ghost use Rattle.cox_answers.specs.Putting.{PutsSome, words_at};
 
 use cox_print::{NoMemory, put_count, put_next_pair};
+use cox_row::extremal_members;
 use cox_rows::Rows;
 use std::alloc::Global;
 
@@ -45,7 +46,8 @@ pub fn put_extremal_pairs(out: &mut Vec<u8>, rows: &Rows, i: u32) -> Result<(), 
     let Some(row) = rows.row(i) else {
         unreachable!();
     };
-    put_pairs(out, rows, i, row.extremal())
+    let extremal = extremal_members(*out.allocator(), rows.context(), row, i)?;
+    put_pairs(out, rows, i, extremal.as_slice())
 }
 
 /// Puts the list of the members with these numbers, each with its polynomial in the row of the member with the number i.
