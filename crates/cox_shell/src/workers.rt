@@ -118,6 +118,7 @@ fn share<R: Threads + Wait + Sync, G: Gate + Sync>(
         wanted,
     );
     rows.adopt(store.into_rows(rt, seat));
+    rows.settle_held();
     Ok(())
 }
 

@@ -37,6 +37,10 @@ fn makes_a_row_that_was_given_up(rt: HostRuntime) -> Result<(), Fail> {
     let mut rows = Rows::new(alloc, context, LIMIT)?;
     rows.adopt(made);
     assert!(rt; rows.has(0) && !rows.has(2) && !rows.has(18));
+    rows.settle_held();
+    for i in 0..24 {
+        assert_eq!(rt; rows.is_settled(i), rows.has(i));
+    }
     assert_eq!(rt; rows.ensure(18), Ok(()));
     let Some(found) = rows.polynomial(18, 2) else {
         panic!(rt; "2 is below 2132");

@@ -17,10 +17,10 @@ returns g c =
     let moved = c.move_rows-seat.ensures in
     let put = c.adopt.ensures in
     let elements = c.in_ok-store.ensures.elements ∙ c.context.ensures.context in
-    record {
+    rw c.settle_held.ensures (record {
       same = record { elements = put.elements ∙ moved.same.elements; limit = put.limit ∙ moved.same.limit };
       there = λ i has. ⊎_elim (λ stays. put.kept i stays)
           (λ seen. put.added i (taken-back _ _ _ _ c.into_rows.ensures i (rw elements (c.context.ensures.members i has))
           (c.fill_wanted-seat.ensures.seen.published i seen)))
           (moved.there i has);
-    }
+    })
