@@ -5,7 +5,7 @@
 //! - `fixtures`: groups with all their elements
 //! - `contexts`: elements of finite groups against published numbers, intervals, shifts, long words, and refusals
 //! - `steps`: the row of the identity, and what the row of a generator is made from
-//! - `rows`: the rows of A 2, a context that grows, and a long element
+//! - `rows`: the rows of A 2, rows that are read off those of images, a context that grows, and a long element
 //! - `workers`: the rows of A 2 by one worker and by two, and a row of A 3 that was given up
 #![tactic(auto)]
 
