@@ -28,10 +28,10 @@ SCRIPTS = [
 
 
 def counts(group, rows):
-    """How many rows these are, and how many extremal elements and values of mu they have."""
-    extremal = sum(len(group.extremals(w)) for w in rows)
+    """How many rows these are, and how many polynomials, each once in a row, and values of mu they have."""
+    polynomials = sum(len(set(group.row(w).values())) for w in rows)
     mus = sum(1 for w in rows for x in group.below[w] if group.mu(x, w))
-    return f"{len(rows)} rows, {extremal} extremal members, {mus} values of mu"
+    return f"{len(rows)} rows, {polynomials} polynomials, {mus} values of mu"
 
 
 def stress(count):
