@@ -79,7 +79,7 @@ module _ (A : IntegerMatrix) (g : IsAdmissible A) (members : List (List ℕ)) (c
   module _ (values : Values) (small : (j : ℕ) → j < length values.pool → AllWithin limit (polynomial_at values.pool j)) where
     own-small : (m : ℕ) → m < length members → AreValuesOf A members (word_at members m) values
         → (x : List ℕ) → IsWithinLimit A limit x (word_at members m)
-    own-small m l are = none-large A g members closed m l limit least values.extremal.items values.places.items values.pool are.extremal
+    own-small m l are = none-large A g members closed m l limit least values.extremal.items values.places values.pool are.extremal
         are.polynomials small
 
     values-small : (view : Option View) (v : List ℕ) → ServesFor A members (word_at members i) view v → AreValuesOf A members v values

@@ -100,13 +100,13 @@ module _ (e : Elements) (g : IsAdmissible (integer_matrix e.matrix)) (closed : I
       let i = target.member in
       let done = left-end e g target is candidates are place draft.done all left in
       let extremal = finished-extremal A g e.members closed i is.within draft.done done left.bound limit draft.values.extremal.items
-      draft.values.places.items draft.values.pool
+      draft.values.places draft.values.pool
       (λ x. large-none A e.members (word_at e.members i) limit draft.large.numbers.items draft.large.coefficients.items draft.done x
       (ap length none) underway.large) underway.begun
       in record {
         done = done;
         extremal = extremal;
-        within = none-large A g e.members closed i is.within limit least draft.values.extremal.items draft.values.places.items
+        within = none-large A g e.members closed i is.within limit least draft.values.extremal.items draft.values.places
             draft.values.pool extremal underway.begun.polynomials underway.begun.small;
       }
 

@@ -51,7 +51,7 @@ pub record AreNoted (A : IntegerMatrix) (members : List (List ℕ)) (w : List �
 -- what a draft of the row of the member i has of the members done
 pub record IsUnderway (e : Elements) (i : ℕ) (limit : ℤ) (draft : Draft) : Type 0 where
   pub begun : AreBegun (integer_matrix e.matrix) e.members (word_at e.members i) limit draft.done draft.values.extremal.items
-      draft.values.places.items draft.values.pool
+      draft.values.places draft.values.pool
   pub noted : AreNoted (integer_matrix e.matrix) e.members (word_at e.members i) limit draft.done draft.mus.numbers.items
       draft.mus.values.items
   pub large : AreLarge (integer_matrix e.matrix) e.members (word_at e.members i) limit draft.done draft.large.numbers.items

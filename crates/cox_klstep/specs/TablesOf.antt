@@ -28,9 +28,9 @@ pub record AreTables (e : Elements) (tables : Tables) : Type 0 where
       (λ list. (list.items ≡ []) ⊎ AreCandidates e (length e.members) set list.items)
 
 -- the candidates for a set are there
-pub record IsMade (e : Elements) (set : ℕ) (tables : Tables) : Type 0 where
-  pub there : set < length tables.candidates.items
-  pub candidates : IfSome (slice_get tables.candidates.items set) (λ list. AreCandidates e (length e.members) set list.items)
+pub record IsMade (e : Elements) (set : ℕ) (lists : List (Vec ℕ)) : Type 0 where
+  pub there : set < length lists
+  pub candidates : IfSome (slice_get lists set) (λ list. AreCandidates e (length e.members) set list.items)
 
 -- one empty list more
 pub record HasOneListMore (old new : List (Vec ℕ)) : Type 0 where

@@ -13,7 +13,7 @@
 //! - `values`: what a row that is being made has: polynomials, values of mu, and members with a coefficient above the limit
 //! - `views`: the row from that of an image under a symmetry
 //! - `turns`: symmetries as they take the members
-//! - `tables`: lists of candidates, and symmetries
+//! - `tables`: lists of candidates, symmetries, and what is kept from row to row
 //! - `fault`: why a row is not made
 #![tactic(auto)]
 

@@ -25,7 +25,8 @@ use cox_poly::{Acc, PolyFault};
 use cox_row::{MU_LIMIT, Row, is_subset};
 use std::alloc::{AllocError, Global};
 
-/// The row of a member, from what its polynomials come from and the candidates up to the member for its left descents.
+/// The row of a member, from what its polynomials come from and the candidates up to the member for its left descents. What the sums had
+/// before does not matter.
 ///
 /// `Coefficient` where a coefficient is above the limit in absolute value, at the first member x that has one and its least degree; and
 /// `Mu` where none is but a value of mu is above [`MU_LIMIT`].
@@ -36,6 +37,7 @@ pub(crate) fn make_row(
     source: &Source,
     candidates: &[u32],
     limit: i64,
+    sums: &mut Acc,
     steps: &mut Steps,
 ) -> Result<Row, StepFault>
     requires target { IsTarget ctx.now target.now }
@@ -51,11 +53,10 @@ pub(crate) fn make_row(
     let _len = ctx.len();
     let i = target.member;
     let mut draft = Draft::new(alloc, ctx, i);
-    let mut sums = Acc::new();
     for &x in candidates {
         if is_subset(target.right, ctx.right_descent_set(x)) {
             draft.pass(ctx, i, x)?;
-            draft.add_extremal(ctx, i, source, limit, &mut sums, steps)?;
+            draft.add_extremal(ctx, i, source, limit, sums, steps)?;
         }
     }
     if let Some(fault) = draft.large.fault(ctx, i) {
@@ -141,7 +142,7 @@ impl Draft {
     /// Gives back memory that is not used.
     pub(crate) fn shrink(&mut self)
         ensures extremal { self.new.values.extremal.items ≡ self.old.values.extremal.items }
-        ensures places { self.new.values.places.items ≡ self.old.values.places.items }
+        ensures places { self.new.values.places ≡ self.old.values.places }
         ensures pool { self.new.values.pool ≡ self.old.values.pool }
         ensures numbers { self.new.mus.numbers.items ≡ self.old.mus.numbers.items }
     {
@@ -191,7 +192,7 @@ impl Draft {
             → IsCountedTo ctx.now i (self.old.done + 1) start steps.new }
     {
         let _len = ctx.len();
-        let alloc = *self.values.places.allocator();
+        let alloc = *self.values.extremal.allocator();
         let x = self.done;
         if put_polynomial(ctx, i, source, x, sums, steps) {
             match self.values.keep(alloc, x, sums, limit) {

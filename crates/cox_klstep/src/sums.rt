@@ -1,5 +1,6 @@
 //! The recursion at one extremal member: the polynomials that are added up, and how many they are.
-ghost use Rattle.std.specs.Prelude.{◌≡◌, ℕ, ◌+◌, ◌*◌, ◌^◌, ◌<◌, ◌≤◌, ◌↔◌, length, pos, unsigned_abs, false, IsTrue};
+ghost use Rattle.std.specs.Prelude.{◌≡◌, ℕ, ◌+◌, ◌*◌, ◌^◌, ◌<◌, ◌≤◌, ◌↔◌, length, pos, unsigned_abs, false, IsTrue, IfSome, IsSome};
+ghost use Rattle.std.specs.Arc.{arc_value};
 ghost use Rattle.cox_base.specs.Admissible.{IsAdmissible};
 ghost use Rattle.cox_base.specs.IntegerMatrix.{integer_matrix};
 ghost use Rattle.cox_base.specs.Bruhat.{IsBelow};
@@ -12,6 +13,7 @@ ghost use Rattle.cox_context.specs.Closed.{IsClosed};
 ghost use Rattle.cox_context.specs.Numbers.{word_at};
 ghost use Rattle.cox_row.specs.Extremal.{IsExtremal};
 ghost use Rattle.cox_row.specs.RowOf.{IsRowAt};
+ghost use Rattle.cox_row.specs.Index.{IsIndexOf};
 ghost use Rattle.cox_klstep.specs.StepOf.{IsRowStep, AreNeeded};
 ghost use Rattle.cox_klstep.specs.CorrectionSums.{GivesAt, numbered_sum};
 ghost use Rattle.cox_klstep.specs.CountedSteps.{counted};
@@ -20,7 +22,7 @@ ghost use Rattle.cox_klstep.specs.SourceOf.{IsSource, source_cost};
 use crate::step::{Correction, Step, shift};
 use cox_context::Context;
 use cox_poly::{Acc, PolyView};
-use cox_row::{Row, polynomial};
+use cox_row::{Row, RowIndex, indexed_polynomial, polynomial};
 use std::marker::Model;
 
 /// What is added to the sums for an x: factor q^shift P(x,u), for the member u with this number.
@@ -31,13 +33,23 @@ struct Term {
     shift: u32,
 }
 
-/// Adds a term to the sums, from the row of its member u, and says whether x <= u.
-fn add(ctx: &Context, row: &Row, term: &Term, x: u32, sums: &mut Acc, steps: &mut Steps) -> bool
+/// Adds a term to the sums, with the polynomial that was found for x in the row of its member u, and says whether x <= u.
+fn add(
+    ctx: &Context,
+    found: Option<PolyView<'_>>,
+    term: &Term,
+    x: u32,
+    sums: &mut Acc,
+    steps: &mut Steps,
+) -> bool
     requires admissible { IsAdmissible (integer_matrix ctx.now.matrix) }
     requires closed { IsClosed (integer_matrix ctx.now.matrix) ctx.now.members }
     requires u { term.now.number < length ctx.now.members }
     requires x { x < length ctx.now.members }
-    requires row { IsRowAt ctx.now term.now.number row.now }
+    requires value { IfSome found (λ p. IsKazhdanLusztig (integer_matrix ctx.now.matrix) (word_at ctx.now.members x)
+        (word_at ctx.now.members term.now.number) (coefficient p)) }
+    requires exactly { IsSome found ↔ IsBelow (integer_matrix ctx.now.matrix) (word_at ctx.now.members x)
+        (word_at ctx.now.members term.now.number) }
     requires shift { term.now.shift ≤ 127 }
     requires factor { unsigned_abs term.now.factor ≤ 2 ^ 31 }
     requires room { (k : ℕ) → unsigned_abs (coefficient sums.old k) ≤ 2 ^ 125 }
@@ -52,7 +64,7 @@ fn add(ctx: &Context, row: &Row, term: &Term, x: u32, sums: &mut Acc, steps: &mu
     ensures none { result ≡ false → steps.new ≡ steps.old }
     ensures kept { steps.old ≤ steps.new }
 {
-    match polynomial(ctx, row, term.number, x) {
+    match found {
         Some(p) => {
             add_known(ctx, &p, term, x, sums, steps);
             true
@@ -96,6 +108,7 @@ pub(crate) fn sum_up(
     ctx: &Context,
     step: &Step,
     lower: &Row,
+    index: &RowIndex,
     needed: &[&Row],
     x: u32,
     sums: &mut Acc,
@@ -103,6 +116,7 @@ pub(crate) fn sum_up(
 ) -> bool
     requires step { IsRowStep ctx.now step.now }
     requires lower { IsRowAt ctx.now step.now.lower lower.now }
+    requires index { IsIndexOf (arc_value lower.now.values).extremal.items index.now }
     requires needed { AreNeeded ctx.now step.now.corrections.items needed.now }
     requires x { x < length ctx.now.members }
     requires extremal { IsExtremal (integer_matrix ctx.now.matrix) (word_at ctx.now.members step.now.member) (word_at ctx.now.members x) }
@@ -125,7 +139,8 @@ pub(crate) fn sum_up(
         factor: 1,
         shift: 0,
     };
-    if !add(ctx, lower, &at_shorter, shorter, sums, steps) {
+    let found = indexed_polynomial(ctx, lower, index, step.lower, shorter);
+    if !add(ctx, found, &at_shorter, shorter, sums, steps) {
         return false;
     }
     let at_x = Term {
@@ -133,7 +148,8 @@ pub(crate) fn sum_up(
         factor: 1,
         shift: 1,
     };
-    add(ctx, lower, &at_x, x, sums, steps);
+    let found = indexed_polynomial(ctx, lower, index, step.lower, x);
+    add(ctx, found, &at_x, x, sums, steps);
     correct(ctx, step, needed, x, sums, steps);
     true
 }
@@ -188,7 +204,8 @@ fn take_off(
         factor: -i64::from(correction.factor),
         shift: correction.shift,
     };
-    add(ctx, row, &term, x, sums, steps);
+    let found = polynomial(ctx, row, correction.number, x);
+    add(ctx, found, &term, x, sums, steps);
 }
 
 /// What the polynomials of the row of a member come from: a step with the rows that it is made from.
@@ -197,6 +214,8 @@ pub(crate) struct Source<'a> {
     pub(crate) step: &'a Step,
     /// The row of the shorter element.
     pub(crate) lower: &'a Row,
+    /// The index of that row.
+    pub(crate) index: &'a RowIndex,
     /// The rows of the corrections, in their order.
     pub(crate) needed: &'a [&'a Row],
 }
@@ -227,6 +246,7 @@ pub(crate) fn put_polynomial(
         ctx,
         source.step,
         source.lower,
+        source.index,
         source.needed,
         x,
         sums,

@@ -20,7 +20,7 @@ ghost use Rattle.cox_klstep.specs.LargeMembers.{AreLarge, coefficient_at, fault_
 use crate::StepFault;
 use cox_context::Context;
 use cox_poly::{Acc, NoMemory, Poly, PolyFault, PolyList, PolyView};
-use cox_row::raise_fully;
+use cox_row::{Places, raise_fully};
 use std::alloc::{AllocError, Global};
 use std::marker::Model;
 
@@ -28,7 +28,7 @@ use std::marker::Model;
 #[derive(Drop)]
 pub(crate) struct Values {
     pub(crate) extremal: Vec<u32>,
-    pub(crate) places: Vec<u32>,
+    pub(crate) places: Places,
     pub(crate) pool: Pool,
 }
 
@@ -36,11 +36,11 @@ impl Values {
     /// No members.
     pub(crate) fn new(alloc: Global) -> Values
         ensures { (A : IntegerMatrix) → (members : List (List ℕ)) (w : List ℕ) (limit : ℤ)
-            → AreBegun A members w limit 0 result.extremal.items result.places.items result.pool }
+            → AreBegun A members w limit 0 result.extremal.items result.places result.pool }
     {
         Values {
             extremal: Vec::new(alloc),
-            places: Vec::new(alloc),
+            places: Places::new(alloc),
             pool: Pool::new(alloc),
         }
     }
@@ -56,10 +56,10 @@ impl Values {
         requires few { length self.old.pool ≤ x }
         requires small { (j : ℕ) → j < length self.old.pool → AllWithin limit (polynomial_at self.old.pool j) }
         ensures kept { IfOk result (λ _. (A : IntegerMatrix) → (members : List (List ℕ)) (w : List ℕ)
-            → AreBegun A members w limit x self.old.extremal.items self.old.places.items self.old.pool
+            → AreBegun A members w limit x self.old.extremal.items self.old.places self.old.pool
             → IsExtremal A w (word_at members x) → IsBelow A (word_at members x) w
             → IsKazhdanLusztig A (word_at members x) w (coefficient sums.now)
-            → AreBegun A members w limit (x + 1) self.new.extremal.items self.new.places.items self.new.pool) }
+            → AreBegun A members w limit (x + 1) self.new.extremal.items self.new.places self.new.pool) }
         ensures within { IfOk result (λ place. place < length self.new.pool) }
         ensures more { IfOk result (λ _. length self.new.extremal.items ≡ length self.old.extremal.items + 1) }
         ensures polynomial { IfOk result (λ place. SameCoefficients (polynomial_at self.new.pool place) sums.now) }
@@ -79,7 +79,7 @@ impl Values {
     /// One extremal member more, with the place of its polynomial.
     fn append(&mut self, x: u32, place: u32) -> Result<(), AllocError>
         ensures extremal { OnOk result (self.new.extremal.items ≡ self.old.extremal.items ++ x ∷ []) }
-        ensures places { OnOk result (self.new.places.items ≡ self.old.places.items ++ place ∷ []) }
+        ensures places { OnOk result (self.new.places ≡ self.old.places ++ place ∷ []) }
         ensures pool { self.new.pool ≡ self.old.pool }
     {
         self.extremal.push(x)?;

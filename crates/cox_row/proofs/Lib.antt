@@ -24,3 +24,5 @@ pub mod MovedImages
 pub mod ListedExtremals
 -- rows in a larger context, by their parts
 pub mod RenumberedRows
+-- the places of numbers, looked up by number
+pub mod PlacedNumbers

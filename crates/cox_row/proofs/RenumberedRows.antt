@@ -32,7 +32,7 @@ AreViewsMoved moved count (Some before) (Some view) = IsViewMoved moved count be
 -- the parts of a row under the new numbers
 pub record IsRowMoved (moved : List ℕ) (count : ℕ) (before row : Row) : Type 0 where
   pub extremal : (arc_value row.values).extremal.items ≡ map (number_at moved) (arc_value before.values).extremal.items
-  pub places : (arc_value row.values).places.items ≡ (arc_value before.values).places.items
+  pub places : (arc_value row.values).places ≡ (arc_value before.values).places
   pub pool : (arc_value row.values).pool ≡ (arc_value before.values).pool
   pub view : AreViewsMoved moved count before.view row.view
   pub neighbours : row.neighbours.items ≡ map (number_at moved) before.neighbours.items
@@ -99,7 +99,7 @@ module _ (A : IntegerMatrix) (old new : List (List ℕ)) (moved : List ℕ) (fro
         extremal = rw m.extremal (moved-extremal A old new moved from to are g h.kept kept (arc_value before.values).extremal.items
             h.values.extremal);
         polynomials = have-same A new h.kept m.extremal m.places m.pool (moved-polynomials A old new moved from to are g h.kept kept
-            (arc_value before.values).extremal.items (arc_value before.values).places.items (arc_value before.values).pool
+            (arc_value before.values).extremal.items (arc_value before.values).places (arc_value before.values).pool
             h.values.extremal.within h.values.polynomials);
       };
       mus = rw (m.neighbours, m.mu) (moved-mus A old new moved from to are g w member before.neighbours.items before.mu.items h.mus);

@@ -10,6 +10,8 @@ pub mod Polynomials
 pub mod Mus
 -- numbers of members in 32 bits
 pub mod Entries
+-- where numbers stand in their list, looked up by number
+pub mod Index
 -- rows that are read off the polynomials of another element
 pub mod Views
 -- the row of an element

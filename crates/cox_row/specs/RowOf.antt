@@ -14,7 +14,7 @@ use Rattle.cox_row.specs.Views.{ServesFor}
 -- the extremal elements of v, with their polynomials
 pub record AreValuesOf (A : IntegerMatrix) (members : List (List ℕ)) (v : List ℕ) (values : Values) : Type 0 where
   pub extremal : AreExtremal A members v values.extremal.items
-  pub polynomials : HavePolynomials A members v values.extremal.items values.places.items values.pool
+  pub polynomials : HavePolynomials A members v values.extremal.items values.places values.pool
 
 -- the row of w: the polynomials of w, or of an element that serves for it, and the values of mu of w
 pub record IsRowOf (A : IntegerMatrix) (members : List (List ℕ)) (w : List ℕ) (row : Row) : Type 0 where

@@ -13,11 +13,13 @@
 //! polynomials of v.
 //!
 //! - `row`: the row and its parts
+//! - `places`: the places of polynomials in a pool
 //! - `images`: where members are taken, by number
 //! - `new_numbers`: new numbers for a row when its context grows
 //! - `raised`: raising a member by the descents of another
 //! - `look_up`: the polynomial and mu of any member, how many polynomials there are, and the extremal members
 //! - `search`: the place of a number in a list that rises
+//! - `row_index`: the same with no search, for the extremal members of one row
 //! - `lower_rows`: rows that are at hand, by number
 #![tactic(auto)]
 
@@ -25,12 +27,16 @@ mod images;
 mod look_up;
 mod lower_rows;
 mod new_numbers;
+mod places;
 mod raised;
 mod row;
+mod row_index;
 mod search;
 
 pub use images::Images;
-pub use look_up::{extremal_members, mu, polynomial, pool_len};
+pub use look_up::{extremal_members, indexed_polynomial, mu, polynomial, pool_len};
 pub use lower_rows::LowerRows;
+pub use places::Places;
 pub use raised::{is_extremal, is_subset, raise_fully};
 pub use row::{MU_LIMIT, Row, RowParts, Values, View};
+pub use row_index::RowIndex;

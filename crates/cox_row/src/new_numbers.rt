@@ -45,7 +45,7 @@ fn renumbered_values(
 ) -> Result<Arc<Values>, AllocError>
     requires { AreWithin (length moved.now) (arc_value values).extremal.items }
     ensures extremal { IfOk result (λ v. (arc_value v).extremal.items ≡ map (number_at moved.now) (arc_value values).extremal.items) }
-    ensures places { IfOk result (λ v. (arc_value v).places.items ≡ (arc_value values).places.items) }
+    ensures places { IfOk result (λ v. (arc_value v).places ≡ (arc_value values).places) }
     ensures pool { IfOk result (λ v. (arc_value v).pool ≡ (arc_value values).pool) }
 {
     let mut own = match Arc::try_unwrap(values) {
@@ -59,12 +59,12 @@ fn renumbered_values(
 /// The same polynomials once more.
 fn copy_of(alloc: Global, values: &Values) -> Result<Values, AllocError>
     ensures extremal { IfOk result (λ copy. copy.extremal.items ≡ values.now.extremal.items) }
-    ensures places { IfOk result (λ copy. copy.places.items ≡ values.now.places.items) }
+    ensures places { IfOk result (λ copy. copy.places ≡ values.now.places) }
     ensures pool { IfOk result (λ copy. copy.pool ≡ values.now.pool) }
 {
     Ok(Values {
         extremal: Vec::from_slice(alloc, &values.extremal)?,
-        places: Vec::from_slice(alloc, &values.places)?,
+        places: values.places.copy(alloc)?,
         pool: copy_of_list(alloc, &values.pool)?,
     })
 }

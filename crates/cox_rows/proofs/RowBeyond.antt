@@ -40,7 +40,7 @@ module _ (A : IntegerMatrix) (g : IsAdmissible A) (members : List (List ℕ)) (c
   kept-coefficient : (j : ℕ) → j < length members → AreValuesOf A members (word_at members j) (arc_value row.values) → (x : List ℕ) (k : ℕ)
       (c : ℤ) → IsLargeCoefficient A limit x (word_at members j) k c → ⊥
   kept-coefficient j l are = none-large A g members closed j l limit least (arc_value row.values).extremal.items
-      (arc_value row.values).places.items (pool_of row) are.extremal are.polynomials within.coefficients
+      (arc_value row.values).places (pool_of row) are.extremal are.polynomials within.coefficients
 
   -- a coefficient of P(x,w) is one of P(g(x),g(w))
   served-coefficient : (view : Option View) (v : List ℕ) → ServesFor A members (word_at members i) view v

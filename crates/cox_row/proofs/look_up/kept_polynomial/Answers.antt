@@ -2,8 +2,14 @@
 use Rattle.std.proofs.Common.{refl}
 use Rattle.cox_base.specs.IntegerMatrix.{integer_matrix}
 use Rattle.cox_context.specs.Numbers.{word_at}
-use Rattle.cox_row.proofs.LookUps.{below-at}
+use Rattle.cox_row.proofs.LookUps.{value-raised, below-at}
 use Rattle.cox_row.proofs.look_up.kept_polynomial.Goals as goal
+
+pub returns-clause-value : goal.returns-clause-value
+returns-clause-value c = rw (c.at-2.ensures, c.at.ensures) (value-raised (integer_matrix c.args.ctx.now.matrix) c.args.ctx.now.members
+    (word_at c.args.ctx.now.members c.args.i) (word_at c.args.ctx.now.members c.args.x) c.in_ok-top.top c.in_ok-k.k
+    c.args.values.now.extremal.items c.args.values.now.places c.args.values.now.pool c.requires.values.polynomials
+    c.in_ok-top.ensures.2 (rw c.deref.ensures.value at c.in_ok-k.ensures.within) (rw c.deref.ensures.value at c.in_ok-k.ensures.place))
 
 pub returns-clause-exactly : goal.returns-clause-exactly
 returns-clause-exactly c = (

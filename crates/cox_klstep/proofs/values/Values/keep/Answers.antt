@@ -14,5 +14,5 @@ returns-in-Ok-append-clause-kept c = λ A members w h extremal below is.
     let fits : FitsSigned w64 c.args.limit = search rules
     in let pooled = simp (to_z-of_z w64 c.args.limit fits) at c.in-Ok.ensures.place
     in rw (c.in-Ok-append.ensures.extremal, c.in-Ok-append.ensures.places, c.in-Ok-append.ensures.pool)
-    (begun-keep A members w c.args.limit c.args.x c.args.self.now.extremal.items c.args.self.now.places.items c.args.self.now.pool
+    (begun-keep A members w c.args.limit c.args.x c.args.self.now.extremal.items c.args.self.now.places c.args.self.now.pool
     c.pooled_place.new.pool c.in-Ok.place c.args.sums.now pooled h extremal below is)

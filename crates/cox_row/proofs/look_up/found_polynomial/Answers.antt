@@ -6,7 +6,7 @@ use Rattle.cox_base.specs.IntegerMatrix.{integer_matrix}
 use Rattle.cox_poly.specs.Polynomial.{coefficient}
 use Rattle.cox_row.specs.Views.{image_at}
 use Rattle.cox_row.proofs.ViewedPolynomials.{viewed-below, viewed-polynomial}
-use Rattle.cox_row.proofs.look_up.polynomial.Goals as goal
+use Rattle.cox_row.proofs.look_up.found_polynomial.Goals as goal
 
 pub kept_polynomial-requires-in-Some-clause-x : goal.kept_polynomial-requires-in-Some-clause-x
 kept_polynomial-requires-in-Some-clause-x c =
