@@ -408,8 +408,9 @@ impl Session {
             return self.refuse(Refusal::LongList, out);
         }
         let told = self.tell_all(maker, blocks, *out.allocator())?;
-        out.extend_from_slice(told.text())?;
-        Ok(told.said())
+        let said = told.said();
+        told.put_behind(out)?;
+        Ok(said)
     }
 
     /// Tells what the blocks of a list are answered, which is not too long: at once, where the maker does that, or else one after another.

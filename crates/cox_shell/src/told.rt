@@ -20,7 +20,7 @@ impl Model for ToldText {
 }
 
 impl ToldText {
-    ghost use Rattle.std.specs.Prelude.{◌≡◌, [], OnOk};
+    ghost use Rattle.std.specs.Prelude.{◌≡◌, [], ◌++◌, OnOk, OnErr};
     ghost use Rattle.cox_shell.specs.Blocks.{first_of};
     ghost use Rattle.cox_shell.specs.ToldText.{no_text, then_numbered, number_said, said_by};
 
@@ -32,13 +32,6 @@ impl ToldText {
             text: Vec::new(alloc),
             refused: None,
         }
-    }
-
-    /// The text.
-    pub fn text(&self) -> &[u8]
-        ensures { result.now ≡ self.now.text }
-    {
-        self.text.as_slice()
     }
 
     /// Takes the text, behind which more is to be put.
@@ -69,6 +62,18 @@ impl ToldText {
             self.refused = more.refused;
         }
         Ok(())
+    }
+
+    /// Puts the text behind what `out` has. If that is nothing, the text becomes that of `out`, and is not copied.
+    pub fn put_behind(self, out: &mut Vec<u8>) -> Result<(), AllocError>
+        ensures items { OnOk result (out.new.items ≡ out.old.items ++ self.text) }
+        ensures kept { OnErr result (out.new.items ≡ out.old.items) }
+    {
+        if out.is_empty() {
+            *out = self.text;
+            return Ok(());
+        }
+        out.extend_from_slice(self.text.as_slice())
     }
 
     /// What is said of the lines.

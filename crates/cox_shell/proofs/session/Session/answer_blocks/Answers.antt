@@ -31,13 +31,13 @@ returns-clause-ok g c =
       told_reply c.args.self.now c.args.blocks.now told.0 (sym c.is_long.ensures ∙ c.if-is_long.false) told.1,
       record {
         tells = subst (λ (s : Said). IsSaid s (list_answered state told.0))
-            (sym (c.said.ensures ∙ ap (λ (n : Numbered). said_by n.refused) is)) (said_by-is state told.0);
-        text = (c.in_ok-extend_from_slice.ensures {u = tt}).items
-            ∙ ap (λ t. c.args.out.now.items ++ t) (c.text.ensures ∙ ap (λ (n : Numbered). n.text) is);
+            (sym (c.said-said.ensures ∙ ap (λ (n : Numbered). said_by n.refused) is)) (said_by-is state told.0);
+        text = (c.in_ok-put_behind.ensures {u = tt}).items
+            ∙ ap (λ t. c.args.out.now.items ++ t) (ap (λ (n : Numbered). n.text) is);
       },
     )
 
-pub returns-in_err-extend_from_slice-clause-err : goal.returns-in_err-extend_from_slice-clause-err
-returns-in_err-extend_from_slice-clause-err g c =
+pub returns-in_err-put_behind-clause-err : goal.returns-in_err-put_behind-clause-err
+returns-in_err-put_behind-clause-err g c =
     let found = IsListReply-exists c.args.self.now c.rank-rank.ensures.matrix c.args.blocks.now in
-    nothing-put _ (IsListReply c.args.self.now c.args.blocks.now) found.0 _ _ found.1 c.in_err-extend_from_slice.ensures.items
+    nothing-put _ (IsListReply c.args.self.now c.args.blocks.now) found.0 _ _ found.1 c.in_err-put_behind.ensures.kept
