@@ -16,9 +16,7 @@ use Rattle.cox_row.specs.Extremal.{IsExtremal}
 use Rattle.cox_row.specs.ExtremalNumbers.{AreExtremal}
 use Rattle.cox_row.specs.Mus.{AreMus}
 use Rattle.cox_klstep.specs.declared.making.Draft.{Draft}
-use Rattle.cox_klstep.specs.declared.making.Target.{Target}
-use Rattle.cox_klstep.specs.TargetOf.{IsTarget}
-use Rattle.cox_klstep.specs.TablesOf.{AreCandidates}
+use Rattle.cox_klstep.specs.LoweredTo.{AreExtremalUpTo}
 use Rattle.cox_klstep.specs.Drafts.{AreBegun, AreNoted, IsUnderway}
 use Rattle.cox_row.specs.Polynomials.{polynomial_at, HavePolynomials}
 use Rattle.cox_row.specs.Rising.{number_at}
@@ -82,7 +80,7 @@ module _ (A : IntegerMatrix) (g : IsAdmissible A) (members : List (List ℕ)) (c
       (λ (n : IsBelow A x (word_at members i) → ⊥). outside-none A g limit x (word_at members i) least n k c)
       (below_or_not A g x (word_at members i))
 
--- when no candidate is left, and no coefficient above the limit was found: the extremal members are all there, each P(x,w) is within the
+-- when none is left, and no coefficient above the limit was found: the extremal members are all there, each P(x,w) is within the
 -- limit, and w itself is done
 pub record IsFinished (e : Elements) (i : ℕ) (limit : ℤ) (draft : Draft) : Type 0 where
   pub done : i < draft.done
@@ -90,23 +88,22 @@ pub record IsFinished (e : Elements) (i : ℕ) (limit : ℤ) (draft : Draft) : T
   pub within : (x : List ℕ) → IsWithinLimit (integer_matrix e.matrix) limit x (word_at e.members i)
 
 module _ (e : Elements) (g : IsAdmissible (integer_matrix e.matrix)) (closed : IsClosed (integer_matrix e.matrix) e.members)
-    (target : Target) (is : IsTarget e target) (candidates : List ℕ) (are : AreCandidates e (target.member + 1) target.left candidates)
+    (i : ℕ) (inside : i < length e.members) (members : List ℕ) (are : AreExtremalUpTo e i members)
     (limit : ℤ) (least : pos 0 ≤ℤ limit) (draft : Draft) where
-  pub finished : (place : ℕ) → length candidates ≤ place
-      → AreLeft (integer_matrix e.matrix) e.members target.member candidates place draft.done
-      → draft.large.numbers.items ≡ [] → IsUnderway e target.member limit draft → IsFinished e target.member limit draft
+  pub finished : (place : ℕ) → length members ≤ place
+      → AreLeft (integer_matrix e.matrix) e.members i members place draft.done
+      → draft.large.numbers.items ≡ [] → IsUnderway e i limit draft → IsFinished e i limit draft
   finished place all left none underway =
       let A = integer_matrix e.matrix in
-      let i = target.member in
-      let done = left-end e g target is candidates are place draft.done all left in
-      let extremal = finished-extremal A g e.members closed i is.within draft.done done left.bound limit draft.values.extremal.items
+      let done = left-end e i members are place draft.done all left in
+      let extremal = finished-extremal A g e.members closed i inside draft.done done left.bound limit draft.values.extremal.items
       draft.values.places draft.values.pool
       (λ x. large-none A e.members (word_at e.members i) limit draft.large.numbers.items draft.large.coefficients.items draft.done x
       (ap length none) underway.large) underway.begun
       in record {
         done = done;
         extremal = extremal;
-        within = none-large A g e.members closed i is.within limit least draft.values.extremal.items draft.values.places
+        within = none-large A g e.members closed i inside limit least draft.values.extremal.items draft.values.places
             draft.values.pool extremal underway.begun.polynomials underway.begun.small;
       }
 

@@ -36,6 +36,8 @@ pub mod Shifts
 pub mod Chosen
 -- what corrections cost
 pub mod CostedSums
+-- extremal members, picked from the candidates
+pub mod PickedExtremals
 -- which members are left
 pub mod Candidates
 -- how many polynomials are added up

@@ -26,6 +26,8 @@ pub mod Faults
 pub mod NeedsOf
 -- how many polynomials are added up for a row
 pub mod CountedSteps
+-- the extremal members up to one, and where a step leads from them
+pub mod LoweredTo
 -- the tables of a context
 pub mod TablesOf
 -- fingerprints of polynomials

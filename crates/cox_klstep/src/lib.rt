@@ -8,7 +8,8 @@
 //! - `member`: the row of a member, the row of the identity, and the rows that a row is made from
 //! - `choice`: which step is taken
 //! - `step`: the descent, the shorter element and the corrections, with shifts and descents on either side
-//! - `making`: the row, candidate by candidate
+//! - `lowering`: the extremal members up to the member, and where the step leads from them
+//! - `making`: the row, one extremal member after another
 //! - `sums`: the polynomial at one extremal member, by the recursion, and how much was added up
 //! - `values`: what a row that is being made has: polynomials, values of mu, and members with a coefficient above the limit
 //! - `views`: the row from that of an image under a symmetry
@@ -19,6 +20,7 @@
 
 mod choice;
 mod fault;
+mod lowering;
 mod making;
 mod member;
 mod step;

@@ -1,6 +1,6 @@
-//! Makes the row of a member, candidate by candidate.
+//! Makes the row of a member, one extremal member after another.
 ghost use Rattle.std.specs.Prelude.{◌≡◌, ℕ, ◌+◌, ◌*◌, ◌<◌, ◌≤◌, length, IfOk, IfErr, IfSome, IfNone, ℤ, pos, ◌≤ℤ◌, unsigned_abs, OnOk, ◌↔◌};
-ghost use Rattle.std.specs.Prelude.{IsTrue, IsBitSet};
+ghost use Rattle.std.specs.Prelude.{IsTrue, IsBitSet, Some};
 ghost use Rattle.cox_base.specs.IntegerMatrix.{integer_matrix};
 ghost use Rattle.cox_context.specs.Numbers.{word_at};
 ghost use Rattle.cox_row.specs.RowOf.{IsRowAt};
@@ -8,56 +8,56 @@ ghost use Rattle.cox_row.specs.Within.{IsRowWithin, AreSmallMus};
 ghost use Rattle.cox_klstep.specs.TargetOf.{IsTarget, IsLeastShift, IsLeastOf};
 ghost use Rattle.cox_klstep.specs.CountedSteps.{IsWithinCost, IsCounted, IsWithinCostTo, IsCountedTo};
 ghost use Rattle.cox_klstep.specs.SourceOf.{IsSource, source_cost};
-ghost use Rattle.cox_klstep.specs.TablesOf.{AreCandidates};
+ghost use Rattle.cox_klstep.specs.LoweredTo.{IsLoweredBy};
 ghost use Rattle.cox_klstep.specs.Faults.{IsFault, IsNarrowFault};
 ghost use Rattle.cox_row.specs.Extremal.{IsExtremal};
 ghost use Rattle.cox_klstep.specs.Drafts.{IsUnderway, AreBare};
 ghost use Rattle.cox_base.specs.Matrix.{IsLetter};
 ghost use Rattle.cox_base.specs.ShortLex.{normal_form};
+ghost use Rattle.cox_base.specs.SideDescents.{times_letter};
 ghost use Rattle.cox_context.specs.Numbering.{IsNumberOf};
 ghost use Rattle.cox_row.specs.LetterSets.{IsSubset};
 
 use crate::StepFault;
+use crate::lowering::Lowered;
 use crate::sums::{Source, Steps, put_polynomial};
 use crate::values::{LargeCoefficient, LargeMembers, Mus, Values, middle};
 use cox_context::Context;
 use cox_poly::{Acc, PolyFault};
-use cox_row::{MU_LIMIT, Row, is_subset};
+use cox_row::{MU_LIMIT, Row};
 use std::alloc::{AllocError, Global};
 
-/// The row of a member, from what its polynomials come from and the candidates up to the member for its left descents. What the sums had
-/// before does not matter.
+/// The row of the member with the number i, from what its polynomials come from and the extremal members up to it. What the sums had before
+/// does not matter.
 ///
 /// `Coefficient` where a coefficient is above the limit in absolute value, at the first member x that has one and its least degree; and
 /// `Mu` where none is but a value of mu is above [`MU_LIMIT`].
 pub(crate) fn make_row(
     alloc: Global,
     ctx: &Context,
-    target: &Target,
+    i: u32,
     source: &Source,
-    candidates: &[u32],
+    lowered: &Lowered,
     limit: i64,
     sums: &mut Acc,
     steps: &mut Steps,
 ) -> Result<Row, StepFault>
-    requires target { IsTarget ctx.now target.now }
-    requires source { IsSource ctx.now target.now.member source.now }
-    requires candidates { AreCandidates ctx.now (target.now.member + 1) target.now.left candidates.now }
+    requires i { i < length ctx.now.members }
+    requires source { IsSource ctx.now i source.now }
+    requires lowered { IsLoweredBy ctx.now i source.now.step.now lowered.now }
     requires limit { pos 0 ≤ℤ limit }
-    ensures row { IfOk result (IsRowAt ctx.now target.now.member) }
+    ensures row { IfOk result (IsRowAt ctx.now i) }
     ensures within { IfOk result (IsRowWithin limit) }
-    ensures fault { IfErr result (IsFault (integer_matrix ctx.now.matrix) ctx.now.members limit (λ w. w ≡ target.now.member)) }
-    ensures steps { IsWithinCost ctx.now target.now.member (source_cost source.now) steps.old steps.new }
-    ensures counted { IfOk result (λ _. IsCounted ctx.now target.now.member steps.old steps.new) }
+    ensures fault { IfErr result (IsFault (integer_matrix ctx.now.matrix) ctx.now.members limit (λ w. w ≡ i)) }
+    ensures steps { IsWithinCost ctx.now i (source_cost source.now) steps.old steps.new }
+    ensures counted { IfOk result (λ _. IsCounted ctx.now i steps.old steps.new) }
 {
     let _len = ctx.len();
-    let i = target.member;
     let mut draft = Draft::new(alloc, ctx, i);
-    for &x in candidates {
-        if is_subset(target.right, ctx.right_descent_set(x)) {
-            draft.pass(ctx, i, x)?;
-            draft.add_extremal(ctx, i, source, limit, sums, steps)?;
-        }
+    for k in 0..lowered.len() {
+        let next = lowered.at(k);
+        draft.pass(ctx, i, next.member)?;
+        draft.add_extremal(ctx, i, source, next.shorter, limit, sums, steps)?;
     }
     if let Some(fault) = draft.large.fault(ctx, i) {
         return Err(fault);
@@ -169,12 +169,14 @@ impl Draft {
         Ok(())
     }
 
-    /// One extremal member more. Its polynomial is not kept if it has a coefficient above the limit.
+    /// One extremal member more, from which the step leads to the member `shorter`. Its polynomial is not kept if it has a coefficient above
+    /// the limit.
     pub(crate) fn add_extremal(
         &mut self,
         ctx: &Context,
         i: u32,
         source: &Source,
+        shorter: u32,
         limit: i64,
         sums: &mut Acc,
         steps: &mut Steps,
@@ -183,6 +185,8 @@ impl Draft {
         requires source { IsSource ctx.now i source.now }
         requires x { self.old.done ≤ i }
         requires extremal { IsExtremal (integer_matrix ctx.now.matrix) (word_at ctx.now.members i) (word_at ctx.now.members self.old.done) }
+        requires shorter { IsNumberOf ctx.now.members (normal_form (integer_matrix ctx.now.matrix)
+            (times_letter source.now.step.now.side source.now.step.now.letter (word_at ctx.now.members self.old.done))) (Some shorter) }
         requires underway { IsUnderway ctx.now i limit self.old }
         ensures underway { OnOk result (IsUnderway ctx.now i limit self.new) }
         ensures done { OnOk result (self.new.done ≡ self.old.done + 1) }
@@ -194,7 +198,7 @@ impl Draft {
         let _len = ctx.len();
         let alloc = *self.values.extremal.allocator();
         let x = self.done;
-        if put_polynomial(ctx, i, source, x, sums, steps) {
+        if put_polynomial(ctx, i, source, x, shorter, sums, steps) {
             match self.values.keep(alloc, x, sums, limit) {
                 Ok(place) => {
                     let value = middle(ctx, &self.values.pool.at(place as usize), i, x);

@@ -1,9 +1,11 @@
 //! The recursion at one extremal member: the polynomials that are added up, and how many they are.
-ghost use Rattle.std.specs.Prelude.{◌≡◌, ℕ, ◌+◌, ◌*◌, ◌^◌, ◌<◌, ◌≤◌, ◌↔◌, length, pos, unsigned_abs, false, IsTrue, IfSome, IsSome};
+ghost use Rattle.std.specs.Prelude.{◌≡◌, ℕ, ◌+◌, ◌*◌, ◌^◌, ◌<◌, ◌≤◌, ◌↔◌, length, pos, unsigned_abs, false, IsTrue, IfSome, IsSome, Some};
 ghost use Rattle.std.specs.Arc.{arc_value};
 ghost use Rattle.cox_base.specs.Admissible.{IsAdmissible};
 ghost use Rattle.cox_base.specs.IntegerMatrix.{integer_matrix};
 ghost use Rattle.cox_base.specs.Bruhat.{IsBelow};
+ghost use Rattle.cox_base.specs.ShortLex.{normal_form};
+ghost use Rattle.cox_base.specs.SideDescents.{times_letter};
 ghost use Rattle.cox_poly.specs.Coefficients.{Coefficients, plus};
 ghost use Rattle.cox_poly.specs.Products.{times_q_power};
 ghost use Rattle.cox_poly.specs.Multiples.{minus, scaled};
@@ -11,6 +13,7 @@ ghost use Rattle.cox_poly.specs.Polynomial.{coefficient};
 ghost use Rattle.cox_hecke.specs.Row.{IsKazhdanLusztig};
 ghost use Rattle.cox_context.specs.Closed.{IsClosed};
 ghost use Rattle.cox_context.specs.Numbers.{word_at};
+ghost use Rattle.cox_context.specs.Numbering.{IsNumberOf};
 ghost use Rattle.cox_row.specs.Extremal.{IsExtremal};
 ghost use Rattle.cox_row.specs.RowOf.{IsRowAt};
 ghost use Rattle.cox_row.specs.Index.{IsIndexOf};
@@ -19,7 +22,7 @@ ghost use Rattle.cox_klstep.specs.CorrectionSums.{GivesAt, numbered_sum};
 ghost use Rattle.cox_klstep.specs.CountedSteps.{counted};
 ghost use Rattle.cox_klstep.specs.SourceOf.{IsSource, source_cost};
 
-use crate::step::{Correction, Step, shift};
+use crate::step::{Correction, Step};
 use cox_context::Context;
 use cox_poly::{Acc, PolyView};
 use cox_row::{Row, RowIndex, indexed_polynomial, polynomial};
@@ -103,7 +106,7 @@ fn add_known(
     steps.take();
 }
 
-/// The sums become those of P(x,w), for an extremal x; says whether x <= w.
+/// The sums become those of P(x,w), for an extremal x from which the step leads to the member `shorter`; says whether x <= w.
 pub(crate) fn sum_up(
     ctx: &Context,
     step: &Step,
@@ -111,6 +114,7 @@ pub(crate) fn sum_up(
     index: &RowIndex,
     needed: &[&Row],
     x: u32,
+    shorter: u32,
     sums: &mut Acc,
     steps: &mut Steps,
 ) -> bool
@@ -120,6 +124,8 @@ pub(crate) fn sum_up(
     requires needed { AreNeeded ctx.now step.now.corrections.items needed.now }
     requires x { x < length ctx.now.members }
     requires extremal { IsExtremal (integer_matrix ctx.now.matrix) (word_at ctx.now.members step.now.member) (word_at ctx.now.members x) }
+    requires shorter { IsNumberOf ctx.now.members (normal_form (integer_matrix ctx.now.matrix)
+        (times_letter step.now.side step.now.letter (word_at ctx.now.members x))) (Some shorter) }
     requires clear { (k : ℕ) → coefficient sums.old k ≡ pos 0 }
     ensures below { IsTrue result ↔ IsBelow (integer_matrix ctx.now.matrix) (word_at ctx.now.members x)
         (word_at ctx.now.members step.now.member) }
@@ -131,9 +137,6 @@ pub(crate) fn sum_up(
     ensures none { result ≡ false → steps.new ≡ steps.old }
 {
     let _len = ctx.len();
-    let Some(shorter) = shift(ctx, step.side, step.letter, x) else {
-        unreachable!();
-    };
     let at_shorter = Term {
         number: step.lower,
         factor: 1,
@@ -220,12 +223,13 @@ pub(crate) struct Source<'a> {
     pub(crate) needed: &'a [&'a Row],
 }
 
-/// The sums become those of P(x,w), for an extremal x; says whether x <= w.
+/// The sums become those of P(x,w), for an extremal x from which the step leads to the member `shorter`; says whether x <= w.
 pub(crate) fn put_polynomial(
     ctx: &Context,
     i: u32,
     source: &Source,
     x: u32,
+    shorter: u32,
     sums: &mut Acc,
     steps: &mut Steps,
 ) -> bool
@@ -233,6 +237,8 @@ pub(crate) fn put_polynomial(
     requires source { IsSource ctx.now i source.now }
     requires x { x < length ctx.now.members }
     requires extremal { IsExtremal (integer_matrix ctx.now.matrix) (word_at ctx.now.members i) (word_at ctx.now.members x) }
+    requires shorter { IsNumberOf ctx.now.members (normal_form (integer_matrix ctx.now.matrix)
+        (times_letter source.now.step.now.side source.now.step.now.letter (word_at ctx.now.members x))) (Some shorter) }
     ensures below { IsTrue result ↔ IsBelow (integer_matrix ctx.now.matrix) (word_at ctx.now.members x) (word_at ctx.now.members i) }
     ensures value { IsTrue result → IsKazhdanLusztig (integer_matrix ctx.now.matrix) (word_at ctx.now.members x) (word_at ctx.now.members i)
         (coefficient sums.new) }
@@ -249,6 +255,7 @@ pub(crate) fn put_polynomial(
         source.index,
         source.needed,
         x,
+        shorter,
         sums,
         steps,
     )

@@ -1,0 +1,126 @@
+//! The extremal members up to one, and where the step leads from them.
+//!
+//! What is known of a member, and where shifts lead from it, stands all over memory. So it is looked up in tight loops that do nothing
+//! else, in which the processor waits for several members at a time.
+ghost use Rattle.std.specs.Prelude.{◌≡◌, ◌+◌, ◌<◌, length, OnOk};
+ghost use Rattle.cox_base.specs.IntegerMatrix.{integer_matrix};
+ghost use Rattle.cox_base.specs.SideDescents.{IsDescent};
+ghost use Rattle.cox_context.specs.Numbers.{word_at};
+ghost use Rattle.cox_row.specs.Rising.{number_at};
+ghost use Rattle.cox_klstep.specs.StepOf.{IsRowStep};
+ghost use Rattle.cox_klstep.specs.TablesOf.{AreCandidates};
+ghost use Rattle.cox_klstep.specs.TargetOf.{IsTarget};
+ghost use Rattle.cox_klstep.specs.LoweredTo.{AreExtremalUpTo, AreLowered, IsLoweredBy};
+
+use crate::making::Target;
+use crate::step::{Step, shift};
+use crate::tables::push_if;
+use cox_context::Context;
+use cox_row::is_subset;
+use std::alloc::{AllocError, Global};
+
+/// The extremal members up to a member w, rising by number, and the shorter members to which the step to w leads from them.
+#[derive(Drop)]
+pub(crate) struct Lowered {
+    pub(crate) members: Vec<u32>,
+    pub(crate) shorter: Vec<u32>,
+}
+
+/// A member and the one to which the step leads from it.
+#[derive(Clone, Copy)]
+pub(crate) struct LoweredMember {
+    pub(crate) member: u32,
+    pub(crate) shorter: u32,
+}
+
+impl Lowered {
+    /// No members.
+    pub(crate) fn new(alloc: Global) -> Lowered {
+        Lowered {
+            members: Vec::new(alloc),
+            shorter: Vec::new(alloc),
+        }
+    }
+
+    /// Becomes those of a member and a step to it, in place of what there was. They are chosen from the candidates for its left descents.
+    pub(crate) fn fill(
+        &mut self,
+        ctx: &Context,
+        target: &Target,
+        step: &Step,
+        candidates: &[u32],
+    ) -> Result<(), AllocError>
+        requires target { IsTarget ctx.now target.now }
+        requires candidates { AreCandidates ctx.now (target.now.member + 1) target.now.left candidates.now }
+        requires step { IsRowStep ctx.now step.now }
+        requires member { step.now.member ≡ target.now.member }
+        ensures { OnOk result (IsLoweredBy ctx.now target.now.member step.now self.new) }
+    {
+        choose(ctx, target, candidates, &mut self.members)?;
+        lower_each(ctx, step, &self.members, &mut self.shorter)
+    }
+
+    /// How many there are.
+    pub(crate) fn len(&self) -> usize
+        ensures { result ≡ length self.now.members.items }
+    {
+        self.members.len()
+    }
+
+    /// The one at a place.
+    pub(crate) fn at(&self, k: usize) -> LoweredMember
+        requires place { k < length self.now.members.items }
+        requires size { length self.now.shorter.items ≡ length self.now.members.items }
+        ensures member { result.member ≡ number_at self.now.members.items k }
+        ensures shorter { result.shorter ≡ number_at self.now.shorter.items k }
+    {
+        LoweredMember {
+            member: self.members[k],
+            shorter: self.shorter[k],
+        }
+    }
+}
+
+/// The extremal ones among the candidates, in place of what the list had.
+fn choose(
+    ctx: &Context,
+    target: &Target,
+    candidates: &[u32],
+    members: &mut Vec<u32>,
+) -> Result<(), AllocError>
+    requires target { IsTarget ctx.now target.now }
+    requires candidates { AreCandidates ctx.now (target.now.member + 1) target.now.left candidates.now }
+    ensures { OnOk result (AreExtremalUpTo ctx.now target.now.member members.new.items) }
+{
+    let _len = ctx.len();
+    members.clear();
+    members.reserve(candidates.len())?;
+    for &x in candidates {
+        let is_extremal = is_subset(target.right, ctx.right_descent_set(x));
+        push_if(members, x, is_extremal);
+    }
+    Ok(())
+}
+
+/// Where the step leads from each of these members, in place of what the list had.
+fn lower_each(
+    ctx: &Context,
+    step: &Step,
+    members: &[u32],
+    shorter: &mut Vec<u32>,
+) -> Result<(), AllocError>
+    requires step { IsRowStep ctx.now step.now }
+    requires members { AreExtremalUpTo ctx.now step.now.member members.now }
+    ensures { OnOk result (AreLowered ctx.now step.now.side step.now.letter members.now shorter.new.items) }
+{
+    let _len = ctx.len();
+    shorter.clear();
+    shorter.reserve(members.len())?;
+    for &x in members {
+        match shift(ctx, step.side, step.letter, x) {
+            Some(y) => shorter.push(y)?,
+            None => unreachable!(),
+        }
+    }
+    Ok(())
+}
