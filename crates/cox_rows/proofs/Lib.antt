@@ -2,6 +2,8 @@
 pub mod NeedCases
 -- coefficients and values of mu above their limits
 pub mod LargeRows
+-- rows that share polynomials are beyond the limits together
+pub mod TurnedRows
 -- whether a row is beyond the limits can be told
 pub mod BeyondDecided
 -- whether Need(w) has such a row can be told

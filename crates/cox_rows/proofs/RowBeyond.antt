@@ -7,14 +7,12 @@ use Rattle.cox_base.specs.IntegerMatrix.{IntegerMatrix, integer_matrix}
 use Rattle.cox_base.specs.Admissible.{IsAdmissible}
 use Rattle.cox_base.specs.ShortLex.{normal_form}
 use Rattle.cox_reflect.proofs.Elements.{same-refl, same-sym}
-use Rattle.cox_reflect.proofs.Search.{normal_form-same, IsWord-normal_form}
+use Rattle.cox_reflect.proofs.Search.{normal_form-same}
 use Rattle.cox_reflect.proofs.NormalElements.{element-word}
 use Rattle.cox_hecke.specs.Row.{IsMu}
 use Rattle.cox_hecke.proofs.AllRows.{mu-unique}
 use Rattle.cox_hecke.proofs.Descended.{mu-below}
-use Rattle.cox_hecke.proofs.PolynomialValues.{kazhdan_lusztig-same}
 use Rattle.cox_symmetry.specs.Turns.{turn}
-use Rattle.cox_symmetry.proofs.Turned.{kazhdan_lusztig_turned}
 use Rattle.cox_context.specs.Closed.{Elements, IsClosed}
 use Rattle.cox_context.specs.Numbers.{word_at}
 use Rattle.cox_context.proofs.PlacedWords.{contains-placed}
@@ -29,8 +27,10 @@ use Rattle.cox_row.specs.Within.{IsRowWithin}
 use Rattle.cox_row.proofs.MuOfElements.{mu-words}
 use Rattle.cox_klstep.specs.Limits.{IsLargeCoefficient, IsLargeMu}
 use Rattle.cox_klstep.proofs.Finished.{none-large}
+use Rattle.cox_klstep.proofs.LargeCoefficients.{large-words}
 use Rattle.cox_rows.specs.Beyond.{IsBeyond}
 use Rattle.cox_rows.proofs.LargeRows.{beyond-cases}
+use Rattle.cox_rows.proofs.TurnedRows.{large_coefficient-turned}
 use Rattle.cox_rows.specs.Holding.{AreRows, held}
 use Rattle.cox_rows.proofs.HeldRows.{held-row}
 
@@ -48,18 +48,12 @@ module _ (A : IntegerMatrix) (g : IsAdmissible A) (members : List (List ℕ)) (c
       → IsLargeCoefficient A limit x (word_at members i) k c → ⊥
   served-coefficient None v e are x k c h = kept-coefficient i inside (rw e at are) x k c h
   served-coefficient (Some view) v (served, e) are x k c h =
-      let image = turn served.p served.inverted (normal_form A x)
-      in let turned = kazhdan_lusztig_turned A g served.p served.symmetry served.inverted (normal_form A x) (word_at members i) h.polynomial
-      (IsWord-normal_form A g x) (element-word A g (word_at members i) (element-at A g members closed i inside))
-      in let there = turned.1 (kazhdan_lusztig-same A g x (normal_form A x) (word_at members i) (word_at members i) h.polynomial
-      (same-sym A g (normal_form-same A g x)) (same-refl A g (word_at members i)) h.is)
-      in kept-coefficient view.member served.within (rw e at are) image k c (record {
-        polynomial = h.polynomial;
-        is = kazhdan_lusztig-same A g image image (turn served.p served.inverted (word_at members i)) (word_at members view.member)
-            h.polynomial (same-refl A g image) (same-sym A g served.element) there;
-        value = h.value;
-        above = h.above;
-      })
+      let word = element-word A g (word_at members i) (element-at A g members closed i inside) in
+      let there = turn served.p served.inverted (normal_form A x)
+      in kept-coefficient view.member served.within (rw e at are) there k c
+      (large-words A g limit there there (turn served.p served.inverted (word_at members i)) (word_at members view.member)
+      (same-refl A g there) (same-sym A g served.element) k c
+      (large_coefficient-turned A g served.p served.symmetry served.inverted limit (word_at members i) word x k c h))
 
   none-coefficient : (x : List ℕ) (k : ℕ) (c : ℤ) → IsLargeCoefficient A limit x (word_at members i) k c → ⊥
   none-coefficient = served-coefficient row.view is.kept is.serves is.values

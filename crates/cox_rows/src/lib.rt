@@ -9,7 +9,7 @@
 //! - `ensuring`: how rows are made
 //! - `held`: rows by number
 //! - `flags`: flags by number
-//! - `laws`: whether Need(w) has a row beyond a limit can be told
+//! - `laws`: whether Need(w) has a row beyond a limit can be told; symmetries take such rows to such rows
 #![tactic(auto)]
 
 mod ensuring;
