@@ -2,3 +2,5 @@
 pub mod OneMore
 -- the rows of a store that is ended
 pub mod Ended
+-- what holds of each of them
+pub mod TakenRows

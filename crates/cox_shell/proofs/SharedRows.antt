@@ -1,33 +1,20 @@
 -- What is given back at the end of a store of rows are rows of the members, within the limit.
-use Rattle.std.proofs.Common.{◌≡◌, ℕ, ◌<◌, ◌≤◌, List, length, Option, None, Some, ℤ, ⊎_elim, subst, refl, true, is_some, arith}
+use Rattle.std.proofs.Common.{◌≡◌, ℕ, ◌<◌, List, length, Option, None, Some, ℤ, refl, true, is_some}
 use Rattle.std.specs.Prelude.{IfSome}
-use Rattle.std.proofs.lemmas.Bool.{cases_lt}
-use Rattle.std.proofs.lemmas.List.{get_or_past}
 use Rattle.cox_context.specs.Closed.{Elements}
 use Rattle.cox_claims.specs.declared.view.View.{View}
 use Rattle.cox_claims.specs.Knowledge.{saw_published}
 use Rattle.cox_row.specs.declared.row.Row.{Row}
-use Rattle.cox_rowcell.specs.RowFor.{IsRowFor}
-use Rattle.cox_row_store.specs.Places.{place_at}
 use Rattle.cox_row_store.specs.Taken.{AreTaken}
+use Rattle.cox_row_store.proofs.TakenRows.{taken-each}
 use Rattle.cox_row.specs.RowLists.{row_at}
 use Rattle.cox_rows.specs.Holding.{IsHeldRow}
 
 pub taken-held : (e made : Elements) (limit bound : ℤ) (view : View) (rows : List (Option Row)) → made ≡ e → bound ≡ limit
     → AreTaken made bound view rows → (i : ℕ) → IfSome (row_at rows i) (IsHeldRow e limit i)
-taken-held e made limit bound view rows same bounds taken i =
-    subst (λ (x : Elements). IfSome (row_at rows i) (IsHeldRow x limit i)) same
-    (subst (λ (b : ℤ). IfSome (row_at rows i) (IsHeldRow made b i)) bounds held)
-  where
-    row-held : (found : Option Row) → i < length made.members → IfSome found (IsRowFor (place_at made bound i))
-        → IfSome found (IsHeldRow made bound i)
-    row-held None l h = tt
-    row-held (Some row) l h = record { member = l; is = h.is; within = h.within }
-
-    held : IfSome (row_at rows i) (IsHeldRow made bound i)
-    held = ⊎_elim (λ (l : i < length made.members). row-held (row_at rows i) l (taken.each i l))
-        (λ (past : length made.members ≤ i). rw (get_or_past rows i None (omega (arith, taken.count, past))) tt)
-        (cases_lt i (length made.members))
+taken-held e made limit bound view rows same bounds =
+    taken-each made bound (IsHeldRow e limit)
+    (λ i row l h. rw (← same, ← bounds) (record { member = l; is = h.is; within = h.within })) view rows
 
 -- a row that was seen Published is given back
 pub taken-back : (made : Elements) (bound : ℤ) (view : View) (rows : List (Option Row)) → AreTaken made bound view rows → (i : ℕ)
