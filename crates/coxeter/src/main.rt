@@ -11,12 +11,9 @@
 //! - `tests`: whole runs over sources and sinks in memory
 //! - `starting`: whole runs from the arguments of an environment
 //! - `large`: large answers, which no lack of memory cuts off
-//! - `given_up`: a test on a row that a worker gave up
 //! - `workers`: whole runs with several workers, one of them behind a gate
 #![tactic(auto)]
 
-#[cfg(test)]
-mod given_up;
 #[cfg(test)]
 mod large;
 #[cfg(test)]

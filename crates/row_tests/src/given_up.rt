@@ -1,8 +1,5 @@
 //! A row that a worker gave up, and that one thread makes afterwards.
-
-use cox_base::Coxeter;
-use cox_context::Context;
-use cox_minroots::{MAX_SMALL_ROOTS, RootTable};
+use crate::fixtures::elements;
 use cox_outside::Open;
 use cox_row_store::{Claimed, RowState, RowStore};
 use cox_rows::Rows;
@@ -16,10 +13,7 @@ const LIMIT: i64 = 2_147_483_647;
 #[test]
 fn makes_a_row_that_was_given_up(rt: HostRuntime) -> Result<(), Fail> {
     let alloc = rt.alloc();
-    let g = Coxeter::named(b'A', 3)?;
-    let table = RootTable::build(alloc, &g, MAX_SMALL_ROOTS)?;
-    let context = Context::of_group(alloc, &table, 24)?;
-    assert_eq!(rt; context.len(), 24);
+    let context = elements(&rt, alloc, b'A', 3, 24)?;
     let (store, mut seat) = RowStore::new(alloc, &context, LIMIT)?;
     assert_eq!(rt; store.claim(&mut seat, 2), Claimed::Won);
     store.void(&mut seat, 2);

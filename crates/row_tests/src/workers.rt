@@ -1,9 +1,9 @@
-//! The rows of A 2 by one worker and by two, and a row of A 3 that was given up.
+//! The rows of A 2 by one worker and by two.
 use crate::fixtures::elements;
 use cox_outside::Open;
 use cox_row::{LowerRows, polynomial};
-use cox_row_store::{Claimed, RowState, RowStore};
-use cox_workers::{Bench, Hand, Missing, all_members, fill};
+use cox_row_store::{RowState, RowStore};
+use cox_workers::{Bench, Hand, all_members, fill};
 use std::test::Fail;
 
 /// How many rows there are.
@@ -32,22 +32,5 @@ fn makes_the_rows_of_a2(rt: HostRuntime) -> Result<(), Fail> {
     let seat = fill(&rt, alloc, &context, &store, seat, all.as_slice(), 2, &Open);
     let rows = store.into_rows(&rt, seat);
     assert_eq!(rt; count(rows.as_slice()), 6);
-    Ok(())
-}
-
-#[test]
-fn tells_of_a_row_that_was_given_up(rt: HostRuntime) -> Result<(), Fail> {
-    let alloc = rt.alloc();
-    let context = elements(&rt, alloc, b'A', 3, 24)?;
-    let (store, mut seat) = RowStore::new(alloc, &context, 2_147_483_647)?;
-    assert_eq!(rt; store.claim(&mut seat, 2), Claimed::Won);
-    store.void(&mut seat, 2);
-    let bench = Bench::new(alloc, &context, &store, 1);
-    let mut hand = Hand::new(&bench, &seat)?;
-    assert_eq!(rt;
-        bench.ensure(&rt, &Open, &mut seat, &mut hand, 18),
-        Err(Missing::Void(2))
-    );
-    assert_eq!(rt; store.look(&mut seat, 18), RowState::Void);
     Ok(())
 }
