@@ -42,16 +42,27 @@ abbrev pub HasMetAll : Seat → Seat → Type 0
 HasMetAll old new = (d : ℕ) → how_many d (view_of new).children + how_many d (view_of old).met
     ≡ how_many d (view_of old).children + how_many d (view_of new).met
 
--- a seat at the store that holds nothing came back as such, and all that were split from it met it again; it has seen the rows at these
--- places of the list Published or Void, has published and voided rows alone that wanted ones need, and none before those that it is made
--- from
+-- each place of a list
+abbrev pub EachPlace : ℕ → Type 0
+EachPlace p = Unit {0}
+
+-- how a seat comes back from a fill: these members were wanted, and it had to see to those that stand at such a place of their list
 pub record IsFilled (store : RowStore) (Place : ℕ → Type 0) (wanted : List ℕ) (old new : Seat) : Type 0 where
+  -- it is a seat at the store
   pub own : IsSeat store new
+  -- the same one
   pub same : IsSameSeat old new
+  -- of the same generation
   pub generation : (view_of new).generation ≡ (view_of old).generation
+  -- all seats that were split from it, and all that were split from these, met it again
   pub met : HasMetAll old new
+  -- it holds no row
   pub idle : HoldsNothing new
+  -- it has seen all that it had seen
   pub seen : SeesAll (view_of old) (view_of new)
+  -- it, and the seats that it met, published and voided rows alone that wanted ones need
   pub ended : (j : ℕ) → HasEnded new j → HasEnded old j ⊎ IsNeededForSome (elements_of store) wanted j
+  -- and published none before those that it is made from
   pub made : MadeOfSeen (elements_of store) old new
+  -- it has seen each row that is wanted at such a place Published or Void
   pub settled : (p : ℕ) → p < length wanted → Place p → HasSeenEnd new (number_at wanted p)
