@@ -18,6 +18,8 @@ pub mod ClosedContexts
 pub mod Extensions
 -- where the entries of a table of shifts stand
 pub mod ShiftPlaces
+-- tables of shifts with two bytes an entry
+pub mod NarrowTables
 -- what is below members; shifts of members: which are members, and which come before
 pub mod Shifting
 -- two letters in turn behind an element

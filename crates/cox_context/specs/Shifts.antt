@@ -5,7 +5,7 @@ use Rattle.cox_base.specs.Matrix.{IsLetter}
 use Rattle.cox_base.specs.IntegerMatrix.{IntegerMatrix}
 use Rattle.cox_base.specs.ShortLex.{normal_form}
 use Rattle.cox_base.specs.Descents.{IsLeftDescent, IsRightDescent}
-use Rattle.cox_context.specs.declared.shifts.TheConstants.{NO_MEMBER}
+use Rattle.cox_context.specs.declared.shifts.TheConstants.{NO_MEMBER, NO_NARROW_MEMBER}
 use Rattle.cox_context.specs.Closed.{IsClosed}
 use Rattle.cox_context.specs.Numbers.{word_at}
 use Rattle.cox_context.specs.Numbering.{IsNumberOf}
@@ -13,6 +13,10 @@ use Rattle.cox_context.specs.Numbering.{IsNumberOf}
 -- what an entry says: a number, or that there is no member
 abbrev pub entry_number : ℕ → Option ℕ
 entry_number n = if n == NO_MEMBER then None else Some n
+
+-- what an entry of two bytes says: a number, or that there is no member
+abbrev pub narrow_number : ℕ → Option ℕ
+narrow_number n = if n == NO_NARROW_MEMBER then None else Some n
 
 -- the entry of member i for the letter s
 unfoldable pub entry : ℕ → List ℕ → ℕ → ℕ → Option ℕ
@@ -29,6 +33,10 @@ pub record AreRightShifts (A : IntegerMatrix) (members : List (List ℕ)) (table
   pub shift : (s i : ℕ) → IsLetter A.rank s → i < length members → i * A.rank + (s - 1) < length table
       → IsNumberOf members (normal_form A (word_at members i ++ s ∷ [])) (entry A.rank table s i)
 
+-- the narrow table says what the table says, as far as it goes
+abbrev pub AreNarrow : List ℕ → List ℕ → Type 0
+AreNarrow table narrow = (k : ℕ) → k < length narrow → narrow_number (slice_index narrow k) ≡ entry_number (slice_index table k)
+
 -- the number of s w, where s shortens w
 abbrev pub IsLower : IntegerMatrix → List (List ℕ) → List ℕ → ℕ → Option ℕ → Type 0
 IsLower A members w s None = ¬ (IsLeftDescent A w s)
@@ -39,11 +47,14 @@ pub record AreSets (P : List ℕ → ℕ → Type 0) (members : List (List ℕ))
   pub size : length sets ≡ length members
   pub bit : (i k : ℕ) → i < length members → IsBitSet (slice_index sets i) k ↔ P (word_at members i) (k + 1)
 
--- what a context keeps: its members, the tables of their shifts, and the sets of their descents
-pub record IsContext (A : IntegerMatrix) (members : List (List ℕ)) (left right left_sets right_sets : List ℕ) : Type 0 where
+-- what a context keeps: its members, the tables of their shifts, the sets of their descents, and the narrow tables of shifts
+pub record IsContext (A : IntegerMatrix) (members : List (List ℕ)) (left right left_sets right_sets narrow_left narrow_right : List ℕ)
+    : Type 0 where
   pub closed : IsClosed A members
   pub left_shifts : AreLeftShifts A members left
   pub right_size : length right ≡ length members * A.rank
   pub right_shifts : AreRightShifts A members right
   pub left_bits : AreSets (IsLeftDescent A) members left_sets
   pub right_bits : AreSets (IsRightDescent A) members right_sets
+  pub left_narrow : AreNarrow left narrow_left
+  pub right_narrow : AreNarrow right narrow_right

@@ -21,18 +21,19 @@ use crate::descents::{letters_of, lowering_sets};
 use crate::members::{Link, MAX_MEMBERS};
 use crate::right_shifts::right_shifts;
 use crate::scope::Scope;
-use crate::shifts::entry;
+use crate::shifts::{MAX_NARROW_MEMBERS, entry_by, narrowed};
 use cox_base::{Coxeter, MAX_LETTERS, Side, Word};
 use cox_minroots::RootTable;
 use cox_reflect::{LETTERS_OF_128_BITS, descents, normal_form};
-use std::alloc::Global;
+use std::alloc::{AllocError, Global};
 use std::marker::Model;
 
 /// The elements of a Bruhat interval from the identity, or of a whole finite group: distinct normal forms in ShortLex order, closed
 /// downwards.
 ///
 /// A member's number is its place in that order, from 0, so the identity has the number 0. The members' left and right shifts and descents
-/// are kept by number. Contracts see the Coxeter matrix and the list of the members; `len` tells what holds of each such list.
+/// are kept by number. On request the shifts of few members are kept in two bytes each too, so that look-ups read half as much memory.
+/// Contracts see the Coxeter matrix and the list of the members; `len` tells what holds of each such list.
 #[derive(Drop)]
 pub struct Context {
     group: Coxeter,
@@ -40,6 +41,9 @@ pub struct Context {
     right: Vec<u32>,
     left_descents: Vec<u16>,
     right_descents: Vec<u16>,
+    // the shifts in two bytes each, where they are kept so
+    narrow_left: Vec<u16>,
+    narrow_right: Vec<u16>,
 }
 
 impl Model for Context {
@@ -52,7 +56,7 @@ impl Model for Context {
     ghost view = { λ c. record { matrix = c.group; members = c.listing.members } };
 
     ghost invariant = { λ c. IsContext (integer_matrix c.group) c.listing.members c.listing.left.items c.right.items c.left_descents.items
-        c.right_descents.items };
+        c.right_descents.items c.narrow_left.items c.narrow_right.items };
 }
 
 impl Context {
@@ -254,7 +258,26 @@ impl Context {
             right,
             left_descents,
             right_descents,
+            narrow_left: Vec::new(alloc),
+            narrow_right: Vec::new(alloc),
         })
+    }
+
+    /// Keeps the shifts of at most `MAX_NARROW_MEMBERS` members in two bytes each too, so that `left` and `right` read half as much memory;
+    /// with more members it does nothing.
+    ///
+    /// `extend` leaves a context that keeps none.
+    pub fn keep_narrow_shifts(&mut self, alloc: Global) -> Result<(), AllocError>
+        ensures { self.new ≡ self.old }
+    {
+        if self.len() > MAX_NARROW_MEMBERS {
+            return Ok(());
+        }
+        let narrow_left = narrowed(alloc, self.listing.left.as_slice())?;
+        let narrow_right = narrowed(alloc, self.right.as_slice())?;
+        self.narrow_left = narrow_left;
+        self.narrow_right = narrow_right;
+        Ok(())
     }
 
     /// The number of members.
@@ -356,7 +379,8 @@ impl Context {
         requires member { i < length self.now.members }
         ensures { IsNumberOf self.now.members (normal_form (integer_matrix self.now.matrix) (s ∷ word_at self.now.members i)) result }
     {
-        entry(self.listing.left.as_slice(), self.group.rank(), s, i)
+        let (narrow, table) = (self.narrow_left.as_slice(), self.listing.left.as_slice());
+        entry_by(narrow, table, self.group.rank(), s, i)
     }
 
     /// The number of x s for the member x with the number i; `None` exactly where x s is no member.
@@ -365,7 +389,8 @@ impl Context {
         requires member { i < length self.now.members }
         ensures { IsNumberOf self.now.members (normal_form (integer_matrix self.now.matrix) (word_at self.now.members i ++ s ∷ [])) result }
     {
-        entry(self.right.as_slice(), self.group.rank(), s, i)
+        let (narrow, table) = (self.narrow_right.as_slice(), self.right.as_slice());
+        entry_by(narrow, table, self.group.rank(), s, i)
     }
 
     /// The length of the member with the number i.

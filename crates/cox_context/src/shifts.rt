@@ -1,5 +1,5 @@
 //! Tables of shifts: for each member, in order, one entry for each letter.
-ghost use Rattle.std.specs.Prelude.{◌≡◌, ◌+◌, ◌-◌, ◌*◌, ◌<◌, ◌≤◌, ◌∷◌, length};
+ghost use Rattle.std.specs.Prelude.{◌≡◌, ◌+◌, ◌-◌, ◌*◌, ◌<◌, ◌≤◌, ◌∷◌, length, slice_index, EachIndex, IfOk, IfSome};
 ghost use Rattle.cox_base.specs.Matrix.{IsLetter, label};
 ghost use Rattle.cox_base.specs.IntegerMatrix.{integer_matrix};
 ghost use Rattle.cox_base.specs.Admissible.{IsCoxeterMatrix};
@@ -7,14 +7,21 @@ ghost use Rattle.cox_base.specs.ShortLex.{normal_form};
 ghost use Rattle.cox_context.specs.Closed.{IsClosed};
 ghost use Rattle.cox_context.specs.Numbers.{word_at};
 ghost use Rattle.cox_context.specs.Numbering.{IsNumberOf};
-ghost use Rattle.cox_context.specs.Shifts.{entry, AreLeftShifts, IsLower};
+ghost use Rattle.cox_context.specs.Shifts.{entry, entry_number, narrow_number, AreLeftShifts, AreNarrow, IsLower};
 
 use crate::members::{MAX_MEMBERS, Members};
 use cox_base::{Coxeter, MAX_RANK};
+use std::alloc::{AllocError, Global};
 use std::marker::Model;
 
 /// The entry where there is no member.
 pub(crate) const NO_MEMBER: u32 = u32::MAX;
+
+/// The entry of a narrow table where there is no member.
+pub(crate) const NO_NARROW_MEMBER: u16 = u16::MAX;
+
+/// The greatest number of members whose shifts are kept in narrow tables: so no member has the number `NO_NARROW_MEMBER`.
+pub(crate) const MAX_NARROW_MEMBERS: u32 = 65_535;
 
 /// Where the entry of member i for the letter s stands.
 pub(crate) fn place(rank: u32, s: u8, i: u32) -> usize
@@ -39,6 +46,54 @@ pub(crate) fn entry(table: &[u32], rank: u32, s: u8, i: u32) -> Option<u32>
         None
     } else {
         Some(number)
+    }
+}
+
+/// The entry of member i for the letter s: from the narrow table where that has it, else from the wide one.
+///
+/// So the test whether the place is within the narrow table is also the test whether there is one.
+pub(crate) fn entry_by(narrow: &[u16], table: &[u32], rank: u32, s: u8, i: u32) -> Option<u32>
+    requires letter { IsLetter rank s }
+    requires limit { rank ≤ MAX_RANK }
+    requires few { i ≤ MAX_MEMBERS }
+    requires within { i * rank + (s - 1) < length table.now }
+    requires narrow { AreNarrow table.now narrow.now }
+    ensures { result ≡ entry rank table.now s i }
+{
+    match narrow.get(place(rank, s, i)) {
+        Some(&number) => {
+            if number == NO_NARROW_MEMBER {
+                None
+            } else {
+                Some(number as u32)
+            }
+        }
+        None => entry(table, rank, s, i),
+    }
+}
+
+/// The narrow table, of two bytes an entry, that says what a table says.
+pub(crate) fn narrowed(alloc: Global, table: &[u32]) -> Result<Vec<u16>, AllocError>
+    requires { EachIndex table.now (λ k. IfSome (entry_number (slice_index table.now k)) (λ number. number < NO_NARROW_MEMBER)) }
+    ensures size { IfOk result (λ narrow. length narrow.items ≡ length table.now) }
+    ensures narrow { IfOk result (λ narrow. AreNarrow table.now narrow.items) }
+{
+    let mut narrow = Vec::with_capacity(alloc, table.len())?;
+    for &number in table {
+        narrow.push_reserved(narrow_entry(number));
+    }
+    Ok(narrow)
+}
+
+/// An entry in two bytes.
+fn narrow_entry(number: u32) -> u16
+    requires { IfSome (entry_number number) (λ number. number < NO_NARROW_MEMBER) }
+    ensures { narrow_number result ≡ entry_number number }
+{
+    if number == NO_MEMBER {
+        NO_NARROW_MEMBER
+    } else {
+        number as u16
     }
 }
 

@@ -1,4 +1,5 @@
 -- The tables are those of the members, so they make a context.
+use Rattle.std.proofs.Common.{arith}
 use Rattle.cox_base.specs.IntegerMatrix.{IntegerMatrix, integer_matrix}
 use Rattle.cox_base.specs.Admissible.{IsAdmissible}
 use Rattle.cox_reflect.proofs.Admissible.{IsAdmissible-integer_matrix}
@@ -24,4 +25,6 @@ invariant_of-result c =
           right-sets A g c.args.listing.members c.requires.closed c.in-Ok.right.items
           c.in-Ok-lowering_sets-2.right_descents.items size shifts
           (rw (c.rank-rank.ensures.rank, c.len-count.ensures.len, c.as_slice-2.ensures.value) at c.in-Ok-lowering_sets-2.ensures);
+      left_narrow = λ k l. absurd (omega (arith, l));
+      right_narrow = λ k l. absurd (omega (arith, l));
     }
