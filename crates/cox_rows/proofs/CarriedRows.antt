@@ -1,10 +1,9 @@
 -- Rows are held under their new numbers one after another, and each is within the limits as before.
-use Rattle.std.proofs.Common.{◌≡◌, ◌≢◌, ℕ, ◌+◌, ◌<◌, ◌≤◌, List, length, true, Option, None, Some, is_some, Result, Ok, Err, ℤ, pos}
-use Rattle.std.proofs.Common.{⊎_elim, refl, ap, ◌∙◌, arith}
-use Rattle.std.specs.Prelude.{unsigned_abs, ◌≤ℤ◌, IfOk}
+use Rattle.std.proofs.Common.{◌≡◌, ◌≢◌, ◌⊎◌, inl, inr, ℕ, ◌<◌, List, [], length, true, Option, None, Some, is_some, Result, Ok, Err, ℤ, pos}
+use Rattle.std.proofs.Common.{⊎_elim, refl, sym, ap, ◌∙◌, arith}
+use Rattle.std.specs.Prelude.{unsigned_abs, ◌≤ℤ◌, IfOk, slice_index}
 use Rattle.std.proofs.lemmas.Int.{by_lt_z, ints}
-use Rattle.std.proofs.lemmas.Bool.{cases_lt, cases_eq}
-use Rattle.std.proofs.lemmas.List.{get_or_past}
+use Rattle.std.proofs.lemmas.Bool.{cases_eq}
 use Rattle.cox_base.specs.IntegerMatrix.{IntegerMatrix, integer_matrix}
 use Rattle.cox_base.specs.Admissible.{IsAdmissible}
 use Rattle.cox_poly.specs.Polynomial.{coefficient}
@@ -24,44 +23,96 @@ use Rattle.cox_row.proofs.Renumbering.{row-below}
 use Rattle.cox_row.proofs.ViewedPolynomials.{row-polynomials}
 use Rattle.cox_rows.specs.Beyond.{IsBeyond}
 use Rattle.cox_rows.specs.Holding.{Holding, HasRow, IsHeldRow}
-use Rattle.cox_rows.specs.Carried.{WasRow}
+use Rattle.cox_rows.specs.Carried.{WasRow, WereRows, AreSomeCarried}
 use Rattle.cox_rows.proofs.LargeRows.{coefficient-beyond, mu-beyond}
 use Rattle.cox_rows.proofs.HeldRows.{not-there}
 use Rattle.cox_rows.proofs.RowBeyond.{not_beyond}
 
--- the rows before the place n are held under their new numbers, and no others
-pub record AreCarriedTo (rows : List (Option Row)) (moved : List ℕ) (n : ℕ) (h : Holding) : Type 0 where
-  pub there : (i : ℕ) → i < n → is_some (row_at rows i) ≡ true → HasRow h (number_at moved i)
-  pub only : (j : ℕ) → HasRow h j → (i : ℕ) × (is_some (row_at rows i) ≡ true) × (number_at moved i ≡ j)
-
-pub carried-none : (rows : List (Option Row)) (moved : List ℕ) (n : ℕ) (h : Holding) → row_at rows n ≡ None
-    → AreCarriedTo rows moved n h → AreCarriedTo rows moved (n + 1) h
-carried-none rows moved n h none are = record {
-  there = λ i l some. ⊎_elim (λ (less : i < n). are.there i less some)
-      (λ (more : n ≤ i). let e : i ≡ n = omega (arith, l, more)
-      in absurd (not-there (row_at rows i) (ap (row_at rows) e ∙ none) some)) (cases_lt i n);
-  only = are.only;
+-- nothing is carried yet
+pub carried-start : (moved : List ℕ) (rows : List (Option Row)) (h : Holding) → AreSomeCarried moved rows rows h h
+carried-start moved rows h = record {
+  there = λ i some. inl some;
+  from = λ i some. some;
+  kept = λ j has. has;
+  only = λ j has. inl has;
 }
 
-pub carried-some : (rows : List (Option Row)) (moved : List ℕ) (n : ℕ) (before after : Holding) (row : Row) → row_at rows n ≡ Some row
-    → HasRow after (number_at moved n) → ((j : ℕ) → HasRow before j → HasRow after j)
-    → ((j : ℕ) → j ≢ number_at moved n → HasRow after j → HasRow before j)
-    → AreCarriedTo rows moved n before → AreCarriedTo rows moved (n + 1) after
-carried-some rows moved n before after row was put kept others are = record {
-  there = λ i l some. ⊎_elim (λ (less : i < n). kept (number_at moved i) (are.there i less some))
-      (λ (more : n ≤ i). let e : i ≡ n = omega (arith, l, more) in rw e put) (cases_lt i n);
-  only = λ j some. ⊎_elim
-      (λ (e : j ≡ number_at moved n). (n, ap is_some was, rw e refl))
-      (λ (apart : j ≢ number_at moved n). are.only j (others j apart some))
-      (cases_eq j (number_at moved n));
+-- what is left of a list when no row or one is taken out
+taken-some : (before after : List (Option Row)) (n : ℕ) → ((j : ℕ) → j ≢ n → row_at after j ≡ row_at before j)
+    → (row_at after n ≡ None) ⊎ (row_at after n ≡ row_at before n)
+    → (i : ℕ) → is_some (row_at after i) ≡ true → is_some (row_at before i) ≡ true
+taken-some before after n others at i some = ⊎_elim
+    (λ (e : i ≡ n). ⊎_elim (λ (none : row_at after n ≡ None). absurd (not-there (row_at after i) (ap (row_at after) e ∙ none) some))
+    (λ (same : row_at after n ≡ row_at before n). ap (λ k. is_some (row_at before k)) e ∙ sym (ap is_some same)
+    ∙ sym (ap (λ k. is_some (row_at after k)) e) ∙ some) at)
+    (λ (apart : i ≢ n). sym (ap is_some (others i apart)) ∙ some) (cases_eq i n)
+
+module _ (moved : List ℕ) (first before after : List (Option Row)) (old was : Holding) (n : ℕ)
+    (others : (j : ℕ) → j ≢ n → row_at after j ≡ row_at before j) (h : AreSomeCarried moved first before old was) where
+  -- no row is taken at the place n
+  pub carried-none : row_at after n ≡ row_at before n → AreSomeCarried moved first after old was
+  carried-none same = record {
+    there = λ i some. ⊎_elim (λ (left : is_some (row_at before i) ≡ true). inl (⊎_elim
+        (λ (e : i ≡ n). ap (λ k. is_some (row_at after k)) e ∙ ap is_some same ∙ sym (ap (λ k. is_some (row_at before k)) e) ∙ left)
+        (λ (apart : i ≢ n). ap is_some (others i apart) ∙ left) (cases_eq i n)))
+        (λ (put : HasRow was (number_at moved i)). inr put) (h.there i some);
+    from = λ i some. h.from i (taken-some before after n others (inr same) i some);
+    kept = h.kept;
+    only = h.only;
+  }
+
+  -- the row at the place n is taken, and held under its new number
+  pub carried-some : (next : Holding) (row : Row) → row_at before n ≡ Some row → row_at after n ≡ None → HasRow next (number_at moved n)
+      → ((j : ℕ) → HasRow was j → HasRow next j) → ((j : ℕ) → j ≢ number_at moved n → HasRow next j → HasRow was j)
+      → AreSomeCarried moved first after old next
+  carried-some next row at gone put more only = record {
+    there = λ i some. ⊎_elim (λ (left : is_some (row_at before i) ≡ true). ⊎_elim
+        (λ (e : i ≡ n). inr (rw e put)) (λ (apart : i ≢ n). inl (ap is_some (others i apart) ∙ left)) (cases_eq i n))
+        (λ (held : HasRow was (number_at moved i)). inr (more (number_at moved i) held)) (h.there i some);
+    from = λ i some. h.from i (taken-some before after n others (inl gone) i some);
+    kept = λ j has. more j (h.kept j has);
+    only = λ j has. ⊎_elim (λ (e : j ≡ number_at moved n). inr (n, h.from n (ap is_some at), sym e))
+        (λ (apart : j ≢ number_at moved n). h.only j (only j apart has)) (cases_eq j (number_at moved n));
+  }
+
+-- the rows that are left are rows of the smaller context
+pub were-left : (e : Elements) (limit : ℤ) (moved : List ℕ) (before after : List (Option Row)) (n : ℕ)
+    → ((j : ℕ) → j ≢ n → row_at after j ≡ row_at before j) → (row_at after n ≡ None) ⊎ (row_at after n ≡ row_at before n)
+    → WereRows e limit moved before → WereRows e limit moved after
+were-left e limit moved before after n others at were = record {
+  old = were.old;
+  before = were.before;
+  each = λ i. ⊎_elim
+      (λ (same : i ≡ n). ⊎_elim (λ (none : row_at after n ≡ None). rw (same, none) tt)
+      (λ (left : row_at after n ≡ row_at before n). rw (same, left) (were.each n)) at)
+      (λ (apart : i ≢ n). rw (others i apart) (were.each i)) (cases_eq i n);
 }
 
--- when all rows are done, each that was there is held
-pub carried-all : (rows : List (Option Row)) (moved : List ℕ) (n : ℕ) (h : Holding) → length rows ≤ n → AreCarriedTo rows moved n h
-    → (i : ℕ) → is_some (row_at rows i) ≡ true → HasRow h (number_at moved i)
-carried-all rows moved n h end are i some = ⊎_elim (λ (l : i < length rows). are.there i (omega (arith, l, end)) some)
-    (λ (past : length rows ≤ i). absurd (not-there (row_at rows i) (get_or_past rows i None past) some))
-    (cases_lt i (length rows))
+-- a row of the list was that of a member, with another number
+pub was-row : (e : Elements) (limit : ℤ) (moved : List ℕ) (rows : List (Option Row)) (i : ℕ) (row : Row) → WereRows e limit moved rows
+    → row_at rows i ≡ Some row → WasRow e limit moved (slice_index moved i) row
+was-row e limit moved rows i row were at = record {
+  old = were.old;
+  before = were.before;
+  k = i;
+  was = rw at at (were.each i);
+  number = refl;
+}
+
+-- first some rows are carried and then the others, where none were held before
+module _ (moved : List ℕ) (rows rest none : List (Option Row)) (old between new : Holding) (first : AreSomeCarried moved rows rest old between)
+    (second : AreSomeCarried moved rest none between new) where
+  pub carried-there : ((i : ℕ) → row_at none i ≡ None) → (i : ℕ) → is_some (row_at rows i) ≡ true → HasRow new (number_at moved i)
+  carried-there empty i some = ⊎_elim (λ (left : is_some (row_at rest i) ≡ true). ⊎_elim
+      (λ (still : is_some (row_at none i) ≡ true). absurd (not-there (row_at none i) (empty i) still))
+      (λ (put : HasRow new (number_at moved i)). put) (second.there i left))
+      (λ (put : HasRow between (number_at moved i)). second.kept (number_at moved i) put) (first.there i some)
+
+  pub carried-only : old.holds ≡ [] → (j : ℕ) → HasRow new j → (i : ℕ) × (is_some (row_at rows i) ≡ true) × (number_at moved i ≡ j)
+  carried-only nothing j has = ⊎_elim (λ (held : HasRow between j). ⊎_elim
+      (λ (was : HasRow old j). let wrong = rw nothing at was in absurd (cc))
+      (λ found. found) (first.only j held))
+      (λ found. (found.0, first.from found.0 found.1, found.2)) (second.only j has)
 
 -- a row that is not beyond the limits is within them
 row-within : (A : IntegerMatrix) (g : IsAdmissible A) (members : List (List ℕ)) (closed : IsClosed A members) (i : ℕ)

@@ -10,6 +10,7 @@ ghost use Rattle.cox_base.specs.IntegerMatrix.{integer_matrix};
 ghost use Rattle.cox_hecke.specs.Needs.{IsNeeded};
 ghost use Rattle.cox_hecke.specs.Step.{IsCorrection};
 ghost use Rattle.cox_context.specs.Numbers.{word_at};
+ghost use Rattle.cox_row.specs.Rising.{number_at};
 ghost use Rattle.cox_row.specs.RowOf.{IsRowAt};
 ghost use Rattle.cox_klstep.specs.StepOf.{IsDescentAt};
 ghost use Rattle.cox_klstep.specs.NeedsOf.{HasNeeds, AreNeeds};
@@ -95,6 +96,38 @@ impl Rows {
             self.ensure_next(i)?;
         }
         Ok(())
+    }
+
+    /// Whether all rows are held that the row of the member with the number i is made from. Then at most one row is left to make. Without
+    /// memory the answer is no.
+    pub fn has_needs(&self, i: u32) -> bool
+        requires { i < length self.now.elements.members }
+        ensures { IsTrue result → HasNeeds self.now.elements (HasRow self.now) i }
+    {
+        let context = self.context();
+        if i == 0 {
+            return true;
+        }
+        let descent = Descent::of(context, i);
+        if !self.has(descent.lower) {
+            return false;
+        }
+        match self.corrections(&descent) {
+            Ok(corrections) => self.has_each(corrections.as_slice()),
+            Err(_) => false,
+        }
+    }
+
+    /// Whether the rows of all these members are held.
+    fn has_each(&self, numbers: &[u32]) -> bool
+        ensures { IsTrue result → (k : ℕ) → k < length numbers.now → HasRow self.now (number_at numbers.now k) }
+    {
+        for &u in numbers {
+            if !self.has(u) {
+                return false;
+            }
+        }
+        true
     }
 
     /// Whether the row of the member with the number i is held, and it is known that no row of its Need is beyond a limit. Then `ensure`

@@ -1,6 +1,6 @@
 //! A context, and rows of some of its members.
 ghost use Rattle.std.specs.Prelude.{◌≡◌, ◌≢◌, ◌⊎◌, ℕ, ◌<◌, ◌≤◌, ◌↔◌, [], length, IfSome, IsSome, IfOk, IfErr, OnOk, OnErr, Some, None};
-ghost use Rattle.std.specs.Prelude.{is_some, true, pos, ◌≤ℤ◌};
+ghost use Rattle.std.specs.Prelude.{is_some, true, false, pos, ◌≤ℤ◌, IfNone, IsTrue};
 ghost use Rattle.cox_base.specs.Admissible.{IsAdmissible};
 ghost use Rattle.cox_base.specs.IntegerMatrix.{integer_matrix};
 ghost use Rattle.cox_context.specs.Closed.{IsClosed};
@@ -13,7 +13,7 @@ ghost use Rattle.cox_row.specs.RowLists.{row_at};
 ghost use Rattle.cox_klstep.specs.CountedSteps.{counted};
 ghost use Rattle.cox_rows.specs.Beyond.{IsBeyond};
 ghost use Rattle.cox_rows.specs.Holding.{Holding, HasRow, IsHeldRow, AreBoth, held};
-ghost use Rattle.cox_rows.specs.Carried.{WasRow, WereRows, AreCarried};
+ghost use Rattle.cox_rows.specs.Carried.{WasRow, WereRows, AreSomeCarried, AreCarried};
 ghost use Rattle.cox_klstep.specs.TablesOf.{AreTables};
 ghost use Rattle.cox_row.specs.Rising.{number_at};
 ghost use Rattle.cox_rows.specs.Extended.{IsLeft};
@@ -188,6 +188,8 @@ impl Held {
     }
 
     /// Puts rows of a smaller context, each under its new number; the tables of this context.
+    ///
+    /// Those that have polynomials of their own come first, so that the others find there what they shared.
     fn carry(
         &mut self,
         alloc: Global,
@@ -204,16 +206,40 @@ impl Held {
             → (i : ℕ) × (is_some (row_at rows.items i) ≡ true) × (number_at moved.now i ≡ j)) }
         ensures tables { IfOk result (AreTables self.old.elements) }
     {
+        self.context.keep_narrow_shifts(alloc)?;
         let tables = Tables::of(alloc, self.context())?;
         let mut rows = rows;
+        self.carry_some(alloc, &mut rows, moved, &tables, false)?;
+        self.carry_some(alloc, &mut rows, moved, &tables, true)?;
+        Ok(tables)
+    }
+
+    /// Puts rows of a smaller context, each under its new number: those that have polynomials of their own, or all. The others stay.
+    fn carry_some(
+        &mut self,
+        alloc: Global,
+        rows: &mut Vec<Option<Row>>,
+        moved: &[u32],
+        tables: &Tables,
+        all: bool,
+    ) -> Result<(), AllocError>
+        requires rows { WereRows self.old.elements self.old.limit moved.now rows.old.items }
+        requires tables { AreTables self.old.elements tables.now }
+        ensures elements { self.new.elements ≡ self.old.elements }
+        ensures limit { self.new.limit ≡ self.old.limit }
+        ensures steps { self.new.steps ≡ self.old.steps }
+        ensures rows { OnOk result (WereRows self.old.elements self.old.limit moved.now rows.new.items) }
+        ensures some { OnOk result (AreSomeCarried moved.now rows.old.items rows.new.items self.old self.new) }
+        ensures all { OnOk result (IsTrue all → (i : ℕ) → row_at rows.new.items i ≡ None) }
+    {
         'rows: for i in 0..rows.len() {
-            if let Some(row) = take_at(&mut rows, i) {
+            if let Some(row) = take_if(rows, i, all) {
                 let number = moved[i];
-                let row = self.carried(alloc, row, moved, number, &tables)?;
+                let row = self.carried(alloc, row, moved, number, tables)?;
                 self.put(number, row)?;
             }
         }
-        Ok(tables)
+        Ok(())
     }
 
     /// The row of the member with the number i, which it has had under another number in a smaller context. If it shared polynomials, it
@@ -258,6 +284,25 @@ fn take_at(rows: &mut Vec<Option<Row>>, i: usize) -> Option<Row>
         return None;
     }
     rows[i].take()
+}
+
+/// Takes the row at a place out, if there is one and it has polynomials of its own, or any is taken.
+fn take_if(rows: &mut Vec<Option<Row>>, i: usize, any: bool) -> Option<Row>
+    ensures some { IfSome result (λ row. row_at rows.old.items i ≡ Some row) }
+    ensures gone { IfSome result (λ _. row_at rows.new.items i ≡ None) }
+    ensures own { any ≡ false → IfSome result (λ row. row.view ≡ None) }
+    ensures none { IfNone result (row_at rows.new.items i ≡ row_at rows.old.items i) }
+    ensures any { IsTrue any → row_at rows.new.items i ≡ None }
+    ensures others { (j : ℕ) → j ≢ i → row_at rows.new.items j ≡ row_at rows.old.items j }
+{
+    let wanted = match rows.get(i) {
+        Some(Some(row)) => any || row.view().is_none(),
+        _ => false,
+    };
+    if wanted {
+        return take_at(rows, i);
+    }
+    None
 }
 
 impl LowerRows for Held {

@@ -56,11 +56,12 @@ impl Rows {
         requires { pos 0 ≤ℤ limit }
         ensures { IfOk result (λ r. r ≡ record { elements = context; limit = limit; holds = []; steps = 0 }) }
     {
-        let tables = Tables::of(alloc, &context)?;
+        let mut context = context;
+        context.keep_narrow_shifts(alloc)?;
         Ok(Rows {
             held: Held::new(alloc, context, limit),
             settled: Vec::new(alloc),
-            tables: Some(tables),
+            tables: None,
         })
     }
 
