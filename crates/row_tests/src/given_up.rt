@@ -1,9 +1,17 @@
 //! A row that a worker gave up, and that one thread makes afterwards.
+ghost use Rattle.std.specs.Prelude.{◌≡◌, length, OnOk};
+ghost use Rattle.cox_claims.specs.Seats.{HoldsNothing};
+ghost use Rattle.cox_row_store.specs.Stores.{elements_of, IsSeat};
+
 use crate::fixtures::elements;
+use cox_context::Context;
 use cox_outside::Open;
-use cox_row_store::{Claimed, RowState, RowStore};
+use cox_row_store::{Claimed, RowState, RowStore, Seat};
 use cox_rows::Rows;
 use cox_workers::{Bench, Hand, Missing, all_members, fill};
+use std::alloc::Global;
+use std::process::Abort;
+use std::sync::Wait;
 use std::test::Fail;
 
 /// The greatest coefficient.
@@ -15,22 +23,49 @@ fn makes_a_row_that_was_given_up(rt: HostRuntime) -> Result<(), Fail> {
     let alloc = rt.alloc();
     let context = elements(&rt, alloc, b'A', 3, 24)?;
     let (store, mut seat) = RowStore::new(alloc, &context, LIMIT)?;
-    assert_eq!(rt; store.claim(&mut seat, 2), Claimed::Won);
-    store.void(&mut seat, 2);
-    let bench = Bench::new(alloc, &context, &store, 1);
-    let mut hand = Hand::new(&bench, &seat)?;
-    assert_eq!(rt;
-        bench.ensure(&rt, &Open, &mut seat, &mut hand, 18),
-        Err(Missing::Void(2))
-    );
-    drop(hand);
-    assert_eq!(rt; store.look(&mut seat, 18), RowState::Void);
+    give_up(&rt, alloc, &context, &store, &mut seat)?;
     let all = all_members(alloc, &context)?;
     let seat = fill(&rt, alloc, &context, &store, seat, all.as_slice(), 2, &Open);
     let made = store.into_rows(&rt, seat);
     let mut rows = Rows::new(alloc, context, LIMIT)?;
     rows.adopt(made);
     assert!(rt; rows.has(0) && !rows.has(2) && !rows.has(18));
+    complete(&rt, &mut rows)
+}
+
+/// Gives up the row of `2`. A worker that then wants that of `2132` gives it up too.
+fn give_up<R: Abort + Wait>(
+    rt: &R,
+    alloc: Global,
+    context: &Context,
+    store: &RowStore,
+    seat: &mut Seat,
+) -> Result<(), Fail>
+    requires same { elements_of store.now ≡ context.now }
+    requires own { IsSeat store.now seat.old }
+    requires idle { HoldsNothing seat.old }
+    requires members { length context.now.members ≡ 24 }
+    ensures own { OnOk result (IsSeat store.now seat.new) }
+    ensures idle { OnOk result (HoldsNothing seat.new) }
+{
+    assert_eq!(rt; store.claim(seat, 2), Claimed::Won);
+    store.void(seat, 2);
+    let bench = Bench::new(alloc, context, store, 1);
+    let mut hand = Hand::new(&bench, seat)?;
+    assert_eq!(rt;
+        bench.ensure(rt, &Open, seat, &mut hand, 18),
+        Err(Missing::Void(2))
+    );
+    drop(hand);
+    assert_eq!(rt; store.look(seat, 18), RowState::Void);
+    Ok(())
+}
+
+/// Makes the row of `2132` from rows of which some were given up: the polynomial of `2` and `2132` is 1 + q. Rows that are there are settled
+/// before.
+fn complete(rt: &impl Abort, rows: &mut Rows) -> Result<(), Fail>
+    requires { length rows.old.elements.members ≡ 24 }
+{
     rows.settle_held();
     for i in 0..24 {
         assert_eq!(rt; rows.is_settled(i), rows.has(i));
