@@ -1,17 +1,12 @@
 //! The lines that commands on elements answer.
 //!
-//! - `unanswered`: why a command gets no answer
 //! - `at_hand`: answers from rows that are kept already
 //! - `ahead`: rows that are made before they are asked for
-//! - `intervals`: Bruhat intervals
-//! - `polynomials`: R-polynomials
 //! - `kept`: the rows that a session keeps
 //! - `kept_group`: those of a whole group
 //! - `between`: those of the elements between two
 //! - `rows`: the answers from the row of an element, and single polynomials of it, and mu
-//! - `pairs`: the polynomials of a row, all or the extremal ones
 //! - `certificates`: certificates of rows
-//! - `sums`: the polynomials of a row, summed up
 //! - `inverse`: single inverse Kazhdan-Lusztig polynomials
 //! - `graphs`: W-graphs and cells
 //! - `modules`: modules of left cells
@@ -24,11 +19,12 @@ ghost use Rattle.cox_base.specs.ShortLex.{normal_form};
 ghost use Rattle.cox_base.specs.Descents.{left_descents, right_descents};
 ghost use Rattle.cox_poly.specs.Puts.{Puts};
 ghost use Rattle.cox_print.specs.AnswerText.{element_text, descent_text};
-ghost use Rattle.cox_answers.specs.Kept.{IsSameWork};
-ghost use Rattle.cox_answers.specs.SessionLimits.{limits_of};
-ghost use Rattle.cox_answers.specs.InquiryQuestion.{RefusesNone, IsOrderText, question_of};
+ghost use Rattle.cox_replies.specs.Kept.{IsSameWork};
+ghost use Rattle.cox_replies.specs.SessionLimits.{limits_of};
+ghost use Rattle.cox_replies.specs.InquiryQuestion.{RefusesNone, RefusesFar, IsOrderText, r_text};
+ghost use Rattle.cox_replies.specs.InquiryQuestion.{one_question, two_question, question_of};
 ghost use Rattle.cox_command.specs.ParseContract.{HasLetters};
-ghost use Rattle.cox_answers.specs.Putting.{PutsUnless, IsEnded};
+ghost use Rattle.cox_replies.specs.Putting.{PutsUnless, IsEnded};
 
 pub(crate) mod ahead;
 mod at_hand;
@@ -36,16 +32,11 @@ pub(crate) mod between;
 mod certificates;
 mod generated;
 mod graphs;
-mod intervals;
 mod inverse;
 pub(crate) mod kept;
 pub(crate) mod kept_group;
 mod modules;
-mod pairs;
-mod polynomials;
 mod rows;
-mod sums;
-pub(crate) mod unanswered;
 
 use crate::row_maker::RowMaker;
 use crate::workspace::Workspace;
@@ -53,11 +44,9 @@ use cox_base::{MAX_RANK, Word};
 use cox_command::{Inquiry, OneWord, TwoWord};
 use cox_minroots::RootTable;
 use cox_print::{NoMemory, put_count, put_descent, put_element, put_end, put_truth};
-use intervals::{put_betti, put_coatoms, put_interval};
-use polynomials::put_rpol;
-use rows::{EntryKind, RowKind};
-pub use unanswered::Unanswered;
-use unanswered::unrefused;
+use cox_replies::{
+    EntryKind, RowKind, Unanswered, put_betti, put_coatoms, put_interval, put_rpol, unrefused,
+};
 
 impl Workspace {
     /// Puts the text that answers a command on elements, with the end of its last line. A refusal puts nothing.
@@ -112,29 +101,83 @@ impl Workspace {
             (question_of inquiry.now (limits_of self.old.options) self.old.table).IsText out.old.items out.new.items }
         ensures same { IsSameWork self.old self.new }
     {
-        let table = self.table();
-        let options = self.options();
         match inquiry {
-            Inquiry::One(OneWord::Compute, w) => put_normal_form(out, table, w),
-            Inquiry::One(OneWord::Length, w) => unrefused(put_count(out, table.length(w) as usize)),
-            Inquiry::One(OneWord::Inverse, w) => put_inverse(out, table, w),
-            Inquiry::One(OneWord::Descent, w) => unrefused(put_both_descents(out, table, w)),
-            Inquiry::One(OneWord::Coatoms, w) => put_coatoms(out, table, options, w),
-            Inquiry::One(OneWord::Betti, w) => put_betti(out, table, options, w),
-            Inquiry::One(OneWord::Klbasis, w) => self.put_row(maker, out, RowKind::Klbasis, w),
-            Inquiry::One(OneWord::Ihbetti, w) => self.put_row(maker, out, RowKind::Ihbetti, w),
-            Inquiry::One(OneWord::Extremals, w) => self.put_row(maker, out, RowKind::Extremals, w),
-            Inquiry::One(OneWord::Cert, w) => self.put_cert(maker, out, w),
-            Inquiry::One(OneWord::Module, w) => self.put_module(maker, out, w),
-            Inquiry::Two(TwoWord::Inorder, y, w) => put_inorder(out, table, y, w),
-            Inquiry::Two(TwoWord::Interval, y, w) => put_interval(out, table, options, y, w),
-            Inquiry::Two(TwoWord::Rpol, y, w) => put_rpol(out, table, y, w),
-            Inquiry::Two(TwoWord::Pol, y, w) => self.put_entry(maker, out, EntryKind::Pol, y, w),
-            Inquiry::Two(TwoWord::Invpol, y, w) => self.put_invpol(maker, out, y, w),
-            Inquiry::Two(TwoWord::Mu, y, w) => self.put_entry(maker, out, EntryKind::Mu, y, w),
+            Inquiry::One(kind, w) => self.put_one_word(maker, out, *kind, w),
+            Inquiry::Two(kind, y, w) => self.put_two_words(maker, out, *kind, y, w),
             Inquiry::Plain(kind) => self.put_group(maker, out, *kind),
             Inquiry::Work { start, count } => self.put_generated(maker, out, *start, *count),
         }
+    }
+
+    /// The same for a command with one word.
+    fn put_one_word<M: RowMaker>(
+        &mut self,
+        maker: &M,
+        out: &mut Vec<u8>,
+        kind: OneWord,
+        w: &Word,
+    ) -> Result<(), Unanswered>
+        requires word { IsWord self.old.table.rank w.now.items }
+        requires ready { M.ready maker.now }
+        ensures puts { PutsUnless result (one_question kind (limits_of self.old.options) self.old.table w.now.items).Refuses
+            (one_question kind (limits_of self.old.options) self.old.table w.now.items).IsText out.old.items out.new.items }
+        ensures same { IsSameWork self.old self.new }
+    {
+        let table = self.table();
+        let options = self.options();
+        match kind {
+            OneWord::Compute => put_normal_form(out, table, w),
+            OneWord::Length => unrefused(put_count(out, table.length(w) as usize)),
+            OneWord::Inverse => put_inverse(out, table, w),
+            OneWord::Descent => unrefused(put_both_descents(out, table, w)),
+            OneWord::Coatoms => put_coatoms(out, table, options, w),
+            OneWord::Betti => put_betti(out, table, options, w),
+            OneWord::Klbasis => self.put_row(maker, out, RowKind::Klbasis, w),
+            OneWord::Ihbetti => self.put_row(maker, out, RowKind::Ihbetti, w),
+            OneWord::Extremals => self.put_row(maker, out, RowKind::Extremals, w),
+            OneWord::Cert => self.put_cert(maker, out, w),
+            OneWord::Module => self.put_module(maker, out, w),
+        }
+    }
+
+    /// The same for a command with two words.
+    fn put_two_words<M: RowMaker>(
+        &mut self,
+        maker: &M,
+        out: &mut Vec<u8>,
+        kind: TwoWord,
+        y: &Word,
+        w: &Word,
+    ) -> Result<(), Unanswered>
+        requires first { IsWord self.old.table.rank y.now.items }
+        requires second { IsWord self.old.table.rank w.now.items }
+        requires ready { M.ready maker.now }
+        ensures puts { PutsUnless result (two_question kind (limits_of self.old.options) self.old.table.rank
+            (integer_matrix self.old.table) y.now.items w.now.items).Refuses
+            (two_question kind (limits_of self.old.options) self.old.table.rank (integer_matrix self.old.table)
+            y.now.items w.now.items).IsText out.old.items out.new.items }
+        ensures same { IsSameWork self.old self.new }
+    {
+        let table = self.table();
+        let options = self.options();
+        match kind {
+            TwoWord::Inorder => put_inorder(out, table, y, w),
+            TwoWord::Interval => put_interval(out, table, options, y, w),
+            TwoWord::Rpol => self.put_r(out, y, w),
+            TwoWord::Pol => self.put_entry(maker, out, EntryKind::Pol, y, w),
+            TwoWord::Invpol => self.put_invpol(maker, out, y, w),
+            TwoWord::Mu => self.put_entry(maker, out, EntryKind::Mu, y, w),
+        }
+    }
+
+    /// Puts the R-polynomial of y and w.
+    fn put_r(&self, out: &mut Vec<u8>, y: &Word, w: &Word) -> Result<(), Unanswered>
+        requires first { IsWord self.now.table.rank y.now.items }
+        requires second { IsWord self.now.table.rank w.now.items }
+        ensures { PutsUnless result (RefusesFar (integer_matrix self.now.table) y.now.items w.now.items)
+            (λ text. text ≡ r_text (integer_matrix self.now.table) y.now.items w.now.items) out.old.items out.new.items }
+    {
+        put_rpol(out, self.table(), y, w)
     }
 }
 

@@ -1,25 +1,23 @@
 //! Answers to inquiries: what each command on elements, or on the whole group, asks, and the text that answers it.
 //!
 //! A [`Workspace`] has the group that is set. Its method `put_answer` puts the text that answers an `Inquiry` of `cox_command`, or tells
-//! why it is refused. What an inquiry asks is a question, in `specs/InquiryQuestion.antt`: for each refusal whether it has a cause, and
-//! which texts are right. Rows of Kazhdan-Lusztig polynomials are kept in the workspace from one answer to the next. They are made where
-//! they are asked for: a [`RowMaker`] may make them first, by several threads, say, and one thread makes what is missing then.
+//! why it is refused. What an inquiry asks is a question of `cox_replies`, which also puts texts from rows that are there. Rows of
+//! Kazhdan-Lusztig polynomials are kept in the workspace from one answer to the next. They are made where they are asked for: a
+//! [`RowMaker`] may make them first, by several threads, say, and one thread makes what is missing then.
 //!
 //! - `row_maker`: what makes rows that are asked for
 //! - `likeness`: whether two workspaces have the same group and limits
 //! - `growth`: when the whole group is taken in the place of interval after interval
 //! - `workspace`: what answers work with
 //! - `answers`: the texts
-//! - `laws`: a question has one text, and can be answered
 #![tactic(auto)]
 
 mod answers;
 mod growth;
-pub mod laws;
 mod likeness;
 mod row_maker;
 mod workspace;
 
-pub use answers::Unanswered;
+pub use cox_replies::Unanswered;
 pub use row_maker::{OneThread, RowMaker};
 pub use workspace::Workspace;

@@ -1,7 +1,7 @@
 //! Whether two workspaces have the same group and the same limits.
 ghost use Rattle.std.specs.Prelude.{◌≡◌, ◌↔◌, ℕ, ◌<◌, ◌≤◌, IsTrue};
 ghost use Rattle.cox_base.specs.Matrix.{IsLetter, label};
-ghost use Rattle.cox_answers.specs.SessionLimits.{limits_of};
+ghost use Rattle.cox_replies.specs.SessionLimits.{limits_of};
 
 use crate::workspace::Workspace;
 use cox_base::{Coxeter, MAX_RANK};

@@ -1,13 +1,11 @@
 //! What commands on elements work with.
 
-use crate::answers::Unanswered;
 use crate::answers::ahead::{is_on_group, row_word, with_asked};
 use crate::answers::between::{
     ensure_each, find_whole, has_all, interval_between, is_large, with_rows,
 };
 use crate::answers::kept::{add_interval, keep_interval, widen, with_row};
 use crate::answers::kept_group::{holds_group, keep_elements, with_all};
-use crate::answers::unanswered::unless_fault;
 use crate::growth::{Growth, longest_word};
 use crate::row_maker::RowMaker;
 use cox_base::{Coxeter, MAX_RANK, Word};
@@ -15,6 +13,7 @@ use cox_command::{Inquiry, TwoWord};
 use cox_inverse::WholeGroup;
 use cox_minroots::RootTable;
 use cox_options::Options;
+use cox_replies::{Unanswered, unless_fault};
 use cox_rows::Rows;
 use std::alloc::{AllocError, Global};
 use std::marker::Model;
@@ -36,9 +35,9 @@ pub struct Workspace {
 }
 
 impl Model for Workspace {
-    ghost use Rattle.cox_answers.specs.SessionLimits.{limits_of};
-    ghost use Rattle.cox_answers.specs.Kept.{Work, AreKept};
-    ghost use Rattle.cox_answers.specs.KeptBetween.{AreReadOff};
+    ghost use Rattle.cox_replies.specs.SessionLimits.{limits_of};
+    ghost use Rattle.cox_replies.specs.Kept.{Work, AreKept};
+    ghost use Rattle.cox_replies.specs.KeptBetween.{AreReadOff};
 
     ghost Value = { Work };
 
@@ -61,13 +60,13 @@ impl Workspace {
     ghost use Rattle.cox_rows.specs.Beyond.{IsBeyond};
     ghost use Rattle.cox_rows.specs.Holding.{HasRow};
     ghost use Rattle.cox_command.specs.ParseContract.{HasLetters};
-    ghost use Rattle.cox_answers.specs.SessionLimits.{limits_of};
-    ghost use Rattle.cox_answers.specs.GroupReply.{RefusesGroupRows};
-    ghost use Rattle.cox_answers.specs.Listed.{RefusesLarge};
-    ghost use Rattle.cox_answers.specs.Question.{IsRefused};
-    ghost use Rattle.cox_answers.specs.RowReply.{RefusesRow};
-    ghost use Rattle.cox_answers.specs.Kept.{AreKept, HoldsElement, HoldsRow, HoldsAll, IsSameWork, Keeps};
-    ghost use Rattle.cox_answers.specs.KeptBetween.{RefusesBetween, HoldsBetween, IsReadOff};
+    ghost use Rattle.cox_replies.specs.SessionLimits.{limits_of};
+    ghost use Rattle.cox_replies.specs.GroupReply.{RefusesGroupRows};
+    ghost use Rattle.cox_replies.specs.Listed.{RefusesLarge};
+    ghost use Rattle.cox_replies.specs.Question.{IsRefused};
+    ghost use Rattle.cox_replies.specs.RowReply.{RefusesRow};
+    ghost use Rattle.cox_replies.specs.Kept.{AreKept, HoldsElement, HoldsRow, HoldsAll, IsSameWork, Keeps};
+    ghost use Rattle.cox_replies.specs.KeptBetween.{RefusesBetween, HoldsBetween, IsReadOff};
 
     /// A group with the options of the session; no row is made yet.
     pub fn new(table: RootTable, options: Options) -> Workspace

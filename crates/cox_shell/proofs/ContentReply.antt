@@ -12,11 +12,11 @@ use Rattle.cox_base.specs.IntegerMatrix.{integer_matrix}
 use Rattle.cox_base.proofs.AdmissibleMatrices.{IsAdmissible-integer_matrix}
 use Rattle.cox_command.specs.declared.inquiry.Inquiry.{Inquiry}
 use Rattle.cox_shell.specs.Reply.{State, Reply, rank_of, with_group, refusal, silence}
-use Rattle.cox_answers.specs.InquiryQuestion.{question_of}
+use Rattle.cox_replies.specs.InquiryQuestion.{question_of}
 use Rattle.cox_shell.specs.CommandReply.{IsInquiryReply, RefusesGroup, IsCommandReply}
 use Rattle.cox_shell.specs.ContentReply.{IsContentReply}
 use Rattle.cox_shell.proofs.DecidedReplies.{IsDecided-unique, IsReply-unique}
-use Rattle.cox_answers.proofs.Questions.{question-one}
+use Rattle.cox_replies.proofs.Questions.{question-one}
 use Rattle.cox_shell.proofs.KeptGroup.{HasMatrix}
 
 -- where a group is set

@@ -1,9 +1,9 @@
 -- The reply of a command is one, and exists where each cause of a refusal is decided, for any question.
 use Rattle.std.proofs.Common.{◌≡◌, ◌⊎◌, Option, None, Some, MatchOption, refl, sym, ap, ◌∙◌, subst}
 use Rattle.cox_command.specs.declared.refusal.Refusal.{Refusal}
-use Rattle.cox_answers.specs.Question.{Question, command_refusals, IsRefused}
-use Rattle.cox_answers.specs.Answerable.{HasOneText, IsAnswerable}
-use Rattle.cox_answers.proofs.Refusing.{IsFirstRefusal-unique, IsFirstRefusal-exists}
+use Rattle.cox_replies.specs.Question.{Question, command_refusals, IsRefused}
+use Rattle.cox_replies.specs.Answerable.{HasOneText, IsAnswerable}
+use Rattle.cox_replies.proofs.Refusing.{IsFirstRefusal-unique, IsFirstRefusal-exists}
 use Rattle.cox_shell.specs.Reply.{State, Reply, refusal, answered}
 use Rattle.cox_shell.specs.CommandReply.{IsDecided, Answers}
 

@@ -15,7 +15,7 @@ use Rattle.cox_command.specs.CommandReading.{command_by, command_of}
 use Rattle.cox_shell.specs.Reply.{State, Reply, rank_of, with_group, refusal, silence}
 use Rattle.cox_command.specs.declared.inquiry.Inquiry.{Inquiry}
 use Rattle.cox_shell.specs.CommandReply.{IsDecided}
-use Rattle.cox_answers.specs.InquiryQuestion.{question_of}
+use Rattle.cox_replies.specs.InquiryQuestion.{question_of}
 use Rattle.cox_shell.specs.CommandReply.{Answers, IsInquiryReply, RefusesGroup, IsCommandReply}
 use Rattle.cox_shell.proofs.DecidedReplies.{IsDecided-all}
 use Rattle.cox_shell.specs.ContentReply.{IsContentReply}

@@ -6,19 +6,19 @@ use Rattle.std.specs.declared.alloc.AllocError.{AllocError}
 use Rattle.cox_base.specs.Matrix.{CoxeterMatrix}
 use Rattle.cox_command.specs.declared.inquiry.Inquiry.{Inquiry}
 use Rattle.cox_poly.specs.Puts.{PutsPrefix}
-use Rattle.cox_answers.specs.declared.answers.unanswered.Unanswered.{Unanswered}
-use Rattle.cox_answers.specs.declared.answers.unanswered.Unanswered.TheVariants as unanswered
+use Rattle.cox_replies.specs.declared.unanswered.Unanswered.{Unanswered}
+use Rattle.cox_replies.specs.declared.unanswered.Unanswered.TheVariants as unanswered
 use Rattle.cox_shell.specs.declared.session.Said.{Said}
 use Rattle.cox_shell.specs.declared.session.Said.TheVariants.{Answered, Quit}
 use Rattle.cox_shell.specs.Reply.{State, Reply, refusal, silence, farewell, answered}
-use Rattle.cox_answers.specs.Question.{Question}
+use Rattle.cox_replies.specs.Question.{Question}
 use Rattle.cox_command.specs.declared.command.Command.TheVariants.{Jobs}
 use Rattle.cox_shell.specs.CommandReply.{IsDecided, IsCommandReply}
-use Rattle.cox_answers.specs.InquiryQuestion.{question_of}
+use Rattle.cox_replies.specs.InquiryQuestion.{question_of}
 use Rattle.cox_shell.specs.CommandReply.{Answers, IsInquiryReply}
-use Rattle.cox_answers.proofs.Unless.{PutsPrefix-none}
+use Rattle.cox_replies.proofs.Unless.{PutsPrefix-none}
 use Rattle.cox_shell.specs.Saying.{Says, SaysPrefix, Tells, Concludes}
-use Rattle.cox_answers.specs.Putting.{PutsUnless, IsEnded}
+use Rattle.cox_replies.specs.Putting.{PutsUnless, IsEnded}
 
 -- nothing is said to a line that is answered nothing
 pub Says-silence : (state new : State) (out : List ℕ) → new ≡ state → Says Answered (silence state) new out out

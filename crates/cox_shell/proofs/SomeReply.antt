@@ -22,15 +22,15 @@ use Rattle.cox_command.specs.declared.inquiry.Inquiry.{Inquiry}
 use Rattle.cox_command.specs.declared.inquiry.Inquiry.TheVariants as inquiry
 use Rattle.cox_small.proofs.Counting.{not_both}
 use Rattle.cox_small.proofs.Deciding.{HasMoreSmallRoots-decided}
-use Rattle.cox_answers.specs.Limits.{Limits}
+use Rattle.cox_replies.specs.Limits.{Limits}
 use Rattle.cox_shell.specs.Reply.{State, Reply, rank_of, with_group, with_list, refusal, silence, farewell}
 use Rattle.cox_shell.specs.OpenLists.{opening_list}
 use Rattle.cox_shell.specs.CommandReply.{IsDecided}
-use Rattle.cox_answers.specs.InquiryQuestion.{question_of}
+use Rattle.cox_replies.specs.InquiryQuestion.{question_of}
 use Rattle.cox_shell.specs.CommandReply.{Answers, IsInquiryReply, RefusesGroup, IsCommandReply}
 use Rattle.cox_shell.specs.ContentReply.{IsContentReply}
 use Rattle.cox_shell.proofs.DecidedReplies.{IsDecided-exists, IsReply-exists}
-use Rattle.cox_answers.proofs.Questions.{question-answerable}
+use Rattle.cox_replies.proofs.Questions.{question-answerable}
 use Rattle.cox_shell.proofs.SetMatrices.{named_matrix, matrix_of, passed_over, group_set-is}
 
 -- a command on elements has a reply in a group

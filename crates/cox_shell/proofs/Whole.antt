@@ -19,10 +19,10 @@ use Rattle.cox_options.specs.Arguments.{is_refused, given_number, IsTaken, IsUsa
 use Rattle.cox_options.specs.declared.options.Options.{Options}
 use Rattle.cox_shell.specs.declared.status.Status.{Status}
 use Rattle.cox_shell.specs.declared.status.Status.TheVariants.{Done, Refused, Usage, ReadFault, WriteFault, NoMemory, InputLimit}
-use Rattle.cox_answers.specs.Limits.{Limits}
+use Rattle.cox_replies.specs.Limits.{Limits}
 use Rattle.cox_shell.specs.Reply.{State, Reply, OpenList, opening}
 use Rattle.cox_shell.specs.Blocks.{IsListReply}
-use Rattle.cox_answers.specs.SessionLimits.{limits_of}
+use Rattle.cox_replies.specs.SessionLimits.{limits_of}
 use Rattle.cox_shell.specs.Answer.{AreReplies, AreAllReplies, AreScriptReplies, IsClosing, state_behind, texts, has_refusal, has_quit}
 use Rattle.cox_shell.specs.Answer.{script_lines, bytes_of}
 use Rattle.cox_shell.specs.Run.{Stand, stand}

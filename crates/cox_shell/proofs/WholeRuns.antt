@@ -14,7 +14,7 @@ use Rattle.cox_outside.proofs.Known.{prepend_known-none}
 use Rattle.cox_options.specs.Arguments.{is_refused, IsTaken, IsUsage}
 use Rattle.cox_shell.specs.declared.status.Status.{Status}
 use Rattle.cox_shell.specs.declared.status.Status.TheVariants.{Done, Refused, Usage, ReadFault, WriteFault, NoMemory, InputLimit}
-use Rattle.cox_answers.specs.Limits.{Limits}
+use Rattle.cox_replies.specs.Limits.{Limits}
 use Rattle.cox_shell.specs.Reply.{OpenList, State, Reply}
 use Rattle.cox_shell.specs.Answer.{AreScriptReplies, texts}
 use Rattle.cox_shell.specs.Run.{stand}

@@ -8,11 +8,11 @@ use Rattle.cox_command.specs.declared.command.Command.{Command}
 use Rattle.cox_command.specs.declared.command.Command.TheVariants.{Nothing, Quit, Group, Jobs, Ask}
 use Rattle.cox_small.specs.SmallRoots.{HasMoreSmallRoots}
 use Rattle.cox_command.specs.declared.inquiry.Inquiry.{Inquiry}
-use Rattle.cox_answers.specs.Limits.{Limits}
+use Rattle.cox_replies.specs.Limits.{Limits}
 use Rattle.cox_shell.specs.Reply.{State, Reply, refusal, with_group, with_list, silence, farewell, answered}
 use Rattle.cox_shell.specs.OpenLists.{opening_list}
-use Rattle.cox_answers.specs.Question.{Question, IsRefused}
-use Rattle.cox_answers.specs.InquiryQuestion.{question_of}
+use Rattle.cox_replies.specs.Question.{Question, IsRefused}
+use Rattle.cox_replies.specs.InquiryQuestion.{question_of}
 use Rattle.std.specs.Prelude.{Option, MatchOption}
 
 -- the reply of a command: its refusal, or one of these where it is not refused

@@ -1,7 +1,7 @@
 -- Arguments that give options with some limits.
 use Rattle.std.specs.Prelude.{◌≡◌, ℕ, List}
 use Rattle.cox_options.specs.Arguments.{IsTaken}
-use Rattle.cox_answers.specs.Limits.{Limits}
+use Rattle.cox_replies.specs.Limits.{Limits}
 use Rattle.cox_shell.specs.Top.{given_limits}
 
 -- the arguments give options, with these limits

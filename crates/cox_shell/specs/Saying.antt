@@ -4,8 +4,8 @@ use Rattle.std.specs.Prelude.{◌++◌}
 use Rattle.std.specs.declared.alloc.AllocError.{AllocError}
 use Rattle.cox_poly.specs.Puts.{PutsPrefix}
 use Rattle.cox_command.specs.RefusalNumber.{refusal_number}
-use Rattle.cox_answers.specs.declared.answers.unanswered.Unanswered.{Unanswered}
-use Rattle.cox_answers.specs.declared.answers.unanswered.Unanswered.TheVariants as unanswered
+use Rattle.cox_replies.specs.declared.unanswered.Unanswered.{Unanswered}
+use Rattle.cox_replies.specs.declared.unanswered.Unanswered.TheVariants as unanswered
 use Rattle.cox_shell.specs.declared.session.Said.{Said}
 use Rattle.cox_shell.specs.declared.session.Said.TheVariants.{Answered, Refused, Quit}
 use Rattle.cox_shell.specs.Reply.{State, Reply, refusal}

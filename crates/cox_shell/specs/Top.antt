@@ -7,7 +7,7 @@ use Rattle.cox_outside.specs.declared.limits.TheConstants.{INPUT_LIMIT}
 use Rattle.cox_outside.specs.Line.{line_feed, ended_lines}
 use Rattle.cox_outside.specs.Outlet.{Outlet, Writes, IsPrefix}
 use Rattle.cox_options.specs.Arguments.{is_refused, given_number}
-use Rattle.cox_answers.specs.Limits.{Limits}
+use Rattle.cox_replies.specs.Limits.{Limits}
 use Rattle.cox_shell.specs.Reply.{Reply, opening}
 use Rattle.cox_shell.specs.Answer.{AreReplies, AreAllReplies, AreScriptReplies, state_behind, texts, has_refusal, has_quit, script_lines}
 

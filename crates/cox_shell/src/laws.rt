@@ -6,7 +6,7 @@ ghost use Rattle.cox_outside.specs.declared.limits.TheConstants.{INPUT_LIMIT};
 ghost use Rattle.cox_outside.specs.Supply.{Supply};
 ghost use Rattle.cox_outside.specs.Outlet.{Outlet, IsPrefix};
 ghost use Rattle.cox_options.specs.Arguments.{IsTaken};
-ghost use Rattle.cox_answers.specs.Limits.{Limits};
+ghost use Rattle.cox_replies.specs.Limits.{Limits};
 ghost use Rattle.cox_shell.specs.Reply.{Kept, State, Reply};
 ghost use Rattle.cox_shell.specs.Blocks.{Told, then_told, AnswersBlock, AnswersBlocks};
 ghost use Rattle.cox_shell.specs.Answer.{AreScriptReplies, texts};

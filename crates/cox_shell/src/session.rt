@@ -86,7 +86,7 @@ impl Model for Session {
 impl Session {
     ghost use Rattle.std.specs.Thread.{IsSync};
     ghost use Rattle.cox_row.specs.Rising.{AreWithin};
-    ghost use Rattle.cox_answers.specs.Kept.{IsMore};
+    ghost use Rattle.cox_replies.specs.Kept.{IsMore};
     ghost use Rattle.std.specs.Prelude.{◌≡◌, ◌<◌, ◌≤◌, ◌⊎◌, ◌^◌, false, length, None, Some, is_some, IfOk, OnErr, OnOk};
     ghost use Rattle.std.specs.Prelude.{IfSome, IsSome, IsSomeAnd, MatchOption};
     ghost use Rattle.cox_base.specs.Admissible.{IsCoxeterMatrix};
@@ -94,7 +94,7 @@ impl Session {
     ghost use Rattle.cox_command.specs.ParseContract.{HasLetters, HasWordsOf};
     ghost use Rattle.cox_shell.specs.declared.session.Said.TheVariants.{Answered};
     ghost use Rattle.cox_shell.specs.Reply.{Reply, opening, closed, refusal, silence, rank_of};
-    ghost use Rattle.cox_answers.specs.SessionLimits.{limits_of};
+    ghost use Rattle.cox_replies.specs.SessionLimits.{limits_of};
     ghost use Rattle.cox_shell.specs.ContentReply.{IsContentReply};
     ghost use Rattle.cox_shell.specs.CommandReply.{IsCommandReply, IsInquiryReply};
     ghost use Rattle.cox_shell.specs.OpenLists.{with_line, with_block, is_long};
@@ -685,7 +685,7 @@ impl Session {
 ghost use Rattle.std.specs.Prelude.{◌≡◌, None, Some, IfOk};
 ghost use Rattle.cox_base.specs.IntegerMatrix.{integer_matrix};
 ghost use Rattle.cox_small.specs.RootCounts.{HasFewSmallRoots};
-ghost use Rattle.cox_answers.specs.SessionLimits.{limits_of};
+ghost use Rattle.cox_replies.specs.SessionLimits.{limits_of};
 
 /// A session with the same group and options, where no row is made yet.
 fn fresh_work(work: &Workspace, alloc: Global) -> Result<Session, AllocError>

@@ -3,10 +3,10 @@
 ghost use Rattle.std.specs.Prelude.{◌≡◌, ◌≤◌, ℕ, true, false, List, length, IfSome};
 ghost use Rattle.std.specs.Thread.{IsSync};
 ghost use Rattle.cox_row.specs.Rising.{AreWithin};
-ghost use Rattle.cox_answers.specs.Kept.{IsMore};
+ghost use Rattle.cox_replies.specs.Kept.{IsMore};
 ghost use Rattle.cox_options.specs.Arguments.{IsUsage, is_refused};
 ghost use Rattle.cox_outside.specs.Supply.{Supply};
-ghost use Rattle.cox_answers.specs.SessionLimits.{limits_of};
+ghost use Rattle.cox_replies.specs.SessionLimits.{limits_of};
 ghost use Rattle.cox_shell.specs.Top.{argument_texts};
 ghost use Rattle.cox_shell.specs.GivenLimits.{GiveLimits};
 ghost use Rattle.cox_shell.specs.Reading.{IsReadBy};

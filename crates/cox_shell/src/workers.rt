@@ -2,13 +2,13 @@
 //!
 //! The rows that are there are moved into the store first, and all come back afterwards. What the workers could not make is left to whoever
 //! asked: one thread makes it then, or finds that a row is beyond a limit.
-ghost use Rattle.std.specs.Prelude.{◌≡◌, ◌⊎◌, ℕ, ◌<◌, ◌≤◌, length};
+ghost use Rattle.std.specs.Prelude.{◌≡◌, ◌⊎◌, ℕ, ◌<◌, ◌≤◌, length, IsTrue};
 ghost use Rattle.cox_claims.specs.Seats.{HoldsNothing, HasSeen, view_of};
 ghost use Rattle.cox_claims.specs.Knowledge.{SeesAll};
 ghost use Rattle.cox_row.specs.Rising.{AreWithin};
 ghost use Rattle.cox_row_store.specs.Stores.{elements_of, limit_of, IsSeat};
 ghost use Rattle.cox_rows.specs.Holding.{HasRow};
-ghost use Rattle.cox_answers.specs.Kept.{IsSameContext, IsMore};
+ghost use Rattle.cox_replies.specs.Kept.{IsSameContext, IsMore};
 
 use crate::block_teller::BlockTeller;
 use crate::list::Block;
@@ -40,7 +40,7 @@ impl<
     ghost use Rattle.std.specs.Prelude.{◌≡◌, false, length, Option, IfSome};
     ghost use Rattle.cox_row.specs.Rising.{AreWithin};
     ghost use Rattle.cox_rows.specs.Holding.{Holding};
-    ghost use Rattle.cox_answers.specs.Kept.{IsMore};
+    ghost use Rattle.cox_replies.specs.Kept.{IsMore};
     ghost use Rattle.cox_shell.specs.OpenLists.{is_long};
     ghost use Rattle.cox_shell.specs.ToldText.{Numbered, IsToldOf};
 
@@ -74,7 +74,7 @@ impl<
 }
 
 /// The same rows, and those of the members with these numbers, by so many workers, as far as there is memory for them and none is beyond a
-/// limit. Each worker passes the gate before each claim and each publication.
+/// limit. Each worker passes the gate before each claim and each publication. A single row whose needs are there is left to whoever asked.
 pub fn make_rows<R: Threads + Wait + Sync, G: Gate + Sync>(
     rt: &R,
     gate: &G,
@@ -87,9 +87,23 @@ pub fn make_rows<R: Threads + Wait + Sync, G: Gate + Sync>(
     requires wanted { AreWithin (length rows.elements.members) wanted.now }
     ensures { IsMore rows result }
 {
+    if is_one_left(&rows, wanted) {
+        return rows;
+    }
     let mut rows = rows;
     let _ = share(rt, gate, workers, alloc, &mut rows, wanted);
     rows
+}
+
+/// Whether one row is wanted, and all rows are there that it is made from. Then workers have nothing to share.
+fn is_one_left(rows: &Rows, wanted: &[u32]) -> bool
+    requires { AreWithin (length rows.now.elements.members) wanted.now }
+    ensures { IsTrue result → length wanted.now ≡ 1 }
+{
+    if wanted.len() != 1 {
+        return false;
+    }
+    rows.has_needs(wanted[0])
 }
 
 /// Has the workers make rows of members with these numbers, and those that they are made from, in a store of their own.

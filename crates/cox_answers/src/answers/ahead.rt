@@ -6,18 +6,18 @@ ghost use Rattle.cox_command.specs.ParseContract.{HasLetters};
 ghost use Rattle.cox_command.specs.declared.refusal.Refusal.TheVariants.{LargeRow};
 ghost use Rattle.cox_row.specs.Rising.{AreWithin};
 ghost use Rattle.cox_rows.specs.Beyond.{NeedsBeyond};
-ghost use Rattle.cox_answers.specs.Limits.{Limits};
-ghost use Rattle.cox_answers.specs.GroupReply.{RefusesGroupRows};
-ghost use Rattle.cox_answers.specs.InquiryQuestion.{question_of};
-ghost use Rattle.cox_answers.specs.Kept.{IsMore};
+ghost use Rattle.cox_replies.specs.Limits.{Limits};
+ghost use Rattle.cox_replies.specs.GroupReply.{RefusesGroupRows};
+ghost use Rattle.cox_replies.specs.InquiryQuestion.{question_of};
+ghost use Rattle.cox_replies.specs.Kept.{IsMore};
 
 use crate::answers::between::with_rows;
-use crate::answers::certificates::listed_below;
 use crate::row_maker::RowMaker;
 use cox_base::Word;
 use cox_command::{Inquiry, OneWord, TwoWord};
 use cox_klstep::StepFault;
 use cox_minroots::RootTable;
+use cox_replies::listed_below;
 use cox_rows::Rows;
 use std::alloc::{AllocError, Global};
 

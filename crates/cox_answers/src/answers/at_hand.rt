@@ -3,20 +3,19 @@ ghost use Rattle.std.specs.Prelude.{◌≡◌, IfSome, IfNone};
 ghost use Rattle.cox_base.specs.Matrix.{IsWord};
 ghost use Rattle.cox_base.specs.IntegerMatrix.{integer_matrix};
 ghost use Rattle.cox_command.specs.ParseContract.{HasLetters};
-ghost use Rattle.cox_answers.specs.SessionLimits.{limits_of};
-ghost use Rattle.cox_answers.specs.InquiryQuestion.{one_question, two_question, question_of};
-ghost use Rattle.cox_answers.specs.Putting.{PutsUnless};
+ghost use Rattle.cox_replies.specs.SessionLimits.{limits_of};
+ghost use Rattle.cox_replies.specs.InquiryQuestion.{one_question, two_question, question_of};
+ghost use Rattle.cox_replies.specs.Putting.{PutsUnless};
 
-use crate::answers::rows::{EntryKind, RowKind};
-use crate::answers::unanswered::Unanswered;
 use crate::row_maker::RowMaker;
 use crate::workspace::Workspace;
 use cox_base::Word;
 use cox_command::{Inquiry, OneWord, TwoWord};
+use cox_replies::{EntryKind, RowKind, Unanswered};
 
 impl Workspace {
-    /// Puts the text that answers a command, without the end of its last line, where the rows that are kept give it: no row is made. `None`,
-    /// and nothing is put, where they do not.
+    /// Puts the text that answers a command, without the end of its last line, where the rows that are kept give it: no row is made.
+    /// `None`, and nothing is put, where they do not.
     pub fn put_kept(&self, out: &mut Vec<u8>, inquiry: &Inquiry) -> Option<Result<(), Unanswered>>
         requires words { HasLetters self.now.table.rank inquiry.now }
         ensures puts { IfSome result (λ put. PutsUnless put (question_of inquiry.now (limits_of self.now.options) self.now.table).Refuses
@@ -59,7 +58,8 @@ impl Workspace {
         w: &Word,
     ) -> Option<Result<(), Unanswered>>
         requires word { IsWord self.now.table.rank w.now.items }
-        ensures puts { IfSome result (λ put. PutsUnless put (one_question kind (limits_of self.now.options) self.now.table w.now.items).Refuses
+        ensures puts { IfSome result (λ put. PutsUnless put
+            (one_question kind (limits_of self.now.options) self.now.table w.now.items).Refuses
             (one_question kind (limits_of self.now.options) self.now.table w.now.items).IsText out.old.items out.new.items) }
         ensures none { IfNone result (out.new ≡ out.old) }
     {

@@ -9,10 +9,10 @@ ghost use Rattle.cox_row.specs.Rising.{number_at, AreWithin};
 ghost use Rattle.cox_rows.specs.Beyond.{IsBeyond, NeedsBeyond};
 ghost use Rattle.cox_rows.specs.Holding.{HasRow};
 ghost use Rattle.cox_inverse.specs.Intervals.{IsInterval};
-ghost use Rattle.cox_answers.specs.SessionLimits.{limits_of};
-ghost use Rattle.cox_answers.specs.Kept.{IsMore};
-ghost use Rattle.cox_answers.specs.KeptBetween.{IsFaultOfOne, IsReadOff};
-ghost use Rattle.cox_answers.specs.InverseReply.{inverse_limit};
+ghost use Rattle.cox_replies.specs.SessionLimits.{limits_of};
+ghost use Rattle.cox_replies.specs.Kept.{IsMore};
+ghost use Rattle.cox_replies.specs.KeptBetween.{IsFaultOfOne, IsReadOff};
+ghost use Rattle.cox_replies.specs.InverseReply.{inverse_limit};
 
 use crate::row_maker::RowMaker;
 use cox_base::Word;

@@ -11,21 +11,21 @@ ghost use Rattle.cox_context.specs.Numbers.{word_at};
 ghost use Rattle.cox_context.specs.declared.members.TheConstants.{MAX_MEMBERS};
 ghost use Rattle.cox_command.specs.ParseContract.{AreWorkNumbers};
 ghost use Rattle.cox_rows.specs.Holding.{HasRow};
-ghost use Rattle.cox_answers.specs.Kept.{IsSameWork};
-ghost use Rattle.cox_answers.specs.SessionLimits.{limits_of};
-ghost use Rattle.cox_answers.specs.RowReply.{RefusesRow, coefficients_to};
-ghost use Rattle.cox_answers.specs.WorkReply.{generated_words, RefusesWork, IsWorkText};
-ghost use Rattle.cox_answers.specs.Totals.{no_totals, both_totals, polynomial_totals, AreTotalsOf, AreTotals, sum_of};
-ghost use Rattle.cox_answers.specs.Putting.{PutsUnless};
-ghost use Rattle.cox_answers.specs.Summing.{SumsUp};
+ghost use Rattle.cox_replies.specs.Kept.{IsSameWork};
+ghost use Rattle.cox_replies.specs.SessionLimits.{limits_of};
+ghost use Rattle.cox_replies.specs.RowReply.{RefusesRow, coefficients_to};
+ghost use Rattle.cox_replies.specs.WorkReply.{generated_words, RefusesWork, IsWorkText};
+ghost use Rattle.cox_replies.specs.Totals.{no_totals, both_totals, polynomial_totals, AreTotalsOf, AreTotals, sum_of};
+ghost use Rattle.cox_replies.specs.Putting.{PutsUnless};
+ghost use Rattle.cox_replies.specs.Summing.{SumsUp};
 
-use crate::answers::unanswered::{Unanswered, unrefused};
 use crate::row_maker::RowMaker;
 use crate::workspace::Workspace;
 use cox_base::Word;
 use cox_command::work_word;
 use cox_poly::PolyView;
 use cox_print::put_work;
+use cox_replies::{Unanswered, unrefused};
 use cox_rows::Rows;
 use std::alloc::Global;
 use std::marker::Model;
@@ -40,7 +40,7 @@ struct RowTotals {
 
 impl Model for RowTotals {
     ghost use Rattle.std.specs.Prelude.{◌≤◌, ◌*◌, ◌^◌, unsigned_abs};
-    ghost use Rattle.cox_answers.specs.Totals.{Totals};
+    ghost use Rattle.cox_replies.specs.Totals.{Totals};
 
     ghost Value = { Totals };
 

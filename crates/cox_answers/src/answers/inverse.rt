@@ -4,15 +4,14 @@ ghost use Rattle.cox_base.specs.Matrix.{IsWord};
 ghost use Rattle.cox_base.specs.Admissible.{IsCoxeterMatrix};
 ghost use Rattle.cox_base.specs.IntegerMatrix.{integer_matrix};
 ghost use Rattle.cox_base.specs.Bruhat.{IsBelow};
-ghost use Rattle.cox_answers.specs.Kept.{IsSameWork, AreOf};
-ghost use Rattle.cox_answers.specs.KeptBetween.{RefusesBetween, HoldsBetween, IsReadOff, inverse_unanswered};
-ghost use Rattle.cox_answers.specs.SessionLimits.{limits_of};
-ghost use Rattle.cox_answers.specs.InverseReply.{RefusesInverse, IsInverseText};
-ghost use Rattle.cox_answers.specs.Putting.{PutsUnless};
-ghost use Rattle.cox_answers.specs.Question.{IsRefused};
+ghost use Rattle.cox_replies.specs.Kept.{IsSameWork, AreOf};
+ghost use Rattle.cox_replies.specs.KeptBetween.{RefusesBetween, HoldsBetween, IsReadOff, inverse_unanswered};
+ghost use Rattle.cox_replies.specs.SessionLimits.{limits_of};
+ghost use Rattle.cox_replies.specs.InverseReply.{RefusesInverse, IsInverseText};
+ghost use Rattle.cox_replies.specs.Putting.{PutsUnless};
+ghost use Rattle.cox_replies.specs.Question.{IsRefused};
 
 use crate::answers::between::{inverse_limit, member};
-use crate::answers::unanswered::{Unanswered, unrefused};
 use crate::row_maker::RowMaker;
 use crate::workspace::Workspace;
 use cox_base::{MAX_RANK, Word};
@@ -21,6 +20,7 @@ use cox_inverse::{InverseFault, WholeGroup, inverse_row};
 use cox_minroots::RootTable;
 use cox_options::Options;
 use cox_poly::append::put_text;
+use cox_replies::{Unanswered, unrefused};
 use cox_rows::Rows;
 
 impl Workspace {

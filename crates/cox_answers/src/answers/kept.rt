@@ -3,17 +3,16 @@ ghost use Rattle.std.specs.Prelude.{◌<◌, ◌≤◌, length};
 ghost use Rattle.cox_base.specs.Matrix.{IsWord};
 ghost use Rattle.cox_base.specs.Admissible.{IsCoxeterMatrix};
 ghost use Rattle.cox_base.specs.IntegerMatrix.{integer_matrix};
-ghost use Rattle.cox_answers.specs.SessionLimits.{limits_of};
-ghost use Rattle.cox_answers.specs.Listed.{RefusesLarge};
-ghost use Rattle.cox_answers.specs.Kept.{AreKept, HoldsElement, Keeps, IsMore};
+ghost use Rattle.cox_replies.specs.SessionLimits.{limits_of};
+ghost use Rattle.cox_replies.specs.Listed.{RefusesLarge};
+ghost use Rattle.cox_replies.specs.Kept.{AreKept, HoldsElement, Keeps, IsMore};
 
-use crate::answers::intervals::interval_of;
-use crate::answers::unanswered::Unanswered;
 use crate::row_maker::RowMaker;
 use cox_base::{MAX_RANK, Word};
 use cox_context::{ContextFault, MAX_MEMBERS};
 use cox_minroots::RootTable;
 use cox_options::Options;
+use cox_replies::{Unanswered, interval_of};
 use cox_rows::Rows;
 use std::alloc::{AllocError, Global};
 

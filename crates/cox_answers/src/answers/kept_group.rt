@@ -9,18 +9,18 @@ ghost use Rattle.cox_base.specs.SortedList.{IsListOf};
 ghost use Rattle.cox_context.specs.Numbers.{word_at};
 ghost use Rattle.cox_row.specs.Rising.{AreWithin};
 ghost use Rattle.cox_rows.specs.Beyond.{IsBeyond};
-ghost use Rattle.cox_answers.specs.SessionLimits.{limits_of};
-ghost use Rattle.cox_answers.specs.GroupSize.{RefusesLargeGroup, GivesGroup};
-ghost use Rattle.cox_answers.specs.Kept.{AreKept, HoldsGroup, HoldsAll, Keeps, IsMore};
+ghost use Rattle.cox_replies.specs.SessionLimits.{limits_of};
+ghost use Rattle.cox_replies.specs.GroupSize.{RefusesLargeGroup, GivesGroup};
+ghost use Rattle.cox_replies.specs.Kept.{AreKept, HoldsGroup, HoldsAll, Keeps, IsMore};
 
 use crate::answers::between::has_all;
-use crate::answers::unanswered::Unanswered;
 use crate::row_maker::RowMaker;
 use cox_base::MAX_RANK;
 use cox_command::Refusal;
 use cox_context::{Context, ContextFault};
 use cox_minroots::RootTable;
 use cox_options::Options;
+use cox_replies::Unanswered;
 use cox_rows::Rows;
 use std::alloc::{AllocError, Global};
 

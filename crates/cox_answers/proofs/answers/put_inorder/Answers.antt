@@ -2,8 +2,8 @@
 use Rattle.std.proofs.Common.{refl}
 use Rattle.cox_base.specs.IntegerMatrix.{integer_matrix}
 use Rattle.cox_print.specs.AnswerText.{truth_text}
-use Rattle.cox_answers.specs.InquiryQuestion.{IsOrderText}
-use Rattle.cox_answers.proofs.Unless.{PutsUnless-free}
+use Rattle.cox_replies.specs.InquiryQuestion.{IsOrderText}
+use Rattle.cox_replies.proofs.Unless.{PutsUnless-free}
 use Rattle.cox_answers.proofs.answers.put_inorder.Goals as goal
 
 pub returns : goal.returns

@@ -5,7 +5,7 @@ use Rattle.std.specs.List.{list_any}
 use Rattle.std.proofs.lemmas.Bool.{cases_lt}
 use Rattle.cox_base.specs.IntegerMatrix.{integer_matrix}
 use Rattle.cox_base.specs.Descents.{right_descents}
-use Rattle.cox_answers.proofs.ListSearch.{any-found}
+use Rattle.cox_replies.proofs.ListSearch.{any-found}
 use Rattle.cox_answers.proofs.growth.missing_letter.Goals as goal
 
 pub loop-s-preserved : goal.loop-s-preserved

@@ -2,7 +2,7 @@
 use Rattle.std.proofs.Common.{ap, ◌∙◌}
 use Rattle.cox_base.specs.IntegerMatrix.{integer_matrix}
 use Rattle.cox_options.specs.declared.options.Options.{Options}
-use Rattle.cox_answers.specs.SessionLimits.{limits_of}
+use Rattle.cox_replies.specs.SessionLimits.{limits_of}
 use Rattle.cox_small.proofs.Counting.{not_both}
 use Rattle.cox_shell.proofs.session.fresh_work.Goals as goal
 

@@ -1,8 +1,8 @@
 -- The proof of `find_whole`.
 use Rattle.std.proofs.Common.{rules, w64, FitsSigned}
 use Rattle.std.proofs.lemmas.Int.{to_z-of_z}
-use Rattle.cox_answers.specs.SessionLimits.{limits_of}
-use Rattle.cox_answers.proofs.KeptBetween.{read_off-found}
+use Rattle.cox_replies.specs.SessionLimits.{limits_of}
+use Rattle.cox_replies.proofs.KeptBetween.{read_off-found}
 use Rattle.cox_answers.proofs.answers.between.find_whole.Goals as goal
 
 pub returns : goal.returns

@@ -4,8 +4,8 @@ use Rattle.std.specs.Int.{w128}
 use Rattle.std.proofs.lemmas.Int.{ints, to_z-of_z, fits_signed_from_abs}
 use Rattle.cox_poly.specs.Polynomial.{coefficient}
 use Rattle.std.specs.List.{range_with_len}
-use Rattle.cox_answers.specs.Totals.{sum_of}
-use Rattle.cox_answers.proofs.PolynomialTotals.{sum_of-more}
+use Rattle.cox_replies.specs.Totals.{sum_of}
+use Rattle.cox_replies.proofs.PolynomialTotals.{sum_of-more}
 use Rattle.cox_answers.proofs.answers.generated.coefficient_sum.Goals as goal
 
 pub loop-k-preserved : goal.loop-k-preserved

@@ -2,7 +2,7 @@
 use Rattle.std.proofs.Common.{◌≡◌, ◌*◌, ◌^◌, ◌≤◌, map, unsigned_abs}
 use Rattle.std.specs.List.{range_with_len}
 use Rattle.cox_poly.specs.Polynomial.{coefficient}
-use Rattle.cox_answers.specs.Totals.{sum_of}
+use Rattle.cox_replies.specs.Totals.{sum_of}
 use Rattle.cox_answers.proofs.answers.generated.coefficient_sum.Given as goal
 
 abbrev pub invariant-loop-k : goal.invariant-loop-k

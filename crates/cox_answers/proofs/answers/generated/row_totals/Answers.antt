@@ -5,9 +5,9 @@ use Rattle.cox_hecke.proofs.AllRows.{row_of, row_of-is}
 use Rattle.cox_context.specs.Numbers.{word_at}
 use Rattle.cox_context.proofs.PlacedWords.{contains-at}
 use Rattle.cox_context.proofs.Shifting.{length-at}
-use Rattle.cox_answers.specs.Totals.{both_totals}
-use Rattle.cox_answers.proofs.RowTotals.{first_totals-more, first_totals-same, totals-is, kazhdan_lusztig-low}
-use Rattle.cox_answers.proofs.RowTotals.{below_it, below_it-true, below_it-false, interval-first}
+use Rattle.cox_replies.specs.Totals.{both_totals}
+use Rattle.cox_replies.proofs.RowTotals.{first_totals-more, first_totals-same, totals-is, kazhdan_lusztig-low}
+use Rattle.cox_replies.proofs.RowTotals.{below_it, below_it-true, below_it-false, interval-first}
 use Rattle.cox_answers.proofs.answers.generated.row_totals.Goals as goal
 use Rattle.cox_answers.proofs.answers.generated.row_totals.Goals.{in-Some, in_default}
 

@@ -6,7 +6,7 @@ use Rattle.cox_hecke.specs.Family.{Family}
 use Rattle.cox_hecke.specs.Row.{IsRow}
 use Rattle.cox_context.specs.Numbers.{word_at}
 use Rattle.cox_context.proofs.IntervalLists.{is_below}
-use Rattle.cox_answers.proofs.RowTotals.{first_totals}
+use Rattle.cox_replies.proofs.RowTotals.{first_totals}
 use Rattle.cox_answers.proofs.answers.generated.row_totals.Given as goal
 
 abbrev pub invariant-loop-x : goal.invariant-loop-x

@@ -10,10 +10,10 @@ use Rattle.cox_reflect.proofs.Elements.{same-refl}
 use Rattle.cox_reflect.proofs.Bruhat.{below-refl}
 use Rattle.cox_context.specs.Closed.{Elements}
 use Rattle.cox_context.specs.Numbers.{word_at}
-use Rattle.cox_answers.specs.SessionLimits.{limits_of}
-use Rattle.cox_answers.specs.KeptBetween.{IsReadOff}
-use Rattle.cox_answers.proofs.InverseRefusals.{ends-below, above-words, below-words, fault-inverse_beyond}
-use Rattle.cox_answers.proofs.InverseRefusals.{PutsUnless-inverse_fault, PutsUnless-inverse}
+use Rattle.cox_replies.specs.SessionLimits.{limits_of}
+use Rattle.cox_replies.specs.KeptBetween.{IsReadOff}
+use Rattle.cox_replies.proofs.InverseRefusals.{ends-below, above-words, below-words, fault-inverse_beyond}
+use Rattle.cox_replies.proofs.InverseRefusals.{PutsUnless-inverse_fault, PutsUnless-inverse}
 use Rattle.cox_answers.proofs.answers.inverse.put_inverse.Goals as goal
 use Rattle.cox_answers.proofs.answers.inverse.put_inverse.Goals.{After-inverse_limit-limit}
 

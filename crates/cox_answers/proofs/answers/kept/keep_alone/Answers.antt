@@ -3,9 +3,9 @@ use Rattle.std.proofs.Common.{arith}
 use Rattle.std.proofs.lemmas.Int.{ints}
 use Rattle.cox_base.specs.IntegerMatrix.{integer_matrix}
 use Rattle.cox_base.proofs.AdmissibleMatrices.{IsAdmissible-integer_matrix}
-use Rattle.cox_answers.specs.SessionLimits.{limits_of}
-use Rattle.cox_answers.proofs.Unless.{large-allowed}
-use Rattle.cox_answers.proofs.KeptRows.{interval-member}
+use Rattle.cox_replies.specs.SessionLimits.{limits_of}
+use Rattle.cox_replies.proofs.Unless.{large-allowed}
+use Rattle.cox_replies.proofs.KeptRows.{interval-member}
 use Rattle.cox_answers.proofs.answers.kept.keep_alone.Goals as goal
 
 pub unreachable-requires : goal.unreachable-requires

@@ -1,10 +1,10 @@
 -- The proof of `keep_interval`.
 use Rattle.std.proofs.Common.{◌∙◌, arith}
 use Rattle.cox_base.specs.IntegerMatrix.{integer_matrix}
-use Rattle.cox_answers.specs.SessionLimits.{limits_of}
-use Rattle.cox_answers.specs.Kept.{AreOf}
-use Rattle.cox_answers.proofs.Unless.{large-allowed}
-use Rattle.cox_answers.proofs.KeptRows.{union-small}
+use Rattle.cox_replies.specs.SessionLimits.{limits_of}
+use Rattle.cox_replies.specs.Kept.{AreOf}
+use Rattle.cox_replies.proofs.Unless.{large-allowed}
+use Rattle.cox_replies.proofs.KeptRows.{union-small}
 use Rattle.cox_answers.proofs.answers.kept.keep_interval.Goals as goal
 
 pub returns-in-Ok-clause-kept : goal.returns-in-Ok-clause-kept

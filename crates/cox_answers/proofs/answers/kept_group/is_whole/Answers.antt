@@ -2,7 +2,7 @@
 use Rattle.std.proofs.Common.{◌≡◌, arith, ⊎_elim}
 use Rattle.std.proofs.lemmas.Bool.{cases_eq}
 use Rattle.cox_base.specs.IntegerMatrix.{integer_matrix}
-use Rattle.cox_answers.proofs.WholeGroups.{whole-by_shifts}
+use Rattle.cox_replies.proofs.WholeGroups.{whole-by_shifts}
 use Rattle.cox_answers.proofs.answers.kept_group.is_whole.Goals as goal
 
 pub loop-i-preserved : goal.loop-i-preserved

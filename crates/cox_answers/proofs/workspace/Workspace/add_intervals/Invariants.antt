@@ -1,5 +1,5 @@
 -- The group and the options stay.
-use Rattle.cox_answers.specs.Kept.{IsSameWork}
+use Rattle.cox_replies.specs.Kept.{IsSameWork}
 use Rattle.cox_answers.proofs.workspace.Workspace.add_intervals.Given as goal
 
 abbrev pub invariant-each : goal.invariant-each

@@ -1,8 +1,8 @@
 -- The proof of `has_group`.
 use Rattle.std.proofs.Common.{◌≡◌, Some, IsTrue, sym, ap, ◌∙◌, rules}
-use Rattle.cox_answers.specs.SessionLimits.{limits_of}
-use Rattle.cox_answers.specs.Kept.{Work, AreOf}
-use Rattle.cox_answers.proofs.WholeGroups.{all-kept}
+use Rattle.cox_replies.specs.SessionLimits.{limits_of}
+use Rattle.cox_replies.specs.Kept.{Work, AreOf}
+use Rattle.cox_replies.proofs.WholeGroups.{all-kept}
 use Rattle.cox_answers.proofs.workspace.Workspace.has_group.Goals as goal
 
 pub returns-in-Some : goal.returns-in-Some

@@ -1,6 +1,6 @@
 -- The proof of `has_small`.
 use Rattle.std.proofs.Common.{◌≡◌, Some, sym, ap, ◌∙◌}
-use Rattle.cox_answers.specs.Kept.{Work}
+use Rattle.cox_replies.specs.Kept.{Work}
 use Rattle.cox_answers.proofs.workspace.Workspace.has_small.Goals as goal
 
 pub returns-then-is_none-clause-small : goal.returns-then-is_none-clause-small

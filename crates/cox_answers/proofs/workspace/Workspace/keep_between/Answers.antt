@@ -4,9 +4,9 @@ use Rattle.cox_base.specs.ShortLex.{normal_form}
 use Rattle.cox_base.proofs.AdmissibleMatrices.{IsAdmissible-integer_matrix}
 use Rattle.cox_context.specs.Closed.{IsClosed}
 use Rattle.cox_inverse.specs.Intervals.{IsInterval}
-use Rattle.cox_answers.specs.SessionLimits.{limits_of}
-use Rattle.cox_answers.proofs.KeptRows.{more-of}
-use Rattle.cox_answers.proofs.KeptBetween.{all-keeps, are-taken, below-contained, between-keeps, number-contains}
+use Rattle.cox_replies.specs.SessionLimits.{limits_of}
+use Rattle.cox_replies.proofs.KeptRows.{more-of}
+use Rattle.cox_replies.proofs.KeptBetween.{all-keeps, are-taken, below-contained, between-keeps, number-contains}
 use Rattle.cox_answers.proofs.workspace.Workspace.keep_between.Goals as goal
 
 pub returns-then-has_small-clause-rows : goal.returns-then-has_small-clause-rows

@@ -2,9 +2,9 @@
 use Rattle.std.proofs.Common.{◌≡◌, sym, ap, ◌∙◌}
 use Rattle.cox_base.specs.IntegerMatrix.{integer_matrix}
 use Rattle.cox_base.proofs.AdmissibleMatrices.{IsAdmissible-integer_matrix}
-use Rattle.cox_answers.specs.SessionLimits.{limits_of}
-use Rattle.cox_answers.specs.Kept.{Work}
-use Rattle.cox_answers.proofs.WholeGroups.{not-large, group-keeps}
+use Rattle.cox_replies.specs.SessionLimits.{limits_of}
+use Rattle.cox_replies.specs.Kept.{Work}
+use Rattle.cox_replies.proofs.WholeGroups.{not-large, group-keeps}
 use Rattle.cox_answers.proofs.workspace.Workspace.keep_group.Goals as goal
 
 pub returns-clause-rows : goal.returns-clause-rows

@@ -1,9 +1,9 @@
 -- The proof of `make_row`.
 use Rattle.std.proofs.Common.{◌≡◌, Some, sym, ap, ◌∙◌}
 use Rattle.cox_base.proofs.AdmissibleMatrices.{IsAdmissible-integer_matrix}
-use Rattle.cox_answers.specs.SessionLimits.{limits_of}
-use Rattle.cox_answers.specs.Kept.{Work}
-use Rattle.cox_answers.proofs.KeptRows.{still-keeps}
+use Rattle.cox_replies.specs.SessionLimits.{limits_of}
+use Rattle.cox_replies.specs.Kept.{Work}
+use Rattle.cox_replies.proofs.KeptRows.{still-keeps}
 use Rattle.cox_answers.proofs.workspace.Workspace.make_row.Goals as goal
 
 pub returns-clause-row : goal.returns-clause-row

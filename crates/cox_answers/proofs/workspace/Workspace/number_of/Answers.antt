@@ -1,8 +1,8 @@
 -- The proof of `number_of`.
 use Rattle.std.proofs.Common.{◌≡◌, ap}
-use Rattle.cox_answers.specs.SessionLimits.{limits_of}
-use Rattle.cox_answers.specs.Kept.{Work, AreOf}
-use Rattle.cox_answers.proofs.KeptBetween.{found-few}
+use Rattle.cox_replies.specs.SessionLimits.{limits_of}
+use Rattle.cox_replies.specs.Kept.{Work, AreOf}
+use Rattle.cox_replies.proofs.KeptBetween.{found-few}
 use Rattle.cox_answers.proofs.workspace.Workspace.number_of.Goals as goal
 
 pub returns-in-Some-clause-few : goal.returns-in-Some-clause-few

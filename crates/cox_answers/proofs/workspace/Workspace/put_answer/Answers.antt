@@ -1,7 +1,7 @@
 -- The proof of `Workspace::put_answer`.
 use Rattle.std.proofs.Common.{rules}
 use Rattle.std.proofs.lemmas.Result.{err_from_is_err_and}
-use Rattle.cox_answers.proofs.Unless.{PutsUnless-failed, PutsUnless-broken, PutsUnless-ended}
+use Rattle.cox_replies.proofs.Unless.{PutsUnless-failed, PutsUnless-broken, PutsUnless-ended}
 use Rattle.cox_answers.proofs.workspace.Workspace.put_answer.Goals as goal
 
 pub returns-in_err-put_text_of-clause-puts : goal.returns-in_err-put_text_of-clause-puts

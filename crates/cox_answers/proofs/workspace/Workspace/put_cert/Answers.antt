@@ -2,12 +2,12 @@
 use Rattle.std.proofs.Common.{◌≡◌}
 use Rattle.std.proofs.lemmas.Result.{err_from_is_err_and}
 use Rattle.cox_base.specs.IntegerMatrix.{integer_matrix}
-use Rattle.cox_answers.specs.SessionLimits.{limits_of}
-use Rattle.cox_answers.specs.CertReply.{RefusesListing, RefusesCert}
-use Rattle.cox_answers.specs.RowReply.{RefusesRow}
-use Rattle.cox_answers.specs.Kept.{AreOf, HoldsElement, HoldsRow}
-use Rattle.cox_answers.proofs.KeptRows.{large-free}
-use Rattle.cox_answers.proofs.CertRefusals.{cert-listing, cert-row, row-none, PutsUnless-unkept, PutsUnless-unfound, kept-some}
+use Rattle.cox_replies.specs.SessionLimits.{limits_of}
+use Rattle.cox_replies.specs.CertReply.{RefusesListing, RefusesCert}
+use Rattle.cox_replies.specs.RowReply.{RefusesRow}
+use Rattle.cox_replies.specs.Kept.{AreOf, HoldsElement, HoldsRow}
+use Rattle.cox_replies.proofs.KeptRows.{large-free}
+use Rattle.cox_replies.proofs.CertRefusals.{cert-listing, cert-row, row-none, PutsUnless-unkept, PutsUnless-unfound, kept-some}
 use Rattle.cox_answers.proofs.workspace.Workspace.put_cert.Goals as goal
 
 pub returns-in_err-below-clause-puts : goal.returns-in_err-below-clause-puts

@@ -3,9 +3,9 @@ use Rattle.std.proofs.Common.{◌≡◌, ap, rules, FitsSigned}
 use Rattle.std.specs.Int.{w128}
 use Rattle.std.proofs.lemmas.Int.{to_z-of_z}
 use Rattle.cox_base.specs.IntegerMatrix.{integer_matrix}
-use Rattle.cox_answers.specs.Totals.{Totals}
-use Rattle.cox_answers.proofs.Unless.{PutsUnless-put}
-use Rattle.cox_answers.proofs.WorkTotals.{work-line}
+use Rattle.cox_replies.specs.Totals.{Totals}
+use Rattle.cox_replies.proofs.Unless.{PutsUnless-put}
+use Rattle.cox_replies.proofs.WorkTotals.{work-line}
 use Rattle.cox_answers.proofs.workspace.Workspace.put_generated.Goals as goal
 
 pub returns-clause-puts : goal.returns-clause-puts

@@ -5,10 +5,10 @@ use Rattle.std.proofs.lemmas.Result.{err_from_is_err_and}
 use Rattle.cox_base.specs.IntegerMatrix.{integer_matrix}
 use Rattle.cox_base.specs.Bruhat.{IsBelow}
 use Rattle.cox_base.proofs.AdmissibleMatrices.{IsAdmissible-integer_matrix}
-use Rattle.cox_answers.specs.SessionLimits.{limits_of}
-use Rattle.cox_answers.proofs.Unless.{PutsUnless-put}
-use Rattle.cox_answers.proofs.InverseTexts.{invpol-zero}
-use Rattle.cox_answers.proofs.InverseRefusals.{inverse-none, PutsUnless-between}
+use Rattle.cox_replies.specs.SessionLimits.{limits_of}
+use Rattle.cox_replies.proofs.Unless.{PutsUnless-put}
+use Rattle.cox_replies.proofs.InverseTexts.{invpol-zero}
+use Rattle.cox_replies.proofs.InverseRefusals.{inverse-none, PutsUnless-between}
 use Rattle.cox_answers.proofs.workspace.Workspace.put_invpol.Goals as goal
 
 pub returns-then-not-below-clause-puts : goal.returns-then-not-below-clause-puts

@@ -3,8 +3,8 @@ use Rattle.std.proofs.Common.{◌≡◌, ℕ, refl}
 use Rattle.cox_base.specs.IntegerMatrix.{IntegerMatrix}
 use Rattle.cox_command.specs.declared.inquiry.NoWord.{NoWord}
 use Rattle.cox_command.specs.declared.inquiry.NoWord.TheVariants.{Lwgraph, Rwgraph, Lcells, Rcells, Lrcells}
-use Rattle.cox_answers.specs.Limits.{Limits}
-use Rattle.cox_answers.specs.GroupReply.{RefusesGroupRows, group_question}
+use Rattle.cox_replies.specs.Limits.{Limits}
+use Rattle.cox_replies.specs.GroupReply.{RefusesGroupRows, group_question}
 use Rattle.cox_answers.proofs.workspace.Workspace.put_kept.Goals as goal
 
 -- each command on the whole group is refused so

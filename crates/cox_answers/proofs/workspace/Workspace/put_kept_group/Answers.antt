@@ -1,7 +1,7 @@
 -- The proof of `put_kept_group`.
-use Rattle.cox_answers.specs.SessionLimits.{limits_of}
-use Rattle.cox_answers.specs.Kept.{AreOf}
-use Rattle.cox_answers.proofs.Unless.{PutsUnless-put}
+use Rattle.cox_replies.specs.SessionLimits.{limits_of}
+use Rattle.cox_replies.specs.Kept.{AreOf}
+use Rattle.cox_replies.proofs.Unless.{PutsUnless-put}
 use Rattle.cox_answers.proofs.workspace.Workspace.put_kept_group.Goals as goal
 
 pub returns-clause-puts : goal.returns-clause-puts

@@ -7,13 +7,13 @@ use Rattle.cox_base.specs.Bruhat.{IsBelow}
 use Rattle.cox_base.proofs.AdmissibleMatrices.{IsAdmissible-integer_matrix}
 use Rattle.cox_context.specs.Closed.{IsClosed}
 use Rattle.cox_context.specs.Numbering.{IsNumberOf}
-use Rattle.cox_answers.specs.SessionLimits.{limits_of}
-use Rattle.cox_answers.specs.Kept.{AreOf}
-use Rattle.cox_answers.specs.KeptBetween.{IsReadOff}
-use Rattle.cox_answers.proofs.Unless.{PutsUnless-put, large-allowed}
-use Rattle.cox_answers.proofs.InverseTexts.{invpol-zero}
-use Rattle.cox_answers.proofs.InverseRefusals.{inverse-none}
-use Rattle.cox_answers.proofs.KeptBetween.{read_off-keeps}
+use Rattle.cox_replies.specs.SessionLimits.{limits_of}
+use Rattle.cox_replies.specs.Kept.{AreOf}
+use Rattle.cox_replies.specs.KeptBetween.{IsReadOff}
+use Rattle.cox_replies.proofs.Unless.{PutsUnless-put, large-allowed}
+use Rattle.cox_replies.proofs.InverseTexts.{invpol-zero}
+use Rattle.cox_replies.proofs.InverseRefusals.{inverse-none}
+use Rattle.cox_replies.proofs.KeptBetween.{read_off-keeps}
 use Rattle.cox_answers.proofs.workspace.Workspace.put_kept_invpol.Goals as goal
 
 pub returns-then-not-below-clause-puts : goal.returns-then-not-below-clause-puts

@@ -4,9 +4,9 @@ use Rattle.std.proofs.lemmas.Result.{err_from_is_err_and}
 use Rattle.cox_base.specs.IntegerMatrix.{integer_matrix}
 use Rattle.cox_reflect.proofs.Admissible.{IsAdmissible-integer_matrix}
 use Rattle.cox_command.specs.Generated.{generated_word}
-use Rattle.cox_answers.specs.SessionLimits.{limits_of}
-use Rattle.cox_answers.specs.WorkReply.{generated_words}
-use Rattle.cox_answers.proofs.WorkTotals.{reaches-more, reaches-all, reaches-err}
+use Rattle.cox_replies.specs.SessionLimits.{limits_of}
+use Rattle.cox_replies.specs.WorkReply.{generated_words}
+use Rattle.cox_replies.proofs.WorkTotals.{reaches-more, reaches-all, reaches-err}
 use Rattle.cox_answers.proofs.workspace.Workspace.totals_of_words.Goals as goal
 
 pub returns-in_err-row-clause-totals : goal.returns-in_err-row-clause-totals

@@ -3,10 +3,10 @@ use Rattle.std.proofs.Common.{◌-◌, ◌*◌, ◌≤◌}
 use Rattle.cox_base.specs.IntegerMatrix.{integer_matrix}
 use Rattle.cox_command.specs.declared.limits.TheConstants.{MAX_START}
 use Rattle.cox_context.specs.declared.members.TheConstants.{MAX_MEMBERS}
-use Rattle.cox_answers.specs.SessionLimits.{limits_of}
-use Rattle.cox_answers.specs.Kept.{IsSameWork}
-use Rattle.cox_answers.specs.WorkReply.{generated_words}
-use Rattle.cox_answers.proofs.WorkTotals.{Reaches}
+use Rattle.cox_replies.specs.SessionLimits.{limits_of}
+use Rattle.cox_replies.specs.Kept.{IsSameWork}
+use Rattle.cox_replies.specs.WorkReply.{generated_words}
+use Rattle.cox_replies.proofs.WorkTotals.{Reaches}
 use Rattle.cox_answers.proofs.workspace.Workspace.totals_of_words.Given as goal
 
 abbrev pub invariant-loop : goal.invariant-loop

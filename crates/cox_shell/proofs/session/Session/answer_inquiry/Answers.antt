@@ -1,10 +1,10 @@
 -- The proof of `Session::answer_inquiry`.
 use Rattle.std.proofs.Common.{◌≡◌, Some, IfOk, OnErr, sym, ap, ◌∙◌, subst}
 use Rattle.cox_base.proofs.AdmissibleMatrices.{IsAdmissible-integer_matrix}
-use Rattle.cox_answers.specs.SessionLimits.{limits_of}
-use Rattle.cox_answers.specs.Question.{Question}
-use Rattle.cox_answers.specs.InquiryQuestion.{question_of}
-use Rattle.cox_answers.proofs.Questions.{question-answerable}
+use Rattle.cox_replies.specs.SessionLimits.{limits_of}
+use Rattle.cox_replies.specs.Question.{Question}
+use Rattle.cox_replies.specs.InquiryQuestion.{question_of}
+use Rattle.cox_replies.proofs.Questions.{question-answerable}
 use Rattle.cox_shell.specs.declared.session.Stage.{Stage}
 use Rattle.cox_shell.specs.declared.session.Stage.TheVariants.{Set}
 use Rattle.cox_shell.specs.Reply.{State, Reply}

@@ -5,11 +5,11 @@ use Rattle.cox_base.proofs.AdmissibleMatrices.{IsAdmissible-integer_matrix}
 use Rattle.cox_small.specs.RootCounts.{HasFewSmallRoots}
 use Rattle.cox_command.specs.declared.command.Command.TheVariants.{Group}
 use Rattle.cox_command.specs.declared.refusal.Refusal.TheVariants.{ManyRoots}
-use Rattle.cox_answers.specs.Limits.{Limits}
+use Rattle.cox_replies.specs.Limits.{Limits}
 use Rattle.cox_shell.specs.Reply.{refusal, silence, with_group}
 use Rattle.cox_shell.specs.CommandReply.{IsCommandReply}
 use Rattle.cox_shell.proofs.Sayings.{Says-silence, Says-reply, SaysPrefix-reply}
-use Rattle.cox_answers.proofs.Unless.{PutsPrefix-none}
+use Rattle.cox_replies.proofs.Unless.{PutsPrefix-none}
 use Rattle.cox_shell.proofs.Ends.{list_of}
 use Rattle.cox_shell.proofs.GroupReplies.{group-set, group-refused}
 use Rattle.cox_shell.proofs.SomeReply.{group-reply}

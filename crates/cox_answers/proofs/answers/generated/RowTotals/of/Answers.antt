@@ -2,7 +2,7 @@
 use Rattle.std.proofs.Common.{◌≡◌, [], sym, rules, FitsSigned}
 use Rattle.std.specs.Int.{w128}
 use Rattle.std.proofs.lemmas.Int.{to_z-of_z}
-use Rattle.cox_answers.proofs.PolynomialTotals.{polynomial_totals-degree, polynomial_totals-zero}
+use Rattle.cox_replies.proofs.PolynomialTotals.{polynomial_totals-degree, polynomial_totals-zero}
 use Rattle.cox_answers.proofs.answers.generated.RowTotals.of.Goals as goal
 
 pub returns-in-None-clause-totals : goal.returns-in-None-clause-totals

@@ -1,9 +1,0 @@
--- None of the coefficients so far is large.
-use Rattle.std.proofs.Common.{ℕ, ◌<◌}
-use Rattle.cox_poly.specs.Polynomial.{coefficient}
-use Rattle.cox_poly.specs.Limit.{IsWithin}
-use Rattle.cox_rowcheck.specs.declared.limits.TheConstants.{MAX_COEFFICIENT}
-use Rattle.cox_answers.proofs.answers.certificates.large_degree.Given as goal
-
-abbrev pub invariant-loop-d : goal.invariant-loop-d
-invariant-loop-d l = (k : ℕ) → k < l.d → IsWithin MAX_COEFFICIENT (coefficient l.p k)

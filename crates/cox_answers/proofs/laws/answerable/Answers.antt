@@ -1,6 +1,0 @@
--- A question can be answered.
-use Rattle.cox_answers.proofs.Questions.{question-answerable}
-use Rattle.cox_answers.proofs.laws.answerable.Goals as goal
-
-pub returns : goal.returns
-returns c = question-answerable

@@ -1,0 +1,317 @@
+-- Rows of the elements between two, among those that are kept: which elements are members, and what faults of their rows say.
+use Rattle.std.proofs.Common.{◌≡◌, ℕ, ◌+◌, ◌<◌, ◌≤◌, ⊎_elim, List, ◌∷◌, length, filter, Contains, Option, None, Some, Result, Ok, Err}
+use Rattle.std.proofs.Common.{refl, sym, ap, ◌∙◌, subst, arith, ℤ, pos, ◌≤ℤ◌}
+use Rattle.std.specs.Prelude.{IfSome, IsSomeAnd, OnOk, IfErr}
+use Rattle.std.proofs.lemmas.Int.{ints}
+use Rattle.std.proofs.lemmas.Bool.{cases_lt}
+use Rattle.cox_base.specs.IntegerMatrix.{IntegerMatrix, integer_matrix}
+use Rattle.cox_base.specs.Matrix.{CoxeterMatrix}
+use Rattle.cox_base.specs.Admissible.{IsAdmissible}
+use Rattle.cox_base.specs.Element.{SameElement}
+use Rattle.cox_base.specs.ShortLex.{normal_form}
+use Rattle.cox_base.specs.Bruhat.{IsBelow}
+use Rattle.cox_base.specs.Members.{IsInInterval}
+use Rattle.cox_base.specs.SortedList.{HasMoreThan}
+use Rattle.cox_reflect.proofs.Elements.{same-refl, same-sym}
+use Rattle.cox_reflect.proofs.Search.{normal_form-same}
+use Rattle.cox_reflect.proofs.Bruhat.{below-refl, below-same, below-trans, below-descent}
+use Rattle.cox_hecke.specs.ListedElements.{LiesBetween}
+use Rattle.cox_hecke.specs.Needs.{IsNeeded, itself, shorter, corrected}
+use Rattle.cox_hecke.proofs.Descended.{mu-below}
+use Rattle.cox_context.specs.Closed.{IsClosed}
+use Rattle.cox_context.specs.Numbers.{word_at}
+use Rattle.cox_context.specs.Numbering.{IsNumberOf}
+use Rattle.cox_context.proofs.PlacedWords.{contains-placed, contains-at, placed-contains}
+use Rattle.cox_context.proofs.Shifting.{member-below}
+use Rattle.cox_context.proofs.IntervalLists.{is_below}
+use Rattle.cox_context.proofs.ShortLexLists.{HasMoreThan-few}
+use Rattle.cox_row.specs.Rising.{number_at}
+use Rattle.cox_klstep.specs.declared.fault.StepFault.{StepFault}
+use Rattle.cox_klstep.specs.declared.fault.StepFault.TheVariants.{Coefficient, Mu, NoMemory}
+use Rattle.cox_rows.specs.Beyond.{IsBeyond, NeedsBeyond}
+use Rattle.cox_rows.specs.Holding.{Holding, HasRow}
+use Rattle.cox_rows.specs.Ensured.{IsEnsured}
+use Rattle.cox_rows.specs.RowsFaults.{IsRowsFault}
+use Rattle.cox_rows.proofs.BeyondDecided.{beyond-same}
+use Rattle.cox_rows.proofs.NeedDecided.{needs_beyond-same}
+use Rattle.cox_rows.proofs.FaultsOfRows.{fault-beyond}
+use Rattle.cox_inverse.specs.declared.interval.Interval.{Interval}
+use Rattle.cox_inverse.specs.Intervals.{IsInterval}
+use Rattle.cox_inverse.specs.declared.finite.WholeGroup.{WholeGroup}
+use Rattle.cox_inverse.specs.WholeGroups.{IsReadable}
+use Rattle.cox_options.specs.declared.options.Options.{Options}
+use Rattle.cox_replies.specs.Kept.{Work, IsSameWork, AreOf, AreKept, HoldsElement, IsMore, Keeps, unanswered_by, unless_fault}
+use Rattle.cox_replies.specs.KeptBetween.{IsSomeBeyond, RefusesBetween, HoldsBetween, IsFaultOfOne, IsReadOff}
+use Rattle.cox_replies.specs.InverseReply.{inverse_limit}
+use Rattle.cox_replies.specs.Limits.{Limits}
+use Rattle.cox_replies.specs.Listed.{RefusesLarge}
+use Rattle.cox_replies.specs.Question.{IsRefused}
+use Rattle.cox_replies.specs.SessionLimits.{limits_of}
+use Rattle.cox_replies.proofs.KeptRows.{filter-shorter, large-free}
+use Rattle.cox_replies.proofs.RowMembers.{interval-list}
+use Rattle.cox_replies.proofs.LargeOr.{large_or-allowed, large_or-refused}
+
+module _ (A : IntegerMatrix) (g : IsAdmissible A) where
+  -- what the row of w needs is below w
+  needed-below : (w z : List ℕ) → IsNeeded A w z → IsBelow A z w
+  needed-below w z (itself e) = below-refl A g e
+  needed-below w v (shorter {z = z} {s = s} n d e) =
+      below-trans A g (below-same A g (same-sym A g e) (same-refl A g z) (below-descent A g z s d.descent)) (needed-below w z n)
+  needed-below w v (corrected {z = z} {s = s} {m = m} n d c) =
+      below-trans A g (mu-below A g v (s ∷ z) m c.is_mu c.some) (below-trans A g (below-descent A g z s d.descent) (needed-below w z n))
+
+  module _ (members : List (List ℕ)) (closed : IsClosed A members) (w : List ℕ) (top : Contains members (normal_form A w)) where
+    -- what is below a member is one
+    pub below-contained : (y : List ℕ) → IsBelow A y w → Contains members (normal_form A y)
+    below-contained y below =
+        let p = contains-placed members (normal_form A w) top in
+        member-below A g members closed y p.i p.within
+        (rw p.is (below-same A g (same-refl A g y) (same-sym A g (normal_form-same A g w)) below))
+
+    -- where no member is beyond the limits, no row below a member needs one that is
+    pub none-needed : (limit : ℤ) → pos 0 ≤ℤ limit → ((i : ℕ) → i < length members → IsBeyond A limit (word_at members i) → ⊥)
+        → (z : List ℕ) → IsBelow A z w → NeedsBeyond A limit z → ⊥
+    none-needed limit least none z below h =
+        let u = h.element in
+        let p = contains-placed members (normal_form A u) (below-contained u (below-trans A g (needed-below z u h.needed) below)) in
+        none p.i p.within (rw p.is (beyond-same A g limit least u (normal_form A u) (same-sym A g (normal_form-same A g u)) h.beyond))
+
+-- what has a number is a member
+pub number-contains : (members : List (List ℕ)) (word : List ℕ) (i : ℕ) → IsNumberOf members word (Some i) → Contains members word
+number-contains members word i number = placed-contains members word (record { i = i; within = number.0; is = number.1 })
+
+-- where the rows of all members are there, and none is beyond the limits
+module _ (limits : Limits) (G : CoxeterMatrix) (g : IsAdmissible (integer_matrix G)) (y w : List ℕ) (rows : Holding)
+    (of : AreOf G limits rows) (closed : IsClosed (integer_matrix G) rows.elements.members)
+    (top : Contains rows.elements.members (normal_form (integer_matrix G) w)) where
+  abbrev whole_members : List (List ℕ)
+  whole_members = rows.elements.members
+
+  -- the interval of a member is no larger than what is kept
+  pub member-few : HasMoreThan limits.context (IsInInterval (integer_matrix G) w) → ⊥
+  member-few =
+      let A = integer_matrix G in
+      let p = contains-placed whole_members (normal_form A w) top in
+      HasMoreThan-few (IsInInterval A w) limits.context (filter (λ x. is_below A x (word_at whole_members p.i)) whole_members)
+      (interval-list A g whole_members closed p.i p.within w p.is)
+      (omega (arith, of.few, filter-shorter (λ x. is_below A x (word_at whole_members p.i)) whole_members))
+
+  pub all-holds : ((i : ℕ) → i < length rows.elements.members → HasRow rows i) → IsBelow (integer_matrix G) y w
+      → HoldsBetween (integer_matrix G) y w rows
+  all-holds there below = record {
+    bottom = below-contained (integer_matrix G) g whole_members closed w top y below;
+    top = top;
+    held = λ z within between. there z within;
+  }
+
+  pub all-allowed : ((i : ℕ) → i < length rows.elements.members
+      → IsBeyond (integer_matrix rows.elements.matrix) rows.limit (word_at rows.elements.members i) → ⊥)
+      → IsRefused (RefusesBetween limits (integer_matrix G) y w) None
+  all-allowed small = large_or-allowed limits (integer_matrix G) w (IsSomeBeyond (integer_matrix G) limits.coefficient y w) member-few
+      (λ some. none-needed (integer_matrix G) g whole_members closed w top (pos limits.coefficient) (omega (arith, ints))
+      (rw (of.group, of.limit) at small) some.0 some.1.below some.2)
+
+-- where inverse polynomials are read off the rows, the rows between a member and what is below it are held, and not refused
+pub read_off-keeps : (limits : Limits) (G : CoxeterMatrix) → IsAdmissible (integer_matrix G) → (y w : List ℕ) (i : ℕ) (rows : Holding)
+    (whole : WholeGroup) → AreOf G limits rows → IsReadOff limits rows whole → IsClosed (integer_matrix G) rows.elements.members
+    → IsNumberOf rows.elements.members (normal_form (integer_matrix G) w) (Some i) → IsBelow (integer_matrix G) y w
+    → IsRefused (RefusesBetween limits (integer_matrix G) y w) None × HoldsBetween (integer_matrix G) y w rows
+read_off-keeps limits G g y w i rows whole of read closed number below =
+    let top = number-contains rows.elements.members (normal_form (integer_matrix G) w) i number in
+    (all-allowed limits G g y w rows of closed top read.small, all-holds limits G g y w rows of closed top read.readable.there below)
+
+-- so that is held which was asked for
+pub all-keeps : (limits : Limits) (G : CoxeterMatrix) → IsAdmissible (integer_matrix G) → (y w : List ℕ) (kept : Option Holding)
+    → AreKept G limits kept → IsSomeAnd kept (λ rows. Contains rows.elements.members (normal_form (integer_matrix G) w))
+    → IfSome kept (λ rows. IsClosed (integer_matrix rows.elements.matrix) rows.elements.members)
+    → IfSome kept (λ rows. (i : ℕ) → i < length rows.elements.members → HasRow rows i)
+    → IfSome kept (λ rows. (i : ℕ) → i < length rows.elements.members
+    → IsBeyond (integer_matrix rows.elements.matrix) rows.limit (word_at rows.elements.members i) → ⊥)
+    → IsBelow (integer_matrix G) y w
+    → Keeps {X = Unit {0}} (Ok tt) (RefusesBetween limits (integer_matrix G) y w) (λ _ rows. HoldsBetween (integer_matrix G) y w rows) kept
+all-keeps limits G g y w None of top closed there small below = absurd top
+all-keeps limits G g y w (Some rows) of top closed there small below =
+    let inside : IsClosed (integer_matrix G) rows.elements.members = rw of.group at closed in
+    (all-allowed limits G g y w rows of inside top small, all-holds limits G g y w rows of inside top there below)
+
+-- a whole group that is found is one that inverse polynomials are read off
+pub read_off-found : (limits : Limits) (rows : Holding) (found : Option WholeGroup) → ((i : ℕ) → i < length rows.elements.members
+    → IsBeyond (integer_matrix rows.elements.matrix) rows.limit (word_at rows.elements.members i) → ⊥)
+    → IfSome found (IsReadable rows.elements (HasRow rows) (inverse_limit limits.coefficient)) → IfSome found (IsReadOff limits rows)
+read_off-found limits rows None small none = tt
+read_off-found limits rows (Some whole) small readable = record { readable = readable; small = small }
+
+-- the interval of an element that is found among the members
+pub found-few : (limits : Limits) (G : CoxeterMatrix) → IsAdmissible (integer_matrix G) → (w : List ℕ) (rows : Holding)
+    → AreOf G limits rows → IsClosed (integer_matrix G) rows.elements.members → (found : Option ℕ)
+    → IsNumberOf rows.elements.members (normal_form (integer_matrix G) w) found
+    → IfSome found (λ i. HasMoreThan limits.context (IsInInterval (integer_matrix G) w) → ⊥)
+found-few limits G g w rows of closed None none = tt
+found-few limits G g w rows of closed (Some i) number = member-few limits G g w w rows of closed
+    (number-contains rows.elements.members (normal_form (integer_matrix G) w) i number)
+
+-- rows that were taken out of a workspace with this group and these options: w has the number i among their members
+pub record AreTaken (G : CoxeterMatrix) (set : Options) (w : List ℕ) (i : ℕ) (rest : Work) (rows : Holding) : Type 0 where
+  pub table : rest.table ≡ G
+  pub options : rest.options ≡ set
+  pub of : AreOf G (limits_of set) rows
+  pub number : IsNumberOf rows.elements.members (normal_form (integer_matrix G) w) (Some i)
+  pub few : HasMoreThan (limits_of set).context (IsInInterval (integer_matrix G) w) → ⊥
+
+-- they are such, after the interval from the identity to w was added to what is kept
+pub are-taken : (old rest new : Work) (w : List ℕ) (i : ℕ) (rows : Holding) (taken : Option Holding) → rest ≡ new → IsSameWork old new
+    → AreKept old.table (limits_of old.options) new.rows
+    → Keeps {X = ℕ} (Ok i) (RefusesLarge (limits_of old.options) (integer_matrix old.table) w) (HoldsElement (integer_matrix old.table) w)
+    new.rows → taken ≡ rest.rows → taken ≡ Some rows → AreTaken old.table old.options w i rest rows
+are-taken old rest new w i rows taken is same kept interval value some =
+    let here : new.rows ≡ Some rows = sym (ap (λ (work : Work). work.rows) is) ∙ sym value ∙ some in
+    record {
+      table = ap (λ (work : Work). work.table) is ∙ same.table;
+      options = ap (λ (work : Work). work.options) is ∙ same.options;
+      of = rw here at kept;
+      number = rw here at interval.1;
+      few = large-free (limits_of old.options) (integer_matrix old.table) w interval.0;
+    }
+
+-- the members between y and w, while their rows are made
+module _ (limits : Limits) (G : CoxeterMatrix) (g : IsAdmissible (integer_matrix G)) (y w : List ℕ) (old new : Holding)
+    (of : AreOf G limits old) (closed : IsClosed (integer_matrix G) old.elements.members) (below : IsBelow (integer_matrix G) y w)
+    (interval : Interval) (is : IsInterval old.elements interval)
+    (bottom : word_at old.elements.members interval.bottom ≡ normal_form (integer_matrix G) y)
+    (top : word_at old.elements.members interval.top ≡ normal_form (integer_matrix G) w) where
+  abbrev A : IntegerMatrix
+  A = integer_matrix G
+
+  abbrev members : List (List ℕ)
+  members = old.elements.members
+
+  bottom-same : SameElement A (word_at members interval.bottom) y
+  bottom-same = rw bottom (normal_form-same A g y)
+
+  top-same : SameElement A (word_at members interval.top) w
+  top-same = rw top (normal_form-same A g w)
+
+  -- each of them has a place among the numbers
+  between-place : (z : ℕ) → z < length members → LiesBetween A y w (word_at members z)
+      → (k : ℕ) × (k < length interval.members.items) × (number_at interval.members.items k ≡ z)
+  between-place z within between = is.between.whole z within
+      (rw of.group (below-same A g (same-sym A g bottom-same) (same-refl A g (word_at members z)) between.above))
+      (rw of.group (below-same A g (same-refl A g (word_at members z)) (same-sym A g top-same) between.below))
+
+  -- a number names an element between y and w
+  number-between : (k : ℕ) → k < length interval.members.items → LiesBetween A y w (word_at members (number_at interval.members.items k))
+  number-between k l = record {
+    above = below-same A g bottom-same (same-refl A g (word_at members (number_at interval.members.items k)))
+        (rw of.group at (is.between.above k l));
+    below = below-same A g (same-refl A g (word_at members (number_at interval.members.items k))) top-same
+        (rw of.group at (is.between.below k l));
+  }
+
+  contained : Contains members (normal_form A w)
+  contained = subst (Contains members) top (contains-at members interval.top is.top_member)
+
+  pub between-holds : IsMore old new → ((k : ℕ) → k < length interval.members.items → HasRow new (number_at interval.members.items k))
+      → HoldsBetween (integer_matrix G) y w new
+  between-holds more there = record {
+    bottom = rw more.same.elements (below-contained A g members closed w contained y below);
+    top = rw more.same.elements contained;
+    held = λ z within between.
+        let found = between-place z (rw more.same.elements at within) (rw more.same.elements at between) in
+        rw found.2 at (there found.0 found.1);
+  }
+
+  pub between-small : ((k : ℕ) → k < length interval.members.items
+      → NeedsBeyond (integer_matrix old.elements.matrix) old.limit (word_at old.elements.members (number_at interval.members.items k)) → ⊥)
+      → IsSomeBeyond (integer_matrix G) limits.coefficient y w → ⊥
+  between-small small (z, between, beyond) =
+      let p = contains-placed members (normal_form A z) (below-contained A g members closed w contained z between.below) in
+      let same : SameElement A z (word_at members p.i) = rw p.is (same-sym A g (normal_form-same A g z)) in
+      let found = between-place p.i p.within (record {
+        above = below-same A g (same-refl A g y) same between.above;
+        below = below-same A g same (same-refl A g w) between.below;
+      }) in
+      let free = rw (of.group, of.limit) at small in
+      (rw found.2 at (free found.0 found.1))
+      (needs_beyond-same A g (pos limits.coefficient) (omega (arith, ints)) z (word_at members p.i) same beyond)
+
+  -- a fault of one of their rows is a cause of the refusal, unless memory ran out
+  fault-some : (fault : StepFault) → (fault ≡ NoMemory → ⊥) → IsFaultOfOne old.elements old.limit interval.members.items fault
+      → IsSomeBeyond (integer_matrix G) limits.coefficient y w
+  fault-some fault other (k, l, is_fault) =
+      let z = word_at members (number_at interval.members.items k) in
+      let found = fault-beyond old.elements old.limit (IsNeeded (integer_matrix old.elements.matrix) z) fault other is_fault in
+      let needs : NeedsBeyond (integer_matrix old.elements.matrix) old.limit z =
+      record { element = word_at members found.0; needed = found.1.one; beyond = found.2 } in
+      (z, number-between k l, rw (of.group, of.limit) at needs)
+
+  pub between-refused : (few : HasMoreThan limits.context (IsInInterval (integer_matrix G) w) → ⊥) (kept : Option Holding)
+      (fault : StepFault)
+      → IsFaultOfOne old.elements old.limit interval.members.items fault
+      → Keeps {X = Unit {0}} (Err (unanswered_by fault)) (RefusesBetween limits (integer_matrix G) y w)
+      (λ _ rows. HoldsBetween (integer_matrix G) y w rows) kept
+  between-refused few kept (Coefficient x z degree value) is_fault =
+      large_or-refused limits A w (IsSomeBeyond A limits.coefficient y w) few
+      (fault-some (Coefficient x z degree value) (λ e. absurd (cc e)) is_fault)
+  between-refused few kept (Mu x z value) is_fault =
+      large_or-refused limits A w (IsSomeBeyond A limits.coefficient y w) few
+      (fault-some (Mu x z value) (λ e. absurd (cc e)) is_fault)
+  between-refused few kept NoMemory is_fault = tt
+
+  -- the rows are held then, or there was such a fault
+  pub between-keeps : (HasMoreThan limits.context (IsInInterval (integer_matrix G) w) → ⊥) → (made : Result Unit StepFault) → IsMore old new
+      → OnOk made ((k : ℕ) → k < length interval.members.items → HasRow new (number_at interval.members.items k))
+      → OnOk made ((k : ℕ) → k < length interval.members.items
+      → NeedsBeyond (integer_matrix old.elements.matrix) old.limit (word_at old.elements.members (number_at interval.members.items k)) → ⊥)
+      → IfErr made (IsFaultOfOne old.elements old.limit interval.members.items)
+      → Keeps {X = Unit {0}} (unless_fault made tt) (RefusesBetween limits (integer_matrix G) y w)
+      (λ _ rows. HoldsBetween (integer_matrix G) y w rows) (Some new)
+  between-keeps few (Ok done) more there small fault =
+      (large_or-allowed limits A w (IsSomeBeyond A limits.coefficient y w) few (between-small small), between-holds more there)
+  between-keeps few (Err why) more there small fault = between-refused few (Some new) why fault
+
+-- ---- the rows of listed members, one after the other
+
+-- the rows of the first n of these members are there, and need nothing beyond the limits
+pub record AreEnsured (old new : Holding) (numbers : List ℕ) (n : ℕ) : Type 0 where
+  pub same : IsMore old new
+  pub there : (k : ℕ) → k < n → HasRow new (number_at numbers k)
+  pub small : (k : ℕ) → k < n
+      → NeedsBeyond (integer_matrix old.elements.matrix) old.limit (word_at old.elements.members (number_at numbers k)) → ⊥
+
+pub ensured-none : (old : Holding) (numbers : List ℕ) → AreEnsured old old numbers 0
+ensured-none old numbers = record {
+  same = record { same = record { elements = refl; limit = refl }; there = λ i held. held };
+  there = λ k l. absurd (omega (arith, l));
+  small = λ k l. absurd (omega (arith, l));
+}
+
+-- while the row of one more is made
+module _ (old mid new : Holding) (numbers : List ℕ) (n z : ℕ) (so_far : AreEnsured old mid numbers n)
+    (ensured : IsEnsured (word_at mid.elements.members z) mid new) where
+  pub ensured-more : IsMore old new
+  ensured-more = record {
+    same = record {
+      elements = ensured.elements ∙ so_far.same.same.elements;
+      limit = ensured.limit ∙ so_far.same.same.limit;
+    };
+    there = λ i held. ensured.kept i (so_far.same.there i held);
+  }
+
+  pub ensured-next : z ≡ number_at numbers n → HasRow new z
+      → (NeedsBeyond (integer_matrix mid.elements.matrix) mid.limit (word_at mid.elements.members z) → ⊥)
+      → AreEnsured old new numbers (n + 1)
+  ensured-next is there small = record {
+    same = ensured-more;
+    there = λ k l. ⊎_elim (λ (less : k < n). ensured.kept (number_at numbers k) (so_far.there k less))
+        (λ (more : n ≤ k). let e : k ≡ n = omega (arith, l, more) in rw (e, ← is) there)
+        (cases_lt k n);
+    small = λ k l. ⊎_elim (λ (less : k < n). so_far.small k less)
+        (λ (more : n ≤ k). let e : k ≡ n = omega (arith, l, more) in
+        rw (e, ← is, ← so_far.same.same.elements, ← so_far.same.same.limit) small)
+        (cases_lt k n);
+  }
+
+  pub ensured-fault : (fault : StepFault) → n < length numbers → z ≡ number_at numbers n
+      → IsRowsFault mid.elements mid.limit (IsNeeded (integer_matrix mid.elements.matrix) (word_at mid.elements.members z)) fault
+      → IsFaultOfOne old.elements old.limit numbers fault
+  ensured-fault fault within is found = (n, within, rw (← is, ← so_far.same.same.elements, ← so_far.same.same.limit) found)

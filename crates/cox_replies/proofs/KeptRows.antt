@@ -1,0 +1,158 @@
+-- What a session keeps: intervals that are part of a context, and faults of rows as causes of a refusal.
+use Rattle.std.proofs.Common.{◌≡◌, ℕ, ◌≤◌, Bool, List, length, filter, Contains, None, Some, inl, inr, refl, ap, ◌∙◌, Err}
+use Rattle.std.proofs.Common.{arith, pos, ◌≤ℤ◌, Result, Ok, OnOk, IfErr}
+use Rattle.std.proofs.lemmas.Int.{ints}
+use Rattle.std.proofs.lemmas.List.Sums.{length-filter, count_by-le-length}
+use Rattle.cox_base.specs.IntegerMatrix.{IntegerMatrix, integer_matrix}
+use Rattle.cox_base.specs.Admissible.{IsAdmissible}
+use Rattle.cox_base.specs.ShortLex.{normal_form}
+use Rattle.cox_reflect.proofs.Search.{normal_form-same}
+use Rattle.cox_reflect.proofs.Bruhat.{below-refl}
+use Rattle.cox_base.specs.Members.{IsInInterval}
+use Rattle.cox_context.specs.Union.{IsInUnion}
+use Rattle.cox_base.specs.SortedList.{IsListOf, HasMoreThan}
+use Rattle.cox_context.specs.Closed.{Elements}
+use Rattle.cox_context.specs.Numbers.{word_at}
+use Rattle.cox_context.proofs.ShortLexLists.{IsListOf-filter, HasMoreThan-few}
+use Rattle.cox_context.proofs.IntervalLists.{is_below, is_below-tells}
+use Rattle.cox_rows.specs.Beyond.{NeedsBeyond}
+use Rattle.cox_rows.specs.RowsFaults.{IsRowsFault}
+use Rattle.cox_klstep.specs.declared.fault.StepFault.{StepFault}
+use Rattle.cox_klstep.specs.declared.fault.StepFault.TheVariants.{Coefficient, Mu, NoMemory}
+use Rattle.cox_base.specs.Matrix.{CoxeterMatrix}
+use Rattle.cox_base.specs.Element.{SameElement}
+use Rattle.cox_reflect.proofs.Elements.{same-sym}
+use Rattle.cox_reflect.proofs.NormalElements.{element-normal_form}
+use Rattle.cox_hecke.specs.Needs.{IsNeeded}
+use Rattle.cox_context.specs.Numbering.{IsNumberOf}
+use Rattle.cox_rows.specs.Holding.{Holding, HasRow}
+use Rattle.cox_rows.specs.Ensured.{IsEnsured}
+use Rattle.cox_rows.proofs.NeedDecided.{needs_beyond-same}
+use Rattle.cox_rows.proofs.FaultsOfRows.{fault-beyond}
+use Rattle.cox_replies.specs.Kept.{AreOf, IsMore, HoldsRow, Keeps, unanswered_by, unless_fault}
+use Rattle.cox_replies.specs.Limits.{Limits}
+use Rattle.cox_replies.specs.Question.{IsRefused}
+use Rattle.cox_replies.specs.Listed.{RefusesLarge}
+use Rattle.cox_replies.specs.RowReply.{RefusesRow}
+use Rattle.cox_replies.proofs.LargeOr.{large_or-allowed, large_or-refused}
+
+-- a filtered list is no longer
+pub filter-shorter : (test : List ℕ → Bool) (xs : List (List ℕ)) → length (filter test xs) ≤ length xs
+filter-shorter test xs = rw (length-filter test xs) (count_by-le-length test xs)
+
+module _ (A : IntegerMatrix) (g : IsAdmissible A) (w : List ℕ) where
+  -- w is in its own interval
+  in_interval : IsInInterval A w (normal_form A w)
+  in_interval = record { element = element-normal_form A g w; below = below-refl A g (normal_form-same A g w) }
+
+  pub interval-member : (members : List (List ℕ)) → IsListOf (IsInInterval A w) members → Contains members (normal_form A w)
+  interval-member members are = are.whole (normal_form A w) in_interval
+
+  -- the interval is no larger than a union with it
+  pub union-small : (limit : ℕ) (old new : List (List ℕ)) → IsListOf (IsInUnion A w old) new → length new ≤ limit
+      → HasMoreThan limit (IsInInterval A w) → ⊥
+  union-small limit old new are few = HasMoreThan-few (IsInInterval A w) limit (filter (λ x. is_below A x w) new)
+      (IsListOf-filter (IsInUnion A w old) (IsInInterval A w) (λ x. is_below A x w) new are
+      (λ x p. let tells = is_below-tells A g x w in
+      (λ e. record { element = p.element; below = tells.0 e }, λ q. tells.1 q.below))
+      (λ x q. record { element = q.element; either = inl q.below }))
+      (omega (arith, few, filter-shorter (λ x. is_below A x w) new))
+
+-- causes of refusals
+module _ (limits : Limits) (A : IntegerMatrix) (w : List ℕ) where
+  pub large-free : IsRefused (RefusesLarge limits A w) None → HasMoreThan limits.context (IsInInterval A w) → ⊥
+  large-free (inl (none, e)) = absurd none
+  large-free (inr (_, inl (many, e))) = absurd (cc e)
+  large-free (inr (_, inr (few, rest))) = few
+
+-- more rows of a group are rows of the group
+pub more-of : (G : CoxeterMatrix) (limits : Limits) (old new : Holding) → AreOf G limits old → IsMore old new → AreOf G limits new
+more-of G limits old new of more = record {
+  group = ap (λ (e : Elements). e.matrix) more.same.elements ∙ of.group;
+  limit = more.same.limit ∙ of.limit;
+  few = rw more.same.elements of.few;
+}
+
+-- the rows `old` that are kept, with which that of w has the number i, then maybe more of them, and those after that row is ensured
+module _ (limits : Limits) (G : CoxeterMatrix) (g : IsAdmissible (integer_matrix G)) (w : List ℕ) (i : ℕ) (old mid new : Holding)
+    (was : AreOf G limits old) (kept : IsNumberOf old.elements.members (normal_form (integer_matrix G) w) (Some i)) (more : IsMore old mid)
+    (ensured : IsEnsured (word_at mid.elements.members i) mid new) where
+  abbrev A : IntegerMatrix
+  A = integer_matrix G
+
+  -- a row that the row of w needs is too large
+  abbrev Beyond : Type 0
+  Beyond = NeedsBeyond A (pos limits.coefficient) w
+
+  least : pos 0 ≤ℤ pos limits.coefficient
+  least = omega (arith, ints)
+
+  of : AreOf G limits mid
+  of = more-of G limits old mid was more
+
+  number : IsNumberOf mid.elements.members (normal_form (integer_matrix G) w) (Some i)
+  number = rw more.same.elements kept
+
+  -- they stay those of the group
+  pub still-of : AreOf G limits new
+  still-of = record {
+    group = ap (λ (e : Elements). e.matrix) ensured.elements ∙ of.group;
+    limit = ensured.limit ∙ of.limit;
+    few = rw ensured.elements of.few;
+  }
+
+  holds-row : HasRow new i → HoldsRow (integer_matrix G) w i new
+  holds-row there = record { within = rw ensured.elements number.0; word = rw ensured.elements number.1; held = there }
+
+  same : SameElement A (word_at mid.elements.members i) w
+  same = rw number.1 (normal_form-same A g w)
+
+  still-small : (NeedsBeyond (integer_matrix mid.elements.matrix) mid.limit (word_at mid.elements.members i) → ⊥)
+      → NeedsBeyond (integer_matrix G) (pos limits.coefficient) w → ⊥
+  still-small small beyond = small (rw (of.group, of.limit) (needs_beyond-same A g (pos limits.coefficient) least w
+      (word_at mid.elements.members i) (same-sym A g same) beyond))
+
+  beyond : (fault : StepFault) → IsRowsFault mid.elements mid.limit
+      (IsNeeded (integer_matrix mid.elements.matrix) (word_at mid.elements.members i)) fault → (fault ≡ NoMemory → ⊥)
+      → NeedsBeyond A (pos limits.coefficient) w
+  beyond fault is other =
+      let found = fault-beyond mid.elements mid.limit
+      (IsNeeded (integer_matrix mid.elements.matrix) (word_at mid.elements.members i)) fault other is in
+      let needs : NeedsBeyond (integer_matrix mid.elements.matrix) mid.limit (word_at mid.elements.members i) =
+      record { element = word_at mid.elements.members found.0; needed = found.1.one; beyond = found.2 } in
+      needs_beyond-same A g (pos limits.coefficient) least (word_at mid.elements.members i) w same (rw (of.group, of.limit) at needs)
+
+  -- a fault is a cause of the refusal, unless memory ran out
+  still-refused : (few : HasMoreThan limits.context (IsInInterval A w) → ⊥) (fault : StepFault)
+      → IsRowsFault mid.elements mid.limit (IsNeeded (integer_matrix mid.elements.matrix) (word_at mid.elements.members i)) fault
+      → Keeps {X = ℕ} (Err (unanswered_by fault)) (RefusesRow limits A w) (HoldsRow A w) (Some new)
+  still-refused few (Coefficient x z degree value) is =
+      large_or-refused limits A w Beyond few (beyond (Coefficient x z degree value) is (λ e. absurd (cc e)))
+  still-refused few (Mu x z value) is = large_or-refused limits A w Beyond few (beyond (Mu x z value) is (λ e. absurd (cc e)))
+  still-refused few NoMemory is = tt
+
+  -- the row is held then, or there was such a fault
+  pub still-keeps : (HasMoreThan limits.context (IsInInterval A w) → ⊥) → (made : Result Unit StepFault) → OnOk made (HasRow new i)
+      → OnOk made (NeedsBeyond (integer_matrix mid.elements.matrix) mid.limit (word_at mid.elements.members i) → ⊥)
+      → IfErr made (IsRowsFault mid.elements mid.limit
+      (IsNeeded (integer_matrix mid.elements.matrix) (word_at mid.elements.members i)))
+      → Keeps (unless_fault made i) (RefusesRow limits A w) (HoldsRow A w) (Some new)
+  still-keeps few (Ok done) there small fault = (large_or-allowed limits A w Beyond few (still-small small), holds-row there)
+  still-keeps few (Err why) there small fault = still-refused few why fault
+
+-- a row that is held, and whose Need is settled, is not refused
+pub settled-keeps : (limits : Limits) (G : CoxeterMatrix) → IsAdmissible (integer_matrix G) → (w : List ℕ) (i : ℕ) (rows : Holding)
+    → AreOf G limits rows → IsNumberOf rows.elements.members (normal_form (integer_matrix G) w) (Some i)
+    → (HasMoreThan limits.context (IsInInterval (integer_matrix G) w) → ⊥) → HasRow rows i
+    → (NeedsBeyond (integer_matrix rows.elements.matrix) rows.limit (word_at rows.elements.members i) → ⊥)
+    → IsRefused (RefusesRow limits (integer_matrix G) w) None × HoldsRow (integer_matrix G) w i rows
+settled-keeps limits G g w i rows of number few there small =
+    let more : IsMore rows rows = record { same = record { elements = refl; limit = refl }; there = λ j held. held } in
+    let ensured : IsEnsured (word_at rows.elements.members i) rows rows = record {
+      elements = refl;
+      limit = refl;
+      kept = λ j held. held;
+      needed = λ j held. inl held;
+      again = λ _. refl;
+    } in
+    still-keeps limits G g w i rows rows rows of number more ensured few (Ok tt) there small tt

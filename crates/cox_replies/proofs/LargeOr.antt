@@ -1,0 +1,57 @@
+-- Refusals for a large interval, or else for large rows.
+use Rattle.std.proofs.Common.{ℕ, List, None, Some, ◌⊎◌, inl, inr, ⊎_elim, refl}
+use Rattle.cox_base.specs.IntegerMatrix.{IntegerMatrix}
+use Rattle.cox_base.specs.Admissible.{IsAdmissible}
+use Rattle.cox_base.specs.Members.{IsInInterval}
+use Rattle.cox_base.specs.SortedList.{HasMoreThan}
+use Rattle.cox_context.proofs.IntervalLists.{interval-decided}
+use Rattle.cox_command.specs.declared.refusal.Refusal.{Refusal}
+use Rattle.cox_command.specs.declared.refusal.Refusal.TheVariants.{LargeInterval, LargeRow}
+use Rattle.cox_replies.specs.Limits.{Limits}
+use Rattle.cox_replies.specs.Question.{IsRefused}
+use Rattle.cox_replies.specs.Listed.{RefusesLarge, RefusesLargeOr}
+
+module _ (limits : Limits) (A : IntegerMatrix) (w : List ℕ) where
+  -- a large interval is refused whatever rows are asked for
+  pub large_or-interval : (Large : Type 0) (why : Refusal) → IsRefused (RefusesLarge limits A w) (Some why)
+      → IsRefused (RefusesLargeOr limits A w Large) (Some why)
+  large_or-interval Large why (inl (none, e)) = absurd none
+  large_or-interval Large why (inr (none, inl large)) = inr (none, inl large)
+  large_or-interval Large why (inr (none, inr (few, inl (far, e)))) = absurd far
+  large_or-interval Large why (inr (none, inr (few, inr (near, inl (beyond, e))))) = absurd beyond
+  large_or-interval Large why (inr (none, inr (few, inr (near, inr (small, e))))) = absurd (cc e)
+
+  pub large_or-allowed : (Large : Type 0) → (HasMoreThan limits.context (IsInInterval A w) → ⊥) → (Large → ⊥)
+      → IsRefused (RefusesLargeOr limits A w Large) None
+  large_or-allowed Large few small = inr (λ none. none, inr (few, inr (λ none. none, inr (small, refl))))
+
+  pub large_or-refused : (Large : Type 0) → (HasMoreThan limits.context (IsInInterval A w) → ⊥) → Large
+      → IsRefused (RefusesLargeOr limits A w Large) (Some LargeRow)
+  large_or-refused Large few large = inr (λ none. none, inr (few, inr (λ none. none, inl (large, refl))))
+
+  -- where nothing is refused, no row is too large
+  pub large_or-none : (Large : Type 0) → IsRefused (RefusesLargeOr limits A w Large) None
+      → (HasMoreThan limits.context (IsInInterval A w) → ⊥) × (Large → ⊥)
+  large_or-none Large (inl (none, e)) = absurd none
+  large_or-none Large (inr (_, inl (many, e))) = absurd (cc e)
+  large_or-none Large (inr (_, inr (few, inl (far, e)))) = absurd far
+  large_or-none Large (inr (_, inr (few, inr (_, inl (large, e))))) = absurd (cc e)
+  large_or-none Large (inr (_, inr (few, inr (_, inr (small, e))))) = (few, small)
+
+  -- rows that are too large are so by a weaker word too
+  pub large_or-weaker : (Large Larger : Type 0) → (Large → Larger) → (why : Refusal)
+      → IsRefused (RefusesLargeOr limits A w Large) (Some why)
+      → IsRefused (RefusesLargeOr limits A w Larger) (Some why)
+  large_or-weaker Large Larger weaker why (inl (none, e)) = absurd none
+  large_or-weaker Large Larger weaker why (inr (none, inl large)) = inr (none, inl large)
+  large_or-weaker Large Larger weaker why (inr (none, inr (few, inl (far, e)))) = absurd far
+  large_or-weaker Large Larger weaker why (inr (none, inr (few, inr (near, inl (large, e))))) =
+      inr (none, inr (few, inr (near, inl (weaker large, e))))
+  large_or-weaker Large Larger weaker why (inr (none, inr (few, inr (near, inr (small, e))))) = absurd (cc e)
+
+  -- whether there is a cause is decided, if it is whether the rows are too large
+  pub large_or-decided : IsAdmissible A → (Large : Type 0) → Large ⊎ (Large → ⊥) → (why : Refusal)
+      → RefusesLargeOr limits A w Large why ⊎ (RefusesLargeOr limits A w Large why → ⊥)
+  large_or-decided g Large tell LargeInterval = ⊎_elim (λ many. inl many) (λ few. inr few.0) (interval-decided A g limits.context w)
+  large_or-decided g Large tell LargeRow = tell
+  large_or-decided g Large tell _ = inr (λ none. none)

@@ -1,0 +1,59 @@
+-- Rows of the elements between two, and of whole groups, as they are kept for inverse polynomials.
+use Rattle.std.specs.Prelude.{ℕ, ◌<◌, List, length, Contains, Option, IfSome, IsSomeAnd, ℤ, pos}
+use Rattle.cox_base.specs.IntegerMatrix.{IntegerMatrix, integer_matrix}
+use Rattle.cox_base.specs.ShortLex.{normal_form}
+use Rattle.cox_hecke.specs.ListedElements.{LiesBetween}
+use Rattle.cox_hecke.specs.Needs.{IsNeeded}
+use Rattle.cox_context.specs.Closed.{Elements}
+use Rattle.cox_context.specs.Numbers.{word_at}
+use Rattle.cox_row.specs.Rising.{number_at}
+use Rattle.cox_klstep.specs.declared.fault.StepFault.{StepFault}
+use Rattle.cox_rows.specs.Beyond.{IsBeyond, NeedsBeyond}
+use Rattle.cox_rows.specs.Holding.{Holding, HasRow}
+use Rattle.cox_rows.specs.RowsFaults.{IsRowsFault}
+use Rattle.cox_inverse.specs.declared.fault.InverseFault.{InverseFault}
+use Rattle.cox_inverse.specs.declared.fault.InverseFault.TheVariants as fault
+use Rattle.cox_inverse.specs.declared.finite.WholeGroup.{WholeGroup}
+use Rattle.cox_inverse.specs.WholeGroups.{IsReadable}
+use Rattle.cox_command.specs.declared.refusal.Refusal.{Refusal}
+use Rattle.cox_command.specs.declared.refusal.Refusal.TheVariants.{LargeRow}
+use Rattle.cox_replies.specs.declared.unanswered.Unanswered.{Unanswered}
+use Rattle.cox_replies.specs.declared.unanswered.Unanswered.TheVariants as unanswered
+use Rattle.cox_replies.specs.Limits.{Limits}
+use Rattle.cox_replies.specs.Listed.{RefusesLargeOr}
+use Rattle.cox_replies.specs.InverseReply.{inverse_limit}
+
+-- the row of some element between y and w needs a row that is beyond its limits
+abbrev pub IsSomeBeyond : IntegerMatrix → ℕ → List ℕ → List ℕ → Type 0
+IsSomeBeyond A limit y w = (z : List ℕ) × LiesBetween A y w z × NeedsBeyond A (pos limit) z
+
+-- the interval from the identity to w has more members than the limit, or there is such an element
+abbrev pub RefusesBetween : Limits → IntegerMatrix → List ℕ → List ℕ → Refusal → Type 0
+RefusesBetween limits A y w = RefusesLargeOr limits A w (IsSomeBeyond A limits.coefficient y w)
+
+-- the elements of y and w are members, and the row of each member between them is held
+pub record HoldsBetween (A : IntegerMatrix) (y w : List ℕ) (rows : Holding) : Type 0 where
+  pub bottom : Contains rows.elements.members (normal_form A y)
+  pub top : Contains rows.elements.members (normal_form A w)
+  pub held : (z : ℕ) → z < length rows.elements.members → LiesBetween A y w (word_at rows.elements.members z) → HasRow rows z
+
+-- what a fault of the rows of these members says: it is one of the rows that one of them needs
+abbrev pub IsFaultOfOne : Elements → ℤ → List ℕ → StepFault → Type 0
+IsFaultOfOne e limit numbers fault = (k : ℕ) × (k < length numbers)
+    × IsRowsFault e limit (IsNeeded (integer_matrix e.matrix) (word_at e.members (number_at numbers k))) fault
+
+-- inverse polynomials may be read off the rows: all of a finite group are held, none is beyond its limits, and no coefficient is above the
+-- limit of inverse polynomials
+pub record IsReadOff (limits : Limits) (rows : Holding) (whole : WholeGroup) : Type 0 where
+  pub readable : IsReadable rows.elements (HasRow rows) (inverse_limit limits.coefficient) whole
+  pub small : (i : ℕ) → i < length rows.elements.members
+      → ¬ IsBeyond (integer_matrix rows.elements.matrix) rows.limit (word_at rows.elements.members i)
+
+-- where a whole group was found, the rows that are kept are such
+abbrev pub AreReadOff : Limits → Option Holding → Option (Option WholeGroup) → Type 0
+AreReadOff limits kept whole = IfSome whole (λ found. IfSome found (λ group. IsSomeAnd kept (λ rows. IsReadOff limits rows group)))
+
+-- what a fault of inverse polynomials leads to
+abbrev pub inverse_unanswered : InverseFault → Unanswered
+inverse_unanswered fault.NoMemory = unanswered.NoMemory
+inverse_unanswered _ = unanswered.Refused LargeRow

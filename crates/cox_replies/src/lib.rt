@@ -1,0 +1,35 @@
+//! Replies: what each command on elements, or on the whole group, asks, and the texts that are put from a group, a context or rows.
+//!
+//! What a command asks is a question, in `specs/InquiryQuestion.antt`: for each refusal whether it has a cause, and which texts are right.
+//! The calls put such a text, or tell why there is none. They keep nothing and make no rows: `cox_answers` does.
+//!
+//! - `unanswered`: why a command gets no answer
+//! - `intervals`: Bruhat intervals
+//! - `polynomials`: R-polynomials
+//! - `rows`: the answers from the row of an element, and single polynomials of it, and mu
+//! - `pairs`: the polynomials of a row, all or the extremal ones
+//! - `sums`: the polynomials of a row, summed up
+//! - `certificates`: certificates of rows
+//! - `graphs`: W-graphs and cells
+//! - `modules`: modules of left cells
+//! - `laws`: a question has one text, and can be answered
+#![tactic(auto)]
+
+mod certificates;
+mod graphs;
+mod intervals;
+pub mod laws;
+mod modules;
+mod pairs;
+mod polynomials;
+mod rows;
+mod sums;
+mod unanswered;
+
+pub use certificates::{listed_below, put_cert_of, put_certificate};
+pub use graphs::put_group_of;
+pub use intervals::{interval_of, put_betti, put_coatoms, put_interval};
+pub use modules::put_module_of;
+pub use polynomials::put_rpol;
+pub use rows::{EntryKind, RowKind, put_entry_of, put_row_of};
+pub use unanswered::{Unanswered, unanswered_by, unless_fault, unrefused};
