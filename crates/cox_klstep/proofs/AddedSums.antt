@@ -42,6 +42,15 @@ pub three-sums : (a b c old first second third : Coefficients) → ((k : ℕ) �
     → ((k : ℕ) → third k ≡ minus second c k) → (k : ℕ) → third k ≡ minus (plus a (times_q b)) c k
 three-sums a b c old first second third none e f h k = omega (arith, ints, none k, e k, f k, h k, once a k, shifted b k)
 
+-- from 0: P(x,u) alone
+pub alone-is : (A : IntegerMatrix) (x u : List ℕ) (f old new : Coefficients) → ((k : ℕ) → old k ≡ pos 0)
+    → ((k : ℕ) → new k ≡ plus old (scaled (pos 1) (times_q_power 0 f)) k) → IsKazhdanLusztig A x u f → IsKazhdanLusztig A x u new
+alone-is A x u f old new none sum is = record {
+  row = is.row;
+  is = is.is;
+  at = λ k. let same : new k ≡ f k = omega (arith, ints, none k, sum k, once f k) in same ∙ is.at k;
+}
+
 -- a term of 2^94 at most
 pub after-small : (old p : List ℤ) (c : ℤ) (n k a : ℕ) → unsigned_abs (coefficient old k) ≤ a → HasSmallCoefficients p
     → unsigned_abs c ≤ 2 ^ 31

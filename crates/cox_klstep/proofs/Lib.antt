@@ -56,3 +56,5 @@ pub mod TurnedLists
 pub mod TurnedRows
 -- the values of mu of a turned member
 pub mod TurnedMus
+-- one polynomial more that is found ahead
+pub mod FoundMore

@@ -32,3 +32,5 @@ pub mod LoweredTo
 pub mod TablesOf
 -- fingerprints of polynomials
 pub mod Prints
+-- polynomials of a row that are found before it is made
+pub mod FoundAhead

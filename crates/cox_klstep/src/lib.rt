@@ -11,6 +11,7 @@
 //! - `lowering`: the extremal members up to the member, and where the step leads from them
 //! - `making`: the row, one extremal member after another
 //! - `sums`: the polynomial at one extremal member, by the recursion, and how much was added up
+//! - `ahead`: polynomials that several threads find before the row is made
 //! - `values`: what a row that is being made has: polynomials, values of mu, and members with a coefficient above the limit
 //! - `views`: the row from that of an image under a symmetry
 //! - `turns`: symmetries as they take the members
@@ -18,6 +19,7 @@
 //! - `fault`: why a row is not made
 #![tactic(auto)]
 
+mod ahead;
 mod choice;
 mod fault;
 mod lowering;
@@ -30,10 +32,12 @@ mod turns;
 mod values;
 mod views;
 
+pub use ahead::{Alone, ByThreads, FoundPolynomial, Team, find_together};
 pub use choice::correction_sum;
 pub use fault::StepFault;
+pub use lowering::Lowered;
 pub use member::{identity_row, needs, row};
 pub use step::{Descent, shift, shortens};
-pub use sums::Steps;
+pub use sums::{Source, Steps};
 pub use tables::Tables;
 pub use views::shared_row;

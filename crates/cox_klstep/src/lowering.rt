@@ -21,7 +21,7 @@ use std::alloc::{AllocError, Global};
 
 /// The extremal members up to a member w, rising by number, and the shorter members to which the step to w leads from them.
 #[derive(Drop)]
-pub(crate) struct Lowered {
+pub struct Lowered {
     pub(crate) members: Vec<u32>,
     pub(crate) shorter: Vec<u32>,
 }

@@ -1,6 +1,6 @@
 //! Makes the row of a member, one extremal member after another.
 ghost use Rattle.std.specs.Prelude.{◌≡◌, ℕ, ◌+◌, ◌*◌, ◌<◌, ◌≤◌, length, IfOk, IfErr, IfSome, IfNone, ℤ, pos, ◌≤ℤ◌, unsigned_abs, OnOk, ◌↔◌};
-ghost use Rattle.std.specs.Prelude.{IsTrue, IsBitSet, Some};
+ghost use Rattle.std.specs.Prelude.{IsTrue, IsBitSet, Some, IfSome};
 ghost use Rattle.cox_base.specs.IntegerMatrix.{integer_matrix};
 ghost use Rattle.cox_context.specs.Numbers.{word_at};
 ghost use Rattle.cox_row.specs.RowOf.{IsRowAt};
@@ -9,6 +9,7 @@ ghost use Rattle.cox_klstep.specs.TargetOf.{IsTarget, IsLeastShift, IsLeastOf};
 ghost use Rattle.cox_klstep.specs.CountedSteps.{IsWithinCost, IsCounted, IsWithinCostTo, IsCountedTo};
 ghost use Rattle.cox_klstep.specs.SourceOf.{IsSource, source_cost};
 ghost use Rattle.cox_klstep.specs.LoweredTo.{IsLoweredBy};
+ghost use Rattle.cox_klstep.specs.FoundAhead.{IsFoundFor};
 ghost use Rattle.cox_klstep.specs.Faults.{IsFault, IsNarrowFault};
 ghost use Rattle.cox_row.specs.Extremal.{IsExtremal};
 ghost use Rattle.cox_klstep.specs.Drafts.{IsUnderway, AreBare};
@@ -19,20 +20,22 @@ ghost use Rattle.cox_context.specs.Numbering.{IsNumberOf};
 ghost use Rattle.cox_row.specs.LetterSets.{IsSubset};
 
 use crate::StepFault;
+use crate::ahead::{Ahead, Team};
 use crate::lowering::Lowered;
 use crate::sums::{Source, Steps, put_polynomial};
 use crate::values::{LargeCoefficient, LargeMembers, Mus, Values, middle};
 use cox_context::Context;
-use cox_poly::{Acc, PolyFault};
+use cox_poly::{Acc, Poly, PolyFault};
 use cox_row::{MU_LIMIT, Row};
 use std::alloc::{AllocError, Global};
 
 /// The row of the member with the number i, from what its polynomials come from and the extremal members up to it. What the sums had before
-/// does not matter.
+/// does not matter, nor what the team finds ahead.
 ///
 /// `Coefficient` where a coefficient is above the limit in absolute value, at the first member x that has one and its least degree; and
 /// `Mu` where none is but a value of mu is above [`MU_LIMIT`].
-pub(crate) fn make_row(
+pub(crate) fn make_row<T: Team>(
+    team: &T,
     alloc: Global,
     ctx: &Context,
     i: u32,
@@ -42,6 +45,7 @@ pub(crate) fn make_row(
     sums: &mut Acc,
     steps: &mut Steps,
 ) -> Result<Row, StepFault>
+    requires team { T.ready team.now }
     requires i { i < length ctx.now.members }
     requires source { IsSource ctx.now i source.now }
     requires lowered { IsLoweredBy ctx.now i source.now.step.now lowered.now }
@@ -54,10 +58,13 @@ pub(crate) fn make_row(
 {
     let _len = ctx.len();
     let mut draft = Draft::new(alloc, ctx, i);
+    let mut ahead = Ahead::new(alloc);
     for k in 0..lowered.len() {
         let next = lowered.at(k);
         draft.pass(ctx, i, next.member)?;
-        draft.add_extremal(ctx, i, source, next.shorter, limit, sums, steps)?;
+        ahead.come_to(team, alloc, ctx, i, source, lowered, k, limit);
+        let found = ahead.polynomial(next.member);
+        draft.add_extremal(ctx, i, source, next.shorter, found, limit, sums, steps)?;
     }
     if let Some(fault) = draft.large.fault(ctx, i) {
         return Err(fault);
@@ -169,14 +176,15 @@ impl Draft {
         Ok(())
     }
 
-    /// One extremal member more, from which the step leads to the member `shorter`. Its polynomial is not kept if it has a coefficient above
-    /// the limit.
+    /// One extremal member more, from which the step leads to the member `shorter`, with its polynomial if that was found before. The polynomial
+    /// is not kept if it has a coefficient above the limit.
     pub(crate) fn add_extremal(
         &mut self,
         ctx: &Context,
         i: u32,
         source: &Source,
         shorter: u32,
+        found: Option<&Poly>,
         limit: i64,
         sums: &mut Acc,
         steps: &mut Steps,
@@ -187,6 +195,7 @@ impl Draft {
         requires extremal { IsExtremal (integer_matrix ctx.now.matrix) (word_at ctx.now.members i) (word_at ctx.now.members self.old.done) }
         requires shorter { IsNumberOf ctx.now.members (normal_form (integer_matrix ctx.now.matrix)
             (times_letter source.now.step.now.side source.now.step.now.letter (word_at ctx.now.members self.old.done))) (Some shorter) }
+        requires found { IfSome found (λ p. IsFoundFor ctx.now i self.old.done p.now) }
         requires underway { IsUnderway ctx.now i limit self.old }
         ensures underway { OnOk result (IsUnderway ctx.now i limit self.new) }
         ensures done { OnOk result (self.new.done ≡ self.old.done + 1) }
@@ -198,7 +207,7 @@ impl Draft {
         let _len = ctx.len();
         let alloc = *self.values.extremal.allocator();
         let x = self.done;
-        if put_polynomial(ctx, i, source, x, shorter, sums, steps) {
+        if put_polynomial(ctx, i, source, x, shorter, found, sums, steps) {
             match self.values.keep(alloc, x, sums, limit) {
                 Ok(place) => {
                     let value = middle(ctx, &self.values.pool.at(place as usize), i, x);

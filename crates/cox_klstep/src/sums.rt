@@ -21,10 +21,11 @@ ghost use Rattle.cox_klstep.specs.StepOf.{IsRowStep, AreNeeded};
 ghost use Rattle.cox_klstep.specs.CorrectionSums.{GivesAt, numbered_sum};
 ghost use Rattle.cox_klstep.specs.CountedSteps.{counted};
 ghost use Rattle.cox_klstep.specs.SourceOf.{IsSource, source_cost};
+ghost use Rattle.cox_klstep.specs.FoundAhead.{IsFoundFor};
 
 use crate::step::{Correction, Step};
 use cox_context::Context;
-use cox_poly::{Acc, PolyView};
+use cox_poly::{Acc, Poly, PolyView};
 use cox_row::{Row, RowIndex, indexed_polynomial, polynomial};
 use std::marker::Model;
 
@@ -213,7 +214,7 @@ fn take_off(
 
 /// What the polynomials of the row of a member come from: a step with the rows that it is made from.
 #[derive(Clone, Copy)]
-pub(crate) struct Source<'a> {
+pub struct Source<'a> {
     pub(crate) step: &'a Step,
     /// The row of the shorter element.
     pub(crate) lower: &'a Row,
@@ -223,19 +224,22 @@ pub(crate) struct Source<'a> {
     pub(crate) needed: &'a [&'a Row],
 }
 
-/// The sums become those of P(x,w), for an extremal x from which the step leads to the member `shorter`; says whether x <= w.
+/// The sums become those of P(x,w), for an extremal x from which the step leads to the member `shorter`; says whether x <= w. Where the
+/// polynomial was found before, that counts as one polynomial added up.
 pub(crate) fn put_polynomial(
     ctx: &Context,
     i: u32,
     source: &Source,
     x: u32,
     shorter: u32,
+    found: Option<&Poly>,
     sums: &mut Acc,
     steps: &mut Steps,
 ) -> bool
     requires i { i < length ctx.now.members }
     requires source { IsSource ctx.now i source.now }
     requires x { x < length ctx.now.members }
+    requires found { IfSome found (λ p. IsFoundFor ctx.now i x p.now) }
     requires extremal { IsExtremal (integer_matrix ctx.now.matrix) (word_at ctx.now.members i) (word_at ctx.now.members x) }
     requires shorter { IsNumberOf ctx.now.members (normal_form (integer_matrix ctx.now.matrix)
         (times_letter source.now.step.now.side source.now.step.now.letter (word_at ctx.now.members x))) (Some shorter) }
@@ -248,6 +252,10 @@ pub(crate) fn put_polynomial(
     ensures none { result ≡ false → steps.new ≡ steps.old }
 {
     sums.clear();
+    if let Some(polynomial) = found {
+        put_found(ctx, i, polynomial, x, sums, steps);
+        return true;
+    }
     sum_up(
         ctx,
         source.step,
@@ -259,6 +267,26 @@ pub(crate) fn put_polynomial(
         sums,
         steps,
     )
+}
+
+/// The sums become those of a polynomial that was found before. It counts as one polynomial added up.
+fn put_found(ctx: &Context, i: u32, polynomial: &Poly, x: u32, sums: &mut Acc, steps: &mut Steps)
+    requires i { i < length ctx.now.members }
+    requires x { x < length ctx.now.members }
+    requires found { IsFoundFor ctx.now i x polynomial.now }
+    requires clear { (k : ℕ) → coefficient sums.old k ≡ pos 0 }
+    ensures value { IsKazhdanLusztig (integer_matrix ctx.now.matrix) (word_at ctx.now.members x) (word_at ctx.now.members i)
+        (coefficient sums.new) }
+    ensures one { steps.new ≡ counted steps.old 1 }
+    ensures kept { steps.old ≤ steps.new }
+{
+    let _len = ctx.len();
+    let term = Term {
+        number: i,
+        factor: 1,
+        shift: 0,
+    };
+    add_known(ctx, &polynomial.view(), &term, x, sums, steps);
 }
 
 /// How many polynomials were added up so far. It stands still at the end of its 64 bits.

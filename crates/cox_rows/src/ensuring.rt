@@ -26,7 +26,7 @@ ghost use Rattle.cox_rows.specs.Ensured.{IsEnsured, IsSettled, AreNeedsSmall};
 use crate::Rows;
 use crate::flags::set_at;
 use cox_base::Side;
-use cox_klstep::{Descent, StepFault, Steps, Tables, needs, row, shortens};
+use cox_klstep::{Alone, Descent, StepFault, Steps, Tables, needs, row, shortens};
 use cox_row::Row;
 use std::alloc::{AllocError, Global};
 
@@ -98,7 +98,7 @@ impl Rows {
         Ok(())
     }
 
-    /// Whether all rows are held that the row of the member with the number i is made from. Then at most one row is left to make. Without
+    /// Says whether all rows that the row of the member with the number i is made from are held. Then at most one row is left to make. Without
     /// memory the answer is no.
     pub fn has_needs(&self, i: u32) -> bool
         requires { i < length self.now.elements.members }
@@ -278,6 +278,7 @@ impl Rows {
         let mut tables = self.take_tables(alloc)?;
         let mut steps = Steps::new();
         let made = row(
+            &Alone,
             alloc,
             self.held.context(),
             i,

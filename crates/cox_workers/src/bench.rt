@@ -15,6 +15,8 @@ pub struct Bench<'a> {
     pub(crate) context: &'a Context,
     pub(crate) store: &'a RowStore,
     pub(crate) worker: u32,
+    /// How many threads may share the work for one row.
+    pub(crate) threads: u32,
     ghost same: { elements_of store.now ≡ context.now },
 }
 
@@ -28,11 +30,28 @@ impl<'a> Bench<'a> {
         ensures store { result.store.now ≡ store.now }
         ensures worker { result.worker ≡ worker }
     {
+        Bench::with_threads(alloc, context, store, worker, 1)
+    }
+
+    /// The same, where so many threads may share the work for one row.
+    pub(crate) fn with_threads(
+        alloc: Global,
+        context: &'a Context,
+        store: &'a RowStore,
+        worker: u32,
+        threads: u32,
+    ) -> Bench<'a>
+        requires { elements_of store.now ≡ context.now }
+        ensures context { result.context.now ≡ context.now }
+        ensures store { result.store.now ≡ store.now }
+        ensures worker { result.worker ≡ worker }
+    {
         Bench {
             alloc,
             context,
             store,
             worker,
+            threads,
         }
     }
 

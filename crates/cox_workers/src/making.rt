@@ -1,5 +1,9 @@
 //! One row, and those that it is made from.
 ghost use Rattle.std.specs.Prelude.{◌≡◌, ◌<◌, length, OnOk, OnErr, IfOk, IfErr};
+ghost use Rattle.std.specs.Thread.{IsSync};
+ghost use Rattle.cox_klstep.specs.FoundAhead.{AreFound};
+ghost use Rattle.cox_klstep.specs.LoweredTo.{IsLoweredBy};
+ghost use Rattle.cox_klstep.specs.SourceOf.{IsSource};
 ghost use Rattle.cox_klstep.specs.NeedsOf.{HasNeeds};
 ghost use Rattle.cox_claims.specs.Knowledge.{Publishes};
 ghost use Rattle.cox_claims.specs.Seats.{view_of, splits_of, IsSameSeat, Holds, HasSeen, HasSeenVoid, HasSeenClaimed};
@@ -11,12 +15,15 @@ use crate::bench::Bench;
 use crate::gathering::Budget;
 use crate::hand::Hand;
 use crate::missing::Missing;
-use cox_klstep::{Descent, needs, row};
+use cox_context::Context;
+use cox_klstep::{ByThreads, Descent, FoundPolynomial, Lowered, Source, find_together, needs, row};
 use cox_outside::{Gate, Point};
 use cox_row::{LowerRows, Row};
 use cox_row_store::{Claimed, RowState, Seat};
+use std::alloc::Global;
 use std::mem;
 use std::sync::Wait;
+use std::thread::Threads;
 
 impl<'a> Bench<'a> {
     ghost use Rattle.cox_workers.specs.Ready.{IsWorkerReady, IsWorkFor};
@@ -32,7 +39,7 @@ impl<'a> Bench<'a> {
     /// of i that of a member that it needs may be the one that is `Void` or has the `Fault`; a fault with the row of the member w is told
     /// of with w.
     #[cycle(ensure)]
-    pub fn ensure<R: Wait, G: Gate>(
+    pub fn ensure<R: Threads + Wait + Sync, G: Gate>(
         &self,
         rt: &R,
         gate: &G,
@@ -91,7 +98,7 @@ impl<'a> Bench<'a> {
 
     /// The row of the member with the number i, after those that it is made from.
     #[cycle(ensure)]
-    fn made<R: Wait, G: Gate>(
+    fn made<R: Threads + Wait + Sync, G: Gate>(
         &self,
         rt: &R,
         gate: &G,
@@ -111,7 +118,18 @@ impl<'a> Bench<'a> {
     {
         let budget = self.take_in(rt, gate, seat, hand, i)?;
         self.gather(rt, seat, hand, i, budget);
+        let threads = self.threads;
+        let team = ByThreads {
+            find: |alloc: Global, ctx: &Context, i: u32, source: &Source, lowered: &Lowered, start: usize, limit: i64| -> Vec<
+                FoundPolynomial,
+            >
+                requires { IsSync R.row × (i < length ctx.now.members) × IsSource ctx.now i source.now
+                    × IsLoweredBy ctx.now i source.now.step.now lowered.now }
+                ensures { AreFound ctx.now i result.items }
+            { find_together(rt, threads, alloc, ctx, i, source, lowered, start, limit) },
+        };
         let row = row(
+            &team,
             self.alloc,
             self.context,
             i,
@@ -124,7 +142,7 @@ impl<'a> Bench<'a> {
 
     /// Puts the rows that the row of the member with the number i is made from on the shelf. Tells what their corrections cost.
     #[cycle(ensure)]
-    fn take_in<R: Wait, G: Gate>(
+    fn take_in<R: Threads + Wait + Sync, G: Gate>(
         &self,
         rt: &R,
         gate: &G,
@@ -167,7 +185,7 @@ impl<'a> Bench<'a> {
 
     /// Puts the row of the member with the number u on the shelf, after those that it is made from.
     #[cycle(ensure)]
-    fn obtain<R: Wait, G: Gate>(
+    fn obtain<R: Threads + Wait + Sync, G: Gate>(
         &self,
         rt: &R,
         gate: &G,

@@ -7,6 +7,7 @@ use crate::hand::Hand;
 use cox_outside::{Gate, Point};
 use cox_row_store::{Claimed, RowState, Seat};
 use std::sync::Wait;
+use std::thread::Threads;
 
 impl<'a> Bench<'a> {
     ghost use Rattle.cox_workers.specs.Ready.{IsSeatWith, IsWorkerReady, IsWorkFor};
@@ -14,7 +15,7 @@ impl<'a> Bench<'a> {
     ghost use Rattle.cox_workers.specs.Filled.{HasSeenEnd};
 
     /// Makes the row of a member, unless another worker has claimed it.
-    pub(crate) fn make_free<R: Wait, G: Gate>(
+    pub(crate) fn make_free<R: Threads + Wait + Sync, G: Gate>(
         &self,
         rt: &R,
         gate: &G,
@@ -32,7 +33,7 @@ impl<'a> Bench<'a> {
     }
 
     /// Sees to it that the row of a member is Published or Void, if it is not so already: makes it, or gives it up where there is no hand.
-    pub(crate) fn settle<R: Wait, G: Gate>(
+    pub(crate) fn settle<R: Threads + Wait + Sync, G: Gate>(
         &self,
         rt: &R,
         gate: &G,

@@ -10,6 +10,7 @@ use cox_row::LowerRows;
 use cox_row_store::{RowState, Seat};
 use std::mem;
 use std::sync::Wait;
+use std::thread::Threads;
 
 impl<'a> Bench<'a> {
     ghost use Rattle.cox_workers.specs.Ready.{IsWorkerReady, IsWorkFor};
@@ -18,7 +19,7 @@ impl<'a> Bench<'a> {
     ///
     /// Gives one that another worker has claimed, if there is one. The caller is to wait for it and then to try again.
     #[cycle(supply)]
-    fn supply<R: Wait, G: Gate>(
+    fn supply<R: Threads + Wait + Sync, G: Gate>(
         &self,
         rt: &R,
         gate: &G,
@@ -64,7 +65,7 @@ impl<'a> Bench<'a> {
     ///
     /// Gives one that another worker has claimed, if there is one. The caller is to wait for it and then to try again.
     #[cycle(supply)]
-    pub(crate) fn provide<R: Wait, G: Gate>(
+    pub(crate) fn provide<R: Threads + Wait + Sync, G: Gate>(
         &self,
         rt: &R,
         gate: &G,

@@ -13,6 +13,7 @@ use std::alloc::Global;
 use std::process::Abort;
 use std::sync::Wait;
 use std::test::Fail;
+use std::thread::Threads;
 
 /// The greatest coefficient.
 const LIMIT: i64 = 2_147_483_647;
@@ -34,7 +35,7 @@ fn makes_a_row_that_was_given_up(rt: HostRuntime) -> Result<(), Fail> {
 }
 
 /// Gives up the row of `2`. A worker that then wants that of `2132` gives it up too.
-fn give_up<R: Abort + Wait>(
+fn give_up<R: Abort + Threads + Wait + Sync>(
     rt: &R,
     alloc: Global,
     context: &Context,

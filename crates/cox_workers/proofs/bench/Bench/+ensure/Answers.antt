@@ -77,7 +77,7 @@ obtain-returns-then-take_published-clause-work g t c = c.take_published.ensures.
 
 pub obtain-ensure-requires : goal.obtain-ensure-requires
 obtain-ensure-requires g t c = λ κs outlives.
-    (omega (arith, c.decreases), (outlives.0, (outlives.1, ((c.take_published.ensures.work c.args.u).ready, c.requires.member))))
+    (omega (arith, c.decreases), (outlives.0, (outlives.1, (search rules, ((c.take_published.ensures.work c.args.u).ready, c.requires.member)))))
 
 pub obtain-returns-in_err-ensure-clause-work : goal.obtain-returns-in_err-ensure-clause-work
 obtain-returns-in_err-ensure-clause-work g t c = work-trans (c.take_published.ensures.work c.args.u) c.ensure.ensures.work
@@ -101,7 +101,7 @@ take_in-obtain-requires g t c = λ κs outlives.
     let less = lower-before e c.len-len.ensures.admissible c.len-len.ensures.closed c.of-descent.result c.of-descent.ensures.descent
     in (
       omega (arith, less, c.of-descent.ensures.number, c.decreases),
-      (outlives.0, (outlives.1, (c.requires.ready, c.of-descent.ensures.descent.lower_within))),
+      (outlives.0, (outlives.1, (search rules, (c.requires.ready, c.of-descent.ensures.descent.lower_within)))),
     )
 
 pub take_in-returns-in_err-obtain-clause-work : goal.take_in-returns-in_err-obtain-clause-work
@@ -147,7 +147,7 @@ take_in-obtain-requires-in-corrections g t c = λ κs outlives.
     c.deref-u-items.ensures.value c.in_ok-needs.ensures c.corrections-test.true
     in (
       omega (arith, before, c.decreases),
-      (outlives.0, (outlives.1, (c.corrections.invariant.work.ready, needed.within))),
+      (outlives.0, (outlives.1, (search rules, (c.corrections.invariant.work.ready, needed.within)))),
     )
 
 pub take_in-corrections-init : goal.take_in-corrections-init
