@@ -1,7 +1,7 @@
 -- Rows are held under their new numbers one after another, and each is within the limits as before.
-use Rattle.std.proofs.Common.{◌≡◌, ◌≢◌, ◌⊎◌, inl, inr, ℕ, ◌<◌, List, [], length, true, Option, None, Some, is_some, Result, Ok, Err, ℤ, pos}
+use Rattle.std.proofs.Common.{◌≡◌, ◌≢◌, ◌⊎◌, inl, inr, ℕ, ◌<◌, List, length, true, Option, None, Some, is_some, Result, Ok, Err, ℤ, pos}
 use Rattle.std.proofs.Common.{⊎_elim, refl, sym, ap, ◌∙◌, arith}
-use Rattle.std.specs.Prelude.{unsigned_abs, ◌≤ℤ◌, IfOk, slice_index}
+use Rattle.std.specs.Prelude.{unsigned_abs, ◌≤ℤ◌, IfOk}
 use Rattle.std.proofs.lemmas.Int.{by_lt_z, ints}
 use Rattle.std.proofs.lemmas.Bool.{cases_eq}
 use Rattle.cox_base.specs.IntegerMatrix.{IntegerMatrix, integer_matrix}
@@ -27,15 +27,6 @@ use Rattle.cox_rows.specs.Carried.{WasRow, WereRows, AreSomeCarried}
 use Rattle.cox_rows.proofs.LargeRows.{coefficient-beyond, mu-beyond}
 use Rattle.cox_rows.proofs.HeldRows.{not-there}
 use Rattle.cox_rows.proofs.RowBeyond.{not_beyond}
-
--- nothing is carried yet
-pub carried-start : (moved : List ℕ) (rows : List (Option Row)) (h : Holding) → AreSomeCarried moved rows rows h h
-carried-start moved rows h = record {
-  there = λ i some. inl some;
-  from = λ i some. some;
-  kept = λ j has. has;
-  only = λ j has. inl has;
-}
 
 -- what is left of a list when no row or one is taken out
 taken-some : (before after : List (Option Row)) (n : ℕ) → ((j : ℕ) → j ≢ n → row_at after j ≡ row_at before j)
@@ -87,32 +78,6 @@ were-left e limit moved before after n others at were = record {
       (λ (left : row_at after n ≡ row_at before n). rw (same, left) (were.each n)) at)
       (λ (apart : i ≢ n). rw (others i apart) (were.each i)) (cases_eq i n);
 }
-
--- a row of the list was that of a member, with another number
-pub was-row : (e : Elements) (limit : ℤ) (moved : List ℕ) (rows : List (Option Row)) (i : ℕ) (row : Row) → WereRows e limit moved rows
-    → row_at rows i ≡ Some row → WasRow e limit moved (slice_index moved i) row
-was-row e limit moved rows i row were at = record {
-  old = were.old;
-  before = were.before;
-  k = i;
-  was = rw at at (were.each i);
-  number = refl;
-}
-
--- first some rows are carried and then the others, where none were held before
-module _ (moved : List ℕ) (rows rest none : List (Option Row)) (old between new : Holding) (first : AreSomeCarried moved rows rest old between)
-    (second : AreSomeCarried moved rest none between new) where
-  pub carried-there : ((i : ℕ) → row_at none i ≡ None) → (i : ℕ) → is_some (row_at rows i) ≡ true → HasRow new (number_at moved i)
-  carried-there empty i some = ⊎_elim (λ (left : is_some (row_at rest i) ≡ true). ⊎_elim
-      (λ (still : is_some (row_at none i) ≡ true). absurd (not-there (row_at none i) (empty i) still))
-      (λ (put : HasRow new (number_at moved i)). put) (second.there i left))
-      (λ (put : HasRow between (number_at moved i)). second.kept (number_at moved i) put) (first.there i some)
-
-  pub carried-only : old.holds ≡ [] → (j : ℕ) → HasRow new j → (i : ℕ) × (is_some (row_at rows i) ≡ true) × (number_at moved i ≡ j)
-  carried-only nothing j has = ⊎_elim (λ (held : HasRow between j). ⊎_elim
-      (λ (was : HasRow old j). let wrong = rw nothing at was in absurd (cc))
-      (λ found. found) (first.only j held))
-      (λ found. (found.0, first.from found.0 found.1, found.2)) (second.only j has)
 
 -- a row that is not beyond the limits is within them
 row-within : (A : IntegerMatrix) (g : IsAdmissible A) (members : List (List ℕ)) (closed : IsClosed A members) (i : ℕ)

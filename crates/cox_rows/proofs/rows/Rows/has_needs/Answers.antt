@@ -1,5 +1,4 @@
 -- The shorter element and the corrections are all that the row is made from.
-use Rattle.std.proofs.Common.{◌≡◌}
 use Rattle.cox_klstep.specs.StepOf.{IsDescentAt}
 use Rattle.cox_klstep.proofs.NeededRows.{listed-needs, identity-needs}
 use Rattle.cox_rows.specs.Holding.{HasRow}
