@@ -16,6 +16,8 @@ pub mod TurnedLists
 pub mod ImagesAtHand
 -- what the polynomials of a row come from
 pub mod SourceOf
+-- a row that is to be made
+pub mod Tasks
 -- which step is chosen
 pub mod ChoiceOf
 -- a row that is being made

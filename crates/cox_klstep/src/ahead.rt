@@ -2,24 +2,24 @@
 //!
 //! A row with many corrections takes long, and other rows may wait for it. Each of its polynomials depends on rows that are there alone. So
 //! threads share them, and then one thread makes the row of what they found. It finds by itself what they did not.
-ghost use Rattle.std.specs.Prelude.{ℕ, ◌<◌, ◌≤◌, length, IfSome};
+ghost use Rattle.std.specs.Prelude.{◌≡◌, ℕ, ◌<◌, ◌≤◌, length, IfSome};
 ghost use Rattle.std.specs.Thread.{IsSync};
 ghost use Rattle.cox_context.specs.Closed.{Elements};
 ghost use Rattle.cox_klstep.specs.FoundAhead.{IsFoundFor, AreFound};
 ghost use Rattle.cox_klstep.specs.LoweredTo.{IsLoweredBy};
-ghost use Rattle.cox_klstep.specs.SourceOf.{IsSource, IsMadeFrom};
+ghost use Rattle.cox_klstep.specs.SourceOf.{IsMadeFrom};
+ghost use Rattle.cox_klstep.specs.Tasks.{IsTask};
 
-use crate::lowering::Lowered;
 use crate::sums::{Source, Steps, put_polynomial};
-use cox_context::Context;
+use crate::task::RowTask;
 use cox_poly::{Acc, Poly};
 use std::alloc::Global;
 use std::thread::{Threads, join};
 
-/// How many members are looked at ahead at a time. It bounds the memory that the polynomials take.
-const BLOCK: usize = 16_384;
+/// For how many extremal members polynomials are found ahead at most. It bounds the memory that they take.
+const MOST_FOUND: usize = 131_072;
 
-/// How many polynomials have to be looked up if threads are to share that, which takes about a millisecond. Starting a thread takes less.
+/// How many polynomials have to be looked up if threads are to share that. To start them for fewer takes longer than they save.
 const MOST_ALONE: u64 = 16_384;
 
 /// P(x,w), for an extremal member x <= w of the member w whose row is made.
@@ -35,22 +35,11 @@ pub trait Team {
     /// When it may be used.
     ghost ready: { Self → Type 0 };
 
-    /// Polynomials of the row of the member with the number i, for some of the extremal members from a place on.
-    fn find(
-        &self,
-        alloc: Global,
-        ctx: &Context,
-        i: u32,
-        source: &Source,
-        lowered: &Lowered,
-        start: usize,
-        limit: i64,
-    ) -> Vec<FoundPolynomial>
+    /// Polynomials of the row, for some of the extremal members.
+    fn find(&self, alloc: Global, task: &RowTask) -> Vec<FoundPolynomial>
         requires ready { ready self.now }
-        requires i { i < length ctx.now.members }
-        requires source { IsSource ctx.now i source.now }
-        requires lowered { IsLoweredBy ctx.now i source.now.step.now lowered.now }
-        ensures { AreFound ctx.now i result.items };
+        requires task { IsTask task.now }
+        ensures { AreFound task.now.ctx.now task.now.member result.items };
 }
 
 /// Nobody: whoever makes the row finds each polynomial when it is needed.
@@ -60,22 +49,8 @@ pub struct Alone;
 impl Team for Alone {
     ghost ready = { λ _. Unit {0} };
 
-    fn find(
-        &self,
-        alloc: Global,
-        ctx: &Context,
-        i: u32,
-        source: &Source,
-        lowered: &Lowered,
-        start: usize,
-        limit: i64,
-    ) -> Vec<FoundPolynomial> {
-        let _ = ctx;
-        let _ = i;
-        let _ = source;
-        let _ = lowered;
-        let _ = start;
-        let _ = limit;
+    fn find(&self, alloc: Global, task: &RowTask) -> Vec<FoundPolynomial> {
+        let _ = task;
         Vec::new(alloc)
     }
 }
@@ -86,57 +61,34 @@ pub struct ByThreads<F> {
     pub find: F,
 }
 
-impl<F: Fn(Global, &Context, u32, &Source, &Lowered, usize, i64) -> Vec<FoundPolynomial>> Team
-    for ByThreads<F> {
-    ghost use Rattle.std.specs.Prelude.{◌<◌, length};
+impl<F: Fn(Global, &RowTask) -> Vec<FoundPolynomial>> Team for ByThreads<F> {
     ghost use Rattle.cox_klstep.specs.FoundAhead.{AreFound};
-    ghost use Rattle.cox_klstep.specs.LoweredTo.{IsLoweredBy};
-    ghost use Rattle.cox_klstep.specs.SourceOf.{IsSource};
+    ghost use Rattle.cox_klstep.specs.Tasks.{IsTask};
 
-    ghost ready = { λ team. ((alloc ctx i source lowered start limit : _) → i < length ctx.now.members → IsSource ctx.now i source.now
-        → IsLoweredBy ctx.now i source.now.step.now lowered.now → F.pre team.find alloc ctx i source lowered start limit)
-        × ((alloc ctx i source lowered start limit found : _) → F.post team.find alloc ctx i source lowered start limit found
-        → AreFound ctx.now i found.items) };
+    ghost ready = { λ team. ((alloc task : _) → IsTask task.now → F.pre team.find alloc task)
+        × ((alloc task found : _) → F.post team.find alloc task found
+        → AreFound task.now.ctx.now task.now.member found.items) };
 
-    fn find(
-        &self,
-        alloc: Global,
-        ctx: &Context,
-        i: u32,
-        source: &Source,
-        lowered: &Lowered,
-        start: usize,
-        limit: i64,
-    ) -> Vec<FoundPolynomial> {
-        (self.find)(alloc, ctx, i, source, lowered, start, limit)
+    fn find(&self, alloc: Global, task: &RowTask) -> Vec<FoundPolynomial> {
+        (self.find)(alloc, task)
     }
 }
 
-/// Polynomials of the row of the member with the number i, for extremal members from a place on, by so many threads. Where there is little to
-/// find, or there is one thread, they find nothing.
+/// Polynomials of a row, by so many threads. Where there is little to find, or there is one thread, they find nothing.
 pub fn find_together<R: Threads + Sync>(
     rt: &R,
     threads: u32,
     alloc: Global,
-    ctx: &Context,
-    i: u32,
-    source: &Source,
-    lowered: &Lowered,
-    start: usize,
-    limit: i64,
+    task: &RowTask,
 ) -> Vec<FoundPolynomial>
-    requires i { i < length ctx.now.members }
-    requires source { IsSource ctx.now i source.now }
-    requires lowered { IsLoweredBy ctx.now i source.now.step.now lowered.now }
-    ensures { AreFound ctx.now i result.items }
+    requires { IsTask task.now }
+    ensures { AreFound task.now.ctx.now task.now.member result.items }
 {
-    let end = lowered.len().min(start.saturating_add(BLOCK));
-    if threads < 2 || work_between(source, lowered, start, end) < MOST_ALONE {
+    let end = task.lowered.len().min(MOST_FOUND);
+    if threads < 2 || work_between(task, 0, end) < MOST_ALONE {
         return Vec::new(alloc);
     }
-    find_between(
-        rt, threads, alloc, ctx, i, source, lowered, start, end, limit,
-    )
+    find_between(rt, threads, alloc, task, 0, end)
 }
 
 /// Polynomials for the extremal members between two places, by so many threads, as far as there is memory and they are within the limit.
@@ -144,27 +96,28 @@ fn find_between<R: Threads + Sync>(
     rt: &R,
     threads: u32,
     alloc: Global,
-    ctx: &Context,
-    i: u32,
-    source: &Source,
-    lowered: &Lowered,
+    task: &RowTask,
     start: usize,
     end: usize,
-    limit: i64,
 ) -> Vec<FoundPolynomial>
-    requires i { i < length ctx.now.members }
-    requires source { IsSource ctx.now i source.now }
-    requires lowered { IsLoweredBy ctx.now i source.now.step.now lowered.now }
-    requires end { end ≤ length lowered.now.members.items }
-    ensures { AreFound ctx.now i result.items }
+    requires task { IsTask task.now }
+    requires end { end ≤ length task.now.lowered.now.members.items }
+    ensures { AreFound task.now.ctx.now task.now.member result.items }
 {
     if threads < 2 {
-        return find_alone(alloc, ctx, i, source, lowered, start, end, limit);
+        return find_alone(alloc, task, start, end);
     }
     let low = threads / 2;
     let high = threads - low;
-    let middle = middle_of(source, lowered, start, end);
+    let middle = middle_of(task, start, end);
     // What a closure says of its result is known only where it captures no struct that has a lifetime.
+    let RowTask {
+        ctx,
+        member,
+        source,
+        lowered,
+        limit,
+    } = *task;
     let Source {
         step,
         lower,
@@ -174,9 +127,9 @@ fn find_between<R: Threads + Sync>(
     let (mut front, mut back) = join(
         rt,
         move || -> Vec<FoundPolynomial>
-            requires { IsSync R.row × (i < length ctx.now.members) × IsMadeFrom ctx.now i step.now lower.now index.now needed.now
-                × IsLoweredBy ctx.now i step.now lowered.now × (middle ≤ length lowered.now.members.items) }
-            ensures { AreFound ctx.entry.now i result.items }
+            requires { IsSync R.row × (member < length ctx.now.members)
+                × IsMadeFrom ctx.now member step.now lower.now index.now needed.now × IsLoweredBy ctx.now member step.now lowered.now × (middle ≤ length lowered.now.members.items) }
+            ensures { AreFound ctx.entry.now member result.items }
         {
             let source = Source {
                 step,
@@ -184,14 +137,19 @@ fn find_between<R: Threads + Sync>(
                 index,
                 needed,
             };
-            find_between(
-                rt, low, alloc, ctx, i, &source, lowered, start, middle, limit,
-            )
+            let task = RowTask {
+                ctx,
+                member,
+                source: &source,
+                lowered,
+                limit,
+            };
+            find_between(rt, low, alloc, &task, start, middle)
         },
         move || -> Vec<FoundPolynomial>
-            requires { IsSync R.row × (i < length ctx.now.members) × IsMadeFrom ctx.now i step.now lower.now index.now needed.now
-                × IsLoweredBy ctx.now i step.now lowered.now × (end ≤ length lowered.now.members.items) }
-            ensures { AreFound ctx.entry.now i result.items }
+            requires { IsSync R.row × (member < length ctx.now.members)
+                × IsMadeFrom ctx.now member step.now lower.now index.now needed.now × IsLoweredBy ctx.now member step.now lowered.now × (end ≤ length lowered.now.members.items) }
+            ensures { AreFound ctx.entry.now member result.items }
         {
             let source = Source {
                 step,
@@ -199,9 +157,14 @@ fn find_between<R: Threads + Sync>(
                 index,
                 needed,
             };
-            find_between(
-                rt, high, alloc, ctx, i, &source, lowered, middle, end, limit,
-            )
+            let task = RowTask {
+                ctx,
+                member,
+                source: &source,
+                lowered,
+                limit,
+            };
+            find_between(rt, high, alloc, &task, middle, end)
         },
     );
     match front.append(&mut back) {
@@ -211,28 +174,15 @@ fn find_between<R: Threads + Sync>(
 }
 
 /// The same by this thread.
-fn find_alone(
-    alloc: Global,
-    ctx: &Context,
-    i: u32,
-    source: &Source,
-    lowered: &Lowered,
-    start: usize,
-    end: usize,
-    limit: i64,
-) -> Vec<FoundPolynomial>
-    requires i { i < length ctx.now.members }
-    requires source { IsSource ctx.now i source.now }
-    requires lowered { IsLoweredBy ctx.now i source.now.step.now lowered.now }
-    requires end { end ≤ length lowered.now.members.items }
-    ensures { AreFound ctx.now i result.items }
+fn find_alone(alloc: Global, task: &RowTask, start: usize, end: usize) -> Vec<FoundPolynomial>
+    requires task { IsTask task.now }
+    requires end { end ≤ length task.now.lowered.now.members.items }
+    ensures { AreFound task.now.ctx.now task.now.member result.items }
 {
     let mut found = Vec::new(alloc);
     let mut sums = Acc::new();
     for k in start..end {
-        find_one(
-            alloc, ctx, i, source, lowered, k, limit, &mut sums, &mut found,
-        );
+        find_one(alloc, task, k, &mut sums, &mut found);
     }
     found
 }
@@ -240,29 +190,23 @@ fn find_alone(
 /// The same for one extremal member, put behind what was found.
 fn find_one(
     alloc: Global,
-    ctx: &Context,
-    i: u32,
-    source: &Source,
-    lowered: &Lowered,
+    task: &RowTask,
     k: usize,
-    limit: i64,
     sums: &mut Acc,
     found: &mut Vec<FoundPolynomial>,
 )
-    requires i { i < length ctx.now.members }
-    requires source { IsSource ctx.now i source.now }
-    requires lowered { IsLoweredBy ctx.now i source.now.step.now lowered.now }
-    requires place { k < length lowered.now.members.items }
-    requires found { AreFound ctx.now i found.old.items }
-    ensures { AreFound ctx.now i found.new.items }
+    requires task { IsTask task.now }
+    requires place { k < length task.now.lowered.now.members.items }
+    requires found { AreFound task.now.ctx.now task.now.member found.old.items }
+    ensures { AreFound task.now.ctx.now task.now.member found.new.items }
 {
-    let _len = ctx.len();
-    let next = lowered.at(k);
+    let _len = task.ctx.len();
+    let next = task.lowered.at(k);
     let mut steps = Steps::new();
     if !put_polynomial(
-        ctx,
-        i,
-        source,
+        task.ctx,
+        task.member,
+        task.source,
         next.member,
         next.shorter,
         None,
@@ -271,7 +215,7 @@ fn find_one(
     ) {
         return;
     }
-    let Ok(polynomial) = sums.close(alloc, limit) else {
+    let Ok(polynomial) = sums.close(alloc, task.limit) else {
         return;
     };
     let _ = found.push(FoundPolynomial {
@@ -281,19 +225,19 @@ fn find_one(
 }
 
 /// How many polynomials are looked up for the members between two places, at most.
-fn work_between(source: &Source, lowered: &Lowered, start: usize, end: usize) -> u64
-    requires { end ≤ length lowered.now.members.items }
+fn work_between(task: &RowTask, start: usize, end: usize) -> u64
+    requires { end ≤ length task.now.lowered.now.members.items }
 {
-    work_until(source, lowered, start, end, u64::MAX).work
+    work_until(task, start, end, u64::MAX).work
 }
 
 /// A place between two, before which about half of the work is.
-fn middle_of(source: &Source, lowered: &Lowered, start: usize, end: usize) -> usize
-    requires { end ≤ length lowered.now.members.items }
-    ensures { result ≤ length lowered.now.members.items }
+fn middle_of(task: &RowTask, start: usize, end: usize) -> usize
+    requires { end ≤ length task.now.lowered.now.members.items }
+    ensures { result ≤ length task.now.lowered.now.members.items }
 {
-    let work = work_between(source, lowered, start, end);
-    work_until(source, lowered, start, end, work / 2).end
+    let work = work_between(task, start, end);
+    work_until(task, start, end, work / 2).end
 }
 
 /// Some members, one after another, and how many polynomials are looked up for them at most.
@@ -305,20 +249,19 @@ struct Stretch {
 }
 
 /// The members from one place on, to another one, or to where there is so much work.
-fn work_until(source: &Source, lowered: &Lowered, start: usize, end: usize, most: u64) -> Stretch
-    requires { end ≤ length lowered.now.members.items }
-    ensures { result.end ≤ length lowered.now.members.items }
+fn work_until(task: &RowTask, start: usize, end: usize, most: u64) -> Stretch
+    requires { end ≤ length task.now.lowered.now.members.items }
+    ensures { result.end ≤ length task.now.lowered.now.members.items }
 {
-    let corrections = source.step.corrections.as_slice();
+    let corrections = task.source.step.corrections.as_slice();
+    let members = task.lowered.members.as_slice();
     let mut passed = 0;
     let mut stretch = Stretch {
         end: start.min(end),
         work: 0,
     };
     while stretch.end < end && stretch.work < most {
-        while passed < corrections.len()
-            && corrections[passed].number < lowered.members[stretch.end]
-        {
+        while passed < corrections.len() && corrections[passed].number < members[stretch.end] {
             passed += 1;
         }
         let looked_up = 2 + (corrections.len() - passed) as u64;
@@ -337,41 +280,18 @@ pub(crate) struct Ahead {
 }
 
 impl Ahead {
-    /// None yet.
-    pub(crate) fn new(alloc: Global) -> Ahead
-        ensures { (e : Elements) (i : ℕ) → AreFound e i result.found.items }
+    /// None of them is passed.
+    pub(crate) fn new(found: Vec<FoundPolynomial>) -> Ahead
+        ensures { result.found ≡ found }
     {
-        Ahead {
-            found: Vec::new(alloc),
-            place: 0,
-        }
+        Ahead { found, place: 0 }
     }
 
-    /// Comes to the extremal member at a place, with what a team finds from there on if a block of members begins.
-    pub(crate) fn come_to<T: Team>(
-        &mut self,
-        team: &T,
-        alloc: Global,
-        ctx: &Context,
-        i: u32,
-        source: &Source,
-        lowered: &Lowered,
-        k: usize,
-        limit: i64,
-    )
-        requires ready { T.ready team.now }
-        requires i { i < length ctx.now.members }
-        requires source { IsSource ctx.now i source.now }
-        requires lowered { IsLoweredBy ctx.now i source.now.step.now lowered.now }
-        requires place { k < length lowered.now.members.items }
-        requires found { AreFound ctx.now i self.old.found.items }
-        ensures { AreFound ctx.now i self.new.found.items }
+    /// Comes to the member with the number x. Those found for members before it are passed.
+    pub(crate) fn come_to(&mut self, x: u32)
+        ensures { self.new.found ≡ self.old.found }
     {
-        if k % BLOCK == 0 {
-            self.found = team.find(alloc, ctx, i, source, lowered, k, limit);
-            self.place = 0;
-        }
-        while self.place < self.found.len() && self.found[self.place].member < lowered.members[k] {
+        while self.place < self.found.len() && self.found[self.place].member < x {
             self.place += 1;
         }
     }

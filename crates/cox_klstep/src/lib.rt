@@ -9,6 +9,7 @@
 //! - `choice`: which step is taken
 //! - `step`: the descent, the shorter element and the corrections, with shifts and descents on either side
 //! - `lowering`: the extremal members up to the member, and where the step leads from them
+//! - `task`: what a row is made from
 //! - `making`: the row, one extremal member after another
 //! - `sums`: the polynomial at one extremal member, by the recursion, and how much was added up
 //! - `ahead`: polynomials that several threads find before the row is made
@@ -28,6 +29,7 @@ mod member;
 mod step;
 mod sums;
 mod tables;
+mod task;
 mod turns;
 mod values;
 mod views;
@@ -35,9 +37,9 @@ mod views;
 pub use ahead::{Alone, ByThreads, FoundPolynomial, Team, find_together};
 pub use choice::correction_sum;
 pub use fault::StepFault;
-pub use lowering::Lowered;
 pub use member::{identity_row, needs, row};
 pub use step::{Descent, shift, shortens};
-pub use sums::{Source, Steps};
+pub use sums::Steps;
 pub use tables::Tables;
+pub use task::RowTask;
 pub use views::shared_row;

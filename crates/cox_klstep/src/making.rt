@@ -8,8 +8,8 @@ ghost use Rattle.cox_row.specs.Within.{IsRowWithin, AreSmallMus};
 ghost use Rattle.cox_klstep.specs.TargetOf.{IsTarget, IsLeastShift, IsLeastOf};
 ghost use Rattle.cox_klstep.specs.CountedSteps.{IsWithinCost, IsCounted, IsWithinCostTo, IsCountedTo};
 ghost use Rattle.cox_klstep.specs.SourceOf.{IsSource, source_cost};
-ghost use Rattle.cox_klstep.specs.LoweredTo.{IsLoweredBy};
-ghost use Rattle.cox_klstep.specs.FoundAhead.{IsFoundFor};
+ghost use Rattle.cox_klstep.specs.Tasks.{IsTask};
+ghost use Rattle.cox_klstep.specs.FoundAhead.{IsFoundFor, AreFound};
 ghost use Rattle.cox_klstep.specs.Faults.{IsFault, IsNarrowFault};
 ghost use Rattle.cox_row.specs.Extremal.{IsExtremal};
 ghost use Rattle.cox_klstep.specs.Drafts.{IsUnderway, AreBare};
@@ -20,49 +20,48 @@ ghost use Rattle.cox_context.specs.Numbering.{IsNumberOf};
 ghost use Rattle.cox_row.specs.LetterSets.{IsSubset};
 
 use crate::StepFault;
-use crate::ahead::{Ahead, Team};
-use crate::lowering::Lowered;
+use crate::ahead::{Ahead, FoundPolynomial};
 use crate::sums::{Source, Steps, put_polynomial};
+use crate::task::RowTask;
 use crate::values::{LargeCoefficient, LargeMembers, Mus, Values, middle};
 use cox_context::Context;
 use cox_poly::{Acc, Poly, PolyFault};
 use cox_row::{MU_LIMIT, Row};
 use std::alloc::{AllocError, Global};
 
-/// The row of the member with the number i, from what its polynomials come from and the extremal members up to it. What the sums had before
-/// does not matter, nor what the team finds ahead.
+/// The row of a member w, of which some polynomials may have been found ahead. What the sums had before does not matter.
 ///
 /// `Coefficient` where a coefficient is above the limit in absolute value, at the first member x that has one and its least degree; and
 /// `Mu` where none is but a value of mu is above [`MU_LIMIT`].
-pub(crate) fn make_row<T: Team>(
-    team: &T,
+pub(crate) fn make_row(
     alloc: Global,
-    ctx: &Context,
-    i: u32,
-    source: &Source,
-    lowered: &Lowered,
-    limit: i64,
+    task: &RowTask,
+    found: Vec<FoundPolynomial>,
     sums: &mut Acc,
     steps: &mut Steps,
 ) -> Result<Row, StepFault>
-    requires team { T.ready team.now }
-    requires i { i < length ctx.now.members }
-    requires source { IsSource ctx.now i source.now }
-    requires lowered { IsLoweredBy ctx.now i source.now.step.now lowered.now }
-    requires limit { pos 0 ≤ℤ limit }
-    ensures row { IfOk result (IsRowAt ctx.now i) }
-    ensures within { IfOk result (IsRowWithin limit) }
-    ensures fault { IfErr result (IsFault (integer_matrix ctx.now.matrix) ctx.now.members limit (λ w. w ≡ i)) }
-    ensures steps { IsWithinCost ctx.now i (source_cost source.now) steps.old steps.new }
-    ensures counted { IfOk result (λ _. IsCounted ctx.now i steps.old steps.new) }
+    requires task { IsTask task.now }
+    requires found { AreFound task.now.ctx.now task.now.member found.items }
+    requires limit { pos 0 ≤ℤ task.now.limit }
+    ensures row { IfOk result (IsRowAt task.now.ctx.now task.now.member) }
+    ensures within { IfOk result (IsRowWithin task.now.limit) }
+    ensures fault { IfErr result (IsFault (integer_matrix task.now.ctx.now.matrix) task.now.ctx.now.members task.now.limit
+        (λ w. w ≡ task.now.member)) }
+    ensures steps { IsWithinCost task.now.ctx.now task.now.member (source_cost task.now.source.now) steps.old steps.new }
+    ensures counted { IfOk result (λ _. IsCounted task.now.ctx.now task.now.member steps.old steps.new) }
 {
+    let ctx = task.ctx;
+    let i = task.member;
+    let source = task.source;
+    let lowered = task.lowered;
+    let limit = task.limit;
     let _len = ctx.len();
     let mut draft = Draft::new(alloc, ctx, i);
-    let mut ahead = Ahead::new(alloc);
+    let mut ahead = Ahead::new(found);
     for k in 0..lowered.len() {
         let next = lowered.at(k);
         draft.pass(ctx, i, next.member)?;
-        ahead.come_to(team, alloc, ctx, i, source, lowered, k, limit);
+        ahead.come_to(next.member);
         let found = ahead.polynomial(next.member);
         draft.add_extremal(ctx, i, source, next.shorter, found, limit, sums, steps)?;
     }

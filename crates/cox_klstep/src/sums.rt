@@ -226,6 +226,7 @@ pub struct Source<'a> {
 
 /// The sums become those of P(x,w), for an extremal x from which the step leads to the member `shorter`; says whether x <= w. Where the
 /// polynomial was found before, that counts as one polynomial added up.
+#[inline(always)]
 pub(crate) fn put_polynomial(
     ctx: &Context,
     i: u32,

@@ -2,8 +2,7 @@
 ghost use Rattle.std.specs.Prelude.{◌≡◌, ◌<◌, length, OnOk, OnErr, IfOk, IfErr};
 ghost use Rattle.std.specs.Thread.{IsSync};
 ghost use Rattle.cox_klstep.specs.FoundAhead.{AreFound};
-ghost use Rattle.cox_klstep.specs.LoweredTo.{IsLoweredBy};
-ghost use Rattle.cox_klstep.specs.SourceOf.{IsSource};
+ghost use Rattle.cox_klstep.specs.Tasks.{IsTask};
 ghost use Rattle.cox_klstep.specs.NeedsOf.{HasNeeds};
 ghost use Rattle.cox_claims.specs.Knowledge.{Publishes};
 ghost use Rattle.cox_claims.specs.Seats.{view_of, splits_of, IsSameSeat, Holds, HasSeen, HasSeenVoid, HasSeenClaimed};
@@ -15,8 +14,7 @@ use crate::bench::Bench;
 use crate::gathering::Budget;
 use crate::hand::Hand;
 use crate::missing::Missing;
-use cox_context::Context;
-use cox_klstep::{ByThreads, Descent, FoundPolynomial, Lowered, Source, find_together, needs, row};
+use cox_klstep::{ByThreads, Descent, FoundPolynomial, RowTask, find_together, needs, row};
 use cox_outside::{Gate, Point};
 use cox_row::{LowerRows, Row};
 use cox_row_store::{Claimed, RowState, Seat};
@@ -120,13 +118,10 @@ impl<'a> Bench<'a> {
         self.gather(rt, seat, hand, i, budget);
         let threads = self.threads;
         let team = ByThreads {
-            find: |alloc: Global, ctx: &Context, i: u32, source: &Source, lowered: &Lowered, start: usize, limit: i64| -> Vec<
-                FoundPolynomial,
-            >
-                requires { IsSync R.row × (i < length ctx.now.members) × IsSource ctx.now i source.now
-                    × IsLoweredBy ctx.now i source.now.step.now lowered.now }
-                ensures { AreFound ctx.now i result.items }
-            { find_together(rt, threads, alloc, ctx, i, source, lowered, start, limit) },
+            find: |alloc: Global, task: &RowTask| -> Vec<FoundPolynomial>
+                requires { IsSync R.row × IsTask task.now }
+                ensures { AreFound task.now.ctx.now task.now.member result.items }
+            { find_together(rt, threads, alloc, task) },
         };
         let row = row(
             &team,

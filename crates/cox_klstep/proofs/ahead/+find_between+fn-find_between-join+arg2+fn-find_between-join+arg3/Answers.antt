@@ -6,5 +6,5 @@ use Rattle.cox_klstep.proofs.ahead.+find_between+fn-find_between-join+arg2+fn-fi
 pub returns-in-Ok : goal.returns-in-Ok
 returns-in-Ok g t c =
     let whole : c.append.new.self.items ≡ c.join-front.result.0.items ++ c.join-front.result.1.items = search rules
-    in found-both c.args.ctx.now c.args.i c.join-front.result.0.items c.join-front.result.1.items c.append.new.self.items whole
+    in found-both _ _ c.join-front.result.0.items c.join-front.result.1.items c.append.new.self.items whole
     c.join-front.ensures.first c.join-front.ensures.second

@@ -7,8 +7,8 @@ use Rattle.cox_klstep.proofs.ahead.find_one.Goals as goal
 pub returns : goal.returns
 returns c =
     let below : c.put_polynomial.result ≡ true = search rules
-    in found-more c.args.ctx.now c.args.i c.args.found.now.items c.push.new.self.items
+    in found-more c.args.task.now.ctx.now c.args.task.now.member c.args.found.now.items c.push.new.self.items
     (record { member = c.at-next.result.member; polynomial = c.in-Ok.polynomial }) (is_ok c.push.result) c.push.ensures.items
     c.requires.found
-    (found-by_sums c.args.ctx.now c.args.i c.at-next.result.member c.in-Ok.polynomial c.put_polynomial.new.sums c.in-Ok.ensures.sum
+    (found-by_sums _ _ c.at-next.result.member c.in-Ok.polynomial c.put_polynomial.new.sums c.in-Ok.ensures.sum
     (c.put_polynomial.ensures.below.0 below) (c.put_polynomial.ensures.value below))

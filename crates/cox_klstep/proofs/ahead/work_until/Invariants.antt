@@ -9,7 +9,7 @@ abbrev pub decreases-loop-passed : goal.decreases-loop-passed
 decreases-loop-passed l = length l.corrections - l.passed
 
 abbrev pub invariant-loop-stretch : goal.invariant-loop-stretch
-invariant-loop-stretch l = (l.stretch.end ≤ length l.lowered.members.items) × (l.passed ≤ length l.corrections)
+invariant-loop-stretch l = (l.stretch.end ≤ length l.members) × (l.passed ≤ length l.corrections)
 
 abbrev pub decreases-loop-stretch : goal.decreases-loop-stretch
 decreases-loop-stretch l = l.end - l.stretch.end

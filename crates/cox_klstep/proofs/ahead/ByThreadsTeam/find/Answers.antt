@@ -2,4 +2,4 @@
 use Rattle.cox_klstep.proofs.ahead.ByThreadsTeam.find.Goals as goal
 
 pub returns : goal.returns
-returns g c = c.requires.ready.1 _ _ _ _ _ _ _ c.find.result c.find.ensures
+returns g c = c.requires.ready.1 _ _ c.find.result c.find.ensures
