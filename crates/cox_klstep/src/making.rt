@@ -1,6 +1,5 @@
 //! Makes the row of a member, one extremal member after another.
-ghost use Rattle.std.specs.Prelude.{◌≡◌, ℕ, ◌+◌, ◌*◌, ◌<◌, ◌≤◌, length, IfOk, IfErr, IfSome, IfNone, ℤ, pos, ◌≤ℤ◌, unsigned_abs, OnOk, ◌↔◌};
-ghost use Rattle.std.specs.Prelude.{IsTrue, IsBitSet, Some, IfSome};
+ghost use Rattle.std.specs.Prelude.{◌≡◌, ℕ, ◌+◌, ◌*◌, ◌<◌, ◌≤◌, length, IfOk, IfErr, IfSome, Some, ℤ, pos, ◌≤ℤ◌, unsigned_abs, OnOk};
 ghost use Rattle.cox_base.specs.IntegerMatrix.{integer_matrix};
 ghost use Rattle.cox_context.specs.Numbers.{word_at};
 ghost use Rattle.cox_row.specs.RowOf.{IsRowAt};
@@ -13,11 +12,9 @@ ghost use Rattle.cox_klstep.specs.FoundAhead.{IsFoundFor, AreFound};
 ghost use Rattle.cox_klstep.specs.Faults.{IsFault, IsNarrowFault};
 ghost use Rattle.cox_row.specs.Extremal.{IsExtremal};
 ghost use Rattle.cox_klstep.specs.Drafts.{IsUnderway, AreBare};
-ghost use Rattle.cox_base.specs.Matrix.{IsLetter};
 ghost use Rattle.cox_base.specs.ShortLex.{normal_form};
 ghost use Rattle.cox_base.specs.SideDescents.{times_letter};
 ghost use Rattle.cox_context.specs.Numbering.{IsNumberOf};
-ghost use Rattle.cox_row.specs.LetterSets.{IsSubset};
 
 use crate::StepFault;
 use crate::ahead::{Ahead, FoundPolynomial};

@@ -1,6 +1,4 @@
 //! What the row of a member is made from.
-ghost use Rattle.std.specs.Prelude.{◌≡◌, ◌<◌, length};
-
 use crate::lowering::Lowered;
 use crate::sums::Source;
 use cox_context::Context;
