@@ -74,7 +74,8 @@ impl<F: Fn(Global, &RowTask) -> Vec<FoundPolynomial>> Team for ByThreads<F> {
     }
 }
 
-/// Polynomials of a row, by so many threads. Where there is little to find, or there is one thread, they find nothing.
+/// Polynomials of a row, rising by their members, by so many threads. Where there is little to find, or there is one thread, they find
+/// nothing.
 pub fn find_together<R: Threads + Sync>(
     rt: &R,
     threads: u32,
@@ -85,31 +86,34 @@ pub fn find_together<R: Threads + Sync>(
     ensures { AreFound task.now.ctx.now task.now.member result.items }
 {
     let end = task.lowered.len().min(MOST_FOUND);
-    if threads < 2 || work_between(task, 0, end) < MOST_ALONE {
+    if threads < 2 || !is_dear(task, end) {
         return Vec::new(alloc);
     }
-    find_between(rt, threads, alloc, task, 0, end)
+    let mut found = find_from(rt, 0, threads, alloc, task, end);
+    // Without memory for this they stay as they are, and those that are not in order are not come to.
+    let _ = found.sort_by_key(|it: &FoundPolynomial| -> u32 { it.member });
+    found
 }
 
-/// Polynomials for the extremal members between two places, by so many threads, as far as there is memory and they are within the limit.
-fn find_between<R: Threads + Sync>(
+/// What the thread with this number, from 0, finds for the extremal members before a place, and those with greater numbers, each in a thread
+/// of its own.
+fn find_from<R: Threads + Sync>(
     rt: &R,
+    thread: u32,
     threads: u32,
     alloc: Global,
     task: &RowTask,
-    start: usize,
     end: usize,
 ) -> Vec<FoundPolynomial>
     requires task { IsTask task.now }
+    requires thread { thread < threads }
     requires end { end ≤ length task.now.lowered.now.members.items }
     ensures { AreFound task.now.ctx.now task.now.member result.items }
 {
-    if threads < 2 {
-        return find_alone(alloc, task, start, end);
+    let next = thread + 1;
+    if next == threads {
+        return find_by(thread, threads, alloc, task, end);
     }
-    let low = threads / 2;
-    let high = threads - low;
-    let middle = middle_of(task, start, end);
     // What a closure says of its result is known only where it captures no struct that has a lifetime.
     let RowTask {
         ctx,
@@ -124,11 +128,11 @@ fn find_between<R: Threads + Sync>(
         index,
         needed,
     } = *source;
-    let (mut front, mut back) = join(
+    let (mut mine, mut theirs) = join(
         rt,
         move || -> Vec<FoundPolynomial>
-            requires { IsSync R.row × (member < length ctx.now.members)
-                × IsMadeFrom ctx.now member step.now lower.now index.now needed.now × IsLoweredBy ctx.now member step.now lowered.now × (middle ≤ length lowered.now.members.items) }
+            requires { (member < length ctx.now.members) × IsMadeFrom ctx.now member step.now lower.now index.now needed.now
+                × IsLoweredBy ctx.now member step.now lowered.now × (thread < threads) × (end ≤ length lowered.now.members.items) }
             ensures { AreFound ctx.entry.now member result.items }
         {
             let source = Source {
@@ -144,11 +148,12 @@ fn find_between<R: Threads + Sync>(
                 lowered,
                 limit,
             };
-            find_between(rt, low, alloc, &task, start, middle)
+            find_by(thread, threads, alloc, &task, end)
         },
         move || -> Vec<FoundPolynomial>
             requires { IsSync R.row × (member < length ctx.now.members)
-                × IsMadeFrom ctx.now member step.now lower.now index.now needed.now × IsLoweredBy ctx.now member step.now lowered.now × (end ≤ length lowered.now.members.items) }
+                × IsMadeFrom ctx.now member step.now lower.now index.now needed.now × IsLoweredBy ctx.now member step.now lowered.now
+                × (next < threads) × (end ≤ length lowered.now.members.items) }
             ensures { AreFound ctx.entry.now member result.items }
         {
             let source = Source {
@@ -164,25 +169,35 @@ fn find_between<R: Threads + Sync>(
                 lowered,
                 limit,
             };
-            find_between(rt, high, alloc, &task, middle, end)
+            find_from(rt, next, threads, alloc, &task, end)
         },
     );
-    match front.append(&mut back) {
-        Ok(()) => front,
+    match mine.append(&mut theirs) {
+        Ok(()) => mine,
         Err(_) => Vec::new(alloc),
     }
 }
 
-/// The same by this thread.
-fn find_alone(alloc: Global, task: &RowTask, start: usize, end: usize) -> Vec<FoundPolynomial>
+/// What one of the threads finds, as far as there is memory and coefficients are within the limit. It has the place with its number, and from
+/// there on each place behind as many others as there are threads. So all have members at which much is looked up, and others.
+fn find_by(
+    thread: u32,
+    threads: u32,
+    alloc: Global,
+    task: &RowTask,
+    end: usize,
+) -> Vec<FoundPolynomial>
     requires task { IsTask task.now }
+    requires thread { thread < threads }
     requires end { end ≤ length task.now.lowered.now.members.items }
     ensures { AreFound task.now.ctx.now task.now.member result.items }
 {
     let mut found = Vec::new(alloc);
     let mut sums = Acc::new();
-    for k in start..end {
+    let mut k = thread as usize;
+    while k < end {
         find_one(alloc, task, k, &mut sums, &mut found);
+        k += threads as usize;
     }
     found
 }
@@ -224,51 +239,23 @@ fn find_one(
     });
 }
 
-/// How many polynomials are looked up for the members between two places, at most.
-fn work_between(task: &RowTask, start: usize, end: usize) -> u64
+/// Whether so much is looked up for the extremal members before a place that threads are to share that.
+fn is_dear(task: &RowTask, end: usize) -> bool
     requires { end ≤ length task.now.lowered.now.members.items }
-{
-    work_until(task, start, end, u64::MAX).work
-}
-
-/// A place between two, before which about half of the work is.
-fn middle_of(task: &RowTask, start: usize, end: usize) -> usize
-    requires { end ≤ length task.now.lowered.now.members.items }
-    ensures { result ≤ length task.now.lowered.now.members.items }
-{
-    let work = work_between(task, start, end);
-    work_until(task, start, end, work / 2).end
-}
-
-/// Some members, one after another, and how many polynomials are looked up for them at most.
-#[derive(Clone, Copy)]
-struct Stretch {
-    /// The place behind the last of them.
-    end: usize,
-    work: u64,
-}
-
-/// The members from one place on, to another one, or to where there is so much work.
-fn work_until(task: &RowTask, start: usize, end: usize, most: u64) -> Stretch
-    requires { end ≤ length task.now.lowered.now.members.items }
-    ensures { result.end ≤ length task.now.lowered.now.members.items }
 {
     let corrections = task.source.step.corrections.as_slice();
-    let members = task.lowered.members.as_slice();
     let mut passed = 0;
-    let mut stretch = Stretch {
-        end: start.min(end),
-        work: 0,
-    };
-    while stretch.end < end && stretch.work < most {
-        while passed < corrections.len() && corrections[passed].number < members[stretch.end] {
+    let mut looked_up = 0u64;
+    for &x in &task.lowered.members[..end] {
+        while passed < corrections.len() && corrections[passed].number < x {
             passed += 1;
         }
-        let looked_up = 2 + (corrections.len() - passed) as u64;
-        stretch.work = stretch.work.saturating_add(looked_up);
-        stretch.end += 1;
+        looked_up = looked_up.saturating_add(2 + (corrections.len() - passed) as u64);
+        if looked_up >= MOST_ALONE {
+            return true;
+        }
     }
-    stretch
+    false
 }
 
 /// Polynomials that were found ahead, as they are come to.

@@ -108,6 +108,7 @@ fn add_known(
 }
 
 /// The sums become those of P(x,w), for an extremal x from which the step leads to the member `shorter`; says whether x <= w.
+#[inline(always)]
 pub(crate) fn sum_up(
     ctx: &Context,
     step: &Step,
