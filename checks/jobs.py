@@ -32,13 +32,7 @@ def run(script, arguments=(), stdout=subprocess.PIPE, **streams):
 
 
 def most_memory(script):
-    """The most memory that a run has had, in KiB, once it has read this beginning of a script: the least of five runs, since the kernel
-    counts pages of the program's file as it maps them, which wavers by some 100 KiB."""
-    return min(memory_of_run(script) for _ in range(5))
-
-
-def memory_of_run(script):
-    """The same for one run."""
+    """The most memory that a run has had, in KiB, once it has read this beginning of a script."""
     with subprocess.Popen([COXETER], stdin=subprocess.PIPE, stdout=subprocess.DEVNULL, bufsize=0) as child:
         child.stdin.write(script)
         most = peak(child)
