@@ -45,19 +45,28 @@ def certificate(program, group, word):
     return ran.stdout.decode()
 
 
-def run(measure, words, text):
-    """The seconds of processor time and the peak of memory in MiB of a run. What it writes goes nowhere."""
+def built_measure(folder):
+    """The program of bench/measure.c, built in a folder."""
+    measure = os.path.join(folder, "measure")
+    subprocess.run(["cc", "-O2", "-o", measure, os.path.join(TOP, "bench", "measure.c")], check=True)
+    return measure
+
+
+def run(measure, words, text, fine=(0,)):
+    """The seconds of processor time and the peak of memory in MiB of a run, which ends with one of these statuses. What it writes goes
+    nowhere."""
     ran = subprocess.run([measure, *words], input=text.encode(), stdout=subprocess.DEVNULL, stderr=subprocess.PIPE)
-    if ran.returncode != 0:
+    if ran.returncode not in fine:
         sys.exit(f"{words[0]} ended with status {ran.returncode}: {ran.stderr.decode()[-400:]}")
     seconds, kib = ran.stderr.decode().split()[-2:]
     return float(seconds), int(kib) / 1024
 
 
-def in_turn(measure, runs):
-    """The least seconds and the least peak of memory of each run, a command and its input; each is made once in each round."""
+def in_turn(measure, runs, run=run, rounds=max):
+    """The least of each figure of each run, a command and its input; each is made once in each round. Seconds are the first figure. How
+    many rounds there are is chosen from what each run asks for, the most if nothing is said."""
     best = [run(measure, *it) for it in runs]
-    for _ in range(max(runs_of(seconds) for seconds, _ in best) - 1):
+    for _ in range(rounds(runs_of(seconds) for seconds, *_ in best) - 1):
         best = [tuple(map(min, old, run(measure, *it))) for old, it in zip(best, runs)]
     return best
 
@@ -85,8 +94,7 @@ def main():
     print("| row | letters | elements | KB | " + " | ".join(f"s {it} | MiB {it}" for it in names) + " |")
     print("|---|---|---|---|" + "---|---|" * len(names))
     with tempfile.TemporaryDirectory() as folder:
-        measure = os.path.join(folder, "measure")
-        subprocess.run(["cc", "-O2", "-o", measure, os.path.join(TOP, "bench", "measure.c")], check=True)
+        measure = built_measure(folder)
         for case in CASES:
             text, found = figures(measure, given, program, checker, case)
             lines = text.splitlines()

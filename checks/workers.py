@@ -3,7 +3,8 @@
 
     checks/workers.py [--times N] [PROGRAM]
 
-Each script is run N times, 100 if nothing is said, with each number of workers. What has to come out is what the program
+Each script is run N times, 100 if nothing is said, with each number of workers; those of larger groups a tenth as often. Threads
+are started for much work alone, so it takes those to have several workers make rows. What has to come out is what the program
 writes with no option, which one thread answers. And what `crates/workers_stress` has to print of the rows of A 4 is counted
 by their definitions. It prints what differs, and a last line with counts; the exit status is 1 where something differs. It
 needs Python 3 alone, takes some minutes, and is no part of the gate.
@@ -24,6 +25,14 @@ SCRIPTS = [
     "type D 4\ninvpol e 123412341234\nlrcells\npol 3 3431234\n",
     "type A 4\njobs\nlrcells\nnext\nklbasis 2132\npol e 12321\nnext\nwork 7 20\ninterval e 1234\nnext\ninvpol e 12321\ncert 2132\nmodule 2\n"
     "next\nfoo\nquit\nrpol 2 12321\nend\nmu 2 2132\njobs\nklbasis 123412\nnext\nlcells\nnext\nihbetti 4321\n",
+]
+
+# Whole groups of more than 1,024 elements, single rows that cost more than one thread begins, and a list of jobs that asks for them.
+LARGER = [
+    "type D 5\nlrcells\nmodule 2\ninvpol 2 13243213214321\nklbasis 35\n",
+    "type A 6\nextremals 121321432154321\nmu e 654321\nlcells\n",
+    "type D 6\npol e 64534231264534231265432\npol 3 12345643215432612345\nihbetti 6453423126453423\n",
+    "type E 6\njobs\npol e 6543124543126543124543\nnext\npol 2 1345624531324565431243542\nnext\nextremals 243154234565431\nend\n",
 ]
 
 
@@ -57,10 +66,12 @@ def main():
         ran = subprocess.run([built, *words], input=script.encode(), stdout=subprocess.PIPE)
         return ran.returncode, ran.stdout
 
-    for script in SCRIPTS:
+    often = [(script, given.times) for script in SCRIPTS]
+    seldom = [(script, max(given.times // 10, 1)) for script in LARGER]
+    for script, times in often + seldom:
         want = answer(script)
         for workers in range(1, 17):
-            for _ in range(given.times):
+            for _ in range(times):
                 count.check(f"{script!r} with {workers} workers", answer(script, "--workers", str(workers)), want)
     count.end("runs")
 

@@ -7,12 +7,14 @@
 //!
 //! - `row_maker`: what makes rows that are asked for
 //! - `likeness`: whether two workspaces have the same group and limits
+//! - `finite`: whether a group is seen to be finite
 //! - `growth`: when the whole group is taken in the place of interval after interval
 //! - `workspace`: what answers work with
 //! - `answers`: the texts
 #![tactic(auto)]
 
 mod answers;
+mod finite;
 mod growth;
 mod likeness;
 mod row_maker;

@@ -6,7 +6,8 @@ use crate::answers::between::{
 };
 use crate::answers::kept::{add_interval, keep_interval, widen, with_row};
 use crate::answers::kept_group::{holds_group, keep_elements, with_all};
-use crate::growth::{Growth, longest_word};
+use crate::finite::{longest_of_few, longest_word};
+use crate::growth::Growth;
 use crate::row_maker::RowMaker;
 use cox_base::{Coxeter, MAX_RANK, Word};
 use cox_command::{Inquiry, TwoWord};
@@ -30,7 +31,7 @@ pub struct Workspace {
     rows: Option<Rows>,
     // What inverse polynomials are read off, where these are all rows of a finite group, if that was looked for since the rows changed.
     whole: Option<Option<WholeGroup>>,
-    // What it has cost to make their context larger.
+    // When the whole group is tried.
     growth: Growth,
 }
 
@@ -192,15 +193,14 @@ impl Workspace {
         ensures group { IsCoxeterMatrix self.old.table }
     {
         prove!(self.rank() as usize <= MAX_RANK);
-        if let Some(i) = self.number_of(w) {
+        if self.whole.is_some()
+            && let Some(i) = self.number_of(w)
+        {
             return Ok(i);
         }
         self.take_group();
         self.whole = None;
-        let before = member_count(&self.rows);
-        let number = keep_interval(alloc, &mut self.rows, &self.table, self.options, w);
-        self.growth.count(before, member_count(&self.rows));
-        number
+        keep_interval(alloc, &mut self.rows, &self.table, self.options, w)
     }
 
     /// The number of the element of w, if it is a member.
@@ -354,18 +354,21 @@ impl Workspace {
         }
     }
 
-    /// Takes the whole group, if extensions have cost as much as that is expected to. No answer depends on it: the rows that are kept stay,
-    /// under their members' new numbers, and without memory none may be left.
+    /// Takes the whole group, where what is kept has a good part of it. No answer depends on it: members and rows that are kept stay.
     fn take_group(&mut self)
         ensures same { IsSameWork self.old self.new }
     {
-        let Some(most) = self.growth.due(self.options.context()) else {
+        let count = match &self.rows {
+            Some(rows) => rows.context().len(),
+            None => 0,
+        };
+        let Some(most) = self.growth.due(count, self.options.context()) else {
             return;
         };
         prove!(self.table.group().rank() as usize <= MAX_RANK);
-        if let Some(longest) = longest_word(&self.table) {
+        if let Some(longest) = longest_of_few(&self.table) {
             self.whole = None;
-            let _ = widen(&mut self.rows, &self.table, self.options, &longest, most);
+            widen(&mut self.rows, &self.table, self.options, &longest, most);
         }
     }
 
@@ -450,15 +453,9 @@ impl Workspace {
         requires { IsWord self.old.table.rank w.now.items }
         ensures { IsSameWork self.old self.new }
     {
-        if self.number_of(w).is_some() {
-            return Ok(());
-        }
         self.take_group();
         self.whole = None;
-        let before = member_count(&self.rows);
-        let added = add_interval(alloc, &mut self.rows, &self.table, self.options, w);
-        self.growth.count(before, member_count(&self.rows));
-        added
+        add_interval(alloc, &mut self.rows, &self.table, self.options, w)
     }
 
     /// Makes the rows of members that the commands ask for, and looks whether inverse polynomials can be read off those that are kept, if
@@ -483,12 +480,4 @@ impl Workspace {
 /// Whether a command asks for an inverse polynomial.
 fn is_inverse(inquiry: &Inquiry) -> bool {
     matches!(inquiry, Inquiry::Two(TwoWord::Invpol, _, _))
-}
-
-/// How many members the context of these rows has; 0 where there are none.
-fn member_count(rows: &Option<Rows>) -> u32 {
-    match rows {
-        Some(rows) => rows.context().len(),
-        None => 0,
-    }
 }

@@ -11,7 +11,7 @@ use Rattle.cox_context.specs.Numbers.{word_at}
 use Rattle.cox_row.specs.Rising.{number_at}
 use Rattle.cox_row.specs.Mus.{value_at, AreMus}
 use Rattle.cox_wgraph.specs.Edges.{IsJoined}
-use Rattle.cox_wgraph.proofs.EdgeValues.{some-values, earlier, no-shorter, edge-of_mu, mu-of_edge, edge-symmetric}
+use Rattle.cox_wgraph.proofs.EdgeValues.{some-values, earlier, no-back, edge-of_mu, mu-of_edge, edge-symmetric}
 use Rattle.cox_scc.specs.Reach.{HasEdge}
 use Rattle.cox_cells.specs.declared.kind.CellKind.{CellKind}
 use Rattle.cox_cells.specs.Cells.{HasOwn}
@@ -63,7 +63,7 @@ module _ (kind : CellKind) (e : Elements) where
       value_at values k,
       record {
         value = edge-of_mu (integer_matrix e.matrix) g (word_at e.members (number_at numbers k)) (word_at e.members n) (value_at values k)
-            (no-shorter e g closed (number_at numbers k) n (omega (arith, before k l)) inside) (mus.value k l);
+            (no-back e g closed (number_at numbers k) n (omega (arith, before k l)) inside) (mus.value k l);
         some = mus.some k l;
       },
     )
@@ -75,7 +75,7 @@ module _ (kind : CellKind) (e : Elements) where
     listed : (i : ℕ) → i ≤ n → IsJoined (integer_matrix e.matrix) (word_at e.members i) (word_at e.members n)
         → (k : ℕ) × (k < length numbers) × (number_at numbers k ≡ i)
     listed i l (m, h) = mus.whole i m (omega (arith, l, inside))
-        (mu-of_edge (integer_matrix e.matrix) g (word_at e.members i) (word_at e.members n) m (no-shorter e g closed i n l inside) h.value)
+        (mu-of_edge (integer_matrix e.matrix) g (word_at e.members i) (word_at e.members n) m (no-back e g closed i n l inside) h.value)
         h.some
 
     step-up : (k : ℕ) → k < length numbers

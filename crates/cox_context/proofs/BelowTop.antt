@@ -21,7 +21,6 @@ use Rattle.cox_context.specs.Closed.{IsClosed}
 use Rattle.cox_context.specs.Numbers.{word_at}
 use Rattle.cox_context.specs.Shifts.{entry, IsLower}
 use Rattle.cox_context.specs.Growth.{AreLower, AreBelowTop, remaining_word}
-use Rattle.cox_context.proofs.PlacedWords.{rising-place}
 use Rattle.cox_context.proofs.Ideals.{contained-descent}
 use Rattle.cox_context.proofs.Shifting.{length-at, first-member}
 
@@ -92,7 +91,7 @@ module _ (A : IntegerMatrix) (g : IsAdmissible A) (words : List (List ℕ)) wher
 
       only : IsBelow A (word_at words i) [] → i ≡ 0
       only b =
-          rising-place words i 0 closed.rising h.0 (omega (arith, closed.some))
+          closed.distinct i 0 h.0 (omega (arith, closed.some))
           (empty (word_at words i) (omega (arith, below-length A g b, length-at A g words closed i h.0, word_length-length A g []))
           ∙ sym (first-member A g words closed))
 
@@ -104,15 +103,14 @@ module _ (A : IntegerMatrix) (g : IsAdmissible A) (words : List (List ℕ)) wher
       (same-square A g t y))
       (same-refl A g w) (below-cons A g (word_at words k) w t d b)
 
-  -- a letter of the top's descents that leads to a member below the top
-  pub shared : (y descents lower numbers : List ℕ) (top : ArrayVec ℕ) → IsAdmissible A → AreLower A words y lower
-      → descents ≡ left_descents A top.items → AreBelowTop A (Some top) words numbers
-      → (t : ℕ) × (k : ℕ) × Contains descents t × (entry A.rank lower t 0 ≡ Some k) × (entry 1 numbers 1 k ≡ None)
+  -- a letter of the top's descents that shortens y, where the members are below the top
+  pub shared : (y descents lower : List ℕ) (top : ArrayVec ℕ) → IsAdmissible A → AreLower A words y lower → descents ≡ left_descents A top.items
+      → AreBelowTop A (Some top) words → (t : ℕ) × (k : ℕ) × Contains descents t × (entry A.rank lower t 0 ≡ Some k)
       → IsBelow A y top.items
-  shared y descents lower numbers top g h e below (t, k, c, some, none) =
+  shared y descents lower top g h e below (t, k, c, some) =
       let d : IsLeftDescent A top.items t = contained-descent A g top.items t (rw e at c)
       in let found : IsLower A words y t (Some k) = rw some at (h.each t (left_descent-letter A g top.items t d))
-      in shared-below y top.items t k d found (below k found.1 none)
+      in shared-below y top.items t k d found (below k found.1)
 
   -- the comparison at the end
   pub left-answer : (y w rest : List ℕ) (s : ℕ) (at : Option ℕ) (answer : Bool) → answer ≡ option_eq eqb at (Some 0) → IsClosed A words

@@ -1,7 +1,7 @@
 -- Contexts of intervals and of groups: their members are closed downwards, and what a group that goes on has.
-use Rattle.std.proofs.Common.{◌≡◌, ℕ, ◌+◌, ◌≤◌, ◌<◌, List, [], ◌∷◌, length, Contains, None, Some, Result, Ok, Err, IfErr, ap, sym, ◌∙◌}
+use Rattle.std.proofs.Common.{◌≡◌, ℕ, ◌+◌, ◌≤◌, ◌<◌, List, [], ◌∷◌, length, Contains, Result, Ok, Err, IfErr, ap, sym, ◌∙◌}
 use Rattle.std.proofs.Common.{⊎_elim}
-use Rattle.std.proofs.Common.{arith, subst, inl, inr, refl, Option, slice_index}
+use Rattle.std.proofs.Common.{arith, subst, refl}
 use Rattle.std.proofs.lemmas.Bool.{cases_lt}
 use Rattle.std.proofs.lemmas.List.Elements.{All-head}
 use Rattle.cox_base.specs.Matrix.{CoxeterMatrix, IsLetter}
@@ -18,25 +18,20 @@ use Rattle.cox_reflect.proofs.Elements.{same-refl, same-sym}
 use Rattle.cox_reflect.proofs.Admissible.{IsAdmissible-integer_matrix}
 use Rattle.cox_reflect.proofs.Lengths.{word_length-is, IsReduced-normal_form}
 use Rattle.cox_reflect.proofs.Deletion.{left_length}
-use Rattle.cox_reflect.proofs.Bruhat.{below-length, below-same, below-least}
-use Rattle.cox_reflect.proofs.Search.{word_length-length, normal_form-same}
+use Rattle.cox_reflect.proofs.Bruhat.{below-length, below-same, below-equal_length}
+use Rattle.cox_reflect.proofs.Search.{word_length-length, normal_form-same, normal_form-equal}
 use Rattle.cox_reflect.proofs.NormalElements.{element-normal_form, element-word, element-length}
 use Rattle.cox_context.specs.declared.fault.ContextFault.{ContextFault}
 use Rattle.cox_context.specs.declared.fault.ContextFault.TheVariants.{Size, Long, NoMemory}
-use Rattle.cox_context.specs.declared.members.TheConstants.{MAX_MEMBERS}
 use Rattle.cox_base.specs.Members.{IsElement, IsInInterval}
-use Rattle.cox_context.specs.Union.{IsInUnion}
 use Rattle.cox_context.specs.Closed.{IsClosed}
-use Rattle.cox_base.specs.SortedList.{IsListOf}
+use Rattle.cox_base.specs.SortedList.{IsRising, IsListOf}
 use Rattle.cox_context.specs.Numbers.{word_at}
-use Rattle.cox_context.specs.Numbering.{IsNumberOf, AreMoved}
-use Rattle.cox_context.specs.Growth.{IsGrown, AreNumbers, AreLast}
-use Rattle.cox_context.specs.Shifts.{entry}
+use Rattle.cox_context.specs.Growth.{IsGrown}
 use Rattle.cox_context.specs.Refusal.{IsLong}
 use Rattle.cox_context.specs.FaultMeaning.{IsRefusal}
-use Rattle.cox_context.proofs.PlacedWords.{contains-placed, placed-contains, contains-at, rising-place, rising-before}
-use Rattle.cox_context.proofs.ShortLexLists.{before-less}
-use Rattle.cox_context.proofs.Ideals.{IsIdeal, group-ideal, union-ideal, ideal-tailed}
+use Rattle.cox_context.proofs.PlacedWords.{contains-placed, placed-contains, contains-at, rising-place, rising-length}
+use Rattle.cox_context.proofs.Ideals.{group-ideal, interval-ideal, ideal-tailed}
 use Rattle.cox_context.proofs.Ideals.{element-nil}
 use Rattle.cox_context.proofs.Ideals.{element-tail}
 use Rattle.cox_context.proofs.GrowingMembers.{IsTailed, grown-length, grown-list}
@@ -87,58 +82,37 @@ result-along P Q to from limit (Err fault) h = refusal-along P Q to from limit f
 -- ---- the members of a context
 
 module _ (A : IntegerMatrix) (g : IsAdmissible A) where
-  pub list-closed : (P : List ℕ → Type 0) (words : List (List ℕ)) → IsIdeal A P → IsListOf P words
-      → ((word : List ℕ) → P word → length word ≤ MAX_LETTERS) → length words ≤ MAX_MEMBERS → IsClosed A words
-  list-closed P words ideal are short few = record {
-    rising = are.rising;
-    element = λ word c. ideal.element word (are.sound word c);
-    down = λ y w c e b. are.whole y (ideal.down y w (are.sound w c) e b);
-    short = λ word c. short word (are.sound word c);
-    some = let c = are.whole [] ideal.least in omega (arith, c.1);
-    few = few;
-  }
+  -- in ShortLex order an element below another one stands before it
+  pub rising-upward : (words : List (List ℕ)) → IsRising words → ((word : List ℕ) → Contains words word → IsElement A word) → (i j : ℕ)
+      → i < length words → j < length words → IsBelow A (word_at words i) (word_at words j) → i ≤ j
+  rising-upward words rising element i j l m b =
+      ⊎_elim (λ (less : j < i).
+      let size : length (word_at words j) ≤ length (word_at words i) = rising-length words j i rising (omega (arith, less)) l
+      in let f : IsElement A (word_at words i) = element (word_at words i) (contains-at words i l)
+      in let h : IsElement A (word_at words j) = element (word_at words j) (contains-at words j m)
+      in let same : SameElement A (word_at words i) (word_at words j) = below-equal_length A g b (omega (
+        arith,
+        size,
+        below-length A g b,
+        element-length A g (word_at words i) f,
+        element-length A g (word_at words j) h,
+      ))
+      in absurd (omega (arith, less, rising-place words i j rising l m (sym f.normal ∙ normal_form-equal A g same ∙ h.normal))))
+      (λ (more : i ≤ j). more) (cases_lt j i)
 
   -- no member of the interval is longer than its top
   pub interval-length : (w word : List ℕ) → IsInInterval A w word → length word ≤ word_length A w
   interval-length w word p = omega (arith, below-length A g p.below, element-length A g word p.element)
 
-  -- no member of the union is longer than both
-  pub union-length : (w : List ℕ) (earlier : List (List ℕ)) (n : ℕ) (word : List ℕ) → word_length A w ≤ n
-      → ((i : ℕ) → i < length earlier → length (word_at earlier i) ≤ n) → IsInUnion A w earlier word → length word ≤ n
-  union-length w earlier n word short old p =
-      ⊎_elim (λ b. omega (arith, below-length A g b, element-length A g word p.element, short))
-      (λ c. let q = contains-placed earlier word c in subst (λ (x : List ℕ). length x ≤ n) q.is (old q.i q.within)) p.either
-
-  -- the union with the interval up to w is that with the interval up to a word of the same element
-  pub union-from : (w top : List ℕ) (earlier : List (List ℕ)) → SameElement A top w → (word : List ℕ) → IsInUnion A top earlier word
-      → IsInUnion A w earlier word
-  union-from w top earlier same word p =
-      record { element = p.element; either = ⊎_elim (λ b. inl (below-same A g (same-refl A g word) same b)) (λ c. inr c) p.either }
-
-  -- with the identity alone it is the interval
-  pub union-interval : (w top : List ℕ) (earlier : List (List ℕ)) → SameElement A top w → earlier ≡ [] ∷ [] → (word : List ℕ)
-      → IsInUnion A top earlier word → IsInInterval A w word
-  union-interval w top earlier same e word p = record {
-    element = p.element;
-    below = ⊎_elim (λ b. below-same A g (same-refl A g word) same b) (λ c. least (rw e at c)) p.either;
-  }
-    where
-      least : Contains ([] ∷ []) word → IsBelow A word w
-      least c =
-          let q = contains-placed ([] ∷ []) word c
-          in let first : q.i ≡ 0 = omega (arith, q.within)
-          in let is : [] ≡ word = rw first at q.is
-          in rw (← is) (below-least A g w)
-
-  pub interval-union : (w top : List ℕ) (earlier : List (List ℕ)) → SameElement A top w → (word : List ℕ) → IsInInterval A w word
-      → IsInUnion A top earlier word
-  interval-union w top earlier same word p =
-      record { element = p.element; either = inl (below-same A g (same-refl A g word) (same-sym A g same) p.below) }
+  -- the interval up to w is that up to a word of the same element
+  pub interval-along : (w top : List ℕ) → SameElement A top w → (word : List ℕ) → IsInInterval A top word → IsInInterval A w word
+  interval-along w top same word p = record { element = p.element; below = below-same A g (same-refl A g word) same p.below }
 
   -- the identity alone is closed downwards
   pub identity-closed : IsClosed A ([] ∷ [])
   identity-closed = record {
-    rising = λ i j l k. absurd (omega (arith, l, k));
+    distinct = λ i j l m e. omega (arith, l, m);
+    upward = λ i j l m b. omega (arith, l, m);
     element = λ word c. rw (← only word c) (element-nil A g);
     down = λ y w c e b. (
       0,
@@ -165,64 +139,13 @@ module _ (A : IntegerMatrix) (g : IsAdmissible A) where
       empty (s ∷ x) l = absurd (omega (arith, l))
 
   -- what was found up to the length of a reduced word of w is the interval
-  pub interval-members : (w top : List ℕ) (earlier words : List (List ℕ)) (letters low : ℕ) → SameElement A top w → IsReduced A top
-      → earlier ≡ [] ∷ [] → letters ≡ length top → IsGrown A.rank (IsInUnion A top earlier) letters low words
-      → IsListOf (IsInInterval A w) words
-  interval-members w top earlier words letters low same reduced e n h =
-      let P : List ℕ → Type 0 = IsInUnion A top earlier
-      in let closed : IsClosed A earlier = rw e identity-closed
-      in list-along P (IsInInterval A w) (union-interval w top earlier same e) (interval-union w top earlier same) words
-      (grown-list A.rank P (ideal-tailed A g P (union-ideal A g top earlier closed)) letters low words h (λ word p. omega (
-        arith,
-        interval-length top word (union-interval top top earlier (same-refl A g top) e word p),
-        reduced,
-        n,
-      )))
-
-  -- what was found up to the greatest length is the union with the interval
-  pub union-members : (w top : List ℕ) (earlier words : List (List ℕ)) (letters low : ℕ) → SameElement A top w → IsClosed A earlier
-      → word_length A top ≤ letters → ((i : ℕ) → i < length earlier → length (word_at earlier i) ≤ letters)
-      → IsGrown A.rank (IsInUnion A top earlier) letters low words → IsListOf (IsInUnion A w earlier) words
-  union-members w top earlier words letters low same closed long old h =
-      let P : List ℕ → Type 0 = IsInUnion A top earlier
-      in list-along P (IsInUnion A w earlier) (union-from w top earlier same) (union-from top w earlier (same-sym A g same)) words
-      (grown-list A.rank P (ideal-tailed A g P (union-ideal A g top earlier closed)) letters low words h
-      (λ word p. union-length top earlier letters word long old p))
-
-  -- each earlier member has the last place with its number
-  pub moved-members : (w : List ℕ) (earlier words : List (List ℕ)) (numbers moved : List ℕ) → IsClosed A earlier
-      → IsListOf (IsInUnion A w earlier) words → AreNumbers earlier words numbers → length moved ≡ length earlier
-      → AreLast numbers (length numbers) moved → AreMoved earlier words moved
-  moved-members w earlier words numbers moved closed are n size h =
-      record {
-        size = size;
-        within = λ k l. (place k l).0;
-        word = λ k l. (place k l).1;
-        rising = λ i j l m.
-            let first = place i (omega (arith, l, m))
-            in let second = place j m
-            in before-less words (slice_index moved i) (slice_index moved j) are.rising first.0
-            (rw (first.1, second.1) (rising-before earlier i j closed.rising l m));
-      }
-    where
-      same_number : (k i : ℕ) → k < length earlier → i < length words → word_at words i ≡ word_at earlier k
-          → (x : Option ℕ) → IsNumberOf earlier (word_at words i) x → x ≡ Some k
-      same_number k i l m e None none = absurd (none (placed-contains earlier (word_at words i) (record { i = k; within = l; is = sym e })))
-      same_number k i l m e (Some j) (inside, is) = ap (λ (q : ℕ). Some q) (rising-place earlier j k closed.rising inside l (is ∙ e))
-
-      read : (k i : ℕ) → i < length words → entry 1 numbers 1 i ≡ Some k → word_at words i ≡ word_at earlier k
-      read k i l e = let f = rw e at (n.each i l) in sym f.1
-
-      place : (k : ℕ) → k < length earlier → (slice_index moved k < length words) × (word_at words
-          (slice_index moved k) ≡ word_at earlier k)
-      place k l =
-          let there : Contains words (word_at earlier k) = are.whole (word_at earlier k)
-          (record { element = closed.element (word_at earlier k) (contains-at earlier k l); either = inr (contains-at earlier k l) })
-          in let q = contains-placed words (word_at earlier k) there
-          in let found = h.last q.i k (omega (arith, q.within, n.size)) (same_number k q.i l q.within q.is (entry 1 numbers 1 q.i)
-          (n.each q.i q.within))
-          in let inside : slice_index moved k < length words = omega (arith, found.0, n.size)
-          in (inside, read k (slice_index moved k) inside found.1)
+  pub interval-members : (w top : List ℕ) (words : List (List ℕ)) (letters low : ℕ) → SameElement A top w → IsReduced A top
+      → letters ≡ length top → IsGrown A.rank (IsInInterval A top) letters low words → IsListOf (IsInInterval A w) words
+  interval-members w top words letters low same reduced n h =
+      let P : List ℕ → Type 0 = IsInInterval A top
+      in list-along P (IsInInterval A w) (interval-along w top same) (interval-along top w (same-sym A g same)) words
+      (grown-list A.rank P (ideal-tailed A g P (interval-ideal A g top)) letters low words h
+      (λ word p. omega (arith, interval-length top word p, reduced, n)))
 
   -- where each member of MAX_LETTERS letters is shortened by each letter, no element is longer
   pub group-length : (low : ℕ) (words : List (List ℕ)) → IsGrown A.rank (IsElement A) MAX_LETTERS low words
@@ -293,15 +216,14 @@ module _ (x z : CoxeterMatrix) (copy : x ≡ z) (matrix : IsCoxeterMatrix x) (w 
     same : IsReduced A top × SameElement A top w
     same = form-same z x copy matrix w top form
 
-    module _ (earlier : List (List ℕ)) (identity : earlier ≡ [] ∷ []) where
-      pub interval-refused : {T : Type 0} (limit : ℕ) (r : Result T ContextFault)
-          → IfErr r (IsRefusal (IsInUnion (integer_matrix x) top earlier) limit)
-          → IfErr r (IsRefusal (IsInInterval (integer_matrix z) w) limit)
-      interval-refused limit r refused =
-          rw (← copy) (result-along (IsInUnion A top earlier) (IsInInterval A w) (union-interval A g w top earlier same.1 identity)
-          (interval-union A g w top earlier same.1) limit r refused)
+    pub interval-refused : {T : Type 0} (limit : ℕ) (r : Result T ContextFault)
+        → IfErr r (IsRefusal (IsInInterval (integer_matrix x) top) limit)
+        → IfErr r (IsRefusal (IsInInterval (integer_matrix z) w) limit)
+    interval-refused limit r refused =
+        rw (← copy) (result-along (IsInInterval A top) (IsInInterval A w) (interval-along A g w top same.1)
+        (interval-along A g top w (same-sym A g same.1)) limit r refused)
 
-      pub interval-found : (words : List (List ℕ)) (letters low : ℕ) → letters ≡ length top
-          → IsGrown x.rank (IsInUnion (integer_matrix x) top earlier) letters low words
-          → IsListOf (IsInInterval (integer_matrix x) w) words
-      interval-found words letters low n h = interval-members A g w top earlier words letters low same.1 same.0 identity n h
+    pub interval-found : (words : List (List ℕ)) (letters low : ℕ) → letters ≡ length top
+        → IsGrown x.rank (IsInInterval (integer_matrix x) top) letters low words
+        → IsListOf (IsInInterval (integer_matrix x) w) words
+    interval-found words letters low n h = interval-members A g w top words letters low same.1 same.0 n h

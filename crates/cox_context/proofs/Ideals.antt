@@ -1,6 +1,6 @@
 -- What is closed downwards in Bruhat order: the group, and the interval up to an element.
 use Rattle.std.proofs.Common.{◌≡◌, ℕ, ◌≤◌, Bool, true, nat_lt, List, [], ◌∷◌, length, filter, Contains, Option, None, Some, refl}
-use Rattle.std.proofs.Common.{inl, inr, ⊎_elim, arith, ltb-true}
+use Rattle.std.proofs.Common.{⊎_elim, arith, ltb-true}
 use Rattle.std.proofs.lemmas.List.Elements.{All-head, All-contains, filter_passes}
 use Rattle.arrayvec.specs.ArrayVec.{ArrayVec}
 use Rattle.cox_base.specs.Matrix.{CoxeterMatrix, IsLetter}
@@ -17,8 +17,6 @@ use Rattle.cox_reflect.proofs.Search.{normal_form-same, word_length-length, leng
 use Rattle.cox_reflect.proofs.ShortLexFirst.{IsBefore-cons, normal_form-comes_first, none-before_normal_form}
 use Rattle.cox_reflect.proofs.Bruhat.{below-trans, below-ascent, below-least}
 use Rattle.cox_base.specs.Members.{IsElement, IsInInterval}
-use Rattle.cox_context.specs.Union.{IsInUnion}
-use Rattle.cox_context.specs.Closed.{IsClosed}
 use Rattle.cox_context.specs.WantedMembers.{IsMember}
 use Rattle.cox_reflect.proofs.NormalElements.{element-word, element-length}
 use Rattle.cox_context.proofs.GrowingMembers.{IsTailed}
@@ -67,19 +65,9 @@ module _ (A : IntegerMatrix) (g : IsAdmissible A) where
     least = record { element = element-nil; below = below-least A g top };
   }
 
-  pub union-ideal : (top : List ℕ) (earlier : List (List ℕ)) → IsClosed A earlier → IsIdeal A (IsInUnion A top earlier)
-  union-ideal top earlier closed = record {
-    element = λ w p. p.element;
-    down = λ y w p e b. record {
-      element = e;
-      either = ⊎_elim (λ under. inl (below-trans A g b under)) (λ old. inr (closed.down y w old e b)) p.either;
-    };
-    least = record { element = element-nil; either = inl (below-least A g top) };
-  }
-
-  pub ideal-member : (top : Option (ArrayVec ℕ)) (earlier : List (List ℕ)) → IsClosed A earlier → IsIdeal A (IsMember A top earlier)
-  ideal-member None earlier closed = group-ideal
-  ideal-member (Some top) earlier closed = union-ideal top.items earlier closed
+  pub ideal-member : (top : Option (ArrayVec ℕ)) → IsIdeal A (IsMember A top)
+  ideal-member None = group-ideal
+  ideal-member (Some top) = interval-ideal top.items
 
   pub ideal-tailed : (P : List ℕ → Type 0) → IsIdeal A P → IsTailed A.rank P
   ideal-tailed P i = record {
@@ -89,8 +77,7 @@ module _ (A : IntegerMatrix) (g : IsAdmissible A) where
   }
 
 -- the scope that is meant, of a Coxeter matrix
-pub member-tailed : (c : CoxeterMatrix) → IsCoxeterMatrix c → (top : Option (ArrayVec ℕ)) (earlier : List (List ℕ))
-    → IsClosed (integer_matrix c) earlier → IsTailed c.rank (IsMember (integer_matrix c) top earlier)
-member-tailed c matrix top earlier closed =
+pub member-tailed : (c : CoxeterMatrix) → IsCoxeterMatrix c → (top : Option (ArrayVec ℕ)) → IsTailed c.rank (IsMember (integer_matrix c) top)
+member-tailed c matrix top =
     let g : IsAdmissible (integer_matrix c) = IsAdmissible-integer_matrix c matrix
-    in ideal-tailed (integer_matrix c) g (IsMember (integer_matrix c) top earlier) (ideal-member (integer_matrix c) g top earlier closed)
+    in ideal-tailed (integer_matrix c) g (IsMember (integer_matrix c) top) (ideal-member (integer_matrix c) g top)

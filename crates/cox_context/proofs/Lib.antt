@@ -14,8 +14,6 @@ pub mod GrowingMembers
 pub mod RefusalCauses
 -- the context of an interval or a group is closed downwards; a group with more elements has one of MAX_LETTERS + 1 letters
 pub mod ClosedContexts
--- a context with the interval up to an element added
-pub mod Extensions
 -- where the entries of a table of shifts stand
 pub mod ShiftPlaces
 -- tables of shifts with two bytes an entry
@@ -48,3 +46,15 @@ pub mod ShortLexLists
 pub mod IntervalLists
 -- whether a group is too large
 pub mod GroupSizes
+-- new members behind the others
+pub mod Spreading
+-- a new member's word and row
+pub mod Appended
+-- the ends of a reduced word
+pub mod AppendedEnds
+-- members by a list of their numbers
+pub mod ListedMembers
+-- a new row of a table of shifts
+pub mod PushedRows
+-- tables that are cut back
+pub mod CutTables

@@ -1,9 +1,9 @@
 -- The words of members that are given by links.
-use Rattle.std.proofs.Common.{◌≡◌, ℕ, zero, suc, ◌+◌, ◌≤◌, ◌<◌, List, [], ◌∷◌, ◌++◌, length, refl, ap, sym, ◌∙◌, ⊎_elim, arith}
+use Rattle.std.proofs.Common.{◌≡◌, ℕ, zero, suc, ◌+◌, ◌≤◌, ◌<◌, List, [], ◌∷◌, ◌++◌, length, take, append_assoc, refl, ap, sym, ◌∙◌, ⊎_elim, arith}
 use Rattle.std.proofs.Common.{length-append, get_or}
 use Rattle.std.proofs.lemmas.Bool.{cases_lt}
-use Rattle.std.proofs.lemmas.List.{get_or_append_left, get_or_default}
-use Rattle.std.proofs.Math.Seq.{get_or-append_seam}
+use Rattle.std.proofs.lemmas.List.{get_or_append_left, get_or_default, append-nil, take_all, length-take-le, get_or-take}
+use Rattle.std.proofs.Math.Seq.{get_or-append_seam, take-append_seam}
 use Rattle.cox_lemmas.proofs.PushedItems.{push-length}
 use Rattle.cox_context.specs.declared.members.Link.{Link}
 use Rattle.cox_context.specs.declared.members.TheConstants.{MAX_MEMBERS}
@@ -46,6 +46,30 @@ from-push : (words : List (List ℕ)) (links : List Link) (link : Link)
     → words_from words (links ++ link ∷ []) ≡ words_from words links ++ linked (words_from words links) link ∷ []
 from-push words [] link = refl
 from-push words (l ∷ links) link = from-push (words ++ linked words l ∷ []) links link
+
+from-front : (words : List (List ℕ)) (links : List Link) → (rest : List (List ℕ)) × (words_from words links ≡ words ++ rest)
+from-front words [] = ([], sym (append-nil words))
+from-front words (l ∷ links) =
+    let p = from-front (words ++ linked words l ∷ []) links
+    in (linked words l ∷ p.0, p.1 ∙ append_assoc words (linked words l ∷ []) p.0)
+
+-- the words of the first links are the first words
+from-take : (words : List (List ℕ)) (links : List Link) (n : ℕ)
+    → words_from words (take n links) ≡ take (length words + n) (words_from words links)
+from-take words [] n = rw (take_all {A = Link} n [] (omega arith)) (sym (take_all {A = List ℕ} (length words + n) words (omega arith)))
+from-take words (l ∷ links) zero =
+    let p = from-front words (l ∷ links)
+    in let e : length words + 0 ≡ length words = omega arith
+    in rw (e, p.1) (sym (take-append_seam words p.0))
+from-take words (l ∷ links) (suc n) =
+    let e : length words + suc n ≡ length (words ++ linked words l ∷ []) + n = omega (arith, push-length words (linked words l))
+    in rw e (from-take (words ++ linked words l ∷ []) links n)
+
+pub words-take : (links : List Link) (n : ℕ) → 1 ≤ n → linked_words (take n links) ≡ take n (linked_words links)
+words-take links zero l = absurd (omega (arith, l))
+words-take [] (suc n) l = refl
+words-take (identity ∷ links) (suc n) l =
+    let e : 1 + n ≡ suc n = omega arith in rw e at (from-take ([] ∷ []) links n)
 
 pub words-size : (links : List Link) → length (linked_words links) ≡ length links
 words-size [] = refl
@@ -106,6 +130,22 @@ links-push links link h room inside letters = record {
       e,
       new,
     ) (omega (arith, letters))
+
+pub links-take : (links : List Link) (n : ℕ) → AreMemberLinks links → 1 ≤ n → n ≤ length links → AreMemberLinks (take n links)
+links-take links n h some within = record {
+  some = omega (arith, size, some);
+  few = omega (arith, size, within, h.few);
+  inward = λ i l k. let less : i < n = omega (arith, k, size) in rw (old i less) (h.inward i l (omega (arith, less, within)));
+  letters = λ i k.
+      let less : i < n = omega (arith, k, size)
+      in rw (old i less, words-take links n some, get_or-take n (linked_words links) i [] less) (h.letters i (omega (arith, less, within)));
+}
+  where
+    size : length (take n links) ≡ n
+    size = length-take-le n links within
+
+    old : (i : ℕ) → i < n → link_at (take n links) i ≡ link_at links i
+    old i l = get_or-take n links i (record { first = 0; letters = 0; rest = 0 }) l
 
 -- a link that was read
 pub link-read : (links : List Link) (i : ℕ) (link : Link) → i < length links → link ≡ get_or links i link → link_at links i ≡ link

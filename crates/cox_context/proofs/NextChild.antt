@@ -1,6 +1,6 @@
 -- Which child s x of a member x is the next member, for a list of members as it grows.
 use Rattle.std.proofs.Common.{◌≡◌, ℕ, ◌+◌, ◌≤◌, ◌<◌, List, [], ◌∷◌, length, Contains, Option, None, Some, inl, refl, ap, sym, ◌∙◌}
-use Rattle.std.proofs.Common.{⊎_elim, arith, subst, true, false, is_some, inr, ◌++◌}
+use Rattle.std.proofs.Common.{⊎_elim, arith, subst, true, false, is_some, ◌++◌}
 use Rattle.std.proofs.lemmas.Bool.{cases_lt, cases_order}
 use Rattle.arrayvec.specs.ArrayVec.{ArrayVec}
 use Rattle.cox_base.specs.Matrix.{CoxeterMatrix, IsLetter}
@@ -24,27 +24,23 @@ use Rattle.cox_context.specs.Refusal.{IsPrefixOf}
 use Rattle.cox_context.specs.Closed.{IsClosed}
 use Rattle.cox_context.specs.Numbers.{word_at}
 use Rattle.cox_context.specs.Numbering.{IsNumberOf}
-use Rattle.cox_context.specs.WantedMembers.{IsMember, IsBelowTop, IsMeant}
+use Rattle.cox_context.specs.WantedMembers.{IsMember, IsBelowTop}
 use Rattle.cox_context.specs.Growth.{IsGrowing, IsChild, IsOutside, IsNext, IsNoNext, known, above, outside}
 use Rattle.cox_context.proofs.PlacedWords.{contains-placed, placed-contains, rising-place}
-use Rattle.cox_context.specs.declared.builder.Child.{Child}
+use Rattle.cox_context.proofs.ClosedContexts.{rising-upward}
 use Rattle.cox_context.proofs.Ideals.{IsIdeal, ideal-member, ideal-tailed, member-tailed}
 use Rattle.cox_context.proofs.GrowingMembers.{IsTailed, growing-length, growing-push, growing-prefix, growing-skip}
 use Rattle.cox_context.proofs.FirstLetters.{first-least}
 use Rattle.cox_context.proofs.LowerWalks.{IsAscent, ascent}
 
--- membership is that of an element that is meant
-member-parts : (A : IntegerMatrix) (top : Option (ArrayVec ℕ)) (earlier : List (List ℕ)) (word : List ℕ) → IsMember A top earlier word
-    → IsElement A word × IsMeant A top earlier word
-member-parts A None earlier word p = (p, inl tt)
-member-parts A (Some top) earlier word p =
-    (p.element, ⊎_elim (λ b. inl b) (λ c. inr (rw p.element.normal c)) p.either)
+-- membership is that of an element below the top
+member-parts : (A : IntegerMatrix) (top : Option (ArrayVec ℕ)) (word : List ℕ) → IsMember A top word → IsElement A word × IsBelowTop A top word
+member-parts A None word p = (p, tt)
+member-parts A (Some top) word p = (p.element, p.below)
 
-member-of : (A : IntegerMatrix) (top : Option (ArrayVec ℕ)) (earlier : List (List ℕ)) (word : List ℕ) → IsElement A word
-    → IsMeant A top earlier word → IsMember A top earlier word
-member-of A None earlier word e m = e
-member-of A (Some top) earlier word e m =
-    record { element = e; either = ⊎_elim (λ b. inl b) (λ c. inr (rw e.normal at c)) m }
+member-of : (A : IntegerMatrix) (top : Option (ArrayVec ℕ)) (word : List ℕ) → IsElement A word → IsBelowTop A top word → IsMember A top word
+member-of A None word e b = e
+member-of A (Some top) word e b = record { element = e; below = b }
 
 -- what has no number is not there
 unfound : (words : List (List ℕ)) (word : List ℕ) (x : Option ℕ) → IsNumberOf words word x → is_some x ≡ false → Contains words word → ⊥
@@ -66,30 +62,18 @@ unfound-ascent c m words closed s i l within x number e =
     let new : Contains words (normal_form (integer_matrix c) (s ∷ word_at words i)) → ⊥ = unfound words _ x number e
     in (new, ascent c m words closed s i l within new)
 
--- with s x is x an earlier member
-pub earlier-none : (A : IntegerMatrix) → IsAdmissible A → (words earlier : List (List ℕ)) (s i : ℕ) → IsClosed A earlier
-    → IsElement A (word_at words i) → IsAscent A words s i → (Contains earlier (word_at words i) → ⊥)
-    → Contains earlier (normal_form A (s ∷ word_at words i)) → ⊥
-earlier-none A g words earlier s i closed e up none c =
-    none (closed.down (word_at words i) (normal_form A (s ∷ word_at words i)) c e
-    (below-same A g (same-refl A g (word_at words i)) (same-sym A g (normal_form-same A g (s ∷ word_at words i))) up.above))
-
 below-top-same : (A : IntegerMatrix) → IsAdmissible A → (top : Option (ArrayVec ℕ)) (v w : List ℕ) → SameElement A v w → IsBelowTop A top v
     → IsBelowTop A top w
 below-top-same A g None v w e b = tt
 below-top-same A g (Some top) v w e b = below-same A g e (same-refl A g top.items) b
-
-meant-same : (A : IntegerMatrix) → IsAdmissible A → (top : Option (ArrayVec ℕ)) (earlier : List (List ℕ)) (v w : List ℕ) → SameElement A v w
-    → IsMeant A top earlier v → IsMeant A top earlier w
-meant-same A g top earlier v w e m =
-    ⊎_elim (λ b. inl (below-top-same A g top v w e b)) (λ c. inr (rw (normal_form-equal A g e) at c)) m
 
 module _ (A : IntegerMatrix) (g : IsAdmissible A) (P : List ℕ → Type 0) (ideal : IsIdeal A P) (k low high s j : ℕ) (words : List (List ℕ))
     (h : IsGrowing A.rank P k low high s j words) where
   -- the members found so far are closed downwards
   pub growing-closed : k < MAX_LETTERS → length words ≤ MAX_MEMBERS → IsClosed A words
   growing-closed short few = record {
-    rising = h.rising;
+    distinct = λ i j l m e. rising-place words i j h.rising l m e;
+    upward = rising-upward A g words h.rising (λ word c. ideal.element word (member word c));
     element = λ word c. ideal.element word (member word c);
     down = λ y w c e b. below_one y w c e b;
     short = λ word c. let p = contains-placed words word c in subst (λ (x : List ℕ). length x ≤ MAX_LETTERS) p.is
@@ -222,61 +206,60 @@ module _ (A : IntegerMatrix) (g : IsAdmissible A) (P : List ℕ → Type 0) (ide
 
 -- ---- in the scope that is meant
 
-module _ (c : CoxeterMatrix) (m : IsCoxeterMatrix c) (top : Option (ArrayVec ℕ)) (earlier : List (List ℕ))
-    (before : IsClosed (integer_matrix c) earlier) (k low high s j : ℕ) (words : List (List ℕ))
-    (h : IsGrowing c.rank (IsMember (integer_matrix c) top earlier) k low high s j words) where
+module _ (c : CoxeterMatrix) (m : IsCoxeterMatrix c) (top : Option (ArrayVec ℕ)) (k low high s j : ℕ) (words : List (List ℕ))
+    (h : IsGrowing c.rank (IsMember (integer_matrix c) top) k low high s j words) where
   A : IntegerMatrix
   A = integer_matrix c
 
   g : IsAdmissible (integer_matrix c)
   g = IsAdmissible-integer_matrix c m
 
-  ideal : IsIdeal (integer_matrix c) (IsMember (integer_matrix c) top earlier)
-  ideal = ideal-member (integer_matrix c) g top earlier before
+  ideal : IsIdeal (integer_matrix c) (IsMember (integer_matrix c) top)
+  ideal = ideal-member (integer_matrix c) g top
 
-  tailed : IsTailed c.rank (IsMember (integer_matrix c) top earlier)
-  tailed = member-tailed c m top earlier before
+  tailed : IsTailed c.rank (IsMember (integer_matrix c) top)
+  tailed = member-tailed c m top
 
   pub member-closed : k < MAX_LETTERS → length words ≤ MAX_MEMBERS → IsClosed (integer_matrix c) words
-  member-closed = growing-closed (integer_matrix c) g (IsMember (integer_matrix c) top earlier) ideal k low high s j words h
+  member-closed = growing-closed (integer_matrix c) g (IsMember (integer_matrix c) top) ideal k low high s j words h
 
   -- the next child is a member
-  next-member : (child : Child) → IsLetter c.rank s → IsClosed (integer_matrix c) words → j < high
-      → IsNext (integer_matrix c) words top earlier (s ∷ word_at words j) child
-      → IsMember (integer_matrix c) top earlier (s ∷ word_at words j)
-  next-member child letter closed inside next =
+  next-member : (lower : List ℕ) → IsLetter c.rank s → IsClosed (integer_matrix c) words → j < high
+      → IsNext (integer_matrix c) words top (s ∷ word_at words j) lower
+      → IsMember (integer_matrix c) top (s ∷ word_at words j)
+  next-member lower letter closed inside next =
       let y : List ℕ = s ∷ word_at words j
-      in let p : IsMember (integer_matrix c) top earlier (normal_form (integer_matrix c) y)
-      = member-of (integer_matrix c) top earlier (normal_form (integer_matrix c) y) (element-normal_form (integer_matrix c) g y)
-      (meant-same (integer_matrix c) g top earlier y (normal_form (integer_matrix c) y)
+      in let p : IsMember (integer_matrix c) top (normal_form (integer_matrix c) y)
+      = member-of (integer_matrix c) top (normal_form (integer_matrix c) y) (element-normal_form (integer_matrix c) g y)
+      (below-top-same (integer_matrix c) g top y (normal_form (integer_matrix c) y)
       (same-sym (integer_matrix c) g (normal_form-same (integer_matrix c) g y)) next.meant)
-      in let normal = new-normal (integer_matrix c) g (IsMember (integer_matrix c) top earlier) ideal k low high s j words h inside
+      in let normal = new-normal (integer_matrix c) g (IsMember (integer_matrix c) top) ideal k low high s j words h inside
       (ascent c m words closed s j letter (omega (arith, inside, h.end)) next.new) next.new p
       in rw normal at p
 
   -- a child that is not the next is none
-  no-next-none : j < high → IsNoNext (integer_matrix c) words top earlier (s ∷ word_at words j) (length (word_at words j))
-      → IsMember (integer_matrix c) top earlier (s ∷ word_at words j) → ⊥
+  no-next-none : j < high → IsNoNext (integer_matrix c) words top (s ∷ word_at words j) (length (word_at words j))
+      → IsMember (integer_matrix c) top (s ∷ word_at words j) → ⊥
   no-next-none inside (known there) p =
-      known-none (integer_matrix c) g (IsMember (integer_matrix c) top earlier) ideal k low high s j words h inside there p
-  no-next-none inside (above none) p = none (member-parts (integer_matrix c) top earlier (s ∷ word_at words j) p).1
+      known-none (integer_matrix c) g (IsMember (integer_matrix c) top) ideal k low high s j words h inside there p
+  no-next-none inside (above none) p = none (member-parts (integer_matrix c) top (s ∷ word_at words j) p).1
   no-next-none inside (outside o) p =
-      outside-none (integer_matrix c) g (IsMember (integer_matrix c) top earlier) ideal k low high s j words h inside o p
+      outside-none (integer_matrix c) g (IsMember (integer_matrix c) top) ideal k low high s j words h inside o p
 
   -- the list without it
-  pub growing-no_next : j < high → IsNoNext (integer_matrix c) words top earlier (s ∷ word_at words j) (length (word_at words j))
-      → IsGrowing c.rank (IsMember (integer_matrix c) top earlier) k low high s (j + 1) words
+  pub growing-no_next : j < high → IsNoNext (integer_matrix c) words top (s ∷ word_at words j) (length (word_at words j))
+      → IsGrowing c.rank (IsMember (integer_matrix c) top) k low high s (j + 1) words
   growing-no_next inside none =
-      growing-skip c.rank (IsMember (integer_matrix c) top earlier) tailed k low high s j words h inside (no-next-none inside none)
+      growing-skip c.rank (IsMember (integer_matrix c) top) tailed k low high s j words h inside (no-next-none inside none)
 
   -- the next child is appended: the list grows, and it is a prefix of the members
-  module _ (short : k < MAX_LETTERS) (few : length words ≤ MAX_MEMBERS) (child : Child) (letter : IsLetter c.rank s) (inside : j < high)
-      (n : IsNext (integer_matrix c) words top earlier (s ∷ word_at words j) child) where
-    member : IsMember (integer_matrix c) top earlier (s ∷ word_at words j)
-    member = next-member child letter (member-closed short few) inside n
+  module _ (short : k < MAX_LETTERS) (few : length words ≤ MAX_MEMBERS) (lower : List ℕ) (letter : IsLetter c.rank s) (inside : j < high)
+      (n : IsNext (integer_matrix c) words top (s ∷ word_at words j) lower) where
+    member : IsMember (integer_matrix c) top (s ∷ word_at words j)
+    member = next-member lower letter (member-closed short few) inside n
 
-    pub growing-next : IsGrowing c.rank (IsMember (integer_matrix c) top earlier) k low high s (j + 1) (words ++ (s ∷ word_at words j) ∷ [])
-    growing-next = growing-push c.rank (IsMember (integer_matrix c) top earlier) tailed k low high s j words h inside member
+    pub growing-next : IsGrowing c.rank (IsMember (integer_matrix c) top) k low high s (j + 1) (words ++ (s ∷ word_at words j) ∷ [])
+    growing-next = growing-push c.rank (IsMember (integer_matrix c) top) tailed k low high s j words h inside member
 
-    pub prefix-next : IsPrefixOf (IsMember (integer_matrix c) top earlier) (words ++ (s ∷ word_at words j) ∷ [])
-    prefix-next = growing-prefix c.rank (IsMember (integer_matrix c) top earlier) tailed k low high s j words h inside member
+    pub prefix-next : IsPrefixOf (IsMember (integer_matrix c) top) (words ++ (s ∷ word_at words j) ∷ [])
+    prefix-next = growing-prefix c.rank (IsMember (integer_matrix c) top) tailed k low high s j words h inside member

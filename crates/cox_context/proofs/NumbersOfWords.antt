@@ -9,12 +9,12 @@ use Rattle.cox_base.specs.Matrix.{IsLetter}
 use Rattle.cox_base.specs.IntegerMatrix.{IntegerMatrix}
 use Rattle.cox_base.specs.Admissible.{IsAdmissible}
 use Rattle.cox_base.specs.ShortLex.{normal_form}
+use Rattle.cox_base.specs.Bruhat.{IsBelow}
 use Rattle.cox_reflect.proofs.Elements.{same-trans, same-equal, same-push}
 use Rattle.cox_reflect.proofs.Search.{normal_form-same, normal_form-equal}
 use Rattle.cox_reflect.proofs.NormalElements.{element-word}
 use Rattle.cox_context.specs.Closed.{IsClosed}
 use Rattle.cox_context.specs.Numbers.{word_at}
-use Rattle.cox_context.proofs.PlacedWords.{rising-length}
 use Rattle.cox_context.proofs.Ideals.{element-tail, below-tail}
 use Rattle.cox_context.proofs.Shifting.{shift-back}
 use Rattle.cox_context.proofs.RightShifts.{first-off}
@@ -42,11 +42,15 @@ module _ (A : IntegerMatrix) (g : IsAdmissible A) (words : List (List ℕ)) (clo
       → word_at words k ≡ s ∷ word_at words at
   shift-word s at k c e = e ∙ contained-normal s (word_at words at) c
 
-  pub shift-later : (s at k : ℕ) → Contains words (s ∷ word_at words at) → at < length words
+  pub shift-later : (s at k : ℕ) → Contains words (s ∷ word_at words at) → at < length words → k < length words
       → word_at words k ≡ normal_form A (s ∷ word_at words at) → at < k
-  shift-later s at k c l e =
+  shift-later s at k c l inside e =
       ⊎_elim (λ (less : at < k). less)
-      (λ (more : k ≤ at). absurd (omega (arith, rising-length words k at closed.rising more l, ap length (shift-word s at k c e))))
+      (λ (more : k ≤ at).
+      let up : IsBelow A (word_at words at) (word_at words k)
+      = rw (shift-word s at k c e) (below-tail A g s (word_at words at) (closed.element (s ∷ word_at words at) c))
+      in let same : at ≡ k = omega (arith, more, closed.upward at k l inside up)
+      in absurd (omega (arith, ap (λ (j : ℕ). length (word_at words j)) same, ap length (shift-word s at k c e))))
       (cases_lt at k)
 
   -- a shift to a member that begins with s is that member without s

@@ -1,6 +1,6 @@
 -- Bruhat order and descents of members, by their left shifts.
 use Rattle.std.proofs.Common.{◌≡◌, ℕ, ◌≤◌, ◌<◌, Bool, true, min, List, [], ◌∷◌, ◌++◌, length, ◌*◌, Option, None, Some, ◌↔◌}
-use Rattle.std.proofs.Common.{IsTrue, Contains, ◌+◌, ◌-◌, IsBitSet, filter, refl, sym, ◌∙◌, ⊎_elim, arith, ltb-true, lt-ltb}
+use Rattle.std.proofs.Common.{IsTrue, Contains, ◌+◌, ◌-◌, IsBitSet, filter, refl, sym, ◌∙◌, ⊎_elim, arith, ltb-true, lt-ltb, get_or}
 use Rattle.std.proofs.lemmas.Bool.{cases_lt}
 use Rattle.cox_base.specs.declared.side.Side.{Side}
 use Rattle.cox_base.specs.Matrix.{IsLetter}
@@ -21,11 +21,10 @@ use Rattle.cox_context.specs.Closed.{IsClosed}
 use Rattle.cox_context.specs.Numbers.{word_at}
 use Rattle.cox_context.specs.Numbering.{IsNumberOf}
 use Rattle.cox_context.specs.Shifts.{entry, AreLeftShifts, AreRightShifts, AreSets}
-use Rattle.cox_context.specs.Sets.{is_lower, has_letter, AreLoweringSets}
+use Rattle.cox_context.specs.Sets.{IsLoweringSet, is_lower, has_letter, AreLoweringSets}
 use Rattle.cox_context.proofs.LetterSets.{has_letter-bit}
 use Rattle.cox_reflect.proofs.Roots.{left_descent-letter, descent-letter}
 use Rattle.cox_base.specs.ShortLex.{letters}
-use Rattle.cox_context.proofs.PlacedWords.{rising-place}
 use Rattle.cox_context.proofs.ShiftPlaces.{place-within}
 use Rattle.cox_context.proofs.RightShifts.{first-letter}
 use Rattle.cox_context.proofs.Shifting.{length-at, first-member, shift-less, right_shift-less, descent-member, right_descent-member}
@@ -107,7 +106,7 @@ module _ (A : IntegerMatrix) (g : IsAdmissible A) (words : List (List ℕ)) (clo
     where
       only : IsBelow A (word_at words i) [] → i ≡ 0
       only b =
-          rising-place words i 0 closed.rising c.within (omega (arith, closed.some))
+          closed.distinct i 0 c.within (omega (arith, closed.some))
           (empty (word_at words i) (omega (arith, below-length A g b, length-at A g words closed i c.within, word_length-length A g []))
           ∙ sym (first-member A g words closed))
         where
@@ -135,32 +134,41 @@ module _ (A : IntegerMatrix) (g : IsAdmissible A) (words : List (List ℕ)) (clo
   lower-right_descent s i found l m h = lower-tells (IsRightDescent A (word_at words i) s) (word_at words i ++ s ∷ []) i found
       (right_descent-member A g words closed s i m) (λ k within shift. right_shift-less A g words closed s i k l m within shift) h
 
-  -- the descents of the members, read off their shifts
-  sets-of : (P : List ℕ → ℕ → Type 0) (table sets : List ℕ) → AreLoweringSets A.rank table (length words) sets
-      → ((i s : ℕ) → P (word_at words i) s → IsLetter A.rank s)
-      → ((s i : ℕ) → IsLetter A.rank s → i < length words → (is_lower i (entry A.rank table s i) ≡ true) ↔ P (word_at words i) s)
-      → AreSets P words sets
-  sets-of P table sets k is_letter tells = record {
-    size = k.size;
-    bit = λ i b l. (
-      λ one. let p = ((k.each i l).bit b).0 one in (tells (b + 1) i (letter b (omega (arith, p.0))) l).0 p.1,
-      λ d. let m = is_letter i (b + 1) d in ((k.each i l).bit b).1 (omega (arith, m.to_rank), (tells (b + 1) i m l).1 d),
-    );
-  }
+  -- the descents of a member, read off its shifts
+  set-of : (P : List ℕ → ℕ → Type 0) (table : List ℕ) (i set : ℕ) → IsLoweringSet A.rank table i (A.rank + 1) set
+      → ((s : ℕ) → P (word_at words i) s → IsLetter A.rank s)
+      → ((s : ℕ) → IsLetter A.rank s → (is_lower i (entry A.rank table s i) ≡ true) ↔ P (word_at words i) s)
+      → (k : ℕ) → IsBitSet set k ↔ P (word_at words i) (k + 1)
+  set-of P table i set h is_letter tells k = (
+    λ one. let p = (h.bit k).0 one in (tells (k + 1) (letter (omega (arith, p.0)))).0 p.1,
+    λ d. let m = is_letter (k + 1) d in (h.bit k).1 (omega (arith, m.to_rank), (tells (k + 1) m).1 d),
+  )
     where
-      letter : (b : ℕ) → b + 1 ≤ A.rank → IsLetter A.rank (b + 1)
-      letter b m = record { from_one = omega arith; to_rank = m }
+      letter : k + 1 ≤ A.rank → IsLetter A.rank (k + 1)
+      letter m = record { from_one = omega arith; to_rank = m }
 
+  pub left-set : (table : List ℕ) (i set : ℕ) → i < length words → AreLeftShifts A words table → IsLoweringSet A.rank table i (A.rank + 1) set
+      → (k : ℕ) → IsBitSet set k ↔ IsLeftDescent A (word_at words i) (k + 1)
+  left-set table i set l h one = set-of (IsLeftDescent A) table i set one (λ s. left_descent-letter A g (word_at words i) s)
+      (λ s m. lower-descent s i (entry A.rank table s i) m l (h.shift s i m l))
+
+  pub right-set : (table : List ℕ) (i set : ℕ) → i < length words → length table ≡ length words * A.rank → AreRightShifts A words table
+      → IsLoweringSet A.rank table i (A.rank + 1) set → (k : ℕ) → IsBitSet set k ↔ IsRightDescent A (word_at words i) (k + 1)
+  right-set table i set l size h one = set-of (IsRightDescent A) table i set one (λ s. descent-letter A g (word_at words i) s)
+      (λ s m. lower-right_descent s i (entry A.rank table s i) m l
+      (h.shift s i m l (rw size (place-within A.rank (length words) i s m l))))
+
+  -- the same for all members
   pub left-sets : (table sets : List ℕ) → AreLeftShifts A words table → AreLoweringSets A.rank table (length words) sets
       → AreSets (IsLeftDescent A) words sets
-  left-sets table sets h k = sets-of (IsLeftDescent A) table sets k (λ i s. left_descent-letter A g (word_at words i) s)
-      (λ s i l m. lower-descent s i (entry A.rank table s i) l m (h.shift s i l m))
+  left-sets table sets h all = record { size = all.size; bit = λ i k l. left-set table i (get_or sets i 0) l h (all.each i l) k }
 
   pub right-sets : (table sets : List ℕ) → length table ≡ length words * A.rank → AreRightShifts A words table
       → AreLoweringSets A.rank table (length words) sets → AreSets (IsRightDescent A) words sets
-  right-sets table sets size h k = sets-of (IsRightDescent A) table sets k (λ i s. descent-letter A g (word_at words i) s)
-      (λ s i l m. lower-right_descent s i (entry A.rank table s i) l m
-      (h.shift s i l m (rw size (place-within A.rank (length words) i s l m))))
+  right-sets table sets size h all = record {
+    size = all.size;
+    bit = λ i k l. right-set table i (get_or sets i 0) l size h (all.each i l) k;
+  }
 
 -- the letters of a set whose bits tell a property of them
 letter-tells : {rank : ℕ} (P : ℕ → Type 0) (set s : ℕ) → ((k : ℕ) → IsBitSet set k ↔ P (k + 1)) → IsLetter rank s

@@ -10,76 +10,76 @@ use Rattle.cox_base.specs.IntegerMatrix.{IntegerMatrix}
 use Rattle.cox_base.specs.Admissible.{IsAdmissible}
 use Rattle.cox_base.specs.ShortLex.{normal_form}
 use Rattle.cox_base.specs.Descents.{IsLeftDescent}
+use Rattle.cox_base.specs.Bruhat.{IsBelow}
 use Rattle.cox_context.specs.declared.shifts.TheConstants.{NO_MEMBER}
 use Rattle.cox_context.specs.Closed.{IsClosed}
 use Rattle.cox_context.specs.Numbers.{word_at}
 use Rattle.cox_context.specs.Numbering.{IsNumberOf}
 use Rattle.cox_context.specs.Shifts.{entry, entry_number, AreLeftShifts, IsLower}
 use Rattle.cox_context.specs.Rows.{IsRowPushed}
-use Rattle.cox_context.specs.Growth.{AreLower, AreNumbers}
+use Rattle.cox_context.specs.Growth.{AreLower}
 use Rattle.cox_base.specs.Members.{IsElement}
 use Rattle.cox_context.proofs.PlacedWords.{contains-placed, placed-contains, word_at-old, word_at-new}
-use Rattle.cox_context.proofs.PlacedWords.{rising-length, rising-place}
-use Rattle.cox_context.proofs.Shifting.{element-at, first-member}
-use Rattle.cox_base.specs.Length.{word_length}
-use Rattle.cox_reflect.proofs.Elements.{same-sym, same-trans, same-equal, same-cons, same-square}
+use Rattle.cox_context.proofs.Shifting.{element-at}
+use Rattle.cox_reflect.proofs.Elements.{same-refl, same-sym, same-trans, same-equal, same-cons, same-square}
 use Rattle.cox_reflect.proofs.Search.{normal_form-same, normal_form-equal, word_length-length}
 use Rattle.cox_reflect.proofs.Lengths.{word_length-is}
 use Rattle.cox_reflect.proofs.Deletion.{left_length}
+use Rattle.cox_reflect.proofs.Bruhat.{below-same, below-ascent}
 use Rattle.cox_reflect.proofs.NormalElements.{element-length}
 use Rattle.cox_context.proofs.ShiftPlaces.{place-within, entry-is, entry-set_same, entry-set_other, entry-old, entry-new, entry_number-some}
 use Rattle.cox_context.proofs.ShiftPlaces.{entry_number-none}
 
--- the entries of the letters before t, the later ones being empty
-pub record AreLowerBefore (A : IntegerMatrix) (words : List (List ℕ)) (y : List ℕ) (t : ℕ) (lower : List ℕ) : Type 0 where
-  pub size : A.rank ≤ length lower
-  pub each : (q : ℕ) → IsLetter A.rank q → q < t → IsLower A words y q (entry A.rank lower q 0)
-  pub empty : (q : ℕ) → IsLetter A.rank q → t ≤ q → entry A.rank lower q 0 ≡ None
+-- what holds of the entries of the letters before t, the later ones being empty
+pub record AreEntriesBefore (rank : ℕ) (Q : ℕ → Option ℕ → Type 0) (t : ℕ) (row : List ℕ) : Type 0 where
+  pub size : rank ≤ length row
+  pub each : (q : ℕ) → IsLetter rank q → q < t → Q q (entry rank row q 0)
+  pub empty : (q : ℕ) → IsLetter rank q → t ≤ q → entry rank row q 0 ≡ None
 
-module _ (A : IntegerMatrix) (words : List (List ℕ)) (y : List ℕ) where
+module _ (rank : ℕ) (Q : ℕ → Option ℕ → Type 0) where
   -- the place of a letter in a row alone
-  row-within : (q : ℕ) (lower : List ℕ) → IsLetter A.rank q → A.rank ≤ length lower → 0 * A.rank + (q - 1) < length lower
-  row-within q lower l size = omega (arith, l.from_one, l.to_rank, size)
+  row-within : (q : ℕ) (row : List ℕ) → IsLetter rank q → rank ≤ length row → 0 * rank + (q - 1) < length row
+  row-within q row l size = omega (arith, l.from_one, l.to_rank, size)
 
-  pub lower-start : (n : ℕ) → A.rank ≤ n → AreLowerBefore A words y 1 (replicate n NO_MEMBER)
-  lower-start n l = record {
+  pub entries-start : (n : ℕ) → rank ≤ n → AreEntriesBefore rank Q 1 (replicate n NO_MEMBER)
+  entries-start n l = record {
     size = omega (arith, l, length-replicate {A = ℕ} n NO_MEMBER);
     each = λ q k less. absurd (omega (arith, k.from_one, less));
-    empty = λ q k more. sym (entry-is A.rank (replicate n NO_MEMBER) q 0)
-        ∙ entry_number-none _ (get_or-replicate n (0 * A.rank + (q - 1)) NO_MEMBER 0 (omega (arith, k.from_one, k.to_rank, l)));
+    empty = λ q k more. sym (entry-is rank (replicate n NO_MEMBER) q 0)
+        ∙ entry_number-none _ (get_or-replicate n (0 * rank + (q - 1)) NO_MEMBER 0 (omega (arith, k.from_one, k.to_rank, l)));
   }
 
-  -- a letter that does not shorten
-  pub lower-skip : (t n : ℕ) (lower : List ℕ) → n ≡ t + 1 → AreLowerBefore A words y t lower → IsLower A words y t None
-      → AreLowerBefore A words y n lower
-  lower-skip t n lower e h none = record {
+  -- a letter without an entry
+  pub entries-skip : (t n : ℕ) (row : List ℕ) → n ≡ t + 1 → AreEntriesBefore rank Q t row → Q t None → AreEntriesBefore rank Q n row
+  entries-skip t n row e h none = record {
     size = h.size;
     each = λ q l less. ⊎_elim (λ (below : q < t). h.each q l below)
         (λ (above : t ≤ q). let same : q ≡ t = omega (arith, less, e, above) in rw (h.empty q l above, same) none) (cases_lt q t);
     empty = λ q l more. h.empty q l (omega (arith, more, e));
   }
 
-  -- one that does: its entry is written
-  pub lower-set : (t n k : ℕ) (lower : List ℕ) → n ≡ t + 1 → IsLetter A.rank t → AreLowerBefore A words y t lower → k < NO_MEMBER
-      → IsLower A words y t (Some k) → AreLowerBefore A words y n (set lower (t - 1) k)
-  lower-set t n k lower e lt h small some = rw (← place) (record {
-    size = omega (arith, h.size, length-set lower (0 * A.rank + (t - 1)) k);
+  -- a letter whose entry is written
+  pub entries-set : (t n k : ℕ) (row : List ℕ) → n ≡ t + 1 → IsLetter rank t → AreEntriesBefore rank Q t row → k < NO_MEMBER
+      → Q t (Some k) → AreEntriesBefore rank Q n (set row (t - 1) k)
+  entries-set t n k row e lt h small some = rw (← place) (record {
+    size = omega (arith, h.size, length-set row (0 * rank + (t - 1)) k);
     each = λ q l less. ⊎_elim (λ (same : q ≡ t). rw (same, here) some)
         (λ (ne : q ≡ t → ⊥). rw (other q l ne) (h.each q l (omega (arith, less, e, ne)))) (cases_eq q t);
     empty = λ q l more. let ne : q ≡ t → ⊥ = (λ same. omega (arith, same, more, e)) in other q l ne ∙ h.empty q l (omega (arith, more, e));
   })
     where
-      place : 0 * A.rank + (t - 1) ≡ t - 1
+      place : 0 * rank + (t - 1) ≡ t - 1
       place = omega arith
 
-      here : entry A.rank (set lower (0 * A.rank + (t - 1)) k) t 0 ≡ Some k
-      here = entry-set_same A.rank lower t 0 k (row-within t lower lt h.size) ∙ entry_number-some k small
+      here : entry rank (set row (0 * rank + (t - 1)) k) t 0 ≡ Some k
+      here = entry-set_same rank row t 0 k (row-within t row lt h.size) ∙ entry_number-some k small
 
-      other : (q : ℕ) → IsLetter A.rank q → (q ≡ t → ⊥) → entry A.rank (set lower (0 * A.rank + (t - 1)) k) q 0 ≡ entry A.rank lower q 0
-      other q l ne = entry-set_other A.rank lower t 0 q 0 k lt l (λ both. ne both.0)
+      other : (q : ℕ) → IsLetter rank q → (q ≡ t → ⊥) → entry rank (set row (0 * rank + (t - 1)) k) q 0 ≡ entry rank row q 0
+      other q l ne = entry-set_other rank row t 0 q 0 k lt l (λ both. ne both.0)
 
-  pub lower-end : (t : ℕ) (lower : List ℕ) → A.rank < t → AreLowerBefore A words y t lower → AreLower A words y lower
-  lower-end t lower all h = record { size = h.size; each = λ q l. h.each q l (omega (arith, l.to_rank, all)) }
+pub lower-end : (A : IntegerMatrix) (words : List (List ℕ)) (y : List ℕ) (t : ℕ) (lower : List ℕ) → A.rank < t
+    → AreEntriesBefore A.rank (λ q x. IsLower A words y q x) t lower → AreLower A words y lower
+lower-end A words y t lower all h = record { size = h.size; each = λ q l. h.each q l (omega (arith, l.to_rank, all)) }
 
 -- the entry of a row alone, as a number
 pub row-entry : (rank : ℕ) (lower : List ℕ) (t : ℕ) → entry_number (get_or lower (t - 1) 0) ≡ entry rank lower t 0
@@ -176,35 +176,43 @@ module _ (A : IntegerMatrix) (g : IsAdmissible A) (words : List (List ℕ)) (y :
   y_element : IsElement A y
   y_element = rw y_at at (element-at A g (words ++ y ∷ []) closed (length words) (omega (arith, more)))
 
-  -- no word is longer than the last
-  upto : (j : ℕ) → j < length words → length (word_at words j) ≤ length y
-  upto j l =
-      let h = rising-length (words ++ y ∷ []) j (length words) closed.rising (omega (arith, l)) (omega (arith, more))
-      in rw (word_at-old words y j l, y_at) at h
+  -- the last word is below no other one
+  below-none : (j : ℕ) → j < length words → IsBelow A y (word_at words j) → ⊥
+  below-none j l b =
+      let up = closed.upward (length words) j (omega (arith, more)) (omega (arith, l, more)) (rw (y_at, word_at-old words y j l) b)
+      in omega (arith, l, up)
 
   old_element : (j : ℕ) → j < length words → IsElement A (word_at words j)
   old_element j l = let h = element-at A g (words ++ y ∷ []) closed j (omega (arith, l, more)) in rw (word_at-old words y j l) at h
 
   old_place : (k j : ℕ) → k < length words → j < length words → word_at words k ≡ word_at words j → k ≡ j
   old_place k j l m e =
-      rising-place (words ++ y ∷ []) k j closed.rising (omega (arith, l, more)) (omega (arith, m, more))
+      closed.distinct k j (omega (arith, l, more)) (omega (arith, m, more))
       (word_at-old words y k l ∙ e ∙ sym (word_at-old words y j m))
 
   -- a letter that leads from y to a word of the list shortens y
-  leads_down : (t : ℕ) → IsLetter A.rank t → word_length A (t ∷ y) ≤ length y → IsLeftDescent A y t
-  leads_down t l upto =
-      ⊎_elim (λ longer. absurd (omega (arith, longer, upto, element-length A g y y_element))) (λ shorter. omega (arith, shorter))
+  leads_down : (t j : ℕ) → IsLetter A.rank t → j < length words → normal_form A (t ∷ y) ≡ word_at words j → IsLeftDescent A y t
+  leads_down t j l m e =
+      ⊎_elim (λ longer. absurd (below-none j m (below-same A g (same-refl A g y)
+      (same-trans A g (same-sym A g (normal_form-same A g (t ∷ y))) (same-equal A g e))
+      (below-ascent A g y t l (omega (arith, longer))))))
+      (λ shorter. omega (arith, shorter))
       (left_length A g t y l)
+
+  -- and none leads from it to itself
+  leads_off : (t : ℕ) → IsLetter A.rank t → normal_form A (t ∷ y) ≡ y → ⊥
+  leads_off t l e =
+      let size = word_length-is A (t ∷ y) ∙ ap length e
+      in ⊎_elim (λ longer. omega (arith, longer, size, element-length A g y y_element))
+      (λ shorter. omega (arith, shorter, size, element-length A g y y_element)) (left_length A g t y l)
 
   module _ (lower old new : List ℕ) (h : AreLeftShifts A words old) (numbers : AreLower A words y lower)
       (pushed : IsRowPushed A.rank (length words) lower (A.rank + 1) old new) where
     from_lower : (t : ℕ) (x : Option ℕ) → IsLetter A.rank t → IsLower A words y t x → IsNumberOf (words ++ y ∷ []) (normal_form A (t ∷ y)) x
     from_lower t None l none = λ c.
         let p = contains-placed (words ++ y ∷ []) (normal_form A (t ∷ y)) c
-        in let short : length (word_at (words ++ y ∷ []) p.i) ≤ length y =
-        ⊎_elim (λ (below : p.i < length words). rw (word_at-old words y p.i below) (upto p.i below))
-        (λ (last : p.i ≡ length words). rw (word_at-new words y p.i last) (omega arith)) (push_cases words y p.i p.within)
-        in none (leads_down t l (omega (arith, word_length-is A (t ∷ y), ap length p.is, short)))
+        in ⊎_elim (λ (below : p.i < length words). none (leads_down t p.i l below (sym p.is ∙ word_at-old words y p.i below)))
+        (λ (last : p.i ≡ length words). leads_off t l (sym p.is ∙ word_at-new words y p.i last)) (push_cases words y p.i p.within)
     from_lower t (Some k) l (d, inside, is) = (omega (arith, inside, more), word_at-old words y k inside ∙ is)
 
     at_new : (t j : ℕ) → IsLetter A.rank t → j ≡ length words
@@ -223,7 +231,7 @@ module _ (A : IntegerMatrix) (g : IsAdmissible A) (words : List (List ℕ)) (y :
         → IsLower A words y t x
         → x ≡ Some j
     noted t j None l m e none =
-        absurd (none (leads_down t l (omega (arith, word_length-is A (t ∷ y), ap length (back_from t j l m e), upto j m))))
+        absurd (none (leads_down t j l m (back_from t j l m e)))
     noted t j (Some k) l m e (d, inside, is) = ap (λ (i : ℕ). Some i) (old_place k j inside m (is ∙ back_from t j l m e))
 
     from_old : (t j : ℕ) (x : Option ℕ) → IsLetter A.rank t → j < length words → (entry A.rank lower t 0 ≡ Some j → ⊥)
@@ -287,13 +295,3 @@ shifts-start A g = record {
         in let is : [] ≡ normal_form A (s ∷ []) = rw first at p.is
         in ⊎_elim (λ longer. omega (arith, longer, word_length-is A (s ∷ []), ap length is))
         (λ shorter. omega (arith, shorter, word_length-length A g [])) (left_length A g s [] l)
-
-pub numbers-start : (A : IntegerMatrix) → IsAdmissible A → (earlier : List (List ℕ)) → IsClosed A earlier
-    → AreNumbers earlier ([] ∷ []) (0 ∷ [])
-numbers-start A g earlier closed = record {
-  size = refl;
-  each = λ i l. let e : i ≡ 0 = omega (arith, l) in rw e (rw first (omega (arith, closed.some), first-member A g earlier closed));
-}
-  where
-    first : entry 1 (0 ∷ []) 1 0 ≡ Some 0
-    first = sym (entry-is 1 (0 ∷ []) 1 0)

@@ -1,5 +1,5 @@
 -- The members of a closed list: what is below them, and their shifts.
-use Rattle.std.proofs.Common.{◌≡◌, ℕ, ◌+◌, ◌≤◌, ◌<◌, List, [], ◌∷◌, ◌++◌, length, Contains, ◌↔◌, Option, None, Some, IsSome, refl, ap, sym}
+use Rattle.std.proofs.Common.{◌≡◌, ℕ, ◌+◌, ◌≤◌, ◌<◌, List, [], ◌∷◌, ◌++◌, length, Contains, ◌↔◌, Option, None, Some, IsSome, ap, sym}
 use Rattle.std.proofs.Common.{◌∙◌, ◌⊎◌, ⊎_elim, arith}
 use Rattle.std.proofs.lemmas.Bool.{cases_order}
 use Rattle.std.proofs.lemmas.List.Elements.{All-head}
@@ -11,19 +11,26 @@ use Rattle.cox_base.specs.ShortLex.{normal_form}
 use Rattle.cox_base.specs.Length.{word_length}
 use Rattle.cox_base.specs.Descents.{IsLeftDescent, IsRightDescent}
 use Rattle.cox_base.specs.Bruhat.{IsBelow}
-use Rattle.cox_reflect.proofs.Elements.{same-refl, same-sym, same-trans, same-equal, same-cons, same-square}
-use Rattle.cox_reflect.proofs.Search.{normal_form-same, normal_form-equal}
+use Rattle.cox_reflect.proofs.Elements.{same-refl, same-sym, same-trans, same-equal, same-cons, same-square, same-push_twice}
+use Rattle.cox_reflect.proofs.Search.{normal_form-same, normal_form-equal, word_length-equal}
 use Rattle.cox_reflect.proofs.Lengths.{word_length-is}
 use Rattle.cox_reflect.proofs.Deletion.{left_length, right_length, sides_same}
-use Rattle.cox_reflect.proofs.Bruhat.{below-same, below-refl, below-trans, below-least, below-length, below-equal_length}
+use Rattle.cox_reflect.proofs.Bruhat.{below-same, below-refl, below-trans, below-least}
 use Rattle.cox_reflect.proofs.Bruhat.{below-descent, below-ascent, below-push}
 use Rattle.cox_reflect.proofs.NormalElements.{element-normal_form, element-word, element-length}
 use Rattle.cox_base.specs.Members.{IsElement}
 use Rattle.cox_context.specs.Closed.{IsClosed}
 use Rattle.cox_context.specs.Numbers.{word_at}
 use Rattle.cox_context.specs.Numbering.{IsNumberOf}
-use Rattle.cox_context.proofs.PlacedWords.{IsPlaced, contains-placed, contains-at, rising-place, rising-length}
+use Rattle.cox_context.proofs.PlacedWords.{IsPlaced, contains-placed, contains-at}
 use Rattle.cox_context.proofs.Ideals.{element-nil, element-tail, below-tail}
+
+module _ (A : IntegerMatrix) (g : IsAdmissible A) where
+  pub below-right_ascent : (x : List ℕ) (s : ℕ) → word_length A x < word_length A (x ++ s ∷ []) → IsBelow A x (x ++ s ∷ [])
+  below-right_ascent x s up =
+      let d : IsRightDescent A (x ++ s ∷ []) s = omega (arith, up, word_length-equal A g (same-push_twice A g x s))
+      in below-same A g (same-push_twice A g x s) (same-refl A g (x ++ s ∷ []))
+      (below-push A g (x ++ s ∷ []) (x ++ s ∷ []) s d (below-refl A g (same-refl A g (x ++ s ∷ []))))
 
 module _ (A : IntegerMatrix) (g : IsAdmissible A) (words : List (List ℕ)) (closed : IsClosed A words) where
   pub element-at : (i : ℕ) → i < length words → IsElement A (word_at words i)
@@ -40,26 +47,18 @@ module _ (A : IntegerMatrix) (g : IsAdmissible A) (words : List (List ℕ)) (clo
 
   -- a member with a greater number is not below
   pub later-not_below : (i j : ℕ) → i < length words → j < length words → j < i → IsBelow A (word_at words i) (word_at words j) → ⊥
-  later-not_below i j l m h b =
-      let size : length (word_at words j) ≤ length (word_at words i) = rising-length words j i closed.rising (omega arith) l
-      in let same : SameElement A (word_at words i) (word_at words j)
-      = below-equal_length A g b (omega (arith, size, below-length A g b, length-at i l, length-at j m))
-      in omega (
-        arith,
-        rising-place words i j closed.rising l m (sym (element-at i l).normal ∙ normal_form-equal A g same ∙ (element-at j m).normal),
-      )
+  later-not_below i j l m h b = omega (arith, h, closed.upward i j l m b)
 
   -- the identity is the first member
   pub first-member : word_at words 0 ≡ []
-  first-member = empty (word_at words 0) (omega (arith, rising-length words 0 p.i closed.rising (omega arith) p.within, ap length p.is))
+  first-member =
+      let none : p.i ≤ 0 = closed.upward p.i 0 p.within (omega (arith, closed.some)) (rw p.is (below-least A g (word_at words 0)))
+      in let first : p.i ≡ 0 = omega (arith, none)
+      in rw first at p.is
     where
       p : IsPlaced words []
       p = contains-placed words [] (closed.down [] (word_at words 0) (contains-at words 0 (omega (arith, closed.some))) (element-nil A g)
           (below-least A g (word_at words 0)))
-
-      empty : (n : List ℕ) → length n ≤ 0 → n ≡ []
-      empty [] l = refl
-      empty (s ∷ x) l = absurd (omega (arith, l))
 
   -- from s x back to x
   pub shift-back : (s : ℕ) (i k : ℕ) → i < length words → word_at words k ≡ normal_form A (s ∷ word_at words i)
@@ -71,28 +70,44 @@ module _ (A : IntegerMatrix) (g : IsAdmissible A) (words : List (List ℕ)) (clo
 
   -- where an element u has one letter less than x, its number is less than that of x, and where it has one more, it is not
   shift-order : (u : List ℕ) (i k : ℕ) → i < length words → k < length words → word_at words k ≡ normal_form A u
+      → (word_length A (word_at words i) < word_length A u → IsBelow A (word_at words i) u)
+      → (word_length A u < word_length A (word_at words i) → IsBelow A u (word_at words i))
       → (word_length A u ≡ word_length A (word_at words i) + 1) ⊎ (word_length A (word_at words i) ≡ word_length A u + 1)
       → (k < i) ↔ (word_length A u < word_length A (word_at words i))
-  shift-order u i k m n e sides = (
-    λ less. ⊎_elim (λ up. absurd (omega (arith, up, size, length-at i m, rising-length words k i closed.rising (omega (arith, less)) m)))
+  shift-order u i k m n e above below sides = (
+    λ less. ⊎_elim (λ up. absurd (omega (
+      arith,
+      less,
+      closed.upward i k m n (below-same A g (same-refl A g (word_at words i)) there (above (omega (arith, up)))),
+    )))
         (λ down. omega (arith, down)) sides,
     λ d. ⊎_elim (λ (q : k ≡ i). absurd (omega (arith, d, size, length-at i m, ap (λ (j : ℕ). length (word_at words j)) q)))
-        (λ side. ⊎_elim (λ below. below)
-        (λ above. absurd (omega (arith, d, size, length-at i m, rising-length words i k closed.rising (omega (arith, above)) n)))
+        (λ side. ⊎_elim (λ less. less)
+        (λ more. absurd (omega (
+          arith,
+          more,
+          closed.upward k i n m (below-same A g there (same-refl A g (word_at words i)) (below d)),
+        )))
         side) (cases_order k i),
   )
     where
       size : word_length A u ≡ length (word_at words k)
       size = word_length-is A u ∙ sym (ap length e)
 
+      there : SameElement A u (word_at words k)
+      there = same-trans A g (same-sym A g (normal_form-same A g u)) (same-equal A g (sym e))
+
   -- so the numbers of s x and x s tell whether s shortens x
   pub shift-less : (s : ℕ) (i k : ℕ) → IsLetter A.rank s → i < length words → k < length words
       → word_at words k ≡ normal_form A (s ∷ word_at words i) → (k < i) ↔ IsLeftDescent A (word_at words i) s
-  shift-less s i k l m n e = shift-order (s ∷ word_at words i) i k m n e (left_length A g s (word_at words i) l)
+  shift-less s i k l m n e = shift-order (s ∷ word_at words i) i k m n e (λ up. below-ascent A g (word_at words i) s l up)
+      (λ down. below-descent A g (word_at words i) s down) (left_length A g s (word_at words i) l)
 
   pub right_shift-less : (s : ℕ) (i k : ℕ) → IsLetter A.rank s → i < length words → k < length words
       → word_at words k ≡ normal_form A (word_at words i ++ s ∷ []) → (k < i) ↔ IsRightDescent A (word_at words i) s
-  right_shift-less s i k l m n e = shift-order (word_at words i ++ s ∷ []) i k m n e (right_length A g (word_at words i) s l)
+  right_shift-less s i k l m n e = shift-order (word_at words i ++ s ∷ []) i k m n e (λ up. below-right_ascent A g (word_at words i) s up)
+      (λ down. below-push A g (word_at words i) (word_at words i) s down (below-refl A g (same-refl A g (word_at words i))))
+      (right_length A g (word_at words i) s l)
 
   -- a shift that shortens a member is a member
   pub descent-member : (s : ℕ) (i : ℕ) → i < length words → IsLeftDescent A (word_at words i) s

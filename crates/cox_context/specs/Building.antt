@@ -8,13 +8,12 @@ use Rattle.cox_context.specs.declared.members.TheConstants.{MAX_MEMBERS}
 use Rattle.cox_context.specs.Closed.{IsClosed}
 use Rattle.cox_context.specs.WantedMembers.{IsMember, IsTop}
 use Rattle.cox_context.specs.Shifts.{AreLeftShifts}
-use Rattle.cox_context.specs.Growth.{IsGrown, IsGrowing, AreNumbers, AreBelowTop}
+use Rattle.cox_context.specs.Growth.{IsGrown, IsGrowing, AreBelowTop}
 
--- what members are looked for: the group, the top, the earlier members, and how many there may be
+-- what members are looked for: the group, the top, and how many there may be
 pub record Search : Type 0 where
   pub matrix : CoxeterMatrix
   pub top : Option (ArrayVec ℕ)
-  pub earlier : List (List ℕ)
   pub limit : ℕ
 
 -- what contracts see of a builder: what it looks for, and the members that were found
@@ -24,7 +23,7 @@ pub record Building : Type 0 where
 
 -- an element that is looked for
 abbrev pub IsWanted : Search → List ℕ → Type 0
-IsWanted search = IsMember (integer_matrix search.matrix) search.top search.earlier
+IsWanted search = IsMember (integer_matrix search.matrix) search.top
 
 -- it has those of at most k letters, and those of k letters begin at low
 abbrev pub HasUpTo : Building → ℕ → ℕ → Type 0
@@ -34,15 +33,12 @@ HasUpTo b k low = IsGrown b.search.matrix.rank (IsWanted b.search) k low b.membe
 abbrev pub HasChildren : Building → ℕ → ℕ → ℕ → ℕ → ℕ → Type 0
 HasChildren b k low high s j = IsGrowing b.search.matrix.rank (IsWanted b.search) k low high s j b.members
 
--- the earlier members and those that were found are closed downwards, and each table is that of its members
-pub record IsBuilder (search : Search) (members : List (List ℕ)) (earlier_table table numbers : List ℕ) : Type 0 where
+-- the members are closed downwards and below the top, and the table is that of their left shifts
+pub record IsBuilder (search : Search) (members : List (List ℕ)) (table : List ℕ) : Type 0 where
   pub matrix : IsCoxeterMatrix search.matrix
   pub top : IsTop (integer_matrix search.matrix) search.top
-  pub earlier : IsClosed (integer_matrix search.matrix) search.earlier
-  pub earlier_left : AreLeftShifts (integer_matrix search.matrix) search.earlier earlier_table
   pub limit : search.limit ≤ MAX_MEMBERS
   pub room : length members ≤ search.limit
   pub closed : IsClosed (integer_matrix search.matrix) members
   pub left : AreLeftShifts (integer_matrix search.matrix) members table
-  pub numbered : AreNumbers search.earlier members numbers
-  pub below : AreBelowTop (integer_matrix search.matrix) search.top members numbers
+  pub below : AreBelowTop (integer_matrix search.matrix) search.top members

@@ -1,17 +1,15 @@
 -- A list of members as it grows by length: the members of the next length are the s x for s = 1, 2, .. and for each s the members
 -- x of this length, in order.
-use Rattle.std.specs.Prelude.{◌≡◌, ◌⊎◌, ℕ, ◌<◌, ◌≤◌, List, ◌∷◌, length, slice_index, Contains, Option, None, Some}
+use Rattle.std.specs.Prelude.{◌≡◌, ◌⊎◌, ℕ, ◌<◌, ◌≤◌, List, ◌∷◌, length, Contains, Option, None, Some}
 use Rattle.arrayvec.specs.ArrayVec.{ArrayVec}
 use Rattle.cox_base.specs.Matrix.{IsLetter}
 use Rattle.cox_base.specs.IntegerMatrix.{IntegerMatrix}
 use Rattle.cox_base.specs.ShortLex.{normal_form}
 use Rattle.cox_base.specs.Bruhat.{IsBelow}
-use Rattle.cox_context.specs.declared.builder.Child.{Child}
 use Rattle.cox_base.specs.Members.{IsElement}
-use Rattle.cox_context.specs.WantedMembers.{IsBelowTop, IsMeant}
+use Rattle.cox_context.specs.WantedMembers.{IsBelowTop}
 use Rattle.cox_base.specs.SortedList.{IsRising}
 use Rattle.cox_context.specs.Numbers.{word_at}
-use Rattle.cox_context.specs.Numbering.{IsNumberOf}
 use Rattle.cox_context.specs.Shifts.{entry, IsLower}
 
 -- the list is that of the members of at most k letters, and those of k letters begin at low
@@ -63,36 +61,23 @@ pub record AreLower (A : IntegerMatrix) (words : List (List ℕ)) (y : List ℕ)
   pub each : (t : ℕ) → IsLetter A.rank t → IsLower A words y t (entry A.rank lower t 0)
 
 -- a word that is to be the next member
-pub record IsNext (A : IntegerMatrix) (words : List (List ℕ)) (top : Option (ArrayVec ℕ)) (earlier : List (List ℕ)) (y : List ℕ)
-    (child : Child) : Type 0 where
+pub record IsNext (A : IntegerMatrix) (words : List (List ℕ)) (top : Option (ArrayVec ℕ)) (y lower : List ℕ) : Type 0 where
   pub new : ¬ (Contains words (normal_form A y))
-  pub meant : IsMeant A top earlier y
-  pub numbers : AreLower A words y child.lower
-  pub number : IsNumberOf earlier (normal_form A y) child.number
+  pub meant : IsBelowTop A top y
+  pub numbers : AreLower A words y lower
 
--- a word y = s x that is not: its element is among the words, or is not meant, or an element below it that is no longer than x is not
--- among the words
-pub data IsNoNext (A : IntegerMatrix) (words : List (List ℕ)) (top : Option (ArrayVec ℕ)) (earlier : List (List ℕ)) (y : List ℕ) (k : ℕ)
-    : Type 0 where
-  known : Contains words (normal_form A y) → IsNoNext A words top earlier y k
-  above : ¬ (IsMeant A top earlier y) → IsNoNext A words top earlier y k
-  outside : IsOutside A words y k → IsNoNext A words top earlier y k
+-- a word y = s x that is not: its element is among the words, or is not below the top, or an element below it that is no longer than x is
+-- not among the words
+pub data IsNoNext (A : IntegerMatrix) (words : List (List ℕ)) (top : Option (ArrayVec ℕ)) (y : List ℕ) (k : ℕ) : Type 0 where
+  known : Contains words (normal_form A y) → IsNoNext A words top y k
+  above : ¬ (IsBelowTop A top y) → IsNoNext A words top y k
+  outside : IsOutside A words y k → IsNoNext A words top y k
 
--- for each word its number among the earlier ones
-pub record AreNumbers (earlier words : List (List ℕ)) (numbers : List ℕ) : Type 0 where
-  pub size : length numbers ≡ length words
-  pub each : (i : ℕ) → i < length words → IsNumberOf earlier (word_at words i) (entry 1 numbers 1 i)
-
--- the words with no earlier number are below the top
-abbrev pub AreBelowTop : IntegerMatrix → Option (ArrayVec ℕ) → List (List ℕ) → List ℕ → Type 0
-AreBelowTop A top words numbers = (i : ℕ) → i < length words → entry 1 numbers 1 i ≡ None → IsBelowTop A top (word_at words i)
+-- the words are below the top
+abbrev pub AreBelowTop : IntegerMatrix → Option (ArrayVec ℕ) → List (List ℕ) → Type 0
+AreBelowTop A top words = (i : ℕ) → i < length words → IsBelowTop A top (word_at words i)
 
 -- what is left of y: y itself, or the member with a number
 abbrev pub remaining_word : List (List ℕ) → List ℕ → Option ℕ → List ℕ
 remaining_word words y None = y
 remaining_word words y (Some i) = word_at words i
-
--- for each number that one of the first places has the last such place
-pub record AreLast (numbers : List ℕ) (done : ℕ) (moved : List ℕ) : Type 0 where
-  pub last : (i k : ℕ) → i < done → entry 1 numbers 1 i ≡ Some k
-      → (slice_index moved k < done) × (entry 1 numbers 1 (slice_index moved k) ≡ Some k)

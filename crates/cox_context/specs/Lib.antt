@@ -26,5 +26,9 @@ pub mod Rows
 pub mod Sets
 -- a list of members as it grows
 pub mod Growth
+-- members that are marked while new ones are appended
+pub mod Spread
 -- what the builder of a context has
 pub mod Building
+-- what the appender has
+pub mod Appending

@@ -12,4 +12,3 @@ pub record AreMoved (old new : List (List ℕ)) (moved : List ℕ) : Type 0 wher
   pub size : length moved ≡ length old
   pub within : (i : ℕ) → i < length old → slice_index moved i < length new
   pub word : (i : ℕ) → i < length old → word_at new (slice_index moved i) ≡ word_at old i
-  pub rising : (i j : ℕ) → i < j → j < length old → slice_index moved i < slice_index moved j

@@ -33,6 +33,14 @@ pub record AreRightShifts (A : IntegerMatrix) (members : List (List ℕ)) (table
   pub shift : (s i : ℕ) → IsLetter A.rank s → i < length members → i * A.rank + (s - 1) < length table
       → IsNumberOf members (normal_form A (word_at members i ++ s ∷ [])) (entry A.rank table s i)
 
+-- the table has the number of x s for each word x but the last one and each letter s, where x s is one of those words
+pub record AreOfOthers (A : IntegerMatrix) (words : List (List ℕ)) (table : List ℕ) : Type 0 where
+  pub others : List (List ℕ)
+  pub last : List ℕ
+  pub is : words ≡ others ++ last ∷ []
+  pub size : length table ≡ length others * A.rank
+  pub shifts : AreRightShifts A others table
+
 -- the narrow table says what the table says, as far as it goes
 abbrev pub AreNarrow : List ℕ → List ℕ → Type 0
 AreNarrow table narrow = (k : ℕ) → k < length narrow → narrow_number (slice_index narrow k) ≡ entry_number (slice_index table k)

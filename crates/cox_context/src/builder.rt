@@ -3,31 +3,30 @@
 //! The members with one letter more are the s x for s = 1, 2, .. and, for each s, the members x of the last length in order, where s is the
 //! least left descent of s x. So each is found once, and they come in ShortLex order. A shift is noted as soon as the longer of its two
 //! members is found: where s leads from x to a member already, s x is shorter than x or was found from a lesser letter.
-ghost use Rattle.std.specs.Prelude.{◌≡◌, ℕ, List, ◌+◌, ◌*◌, ◌<◌, ◌≤◌, ◌∷◌, ◌++◌, [], length, vec_len, vec_capacity};
-ghost use Rattle.std.specs.Prelude.{IfOk, IfErr, OnOk, OnErr, IfSome, IfNone, IsTrue, IsSome, Option, Contains, unwrap_or};
-ghost use Rattle.arrayvec.specs.ArrayVec.{ArrayVec};
+ghost use Rattle.std.specs.Prelude.{◌≡◌, ℕ, List, ◌+◌, ◌*◌, ◌<◌, ◌≤◌, ◌∷◌, ◌++◌, [], length, take, vec_len, vec_capacity};
+ghost use Rattle.std.specs.Prelude.{IfOk, IfErr, OnOk, OnErr, IfSome, IfNone, IsTrue, IsSome, Option, Contains};
 ghost use Rattle.cox_base.specs.Matrix.{IsLetter};
 ghost use Rattle.cox_base.specs.Admissible.{IsCoxeterMatrix};
-ghost use Rattle.cox_base.specs.IntegerMatrix.{IntegerMatrix, integer_matrix};
+ghost use Rattle.cox_base.specs.IntegerMatrix.{integer_matrix};
 ghost use Rattle.cox_base.specs.ShortLex.{normal_form};
 ghost use Rattle.cox_base.specs.Descents.{IsLeftDescent};
+ghost use Rattle.cox_context.specs.Appending.{IsNextMember};
 ghost use Rattle.cox_context.specs.Closed.{IsClosed};
 ghost use Rattle.cox_context.specs.WantedMembers.{IsTop};
 ghost use Rattle.cox_context.specs.Building.{IsWanted, HasUpTo, HasChildren};
 ghost use Rattle.cox_context.specs.Numbers.{word_at};
-ghost use Rattle.cox_context.specs.Numbering.{IsNumberOf};
-ghost use Rattle.cox_context.specs.Growth.{IsNext, IsNoNext, AreNumbers, AreLast};
+ghost use Rattle.cox_context.specs.Growth.{IsNext, IsNoNext};
 ghost use Rattle.cox_context.specs.Refusal.{IsPrefixOf};
 ghost use Rattle.cox_context.specs.FaultMeaning.{IsRefusal};
 ghost use Rattle.cox_context.specs.Shifts.{entry, AreLeftShifts};
-ghost use Rattle.cox_context.specs.Rows.{IsRowPushed};
+ghost use Rattle.cox_context.specs.Rows.{IsRowPushed, IsCutBack};
 
 use crate::ContextFault;
-use crate::lifting::is_meant;
-use crate::lower::lower_members;
+use crate::lifting::is_below_top;
+use crate::lower::{first_lower, lower_members};
 use crate::members::{MAX_MEMBERS, Members};
 use crate::scope::Scope;
-use crate::shifts::{LeftShifts, NO_MEMBER, entry, number_at, place};
+use crate::shifts::{LeftShifts, NO_MEMBER, cut_back, entry, place};
 use cox_base::{Coxeter, MAX_LETTERS, MAX_RANK};
 use std::alloc::{AllocError, Global};
 use std::marker::Model;
@@ -39,24 +38,15 @@ pub(crate) struct Listing {
     pub(crate) left: Vec<u32>,
 }
 
-/// What is known of a new member y: the shorter elements t y, and its number among the earlier members.
-#[derive(Clone, Copy)]
-pub(crate) struct Child {
-    lower: [u32; MAX_RANK],
-    number: Option<u32>,
-}
-
-/// A search for members, what was found so far, and the number of each member among the earlier ones.
+/// A search for members, and what was found so far.
 ///
 /// Contracts see what is looked for, and the members. A step of a length or of a letter takes the builder and gives it back with more
 /// members, so a fault leaves none; one member is appended in place.
 #[derive(Drop)]
 pub(crate) struct Builder<'a> {
     scope: &'a Scope,
-    earlier: &'a Listing,
     limit: u32,
     listing: Listing,
-    numbers: Vec<u32>,
 }
 
 impl<'a> Model for Builder<'a> {
@@ -65,13 +55,13 @@ impl<'a> Model for Builder<'a> {
     ghost Value = { Building };
 
     ghost view = { λ b. record {
-      search = record { matrix = b.scope.now.group; top = b.scope.now.top; earlier = b.earlier.now.members; limit = b.limit };
+      search = record { matrix = b.scope.now.group; top = b.scope.now.top; limit = b.limit };
       members = b.listing.members;
     } };
 
     ghost invariant = { λ b. IsBuilder
-        (record { matrix = b.scope.now.group; top = b.scope.now.top; earlier = b.earlier.now.members; limit = b.limit })
-        b.listing.members b.earlier.now.left.items b.listing.left.items b.numbers.items };
+        (record { matrix = b.scope.now.group; top = b.scope.now.top; limit = b.limit })
+        b.listing.members b.listing.left.items };
 }
 
 impl Listing {
@@ -95,6 +85,48 @@ impl Listing {
     {
         LeftShifts::new(group, &self.members, self.left.as_slice())
     }
+
+    /// Appends the member y = s x, for the member x with the number j, behind the others. After a fault all is as before.
+    pub(crate) fn append(&mut self, group: &Coxeter, s: u8, j: u32) -> Result<(), AllocError>
+        requires closed { IsClosed (integer_matrix group.now) self.old.members }
+        requires left { AreLeftShifts (integer_matrix group.now) self.old.members self.old.left.items }
+        requires letter { IsLetter group.now.rank s }
+        requires member { j < length self.old.members }
+        requires room { length self.old.members < MAX_MEMBERS }
+        requires next { IsNextMember group.now self.old.members s j }
+        ensures members { OnOk result (self.new.members
+            ≡ self.old.members ++ normal_form (integer_matrix group.now) (s ∷ word_at self.old.members j) ∷ []) }
+        ensures left { OnOk result (AreLeftShifts (integer_matrix group.now) self.new.members self.new.left.items) }
+        ensures members_kept { OnErr result (self.new.members ≡ self.old.members) }
+        ensures left_kept { OnErr result (self.new.left.items ≡ self.old.left.items) }
+    {
+        let rank = group.rank();
+        let number = self.members.len();
+        let Ok(lower) = lower_members(&self.shifts(group), s, j) else {
+            unreachable!()
+        };
+        let Some(first) = first_lower(&lower, rank) else {
+            unreachable!()
+        };
+        self.left.reserve(rank as usize)?;
+        self.members.push(first.letter, first.rest)?;
+        push_row(&mut self.left, rank, number, &lower);
+        Ok(())
+    }
+
+    /// Only the first members, so many.
+    pub(crate) fn cut_back(&mut self, rank: u32, count: u32)
+        requires some { 1 ≤ count }
+        requires within { count ≤ length self.old.members }
+        requires limit { rank ≤ MAX_RANK }
+        requires size { length self.old.left.items ≡ length self.old.members * rank }
+        ensures members { self.new.members ≡ take count self.old.members }
+        ensures left { IsCutBack (count * rank) count self.old.left.items self.new.left.items }
+    {
+        let _count = self.members.len();
+        self.members.cut_back(count);
+        cut_back(&mut self.left, rank, count);
+    }
 }
 
 impl<'a> Builder<'a> {
@@ -102,31 +134,22 @@ impl<'a> Builder<'a> {
     pub(crate) fn new(
         alloc: Global,
         scope: &'a Scope,
-        earlier: &'a Listing,
         limit: u32,
     ) -> Result<Builder<'a>, ContextFault>
         requires top { IsTop (integer_matrix scope.now.group) scope.now.top }
-        requires earlier { IsClosed (integer_matrix scope.now.group) earlier.now.members }
-        requires earlier_left { AreLeftShifts (integer_matrix scope.now.group) earlier.now.members earlier.now.left.items }
         requires some { 1 ≤ limit }
         requires limit { limit ≤ MAX_MEMBERS }
-        ensures search { IfOk result (λ b.
-            b.search ≡ record { matrix = scope.now.group; top = scope.now.top; earlier = earlier.now.members; limit = limit }) }
+        ensures search { IfOk result (λ b. b.search ≡ record { matrix = scope.now.group; top = scope.now.top; limit = limit }) }
         ensures grown { IfOk result (λ b. HasUpTo b 0 0) }
         ensures matrix { IsCoxeterMatrix scope.now.group }
         ensures fault { IfErr result (λ fault. fault ≡ ContextFault.NoMemory) }
     {
         let _rank = scope.group.rank();
-        let Ok(listing) = Listing::new(alloc, &scope.group) else {
-            return Err(ContextFault::NoMemory);
-        };
-        match vec![in alloc; 0; 1] {
-            Ok(numbers) => Ok(Builder {
+        match Listing::new(alloc, &scope.group) {
+            Ok(listing) => Ok(Builder {
                 scope,
-                earlier,
                 limit,
                 listing,
-                numbers,
             }),
             Err(_) => Err(ContextFault::NoMemory),
         }
@@ -137,7 +160,6 @@ impl<'a> Builder<'a> {
         ensures rank { result ≡ self.now.search.matrix.rank }
         ensures limit { result ≤ MAX_RANK }
         ensures matrix { IsCoxeterMatrix self.now.search.matrix }
-        ensures earlier { IsClosed (integer_matrix self.now.search.matrix) self.now.search.earlier }
     {
         self.scope.group.rank()
     }
@@ -201,21 +223,21 @@ impl<'a> Builder<'a> {
         let _rank = self.rank();
         for parent in low..high {
             let _len = self.len();
-            if let Some(child) = self.child(s, parent) {
-                self.add(s, parent, &child)?;
+            if let Some(lower) = self.child(s, parent) {
+                self.add(s, parent, &lower)?;
             }
         }
         Ok(self)
     }
 
-    /// The child y = s x of the member x with this number, where y is a member and was not found before.
-    fn child(&self, s: u8, parent: u32) -> Option<Child>
+    /// The shorter elements t y of the child y = s x of the member x with this number, where y is a member and was not found before.
+    fn child(&self, s: u8, parent: u32) -> Option<[u32; MAX_RANK]>
         requires letter { IsLetter self.now.search.matrix.rank s }
         requires parent { parent < length self.now.members }
         ensures next { IfSome result (IsNext (integer_matrix self.now.search.matrix) self.now.members self.now.search.top
-            self.now.search.earlier (s ∷ word_at self.now.members parent)) }
+            (s ∷ word_at self.now.members parent)) }
         ensures none { IfNone result (IsNoNext (integer_matrix self.now.search.matrix) self.now.members self.now.search.top
-            self.now.search.earlier (s ∷ word_at self.now.members parent) (length (word_at self.now.members parent))) }
+            (s ∷ word_at self.now.members parent) (length (word_at self.now.members parent))) }
     {
         let scope = self.scope;
         let shifts = self.listing.shifts(&scope.group);
@@ -225,39 +247,22 @@ impl<'a> Builder<'a> {
         let Ok(lower) = lower_members(&shifts, s, parent) else {
             return None;
         };
-        let number = self.earlier_number(s, parent);
-        if is_meant(scope, &shifts, self.numbers.as_slice(), &lower, number) {
-            Some(Child { lower, number })
+        if is_below_top(scope, &shifts, &lower) {
+            Some(lower)
         } else {
             None
         }
-    }
-
-    /// The number of y = s x among the earlier members, for the member x with this number, where y was not found before.
-    ///
-    /// With y is x an earlier member, and y is the left shift of x there.
-    fn earlier_number(&self, s: u8, parent: u32) -> Option<u32>
-        requires letter { IsLetter self.now.search.matrix.rank s }
-        requires parent { parent < length self.now.members }
-        requires new { ¬ (Contains self.now.members
-            (normal_form (integer_matrix self.now.search.matrix) (s ∷ word_at self.now.members parent))) }
-        ensures { IsNumberOf self.now.search.earlier
-            (normal_form (integer_matrix self.now.search.matrix) (s ∷ word_at self.now.members parent)) result }
-    {
-        let (scope, earlier) = (self.scope, self.earlier);
-        let before = number_at(self.numbers.as_slice(), parent)?;
-        earlier.shifts(&scope.group).shift(s, before)
     }
 
     /// Appends the member y = s x, the child of the member x with this number, if the limit admits one more. After a fault all is as
     /// before.
     ///
     /// Room is made in each table first, so that no table grows where another can not.
-    fn add(&mut self, s: u8, parent: u32, child: &Child) -> Result<(), ContextFault>
+    fn add(&mut self, s: u8, parent: u32, lower: &[u32]) -> Result<(), ContextFault>
         requires parent { parent < length self.old.members }
         requires short { length (word_at self.old.members parent) < MAX_LETTERS }
-        requires next { IsNext (integer_matrix self.old.search.matrix) self.old.members self.old.search.top self.old.search.earlier
-            (s ∷ word_at self.old.members parent) child.now }
+        requires next { IsNext (integer_matrix self.old.search.matrix) self.old.members self.old.search.top
+            (s ∷ word_at self.old.members parent) lower.now }
         requires prefix { IsPrefixOf (IsWanted self.old.search) (self.old.members ++ (s ∷ word_at self.old.members parent) ∷ []) }
         requires closed { length self.old.members < MAX_MEMBERS
             → IsClosed (integer_matrix self.old.search.matrix) (self.old.members ++ (s ∷ word_at self.old.members parent) ∷ []) }
@@ -275,14 +280,11 @@ impl<'a> Builder<'a> {
             });
         }
         if self.listing.left.reserve(rank as usize).is_err()
-            || self.numbers.reserve(1).is_err()
             || self.listing.members.push(s, parent).is_err()
         {
             return Err(ContextFault::NoMemory);
         }
-        push_row(&mut self.listing.left, rank, number, &child.lower);
-        self.numbers
-            .push_reserved(child.number.unwrap_or(NO_MEMBER));
+        push_row(&mut self.listing.left, rank, number, lower);
         Ok(())
     }
 
@@ -304,26 +306,21 @@ impl<'a> Builder<'a> {
         false
     }
 
-    /// The members that were found, and the number of each among the earlier ones.
-    pub(crate) fn finish(self) -> (Listing, Vec<u32>)
-        ensures members { result.0.members ≡ self.entry.members }
-        ensures left { AreLeftShifts (integer_matrix self.entry.search.matrix) self.entry.members result.0.left.items }
-        ensures numbers { AreNumbers self.entry.search.earlier self.entry.members result.1.items }
+    /// The members that were found, with their left shifts.
+    pub(crate) fn finish(self) -> Listing
+        ensures members { result.members ≡ self.entry.members }
+        ensures left { AreLeftShifts (integer_matrix self.entry.search.matrix) self.entry.members result.left.items }
         ensures closed { IsClosed (integer_matrix self.entry.search.matrix) self.entry.members }
         ensures few { length self.entry.members ≤ self.entry.search.limit }
     {
-        let Builder {
-            listing,
-            numbers,
-            ..
-        } = self;
-        (listing, numbers)
+        let Builder { listing, .. } = self;
+        listing
     }
 }
 
 /// Appends the row of the member y with this number, for which there is room: its shifts by the letters that shorten it, which are noted at
 /// both members.
-fn push_row(table: &mut Vec<u32>, rank: u32, number: u32, lower: &[u32])
+pub(crate) fn push_row(table: &mut Vec<u32>, rank: u32, number: u32, lower: &[u32])
     requires limit { rank ≤ MAX_RANK }
     requires few { number ≤ MAX_MEMBERS }
     requires size { length table.old.items ≡ number * rank }
@@ -355,20 +352,4 @@ fn lacks_shift(table: &[u32], rank: u32, i: u32) -> bool
         }
     }
     false
-}
-
-/// For each of so many earlier members its place in the list of the numbers of the members, where it has one.
-pub(crate) fn moved(alloc: Global, numbers: &[u32], count: u32) -> Result<Vec<u32>, AllocError>
-    requires few { length numbers.now ≤ MAX_MEMBERS }
-    requires below { (i k : ℕ) → i < length numbers.now → entry 1 numbers.now 1 i ≡ Some k → k < count }
-    ensures size { IfOk result (λ moved. length moved.items ≡ count) }
-    ensures last { IfOk result (λ moved. AreLast numbers.now (length numbers.now) moved.items) }
-{
-    let mut moved = vec![in alloc; 0; count as usize]?;
-    for i in 0..numbers.len() as u32 {
-        if let Some(k) = number_at(numbers, i) {
-            moved[k as usize] = i;
-        }
-    }
-    Ok(moved)
 }

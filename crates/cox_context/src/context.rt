@@ -1,5 +1,5 @@
 //! Contexts and their calls.
-ghost use Rattle.std.specs.Prelude.{◌≡◌, ℕ, ◌+◌, ◌<◌, ◌≤◌, ◌↔◌, ◌∷◌, ◌++◌, [], length, IfOk, IfErr, OnOk, OnErr, IsTrue, IsBitSet};
+ghost use Rattle.std.specs.Prelude.{◌≡◌, ℕ, List, Contains, ◌+◌, ◌<◌, ◌≤◌, ◌↔◌, ◌∷◌, ◌++◌, [], length, take, IfOk, IfErr, OnOk, OnErr, IsTrue, IsBitSet};
 ghost use Rattle.cox_base.specs.Matrix.{IsLetter, IsWord};
 ghost use Rattle.cox_base.specs.Admissible.{IsAdmissible};
 ghost use Rattle.cox_base.specs.IntegerMatrix.{integer_matrix};
@@ -8,32 +8,35 @@ ghost use Rattle.cox_base.specs.Descents.{IsLeftDescent, IsRightDescent, left_de
 ghost use Rattle.cox_base.specs.Bruhat.{IsBelow};
 ghost use Rattle.cox_base.specs.Members.{IsElement, IsInInterval};
 ghost use Rattle.cox_context.specs.Union.{IsInUnion};
+ghost use Rattle.cox_context.specs.Spread.{AreKept};
+ghost use Rattle.cox_context.specs.Appending.{IsNextMember};
 ghost use Rattle.cox_context.specs.Closed.{IsClosed};
 ghost use Rattle.cox_base.specs.SortedList.{IsListOf};
 ghost use Rattle.cox_context.specs.Numbers.{word_at};
-ghost use Rattle.cox_context.specs.Numbering.{IsNumberOf, AreMoved};
+ghost use Rattle.cox_context.specs.Numbering.{IsNumberOf};
 ghost use Rattle.cox_context.specs.FaultMeaning.{IsRefusal};
 ghost use Rattle.cox_context.specs.Shifts.{AreLeftShifts};
 
 use crate::ContextFault;
-use crate::builder::{Builder, Listing, moved};
-use crate::descents::{letters_of, lowering_sets};
+use crate::appending::append_below;
+use crate::builder::{Builder, Listing, push_row};
+use crate::descents::{letters_of, lowering_set, lowering_sets};
 use crate::members::{Link, MAX_MEMBERS};
-use crate::right_shifts::right_shifts;
+use crate::right_shifts::{last_right_shifts, right_shifts};
 use crate::scope::Scope;
-use crate::shifts::{MAX_NARROW_MEMBERS, entry_by, narrowed};
+use crate::shifts::{MAX_NARROW_MEMBERS, cut_back, entry_by, narrowed};
 use cox_base::{Coxeter, MAX_LETTERS, Side, Word};
 use cox_minroots::RootTable;
 use cox_reflect::{LETTERS_OF_128_BITS, descents, normal_form};
 use std::alloc::{AllocError, Global};
 use std::marker::Model;
 
-/// The elements of a Bruhat interval from the identity, or of a whole finite group: distinct normal forms in ShortLex order, closed
-/// downwards.
+/// The elements of Bruhat intervals from the identity, or of a whole finite group: distinct normal forms, closed downwards.
 ///
-/// A member's number is its place in that order, from 0, so the identity has the number 0. The members' left and right shifts and descents
-/// are kept by number. On request the shifts of few members are kept in two bytes each too, so that look-ups read half as much memory.
-/// Contracts see the Coxeter matrix and the list of the members; `len` tells what holds of each such list.
+/// A member's number is its place, from 0, so the identity has the number 0. Numbers rise in Bruhat order. In a new context the members are
+/// in ShortLex order; those that are added later come behind them. The members' left and right shifts and descents are kept by number. On
+/// request the shifts of few members are kept in two bytes each too, so that look-ups read half as much memory. Contracts see the Coxeter
+/// matrix and the list of the members; `len` tells what holds of each such list.
 #[derive(Drop)]
 pub struct Context {
     group: Coxeter,
@@ -126,6 +129,7 @@ impl Context {
         ensures refused { IfErr result (IsRefusal (IsInInterval (integer_matrix group.now) w.now.items) limit) }
     {
         let _ = w;
+        let _rank = group.rank();
         prove!(top.len() <= MAX_LETTERS);
         let letters = top.len() as u32;
         let scope = Scope {
@@ -133,12 +137,9 @@ impl Context {
             descents,
             top: Some(top),
         };
-        let Ok(identity) = Listing::new(alloc, &scope.group) else {
-            return Err(ContextFault::NoMemory);
-        };
-        let builder = Builder::new(alloc, &scope, &identity, limit)?;
+        let builder = Builder::new(alloc, &scope, limit)?;
         let (builder, _) = builder.grow(letters)?;
-        let (listing, _) = builder.finish();
+        let listing = builder.finish();
         Context::of_members(alloc, scope.group, listing)
     }
 
@@ -159,80 +160,99 @@ impl Context {
             top: None,
             descents: Word::new(),
         };
-        let Ok(identity) = Listing::new(alloc, &scope.group) else {
-            return Err(ContextFault::NoMemory);
-        };
-        let builder = Builder::new(alloc, &scope, &identity, limit)?;
+        let builder = Builder::new(alloc, &scope, limit)?;
         let (builder, low) = builder.grow(MAX_LETTERS as u32)?;
         if builder.goes_on(low) {
             return Err(ContextFault::Long);
         }
-        let (listing, _) = builder.finish();
+        let listing = builder.finish();
         Context::of_members(alloc, scope.group, listing)
     }
 
-    /// Adds the elements x with x <= w, and tells the new number of each member that was there before.
+    /// Adds the elements x with x <= w behind the members that are there, which keep their numbers.
     ///
     /// `Size` where there are more than `limit` members then. After a fault the context is unchanged. In A 3 the interval of `12` has four
-    /// elements; with that of `21` there are five.
-    pub fn extend(
-        &mut self,
-        group: &RootTable,
-        w: &Word,
-        limit: u32,
-    ) -> Result<Vec<u32>, ContextFault>
+    /// elements; with that of `21` there is a fifth, with the number 4.
+    ///
+    /// The tables grow in place, each new member in time proportional to the rank. For each letter of w the elements below an end of its
+    /// normal form are gone through; the other members are not, but for a mark that each gets, and after a fault.
+    pub fn extend(&mut self, group: &RootTable, w: &Word, limit: u32) -> Result<(), ContextFault>
         requires matrix { group.now ≡ self.old.matrix }
         requires letters { IsWord group.now.rank w.now.items }
         requires some { 1 ≤ limit }
         requires limit { limit ≤ MAX_MEMBERS }
         ensures matrix { self.new.matrix ≡ self.old.matrix }
-        ensures members { OnOk result (IsListOf (IsInUnion (integer_matrix group.now) w.now.items self.old.members) self.new.members) }
+        ensures kept { AreKept self.old.members self.new.members }
+        ensures members { OnOk result ((word : List ℕ) → Contains self.new.members word
+            ↔ IsInUnion (integer_matrix group.now) w.now.items self.old.members word) }
         ensures few { OnOk result (length self.new.members ≤ limit) }
-        ensures moved { IfOk result (λ moved. AreMoved self.old.members self.new.members moved.items) }
-        ensures refused { IfErr result (IsRefusal (IsInUnion (integer_matrix group.now) w.now.items self.old.members) limit) }
         ensures unchanged { OnErr result (self.new ≡ self.old) }
     {
-        let (context, moved) = self.extended(group, w, limit)?;
-        *self = context;
-        Ok(moved)
+        let first = self.len();
+        if first > limit {
+            return Err(ContextFault::Size {
+                limit,
+                seen: limit + 1,
+            });
+        }
+        let top = group.normal_form(w);
+        let alloc = *self.listing.left.allocator();
+        let result = append_below(alloc, self, &top, limit);
+        if result.is_err() {
+            self.cut_back(first);
+        }
+        result
     }
 
-    /// This context with the elements x with x <= w, and the new number of each member of this one.
-    fn extended(
-        &self,
-        group: &RootTable,
-        w: &Word,
-        limit: u32,
-    ) -> Result<(Context, Vec<u32>), ContextFault>
-        requires matrix { group.now ≡ self.now.matrix }
-        requires letters { IsWord group.now.rank w.now.items }
-        requires some { 1 ≤ limit }
-        requires limit { limit ≤ MAX_MEMBERS }
-        ensures matrix { IfOk result (λ r. r.0.matrix ≡ self.now.matrix) }
-        ensures members { IfOk result (λ r. IsListOf (IsInUnion (integer_matrix group.now) w.now.items self.now.members) r.0.members) }
-        ensures few { IfOk result (λ r. length r.0.members ≤ limit) }
-        ensures moved { IfOk result (λ r. AreMoved self.now.members r.0.members r.1.items) }
-        ensures refused { IfErr result (IsRefusal (IsInUnion (integer_matrix group.now) w.now.items self.now.members) limit) }
+    /// Appends the member y = s x, for the member x with the number j, behind the others. After a fault all is as before.
+    ///
+    /// Room is made in each table first, so that no table grows where another can not. Narrow tables go, as they lack the new member.
+    pub(crate) fn append(&mut self, s: u8, j: u32) -> Result<(), AllocError>
+        requires letter { IsLetter self.old.matrix.rank s }
+        requires member { j < length self.old.members }
+        requires room { length self.old.members < MAX_MEMBERS }
+        requires next { IsNextMember self.old.matrix self.old.members s j }
+        ensures added { OnOk result (self.new ≡ record {
+          matrix = self.old.matrix;
+          members = self.old.members ++ normal_form (integer_matrix self.old.matrix) (s ∷ word_at self.old.members j) ∷ [];
+        }) }
+        ensures kept { OnErr result (self.new ≡ self.old) }
     {
-        let alloc = *self.listing.left.allocator();
-        let top = group.normal_form(w);
-        prove!(top.len() <= MAX_LETTERS);
-        prove!(self.len() > 0);
-        let longest = self.length(self.len() - 1);
-        let letters = longest.max(top.len() as u32);
-        let scope = Scope {
-            group: group.group().copy(),
-            descents: group.left_descents(&top),
-            top: Some(top),
-        };
-        let builder = Builder::new(alloc, &scope, &self.listing, limit)?;
-        let (builder, _) = builder.grow(letters)?;
-        let (listing, numbers) = builder.finish();
-        let Ok(moved) = moved(alloc, numbers.as_slice(), self.len()) else {
-            return Err(ContextFault::NoMemory);
-        };
-        let context = Context::of_members(alloc, scope.group, listing)?;
-        Ok((context, moved))
+        let rank = self.group.rank();
+        let number = self.listing.members.len();
+        self.right.reserve(rank as usize)?;
+        self.left_descents.reserve(1)?;
+        self.right_descents.reserve(1)?;
+        self.listing.append(&self.group, s, j)?;
+        let shifts = self.listing.shifts(&self.group);
+        let row = last_right_shifts(&shifts, self.right.as_slice(), number);
+        push_row(&mut self.right, rank, number, &row);
+        let left_set = lowering_set(self.listing.left.as_slice(), rank, number);
+        self.left_descents.push_reserved(left_set);
+        let right_set = lowering_set(self.right.as_slice(), rank, number);
+        self.right_descents.push_reserved(right_set);
+        self.narrow_left.clear();
+        self.narrow_right.clear();
+        Ok(())
+    }
+
+    /// Only the first members, so many.
+    fn cut_back(&mut self, count: u32)
+        requires some { 1 ≤ count }
+        requires within { count ≤ length self.old.members }
+        requires closed { IsClosed (integer_matrix self.old.matrix) (take count self.old.members) }
+        ensures { self.new ≡ record { matrix = self.old.matrix; members = take count self.old.members } }
+    {
+        if self.listing.members.len() == count {
+            return;
+        }
+        let rank = self.group.rank();
+        self.listing.cut_back(rank, count);
+        cut_back(&mut self.right, rank, count);
+        self.left_descents.truncate(count as usize);
+        self.right_descents.truncate(count as usize);
+        self.narrow_left.clear();
+        self.narrow_right.clear();
     }
 
     /// The context with the members that were found.
@@ -266,7 +286,7 @@ impl Context {
     /// Keeps the shifts of at most `MAX_NARROW_MEMBERS` members in two bytes each too, so that `left` and `right` read half as much memory;
     /// with more members it does nothing.
     ///
-    /// `extend` leaves a context that keeps none.
+    /// A context to which `extend` adds members keeps none from there on.
     pub fn keep_narrow_shifts(&mut self, alloc: Global) -> Result<(), AllocError>
         ensures { self.new ≡ self.old }
     {

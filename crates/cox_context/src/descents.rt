@@ -29,7 +29,7 @@ pub(crate) fn lowering_sets(
 }
 
 /// The set of the letters that take member i to a member before it: bit s - 1 for the letter s.
-fn lowering_set(table: &[u32], rank: u32, i: u32) -> u16
+pub(crate) fn lowering_set(table: &[u32], rank: u32, i: u32) -> u16
     requires limit { rank ≤ MAX_RANK }
     requires few { i < MAX_MEMBERS }
     requires within { (i + 1) * rank ≤ length table.now }

@@ -1,15 +1,17 @@
-//! Contexts: the members of a Bruhat interval from the identity, or of a whole finite group, with their numbers and shifts.
+//! Contexts: the members of Bruhat intervals from the identity, or of a whole finite group, with their numbers and shifts.
 //!
 //! A `Context` is a table on which rows, graphs and cells are computed. Contracts see the Coxeter matrix and the list of the members:
-//! distinct normal forms in ShortLex order, closed downwards in Bruhat order. It is proved that the members are exactly the interval or the
-//! group, that a context is refused exactly where it has too many members or one with too many letters, and what each look-up answers. A
-//! look-up takes no memory. It stands on the words of `cox_minroots` and the exchange and the lifting of `cox_reflect`.
+//! distinct normal forms, closed downwards in Bruhat order, whose numbers rise in that order. A new context has exactly the interval or the
+//! group as its members, in ShortLex order, and is refused exactly where it would have too many members or one with too many letters. One
+//! that grows by an interval keeps its numbers: the new members come behind the others, in place. All this is proved, and what each look-up
+//! answers. A look-up takes no memory. It stands on the words of `cox_minroots` and the exchange and the lifting of `cox_reflect`.
 //!
 //! - `context`: the type and its calls
 //! - `fault`: why a context is refused
 //! - `scope`: the group or the interval that is meant
 //! - `members`: the members, each by its first letter and the rest of its word
 //! - `shifts`: tables of shifts
+//! - `appending`: appends the members of an interval behind those that are there
 //! - `builder`: finds the members, length by length, with their left shifts
 //! - `lower`: the shorter elements t y of a new element y
 //! - `lifting`: whether a new element is below the top
@@ -18,6 +20,7 @@
 //! - `laws`: each interval has one list in ShortLex order, closed downwards
 #![tactic(auto)]
 
+mod appending;
 mod builder;
 mod context;
 mod descents;

@@ -2,15 +2,15 @@
 //!
 //! Let t be another letter than s, and m the order of s t. Then t shortens y exactly where m is finite and the first m - 1 steps from x by
 //! t, s, t, .. all shorten. The next m - 1 steps lead back up on the other side, to t y. So all is read off the shifts of members.
-ghost use Rattle.std.specs.Prelude.{◌≡◌, ◌<◌, ◌≤◌, ◌∷◌, length, Contains, IfOk, OnErr};
+ghost use Rattle.std.specs.Prelude.{◌≡◌, ℕ, ◌<◌, ◌≤◌, ◌∷◌, length, Contains, IfOk, OnErr, IfSome, IfNone, None, Some};
 ghost use Rattle.cox_base.specs.Matrix.{IsLetter};
 ghost use Rattle.cox_base.specs.IntegerMatrix.{integer_matrix};
 ghost use Rattle.cox_base.specs.ShortLex.{normal_form};
 ghost use Rattle.cox_context.specs.Numbers.{word_at};
-ghost use Rattle.cox_context.specs.Shifts.{IsLower};
+ghost use Rattle.cox_context.specs.Shifts.{entry, IsLower};
 ghost use Rattle.cox_context.specs.Growth.{AreLower, IsOutside};
 
-use crate::shifts::{LeftShifts, NO_MEMBER};
+use crate::shifts::{LeftShifts, NO_MEMBER, entry};
 use cox_base::MAX_RANK;
 
 /// An element below y is not among the members.
@@ -90,4 +90,28 @@ fn walk(shifts: &LeftShifts, s: u8, t: u8, i: u32) -> Result<Option<u32>, Outsid
         letter = next;
     }
     Ok(Some(at))
+}
+
+/// The least letter that shortens an element, and the number of what it leads to.
+#[derive(Clone, Copy)]
+pub(crate) struct FirstLower {
+    pub(crate) letter: u8,
+    pub(crate) rest: u32,
+}
+
+/// The least letter with an entry.
+pub(crate) fn first_lower(lower: &[u32], rank: u32) -> Option<FirstLower>
+    requires limit { rank ≤ MAX_RANK }
+    requires size { rank ≤ length lower.now }
+    ensures letter { IfSome result (λ f. IsLetter rank f.letter) }
+    ensures found { IfSome result (λ f. entry rank lower.now f.letter 0 ≡ Some f.rest) }
+    ensures least { IfSome result (λ f. (t : ℕ) → IsLetter rank t → t < f.letter → entry rank lower.now t 0 ≡ None) }
+    ensures none { IfNone result ((t : ℕ) → IsLetter rank t → entry rank lower.now t 0 ≡ None) }
+{
+    for t in 1..rank as u8 + 1 {
+        if let Some(k) = entry(lower, rank, t, 0) {
+            return Some(FirstLower { letter: t, rest: k });
+        }
+    }
+    None
 }

@@ -1,5 +1,5 @@
 //! The members of a context, by number.
-ghost use Rattle.std.specs.Prelude.{◌≡◌, ◌<◌, ◌≤◌, [], ◌∷◌, ◌++◌, length, IfOk, OnOk, OnErr};
+ghost use Rattle.std.specs.Prelude.{◌≡◌, ◌<◌, ◌≤◌, [], ◌∷◌, ◌++◌, length, take, IfOk, OnOk, OnErr};
 ghost use Rattle.cox_context.specs.Numbers.{word_at};
 
 use cox_base::{MAX_LETTERS, Word};
@@ -108,5 +108,14 @@ impl Members {
             rest,
         })?;
         Ok(())
+    }
+
+    /// Only the first members, so many.
+    pub(crate) fn cut_back(&mut self, count: u32)
+        requires some { 1 ≤ count }
+        requires within { count ≤ length self.old }
+        ensures { self.new ≡ take count self.old }
+    {
+        self.links.truncate(count as usize);
     }
 }

@@ -1,14 +1,14 @@
 //! The table of right shifts, from that of left shifts.
-ghost use Rattle.std.specs.Prelude.{◌≡◌, ◌+◌, ◌-◌, ◌*◌, ◌<◌, ◌≤◌, ◌∷◌, ◌++◌, [], length, IfOk, OnOk};
+ghost use Rattle.std.specs.Prelude.{◌≡◌, ℕ, ◌+◌, ◌-◌, ◌*◌, ◌<◌, ◌≤◌, ◌∷◌, ◌++◌, [], length, IfOk, OnOk};
 ghost use Rattle.cox_base.specs.Matrix.{IsLetter};
 ghost use Rattle.cox_base.specs.IntegerMatrix.{integer_matrix};
 ghost use Rattle.cox_base.specs.ShortLex.{normal_form};
 ghost use Rattle.cox_context.specs.Numbers.{word_at};
 ghost use Rattle.cox_context.specs.Numbering.{IsNumberOf};
-ghost use Rattle.cox_context.specs.Shifts.{AreRightShifts};
+ghost use Rattle.cox_context.specs.Shifts.{entry, AreRightShifts, AreOfOthers};
 
-use crate::members::MAX_MEMBERS;
 use crate::shifts::{LeftShifts, NO_MEMBER, entry};
+use cox_base::MAX_RANK;
 use std::alloc::{AllocError, Global};
 
 /// The number of x s for each member x and each letter s, where it is a member.
@@ -41,33 +41,56 @@ fn push_row(shifts: &LeftShifts, table: &mut Vec<u32>, i: u32) -> Result<(), All
     Ok(())
 }
 
-/// The right shift of a member, by those of the members before it.
+/// The right shift of a member, by that of the rest of its word.
 fn right_shift(shifts: &LeftShifts, right: &[u32], s: u8, i: u32) -> Option<u32>
     requires member { i < length shifts.now.members }
     requires letter { IsLetter shifts.now.matrix.rank s }
     requires before { i * shifts.now.matrix.rank ≤ length right.now }
-    requires right { AreRightShifts (integer_matrix shifts.now.matrix) shifts.now.members right.now }
+    requires rest { (t r : ℕ) → r < i → word_at shifts.now.members i ≡ t ∷ word_at shifts.now.members r
+        → IsNumberOf shifts.now.members (normal_form (integer_matrix shifts.now.matrix) (word_at shifts.now.members r ++ s ∷ []))
+        (entry shifts.now.matrix.rank right.now s r) }
     ensures { IsNumberOf shifts.now.members (normal_form (integer_matrix shifts.now.matrix) (word_at shifts.now.members i ++ s ∷ []))
         result }
 {
-    let _rank = shifts.rank();
+    let rank = shifts.rank();
     if i == 0 {
         return shifts.shift(s, i);
     }
     let link = shifts.members().link(i);
-    let shifted = known_right_shift(shifts, right, s, link.rest)?;
+    let shifted = entry(right, rank, s, link.rest)?;
     shifts.shift(link.first, shifted)
 }
 
-/// The right shift of a member whose entries are there.
-fn known_right_shift(shifts: &LeftShifts, right: &[u32], s: u8, i: u32) -> Option<u32>
-    requires right { AreRightShifts (integer_matrix shifts.now.matrix) shifts.now.members right.now }
-    requires member { i < length shifts.now.members }
+/// The right shifts of the last member, in the order of the letters, by those that the other members had before it came.
+pub(crate) fn last_right_shifts(shifts: &LeftShifts, right: &[u32], i: u32) -> [u32; MAX_RANK]
+    requires some { 0 < i }
+    requires last { i + 1 ≡ length shifts.now.members }
+    requires right { AreOfOthers (integer_matrix shifts.now.matrix) shifts.now.members right.now }
+    ensures size { shifts.now.matrix.rank ≤ length result }
+    ensures each { (s : ℕ) → IsLetter shifts.now.matrix.rank s → IsNumberOf shifts.now.members
+        (normal_form (integer_matrix shifts.now.matrix) (word_at shifts.now.members i ++ s ∷ []))
+        (entry shifts.now.matrix.rank result s 0) }
+{
+    let mut row = [NO_MEMBER; MAX_RANK];
+    for s in 1..shifts.rank() as u8 + 1 {
+        if let Some(k) = last_right_shift(shifts, right, s, i) {
+            row[s as usize - 1] = k;
+        }
+    }
+    row
+}
+
+/// The right shift of the last member z = t x: where x s is a member, z s is the left shift of that by t. It is x itself where x s is z.
+fn last_right_shift(shifts: &LeftShifts, right: &[u32], s: u8, i: u32) -> Option<u32>
+    requires some { 0 < i }
+    requires last { i + 1 ≡ length shifts.now.members }
     requires letter { IsLetter shifts.now.matrix.rank s }
-    requires known { i * shifts.now.matrix.rank + (s - 1) < length right.now }
+    requires right { AreOfOthers (integer_matrix shifts.now.matrix) shifts.now.members right.now }
     ensures { IsNumberOf shifts.now.members (normal_form (integer_matrix shifts.now.matrix) (word_at shifts.now.members i ++ s ∷ []))
         result }
 {
-    prove!(shifts.members().len() <= MAX_MEMBERS);
-    entry(right, shifts.rank(), s, i)
+    let _rank = shifts.rank();
+    let link = shifts.members().link(i);
+    let shifted = right_shift(shifts, right, s, link.rest)?;
+    shifts.shift(link.first, shifted)
 }

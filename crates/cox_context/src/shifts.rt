@@ -7,6 +7,7 @@ ghost use Rattle.cox_base.specs.ShortLex.{normal_form};
 ghost use Rattle.cox_context.specs.Closed.{IsClosed};
 ghost use Rattle.cox_context.specs.Numbers.{word_at};
 ghost use Rattle.cox_context.specs.Numbering.{IsNumberOf};
+ghost use Rattle.cox_context.specs.Rows.{IsCutBack};
 ghost use Rattle.cox_context.specs.Shifts.{entry, entry_number, narrow_number, AreLeftShifts, AreNarrow, IsLower};
 
 use crate::members::{MAX_MEMBERS, Members};
@@ -97,13 +98,19 @@ fn narrow_entry(number: u32) -> u16
     }
 }
 
-/// The number that a list has at a place, or none.
-pub(crate) fn number_at(numbers: &[u32], i: u32) -> Option<u32>
-    requires few { i ≤ MAX_MEMBERS }
-    requires within { i < length numbers.now }
-    ensures { result ≡ entry 1 numbers.now 1 i }
+/// Only the rows of the first members, so many, in which an entry that leads to a later member says that there is none.
+pub(crate) fn cut_back(table: &mut Vec<u32>, rank: u32, count: u32)
+    requires limit { rank ≤ MAX_RANK }
+    requires few { count ≤ MAX_MEMBERS }
+    requires within { count * rank ≤ length table.old.items }
+    ensures { IsCutBack (count * rank) count table.old.items table.new.items }
 {
-    entry(numbers, 1, 1, i)
+    table.truncate(count as usize * rank as usize);
+    for number in table.iter_mut() {
+        if *number >= count {
+            *number = NO_MEMBER;
+        }
+    }
 }
 
 /// Members of a group, closed downwards in Bruhat order, with the table of their left shifts, as they are lent. Contracts see the Coxeter

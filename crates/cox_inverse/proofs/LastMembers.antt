@@ -46,7 +46,7 @@ rising-injective numbers rising i j l m e =
 pub number-same : (A : IntegerMatrix) (g : IsAdmissible A) (members : List (List ℕ)) → IsClosed A members → (i j : ℕ)
     → i < length members → j < length members → SameElement A (word_at members i) (word_at members j) → i ≡ j
 number-same A g members closed i j l m same =
-    rising-place members i j closed.rising l m
+    closed.distinct i j l m
     (sym (element-at A g members closed i l).normal ∙ normal_form-equal A g same ∙ (element-at A g members closed j m).normal)
 
 -- a member for each element below one

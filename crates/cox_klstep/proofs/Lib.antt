@@ -58,3 +58,5 @@ pub mod TurnedRows
 pub mod TurnedMus
 -- one polynomial more that is found ahead
 pub mod FoundMore
+-- the inverses of the first members
+pub mod Inverses

@@ -15,7 +15,6 @@ use Rattle.cox_hecke.specs.Needs.{IsNeeded, itself, shorter, corrected}
 use Rattle.cox_hecke.proofs.Descended.{mu-below}
 use Rattle.cox_context.specs.Closed.{Elements, IsClosed}
 use Rattle.cox_context.specs.Numbers.{word_at}
-use Rattle.cox_context.proofs.PlacedWords.{rising-place}
 use Rattle.cox_context.proofs.Shifting.{later-not_below}
 use Rattle.cox_row.specs.Rising.{number_at}
 use Rattle.cox_klstep.specs.declared.step.Descent.{Descent}
@@ -62,7 +61,7 @@ pub listed-needs : (e : Elements) (holds : ℕ → Type 0) (d : Descent) (number
 listed-needs e holds d numbers g closed descent are lower each = record {
   shorter = λ s j least l is.
       let same : s ≡ d.letter = omega (arith, least.least d.letter descent.least.descent, descent.least.least s least.descent)
-      in let place : j ≡ d.lower = rising-place e.members j d.lower closed.rising l descent.lower_within
+      in let place : j ≡ d.lower = closed.distinct j d.lower l descent.lower_within
       (rw (is, same) (sym descent.lower_is))
       in rw place lower;
   corrected = λ s u m least l c.

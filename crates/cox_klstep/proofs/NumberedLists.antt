@@ -17,7 +17,6 @@ use Rattle.cox_hecke.specs.StepFamily as hecke
 use Rattle.cox_hecke.proofs.ListSums.{same-is_same, not_same-is_same}
 use Rattle.cox_context.specs.Closed.{IsClosed}
 use Rattle.cox_context.specs.Numbers.{word_at}
-use Rattle.cox_context.proofs.PlacedWords.{rising-place}
 use Rattle.cox_context.proofs.Shifting.{element-at}
 use Rattle.cox_klstep.specs.declared.step.Correction.{Correction}
 use Rattle.cox_klstep.specs.StepOf.{correction_at}
@@ -65,7 +64,7 @@ module _ (A : IntegerMatrix) (g : IsAdmissible A) (members : List (List ℕ)) (c
     (inside : j < length members) (is : SameElement A u (word_at members j)) where
   same_as : (n : ℕ) → n < length members → (n ≡ j → ⊥) → is_same A u (word_at members n) ≡ false
   same_as n l apart = not_same-is_same A g u (word_at members n) (λ same. apart
-      (rising-place members n j closed.rising l inside
+      (closed.distinct n j l inside
       (sym (element-at A g members closed n l).normal
       ∙ normal_form-equal A g (same-trans A g (same-sym A g same) is)
       ∙ (element-at A g members closed j inside).normal)))

@@ -18,7 +18,7 @@ use Rattle.cox_hecke.proofs.Descended.{mu-left, mu-right, mu-shift_left, mu-shif
 use Rattle.cox_context.specs.Closed.{Elements, IsClosed}
 use Rattle.cox_context.specs.Numbers.{word_at}
 use Rattle.cox_context.specs.Numbering.{IsNumberOf}
-use Rattle.cox_context.proofs.PlacedWords.{contains-at, rising-place}
+use Rattle.cox_context.proofs.PlacedWords.{contains-at}
 use Rattle.cox_context.proofs.Shifting.{element-at, shift-less, right_shift-less}
 use Rattle.cox_row.specs.Extremal.{IsExtremal}
 use Rattle.cox_row.specs.Raised.{IsRaised, on_left, on_right}
@@ -182,7 +182,7 @@ module _ (A : IntegerMatrix) (g : IsAdmissible A) (members : List (List ℕ)) (c
             none (rw (sym (sym (element-at A g members closed k within).normal ∙ normal_form-equal A g same))
             (contains-at members k within))
         between y (Some j) old new k n e l m within same =
-            let is : k ≡ j = rising-place members k j closed.rising within n.0
+            let is : k ≡ j = closed.distinct k j within n.0
             (sym (element-at A g members closed k within).normal ∙ normal_form-equal A g same ∙ sym n.1)
             in ⊎_elim (λ x. omega (arith, x.2, m, is)) (λ x. ⊎_elim (λ d. omega (arith, d, l, is)) (λ d. omega (arith, d, x.0, m, is))
             x.1) e

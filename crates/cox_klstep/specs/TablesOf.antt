@@ -1,11 +1,12 @@
 -- What the tables of a context have.
-use Rattle.std.specs.Prelude.{◌≡◌, ◌⊎◌, ℕ, ◌<◌, List, [], length, slice_get, IfSome}
+use Rattle.std.specs.Prelude.{◌≡◌, ◌⊎◌, ℕ, ◌<◌, ◌≤◌, ◌^◌, List, [], length, slice_get, IfSome}
 use Rattle.cox_base.specs.IntegerMatrix.{integer_matrix}
 use Rattle.cox_base.specs.Descents.{IsLeftDescent}
 use Rattle.std.specs.Prelude.{◌+◌, IsBitSet}
 use Rattle.std.specs.Global.{Vec}
 use Rattle.cox_context.specs.Closed.{Elements}
 use Rattle.cox_context.specs.Numbers.{word_at}
+use Rattle.cox_context.specs.Spread.{AreKept}
 use Rattle.cox_row.specs.Rising.{number_at, AreRising, AreWithin}
 use Rattle.cox_klstep.specs.TurnsOf.{AreTurns}
 use Rattle.cox_klstep.specs.declared.tables.Tables.{Tables}
@@ -21,11 +22,26 @@ pub record AreCandidates (e : Elements) (end set : ℕ) (numbers : List ℕ) : T
   pub each : (k : ℕ) → k < length numbers → HasDescents e set (number_at numbers k)
   pub whole : (x : ℕ) → x < end → HasDescents e set x → (k : ℕ) × (k < length numbers) × (number_at numbers k ≡ x)
 
--- the tables are those of a context: symmetries as they take its members, and for each set of letters the candidates, or nothing yet
+-- the candidates before end, or nothing yet
+abbrev pub IsList : Elements → ℕ → ℕ → Vec ℕ → Type 0
+IsList e end set list = (list.items ≡ []) ⊎ AreCandidates e end set list.items
+
+-- for each set of letters the candidates before end, or nothing yet
+pub record AreLists (e : Elements) (end : ℕ) (lists : List (Vec ℕ)) : Type 0 where
+  pub few : length lists ≤ 2 ^ 16
+  pub each : (set : ℕ) → IfSome (slice_get lists set) (IsList e end set)
+
+-- the tables are those of a context: symmetries as they take its members, and the candidates
 pub record AreTables (e : Elements) (tables : Tables) : Type 0 where
   pub turns : AreTurns e tables.turns.items
-  pub candidates : (set : ℕ) → IfSome (slice_get tables.candidates.items set)
-      (λ list. (list.items ≡ []) ⊎ AreCandidates e (length e.members) set list.items)
+  pub candidates : AreLists e (length e.members) tables.candidates.items
+
+-- the tables are those of an earlier context, whose members have the numbers that they had
+pub record AreEarlierTables (e : Elements) (tables : Tables) : Type 0 where
+  pub earlier : Elements
+  pub matrix : e.matrix ≡ earlier.matrix
+  pub kept : AreKept earlier.members e.members
+  pub were : AreTables earlier tables
 
 -- the candidates for a set are there
 pub record IsMade (e : Elements) (set : ℕ) (lists : List (Vec ℕ)) : Type 0 where

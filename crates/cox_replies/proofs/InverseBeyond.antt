@@ -1,6 +1,6 @@
 -- Whether some polynomial between two elements is too large can be told: there is a list of the elements between them, and only degrees
 -- up to the length count.
-use Rattle.std.proofs.Common.{◌≡◌, ℕ, suc, ◌<◌, ◌≤◌, List, ◌⊎◌, inl, inr, ⊎_elim, ℤ, pos, sym, ◌∙◌, refl, arith, ap}
+use Rattle.std.proofs.Common.{◌≡◌, ℕ, suc, List, ◌⊎◌, inl, inr, ⊎_elim, ℤ, pos, sym, ◌∙◌, refl, arith, ap}
 use Rattle.std.specs.Prelude.{unsigned_abs, ◌<ℤ◌, ◌≤ℤ◌}
 use Rattle.std.proofs.lemmas.Int.{ints, clamps}
 use Rattle.cox_base.specs.IntegerMatrix.{IntegerMatrix}

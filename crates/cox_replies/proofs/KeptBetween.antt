@@ -1,5 +1,5 @@
 -- Rows of the elements between two, among those that are kept: which elements are members, and what faults of their rows say.
-use Rattle.std.proofs.Common.{◌≡◌, ℕ, ◌+◌, ◌<◌, ◌≤◌, ⊎_elim, List, ◌∷◌, length, filter, Contains, Option, None, Some, Result, Ok, Err}
+use Rattle.std.proofs.Common.{◌≡◌, ℕ, ◌+◌, ◌<◌, ◌≤◌, ⊎_elim, List, ◌∷◌, length, Contains, Option, None, Some, Result, Ok, Err}
 use Rattle.std.proofs.Common.{refl, sym, ap, ◌∙◌, subst, arith, ℤ, pos, ◌≤ℤ◌}
 use Rattle.std.specs.Prelude.{IfSome, IsSomeAnd, OnOk, IfErr}
 use Rattle.std.proofs.lemmas.Int.{ints}
@@ -23,7 +23,7 @@ use Rattle.cox_context.specs.Numbers.{word_at}
 use Rattle.cox_context.specs.Numbering.{IsNumberOf}
 use Rattle.cox_context.proofs.PlacedWords.{contains-placed, contains-at, placed-contains}
 use Rattle.cox_context.proofs.Shifting.{member-below}
-use Rattle.cox_context.proofs.IntervalLists.{is_below}
+use Rattle.cox_context.proofs.IntervalLists.{is_below, interval-exists}
 use Rattle.cox_context.proofs.ShortLexLists.{HasMoreThan-few}
 use Rattle.cox_row.specs.Rising.{number_at}
 use Rattle.cox_klstep.specs.declared.fault.StepFault.{StepFault}
@@ -48,7 +48,7 @@ use Rattle.cox_replies.specs.Listed.{RefusesLarge}
 use Rattle.cox_replies.specs.Question.{IsRefused}
 use Rattle.cox_replies.specs.SessionLimits.{limits_of}
 use Rattle.cox_replies.proofs.KeptRows.{filter-shorter, large-free}
-use Rattle.cox_replies.proofs.RowMembers.{interval-list}
+use Rattle.cox_replies.proofs.RowMembers.{interval-size}
 use Rattle.cox_replies.proofs.LargeOr.{large_or-allowed, large_or-refused}
 
 module _ (A : IntegerMatrix) (g : IsAdmissible A) where
@@ -92,9 +92,13 @@ module _ (limits : Limits) (G : CoxeterMatrix) (g : IsAdmissible (integer_matrix
   member-few =
       let A = integer_matrix G in
       let p = contains-placed whole_members (normal_form A w) top in
-      HasMoreThan-few (IsInInterval A w) limits.context (filter (λ x. is_below A x (word_at whole_members p.i)) whole_members)
-      (interval-list A g whole_members closed p.i p.within w p.is)
-      (omega (arith, of.few, filter-shorter (λ x. is_below A x (word_at whole_members p.i)) whole_members))
+      let list = interval-exists A g w in
+      HasMoreThan-few (IsInInterval A w) limits.context list.0 list.1 (omega (
+        arith,
+        of.few,
+        interval-size A g whole_members closed p.i p.within w p.is list.0 list.1,
+        filter-shorter (λ x. is_below A x (word_at whole_members p.i)) whole_members,
+      ))
 
   pub all-holds : ((i : ℕ) → i < length rows.elements.members → HasRow rows i) → IsBelow (integer_matrix G) y w
       → HoldsBetween (integer_matrix G) y w rows

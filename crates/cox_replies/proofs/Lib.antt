@@ -22,6 +22,10 @@ pub mod LengthCounts
 pub mod MemberTexts
 -- the texts on Bruhat intervals
 pub mod IntervalTexts
+-- lists in ShortLex order, and members by their first letters
+pub mod OrderOfWords
+-- sums over lists that have the same elements
+pub mod SumsInAnyOrder
 -- the members below one, and the extremal ones
 pub mod RowMembers
 -- the text of members with their polynomials

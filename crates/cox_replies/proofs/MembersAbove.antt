@@ -1,21 +1,18 @@
 -- The members of a context that are above an element: they begin with that element itself, where it is a member, and else there are none.
 use Rattle.std.proofs.Common.{◌≡◌, ℕ, zero, suc, ◌≤◌, ◌<◌, Bool, true, false, IsTrue, List, [], ◌∷◌, length, filter, take, Contains, ◌↔◌}
-use Rattle.std.proofs.Common.{refl, ap, sym, ◌∙◌, arith}
+use Rattle.std.proofs.Common.{refl, arith}
 use Rattle.std.proofs.lemmas.Bool.{false≢true, false_from_ne_true}
 use Rattle.std.proofs.lemmas.List.{take_all}
 use Rattle.cox_base.specs.IntegerMatrix.{IntegerMatrix}
 use Rattle.cox_base.specs.Admissible.{IsAdmissible}
 use Rattle.cox_base.specs.ShortLex.{normal_form}
-use Rattle.cox_base.specs.Length.{word_length}
 use Rattle.cox_base.specs.Bruhat.{IsBelow}
 use Rattle.cox_reflect.proofs.Elements.{same-refl, same-sym}
-use Rattle.cox_reflect.proofs.Search.{normal_form-same, normal_form-equal}
-use Rattle.cox_reflect.proofs.Lengths.{word_length-is}
-use Rattle.cox_reflect.proofs.Bruhat.{below-same, below-length, below-equal_length}
+use Rattle.cox_reflect.proofs.Search.{normal_form-same}
+use Rattle.cox_reflect.proofs.Bruhat.{below-same}
 use Rattle.cox_context.specs.Closed.{IsClosed}
 use Rattle.cox_context.specs.Numbers.{word_at}
-use Rattle.cox_context.proofs.PlacedWords.{rising-length, rising-place}
-use Rattle.cox_context.proofs.Shifting.{element-at, length-at, member-below}
+use Rattle.cox_context.proofs.Shifting.{member-below}
 use Rattle.cox_context.proofs.IntervalLists.{is_below, is_below-tells}
 
 -- a test that none of the first members passes
@@ -50,14 +47,9 @@ module _ (A : IntegerMatrix) (g : IsAdmissible A) (members : List (List ℕ)) (c
   not-before : (low k : ℕ) → low < length members → word_at members low ≡ normal_form A y → k < low → IsBelow A y (word_at members k) → ⊥
   not-before low k within is before below =
       let inside : k < length members = omega (arith, within, before) in
-      let size : word_length A y ≡ length (word_at members low) = word_length-is A y ∙ ap length (sym is) in
-      let no_longer : length (word_at members k) ≤ length (word_at members low) = rising-length members k low closed.rising
-      (omega (arith, before)) within in
-      let equal : word_length A y ≡ word_length A (word_at members k) =
-      omega (arith, below-length A g below, size, no_longer, length-at A g members closed k inside) in
-      let same : word_at members low ≡ word_at members k =
-      is ∙ normal_form-equal A g (below-equal_length A g below equal) ∙ (element-at A g members closed k inside).normal in
-      omega (arith, before, rising-place members low k closed.rising within inside same)
+      let up = closed.upward low k within inside (below-same A g
+      (rw is (same-sym A g (normal_form-same A g y))) (same-refl A g (word_at members k)) below) in
+      omega (arith, before, up)
 
   pub none-before : (low : ℕ) → low < length members → word_at members low ≡ normal_form A y → filter (is_below A y) (take low members) ≡ []
   none-before low within is =

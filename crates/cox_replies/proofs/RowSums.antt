@@ -24,11 +24,11 @@ use Rattle.cox_context.specs.Closed.{IsClosed}
 use Rattle.cox_base.specs.Members.{IsInInterval}
 use Rattle.cox_base.specs.SortedList.{IsListOf}
 use Rattle.cox_context.specs.Numbers.{word_at}
-use Rattle.cox_context.proofs.ShortLexLists.{IsListOf-unique}
 use Rattle.cox_context.proofs.IntervalLists.{is_below, is_below-tells}
 use Rattle.cox_klstep.proofs.AddedSums.{none-scaled}
 use Rattle.cox_replies.specs.RowReply.{coefficients_to}
-use Rattle.cox_replies.proofs.RowMembers.{below-first, interval-list, member-same}
+use Rattle.cox_replies.proofs.RowMembers.{first-same, member-same}
+use Rattle.cox_replies.proofs.SumsInAnyOrder.{total}
 use Rattle.cox_replies.proofs.PairTexts.{row-high, row-value}
 
 -- one word more
@@ -52,6 +52,11 @@ sum-filter test (y ∷ words) f k none = go (test y) refl (sum-filter test words
         → sum_over (filter test (y ∷ words)) f k ≡ sum_over (y ∷ words) f k
     go true e rest = rw e (omega (arith, ints, rest))
     go false e rest = rw e (omega (arith, ints, none y e, rest))
+
+-- the coefficients of a degree, summed up
+sum-total : (words : List (List ℕ)) (f : Family) (k : ℕ) → sum_over words f k ≡ total (λ a b. a +ℤ b) (pos 0) (λ x. f x k) words
+sum-total [] f k = refl
+sum-total (y ∷ words) f k = ap (λ rest. f y k +ℤ rest) (sum-total words f k)
 
 -- q^n times 0
 pub power-none : (n : ℕ) (f : Coefficients) → ((k : ℕ) → f k ≡ pos 0) → (k : ℕ) → times_q_power n f k ≡ pos 0
@@ -91,10 +96,12 @@ module _ (A : IntegerMatrix) (g : IsAdmissible A) where
         ≡ sum_over list (λ x. times_q_power (word_length A x) (p x)) k
     sum-interval members closed i inside is list are k =
         let v = word_at members i in
-        let same = below-first A g members closed i inside
-        ∙ IsListOf-unique (IsInInterval A w) _ list (interval-list A g members closed i inside w is) are in
-        sym (sum-filter (λ x. is_below A x v) (take (i + 1) members) (λ x. times_q_power (word_length A x) (p x)) k
+        let kept = filter (λ x. is_below A x v) (take (i + 1) members) in
+        let f : Family = λ x. times_q_power (word_length A x) (p x) in
+        sym (sum-filter (λ x. is_below A x v) (take (i + 1) members) f k
         (λ y fails. power-none (word_length A y) (p y) (row.outside y (λ below. false≢true (sym fails
         ∙ (is_below-tells A g y v).1 (below-same A g (same-refl A g y)
         (same-sym A g (member-same A g members closed i inside w is)) below)))) k))
-        ∙ ap (λ (words : List (List ℕ)). sum_over words (λ x. times_q_power (word_length A x) (p x)) k) same
+        ∙ sum-total kept f k
+        ∙ first-same A g members closed i inside w is (λ a b. a +ℤ b) (pos 0) (λ a b c. omega (arith, ints)) (λ x. f x k) list are
+        ∙ sym (sum-total list f k)

@@ -3,6 +3,7 @@ use Rattle.std.proofs.Common.{◌≡◌, ℕ, ◌+◌, ◌≤◌, ◌<◌, Bool,
 use Rattle.std.proofs.Common.{refl, sym, ap, ◌∙◌, ⊎_elim, arith, ℤ, pos}
 use Rattle.std.proofs.Math.IntN.{+ℤ_idl, +ℤ_idr, +ℤ_assoc}
 use Rattle.std.proofs.lemmas.Bool.{cases_lt, false_from_ne_true}
+use Rattle.std.proofs.lemmas.Int.{ints}
 use Rattle.std.proofs.lemmas.List.{append-nil}
 use Rattle.std.proofs.lemmas.List.Elements.{filter_more}
 use Rattle.cox_base.specs.IntegerMatrix.{IntegerMatrix}
@@ -19,13 +20,12 @@ use Rattle.cox_hecke.specs.Row.{IsRow, IsKazhdanLusztig}
 use Rattle.cox_hecke.proofs.OneRow.{row-long, row-same}
 use Rattle.cox_hecke.proofs.AllRows.{row_of-value, kazhdan_lusztig-value}
 use Rattle.cox_context.specs.Closed.{IsClosed}
-use Rattle.cox_base.specs.Members.{IsInInterval}
-use Rattle.cox_base.specs.SortedList.{IsListOf}
 use Rattle.cox_context.specs.Numbers.{word_at}
-use Rattle.cox_context.proofs.IntervalLists.{is_below, is_below-tells}
+use Rattle.cox_context.proofs.IntervalLists.{is_below, is_below-tells, interval-exists}
 use Rattle.cox_replies.specs.RowReply.{coefficients_to}
-use Rattle.cox_replies.proofs.RowMembers.{below-first, interval-list}
-use Rattle.cox_replies.specs.Totals.{Totals, no_totals, both_totals, polynomial_totals, row_totals}
+use Rattle.cox_replies.proofs.RowMembers.{first-same}
+use Rattle.cox_replies.proofs.SumsInAnyOrder.{total}
+use Rattle.cox_replies.specs.Totals.{Totals, no_totals, both_totals, polynomial_totals, row_totals, AreTotalsOf}
 
 -- ---- adding up totals
 
@@ -42,12 +42,21 @@ pub both-assoc : (a b c : Totals) → both_totals (both_totals a b) c ≡ both_t
 both-assoc a b c = same_totals (both_totals (both_totals a b) c) (both_totals a (both_totals b c)) (omega arith) (omega arith)
     (+ℤ_assoc a.sum b.sum c.sum)
 
+-- two that are added may trade places
+pub both-trade : (a b c : Totals) → both_totals a (both_totals b c) ≡ both_totals b (both_totals a c)
+both-trade a b c = same_totals (both_totals a (both_totals b c)) (both_totals b (both_totals a c)) (omega arith) (omega arith)
+    (omega (arith, ints))
+
 -- ---- member by member
 
 module _ (A : IntegerMatrix) (w : List ℕ) (p : Family) where
   -- of one element
   abbrev pub totals_at : List ℕ → Totals
   totals_at x = polynomial_totals (coefficients_to (word_length A w) (p x))
+
+  row_totals-total : (xs : List (List ℕ)) → row_totals A w p xs ≡ total both_totals no_totals totals_at xs
+  row_totals-total [] = refl
+  row_totals-total (x ∷ xs) = ap (both_totals (totals_at x)) (row_totals-total xs)
 
   row_totals-push : (xs : List (List ℕ)) (x : List ℕ) → row_totals A w p (xs ++ x ∷ []) ≡ both_totals (row_totals A w p xs) (totals_at x)
   row_totals-push [] x = both-none_right (totals_at x) ∙ sym (both-none_left (totals_at x))
@@ -107,7 +116,17 @@ module _ (A : IntegerMatrix) (g : IsAdmissible A) where
     pub below_it-false : (x : List ℕ) → (IsBelow A x (word_at members i) → ⊥) → below_it x ≡ false
     below_it-false x none = false_from_ne_true (below_it x) (λ e. none ((is_below-tells A g x (word_at members i)).0 e))
 
-    -- the members up to it have all that is below it
-    pub interval-first : (w : List ℕ) → word_at members i ≡ normal_form A w
-        → IsListOf (IsInInterval A w) (filter below_it (take (i + 1) members))
-    interval-first w is = rw (below-first A g members closed i member) (interval-list A g members closed i member w is)
+    -- the first members have the totals of the interval
+    pub first-are : (w : List ℕ) → word_at members i ≡ normal_form A w → (p : Family) → IsRow A w p → (totals : Totals)
+        → totals ≡ first_totals A w p below_it members (i + 1) → AreTotalsOf A w totals
+    first-are w is p row totals sum =
+        let list = interval-exists A g w in
+        let kept = filter below_it (take (i + 1) members) in (
+          p,
+          row,
+          list.0,
+          list.1,
+          sum ∙ row_totals-total A w p kept
+              ∙ first-same A g members closed i member w is both_totals no_totals both-trade (totals_at A w p) list.0 list.1
+              ∙ sym (row_totals-total A w p list.0),
+        )

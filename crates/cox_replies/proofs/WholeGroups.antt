@@ -9,7 +9,7 @@ use Rattle.cox_reflect.proofs.Elements.{same-refl}
 use Rattle.cox_hecke.specs.Needs.{itself}
 use Rattle.cox_context.specs.Closed.{IsClosed}
 use Rattle.cox_base.specs.Members.{IsElement}
-use Rattle.cox_base.specs.SortedList.{IsListOf}
+use Rattle.cox_base.specs.SortedList.{IsListOf, IsRising}
 use Rattle.cox_context.specs.Numbers.{word_at}
 use Rattle.cox_context.specs.TooLarge.{IsTooLarge}
 use Rattle.cox_context.specs.FaultMeaning.{IsRefusal}
@@ -37,11 +37,11 @@ use Rattle.cox_replies.specs.Kept.{AreOf, IsMore, HoldsGroup, HoldsAll, Keeps, u
 use Rattle.cox_replies.specs.GroupSize.{RefusesLargeGroup}
 
 module _ (A : IntegerMatrix) (g : IsAdmissible A) (members : List (List ℕ)) where
-  -- where each left shift of a member is one, all elements are members
-  pub whole-by_shifts : IsClosed A members
+  -- where each left shift of a member is one, all elements are members: those in ShortLex order are the list of them
+  pub whole-by_shifts : IsClosed A members → IsRising members
       → ((i : ℕ) → i < length members → (s : ℕ) → IsLetter A.rank s → Contains members (normal_form A (s ∷ word_at members i)))
       → IsListOf (IsElement A) members
-  whole-by_shifts closed shifts = record { rising = closed.rising; sound = closed.element; whole = go }
+  whole-by_shifts closed rising shifts = record { rising = rising; sound = closed.element; whole = go }
     where
       go : (word : List ℕ) → IsElement A word → Contains members word
       go [] e = subst (Contains members) (first-member A g members closed) (contains-at members 0 (omega (arith, closed.some)))

@@ -48,8 +48,8 @@ pub fn put_cert_of(out: &mut Vec<u8>, rows: &Rows, i: u32) -> Result<(), Unanswe
     put_certificate(out, rows, i, below.as_slice())
 }
 
-/// The numbers of the members x <= w, rising, for the member w with the number i. It is refused where there are more than a check takes, or
-/// where w is longer than it takes.
+/// The numbers of the members x <= w in ShortLex order, for the member w with the number i. It is refused where there are more than a check
+/// takes, or where w is longer than it takes.
 pub fn listed_below(alloc: Global, rows: &Rows, i: u32) -> Result<Vec<u32>, Unanswered>
     requires member { i < length rows.now.elements.members }
     ensures within { IfOk result (λ numbers. All (λ x. x < length rows.now.elements.members) numbers.items) }

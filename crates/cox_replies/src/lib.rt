@@ -3,10 +3,14 @@
 //! What a command asks is a question, in `specs/InquiryQuestion.antt`: for each refusal whether it has a cause, and which texts are right.
 //! The calls put such a text, or tell why there is none. They keep nothing and make no rows: `cox_answers` does.
 //!
+//! Lists of elements are put in ShortLex order. The members of a context that grew are not, so `pairs` puts their numbers in order first;
+//! the commands on a whole group are for contexts whose members are in order.
+//!
 //! - `unanswered`: why a command gets no answer
 //! - `intervals`: Bruhat intervals
 //! - `polynomials`: R-polynomials
 //! - `rows`: the answers from the row of an element, and single polynomials of it, and mu
+//! - `order`: the ShortLex order of members, whose numbers need not follow it
 //! - `pairs`: the polynomials of a row, all or the extremal ones
 //! - `sums`: the polynomials of a row, summed up
 //! - `certificates`: certificates of rows
@@ -20,6 +24,7 @@ mod graphs;
 mod intervals;
 pub mod laws;
 mod modules;
+mod order;
 mod pairs;
 mod polynomials;
 mod rows;
@@ -30,6 +35,7 @@ pub use certificates::{listed_below, put_cert_of, put_certificate};
 pub use graphs::put_group_of;
 pub use intervals::{interval_of, put_betti, put_coatoms, put_interval};
 pub use modules::put_module_of;
+pub use order::{is_in_order, put_in_order};
 pub use polynomials::put_rpol;
 pub use rows::{EntryKind, RowKind, put_entry_of, put_row_of};
 pub use unanswered::{Unanswered, unanswered_by, unless_fault, unrefused};

@@ -15,6 +15,7 @@ ghost use Rattle.cox_replies.specs.Listed.{IsOfRow};
 ghost use Rattle.cox_replies.specs.RowReply.{pairs_text, IsExtremalBelow};
 ghost use Rattle.cox_replies.specs.Putting.{PutsSome, words_at};
 
+use crate::order::put_in_order;
 use cox_print::{NoMemory, put_count, put_next_pair};
 use cox_row::extremal_members;
 use cox_rows::Rows;
@@ -46,7 +47,8 @@ pub fn put_extremal_pairs(out: &mut Vec<u8>, rows: &Rows, i: u32) -> Result<(), 
     let Some(row) = rows.row(i) else {
         unreachable!();
     };
-    let extremal = extremal_members(*out.allocator(), rows.context(), row, i)?;
+    let mut extremal = extremal_members(*out.allocator(), rows.context(), row, i)?;
+    put_in_order(rows.context(), &mut extremal);
     put_pairs(out, rows, i, extremal.as_slice())
 }
 
@@ -75,7 +77,7 @@ pub fn put_pairs(out: &mut Vec<u8>, rows: &Rows, i: u32, numbers: &[u32]) -> Res
     Ok(())
 }
 
-/// The numbers of the members x <= w, rising, for the member w with the number i.
+/// The numbers of the members x <= w in ShortLex order, for the member w with the number i.
 pub fn members_below(alloc: Global, rows: &Rows, i: u32) -> Result<Vec<u32>, NoMemory>
     requires member { i < length rows.now.elements.members }
     ensures within { IfOk result (λ numbers. All (λ x. x < length rows.now.elements.members) numbers.items) }
@@ -93,5 +95,6 @@ pub fn members_below(alloc: Global, rows: &Rows, i: u32) -> Result<Vec<u32>, NoM
             below.push(x)?;
         }
     }
+    put_in_order(context, &mut below);
     Ok(below)
 }

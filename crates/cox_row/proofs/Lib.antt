@@ -10,19 +10,15 @@ pub mod RisingNumbers
 pub mod LetterBits
 -- what a row has at a place
 pub mod LookUps
--- rows in a larger context
-pub mod Renumbering
 -- the polynomials of a row, each once
 pub mod PoolOfRow
 -- lists of images, by their entries
 pub mod ImageLists
 -- the polynomials of an element, read off those of another
 pub mod ViewedPolynomials
--- images under new numbers
-pub mod MovedImages
 -- the numbers of extremal elements, one after another
 pub mod ListedExtremals
--- rows in a larger context, by their parts
-pub mod RenumberedRows
 -- the places of numbers, looked up by number
 pub mod PlacedNumbers
+-- rows when members are appended
+pub mod GrownRows

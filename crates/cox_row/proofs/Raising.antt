@@ -1,5 +1,5 @@
 -- Raising an element by the descents of another: what is raised stands for what it comes from, and comes later among the members.
-use Rattle.std.proofs.Common.{◌≡◌, ℕ, ◌+◌, ◌<◌, ◌≤◌, List, [], ◌∷◌, ◌++◌, length, Option, None, Some, ⊎_elim, arith}
+use Rattle.std.proofs.Common.{◌≡◌, ℕ, ◌+◌, ◌<◌, ◌≤◌, List, [], ◌∷◌, ◌++◌, length, Option, None, Some, ap, ⊎_elim, arith}
 use Rattle.std.proofs.lemmas.Bool.{cases_lt}
 use Rattle.cox_base.specs.IntegerMatrix.{IntegerMatrix}
 use Rattle.cox_base.specs.Admissible.{IsAdmissible}
@@ -11,13 +11,12 @@ use Rattle.cox_reflect.proofs.Elements.{same-refl, same-sym, same-square, same-p
 use Rattle.cox_reflect.proofs.Search.{normal_form-same, word_length-equal}
 use Rattle.cox_reflect.proofs.Deletion.{left_length, right_length}
 use Rattle.cox_reflect.proofs.Roots.{left_descent-letter, descent-letter}
-use Rattle.cox_reflect.proofs.Bruhat.{below-same, below-cons, below-push}
+use Rattle.cox_reflect.proofs.Bruhat.{below-same, below-cons, below-push, below-ascent}
 use Rattle.cox_hecke.proofs.PolynomialValues.{kazhdan_lusztig-same, kazhdan_lusztig-left, kazhdan_lusztig-right}
 use Rattle.cox_context.specs.Closed.{IsClosed}
 use Rattle.cox_context.specs.Numbers.{word_at}
 use Rattle.cox_context.specs.Numbering.{IsNumberOf}
-use Rattle.cox_context.proofs.PlacedWords.{rising-length}
-use Rattle.cox_context.proofs.Shifting.{length-at, member-below}
+use Rattle.cox_context.proofs.Shifting.{length-at, member-below, below-right_ascent}
 use Rattle.cox_row.specs.Raised.{IsRaised, on_left, on_right, IsRaisedTo, raise_to, LeadsTo, StandsFor}
 use Rattle.cox_row.specs.LetterSets.{IsMissing, AreLeftDescents, AreRightDescents}
 
@@ -73,6 +72,10 @@ module _ (A : IntegerMatrix) (g : IsAdmissible A) where
   raised-longer {w} {x} (on_right s d n) =
       ⊎_elim (λ up. up) (λ down. absurd (n (omega (arith, down)))) (right_length A g x s (descent-letter A g w s d))
 
+  raised-above : {w x y : List ℕ} → IsRaised A w x y → IsBelow A x y
+  raised-above {w} {x} (on_left s d n) = below-ascent A g x s (left_descent-letter A g w s d) (omega (arith, raised-longer (on_left s d n)))
+  raised-above {w} {x} (on_right s d n) = below-right_ascent A g x s (omega (arith, raised-longer (on_right s d n)))
+
   module _ (words : List (List ℕ)) (closed : IsClosed A words) where
     -- a member to which x is raised
     pub raised-later : (w : List ℕ) (i k : ℕ) → i < length words → (r : IsRaisedTo A words w (word_at words i) (Some k))
@@ -82,11 +85,16 @@ module _ (A : IntegerMatrix) (g : IsAdmissible A) where
         same : SameElement A r.y (word_at words k)
         same = rw r.number.1 (same-sym A g (normal_form-same A g r.y))
 
+        one_place : k ≤ i → k ≡ i
+        one_place h =
+            let up = closed.upward i k l r.number.0 (below-same A g (same-refl A g (word_at words i)) same (raised-above r.raised))
+            in omega (arith, h, up)
+
         later : i < k
         later = ⊎_elim (λ h. h)
             (λ (h : k ≤ i). absurd (omega (
               arith,
-              rising-length words k i closed.rising h l,
+              ap (λ j. length (word_at words j)) (one_place h),
               raised-longer r.raised,
               word_length-equal A g same,
               length-at A g words closed i l,

@@ -26,5 +26,3 @@ pub mod LetterSets
 pub mod Raised
 -- lists with rows at some places
 pub mod RowLists
--- rows under new numbers
-pub mod Movable

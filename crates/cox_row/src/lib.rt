@@ -15,7 +15,6 @@
 //! - `row`: the row and its parts
 //! - `places`: the places of polynomials in a pool
 //! - `images`: where members are taken, by number
-//! - `new_numbers`: new numbers for a row when its context grows
 //! - `raised`: raising a member by the descents of another
 //! - `look_up`: the polynomial and mu of any member, how many polynomials there are, and the extremal members
 //! - `search`: the place of a number in a list that rises
@@ -26,7 +25,6 @@
 mod images;
 mod look_up;
 mod lower_rows;
-mod new_numbers;
 mod places;
 mod raised;
 mod row;

@@ -1,5 +1,5 @@
 //! The places of polynomials in a pool.
-ghost use Rattle.std.specs.Prelude.{◌≡◌, ◌<◌, ◌++◌, ◌∷◌, [], length, IfOk, OnOk, OnErr};
+ghost use Rattle.std.specs.Prelude.{◌≡◌, ◌<◌, ◌++◌, ◌∷◌, [], length, OnOk, OnErr};
 ghost use Rattle.cox_row.specs.Rising.{number_at};
 
 use std::alloc::{AllocError, Global};
@@ -74,15 +74,5 @@ impl Places {
     {
         self.narrow.shrink_to_fit();
         self.wide.shrink_to_fit();
-    }
-
-    /// The same list once more.
-    pub fn copy(&self, alloc: Global) -> Result<Places, AllocError>
-        ensures { IfOk result (λ copy. copy ≡ self.now) }
-    {
-        Ok(Places {
-            narrow: Vec::from_slice(alloc, &self.narrow)?,
-            wide: Vec::from_slice(alloc, &self.wide)?,
-        })
     }
 }

@@ -83,7 +83,7 @@ module _ (A : IntegerMatrix) (g : IsAdmissible A) (members : List (List ℕ)) (c
           is k ∙ sym (ap (λ (f : Coefficients). f k) (unit-one A (word_at members 0) (length-at A g members closed 0 l
           ∙ ap length (first-member A g members closed))))
       value (suc i) k l = sym (ap (λ (f : Coefficients). f k) (unit-other A (word_at members (suc i))
-          (λ z. let first : suc i ≡ 0 = rising-place members (suc i) 0 closed.rising l (omega (arith, closed.some))
+          (λ z. let first : suc i ≡ 0 = closed.distinct (suc i) 0 l (omega (arith, closed.some))
           (empty (word_at members (suc i)) (sym (length-at A g members closed (suc i) l) ∙ z) ∙ sym (first-member A g members closed))
           in omega (arith, first))))
 

@@ -20,8 +20,6 @@ pub mod EnsuredNeeds
 pub mod StepsMade
 -- settled members
 pub mod SettledMembers
--- rows under new numbers
-pub mod CarriedRows
 -- larger contexts
 pub mod LargerContexts
 -- rows of two lists

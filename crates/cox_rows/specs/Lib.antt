@@ -6,7 +6,3 @@ pub mod Holding
 pub mod RowsFaults
 -- how rows change while others are made
 pub mod Ensured
--- rows under new numbers
-pub mod Carried
--- a context that grows
-pub mod Extended

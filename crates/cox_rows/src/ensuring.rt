@@ -36,7 +36,6 @@ impl Rows {
     ///
     /// `Coefficient` or `Mu` where the row of an element of Need(z) is beyond a limit; what was made before that is held. In A 2, with all
     /// six elements as members, the rows that `121` needs are those of `121`, `21`, `1` and the identity.
-    #[cycle(ensuring)]
     pub fn ensure(&mut self, i: u32) -> Result<(), StepFault>
         requires { i < length self.old.elements.members }
         ensures rows { IsEnsured (word_at self.old.elements.members i) self.old self.new }
@@ -46,37 +45,88 @@ impl Rows {
         ensures fault { IfErr result (IsRowsFault self.old.elements self.old.limit
             (IsNeeded (integer_matrix self.old.elements.matrix) (word_at self.old.elements.members i))) }
     {
-        let _context = self.context();
-        if self.is_settled(i) {
-            return Ok(());
+        let done = self.ensure_until(i, u64::MAX)?;
+        prove!(self.steps() <= u64::MAX);
+        if !done {
+            unreachable!();
         }
-        self.ensure_lower(i)?;
-        self.make(i)?;
-        self.settle(i)
+        Ok(())
     }
 
-    /// Makes the rows that the row of the member with the number i is made from, and what they need.
-    #[cycle(ensuring)]
-    fn ensure_lower(&mut self, i: u32) -> Result<(), StepFault>
+    /// Makes some of these rows: once more than so many polynomials were added up, no other row is begun. Says whether all are there, and
+    /// none of them is beyond a limit; then `ensure` has nothing to do. Where one is, or memory runs out, it says no, and `ensure` tells
+    /// why.
+    ///
+    /// With `most` 0, at most one row is made for which something is added up.
+    pub fn begin(&mut self, i: u32, most: u64) -> bool
         requires { i < length self.old.elements.members }
         ensures rows { IsEnsured (word_at self.old.elements.members i) self.old self.new }
-        ensures there { OnOk result (HasNeeds self.old.elements (HasRow self.new) i) }
-        ensures small { OnOk result (AreNeedsSmall (integer_matrix self.old.elements.matrix) self.old.limit
+        ensures there { IsTrue result → HasRow self.new i }
+        ensures small { IsTrue result → ¬ NeedsBeyond (integer_matrix self.old.elements.matrix) self.old.limit
+            (word_at self.old.elements.members i) }
+    {
+        let last = self.steps().saturating_add(most);
+        match self.ensure_until(i, last) {
+            Ok(done) => done,
+            Err(_) => false,
+        }
+    }
+
+    /// Makes the rows of Need(z) that are not there, for the member z with the number i, and no others, until more than `last` polynomials
+    /// were added up here in all. Says whether it has come to the end.
+    #[cycle(ensuring)]
+    fn ensure_until(&mut self, i: u32, last: u64) -> Result<bool, StepFault>
+        requires { i < length self.old.elements.members }
+        ensures rows { IsEnsured (word_at self.old.elements.members i) self.old self.new }
+        ensures there { IfOk result (λ done. IsTrue done → HasRow self.new i) }
+        ensures small { IfOk result (λ done. IsTrue done → ¬ NeedsBeyond (integer_matrix self.old.elements.matrix) self.old.limit
             (word_at self.old.elements.members i)) }
+        ensures stopped { IfOk result (λ done. done ≡ false → last < self.new.steps) }
+        ensures fault { IfErr result (IsRowsFault self.old.elements self.old.limit
+            (IsNeeded (integer_matrix self.old.elements.matrix) (word_at self.old.elements.members i))) }
+    {
+        let _context = self.context();
+        if self.is_settled(i) {
+            return Ok(true);
+        }
+        if !self.ensure_lower(i, last)? {
+            return Ok(false);
+        }
+        if self.steps() > last {
+            return Ok(false);
+        }
+        self.make(i)?;
+        self.settle(i)?;
+        Ok(true)
+    }
+
+    /// Makes the rows that the row of the member with the number i is made from, and what they need, in the same way.
+    #[cycle(ensuring)]
+    fn ensure_lower(&mut self, i: u32, last: u64) -> Result<bool, StepFault>
+        requires { i < length self.old.elements.members }
+        ensures rows { IsEnsured (word_at self.old.elements.members i) self.old self.new }
+        ensures there { IfOk result (λ done. IsTrue done → HasNeeds self.old.elements (HasRow self.new) i) }
+        ensures small { IfOk result (λ done. IsTrue done → AreNeedsSmall (integer_matrix self.old.elements.matrix) self.old.limit
+            (word_at self.old.elements.members i)) }
+        ensures stopped { IfOk result (λ done. done ≡ false → last < self.new.steps) }
         ensures fault { IfErr result (IsRowsFault self.old.elements self.old.limit
             (IsNeeded (integer_matrix self.old.elements.matrix) (word_at self.old.elements.members i))) }
     {
         let context = self.context();
         if i == 0 {
-            return Ok(());
+            return Ok(true);
         }
         let descent = Descent::of(context, i);
-        self.ensure(descent.lower)?;
+        if !self.ensure_until(descent.lower, last)? {
+            return Ok(false);
+        }
         let corrections = self.corrections(&descent)?;
         'each: for &u in corrections.iter() {
-            self.ensure(u)?;
+            if !self.ensure_until(u, last)? {
+                return Ok(false);
+            }
         }
-        Ok(())
+        Ok(true)
     }
 
     /// Makes all rows that are not there, in the order of the members. Where all are there, nothing is added up.

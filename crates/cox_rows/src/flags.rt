@@ -1,25 +1,7 @@
 //! Flags by number. One that is not there is not set.
-ghost use Rattle.std.specs.Prelude.{◌≡◌, ◌⊎◌, ℕ, ◌<◌, true, false, length, IfOk, OnOk, slice_index, slice_index_or};
+ghost use Rattle.std.specs.Prelude.{◌≡◌, ◌⊎◌, ℕ, ◌<◌, true, false, length, OnOk, slice_index_or};
 
-use std::alloc::{AllocError, Global};
-
-/// The flags at their new places.
-pub(crate) fn spread_flags(
-    alloc: Global,
-    flags: &[bool],
-    moved: &[u32],
-) -> Result<Vec<bool>, AllocError>
-    ensures { IfOk result (λ spread. (j : ℕ) → slice_index_or spread.items j false ≡ true
-        → (i : ℕ) × (slice_index_or flags.now i false ≡ true) × (slice_index moved.now i ≡ j)) }
-{
-    let mut spread = Vec::new(alloc);
-    'flags: for i in 0..flags.len().min(moved.len()) {
-        if flags[i] {
-            set_at(&mut spread, moved[i] as usize)?;
-        }
-    }
-    Ok(spread)
-}
+use std::alloc::AllocError;
 
 /// Sets a flag, behind those that are there too.
 pub(crate) fn set_at(flags: &mut Vec<bool>, i: usize) -> Result<(), AllocError>

@@ -1,26 +1,21 @@
 //! A context, and rows of some of its members.
-ghost use Rattle.std.specs.Prelude.{◌≡◌, ◌≢◌, ◌⊎◌, ℕ, ◌<◌, ◌≤◌, ◌↔◌, [], length, IfSome, IsSome, IfOk, IfErr, OnOk, OnErr, Some, None};
-ghost use Rattle.std.specs.Prelude.{is_some, true, false, pos, ◌≤ℤ◌, IfNone, IsTrue};
+ghost use Rattle.std.specs.Prelude.{List, Contains, ◌≡◌, ◌≢◌, ◌⊎◌, ℕ, ◌<◌, ◌≤◌, ◌↔◌, [], length, IfSome, IsSome, OnOk, OnErr, Some, None};
+ghost use Rattle.std.specs.Prelude.{is_some, true, pos, ◌≤ℤ◌};
 ghost use Rattle.cox_base.specs.Admissible.{IsAdmissible};
 ghost use Rattle.cox_base.specs.IntegerMatrix.{integer_matrix};
 ghost use Rattle.cox_context.specs.Closed.{IsClosed};
 ghost use Rattle.cox_base.specs.Matrix.{IsWord};
 ghost use Rattle.cox_context.specs.Union.{IsInUnion};
-ghost use Rattle.cox_base.specs.SortedList.{IsListOf};
-ghost use Rattle.cox_context.specs.FaultMeaning.{IsRefusal};
 ghost use Rattle.cox_context.specs.Numbers.{word_at};
 ghost use Rattle.cox_row.specs.RowLists.{row_at};
 ghost use Rattle.cox_klstep.specs.CountedSteps.{counted};
 ghost use Rattle.cox_rows.specs.Beyond.{IsBeyond};
 ghost use Rattle.cox_rows.specs.Holding.{Holding, HasRow, IsHeldRow, AreBoth, held};
-ghost use Rattle.cox_rows.specs.Carried.{WasRow, WereRows, AreSomeCarried, AreCarried};
-ghost use Rattle.cox_klstep.specs.TablesOf.{AreTables};
-ghost use Rattle.cox_row.specs.Rising.{number_at};
-ghost use Rattle.cox_rows.specs.Extended.{IsLeft};
+ghost use Rattle.cox_context.specs.Spread.{AreKept};
 
 use cox_base::Word;
 use cox_context::{Context, ContextFault, MAX_MEMBERS};
-use cox_klstep::{Steps, Tables, shared_row};
+use cox_klstep::Steps;
 use cox_minroots::RootTable;
 use cox_row::{LowerRows, Row};
 use std::alloc::{AllocError, Global};
@@ -153,125 +148,32 @@ impl Held {
         self.rows = both(old, rows);
     }
 
-    /// Adds the elements x with x <= w to the context; the new number of each member that was there before, and the tables of the larger
-    /// context. Without memory no row may be left.
+    /// Adds the elements x with x <= w to the context. Members and rows keep their numbers. After a fault all is as before.
     pub(crate) fn extend(
         &mut self,
         group: &RootTable,
         w: &Word,
         limit: u32,
-    ) -> Result<Grown, ContextFault>
+    ) -> Result<(), ContextFault>
         requires matrix { group.now ≡ self.old.elements.matrix }
         requires letters { IsWord group.now.rank w.now.items }
         requires some { 1 ≤ limit }
         requires limit { limit ≤ MAX_MEMBERS }
         ensures matrix { self.new.elements.matrix ≡ self.old.elements.matrix }
         ensures limit { self.new.limit ≡ self.old.limit }
-        ensures members { OnOk result (IsListOf (IsInUnion (integer_matrix group.now) w.now.items self.old.elements.members)
-            self.new.elements.members) }
+        ensures kept { AreKept self.old.elements.members self.new.elements.members }
+        ensures members { OnOk result ((word : List ℕ) → Contains self.new.elements.members word
+            ↔ IsInUnion (integer_matrix group.now) w.now.items self.old.elements.members word) }
         ensures few { OnOk result (length self.new.elements.members ≤ limit) }
-        ensures carried { IfOk result (λ grown. AreCarried self.old self.new grown.moved.items) }
-        ensures tables { IfOk result (λ grown. AreTables self.new.elements grown.tables) }
-        ensures refused { IfErr result (IsRefusal (IsInUnion (integer_matrix group.now) w.now.items self.old.elements.members) limit) }
-        ensures unchanged { IfErr result (IsLeft self.old self.new) }
+        ensures holds { self.new.holds ≡ self.old.holds }
+        ensures unchanged { OnErr result (self.new ≡ self.old) }
         ensures steps { self.new.steps ≡ self.old.steps }
     {
         let _old = self.context.len();
-        let moved = self.context.extend(group, w, limit)?;
+        let result = self.context.extend(group, w, limit);
         let _new = self.context.len();
-        let alloc = *self.rows.allocator();
-        let rows = mem::replace(&mut self.rows, Vec::new(alloc));
-        match self.carry(alloc, rows, moved.as_slice()) {
-            Ok(tables) => Ok(Grown { moved, tables }),
-            Err(_) => Err(ContextFault::NoMemory),
-        }
+        result
     }
-
-    /// Puts rows of a smaller context, each under its new number; the tables of this context.
-    ///
-    /// Those that have polynomials of their own come first, so that the others find there what they shared.
-    fn carry(
-        &mut self,
-        alloc: Global,
-        rows: Vec<Option<Row>>,
-        moved: &[u32],
-    ) -> Result<Tables, AllocError>
-        requires none { self.old.holds ≡ [] }
-        requires rows { WereRows self.old.elements self.old.limit moved.now rows.items }
-        ensures elements { self.new.elements ≡ self.old.elements }
-        ensures limit { self.new.limit ≡ self.old.limit }
-        ensures steps { self.new.steps ≡ self.old.steps }
-        ensures there { OnOk result ((i : ℕ) → is_some (row_at rows.items i) ≡ true → HasRow self.new (number_at moved.now i)) }
-        ensures only { OnOk result ((j : ℕ) → HasRow self.new j
-            → (i : ℕ) × (is_some (row_at rows.items i) ≡ true) × (number_at moved.now i ≡ j)) }
-        ensures tables { IfOk result (AreTables self.old.elements) }
-    {
-        self.context.keep_narrow_shifts(alloc)?;
-        let tables = Tables::of(alloc, self.context())?;
-        let mut rows = rows;
-        self.carry_some(alloc, &mut rows, moved, &tables, false)?;
-        self.carry_some(alloc, &mut rows, moved, &tables, true)?;
-        Ok(tables)
-    }
-
-    /// Puts rows of a smaller context, each under its new number: those that have polynomials of their own, or all. The others stay.
-    fn carry_some(
-        &mut self,
-        alloc: Global,
-        rows: &mut Vec<Option<Row>>,
-        moved: &[u32],
-        tables: &Tables,
-        all: bool,
-    ) -> Result<(), AllocError>
-        requires rows { WereRows self.old.elements self.old.limit moved.now rows.old.items }
-        requires tables { AreTables self.old.elements tables.now }
-        ensures elements { self.new.elements ≡ self.old.elements }
-        ensures limit { self.new.limit ≡ self.old.limit }
-        ensures steps { self.new.steps ≡ self.old.steps }
-        ensures rows { OnOk result (WereRows self.old.elements self.old.limit moved.now rows.new.items) }
-        ensures some { OnOk result (AreSomeCarried moved.now rows.old.items rows.new.items self.old self.new) }
-        ensures all { OnOk result (IsTrue all → (i : ℕ) → row_at rows.new.items i ≡ None) }
-    {
-        'rows: for i in 0..rows.len() {
-            if let Some(row) = take_if(rows, i, all) {
-                let number = moved[i];
-                let row = self.carried(alloc, row, moved, number, tables)?;
-                self.put(number, row)?;
-            }
-        }
-        Ok(())
-    }
-
-    /// The row of the member with the number i, which it has had under another number in a smaller context. If it shared polynomials, it
-    /// shares those of a row that is there already, where one can serve.
-    fn carried(
-        &self,
-        alloc: Global,
-        row: Row,
-        moved: &[u32],
-        i: u32,
-        tables: &Tables,
-    ) -> Result<Row, AllocError>
-        requires i { i < length self.now.elements.members }
-        requires row { WasRow self.now.elements self.now.limit moved.now i row }
-        requires tables { AreTables self.now.elements tables.now }
-        ensures { IfOk result (IsHeldRow self.now.elements self.now.limit i) }
-    {
-        let context = self.context();
-        if row.view().is_some()
-            && let Some(shared) = shared_row(alloc, context, i, self, tables)?
-        {
-            return Ok(shared);
-        }
-        row.renumbered(alloc, moved, context.len())
-    }
-}
-
-/// What a context has when it has grown: the new number of each member that was there before, and the tables of the larger context.
-#[derive(Drop)]
-pub(crate) struct Grown {
-    pub(crate) moved: Vec<u32>,
-    pub(crate) tables: Tables,
 }
 
 /// Takes the row at a place out, if there is one.
@@ -284,25 +186,6 @@ fn take_at(rows: &mut Vec<Option<Row>>, i: usize) -> Option<Row>
         return None;
     }
     rows[i].take()
-}
-
-/// Takes the row at a place out, if there is one and it has polynomials of its own, or any is taken.
-fn take_if(rows: &mut Vec<Option<Row>>, i: usize, any: bool) -> Option<Row>
-    ensures some { IfSome result (λ row. row_at rows.old.items i ≡ Some row) }
-    ensures gone { IfSome result (λ _. row_at rows.new.items i ≡ None) }
-    ensures own { any ≡ false → IfSome result (λ row. row.view ≡ None) }
-    ensures none { IfNone result (row_at rows.new.items i ≡ row_at rows.old.items i) }
-    ensures any { IsTrue any → row_at rows.new.items i ≡ None }
-    ensures others { (j : ℕ) → j ≢ i → row_at rows.new.items j ≡ row_at rows.old.items j }
-{
-    let wanted = match rows.get(i) {
-        Some(Some(row)) => any || row.view().is_none(),
-        _ => false,
-    };
-    if wanted {
-        return take_at(rows, i);
-    }
-    None
 }
 
 impl LowerRows for Held {

@@ -1,5 +1,5 @@
 //! A context with rows of its members: look-ups, and contexts that grow.
-ghost use Rattle.std.specs.Prelude.{◌≡◌, ◌≢◌, ◌⊎◌, true, is_some, ℕ, ◌<◌, ◌≤◌, ◌↔◌, [], length, IfSome, IsSome, IsTrue, IfOk, IfErr, OnOk};
+ghost use Rattle.std.specs.Prelude.{List, Contains, OnErr, ◌≡◌, ◌≢◌, ◌⊎◌, true, is_some, ℕ, ◌<◌, ◌≤◌, ◌↔◌, [], length, IfSome, IsSome, IsTrue, IfOk, OnOk};
 ghost use Rattle.std.specs.Prelude.{pos, ◌≤ℤ◌};
 ghost use Rattle.cox_base.specs.IntegerMatrix.{integer_matrix};
 ghost use Rattle.cox_base.specs.Matrix.{IsWord};
@@ -8,8 +8,6 @@ ghost use Rattle.cox_base.specs.Bruhat.{IsBelow};
 ghost use Rattle.cox_poly.specs.Polynomial.{coefficient};
 ghost use Rattle.cox_hecke.specs.Row.{IsKazhdanLusztig, IsMu};
 ghost use Rattle.cox_context.specs.Union.{IsInUnion};
-ghost use Rattle.cox_base.specs.SortedList.{IsListOf};
-ghost use Rattle.cox_context.specs.FaultMeaning.{IsRefusal};
 ghost use Rattle.cox_row.specs.Distinct.{HasDistinctPolynomials};
 ghost use Rattle.cox_base.specs.Admissible.{IsAdmissible};
 ghost use Rattle.cox_context.specs.Closed.{IsClosed};
@@ -17,9 +15,9 @@ ghost use Rattle.cox_context.specs.Numbers.{word_at};
 ghost use Rattle.cox_context.specs.Numbering.{IsNumberOf};
 ghost use Rattle.cox_row.specs.RowLists.{row_at};
 ghost use Rattle.cox_rows.specs.Holding.{Holding, HasRow, IsHeldRow, held};
-ghost use Rattle.cox_rows.specs.Extended.{IsExtended, IsLeft};
+ghost use Rattle.cox_context.specs.Spread.{AreKept};
+ghost use Rattle.cox_klstep.specs.TablesOf.{AreTables, AreEarlierTables};
 
-use crate::flags::spread_flags;
 use crate::held::Held;
 use cox_base::Word;
 use cox_context::{Context, ContextFault, MAX_MEMBERS};
@@ -29,7 +27,6 @@ use cox_poly::PolyView;
 use cox_row::{LowerRows, Row, mu, polynomial, pool_len};
 use std::alloc::{AllocError, Global};
 use std::marker::Model;
-use std::mem;
 
 /// A context, and the rows of some of its members. Every row that is held is within the limits.
 #[derive(Drop)]
@@ -173,12 +170,10 @@ impl Rows {
         self.held.adopt(rows);
     }
 
-    /// Adds the elements x with x <= w to the context, and tells the number of w there. The rows that are held stay, under their members'
-    /// new numbers.
+    /// Adds the elements x with x <= w to the context, and tells the number of w there. Members and rows keep their numbers.
     ///
-    /// `Size` where there are more than `limit` members then. After `Size` and `Long` all is as before; without memory no row may be left,
-    /// and there may be more members. In A 2 the interval of `12` has four elements, the last with the number 3; with that of `21` there
-    /// are five, the last with the number 4, and the row of `12` has the same number.
+    /// `Size` where there are more than `limit` members then. After a fault all is as before. In A 2 the interval of `12` has four elements,
+    /// the last with the number 3; with that of `21` there are five, the last with the number 4.
     pub fn extend(&mut self, group: &RootTable, w: &Word, limit: u32) -> Result<u32, ContextFault>
         requires matrix { group.now ≡ self.old.elements.matrix }
         requires letters { IsWord group.now.rank w.now.items }
@@ -186,14 +181,14 @@ impl Rows {
         requires limit { limit ≤ MAX_MEMBERS }
         ensures matrix { self.new.elements.matrix ≡ self.old.elements.matrix }
         ensures limit { self.new.limit ≡ self.old.limit }
-        ensures members { OnOk result (IsListOf (IsInUnion (integer_matrix group.now) w.now.items self.old.elements.members)
-            self.new.elements.members) }
+        ensures kept { AreKept self.old.elements.members self.new.elements.members }
+        ensures members { OnOk result ((word : List ℕ) → Contains self.new.elements.members word
+            ↔ IsInUnion (integer_matrix group.now) w.now.items self.old.elements.members word) }
         ensures few { OnOk result (length self.new.elements.members ≤ limit) }
         ensures number { IfOk result (λ i. IsNumberOf self.new.elements.members (normal_form (integer_matrix group.now) w.now.items)
             (Some i)) }
-        ensures extended { OnOk result (IsExtended self.old self.new) }
-        ensures refused { IfErr result (IsRefusal (IsInUnion (integer_matrix group.now) w.now.items self.old.elements.members) limit) }
-        ensures unchanged { IfErr result (IsLeft self.old self.new) }
+        ensures holds { self.new.holds ≡ self.old.holds }
+        ensures unchanged { OnErr result (self.new ≡ self.old) }
         ensures steps { self.new.steps ≡ self.old.steps }
     {
         let context = self.context();
@@ -202,29 +197,30 @@ impl Rows {
         {
             return Ok(i);
         }
+        let before = context.len();
+        self.held.extend(group, w, limit)?;
         let alloc = *self.settled.allocator();
-        let settled = mem::replace(&mut self.settled, Vec::new(alloc));
-        let tables = self.tables.take();
-        match self.held.extend(group, w, limit) {
-            Ok(grown) => {
-                let moved = grown.moved.as_slice();
-                let Ok(settled) = spread_flags(alloc, settled.as_slice(), moved) else {
-                    return Err(ContextFault::NoMemory);
-                };
-                self.settled = settled;
-                self.tables = Some(grown.tables);
-                match self.context().number_of(group, w) {
-                    Some(i) => Ok(i),
-                    None => unreachable!(),
-                }
-            }
-            Err(ContextFault::NoMemory) => Err(ContextFault::NoMemory),
-            Err(fault) => {
-                self.settled = settled;
-                self.tables = tables;
-                Err(fault)
-            }
+        self.tables = grown(alloc, self.held.context(), before, self.tables.take());
+        match self.context().number_of(group, w) {
+            Some(i) => Ok(i),
+            None => unreachable!(),
         }
+    }
+}
+
+/// Tables of the context, from those that it had when it had fewer members, so many. There are none where it is twice as large now, since new
+/// ones may know more symmetries, or where memory does not suffice. The next row makes new ones.
+fn grown(alloc: Global, context: &Context, before: u32, tables: Option<Tables>) -> Option<Tables>
+    requires { IfSome tables (AreEarlierTables context.now) }
+    ensures { IfSome result (AreTables context.now) }
+{
+    let mut tables = tables?;
+    if context.len() / 2 >= before {
+        return None;
+    }
+    match tables.grow(alloc, context) {
+        Ok(()) => Some(tables),
+        Err(_) => None,
     }
 }
 

@@ -24,6 +24,13 @@ use std::alloc::{AllocError, Global};
 use std::sync::Wait;
 use std::thread::Threads;
 
+/// From how many missing rows on workers are asked at once.
+const MANY_ROWS: usize = 1_024;
+
+/// How many polynomials one thread adds up before workers are asked for fewer rows, beside two for each member: that takes it some five
+/// milliseconds. To start threads, and to make a store and tables over all members, is not worth it for less.
+const FEW_POLYNOMIALS: u64 = 16_384;
+
 /// Rows are made, and blocks are answered, by functions that run workers.
 #[derive(Clone, Copy, Drop)]
 pub struct ByWorkers<F, T> {
@@ -52,6 +59,10 @@ impl<
         → IfSome told (λ t. IsToldOf session.now blocks.now t)) };
 
     fn make(&self, alloc: Global, rows: Rows, wanted: &[u32]) -> Rows {
+        let mut rows = rows;
+        if begin_rows(&mut rows, wanted) {
+            return rows;
+        }
         (self.make)(rows, alloc, wanted)
     }
 
@@ -71,6 +82,32 @@ impl<
         session.make_ahead(self, alloc, blocks);
         (self.tell)(session, alloc, blocks)
     }
+}
+
+/// Makes rows of the members with these numbers, and those that they are made from, by this thread, until workers are worth it; none where
+/// many of them are missing. Says whether all of them are there.
+fn begin_rows(rows: &mut Rows, wanted: &[u32]) -> bool
+    requires { AreWithin (length rows.old.elements.members) wanted.now }
+    ensures { IsMore rows.old rows.new }
+{
+    if are_many(rows, wanted) {
+        return false;
+    }
+    let most = FEW_POLYNOMIALS + 2 * u64::from(rows.context().len());
+    let last = rows.steps().saturating_add(most);
+    'each: for &i in wanted {
+        let left = last.saturating_sub(rows.steps());
+        if !rows.begin(i, left) {
+            return false;
+        }
+    }
+    true
+}
+
+/// Whether many rows of the members with these numbers are not there.
+fn are_many(rows: &Rows, wanted: &[u32]) -> bool {
+    let missing = wanted.iter().filter(|i| !rows.has(**i));
+    missing.count() >= MANY_ROWS
 }
 
 /// The same rows, and those of the members with these numbers, by so many workers, as far as there is memory for them and none is beyond a

@@ -1,5 +1,5 @@
 -- There is one value for any two elements, which is mu from the shorter to the longer one; and what a row says of it.
-use Rattle.std.proofs.Common.{◌≡◌, ℕ, ◌-◌, ◌≤◌, ◌<◌, ◌⊎◌, inl, inr, List, length, ℤ, pos, ◌+ℤ◌, refl, sym, ap, ◌∙◌}
+use Rattle.std.proofs.Common.{◌≡◌, ℕ, ◌-◌, ◌≤◌, ◌<◌, ◌⊎◌, ◌≢◌, zero, suc, negsuc, inl, inr, List, length, ℤ, pos, ◌+ℤ◌, refl, sym, ◌∙◌}
 use Rattle.std.proofs.Common.{⊎_elim, arith}
 use Rattle.std.proofs.lemmas.Int.{ints}
 use Rattle.std.proofs.lemmas.Bool.{cases_lt}
@@ -9,9 +9,9 @@ use Rattle.cox_base.specs.Element.{SameElement}
 use Rattle.cox_base.specs.Length.{word_length}
 use Rattle.cox_hecke.specs.Row.{IsMu}
 use Rattle.cox_hecke.proofs.AllRows.{mu-exists, mu-unique}
+use Rattle.cox_hecke.proofs.Descended.{mu-below}
 use Rattle.cox_context.specs.Closed.{Elements, IsClosed}
 use Rattle.cox_context.specs.Numbers.{word_at}
-use Rattle.cox_context.proofs.PlacedWords.{contains-at, rising-length}
 use Rattle.cox_row.specs.Rising.{number_at}
 use Rattle.cox_row.specs.Mus.{value_at, AreMus}
 use Rattle.cox_row.proofs.MuOfElements.{mu-words}
@@ -57,15 +57,15 @@ module _ (A : IntegerMatrix) (g : IsAdmissible A) where
     value = c.value;
   }
 
-  -- where x is no longer than y, it is mu(x,y)
-  pub edge-of_mu : (x y : List ℕ) (m : ℤ) → word_length A x ≤ word_length A y → IsMu A x y m → IsEdgeValue A x y m
-  edge-of_mu x y m l is =
-      let q = mu-exists A g y x in let z : q.0 ≡ pos 0 = mu-short y x q.0 l q.1
+  -- where mu(y,x) is 0, it is mu(x,y)
+  pub edge-of_mu : (x y : List ℕ) (m : ℤ) → ((n : ℤ) → IsMu A y x n → n ≡ pos 0) → IsMu A x y m → IsEdgeValue A x y m
+  edge-of_mu x y m back is =
+      let q = mu-exists A g y x in let z : q.0 ≡ pos 0 = back q.0 q.1
       in record { up = m; down = q.0; is_up = is; is_down = q.1; value = omega (arith, ints, z) }
 
-  pub mu-of_edge : (x y : List ℕ) (m : ℤ) → word_length A x ≤ word_length A y → IsEdgeValue A x y m → IsMu A x y m
-  mu-of_edge x y m l c =
-      let z = mu-short y x c.down l c.is_down in let e : m ≡ c.up = omega (arith, ints, c.value, z) in rw e c.is_up
+  pub mu-of_edge : (x y : List ℕ) (m : ℤ) → ((n : ℤ) → IsMu A y x n → n ≡ pos 0) → IsEdgeValue A x y m → IsMu A x y m
+  mu-of_edge x y m back c =
+      let z = back c.down c.is_down in let e : m ≡ c.up = omega (arith, ints, c.value, z) in rw e c.is_up
 
   pub edge-loop : (x : List ℕ) (m : ℤ) → IsEdgeValue A x x m → m ≡ pos 0
   edge-loop x m c =
@@ -80,16 +80,22 @@ module _ (e : Elements) (g : IsAdmissible (integer_matrix e.matrix)) where
   )
 
 module _ (e : Elements) (g : IsAdmissible (integer_matrix e.matrix)) (closed : IsClosed (integer_matrix e.matrix) e.members) where
-  -- the lengths of members
-  member-length : (i : ℕ) → i < length e.members → word_length (integer_matrix e.matrix) (word_at e.members i) ≡ length
-      (word_at e.members i)
-  unfolding word_length
-  member-length i l = ap length (closed.element (word_at e.members i) (contains-at e.members i l)).normal
+  zero_or_not : (m : ℤ) → (m ≡ pos 0) ⊎ (m ≢ pos 0)
+  zero_or_not (pos zero) = inl refl
+  zero_or_not (pos (suc n)) = inr (λ q. absurd (cc))
+  zero_or_not (negsuc n) = inr (λ q. absurd (cc))
 
-  pub no-shorter : (i j : ℕ) → i ≤ j → j < length e.members
-      → word_length (integer_matrix e.matrix) (word_at e.members i) ≤ word_length (integer_matrix e.matrix) (word_at e.members j)
-  no-shorter i j l m =
-      omega (arith, member-length i (omega (arith, l, m)), member-length j m, rising-length e.members i j closed.rising l m)
+  -- a member is not below one before it, so mu from it to that one is 0
+  pub no-back : (i j : ℕ) → i ≤ j → j < length e.members → (n : ℤ)
+      → IsMu (integer_matrix e.matrix) (word_at e.members j) (word_at e.members i) n → n ≡ pos 0
+  no-back i j l m n is =
+      ⊎_elim (λ (zero : n ≡ pos 0). zero)
+      (λ (some : n ≢ pos 0).
+      let up = closed.upward j i m (omega (arith, l, m)) (mu-below (integer_matrix e.matrix) g (word_at e.members j) (word_at e.members i) n is
+      some)
+      in let same : i ≡ j = omega (arith, l, up)
+      in mu-short (integer_matrix e.matrix) g (word_at e.members j) (word_at e.members i) n (rw same (omega arith)) is)
+      (zero_or_not n)
 
   module _ (values : ℕ → ℕ → ℤ) (are : AreValues e values) where
     pub undirected : AreUndirected (length e.members) values
@@ -110,16 +116,15 @@ module _ (e : Elements) (g : IsAdmissible (integer_matrix e.matrix)) (closed : I
       value = λ k m. edge-unique (integer_matrix e.matrix) g (word_at e.members (number_at numbers k)) (word_at e.members j)
           (value_at list k) (values (number_at numbers k) j)
           (edge-of_mu (integer_matrix e.matrix) g (word_at e.members (number_at numbers k)) (word_at e.members j) (value_at list k)
-          (no-shorter (number_at numbers k) j (let r = within k m in omega (arith, r)) l) (mus.value k m))
+          (no-back (number_at numbers k) j (let r = within k m in omega (arith, r)) l) (mus.value k m))
           (are (number_at numbers k) j (mus.within k m) l);
       some = mus.some;
       whole = λ u less some. mus.whole u (values u j) (omega (arith, less, l))
           (mu-of_edge (integer_matrix e.matrix) g (word_at e.members u) (word_at e.members j) (values u j)
-          (no-shorter u j (omega (arith, less)) l) (are u j (omega (arith, less, l)) l)) some;
+          (no-back u j (omega (arith, less)) l) (are u j (omega (arith, less, l)) l)) some;
     }
       where
         within : (k : ℕ) → k < length numbers → number_at numbers k < j
         within k m = ⊎_elim (λ (less : number_at numbers k < j). less)
             (λ (h : j ≤ number_at numbers k). absurd (mus.some k m
-            (mu-short (integer_matrix e.matrix) g (word_at e.members (number_at numbers k)) (word_at e.members j)
-            (value_at list k) (no-shorter j (number_at numbers k) h (mus.within k m)) (mus.value k m)))) (cases_lt (number_at numbers k) j)
+            (no-back j (number_at numbers k) h (mus.within k m) (value_at list k) (mus.value k m)))) (cases_lt (number_at numbers k) j)

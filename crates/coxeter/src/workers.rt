@@ -9,6 +9,7 @@ use std::thread::Threads;
 /// Scripts that have to write the same with any number of workers.
 const SCRIPTS: &[&str] = &[
     "type A 4\nlrcells\nwork 7 20\n",
+    "type D 5\nlrcells\n",
     "type B 3\nklbasis 12321\npol e 123212321\nlwgraph\nmu 1 12321\nrcells\nextremals 232123\n",
     "pol e 1\nmatrix 2 5\ntype H 3\nfoo\ncompute\nmatrix 10\nmatrix 2\ntype A x\n",
     "type A 4\npol e 123\nquit\n",
@@ -62,12 +63,24 @@ fn write_the_same(rt: HostRuntime) -> Result<(), Fail> {
 #[test]
 fn meet_at_a_gate(rt: HostRuntime) -> Result<(), Fail> {
     let alloc = rt.alloc();
-    let gate = MeetingGate::new(alloc, 120)?;
-    let (status, _) = run_by(&rt, alloc, "type A 4\nlrcells\nlrcells\n", "2", &gate)?;
+    let gate = MeetingGate::new(alloc, 1920)?;
+    let (status, _) = run_by(&rt, alloc, "type D 5\nlrcells\nlrcells\n", "2", &gate)?;
     assert_eq!(rt; status, Status::Done);
     assert_eq!(rt; gate.late(), 0);
-    assert_eq!(rt; gate.published_once(), 120);
-    assert!(rt; gate.claims() >= 120);
+    assert_eq!(rt; gate.published_once(), 1920);
+    assert!(rt; gate.claims() >= 1920);
+    Ok(())
+}
+
+/// Few rows, which cost little, are made by one thread: no other is started for them.
+#[test]
+fn few_rows_pass_no_gate(rt: HostRuntime) -> Result<(), Fail> {
+    let alloc = rt.alloc();
+    let gate = MeetingGate::new(alloc, 120)?;
+    let script = "type A 4\nklbasis 12321\nlrcells\n";
+    let (status, _) = run_by(&rt, alloc, script, "2", &gate)?;
+    assert_eq!(rt; status, Status::Done);
+    assert_eq!(rt; gate.claims(), 0);
     Ok(())
 }
 

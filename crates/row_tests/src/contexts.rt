@@ -5,7 +5,7 @@
 ghost use Rattle.std.specs.Prelude.{◌≡◌, ◌<◌, length, IfOk};
 ghost use Rattle.cox_base.specs.Matrix.{IsWord};
 
-use crate::fixtures::{table, word};
+use crate::fixtures::{place_of, table, word};
 use cox_base::{Coxeter, MAX_LETTERS, Word};
 use cox_context::{Context, ContextFault, MAX_MEMBERS};
 use cox_minroots::RootTable;
@@ -224,16 +224,178 @@ fn is_extended_by_an_interval(rt: HostRuntime) -> Result<(), Fail> {
     extends_by_12(&rt, &g, &mut context)
 }
 
-/// The members are e, 1, 2, 21, and with 12: e, 1, 2, 12, 21.
+/// The members are e, 1, 2, 21, and with 12 behind them: e, 1, 2, 21, 12.
 fn extends_by_12(rt: &impl Abort, g: &RootTable, context: &mut Context) -> Result<(), Fail>
     requires { g.now ≡ context.old.matrix }
 {
     let second = word(rt, g, b"12")?;
     assert!(rt; context.extend(g, &second, 4) == Err(ContextFault::Size { limit: 4, seen: 5 }));
-    let moved = context.extend(g, &second, 5)?;
-    assert!(rt; moved.as_slice() == [0, 1, 2, 4].as_slice());
+    context.extend(g, &second, 5)?;
     assert!(rt; context.len() == 5);
+    assert!(rt; context.word(3).as_slice() == [2, 1].as_slice());
+    assert!(rt; context.word(4).as_slice() == [1, 2].as_slice());
+    assert!(rt; context.left_descents(4).as_slice() == [1].as_slice());
+    assert!(rt; context.right_descents(4).as_slice() == [2].as_slice());
+    assert!(rt; context.below(1, 4) && context.below(2, 4) && !context.below(3, 4));
     Ok(())
+}
+
+/// Elements whose intervals are added one after another. Those of A 3 and B 3 end in the whole group.
+const ORDERS_A_3: [[&[u8]; 4]; 4] = [
+    [b"2132", b"13", b"12321", b"121321"],
+    [b"12321", b"2132", b"321", b"121321"],
+    [b"321", b"123", b"232", b"2132"],
+    [b"1", b"12321", b"1", b"e"],
+];
+
+const ORDERS_B_3: [[&[u8]; 4]; 3] = [
+    [b"23", b"32321", b"1232", b"123123123"],
+    [b"3", b"2", b"1", b"12321232"],
+    [b"1213", b"3231", b"3231", b"23123"],
+];
+
+const ORDERS_AFFINE: [[&[u8]; 4]; 3] = [
+    [b"12", b"2312", b"3123", b"12312312"],
+    [b"312", b"123123", b"213", b"2312312"],
+    [b"1", b"2", b"3", b"31231"],
+];
+
+#[test]
+fn is_extended_in_any_order(rt: HostRuntime) -> Result<(), Fail> {
+    let g = table(rt.alloc(), &Coxeter::named(b'A', 3)?)?;
+    let whole = Context::of_group(rt.alloc(), &g, 24)?;
+    for order in ORDERS_A_3 {
+        agrees_in_order(&rt, rt.alloc(), &g, &whole, order)?;
+    }
+    Ok(())
+}
+
+#[test]
+fn is_extended_in_any_order_with_a_label_4(rt: HostRuntime) -> Result<(), Fail> {
+    let g = table(rt.alloc(), &Coxeter::named(b'B', 3)?)?;
+    let whole = Context::of_group(rt.alloc(), &g, 48)?;
+    for order in ORDERS_B_3 {
+        agrees_in_order(&rt, rt.alloc(), &g, &whole, order)?;
+    }
+    Ok(())
+}
+
+#[test]
+fn is_extended_in_any_order_in_an_infinite_group(rt: HostRuntime) -> Result<(), Fail> {
+    let g = table(rt.alloc(), &Coxeter::named(b'a', 2)?)?;
+    let whole = interval(rt.alloc(), &rt, &g, b"12312312")?;
+    for order in ORDERS_AFFINE {
+        agrees_in_order(&rt, rt.alloc(), &g, &whole, order)?;
+    }
+    Ok(())
+}
+
+/// The context that has these intervals is part of the whole, which has them all.
+fn agrees_in_order(
+    rt: &impl Abort,
+    alloc: Global,
+    g: &RootTable,
+    whole: &Context,
+    order: [&[u8]; 4],
+) -> Result<(), Fail>
+    requires { g.now ≡ whole.now.matrix }
+{
+    let mut part = interval(alloc, rt, g, b"e")?;
+    add(rt, g, &mut part, order[0])?;
+    add(rt, g, &mut part, order[1])?;
+    add(rt, g, &mut part, order[2])?;
+    add(rt, g, &mut part, order[3])?;
+    has_shifts_of(rt, &part, whole);
+    has_order_of(rt, &part, whole);
+    let tops = [
+        number(rt, g, whole, order[0])?,
+        number(rt, g, whole, order[1])?,
+        number(rt, g, whole, order[2])?,
+        number(rt, g, whole, order[3])?,
+    ];
+    has_members_below(rt, &part, whole, tops);
+    Ok(())
+}
+
+/// Adds the elements up to the one that a text names. The members that are there keep their numbers.
+fn add(rt: &impl Abort, g: &RootTable, context: &mut Context, text: &[u8]) -> Result<(), Fail>
+    requires { g.now ≡ context.old.matrix }
+    ensures { context.new.matrix ≡ context.old.matrix }
+{
+    let top = word(rt, g, text)?;
+    let before = context.len();
+    let last = context.word(before - 1);
+    context.extend(g, &top, MAX_MEMBERS)?;
+    assert!(rt; before <= context.len());
+    assert!(rt; context.word(before - 1).as_slice() == last.as_slice());
+    Ok(())
+}
+
+/// Each member of a part is a member of the whole, once, with the same descents and the same shifts, as far as these are members.
+fn has_shifts_of(rt: &impl Abort, part: &Context, whole: &Context) {
+    assert!(rt; part.matrix().rank() == 3 && whole.matrix().rank() == 3);
+    for i in 0..part.len() {
+        let form = part.word(i);
+        assert!(rt; place_of(part, &form) == Some(i), "{i}");
+        let place = place_of(whole, &form);
+        assert!(rt; place.is_some(), "{i}");
+        if let Some(j) = place {
+            assert!(rt; descent_sets(part, i) == descent_sets(whole, j), "{i}");
+            for s in 1..4 {
+                assert!(rt;
+                    is_same(part, whole, part.left(s, i), whole.left(s, j)),
+                    "{s} {i}"
+                );
+                assert!(rt;
+                    is_same(part, whole, part.right(s, i), whole.right(s, j)),
+                    "{i} {s}"
+                );
+            }
+        }
+    }
+}
+
+/// Whether a shift in a part leads to the member to which it leads in the whole; to none where that is no member of the part.
+fn is_same(part: &Context, whole: &Context, here: Option<u32>, there: Option<u32>) -> bool {
+    let Some(j) = there else {
+        return here == None;
+    };
+    j < whole.len() && place_of(part, &whole.word(j)) == here
+}
+
+/// The members of a part are in the same Bruhat order as in the whole.
+fn has_order_of(rt: &impl Abort, part: &Context, whole: &Context) {
+    for i in 0..part.len() {
+        for k in 0..part.len() {
+            let (first, second) = (
+                place_of(whole, &part.word(i)),
+                place_of(whole, &part.word(k)),
+            );
+            assert!(rt;
+                is_below(whole, first, second) == part.below(i, k),
+                "{i} {k}"
+            );
+        }
+    }
+}
+
+/// Whether both members are there, and the first is below the second.
+fn is_below(context: &Context, first: Option<u32>, second: Option<u32>) -> bool {
+    let (Some(i), Some(j)) = (first, second) else {
+        return false;
+    };
+    i < context.len() && j < context.len() && context.below(i, j)
+}
+
+/// The members of a part are those members of the whole that are below one of the tops.
+fn has_members_below(rt: &impl Abort, part: &Context, whole: &Context, tops: [Option<u32>; 4]) {
+    for j in 0..whole.len() {
+        let is_meant = is_below(whole, Some(j), tops[0])
+            || is_below(whole, Some(j), tops[1])
+            || is_below(whole, Some(j), tops[2])
+            || is_below(whole, Some(j), tops[3]);
+        assert!(rt; place_of(part, &whole.word(j)).is_some() == is_meant, "{j}");
+    }
 }
 
 #[test]

@@ -1,5 +1,5 @@
-//! Groups with all their elements.
-ghost use Rattle.std.specs.Prelude.{◌≡◌, ◌≤◌, length, IfOk};
+//! Groups with all their elements, and members by their words.
+ghost use Rattle.std.specs.Prelude.{◌≡◌, ◌<◌, ◌≤◌, length, IfOk, IfSome};
 ghost use Rattle.cox_base.specs.Matrix.{IsWord};
 
 use cox_base::{Coxeter, MAX_LETTERS, Word, read_word};
@@ -39,4 +39,16 @@ pub fn word(rt: &impl Abort, g: &RootTable, text: &[u8]) -> Result<Word, Fail>
 {
     assert!(rt; text.len() <= MAX_LETTERS);
     Ok(read_word(text, g.group().rank())?)
+}
+
+/// The number of the member with this normal form, if there is one: by the words of all members, one after another.
+pub fn place_of(context: &Context, form: &Word) -> Option<u32>
+    ensures { IfSome result (λ j. j < length context.now.members) }
+{
+    for j in 0..context.len() {
+        if context.word(j).as_slice() == form.as_slice() {
+            return Some(j);
+        }
+    }
+    None
 }

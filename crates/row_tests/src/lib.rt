@@ -2,7 +2,7 @@
 //!
 //! They stand apart from the crates that they test, since a crate with tests is proved twice.
 //!
-//! - `fixtures`: groups with all their elements
+//! - `fixtures`: groups with all their elements, and members by their words
 //! - `contexts`: elements of finite groups against published numbers, intervals, shifts, long words, and refusals
 //! - `steps`: the row of the identity, and what the row of a generator is made from
 //! - `rows`: the rows of A 2, rows that are read off those of images, a context that grows, and a long element

@@ -47,9 +47,11 @@ pub fn keep_interval(
 {
     prove!(table.group().rank() as usize <= MAX_RANK);
     if let Some(rows) = kept {
-        let _context = rows.context();
         match rows.extend(table, w, options.context()) {
-            Ok(i) => return Ok(i),
+            Ok(i) => {
+                let _context = rows.context();
+                return Ok(i);
+            }
             Err(ContextFault::NoMemory) => {
                 *kept = None;
                 return Err(Unanswered::NoMemory);
@@ -72,8 +74,14 @@ pub fn add_interval(
     requires kept { AreKept table.now (limits_of options) kept.old }
     ensures { AreKept table.now (limits_of options) kept.new }
 {
-    if kept.is_some() {
-        return widen(kept, table, options, w, options.context());
+    if let Some(rows) = kept {
+        match rows.extend(table, w, options.context()) {
+            Err(ContextFault::NoMemory) => {
+                *kept = None;
+                return Err(AllocError);
+            }
+            _ => return Ok(()),
+        }
     }
     match keep_alone(alloc, kept, table, options, w) {
         Err(Unanswered::NoMemory) => Err(AllocError),
@@ -81,14 +89,8 @@ pub fn add_interval(
     }
 }
 
-/// Adds the elements below w to what is kept, if it has at most so many members then. Without memory nothing is kept.
-pub fn widen(
-    kept: &mut Option<Rows>,
-    table: &RootTable,
-    options: Options,
-    w: &Word,
-    most: u32,
-) -> Result<(), AllocError>
+/// Adds the elements below w to what is kept, if it has at most so many members then. Else all is as before.
+pub fn widen(kept: &mut Option<Rows>, table: &RootTable, options: Options, w: &Word, most: u32)
     requires word { IsWord table.now.rank w.now.items }
     requires some { 1 ≤ most }
     requires limit { most ≤ options.context }
@@ -98,16 +100,8 @@ pub fn widen(
     prove!(options.context() <= MAX_MEMBERS);
     if let Some(rows) = kept {
         let _context = rows.context();
-        match rows.extend(table, w, most) {
-            Ok(_) => return Ok(()),
-            Err(ContextFault::NoMemory) => {
-                *kept = None;
-                return Err(AllocError);
-            }
-            Err(_) => return Ok(()),
-        }
+        let _ = rows.extend(table, w, most);
     }
-    Ok(())
 }
 
 /// Keeps the interval from the identity to w alone, with no rows, and tells the number of w there. What was kept is given up first.

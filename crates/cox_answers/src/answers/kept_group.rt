@@ -20,7 +20,7 @@ use cox_command::Refusal;
 use cox_context::{Context, ContextFault};
 use cox_minroots::RootTable;
 use cox_options::Options;
-use cox_replies::Unanswered;
+use cox_replies::{Unanswered, is_in_order};
 use cox_rows::Rows;
 use std::alloc::{AllocError, Global};
 
@@ -51,9 +51,10 @@ fn missing_members(alloc: Global, rows: &Rows) -> Result<Vec<u32>, AllocError>
     Ok(missing)
 }
 
-/// Sees to it that all elements of the group are members of what is kept.
+/// Sees to it that the members of what is kept are all elements of the group, in ShortLex order.
 ///
-/// What is kept stays if they are already; else they alone are kept, with no rows yet.
+/// What is kept stays if they are so already. Else they alone are kept, with no rows yet: where all elements are members in another order,
+/// rows are made anew, once, and kept from then on.
 pub fn keep_elements(
     alloc: Global,
     kept: &mut Option<Rows>,
@@ -69,7 +70,7 @@ pub fn keep_elements(
     prove!(table.group().rank() as usize <= MAX_RANK);
     if let Some(rows) = kept {
         prove!(rows.context().len() > 0);
-        if is_whole(rows.context()) {
+        if is_list_of_group(rows.context()) {
             return Ok(());
         }
     }
@@ -78,13 +79,13 @@ pub fn keep_elements(
     Ok(())
 }
 
-/// Whether the members are all elements of the group, and the rows of all of them are there.
+/// Whether the members are all elements of the group, in ShortLex order, and the rows of all of them are there.
 pub fn holds_group(rows: &Rows) -> bool
     ensures all { IsTrue result → HoldsAll (integer_matrix rows.now.elements.matrix) rows.now }
     ensures small { IsTrue result → (i : ℕ) → i < length rows.now.elements.members
         → ¬ IsBeyond (integer_matrix rows.now.elements.matrix) rows.now.limit (word_at rows.now.elements.members i) }
 {
-    if !is_whole(rows.context()) {
+    if !is_list_of_group(rows.context()) {
         return false;
     }
     has_all(rows)
@@ -106,9 +107,18 @@ fn group_of(alloc: Global, table: &RootTable, options: Options) -> Result<Contex
     }
 }
 
-/// Whether each left shift of each member is a member. Then the members are all elements of the group.
-fn is_whole(context: &Context) -> bool
+/// Whether the members are all elements of the group, in ShortLex order.
+fn is_list_of_group(context: &Context) -> bool
     ensures { IsTrue result → IsListOf (IsElement (integer_matrix context.now.matrix)) context.now.members }
+{
+    prove!(context.len() > 0);
+    is_whole(context) && is_in_order(context)
+}
+
+/// Whether each left shift of each member is a member. Then all elements of the group are members.
+fn is_whole(context: &Context) -> bool
+    ensures { IsTrue result → (i : ℕ) → i < length context.now.members → (s : ℕ) → IsLetter context.now.matrix.rank s
+        → Contains context.now.members (normal_form (integer_matrix context.now.matrix) (s ∷ word_at context.now.members i)) }
 {
     for i in 0..context.len() {
         if !has_shifts(context, i) {

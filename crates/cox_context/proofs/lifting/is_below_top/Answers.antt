@@ -23,7 +23,7 @@ returns-then-shares_descent c = λ y s d lower.
     in let same : c.as_slice.result.now ≡ left_descents A c.in-Some.top.items =
     c.as_slice.ensures.value ∙ (rw c.requires.group at c.args.scope.now.descents_of) ∙ ap (top_descents A) c.in-Some.is
     in (
-      λ yes. rw c.in-Some.is (shared A g c.args.shifts.now.members y c.as_slice.result.now c.args.lower.now c.args.numbers.now
+      λ yes. rw c.in-Some.is (shared A g c.args.shifts.now.members y c.as_slice.result.now c.args.lower.now
           c.in-Some.top g lower same
           (rw c.in-Some.is at c.requires.below) (rw c.rank.ensures.rank at (c.shares_descent.ensures yes))),
       λ b. c.if-shares_descent.true,

@@ -14,11 +14,15 @@ returns-then-i-eq0 c =
     in rw (c.if-i-eq0.true, none) (rw (c.if-i-eq0.true, none) at c.shift.ensures)
 
 pub returns-in_err-shifted : goal.returns-in_err-shifted
-returns-in_err-shifted c = rw c.from_residual.ensures (right-none (integer_matrix c.args.shifts.now.matrix)
+returns-in_err-shifted c =
+    let is = rw c.rank-rank.ensures.rank at c.in_err-shifted.ensures
+    in let known = c.requires.rest c.link-link.result.first c.link-link.result.rest c.link-link.ensures.inward
+    (rw c.members.ensures at c.link-link.ensures.word)
+    in rw c.from_residual.ensures (right-none (integer_matrix c.args.shifts.now.matrix)
     (IsAdmissible-integer_matrix c.args.shifts.now.matrix c.rank-rank.ensures.matrix) c.args.shifts.now.members c.rank-rank.ensures.closed
     c.link-link.result.first c.args.s
     (word_at c.args.shifts.now.members c.link-link.result.rest) c.args.i c.link-link.result.rest c.requires.letter c.requires.member
-    (rw c.members.ensures at c.link-link.ensures.word) refl c.in_err-shifted.ensures)
+    (rw c.members.ensures at c.link-link.ensures.word) refl (rw (← is) at known))
 
 pub shift-requires-2-clause-letter : goal.shift-requires-2-clause-letter
 shift-requires-2-clause-letter c =
@@ -29,8 +33,13 @@ shift-requires-2-clause-letter c =
     (rw c.members.ensures at c.link-link.ensures.word)
 
 pub returns : goal.returns
-returns c = right-some (integer_matrix c.args.shifts.now.matrix)
+returns c =
+    let is = rw c.rank-rank.ensures.rank at c.in_ok-shifted.ensures
+    in let known = c.requires.rest c.link-link.result.first c.link-link.result.rest c.link-link.ensures.inward
+    (rw c.members.ensures at c.link-link.ensures.word)
+    in let found = rw (← is) at known
+    in right-some (integer_matrix c.args.shifts.now.matrix)
     (IsAdmissible-integer_matrix c.args.shifts.now.matrix c.rank-rank.ensures.matrix) c.args.shifts.now.members c.rank-rank.ensures.closed
     c.link-link.result.first c.args.s
     (word_at c.args.shifts.now.members c.link-link.result.rest) c.args.i c.link-link.result.rest c.in_ok-shifted.shifted c.shift-2.result
-    (rw c.members.ensures at c.link-link.ensures.word) refl c.in_ok-shifted.ensures.1 c.shift-2.ensures
+    (rw c.members.ensures at c.link-link.ensures.word) refl found.1 c.shift-2.ensures

@@ -11,5 +11,5 @@ returns-in-false-true c =
     let g = c.args.graph.now in
     no_entry-falling (integer_matrix g.matrix) c.args.s (word_at g.members c.args.of) (word_at g.members c.args.at)
     (λ same. c.in-false-true.is-0
-    (rising-place g.members c.args.of c.args.at c.len-len.ensures.closed.rising c.requires.of c.requires.at same))
+    (c.len-len.ensures.closed.distinct c.args.of c.args.at c.requires.of c.requires.at same))
     ((c.in-false-true.ensures {u = tt}).0 refl)

@@ -11,7 +11,7 @@ pub returns-then-not-has_left_descent : goal.returns-then-not-has_left_descent
 returns-then-not-has_left_descent c =
     let g = c.args.graph.now in
     no_entry-apart (integer_matrix g.matrix) c.args.s (word_at g.members c.args.of) (word_at g.members c.args.at)
-    (λ same. c.requires.other (rising-place g.members c.args.of c.args.at c.len-len.ensures.closed.rising c.requires.of c.requires.at same))
+    (λ same. c.requires.other (c.len-len.ensures.closed.distinct c.args.of c.args.at c.requires.of c.requires.at same))
     (λ d _. false≢true (sym c.if-not-has_left_descent.true ∙ c.has_left_descent.ensures.1 d))
 
 pub returns-in_err-value : goal.returns-in_err-value
@@ -19,5 +19,5 @@ returns-in_err-value c =
     let g = c.args.graph.now in
     rw c.from_residual.ensures
     (no_entry-apart (integer_matrix g.matrix) c.args.s (word_at g.members c.args.of) (word_at g.members c.args.at)
-    (λ same. c.requires.other (rising-place g.members c.args.of c.args.at c.len-len.ensures.closed.rising c.requires.of c.requires.at same))
+    (λ same. c.requires.other (c.len-len.ensures.closed.distinct c.args.of c.args.at c.requires.of c.requires.at same))
     (λ _ joined. c.in_err-value.ensures {u = tt} joined.0 joined.1))

@@ -83,7 +83,7 @@ loop-word-preserved c =
       sums = sums-more A members polynomials (map letters_of words) n c.loop-word.sums.items c.add_column.new.sums.items
           column.entries p (omega (arith, c.loop-word-test.true, length-map words letters_of)) c.loop-word.invariant.sums
           (ap coefficient (sym here)
-          ∙ sym (family-at A members polynomials column.number (λ i j l m e. rising-place members i j closed.rising l m e)
+          ∙ sym (family-at A members polynomials column.number (λ i j l m e. closed.distinct i j l m e)
           (element-at A g members closed column.number prefix.inside) c.requires.count prefix.inside)
           ∙ ap (family_of A members polynomials) named)
           c.add_column.ensures.size (subst (λ (v : List ℕ). IsColumn A members v column.entries) named prefix.entries)

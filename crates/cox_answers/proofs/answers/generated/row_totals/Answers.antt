@@ -7,7 +7,7 @@ use Rattle.cox_context.proofs.PlacedWords.{contains-at}
 use Rattle.cox_context.proofs.Shifting.{length-at}
 use Rattle.cox_replies.specs.Totals.{both_totals}
 use Rattle.cox_replies.proofs.RowTotals.{first_totals-more, first_totals-same, totals-is, kazhdan_lusztig-low}
-use Rattle.cox_replies.proofs.RowTotals.{below_it, below_it-true, below_it-false, interval-first}
+use Rattle.cox_replies.proofs.RowTotals.{below_it, below_it-true, below_it-false, first-are}
 use Rattle.cox_answers.proofs.answers.generated.row_totals.Goals as goal
 use Rattle.cox_answers.proofs.answers.generated.row_totals.Goals.{in-Some, in_default}
 
@@ -63,10 +63,6 @@ returns-clause-totals c = λ w is.
     let closed = rw c.context.ensures.context at c.len.ensures.closed in
     let admissible = rw c.context.ensures.context at c.len.ensures.admissible in
     let last : c.loop-x.x ≡ i + 1 = omega arith in
-    let row = row_of-is A admissible w in (
-      row_of A admissible w,
-      row,
-      _,
-      interval-first A admissible members closed i c.requires.member w is,
-      rw last at (c.loop-x.invariant.totals w (row_of A admissible w) is row),
-    )
+    let row = row_of-is A admissible w in
+    first-are A admissible members closed i c.requires.member w is (row_of A admissible w) row c.loop-x.totals
+    (rw last at (c.loop-x.invariant.totals w (row_of A admissible w) is row))

@@ -1,8 +1,6 @@
 -- The proof of `is_whole`.
 use Rattle.std.proofs.Common.{◌≡◌, arith, ⊎_elim}
 use Rattle.std.proofs.lemmas.Bool.{cases_eq}
-use Rattle.cox_base.specs.IntegerMatrix.{integer_matrix}
-use Rattle.cox_replies.proofs.WholeGroups.{whole-by_shifts}
 use Rattle.cox_answers.proofs.answers.kept_group.is_whole.Goals as goal
 
 pub loop-i-preserved : goal.loop-i-preserved
@@ -12,7 +10,4 @@ loop-i-preserved c = λ k below s letter. ⊎_elim
     (cases_eq k c.loop-i.i)
 
 pub returns : goal.returns
-returns c = λ done.
-    let context = c.args.context.now in
-    whole-by_shifts (integer_matrix context.matrix) c.len-i-end.ensures.admissible context.members c.len-i-end.ensures.closed
-    (λ i within. c.loop-i.invariant i (omega (arith, within)))
+returns c = λ done i within. c.loop-i.invariant i (omega (arith, within, c.len-i-end.ensures.len, c.loop-i-test.false))

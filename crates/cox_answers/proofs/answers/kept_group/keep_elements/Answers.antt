@@ -5,11 +5,11 @@ use Rattle.cox_replies.specs.Kept.{AreOf}
 use Rattle.cox_replies.proofs.WholeGroups.{not-too_large, large-allowed}
 use Rattle.cox_answers.proofs.answers.kept_group.keep_elements.Goals as goal
 
-pub returns-then-is_whole-clause-elements : goal.returns-then-is_whole-clause-elements
-returns-then-is_whole-clause-elements c =
+pub returns-then-is_list_of_group-clause-elements : goal.returns-then-is_list_of_group-clause-elements
+returns-then-is_list_of_group-clause-elements c =
     let A = integer_matrix c.args.table.now in
     let of : AreOf c.args.table.now (limits_of c.args.options) c.in-Some.rows = rw c.in-Some.is at c.requires.kept in
-    let whole = rw (c.context-in-Some.ensures.context, of.group) at (c.is_whole.ensures c.if-is_whole.true) in
+    let whole = rw (c.context-in-Some.ensures.context, of.group) at (c.is_list_of_group.ensures c.if-is_list_of_group.true) in
     let closed = rw (c.context.ensures.context, of.group) at c.len.ensures.closed in (
       large-allowed (limits_of c.args.options) A (not-too_large A c.args.options.context c.in-Some.rows.elements.members closed whole
           of.few),

@@ -18,7 +18,7 @@ returns-then-number-self-clause-fault c =
       ap (λ n. n + 1) limit,
       over-prefix (IsWanted c.args.self.now.search) c.args.self.now.search.limit c.args.self.now.members y
           (omega (arith, c.len-number.ensures.len, c.if-number-self.true, limit, members)) c.requires.prefix
-          (short-push c.args.self.now.search c.args.self.now.members _ _ _ b y c.args.child.now c.requires.next
+          (short-push c.args.self.now.search c.args.self.now.members _ b y c.args.lower.now c.requires.next
           (omega (arith, c.requires.short))),
     )
 
@@ -31,15 +31,13 @@ invariant_of-self-2 c =
     in let closed = rw (← c.self.view_is) at c.requires.closed
     in let room : length members < c.self.inside.limit
     = omega (arith, c.self.invariant.room, c.len-number.ensures.len, c.if-number-self.false)
-    in let pushed : IsRowPushed c.rank-rank.result c.len-number.result c.args.child.now.lower (c.rank-rank.result + 1)
+    in let pushed : IsRowPushed c.rank-rank.result c.len-number.result c.args.lower.now (c.rank-rank.result + 1)
     c.self.inside.listing.left.items c.push_row.new.table.items
     = search rules
     in let added : c.push.new.self ≡ members ++ y ∷ [] = search rules
-    in let numbers : c.push_reserved.new.self.items ≡ c.self.inside.numbers.items ++ c.unwrap_or.result ∷ [] = search rules
-    in rw (added, numbers, c.unwrap_or.ensures) (builder-push (record {
+    in rw added (builder-push (record {
       matrix = c.self.inside.scope.now.group;
       top = c.self.inside.scope.now.top;
-      earlier = c.self.inside.earlier.now.members;
       limit = c.self.inside.limit;
-    }) members _ _ _ c.self.invariant y c.args.child.now next room (closed (omega (arith, room, c.self.invariant.limit))) _
+    }) members _ c.self.invariant y c.args.lower.now next room (closed (omega (arith, room, c.self.invariant.limit))) _
     (rw (rank, c.len-number.ensures.len) at pushed))

@@ -1,4 +1,4 @@
--- The child is the next member, or it is not meant, or it was found before, or an element below it was not.
+-- The child is the next member, or it is not below the top, or it was found before, or an element below it was not.
 use Rattle.std.proofs.Common.{◌∷◌, ap, sym, ◌∙◌}
 use Rattle.std.proofs.lemmas.Bool.{false≢true}
 use Rattle.cox_context.specs.Numbers.{word_at}
@@ -8,17 +8,8 @@ use Rattle.cox_context.proofs.NextChild.{unfound-ascent, found-contains}
 use Rattle.cox_context.proofs.BuilderTables.{builder-seen}
 use Rattle.cox_context.proofs.builder.Builder.child.Goals as goal
 
-pub earlier_number-number-requires-clause-new : goal.earlier_number-number-requires-clause-new
-earlier_number-number-requires-clause-new c =
-    let matrix = ap (λ (v : Building). v.search.matrix) c.self.view_is
-    in let members = ap (λ (v : Building). v.members) c.self.view_is
-    in let b = builder-seen c.self.view_is c.self.invariant
-    in let shift = rw (c.shifts-shifts.ensures, matrix, members) at c.shift.ensures
-    in (unfound-ascent c.args.self.now.search.matrix b.matrix c.args.self.now.members b.closed c.args.s c.args.parent c.requires.letter
-    c.requires.parent c.shift.result shift (sym c.is_some.ensures ∙ c.if-is_some.false)).0
-
-pub returns-then-is_meant-clause-next : goal.returns-then-is_meant-clause-next
-returns-then-is_meant-clause-next c =
+pub returns-then-is_below_top-clause-next : goal.returns-then-is_below_top-clause-next
+returns-then-is_below_top-clause-next c =
     let v = c.args.self.now
     in let matrix = ap (λ (v : Building). v.search.matrix) c.self.view_is
     in let members = ap (λ (v : Building). v.members) c.self.view_is
@@ -28,17 +19,15 @@ returns-then-is_meant-clause-next c =
     c.shift.result shift (sym c.is_some.ensures ∙ c.if-is_some.false)
     in let lower = rw (c.shifts-shifts.ensures, matrix, members) at c.in-Ok.ensures.lower
     in let top = ap (λ (v : Building). v.search.top) c.self.view_is
-    in let meant = rw (c.shifts-shifts.ensures, matrix, members, top) at c.is_meant.ensures
+    in let meant = rw (c.shifts-shifts.ensures, matrix, members, top) at c.is_below_top.ensures
     in record {
       new = up.0;
-      meant = (meant (c.args.s ∷ word_at v.members c.args.parent) c.args.s v.search.earlier up.1.descent lower
-          c.earlier_number-number.ensures).0 c.if-is_meant.true;
+      meant = (meant (c.args.s ∷ word_at v.members c.args.parent) c.args.s up.1.descent lower).0 c.if-is_below_top.true;
       numbers = lower;
-      number = c.earlier_number-number.ensures;
     }
 
-pub returns-else-is_meant-clause-none : goal.returns-else-is_meant-clause-none
-returns-else-is_meant-clause-none c =
+pub returns-else-is_below_top-clause-none : goal.returns-else-is_below_top-clause-none
+returns-else-is_below_top-clause-none c =
     let v = c.args.self.now
     in let matrix = ap (λ (v : Building). v.search.matrix) c.self.view_is
     in let members = ap (λ (v : Building). v.members) c.self.view_is
@@ -48,10 +37,9 @@ returns-else-is_meant-clause-none c =
     c.shift.result shift (sym c.is_some.ensures ∙ c.if-is_some.false)
     in let lower = rw (c.shifts-shifts.ensures, matrix, members) at c.in-Ok.ensures.lower
     in let top = ap (λ (v : Building). v.search.top) c.self.view_is
-    in let meant = rw (c.shifts-shifts.ensures, matrix, members, top) at c.is_meant.ensures
-    in above (λ is. false≢true (sym c.if-is_meant.false
-    ∙ (meant (c.args.s ∷ word_at v.members c.args.parent) c.args.s v.search.earlier up.1.descent lower
-    c.earlier_number-number.ensures).1 is))
+    in let meant = rw (c.shifts-shifts.ensures, matrix, members, top) at c.is_below_top.ensures
+    in above (λ is. false≢true (sym c.if-is_below_top.false
+    ∙ (meant (c.args.s ∷ word_at v.members c.args.parent) c.args.s up.1.descent lower).1 is))
 
 pub returns-then-is_some-clause-none : goal.returns-then-is_some-clause-none
 returns-then-is_some-clause-none c =

@@ -13,8 +13,7 @@ returns-clause-grown c =
     let v = c.loop-s.self
     in let stop : c.loop-s.s ≡ c.args.self.search.matrix.rank + 1 = omega (arith, c.rank-rank.ensures.rank)
     in let last = rw (← c.loop-s.invariant.search) at stop
-    in let earlier = rw (← c.loop-s.invariant.search) at c.rank-rank.ensures.earlier
     in let matrix = rw (← c.loop-s.invariant.search) at c.rank-rank.ensures.matrix
     in rw (← c.len-high.ensures.len) (grown-end v.search.matrix.rank (IsWanted v.search)
-    (member-tailed v.search.matrix matrix v.search.top v.search.earlier earlier) c.args.letters c.args.low c.len-high.result c.loop-s.s
+    (member-tailed v.search.matrix matrix v.search.top) c.args.letters c.args.low c.len-high.result c.loop-s.s
     v.members last c.loop-s.invariant.growing)

@@ -51,7 +51,7 @@ returns-then-longer-at c = λ there.
     c.as_slice-letters.ensures.value c.loop-done.invariant.word there
     in let later = shift-later (integer_matrix c.args.self.now.matrix) c.len.ensures.admissible c.args.self.now.members
     c.len.ensures.closed _
-    c.loop-done.at c.in_ok-longer.longer next c.loop-done.invariant.inside c.in_ok-longer.ensures.1
+    c.loop-done.at c.in_ok-longer.longer next c.loop-done.invariant.inside c.in_ok-longer.ensures.0 c.in_ok-longer.ensures.1
     in omega (arith, later, c.if-longer-at.true)
 
 pub returns-then-link-s : goal.returns-then-link-s

@@ -12,13 +12,9 @@ use Rattle.cox_context.specs.Building.{IsWanted}
 use Rattle.cox_context.proofs.MadeContexts.{made_members}
 use Rattle.cox_context.proofs.Ideals.{group-ideal, ideal-tailed}
 use Rattle.cox_context.proofs.GrowingMembers.{grown-list, grown-length}
-use Rattle.cox_context.proofs.ClosedContexts.{identity-closed, group-length, group-long}
+use Rattle.cox_context.proofs.ClosedContexts.{group-length, group-long}
 use Rattle.cox_context.proofs.BuilderTables.{builder-seen}
 use Rattle.cox_context.proofs.context.Context.of_group.Goals as goal
-
-pub new-requires-3-clause-earlier : goal.new-requires-3-clause-earlier
-new-requires-3-clause-earlier c = rw c.in-Ok.ensures.members (identity-closed (integer_matrix c.copy.result)
-    (IsAdmissible-integer_matrix c.copy.result c.in-Ok.ensures.matrix))
 
 pub returns-in_err-builder-2-clause-refused : goal.returns-in_err-builder-2-clause-refused
 returns-in_err-builder-2-clause-refused c =
@@ -65,5 +61,5 @@ returns-clause-members c =
     in let list : IsListOf (IsElement A) c.in_ok-builder-2.builder.members
     = grown-list A.rank (IsElement A) (ideal-tailed A g (IsElement A) (group-ideal A g)) MAX_LETTERS c.in_ok-builder-2.low
     c.in_ok-builder-2.builder.members grown short
-    in rw (← (c.copy.ensures ∙ c.group.ensures)) (made_members c.of_members.result c.copy.result c.finish-listing.result.0.members
+    in rw (← (c.copy.ensures ∙ c.group.ensures)) (made_members c.of_members.result c.copy.result c.finish-listing.result.members
     (IsListOf (IsElement A)) c.of_members.ensures.made (rw c.finish-listing.ensures.members list))

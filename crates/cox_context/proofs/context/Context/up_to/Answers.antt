@@ -1,23 +1,18 @@
 -- The builder finds the interval up to the normal form of w, which is that up to w.
 use Rattle.std.proofs.Common.{rules, ◌≡◌, ◌∙◌, length, IfErr, refl}
 use Rattle.cox_base.specs.IntegerMatrix.{integer_matrix}
-use Rattle.cox_reflect.proofs.Admissible.{IsAdmissible-integer_matrix}
 use Rattle.cox_base.specs.Members.{IsInInterval}
 use Rattle.cox_context.specs.Building.{IsWanted}
 use Rattle.cox_context.specs.FaultMeaning.{IsRefusal}
 use Rattle.cox_base.specs.SortedList.{IsListOf}
 use Rattle.cox_context.proofs.MadeContexts.{made_members}
-use Rattle.cox_context.proofs.ClosedContexts.{identity-closed, form-same, interval-refused, interval-found}
+use Rattle.cox_context.proofs.ClosedContexts.{form-same, interval-refused, interval-found}
 use Rattle.cox_context.proofs.context.Context.up_to.Goals as goal
 
-pub new-requires-2-clause-earlier : goal.new-requires-2-clause-earlier
-new-requires-2-clause-earlier c = rw c.in-Ok.ensures.members (identity-closed (integer_matrix c.copy.result)
-    (IsAdmissible-integer_matrix c.copy.result c.in-Ok.ensures.matrix))
-
-pub new-requires-2-clause-top : goal.new-requires-2-clause-top
-new-requires-2-clause-top c = rw c.copy.ensures (
+pub new-requires-clause-top : goal.new-requires-clause-top
+new-requires-clause-top c = rw c.copy.ensures (
   c.requires.letters,
-  (form-same c.args.group.now c.args.group.now refl (rw c.copy.ensures at c.in-Ok.ensures.matrix) c.args.w.now.items c.args.top.items
+  (form-same c.args.group.now c.args.group.now refl c.rank-rank.ensures.matrix c.args.w.now.items c.args.top.items
       c.requires.form).0,
 )
 
@@ -28,7 +23,7 @@ returns-in_err-builder-2-clause-refused c =
     = search rules
     in interval-refused c.copy.result c.args.group.now c.copy.ensures c.in_ok-builder.ensures.matrix
     c.args.w.now.items c.args.top.items c.requires.form
-    c.in-Ok.identity.members c.in-Ok.ensures.members c.args.limit c.from_residual-in_err-builder-2.result
+    c.args.limit c.from_residual-in_err-builder-2.result
     (rw c.in_ok-builder.ensures.search at refused)
 
 pub returns-clause-members : goal.returns-clause-members
@@ -37,8 +32,8 @@ returns-clause-members c =
     in let grown = rw (c.in_ok-builder-2.ensures.search ∙ c.in_ok-builder.ensures.search) at c.in_ok-builder-2.ensures.grown
     in let members = interval-found c.copy.result c.args.group.now c.copy.ensures c.in_ok-builder.ensures.matrix
     c.args.w.now.items c.args.top.items c.requires.form
-    c.in-Ok.identity.members c.in-Ok.ensures.members c.in_ok-builder-2.builder.members c.len-letters.result c.in_ok-builder-2.field-0-1
+    c.in_ok-builder-2.builder.members c.len-letters.result c.in_ok-builder-2.field-0-1
     letters grown
-    in rw (← c.copy.ensures) (made_members c.of_members.result c.copy.result c.finish-listing.result.0.members
+    in rw (← c.copy.ensures) (made_members c.of_members.result c.copy.result c.finish-listing.result.members
     (IsListOf (IsInInterval (integer_matrix c.copy.result) c.args.w.now.items)) c.of_members.ensures.made
     (rw c.finish-listing.ensures.members members))

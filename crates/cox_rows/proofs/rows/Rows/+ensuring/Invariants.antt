@@ -4,8 +4,8 @@ use Rattle.cox_context.specs.Numbers.{word_at}
 use Rattle.cox_rows.proofs.EnsuredNeeds.{IsUnderWay}
 use Rattle.cox_rows.proofs.rows.Rows.+ensuring.Given as goal
 
-abbrev pub decreases-ensure : goal.decreases-ensure
-decreases-ensure l = 2 * l.i + 1
+abbrev pub decreases-ensure_until : goal.decreases-ensure_until
+decreases-ensure_until l = 2 * l.i + 1
 
 abbrev pub decreases-ensure_lower : goal.decreases-ensure_lower
 decreases-ensure_lower l = 2 * l.i

@@ -1,0 +1,173 @@
+-- A new member's row in a table of shifts, behind the others, where each of its shifts is noted at both members; and its sets of descents.
+use Rattle.std.proofs.Common.{◌≡◌, ℕ, ◌+◌, ◌*◌, ◌<◌, List, [], ◌∷◌, ◌++◌, length, Option, None, Some, ◌↔◌, refl, sym, ap}
+use Rattle.std.proofs.Common.{◌∙◌, ⊎_elim, arith, IsBitSet}
+use Rattle.std.proofs.lemmas.Bool.{cases_eq}
+use Rattle.cox_lemmas.proofs.PushedItems.{push-length, push_cases, push-old, push-new}
+use Rattle.cox_base.specs.Matrix.{IsLetter}
+use Rattle.cox_base.specs.IntegerMatrix.{IntegerMatrix}
+use Rattle.cox_base.specs.Admissible.{IsAdmissible}
+use Rattle.cox_base.specs.ShortLex.{normal_form}
+use Rattle.cox_base.specs.Members.{IsElement}
+use Rattle.cox_reflect.proofs.Elements.{same-push, same-push_twice, same-trans}
+use Rattle.cox_reflect.proofs.Search.{normal_form-same, normal_form-equal}
+use Rattle.cox_reflect.proofs.Lengths.{word_length-is}
+use Rattle.cox_reflect.proofs.Deletion.{right_length}
+use Rattle.cox_reflect.proofs.NormalElements.{element-length}
+use Rattle.cox_context.specs.Closed.{IsClosed}
+use Rattle.cox_context.specs.Numbers.{word_at}
+use Rattle.cox_context.specs.Numbering.{IsNumberOf}
+use Rattle.cox_base.specs.Descents.{IsLeftDescent, IsRightDescent}
+use Rattle.cox_context.specs.Sets.{IsLoweringSet}
+use Rattle.cox_context.specs.Shifts.{entry, AreLeftShifts, AreRightShifts, AreSets, IsContext}
+use Rattle.cox_context.specs.Rows.{IsRowPushed}
+use Rattle.cox_context.proofs.PlacedWords.{placed-contains, word_at-old, word_at-new}
+use Rattle.cox_context.proofs.Shifting.{element-at}
+use Rattle.cox_context.proofs.OrderOfMembers.{left-set, right-set}
+use Rattle.cox_context.proofs.ShiftPlaces.{place-within}
+use Rattle.cox_context.proofs.RightShifts.{number-more}
+
+module _ (A : IntegerMatrix) (g : IsAdmissible A) (words : List (List ℕ)) (y : List ℕ) (closed : IsClosed A (words ++ y ∷ [])) where
+  more : length (words ++ y ∷ []) ≡ length words + 1
+  more = push-length words y
+
+  y_at : word_at (words ++ y ∷ []) (length words) ≡ y
+  y_at = word_at-new words y (length words) refl
+
+  y_element : IsElement A y
+  y_element = rw y_at at (element-at A g (words ++ y ∷ []) closed (length words) (omega (arith, more)))
+
+  old_element : (j : ℕ) → j < length words → IsElement A (word_at words j)
+  old_element j l = rw (word_at-old words y j l) at (element-at A g (words ++ y ∷ []) closed j (omega (arith, l, more)))
+
+  -- a shift that leads back: on the left, or on the right
+  module _ (shift : ℕ → List ℕ → List ℕ) (back : (t : ℕ) (x : List ℕ) → IsLetter A.rank t → IsElement A x → shift t (shift t x) ≡ x)
+      (row old new : List ℕ) (of_y : (t : ℕ) → IsLetter A.rank t → IsNumberOf (words ++ y ∷ []) (shift t y) (entry A.rank row t 0))
+      (pushed : IsRowPushed A.rank (length words) row (A.rank + 1) old new)
+      (before : (t j : ℕ) → IsLetter A.rank t → j < length words → IsNumberOf words (shift t (word_at words j)) (entry A.rank old t j)) where
+    at_new : (t j : ℕ) → IsLetter A.rank t → j ≡ length words
+        → IsNumberOf (words ++ y ∷ []) (shift t (word_at (words ++ y ∷ []) j)) (entry A.rank new t j)
+    at_new t j l e = rw (e, y_at, pushed.row t l (omega (arith, l.to_rank))) (of_y t l)
+
+    -- where t leads from an old word to y, that is noted
+    noted : (t j : ℕ) (x : Option ℕ) → j < length words → shift t y ≡ word_at words j → IsNumberOf (words ++ y ∷ []) (shift t y) x → x ≡ Some j
+    noted t j None m e none =
+        absurd (none (placed-contains (words ++ y ∷ []) (shift t y) (record {
+          i = j;
+          within = omega (arith, m, more);
+          is = word_at-old words y j m ∙ sym e;
+        })))
+    noted t j (Some k) m e (inside, is) =
+        ap (λ (i : ℕ). Some i) (closed.distinct k j inside (omega (arith, m, more)) (is ∙ e ∙ sym (word_at-old words y j m)))
+
+    elsewhere : (t j : ℕ) → IsLetter A.rank t → j < length words → (entry A.rank row t 0 ≡ Some j → ⊥)
+        → IsNumberOf (words ++ y ∷ []) (shift t (word_at (words ++ y ∷ []) j)) (entry A.rank new t j)
+    elsewhere t j l m ne = rw (word_at-old words y j m, pushed.kept t j l m (λ less f. ne f))
+        (number-more words y (shift t (word_at words j)) (entry A.rank old t j) other (before t j l m))
+      where
+        other : y ≡ shift t (word_at words j) → ⊥
+        other e =
+            let leads : shift t y ≡ word_at words j = ap (λ (u : List ℕ). shift t u) e ∙ back t (word_at words j) l (old_element j m)
+            in ne (noted t j (entry A.rank row t 0) m leads (of_y t l))
+
+    here : (t j : ℕ) → IsLetter A.rank t → j < length words → entry A.rank row t 0 ≡ Some j
+        → IsNumberOf (words ++ y ∷ []) (shift t (word_at (words ++ y ∷ []) j)) (entry A.rank new t j)
+    here t j l m some =
+        let found : IsNumberOf (words ++ y ∷ []) (shift t y) (Some j) = rw some at (of_y t l)
+        in let is : word_at words j ≡ shift t y = sym (word_at-old words y j m) ∙ found.1
+        in rw (word_at-old words y j m, pushed.back t j l (omega (arith, l.to_rank)) some) (
+          omega (arith, more),
+          y_at ∙ sym (ap (λ (u : List ℕ). shift t u) is ∙ back t y l y_element),
+        )
+
+    at_old : (t j : ℕ) (x : Option ℕ) → entry A.rank row t 0 ≡ x → IsLetter A.rank t → j < length words
+        → IsNumberOf (words ++ y ∷ []) (shift t (word_at (words ++ y ∷ []) j)) (entry A.rank new t j)
+    at_old t j None e l m = elsewhere t j l m (λ f. let q = sym e ∙ f in cc)
+    at_old t j (Some k) e l m = ⊎_elim (λ (q : k ≡ j). here t j l m (e ∙ ap (λ (i : ℕ). Some i) q))
+        (λ (ne : k ≡ j → ⊥). elsewhere t j l m (λ f. ne (let q = sym e ∙ f in cc))) (cases_eq k j)
+
+    pushed-shift : (t j : ℕ) → IsLetter A.rank t → j < length (words ++ y ∷ [])
+        → IsNumberOf (words ++ y ∷ []) (shift t (word_at (words ++ y ∷ []) j)) (entry A.rank new t j)
+    pushed-shift t j l m = ⊎_elim (λ (below : j < length words). at_old t j (entry A.rank row t 0) refl l below)
+        (λ (last : j ≡ length words). at_new t j l last) (push_cases words y j m)
+
+  -- ---- right shifts
+
+  right-back : (t : ℕ) (x : List ℕ) → IsLetter A.rank t → IsElement A x → normal_form A (normal_form A (x ++ t ∷ []) ++ t ∷ []) ≡ x
+  right-back t x l e =
+      normal_form-equal A g (same-trans A g (same-push A g t (normal_form-same A g (x ++ t ∷ []))) (same-push_twice A g x t)) ∙ e.normal
+
+  module _ (row : List ℕ)
+      (of_y : (t : ℕ) → IsLetter A.rank t → IsNumberOf (words ++ y ∷ []) (normal_form A (y ++ t ∷ [])) (entry A.rank row t 0)) where
+    -- no letter leads from a word to itself
+    pub right-before : (t k : ℕ) → IsLetter A.rank t → entry A.rank row t 0 ≡ Some k → k < length words
+    right-before t k l some = ⊎_elim (λ less. less) (λ (e : k ≡ length words). absurd (off (sym (word_at-new words y k e) ∙ found.1)))
+        (push_cases words y k found.0)
+      where
+        found : IsNumberOf (words ++ y ∷ []) (normal_form A (y ++ t ∷ [])) (Some k)
+        found = rw some at (of_y t l)
+
+        off : y ≡ normal_form A (y ++ t ∷ []) → ⊥
+        off e =
+            let size = word_length-is A (y ++ t ∷ []) ∙ ap length (sym e)
+            in ⊎_elim (λ longer. omega (arith, longer, size, element-length A g y y_element))
+            (λ shorter. omega (arith, shorter, size, element-length A g y y_element)) (right_length A g y t l)
+
+    pub right-row : (old new : List ℕ) → length old ≡ length words * A.rank → AreRightShifts A words old
+        → IsRowPushed A.rank (length words) row (A.rank + 1) old new → AreRightShifts A (words ++ y ∷ []) new
+    right-row old new size h pushed = record {
+      shift = λ t j l m k. pushed-shift (λ s x. normal_form A (x ++ s ∷ [])) right-back row old new of_y pushed
+          (λ s i a b. h.shift s i a b (rw size (place-within A.rank (length words) i s a b))) t j l m;
+    }
+
+-- ---- sets of descents
+
+-- one set more
+pub sets-push : (P : List ℕ → ℕ → Type 0) (words : List (List ℕ)) (y : List ℕ) (sets : List ℕ) (x : ℕ) → AreSets P words sets
+    → ((k : ℕ) → IsBitSet x k ↔ P y (k + 1)) → AreSets P (words ++ y ∷ []) (sets ++ x ∷ [])
+sets-push P words y sets x h bit = record {
+  size = omega (arith, h.size, push-length words y, push-length sets x);
+  bit = λ i k l. ⊎_elim (λ (less : i < length words). rw (word_at-old words y i less, push-old sets x 0 i (omega (arith, less, h.size))) (h.bit i k less))
+      (λ (e : i ≡ length words). rw (word_at-new words y i e, push-new sets x 0 i (omega (arith, e, h.size))) (bit k)) (push_cases words y i l);
+}
+
+-- ---- a context with one member more
+
+module _ (A : IntegerMatrix) (g : IsAdmissible A) (words : List (List ℕ)) (y : List ℕ) (closed : IsClosed A (words ++ y ∷ []))
+    (row : List ℕ) (of_y : (t : ℕ) → IsLetter A.rank t → IsNumberOf (words ++ y ∷ []) (normal_form A (y ++ t ∷ [])) (entry A.rank row t 0))
+  where
+    pub context-push : (left right left_sets right_sets narrow_left narrow_right new_left new_right : List ℕ) (x z : ℕ)
+        → IsContext A words left right left_sets right_sets narrow_left narrow_right → AreLeftShifts A (words ++ y ∷ []) new_left
+        → IsRowPushed A.rank (length words) row (A.rank + 1) right new_right
+        → IsLoweringSet A.rank new_left (length words) (A.rank + 1) x → IsLoweringSet A.rank new_right (length words) (A.rank + 1) z
+        → IsContext A (words ++ y ∷ []) new_left new_right (left_sets ++ x ∷ []) (right_sets ++ z ∷ []) [] []
+    context-push left right left_sets right_sets narrow_left narrow_right new_left new_right x z h left_shifts pushed x_is z_is = record {
+      closed = closed;
+      left_shifts = left_shifts;
+      right_size = size;
+      right_shifts = shifts;
+      left_bits = sets-push (IsLeftDescent A) words y left_sets x h.left_bits
+          (λ k. rw here at (left-set A g (words ++ y ∷ []) closed new_left (length words) x inside left_shifts x_is k));
+      right_bits = sets-push (IsRightDescent A) words y right_sets z h.right_bits
+          (λ k. rw here at (right-set A g (words ++ y ∷ []) closed new_right (length words) z inside size shifts z_is k));
+      left_narrow = λ k l. absurd (omega (arith, l));
+      right_narrow = λ k l. absurd (omega (arith, l));
+    }
+      where
+        inside : length words < length (words ++ y ∷ [])
+        inside = omega (arith, push-length words y)
+
+        here : word_at (words ++ y ∷ []) (length words) ≡ y
+        here = word_at-new words y (length words) refl
+
+        size : length new_right ≡ length (words ++ y ∷ []) * A.rank
+        size = rw (push-length words y) (omega (arith, pushed.size))
+
+        shifts : AreRightShifts A (words ++ y ∷ []) new_right
+        shifts = right-row A g words y closed row of_y right new_right h.right_size h.right_shifts pushed
+
+-- the right shifts of the last member, as they are found by its number
+pub row-of : (A : IntegerMatrix) (words : List (List ℕ)) (y : List ℕ) (all : List (List ℕ)) (n : ℕ) (row : List ℕ) → all ≡ words ++ y ∷ []
+    → n ≡ length words
+    → ((s : ℕ) → IsLetter A.rank s → IsNumberOf all (normal_form A (word_at all n ++ s ∷ [])) (entry A.rank row s 0))
+    → (t : ℕ) → IsLetter A.rank t → IsNumberOf (words ++ y ∷ []) (normal_form A (y ++ t ∷ [])) (entry A.rank row t 0)
+row-of A words y all n row is e each t l = rw (is, word_at-new words y n e) at (each t l)

@@ -1,0 +1,22 @@
+-- What was appended is the union; after a fault it is taken away.
+use Rattle.std.proofs.Common.{◌≡◌}
+use Rattle.cox_base.specs.IntegerMatrix.{integer_matrix}
+use Rattle.cox_context.proofs.AppendedEnds.{kept-take, on-err, elements-back, union-form}
+use Rattle.cox_context.proofs.context.Context.extend.Goals as goal
+
+pub cut_back-requires-clause-closed : goal.cut_back-requires-clause-closed
+cut_back-requires-clause-closed c =
+    let first = kept-take c.args.self.now.members c.append_below-result.new.context.members c.append_below-result.ensures.kept
+    in rw (c.append_below-result.ensures.matrix, c.len-first.ensures.len, first) c.len-first.ensures.closed
+
+pub returns-then-is_err-clause-unchanged : goal.returns-then-is_err-clause-unchanged
+returns-then-is_err-clause-unchanged c =
+    on-err (c.cut_back.new.self ≡ c.args.self.now) c.append_below-result.result (elements-back c.args.self.now
+    c.append_below-result.new.context c.cut_back.new.self c.append_below-result.ensures.matrix c.append_below-result.ensures.kept
+    (rw c.len-first.ensures.len at c.cut_back.ensures))
+
+pub returns-else-is_err-clause-members : goal.returns-else-is_err-clause-members
+returns-else-is_err-clause-members c =
+    rw c.requires.matrix (union-form (integer_matrix c.args.self.now.matrix) c.len-first.ensures.admissible c.normal_form-top.result.items
+    c.args.w.now.items (rw c.requires.matrix at c.normal_form-top.ensures.form) c.args.self.now.members
+    c.append_below-result.new.context.members c.append_below-result.result c.append_below-result.ensures.members)

@@ -1,0 +1,6 @@
+-- The rows that were there are there.
+use Rattle.cox_replies.specs.Kept.{IsMore}
+use Rattle.cox_shell.proofs.workers.begin_rows.Given as goal
+
+abbrev pub invariant-each : goal.invariant-each
+invariant-each l = IsMore l.fn.rows l.rows
