@@ -17,9 +17,13 @@ from .jobs import Answers
 from .modules import CellModule
 from .polynomial import Polynomial
 from .program import Program, find_program
+from .provenance import Provenance, Release
 from .schubert import SchubertVariety
 from .tables import Cells, ElementDict, PairDict, Table
 from .texts import gap
+
+# The version of the whole, the programs too; docs/RELEASES.md lists them all.
+__version__ = "1.0"
 
 __all__ = [
     "Answers",
@@ -39,7 +43,9 @@ __all__ = [
     "ProgramEnded",
     "ProgramError",
     "ProgramNotFound",
+    "Provenance",
     "Refusal",
+    "Release",
     "SchubertVariety",
     "Table",
     "UnexpectedAnswer",

@@ -5,7 +5,7 @@ import sys
 from . import pictures
 from .errors import CoxeterError
 from .group import SIDES, CoxeterGroup
-from .program import OPTIONS
+from .program import OPTIONS, Program
 
 
 def arguments():
@@ -23,6 +23,8 @@ def arguments():
     graph.add_argument("--side", choices=SIDES, default="left")
     cells = kinds.add_parser("cells", parents=[common], help="the cells of a finite group")
     cells.add_argument("--side", choices=list(pictures.CELLS), default="left")
+    origin = kinds.add_parser("provenance", help="where the program comes from: its checksum, its release, its logic")
+    origin.add_argument("--program", default=argparse.SUPPRESS, help="the path of the program coxeter, or of coxcheck")
     given = parser.parse_args()
     if given.kind == "hasse" and len(given.words) > 2:
         hasse.error("give one word or two")
@@ -31,6 +33,11 @@ def arguments():
 
 def main():
     given = arguments()
+    if given.kind == "provenance":
+        try:
+            return print(Program(getattr(given, "program", None)).provenance())
+        except CoxeterError as error:
+            sys.exit(f"coxeter_shell: {error}")
     options = {name: getattr(given, name) for name in OPTIONS}
     try:
         with CoxeterGroup(given.group, program=given.program, **options) as group:

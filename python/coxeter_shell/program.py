@@ -22,6 +22,7 @@ import urllib.request
 import weakref
 
 from . import parents
+from .provenance import own_program, provenance
 from .errors import ProgramClosed, ProgramEnded, ProgramNotFound, Refusal, UnexpectedAnswer
 
 MARK = "\t"
@@ -131,6 +132,17 @@ class Program:
                 self.unexpected("jobs", said, "the list should have as many answers as lines")
         left = iter(answers)
         return [list(itertools.islice(left, len(block))) for block in blocks]
+
+    def provenance(self):
+        """Where the program comes from: its file and the checksum of that, the release that it is, and the logic that it was proved in.
+        It is a `Provenance`, whose text has a line for each.
+
+        >>> [len(it) for it in (Program().provenance().sha256, str(Program().provenance()).splitlines()[1].split())]
+        [64, 2]
+        """
+        with self._lock:
+            process = None if self._process is None or self.foreign() else self._process.pid
+            return provenance(find_program(self.path), process)
 
     def start(self, size=MOST_OF_LINE):
         """Starts the process and sets the group, unless a process is there that can take one more question of this size."""
@@ -409,8 +421,8 @@ def end(process, owner):
 def find_program(path=None, name="coxeter"):
     """The path of the program `coxeter`, or of `coxcheck`, by its name.
 
-    It is `path`, else what the environment variable COXETER names, or COXCHECK, else the program built in the checkout that this
-    package lies in or was installed from, else the command on the PATH.
+    It is `path`, else what the environment variable COXETER names, or COXCHECK, else the program that came with this package, else the
+    one built in the checkout that it lies in or was installed from, else the command on the PATH.
     """
     named = path or os.environ.get(name.upper())
     if named:
@@ -419,13 +431,16 @@ def find_program(path=None, name="coxeter"):
             by = "" if path else f", which the environment variable {name.upper()} names"
             raise ProgramNotFound(f"there is no program {os.fspath(named)!r}{by}")
         return found
-    unbuilt = ""
+    found, why = own_program(name)
+    if found is not None:
+        return found
+    unbuilt = f" ({why}.)" if why else ""
     for checkout in checkouts():
         built = os.path.join(checkout, "crates", name, "out", name)
         if os.path.isfile(built) and os.access(built, os.X_OK):
             return built
         if os.path.isdir(os.path.join(checkout, "crates", name)):
-            unbuilt = f" It is not built yet in {checkout}: run ./{name} </dev/null there once."
+            unbuilt += f" It is not built yet in {checkout}: run ./{name} </dev/null there once."
     found = shutil.which(name)
     if found is None:
         ways = f"give its path by the argument `program` or by the environment variable {name.upper()}, or put it on the PATH."
