@@ -83,8 +83,11 @@ def own_program(name):
         return None, None
     if not os.access(path, os.X_OK):
         return None, f"the package's own one, {path}, is not executable"
-    with open(path, "rb") as program:
-        needed = elf.glibc(program.read())
+    try:
+        with open(path, "rb") as program:
+            needed = elf.glibc(program.read())
+    except OSError:  # it may be run and not read
+        return path, None
     kind, there = platform.libc_ver()
     if needed is not None and (kind != "glibc" or tuple(map(int, re.findall(r"\d+", there)[:2])) < needed):
         return None, f"the package's own one needs version {version(needed)} of the GNU C library, and here is {kind or 'none'} {there}".rstrip()
