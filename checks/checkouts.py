@@ -17,6 +17,9 @@ TOP = os.path.dirname(os.path.dirname(os.path.abspath(__file__)))
 RT = b"""#!/bin/sh
 for count; do :; done
 case "$1 $2" in
+  "version ")
+    echo "rattle-kit-1 logic 0123456789abcdef"
+    exit ;;
   "help ")
     [ -e "${0%rt}old" ] || echo "       rt try [NAME]"
     exit ;;
@@ -55,6 +58,7 @@ case "$1 $2" in
     name=${PWD##*/}
     mkdir ../building || exit 1
     word=$(cat src/main.rt)
+    [ "$word" != '$PWD' ] || word=$PWD
     if [ -e ../../meanwhile ]; then . ../../meanwhile; rm ../../meanwhile; fi
     rmdir ../building
     [ "$word" = broken ] && exit 1

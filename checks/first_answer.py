@@ -26,10 +26,14 @@ DIFFERS = b"THE PROVED ANSWER IS NOT THE FIRST ONE"
 LAST = "checked: ended status=7\\nrun=ended status=7 runners=1 races=unchecked proved=no\\n"
 
 
-def slow(base, seconds=3):
-    """A checkout whose build takes longer than a first answer."""
-    here = Checkout(base)
-    here.write(here.path(b"meanwhile"), b"sleep %d\n" % seconds)
+# What lasts until so many runs have tried for a first answer.
+UNTIL = b'until [ "$(ls -d out/first.*/tried 2>/dev/null | wc -l)" -ge %d ]; do sleep 0.1; done\n'
+
+
+def slow(here, then=b""):
+    """A checkout, or this one, whose next build takes longer than a first answer."""
+    here = here if isinstance(here, Checkout) else Checkout(here)
+    here.write(here.path(b"meanwhile"), UNTIL % 1 + then)
     return here
 
 
@@ -86,15 +90,17 @@ def shown(base):
     say("how often it was tried", tried(here), 1)
 
     here.source(b"two")
-    here.write(here.path(b"meanwhile"), b"sleep 5\n")
+    slow(here, b"until [ -e ../../go ]; do sleep 0.1; done\n")
     ran = here.begin()
     ran.stdin.write(b"input\n")
     ran.stdin.close()
     said = b""
     while b"unproved: input\n" not in said:
         said += os.read(ran.stderr.fileno(), 4096)
-    say("while it is built", os.path.exists(here.path(b"crates/building")), True)
+    wait_for(here.path(b"crates/building"))
+    say("the build goes on", os.path.exists(here.path(b"crates/building")), True)
     say("standard output by then", select.select([ran.stdout], [], [], 0)[0], [])
+    here.write(here.path(b"go"), b"")
     say("at last", (ran.stdout.read(), ran.wait()), (b"program of two:\ninput\n", 7))
 
 
@@ -108,7 +114,7 @@ def inputs(base):
         out, said = ran.communicate()
     say("from a file", (out, ran.returncode, SAME in said), (b"program of one:\nof a file\n", 7, True))
     here.source(b"two")
-    here.write(here.path(b"meanwhile"), b"sleep 3\n")
+    slow(here)
     ours, theirs = socket.socketpair()
     ran = here.begin(stdin=theirs)
     ours.sendall(b"of a socket\n")
@@ -127,7 +133,7 @@ def inputs(base):
     out, said = ran.communicate()
     say("with no input", (out, ran.returncode, b"answer" in said, tried(here)), (b"program of three:\n", 7, False, 2))
     here.source(b"four")
-    here.write(here.path(b"meanwhile"), b"sleep 2\n")
+    slow(here)
     with tempfile.TemporaryFile() as large:
         large.write(b"x" * 17_000_000)
         large.seek(0)
@@ -136,7 +142,7 @@ def inputs(base):
     # A program reads 16,777,216 bytes at most, and ends by status 6 where there are more.
     say("more than a program reads", (len(out), ran.returncode), (len(b"program of four:\n") + 16_777_216 + 512, 7))
     here.source(b"five")
-    here.write(here.path(b"meanwhile"), b"sleep 2\n")
+    slow(here)
     ran = here.begin(["sh", "-c", 'yes | "$0"', here.path(b"coxeter")])
     out, said = ran.communicate()
     say("one without end", (len(out), ran.returncode), (len(b"program of five:\n") + 16_777_216 + 512, 7))
@@ -173,7 +179,7 @@ def none(base):
             here.write(os.path.join(here.tools, b"old"), b"")
         else:
             here.write(here.path(b"trying"), trying)
-        here.write(here.path(b"meanwhile"), b"sleep 2\nword=one\n")
+        slow(here, b"word=one\n")
         ran = here.run()
         check(why.decode(), ran, 7, ONE, True)
         said = [it for it in ran.stderr.splitlines() if b"no first answer" in it]
@@ -186,16 +192,17 @@ def none(base):
 
 def late(base):
     """A first answer that comes too late is not waited for."""
-    here = slow(base, 1)
+    here = Checkout(base)
     here.write(here.path(b"trying"), b"exec sleep 100\n")
+    here.write(here.path(b"meanwhile"), b"until ls out/first.*/trying; do sleep 0.1; done\n")
     begun = time.monotonic()
     ran = here.run()
     check("too late", ran, 7, ONE, True)
-    say("that is not waited for", (time.monotonic() - begun < 30, marked(ran.stderr), tried(here)), (True, [], 1))
+    say("that is not waited for", (time.monotonic() - begun < 50, marked(ran.stderr), tried(here)), (True, [], 1))
     # A program that is built meanwhile from other sources is no one to compare with.
     here.source(b"two")
     here.write(here.path(b"trying"), b"")
-    here.write(here.path(b"meanwhile"), b"sleep 3\nprintf three >src/main.rt\nword=three\n")
+    slow(here, b"until ls out/first.*/status; do sleep 0.1; done; printf three >src/main.rt; word=three\n")
     ran = here.run()
     check("a source that changes after the first answer", ran, 7, b"program of three:\ninput\n", True)
     say("with its first answer", marked(ran.stderr), [b"unproved: program of two:", b"unproved: input"])
@@ -238,7 +245,7 @@ def writes(base):
         _, said = ran.communicate(b"input\n")
     say("on a device that is full", (ran.returncode, SAME in said), (4, True))
     here.source(b"two")
-    here.write(here.path(b"meanwhile"), b"sleep 3\n")
+    slow(here)
     ran = here.begin()
     ran.stdout.close()
     ran.stdin.write(b"input\n")
@@ -248,7 +255,7 @@ def writes(base):
 
 def terminals(base):
     """On a terminal nothing is kept, and a line says what to do."""
-    here = slow(base, 1)
+    here = Checkout(base)
     terminal, end = pty.openpty()
     ran = here.begin(stdin=end)
     os.close(end)
@@ -381,7 +388,8 @@ def interrupts(base):
 
 def killed(base):
     """The next run goes on where one was killed."""
-    here = slow(base, 100)
+    here = Checkout(base)
+    here.write(here.path(b"meanwhile"), b"sleep 100\n")
     ran = here.begin()
     ran.stdin.write(b"input\n")
     ran.stdin.close()
@@ -412,7 +420,8 @@ def killed(base):
 
 def two_at_once(base):
     """Two first runs at once: one builds, and both have a first answer."""
-    here = slow(base, 4)
+    here = Checkout(base)
+    here.write(here.path(b"meanwhile"), UNTIL % 2)
     runs = []
     for number in (1, 2):
         ran = here.begin([here.path(b"coxeter"), b"%d" % number])

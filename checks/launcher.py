@@ -7,11 +7,13 @@ It prints what differs, and a last line with counts; the exit status is 1 where 
 """
 import os
 import pty
+import shutil
 import signal
 import subprocess
+import sys
 import time
 
-from checkouts import ONE, Checkout, check, say, try_all, wait_for
+from checkouts import ONE, TOP, Checkout, check, say, try_all, wait_for
 
 
 def changes(base):
@@ -210,4 +212,40 @@ def progress(base):
     say("on a terminal", [b"\r" + b"coxeter: %d of 1 crates" % it in shown for it in (0, 1)], [False, True])
 
 
-try_all(changes, places, names, failures, crates, turns, running, progress)
+def copies(base):
+    """Says whether a program comes out the same in another folder."""
+    here = Checkout(base)
+    here.write(here.path(b"crates.txt"), b"coxeter: low\nlow:\ncoxcheck:\n")
+    here.source(b"//! Code.\n", b"low", b"lib.rt")
+    here.source(b"six", b"coxcheck")
+    os.symlink(b"coxeter", here.path(b"coxcheck"))
+    for name in ("checks", "python", "docs"):
+        shutil.copytree(os.path.join(TOP, name).encode(), here.path(name.encode()), symlinks=True)
+    reproduce = [sys.executable.encode(), b"-B", here.path(b"checks/reproduce")]
+
+    def lines(*words):
+        ran = here.run(reproduce[0], [*reproduce[1:], *words])
+        return ran.returncode, [b"; the same under " in it for it in ran.stdout.splitlines()], ran.stderr
+
+    say("from what was proved", lines()[:2], (0, [True, True]))
+    with open(os.path.join(here.tools, b"checked"), "rb") as file:
+        say("what was proved is taken", file.read(), b"+low\n-low\n")
+    say("with nothing kept", lines("--nothing-kept")[:2], (0, [True, True]))
+    with open(os.path.join(here.tools, b"checked"), "rb") as file:
+        say("then all is proved again", file.read(), b"+low\n-low\n" * 2)
+    with open(here.path(b"docs/RELEASES.md"), "rb") as file:
+        listed = file.read()
+    subprocess.run("git init -q . && git add . && git -c user.name=x -c user.email=x commit -qm x", shell=True, cwd=here.top, check=True)
+    for changed, why in ((None, b"was not proved by this kit"), (b"seven", b"these differ from the commit")):
+        if changed:
+            here.source(changed, b"coxcheck")
+        status, same, said = lines("--release")
+        say(f"no release: {why}", (status, same, why in said), (1, [True, True], True))
+    with open(here.path(b"docs/RELEASES.md"), "rb") as file:
+        say("the list is as it was", file.read() == listed, True)
+    # A program that has the name of its folder in it.
+    here.source(b"$PWD", b"coxcheck")
+    say("one that comes out different", lines()[:2], (1, [True, False]))
+
+
+try_all(changes, places, names, failures, crates, turns, running, progress, copies)
