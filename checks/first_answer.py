@@ -84,7 +84,7 @@ def shown(base):
     lines = b"unproved: program of one:--workers b c\nunproved: input\n"
     say("the first answer, marked, behind a line that says what it is", HEAD + lines in ran.stderr, True)
     say("what is said then", ran.stderr.endswith(SAME), True)
-    say("all lines of it", [it.split(b":")[0] for it in ran.stderr.splitlines()], [b"coxeter"] * 3 + [b"unproved"] * 2 + [b"coxeter"])
+    say("all lines of it", sorted(it.split(b":")[0] for it in ran.stderr.splitlines()), [b"coxeter"] * 4 + [b"unproved"] * 2)
     say("nothing is left", left(here), [])
     say("once it is built", here.run().stderr, b"")
     say("how often it was tried", tried(here), 1)
