@@ -90,7 +90,8 @@ def own_program(name):
         return path, None
     kind, there = platform.libc_ver()
     if needed is not None and (kind != "glibc" or tuple(map(int, re.findall(r"\d+", there)[:2])) < needed):
-        return None, f"the package's own one needs version {version(needed)} of the GNU C library, and here is {kind or 'none'} {there}".rstrip()
+        here = f"{kind or 'none'} {there}".rstrip()
+        return None, f"the package's own one needs version {version(needed)} of the GNU C library, and here is {here}"
     return path, None
 
 
