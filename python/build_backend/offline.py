@@ -36,8 +36,10 @@ def build_wheel(wheel_directory, config_settings=None, metadata_directory=None):
     package = os.path.join(TOP, "coxeter_shell")
     files = {}
     for name in sorted(os.listdir(package)):
-        if name.endswith(".py"):
-            with open(os.path.join(package, name), "rb") as source:
+        path = os.path.join(package, name)
+        # The manual is a link to docs/, which old versions of pip don't copy.
+        if name.endswith((".py", ".md")) and os.path.isfile(path):
+            with open(path, "rb") as source:
                 files[f"coxeter_shell/{name}"] = source.read()
     return pack(wheel_directory, files)
 

@@ -10,6 +10,7 @@ import os
 import re
 import signal
 import sys
+import time
 
 from . import diagrams, kinds, progress, prompt_help, prompt_package, prompt_words
 from .errors import CoxeterError, Refusal
@@ -68,7 +69,7 @@ class Shell:
 
     def __init__(self, program=None, **options):
         self.path, self.options = program, options
-        self.screen = Screen(sys.stdin.isatty() and sys.stdout.isatty())
+        self.screen = Screen(all(it is not None and it.isatty() for it in (sys.stdin, sys.stdout)))
         self.group = None
         self.bare = Program(program, **options)  # it answers while no group is set
         self.blocks = None  # of a list of jobs that is open
@@ -131,6 +132,8 @@ class Shell:
             except EOFError:
                 print()
                 return None
+        if sys.stdin is None:
+            return None
         # No more is kept of a line than tells that it is too long.
         line = more = sys.stdin.readline(2 * MOST_OF_LINE)
         while more and not more.endswith("\n"):
@@ -174,6 +177,7 @@ class Shell:
     # ---- lines
 
     def _line(self, typed):
+        begun = time.monotonic()
         question, path, append = redirected(typed)
         check_characters(question)
         parts = prompt_words.tokens(question)
@@ -182,7 +186,7 @@ class Shell:
                 raise Mistake("a command stands before >", (0, 1))
             return True
         if self.blocks is not None:
-            self._line_of_list(parts, question)
+            self._line_of_list(parts, question, begun)
             return True
         name, arguments = self._command(parts[0]), parts[1:]
         if name in QUIT:
@@ -196,7 +200,7 @@ class Shell:
         else:
             answer = getattr(self, f"_{name}")(arguments, question)
         if answer is not None:
-            self.screen.show(answer, path, append)
+            self.screen.show(answer, begun, path, append)
         return True
 
     def _command(self, part, among=COMMANDS):
@@ -312,7 +316,7 @@ class Shell:
             raise Refusal(15, question)
         self.blocks = [[]]
 
-    def _line_of_list(self, parts, question):
+    def _line_of_list(self, parts, question, begun):
         """Takes a line of a list of jobs. The list is answered at its end."""
         name, arguments = self._command(parts[0], [*PROGRAM, NEXT, END]), parts[1:]
         if name in PROGRAM:
@@ -323,7 +327,7 @@ class Shell:
             self.blocks.append([])
         else:
             blocks, self.blocks = self.blocks, None
-            self.screen.show(answers_of(self.group.iter_jobs(blocks)))
+            self.screen.show(answers_of(self.group.iter_jobs(blocks)), begun)
 
     # ---- what is said of refusals
 

@@ -10,6 +10,8 @@ import textwrap
 from . import kinds
 from .errors import CoxeterError
 from .program import checkouts
+from .prompt_package import REFUSED_AS
+from .prompt_words import clean
 
 # The commands of the program that answer a list: a line with the number of its items, and a line for each.
 LISTS = ("interval", "coatoms", "klbasis", "extremals", "lwgraph", "rwgraph", "lcells", "rcells", "lrcells")
@@ -21,7 +23,7 @@ MEANT = {"W-graphs": ("lwgraph", "rwgraph"), "cells": ("lcells", "rcells", "lrce
 MORE = {"type": "Named types", "matrix": "Matrices"}
 
 # So many examples are shown of a command, of at most so many lines each.
-MOST_EXAMPLES, MOST_LINES = 3, 10
+MOST_EXAMPLES, MOST_LINES = 3, 14
 
 HEAD = re.compile(r"(?:(?:`[^`]+`|W-graphs|cells)(?:, | and |: ))+")
 
@@ -49,8 +51,8 @@ class Manual:
         self.rows = {}
         for section in self.sections:
             for usages, answer in section.table("command", "answer"):
-                for usage in usages:
-                    self.rows.setdefault(usage.split()[0], []).append((usages, answer, section))
+                for name in dict.fromkeys(usage.split()[0] for usage in usages):
+                    self.rows.setdefault(name, []).append((usages, answer, section))
 
     def listed(self, width):
         """What `help` shows: the commands, each with its answer, and the titles of the sections."""
@@ -80,7 +82,8 @@ class Manual:
         below += [it for it in self.sections if it.title == MORE.get(topic)]
         for section in below:
             shown += ["", f"{section.title}:", "", *section.shown(width)]
-        examples = [] if below else list(self.examples(topic))
+        alike = dict.fromkeys([topic, *(it.split()[0] for usages, _, _ in self.rows[topic] for it in usages)])
+        examples = [] if below else next(filter(None, (list(self.examples(name)) for name in alike)), [])
         if examples:
             shown += ["", "examples:", *examples]
         limits = list(self.limits(topic))
@@ -114,7 +117,8 @@ class Manual:
                         return
 
     def limits(self, command):
-        """The refusals whose rows name the command: the number, and what the row says of it."""
+        """The refusals whose rows name the command, or the one that it is refused as: the number, and what the row says of it."""
+        command = REFUSED_AS.get(command, command)
         for section in self.sections:
             for (number, *_), text in section.table("N", "the line is refused because"):
                 clauses = []
@@ -230,7 +234,7 @@ def transcript(text):
             if asked:
                 yield asked
             words = typed.group(1)
-            asked = (words if words.startswith("matrix") else f"type {words}", typed.group(2), [])
+            asked = (words if words.startswith("matrix") else f"type {words}", clean(typed.group(2)), [])
         else:
             asked[2].append(line)
     if asked:

@@ -94,6 +94,9 @@ COMMANDS = {
     "lrcwgraphs": (0, cell_w_graphs("two-sided")),
 }
 
+# The command of the program that each is refused as.
+REFUSED_AS = {name: "extremals" if words else "lwgraph" for name, (words, _) in COMMANDS.items()}
+
 # What else Coxeter 3 has, and why it isn't here.
 ABSENT = {
     "fullcontext": "it is not needed: what an answer needs is made when it is asked for",

@@ -32,10 +32,9 @@ class Screen:
     def width(self):
         return max(shutil.get_terminal_size().columns, 40)
 
-    def show(self, lines, path=None, append=False):
-        """Writes the lines of an answer, to a file where one is given. On a terminal it tells how many they were and how long they took,
-        where that is long."""
-        begun = time.monotonic()
+    def show(self, lines, begun, path=None, append=False):
+        """Writes the lines of an answer, to a file where one is given. On a terminal it tells how many they were and how long they took
+        since the time `begun`, where that is long."""
         lines = Counted(lines)
         if path is not None:
             self._to_file(lines, path, append)

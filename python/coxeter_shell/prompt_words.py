@@ -194,7 +194,7 @@ def pointed(typed, place, length, width):
     """The line with marks under a part of it, or as much of both as fits into a width."""
     shown = re.sub("[^ -~]", "?", typed)
     length = max(1, min(length, width - 20))
-    begin = 0 if place + length <= width else place - width // 2
+    begin = 0 if place + length <= width else max(min(place - width // 2, len(shown) - width), 0)
     cut = shown[begin : begin + width]
     if begin:
         cut = f"..{cut[2:]}"
