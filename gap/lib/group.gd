@@ -42,13 +42,13 @@ DeclareOperation( "RightDescents", [ IsCoxeterShellGroup, IsList ] );
 #O  IsBruhatLessOrEqual( <W>, <y>, <w> ) . . . . . . . . . . . . . whether y <= w
 #O  BruhatInterval( <W>, <y>, <w> ) . . . . . . . . . . the x with y <= x <= w
 #O  BruhatCoatoms( <W>, <w> ) . . . . . . . . . . . . . . the x that w covers
-#O  BettiNumbers( <W>, <w> ) . . .  for each k the number of the x <= w of length k
-#O  IntersectionBettiNumbers( <W>, <w> ) . . . . . . . . of the Schubert variety of w
+#O  BettiNumbersOfWord( <W>, <w> )  for each k the number of the x <= w of length k
+#O  IntersectionBettiNumbersOfWord( <W>, <w> ) . . . . . of the Schubert variety of w
 DeclareOperation( "IsBruhatLessOrEqual", [ IsCoxeterShellGroup, IsList, IsList ] );
 DeclareOperation( "BruhatInterval", [ IsCoxeterShellGroup, IsList, IsList ] );
 DeclareOperation( "BruhatCoatoms", [ IsCoxeterShellGroup, IsList ] );
-DeclareOperation( "BettiNumbers", [ IsCoxeterShellGroup, IsList ] );
-DeclareOperation( "IntersectionBettiNumbers", [ IsCoxeterShellGroup, IsList ] );
+DeclareOperation( "BettiNumbersOfWord", [ IsCoxeterShellGroup, IsList ] );
+DeclareOperation( "IntersectionBettiNumbersOfWord", [ IsCoxeterShellGroup, IsList ] );
 
 #O  RPolynomial( <W>, <y>, <w> )
 #O  KazhdanLusztigPolynomial( <W>, <y>, <w> )

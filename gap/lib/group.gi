@@ -236,9 +236,9 @@ InstallMethod( BruhatInterval, [ IsCoxeterShellGroup, IsList, IsList ],
     { W, y, w } -> List( CoxeterShellItems( W, "interval", [ y, w ] ), it -> CoxeterShellElement( W, it ) ) );
 InstallMethod( BruhatCoatoms, [ IsCoxeterShellGroup, IsList ],
     { W, w } -> List( CoxeterShellItems( W, "coatoms", [ w ] ), it -> CoxeterShellElement( W, it ) ) );
-InstallMethod( BettiNumbers, [ IsCoxeterShellGroup, IsList ],
+InstallMethod( BettiNumbersOfWord, [ IsCoxeterShellGroup, IsList ],
     { W, w } -> List( SplitString( CoxeterShellLine( W, "betti", [ w ] )[1], " " ), Int ) );
-InstallMethod( IntersectionBettiNumbers, [ IsCoxeterShellGroup, IsList ],
+InstallMethod( IntersectionBettiNumbersOfWord, [ IsCoxeterShellGroup, IsList ],
     { W, w } -> List( SplitString( CoxeterShellLine( W, "ihbetti", [ w ] )[1], " " ), Int ) );
 
 # ---- polynomials
@@ -284,6 +284,9 @@ BindGlobal( "CoxeterShellPolynomial", function( text, name )
         Append( coefficients, ListWithIdenticalEntries( degree - Length( coefficients ), 0 ) );
         coefficients[degree + 1] := sign * number;
     od;
+    if coefficients = [] then
+        return Zero( Indeterminate( Rationals, name ) );
+    fi;
     return UnivariatePolynomial( Rationals, coefficients, Indeterminate( Rationals, name ) );
 end );
 

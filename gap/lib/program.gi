@@ -44,7 +44,7 @@ BindGlobal( "CoxeterShellRefuse", function( number, line )
     if Length( line ) > 100 then
         line := Concatenation( line{[ 1 .. 80 ]}, " .." );
     fi;
-    ErrorNoReturn( "error ", number, ": ", meaning, " (the line was ", line, ")" );
+    ErrorNoReturn( Concatenation( "error ", String( number ), ": ", meaning, " (the line was ", line, ")" ) );
 end );
 
 #F  CoxeterShellProgram( <path> ) . . . . . . . . . . . . the path of the program
@@ -92,6 +92,8 @@ BindGlobal( "CoxeterShellExchange", function( W, line )
     found := "";
     end_ := Concatenation( "\n", CoxeterShellMarkAnswer );
     repeat
+        # GAP can't be interrupted while it waits in ReadAll.
+        repeat until UNIXSelect( [ FileDescriptorOfStream( W!.stream ) ], [], [], 0, 200000 ) > 0;
         text := ReadAll( W!.stream, 65536 );
         if text = fail then
             CoxeterShellClose( W );

@@ -83,24 +83,18 @@ gap> V := CoxeterShellGroup( "B", 2 );;
 gap> MTX.IsIrreducible( GModuleByMats( CellModuleMatrices( V, "1", Z(101) ), GF( 101 ) ) );
 false
 gap> LeftCells( CoxeterShellGroup( "a", 2 ) );
-Error, error 
-31
- : the interval below the element, or the group, is infinite or has more membe\
-rs than the option `context' allows, or than 4,096 in a certificate (the line \
-was lcells)
+Error, error 31: the interval below the element, or the group, is infinite or \
+has more members than the option `context' allows, or than 4,096 in a certific\
+ate (the line was lcells)
 gap> WGraph( CoxeterShellGroup( "A", 3, rec( context := 23 ) ) );
-Error, error 
-31
- : the interval below the element, or the group, is infinite or has more membe\
-rs than the option `context' allows, or than 4,096 in a certificate (the line \
-was lwgraph)
+Error, error 31: the interval below the element, or the group, is infinite or \
+has more members than the option `context' allows, or than 4,096 in a certific\
+ate (the line was lwgraph)
 gap> CellModule( CoxeterShellGroup( "a", 1 ), "1" );
-Error, error 
-31
- : the interval below the element, or the group, is infinite or has more membe\
-rs than the option `context' allows, or than 4,096 in a certificate (the line \
-was module 1)
+Error, error 31: the interval below the element, or the group, is infinite or \
+has more members than the option `context' allows, or than 4,096 in a certific\
+ate (the line was module 1)
 gap> CellModule( W, "3" );
-Error, error 
-16: a word has a letter that the group doesn't have (the line was module 3)
+Error, error 16: a word has a letter that the group doesn't have (the line was\
+ module 3)
 gap> STOP_TEST( "cells.tst" );

@@ -29,9 +29,9 @@ gap> BruhatInterval( W, "12", "21" );
 [  ]
 gap> BruhatCoatoms( W, "123" );
 [ [ 1, 2 ], [ 1, 3 ], [ 2, 3 ] ]
-gap> BettiNumbers( W, LongestWord( W ) );
+gap> BettiNumbersOfWord( W, LongestWord( W ) );
 [ 1, 3, 5, 6, 5, 3, 1 ]
-gap> IntersectionBettiNumbers( W, "2132" );
+gap> IntersectionBettiNumbersOfWord( W, "2132" );
 [ 1, 4, 6, 4, 1 ]
 gap> V := CoxeterShellGroup( [ [ 1, infinity ], [ infinity, 1 ] ] );
 <Coxeter group matrix 2 0>
@@ -57,8 +57,7 @@ gap> ProductOfWords( V, w, InverseOfWord( V, w ) );
 gap> CoxeterShellClose( V );
 gap> LengthOfWord( V, "16.15" );
 2
-gap> List( [ V, W ], CoxeterShellClose );; LengthOfWord( W, "12" );
-Error, Function Calls: <func> must return a value
+gap> Perform( [ V, W ], CoxeterShellClose ); LengthOfWord( W, "12" );
 2
 gap> W!.sent := 15999990;; LengthOfWord( W, "121" );
 3
@@ -74,11 +73,11 @@ gap> ForAll( [ "A 3", "B 4", "D 5", "E 6", "F 4", "G 2", "a 3", "matrix 3 3 4 6"
 >   end );
 true
 gap> LengthOfWord( W, "14" );
-Error, error 
-16: a word has a letter that the group doesn't have (the line was length 14)
+Error, error 16: a word has a letter that the group doesn't have (the line was\
+ length 14)
 gap> LengthOfWord( W, [ 14 ] );
-Error, error 
-16: a word has a letter that the group doesn't have (the line was 14)
+Error, error 16: a word has a letter that the group doesn't have (the line was\
+ 14)
 gap> LengthOfWord( W, "1 2" );
 Error, a word has letters and dots, and no spaces: 1 2
 gap> LengthOfWord( W, [ 0 ] );
@@ -86,32 +85,24 @@ Error, a word is a list of positive integers, or a string: [ 0 ]
 gap> LengthOfWord( W, [ 1, "a" ] );
 Error, a word is a list of positive integers, or a string: [ 1, "a" ]
 gap> LengthOfWord( W, ListWithIdenticalEntries( 256, 1 ) );
-Error, error 
-17
- : a word has more than 255 letters (the line was length 111111111111111111111\
-1111111111111111111111111111111111111111111111111111 ..)
+Error, error 17: a word has more than 255 letters (the line was length 1111111\
+111111111111111111111111111111111111111111111111111111111111111111 ..)
 gap> CoxeterShellGroup( "H", 3 );
 Error, error 13: there is no such type (the line was type H 3)
 gap> CoxeterShellGroup( "A", 17 );
 Error, error 13: there is no such type (the line was type A 17)
 gap> CoxeterShellGroup( "A", -1 );
-Error, error 
-12
- : an argument should be a number and is none, or it is out of range (the line\
- was type A -1)
+Error, error 12: an argument should be a number and is none, or it is out of r\
+ange (the line was type A -1)
 gap> CoxeterShellGroup( "A\t3" );
-Error, error 
-19
- : the line has a byte that is no printing ASCII character and no space (the l\
-ine was type A	3)
+Error, error 19: the line has a byte that is no printing ASCII character and n\
+o space (the line was type A	3)
 gap> CoxeterShellGroup( [] );
-Error, error 
-12
- : an argument should be a number and is none, or it is out of range (the line\
- was matrix 0)
+Error, error 12: an argument should be a number and is none, or it is out of r\
+ange (the line was matrix 0)
 gap> CoxeterShellGroup( [ [ 1, 5 ], [ 5, 1 ] ] );
-Error, error 
-14: a label of the matrix is not 0, 2, 3, 4 or 6 (the line was matrix 2 5)
+Error, error 14: a label of the matrix is not 0, 2, 3, 4 or 6 (the line was ma\
+trix 2 5)
 gap> CoxeterShellGroup( [ [ 1, 3 ], [ 2, 1 ] ] );
 Error, a Coxeter matrix is symmetric, and has 1 on its diagonal
 gap> CoxeterShellGroup( [ [ 1, 3 ], [ 3 ] ] );
@@ -131,10 +122,8 @@ gap> CoxeterShellGroup( "A", 3, rec( workers := 17 ) );
 Error, this is not the program coxeter, or its options are wrong: it says usag\
 e: coxeter [--workers N] [--context N] [--coef N] [--roots N]
 gap> CoxeterShellGroup( "A", 3, rec( roots := 5 ) );
-Error, error 
-21
- : the group has more small roots than the option `roots' allows (the line was\
- type A 3)
+Error, error 21: the group has more small roots than the option `roots' allows\
+ (the line was type A 3)
 gap> CoxeterShellGroup( "A", 3, rec( program := "/no/such/program" ) );
 Error, there is no program /no/such/program
 gap> CoxeterShellGroup( "A", 3, rec( program := "/" ) );
@@ -155,40 +144,30 @@ gap> CoxeterShellAsk( W, "jobs" );
 Error, jobs is not answered at once: CoxeterShellClose ends the program, and q\
 uestions are asked one by one
 gap> CoxeterShellAsk( W, "length 1\n" );
-Error, error 
-19
- : the line has a byte that is no printing ASCII character and no space (the l\
-ine was length 1
+Error, error 19: the line has a byte that is no printing ASCII character and n\
+o space (the line was length 1
 )
 gap> CoxeterShellAsk( W, "foo" );
 Error, error 10: the program has no such command (the line was foo)
 gap> CoxeterShellAsk( W, ListWithIdenticalEntries( 4097, '1' ) );
-Error, error 
-18
- : the line has more than 4,096 bytes (the line was 11111111111111111111111111\
-111111111111111111111111111111111111111111111111111111 ..)
+Error, error 18: the line has more than 4,096 bytes (the line was 111111111111\
+11111111111111111111111111111111111111111111111111111111111111111111 ..)
 gap> CoxeterShellAsk( W, ListWithIdenticalEntries( 4096, '1' ) );
-Error, error 
-10
- : the program has no such command (the line was 11111111111111111111111111111\
-111111111111111111111111111111111111111111111111111 ..)
+Error, error 10: the program has no such command (the line was 111111111111111\
+11111111111111111111111111111111111111111111111111111111111111111 ..)
 gap> CoxeterShellAsk( W, 1 );
 Error, usage: CoxeterShellAsk( <W>, <line> ) with a group of this package and \
 a string
 gap> LengthOfWord( W, "12" );
 2
-gap> V := CoxeterShellGroup( "A", 3, rec( context := 23, workers := 2, coef := 100 ) );; BettiNumbers( V, LongestWord( V ) );
-Error, error 
-31
- : the interval below the element, or the group, is infinite or has more membe\
-rs than the option `context' allows, or than 4,096 in a certificate (the line \
-was betti 121321)
+gap> V := CoxeterShellGroup( "A", 3, rec( context := 23, workers := 2, coef := 100 ) );; BettiNumbersOfWord( V, LongestWord( V ) );
+Error, error 31: the interval below the element, or the group, is infinite or \
+has more members than the option `context' allows, or than 4,096 in a certific\
+ate (the line was betti 121321)
 gap> Length( CoxeterShellAsk( V, "lcells" ) );
-Error, error 
-31
- : the interval below the element, or the group, is infinite or has more membe\
-rs than the option `context' allows, or than 4,096 in a certificate (the line \
-was lcells)
-gap> BettiNumbers( V, "12" );
+Error, error 31: the interval below the element, or the group, is infinite or \
+has more members than the option `context' allows, or than 4,096 in a certific\
+ate (the line was lcells)
+gap> BettiNumbersOfWord( V, "12" );
 [ 1, 2, 1 ]
 gap> STOP_TEST( "words.tst" );
