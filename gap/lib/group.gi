@@ -29,16 +29,22 @@ BindGlobal( "CoxeterShellMatrixLine", function( rows )
     return line;
 end );
 
+# The options of the program, and the greatest value of each.
+BindGlobal( "CoxeterShellOptions", rec( workers := 16, context := 1048576, coef := 2^63 - 1, roots := 4096 ) );
+
 #F  CoxeterShellArguments( <options> ) . . . . . . . . . . . options of the program
 BindGlobal( "CoxeterShellArguments", function( options )
     local name, found;
     found := [];
     for name in RecNames( options ) do
-        if name in [ "workers", "context", "coef", "roots" ] and IsPosInt( options.(name) ) then
+        if IsBound( CoxeterShellOptions.(name) ) then
+            if not IsPosInt( options.(name) ) or options.(name) > CoxeterShellOptions.(name) then
+                ErrorNoReturn( Concatenation( "the option ", name, " is 1 to ", String( CoxeterShellOptions.(name) ), ", and not ",
+                    String( options.(name) ) ) );
+            fi;
             Add( found, Concatenation( "--", name, "=", String( options.(name) ) ) );
         elif name <> "program" or not IsString( options.program ) then
-            ErrorNoReturn( "the options are workers, context, coef and roots, which are positive integers, and program, a path; ",
-                "this is none: ", name, " := ", options.(name) );
+            ErrorNoReturn( Concatenation( "the options are workers, context, coef and roots, and program, a path; this is none: ", name ) );
         fi;
     od;
     return found;

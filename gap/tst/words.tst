@@ -113,14 +113,22 @@ gap> CoxeterShellGroup();
 Error, usage: CoxeterShellGroup( "A", 3 ), ( "A 3" ), ( "matrix 3 3 2 4" ) or \
 ( <Coxeter matrix> ), with a record of options behind it
 gap> CoxeterShellGroup( "A", 3, rec( workers := 0 ) );
-Error, the options are workers, context, coef and roots, which are positive in\
-tegers, and program, a path; this is none: workers := 0
+Error, the option workers is 1 to 16, and not 0
 gap> CoxeterShellGroup( "A", 3, rec( colour := 1 ) );
-Error, the options are workers, context, coef and roots, which are positive in\
-tegers, and program, a path; this is none: colour := 1
+Error, the options are workers, context, coef and roots, and program, a path; \
+this is none: colour
 gap> CoxeterShellGroup( "A", 3, rec( workers := 17 ) );
-Error, this is not the program coxeter, or its options are wrong: it says usag\
-e: coxeter [--workers N] [--context N] [--coef N] [--roots N]
+Error, the option workers is 1 to 16, and not 17
+gap> CoxeterShellGroup( "A", 3, rec( coef := 2^63 ) );
+Error, the option coef is 1 to 9223372036854775807, and not 922337203685477580\
+8
+gap> CoxeterShellGroup( "A", 3, rec( context := 1/2 ) );
+Error, the option context is 1 to 1048576, and not 1/2
+gap> CoxeterShellGroup( "A", 3, rec( program := 7 ) );
+Error, the options are workers, context, coef and roots, and program, a path; \
+this is none: program
+gap> LengthOfWord( CoxeterShellGroup( "A", 3, rec( workers := 16, context := 1048576, coef := 2^63 - 1, roots := 4096 ) ), "12" );
+2
 gap> CoxeterShellGroup( "A", 3, rec( roots := 5 ) );
 Error, error 21: the group has more small roots than the option `roots' allows\
  (the line was type A 3)
@@ -128,9 +136,6 @@ gap> CoxeterShellGroup( "A", 3, rec( program := "/no/such/program" ) );
 Error, there is no program /no/such/program
 gap> CoxeterShellGroup( "A", 3, rec( program := "/" ) );
 Error, there is no program /
-gap> CoxeterShellGroup( "A", 3, rec( program := "/bin/true" ) );
-Error, the program ended before it had answered anything: is it the program co\
-xeter?
 gap> CoxeterShellGroup( "A", 3, rec( program := "/bin/cat" ) );
 Error, this is not the program coxeter, or its options are wrong: it says 
 gap> CoxeterShellAsk( W, "coatoms 121" );
