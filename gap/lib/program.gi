@@ -34,6 +34,10 @@ BindGlobal( "CoxeterShellMostOfWord", 255 );
 BindGlobal( "CoxeterShellMostOfLine", 4096 );
 BindGlobal( "CoxeterShellMostOfInput", 16000000 );
 
+# The groups whose programs run. GAP has room for 64 processes in all, so that the one that was started first is ended where there are more.
+BindGlobal( "CoxeterShellRunning", [] );
+BindGlobal( "CoxeterShellMostRunning", 40 );
+
 #F  CoxeterShellRefuse( <number>, <line> ) . . . the error of a refusal, in words
 BindGlobal( "CoxeterShellRefuse", function( number, line )
     local meaning;
@@ -114,12 +118,17 @@ end );
 
 #F  CoxeterShellStart( <W> ) . . . . . . starts the process of a group, and sets it
 BindGlobal( "CoxeterShellStart", function( W )
-    local answer;
+    local answer, path;
     CoxeterShellClose( W );
-    W!.stream := InputOutputLocalProcess( DirectoryCurrent(), CoxeterShellProgram( W!.program ), W!.arguments );
-    if W!.stream = fail then
-        ErrorNoReturn( "the program can't be started: GAP has room for some 60 processes, which CoxeterShellClose ends" );
+    path := CoxeterShellProgram( W!.program );
+    if Length( CoxeterShellRunning ) >= CoxeterShellMostRunning then
+        CoxeterShellClose( CoxeterShellRunning[1] );
     fi;
+    W!.stream := InputOutputLocalProcess( DirectoryCurrent(), path, W!.arguments );
+    if W!.stream = fail then
+        ErrorNoReturn( "the program ", path, " can't be started: perhaps other packages run too many processes" );
+    fi;
+    Add( CoxeterShellRunning, W );
     W!.sent := 0;
     CoxeterShellExchange( W, "" );
     answer := CoxeterShellExchange( W, W!.group );
@@ -159,6 +168,11 @@ InstallGlobalFunction( CoxeterShellAsk, function( W, line )
 end );
 
 InstallGlobalFunction( CoxeterShellClose, function( W )
+    local at;
+    at := PositionProperty( CoxeterShellRunning, it -> IsIdenticalObj( it, W ) );
+    if at <> fail then
+        Remove( CoxeterShellRunning, at );
+    fi;
     if W!.stream <> fail then
         CloseStream( W!.stream );
         W!.stream := fail;

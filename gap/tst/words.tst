@@ -175,4 +175,14 @@ has more members than the option `context' allows, or than 4,096 in a certific\
 ate (the line was lcells)
 gap> BettiNumbersOfWord( V, "12" );
 [ 1, 2, 1 ]
+gap> groups := List( [ 1 .. 100 ], i -> CoxeterShellGroup( "A", 2 ) );;
+gap> Length( CoxeterShellRunning ) = CoxeterShellMostRunning;
+true
+gap> Set( groups, V -> LengthOfWord( V, "121" ) );
+[ 3 ]
+gap> Perform( groups, CoxeterShellClose );
+gap> CoxeterShellRunning;
+[  ]
+gap> [ LengthOfWord( W, "12" ), Length( CoxeterShellRunning ) ];
+[ 2, 1 ]
 gap> STOP_TEST( "words.tst" );
