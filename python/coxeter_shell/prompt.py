@@ -186,7 +186,7 @@ class Shell:
                 raise Mistake("a command stands before >", (0, 1))
             return True
         if self.blocks is not None:
-            self._line_of_list(parts, question, begun)
+            self._line_of_list(parts, question, begun, path, append)
             return True
         name, arguments = self._command(parts[0]), parts[1:]
         if name in QUIT:
@@ -316,9 +316,11 @@ class Shell:
             raise Refusal(15, question)
         self.blocks = [[]]
 
-    def _line_of_list(self, parts, question, begun):
+    def _line_of_list(self, parts, question, begun, path, append):
         """Takes a line of a list of jobs. The list is answered at its end."""
         name, arguments = self._command(parts[0], [*PROGRAM, NEXT, END]), parts[1:]
+        if path is not None and name != END:
+            raise Mistake("the answers of a list go to a file by end > FILE", (len(question), 1))
         if name in PROGRAM:
             self.blocks[-1].append(self._sent(name, arguments))
         elif arguments:
@@ -327,7 +329,7 @@ class Shell:
             self.blocks.append([])
         else:
             blocks, self.blocks = self.blocks, None
-            self.screen.show(answers_of(self.group.iter_jobs(blocks)), begun)
+            self.screen.show(answers_of(self.group.jobs(blocks)), begun, path, append)
 
     # ---- what is said of refusals
 

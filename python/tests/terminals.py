@@ -12,10 +12,14 @@ import termios
 import time
 
 # So many seconds a test waits for something to be shown.
-PATIENCE = 30
+PATIENCE = 120
 
 # What readline sends besides texts: sequences for colours, for pasting, and for moving about.
 SEQUENCE = re.compile(r"\x1b\[[0-9;?]*[@-~]|\x07")
+
+# What tells for how long an answer is awaited, and is wiped then, on a machine that is busy; and the remark behind an answer that took long.
+AWAITED = re.compile(r"(?:\r[^\r\n]*, \d+ s)+\r +\r")
+TOOK = re.compile(r"^-- [\d,]+ (?:line|item)s?, \d+\.\d s\n", re.M)
 
 
 class Terminal:
@@ -30,7 +34,7 @@ class Terminal:
                 os.execve(sys.executable, [sys.executable, *words], {**os.environ, **changed})
             finally:
                 os._exit(127)
-        self.shown, self._at = "", 0
+        self._sent, self._at = b"", 0
         self.status = None
 
     def __enter__(self):
@@ -41,6 +45,10 @@ class Terminal:
             os.kill(self.pid, signal.SIGKILL)
             os.waitpid(self.pid, 0)
         os.close(self.terminal)
+
+    @property
+    def shown(self):
+        return AWAITED.sub("", SEQUENCE.sub("", self._sent.decode(errors="replace")).replace("\r\n", "\n"))
 
     def type(self, text):
         """Types a text, without a Return behind it."""
@@ -83,5 +91,5 @@ class Terminal:
             if error.errno != errno.EIO:
                 raise
             return False
-        self.shown += SEQUENCE.sub("", data.decode().replace("\r\n", "\n"))
+        self._sent += data
         return bool(data)

@@ -31,7 +31,7 @@ def piped(script, *words, program=None):
     """The exit status, standard output and standard error of the prompt where the script comes through a pipe."""
     environment = {**os.environ, **({"COXETER": program} if program else {})}
     words = [sys.executable, "-m", "coxeter_shell", *words]
-    ran = subprocess.run(words, input=script.encode("utf-8", "surrogateescape"), capture_output=True, env=environment, timeout=120)
+    ran = subprocess.run(words, input=script.encode("utf-8", "surrogateescape"), capture_output=True, env=environment, timeout=300)
     return ran.returncode, ran.stdout.decode(), ran.stderr.decode()
 
 
@@ -40,7 +40,7 @@ class AtTerminal(unittest.TestCase):
         """What is shown behind a line, up to the next prompt."""
         terminal.type(f"{line}\n")
         terminal.expect(re.escape(line) + "\n")
-        return terminal.expect("^[^ >\n][^>\n]*> ")
+        return terminals.TOOK.sub("", terminal.expect("^[^ >\n][^>\n]*> "))
 
     def test_transcripts_of_the_documents(self):
         tried = 0
@@ -58,7 +58,7 @@ class AtTerminal(unittest.TestCase):
                     if lines[-1] != "q":
                         terminal.type("q\n")
                     self.assertEqual(terminal.ended(), 0)
-                    shown = terminal.shown[terminal.shown.index("coxeter> ") :]
+                    shown = terminals.TOOK.sub("", terminal.shown[terminal.shown.index("coxeter> ") :])
                     self.assertEqual(shown if lines[-1] == "q" else shown[: shown.rindex("\n", 0, -1) + 1], text, name)
         self.assertGreaterEqual(tried, 4)
 
@@ -173,18 +173,19 @@ class AtTerminal(unittest.TestCase):
     def test_typed_ahead(self):
         """While the program computes two lines are typed, of which one is blank. The answer is shown without a stop then."""
         with fakes.Fakes() as folder:
-            slow = folder.fake("time.sleep(1 if line == 'lcells' else 0)\nsay(*(['30'] + ['e'] * 30 if line == 'lcells' else ['7']))")
+            slow = folder.fake("time.sleep(4 if line == 'lcells' else 0)\nsay(*(['30'] + ['e'] * 30 if line == 'lcells' else ['7']))")
             with at_prompt("--program", slow, rows=10) as terminal:
                 terminal.expect("coxeter> ")
                 self.ask(terminal, "type A 4")
                 terminal.type("lcells\n")
                 terminal.expect("lcells\n")
                 terminal.type("\nlength 12\n")
-                terminal.expect(r"^-- 30 items, \d\.\d s\nA 4> length 12\n7\nA 4> ")
+                terminal.expect(r"^-- 30 items, \d+\.\d s\nA 4> length 12\n7\nA 4> ")
 
     def test_interrupts(self):
         with fakes.Fakes() as folder:
-            slow = folder.fake("time.sleep(0 if line.startswith('length') else 60)\nsay('7')")
+            asked = os.path.join(folder.folder.name, "asked")
+            slow = folder.fake(f"if not line.startswith('length'):\n    open({asked!r}, 'w').close()\n    time.sleep(600)\nsay('7')")
             with at_prompt("--program", slow) as terminal:
                 terminal.expect("coxeter> ")
                 time.sleep(0.3)
@@ -194,17 +195,21 @@ class AtTerminal(unittest.TestCase):
                 for question in ("lcells", "slocus 12321", "pol e *"):
                     terminal.type(f"{question}\n")
                     terminal.expect(f"{re.escape(question)}\n")
-                    time.sleep(0.3)
+                    end = time.monotonic() + terminals.PATIENCE
+                    while not os.path.exists(asked) and time.monotonic() < end:
+                        time.sleep(0.01)
+                    os.remove(asked)
                     terminal.type("\x03")
                     terminal.expect("^-- stopped\nA 3> ")
                     self.assertEqual(self.ask(terminal, "length 12"), "7\n")
                 # Half a line is dropped, and so are several interrupts at once.
                 terminal.type("betti 1")
-                time.sleep(0.2)
+                time.sleep(0.3)
                 terminal.type("\x03")
                 terminal.expect("^A 3> ")
                 terminal.type("\x03\x03\x03\x03")
                 time.sleep(0.5)
+                terminal.type("\n")
                 self.assertEqual(self.ask(terminal, "length 12"), "7\n")
                 terminal.type("q\n")
                 self.assertEqual(terminal.ended(), 0)
@@ -225,7 +230,7 @@ class AtTerminal(unittest.TestCase):
             terminal.expect("coxeter> ")
             self.ask(terminal, "type A 3")
             terminal.type("length 12\n")
-            terminal.expect(r"7\n-- 1 line, 1\.\d s\nA 3> ")
+            terminal.expect(r"7\n-- 1 line, [1-9]\d*\.\d s\nA 3> ")
 
     def test_lists_of_jobs(self):
         with at_prompt() as terminal:
@@ -237,7 +242,7 @@ class AtTerminal(unittest.TestCase):
             self.assertEqual(terminal.shown[terminal.shown.rindex("\n") + 1 :], "jobs> ")
             self.assertEqual(self.ask(terminal, "end"), f"1+q\n6\nerror 16: {Refusal(16, '').meaning} (compute 14)\n")
             self.ask(terminal, "jobs")
-            time.sleep(0.3)
+            time.sleep(0.5)
             terminal.type("\x03")
             terminal.expect("A 3> ")
             self.ask(terminal, "jobs")
@@ -339,6 +344,11 @@ class InPipes(unittest.TestCase):
             self.assertEqual(piped(f"type A 3\nlength 121 > {path}\nduflo >> {path}\n")[:2], (0, ""))
             with open(path, encoding="ascii") as made:
                 self.assertEqual(made.read().split("\n", 2)[:2], ["3", "10"])
+            status, out, told = piped(f"type A 3\njobs\nlength 1 > {path}\nlength 12\nend > {path}\n")
+            self.assertEqual((status, out), (1, ""))
+            self.assertIn("end > FILE", told)
+            with open(path, encoding="ascii") as made:
+                self.assertEqual(made.read(), "2\n")
             for wrong in (os.path.join(folder, "no", "file"), folder):
                 status, out, told = piped(f"type A 3\nlength 12 > {wrong}\nlength 1\n")
                 self.assertEqual((status, out), (1, "1\n"))
