@@ -5,23 +5,17 @@ other remarks go to standard error. Where standard input or output is no termina
 """
 import contextlib
 import functools
-import glob
 import os
 import re
 import signal
 import sys
 import time
 
-from . import diagrams, kinds, progress, prompt_help, prompt_package, prompt_words
+from . import diagrams, progress, prompt_editing, prompt_help, prompt_package, prompt_words
 from .errors import CoxeterError, Refusal
 from .group import CoxeterGroup
 from .program import MOST_OF_LINE, Program, check_characters, find_program
 from .prompt_show import Screen
-
-try:
-    import readline
-except ImportError:
-    readline = None
 
 # The commands of the program that the shell hands on, and how many words each takes; None where its arguments are no words.
 PROGRAM = {
@@ -47,10 +41,6 @@ BANNER = (
     "help lists the commands, help pol says more of one; Tab completes, Ctrl-C ends a question, q the shell.",
 )
 NOT_PROVED = "-- made by the package from answers of the program, not proved"
-
-# How many lines of history are kept, and where, unless the environment variable COXETER_HISTORY says otherwise.
-MOST_HISTORY = 1000
-HISTORY = "~/.coxeter_history"
 
 
 class Mistake(CoxeterError):
@@ -85,7 +75,7 @@ class Shell:
             after.callback(self.close)
             if self.screen.interactive:
                 after.callback(signal.signal, signal.SIGINT, signal.signal(signal.SIGINT, self._interrupt))
-                after.enter_context(line_editing(self.completions))
+                after.enter_context(prompt_editing.line_editing(self._completions))
                 self.screen.say(*BANNER)
             while self._turn():
                 pass
@@ -331,6 +321,9 @@ class Shell:
             blocks, self.blocks = self.blocks, None
             self.screen.show(answers_of(self.group.jobs(blocks)), begun, path, append)
 
+    def _completions(self, before, text):
+        return prompt_editing.completions(before, text, COMMANDS if self.blocks is None else [*PROGRAM, NEXT, END])
+
     # ---- what is said of refusals
 
     @functools.cached_property
@@ -360,25 +353,6 @@ class Shell:
         words = PROGRAM.get(name, prompt_package.COMMANDS.get(name, (0,))[0])
         return prompt_words.cause(refusal.number, question, name, self.group, words)
 
-    # ---- completion
-
-    def completions(self, before, text):
-        """What a word may be completed to, after the words before it."""
-        if not before:
-            found = COMMANDS if self.blocks is None else [*PROGRAM, NEXT, END]
-        elif before[-1] in (">", ">>"):
-            return sorted(glob.glob(f"{glob.escape(os.path.expanduser(text))}*"))
-        elif before == ["help"]:
-            found = COMMANDS
-        elif before == ["type"]:
-            found = kinds.TYPES
-        elif before[0] == "type" and len(before) == 2 and before[1] in kinds.TYPES:
-            least, greatest = kinds.TYPES[before[1]]
-            found = map(str, range(least, greatest + 1))
-        else:
-            found = []
-        return [f"{it} " for it in found if it.startswith(text)]
-
 
 def redirected(typed, strict=True):
     """The question of a line, the file that its answer goes to or None, and whether it is added to that file."""
@@ -399,35 +373,6 @@ def answers_of(blocks):
                 yield f"error {answer.number}: {answer.meaning} ({answer.line})"
             else:
                 yield from answer
-
-
-@contextlib.contextmanager
-def line_editing(completions):
-    """History and completion, where Python has readline."""
-    if readline is None:
-        yield
-        return
-    path = os.environ.get("COXETER_HISTORY", os.path.expanduser(HISTORY))
-
-    def complete(text, state):
-        before = readline.get_line_buffer()[: readline.get_begidx()].split()
-        found = completions(before, text)
-        return found[state] if state < len(found) else None
-
-    readline.set_completer(complete)
-    readline.set_completer_delims(" ")
-    readline.parse_and_bind("bind ^I rl_complete" if "libedit" in readline.__doc__ else "tab: complete")
-    with contextlib.suppress(OSError):
-        readline.read_history_file(path)
-    known = readline.get_current_history_length()
-    try:
-        yield
-    finally:
-        with contextlib.suppress(OSError):
-            with open(path, "a", encoding="utf-8"):
-                pass
-            readline.set_history_length(MOST_HISTORY)
-            readline.append_history_file(readline.get_current_history_length() - known, path)
 
 
 def main(program=None, **options):

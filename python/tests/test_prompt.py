@@ -264,7 +264,8 @@ class InPipes(unittest.TestCase):
             want = ran.stdout.decode().splitlines()
             status, out, told = piped(script)
             told = re.findall("^error [0-9]+", told, re.M) + re.findall("^error [0-9]+", out, re.M)
-            self.assertEqual([line for line in out.splitlines() if not line.startswith("error")], [it for it in want if "error" not in it])
+            shown = [line for line in out.splitlines() if not line.startswith("error")]
+            self.assertEqual(shown, [it for it in want if "error" not in it])
             self.assertEqual(sorted(told), sorted(it for it in want if "error" in it), script)
             if "jobs" not in script:
                 self.assertEqual(status, ran.returncode)
@@ -368,8 +369,8 @@ class InPipes(unittest.TestCase):
         status, out, told = piped("type A 3\n" + "(" * 3000 + "\ncompute " + "(" * 4000 + "\ncompute " + "(1" * 1300 + ")" * 1300 + "\nlength 12")
         self.assertEqual((status, out), (1, f"{CoxeterGroup('A', 3).text([1] * 0)}\n2\n"))
         self.assertNotIn("Traceback", told)
-        for script in ("\0\n", "\x1b[A\n", "\t\n", "  \n", "#\n", "type\n", ">\n", "> x\n", "q x\n", "help \n", "help \xff\n", "type A3\nrank 0\nrank x\n"):
-            told = piped(script)[2]
+        for script in ("\0", "\x1b[A", "\t", "  ", "#", "type", ">", "> x", "q x", "help ", "help \xff", "type A3\nrank 0\nrank x"):
+            told = piped(f"{script}\n")[2]
             self.assertNotIn("Traceback", told, script)
         for name in ("jobs x", "next", "end", "rank 1 2", "rank 99", "lcells 1", "slocus", "matrix 3", "type A 3 4"):
             status, out, told = piped(f"type A 2\n{name}\nlength 1\n")
@@ -440,7 +441,8 @@ class Words(unittest.TestCase):
                 }
                 if W.is_finite():
                     w = W.long_element()
-                    tried.update({"*": w, f"*({x})": W.product(w, u), f"{x}*": W.product(u, w), "*^3": w, f"(*{x}*)!": W.product(w, W.inverse(u), w)})
+                    tried.update({"*": w, f"*({x})": W.product(w, u), f"{x}*": W.product(u, w), "*^3": w})
+                    tried[f"(*{x}*)!"] = W.product(w, W.inverse(u), w)
                 for word, want in tried.items():
                     self.assertEqual(prompt_words.value(W, word.replace("..", ".")), want, word)
 
@@ -538,7 +540,8 @@ class Help(unittest.TestCase):
                         self.assertEqual([line for _, line, _ in parted], script.splitlines())
             self.assertEqual(W.rank, 1)
         shown = self.manual.about("coatoms", 100)
-        self.assertEqual(shown[shown.index("examples:") :][:7], ["examples:", "  type A 3", "  coatoms 1232", "    3", "    123", "    132", "    232"])
+        want = ["examples:", "  type A 3", "  coatoms 1232", "    3", "    123", "    132", "    232"]
+        self.assertEqual(shown[shown.index("examples:") :][:7], want)
 
     def test_topics(self):
         for section in self.manual.sections:
@@ -576,7 +579,8 @@ class Diagrams(unittest.TestCase):
 
     def test_trees_and_others(self):
         def matrix(size, edges):
-            return kinds.of_rows([[1 if s == t else edges.get((min(s, t), max(s, t)), 2) for t in range(1, size + 1)] for s in range(1, size + 1)]).matrix
+            nodes = range(1, size + 1)
+            return kinds.of_rows([[1 if s == t else edges.get((min(s, t), max(s, t)), 2) for t in nodes] for s in nodes]).matrix
 
         trees = [
             (6, {(1, 2): 3, (2, 3): 3, (3, 4): 3, (3, 5): 3, (2, 6): 3}),
