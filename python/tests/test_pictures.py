@@ -101,7 +101,7 @@ class Pictures(unittest.TestCase):
             (1, ("cells", "A 3", "--program", "/nowhere"), "there is no program '/nowhere'"),
             (1, ("hasse", "A 2", "12", "--out", "h.gif"), ".svg or .png"),
             (1, ("hasse", "A 2", "12", "--out", "/nowhere/h.dot"), "/nowhere/h.dot"),
-            (2, (), "usage"),
+            (2, ("tree", "A 2"), "usage"),
             (2, ("hasse", "A 2"), "usage"),
             (2, ("hasse", "A 2", "1", "2", "12"), "one word or two"),
             (2, ("wgraph", "A 2", "--side", "middle"), "invalid choice"),

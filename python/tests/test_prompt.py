@@ -304,31 +304,37 @@ class InPipes(unittest.TestCase):
             "betti 12 13": (11, 9, 2),
             "pol e 123121": (31, 6, 6),
         }
-        for line, (number, place, length) in tried.items():
-            status, out, told = piped(f"type A 3\n{line}\n", "--context", "23", "--roots", "20")
-            self.assertEqual((status, out), (1, ""), line)
+        script = "".join(f"{line}\n" for line in ["type A 3", *tried])
+        status, out, told = piped(script, "--context", "23", "--roots", "20")
+        self.assertEqual((status, out), (1, ""))
+        told = told.splitlines()
+        self.assertEqual(len(told), 3 * len(tried), told)
+        for (line, (number, place, length)), shown, marks, text in zip(tried.items(), told[::3], told[1::3], told[2::3]):
+            self.assertTrue(text.startswith(f"error {number}: "), (line, text))
             if number == 11:
-                shown, marks, text = told.splitlines()
-                self.assertRegex(text, "^error 11: .*: (length w|pol y w|betti w)$")
-            else:
-                shown, marks, text = told.splitlines()
-                self.assertTrue(text.startswith(f"error {number}: "), (line, text))
+                self.assertRegex(text, "^error 11: .*: (length w|pol y w|betti w)")
             if len(line) < 70:
                 self.assertEqual(marks, " " * (2 + place) + "^" * length, line)
             else:
                 self.assertEqual((len(shown), marks.rstrip()), (2 + 76, f"{'^' * length:>78}"))
-        for line, number in (("compute 1", 15), ("lcells", 15), ("slocus 1", 15), ("rank", 15), ("matrix", 15), ("jobs", 15)):
-            status, out, told = piped(f"{line}\n")
-            self.assertEqual((status, out, told.splitlines()[1]), (1, "", "  " + "^" * len(line.split()[0])))
-            self.assertTrue(told.splitlines()[2].startswith(f"error {number}: "), told)
+
+    def test_refusals_without_a_group(self):
+        lines = ("compute 1", "lcells", "slocus 1", "rank", "matrix", "jobs")
+        status, out, told = piped("".join(f"{line}\n" for line in lines))
+        self.assertEqual((status, out), (1, ""))
+        told = told.splitlines()
+        self.assertEqual(told[1::3], ["  " + "^" * len(line.split()[0]) for line in lines])
+        self.assertEqual(told[2::3], [f"error 15: {Refusal(15, '').meaning}"] * len(lines))
+
+    def test_refusals_of_letters_with_two_digits(self):
         status, out, told = piped("type A 12\ncompute 1.13\ncompute 1..2\nlength " + "1." * 255 + "1\nlength 1.2\n")
         self.assertEqual((status, out), (1, "2\n"))
         self.assertRegex(told, r"compute 1\.13\n            \^\^\nerror 16.*\n  compute 1\.\.2\n            \^\nerror 16")
         self.assertIn("error 17", told)
 
     def test_what_coxeter_3_has_besides(self):
-        for name, why in prompt_package.ABSENT.items():
-            self.assertIn(why, piped(f"type A 2\n{name}\n")[2])
+        told = piped("".join(f"{it}\n" for it in ["type A 2", *prompt_package.ABSENT]))[2].splitlines()
+        self.assertEqual(told[2::3], [f"{name} of Coxeter 3 is not here: {why}" for name, why in prompt_package.ABSENT.items()])
 
     def test_files(self):
         with tempfile.TemporaryDirectory() as folder:
@@ -369,13 +375,11 @@ class InPipes(unittest.TestCase):
         status, out, told = piped("type A 3\n" + "(" * 3000 + "\ncompute " + "(" * 4000 + "\ncompute " + "(1" * 1300 + ")" * 1300 + "\nlength 12")
         self.assertEqual((status, out), (1, f"{CoxeterGroup('A', 3).text([1] * 0)}\n2\n"))
         self.assertNotIn("Traceback", told)
-        for script in ("\0", "\x1b[A", "\t", "  ", "#", "type", ">", "> x", "q x", "help ", "help \xff", "type A3\nrank 0\nrank x"):
-            told = piped(f"{script}\n")[2]
-            self.assertNotIn("Traceback", told, script)
-        for name in ("jobs x", "next", "end", "rank 1 2", "rank 99", "lcells 1", "slocus", "matrix 3", "type A 3 4"):
-            status, out, told = piped(f"type A 2\n{name}\nlength 1\n")
-            self.assertEqual((status, out), (1, "1\n"), name)
-            self.assertNotIn("Traceback", told)
+        lines = ["\0", "\x1b[A", "\t", "  ", "#", "type", ">", "> x", "q x", "help ", "help \udcff", "rank 0", "rank x", "jobs x", "next", "end"]
+        lines += ["rank 1 2", "rank 99", "lcells 1", "slocus", "matrix 3", "type A 3 4", "é", "pol é"]
+        status, out, told = piped("type A 2\n" + "".join(f"{line}\nlength 1\n" for line in lines))
+        self.assertEqual((status, out.splitlines().count("1")), (1, len(lines)))
+        self.assertNotIn("Traceback", told)
 
     def test_the_reader_is_gone(self):
         words = f"printf 'type A 5\\nklbasis *\\n' | {sys.executable} -m coxeter_shell | head -2"
