@@ -51,7 +51,7 @@ def value(group, word):
 
     >>> W = CoxeterGroup("A", 3)
     >>> value(W, "12!"), value(W, "(12)^2"), value(W, "1(23)!^2*")
-    ((2, 1), (2, 1), (1, 3, 2, 1))
+    ((2, 1), (2, 1), (2, 3, 2))
     """
     # For each open parenthesis: where it is, and what stands before it. Behind them what is being read.
     open_ones, element, place = [], (), 0
