@@ -12,7 +12,8 @@ import zipfile
 
 import fakes
 import terminals
-from coxeter_shell import CoxeterGroup, Refusal, diagrams, find_program, kinds, prompt, prompt_help, prompt_package, prompt_words
+from coxeter_shell import CoxeterGroup, Refusal, diagrams, find_program, kinds
+from coxeter_shell import prompt, prompt_editing, prompt_help, prompt_package, prompt_words
 
 TOP = os.path.dirname(os.path.dirname(os.path.dirname(os.path.abspath(__file__))))
 REMARK = r"^-- made by the package from answers of the program, not proved\n"
@@ -75,6 +76,7 @@ class AtTerminal(unittest.TestCase):
                 terminal.expect(f"^{re.escape(name)}> ")
             self.assertEqual(self.ask(terminal, "rank"), "16\n")
 
+    @unittest.skipIf(prompt_editing.readline is None, "Python has no readline")
     def test_arrow_keys_and_history(self):
         with tempfile.TemporaryDirectory() as folder:
             history = os.path.join(folder, "history")
@@ -114,6 +116,7 @@ class AtTerminal(unittest.TestCase):
                 terminal.type("\x1b[A\x1b[Dlength 1\x1bOC2\n")
                 terminal.expect("^2\nA 3> ")
 
+    @unittest.skipIf(prompt_editing.readline is None, "Python has no readline")
     def test_completion(self):
         with at_prompt() as terminal:
             terminal.expect("coxeter> ")
