@@ -9,7 +9,9 @@ from .errors import (
     ProgramError,
     ProgramNotFound,
     Refusal,
+    Unanswered,
     UnexpectedAnswer,
+    UnexpectedResult,
 )
 from .graphs import CellOrder, HasseDiagram, Vertex, WGraph
 from .group import CoxeterGroup, Work
@@ -18,7 +20,7 @@ from .modules import CellModule
 from .polynomial import Polynomial
 from .program import Program, find_program
 from .schubert import SchubertVariety
-from .tables import Cells, ElementDict, PairDict, Table
+from .tables import Cells, ElementDict, PairDict, RowTable, Table
 from .texts import gap
 
 __all__ = [
@@ -40,9 +42,12 @@ __all__ = [
     "ProgramError",
     "ProgramNotFound",
     "Refusal",
+    "RowTable",
     "SchubertVariety",
     "Table",
+    "Unanswered",
     "UnexpectedAnswer",
+    "UnexpectedResult",
     "Verdict",
     "Vertex",
     "WGraph",

@@ -58,7 +58,13 @@ class CellTheory:
         >>> list(W.cell_w_graph(W.left_cell("2")).edges())
         [((2,), (1, 2), 1), ((2,), (3, 2), 1)]
         """
-        return self.W_graph(side).part(cell)
+        if isinstance(cell, (str, bytes)):
+            raise TypeError(f"a cell is the list of its elements, and {cell!r} is one text")
+        elements = set(self._normal_forms(cell))
+        kinds = [side, "two-sided"] if side in ("left", "right") else [side]
+        if not elements or not any(elements == set(self._in_cell(kind, min(elements))) for kind in kinds):
+            raise ValueError(f"these {len(elements)} elements are no {side} cell, and no two-sided one")
+        return self.W_graph(side).part(elements)
 
     def a_value(self, w):
         """Lusztig's function a at w: the least l(x) - 2 deg P(e, x) over the x of the left cell of w.

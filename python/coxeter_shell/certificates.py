@@ -16,6 +16,9 @@ CAUSES = {
     4: "it has a coefficient beyond 2,147,483,647, or a degree above 39",
     5: "its polynomials are not the row of its element",
 }
+
+# The most elements below the element of a certificate.
+MOST_OF_CERTIFICATE = 4096
 PROVED = "its polynomials are the row of its element"
 
 

@@ -1,5 +1,6 @@
 """What is made of several answers: products, orders, longest elements, cosets, covers, permutations."""
 import math
+import operator
 import random as random_numbers
 
 from . import kinds
@@ -101,6 +102,9 @@ class Elements:
             if not self.is_finite():
                 raise ValueError("an infinite group needs a length")
             return self.product(*map(random.choice, self._chain()))
+        length = operator.index(length)
+        if length < 0:
+            raise ValueError(f"the length is negative: {length}")
         element = ()
         for _ in range(length):
             descents = self.right_descents(element)
@@ -189,6 +193,7 @@ class Elements:
         >>> W.power("123", 2), W.power("123", -1), W.power("123", 4)
         ((2, 1, 3, 2), (3, 2, 1), ())
         """
+        exponent = operator.index(exponent)
         square = self.inverse(w) if exponent < 0 else self.normal_form(w)
         exponent, power = abs(exponent), ()
         while exponent:
@@ -296,8 +301,12 @@ class Elements:
         >>> CoxeterGroup("A", 3).from_permutation([3, 4, 1, 2]), CoxeterGroup("B", 3).from_permutation([1, -3, 2])
         ((2, 1, 3, 2), (3, 2))
         """
-        values, places = list(values), self._places()
+        places = self._places()
         signed = places == self.rank
+        try:
+            values = [operator.index(it) for it in (() if isinstance(values, (set, frozenset, dict)) else values)]
+        except TypeError:
+            raise TypeError(f"a permutation is a list or tuple of whole numbers, and not {values!r}") from None
         if sorted(map(abs, values)) != list(range(1, places + 1)) or min(values) < 0 and not signed:
             raise ValueError(f"{values} is no {'signed ' if signed else ''}permutation of 1 to {places}")
         # The values in the order of e 1 > e 2 > .. > 0 > .. > -e 2 > -e 1, where -e i stands for -i.
@@ -350,9 +359,21 @@ class Elements:
     def _of_sage(self, element):
         """The letters of an element of Sage: of its reduced word there."""
         parent = element.parent()
+        if not hasattr(parent, "coxeter_matrix"):
+            return self._of_permutation(element)
         if parent is not self._parent:
             given = kinds.of_object(parent)
             if given.matrix != self._matrix:
                 raise ValueError(f"{element} is an element of another group: {parent}")
             self._parent, self._parent_letters = parent, {node: s for s, node in enumerate(given.nodes, 1)}
         return [self._parent_letters[node] for node in element.reduced_word()]
+
+    def _of_permutation(self, element):
+        """The letters of a permutation of Sage whose parent has permutations of all sizes."""
+        try:
+            places = len(element)
+        except TypeError:
+            raise TypeError(f"{element} is no element of a Coxeter group") from None
+        if self._places() != places or places == self.rank:
+            raise ValueError(f"{element} is no permutation of 1 to {self.rank + 1}, as elements of {self!r} are")
+        return list(element.reduced_word())

@@ -298,7 +298,7 @@ class CellOrder(Drawn, Table):
             height[name] = max((height[it] + 1 for it in self._below[name] - {name}), default=0)
             rows += [[]] * (height[name] == len(rows))
             text = self.group.text(name)
-            rows[height[name]] = [*rows[height[name]], (text, f"{text} {{{len(self.cells[name])}}}")]
+            rows[height[name]] = [*rows[height[name]], (text, f"{text}: {pictures.counted(self.cells[name])}")]
         return rows, [(self.group.text(y), self.group.text(x), "") for x, y in self.edges()]
 
     def sage(self):

@@ -3,9 +3,10 @@ import collections
 import operator
 import re
 
-from . import certificates, kinds, progress, texts
+from . import certificates, kinds, progress, reasons, texts
 from .cells import CellTheory
 from .elements import Elements
+from .errors import CoxeterError, Refusal
 from .graphs import HasseDiagram, Vertex, WGraph
 from .jobs import Jobs
 from .many import Many
@@ -305,11 +306,7 @@ class CoxeterGroup(Elements, CellTheory, Schubert, Many, Jobs):
         12:1
         end
         """
-        line = self._line("cert", (w,))
-        self._watch()
-        lines = self.program.ask(line)
-        self._read(lambda it: certificates.read_lines(self._spelling, self._matrix, it), line, lines)
-        return "".join(f"{it}\n" for it in lines)
+        return self._lines(self._read_certificate, "cert", w)
 
     def intersection_betti_numbers(self, w):
         """The coefficients of the sum of q^l(x) P(x, w) over the x <= w: the even Betti numbers of intersection
@@ -403,8 +400,7 @@ class CoxeterGroup(Elements, CellTheory, Schubert, Many, Jobs):
         >>> module.elements, module.matrix(1)
         ([(1,), (2, 1)], [[-1, v], [0, v^2]])
         """
-        line = self._line("module", (w,))
-        return self._read(lambda lines: CellModule.read(self._spelling, self.rank, lines), line, self.program.ask(line))
+        return self._lines(lambda lines: CellModule.read(self._spelling, self.rank, lines), "module", w)
 
     # ---- the rest
 
@@ -414,7 +410,7 @@ class CoxeterGroup(Elements, CellTheory, Schubert, Many, Jobs):
         >>> CoxeterGroup("A", 1).work(7, 3)
         Work(words=3, entries=3, degree=0, sum=3)
         """
-        return self._answer(self._read_work, f"work {operator.index(start)} {operator.index(count)}")
+        return self._one(self._read_work, f"work {operator.index(start)} {operator.index(count)}")
 
     def ask(self, line):
         """The lines of the program's answer to any line but one that sets another group.
@@ -424,30 +420,58 @@ class CoxeterGroup(Elements, CellTheory, Schubert, Many, Jobs):
         """
         if line.split()[:1] in (["type"], ["matrix"]):
             raise ValueError("the group of this object stays; make another object for another group")
-        return self.program.ask(line)
+        try:
+            return self.program.ask(line)
+        except CoxeterError as error:
+            raise self._shown(error)
 
     # ---- questions and the shapes of answers
 
     def _line(self, command, words):
         return " ".join([command, *map(self.text, words)])
 
-    def _one(self, read, command, *words):
-        return self._answer(read, self._line(command, words))
+    # An error is raised anew in the methods that follow, without the frames below: so what is shown are the frames of the user, the
+    # method that was called, and one of these.
 
-    def _answer(self, read, line):
+    def _one(self, read, command, *words):
         """The answer of one line, read."""
-        self._watch()
-        lines = self.program.ask(line)
+        line = self._line(command, words)
+        try:
+            self._watch()
+            return self._line_of(read, line, self.program.ask(line))
+        except CoxeterError as error:
+            raise self._shown(error)
+
+    def _line_of(self, read, line, lines):
+        """An answer that should be one line, read."""
         if len(lines) != 1:
             self.program.unexpected(line, lines, "one line should have come")
         return self._read(read, line, lines[0])
 
+    def _lines(self, read, command, *words):
+        """The answer of several lines that are no list, read."""
+        line = self._line(command, words)
+        try:
+            self._watch()
+            return self._read(read, line, self.program.ask(line))
+        except CoxeterError as error:
+            raise self._shown(error)
+
     def _list(self, read, command, *words):
         """The items of a list, read."""
         line = self._line(command, words)
-        told = self._watch()
-        items = Items(self, read, line)
+        try:
+            told = self._watch()
+            items = Items(self, read, line)
+        except CoxeterError as error:
+            raise self._shown(error)
         return progress.shown(items, items.total, line) if told else items
+
+    def _shown(self, error):
+        """An error as it is raised anew: without frames, and a refusal with its cause."""
+        if isinstance(error, Refusal):
+            error.detail = error.detail or reasons.detail(self, error)
+        return error.with_traceback(None)
 
     def _watch(self):
         """Sees to it that it is told how long the next answer is awaited, and says whether it is."""
@@ -460,6 +484,10 @@ class CoxeterGroup(Elements, CellTheory, Schubert, Many, Jobs):
             return read(text)
         except ValueError as error:
             self.program.unexpected(line, text, str(error))
+
+    def _read_certificate(self, lines):
+        certificates.read_lines(self._spelling, self._matrix, lines)
+        return "".join(f"{it}\n" for it in lines)
 
     def _read_descents(self, text):
         found = re.fullmatch("L ([-0-9.]+) R ([-0-9.]+)", text)

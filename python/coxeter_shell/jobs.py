@@ -3,12 +3,21 @@ import collections
 import itertools
 import operator
 
-from . import progress
+from . import progress, texts
 from .errors import JobRefusal, Refusal
 from .program import MOST_OF_BLOCKS, MOST_OF_JOBS, PARTS, check_characters
 
 # So many lines of blocks fit into a list, since each has a mark behind it.
 MOST_OF_LINES = MOST_OF_JOBS // 2
+
+# The methods of one word whose answer is one line: the command, and what reads the line.
+ONE_WORD = {
+    "normal_form": ("compute", lambda group: group._spelling.element),
+    "length": ("length", lambda group: texts.number),
+    "inverse": ("inverse", lambda group: group._spelling.element),
+    "descents": ("descent", lambda group: group._read_descents),
+    "betti_numbers": ("betti", lambda group: texts.numbers),
+}
 
 Job = collections.namedtuple("Job", "block index line")
 
@@ -52,6 +61,29 @@ class Jobs:
         blocks = [read_block(number, block) for number, block in enumerate(blocks)]
         found = self._job_answers(blocks)
         return progress.shown(found, len(blocks), "jobs") if self._watch() else found
+
+    def _answers_of(self, method, words):
+        """The list of what a method of one word answers for many words, asked as lists of jobs."""
+        command, read = ONE_WORD[method]
+        words = list(words)
+        if len(words) < 2:
+            return [self._one(read(self), command, word) for word in words]
+        lines = [self._line(command, (word,)) for word in words]
+        # The blocks of a list are answered side by side where there are workers for them.
+        size = MOST_OF_LINES // MOST_OF_BLOCKS if self.program.options.get("workers", 1) > 1 else MOST_OF_LINES
+        self._watch()
+        found = self._job_answers([lines[at : at + size] for at in range(0, len(lines), size)])
+        return [self._one_of(read(self), line, it) for line, it in zip(lines, itertools.chain.from_iterable(found))]
+
+    def _normal_forms(self, words):
+        """The elements of many words."""
+        return self._answers_of("normal_form", words)
+
+    def _one_of(self, read, line, answer):
+        """An answer of a list of jobs, read. Where the line was refused, that is raised as it is for the line alone."""
+        if isinstance(answer, Refusal):
+            raise self._shown(Refusal(answer.number, line))
+        return self._line_of(read, line, answer)
 
     def _job_answers(self, blocks):
         answers = [[line if isinstance(line, Refusal) else None for line in block] for block in blocks]

@@ -73,10 +73,27 @@ def of_type(letter, number):
     rank = whole(number, line)
     least, greatest = TYPES.get(letter, (1, 0))
     if not least <= rank <= greatest:
-        raise Refusal(13, line)
+        raise Refusal(13, line, why_no_type(letter, rank))
     matrix = named_matrix(letter, rank)
     nodes = range(1, len(matrix) + 1)
     return Kind(f"type {letter} {rank}", matrix, (*nodes[:-1], 0) if letter == "a" else tuple(nodes))
+
+
+def why_no_type(letter, rank):
+    """Why there is no such named type.
+
+    >>> why_no_type("A", 17), why_no_type("E", 9)
+    ('groups have rank 1 to 16', 'the types of this letter are E 6 to E 8')
+    """
+    if letter in ("H", "I"):
+        return f"{letter} {rank} has a label other than 2, 3, 4, 6 and infinity, and such labels are not taken"
+    if letter not in TYPES:
+        return f"the letters are {', '.join(TYPES)}"
+    least, greatest = TYPES[letter]
+    if rank > greatest and greatest + (letter == "a") == MOST_RANK:
+        return f"groups have rank 1 to {MOST_RANK}"
+    last = f" to {letter} {greatest}" if greatest > least else ""
+    return f"the type of this letter is {letter} {least}" if not last else f"the types of this letter are {letter} {least}{last}"
 
 
 def of_rows(rows):

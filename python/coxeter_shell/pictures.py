@@ -60,8 +60,13 @@ def cell_order_text(order):
     """The order of cells as a DOT text. The second line of a label has the number of the elements."""
     group, lines = order.group, ["rankdir=BT", "node [shape=plaintext]"]
     for x, cell in order.cells.items():
-        lines.append(f'{name(group, x)} [label="{group.text(x)}\\n{{{len(cell)}}}"]')
+        lines.append(f'{name(group, x)} [label="{group.text(x)}\\n{counted(cell)}"]')
     return dot("cells", lines + [f"{name(group, y)} -- {name(group, x)}" for x, y in order.edges()])
+
+
+def counted(elements):
+    """How many elements there are, in words: sets in braces are descents."""
+    return f"{len(elements)} element{'s' * (len(elements) != 1)}"
 
 
 def name(group, element):

@@ -29,6 +29,8 @@ class Polynomial:
     variable = "q"
 
     def __init__(self, coefficients=()):
+        if isinstance(coefficients, (dict, set, frozenset, str, bytes)):
+            raise TypeError(f"the coefficients are a list by rising degree, and not {coefficients!r}")
         listed = [operator.index(it) for it in coefficients]
         while listed and listed[-1] == 0:
             listed.pop()

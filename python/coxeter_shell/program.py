@@ -12,6 +12,7 @@ import collections
 import importlib.metadata
 import itertools
 import json
+import operator
 import os
 import re
 import shutil
@@ -44,7 +45,8 @@ MOST_OF_CONTEXT = 1_048_576
 # What is sent besides a question: the mark behind it, and the empty list before a list.
 ROOM = len(f"jobs\nend\n{MARK}\n\n{MARK}\n")
 
-OPTIONS = ("workers", "context", "roots", "coef")
+# The options, and what each may be.
+OPTIONS = {"workers": (1, 16), "context": (1, MOST_OF_CONTEXT), "roots": (1, 4096), "coef": (1, 2**63 - 1)}
 
 # How many seconds a process that is told to end has for it.
 PATIENCE = 2
@@ -66,12 +68,9 @@ class Program:
     """
 
     def __init__(self, path=None, *, group=None, **options):
-        for name in options:
-            if name not in OPTIONS:
-                raise TypeError(f"the program has no option {name!r}")
         self.path = path
         self.group = group
-        self.options = {name: value for name, value in options.items() if value is not None}
+        self.options = {name: option(name, value) for name, value in options.items() if value is not None}
         self.watch = None
         self._lock = threading.RLock()
         self._process = self._end = self._owner = None
@@ -357,6 +356,20 @@ class Answer:
     def keep_rest(self):
         """Reads the lines that are left, so that the program can be asked something else."""
         self._kept.extend(iter(self._read, None))
+
+
+def option(name, value):
+    """The value of an option of the program. A wrong one is a TypeError or a ValueError."""
+    if name not in OPTIONS:
+        raise TypeError(f"the program has no option {name!r}")
+    least, greatest = OPTIONS[name]
+    try:
+        value = int(operator.index(value))
+    except TypeError:
+        raise TypeError(f"the option {name} is a whole number, and not {value!r}") from None
+    if not least <= value <= greatest:
+        raise ValueError(f"the option {name} is a number from {least:,} to {greatest:,}, and not {value:,}")
+    return value
 
 
 def check_line(line):

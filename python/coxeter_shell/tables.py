@@ -131,6 +131,30 @@ class PairDict(ElementDict):
         return self.group.normal_form(x), self.group.normal_form(w)
 
 
+class RowTable(ElementDict):
+    """The rows of some elements: a dictionary from each w to its row, which is a dictionary from each x <= w to P(x, w).
+
+    As a table it has a line for each pair.
+
+    >>> print(CoxeterGroup("A", 2).kazhdan_lusztig_table(["1", "2"]).to_csv(), end="")
+    w,x,polynomial
+    1,e,1
+    1,1,1
+    2,e,1
+    2,2,1
+    """
+
+    __slots__ = ()
+
+    columns = "w", "x", "polynomial"
+
+    def __init__(self, group, items=(), value="row"):
+        super().__init__(group, items, value)
+
+    def rows(self):
+        return ((w, x, polynomial) for w, row in self.items() for x, polynomial in row.items())
+
+
 class Cells(Table, list):
     """The cells of a group: a list of lists of elements.
 

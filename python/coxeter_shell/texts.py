@@ -26,7 +26,12 @@ class Spelling:
             if " " in word:
                 raise ValueError(f"a word has no spaces: {word!r}")
             return word or "e"
-        letters = [operator.index(letter) for letter in word]
+        if isinstance(word, (set, frozenset, dict, bytes, bytearray)):
+            raise TypeError(f"{word!r} is no word: its letters have no order")
+        try:
+            letters = [operator.index(letter) for letter in word]
+        except TypeError:
+            raise TypeError(f"a word is a text, or a list or tuple of whole numbers, and not {word!r}") from None
         if not self.dot:
             # 0 is no letter, so that the program refuses it as it refuses the others that are none.
             letters = [letter if 1 <= letter <= 9 else 0 for letter in letters]

@@ -175,7 +175,7 @@ class Magic(unittest.TestCase):
     def test_scripts(self):
         for line, cell, text in [
             ("", "type A 3\npol e 2132\n", "1+q\n"),
-            ("--workers 2", "type A 3\nlength 4\ncoatoms 121", "error 16\n2\n12\n21\n"),
+            ("--workers 2", "type A 3\nlength 4\ncoatoms 121", "error 16: a word has a letter that the group doesn't have\n2\n12\n21\n"),
             ("", "", ""),
         ]:
             with unittest.mock.patch("sys.stdout", io.StringIO()) as out:

@@ -520,7 +520,8 @@ class Wrong(unittest.TestCase):
 
     def test_wrong_arguments(self):
         for options in ({"context": 0}, {"roots": "x"}, {"coef": -1}, {"roots": 4097}, {"workers": 17}):
-            with CoxeterGroup("A", 3, **options) as group, self.assertRaises(ProgramError) as caught:
+            with CoxeterGroup("A", 3) as group, self.assertRaises(ProgramError) as caught:
+                group.program.options = options
                 group.length("1")
             self.assertIn("its options are wrong", str(caught.exception))
             self.assertIn("usage", str(caught.exception))
