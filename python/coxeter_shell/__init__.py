@@ -16,7 +16,7 @@ from .errors import (
 from .graphs import CellOrder, HasseDiagram, Vertex, WGraph
 from .group import CoxeterGroup, Work
 from .jobs import Answers
-from .modules import CellModule
+from .modules import CellModule, InV
 from .polynomial import Polynomial
 from .program import Program, find_program
 from .schubert import SchubertVariety
@@ -33,6 +33,7 @@ __all__ = [
     "CoxeterGroup",
     "ElementDict",
     "HasseDiagram",
+    "InV",
     "JobRefusal",
     "PairDict",
     "Polynomial",

@@ -12,7 +12,7 @@ def arguments():
     parser = argparse.ArgumentParser(prog="coxeter_shell", description="Pictures of Coxeter groups, as DOT, SVG or PNG.")
     common = argparse.ArgumentParser(add_help=False)
     common.add_argument("group", help='the group: "A 3", or "matrix 3 3 2 4"')
-    common.add_argument("--out", help="the file: .dot or .gv, or .svg or .png by graphviz; else DOT to standard output")
+    common.add_argument("--out", help="the file: .dot, .gv, .svg, or .png by graphviz; else DOT to standard output")
     common.add_argument("--program", help="the path of the program coxeter")
     for option in OPTIONS:
         common.add_argument(f"--{option}", type=int, help="an option of the program")
@@ -34,16 +34,16 @@ def main():
     options = {name: getattr(given, name) for name in OPTIONS}
     try:
         with CoxeterGroup(given.group, program=given.program, **options) as group:
+            drawn = None
             if given.kind == "hasse":
-                text = pictures.hasse(group, given.words[-1], *given.words[:-1])
+                drawn = group.hasse_diagram(given.words[0] if given.words[1:] else (), given.words[-1])
             elif given.kind == "wgraph":
-                text = pictures.w_graph(group, given.side)
-            else:
-                text = pictures.cells(group, given.side)
+                drawn = group.W_graph(given.side)
+            text = drawn.dot() if drawn is not None else pictures.cells(group, given.side)
         if given.out is None:
             sys.stdout.write(text)
         else:
-            pictures.save(text, given.out)
+            pictures.save(text, given.out, drawn)
     except (CoxeterError, ValueError, OSError) as error:
         sys.exit(f"coxeter_shell: {error}")
 

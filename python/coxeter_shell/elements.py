@@ -343,10 +343,8 @@ class Elements:
             from sage.all import CoxeterGroup as SageGroup
             from sage.all import CoxeterMatrix, WeylGroup
 
-            words = self.line.split(" ")
-            if words[0] == "type" and self._nodes == kinds.of_type(*words[1:]).nodes:
-                cartan_type = [words[1].upper(), int(words[2]), *([1] if words[1] == "a" else [])]
-                self._sage_group = WeylGroup(cartan_type, prefix="s")
+            if self._cartan is not None and self._nodes == kinds.read(list(self._cartan)).nodes:
+                self._sage_group = WeylGroup(list(self._cartan), prefix="s")
             else:
                 rows = [[-1 if it == math.inf else it for it in row] for row in self._matrix]
                 self._sage_group = SageGroup(CoxeterMatrix(rows, index_set=self._nodes))

@@ -56,6 +56,14 @@ class WGraph(Drawn, Table):
     def __repr__(self):
         return f"<the {self.side} W-graph with {len(self.vertices)} vertices>"
 
+    def __eq__(self, other):
+        if not isinstance(other, WGraph):
+            return NotImplemented
+        return (self.group, self.side, self.vertices) == (other.group, other.side, other.vertices)
+
+    def __hash__(self):
+        return hash((self.group, self.side, len(self)))
+
     def __len__(self):
         return len(self.vertices)
 
@@ -247,6 +255,19 @@ class CellOrder(Drawn, Table):
 
     def __repr__(self):
         return f"<the order of {len(self.cells)} {self.side} cells>"
+
+    def __eq__(self, other):
+        if not isinstance(other, CellOrder):
+            return NotImplemented
+        return (self.group, self.side, self.cells, self._below) == (other.group, other.side, other.cells, other._below)
+
+    def __hash__(self):
+        return hash((self.group, self.side, len(self)))
+
+    def _gap_init_(self):
+        numbers = {name: number for number, name in enumerate(self.cells, 1)}
+        covered = [(numbers[x], numbers[y]) for x, y in self.edges()]
+        return f"rec( cells := {gap(list(self.cells.values()))}, covered := {gap(covered)} )"
 
     def __len__(self):
         return len(self.cells)

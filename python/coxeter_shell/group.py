@@ -29,8 +29,11 @@ class CoxeterGroup(Elements, CellTheory, Schubert, Many, Jobs):
     True
     >>> CoxeterGroup([[1, 3, 2], [3, 1, 4], [2, 4, 1]]) == CoxeterGroup("B", 3)
     True
+    >>> CoxeterGroup("c2"), CoxeterGroup(["C", 2, 1]), CoxeterGroup("A2xG2").cardinality()
+    (CoxeterGroup("c", 2), CoxeterGroup("c", 2), 72)
 
-    In a matrix, infinity is 0, -1 or math.inf. `program` is the path of the program; `workers`, `context`, `roots` and `coef`
+    Small letters are the affine types; their node 0, as Bourbaki and Sage have it, is the last letter. The letters of a product such as
+    "A2xG2" are those of its factors, one after another. In a matrix, infinity is 0, -1 or math.inf. `program` is the path of the program; `workers`, `context`, `roots` and `coef`
     are options of the program. `progress=False` turns off the lines that tell how long an answer is awaited and how far a
     list was read. A type or a matrix that the program doesn't take is refused here. Groups are equal where their Coxeter
     matrices are.
@@ -45,7 +48,7 @@ class CoxeterGroup(Elements, CellTheory, Schubert, Many, Jobs):
 
     def __init__(self, kind, rank=None, *, program=None, progress=None, **options):
         given = kinds.read(kind, rank)
-        self.line, self._matrix, self._nodes = given
+        self.line, self._matrix, self._nodes, self._cartan = given
         self.rank = len(self._matrix)
         self.program = Program(program, group=self.line, **options)
         self._letters = range(1, self.rank + 1)
@@ -60,8 +63,10 @@ class CoxeterGroup(Elements, CellTheory, Schubert, Many, Jobs):
         self._parent = self._parent_letters = None
 
     def __repr__(self):
-        words = self.line.split(" ")
-        return f'CoxeterGroup("{words[1]}", {words[2]})' if words[0] == "type" else f'CoxeterGroup("{self.line}")'
+        if self._cartan is None:
+            return f'CoxeterGroup("{self.line}")'
+        letter, number, *affine = self._cartan
+        return f'CoxeterGroup("{letter.lower() if affine else letter}", {number})'
 
     def __eq__(self, other):
         return self._matrix == other._matrix if isinstance(other, CoxeterGroup) else NotImplemented
@@ -70,7 +75,7 @@ class CoxeterGroup(Elements, CellTheory, Schubert, Many, Jobs):
         return hash(self._matrix)
 
     def __reduce__(self):
-        return again, (self.line, self._nodes, self.program.path, self._progress, self.program.options)
+        return again, (self.line, self._nodes, self.program.path, self._progress, self.program.options, self._cartan)
 
     def __enter__(self):
         return self
@@ -84,12 +89,11 @@ class CoxeterGroup(Elements, CellTheory, Schubert, Many, Jobs):
         >>> CoxeterGroup("A", 3)._latex_(), CoxeterGroup("a", 3)._latex_()
         ('A_{3}', '\\\\tilde{A}_{3}')
         """
-        words = self.line.split(" ")
-        if words[0] == "matrix":
+        if self._cartan is None:
             rows = ((r"\infty" if it == float("inf") else str(it) for it in row) for row in self._matrix)
             return r"\begin{pmatrix}" + r"\\".join(map("&".join, rows)) + r"\end{pmatrix}"
-        letter = r"\tilde{A}" if words[1] == "a" else words[1]
-        return f"{letter}_{{{words[2]}}}"
+        letter, number, *affine = self._cartan
+        return rf"\tilde{{{letter}}}_{{{number}}}" if affine else f"{letter}_{{{number}}}"
 
     def _repr_latex_(self):
         return f"${self._latex_()}$"
@@ -553,8 +557,8 @@ class Items:
         return self.total - self._taken
 
 
-def again(line, nodes, program, progress, options):
+def again(line, nodes, program, progress, options, cartan=None):
     """The group of these arguments, which pickle keeps of a group."""
     group = CoxeterGroup(line, program=program, progress=progress, **options)
-    group._nodes = nodes
+    group._nodes, group._cartan = nodes, cartan
     return group

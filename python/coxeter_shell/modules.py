@@ -7,8 +7,8 @@ class InV(Polynomial):
     """A polynomial in v, which is q^(1/2).
 
     >>> v = InV([0, 1])
-    >>> v * v - 2 * v, v == Polynomial([0, 1])
-    (-2v+v^2, False)
+    >>> v * v - 2 * v, v == Polynomial([0, 1]), Polynomial([1]) + v
+    (-2v+v^2, False, 1+v)
     """
 
     __slots__ = ()
@@ -49,6 +49,14 @@ class CellModule:
     def __len__(self):
         return len(self.elements)
 
+    def __eq__(self, other):
+        if not isinstance(other, CellModule):
+            return NotImplemented
+        return self.elements == other.elements and self.images == other.images
+
+    def __hash__(self):
+        return hash(tuple(self.elements))
+
     def matrix(self, s):
         """The matrix of t(s), as a list of rows. Its columns are the images of the elements, in their order.
 
@@ -56,6 +64,10 @@ class CellModule:
         [[-1]]
         """
         return [[image.get(y, InV()) for image in self.images[s]] for y in self.elements]
+
+    def _gap_init_(self):
+        matrices = [self.matrix(s) for s in sorted(self.images)]
+        return f"rec( elements := {texts.gap(self.elements)}, matrices := {texts.gap(matrices)} )"
 
     def sage(self, s):
         """The same as a matrix of Sage over the polynomials in v. It needs Sage."""

@@ -88,12 +88,16 @@ def dot(title, lines):
     return "".join([f"graph {title} {{\n", *(f"  {line}\n" for line in lines), "}\n"])
 
 
-def save(text, path):
-    """Writes a picture into a file: the DOT text (.dot, .gv), or what graphviz draws (.svg, .png)."""
+def save(text, path, graph=None):
+    """Writes a picture into a file: the DOT text (.dot, .gv), or what graphviz draws (.svg, .png). Where there is no graphviz, a graph draws
+    itself as SVG."""
     kind = os.path.splitext(path)[1].lower()
     if kind not in DRAWN and kind not in TEXTS:
         raise CoxeterError(f"{path}: the name of a picture ends in .dot, .gv, .svg or .png")
-    drawn = draw(text, DRAWN[kind]) if kind in DRAWN else text.encode("ascii")
+    if kind == ".svg" and graph is not None and shutil.which("dot") is None:
+        drawn = graph.svg().encode("utf-8")
+    else:
+        drawn = draw(text, DRAWN[kind]) if kind in DRAWN else text.encode("ascii")
     with open(path, "wb") as out:
         out.write(drawn)
 

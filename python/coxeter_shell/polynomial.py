@@ -120,7 +120,7 @@ class Polynomial:
         if more is None:
             return NotImplemented
         size = range(max(len(self.coefficients), len(more)))
-        return type(self)([self.coefficient(it) + (more[it] if it < len(more) else 0) for it in size])
+        return kind_of(self, other)([self.coefficient(it) + (more[it] if it < len(more) else 0) for it in size])
 
     __radd__ = __add__
 
@@ -151,7 +151,7 @@ class Polynomial:
         for degree, coefficient in enumerate(self.coefficients):
             for place, it in enumerate(factor, degree):
                 product[place] += coefficient * it
-        return type(self)(product)
+        return kind_of(self, other)(product)
 
     __rmul__ = __mul__
 
@@ -246,13 +246,19 @@ class Polynomial:
         return type(self), (self.coefficients,)
 
     def _terms(self, other):
-        """The coefficients of what this is added to or multiplied by, None for what it is not."""
+        """The coefficients of what this is added to or multiplied by, None for what it is not. Constants have any variable."""
         if isinstance(other, Polynomial):
-            return other.coefficients if other.variable == self.variable else None
+            same = other.variable == self.variable or other.degree() < 1 or self.degree() < 1
+            return other.coefficients if same else None
         try:
             return (operator.index(other),)
         except TypeError:
             return None
+
+
+def kind_of(one, other):
+    """The class of a sum or a product: a constant has the variable of the other."""
+    return type(other) if isinstance(other, Polynomial) and one.degree() < 1 <= other.degree() else type(one)
 
 
 def from_sage(value):

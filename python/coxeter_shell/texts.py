@@ -111,10 +111,12 @@ def pair(spelling, text):
 
 
 def gap(value):
-    """Numbers, truth values, texts, polynomials, graphs, and lists, tuples, sets and dictionaries of them, as a text for GAP.
+    """Numbers, truth values, texts, polynomials, graphs, modules, and lists, tuples, sets and dictionaries of them, as a text for GAP.
 
     A polynomial becomes the list of its coefficients, a dictionary the list of its pairs, a W-graph the list of its edges,
-    and a set a set of GAP, which is a list that rises. What GAP has no such text for is a TypeError.
+    and a set a set of GAP, which is a list that rises. The module of a cell becomes a record with its elements and the matrices of its
+    letters, whose entries are polynomials in v, and the order of cells a record with the cells and the pairs of the numbers of a cell and
+    one that it covers. What GAP has no such text for is a TypeError.
 
     >>> gap([(2, 1), True, "a"]), gap({(): Polynomial([1, 2])})
     ('[ [ 2, 1 ], true, "a" ]', '[ [ [ ], [ 1, 2 ] ] ]')
