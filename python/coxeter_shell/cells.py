@@ -2,13 +2,16 @@
 import math
 
 from .graphs import CellOrder
+from .polynomial import Polynomial
 from .tables import PairDict
 
-# For each kind of cells the method that gives them, and the sides of the W-graphs whose steps make them.
+# For each kind of cells the method that gives them, and the sides of the W-graphs whose steps make their order. A step of the right graph
+# is one of the left graph between the inverses. An element and its inverse are in one two-sided cell, since there is an involution in
+# each left cell: so steps of the left graph lead from a two-sided cell to the same others as those of both.
 KINDS = {
     "left": ("iter_left_cells", ("left",)),
     "right": ("iter_right_cells", ("right",)),
-    "two-sided": ("iter_two_sided_cells", ("left", "right")),
+    "two-sided": ("iter_two_sided_cells", ("left",)),
 }
 
 
@@ -48,8 +51,7 @@ class CellTheory:
         """
         cells = self._kept_cells(side)[0]
         graphs = [self.W_graph(it) for it in KINDS[side][1]]
-        steps = (step for graph in graphs for step in graph.steps())
-        return self._read(lambda it: CellOrder(self, side, it, steps), "cells", cells)
+        return self._read(lambda it: CellOrder(self, side, it, graphs), "cells", cells)
 
     def cell_w_graph(self, cell, side="left"):
         """The W-graph of a cell, which is given as the list of its elements: the part of the W-graph of the group.
@@ -87,8 +89,9 @@ class CellTheory:
         """The a-value of a left cell, and its Duflo involution: l(x) - 2 deg P(e, x) is at least a(x), and equal to it at the Duflo
         involutions alone, of which each left cell has one (Lusztig, "Hecke algebras with unequal parameters", chapters 14 and 15)."""
         if cell[0] not in self._a_values:
-            involutions = [x for x in cell if self.inverse(x) == x]
-            values = [len(x) - 2 * self.kazhdan_lusztig_polynomial((), x).degree() for x in involutions]
+            involutions = [x for x, inverse in zip(cell, self._answers_of("inverse", cell)) if inverse == x]
+            polynomials = self._answers_to(Polynomial.read, [self._line("pol", ((), x)) for x in involutions])
+            values = [len(x) - 2 * p.degree() for x, p in zip(involutions, polynomials)]
             least = min(values, default=math.inf)
             if values.count(least) != 1:
                 self.program.unexpected("lcells", cell, "a left cell should have one Duflo involution")

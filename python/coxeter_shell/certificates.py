@@ -86,7 +86,7 @@ def read_lines(spelling, matrix, lines):
         raise ValueError("its first line should be `cert` and the group")
     if len(lines) < 5 or not lines[1].startswith("element ") or lines[2] != f"rows {len(lines) - 4}" or lines[-1] != "end":
         raise ValueError("it should have the lines `element`, `rows` and so many rows, and `end`")
-    element, pairs = spelling.element(lines[1][len("element ") :]), [texts.pair(spelling, line) for line in lines[3:-1]]
+    element, pairs = spelling.element(lines[1][len("element ") :]), [spelling.pair(line) for line in lines[3:-1]]
     texts.check_rising([x for x, _ in pairs])
     if pairs[-1][0] != element:
         raise ValueError("its last row should be that of its element")

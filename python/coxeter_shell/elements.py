@@ -86,7 +86,7 @@ class Elements:
             yield from level
             if len(level[0]) >= max_length:
                 return
-            level = list(filter(self._is_normal, ((*w, s) for w in level for s in self._letters)))
+            level = list(self._normal_among((*w, s) for w in level for s in self._letters))
 
     def random_element(self, length=None, random=random_numbers):
         """A random element. Without a length each element of a finite group is equally probable. With a length it is
@@ -149,18 +149,15 @@ class Elements:
         level = [()]
         while level:
             yield from level
-            longer = filter(self._is_normal, ((s, *w) for s in among for w in level))
-            level = [word for word in longer if letters.isdisjoint(self.right_descents(word))]
+            longer = list(self._normal_among((s, *w) for s in among for w in level))
+            level = [word for word, (_, right) in zip(longer, self._answers_of("descents", longer)) if letters.isdisjoint(right)]
 
     def _right_representatives(self, letters):
         level = [()]
         while level:
             yield from level
-            longer = filter(self._is_normal, ((*w, s) for w in level for s in self._letters))
-            level = [word for word in longer if letters.isdisjoint(self.left_descents(word))]
-
-    def _is_normal(self, word):
-        return self.normal_form(word) == word
+            longer = list(self._normal_among((*w, s) for w in level for s in self._letters))
+            level = [word for word, (left, _) in zip(longer, self._answers_of("descents", longer)) if letters.isdisjoint(left)]
 
     def _letters_of(self, letters):
         """A set of letters, given as a word is."""
@@ -185,6 +182,13 @@ class Elements:
                 element = self.normal_form(element + factor[:room])
                 factor = factor[room:]
         return element
+
+    def _products(self, pairs):
+        """The products of many pairs of elements, in their order."""
+        pairs = list(pairs)
+        short = [(*x, *y) for x, y in pairs if len(x) + len(y) <= MOST_OF_WORD]
+        found = iter(self._normal_forms(short))
+        return [next(found) if len(x) + len(y) <= MOST_OF_WORD else self.product(x, y) for x, y in pairs]
 
     def power(self, w, exponent):
         """A power of an element. The exponent may be negative.
@@ -252,7 +256,7 @@ class Elements:
         w = self.normal_form(w)
         if not self.is_finite():
             return sorted(self._upper_covers(w, {}))
-        products = (self.product(w, t) for t in self._all_reflections())
+        products = self._products((w, t) for t in self._all_reflections())
         return sorted(x for x in products if len(x) == len(w) + 1)
 
     def _all_reflections(self):
@@ -260,7 +264,7 @@ class Elements:
         if self._reflections is None:
             found = todo = {(s,) for s in self._letters}
             while todo:
-                todo = {self.normal_form((s, *t, s)) for t in todo for s in self._letters} - found
+                todo = set(self._normal_forms((s, *t, s) for t in todo for s in self._letters)) - found
                 found = found | todo
             self._reflections = found
         return self._reflections

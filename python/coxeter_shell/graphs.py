@@ -1,9 +1,13 @@
 """W-graphs, Hasse diagrams of intervals, and the order of cells."""
+import array
+import bisect
 import collections
+import itertools
+import operator
 
 from . import drawing, pictures
 from .tables import ElementDict, Table
-from .texts import gap
+from .texts import check_rising, gap, whole_number
 
 Vertex = collections.namedtuple("Vertex", "element descents edges")
 Vertex.__doc__ = "A vertex of a W-graph: the element, its descents, and the values of its edges by its neighbours."
@@ -48,33 +52,89 @@ class WGraph(Drawn, Table):
 
     columns = "x", "descents of x", "y", "descents of y", "mu"
 
-    def __init__(self, group, side, vertices):
+    # A large graph has millions of edges. So they are kept as rising arrays of the places of neighbours, and vertices are made when they
+    # are asked for. `_other` has the values other than 1, by pairs of places.
+
+    def __init__(self, group, side, elements, descents, near, other):
         self.group = group
         self.side = side
-        self.vertices = ElementDict(group, ((vertex.element, vertex) for vertex in vertices), "vertex")
+        self._descents, self._near, self._other = descents, near, other
+        self._places = ElementDict(group, zip(elements, itertools.count()), "place")
+        self._elements = list(elements)
+        self._vertices = None
+
+    @classmethod
+    def read(cls, group, side, items):
+        """The graph of the texts of its vertices. Others are a ValueError.
+
+        >>> texts = ["e - 1:1", "1 1 e:1"]
+        >>> WGraph.read(CoxeterGroup("A", 1), "left", texts) == CoxeterGroup("A", 1).W_graph()
+        True
+        """
+        numbers = collections.defaultdict(itertools.count().__next__)
+        own, sets, rows = [], [], []
+        for text in items:
+            element, *more = text.split(" ")
+            if not more:
+                raise ValueError("its label is missing")
+            own.append(element)
+            sets.append(more[0])
+            rows.append(array.array("I", map(numbers.__getitem__, itertools.islice(more, 1, None))))
+        elements = list(map(group._spelling.element, own))
+        check_rising(elements)
+        read = {text: group._spelling.letter_set(text) for text in set(sets)}
+        places, values = places_of(group._spelling, {text: at for at, text in enumerate(own)}, numbers)
+        near, other = [], {}
+        for x, row in enumerate(rows):
+            found = [places[number] for number in row]
+            if None in found:
+                raise ValueError(f"{own[x]} has an edge to an element that is no vertex")
+            if not all(map(operator.lt, found, itertools.islice(found, 1, None))):
+                raise ValueError("the elements should be in ShortLex order")
+            near.append(array.array("I", found))
+            if not values.keys().isdisjoint(row):
+                other.update(((x, y), values[number]) for number, y in zip(row, found) if number in values)
+            rows[x] = None
+        check_both_ways(own, near, other)
+        return cls(group, side, elements, [read[text] for text in sets], near, other)
+
+    @property
+    def vertices(self):
+        """A dictionary from each element to its vertex. For single vertices `graph[w]` is faster."""
+        if self._vertices is None:
+            found = zip(self._elements, map(self._vertex, range(len(self._elements))))
+            self._vertices = ElementDict(self.group, found, "vertex")
+        return self._vertices
+
+    def _vertex(self, x):
+        edges = ((self._elements[y], self._other.get((x, y), 1)) for y in self._near[x])
+        return Vertex(self._elements[x], self._descents[x], ElementDict(self.group, edges, "mu"))
 
     def __repr__(self):
-        return f"<the {self.side} W-graph with {len(self.vertices)} vertices>"
+        return f"<the {self.side} W-graph with {len(self)} vertices>"
 
     def __eq__(self, other):
         if not isinstance(other, WGraph):
             return NotImplemented
-        return (self.group, self.side, self.vertices) == (other.group, other.side, other.vertices)
+        return self._all() == other._all()
+
+    def _all(self):
+        return self.group, self.side, self._elements, self._descents, self._near, self._other
 
     def __hash__(self):
         return hash((self.group, self.side, len(self)))
 
     def __len__(self):
-        return len(self.vertices)
+        return len(self._elements)
 
     def __iter__(self):
-        return iter(self.vertices)
+        return iter(self._elements)
 
     def __contains__(self, word):
-        return word in self.vertices
+        return word in self._places
 
     def __getitem__(self, word):
-        return self.vertices[word]
+        return self._vertex(self._places[word])
 
     def edges(self):
         """Each edge once: its two elements, the first in ShortLex order first, and its value.
@@ -82,11 +142,10 @@ class WGraph(Drawn, Table):
         >>> list(CoxeterGroup("A", 1).W_graph().edges())
         [((), (1,), 1)]
         """
-        place = {element: at for at, element in enumerate(self.vertices)}
-        for element, vertex in self.vertices.items():
-            for other, value in vertex.edges.items():
-                if place[element] < place[other]:
-                    yield element, other, value
+        elements, other = self._elements, self._other
+        for x, near in enumerate(self._near):
+            for y in near[bisect.bisect(near, x) :]:
+                yield elements[x], elements[y], other.get((x, y), 1)
 
     def steps(self):
         """The directed edges that make the cells: from x to a neighbour y, with the value, where some descent of x is
@@ -95,11 +154,38 @@ class WGraph(Drawn, Table):
         >>> list(CoxeterGroup("A", 1).W_graph().steps())
         [((1,), (), 1)]
         """
-        descents = {element: set(vertex.descents) for element, vertex in self.vertices.items()}
-        for element, vertex in self.vertices.items():
-            for other, value in vertex.edges.items():
-                if not descents[element] <= descents[other]:
-                    yield element, other, value
+        elements, other = self._elements, self._other
+        for x, y in self._steps():
+            yield elements[x], elements[y], other.get((x, y), 1)
+
+    def _steps(self):
+        """The steps, by the places of their elements."""
+        sets = self._masks()
+        for x, near in enumerate(self._near):
+            mine = sets[x]
+            for y in near:
+                if mine & ~sets[y]:
+                    yield x, y
+
+    def _masks(self):
+        """The sets of descents, as numbers."""
+        masks = {letters: sum(1 << s for s in letters) for letters in set(self._descents)}
+        return [masks[letters] for letters in self._descents]
+
+    def steps_between(self, names):
+        """The pairs of different names that a step leads from one to the other of, where `names` gives an element its name.
+
+        >>> graph = CoxeterGroup("A", 2).W_graph()
+        >>> sorted(graph.steps_between({x: len(x) for x in graph}))
+        [(1, 0), (1, 2), (2, 1), (3, 2)]
+        """
+        named = [names[x] for x in self._elements]
+        numbers = {name: number for number, name in enumerate(dict.fromkeys(named))}
+        named, names, sets, found = [numbers[name] for name in named], list(numbers), self._masks(), set()
+        for x, near in enumerate(self._near):
+            mine, of = sets[x], named[x]
+            found.update([(of, named[y]) for y in near if mine & ~sets[y] and named[y] != of])
+        return {(names[one], names[other]) for one, other in found}
 
     def part(self, elements):
         """The part of the graph that has these elements alone, and the edges between them.
@@ -107,18 +193,15 @@ class WGraph(Drawn, Table):
         >>> CoxeterGroup("A", 2).W_graph().part(["1", "21"])["21"].edges
         {(1,): 1}
         """
-        keys = {self.vertices._key(it) for it in elements}
-        found = []
-        for x in keys:
-            vertex = self.vertices[x]
-            edges = ((y, value) for y, value in vertex.edges.items() if y in keys)
-            found.append(vertex._replace(edges=ElementDict(self.group, edges, "mu")))
-        found.sort(key=lambda vertex: (len(vertex.element), vertex.element))
-        return WGraph(self.group, self.side, found)
+        chosen = sorted({self._places[it] for it in elements})
+        new = {x: at for at, x in enumerate(chosen)}
+        near = [array.array("I", [new[y] for y in self._near[x] if y in new]) for x in chosen]
+        other = {(new[x], new[y]): value for (x, y), value in self._other.items() if x in new and y in new}
+        return WGraph(self.group, self.side, [self._elements[x] for x in chosen], [self._descents[x] for x in chosen], near, other)
 
     def rows(self):
-        descents = {element: vertex.descents for element, vertex in self.vertices.items()}
-        return ((x, descents[x], y, descents[y], value) for x, y, value in self.edges())
+        sets = dict(zip(self._elements, self._descents))
+        return ((x, sets[x], y, sets[y], value) for x, y, value in self.edges())
 
     def texts(self):
         """The rows as texts. The empty set of descents is `-`."""
@@ -131,9 +214,9 @@ class WGraph(Drawn, Table):
 
     def layers(self):
         rows = {}
-        for x, vertex in self.vertices.items():
+        for x, descents in zip(self._elements, self._descents):
             text = self.group.text(x)
-            rows.setdefault(len(x), []).append((text, f"{text} {{{self.group.set_text(vertex.descents).strip('-')}}}"))
+            rows.setdefault(len(x), []).append((text, f"{text} {{{self.group.set_text(descents).strip('-')}}}"))
         edges = [(self.group.text(x), self.group.text(y), str(value) if value != 1 else "") for x, y, value in self.edges()]
         return list(rows.values()), edges
 
@@ -142,8 +225,8 @@ class WGraph(Drawn, Table):
         element, as a tuple. It needs Sage."""
         from sage.all import Graph
 
-        graph = Graph([list(self.vertices), list(self.edges())], format="vertices_and_edges")
-        graph.set_vertices({x: vertex.descents for x, vertex in self.vertices.items()})
+        graph = Graph([list(self), list(self.edges())], format="vertices_and_edges")
+        graph.set_vertices(dict(zip(self._elements, self._descents)))
         return graph
 
     def networkx(self):
@@ -151,12 +234,48 @@ class WGraph(Drawn, Table):
         import networkx
 
         graph = networkx.Graph(side=self.side)
-        graph.add_nodes_from((x, {"descents": vertex.descents}) for x, vertex in self.vertices.items())
+        graph.add_nodes_from((x, {"descents": descents}) for x, descents in zip(self._elements, self._descents))
         graph.add_edges_from((x, y, {"mu": value}) for x, y, value in self.edges())
         return graph
 
     def _gap_init_(self):
         return gap(list(self.edges()))
+
+
+def places_of(spelling, places, numbers):
+    """For the numbers of the texts of edges the places of their elements, None for those that are no vertices; and the values other than 1, by
+    their numbers."""
+    found, values = [], {}
+    for text, number in numbers.items():
+        element, _, value = text.rpartition(":")
+        if value != "1":
+            values[number] = whole_number(value)
+            if value == "0":
+                raise ValueError("an edge has no value")
+        found.append(places.get(element))
+        if found[-1] is None:
+            spelling.element(element)
+    return found, values
+
+
+def check_both_ways(own, near, other):
+    """Sees to it that each edge is one from both sides, with one value. Neighbours are places, in rising order."""
+    # How many neighbours of each vertex have been met from their side. Those before it in ShortLex order are met before it.
+    met = [bisect.bisect(row, x) for x, row in enumerate(near)]
+    for x, row in enumerate(near):
+        for y in row:
+            if y >= x:
+                break
+            at = met[y]
+            if at >= len(near[y]) or near[y][at] != x:
+                raise ValueError(f"the edge from {own[x]} to {own[y]} is not an edge back")
+            met[y] = at + 1
+    for x, row in enumerate(near):
+        if met[x] < len(row) or x in row:
+            raise ValueError(f"the edge from {own[x]} to {own[row[min(met[x], len(row) - 1)]]} is not an edge back")
+    for (x, y), value in other.items():
+        if other.get((y, x)) != value:
+            raise ValueError(f"the edge from {own[x]} to {own[y]} is not an edge back")
 
 
 class HasseDiagram(Drawn, ElementDict):
@@ -226,18 +345,17 @@ class CellOrder(Drawn, Table):
 
     columns = "cell", "covered"
 
-    def __init__(self, group, side, cells, steps):
+    def __init__(self, group, side, cells, graphs):
         self.group, self.side = group, side
         self.cells = ElementDict(group, ((cell[0], cell) for cell in cells), "cell")
         self._names = ElementDict(group, ((x, cell[0]) for cell in cells for x in cell), "cell")
-        self._below = self._closed(steps)
+        self._below = self._closed([pair for graph in graphs for pair in graph.steps_between(dict(self._names))])
 
     def _closed(self, steps):
         """For each cell the set of the cells below it, and itself. Cells that are below each other are a ValueError."""
         next_lower = {name: set() for name in self.cells}
-        for x, y, _ in steps:
-            if self._names[x] != self._names[y]:
-                next_lower[self._names[y]].add(self._names[x])
+        for lower, upper in steps:
+            next_lower[upper].add(lower)
         below = {}
         for name in self.cells:
             path = [name]

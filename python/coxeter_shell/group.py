@@ -1,5 +1,6 @@
 """Coxeter groups, whose questions the program answers."""
 import collections
+import itertools
 import operator
 import re
 
@@ -185,7 +186,7 @@ class CoxeterGroup(Elements, CellTheory, Schubert, Many, Jobs):
         >>> CoxeterGroup("A", 3).bruhat_interval("12", "1232")
         [(1, 2), (1, 2, 3), (1, 3, 2), (1, 2, 3, 2)]
         """
-        return list(self.iter_bruhat_interval(y, w))
+        return self._whole(self._spelling.element, "interval", y, w)
 
     def iter_bruhat_interval(self, y, w):
         """The x with y <= x <= w, in ShortLex order.
@@ -201,7 +202,7 @@ class CoxeterGroup(Elements, CellTheory, Schubert, Many, Jobs):
         >>> CoxeterGroup("A", 3).coatoms("123")
         [(1, 2), (1, 3), (2, 3)]
         """
-        return list(self._list(self._spelling.element, "coatoms", w))
+        return self._whole(self._spelling.element, "coatoms", w)
 
     def hasse_diagram(self, y, w):
         """A dictionary from each x with y <= x <= w to the list of the elements of the interval that it covers.
@@ -210,7 +211,8 @@ class CoxeterGroup(Elements, CellTheory, Schubert, Many, Jobs):
         {(1,): [], (1, 2): [(1,)]}
         """
         members = dict.fromkeys(self.bruhat_interval(y, w))
-        return HasseDiagram(self, {x: [z for z in self.coatoms(x) if z in members] for x in members})
+        below = zip(members, self._answers_of("coatoms", members))
+        return HasseDiagram(self, {x: [z for z in coatoms if z in members] for x, coatoms in below})
 
     def betti_numbers(self, w):
         """For each k from 0 to l(w) the number of the x <= w of length k.
@@ -270,7 +272,7 @@ class CoxeterGroup(Elements, CellTheory, Schubert, Many, Jobs):
         >>> CoxeterGroup("A", 3).kazhdan_lusztig_basis("2132")["32"]
         1
         """
-        return ElementDict(self, self.iter_kazhdan_lusztig_basis(w), "polynomial")
+        return ElementDict(self, self._whole(self._spelling.pair, "klbasis", w), "polynomial")
 
     def iter_kazhdan_lusztig_basis(self, w):
         """The pairs of an x <= w and P(x, w), in ShortLex order.
@@ -278,7 +280,7 @@ class CoxeterGroup(Elements, CellTheory, Schubert, Many, Jobs):
         >>> next(CoxeterGroup("A", 3).iter_kazhdan_lusztig_basis("2132"))
         ((), 1+q)
         """
-        return self._list(self._read_pair, "klbasis", w)
+        return self._list(self._spelling.pair, "klbasis", w)
 
     def extremal_pairs(self, w):
         """The same as `kazhdan_lusztig_basis` for the x that have all left and right descents of w.
@@ -286,7 +288,7 @@ class CoxeterGroup(Elements, CellTheory, Schubert, Many, Jobs):
         >>> CoxeterGroup("A", 3).extremal_pairs("2132")
         {(2,): 1+q, (1, 2, 1): 1, (2, 3, 2): 1, (2, 1, 3, 2): 1}
         """
-        return ElementDict(self, self.iter_extremal_pairs(w), "polynomial")
+        return ElementDict(self, self._whole(self._spelling.pair, "extremals", w), "polynomial")
 
     def iter_extremal_pairs(self, w):
         """The same as `iter_kazhdan_lusztig_basis` for the x that have all left and right descents of w.
@@ -294,7 +296,7 @@ class CoxeterGroup(Elements, CellTheory, Schubert, Many, Jobs):
         >>> next(CoxeterGroup("A", 3).iter_extremal_pairs("2132"))
         ((2,), 1+q)
         """
-        return self._list(self._read_pair, "extremals", w)
+        return self._list(self._spelling.pair, "extremals", w)
 
     def certificate(self, w):
         """The certificate of the row of w, as a text: the group, w, and the x <= w, each with P(x, w). `check` judges it by another
@@ -330,14 +332,16 @@ class CoxeterGroup(Elements, CellTheory, Schubert, Many, Jobs):
         >>> graph["12"].edges
         {(1,): 1, (2,): 1, (1, 2, 1): 1}
         """
-        graph = WGraph(self, side, self.iter_W_graph(side))
-        edges = {x: dict(vertex.edges) for x, vertex in graph.vertices.items()}
-        for x, vertex in graph.vertices.items():
-            for y, value in vertex.edges.items():
-                if edges.get(y, {}).get(x) != value:
-                    why = f"the edge from {self.text(x)} to {self.text(y)} is not an edge back"
-                    self.program.unexpected(f"{side[0]}wgraph", vertex, why)
-        return graph
+        line = self._graph_line(side)
+        try:
+            told = self._watch()
+            items = Items(self, None, line)
+            try:
+                return WGraph.read(self, side, progress.shown(items, items.total, line) if told else items)
+            except ValueError as error:
+                self.program.unexpected(line, f"a list of {items.total} vertices", str(error))
+        except CoxeterError as error:
+            raise self._shown(error)
 
     def iter_W_graph(self, side="left"):
         """The vertices of the W-graph, in ShortLex order.
@@ -345,9 +349,12 @@ class CoxeterGroup(Elements, CellTheory, Schubert, Many, Jobs):
         >>> next(CoxeterGroup("A", 2).iter_W_graph())
         Vertex(element=(), descents=(), edges={(1,): 1, (2,): 1})
         """
+        return self._list(self._read_vertex, self._graph_line(side))
+
+    def _graph_line(self, side):
         if side not in SIDES:
             raise ValueError(f"the side is left or right, not {side!r}")
-        return self._list(self._read_vertex, f"{side[0]}wgraph")
+        return f"{side[0]}wgraph"
 
     def left_cells(self):
         """The list of the left cells of a finite group, each the list of its elements.
@@ -471,6 +478,28 @@ class CoxeterGroup(Elements, CellTheory, Schubert, Many, Jobs):
             raise self._shown(error)
         return progress.shown(items, items.total, line) if told else items
 
+    def _whole(self, read, command, *words):
+        """The list of the items of a list, which are elements or pairs of an element and something."""
+        line = self._line(command, words)
+        try:
+            if self._watch():
+                items = Items(self, read, line)
+                return list(progress.shown(items, items.total, line))
+            return self._read(lambda lines: self._items(read, lines), line, self.program.ask(line))
+        except CoxeterError as error:
+            raise self._shown(error)
+
+    def _items(self, read, lines):
+        """The items of a list whose lines are there."""
+        total = texts.number(lines[0]) if lines else 0
+        if total != len(lines) - 1:
+            raise ValueError(f"the list should have {total} items")
+        elements = read == self._spelling.element
+        known = self._spelling.elements if elements else self._spelling.pairs
+        items = list(map(known.__getitem__, itertools.islice(lines, 1, None)))
+        texts.check_rising(items if elements else [it[0] for it in items])
+        return items
+
     def _shown(self, error):
         """An error as it is raised anew: without frames, and a refusal with its cause."""
         if isinstance(error, Refusal):
@@ -499,9 +528,6 @@ class CoxeterGroup(Elements, CellTheory, Schubert, Many, Jobs):
             raise ValueError("it should be L, a set, R and a set")
         return self._spelling.letter_set(found.group(1)), self._spelling.letter_set(found.group(2))
 
-    def _read_pair(self, text):
-        return texts.pair(self._spelling, text)
-
     def _read_cell(self, text):
         cell = list(map(self._spelling.element, text.split(" ")))
         texts.check_rising(cell)
@@ -525,7 +551,7 @@ class CoxeterGroup(Elements, CellTheory, Schubert, Many, Jobs):
 class Items:
     """The items of a list, read as they are taken. `total` is the number of all of them.
 
-    The items are elements, or begin with elements, and these are in ShortLex order.
+    The items are elements, or begin with elements, and these are in ShortLex order. Without `read` they are texts.
     """
 
     def __init__(self, group, read, line):
@@ -546,6 +572,8 @@ class Items:
             self._group.program.unexpected(self._line, text, f"the list should have {self.total} items")
         if text is None:
             raise StopIteration
+        if self._item is None:
+            return text
         item = self._group._read(self._item, self._line, text)
         element = item if self._item == self._group._spelling.element else item[0]
         if self._last is not None and not texts.before(self._last, element):

@@ -10,8 +10,9 @@ from .program import MOST_OF_BLOCKS, MOST_OF_JOBS, PARTS, check_characters
 # So many lines of blocks fit into a list, since each has a mark behind it.
 MOST_OF_LINES = MOST_OF_JOBS // 2
 
-# The methods of one word whose answer is one line: the command, and what reads the line.
+# Methods of one word: the command, and what reads the line of its answer, or None where that is a list of elements.
 ONE_WORD = {
+    "coatoms": ("coatoms", None),
     "normal_form": ("compute", lambda group: group._spelling.element),
     "length": ("length", lambda group: texts.number),
     "inverse": ("inverse", lambda group: group._spelling.element),
@@ -64,25 +65,39 @@ class Jobs:
 
     def _answers_of(self, method, words):
         """The list of what a method of one word answers for many words, asked as lists of jobs."""
-        command, read = ONE_WORD[method]
         words = list(words)
         if len(words) < 2:
-            return [self._one(read(self), command, word) for word in words]
-        lines = [self._line(command, (word,)) for word in words]
+            return [getattr(self, method)(word) for word in words]
+        command, read = ONE_WORD[method]
+        return self._answers_to(read and read(self), [self._line(command, (word,)) for word in words])
+
+    def _answers_to(self, read, lines):
+        """The list of the answers to many lines, asked as lists of jobs. `read` reads the line of an answer, and is None where it is a list
+        of elements."""
         # The blocks of a list are answered side by side where there are workers for them.
         size = MOST_OF_LINES // MOST_OF_BLOCKS if self.program.options.get("workers", 1) > 1 else MOST_OF_LINES
         self._watch()
         found = self._job_answers([lines[at : at + size] for at in range(0, len(lines), size)])
-        return [self._one_of(read(self), line, it) for line, it in zip(lines, itertools.chain.from_iterable(found))]
+        return [self._one_of(read, line, it) for line, it in zip(lines, itertools.chain.from_iterable(found))]
 
     def _normal_forms(self, words):
         """The elements of many words."""
         return self._answers_of("normal_form", words)
 
+    def _normal_among(self, words):
+        """Those of some words, which are tuples, that are normal forms, as an iterator."""
+        words = iter(words)
+        some = list(itertools.islice(words, MOST_OF_LINES))
+        while some:
+            yield from (word for word, normal in zip(some, self._normal_forms(some)) if word == normal)
+            some = list(itertools.islice(words, MOST_OF_LINES))
+
     def _one_of(self, read, line, answer):
         """An answer of a list of jobs, read. Where the line was refused, that is raised as it is for the line alone."""
         if isinstance(answer, Refusal):
             raise self._shown(Refusal(answer.number, line))
+        if read is None:
+            return self._read(lambda it: self._items(self._spelling.element, it), line, answer)
         return self._line_of(read, line, answer)
 
     def _job_answers(self, blocks):

@@ -48,6 +48,9 @@ ROOM = len(f"jobs\nend\n{MARK}\n\n{MARK}\n")
 # The options, and what each may be.
 OPTIONS = {"workers": (1, 16), "context": (1, MOST_OF_CONTEXT), "roots": (1, 4096), "coef": (1, 2**63 - 1)}
 
+# So many lines are read before they are made texts.
+MOST_AT_ONCE = 4096
+
 # How many seconds a process that is told to end has for it.
 PATIENCE = 2
 
@@ -84,7 +87,7 @@ class Program:
     def ask(self, line):
         """The lines of the answer to a line: none where `type`, `matrix` or a blank line is accepted."""
         with self._lock:
-            return list(self.stream(line))
+            return self.stream(line).rest()
 
     def stream(self, line):
         """The lines of the answer to a line, as an iterator that reads them when they are needed."""
@@ -206,11 +209,8 @@ class Program:
         self._send(text, answer, marks)
         found = []
         while len(found) < marks:
-            lines, line = [], self.read_line(first=not found)
-            while line is not None:
-                lines.append(line)
-                line = self.read_line()
-            found.append(lines)
+            first = self.read_line(first=not found)
+            found.append([] if first is None else [first, *self.read_lines()])
             if found == [[TOO_LONG]]:
                 # The list as a whole is refused, and no other mark comes.
                 self._unread = None
@@ -275,14 +275,53 @@ class Program:
         if not data.endswith(b"\n"):
             raise ProgramEnded(question, self._stop())
         line = data[:-1].decode("latin-1")
-        if not re.fullmatch("[ -~]+", line):
-            self.unexpected(question, line, "a line should be of printing ASCII characters and spaces")
+        self._check_characters(line)
         if line == MARK_ANSWER:
             self._marks, line = self._marks - 1, None
             if not self._marks:
                 self._unread = None
         self._sure = True
         return line
+
+    def read_lines(self):
+        """The lines up to the next mark."""
+        texts, lines, end = [], [], f"{MARK_ANSWER}\n".encode()
+        if self._unread is None:
+            return texts
+        self._sure = False
+        try:
+            readline = self._process.stdout.readline
+            data = readline()
+            while data != end and data.endswith(b"\n"):
+                lines.append(data)
+                if len(lines) == MOST_AT_ONCE:
+                    texts += self._texts(lines)
+                data = readline()
+        except OSError as error:
+            raise ProgramEnded(self._asked, self._stop()) from error
+        except BaseException:
+            self._kill()
+            raise
+        if data != end:
+            raise ProgramEnded(self._asked, self._stop())
+        texts += self._texts(lines)
+        self._marks -= 1
+        if not self._marks:
+            self._unread = None
+        self._sure = True
+        return texts
+
+    def _texts(self, lines):
+        """The texts of some lines, whose list is emptied."""
+        texts = b"".join(lines).decode("latin-1").split("\n")[:-1]
+        lines.clear()
+        for text in texts:
+            self._check_characters(text)
+        return texts
+
+    def _check_characters(self, line):
+        if not (line and line.isascii() and line.isprintable()):
+            self.unexpected(self._asked, line, "a line should be of printing ASCII characters and spaces")
 
     def _kill(self):
         """Ends the process at once, in the middle of an answer."""
@@ -335,13 +374,17 @@ class Answer:
         """The next line from the program, None at the end."""
         if self._ended:
             return None
+        self._check_there()
+        line = self._program.read_line(first)
+        self._ended = line is None
+        return line
+
+    def _check_there(self):
+        """Sees to it that the process is there that answers."""
         if self._program.foreign():
             self.lost = "the program belongs to the process that this one was forked from"
         if self._process is not self._program._process or self._program.foreign():
             raise ProgramClosed(self.line, self.lost)
-        line = self._program.read_line(first)
-        self._ended = line is None
-        return line
 
     def __iter__(self):
         return self
@@ -353,9 +396,20 @@ class Answer:
             raise StopIteration
         return line
 
+    def rest(self):
+        """The lines that are left."""
+        with self._program._lock:
+            self.keep_rest()
+            lines = list(self._kept)
+            self._kept.clear()
+        return lines
+
     def keep_rest(self):
         """Reads the lines that are left, so that the program can be asked something else."""
-        self._kept.extend(iter(self._read, None))
+        if not self._ended:
+            self._check_there()
+            self._kept.extend(self._program.read_lines())
+            self._ended = True
 
 
 def option(name, value):

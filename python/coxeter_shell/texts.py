@@ -2,11 +2,16 @@
 
 A text of the program that has another shape is a ValueError.
 """
+import itertools
 import operator
 import re
 from numbers import Integral
 
 from .polynomial import Polynomial
+
+# So many elements, and pairs of an element and a polynomial, are known by their texts for each group: each text is read once, and equal
+# elements are one object. What comes beyond is read each time.
+MOST_KNOWN = 1 << 17
 
 NUMBER = re.compile("0|[1-9][0-9]*")
 WHOLE = re.compile("0|-?[1-9][0-9]*")
@@ -18,6 +23,8 @@ class Spelling:
     def __init__(self, rank):
         self.dot = "." if rank > 9 else ""
         self.values = {str(letter): letter for letter in range(1, rank + 1)}
+        self.elements = Known(self._element)
+        self.pairs = Known(self._pair)
 
     def write(self, word):
         """The text of a word, which is given as a text or as letters."""
@@ -47,6 +54,17 @@ class Spelling:
 
     def element(self, text):
         """The element of a text."""
+        return self.elements[text]
+
+    def pair(self, text):
+        """The element and the polynomial of a text."""
+        return self.pairs[text]
+
+    def _pair(self, text):
+        element, _, polynomial = text.partition(":")
+        return self.elements[element], Polynomial.read(polynomial)
+
+    def _element(self, text):
         if not text:
             raise ValueError("an element is missing")
         return () if text == "e" else self.letters(text)
@@ -56,6 +74,22 @@ class Spelling:
         found = () if text == "-" else self.letters(text)
         if text == "" or list(found) != sorted(set(found)):
             raise ValueError(f"{text!r} is no set of letters")
+        return found
+
+
+class Known(dict):
+    """A dictionary from texts to what they are read as. A text that it doesn't have is read."""
+
+    __slots__ = ("read",)
+
+    def __init__(self, read):
+        super().__init__()
+        self.read = read
+
+    def __missing__(self, text):
+        found = self.read(text)
+        if len(self) < MOST_KNOWN:
+            self[text] = found
         return found
 
 
@@ -92,7 +126,8 @@ def before(x, y):
 
 def check_rising(elements):
     """Elements are in ShortLex order."""
-    if not all(map(before, elements, elements[1:])):
+    keys = list(zip(map(len, elements), elements))
+    if not all(map(operator.lt, keys, itertools.islice(keys, 1, None))):
         raise ValueError("the elements should be in ShortLex order")
 
 
@@ -102,12 +137,6 @@ def edge(spelling, text):
     if value == "0":
         raise ValueError("an edge has no value")
     return spelling.element(element), whole_number(value)
-
-
-def pair(spelling, text):
-    """An element and its polynomial."""
-    element, _, polynomial = text.partition(":")
-    return spelling.element(element), Polynomial.read(polynomial)
 
 
 def gap(value):

@@ -283,7 +283,7 @@ class Values(unittest.TestCase):
         """A program whose left cell has two elements with the least value, or no involution."""
         for cell, inverses in (("1 2", {"1": "1", "2": "2"}), ("12", {"12": "21"})):
             with fakes.Fakes() as folder:
-                answers = {"lcells": ("1", cell), **{f"inverse {x}": (y,) for x, y in inverses.items()}}
+                answers = {"jobs": (), "end": (), "lcells": ("1", cell), **{f"inverse {x}": (y,) for x, y in inverses.items()}}
                 source = f"say(*{answers!r}.get(line, ('1',) if line.startswith('pol') else (line[8:],)))"
                 with CoxeterGroup("A", 2, program=folder.fake(source)) as group:
                     for call in (group.duflo_involutions, lambda: group.a_value(cell[:2].strip())):
