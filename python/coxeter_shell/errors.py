@@ -96,6 +96,18 @@ class ProgramEnded(ProgramError):
         return f"the program ended before {when} ({how})"
 
 
+class QuestionTimeout(ProgramError):
+    """The program had not answered a question after `seconds`, and was ended. The next question starts a new one with the same group."""
+
+    def __init__(self, line, seconds):
+        super().__init__(line, seconds)
+        self.line = line
+        self.seconds = seconds
+
+    def __str__(self):
+        return f"no answer to {shown(self.line)} after {self.seconds:g} seconds: the program was ended"
+
+
 class CheckFailed(ProgramError):
     """The program `coxcheck` ended without saying yes or no. `status` is its exit status, negative for a signal."""
 

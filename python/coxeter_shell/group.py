@@ -1,5 +1,6 @@
 """Coxeter groups, whose questions the program answers."""
 import collections
+import contextlib
 import itertools
 import operator
 import re
@@ -13,7 +14,7 @@ from .jobs import Jobs
 from .many import Many
 from .modules import CellModule
 from .polynomial import Polynomial
-from .program import Program
+from .program import Program, seconds
 from .schubert import Schubert
 from .tables import Cells, ElementDict
 
@@ -36,7 +37,8 @@ class CoxeterGroup(Elements, CellTheory, Schubert, Many, Jobs):
     Small letters are the affine types; their node 0, as Bourbaki and Sage have it, is the last letter. The letters of a product such as
     "A2xG2" are those of its factors, one after another. In a matrix, infinity is 0, -1 or math.inf. `program` is the path of the program; `workers`, `context`, `roots` and `coef`
     are options of the program. `progress=False` turns off the lines that tell how long an answer is awaited and how far a
-    list was read. A type or a matrix that the program doesn't take is refused here. Groups are equal where their Coxeter
+    list was read. `timeout` is how many seconds the program has for the answer to a question; behind it a `QuestionTimeout` is
+    raised. A type or a matrix that the program doesn't take is refused here. Groups are equal where their Coxeter
     matrices are.
 
     A word is a text as the program reads it ("2132", "10.9.10", "e"), a list or tuple of ints, or an element of such a group
@@ -47,11 +49,12 @@ class CoxeterGroup(Elements, CellTheory, Schubert, Many, Jobs):
     The program is started with the first question, and ended by `close`, by the end of a `with` block, or with the object.
     """
 
-    def __init__(self, kind, rank=None, *, program=None, progress=None, **options):
+    def __init__(self, kind, rank=None, *, program=None, progress=None, timeout=None, **options):
         given = kinds.read(kind, rank)
         self.line, self._matrix, self._nodes, self._cartan = given
         self.rank = len(self._matrix)
         self.program = Program(program, group=self.line, **options)
+        self.timeout = timeout
         self._letters = range(1, self.rank + 1)
         self._spelling = texts.Spelling(self.rank)
         self._progress = progress
@@ -76,7 +79,8 @@ class CoxeterGroup(Elements, CellTheory, Schubert, Many, Jobs):
         return hash(self._matrix)
 
     def __reduce__(self):
-        return again, (self.line, self._nodes, self.program.path, self._progress, self.program.options, self._cartan)
+        made = self.line, self._nodes, self.program.path, self._progress, self.program.options, self._cartan, self.timeout
+        return again, made
 
     def __enter__(self):
         return self
@@ -102,6 +106,36 @@ class CoxeterGroup(Elements, CellTheory, Schubert, Many, Jobs):
     def close(self):
         """Ends the program. Another question would start it again."""
         self.program.close()
+
+    @property
+    def timeout(self):
+        """How many seconds the program has for the answer to a question; None is no limit. Of an iterator it is the time for the first item.
+
+        >>> W = CoxeterGroup("A", 3, timeout=60)
+        >>> W.timeout = 2.5
+        >>> W.length("12"), W.timeout
+        (2, 2.5)
+        """
+        return self.program.timeout
+
+    @timeout.setter
+    def timeout(self, value):
+        self.program.timeout = seconds(value)
+
+    @contextlib.contextmanager
+    def within(self, timeout):
+        """For a `with` block: each question in it has so many seconds.
+
+        >>> W = CoxeterGroup("A", 3)
+        >>> with W.within(60):
+        ...     print(len(W.left_cells()))
+        10
+        """
+        before, self.timeout = self.timeout, timeout
+        try:
+            yield self
+        finally:
+            self.timeout = before
 
     def text(self, word):
         """A word as the program writes it.
@@ -585,8 +619,8 @@ class Items:
         return self.total - self._taken
 
 
-def again(line, nodes, program, progress, options, cartan=None):
+def again(line, nodes, program, progress, options, cartan=None, timeout=None):
     """The group of these arguments, which pickle keeps of a group."""
-    group = CoxeterGroup(line, program=program, progress=progress, **options)
+    group = CoxeterGroup(line, program=program, progress=progress, timeout=timeout, **options)
     group._nodes, group._cartan = nodes, cartan
     return group

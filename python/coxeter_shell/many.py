@@ -353,7 +353,7 @@ def size(item):
 def mine(group):
     """The same group with a program of this thread's own."""
     groups = _mine.__dict__.setdefault("groups", {})
-    key = group.line, group.program.path, tuple(sorted(group.program.options.items()))
+    key = group.line, group.program.path, tuple(sorted(group.program.options.items())), group.timeout
     if key not in groups:
         groups[key] = copy.copy(group)
         groups[key]._progress = False

@@ -9,9 +9,11 @@ none where `type` or `matrix` was accepted, one line `error N` where the questio
 In a list of jobs a mark stands behind each line, and is answered as it is elsewhere, since it is a line of its block.
 """
 import collections
+import contextlib
 import importlib.metadata
 import itertools
 import json
+import numbers
 import operator
 import os
 import re
@@ -23,7 +25,7 @@ import urllib.request
 import weakref
 
 from . import parents
-from .errors import ProgramClosed, ProgramEnded, ProgramNotFound, Refusal, UnexpectedAnswer
+from .errors import ProgramClosed, ProgramEnded, ProgramNotFound, QuestionTimeout, Refusal, UnexpectedAnswer
 
 MARK = "\t"
 MARK_ANSWER = "error 19"
@@ -63,6 +65,9 @@ class Program:
     object; if it ends otherwise, the next question starts a new one with the same group. It is killed where Python ends
     without having ended it.
 
+    `timeout` is how many seconds the program has for the answer to a question, or, where the answer is read line by line, for its first
+    line; None is no limit. Behind it the program is ended, and a QuestionTimeout raised.
+
     `watch`, if it is set, is called with a question and the pipe that its answer comes from, before the first line is read.
 
     >>> with Program(group="type A 3") as program:
@@ -74,6 +79,8 @@ class Program:
         self.path = path
         self.group = group
         self.options = {name: option(name, value) for name, value in options.items() if value is not None}
+        self.timeout = self._timer = None
+        self._late = False
         self.watch = None
         self._lock = threading.RLock()
         self._process = self._end = self._owner = None
@@ -86,13 +93,13 @@ class Program:
 
     def ask(self, line):
         """The lines of the answer to a line: none where `type`, `matrix` or a blank line is accepted."""
-        with self._lock:
+        with self._lock, self._limited(line):
             return self.stream(line).rest()
 
     def stream(self, line):
         """The lines of the answer to a line, as an iterator that reads them when they are needed."""
         words = check_line(line)
-        with self._lock:
+        with self._lock, self._limited(line):
             self.start()
             answer = self._question(line)
             if words and words[0] in ("type", "matrix"):
@@ -118,7 +125,7 @@ class Program:
                     raise ValueError(f"{line!r} parts the blocks of a list, and is no line of one")
             parts.append("".join(f"{line}\n{MARK}\n" for line in block))
         text = "jobs\n" + "next\n".join(parts) + "end"
-        with self._lock:
+        with self._lock, self._limited("jobs"):
             self.start(len(text))
             # Without a group, or in a program that has no lists, each line would be answered before the next is read. So an empty
             # list is tried first, which has no answer.
@@ -133,6 +140,35 @@ class Program:
                 self.unexpected("jobs", said, "the list should have as many answers as lines")
         left = iter(answers)
         return [list(itertools.islice(left, len(block))) for block in blocks]
+
+    @contextlib.contextmanager
+    def _limited(self, line):
+        """For a `with` block: what is done in it is ended when the program's time is over."""
+        if self.timeout is None or self._timer is not None:
+            yield
+            return
+        self._late = False
+        self._timer = threading.Timer(self.timeout, self._end_late)
+        self._timer.daemon = True
+        self._timer.start()
+        try:
+            yield
+        except ProgramEnded as error:
+            if self._late:
+                raise QuestionTimeout(line, self.timeout) from error
+            raise
+        finally:
+            self._timer.cancel()
+            self._timer = None
+            if self._late:
+                # It may have been killed right behind its answer.
+                self._kill()
+
+    def _end_late(self):
+        """Ends the process from another thread, so that whoever waits for it gets the end of its output."""
+        self._late, process = True, self._process
+        if process is not None:
+            process.kill()
 
     def start(self, size=MOST_OF_LINE):
         """Starts the process and sets the group, unless a process is there that can take one more question of this size."""
@@ -424,6 +460,17 @@ def option(name, value):
     if not least <= value <= greatest:
         raise ValueError(f"the option {name} is a number from {least:,} to {greatest:,}, and not {value:,}")
     return value
+
+
+def seconds(value):
+    """A limit of time: a positive number, or None for none."""
+    if value is None:
+        return None
+    if isinstance(value, bool) or not isinstance(value, numbers.Real):
+        raise TypeError(f"a limit of time is a number of seconds, and not {value!r}")
+    if not 0 < value <= threading.TIMEOUT_MAX:
+        raise ValueError(f"a limit of time is a positive number of seconds, and not {value}")
+    return float(value)
 
 
 def check_line(line):
