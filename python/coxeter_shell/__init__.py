@@ -16,6 +16,7 @@ from .errors import (
 )
 from .graphs import CellOrder, HasseDiagram, Vertex, WGraph
 from .group import CoxeterGroup, Work
+from .hecke import Laurent
 from .jobs import Answers
 from .modules import CellModule, InV
 from .polynomial import Polynomial
@@ -36,6 +37,7 @@ __all__ = [
     "HasseDiagram",
     "InV",
     "JobRefusal",
+    "Laurent",
     "PairDict",
     "Polynomial",
     "Program",

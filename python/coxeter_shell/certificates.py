@@ -8,17 +8,19 @@ from .errors import CheckFailed, ProgramNotFound, UnexpectedAnswer
 from .program import check_interpreter, find_program
 from .tables import ElementDict
 
+# The most elements below the element of a certificate, the most letters of it, which is the greatest degree too, and the greatest coefficient.
+MOST_OF_CERTIFICATE = 4096
+MOST_OF_LETTERS = 39
+MOST_OF_COEFFICIENT = 2_147_483_647
+
 # The causes of the checker, in the words of its manual.
 CAUSES = {
     1: "it is no certificate, by its grammar",
-    2: "its element is no normal form, or has more than 39 letters",
+    2: f"its element is no normal form, or has more than {MOST_OF_LETTERS} letters",
     3: "its words are not the elements below its element, in ShortLex order",
-    4: "it has a coefficient beyond 2,147,483,647, or a degree above 39",
+    4: f"it has a coefficient beyond {MOST_OF_COEFFICIENT:,}, or a degree above {MOST_OF_LETTERS}",
     5: "its polynomials are not the row of its element",
 }
-
-# The most elements below the element of a certificate.
-MOST_OF_CERTIFICATE = 4096
 PROVED = "its polynomials are the row of its element"
 
 

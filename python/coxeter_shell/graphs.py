@@ -35,6 +35,18 @@ class Drawn:
         """
         return pictures.svg(self.dot()) or drawing.layered(*self.layers())
 
+    def tikz(self):
+        """The plain picture as a text for LaTeX, with the package tikz.
+
+        >>> CoxeterGroup("A", 1).hasse_diagram("e", "1").tikz().count("node")
+        2
+        """
+        return drawing.tikz(*self.layers())
+
+    def _repr_png_(self):
+        """The picture for notebooks whose SVG is taken out, where graphviz is installed."""
+        return pictures.draw(self.dot(), "png") if len(self) <= MOST_DRAWN and pictures.shutil.which("dot") else None
+
     def layers(self):
         """What the plain picture is drawn of: the nodes by the lengths of their elements, and the edges, as texts."""
         raise NotImplementedError

@@ -10,9 +10,11 @@ from .cells import CellTheory
 from .elements import Elements
 from .errors import CoxeterError, Refusal
 from .graphs import HasseDiagram, Vertex, WGraph
+from .hecke import Hecke
 from .jobs import Jobs
 from .many import Many
 from .modules import CellModule
+from .names import Names
 from .polynomial import Polynomial
 from .program import Program, seconds
 from .schubert import Schubert
@@ -24,7 +26,7 @@ Work = collections.namedtuple("Work", "words entries degree sum")
 Work.__doc__ = "The answer to `work`: numbers of words and of polynomials, the largest degree, the sum of the coefficients."
 
 
-class CoxeterGroup(Elements, CellTheory, Schubert, Many, Jobs):
+class CoxeterGroup(Elements, Names, CellTheory, Schubert, Hecke, Many, Jobs):
     """A Coxeter group, by its type, by its Coxeter matrix, or by a Cartan type, Coxeter matrix or group of Sage.
 
     >>> CoxeterGroup("A", 3) == CoxeterGroup("A 3") == CoxeterGroup("A3") == CoxeterGroup(["A", 3])

@@ -69,6 +69,39 @@ class CellModule:
         matrices = [self.matrix(s) for s in sorted(self.images)]
         return f"rec( elements := {texts.gap(self.elements)}, matrices := {texts.gap(matrices)} )"
 
+    def act(self, word):
+        """The matrix of the product of the t(s) over the letters of a word, in their order, as a list of rows. For a reduced word of w it is
+        that of T(w). The word is a text or a list of letters.
+
+        >>> module = CoxeterGroup("A", 2).cell_module("1")
+        >>> module.act("12"), module.act("121") == module.act("212")
+        ([[0, -v], [v^3, -v^2]], True)
+        """
+        spelling = texts.Spelling(len(self.images))
+        letters = spelling.element(spelling.write(word))
+        places = {y: at for at, y in enumerate(self.elements)}
+        rows = [[InV()] * len(self.elements) for _ in self.elements]
+        for column, x in enumerate(self.elements):
+            vector = {x: InV([1])}
+            for s in reversed(letters):
+                moved = {}
+                for y, entry in vector.items():
+                    for z, more in self.images[s][places[y]].items():
+                        moved[z] = moved.get(z, InV()) + more * entry
+                vector = moved
+            for y, entry in vector.items():
+                rows[places[y]][column] = entry
+        return rows
+
+    def character(self, word):
+        """The trace of `act(word)`, a polynomial in v. At v = 1 it is the value of a character of the group.
+
+        >>> module = CoxeterGroup("A", 2).cell_module("1")
+        >>> [module.character(word) for word in ("e", "1", "12")], module.character("1")(1)
+        ([2, -1+v^2, -v^2], 0)
+        """
+        return sum((row[at] for at, row in enumerate(self.act(word))), InV())
+
     def sage(self, s):
         """The same as a matrix of Sage over the polynomials in v. It needs Sage."""
         from sage.all import ZZ, PolynomialRing, matrix

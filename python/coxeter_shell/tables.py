@@ -4,6 +4,9 @@ import html
 import io
 import itertools
 
+# A table with more rows is not written out as a text: a notebook stores what its last line is.
+MOST_WRITTEN = 500
+
 # So many rows of a table are shown in a notebook.
 MOST_SHOWN = 60
 
@@ -53,6 +56,10 @@ class Table:
 
         return pandas.DataFrame(list(self.rows()), columns=list(self.columns))
 
+    def _is_long(self):
+        """Whether it has more rows than are written out."""
+        return next(itertools.islice(self.rows(), MOST_WRITTEN, None), None) is not None
+
     def _repr_html_(self):
         """The first rows as a table, for notebooks."""
         shown = list(itertools.islice(self.texts(), MOST_SHOWN + 1))
@@ -88,6 +95,12 @@ class ElementDict(Table, dict):
 
     def rows(self):
         return iter(self.items())
+
+    def __repr__(self):
+        """What a dictionary is written as; a long one by the number of its items."""
+        if not self._is_long():
+            return dict.__repr__(self)
+        return f"<a table of {self.group!r} with the columns {', '.join(self.columns)}, for {len(self):,} keys>"
 
     def __getitem__(self, word):
         return dict.__getitem__(self, self._key(word))
@@ -163,6 +176,12 @@ class Cells(Table, list):
     """
 
     columns = "cell", "element"
+
+    def __repr__(self):
+        """What a list is written as; a long one by the numbers of its cells and elements."""
+        if not self._is_long():
+            return list.__repr__(self)
+        return f"<{len(self):,} cells of {self.group!r}, with {sum(map(len, self)):,} elements>"
 
     def __init__(self, group, cells=()):
         super().__init__(cells)
