@@ -36,7 +36,7 @@ def build_wheel(wheel_directory, config_settings=None, metadata_directory=None):
     package = os.path.join(TOP, "coxeter_shell")
     files = {}
     for name in sorted(os.listdir(package)):
-        if name.endswith(".py"):
+        if name.endswith((".py", ".typed")):
             with open(os.path.join(package, name), "rb") as source:
                 files[f"coxeter_shell/{name}"] = source.read()
     return pack(wheel_directory, files)

@@ -1,7 +1,11 @@
 """What is made of cells and W-graphs of finite groups: the order of cells, a-values, Duflo involutions, the table of mu."""
-import math
+from __future__ import annotations
 
-from .graphs import CellOrder
+import math
+from typing import Iterable, List
+
+from .base import Base, Element, Word
+from .graphs import CellOrder, WGraph
 from .polynomial import Polynomial
 from .tables import PairDict
 
@@ -15,10 +19,10 @@ KINDS = {
 }
 
 
-class CellTheory:
+class CellTheory(Base):
     """The methods of a finite group on its cells. The cells and their a-values are asked for once, and kept."""
 
-    def left_cell(self, w):
+    def left_cell(self, w: Word) -> List[Element]:
         """The left cell of w: the list of its elements.
 
         >>> CoxeterGroup("A", 2).left_cell("1")
@@ -26,7 +30,7 @@ class CellTheory:
         """
         return self._cell("left", w)
 
-    def right_cell(self, w):
+    def right_cell(self, w: Word) -> List[Element]:
         """The right cell of w: the list of its elements.
 
         >>> CoxeterGroup("A", 2).right_cell("1")
@@ -34,7 +38,7 @@ class CellTheory:
         """
         return self._cell("right", w)
 
-    def two_sided_cell(self, w):
+    def two_sided_cell(self, w: Word) -> List[Element]:
         """The two-sided cell of w: the list of its elements.
 
         >>> CoxeterGroup("A", 2).two_sided_cell("1")
@@ -42,7 +46,7 @@ class CellTheory:
         """
         return self._cell("two-sided", w)
 
-    def cell_order(self, side="left"):
+    def cell_order(self, side: str = "left") -> CellOrder:
         """The order of the left, right or two-sided cells ("two-sided"): x <= y where chains of steps of the W-graph lead from x to y.
 
         >>> order = CoxeterGroup("A", 2).cell_order()
@@ -53,7 +57,7 @@ class CellTheory:
         graphs = [self.W_graph(it) for it in KINDS[side][1]]
         return self._read(lambda it: CellOrder(self, side, it, graphs), "cells", cells)
 
-    def cell_w_graph(self, cell, side="left"):
+    def cell_w_graph(self, cell: Iterable[Word], side: str = "left") -> WGraph:
         """The W-graph of a cell, which is given as the list of its elements: the part of the W-graph of the group.
 
         >>> W = CoxeterGroup("A", 3)
@@ -68,7 +72,7 @@ class CellTheory:
             raise ValueError(f"these {len(elements)} elements are no {side} cell, and no two-sided one")
         return self.W_graph(side).part(elements)
 
-    def a_value(self, w):
+    def a_value(self, w: Word) -> int:
         """Lusztig's function a at w: the least l(x) - 2 deg P(e, x) over the x of the left cell of w.
 
         >>> W = CoxeterGroup("A", 3)
@@ -77,7 +81,7 @@ class CellTheory:
         """
         return self._duflo(self._in_cell("left", w))[0]
 
-    def duflo_involutions(self):
+    def duflo_involutions(self) -> List[Element]:
         """The list of the Duflo involutions, one for each left cell, in the order of `left_cells`: the x with a(x) = l(x) - 2 deg P(e, x).
 
         >>> CoxeterGroup("B", 2).duflo_involutions()
@@ -98,7 +102,7 @@ class CellTheory:
             self._a_values[cell[0]] = least, involutions[values.index(least)]
         return self._a_values[cell[0]]
 
-    def mu_table(self, min_difference=3):
+    def mu_table(self, min_difference: int = 3) -> PairDict:
         """A dictionary from the pairs of elements x < w of a finite group to mu(x, w), where that is not 0 and l(w) - l(x) is at least
         `min_difference`. It is 1 wherever w covers x, so that those pairs are left out unless they are asked for.
 

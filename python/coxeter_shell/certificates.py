@@ -1,7 +1,10 @@
 """Certificates of rows, and the program `coxcheck` that judges them."""
+from __future__ import annotations
+
 import collections
 import math
 import subprocess
+from typing import Optional, Union
 
 from . import parents, texts
 from .errors import CheckFailed, ProgramNotFound, UnexpectedAnswer
@@ -36,11 +39,11 @@ class Verdict(collections.namedtuple("Verdict", "ok cause meaning")):
 
     __slots__ = ()
 
-    def __bool__(self):
+    def __bool__(self) -> bool:
         return self.ok
 
 
-def check(text, program=None):
+def check(text: Union[str, bytes, bytearray, memoryview], program: Optional[str] = None) -> Verdict:
     """What the program `coxcheck` says of a certificate, which is given as a text or as bytes: a Verdict.
 
     The checker is proved, and shares no algorithm with the program that made the certificate. `program` is its path; else it is found as

@@ -1,11 +1,15 @@
 """W-graphs, Hasse diagrams of intervals, and the order of cells."""
+from __future__ import annotations
+
 import array
 import bisect
 import collections
 import itertools
 import operator
+from typing import Any, Iterable, Iterator, Tuple
 
 from . import drawing, pictures
+from .base import Element, Word
 from .tables import ElementDict, Table
 from .texts import check_rising, gap, whole_number
 
@@ -27,7 +31,7 @@ class Drawn:
     def _repr_html_(self):
         return super()._repr_html_() if len(self) > MOST_DRAWN else None
 
-    def svg(self):
+    def svg(self) -> str:
         """The picture as SVG: by graphviz where it is installed, and else a plain one.
 
         >>> CoxeterGroup("A", 2).W_graph().svg()[-7:]
@@ -35,7 +39,11 @@ class Drawn:
         """
         return pictures.svg(self.dot()) or drawing.layered(*self.layers())
 
-    def tikz(self):
+    def dot(self) -> str:
+        """The graph as a DOT text."""
+        raise NotImplementedError
+
+    def tikz(self) -> str:
         """The plain picture as a text for LaTeX, with the package tikz.
 
         >>> CoxeterGroup("A", 1).hasse_diagram("e", "1").tikz().count("node")
@@ -136,7 +144,7 @@ class WGraph(Drawn, Table):
     def __hash__(self):
         return hash((self.group, self.side, len(self)))
 
-    def __len__(self):
+    def __len__(self) -> int:
         return len(self._elements)
 
     def __iter__(self):
@@ -148,7 +156,7 @@ class WGraph(Drawn, Table):
     def __getitem__(self, word):
         return self._vertex(self._places[word])
 
-    def edges(self):
+    def edges(self) -> Iterator[Any]:
         """Each edge once: its two elements, the first in ShortLex order first, and its value.
 
         >>> list(CoxeterGroup("A", 1).W_graph().edges())
@@ -159,7 +167,7 @@ class WGraph(Drawn, Table):
             for y in near[bisect.bisect(near, x) :]:
                 yield elements[x], elements[y], other.get((x, y), 1)
 
-    def steps(self):
+    def steps(self) -> Iterator[Tuple[Element, Element, int]]:
         """The directed edges that make the cells: from x to a neighbour y, with the value, where some descent of x is
         no descent of y. The cells are the strong components.
 
@@ -199,7 +207,7 @@ class WGraph(Drawn, Table):
             found.update([(of, named[y]) for y in near if mine & ~sets[y] and named[y] != of])
         return {(names[one], names[other]) for one, other in found}
 
-    def part(self, elements):
+    def part(self, elements: Iterable[Word]) -> WGraph:
         """The part of the graph that has these elements alone, and the edges between them.
 
         >>> CoxeterGroup("A", 2).W_graph().part(["1", "21"])["21"].edges
@@ -220,7 +228,7 @@ class WGraph(Drawn, Table):
         for x, of_x, y, of_y, value in self.rows():
             yield self.group.text(x), self.group.set_text(of_x), self.group.text(y), self.group.set_text(of_y), str(value)
 
-    def dot(self):
+    def dot(self) -> str:
         """The graph as a DOT text. The label of a vertex has its descents in its second line."""
         return pictures.w_graph_text(self)
 
@@ -232,7 +240,7 @@ class WGraph(Drawn, Table):
         edges = [(self.group.text(x), self.group.text(y), str(value) if value != 1 else "") for x, y, value in self.edges()]
         return list(rows.values()), edges
 
-    def sage(self):
+    def sage(self) -> Any:
         """The same as a graph of Sage, whose labels of edges are their values. `get_vertex` gives the descents of an
         element, as a tuple. It needs Sage."""
         from sage.all import Graph
@@ -241,7 +249,7 @@ class WGraph(Drawn, Table):
         graph.set_vertices(dict(zip(self._elements, self._descents)))
         return graph
 
-    def networkx(self):
+    def networkx(self) -> Any:
         """The same as a graph of networkx: nodes have an attribute `descents`, edges an attribute `mu`. It needs networkx."""
         import networkx
 
@@ -309,7 +317,7 @@ class HasseDiagram(Drawn, ElementDict):
         """The edges: an element, and one that it covers."""
         return self.edges()
 
-    def edges(self):
+    def edges(self) -> Iterator[Any]:
         """The pairs of an element and one that it covers.
 
         >>> list(CoxeterGroup("A", 3).hasse_diagram("12", "123").edges())
@@ -317,7 +325,7 @@ class HasseDiagram(Drawn, ElementDict):
         """
         return ((x, z) for x, covered in self.items() for z in covered)
 
-    def dot(self):
+    def dot(self) -> str:
         """The diagram as a DOT text."""
         return pictures.hasse_text(self)
 
@@ -327,13 +335,13 @@ class HasseDiagram(Drawn, ElementDict):
             rows.setdefault(len(x), []).append((self.group.text(x),) * 2)
         return list(rows.values()), [(self.group.text(z), self.group.text(x), "") for x, z in self.edges()]
 
-    def sage(self):
+    def sage(self) -> Any:
         """The interval as a poset of Sage. It needs Sage."""
         from sage.all import Poset
 
         return Poset((list(self), [[z, x] for x, z in self.edges()]), cover_relations=True)
 
-    def networkx(self):
+    def networkx(self) -> Any:
         """The same as a directed graph of networkx, whose edges go up. It needs networkx."""
         import networkx
 
@@ -399,7 +407,7 @@ class CellOrder(Drawn, Table):
         covered = [(numbers[x], numbers[y]) for x, y in self.edges()]
         return f"rec( cells := {gap(list(self.cells.values()))}, covered := {gap(covered)} )"
 
-    def __len__(self):
+    def __len__(self) -> int:
         return len(self.cells)
 
     def __iter__(self):
@@ -416,7 +424,7 @@ class CellOrder(Drawn, Table):
         """
         return self.cells[self._names[word]]
 
-    def le(self, x, y):
+    def le(self, x: Word, y: Word) -> bool:
         """Whether the cell of x is the cell of y, or below it.
 
         >>> order = CoxeterGroup("A", 2).cell_order("two-sided")
@@ -425,7 +433,7 @@ class CellOrder(Drawn, Table):
         """
         return self._names[x] in self._below[self._names[y]]
 
-    def edges(self):
+    def edges(self) -> Iterator[Any]:
         """The pairs of a cell and one that it covers, by their first elements.
 
         >>> list(CoxeterGroup("A", 2).cell_order().edges())
@@ -439,7 +447,7 @@ class CellOrder(Drawn, Table):
     def rows(self):
         return self.edges()
 
-    def dot(self):
+    def dot(self) -> str:
         """The order as a DOT text. The label of a cell has the number of its elements in its second line."""
         return pictures.cell_order_text(self)
 
@@ -452,13 +460,13 @@ class CellOrder(Drawn, Table):
             rows[height[name]] = [*rows[height[name]], (text, f"{text}: {pictures.counted(self.cells[name])}")]
         return rows, [(self.group.text(y), self.group.text(x), "") for x, y in self.edges()]
 
-    def sage(self):
+    def sage(self) -> Any:
         """The same as a poset of Sage. It needs Sage."""
         from sage.all import Poset
 
         return Poset((list(self), [[y, x] for x, y in self.edges()]), cover_relations=True)
 
-    def networkx(self):
+    def networkx(self) -> Any:
         """The same as a directed graph of networkx, whose edges go up; nodes have an attribute `cell`. It needs networkx."""
         import networkx
 

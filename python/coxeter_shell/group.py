@@ -1,11 +1,15 @@
 """Coxeter groups, whose questions the program answers."""
+from __future__ import annotations
+
 import collections
 import contextlib
 import itertools
 import operator
 import re
+from typing import Any, Iterator, List, Optional, Sequence, Tuple
 
 from . import certificates, kinds, progress, reasons, texts
+from .base import Element, Word
 from .cells import CellTheory
 from .elements import Elements
 from .errors import CoxeterError, Refusal
@@ -51,7 +55,16 @@ class CoxeterGroup(Elements, Names, CellTheory, Schubert, Hecke, Many, Jobs):
     The program is started with the first question, and ended by `close`, by the end of a `with` block, or with the object.
     """
 
-    def __init__(self, kind, rank=None, *, program=None, progress=None, timeout=None, **options):
+    def __init__(
+        self,
+        kind: Any,
+        rank: Optional[int] = None,
+        *,
+        program: Optional[str] = None,
+        progress: Optional[bool] = None,
+        timeout: Optional[float] = None,
+        **options: Optional[int],
+    ) -> None:
         given = kinds.read(kind, rank)
         self.line, self._matrix, self._nodes, self._cartan = given
         self.rank = len(self._matrix)
@@ -60,11 +73,8 @@ class CoxeterGroup(Elements, Names, CellTheory, Schubert, Hecke, Many, Jobs):
         self._letters = range(1, self.rank + 1)
         self._spelling = texts.Spelling(self.rank)
         self._progress = progress
-        # What is worked out once: the longest element, the reflections, cosets for random elements; the kinds of cells, and for the
-        # first element of each left cell the a-value and the Duflo involution.
         self._long = self._reflections = self._cosets = None
         self._cells, self._a_values = {}, {}
-        # The group of Sage, and the one that elements came from last.
         self._sage_group = kind if hasattr(kind, "from_reduced_word") else None
         self._parent = self._parent_letters = None
 
@@ -84,7 +94,7 @@ class CoxeterGroup(Elements, Names, CellTheory, Schubert, Hecke, Many, Jobs):
         made = self.line, self._nodes, self.program.path, self._progress, self.program.options, self._cartan, self.timeout
         return again, made
 
-    def __enter__(self):
+    def __enter__(self) -> CoxeterGroup:
         return self
 
     def __exit__(self, *_):
@@ -105,7 +115,7 @@ class CoxeterGroup(Elements, Names, CellTheory, Schubert, Hecke, Many, Jobs):
     def _repr_latex_(self):
         return f"${self._latex_()}$"
 
-    def close(self):
+    def close(self) -> None:
         """Ends the program. Another question would start it again."""
         self.program.close()
 
@@ -125,7 +135,7 @@ class CoxeterGroup(Elements, Names, CellTheory, Schubert, Hecke, Many, Jobs):
         self.program.timeout = seconds(value)
 
     @contextlib.contextmanager
-    def within(self, timeout):
+    def within(self, timeout: Optional[float]) -> Iterator[CoxeterGroup]:
         """For a `with` block: each question in it has so many seconds.
 
         >>> W = CoxeterGroup("A", 3)
@@ -139,7 +149,7 @@ class CoxeterGroup(Elements, Names, CellTheory, Schubert, Hecke, Many, Jobs):
         finally:
             self.timeout = before
 
-    def text(self, word):
+    def text(self, word: Word) -> str:
         """A word as the program writes it.
 
         >>> CoxeterGroup("A", 3).text([2, 1, 3, 2]), CoxeterGroup("A", 10).text([10, 9]), CoxeterGroup("A", 3).text([])
@@ -147,7 +157,7 @@ class CoxeterGroup(Elements, Names, CellTheory, Schubert, Hecke, Many, Jobs):
         """
         return self._spelling.write(self._of_sage(word) if hasattr(word, "reduced_word") else word)
 
-    def set_text(self, letters):
+    def set_text(self, letters: Sequence[int]) -> str:
         """A set of letters as the program writes it.
 
         >>> CoxeterGroup("A", 3).set_text((1, 3)), CoxeterGroup("A", 3).set_text(())
@@ -157,7 +167,7 @@ class CoxeterGroup(Elements, Names, CellTheory, Schubert, Hecke, Many, Jobs):
 
     # ---- elements
 
-    def normal_form(self, w):
+    def normal_form(self, w: Word) -> Element:
         """The element of a word: its ShortLex normal form.
 
         >>> CoxeterGroup("A", 3).normal_form("2312")
@@ -165,7 +175,7 @@ class CoxeterGroup(Elements, Names, CellTheory, Schubert, Hecke, Many, Jobs):
         """
         return self._one(self._spelling.element, "compute", w)
 
-    def length(self, w):
+    def length(self, w: Word) -> int:
         """The length of an element.
 
         >>> CoxeterGroup("A", 3).length("23122")
@@ -173,7 +183,7 @@ class CoxeterGroup(Elements, Names, CellTheory, Schubert, Hecke, Many, Jobs):
         """
         return self._one(texts.number, "length", w)
 
-    def inverse(self, w):
+    def inverse(self, w: Word) -> Element:
         """The inverse of an element.
 
         >>> CoxeterGroup("A", 3).inverse("123")
@@ -181,7 +191,7 @@ class CoxeterGroup(Elements, Names, CellTheory, Schubert, Hecke, Many, Jobs):
         """
         return self._one(self._spelling.element, "inverse", w)
 
-    def left_descents(self, w):
+    def left_descents(self, w: Word) -> Element:
         """The letters s with l(sw) < l(w).
 
         >>> CoxeterGroup("A", 3).left_descents("132")
@@ -189,7 +199,7 @@ class CoxeterGroup(Elements, Names, CellTheory, Schubert, Hecke, Many, Jobs):
         """
         return self.descents(w)[0]
 
-    def right_descents(self, w):
+    def right_descents(self, w: Word) -> Element:
         """The letters s with l(ws) < l(w).
 
         >>> CoxeterGroup("A", 3).right_descents("132")
@@ -197,7 +207,7 @@ class CoxeterGroup(Elements, Names, CellTheory, Schubert, Hecke, Many, Jobs):
         """
         return self.descents(w)[1]
 
-    def descents(self, w):
+    def descents(self, w: Word) -> Tuple[Element, Element]:
         """The left and the right descents.
 
         >>> CoxeterGroup("A", 3).descents("132")
@@ -207,7 +217,7 @@ class CoxeterGroup(Elements, Names, CellTheory, Schubert, Hecke, Many, Jobs):
 
     # ---- Bruhat order
 
-    def bruhat_le(self, y, w):
+    def bruhat_le(self, y: Word, w: Word) -> bool:
         """Whether y <= w in Bruhat order.
 
         >>> W = CoxeterGroup("A", 3)
@@ -216,7 +226,7 @@ class CoxeterGroup(Elements, Names, CellTheory, Schubert, Hecke, Many, Jobs):
         """
         return self._one(texts.truth, "inorder", y, w)
 
-    def bruhat_interval(self, y, w):
+    def bruhat_interval(self, y: Word, w: Word) -> List[Element]:
         """The list of the x with y <= x <= w, in ShortLex order.
 
         >>> CoxeterGroup("A", 3).bruhat_interval("12", "1232")
@@ -224,7 +234,7 @@ class CoxeterGroup(Elements, Names, CellTheory, Schubert, Hecke, Many, Jobs):
         """
         return self._whole(self._spelling.element, "interval", y, w)
 
-    def iter_bruhat_interval(self, y, w):
+    def iter_bruhat_interval(self, y: Word, w: Word) -> Iterator[Element]:
         """The x with y <= x <= w, in ShortLex order.
 
         >>> next(CoxeterGroup("A", 3).iter_bruhat_interval("12", "1232"))
@@ -232,7 +242,7 @@ class CoxeterGroup(Elements, Names, CellTheory, Schubert, Hecke, Many, Jobs):
         """
         return self._list(self._spelling.element, "interval", y, w)
 
-    def coatoms(self, w):
+    def coatoms(self, w: Word) -> List[Element]:
         """The list of the x <= w of length l(w) - 1, in ShortLex order.
 
         >>> CoxeterGroup("A", 3).coatoms("123")
@@ -240,7 +250,7 @@ class CoxeterGroup(Elements, Names, CellTheory, Schubert, Hecke, Many, Jobs):
         """
         return self._whole(self._spelling.element, "coatoms", w)
 
-    def hasse_diagram(self, y, w):
+    def hasse_diagram(self, y: Word, w: Word) -> HasseDiagram:
         """A dictionary from each x with y <= x <= w to the list of the elements of the interval that it covers.
 
         >>> CoxeterGroup("A", 3).hasse_diagram("1", "12")
@@ -250,7 +260,7 @@ class CoxeterGroup(Elements, Names, CellTheory, Schubert, Hecke, Many, Jobs):
         below = zip(members, self._answers_of("coatoms", members))
         return HasseDiagram(self, {x: [z for z in coatoms if z in members] for x, coatoms in below})
 
-    def betti_numbers(self, w):
+    def betti_numbers(self, w: Word) -> Tuple[int, ...]:
         """For each k from 0 to l(w) the number of the x <= w of length k.
 
         >>> CoxeterGroup("A", 3).betti_numbers("121321")
@@ -258,7 +268,7 @@ class CoxeterGroup(Elements, Names, CellTheory, Schubert, Hecke, Many, Jobs):
         """
         return self._one(texts.numbers, "betti", w)
 
-    def poincare_polynomial(self, w):
+    def poincare_polynomial(self, w: Word) -> Polynomial:
         """The sum of q^l(x) over the x <= w.
 
         >>> CoxeterGroup("A", 2).poincare_polynomial("121")
@@ -268,7 +278,7 @@ class CoxeterGroup(Elements, Names, CellTheory, Schubert, Hecke, Many, Jobs):
 
     # ---- polynomials
 
-    def r_polynomial(self, y, w):
+    def r_polynomial(self, y: Word, w: Word) -> Polynomial:
         """The R-polynomial R(y, w).
 
         >>> CoxeterGroup("A", 2).r_polynomial("e", "121")
@@ -276,7 +286,7 @@ class CoxeterGroup(Elements, Names, CellTheory, Schubert, Hecke, Many, Jobs):
         """
         return self._one(Polynomial.read, "rpol", y, w)
 
-    def kazhdan_lusztig_polynomial(self, y, w):
+    def kazhdan_lusztig_polynomial(self, y: Word, w: Word) -> Polynomial:
         """The Kazhdan-Lusztig polynomial P(y, w), zero unless y <= w.
 
         >>> CoxeterGroup("A", 3).kazhdan_lusztig_polynomial("2", "2132")
@@ -284,7 +294,7 @@ class CoxeterGroup(Elements, Names, CellTheory, Schubert, Hecke, Many, Jobs):
         """
         return self._one(Polynomial.read, "pol", y, w)
 
-    def inverse_kazhdan_lusztig_polynomial(self, y, w):
+    def inverse_kazhdan_lusztig_polynomial(self, y: Word, w: Word) -> Polynomial:
         """The inverse Kazhdan-Lusztig polynomial Q(y, w), zero unless y <= w: for x <= w the sum of (-1)^(l(z)-l(x)) P(x, z) Q(z, w)
         over the z with x <= z <= w is 1 where x = w, else 0.
 
@@ -293,7 +303,7 @@ class CoxeterGroup(Elements, Names, CellTheory, Schubert, Hecke, Many, Jobs):
         """
         return self._one(Polynomial.read, "invpol", y, w)
 
-    def mu_coefficient(self, y, w):
+    def mu_coefficient(self, y: Word, w: Word) -> int:
         """mu(y, w): the coefficient of P(y, w) in degree (l(w) - l(y) - 1) / 2, or 0 where that is no whole number.
 
         >>> W = CoxeterGroup("A", 3)
@@ -302,7 +312,7 @@ class CoxeterGroup(Elements, Names, CellTheory, Schubert, Hecke, Many, Jobs):
         """
         return self._one(texts.whole_number, "mu", y, w)
 
-    def kazhdan_lusztig_basis(self, w):
+    def kazhdan_lusztig_basis(self, w: Word) -> ElementDict:
         """A dictionary from each x <= w to P(x, w), in ShortLex order.
 
         >>> CoxeterGroup("A", 3).kazhdan_lusztig_basis("2132")["32"]
@@ -310,7 +320,7 @@ class CoxeterGroup(Elements, Names, CellTheory, Schubert, Hecke, Many, Jobs):
         """
         return ElementDict(self, self._whole(self._spelling.pair, "klbasis", w), "polynomial")
 
-    def iter_kazhdan_lusztig_basis(self, w):
+    def iter_kazhdan_lusztig_basis(self, w: Word) -> Iterator[Tuple[Element, Polynomial]]:
         """The pairs of an x <= w and P(x, w), in ShortLex order.
 
         >>> next(CoxeterGroup("A", 3).iter_kazhdan_lusztig_basis("2132"))
@@ -318,7 +328,7 @@ class CoxeterGroup(Elements, Names, CellTheory, Schubert, Hecke, Many, Jobs):
         """
         return self._list(self._spelling.pair, "klbasis", w)
 
-    def extremal_pairs(self, w):
+    def extremal_pairs(self, w: Word) -> ElementDict:
         """The same as `kazhdan_lusztig_basis` for the x that have all left and right descents of w.
 
         >>> CoxeterGroup("A", 3).extremal_pairs("2132")
@@ -326,7 +336,7 @@ class CoxeterGroup(Elements, Names, CellTheory, Schubert, Hecke, Many, Jobs):
         """
         return ElementDict(self, self._whole(self._spelling.pair, "extremals", w), "polynomial")
 
-    def iter_extremal_pairs(self, w):
+    def iter_extremal_pairs(self, w: Word) -> Iterator[Tuple[Element, Polynomial]]:
         """The same as `iter_kazhdan_lusztig_basis` for the x that have all left and right descents of w.
 
         >>> next(CoxeterGroup("A", 3).iter_extremal_pairs("2132"))
@@ -334,7 +344,7 @@ class CoxeterGroup(Elements, Names, CellTheory, Schubert, Hecke, Many, Jobs):
         """
         return self._list(self._spelling.pair, "extremals", w)
 
-    def certificate(self, w):
+    def certificate(self, w: Word) -> str:
         """The certificate of the row of w, as a text: the group, w, and the x <= w, each with P(x, w). `check` judges it by another
         program.
 
@@ -350,7 +360,7 @@ class CoxeterGroup(Elements, Names, CellTheory, Schubert, Hecke, Many, Jobs):
         """
         return self._lines(self._read_certificate, "cert", w)
 
-    def intersection_betti_numbers(self, w):
+    def intersection_betti_numbers(self, w: Word) -> Tuple[int, ...]:
         """The coefficients of the sum of q^l(x) P(x, w) over the x <= w: the even Betti numbers of intersection
         cohomology of the Schubert variety of w, when there is one.
 
@@ -361,7 +371,7 @@ class CoxeterGroup(Elements, Names, CellTheory, Schubert, Hecke, Many, Jobs):
 
     # ---- W-graphs and cells
 
-    def W_graph(self, side="left"):
+    def W_graph(self, side: str = "left") -> WGraph:
         """The W-graph of a finite group, for the left or the right descents.
 
         >>> graph = CoxeterGroup("A", 2).W_graph()
@@ -379,7 +389,7 @@ class CoxeterGroup(Elements, Names, CellTheory, Schubert, Hecke, Many, Jobs):
         except CoxeterError as error:
             raise self._shown(error)
 
-    def iter_W_graph(self, side="left"):
+    def iter_W_graph(self, side: str = "left") -> Iterator[Vertex]:
         """The vertices of the W-graph, in ShortLex order.
 
         >>> next(CoxeterGroup("A", 2).iter_W_graph())
@@ -392,7 +402,7 @@ class CoxeterGroup(Elements, Names, CellTheory, Schubert, Hecke, Many, Jobs):
             raise ValueError(f"the side is left or right, not {side!r}")
         return f"{side[0]}wgraph"
 
-    def left_cells(self):
+    def left_cells(self) -> Cells:
         """The list of the left cells of a finite group, each the list of its elements.
 
         >>> CoxeterGroup("A", 2).left_cells()
@@ -400,7 +410,7 @@ class CoxeterGroup(Elements, Names, CellTheory, Schubert, Hecke, Many, Jobs):
         """
         return Cells(self, self.iter_left_cells())
 
-    def iter_left_cells(self):
+    def iter_left_cells(self) -> Iterator[List[Element]]:
         """The left cells.
 
         >>> next(CoxeterGroup("A", 2).iter_left_cells())
@@ -408,7 +418,7 @@ class CoxeterGroup(Elements, Names, CellTheory, Schubert, Hecke, Many, Jobs):
         """
         return self._list(self._read_cell, "lcells")
 
-    def right_cells(self):
+    def right_cells(self) -> Cells:
         """The list of the right cells of a finite group, each the list of its elements.
 
         >>> CoxeterGroup("A", 2).right_cells()
@@ -416,7 +426,7 @@ class CoxeterGroup(Elements, Names, CellTheory, Schubert, Hecke, Many, Jobs):
         """
         return Cells(self, self.iter_right_cells())
 
-    def iter_right_cells(self):
+    def iter_right_cells(self) -> Iterator[List[Element]]:
         """The right cells.
 
         >>> next(CoxeterGroup("A", 2).iter_right_cells())
@@ -424,7 +434,7 @@ class CoxeterGroup(Elements, Names, CellTheory, Schubert, Hecke, Many, Jobs):
         """
         return self._list(self._read_cell, "rcells")
 
-    def two_sided_cells(self):
+    def two_sided_cells(self) -> Cells:
         """The list of the two-sided cells of a finite group, each the list of its elements.
 
         >>> CoxeterGroup("A", 2).two_sided_cells()
@@ -432,7 +442,7 @@ class CoxeterGroup(Elements, Names, CellTheory, Schubert, Hecke, Many, Jobs):
         """
         return Cells(self, self.iter_two_sided_cells())
 
-    def iter_two_sided_cells(self):
+    def iter_two_sided_cells(self) -> Iterator[List[Element]]:
         """The two-sided cells.
 
         >>> next(CoxeterGroup("A", 2).iter_two_sided_cells())
@@ -440,7 +450,7 @@ class CoxeterGroup(Elements, Names, CellTheory, Schubert, Hecke, Many, Jobs):
         """
         return self._list(self._read_cell, "lrcells")
 
-    def cell_module(self, w):
+    def cell_module(self, w: Word) -> CellModule:
         """The module of the left cell of w, in a finite group: its elements, and how the Hecke algebra acts on it.
 
         >>> module = CoxeterGroup("A", 2).cell_module([1])
@@ -451,7 +461,7 @@ class CoxeterGroup(Elements, Names, CellTheory, Schubert, Hecke, Many, Jobs):
 
     # ---- the rest
 
-    def work(self, start, count):
+    def work(self, start: int, count: int) -> Work:
         """Makes so many rows of Kazhdan-Lusztig polynomials, of elements that follow from the start number.
 
         >>> CoxeterGroup("A", 1).work(7, 3)
@@ -459,7 +469,7 @@ class CoxeterGroup(Elements, Names, CellTheory, Schubert, Hecke, Many, Jobs):
         """
         return self._one(self._read_work, f"work {operator.index(start)} {operator.index(count)}")
 
-    def ask(self, line):
+    def ask(self, line: str) -> List[str]:
         """The lines of the program's answer to any line but one that sets another group.
 
         >>> CoxeterGroup("A", 3).ask("interval 2 232")

@@ -1,7 +1,10 @@
 """Products in the Kazhdan-Lusztig basis C' of the Hecke algebra, by mu and descents."""
-import operator
+from __future__ import annotations
 
-from .base import Base
+import operator
+from typing import Any, Dict
+
+from .base import Base, Word
 from .tables import ElementDict
 
 
@@ -15,8 +18,9 @@ class Laurent:
     """
 
     __slots__ = ("coefficients",)
+    coefficients: Dict[int, int]
 
-    def __init__(self, coefficients=()):
+    def __init__(self, coefficients: Any = ()) -> None:
         terms = {operator.index(e): operator.index(c) for e, c in dict(coefficients).items()}
         object.__setattr__(self, "coefficients", {e: terms[e] for e in sorted(terms) if terms[e]})
 
@@ -57,7 +61,7 @@ class Laurent:
 
     __rmul__ = __mul__
 
-    def __call__(self, v):
+    def __call__(self, v: Any) -> Any:
         """The value at v."""
         return sum(c * v**e for e, c in self.coefficients.items())
 
@@ -93,7 +97,7 @@ TWO = Laurent({-1: 1, 1: 1})
 class Hecke(Base):
     """The methods of a group on products in its Hecke algebra."""
 
-    def c_prime_product(self, x, y):
+    def c_prime_product(self, x: Word, y: Word) -> ElementDict:
         """The product of the basis elements C'(x) and C'(y): a dictionary from the z to the coefficients h(x, y, z) other than 0, which are
         Laurent polynomials in v = q^(1/2). Here C'(w) is the sum of v^-l(w) P(z, w) T(z) over the z <= w (Kazhdan and Lusztig 1979).
 

@@ -1,9 +1,13 @@
 """Lists of jobs: many lines at once, in blocks, which the program may answer side by side."""
+from __future__ import annotations
+
 import collections
 import itertools
 import operator
+from typing import Any, Iterable, Iterator, List
 
 from . import progress, texts
+from .base import Base
 from .errors import JobRefusal, Refusal
 from .program import MOST_OF_BLOCKS, MOST_OF_JOBS, PARTS, check_characters
 
@@ -32,15 +36,15 @@ class Answers(list):
     """
 
     @property
-    def refusals(self):
+    def refusals(self) -> List[Refusal]:
         """The refused lines, in their order."""
         return [answer for block in self for answer in block if isinstance(answer, Refusal)]
 
 
-class Jobs:
+class Jobs(Base):
     """The methods of a group that ask lines in blocks."""
 
-    def jobs(self, blocks):
+    def jobs(self, blocks: Iterable[Iterable[str]]) -> Answers:
         """The answers to the lines of some blocks, which are lists of lines as the program reads them: for each block a list, with the
         lines of each answer. A line that is refused does not cost the other answers: a JobRefusal stands in the place of its own, and
         tells which block and which line it is. `.refusals` of the answers has them all.
@@ -53,7 +57,7 @@ class Jobs:
         """
         return Answers(self.iter_jobs(blocks))
 
-    def iter_jobs(self, blocks):
+    def iter_jobs(self, blocks: Iterable[Iterable[str]]) -> Iterator[List[Any]]:
         """The same block by block.
 
         >>> next(CoxeterGroup("A", 3).iter_jobs([["length 12", "length 1"], ["length 123"]]))

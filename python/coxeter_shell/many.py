@@ -1,4 +1,6 @@
 """Many questions at once, answered by the workers of an executor: threads, processes, or other machines."""
+from __future__ import annotations
+
 import concurrent.futures
 import copy
 import functools
@@ -8,8 +10,10 @@ import pickle
 import queue
 import threading
 import uuid
+from typing import Any, Iterable, Iterator, Optional
 
 from . import certificates
+from .base import Base, Word
 from .errors import CoxeterError, ProgramEnded, Refusal, Unanswered, UnexpectedResult
 from .rowfile import RowFile
 from .tables import RowTable, Table
@@ -21,14 +25,14 @@ TRIES = 3
 _mine = threading.local()
 
 
-class Many:
+class Many(Base):
     """The methods of a group that ask many questions at once.
 
     An executor is one of `concurrent.futures`, or any with its interface, as `client.get_executor()` of dask; a client of dask may be given
     itself. Each of its workers has a program of its own, which is found there and kept from question to question.
     """
 
-    def map(self, method, *arguments, executor=None, chunksize=1):
+    def map(self, method: str, *arguments: Iterable[Any], executor: Any = None, chunksize: int = 1) -> Iterator[Any]:
         """The results of a method for many arguments, in their order, as an iterator. Without an executor they are asked for here.
 
         The longest words are asked for first, so many questions at a time as `chunksize` says. Where a worker or its program is killed,
@@ -48,7 +52,16 @@ class Many:
             return (getattr(self, method)(*item) for item in items)
         return Asked(executor, Results(self, method), items, chunksize).in_order()
 
-    def kazhdan_lusztig_table(self, words=None, *, executor=None, chunksize=1, certified=False, checker=None, path=None):
+    def kazhdan_lusztig_table(
+        self,
+        words: Optional[Iterable[Word]] = None,
+        *,
+        executor: Any = None,
+        chunksize: int = 1,
+        certified: bool = False,
+        checker: Optional[str] = None,
+        path: Any = None,
+    ) -> RowTable:
         """A dictionary from each w to its row, which is a dictionary from each x <= w to P(x, w). `words` is the list of the w; without it
         they are all elements of a finite group.
 
@@ -101,9 +114,9 @@ class Many:
                     file.write(w, row)
                 rows[w] = row
         table = RowTable(self, ((w, rows[w]) for w in elements if w in rows))
-        for _, error in lost:
-            if not was_killed(error):
-                raise error
+        for _, it in lost:
+            if not was_killed(it):
+                raise it
         if lost:
             raise Unanswered([w for some, _ in lost for (w,) in some], table) from lost[0][1]
         return table

@@ -1,5 +1,10 @@
 """Modules of left cells."""
+from __future__ import annotations
+
+from typing import Any, Dict, List
+
 from . import texts
+from .base import Element, Word
 from .polynomial import Polynomial
 
 
@@ -26,7 +31,7 @@ class CellModule:
     (<the module of a left cell with 2 elements>, 2)
     """
 
-    def __init__(self, elements, images):
+    def __init__(self, elements: List[Element], images: Dict[int, List[Dict[Element, InV]]]) -> None:
         self.elements, self.images = elements, images
 
     @classmethod
@@ -46,7 +51,7 @@ class CellModule:
     def __repr__(self):
         return f"<the module of a left cell with {len(self.elements)} elements>"
 
-    def __len__(self):
+    def __len__(self) -> int:
         return len(self.elements)
 
     def __eq__(self, other):
@@ -57,7 +62,7 @@ class CellModule:
     def __hash__(self):
         return hash(tuple(self.elements))
 
-    def matrix(self, s):
+    def matrix(self, s: int) -> List[List[InV]]:
         """The matrix of t(s), as a list of rows. Its columns are the images of the elements, in their order.
 
         >>> CellModule([(1,)], {1: [{(1,): InV([-1])}]}).matrix(1)
@@ -69,7 +74,7 @@ class CellModule:
         matrices = [self.matrix(s) for s in sorted(self.images)]
         return f"rec( elements := {texts.gap(self.elements)}, matrices := {texts.gap(matrices)} )"
 
-    def act(self, word):
+    def act(self, word: Word) -> List[List[InV]]:
         """The matrix of the product of the t(s) over the letters of a word, in their order, as a list of rows. For a reduced word of w it is
         that of T(w). The word is a text or a list of letters.
 
@@ -84,7 +89,7 @@ class CellModule:
         for column, x in enumerate(self.elements):
             vector = {x: InV([1])}
             for s in reversed(letters):
-                moved = {}
+                moved: Dict[Element, InV] = {}
                 for y, entry in vector.items():
                     for z, more in self.images[s][places[y]].items():
                         moved[z] = moved.get(z, InV()) + more * entry
@@ -93,7 +98,7 @@ class CellModule:
                 rows[places[y]][column] = entry
         return rows
 
-    def character(self, word):
+    def character(self, word: Word) -> InV:
         """The trace of `act(word)`, a polynomial in v. At v = 1 it is the value of a character of the group.
 
         >>> module = CoxeterGroup("A", 2).cell_module("1")
@@ -102,7 +107,7 @@ class CellModule:
         """
         return sum((row[at] for at, row in enumerate(self.act(word))), InV())
 
-    def sage(self, s):
+    def sage(self, s: int) -> Any:
         """The same as a matrix of Sage over the polynomials in v. It needs Sage."""
         from sage.all import ZZ, PolynomialRing, matrix
 

@@ -1,6 +1,10 @@
 """What Sage's Coxeter groups have by these names: generators, degrees, reflections, inversions, weak order, Demazure product."""
+from __future__ import annotations
+
+from typing import Any, List, Optional, Tuple
+
 from . import kinds
-from .base import Base
+from .base import Base, Element, Letters, Word
 
 # The degrees of the finite irreducible groups (Humphreys, section 3.7). Those of A, B and D are worked out.
 DEGREES = {
@@ -15,7 +19,7 @@ DEGREES = {
 class Names(Base):
     """Methods of a group with names that Sage has too. Elements are tuples of letters here."""
 
-    def index_set(self):
+    def index_set(self) -> Tuple[int, ...]:
         """The letters, as a tuple.
 
         >>> CoxeterGroup("B", 3).index_set()
@@ -23,7 +27,7 @@ class Names(Base):
         """
         return tuple(self._letters)
 
-    def cartan_type(self):
+    def cartan_type(self) -> Optional[Tuple[Any, ...]]:
         """The Cartan type as a tuple, with a 1 behind it for an affine group; None where the group has none or was given by its matrix and has
         no name.
 
@@ -34,7 +38,7 @@ class Names(Base):
             return self._cartan
         return kinds.named(kinds.of_rows(self._matrix)).cartan
 
-    def gens(self):
+    def gens(self) -> Tuple[Element, ...]:
         """The generators, as a tuple of elements.
 
         >>> CoxeterGroup("A", 3).gens()
@@ -43,7 +47,7 @@ class Names(Base):
         return tuple((s,) for s in self._letters)
 
     @property
-    def w0(self):
+    def w0(self) -> Element:
         """The longest element of a finite group: `long_element()`.
 
         >>> CoxeterGroup("A", 2).w0
@@ -51,13 +55,13 @@ class Names(Base):
         """
         return self.long_element()
 
-    def degrees(self):
+    def degrees(self) -> Tuple[int, ...]:
         """The degrees of the invariants of a finite group, as a rising tuple. Their product is the number of elements.
 
         >>> CoxeterGroup("A2xG2").degrees(), CoxeterGroup("D", 4).degrees()
         ((2, 2, 3, 6), (2, 4, 4, 6))
         """
-        found = []
+        found: List[int] = []
         for nodes in kinds.components(self._matrix):
             kind = kinds.finite_type(self._matrix, nodes)
             if kind is None:
@@ -67,7 +71,7 @@ class Names(Base):
             found += ranges[letter] if letter in ranges else DEGREES[kind]
         return tuple(sorted(found))
 
-    def reflections(self):
+    def reflections(self) -> List[Element]:
         """The list of the reflections of a finite group, the conjugates of the generators, in ShortLex order.
 
         >>> CoxeterGroup("A", 2).reflections()
@@ -77,7 +81,7 @@ class Names(Base):
             raise ValueError("an infinite group has infinitely many reflections")
         return sorted(self._all_reflections(), key=lambda t: (len(t), t))
 
-    def inversions(self, w, side="right"):
+    def inversions(self, w: Word, side: str = "right") -> List[Element]:
         """The list of the reflections t with l(wt) < l(w), in ShortLex order; or with l(tw) < l(w).
 
         >>> CoxeterGroup("A", 3).inversions("12"), CoxeterGroup("A", 3).inversions("12", side="left")
@@ -88,7 +92,7 @@ class Names(Base):
         found = self._products((w[:i:-1], w[i:]) for i in range(len(w)))
         return sorted(found, key=lambda t: (len(t), t))
 
-    def parabolic_decomposition(self, w, letters, side="left"):
+    def parabolic_decomposition(self, w: Word, letters: Letters, side: str = "left") -> Tuple[Element, Element]:
         """The pair (u, v) of elements with w = uv, where v is in W_J, which these letters generate, and u is the shortest element of the left
         coset wW_J. For the right coset W_J w it is the pair (v, u) with w = vu.
 
@@ -98,17 +102,18 @@ class Names(Base):
         >>> W.parabolic_decomposition("1232", "12")
         ((1, 2, 3), (2,))
         """
-        letters, u, v = self._letters_of(letters), self._from({"left": "right", "right": "left"}.get(side, side), w), []
+        among, u = self._letters_of(letters), self._from({"left": "right", "right": "left"}.get(side, side), w)
+        taken: List[int] = []
         while True:
-            down = letters.intersection(self.right_descents(u))
+            down = among.intersection(self.right_descents(u))
             if not down:
                 break
-            v.append(min(down))
-            u = self.normal_form((*u, v[-1]))
-        v = self.normal_form(v[::-1])
+            taken.append(min(down))
+            u = self.normal_form((*u, taken[-1]))
+        v = self.normal_form(taken[::-1])
         return (u, v) if side == "left" else (self.inverse(v), self.inverse(u))
 
-    def weak_le(self, x, y, side="right"):
+    def weak_le(self, x: Word, y: Word, side: str = "right") -> bool:
         """Whether x <= y in the right weak order: a reduced word of x begins one of y. In the left one it ends one.
 
         >>> W = CoxeterGroup("A", 3)
@@ -118,7 +123,7 @@ class Names(Base):
         x, y = self._from(side, x), self._from(side, y)
         return len(self.product(x[::-1], y)) == len(y) - len(x)
 
-    def weak_lower_covers(self, w, side="right"):
+    def weak_lower_covers(self, w: Word, side: str = "right") -> List[Element]:
         """The list of the ws with l(ws) < l(w), in ShortLex order; or of the sw.
 
         >>> CoxeterGroup("A", 3).weak_lower_covers("132"), CoxeterGroup("A", 3).weak_lower_covers("132", side="left")
@@ -126,7 +131,7 @@ class Names(Base):
         """
         return self._weak_covers(w, side, -1)
 
-    def weak_upper_covers(self, w, side="right"):
+    def weak_upper_covers(self, w: Word, side: str = "right") -> List[Element]:
         """The list of the ws with l(ws) > l(w), in ShortLex order; or of the sw.
 
         >>> CoxeterGroup("A", 2).weak_upper_covers("1"), CoxeterGroup("A", 2).weak_upper_covers("1", side="left")
@@ -134,13 +139,13 @@ class Names(Base):
         """
         return self._weak_covers(w, side, 1)
 
-    def demazure_product(self, *words):
+    def demazure_product(self, *words: Word) -> Element:
         """The Demazure product of elements: letter by letter, where a letter that would make it shorter is left out.
 
         >>> CoxeterGroup("A", 3).demazure_product("12", "2", "1"), CoxeterGroup("A", 3).demazure_product("121", "121")
         ((1, 2, 1), (1, 2, 1))
         """
-        element = ()
+        element: Element = ()
         for word in words:
             for s in self.normal_form(word):
                 longer = self.normal_form((*element, s))

@@ -8,6 +8,8 @@ none where `type` or `matrix` was accepted, one line `error N` where the questio
 
 In a list of jobs a mark stands behind each line, and is answered as it is elsewhere, since it is a line of its block.
 """
+from __future__ import annotations
+
 import collections
 import contextlib
 import importlib.metadata
@@ -23,6 +25,7 @@ import threading
 import urllib.parse
 import urllib.request
 import weakref
+from typing import Any, Iterable, List, NoReturn, Optional
 
 from . import parents
 from .errors import ProgramClosed, ProgramEnded, ProgramNotFound, QuestionTimeout, Refusal, UnexpectedAnswer
@@ -75,7 +78,7 @@ class Program:
     ['2', '12', '21']
     """
 
-    def __init__(self, path=None, *, group=None, **options):
+    def __init__(self, path: Optional[str] = None, *, group: Optional[str] = None, **options: Optional[int]) -> None:
         self.path = path
         self.group = group
         self.options = {name: option(name, value) for name, value in options.items() if value is not None}
@@ -91,12 +94,12 @@ class Program:
         # Whether the group is set, and whether it is known what comes next from the process: an interrupt may come anywhere.
         self._begun = self._sure = False
 
-    def ask(self, line):
+    def ask(self, line: str) -> List[str]:
         """The lines of the answer to a line: none where `type`, `matrix` or a blank line is accepted."""
         with self._lock, self._limited(line):
             return self.stream(line).rest()
 
-    def stream(self, line):
+    def stream(self, line: str) -> Answer:
         """The lines of the answer to a line, as an iterator that reads them when they are needed."""
         words = check_line(line)
         with self._lock, self._limited(line):
@@ -107,7 +110,7 @@ class Program:
                 self.group = line
             return answer
 
-    def ask_list(self, blocks):
+    def ask_list(self, blocks: Iterable[Iterable[str]]) -> List[List[List[str]]]:
         """The answers to the lines of some blocks, which are asked as a list of jobs: for each block the list of the answers to its
         lines, each as its lines. A refusal is the one line `error N` there.
 
@@ -117,9 +120,9 @@ class Program:
         ...     program.ask_list([["coatoms 121", "length 4"], ["pol 2 2132"]])
         [[['2', '12', '21'], ['error 16']], [['1+q']]]
         """
-        blocks = list(map(list, blocks))
+        listed = [list(block) for block in blocks]
         parts = []
-        for block in blocks:
+        for block in listed:
             for line in block:
                 if check_characters(line) in PARTS:
                     raise ValueError(f"{line!r} parts the blocks of a list, and is no line of one")
@@ -135,11 +138,11 @@ class Program:
                 if number is None:
                     self.unexpected("jobs", said, "nothing should have come")
                 raise Refusal(number, "jobs")
-            *answers, said = self._exchange(text, sum(map(len, blocks)) + 1)
+            *answers, said = self._exchange(text, sum(map(len, listed)) + 1)
             if said:
                 self.unexpected("jobs", said, "the list should have as many answers as lines")
         left = iter(answers)
-        return [list(itertools.islice(left, len(block))) for block in blocks]
+        return [list(itertools.islice(left, len(block))) for block in listed]
 
     @contextlib.contextmanager
     def _limited(self, line):
@@ -190,7 +193,7 @@ class Program:
                         raise
                 self._begun = True
 
-    def close(self):
+    def close(self) -> None:
         """Ends the process. What was not read of an answer is lost: its iterator raises ProgramClosed."""
         with self._lock:
             if self._process is None:
@@ -374,7 +377,7 @@ class Program:
             self.unexpected(question, lines, "a refusal should be one line, `error` and a number")
         return int(found.group(1))
 
-    def unexpected(self, question, answer, why):
+    def unexpected(self, question: str, answer: Any, why: str) -> NoReturn:
         """Ends the process, since its answers can't be trusted, and raises the error."""
         with self._lock:
             self._kill()
@@ -520,7 +523,7 @@ def end(process, owner):
         return None
 
 
-def find_program(path=None, name="coxeter"):
+def find_program(path: Optional[str] = None, name: str = "coxeter") -> str:
     """The path of the program `coxeter`, or of `coxcheck`, by its name.
 
     It is `path`, else what the environment variable COXETER names, or COXCHECK, else the program built in the checkout that this

@@ -1,8 +1,11 @@
 """Tables: what is answered for many elements at once, for files, pandas and notebooks."""
+from __future__ import annotations
+
 import csv
 import html
 import io
 import itertools
+from typing import Any, Iterator, Optional, Tuple
 
 # A table with more rows is not written out as a text: a notebook stores what its last line is.
 MOST_WRITTEN = 500
@@ -16,18 +19,20 @@ class Table:
 
     __slots__ = ()
 
-    columns = ()
+    # The names of the columns, and the group of the elements.
+    columns: Any = ()
+    group: Any
 
-    def rows(self):
+    def rows(self) -> Iterator[Tuple[Any, ...]]:
         """The rows, as tuples of Python's values."""
         raise NotImplementedError
 
-    def texts(self):
+    def texts(self) -> Iterator[Tuple[str, ...]]:
         """The rows as texts: an element as the program writes it."""
         for row in self.rows():
             yield tuple(self.group.text(it) if isinstance(it, tuple) else str(it) for it in row)
 
-    def to_csv(self, file=None):
+    def to_csv(self, file: Any = None) -> Optional[str]:
         """Writes the rows as CSV, with a line of the names before them. `file` is a path or an open file; without it the
         text is given.
 
@@ -50,7 +55,7 @@ class Table:
         lines.writerows(self.texts())
         return None
 
-    def to_frame(self):
+    def to_frame(self) -> Any:
         """The rows as a DataFrame of pandas, in which elements are tuples. It needs pandas."""
         import pandas
 
@@ -93,7 +98,7 @@ class ElementDict(Table, dict):
     def columns(self):
         return "element", self.value
 
-    def rows(self):
+    def rows(self) -> Iterator[Tuple[Any, ...]]:
         return iter(self.items())
 
     def __repr__(self):
@@ -134,7 +139,7 @@ class PairDict(ElementDict):
     def columns(self):
         return "x", "w", self.value
 
-    def rows(self):
+    def rows(self) -> Iterator[Tuple[Any, ...]]:
         return ((x, w, value) for (x, w), value in self.items())
 
     def _key(self, words):
@@ -164,7 +169,7 @@ class RowTable(ElementDict):
     def __init__(self, group, items=(), value="row"):
         super().__init__(group, items, value)
 
-    def rows(self):
+    def rows(self) -> Iterator[Tuple[Any, ...]]:
         return ((w, x, polynomial) for w, row in self.items() for x, polynomial in row.items())
 
 
@@ -187,7 +192,7 @@ class Cells(Table, list):
         super().__init__(cells)
         self.group = group
 
-    def rows(self):
+    def rows(self) -> Iterator[Tuple[Any, ...]]:
         """The number of the cell, counted from 1, and an element of it."""
         return ((number, element) for number, cell in enumerate(self, 1) for element in cell)
 

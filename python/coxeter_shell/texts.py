@@ -2,10 +2,13 @@
 
 A text of the program that has another shape is a ValueError.
 """
+from __future__ import annotations
+
 import itertools
 import operator
 import re
 from numbers import Integral
+from typing import Any
 
 from .polynomial import Polynomial
 
@@ -139,7 +142,7 @@ def edge(spelling, text):
     return spelling.element(element), whole_number(value)
 
 
-def gap(value):
+def gap(value: Any) -> str:
     """Numbers, truth values, texts, polynomials, graphs, modules, and lists, tuples, sets and dictionaries of them, as a text for GAP.
 
     A polynomial becomes the list of its coefficients, a dictionary the list of its pairs, a W-graph the list of its edges,
