@@ -1,6 +1,7 @@
 """Products in the Kazhdan-Lusztig basis C' of the Hecke algebra, by mu and descents."""
 from __future__ import annotations
 
+import fractions
 import operator
 from typing import Any, Dict
 
@@ -62,8 +63,11 @@ class Laurent:
     __rmul__ = __mul__
 
     def __call__(self, v: Any) -> Any:
-        """The value at v."""
-        return sum(c * v**e for e, c in self.coefficients.items())
+        """The value at v. At an integer it is an integer or a fraction."""
+        if not isinstance(v, int):
+            return sum(c * v**e for e, c in self.coefficients.items())
+        value = sum((c * fractions.Fraction(v) ** e for e, c in self.coefficients.items()), fractions.Fraction(0))
+        return int(value) if value.denominator == 1 else value
 
     def __eq__(self, other):
         terms = terms_of(other)

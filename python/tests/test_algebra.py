@@ -106,6 +106,7 @@ class Products(unittest.TestCase):
         self.assertEqual((repr(p), repr(-p), repr(Laurent()), repr(p - p), bool(p - p)), ("-v^-3+2v", "v^-3-2v", "0", "0", False))
         self.assertEqual((p + 1 - 1, 2 * p, 1 - p, p * 0), (p, p + p, -p + 1, 0))
         self.assertEqual(hash(Laurent({0: 3})), hash(3))
+        self.assertEqual((repr(p(1)), repr(p(2)), p(0.5)), ("1", "Fraction(31, 8)", -7.0))
         for call in (lambda: p + "1", lambda: p * 1.5, lambda: Laurent({0.5: 1}), lambda: setattr(p, "coefficients", {})):
             with self.assertRaises((TypeError, AttributeError)):
                 call()
