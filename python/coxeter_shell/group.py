@@ -40,12 +40,13 @@ class CoxeterGroup(Elements, Names, CellTheory, Schubert, Hecke, Many, Jobs):
     >>> CoxeterGroup("c2"), CoxeterGroup(["C", 2, 1]), CoxeterGroup("A2xG2").cardinality()
     (CoxeterGroup("c", 2), CoxeterGroup("c", 2), 72)
 
-    Small letters are the affine types; their node 0, as Bourbaki and Sage have it, is the last letter. The letters of a product such as
-    "A2xG2" are those of its factors, one after another. In a matrix, infinity is 0, -1 or math.inf. `program` is the path of the program; `workers`, `context`, `roots` and `coef`
-    are options of the program. `progress=False` turns off the lines that tell how long an answer is awaited and how far a
-    list was read. `timeout` is how many seconds the program has for the answer to a question; behind it a `QuestionTimeout` is
-    raised. A type or a matrix that the program doesn't take is refused here. Groups are equal where their Coxeter
-    matrices are.
+    Small letters are the affine types; their node 0, as Bourbaki and Sage have it, is the last letter. The letters of a product
+    such as "A2xG2" are those of its factors, one after another. In a matrix, infinity is 0, -1 or math.inf.
+
+    `program` is the path of the program; `workers`, `context`, `roots` and `coef` are options of the program. `progress=False`
+    turns off the lines that tell how long an answer is awaited and how far a list was read. `timeout` is how many seconds the
+    program has for the answer to a question; behind it a `QuestionTimeout` is raised. A type or a matrix that the program doesn't
+    take is refused here. Groups are equal where their Coxeter matrices are.
 
     A word is a text as the program reads it ("2132", "10.9.10", "e"), a list or tuple of ints, or an element of such a group
     in Sage. Elements are tuples of ints, the letters of the normal form. A question that the program refuses raises a

@@ -140,8 +140,8 @@ class Hecke(Base):
     def _by_letter(self, s, w, rows):
         """The pairs of a z and its coefficient in C'(s) C'(w)."""
         if w not in rows:
-            below = [(z, p.coefficient((len(w) - len(z) - 1) // 2)) for z, p in self.kazhdan_lusztig_basis(w).items() if (len(w) - len(z)) % 2]
-            below = [(z, value) for z, value in below if value]
+            odd = ((z, p, len(w) - len(z)) for z, p in self.kazhdan_lusztig_basis(w).items() if (len(w) - len(z)) % 2)
+            below = [(z, p.coefficient((up - 1) // 2)) for z, p, up in odd if p.degree() == (up - 1) // 2]
             descents = self._answers_of("descents", [w, *(z for z, _ in below)])
             rows[w] = descents[0][0], [(z, value, left) for (z, value), (left, _) in zip(below, descents[1:])]
         mine, below = rows[w]

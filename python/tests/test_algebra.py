@@ -25,7 +25,9 @@ class Names(unittest.TestCase):
             sets = {side: {w: set(group.inversions(w, side)) for w in words} for side in ("right", "left")}
             for w in words:
                 for side in ("right", "left"):
-                    shorter = {t for t in group.reflections() if len(group.product(w, t) if side == "right" else group.product(t, w)) < len(w)}
+                    pairs = [(w, t) if side == "right" else (t, w) for t in group.reflections()]
+                    products = zip(group.reflections(), group._products(pairs))
+                    shorter = {t for t, x in products if len(x) < len(w)}
                     self.assertEqual((sets[side][w], len(shorter)), (shorter, len(w)))
                     found = group.weak_upper_covers(w, side) + group.weak_lower_covers(w, side)
                     both = [(w, (s,)) if side == "right" else ((s,), w) for s in (1, 2, 3)]
@@ -133,8 +135,8 @@ class Modules(unittest.TestCase):
                     self.assertEqual(module.character("e"), len(module))
                     w = group.long_element()
                     self.assertEqual({repr(module.act(it)) for it in group.reduced_words(w)[:5]}, {repr(module.act(w))})
-                    # At v = 1 it is a character: equal on a generator and its conjugates.
-                    self.assertEqual(module.character([1])(1), module.character([2, 1, 2])(1) if matrix[0][1] == 3 else module.character([1])(1))
+                    # At v = 1 it is a character: equal on a generator and its conjugate.
+                    self.assertEqual(module.character([1])(1), module.character([2, 1, 2])(1))
                     for wrong in ("9", [0], "1x"):
                         with self.assertRaises(ValueError):
                             module.act(wrong)

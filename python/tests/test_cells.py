@@ -130,7 +130,8 @@ class Order(unittest.TestCase):
             self.assertEqual((len(order), list(order), repr(order)), (4, [(), (1,), (2,), (1, 2, 1)], "<the order of 4 left cells>"))
             self.assertEqual((order["2112"], order["21"], "12" in order), ([()], [(1,), (2, 1)], True))
             self.assertEqual(order.to_csv(), "cell,covered\ne,1\ne,2\n1,121\n2,121\n")
-            self.assertEqual([[text for _, text in row] for row in order.layers()[0]], [["121: 1 element"], ["1: 2 elements", "2: 2 elements"], ["e: 1 element"]])
+            texts = [[text for _, text in row] for row in order.layers()[0]]
+            self.assertEqual(texts, [["121: 1 element"], ["1: 2 elements", "2: 2 elements"], ["e: 1 element"]])
             self.assertEqual(order.layers()[1], [("1", "e", ""), ("2", "e", ""), ("121", "1", ""), ("121", "2", "")])
             dot = order.dot()
             self.assertEqual((dot.count("--"), dot.count("label="), '"1" -- "e"' in dot), (4, 4, True))

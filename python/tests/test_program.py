@@ -480,7 +480,8 @@ class Late(unittest.TestCase):
             self.assertEqual(list(items), [(), (1,)])
 
     def test_what_is_no_limit(self):
-        for value, error in ((0, ValueError), (-1, ValueError), (math.nan, ValueError), (math.inf, ValueError), ("1", TypeError), (True, TypeError)):
+        wrong = [(it, ValueError) for it in (0, -1, math.nan, math.inf)] + [(it, TypeError) for it in ("1", True)]
+        for value, error in wrong:
             with self.assertRaises(error):
                 CoxeterGroup("A", 2, timeout=value)
             with self.assertRaises(error), CoxeterGroup("A", 2).within(value):
