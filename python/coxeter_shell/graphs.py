@@ -213,6 +213,8 @@ class WGraph(Drawn, Table):
         >>> CoxeterGroup("A", 2).W_graph().part(["1", "21"])["21"].edges
         {(1,): 1}
         """
+        if isinstance(elements, (str, bytes)):
+            raise TypeError(f"the elements are a list of words, and {elements!r} is one text: write [{elements!r}]")
         chosen = sorted({self._places[it] for it in elements})
         new = {x: at for at, x in enumerate(chosen)}
         near = [array.array("I", [new[y] for y in self._near[x] if y in new]) for x in chosen]

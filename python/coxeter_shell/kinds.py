@@ -134,16 +134,20 @@ def of_object(kind):
         return named(of_rows(matrix))
     nodes = sorted(matrix.index_set(), key=lambda node: node == 0)
     found = named(of_rows([[matrix[s, t] for t in nodes] for s in nodes]))
-    return found._replace(nodes=tuple(nodes), cartan=cartan_of(kind) or found.cartan)
+    return found._replace(nodes=tuple(nodes), cartan=cartan_of(kind, found.matrix) or found.cartan)
 
 
-def cartan_of(kind):
-    """The Cartan type of an object of Sage as a tuple, None where it has none or has nodes of other names."""
+def cartan_of(kind, matrix):
+    """The Cartan type of an object of Sage as a tuple, None where it has none that is known here and has this Coxeter matrix."""
     cartan = kind.cartan_type() if hasattr(kind, "cartan_type") else kind
-    letter, number = getattr(cartan, "letter", None), getattr(cartan, "n", None)
-    if not isinstance(letter, str) or number is None:
+    letter, number, affine = (getattr(cartan, name, None) for name in ("letter", "n", "affine"))
+    if not isinstance(letter, str) or number is None or affine not in (None, False, 0, 1):
         return None
-    return (letter, int(number), 1) if getattr(cartan, "affine", False) else (letter, int(number))
+    found = (letter, int(number), 1) if affine else (letter, int(number))
+    try:
+        return found if read(list(found)).matrix == matrix else None
+    except (ValueError, Refusal):
+        return None
 
 
 def of_factors(factors):

@@ -47,6 +47,9 @@ class Many(Base):
         if not isinstance(method, str) or method.startswith(("_", "iter_")) or not callable(getattr(self, method, None)):
             raise ValueError(f"{method!r} is no method that gives a whole answer")
         chunksize = whole_chunks(chunksize)
+        for it in arguments:
+            if isinstance(it, (str, bytes)):
+                raise TypeError(f"the arguments are lists, with one for each question, and {it!r} is one text: write [{it!r}]")
         items = list(zip(*arguments))
         if executor is None:
             return (getattr(self, method)(*item) for item in items)

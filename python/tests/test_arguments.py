@@ -21,6 +21,9 @@ class Wrong(unittest.TestCase):
                 (TypeError, "list of words", group.kazhdan_lusztig_table, "2132"),
                 (TypeError, "list of words", group.kazhdan_lusztig_table, b"2132"),
                 (TypeError, "list of its elements", group.cell_w_graph, "12"),
+                (TypeError, "list of words", group.W_graph().part, "12"),
+                (TypeError, "is one text", group.map, "length", "12"),
+                (TypeError, "is one text", group.map, "bruhat_le", ["1"], "12"),
                 (ValueError, "no left cell", group.cell_w_graph, []),
                 (ValueError, "no left cell", group.cell_w_graph, ["1", "2"]),
                 (ValueError, "no left cell", group.cell_w_graph, ["1"]),
@@ -112,6 +115,10 @@ class Wrong(unittest.TestCase):
                 self.assertEqual(group, CoxeterGroup("B", 3))
             CoxeterGroup(["B", 3]).sage()
             self.assertEqual(stub.WeylGroup.call_args[0], (["B", 3],))
+            # Names that are none here, and those of another matrix, don't stay.
+            for letter, number, affine in (("B", 2, 1), ("A", 4, 2), ("D", 3, None), ("A", 3, False)):
+                other = types.SimpleNamespace(letter=letter, n=number, affine=affine, coxeter_matrix=lambda: entries)
+                self.assertEqual(CoxeterGroup(other).cartan_type(), ("B", 3))
             CoxeterGroup(["C", 2, 1]).sage()
             self.assertEqual(stub.WeylGroup.call_args[0], (["C", 2, 1],))
 
