@@ -107,6 +107,13 @@ class ElementDict(Table, dict):
             return dict.__repr__(self)
         return f"<a table of {self.group!r} with the columns {', '.join(self.columns)}, for {len(self):,} keys>"
 
+    def _repr_pretty_(self, printer, cycle):
+        """The same for IPython, which lays out a dictionary in lines."""
+        if self._is_long() or cycle:
+            printer.text(repr(self))
+        else:
+            printer.pretty(dict(self))
+
     def __getitem__(self, word):
         return dict.__getitem__(self, self._key(word))
 
@@ -187,6 +194,13 @@ class Cells(Table, list):
         if not self._is_long():
             return list.__repr__(self)
         return f"<{len(self):,} cells of {self.group!r}, with {sum(map(len, self)):,} elements>"
+
+    def _repr_pretty_(self, printer, cycle):
+        """The same for IPython, which lays out a list in lines."""
+        if self._is_long() or cycle:
+            printer.text(repr(self))
+        else:
+            printer.pretty(list(self))
 
     def __init__(self, group, cells=()):
         super().__init__(cells)

@@ -2,9 +2,10 @@
 import itertools
 import math
 import unittest
+import unittest.mock
 
 import reference
-from coxeter_shell import CoxeterGroup, InV, Laurent
+from coxeter_shell import Cells, CoxeterGroup, InV, Laurent
 
 
 def zero_hecke(n, words):
@@ -153,6 +154,14 @@ class Written(unittest.TestCase):
                 self.assertLess(len(repr(made)), 200)
                 self.assertIn('CoxeterGroup("A", 5)', repr(made))
             self.assertIn("with 720 elements", repr(group.left_cells()))
+            for made, plain in ((group.left_cells(), list), (whole, dict), (group.kazhdan_lusztig_basis("12"), dict), (Cells(group), list)):
+                printer = unittest.mock.Mock()
+                made._repr_pretty_(printer, False)
+                if len(made) > 40:
+                    printer.text.assert_called_once_with(repr(made))
+                else:
+                    printer.pretty.assert_called_once_with(plain(made))
+                    self.assertIs(type(printer.pretty.call_args[0][0]), plain)
 
     def test_tikz(self):
         with CoxeterGroup("B", 2) as group:
