@@ -36,7 +36,11 @@ class CellModule:
 
     @classmethod
     def read(cls, spelling, rank, lines):
-        """The module of an answer, line by line. Another answer is a ValueError."""
+        """The module of an answer, line by line. Another answer is a ValueError.
+
+        >>> CellModule.read(CoxeterGroup("A", 1)._spelling, 1, ["1", "e", "1 e: e=v^2"]).matrix(1)
+        [[v^2]]
+        """
         if len(lines) < 2:
             raise ValueError("its elements are missing")
         size, elements = texts.number(lines[0]), [spelling.element(it) for it in lines[1].split(" ")]

@@ -253,7 +253,7 @@ class Dask(unittest.TestCase):
                 killer = threading.Thread(target=kill, args=(8,), daemon=True)
                 killer.start()
                 try:
-                    table = within(60, lambda kind=kind: group.kazhdan_lusztig_table(executor=kind, chunksize=4))
+                    table = within(200, lambda kind=kind: group.kazhdan_lusztig_table(executor=kind, chunksize=4))
                     self.assertEqual(set(table), set(right))
                 except Unanswered as error:
                     table = error.table
