@@ -25,7 +25,7 @@ import time
 import tty
 
 import faults
-from certificates import Certificate, Group, MOST_OF_INPUT, cause, answer, read
+from certificates import Certificate, Group, MOST_OF_INPUT, cause, answer
 from common import Count, program
 
 CHECKER = program(sys.argv[1:2], "coxcheck")

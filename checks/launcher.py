@@ -11,121 +11,9 @@ import shutil
 import signal
 import subprocess
 import sys
-import tempfile
 import time
 
-TOP = os.path.dirname(os.path.dirname(os.path.abspath(__file__)))
-
-# 'Builds' the program of the folder that it is run in: one that prints what the source said at the end of the build, its arguments,
-# and its input, and ends with 7, as `rt run` then does. It first does what a file `meanwhile` says, if there is one, and fails where
-# the source says so, or where it is run twice at once. Under `lib` it writes down the crate, behind a + where it begins and a - where
-# it ends, and what it found of that crate from before; it fails where crates.txt names a crate that has no line there, or one below is
-# not proved. `check` is none of its words, since it leaves no library for the crates above.
-RT = b"""#!/bin/sh
-echo "stand-in works"
-for count; do :; done
-[ "$count" -gt 0 ] || exit 1
-case "$1 $2" in
-  "lib --jobs")
-    name=${PWD##*/}
-    echo "+$name" >>"${0%rt}checked"
-    [ ! -e out/before ] || echo "$name" >>"${0%rt}again"
-    for it in $(sed "s/.*://" ../../crates.txt); do
-      [ "$it" = std ] || grep -q "^$it:" ../../crates.txt || exit 1
-    done
-    for it in $(sed "s/:.*//" ../../crates.txt); do
-      [ "$it" = "$name" ] || [ -e "../$it/out/rlib/stamp" ] || exit 1
-    done
-    sleep 1
-    [ "$(cat src/lib.rt)" = broken ] && exit 1
-    mkdir -p out/rlib
-    : >out/rlib/stamp
-    : >out/before
-    echo "-$name" >>"${0%rt}checked"
-    echo "crate $name: modules loaded=0" ;;
-  "run --jobs")
-    name=${PWD##*/}
-    mkdir ../building || exit 1
-    word=$(cat src/main.rt)
-    if [ -e ../../meanwhile ]; then . ../../meanwhile; rm ../../meanwhile; fi
-    rmdir ../building
-    [ "$word" = broken ] && exit 1
-    printf '#!/bin/sh\\necho "program of %s:$*"; cat; exit 7\\n' "$word" >"out/$name"
-    chmod +x "out/$name"
-    exit 7 ;;
-  *) exit 1 ;;
-esac
-"""
-
-# What the first program answers when it is run with no arguments.
-ONE = b"program of one:\ninput\n"
-BUILDING = b"coxeter: proving and building the program"
-counts = {"tried": 0, "differ": 0}
-
-
-class Checkout:
-    """A checkout in a folder of this name, beside a folder with the stand-in `rt`."""
-
-    def __init__(self, base, name=b"checkout"):
-        self.tools, self.top = os.path.join(base, b"tools"), os.path.join(base, name)
-        os.makedirs(self.tools, exist_ok=True)
-        self.write(os.path.join(self.tools, b"rt"), RT)
-        os.chmod(os.path.join(self.tools, b"rt"), 0o755)
-        os.makedirs(self.top)
-        shutil.copy(os.path.join(TOP, "coxeter").encode(), self.top)
-        self.write(self.path(b"crates.txt"), b"coxeter:\n")
-        self.source(b"one")
-
-    def path(self, name):
-        return os.path.join(self.top, name)
-
-    def write(self, path, text):
-        with open(path, "wb") as out:
-            out.write(text)
-
-    def source(self, text, crate=b"coxeter", file=b"main.rt"):
-        folder = os.path.join(self.top, b"crates", crate, b"src")
-        os.makedirs(folder, exist_ok=True)
-        self.write(os.path.join(folder, file), text)
-
-    def environment(self, tools=True, **more):
-        """The environment, with the stand-in on the PATH or no `rt` at all."""
-        places = os.environb[b"PATH"].split(b":")
-        places = [self.tools] * tools + [it for it in places if not os.path.exists(os.path.join(it, b"rt"))]
-        return {**os.environb, b"PATH": b":".join(places), **{name.encode(): value for name, value in more.items()}}
-
-    def run(self, path=None, arguments=(), folder=None, **how):
-        words = [path or self.path(b"coxeter"), *arguments]
-        ran = self.begin(words, cwd=folder, env=self.environment(**how))
-        try:
-            out, error = ran.communicate(b"input\n", timeout=60)
-        except subprocess.TimeoutExpired:
-            os.killpg(ran.pid, signal.SIGKILL)
-            out, error = ran.communicate()
-        return subprocess.CompletedProcess(words, ran.returncode, out, error)
-
-    def begin(self, words=None, **how):
-        """Starts a run that goes on in a session of its own."""
-        how = {**{it: subprocess.PIPE for it in ("stdin", "stdout", "stderr")}, "env": self.environment(), **how}
-        return subprocess.Popen(words or [self.path(b"coxeter")], start_new_session=True, **how)
-
-
-def check(what, ran, status, out, building):
-    """Compares a run's status and standard output, and whether it said that it builds."""
-    counts["tried"] += 1
-    built = BUILDING in ran.stderr
-    got, want = (ran.returncode, ran.stdout, built), (status, out, building)
-    if got != want:
-        counts["differ"] += 1
-        print(f"{what}: got the status, output and whether it builds {got}, want {want}")
-
-
-def say(what, got, want):
-    """Compares anything else."""
-    counts["tried"] += 1
-    if got != want:
-        counts["differ"] += 1
-        print(f"{what}: got {got}, want {want}")
+from checkouts import ONE, TOP, Checkout, check, say, try_all, wait_for
 
 
 def changes(base):
@@ -272,14 +160,6 @@ def crates(base):
     say("what was there of it stays", os.path.exists(here.path(b"crates/low2/out/before")), True)
 
 
-def wait_for(path):
-    """Waits until this file or folder is there, half a minute at most."""
-    for _ in range(300):
-        if os.path.exists(path):
-            break
-        time.sleep(0.1)
-
-
 def turns(base):
     """Builds once where it is called twice, and again where it was interrupted."""
     here = Checkout(base)
@@ -292,7 +172,7 @@ def turns(base):
     say("it says that it waits", b"waiting" in second.stderr, True)
     say("the first of them", (first.communicate(b"input\n")[0], first.returncode), (ONE, 7))
     here.source(b"two")
-    here.write(here.path(b"meanwhile"), b"sleep 100\n")
+    here.write(here.path(b"meanwhile"), b"exec sleep 100\n")
     cut = here.begin()
     wait_for(building)
     os.killpg(cut.pid, signal.SIGINT)
@@ -332,8 +212,40 @@ def progress(base):
     say("on a terminal", [b"\r" + b"coxeter: %d of 1 crates" % it in shown for it in (0, 1)], [False, True])
 
 
-for part in (changes, places, names, failures, crates, turns, running, progress):
-    with tempfile.TemporaryDirectory() as base:
-        part(os.fsencode(base))
-print(f"{counts['tried']} things, {counts['differ']} differ")
-sys.exit(1 if counts["differ"] else 0)
+def copies(base):
+    """Says whether a program comes out the same in another folder."""
+    here = Checkout(base)
+    here.write(here.path(b"crates.txt"), b"coxeter: low\nlow:\ncoxcheck:\n")
+    here.source(b"//! Code.\n", b"low", b"lib.rt")
+    here.source(b"six", b"coxcheck")
+    os.symlink(b"coxeter", here.path(b"coxcheck"))
+    for name in ("checks", "python", "docs"):
+        shutil.copytree(os.path.join(TOP, name).encode(), here.path(name.encode()), symlinks=True)
+    reproduce = [sys.executable.encode(), b"-B", here.path(b"checks/reproduce")]
+
+    def lines(*words):
+        ran = here.run(reproduce[0], [*reproduce[1:], *words])
+        return ran.returncode, [b"; the same under " in it for it in ran.stdout.splitlines()], ran.stderr
+
+    say("from what was proved", lines()[:2], (0, [True, True]))
+    with open(os.path.join(here.tools, b"checked"), "rb") as file:
+        say("what was proved is taken", file.read(), b"+low\n-low\n")
+    say("with nothing kept", lines("--nothing-kept")[:2], (0, [True, True]))
+    with open(os.path.join(here.tools, b"checked"), "rb") as file:
+        say("then all is proved again", file.read(), b"+low\n-low\n" * 2)
+    with open(here.path(b"docs/RELEASES.md"), "rb") as file:
+        listed = file.read()
+    subprocess.run("git init -q . && git add . && git -c user.name=x -c user.email=x commit -qm x", shell=True, cwd=here.top, check=True)
+    for changed, why in ((None, b"was not proved by this kit"), (b"seven", b"these differ from the commit")):
+        if changed:
+            here.source(changed, b"coxcheck")
+        status, same, said = lines("--release")
+        say(f"no release: {why}", (status, same, why in said), (1, [True, True], True))
+    with open(here.path(b"docs/RELEASES.md"), "rb") as file:
+        say("the list is as it was", file.read() == listed, True)
+    # A program that has the name of its folder in it.
+    here.source(b"$PWD", b"coxcheck")
+    say("one that comes out different", lines()[:2], (1, [True, False]))
+
+
+try_all(changes, places, names, failures, crates, turns, running, progress, copies)

@@ -10,7 +10,6 @@ import os
 import pty
 import resource
 import select
-import signal
 import subprocess
 import sys
 import tempfile

@@ -8,18 +8,26 @@ from .errors import (
     ProgramEnded,
     ProgramError,
     ProgramNotFound,
+    QuestionTimeout,
     Refusal,
+    Unanswered,
     UnexpectedAnswer,
+    UnexpectedResult,
 )
 from .graphs import CellOrder, HasseDiagram, Vertex, WGraph
 from .group import CoxeterGroup, Work
+from .hecke import Laurent
 from .jobs import Answers
-from .modules import CellModule
+from .modules import CellModule, InV
 from .polynomial import Polynomial
 from .program import Program, find_program
+from .provenance import Provenance, Release
 from .schubert import SchubertVariety
-from .tables import Cells, ElementDict, PairDict, Table
+from .tables import Cells, ElementDict, PairDict, RowTable, Table
 from .texts import gap
+
+# The version of the whole, the programs too; docs/RELEASES.md lists them all.
+__version__ = "1.0"
 
 __all__ = [
     "Answers",
@@ -31,7 +39,9 @@ __all__ = [
     "CoxeterGroup",
     "ElementDict",
     "HasseDiagram",
+    "InV",
     "JobRefusal",
+    "Laurent",
     "PairDict",
     "Polynomial",
     "Program",
@@ -39,10 +49,16 @@ __all__ = [
     "ProgramEnded",
     "ProgramError",
     "ProgramNotFound",
+    "Provenance",
+    "QuestionTimeout",
     "Refusal",
+    "Release",
+    "RowTable",
     "SchubertVariety",
     "Table",
+    "Unanswered",
     "UnexpectedAnswer",
+    "UnexpectedResult",
     "Verdict",
     "Vertex",
     "WGraph",

@@ -1,21 +1,19 @@
 """What is made of cells and W-graphs of finite groups: the order of cells, a-values, Duflo involutions, the table of mu."""
-import math
+from __future__ import annotations
 
-from .graphs import CellOrder
+import math
+from typing import Iterable, List
+
+from .base import CELLS, Base, Element, Word
+from .graphs import CellOrder, WGraph
+from .polynomial import Polynomial
 from .tables import PairDict
 
-# For each kind of cells the method that gives them, and the sides of the W-graphs whose steps make them.
-KINDS = {
-    "left": ("iter_left_cells", ("left",)),
-    "right": ("iter_right_cells", ("right",)),
-    "two-sided": ("iter_two_sided_cells", ("left", "right")),
-}
 
-
-class CellTheory:
+class CellTheory(Base):
     """The methods of a finite group on its cells. The cells and their a-values are asked for once, and kept."""
 
-    def left_cell(self, w):
+    def left_cell(self, w: Word) -> List[Element]:
         """The left cell of w: the list of its elements.
 
         >>> CoxeterGroup("A", 2).left_cell("1")
@@ -23,7 +21,7 @@ class CellTheory:
         """
         return self._cell("left", w)
 
-    def right_cell(self, w):
+    def right_cell(self, w: Word) -> List[Element]:
         """The right cell of w: the list of its elements.
 
         >>> CoxeterGroup("A", 2).right_cell("1")
@@ -31,7 +29,7 @@ class CellTheory:
         """
         return self._cell("right", w)
 
-    def two_sided_cell(self, w):
+    def two_sided_cell(self, w: Word) -> List[Element]:
         """The two-sided cell of w: the list of its elements.
 
         >>> CoxeterGroup("A", 2).two_sided_cell("1")
@@ -39,7 +37,7 @@ class CellTheory:
         """
         return self._cell("two-sided", w)
 
-    def cell_order(self, side="left"):
+    def cell_order(self, side: str = "left") -> CellOrder:
         """The order of the left, right or two-sided cells ("two-sided"): x <= y where chains of steps of the W-graph lead from x to y.
 
         >>> order = CoxeterGroup("A", 2).cell_order()
@@ -47,20 +45,25 @@ class CellTheory:
         (True, False, [1, 2, 2, 1])
         """
         cells = self._kept_cells(side)[0]
-        graphs = [self.W_graph(it) for it in KINDS[side][1]]
-        steps = (step for graph in graphs for step in graph.steps())
-        return self._read(lambda it: CellOrder(self, side, it, steps), "cells", cells)
+        graph = self.W_graph(CELLS[side][1])
+        return self._read(lambda it: CellOrder(self, side, it, graph), "cells", cells)
 
-    def cell_w_graph(self, cell, side="left"):
+    def cell_w_graph(self, cell: Iterable[Word], side: str = "left") -> WGraph:
         """The W-graph of a cell, which is given as the list of its elements: the part of the W-graph of the group.
 
         >>> W = CoxeterGroup("A", 3)
         >>> list(W.cell_w_graph(W.left_cell("2")).edges())
         [((2,), (1, 2), 1), ((2,), (3, 2), 1)]
         """
-        return self.W_graph(side).part(cell)
+        if isinstance(cell, (str, bytes)):
+            raise TypeError(f"a cell is the list of its elements, and {cell!r} is one text")
+        elements = set(self._normal_forms(cell))
+        kinds = [side, "two-sided"] if side in ("left", "right") else [side]
+        if not elements or not any(elements == set(self._in_cell(kind, min(elements))) for kind in kinds):
+            raise ValueError(f"these {len(elements)} elements are no {side} cell, and no two-sided one")
+        return self.W_graph(side).part(elements)
 
-    def a_value(self, w):
+    def a_value(self, w: Word) -> int:
         """Lusztig's function a at w: the least l(x) - 2 deg P(e, x) over the x of the left cell of w.
 
         >>> W = CoxeterGroup("A", 3)
@@ -69,7 +72,7 @@ class CellTheory:
         """
         return self._duflo(self._in_cell("left", w))[0]
 
-    def duflo_involutions(self):
+    def duflo_involutions(self) -> List[Element]:
         """The list of the Duflo involutions, one for each left cell, in the order of `left_cells`: the x with a(x) = l(x) - 2 deg P(e, x).
 
         >>> CoxeterGroup("B", 2).duflo_involutions()
@@ -81,15 +84,16 @@ class CellTheory:
         """The a-value of a left cell, and its Duflo involution: l(x) - 2 deg P(e, x) is at least a(x), and equal to it at the Duflo
         involutions alone, of which each left cell has one (Lusztig, "Hecke algebras with unequal parameters", chapters 14 and 15)."""
         if cell[0] not in self._a_values:
-            involutions = [x for x in cell if self.inverse(x) == x]
-            values = [len(x) - 2 * self.kazhdan_lusztig_polynomial((), x).degree() for x in involutions]
+            involutions = [x for x, inverse in zip(cell, self._answers_of("inverse", cell)) if inverse == x]
+            polynomials = self._answers_to(Polynomial.read, [self._line("pol", ((), x)) for x in involutions])
+            values = [len(x) - 2 * p.degree() for x, p in zip(involutions, polynomials)]
             least = min(values, default=math.inf)
             if values.count(least) != 1:
                 self.program.unexpected("lcells", cell, "a left cell should have one Duflo involution")
             self._a_values[cell[0]] = least, involutions[values.index(least)]
         return self._a_values[cell[0]]
 
-    def mu_table(self, min_difference=3):
+    def mu_table(self, min_difference: int = 3) -> PairDict:
         """A dictionary from the pairs of elements x < w of a finite group to mu(x, w), where that is not 0 and l(w) - l(x) is at least
         `min_difference`. It is 1 wherever w covers x, so that those pairs are left out unless they are asked for.
 
@@ -107,9 +111,9 @@ class CellTheory:
 
     def _kept_cells(self, side):
         """The cells of a kind, and for each element its cell."""
-        if side not in KINDS:
+        if side not in CELLS:
             raise ValueError(f"the side is left, right or two-sided, not {side!r}")
         if side not in self._cells:
-            cells = list(getattr(self, KINDS[side][0])())
+            cells = list(getattr(self, CELLS[side][0])())
             self._cells[side] = cells, {x: cell for cell in cells for x in cell}
         return self._cells[side]

@@ -1,19 +1,27 @@
 """Certificates of rows, and the program `coxcheck` that judges them."""
+from __future__ import annotations
+
 import collections
 import math
 import subprocess
+from typing import Optional, Union
 
 from . import parents, texts
 from .errors import CheckFailed, ProgramNotFound, UnexpectedAnswer
 from .program import check_interpreter, find_program
 from .tables import ElementDict
 
+# The most elements below the element of a certificate, the most letters of it, which is the greatest degree too, and the greatest coefficient.
+MOST_OF_CERTIFICATE = 4096
+MOST_OF_LETTERS = 39
+MOST_OF_COEFFICIENT = 2_147_483_647
+
 # The causes of the checker, in the words of its manual.
 CAUSES = {
     1: "it is no certificate, by its grammar",
-    2: "its element is no normal form, or has more than 39 letters",
+    2: f"its element is no normal form, or has more than {MOST_OF_LETTERS} letters",
     3: "its words are not the elements below its element, in ShortLex order",
-    4: "it has a coefficient beyond 2,147,483,647, or a degree above 39",
+    4: f"it has a coefficient beyond {MOST_OF_COEFFICIENT:,}, or a degree above {MOST_OF_LETTERS}",
     5: "its polynomials are not the row of its element",
 }
 PROVED = "its polynomials are the row of its element"
@@ -31,11 +39,11 @@ class Verdict(collections.namedtuple("Verdict", "ok cause meaning")):
 
     __slots__ = ()
 
-    def __bool__(self):
+    def __bool__(self) -> bool:
         return self.ok
 
 
-def check(text, program=None):
+def check(text: Union[str, bytes, bytearray, memoryview], program: Optional[str] = None) -> Verdict:
     """What the program `coxcheck` says of a certificate, which is given as a text or as bytes: a Verdict.
 
     The checker is proved, and shares no algorithm with the program that made the certificate. `program` is its path; else it is found as
@@ -83,7 +91,7 @@ def read_lines(spelling, matrix, lines):
         raise ValueError("its first line should be `cert` and the group")
     if len(lines) < 5 or not lines[1].startswith("element ") or lines[2] != f"rows {len(lines) - 4}" or lines[-1] != "end":
         raise ValueError("it should have the lines `element`, `rows` and so many rows, and `end`")
-    element, pairs = spelling.element(lines[1][len("element ") :]), [texts.pair(spelling, line) for line in lines[3:-1]]
+    element, pairs = spelling.element(lines[1][len("element ") :]), [spelling.pair(line) for line in lines[3:-1]]
     texts.check_rising([x for x, _ in pairs])
     if pairs[-1][0] != element:
         raise ValueError("its last row should be that of its element")

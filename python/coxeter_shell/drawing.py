@@ -37,6 +37,35 @@ def layered(rows, edges):
     return "\n".join([head, *lines, *nodes, "</svg>\n"])
 
 
+def tikz(rows, edges):
+    """The same picture as a text for LaTeX with the package tikz.
+
+    >>> print(tikz([[("e", "e")], [("1", "1 {1}")]], [("e", "1", "2")]), end="")
+    \\begin{tikzpicture}
+      \\node (n0) at (0.00,0.0) {e};
+      \\node (n1) at (0.00,1.5) {1 \\{1\\}};
+      \\draw (n0) -- node[fill=white] {2} (n1);
+    \\end{tikzpicture}
+    """
+    rows, names, lines = sorted_rows(rows, edges), {}, []
+    for number, row in enumerate(rows):
+        widths = [0.25 * len(text) + 0.5 for _, text in row]
+        x = -sum(widths) / 2
+        for (name, text), width in zip(row, widths):
+            names[name] = f"n{len(names)}"
+            lines.append(rf"\node ({names[name]}) at ({x + width / 2:.2f},{1.5 * number:.1f}) {{{in_latex(text)}}};")
+            x += width
+    for one, other, text in edges:
+        middle = f"node[fill=white] {{{in_latex(text)}}} " if text else ""
+        lines.append(rf"\draw ({names[one]}) -- {middle}({names[other]});")
+    return "\n".join([r"\begin{tikzpicture}", *(f"  {line}" for line in lines), "\\end{tikzpicture}\n"])
+
+
+def in_latex(text):
+    """A text in LaTeX. The texts of pictures have letters, digits, dots, colons and braces."""
+    return text.replace("{", r"\{").replace("}", r"\}")
+
+
 def label(x, y, text):
     return f'<text x="{x:.1f}" y="{y + SIZE / 3:.1f}">{html.escape(text)}</text>'
 

@@ -38,17 +38,19 @@ class CoxeterError(Exception):
 class Refusal(CoxeterError):
     """The program refused a line. `number` is the refusal's number, `meaning` says it in words, `line` is the line.
 
-    The group is as it was before.
+    `detail` says which of the causes it is, where that is known, and is else empty. The group is as it was before.
     """
 
-    def __init__(self, number, line):
+    def __init__(self, number, line, detail=""):
         super().__init__(number, line)
         self.number = number
         self.line = line
+        self.detail = detail
         self.meaning = MEANINGS.get(number, "a refusal that this package doesn't know")
 
     def __str__(self):
-        return f"error {self.number}: {self.meaning} (the line was {shown(self.line)})"
+        detail = f": {self.detail}" if self.detail else ""
+        return f"error {self.number}: {self.meaning}{detail} (the line was {shown(self.line)})"
 
 
 class JobRefusal(Refusal):
@@ -94,6 +96,18 @@ class ProgramEnded(ProgramError):
         return f"the program ended before {when} ({how})"
 
 
+class QuestionTimeout(ProgramError):
+    """The program had not answered a question after `seconds`, and was ended. The next question starts a new one with the same group."""
+
+    def __init__(self, line, seconds):
+        super().__init__(line, seconds)
+        self.line = line
+        self.seconds = seconds
+
+    def __str__(self):
+        return f"no answer to {shown(self.line)} after {self.seconds:g} seconds: the program was ended"
+
+
 class CheckFailed(ProgramError):
     """The program `coxcheck` ended without saying yes or no. `status` is its exit status, negative for a signal."""
 
@@ -133,6 +147,34 @@ class UnexpectedAnswer(ProgramError):
     def __str__(self):
         asked = shown(self.line) if self.line else "a blank line"
         return f"an unexpected answer to {asked}: {self.why}; what came is {shown(self.answer)}"
+
+
+class UnexpectedResult(CoxeterError):
+    """A worker of an executor gave something else than the results of so many questions. `result` is what it gave."""
+
+    def __init__(self, result, count):
+        super().__init__(result, count)
+        self.result = result
+        self.count = count
+
+    def __str__(self):
+        return f"a worker gave something else than the results of {self.count} questions: {shown(self.result)}"
+
+
+class Unanswered(CoxeterError):
+    """Questions of a table that were given up, since a worker or its program was killed each time. All others are answered.
+
+    `words` is the list of the elements whose rows are missing, and `table` has the other rows.
+    """
+
+    def __init__(self, words, table):
+        super().__init__(words, table)
+        self.words = words
+        self.table = table
+
+    def __str__(self):
+        named = ", ".join(map(self.table.group.text, self.words[:10])) + (", .." if len(self.words) > 10 else "")
+        return f"no rows of {len(self.words)} elements, whose worker or program was killed each time: {named}"
 
 
 def shown(value):

@@ -1,9 +1,17 @@
 """W-graphs, Hasse diagrams of intervals, and the order of cells."""
+from __future__ import annotations
+
+import array
+import bisect
 import collections
+import itertools
+import operator
+from typing import Any, Iterable, Iterator, Tuple
 
 from . import drawing, pictures
+from .base import Element, Word
 from .tables import ElementDict, Table
-from .texts import gap
+from .texts import check_rising, counted, gap, whole_number
 
 Vertex = collections.namedtuple("Vertex", "element descents edges")
 Vertex.__doc__ = "A vertex of a W-graph: the element, its descents, and the values of its edges by its neighbours."
@@ -23,13 +31,29 @@ class Drawn:
     def _repr_html_(self):
         return super()._repr_html_() if len(self) > MOST_DRAWN else None
 
-    def svg(self):
+    def svg(self) -> str:
         """The picture as SVG: by graphviz where it is installed, and else a plain one.
 
         >>> CoxeterGroup("A", 2).W_graph().svg()[-7:]
         '</svg>\\n'
         """
         return pictures.svg(self.dot()) or drawing.layered(*self.layers())
+
+    def dot(self) -> str:
+        """The graph as a DOT text."""
+        raise NotImplementedError
+
+    def tikz(self) -> str:
+        """The plain picture as a text for LaTeX, with the package tikz.
+
+        >>> CoxeterGroup("A", 1).hasse_diagram("e", "1").tikz().count("node")
+        2
+        """
+        return drawing.tikz(*self.layers())
+
+    def _repr_png_(self):
+        """The picture for notebooks whose SVG is taken out, where graphviz is installed."""
+        return pictures.draw(self.dot(), "png") if len(self) <= MOST_DRAWN and pictures.shutil.which("dot") else None
 
     def layers(self):
         """What the plain picture is drawn of: the nodes by the lengths of their elements, and the edges, as texts."""
@@ -48,107 +72,232 @@ class WGraph(Drawn, Table):
 
     columns = "x", "descents of x", "y", "descents of y", "mu"
 
-    def __init__(self, group, side, vertices):
+    # A large graph has millions of edges. So they are kept as rising arrays of the places of neighbours, and vertices are made when they
+    # are asked for. `_other` has the values other than 1, by pairs of places.
+
+    def __init__(self, group, side, elements, descents, near, other):
         self.group = group
         self.side = side
-        self.vertices = ElementDict(group, ((vertex.element, vertex) for vertex in vertices), "vertex")
+        self._descents, self._near, self._other = descents, near, other
+        self._places = ElementDict(group, zip(elements, itertools.count()), "place")
+        self._elements = list(elements)
+        self._vertices = None
+
+    @classmethod
+    def read(cls, group, side, items):
+        """The graph of the texts of its vertices. Others are a ValueError.
+
+        >>> texts = ["e - 1:1", "1 1 e:1"]
+        >>> WGraph.read(CoxeterGroup("A", 1), "left", texts) == CoxeterGroup("A", 1).W_graph()
+        True
+        """
+        numbers = collections.defaultdict(itertools.count().__next__)
+        own, sets, rows = [], [], []
+        for text in items:
+            element, *more = text.split(" ")
+            if not more:
+                raise ValueError("its label is missing")
+            own.append(element)
+            sets.append(more[0])
+            rows.append(array.array("I", map(numbers.__getitem__, itertools.islice(more, 1, None))))
+        elements = list(map(group._spelling.element, own))
+        check_rising(elements)
+        read = {text: group._spelling.letter_set(text) for text in set(sets)}
+        places, values = places_of(group._spelling, {text: at for at, text in enumerate(own)}, numbers)
+        near, other = [], {}
+        for x, row in enumerate(rows):
+            found = [places[number] for number in row]
+            if None in found:
+                raise ValueError(f"{own[x]} has an edge to an element that is no vertex")
+            if not all(map(operator.lt, found, itertools.islice(found, 1, None))):
+                raise ValueError("the elements should be in ShortLex order")
+            near.append(array.array("I", found))
+            if not values.keys().isdisjoint(row):
+                other.update(((x, y), values[number]) for number, y in zip(row, found) if number in values)
+            rows[x] = None
+        check_both_ways(own, near, other)
+        return cls(group, side, elements, [read[text] for text in sets], near, other)
+
+    @property
+    def vertices(self):
+        """A dictionary from each element to its vertex. For single vertices `graph[w]` is faster."""
+        if self._vertices is None:
+            found = zip(self._elements, map(self._vertex, range(len(self._elements))))
+            self._vertices = ElementDict(self.group, found, "vertex")
+        return self._vertices
+
+    def _vertex(self, x):
+        edges = ((self._elements[y], self._other.get((x, y), 1)) for y in self._near[x])
+        return Vertex(self._elements[x], self._descents[x], ElementDict(self.group, edges, "mu"))
 
     def __repr__(self):
-        return f"<the {self.side} W-graph with {len(self.vertices)} vertices>"
+        return f"<the {self.side} W-graph with {len(self)} vertices>"
 
-    def __len__(self):
-        return len(self.vertices)
+    def __eq__(self, other):
+        if not isinstance(other, WGraph):
+            return NotImplemented
+        return self._all() == other._all()
+
+    def _all(self):
+        return self.group, self.side, self._elements, self._descents, self._near, self._other
+
+    def __hash__(self):
+        return hash((self.group, self.side, len(self)))
+
+    def __len__(self) -> int:
+        return len(self._elements)
 
     def __iter__(self):
-        return iter(self.vertices)
+        return iter(self._elements)
 
     def __contains__(self, word):
-        return word in self.vertices
+        return word in self._places
 
     def __getitem__(self, word):
-        return self.vertices[word]
+        return self._vertex(self._places[word])
 
-    def edges(self):
+    def edges(self) -> Iterator[Any]:
         """Each edge once: its two elements, the first in ShortLex order first, and its value.
 
         >>> list(CoxeterGroup("A", 1).W_graph().edges())
         [((), (1,), 1)]
         """
-        place = {element: at for at, element in enumerate(self.vertices)}
-        for element, vertex in self.vertices.items():
-            for other, value in vertex.edges.items():
-                if place[element] < place[other]:
-                    yield element, other, value
+        elements, other = self._elements, self._other
+        for x, near in enumerate(self._near):
+            for y in near[bisect.bisect(near, x) :]:
+                yield elements[x], elements[y], other.get((x, y), 1)
 
-    def steps(self):
+    def steps(self) -> Iterator[Tuple[Element, Element, int]]:
         """The directed edges that make the cells: from x to a neighbour y, with the value, where some descent of x is
         no descent of y. The cells are the strong components.
 
         >>> list(CoxeterGroup("A", 1).W_graph().steps())
         [((1,), (), 1)]
         """
-        descents = {element: set(vertex.descents) for element, vertex in self.vertices.items()}
-        for element, vertex in self.vertices.items():
-            for other, value in vertex.edges.items():
-                if not descents[element] <= descents[other]:
-                    yield element, other, value
+        elements, other = self._elements, self._other
+        for x, y in self._steps():
+            yield elements[x], elements[y], other.get((x, y), 1)
 
-    def part(self, elements):
+    def _steps(self):
+        """The steps, by the places of their elements."""
+        sets = self._masks()
+        for x, near in enumerate(self._near):
+            mine = sets[x]
+            for y in near:
+                if mine & ~sets[y]:
+                    yield x, y
+
+    def _masks(self):
+        """The sets of descents, as numbers."""
+        masks = {letters: sum(1 << s for s in letters) for letters in set(self._descents)}
+        return [masks[letters] for letters in self._descents]
+
+    def steps_between(self, names):
+        """The pairs of different names that a step leads from one to the other of, where `names` gives an element its name.
+
+        >>> graph = CoxeterGroup("A", 2).W_graph()
+        >>> sorted(graph.steps_between({x: len(x) for x in graph}))
+        [(1, 0), (1, 2), (2, 1), (3, 2)]
+        """
+        named = [names[x] for x in self._elements]
+        numbers = {name: number for number, name in enumerate(dict.fromkeys(named))}
+        named, names, sets, found = [numbers[name] for name in named], list(numbers), self._masks(), set()
+        for x, near in enumerate(self._near):
+            mine, of = sets[x], named[x]
+            found.update([(of, named[y]) for y in near if mine & ~sets[y] and named[y] != of])
+        return {(names[one], names[other]) for one, other in found}
+
+    def part(self, elements: Iterable[Word]) -> WGraph:
         """The part of the graph that has these elements alone, and the edges between them.
 
         >>> CoxeterGroup("A", 2).W_graph().part(["1", "21"])["21"].edges
         {(1,): 1}
         """
-        keys = {self.vertices._key(it) for it in elements}
-        found = []
-        for x in keys:
-            vertex = self.vertices[x]
-            edges = ((y, value) for y, value in vertex.edges.items() if y in keys)
-            found.append(vertex._replace(edges=ElementDict(self.group, edges, "mu")))
-        found.sort(key=lambda vertex: (len(vertex.element), vertex.element))
-        return WGraph(self.group, self.side, found)
+        if isinstance(elements, (str, bytes)):
+            raise TypeError(f"the elements are a list of words, and {elements!r} is one text: write [{elements!r}]")
+        chosen = sorted({self._places[it] for it in elements})
+        new = {x: at for at, x in enumerate(chosen)}
+        near = [array.array("I", [new[y] for y in self._near[x] if y in new]) for x in chosen]
+        other = {(new[x], new[y]): value for (x, y), value in self._other.items() if x in new and y in new}
+        return WGraph(self.group, self.side, [self._elements[x] for x in chosen], [self._descents[x] for x in chosen], near, other)
 
     def rows(self):
-        descents = {element: vertex.descents for element, vertex in self.vertices.items()}
-        return ((x, descents[x], y, descents[y], value) for x, y, value in self.edges())
+        sets = dict(zip(self._elements, self._descents))
+        return ((x, sets[x], y, sets[y], value) for x, y, value in self.edges())
 
     def texts(self):
         """The rows as texts. The empty set of descents is `-`."""
         for x, of_x, y, of_y, value in self.rows():
             yield self.group.text(x), self.group.set_text(of_x), self.group.text(y), self.group.set_text(of_y), str(value)
 
-    def dot(self):
+    def dot(self) -> str:
         """The graph as a DOT text. The label of a vertex has its descents in its second line."""
         return pictures.w_graph_text(self)
 
     def layers(self):
         rows = {}
-        for x, vertex in self.vertices.items():
+        for x, descents in zip(self._elements, self._descents):
             text = self.group.text(x)
-            rows.setdefault(len(x), []).append((text, f"{text} {{{self.group.set_text(vertex.descents).strip('-')}}}"))
+            rows.setdefault(len(x), []).append((text, f"{text} {{{self.group.set_text(descents).strip('-')}}}"))
         edges = [(self.group.text(x), self.group.text(y), str(value) if value != 1 else "") for x, y, value in self.edges()]
         return list(rows.values()), edges
 
-    def sage(self):
+    def sage(self) -> Any:
         """The same as a graph of Sage, whose labels of edges are their values. `get_vertex` gives the descents of an
         element, as a tuple. It needs Sage."""
         from sage.all import Graph
 
-        graph = Graph([list(self.vertices), list(self.edges())], format="vertices_and_edges")
-        graph.set_vertices({x: vertex.descents for x, vertex in self.vertices.items()})
+        graph = Graph([list(self), list(self.edges())], format="vertices_and_edges")
+        graph.set_vertices(dict(zip(self._elements, self._descents)))
         return graph
 
-    def networkx(self):
+    def networkx(self) -> Any:
         """The same as a graph of networkx: nodes have an attribute `descents`, edges an attribute `mu`. It needs networkx."""
         import networkx
 
         graph = networkx.Graph(side=self.side)
-        graph.add_nodes_from((x, {"descents": vertex.descents}) for x, vertex in self.vertices.items())
+        graph.add_nodes_from((x, {"descents": descents}) for x, descents in zip(self._elements, self._descents))
         graph.add_edges_from((x, y, {"mu": value}) for x, y, value in self.edges())
         return graph
 
     def _gap_init_(self):
         return gap(list(self.edges()))
+
+
+def places_of(spelling, places, numbers):
+    """For the numbers of the texts of edges the places of their elements, None for those that are no vertices; and the values other than 1, by
+    their numbers."""
+    found, values = [], {}
+    for text, number in numbers.items():
+        element, _, value = text.rpartition(":")
+        if value != "1":
+            values[number] = whole_number(value)
+            if value == "0":
+                raise ValueError("an edge has no value")
+        found.append(places.get(element))
+        if found[-1] is None:
+            spelling.element(element)
+    return found, values
+
+
+def check_both_ways(own, near, other):
+    """Sees to it that each edge is one from both sides, with one value. Neighbours are places, in rising order."""
+    # How many neighbours of each vertex have been met from their side. Those before it in ShortLex order are met before it.
+    met = [bisect.bisect(row, x) for x, row in enumerate(near)]
+    for x, row in enumerate(near):
+        for y in row:
+            if y >= x:
+                break
+            at = met[y]
+            if at >= len(near[y]) or near[y][at] != x:
+                raise ValueError(f"the edge from {own[x]} to {own[y]} is not an edge back")
+            met[y] = at + 1
+    for x, row in enumerate(near):
+        if met[x] < len(row) or x in row:
+            raise ValueError(f"the edge from {own[x]} to {own[row[min(met[x], len(row) - 1)]]} is not an edge back")
+    for (x, y), value in other.items():
+        if other.get((y, x)) != value:
+            raise ValueError(f"the edge from {own[x]} to {own[y]} is not an edge back")
 
 
 class HasseDiagram(Drawn, ElementDict):
@@ -170,7 +319,7 @@ class HasseDiagram(Drawn, ElementDict):
         """The edges: an element, and one that it covers."""
         return self.edges()
 
-    def edges(self):
+    def edges(self) -> Iterator[Any]:
         """The pairs of an element and one that it covers.
 
         >>> list(CoxeterGroup("A", 3).hasse_diagram("12", "123").edges())
@@ -178,7 +327,7 @@ class HasseDiagram(Drawn, ElementDict):
         """
         return ((x, z) for x, covered in self.items() for z in covered)
 
-    def dot(self):
+    def dot(self) -> str:
         """The diagram as a DOT text."""
         return pictures.hasse_text(self)
 
@@ -188,13 +337,13 @@ class HasseDiagram(Drawn, ElementDict):
             rows.setdefault(len(x), []).append((self.group.text(x),) * 2)
         return list(rows.values()), [(self.group.text(z), self.group.text(x), "") for x, z in self.edges()]
 
-    def sage(self):
+    def sage(self) -> Any:
         """The interval as a poset of Sage. It needs Sage."""
         from sage.all import Poset
 
         return Poset((list(self), [[z, x] for x, z in self.edges()]), cover_relations=True)
 
-    def networkx(self):
+    def networkx(self) -> Any:
         """The same as a directed graph of networkx, whose edges go up. It needs networkx."""
         import networkx
 
@@ -218,18 +367,17 @@ class CellOrder(Drawn, Table):
 
     columns = "cell", "covered"
 
-    def __init__(self, group, side, cells, steps):
+    def __init__(self, group, side, cells, graph):
         self.group, self.side = group, side
         self.cells = ElementDict(group, ((cell[0], cell) for cell in cells), "cell")
         self._names = ElementDict(group, ((x, cell[0]) for cell in cells for x in cell), "cell")
-        self._below = self._closed(steps)
+        self._below = self._closed(graph.steps_between(dict(self._names)))
 
     def _closed(self, steps):
         """For each cell the set of the cells below it, and itself. Cells that are below each other are a ValueError."""
         next_lower = {name: set() for name in self.cells}
-        for x, y, _ in steps:
-            if self._names[x] != self._names[y]:
-                next_lower[self._names[y]].add(self._names[x])
+        for lower, upper in steps:
+            next_lower[upper].add(lower)
         below = {}
         for name in self.cells:
             path = [name]
@@ -248,7 +396,20 @@ class CellOrder(Drawn, Table):
     def __repr__(self):
         return f"<the order of {len(self.cells)} {self.side} cells>"
 
-    def __len__(self):
+    def __eq__(self, other):
+        if not isinstance(other, CellOrder):
+            return NotImplemented
+        return (self.group, self.side, self.cells, self._below) == (other.group, other.side, other.cells, other._below)
+
+    def __hash__(self):
+        return hash((self.group, self.side, len(self)))
+
+    def _gap_init_(self):
+        numbers = {name: number for number, name in enumerate(self.cells, 1)}
+        covered = [(numbers[x], numbers[y]) for x, y in self.edges()]
+        return f"rec( cells := {gap(list(self.cells.values()))}, covered := {gap(covered)} )"
+
+    def __len__(self) -> int:
         return len(self.cells)
 
     def __iter__(self):
@@ -265,7 +426,7 @@ class CellOrder(Drawn, Table):
         """
         return self.cells[self._names[word]]
 
-    def le(self, x, y):
+    def le(self, x: Word, y: Word) -> bool:
         """Whether the cell of x is the cell of y, or below it.
 
         >>> order = CoxeterGroup("A", 2).cell_order("two-sided")
@@ -274,7 +435,7 @@ class CellOrder(Drawn, Table):
         """
         return self._names[x] in self._below[self._names[y]]
 
-    def edges(self):
+    def edges(self) -> Iterator[Any]:
         """The pairs of a cell and one that it covers, by their first elements.
 
         >>> list(CoxeterGroup("A", 2).cell_order().edges())
@@ -288,7 +449,7 @@ class CellOrder(Drawn, Table):
     def rows(self):
         return self.edges()
 
-    def dot(self):
+    def dot(self) -> str:
         """The order as a DOT text. The label of a cell has the number of its elements in its second line."""
         return pictures.cell_order_text(self)
 
@@ -298,16 +459,16 @@ class CellOrder(Drawn, Table):
             height[name] = max((height[it] + 1 for it in self._below[name] - {name}), default=0)
             rows += [[]] * (height[name] == len(rows))
             text = self.group.text(name)
-            rows[height[name]] = [*rows[height[name]], (text, f"{text} {{{len(self.cells[name])}}}")]
+            rows[height[name]] = [*rows[height[name]], (text, f"{text}: {counted(len(self.cells[name]), 'element')}")]
         return rows, [(self.group.text(y), self.group.text(x), "") for x, y in self.edges()]
 
-    def sage(self):
+    def sage(self) -> Any:
         """The same as a poset of Sage. It needs Sage."""
         from sage.all import Poset
 
         return Poset((list(self), [[y, x] for x, y in self.edges()]), cover_relations=True)
 
-    def networkx(self):
+    def networkx(self) -> Any:
         """The same as a directed graph of networkx, whose edges go up; nodes have an attribute `cell`. It needs networkx."""
         import networkx
 

@@ -1,17 +1,26 @@
 """Coxeter groups, whose questions the program answers."""
+from __future__ import annotations
+
 import collections
+import contextlib
+import itertools
 import operator
 import re
+from typing import Any, Iterator, List, Optional, Sequence, Tuple
 
-from . import certificates, kinds, progress, texts
+from . import certificates, kinds, progress, reasons, texts
+from .base import Element, Word
 from .cells import CellTheory
 from .elements import Elements
+from .errors import CoxeterError, Refusal
 from .graphs import HasseDiagram, Vertex, WGraph
+from .hecke import Hecke
 from .jobs import Jobs
 from .many import Many
 from .modules import CellModule
+from .names import Names
 from .polynomial import Polynomial
-from .program import Program
+from .program import Program, seconds
 from .schubert import Schubert
 from .tables import Cells, ElementDict
 
@@ -21,18 +30,23 @@ Work = collections.namedtuple("Work", "words entries degree sum")
 Work.__doc__ = "The answer to `work`: numbers of words and of polynomials, the largest degree, the sum of the coefficients."
 
 
-class CoxeterGroup(Elements, CellTheory, Schubert, Many, Jobs):
+class CoxeterGroup(Elements, Names, CellTheory, Schubert, Hecke, Many, Jobs):
     """A Coxeter group, by its type, by its Coxeter matrix, or by a Cartan type, Coxeter matrix or group of Sage.
 
     >>> CoxeterGroup("A", 3) == CoxeterGroup("A 3") == CoxeterGroup("A3") == CoxeterGroup(["A", 3])
     True
     >>> CoxeterGroup([[1, 3, 2], [3, 1, 4], [2, 4, 1]]) == CoxeterGroup("B", 3)
     True
+    >>> CoxeterGroup("c2"), CoxeterGroup(["C", 2, 1]), CoxeterGroup("A2xG2").cardinality()
+    (CoxeterGroup("c", 2), CoxeterGroup("c", 2), 72)
 
-    In a matrix, infinity is 0, -1 or math.inf. `program` is the path of the program; `workers`, `context`, `roots` and `coef`
-    are options of the program. `progress=False` turns off the lines that tell how long an answer is awaited and how far a
-    list was read. A type or a matrix that the program doesn't take is refused here. Groups are equal where their Coxeter
-    matrices are.
+    Small letters are the affine types; their node 0, as Bourbaki and Sage have it, is the last letter. The letters of a product
+    such as "A2xG2" are those of its factors, one after another. In a matrix, infinity is 0, -1 or math.inf.
+
+    `program` is the path of the program; `workers`, `context`, `roots` and `coef` are options of the program. `progress=False`
+    turns off the lines that tell how long an answer is awaited and how far a list was read. `timeout` is how many seconds the
+    program has for the answer to a question; behind it a `QuestionTimeout` is raised. A type or a matrix that the program doesn't
+    take is refused here. Groups are equal where their Coxeter matrices are.
 
     A word is a text as the program reads it ("2132", "10.9.10", "e"), a list or tuple of ints, or an element of such a group
     in Sage. Elements are tuples of ints, the letters of the normal form. A question that the program refuses raises a
@@ -42,25 +56,34 @@ class CoxeterGroup(Elements, CellTheory, Schubert, Many, Jobs):
     The program is started with the first question, and ended by `close`, by the end of a `with` block, or with the object.
     """
 
-    def __init__(self, kind, rank=None, *, program=None, progress=None, **options):
+    def __init__(
+        self,
+        kind: Any,
+        rank: Optional[int] = None,
+        *,
+        program: Optional[str] = None,
+        progress: Optional[bool] = None,
+        timeout: Optional[float] = None,
+        **options: Optional[int],
+    ) -> None:
         given = kinds.read(kind, rank)
-        self.line, self._matrix, self._nodes = given
+        self.line, self._matrix, self._nodes, self._cartan = given
         self.rank = len(self._matrix)
         self.program = Program(program, group=self.line, **options)
+        self.timeout = timeout
         self._letters = range(1, self.rank + 1)
         self._spelling = texts.Spelling(self.rank)
         self._progress = progress
-        # What is worked out once: the longest element, the reflections, cosets for random elements; the kinds of cells, and for the
-        # first element of each left cell the a-value and the Duflo involution.
         self._long = self._reflections = self._cosets = None
         self._cells, self._a_values = {}, {}
-        # The group of Sage, and the one that elements came from last.
         self._sage_group = kind if hasattr(kind, "from_reduced_word") else None
         self._parent = self._parent_letters = None
 
     def __repr__(self):
-        words = self.line.split(" ")
-        return f'CoxeterGroup("{words[1]}", {words[2]})' if words[0] == "type" else f'CoxeterGroup("{self.line}")'
+        if self._cartan is None:
+            return f'CoxeterGroup("{self.line}")'
+        letter, number, *affine = self._cartan
+        return f'CoxeterGroup("{letter.lower() if affine else letter}", {number})'
 
     def __eq__(self, other):
         return self._matrix == other._matrix if isinstance(other, CoxeterGroup) else NotImplemented
@@ -69,9 +92,10 @@ class CoxeterGroup(Elements, CellTheory, Schubert, Many, Jobs):
         return hash(self._matrix)
 
     def __reduce__(self):
-        return again, (self.line, self._nodes, self.program.path, self._progress, self.program.options)
+        made = self.line, self._nodes, self.program.path, self._progress, self.program.options, self._cartan, self.timeout
+        return again, made
 
-    def __enter__(self):
+    def __enter__(self) -> CoxeterGroup:
         return self
 
     def __exit__(self, *_):
@@ -83,21 +107,50 @@ class CoxeterGroup(Elements, CellTheory, Schubert, Many, Jobs):
         >>> CoxeterGroup("A", 3)._latex_(), CoxeterGroup("a", 3)._latex_()
         ('A_{3}', '\\\\tilde{A}_{3}')
         """
-        words = self.line.split(" ")
-        if words[0] == "matrix":
+        if self._cartan is None:
             rows = ((r"\infty" if it == float("inf") else str(it) for it in row) for row in self._matrix)
             return r"\begin{pmatrix}" + r"\\".join(map("&".join, rows)) + r"\end{pmatrix}"
-        letter = r"\tilde{A}" if words[1] == "a" else words[1]
-        return f"{letter}_{{{words[2]}}}"
+        letter, number, *affine = self._cartan
+        return rf"\tilde{{{letter}}}_{{{number}}}" if affine else f"{letter}_{{{number}}}"
 
     def _repr_latex_(self):
         return f"${self._latex_()}$"
 
-    def close(self):
+    def close(self) -> None:
         """Ends the program. Another question would start it again."""
         self.program.close()
 
-    def text(self, word):
+    @property
+    def timeout(self):
+        """How many seconds the program has for the answer to a question; None is no limit. Of an iterator it is the time for the first item.
+
+        >>> W = CoxeterGroup("A", 3, timeout=60)
+        >>> W.timeout = 2.5
+        >>> W.length("12"), W.timeout
+        (2, 2.5)
+        """
+        return self.program.timeout
+
+    @timeout.setter
+    def timeout(self, value):
+        self.program.timeout = seconds(value)
+
+    @contextlib.contextmanager
+    def within(self, timeout: Optional[float]) -> Iterator[CoxeterGroup]:
+        """For a `with` block: each question in it has so many seconds.
+
+        >>> W = CoxeterGroup("A", 3)
+        >>> with W.within(60):
+        ...     print(len(W.left_cells()))
+        10
+        """
+        before, self.timeout = self.timeout, timeout
+        try:
+            yield self
+        finally:
+            self.timeout = before
+
+    def text(self, word: Word) -> str:
         """A word as the program writes it.
 
         >>> CoxeterGroup("A", 3).text([2, 1, 3, 2]), CoxeterGroup("A", 10).text([10, 9]), CoxeterGroup("A", 3).text([])
@@ -105,7 +158,7 @@ class CoxeterGroup(Elements, CellTheory, Schubert, Many, Jobs):
         """
         return self._spelling.write(self._of_sage(word) if hasattr(word, "reduced_word") else word)
 
-    def set_text(self, letters):
+    def set_text(self, letters: Sequence[int]) -> str:
         """A set of letters as the program writes it.
 
         >>> CoxeterGroup("A", 3).set_text((1, 3)), CoxeterGroup("A", 3).set_text(())
@@ -115,7 +168,7 @@ class CoxeterGroup(Elements, CellTheory, Schubert, Many, Jobs):
 
     # ---- elements
 
-    def normal_form(self, w):
+    def normal_form(self, w: Word) -> Element:
         """The element of a word: its ShortLex normal form.
 
         >>> CoxeterGroup("A", 3).normal_form("2312")
@@ -123,7 +176,7 @@ class CoxeterGroup(Elements, CellTheory, Schubert, Many, Jobs):
         """
         return self._one(self._spelling.element, "compute", w)
 
-    def length(self, w):
+    def length(self, w: Word) -> int:
         """The length of an element.
 
         >>> CoxeterGroup("A", 3).length("23122")
@@ -131,7 +184,7 @@ class CoxeterGroup(Elements, CellTheory, Schubert, Many, Jobs):
         """
         return self._one(texts.number, "length", w)
 
-    def inverse(self, w):
+    def inverse(self, w: Word) -> Element:
         """The inverse of an element.
 
         >>> CoxeterGroup("A", 3).inverse("123")
@@ -139,7 +192,7 @@ class CoxeterGroup(Elements, CellTheory, Schubert, Many, Jobs):
         """
         return self._one(self._spelling.element, "inverse", w)
 
-    def left_descents(self, w):
+    def left_descents(self, w: Word) -> Element:
         """The letters s with l(sw) < l(w).
 
         >>> CoxeterGroup("A", 3).left_descents("132")
@@ -147,7 +200,7 @@ class CoxeterGroup(Elements, CellTheory, Schubert, Many, Jobs):
         """
         return self.descents(w)[0]
 
-    def right_descents(self, w):
+    def right_descents(self, w: Word) -> Element:
         """The letters s with l(ws) < l(w).
 
         >>> CoxeterGroup("A", 3).right_descents("132")
@@ -155,7 +208,7 @@ class CoxeterGroup(Elements, CellTheory, Schubert, Many, Jobs):
         """
         return self.descents(w)[1]
 
-    def descents(self, w):
+    def descents(self, w: Word) -> Tuple[Element, Element]:
         """The left and the right descents.
 
         >>> CoxeterGroup("A", 3).descents("132")
@@ -165,7 +218,7 @@ class CoxeterGroup(Elements, CellTheory, Schubert, Many, Jobs):
 
     # ---- Bruhat order
 
-    def bruhat_le(self, y, w):
+    def bruhat_le(self, y: Word, w: Word) -> bool:
         """Whether y <= w in Bruhat order.
 
         >>> W = CoxeterGroup("A", 3)
@@ -174,15 +227,15 @@ class CoxeterGroup(Elements, CellTheory, Schubert, Many, Jobs):
         """
         return self._one(texts.truth, "inorder", y, w)
 
-    def bruhat_interval(self, y, w):
+    def bruhat_interval(self, y: Word, w: Word) -> List[Element]:
         """The list of the x with y <= x <= w, in ShortLex order.
 
         >>> CoxeterGroup("A", 3).bruhat_interval("12", "1232")
         [(1, 2), (1, 2, 3), (1, 3, 2), (1, 2, 3, 2)]
         """
-        return list(self.iter_bruhat_interval(y, w))
+        return self._whole(self._spelling.element, "interval", y, w)
 
-    def iter_bruhat_interval(self, y, w):
+    def iter_bruhat_interval(self, y: Word, w: Word) -> Iterator[Element]:
         """The x with y <= x <= w, in ShortLex order.
 
         >>> next(CoxeterGroup("A", 3).iter_bruhat_interval("12", "1232"))
@@ -190,24 +243,25 @@ class CoxeterGroup(Elements, CellTheory, Schubert, Many, Jobs):
         """
         return self._list(self._spelling.element, "interval", y, w)
 
-    def coatoms(self, w):
+    def coatoms(self, w: Word) -> List[Element]:
         """The list of the x <= w of length l(w) - 1, in ShortLex order.
 
         >>> CoxeterGroup("A", 3).coatoms("123")
         [(1, 2), (1, 3), (2, 3)]
         """
-        return list(self._list(self._spelling.element, "coatoms", w))
+        return self._whole(self._spelling.element, "coatoms", w)
 
-    def hasse_diagram(self, y, w):
+    def hasse_diagram(self, y: Word, w: Word) -> HasseDiagram:
         """A dictionary from each x with y <= x <= w to the list of the elements of the interval that it covers.
 
         >>> CoxeterGroup("A", 3).hasse_diagram("1", "12")
         {(1,): [], (1, 2): [(1,)]}
         """
         members = dict.fromkeys(self.bruhat_interval(y, w))
-        return HasseDiagram(self, {x: [z for z in self.coatoms(x) if z in members] for x in members})
+        below = zip(members, self._answers_of("coatoms", members))
+        return HasseDiagram(self, {x: [z for z in coatoms if z in members] for x, coatoms in below})
 
-    def betti_numbers(self, w):
+    def betti_numbers(self, w: Word) -> Tuple[int, ...]:
         """For each k from 0 to l(w) the number of the x <= w of length k.
 
         >>> CoxeterGroup("A", 3).betti_numbers("121321")
@@ -215,7 +269,7 @@ class CoxeterGroup(Elements, CellTheory, Schubert, Many, Jobs):
         """
         return self._one(texts.numbers, "betti", w)
 
-    def poincare_polynomial(self, w):
+    def poincare_polynomial(self, w: Word) -> Polynomial:
         """The sum of q^l(x) over the x <= w.
 
         >>> CoxeterGroup("A", 2).poincare_polynomial("121")
@@ -225,7 +279,7 @@ class CoxeterGroup(Elements, CellTheory, Schubert, Many, Jobs):
 
     # ---- polynomials
 
-    def r_polynomial(self, y, w):
+    def r_polynomial(self, y: Word, w: Word) -> Polynomial:
         """The R-polynomial R(y, w).
 
         >>> CoxeterGroup("A", 2).r_polynomial("e", "121")
@@ -233,7 +287,7 @@ class CoxeterGroup(Elements, CellTheory, Schubert, Many, Jobs):
         """
         return self._one(Polynomial.read, "rpol", y, w)
 
-    def kazhdan_lusztig_polynomial(self, y, w):
+    def kazhdan_lusztig_polynomial(self, y: Word, w: Word) -> Polynomial:
         """The Kazhdan-Lusztig polynomial P(y, w), zero unless y <= w.
 
         >>> CoxeterGroup("A", 3).kazhdan_lusztig_polynomial("2", "2132")
@@ -241,7 +295,7 @@ class CoxeterGroup(Elements, CellTheory, Schubert, Many, Jobs):
         """
         return self._one(Polynomial.read, "pol", y, w)
 
-    def inverse_kazhdan_lusztig_polynomial(self, y, w):
+    def inverse_kazhdan_lusztig_polynomial(self, y: Word, w: Word) -> Polynomial:
         """The inverse Kazhdan-Lusztig polynomial Q(y, w), zero unless y <= w: for x <= w the sum of (-1)^(l(z)-l(x)) P(x, z) Q(z, w)
         over the z with x <= z <= w is 1 where x = w, else 0.
 
@@ -250,7 +304,7 @@ class CoxeterGroup(Elements, CellTheory, Schubert, Many, Jobs):
         """
         return self._one(Polynomial.read, "invpol", y, w)
 
-    def mu_coefficient(self, y, w):
+    def mu_coefficient(self, y: Word, w: Word) -> int:
         """mu(y, w): the coefficient of P(y, w) in degree (l(w) - l(y) - 1) / 2, or 0 where that is no whole number.
 
         >>> W = CoxeterGroup("A", 3)
@@ -259,39 +313,39 @@ class CoxeterGroup(Elements, CellTheory, Schubert, Many, Jobs):
         """
         return self._one(texts.whole_number, "mu", y, w)
 
-    def kazhdan_lusztig_basis(self, w):
+    def kazhdan_lusztig_basis(self, w: Word) -> ElementDict:
         """A dictionary from each x <= w to P(x, w), in ShortLex order.
 
         >>> CoxeterGroup("A", 3).kazhdan_lusztig_basis("2132")["32"]
         1
         """
-        return ElementDict(self, self.iter_kazhdan_lusztig_basis(w), "polynomial")
+        return ElementDict(self, self._whole(self._spelling.pair, "klbasis", w), "polynomial")
 
-    def iter_kazhdan_lusztig_basis(self, w):
+    def iter_kazhdan_lusztig_basis(self, w: Word) -> Iterator[Tuple[Element, Polynomial]]:
         """The pairs of an x <= w and P(x, w), in ShortLex order.
 
         >>> next(CoxeterGroup("A", 3).iter_kazhdan_lusztig_basis("2132"))
         ((), 1+q)
         """
-        return self._list(self._read_pair, "klbasis", w)
+        return self._list(self._spelling.pair, "klbasis", w)
 
-    def extremal_pairs(self, w):
+    def extremal_pairs(self, w: Word) -> ElementDict:
         """The same as `kazhdan_lusztig_basis` for the x that have all left and right descents of w.
 
         >>> CoxeterGroup("A", 3).extremal_pairs("2132")
         {(2,): 1+q, (1, 2, 1): 1, (2, 3, 2): 1, (2, 1, 3, 2): 1}
         """
-        return ElementDict(self, self.iter_extremal_pairs(w), "polynomial")
+        return ElementDict(self, self._whole(self._spelling.pair, "extremals", w), "polynomial")
 
-    def iter_extremal_pairs(self, w):
+    def iter_extremal_pairs(self, w: Word) -> Iterator[Tuple[Element, Polynomial]]:
         """The same as `iter_kazhdan_lusztig_basis` for the x that have all left and right descents of w.
 
         >>> next(CoxeterGroup("A", 3).iter_extremal_pairs("2132"))
         ((2,), 1+q)
         """
-        return self._list(self._read_pair, "extremals", w)
+        return self._list(self._spelling.pair, "extremals", w)
 
-    def certificate(self, w):
+    def certificate(self, w: Word) -> str:
         """The certificate of the row of w, as a text: the group, w, and the x <= w, each with P(x, w). `check` judges it by another
         program.
 
@@ -305,13 +359,9 @@ class CoxeterGroup(Elements, CellTheory, Schubert, Many, Jobs):
         12:1
         end
         """
-        line = self._line("cert", (w,))
-        self._watch()
-        lines = self.program.ask(line)
-        self._read(lambda it: certificates.read_lines(self._spelling, self._matrix, it), line, lines)
-        return "".join(f"{it}\n" for it in lines)
+        return self._lines(self._read_certificate, "cert", w)
 
-    def intersection_betti_numbers(self, w):
+    def intersection_betti_numbers(self, w: Word) -> Tuple[int, ...]:
         """The coefficients of the sum of q^l(x) P(x, w) over the x <= w: the even Betti numbers of intersection
         cohomology of the Schubert variety of w, when there is one.
 
@@ -322,33 +372,38 @@ class CoxeterGroup(Elements, CellTheory, Schubert, Many, Jobs):
 
     # ---- W-graphs and cells
 
-    def W_graph(self, side="left"):
+    def W_graph(self, side: str = "left") -> WGraph:
         """The W-graph of a finite group, for the left or the right descents.
 
         >>> graph = CoxeterGroup("A", 2).W_graph()
         >>> graph["12"].edges
         {(1,): 1, (2,): 1, (1, 2, 1): 1}
         """
-        graph = WGraph(self, side, self.iter_W_graph(side))
-        edges = {x: dict(vertex.edges) for x, vertex in graph.vertices.items()}
-        for x, vertex in graph.vertices.items():
-            for y, value in vertex.edges.items():
-                if edges.get(y, {}).get(x) != value:
-                    why = f"the edge from {self.text(x)} to {self.text(y)} is not an edge back"
-                    self.program.unexpected(f"{side[0]}wgraph", vertex, why)
-        return graph
+        line = self._graph_line(side)
+        try:
+            told = self._watch()
+            items = Items(self, None, line)
+            try:
+                return WGraph.read(self, side, progress.shown(items, items.total, line) if told else items)
+            except ValueError as error:
+                self.program.unexpected(line, f"a list of {items.total} vertices", str(error))
+        except CoxeterError as error:
+            raise self._shown(error)
 
-    def iter_W_graph(self, side="left"):
+    def iter_W_graph(self, side: str = "left") -> Iterator[Vertex]:
         """The vertices of the W-graph, in ShortLex order.
 
         >>> next(CoxeterGroup("A", 2).iter_W_graph())
         Vertex(element=(), descents=(), edges={(1,): 1, (2,): 1})
         """
+        return self._list(self._read_vertex, self._graph_line(side))
+
+    def _graph_line(self, side):
         if side not in SIDES:
             raise ValueError(f"the side is left or right, not {side!r}")
-        return self._list(self._read_vertex, f"{side[0]}wgraph")
+        return f"{side[0]}wgraph"
 
-    def left_cells(self):
+    def left_cells(self) -> Cells:
         """The list of the left cells of a finite group, each the list of its elements.
 
         >>> CoxeterGroup("A", 2).left_cells()
@@ -356,7 +411,7 @@ class CoxeterGroup(Elements, CellTheory, Schubert, Many, Jobs):
         """
         return Cells(self, self.iter_left_cells())
 
-    def iter_left_cells(self):
+    def iter_left_cells(self) -> Iterator[List[Element]]:
         """The left cells.
 
         >>> next(CoxeterGroup("A", 2).iter_left_cells())
@@ -364,7 +419,7 @@ class CoxeterGroup(Elements, CellTheory, Schubert, Many, Jobs):
         """
         return self._list(self._read_cell, "lcells")
 
-    def right_cells(self):
+    def right_cells(self) -> Cells:
         """The list of the right cells of a finite group, each the list of its elements.
 
         >>> CoxeterGroup("A", 2).right_cells()
@@ -372,7 +427,7 @@ class CoxeterGroup(Elements, CellTheory, Schubert, Many, Jobs):
         """
         return Cells(self, self.iter_right_cells())
 
-    def iter_right_cells(self):
+    def iter_right_cells(self) -> Iterator[List[Element]]:
         """The right cells.
 
         >>> next(CoxeterGroup("A", 2).iter_right_cells())
@@ -380,7 +435,7 @@ class CoxeterGroup(Elements, CellTheory, Schubert, Many, Jobs):
         """
         return self._list(self._read_cell, "rcells")
 
-    def two_sided_cells(self):
+    def two_sided_cells(self) -> Cells:
         """The list of the two-sided cells of a finite group, each the list of its elements.
 
         >>> CoxeterGroup("A", 2).two_sided_cells()
@@ -388,7 +443,7 @@ class CoxeterGroup(Elements, CellTheory, Schubert, Many, Jobs):
         """
         return Cells(self, self.iter_two_sided_cells())
 
-    def iter_two_sided_cells(self):
+    def iter_two_sided_cells(self) -> Iterator[List[Element]]:
         """The two-sided cells.
 
         >>> next(CoxeterGroup("A", 2).iter_two_sided_cells())
@@ -396,27 +451,26 @@ class CoxeterGroup(Elements, CellTheory, Schubert, Many, Jobs):
         """
         return self._list(self._read_cell, "lrcells")
 
-    def cell_module(self, w):
+    def cell_module(self, w: Word) -> CellModule:
         """The module of the left cell of w, in a finite group: its elements, and how the Hecke algebra acts on it.
 
         >>> module = CoxeterGroup("A", 2).cell_module([1])
         >>> module.elements, module.matrix(1)
         ([(1,), (2, 1)], [[-1, v], [0, v^2]])
         """
-        line = self._line("module", (w,))
-        return self._read(lambda lines: CellModule.read(self._spelling, self.rank, lines), line, self.program.ask(line))
+        return self._lines(lambda lines: CellModule.read(self._spelling, self.rank, lines), "module", w)
 
     # ---- the rest
 
-    def work(self, start, count):
+    def work(self, start: int, count: int) -> Work:
         """Makes so many rows of Kazhdan-Lusztig polynomials, of elements that follow from the start number.
 
         >>> CoxeterGroup("A", 1).work(7, 3)
         Work(words=3, entries=3, degree=0, sum=3)
         """
-        return self._answer(self._read_work, f"work {operator.index(start)} {operator.index(count)}")
+        return self._one(self._read_work, f"work {operator.index(start)} {operator.index(count)}")
 
-    def ask(self, line):
+    def ask(self, line: str) -> List[str]:
         """The lines of the program's answer to any line but one that sets another group.
 
         >>> CoxeterGroup("A", 3).ask("interval 2 232")
@@ -424,30 +478,80 @@ class CoxeterGroup(Elements, CellTheory, Schubert, Many, Jobs):
         """
         if line.split()[:1] in (["type"], ["matrix"]):
             raise ValueError("the group of this object stays; make another object for another group")
-        return self.program.ask(line)
+        try:
+            return self.program.ask(line)
+        except CoxeterError as error:
+            raise self._shown(error)
 
     # ---- questions and the shapes of answers
 
     def _line(self, command, words):
         return " ".join([command, *map(self.text, words)])
 
-    def _one(self, read, command, *words):
-        return self._answer(read, self._line(command, words))
+    # An error is raised anew in the methods that follow, without the frames below: so what is shown are the frames of the user, the
+    # method that was called, and one of these.
 
-    def _answer(self, read, line):
+    def _one(self, read, command, *words):
         """The answer of one line, read."""
-        self._watch()
-        lines = self.program.ask(line)
+        line = self._line(command, words)
+        try:
+            self._watch()
+            return self._line_of(read, line, self.program.ask(line))
+        except CoxeterError as error:
+            raise self._shown(error)
+
+    def _line_of(self, read, line, lines):
+        """An answer that should be one line, read."""
         if len(lines) != 1:
             self.program.unexpected(line, lines, "one line should have come")
         return self._read(read, line, lines[0])
 
+    def _lines(self, read, command, *words):
+        """The answer of several lines that are no list, read."""
+        line = self._line(command, words)
+        try:
+            self._watch()
+            return self._read(read, line, self.program.ask(line))
+        except CoxeterError as error:
+            raise self._shown(error)
+
     def _list(self, read, command, *words):
         """The items of a list, read."""
         line = self._line(command, words)
-        told = self._watch()
-        items = Items(self, read, line)
+        try:
+            told = self._watch()
+            items = Items(self, read, line)
+        except CoxeterError as error:
+            raise self._shown(error)
         return progress.shown(items, items.total, line) if told else items
+
+    def _whole(self, read, command, *words):
+        """The list of the items of a list, which are elements or pairs of an element and something."""
+        line = self._line(command, words)
+        try:
+            if self._watch():
+                items = Items(self, read, line)
+                return list(progress.shown(items, items.total, line))
+            return self._read(lambda lines: self._items(read, lines), line, self.program.ask(line))
+        except CoxeterError as error:
+            raise self._shown(error)
+
+    def _items(self, read, lines):
+        """The items of a list whose lines are there."""
+        total = texts.number(lines[0]) if lines else 0
+        if total != len(lines) - 1:
+            raise ValueError(f"the list should have {total} items")
+        elements = read == self._spelling.element
+        known = self._spelling.elements if elements else self._spelling.pairs
+        items = list(map(known.__getitem__, itertools.islice(lines, 1, None)))
+        texts.check_rising(items if elements else [it[0] for it in items])
+        return items
+
+    def _shown(self, error):
+        """An error as it is raised anew: without frames, and a refusal with its cause."""
+        if isinstance(error, Refusal):
+            error.detail = error.detail or reasons.detail(self, error)
+        return error.with_traceback(None)
 
     def _watch(self):
         """Sees to it that it is told how long the next answer is awaited, and says whether it is."""
@@ -461,14 +565,15 @@ class CoxeterGroup(Elements, CellTheory, Schubert, Many, Jobs):
         except ValueError as error:
             self.program.unexpected(line, text, str(error))
 
+    def _read_certificate(self, lines):
+        certificates.read_lines(self._spelling, self._matrix, lines)
+        return "".join(f"{it}\n" for it in lines)
+
     def _read_descents(self, text):
         found = re.fullmatch("L ([-0-9.]+) R ([-0-9.]+)", text)
         if found is None:
             raise ValueError("it should be L, a set, R and a set")
         return self._spelling.letter_set(found.group(1)), self._spelling.letter_set(found.group(2))
-
-    def _read_pair(self, text):
-        return texts.pair(self._spelling, text)
 
     def _read_cell(self, text):
         cell = list(map(self._spelling.element, text.split(" ")))
@@ -493,7 +598,7 @@ class CoxeterGroup(Elements, CellTheory, Schubert, Many, Jobs):
 class Items:
     """The items of a list, read as they are taken. `total` is the number of all of them.
 
-    The items are elements, or begin with elements, and these are in ShortLex order.
+    The items are elements, or begin with elements, and these are in ShortLex order. Without `read` they are texts.
     """
 
     def __init__(self, group, read, line):
@@ -514,6 +619,8 @@ class Items:
             self._group.program.unexpected(self._line, text, f"the list should have {self.total} items")
         if text is None:
             raise StopIteration
+        if self._item is None:
+            return text
         item = self._group._read(self._item, self._line, text)
         element = item if self._item == self._group._spelling.element else item[0]
         if self._last is not None and not texts.before(self._last, element):
@@ -525,8 +632,8 @@ class Items:
         return self.total - self._taken
 
 
-def again(line, nodes, program, progress, options):
+def again(line, nodes, program, progress, options, cartan=None, timeout=None):
     """The group of these arguments, which pickle keeps of a group."""
-    group = CoxeterGroup(line, program=program, progress=progress, **options)
-    group._nodes = nodes
+    group = CoxeterGroup(line, program=program, progress=progress, timeout=timeout, **options)
+    group._nodes, group._cartan = nodes, cartan
     return group

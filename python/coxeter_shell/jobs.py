@@ -1,14 +1,28 @@
 """Lists of jobs: many lines at once, in blocks, which the program may answer side by side."""
+from __future__ import annotations
+
 import collections
 import itertools
 import operator
+from typing import Any, Iterable, Iterator, List
 
-from . import progress
+from . import progress, texts
+from .base import Base
 from .errors import JobRefusal, Refusal
 from .program import MOST_OF_BLOCKS, MOST_OF_JOBS, PARTS, check_characters
 
 # So many lines of blocks fit into a list, since each has a mark behind it.
 MOST_OF_LINES = MOST_OF_JOBS // 2
+
+# Methods of one word: the command, and what reads the line of its answer, or None where that is a list of elements.
+ONE_WORD = {
+    "coatoms": ("coatoms", None),
+    "normal_form": ("compute", lambda group: group._spelling.element),
+    "length": ("length", lambda group: texts.number),
+    "inverse": ("inverse", lambda group: group._spelling.element),
+    "descents": ("descent", lambda group: group._read_descents),
+    "betti_numbers": ("betti", lambda group: texts.numbers),
+}
 
 Job = collections.namedtuple("Job", "block index line")
 
@@ -22,15 +36,15 @@ class Answers(list):
     """
 
     @property
-    def refusals(self):
+    def refusals(self) -> List[Refusal]:
         """The refused lines, in their order."""
         return [answer for block in self for answer in block if isinstance(answer, Refusal)]
 
 
-class Jobs:
+class Jobs(Base):
     """The methods of a group that ask lines in blocks."""
 
-    def jobs(self, blocks):
+    def jobs(self, blocks: Iterable[Iterable[str]]) -> Answers:
         """The answers to the lines of some blocks, which are lists of lines as the program reads them: for each block a list, with the
         lines of each answer. A line that is refused does not cost the other answers: a JobRefusal stands in the place of its own, and
         tells which block and which line it is. `.refusals` of the answers has them all.
@@ -43,7 +57,7 @@ class Jobs:
         """
         return Answers(self.iter_jobs(blocks))
 
-    def iter_jobs(self, blocks):
+    def iter_jobs(self, blocks: Iterable[Iterable[str]]) -> Iterator[List[Any]]:
         """The same block by block.
 
         >>> next(CoxeterGroup("A", 3).iter_jobs([["length 12", "length 1"], ["length 123"]]))
@@ -52,6 +66,43 @@ class Jobs:
         blocks = [read_block(number, block) for number, block in enumerate(blocks)]
         found = self._job_answers(blocks)
         return progress.shown(found, len(blocks), "jobs") if self._watch() else found
+
+    def _answers_of(self, method, words):
+        """The list of what a method of one word answers for many words, asked as lists of jobs."""
+        words = list(words)
+        if len(words) < 2:
+            return [getattr(self, method)(word) for word in words]
+        command, read = ONE_WORD[method]
+        return self._answers_to(read and read(self), [self._line(command, (word,)) for word in words])
+
+    def _answers_to(self, read, lines):
+        """The list of the answers to many lines, asked as lists of jobs. `read` reads the line of an answer, and is None where it is a list
+        of elements."""
+        # The blocks of a list are answered side by side where there are workers for them.
+        size = MOST_OF_LINES // MOST_OF_BLOCKS if self.program.options.get("workers", 1) > 1 else MOST_OF_LINES
+        self._watch()
+        found = self._job_answers([lines[at : at + size] for at in range(0, len(lines), size)])
+        return [self._one_of(read, line, it) for line, it in zip(lines, itertools.chain.from_iterable(found))]
+
+    def _normal_forms(self, words):
+        """The elements of many words."""
+        return self._answers_of("normal_form", words)
+
+    def _normal_among(self, words):
+        """Those of some words, which are tuples, that are normal forms, as an iterator."""
+        words = iter(words)
+        some = list(itertools.islice(words, MOST_OF_LINES))
+        while some:
+            yield from (word for word, normal in zip(some, self._normal_forms(some)) if word == normal)
+            some = list(itertools.islice(words, MOST_OF_LINES))
+
+    def _one_of(self, read, line, answer):
+        """An answer of a list of jobs, read. Where the line was refused, that is raised as it is for the line alone."""
+        if isinstance(answer, Refusal):
+            raise self._shown(Refusal(answer.number, line))
+        if read is None:
+            return self._read(lambda it: self._items(self._spelling.element, it), line, answer)
+        return self._line_of(read, line, answer)
 
     def _job_answers(self, blocks):
         answers = [[line if isinstance(line, Refusal) else None for line in block] for block in blocks]

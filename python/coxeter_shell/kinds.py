@@ -12,8 +12,20 @@ LABELS = (2, 3, 4, 6, math.inf)
 # The least and the greatest number of each named type.
 TYPES = {"A": (1, 16), "B": (2, 16), "D": (4, 16), "E": (6, 8), "F": (4, 4), "G": (2, 2), "a": (1, 15)}
 
-Kind = collections.namedtuple("Kind", "line matrix nodes")
-Kind.__doc__ = "A group: the line that sets it, its Coxeter matrix, and what Sage calls its nodes, in the order of the letters."
+# The same of the other affine types, whose node 0 is the last letter; to which node it is joined, and by which label. They are given to
+# the program by their matrices.
+AFFINE = {"b": (3, 15), "c": (2, 15), "d": (4, 15), "e": (6, 8), "f": (4, 4), "g": (2, 2)}
+JOINED = {"b": 2, "c": 1, "d": 2, "e6": 2, "e7": 1, "e8": 8, "f": 1, "g": 2}
+
+# The same of all letters that are taken. C n is the Coxeter group B n.
+NAMED = {**TYPES, "C": TYPES["B"], **AFFINE}
+
+# The text of a product of named types.
+PRODUCT = re.compile(" *[A-Za-z] *[0-9]+ *([x×] *[A-Za-z] *[0-9]+ *)+")
+
+Kind = collections.namedtuple("Kind", "line matrix nodes cartan", defaults=(None,))
+Kind.__doc__ = """A group: the line that sets it, its Coxeter matrix, what Sage calls its nodes, in the order of the letters, and its Cartan
+type as a tuple, as ("C", 3) or ("A", 2, 1), where it was given by one."""
 
 
 def read(kind, rank=None):
@@ -21,15 +33,17 @@ def read(kind, rank=None):
 
     >>> read("B3").line, read(["A", 2, 1]).line, read([[1, 3], [3, 1]]).line
     ('type B 3', 'type a 2', 'matrix 2 3')
+    >>> read("g2").line, read("A2xB2").line
+    ('matrix 3 6 2 3', 'matrix 4 3 2 2 2 2 4')
     """
     if rank is None and not isinstance(kind, str) and hasattr(kind, "coxeter_matrix"):
         return of_object(kind)
     if isinstance(kind, (list, tuple)) and kind and isinstance(kind[0], str):
         if rank is not None or len(kind) not in (2, 3) or tuple(kind[2:]) not in ((), (1,)):
             raise ValueError(f"{kind!r} is no type: write [\"A\", 3], or [\"A\", 3, 1] for the affine group")
-        if len(kind) == 3 and kind[0] != "A":
-            raise ValueError(f"there is no name for the affine group {kind!r}: give its Coxeter matrix, or Sage's CartanType")
         kind, rank = (kind[0].lower() if len(kind) == 3 else kind[0]), kind[1]
+    if isinstance(kind, str) and rank is None and PRODUCT.fullmatch(kind):
+        return of_factors([read(it) for it in re.split("[x×]", kind)])
     if isinstance(kind, str):
         return of_words(split(kind) if rank is None else [kind, str(operator.index(rank))], kind)
     if rank is not None:
@@ -67,16 +81,37 @@ def of_words(words, kind):
 
 
 def of_type(letter, number):
-    """The group of a named type. C n is the Coxeter group B n."""
-    letter = "B" if letter == "C" else letter
+    """The group of a named type."""
+    given, letter = letter, "B" if letter == "C" else letter
     line = f"type {letter} {number}"
     rank = whole(number, line)
-    least, greatest = TYPES.get(letter, (1, 0))
+    least, greatest = NAMED.get(letter, (1, 0))
     if not least <= rank <= greatest:
-        raise Refusal(13, line)
+        raise Refusal(13, line, why_no_type(given, rank))
+    if letter in AFFINE:
+        nodes = (*range(1, rank + 1), 0)
+        return checked(affine_matrix(letter, rank))._replace(nodes=nodes, cartan=(letter.upper(), rank, 1))
     matrix = named_matrix(letter, rank)
     nodes = range(1, len(matrix) + 1)
-    return Kind(f"type {letter} {rank}", matrix, (*nodes[:-1], 0) if letter == "a" else tuple(nodes))
+    cartan = ("A", rank, 1) if letter == "a" else (given, rank)
+    return Kind(f"type {letter} {rank}", matrix, (*nodes[:-1], 0) if letter == "a" else tuple(nodes), cartan)
+
+
+def why_no_type(letter, rank):
+    """Why there is no such named type.
+
+    >>> why_no_type("A", 17), why_no_type("E", 9)
+    ('groups have rank 1 to 16', 'the types of this letter are E 6 to E 8')
+    """
+    if letter in ("H", "I"):
+        return f"{letter} {rank} has a label other than 2, 3, 4, 6 and infinity, and such labels are not taken"
+    if letter not in NAMED:
+        return f"the letters are {', '.join(sorted(NAMED))}"
+    least, greatest = NAMED[letter]
+    if rank > greatest and greatest + letter.islower() == MOST_RANK:
+        return f"groups have rank 1 to {MOST_RANK}"
+    last = f" to {letter} {greatest}" if greatest > least else ""
+    return f"the type of this letter is {letter} {least}" if not last else f"the types of this letter are {letter} {least}{last}"
 
 
 def of_rows(rows):
@@ -100,7 +135,33 @@ def of_object(kind):
     if not hasattr(matrix, "index_set"):
         return named(of_rows(matrix))
     nodes = sorted(matrix.index_set(), key=lambda node: node == 0)
-    return named(of_rows([[matrix[s, t] for t in nodes] for s in nodes]))._replace(nodes=tuple(nodes))
+    found = named(of_rows([[matrix[s, t] for t in nodes] for s in nodes]))
+    return found._replace(nodes=tuple(nodes), cartan=cartan_of(kind, found.matrix) or found.cartan)
+
+
+def cartan_of(kind, matrix):
+    """The Cartan type of an object of Sage as a tuple, None where it has none that is known here and has this Coxeter matrix."""
+    cartan = kind.cartan_type() if hasattr(kind, "cartan_type") else kind
+    letter, number, affine = (getattr(cartan, name, None) for name in ("letter", "n", "affine"))
+    if not isinstance(letter, str) or number is None or affine not in (None, False, 0, 1):
+        return None
+    found = (letter, int(number), 1) if affine else (letter, int(number))
+    try:
+        return found if read(list(found)).matrix == matrix else None
+    except (ValueError, Refusal):
+        return None
+
+
+def of_factors(factors):
+    """The product of some groups, whose letters follow one another."""
+    size = sum(len(it.matrix) for it in factors)
+    rows = [[1 if s == t else 2 for t in range(size)] for s in range(size)]
+    at = 0
+    for factor in factors:
+        for s, row in enumerate(factor.matrix):
+            rows[at + s][at : at + len(row)] = row
+        at += len(factor.matrix)
+    return checked(rows)
 
 
 def named(kind):
@@ -134,6 +195,19 @@ def whole(text, line):
 def label(it):
     """A label of a Coxeter matrix: infinity may be 0, and Sage writes it as -1."""
     return math.inf if it in (0, -1, math.inf) else operator.index(it)
+
+
+def affine_matrix(letter, number):
+    """The Coxeter matrix of an affine type other than A: that of the finite type, with a node more, which is the node 0 of Sage and Bourbaki.
+
+    >>> affine_matrix("c", 2)
+    ((1, 4, 4), (4, 1, 2), (4, 2, 1))
+    """
+    finite = named_matrix("B" if letter == "c" else letter.upper(), number)
+    node = JOINED.get(letter) or JOINED[f"{letter}{number}"]
+    last = [2] * number
+    last[node - 1] = 4 if letter == "c" else 3
+    return tuple((*row, label) for row, label in zip(finite, last)) + ((*last, 1),)
 
 
 def named_matrix(letter, number):

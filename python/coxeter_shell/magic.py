@@ -1,9 +1,10 @@
 """The cell magic `%%coxeter`, which runs a cell of a notebook as a script of the program."""
+import re
 import shlex
 import subprocess
 
 from . import parents
-from .errors import STATUSES, CoxeterError
+from .errors import STATUSES, CoxeterError, Refusal
 from .program import find_program
 
 
@@ -22,7 +23,17 @@ def coxeter(line, cell):
         except BaseException:
             process.kill()
             raise
-    print(answers.decode("latin-1"), end="")
+    print(with_meanings(answers.decode("latin-1")), end="")
     # The status is 1 where a line was refused, and the answer says so itself.
     if process.returncode not in (0, 1):
         raise CoxeterError(f"exit status {process.returncode}: {STATUSES.get(process.returncode, 'it failed')}")
+
+
+def with_meanings(answers):
+    """The answers, with what each refusal means behind it.
+
+    >>> print(with_meanings("1\\nerror 16\\n"), end="")
+    1
+    error 16: a word has a letter that the group doesn't have
+    """
+    return re.sub("^error ([1-9][0-9])$", lambda it: f"{it[0]}: {Refusal(int(it[1]), '').meaning}", answers, flags=re.M)

@@ -1,63 +1,134 @@
 """Many questions at once, answered by the workers of an executor: threads, processes, or other machines."""
+from __future__ import annotations
+
+import concurrent.futures
 import copy
+import functools
+import json
+import operator
+import pickle
+import queue
 import threading
+import uuid
+from typing import Any, Iterable, Iterator, Optional
 
 from . import certificates
-from .errors import ProgramEnded
-from .tables import ElementDict, Table
+from .base import Base, Word
+from .errors import CoxeterError, ProgramEnded, Refusal, Unanswered, UnexpectedResult
+from .rowfile import RowFile
+from .tables import RowTable, Table
 
-# So often a question is asked where the program of a worker is killed.
+# So often a question is asked where a worker or its program is killed.
 TRIES = 3
 
 # The groups of this thread, each with a program of its own.
 _mine = threading.local()
 
 
-class Many:
+class Many(Base):
     """The methods of a group that ask many questions at once.
 
-    An executor is one of `concurrent.futures`, or any with its interface, as `client.get_executor()` of dask. Each of its workers has a
-    program of its own, which is found there and kept from question to question.
+    An executor is one of `concurrent.futures`, or any with its interface, as `client.get_executor()` of dask; a client of dask may be given
+    itself. Each of its workers has a program of its own, which is found there and kept from question to question.
     """
 
-    def map(self, method, *arguments, executor=None, chunksize=1):
+    def map(self, method: str, *arguments: Iterable[Any], executor: Any = None, chunksize: int = 1) -> Iterator[Any]:
         """The results of a method for many arguments, in their order, as an iterator. Without an executor they are asked for here.
 
-        The longest words are asked for first, so many questions at a time as `chunksize` says. Where the program of a worker is killed,
-        the question is asked again.
+        The longest words are asked for first, so many questions at a time as `chunksize` says. Where a worker or its program is killed,
+        the question is asked again. A worker that gives something else than the results is an UnexpectedResult.
+
+        The results are Python's objects, which executors of processes and machines send by `pickle`. So the workers have to be trusted, and
+        all who can write to the connections to them: `kazhdan_lusztig_table(certified=True)` is for others.
 
         >>> list(CoxeterGroup("A", 3).map("bruhat_le", ["13", "31"], ["123", "32"]))
         [True, False]
         """
-        if method.startswith(("_", "iter_")) or not callable(getattr(self, method, None)):
+        if not isinstance(method, str) or method.startswith(("_", "iter_")) or not callable(getattr(self, method, None)):
             raise ValueError(f"{method!r} is no method that gives a whole answer")
-        if chunksize < 1:
-            raise ValueError("the chunks are too small")
+        chunksize = whole_chunks(chunksize)
+        for it in arguments:
+            if isinstance(it, (str, bytes)):
+                raise TypeError(f"the arguments are lists, with one for each question, and {it!r} is one text: write [{it!r}]")
         items = list(zip(*arguments))
         if executor is None:
             return (getattr(self, method)(*item) for item in items)
-        return Results(executor, self, method, items, chunksize).read()
+        return Asked(executor, Results(self, method), items, chunksize).in_order()
 
-    def kazhdan_lusztig_table(self, words=None, *, executor=None, chunksize=1, certified=False, checker=None):
-        """A dictionary from each w to its row, which is a dictionary from each x <= w to P(x, w). `words` are those of the w; without them
+    def kazhdan_lusztig_table(
+        self,
+        words: Optional[Iterable[Word]] = None,
+        *,
+        executor: Any = None,
+        chunksize: int = 1,
+        certified: bool = False,
+        checker: Optional[str] = None,
+        path: Any = None,
+    ) -> RowTable:
+        """A dictionary from each w to its row, which is a dictionary from each x <= w to P(x, w). `words` is the list of the w; without it
         they are all elements of a finite group.
 
+        With `path` each row is written into this file as soon as it has come, as lines `w,x,polynomial` below two lines, one with the group
+        (`# type A 3`) and one with these names. Where the file has rows already, they are read and not asked for again: so a table that was
+        stopped goes on from there. A file of another group, or of something else, is refused and left as it is.
+
+        A chunk of questions whose worker or program is killed three times is given up; when all others are answered, an Unanswered says
+        which words it had. So are other errors raised at the end.
+
         With `certified` each row comes as a certificate, and the program `coxcheck` here has to say yes before it is used. So the workers
-        and their programs need not be trusted. `checker` is its path.
+        and their programs need not be trusted with the mathematics. Each chunk of certificates comes as bytes, and nothing that a worker
+        sends has to be unpickled: threads pickle nothing, and dask unpickles nothing for a client with `deserializers=["dask", "msgpack"]`.
+        Other executors of processes unpickle what their workers send, also here. `checker` is the path of `coxcheck`. Rows that are read from
+        the file were checked before they were written.
 
         >>> W = CoxeterGroup("A", 3)
         >>> table = W.kazhdan_lusztig_table(["2132", "12321"])
         >>> table["2132"]["2"], table["12321"]["13"]
         (1+q, 1+q)
         """
+        if isinstance(words, (str, bytes)):
+            raise TypeError(f"the words are a list of words, and {words!r} is one text: write [{words!r}]")
         if words is None and not self.is_finite():
             raise ValueError("the group has infinitely many rows: say which")
-        elements = list(self.elements()) if words is None else list(map(self.normal_form, words))
-        method = "certificate" if certified else "kazhdan_lusztig_basis"
-        found = self.map(method, elements, executor=executor, chunksize=chunksize)
-        if certified:
-            found = (self._certified(w, text, checker) for w, text in zip(elements, found))
-        return ElementDict(self, zip(elements, found), "row")
+        chunksize = whole_chunks(chunksize)
+        elements = list(self.elements() if words is None else dict.fromkeys(self._normal_forms(words)))
+        if path is None:
+            return self._table(elements, {}, None, executor, chunksize, certified, checker)
+        with RowFile(self, path) as file:
+            return self._table(elements, file.read(elements), file, executor, chunksize, certified, checker)
+
+    def _table(self, elements, rows, file, executor, chunksize, certified, checker):
+        """The table of these elements, of which some rows are there. The others are asked for, and written into the file as they come."""
+        items = [(w,) for w in elements if w not in rows]
+        what = Certificates(self) if certified else Results(self, "kazhdan_lusztig_basis")
+        asked = here(what, items) if executor is None else Asked(executor, what, items, chunksize).as_they_come()
+        lost = []
+        for some, found in asked:
+            if isinstance(found, Exception):
+                lost.append((some, found))
+                continue
+            for (w,), row in zip(some, found):
+                try:
+                    row = self._certified(w, row, checker) if certified else self._row_of(w, row)
+                except CoxeterError as error:
+                    lost.append(([(w,)], error))
+                    continue
+                if file is not None:
+                    file.write(w, row)
+                rows[w] = row
+        table = RowTable(self, ((w, rows[w]) for w in elements if w in rows))
+        for _, it in lost:
+            if not was_killed(it):
+                raise it
+        if lost:
+            raise Unanswered([w for some, _ in lost for (w,) in some], table) from lost[0][1]
+        return table
+
+    def _row_of(self, w, row):
+        """A row, if it ends by w itself, as each row does. By this a row that was cut off in a file is known."""
+        if not row or next(reversed(row)) != w:
+            self.program.unexpected(self._line("klbasis", (w,)), row, "its last row should be that of its element")
+        return row
 
     def _certified(self, w, text, checker):
         """The row of a certificate, if that is one of this element, and the checker accepts it."""
@@ -68,43 +139,226 @@ class Many:
         return self._read(lambda it: certificates.row(self, w, it), line, text.splitlines())
 
 
-class Results:
-    """The results of a method for these arguments, by the workers of an executor."""
+def whole_chunks(size):
+    """The size of chunks."""
+    size = operator.index(size)
+    if size < 1:
+        raise ValueError("the chunks are too small")
+    return size
 
-    def __init__(self, executor, group, method, items, chunksize):
-        self.executor, self.group, self.method, self.items = executor, group, method, items
+
+class Asked:
+    """Chunks of questions that the workers of an executor answer. `what` has a function for the workers, and reads what they give."""
+
+    def __init__(self, executor, what, items, chunksize):
+        self.submitting, self.what, self.items = submitting(executor), what, items
         order = sorted(range(len(items)), key=lambda k: -size(items[k]))
         self.chunks = [order[at : at + chunksize] for at in range(0, len(order), chunksize)]
-        self.futures = list(map(self.submit, self.chunks))
+        self.tries = [0] * len(self.chunks)
+        # Dask gives a question that was asked before the answer that it had then. So each has a mark of its own.
+        self.mark = uuid.uuid4().hex
+        self.futures = [None] * len(self.chunks)
+        for number in range(len(self.chunks)):
+            self.submit(number)
 
-    def submit(self, chunk):
-        return self.executor.submit(answers, self.group, self.method, [self.items[k] for k in chunk])
+    def submit(self, number):
+        self.tries[number] += 1
+        mark = f"{self.mark} {number} {self.tries[number]}"
+        self.futures[number] = self.submitting(self.what.work, *self.what.arguments, self.questions(number), mark)
 
-    def read(self):
+    def questions(self, number):
+        return [self.items[k] for k in self.chunks[number]]
+
+    def in_order(self):
         """The results in the order of the arguments. Those that came with others are kept until then."""
         numbers = {k: number for number, chunk in enumerate(self.chunks) for k in chunk}
         found = {}
-        for k in range(len(self.items)):
-            if k not in found:
-                found.update(zip(self.chunks[numbers[k]], self.result(numbers[k])))
-            yield found.pop(k)
+        try:
+            for k in range(len(self.items)):
+                number = numbers[k]
+                while k not in found:
+                    results = self.result(number)
+                    if results is not None:
+                        found.update(zip(self.chunks[number], results))
+                yield found.pop(k)
+        finally:
+            self.cancel()
+
+    def as_they_come(self):
+        """The pairs of the questions of a chunk and their results, or the error that came in their place."""
+        done = queue.SimpleQueue()
+        left = len(self.chunks)
+        try:
+            for number in range(left):
+                self.tell(number, done)
+            while left:
+                number = done.get()
+                try:
+                    results = self.result(number)
+                except Exception as error:
+                    results = error
+                if results is None:
+                    self.tell(number, done)
+                else:
+                    left -= 1
+                    yield self.questions(number), results
+        finally:
+            self.cancel()
+
+    def tell(self, number, done):
+        """Sees to it that the number of a chunk comes into a queue when it is done."""
+        self.futures[number].add_done_callback(lambda _: done.put(number))
 
     def result(self, number):
-        """The results of a chunk."""
+        """The results of a chunk. None where its worker or program was killed, and it was asked again."""
+        try:
+            try:
+                sent = self.futures[number].result()
+            except concurrent.futures.BrokenExecutor:
+                raise
+            except (Exception, concurrent.futures.CancelledError) as error:
+                # The errors of questions come as results. So this one is the executor's own: dask has such where workers were killed.
+                raise ExecutorFailed(f"the executor failed: {type(error).__name__}: {error}") from error
+            results = self.what.read(sent, len(self.chunks[number]))
+        except Exception as error:
+            if not was_killed(error) or self.tries[number] >= TRIES:
+                self.futures[number] = None
+                raise
+            self.submit(number)
+            return None
+        self.futures[number] = None
+        return results
+
+    def cancel(self):
+        """Sees to it that what is still to be asked is not."""
+        for future in self.futures:
+            if future is not None:
+                future.cancel()
+
+
+def submitting(executor):
+    """The `submit` of an executor; that of the client behind an executor of dask, whose own futures may never be done where workers are
+    killed, while those of the client are."""
+    client = getattr(executor, "_client", None)
+    if client is None or type(executor).__module__.split(".")[0] != "distributed":
+        return executor.submit
+    return functools.partial(client.submit, **getattr(executor, "_kwargs", {}))
+
+
+class ExecutorFailed(CoxeterError):
+    """An executor's own error in the place of a result."""
+
+
+def was_killed(error):
+    """Whether a question may be asked again after this error: its program, or its worker, was killed."""
+    if isinstance(error, ProgramEnded):
+        return error.status is None or error.status < 0
+    return isinstance(error, ExecutorFailed)
+
+
+class Results:
+    """The results of a method. Workers give them as they are, and an error as a value: there are executors that lose what is raised by a
+    question that they ask twice, and wait for it without end."""
+
+    def __init__(self, group, method):
+        self.group, self.method = group, method
+        self.arguments = group, method
+
+    @staticmethod
+    def work(group, method, items, _):
+        """What a worker does."""
+        try:
+            return "results", ask(mine(group), method, items)
+        except Exception as error:
+            return "error", portable(error)
+
+    def here(self, items):
+        return ask(self.group, self.method, items)
+
+    def read(self, sent, count):
+        """The results in what a worker has sent. An error that it has sent is raised."""
+        if isinstance(sent, tuple) and len(sent) == 2:
+            how, found = sent
+            if how == "error" and isinstance(found, Exception):
+                raise found
+            if how == "results" and isinstance(found, list) and len(found) == count:
+                for it in found:
+                    if isinstance(it, Table):
+                        it.group = self.group
+                return found
+        raise UnexpectedResult(sent, count)
+
+
+class Certificates:
+    """The certificates of rows. Workers give them as bytes, which hold a text of JSON: so it can be read without trust."""
+
+    def __init__(self, group):
+        self.group = group
+        self.arguments = (group,)
+
+    @staticmethod
+    def work(group, items, _):
+        """What a worker does."""
+        try:
+            told = {"certificates": ask(mine(group), "certificate", items)}
+        except ProgramEnded as error:
+            told = {"ended": error.line, "status": error.status}
+        except Refusal as error:
+            told = {"refused": error.line, "number": error.number}
+        except Exception as error:
+            told = {"error": f"{type(error).__name__}: {error}"}
+        return json.dumps(told).encode("ascii")
+
+    def here(self, items):
+        return ask(self.group, "certificate", items)
+
+    def read(self, sent, count):
+        """The certificates in what a worker has sent. An error that it tells of is raised."""
+        try:
+            told = json.loads(bytes(sent)) if isinstance(sent, (bytes, bytearray, memoryview)) else None
+        except (ValueError, RecursionError):
+            told = None
+        if isinstance(told, dict):
+            kinds = {name: type(value) for name, value in told.items()}
+            if kinds == {"certificates": list} and len(told["certificates"]) == count:
+                if all(isinstance(it, str) for it in told["certificates"]):
+                    return told["certificates"]
+            elif kinds in ({"ended": str, "status": int}, {"ended": str, "status": type(None)}):
+                raise ProgramEnded(told["ended"], told["status"])
+            elif kinds == {"refused": str, "number": int}:
+                raise Refusal(told["number"], told["refused"])
+            elif kinds == {"error": str}:
+                raise CoxeterError(f"a worker failed: {told['error']}")
+        raise UnexpectedResult(sent, count)
+
+
+def here(what, items):
+    """The pairs of a list with a question and of its result, or of the error that came in its place, asked for in this thread."""
+    for item in items:
         for left in reversed(range(TRIES)):
             try:
-                found = self.futures[number].result()
-                break
-            except ProgramEnded as error:
-                killed = error.status is None or error.status < 0
-                if not (killed and left):
-                    raise
-                self.futures[number] = self.submit(self.chunks[number])
-        self.futures[number] = None
-        for it in found:
-            if isinstance(it, Table):
-                it.group = self.group
-        return found
+                found = what.here([item])
+            except CoxeterError as error:
+                found = error
+                if was_killed(error) and left:
+                    continue
+            break
+        yield [item], found
+
+
+def ask(group, method, items):
+    """The results of a method of a group for some arguments."""
+    asked = getattr(group, method)
+    return [asked(*item) for item in items]
+
+
+def portable(error):
+    """The error, or one with its text where it can't be pickled."""
+    try:
+        pickle.loads(pickle.dumps(error))
+    except Exception:
+        return CoxeterError(f"{type(error).__name__}: {error}")
+    return error
 
 
 def size(item):
@@ -112,16 +366,10 @@ def size(item):
     return sum(len(it) for it in item if hasattr(it, "__len__"))
 
 
-def answers(group, method, items):
-    """The results of a method for some arguments, by the program of this thread."""
-    ask = getattr(mine(group), method)
-    return [ask(*item) for item in items]
-
-
 def mine(group):
     """The same group with a program of this thread's own."""
     groups = _mine.__dict__.setdefault("groups", {})
-    key = group.line, group.program.path, tuple(sorted(group.program.options.items()))
+    key = group.line, group.program.path, tuple(sorted(group.program.options.items())), group.timeout
     if key not in groups:
         groups[key] = copy.copy(group)
         groups[key]._progress = False

@@ -1,5 +1,10 @@
 """Modules of left cells."""
+from __future__ import annotations
+
+from typing import Any, Dict, List
+
 from . import texts
+from .base import Element, Word
 from .polynomial import Polynomial
 
 
@@ -7,8 +12,8 @@ class InV(Polynomial):
     """A polynomial in v, which is q^(1/2).
 
     >>> v = InV([0, 1])
-    >>> v * v - 2 * v, v == Polynomial([0, 1])
-    (-2v+v^2, False)
+    >>> v * v - 2 * v, v == Polynomial([0, 1]), Polynomial([1]) + v
+    (-2v+v^2, False, 1+v)
     """
 
     __slots__ = ()
@@ -26,12 +31,16 @@ class CellModule:
     (<the module of a left cell with 2 elements>, 2)
     """
 
-    def __init__(self, elements, images):
+    def __init__(self, elements: List[Element], images: Dict[int, List[Dict[Element, InV]]]) -> None:
         self.elements, self.images = elements, images
 
     @classmethod
     def read(cls, spelling, rank, lines):
-        """The module of an answer, line by line. Another answer is a ValueError."""
+        """The module of an answer, line by line. Another answer is a ValueError.
+
+        >>> CellModule.read(CoxeterGroup("A", 1)._spelling, 1, ["1", "e", "1 e: e=v^2"]).matrix(1)
+        [[v^2]]
+        """
         if len(lines) < 2:
             raise ValueError("its elements are missing")
         size, elements = texts.number(lines[0]), [spelling.element(it) for it in lines[1].split(" ")]
@@ -46,10 +55,18 @@ class CellModule:
     def __repr__(self):
         return f"<the module of a left cell with {len(self.elements)} elements>"
 
-    def __len__(self):
+    def __len__(self) -> int:
         return len(self.elements)
 
-    def matrix(self, s):
+    def __eq__(self, other):
+        if not isinstance(other, CellModule):
+            return NotImplemented
+        return self.elements == other.elements and self.images == other.images
+
+    def __hash__(self):
+        return hash(tuple(self.elements))
+
+    def matrix(self, s: int) -> List[List[InV]]:
         """The matrix of t(s), as a list of rows. Its columns are the images of the elements, in their order.
 
         >>> CellModule([(1,)], {1: [{(1,): InV([-1])}]}).matrix(1)
@@ -57,7 +74,44 @@ class CellModule:
         """
         return [[image.get(y, InV()) for image in self.images[s]] for y in self.elements]
 
-    def sage(self, s):
+    def _gap_init_(self):
+        matrices = [self.matrix(s) for s in sorted(self.images)]
+        return f"rec( elements := {texts.gap(self.elements)}, matrices := {texts.gap(matrices)} )"
+
+    def act(self, word: Word) -> List[List[InV]]:
+        """The matrix of the product of the t(s) over the letters of a word, in their order, as a list of rows. For a reduced word of w it is
+        that of T(w). The word is a text or a list of letters.
+
+        >>> module = CoxeterGroup("A", 2).cell_module("1")
+        >>> module.act("12"), module.act("121") == module.act("212")
+        ([[0, -v], [v^3, -v^2]], True)
+        """
+        spelling = texts.Spelling(len(self.images))
+        letters = spelling.element(spelling.write(word))
+        places = {y: at for at, y in enumerate(self.elements)}
+        rows = [[InV()] * len(self.elements) for _ in self.elements]
+        for column, x in enumerate(self.elements):
+            vector = {x: InV([1])}
+            for s in reversed(letters):
+                moved: Dict[Element, InV] = {}
+                for y, entry in vector.items():
+                    for z, more in self.images[s][places[y]].items():
+                        moved[z] = moved.get(z, InV()) + more * entry
+                vector = moved
+            for y, entry in vector.items():
+                rows[places[y]][column] = entry
+        return rows
+
+    def character(self, word: Word) -> InV:
+        """The trace of `act(word)`, a polynomial in v. At v = 1 it is the value of a character of the group.
+
+        >>> module = CoxeterGroup("A", 2).cell_module("1")
+        >>> [module.character(word) for word in ("e", "1", "12")], module.character("1")(1)
+        ([2, -1+v^2, -v^2], 0)
+        """
+        return sum((row[at] for at, row in enumerate(self.act(word))), InV())
+
+    def sage(self, s: int) -> Any:
         """The same as a matrix of Sage over the polynomials in v. It needs Sage."""
         from sage.all import ZZ, PolynomialRing, matrix
 

@@ -3,17 +3,13 @@ import os
 import shutil
 import subprocess
 
+from .base import CELLS
 from .errors import CoxeterError
+from .texts import counted
 
 # What graphviz is asked to draw, by the end of a file's name. Files of the other two are DOT texts.
 DRAWN = {".svg": "svg", ".png": "png"}
 TEXTS = (".dot", ".gv")
-
-CELLS = {
-    "left": ("left", "iter_left_cells"),
-    "right": ("right", "iter_right_cells"),
-    "two-sided": ("left", "iter_two_sided_cells"),
-}
 
 
 def hasse(group, w, y=()):
@@ -30,7 +26,7 @@ def cells(group, side="left"):
     """The left, right or two-sided cells as clusters, with the edges of the W-graph (the left one for two-sided cells)."""
     if side not in CELLS:
         raise ValueError(f"the side is left, right or two-sided, not {side!r}")
-    of_graph, method = CELLS[side]
+    method, of_graph = CELLS[side]
     lines = []
     for number, cell in enumerate(getattr(group, method)(), 1):
         lines.append(f"subgraph cluster_{number} {{ {' '.join(f'{name(group, x)};' for x in cell)} }}")
@@ -50,8 +46,8 @@ def hasse_text(diagram):
 def w_graph_text(graph):
     """A W-graph as a DOT text. Descents are an attribute, and the second line of the label."""
     lines = []
-    for x, vertex in graph.vertices.items():
-        text, descents = graph.group.text(x), graph.group.set_text(vertex.descents)
+    for x in graph:
+        text, descents = graph.group.text(x), graph.group.set_text(graph[x].descents)
         lines.append(f'"{text}" [descents="{descents}", label="{text}\\n{{{descents.strip("-")}}}"]')
     return dot("wgraph", lines + edges(graph))
 
@@ -60,7 +56,8 @@ def cell_order_text(order):
     """The order of cells as a DOT text. The second line of a label has the number of the elements."""
     group, lines = order.group, ["rankdir=BT", "node [shape=plaintext]"]
     for x, cell in order.cells.items():
-        lines.append(f'{name(group, x)} [label="{group.text(x)}\\n{{{len(cell)}}}"]')
+        size = counted(len(cell), "element")
+        lines.append(f'{name(group, x)} [label="{group.text(x)}\\n{size}"]')
     return dot("cells", lines + [f"{name(group, y)} -- {name(group, x)}" for x, y in order.edges()])
 
 
@@ -83,12 +80,16 @@ def dot(title, lines):
     return "".join([f"graph {title} {{\n", *(f"  {line}\n" for line in lines), "}\n"])
 
 
-def save(text, path):
-    """Writes a picture into a file: the DOT text (.dot, .gv), or what graphviz draws (.svg, .png)."""
+def save(text, path, graph=None):
+    """Writes a picture into a file: the DOT text (.dot, .gv), or what graphviz draws (.svg, .png). Where there is no graphviz, a graph draws
+    itself as SVG."""
     kind = os.path.splitext(path)[1].lower()
     if kind not in DRAWN and kind not in TEXTS:
         raise CoxeterError(f"{path}: the name of a picture ends in .dot, .gv, .svg or .png")
-    drawn = draw(text, DRAWN[kind]) if kind in DRAWN else text.encode("ascii")
+    if kind == ".svg" and graph is not None and shutil.which("dot") is None:
+        drawn = graph.svg().encode("utf-8")
+    else:
+        drawn = draw(text, DRAWN[kind]) if kind in DRAWN else text.encode("ascii")
     with open(path, "wb") as out:
         out.write(drawn)
 

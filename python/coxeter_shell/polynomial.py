@@ -1,10 +1,13 @@
 """Polynomials in one variable with integer coefficients."""
+from __future__ import annotations
+
 import functools
 import math
 import numbers
 import operator
 import re
 import sys
+from typing import Any, Iterable, Iterator, Optional, Tuple
 
 # Words have at most 255 letters, so that the program writes no greater degree.
 MOST_DEGREE = 255
@@ -26,9 +29,12 @@ class Polynomial:
     """
 
     __slots__ = ("coefficients",)
+    coefficients: Tuple[int, ...]
     variable = "q"
 
-    def __init__(self, coefficients=()):
+    def __init__(self, coefficients: Iterable[int] = ()) -> None:
+        if isinstance(coefficients, (dict, set, frozenset, str, bytes)):
+            raise TypeError(f"the coefficients are a list by rising degree, and not {coefficients!r}")
         listed = [operator.index(it) for it in coefficients]
         while listed and listed[-1] == 0:
             listed.pop()
@@ -56,7 +62,7 @@ class Polynomial:
             raise ValueError(f"{text!r} is no polynomial")
         return found
 
-    def degree(self):
+    def degree(self) -> int:
         """The degree, -1 for the zero polynomial.
 
         >>> Polynomial([0, 0, 5]).degree(), Polynomial().degree()
@@ -64,7 +70,7 @@ class Polynomial:
         """
         return len(self.coefficients) - 1
 
-    def valuation(self):
+    def valuation(self) -> float:
         """The least degree of a term, math.inf for the zero polynomial.
 
         >>> Polynomial([0, 0, 5, 1]).valuation(), Polynomial().valuation()
@@ -72,7 +78,7 @@ class Polynomial:
         """
         return next((degree for degree, it in enumerate(self.coefficients) if it), math.inf)
 
-    def coefficient(self, degree):
+    def coefficient(self, degree: int) -> int:
         """The coefficient in this degree, 0 where there is no such term.
 
         >>> p = Polynomial([1, 2])
@@ -82,7 +88,7 @@ class Polynomial:
         degree = operator.index(degree)
         return self.coefficients[degree] if 0 <= degree < len(self.coefficients) else 0
 
-    def __getitem__(self, degree):
+    def __getitem__(self, degree: int) -> int:
         """The same as `coefficient`. There are no negative degrees.
 
         >>> Polynomial([1, 2])[1], Polynomial([1, 2])[7]
@@ -92,7 +98,7 @@ class Polynomial:
             raise IndexError("a polynomial has no negative degrees")
         return self.coefficient(degree)
 
-    def __call__(self, q):
+    def __call__(self, q: Any) -> Any:
         """The value at q, which may be anything that is added to and multiplied by integers.
 
         >>> p, q = Polynomial([1, 2]), Polynomial([0, 1])
@@ -106,7 +112,7 @@ class Polynomial:
 
     # ---- arithmetic
 
-    def __add__(self, other):
+    def __add__(self, other: Any) -> Any:
         """The sum with a polynomial or an integer.
 
         >>> Polynomial([1, 1]) + Polynomial([0, 0, 3]), 1 + Polynomial([0, 1]), Polynomial([1, 1]) - 1
@@ -118,23 +124,23 @@ class Polynomial:
         if more is None:
             return NotImplemented
         size = range(max(len(self.coefficients), len(more)))
-        return type(self)([self.coefficient(it) + (more[it] if it < len(more) else 0) for it in size])
+        return kind_of(self, other)([self.coefficient(it) + (more[it] if it < len(more) else 0) for it in size])
 
     __radd__ = __add__
 
-    def __sub__(self, other):
+    def __sub__(self, other: Any) -> Any:
         return self + -other if isinstance(other, (Polynomial, numbers.Number)) or from_sage(other) else NotImplemented
 
-    def __rsub__(self, other):
+    def __rsub__(self, other: Any) -> Any:
         return -self + other
 
-    def __neg__(self):
+    def __neg__(self) -> Any:
         return type(self)([-it for it in self.coefficients])
 
     def __pos__(self):
         return self
 
-    def __mul__(self, other):
+    def __mul__(self, other: Any) -> Any:
         """The product with a polynomial or an integer.
 
         >>> Polynomial([1, 1]) * Polynomial([1, -1]), 3 * Polynomial([1, 1])
@@ -149,11 +155,11 @@ class Polynomial:
         for degree, coefficient in enumerate(self.coefficients):
             for place, it in enumerate(factor, degree):
                 product[place] += coefficient * it
-        return type(self)(product)
+        return kind_of(self, other)(product)
 
     __rmul__ = __mul__
 
-    def __pow__(self, exponent):
+    def __pow__(self, exponent: int) -> Any:
         """A power, whose exponent is not negative.
 
         >>> Polynomial([1, 1]) ** 3
@@ -182,16 +188,16 @@ class Polynomial:
         # A constant is equal to a number. Other polynomials are equal to the tuples of their coefficients.
         return hash(self.coefficients if len(self.coefficients) > 1 else self.coefficient(0))
 
-    def __bool__(self):
+    def __bool__(self) -> bool:
         return bool(self.coefficients)
 
     # There is no length: pandas and numpy would take a polynomial for a list.
-    def __iter__(self):
+    def __iter__(self) -> Iterator[int]:
         return iter(self.coefficients)
 
     # ---- texts, and other programs
 
-    def __str__(self):
+    def __str__(self) -> str:
         return self._written("^{}".format)
 
     __repr__ = __str__
@@ -224,7 +230,7 @@ class Polynomial:
     def _repr_latex_(self):
         return f"${self._latex_()}$"
 
-    def sage(self, variable=None):
+    def sage(self, variable: Optional[str] = None) -> Any:
         """The same as a polynomial of Sage over the integers. It needs Sage."""
         from sage.all import ZZ, PolynomialRing
 
@@ -244,13 +250,19 @@ class Polynomial:
         return type(self), (self.coefficients,)
 
     def _terms(self, other):
-        """The coefficients of what this is added to or multiplied by, None for what it is not."""
+        """The coefficients of what this is added to or multiplied by, None for what it is not. Constants have any variable."""
         if isinstance(other, Polynomial):
-            return other.coefficients if other.variable == self.variable else None
+            same = other.variable == self.variable or other.degree() < 1 or self.degree() < 1
+            return other.coefficients if same else None
         try:
             return (operator.index(other),)
         except TypeError:
             return None
+
+
+def kind_of(one, other):
+    """The class of a sum or a product: a constant has the variable of the other."""
+    return type(other) if isinstance(other, Polynomial) and one.degree() < 1 <= other.degree() else type(one)
 
 
 def from_sage(value):

@@ -8,21 +8,25 @@ none where `type` or `matrix` was accepted, one line `error N` where the questio
 
 In a list of jobs a mark stands behind each line, and is answered as it is elsewhere, since it is a line of its block.
 """
+from __future__ import annotations
+
 import collections
-import importlib.metadata
+import contextlib
 import itertools
-import json
+import numbers
+import operator
 import os
 import re
 import shutil
 import subprocess
 import threading
-import urllib.parse
-import urllib.request
 import weakref
+from typing import Any, Iterable, List, NoReturn, Optional
 
 from . import parents
-from .errors import ProgramClosed, ProgramEnded, ProgramNotFound, Refusal, UnexpectedAnswer
+from .documents import checkouts
+from .errors import ProgramClosed, ProgramEnded, ProgramNotFound, QuestionTimeout, Refusal, UnexpectedAnswer
+from .provenance import own_program, provenance
 
 MARK = "\t"
 MARK_ANSWER = "error 19"
@@ -44,7 +48,11 @@ MOST_OF_CONTEXT = 1_048_576
 # What is sent besides a question: the mark behind it, and the empty list before a list.
 ROOM = len(f"jobs\nend\n{MARK}\n\n{MARK}\n")
 
-OPTIONS = ("workers", "context", "roots", "coef")
+# The options, and what each may be.
+OPTIONS = {"workers": (1, 16), "context": (1, MOST_OF_CONTEXT), "roots": (1, 4096), "coef": (1, 2**63 - 1)}
+
+# So many lines are read before they are made texts.
+MOST_AT_ONCE = 4096
 
 # How many seconds a process that is told to end has for it.
 PATIENCE = 2
@@ -58,6 +66,9 @@ class Program:
     object; if it ends otherwise, the next question starts a new one with the same group. It is killed where Python ends
     without having ended it.
 
+    `timeout` is how many seconds the program has for the answer to a question, or, where the answer is read line by line, for its first
+    line; None is no limit. Behind it the program is ended, and a QuestionTimeout raised.
+
     `watch`, if it is set, is called with a question and the pipe that its answer comes from, before the first line is read.
 
     >>> with Program(group="type A 3") as program:
@@ -65,13 +76,12 @@ class Program:
     ['2', '12', '21']
     """
 
-    def __init__(self, path=None, *, group=None, **options):
-        for name in options:
-            if name not in OPTIONS:
-                raise TypeError(f"the program has no option {name!r}")
+    def __init__(self, path: Optional[str] = None, *, group: Optional[str] = None, **options: Optional[int]) -> None:
         self.path = path
         self.group = group
-        self.options = {name: value for name, value in options.items() if value is not None}
+        self.options = {name: option(name, value) for name, value in options.items() if value is not None}
+        self.timeout = self._timer = None
+        self._late = False
         self.watch = None
         self._lock = threading.RLock()
         self._process = self._end = self._owner = None
@@ -82,15 +92,15 @@ class Program:
         # Whether the group is set, and whether it is known what comes next from the process: an interrupt may come anywhere.
         self._begun = self._sure = False
 
-    def ask(self, line):
+    def ask(self, line: str) -> List[str]:
         """The lines of the answer to a line: none where `type`, `matrix` or a blank line is accepted."""
-        with self._lock:
-            return list(self.stream(line))
+        with self._lock, self._limited(line):
+            return self.stream(line).rest()
 
-    def stream(self, line):
+    def stream(self, line: str) -> Answer:
         """The lines of the answer to a line, as an iterator that reads them when they are needed."""
         words = check_line(line)
-        with self._lock:
+        with self._lock, self._limited(line):
             self.start()
             answer = self._question(line)
             if words and words[0] in ("type", "matrix"):
@@ -98,7 +108,7 @@ class Program:
                 self.group = line
             return answer
 
-    def ask_list(self, blocks):
+    def ask_list(self, blocks: Iterable[Iterable[str]]) -> List[List[List[str]]]:
         """The answers to the lines of some blocks, which are asked as a list of jobs: for each block the list of the answers to its
         lines, each as its lines. A refusal is the one line `error N` there.
 
@@ -108,15 +118,15 @@ class Program:
         ...     program.ask_list([["coatoms 121", "length 4"], ["pol 2 2132"]])
         [[['2', '12', '21'], ['error 16']], [['1+q']]]
         """
-        blocks = list(map(list, blocks))
+        listed = [list(block) for block in blocks]
         parts = []
-        for block in blocks:
+        for block in listed:
             for line in block:
                 if check_characters(line) in PARTS:
                     raise ValueError(f"{line!r} parts the blocks of a list, and is no line of one")
             parts.append("".join(f"{line}\n{MARK}\n" for line in block))
         text = "jobs\n" + "next\n".join(parts) + "end"
-        with self._lock:
+        with self._lock, self._limited("jobs"):
             self.start(len(text))
             # Without a group, or in a program that has no lists, each line would be answered before the next is read. So an empty
             # list is tried first, which has no answer.
@@ -126,11 +136,51 @@ class Program:
                 if number is None:
                     self.unexpected("jobs", said, "nothing should have come")
                 raise Refusal(number, "jobs")
-            *answers, said = self._exchange(text, sum(map(len, blocks)) + 1)
+            *answers, said = self._exchange(text, sum(map(len, listed)) + 1)
             if said:
                 self.unexpected("jobs", said, "the list should have as many answers as lines")
         left = iter(answers)
-        return [list(itertools.islice(left, len(block))) for block in blocks]
+        return [list(itertools.islice(left, len(block))) for block in listed]
+
+    @contextlib.contextmanager
+    def _limited(self, line):
+        """For a `with` block: what is done in it is ended when the program's time is over."""
+        if self.timeout is None or self._timer is not None:
+            yield
+            return
+        self._late = False
+        self._timer = threading.Timer(self.timeout, self._end_late)
+        self._timer.daemon = True
+        self._timer.start()
+        try:
+            yield
+        except ProgramEnded as error:
+            if self._late:
+                raise QuestionTimeout(line, self.timeout) from error
+            raise
+        finally:
+            self._timer.cancel()
+            self._timer = None
+            if self._late:
+                # It may have been killed right behind its answer.
+                self._kill()
+
+    def _end_late(self):
+        """Ends the process from another thread, so that whoever waits for it gets the end of its output."""
+        self._late, process = True, self._process
+        if process is not None:
+            process.kill()
+
+    def provenance(self):
+        """Where the program comes from: its file and the checksum of that, the release that it is, and the logic that it was proved in.
+        It is a `Provenance`, whose text has a line for each.
+
+        >>> [len(it) for it in (Program().provenance().sha256, str(Program().provenance()).splitlines()[1].split())]
+        [64, 2]
+        """
+        with self._lock:
+            process = None if self._process is None or self.foreign() else self._process.pid
+            return provenance(find_program(self.path), process)
 
     def start(self, size=MOST_OF_LINE):
         """Starts the process and sets the group, unless a process is there that can take one more question of this size."""
@@ -152,7 +202,7 @@ class Program:
                         raise
                 self._begun = True
 
-    def close(self):
+    def close(self) -> None:
         """Ends the process. What was not read of an answer is lost: its iterator raises ProgramClosed."""
         with self._lock:
             if self._process is None:
@@ -207,11 +257,8 @@ class Program:
         self._send(text, answer, marks)
         found = []
         while len(found) < marks:
-            lines, line = [], self.read_line(first=not found)
-            while line is not None:
-                lines.append(line)
-                line = self.read_line()
-            found.append(lines)
+            first = self.read_line(first=not found)
+            found.append([] if first is None else [first, *self.read_lines()])
             if found == [[TOO_LONG]]:
                 # The list as a whole is refused, and no other mark comes.
                 self._unread = None
@@ -276,14 +323,53 @@ class Program:
         if not data.endswith(b"\n"):
             raise ProgramEnded(question, self._stop())
         line = data[:-1].decode("latin-1")
-        if not re.fullmatch("[ -~]+", line):
-            self.unexpected(question, line, "a line should be of printing ASCII characters and spaces")
+        self._check_characters(line)
         if line == MARK_ANSWER:
             self._marks, line = self._marks - 1, None
             if not self._marks:
                 self._unread = None
         self._sure = True
         return line
+
+    def read_lines(self):
+        """The lines up to the next mark."""
+        texts, lines, end = [], [], f"{MARK_ANSWER}\n".encode()
+        if self._unread is None:
+            return texts
+        self._sure = False
+        try:
+            readline = self._process.stdout.readline
+            data = readline()
+            while data != end and data.endswith(b"\n"):
+                lines.append(data)
+                if len(lines) == MOST_AT_ONCE:
+                    texts += self._texts(lines)
+                data = readline()
+        except OSError as error:
+            raise ProgramEnded(self._asked, self._stop()) from error
+        except BaseException:
+            self._kill()
+            raise
+        if data != end:
+            raise ProgramEnded(self._asked, self._stop())
+        texts += self._texts(lines)
+        self._marks -= 1
+        if not self._marks:
+            self._unread = None
+        self._sure = True
+        return texts
+
+    def _texts(self, lines):
+        """The texts of some lines, whose list is emptied."""
+        texts = b"".join(lines).decode("latin-1").split("\n")[:-1]
+        lines.clear()
+        for text in texts:
+            self._check_characters(text)
+        return texts
+
+    def _check_characters(self, line):
+        if not (line and line.isascii() and line.isprintable()):
+            self.unexpected(self._asked, line, "a line should be of printing ASCII characters and spaces")
 
     def _kill(self):
         """Ends the process at once, in the middle of an answer."""
@@ -300,7 +386,7 @@ class Program:
             self.unexpected(question, lines, "a refusal should be one line, `error` and a number")
         return int(found.group(1))
 
-    def unexpected(self, question, answer, why):
+    def unexpected(self, question: str, answer: Any, why: str) -> NoReturn:
         """Ends the process, since its answers can't be trusted, and raises the error."""
         with self._lock:
             self._kill()
@@ -336,13 +422,17 @@ class Answer:
         """The next line from the program, None at the end."""
         if self._ended:
             return None
+        self._check_there()
+        line = self._program.read_line(first)
+        self._ended = line is None
+        return line
+
+    def _check_there(self):
+        """Sees to it that the process is there that answers."""
         if self._program.foreign():
             self.lost = "the program belongs to the process that this one was forked from"
         if self._process is not self._program._process or self._program.foreign():
             raise ProgramClosed(self.line, self.lost)
-        line = self._program.read_line(first)
-        self._ended = line is None
-        return line
 
     def __iter__(self):
         return self
@@ -354,9 +444,45 @@ class Answer:
             raise StopIteration
         return line
 
+    def rest(self):
+        """The lines that are left."""
+        with self._program._lock:
+            self.keep_rest()
+            lines = list(self._kept)
+            self._kept.clear()
+        return lines
+
     def keep_rest(self):
         """Reads the lines that are left, so that the program can be asked something else."""
-        self._kept.extend(iter(self._read, None))
+        if not self._ended:
+            self._check_there()
+            self._kept.extend(self._program.read_lines())
+            self._ended = True
+
+
+def option(name, value):
+    """The value of an option of the program. A wrong one is a TypeError or a ValueError."""
+    if name not in OPTIONS:
+        raise TypeError(f"the program has no option {name!r}")
+    least, greatest = OPTIONS[name]
+    try:
+        value = int(operator.index(value))
+    except TypeError:
+        raise TypeError(f"the option {name} is a whole number, and not {value!r}") from None
+    if not least <= value <= greatest:
+        raise ValueError(f"the option {name} is a number from {least:,} to {greatest:,}, and not {value:,}")
+    return value
+
+
+def seconds(value):
+    """A limit of time: a positive number, or None for none."""
+    if value is None:
+        return None
+    if isinstance(value, bool) or not isinstance(value, numbers.Real):
+        raise TypeError(f"a limit of time is a number of seconds, and not {value!r}")
+    if not 0 < value <= threading.TIMEOUT_MAX:
+        raise ValueError(f"a limit of time is a positive number of seconds, and not {value}")
+    return float(value)
 
 
 def check_line(line):
@@ -406,11 +532,11 @@ def end(process, owner):
         return None
 
 
-def find_program(path=None, name="coxeter"):
+def find_program(path: Optional[str] = None, name: str = "coxeter") -> str:
     """The path of the program `coxeter`, or of `coxcheck`, by its name.
 
-    It is `path`, else what the environment variable COXETER names, or COXCHECK, else the program built in the checkout that this
-    package lies in or was installed from, else the command on the PATH.
+    It is `path`, else what the environment variable COXETER names, or COXCHECK, else the program that came with this package, else the
+    one built in the checkout that it lies in or was installed from, else the command on the PATH.
     """
     named = path or os.environ.get(name.upper())
     if named:
@@ -419,30 +545,18 @@ def find_program(path=None, name="coxeter"):
             by = "" if path else f", which the environment variable {name.upper()} names"
             raise ProgramNotFound(f"there is no program {os.fspath(named)!r}{by}")
         return found
-    unbuilt = ""
+    found, why = own_program(name)
+    if found is not None:
+        return found
+    unbuilt = f" ({why}.)" if why else ""
     for checkout in checkouts():
         built = os.path.join(checkout, "crates", name, "out", name)
         if os.path.isfile(built) and os.access(built, os.X_OK):
             return built
         if os.path.isdir(os.path.join(checkout, "crates", name)):
-            unbuilt = f" It is not built yet in {checkout}: run ./{name} </dev/null there once."
+            unbuilt += f" It is not built yet in {checkout}: run ./{name} </dev/null there once."
     found = shutil.which(name)
     if found is None:
         ways = f"give its path by the argument `program` or by the environment variable {name.upper()}, or put it on the PATH."
         raise ProgramNotFound(f"the program {name} was not found: {ways}{unbuilt}")
     return found
-
-
-def checkouts():
-    """The folders that may be this package's checkout: the one that it lies in, and the one that pip installed it from."""
-    package = os.path.dirname(os.path.abspath(__file__))
-    yield os.path.dirname(os.path.dirname(package))
-    try:
-        installed = importlib.metadata.distribution("coxeter_shell")
-        if not os.path.samefile(installed.locate_file("coxeter_shell"), package):
-            return
-        url = urllib.parse.urlsplit(json.loads(installed.read_text("direct_url.json") or "{}").get("url", ""))
-    except (importlib.metadata.PackageNotFoundError, OSError, ValueError):
-        return
-    if url.scheme == "file":
-        yield os.path.dirname(os.path.normpath(urllib.request.url2pathname(url.path)))

@@ -80,6 +80,19 @@ def nodes_in_order(cartan_type):
     return nodes
 
 
+def cartan_type_of(matrix):
+    """The Cartan type of a Coxeter matrix of Sage. Matrices without one are a NotImplementedError.
+
+        sage: from coxeter_shell.sage import CoxeterGroup
+        sage: CoxeterGroup(CoxeterMatrix(["B", 3]))
+        Coxeter group of type ['B', 3] implemented by coxeter_shell
+    """
+    found = matrix.coxeter_type()
+    if not hasattr(found, "cartan_type"):
+        raise NotImplementedError("the matrix has no Cartan type: coxeter_shell.CoxeterGroup takes it")
+    return found.cartan_type()
+
+
 class Letters(tuple):
     """A normal form, in the letters of the program."""
 
@@ -108,6 +121,8 @@ class CoxeterGroup(UniqueRepresentation, Parent):
 
     @staticmethod
     def __classcall__(cls, cartan_type, *args, **options):
+        if isinstance(cartan_type, CoxeterMatrix):
+            cartan_type = cartan_type_of(cartan_type)
         return super().__classcall__(cls, CartanType(cartan_type), *args, **options)
 
     def __init__(self, cartan_type, **options):

@@ -1,27 +1,35 @@
 """Schubert varieties, by the Kazhdan-Lusztig polynomials of their elements, and parabolic Kazhdan-Lusztig polynomials."""
+from __future__ import annotations
+
 import collections
 import math
+from typing import Dict, List
 
 from . import kinds
+from .base import Base, Element, Letters, Word
 from .polynomial import Polynomial
+from .texts import shortlex
 
-FIELDS = [
-    "element",
-    "dimension",
-    "left_descents",
-    "right_descents",
-    "coatoms",
-    "size",
-    "betti_numbers",
-    "intersection_betti_numbers",
-    "extremal_pairs",
-    "is_rationally_smooth",
-    "singular_locus",
-    "singular_strata",
-]
+Known = collections.namedtuple(
+    "Known",
+    [
+        "element",
+        "dimension",
+        "left_descents",
+        "right_descents",
+        "coatoms",
+        "size",
+        "betti_numbers",
+        "intersection_betti_numbers",
+        "extremal_pairs",
+        "is_rationally_smooth",
+        "singular_locus",
+        "singular_strata",
+    ],
+)
 
 
-class SchubertVariety(collections.namedtuple("SchubertVariety", FIELDS)):
+class SchubertVariety(Known):
     """What is known of the Schubert variety of an element. Its fields are what the methods of the group with these names answer; `size` is
     the number of the elements below it.
 
@@ -33,7 +41,7 @@ class SchubertVariety(collections.namedtuple("SchubertVariety", FIELDS)):
     __slots__ = ()
 
 
-class Schubert:
+class Schubert(Base):
     """The methods of a group on Schubert varieties, and on parabolic polynomials.
 
     In a Weyl group the variety of w is the closure of BwB/B. What is said of its singularities is what Kazhdan-Lusztig polynomials tell,
@@ -42,7 +50,7 @@ class Schubert:
     smooth, and one is singular. In groups that belong to no variety it is said which polynomials are 1, and no more.
     """
 
-    def is_rationally_smooth(self, w):
+    def is_rationally_smooth(self, w: Word) -> bool:
         """Whether the Schubert variety of w is rationally smooth: P(e, w) = 1 (Kazhdan and Lusztig 1979). In simply laced types, A, D and
         E, that is whether it is smooth; in types B, C, F and G a rationally smooth variety may be singular.
 
@@ -52,7 +60,7 @@ class Schubert:
         """
         return self.kazhdan_lusztig_polynomial((), w) == 1
 
-    def singular_locus(self, w):
+    def singular_locus(self, w: Word) -> List[Element]:
         """The list of the maximal x <= w where the Schubert variety of w is not rationally smooth, that is P(x, w) != 1. In simply laced
         types these are the components of its singular locus; in types B, C, F and G there may be more singular points.
 
@@ -61,7 +69,7 @@ class Schubert:
         """
         return self._locus(self.iter_extremal_pairs(w))
 
-    def singular_strata(self, w):
+    def singular_strata(self, w: Word) -> Dict[Polynomial, List[Element]]:
         """The strata of that locus: a dictionary from each polynomial P other than 1 to the list of the maximal x with P(x, w) = P.
 
         >>> CoxeterGroup("A", 4).singular_strata("1234321")
@@ -69,7 +77,7 @@ class Schubert:
         """
         return self._strata(self.iter_extremal_pairs(w))
 
-    def schubert(self, w):
+    def schubert(self, w: Word) -> SchubertVariety:
         """All of the Schubert variety of w at once: its dimension, the descents and coatoms of w, the number of elements below w, the Betti
         numbers and those of intersection cohomology, the extremal pairs, and where it is not rationally smooth.
 
@@ -101,9 +109,9 @@ class Schubert:
         for x in sorted(elements, key=len, reverse=True):
             if not any(self.bruhat_le(x, y) for y in found):
                 found.append(x)
-        return sorted(found, key=lambda x: (len(x), x))
+        return sorted(found, key=shortlex)
 
-    def parabolic_kazhdan_lusztig_polynomial(self, u, v, letters, kind="q"):
+    def parabolic_kazhdan_lusztig_polynomial(self, u: Word, v: Word, letters: Letters, kind: str = "q") -> Polynomial:
         """Deodhar's parabolic Kazhdan-Lusztig polynomial of the cosets uW_J and vW_J, where J is a set of letters, and u and v are the
         shortest elements of their cosets.
 

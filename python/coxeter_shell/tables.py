@@ -1,8 +1,14 @@
 """Tables: what is answered for many elements at once, for files, pandas and notebooks."""
+from __future__ import annotations
+
 import csv
 import html
 import io
 import itertools
+from typing import Any, Iterator, Optional, Tuple
+
+# A table with more rows is not written out as a text: a notebook stores what its last line is.
+MOST_WRITTEN = 500
 
 # So many rows of a table are shown in a notebook.
 MOST_SHOWN = 60
@@ -13,18 +19,20 @@ class Table:
 
     __slots__ = ()
 
-    columns = ()
+    # The names of the columns, and the group of the elements.
+    columns: Any = ()
+    group: Any
 
-    def rows(self):
+    def rows(self) -> Iterator[Tuple[Any, ...]]:
         """The rows, as tuples of Python's values."""
         raise NotImplementedError
 
-    def texts(self):
+    def texts(self) -> Iterator[Tuple[str, ...]]:
         """The rows as texts: an element as the program writes it."""
         for row in self.rows():
             yield tuple(self.group.text(it) if isinstance(it, tuple) else str(it) for it in row)
 
-    def to_csv(self, file=None):
+    def to_csv(self, file: Any = None) -> Optional[str]:
         """Writes the rows as CSV, with a line of the names before them. `file` is a path or an open file; without it the
         text is given.
 
@@ -47,11 +55,15 @@ class Table:
         lines.writerows(self.texts())
         return None
 
-    def to_frame(self):
+    def to_frame(self) -> Any:
         """The rows as a DataFrame of pandas, in which elements are tuples. It needs pandas."""
         import pandas
 
         return pandas.DataFrame(list(self.rows()), columns=list(self.columns))
+
+    def _is_long(self):
+        """Whether it has more rows than are written out."""
+        return next(itertools.islice(self.rows(), MOST_WRITTEN, None), None) is not None
 
     def _repr_html_(self):
         """The first rows as a table, for notebooks."""
@@ -67,7 +79,30 @@ def html_row(tag, texts):
     return "<tr>" + "".join(f"<{tag}>{html.escape(it)}</{tag}>" for it in texts) + "</tr>"
 
 
-class ElementDict(Table, dict):
+class Plain(Table):
+    """A table that is one of Python's containers too, of the kind `_plain`, and is written as that where
+    it isn't long."""
+
+    __slots__ = ()
+
+    _plain: Any
+
+    def __repr__(self):
+        return self._in_short() if self._is_long() else self._plain.__repr__(self)
+
+    def _repr_pretty_(self, printer, cycle):
+        """The same for IPython, which lays out such containers in lines."""
+        if self._is_long() or cycle:
+            printer.text(repr(self))
+        else:
+            printer.pretty(self._plain(self))
+
+    def _in_short(self):
+        """What a long one is written as."""
+        raise NotImplementedError
+
+
+class ElementDict(Plain, dict):
     """A dictionary whose keys are elements. Any word of an element finds its value: the program says which element it is.
 
     >>> basis = CoxeterGroup("A", 3).kazhdan_lusztig_basis("2132")
@@ -76,6 +111,8 @@ class ElementDict(Table, dict):
     """
 
     __slots__ = ("group", "value")
+
+    _plain = dict
 
     def __init__(self, group, items=(), value="value"):
         super().__init__(items)
@@ -86,8 +123,11 @@ class ElementDict(Table, dict):
     def columns(self):
         return "element", self.value
 
-    def rows(self):
+    def rows(self) -> Iterator[Tuple[Any, ...]]:
         return iter(self.items())
+
+    def _in_short(self):
+        return f"<a table of {self.group!r} with the columns {', '.join(self.columns)}, for {len(self):,} keys>"
 
     def __getitem__(self, word):
         return dict.__getitem__(self, self._key(word))
@@ -121,7 +161,7 @@ class PairDict(ElementDict):
     def columns(self):
         return "x", "w", self.value
 
-    def rows(self):
+    def rows(self) -> Iterator[Tuple[Any, ...]]:
         return ((x, w, value) for (x, w), value in self.items())
 
     def _key(self, words):
@@ -131,7 +171,31 @@ class PairDict(ElementDict):
         return self.group.normal_form(x), self.group.normal_form(w)
 
 
-class Cells(Table, list):
+class RowTable(ElementDict):
+    """The rows of some elements: a dictionary from each w to its row, which is a dictionary from each x <= w to P(x, w).
+
+    As a table it has a line for each pair.
+
+    >>> print(CoxeterGroup("A", 2).kazhdan_lusztig_table(["1", "2"]).to_csv(), end="")
+    w,x,polynomial
+    1,e,1
+    1,1,1
+    2,e,1
+    2,2,1
+    """
+
+    __slots__ = ()
+
+    columns = "w", "x", "polynomial"
+
+    def __init__(self, group, items=(), value="row"):
+        super().__init__(group, items, value)
+
+    def rows(self) -> Iterator[Tuple[Any, ...]]:
+        return ((w, x, polynomial) for w, row in self.items() for x, polynomial in row.items())
+
+
+class Cells(Plain, list):
     """The cells of a group: a list of lists of elements.
 
     >>> CoxeterGroup("A", 2).left_cells()
@@ -139,12 +203,16 @@ class Cells(Table, list):
     """
 
     columns = "cell", "element"
+    _plain = list
 
     def __init__(self, group, cells=()):
         super().__init__(cells)
         self.group = group
 
-    def rows(self):
+    def _in_short(self):
+        return f"<{len(self):,} cells of {self.group!r}, with {sum(map(len, self)):,} elements>"
+
+    def rows(self) -> Iterator[Tuple[Any, ...]]:
         """The number of the cell, counted from 1, and an element of it."""
         return ((number, element) for number, cell in enumerate(self, 1) for element in cell)
 

@@ -2,11 +2,19 @@
 
 A text of the program that has another shape is a ValueError.
 """
+from __future__ import annotations
+
+import itertools
 import operator
 import re
 from numbers import Integral
+from typing import Any
 
 from .polynomial import Polynomial
+
+# So many elements, and pairs of an element and a polynomial, are known by their texts for each group: each text is read once, and equal
+# elements are one object. What comes beyond is read each time.
+MOST_KNOWN = 1 << 17
 
 NUMBER = re.compile("0|[1-9][0-9]*")
 WHOLE = re.compile("0|-?[1-9][0-9]*")
@@ -18,6 +26,8 @@ class Spelling:
     def __init__(self, rank):
         self.dot = "." if rank > 9 else ""
         self.values = {str(letter): letter for letter in range(1, rank + 1)}
+        self.elements = Known(self._element)
+        self.pairs = Known(self._pair)
 
     def write(self, word):
         """The text of a word, which is given as a text or as letters."""
@@ -26,7 +36,12 @@ class Spelling:
             if " " in word:
                 raise ValueError(f"a word has no spaces: {word!r}")
             return word or "e"
-        letters = [operator.index(letter) for letter in word]
+        if isinstance(word, (set, frozenset, dict, bytes, bytearray)):
+            raise TypeError(f"{word!r} is no word: its letters have no order")
+        try:
+            letters = [operator.index(letter) for letter in word]
+        except TypeError:
+            raise TypeError(f"a word is a text, or a list or tuple of whole numbers, and not {word!r}") from None
         if not self.dot:
             # 0 is no letter, so that the program refuses it as it refuses the others that are none.
             letters = [letter if 1 <= letter <= 9 else 0 for letter in letters]
@@ -42,6 +57,17 @@ class Spelling:
 
     def element(self, text):
         """The element of a text."""
+        return self.elements[text]
+
+    def pair(self, text):
+        """The element and the polynomial of a text."""
+        return self.pairs[text]
+
+    def _pair(self, text):
+        element, _, polynomial = text.partition(":")
+        return self.elements[element], Polynomial.read(polynomial)
+
+    def _element(self, text):
         if not text:
             raise ValueError("an element is missing")
         return () if text == "e" else self.letters(text)
@@ -51,6 +77,22 @@ class Spelling:
         found = () if text == "-" else self.letters(text)
         if text == "" or list(found) != sorted(set(found)):
             raise ValueError(f"{text!r} is no set of letters")
+        return found
+
+
+class Known(dict):
+    """A dictionary from texts to what they are read as. A text that it doesn't have is read."""
+
+    __slots__ = ("read",)
+
+    def __init__(self, read):
+        super().__init__()
+        self.read = read
+
+    def __missing__(self, text):
+        found = self.read(text)
+        if len(self) < MOST_KNOWN:
+            self[text] = found
         return found
 
 
@@ -80,14 +122,29 @@ def truth(text):
     return text == "true"
 
 
+def counted(number, what):
+    """So many things, in words.
+
+    >>> counted(1, "item"), counted(1200, "item")
+    ('1 item', '1,200 items')
+    """
+    return f"{number:,} {what}{'s' * (number != 1)}"
+
+
+def shortlex(x):
+    """What elements are sorted by in ShortLex order."""
+    return len(x), x
+
+
 def before(x, y):
     """Whether x is before y in ShortLex order."""
-    return (len(x), x) < (len(y), y)
+    return shortlex(x) < shortlex(y)
 
 
 def check_rising(elements):
     """Elements are in ShortLex order."""
-    if not all(map(before, elements, elements[1:])):
+    keys = list(zip(map(len, elements), elements))
+    if not all(map(operator.lt, keys, itertools.islice(keys, 1, None))):
         raise ValueError("the elements should be in ShortLex order")
 
 
@@ -99,17 +156,13 @@ def edge(spelling, text):
     return spelling.element(element), whole_number(value)
 
 
-def pair(spelling, text):
-    """An element and its polynomial."""
-    element, _, polynomial = text.partition(":")
-    return spelling.element(element), Polynomial.read(polynomial)
-
-
-def gap(value):
-    """Numbers, truth values, texts, polynomials, graphs, and lists, tuples, sets and dictionaries of them, as a text for GAP.
+def gap(value: Any) -> str:
+    """Numbers, truth values, texts, polynomials, graphs, modules, and lists, tuples, sets and dictionaries of them, as a text for GAP.
 
     A polynomial becomes the list of its coefficients, a dictionary the list of its pairs, a W-graph the list of its edges,
-    and a set a set of GAP, which is a list that rises. What GAP has no such text for is a TypeError.
+    and a set a set of GAP, which is a list that rises. The module of a cell becomes a record with its elements and the matrices of its
+    letters, whose entries are polynomials in v, and the order of cells a record with the cells and the pairs of the numbers of a cell and
+    one that it covers. What GAP has no such text for is a TypeError.
 
     >>> gap([(2, 1), True, "a"]), gap({(): Polynomial([1, 2])})
     ('[ [ 2, 1 ], true, "a" ]', '[ [ [ ], [ 1, 2 ] ] ]')

@@ -4,6 +4,25 @@ import shlex
 import sys
 import tempfile
 
+# It hands lines to a program and back. Where one of them is a given one, it ends by a signal, so many times.
+RELAYED = """
+import os, signal, subprocess, sys
+program = subprocess.Popen([{program!r}, *sys.argv[1:]], stdin=subprocess.PIPE, stdout=sys.stdout)
+for line in sys.stdin.buffer:
+    if line.decode().strip() == {line!r}:
+        for k in range({times}):
+            try:
+                os.mkdir({marks!r} + str(k))
+            except FileExistsError:
+                continue
+            program.kill()
+            os.kill(os.getpid(), signal.SIGKILL)
+    program.stdin.write(line)
+    program.stdin.flush()
+program.stdin.close()
+sys.exit(program.wait())
+"""
+
 # A stand-in says nothing to `type`, `matrix` and blank lines, and `error 19` to the line that marks the end of an answer.
 # To other lines it does what its own code says, with the line as `line`.
 FAKE = """
@@ -17,6 +36,15 @@ for line in iter(sys.stdin.readline, ""):
         say("error 19")
     elif line.split(" ")[0] not in ("type", "matrix", ""):
 {code}
+"""
+
+
+# What stands before a program so that it ends by a signal so many times. A folder that can be made once counts each time.
+KILLED = """
+for k in $(seq {times}); do
+    if mkdir '{marks}'$k 2>/dev/null; then kill -9 $$; fi
+done
+exec '{program}'
 """
 
 
@@ -49,6 +77,15 @@ class Fakes:
     def fake(self, code):
         """A stand-in with this code."""
         return self.python(FAKE.format(code="".join(f"        {line}\n" for line in code.splitlines())))
+
+    def killed(self, times, program):
+        """The program, whose first so many processes end by a signal."""
+        return self.shell(KILLED.format(times=times, marks=os.path.join(self.folder.name, f"mark {self.count} "), program=program))
+
+    def killed_by(self, line, times, program):
+        """The program, but a process that is asked this line ends by a signal, so many times."""
+        marks = os.path.join(self.folder.name, f"asked {self.count} ")
+        return self.python(RELAYED.format(line=line, times=times, marks=marks, program=program))
 
     def saying(self, *lines):
         """A stand-in that answers these lines."""

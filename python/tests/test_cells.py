@@ -130,7 +130,8 @@ class Order(unittest.TestCase):
             self.assertEqual((len(order), list(order), repr(order)), (4, [(), (1,), (2,), (1, 2, 1)], "<the order of 4 left cells>"))
             self.assertEqual((order["2112"], order["21"], "12" in order), ([()], [(1,), (2, 1)], True))
             self.assertEqual(order.to_csv(), "cell,covered\ne,1\ne,2\n1,121\n2,121\n")
-            self.assertEqual([[text for _, text in row] for row in order.layers()[0]], [["121 {1}"], ["1 {2}", "2 {2}"], ["e {1}"]])
+            texts = [[text for _, text in row] for row in order.layers()[0]]
+            self.assertEqual(texts, [["121: 1 element"], ["1: 2 elements", "2: 2 elements"], ["e: 1 element"]])
             self.assertEqual(order.layers()[1], [("1", "e", ""), ("2", "e", ""), ("121", "1", ""), ("121", "2", "")])
             dot = order.dot()
             self.assertEqual((dot.count("--"), dot.count("label="), '"1" -- "e"' in dot), (4, 4, True))
@@ -179,7 +180,6 @@ class Graphs(unittest.TestCase):
         with CoxeterGroup("A", 2) as group:
             graph = group.cell_w_graph(["21", [1], (2, 1)])
             self.assertEqual((list(graph), list(graph.edges())), ([(1,), (2, 1)], [((1,), (2, 1), 1)]))
-            self.assertEqual(len(group.cell_w_graph([])), 0)
             self.assertEqual(len(group.W_graph()), 6)
             with self.assertRaises(ValueError):
                 group.cell_w_graph(["1"], side="both")
@@ -284,7 +284,7 @@ class Values(unittest.TestCase):
         """A program whose left cell has two elements with the least value, or no involution."""
         for cell, inverses in (("1 2", {"1": "1", "2": "2"}), ("12", {"12": "21"})):
             with fakes.Fakes() as folder:
-                answers = {"lcells": ("1", cell), **{f"inverse {x}": (y,) for x, y in inverses.items()}}
+                answers = {"jobs": (), "end": (), "lcells": ("1", cell), **{f"inverse {x}": (y,) for x, y in inverses.items()}}
                 source = f"say(*{answers!r}.get(line, ('1',) if line.startswith('pol') else (line[8:],)))"
                 with CoxeterGroup("A", 2, program=folder.fake(source)) as group:
                     for call in (group.duflo_involutions, lambda: group.a_value(cell[:2].strip())):

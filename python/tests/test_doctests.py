@@ -34,6 +34,7 @@ KINDS = (
     coxeter_shell.WGraph,
     coxeter_shell.HasseDiagram,
     coxeter_shell.CellOrder,
+    coxeter_shell.CellModule,
 )
 
 # They need what may not be installed, or are what a table is made of.

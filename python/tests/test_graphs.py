@@ -2,6 +2,7 @@
 import csv
 import io
 import os
+import pickle
 import sys
 import tempfile
 import types
@@ -9,8 +10,9 @@ import unittest
 import unittest.mock
 import xml.etree.ElementTree
 
+import fakes
 import reference
-from coxeter_shell import CoxeterGroup, Polynomial, drawing, graphs, magic, pictures
+from coxeter_shell import CoxeterGroup, Polynomial, Refusal, UnexpectedAnswer, drawing, graphs, magic, pictures
 from coxeter_shell.errors import CoxeterError
 
 SVG = "{http://www.w3.org/2000/svg}"
@@ -87,6 +89,81 @@ class Graphs(unittest.TestCase):
                 for call in (Polynomial([1]).sage, group.W_graph().sage, group.cell_order().sage, group.sage):
                     with self.assertRaises(ImportError):
                         call()
+
+
+class Read(unittest.TestCase):
+    """W-graphs as they are read, and what is no W-graph."""
+
+    def test_vertices(self):
+        """The graph, its vertices and the items of the iterator say the same."""
+        for kind in (("B", 3), ("G", 2), ("A", 10)):
+            with CoxeterGroup(*kind) as group:
+                for side in ("left", "right"):
+                    if group.cardinality() > 1000:
+                        continue
+                    graph = group.W_graph(side)
+                    vertices = list(group.iter_W_graph(side))
+                    self.assertEqual(list(graph.vertices.values()), vertices)
+                    self.assertEqual([graph[x] for x in graph], vertices)
+                    edges = [(x.element, y, value) for x in vertices for y, value in x.edges.items()]
+                    both = [*graph.edges(), *((y, x, value) for x, y, value in graph.edges())]
+                    self.assertEqual(sorted(edges), sorted(both))
+                    self.assertEqual(pickle.loads(pickle.dumps(graph)), graph)
+
+    def test_values(self):
+        """Values other than 1, in a graph of a stand-in, and in a part of it."""
+        lines = ["4", "e - 1:2 2:1", "1 1 e:2 21:-3", "2 2 e:1", "21 2 1:-3"]
+        with fakes.Fakes() as folder, CoxeterGroup("A", 2, program=folder.saying(*lines)) as group:
+            graph = group.W_graph()
+            edges = [((), (1,), 2), ((), (2,), 1), ((1,), (2, 1), -3)]
+            self.assertEqual(list(graph.edges()), edges)
+            self.assertEqual([graph[x].edges for x in graph], [{(1,): 2, (2,): 1}, {(): 2, (2, 1): -3}, {(): 1}, {(1,): -3}])
+            self.assertEqual(list(graph.part([(1,), (2, 1)]).edges()), edges[2:])
+            self.assertEqual(sorted(graph.steps())[-1], ((2, 1), (1,), -3))
+            self.assertEqual(graph.steps_between({x: len(x) for x in graph}), {(1, 0), (1, 2), (2, 1)})
+
+    def test_what_is_none(self):
+        for lines, why in [
+            (["2", "e - 1:1", "1 1"], "the edge from e to 1 is not an edge back"),
+            (["2", "e -", "1 1 e:1"], "the edge from 1 to e is not an edge back"),
+            (["2", "e - 1:1", "1 1 e:2"], "is not an edge back"),
+            (["3", "e - 1:1 2:1", "1 1 e:1", "2 2 1:1"], "is not an edge back"),
+            (["2", "e - e:1", "1 1"], "is not an edge back"),
+            (["2", "e - 1:1 1:1", "1 1 e:1"], "ShortLex"),
+            (["2", "e - 2:1", "1 1 e:1"], "no vertex"),
+            (["2", "e - 3:1", "1 1 e:1"], "no letter"),
+            (["2", "e - 1:0", "1 1 e:0"], "no value"),
+            (["2", "e - 1:x", "1 1 e:x"], "no whole number"),
+            (["2", "e", "1 1"], "label is missing"),
+            (["2", "e 11 1:1", "1 1 e:1"], "no set of letters"),
+            (["2", "1 1 e:1", "e - 1:1"], "ShortLex"),
+            (["2", "e - 1:1  2:1", "1 1 e:1"], "no whole number"),
+            (["3", "e - 1:1", "1 1 e:1"], "the list should have 3 items"),
+            (["1", "e - 1:1", "1 1 e:1"], "the list should have 1 items"),
+        ]:
+            with self.subTest(lines), fakes.Fakes() as folder, CoxeterGroup("A", 2, program=folder.saying(*lines)) as group:
+                with self.assertRaises(UnexpectedAnswer) as caught:
+                    group.W_graph()
+                self.assertIn(why, str(caught.exception))
+
+    def test_many_at_once(self):
+        """What is asked for by lists of jobs is what single questions answer."""
+        with CoxeterGroup("B", 3) as group, CoxeterGroup("B", 3, workers=2) as other:
+            words = ["e", "1", "2312", "321", "33"] * 300
+            for it in (group, other):
+                for method in ("normal_form", "length", "inverse", "descents", "betti_numbers", "coatoms"):
+                    single = {word: getattr(group, method)(word) for word in set(words)}
+                    self.assertEqual(it._answers_of(method, words), [single[word] for word in words])
+                    self.assertEqual((it._answers_of(method, []), it._answers_of(method, ["12"])), ([], [getattr(group, method)("12")]))
+            pairs = [(x, y) for x in group.elements() for y in [(), (1, 2), (3, 2, 3)]]
+            self.assertEqual(group._products(pairs), [group.product(*pair) for pair in pairs])
+            with self.assertRaises(Refusal) as caught:
+                group._normal_forms(["1", "4"])
+            self.assertEqual((caught.exception.number, caught.exception.line), (16, "compute 4"))
+            # The 8 representatives are asked for by their lengths. One of them alone is asked for by itself.
+            with unittest.mock.patch.object(group.program, "ask", wraps=group.program.ask) as asked:
+                self.assertEqual(len(list(group.coset_representatives([2, 3]))), 6)
+                self.assertLessEqual(asked.call_count, 7)
 
 
 class Tables(unittest.TestCase):
@@ -175,7 +252,7 @@ class Magic(unittest.TestCase):
     def test_scripts(self):
         for line, cell, text in [
             ("", "type A 3\npol e 2132\n", "1+q\n"),
-            ("--workers 2", "type A 3\nlength 4\ncoatoms 121", "error 16\n2\n12\n21\n"),
+            ("--workers 2", "type A 3\nlength 4\ncoatoms 121", "error 16: a word has a letter that the group doesn't have\n2\n12\n21\n"),
             ("", "", ""),
         ]:
             with unittest.mock.patch("sys.stdout", io.StringIO()) as out:

@@ -5,7 +5,7 @@ import pickle
 import unittest
 from collections import Counter
 
-from coxeter_shell import CoxeterGroup, Refusal
+from coxeter_shell import CoxeterGroup, Refusal, kinds
 
 # The type, how many elements it has, its left cells and two-sided cells, and how long its longest element is.
 CELLS = [
@@ -16,6 +16,17 @@ CELLS = [
     ("F 4", 1152, 72, 11, 24),
     ("G 2", 12, 4, 3, 6),
 ]
+
+
+def bott(degrees, count):
+    """The first coefficients of the product of (1-q^d)/(1-q)/(1-q^(d-1)) for the degrees d of a finite group: how many elements of each
+    length its affine group has."""
+    series = [1] + [0] * (count - 1)
+    for d in degrees:
+        series = [sum(series[max(k - d + 1, 0) : k + 1]) for k in range(count)]
+        for k in range(d - 1, count):
+            series[k] += series[k - d + 1]
+    return series
 
 
 def product(a, b):
@@ -97,13 +108,54 @@ class Groups(unittest.TestCase):
         for kind in ("A", "", "A 3 4", "matrix"):
             with self.assertRaises(ValueError):
                 CoxeterGroup(kind)
-        for kind in (["A"], ["A", 3, 2], ["B", 3, 1], ["A", 3, 1, 1]):
+        for kind in (["A"], ["A", 3, 2], ["B", 3, 2], ["A", 3, 1, 1]):
             with self.assertRaises(ValueError):
                 CoxeterGroup(kind)
         with self.assertRaises(ValueError):
             CoxeterGroup([[1]], 1)
         with self.assertRaises(TypeError):
             CoxeterGroup("A", 3, workes=2)
+
+    def test_affine_types(self):
+        """Each is infinite, and without any of its nodes finite. Without its last node it is the finite type."""
+        for letter, (least, greatest) in kinds.AFFINE.items():
+            for number in range(least, greatest + 1):
+                group = CoxeterGroup(letter, number)
+                self.assertEqual((group.rank, group.cardinality()), (number + 1, math.inf))
+                rows = group.coxeter_matrix()
+                for node in range(group.rank):
+                    rest = [it for it in range(group.rank) if it != node]
+                    self.assertLess(kinds.cardinality(kinds.part(rows, rest)), math.inf)
+                finite = CoxeterGroup(letter.upper(), number)
+                self.assertEqual(kinds.part(rows, range(number)), finite._matrix)
+                same = CoxeterGroup([letter.upper(), number, 1])
+                self.assertEqual((same, repr(same), same._nodes[-1]), (group, f'CoxeterGroup("{letter}", {number})', 0))
+        with CoxeterGroup("g2") as group:
+            # The growth series of affine G 2 begins so (Bott).
+            counts = Counter(map(len, group.elements(6)))
+            self.assertEqual([counts[k] for k in range(7)], bott((2, 6), 7))
+        with CoxeterGroup("b3") as group:
+            counts = Counter(map(len, group.elements(5)))
+            self.assertEqual([counts[k] for k in range(6)], bott((2, 4, 6), 6))
+        self.assertEqual(CoxeterGroup("a3").line, "type a 3")
+
+    def test_products(self):
+        with CoxeterGroup("A2xB2") as group:
+            self.assertEqual((group.cardinality(), group.line), (6 * 8, "matrix 4 3 2 2 2 2 4"))
+            self.assertEqual(group.long_element(), (1, 2, 1, 3, 4, 3, 4))
+        for text in ("A 2 x B 2", "A2 x B2", "A2×B2"):
+            self.assertEqual(CoxeterGroup(text), group)
+        self.assertEqual(CoxeterGroup("A1xa2xG2").rank, 6)
+        self.assertEqual(CoxeterGroup("A1xA1").coxeter_matrix(), [[1, 2], [2, 1]])
+        for text, error in [("A9xA8", Refusal), ("A2xH3", Refusal), ("A2x", ValueError), ("A2xB", ValueError), ("xA2", Refusal)]:
+            with self.assertRaises(error):
+                CoxeterGroup(text)
+
+    def test_the_name_is_kept(self):
+        group = CoxeterGroup("C", 3)
+        self.assertEqual((repr(group), group, group._latex_()), ('CoxeterGroup("C", 3)', CoxeterGroup("B", 3), "C_{3}"))
+        self.assertEqual(repr(pickle.loads(pickle.dumps(group))), repr(group))
+        self.assertEqual(CoxeterGroup("d", 4)._latex_(), "\\tilde{D}_{4}")
 
     def test_words(self):
         with CoxeterGroup("A", 3) as group:

@@ -1,22 +1,103 @@
 """Many questions at once: by threads, processes and dask, with programs that are killed and programs that lie."""
 import concurrent.futures
+import contextlib
 import importlib.util
 import os
 import pickle
+import random
+import signal
+import threading
 import unittest
+import unittest.mock
 
 import fakes
 import reference
-from coxeter_shell import CoxeterGroup, Polynomial, ProgramEnded, Refusal, UnexpectedAnswer, find_program
+from coxeter_shell import (
+    CoxeterError,
+    CoxeterGroup,
+    Polynomial,
+    ProgramEnded,
+    Refusal,
+    Unanswered,
+    UnexpectedAnswer,
+    UnexpectedResult,
+    find_program,
+    many,
+)
+
+HAS_DASK = importlib.util.find_spec("distributed") is not None
+
+
+@contextlib.contextmanager
+def dask(workers=2, **options):
+    """A client of dask with workers on this machine, for a `with` block."""
+    from distributed import Client, LocalCluster
+
+    how = {"n_workers": workers, "threads_per_worker": 1, "dashboard_address": None}
+    with LocalCluster(**how) as cluster, Client(cluster, **options) as client:
+        yield client
 
 
 def executors():
     yield concurrent.futures.ThreadPoolExecutor(3)
     yield concurrent.futures.ProcessPoolExecutor(2)
-    if importlib.util.find_spec("distributed") is not None:
-        from distributed import Client, LocalCluster
+    if HAS_DASK:
+        with dask() as client:
+            yield client.get_executor()
 
-        yield Client(LocalCluster(n_workers=2, threads_per_worker=1, dashboard_address=None)).get_executor()
+
+def within(seconds, call):
+    """What a call gives in another thread, if it ends within so many seconds."""
+    found = []
+
+    def run():
+        try:
+            found.append((call(), None))
+        except BaseException as error:
+            found.append((None, error))
+
+    thread = threading.Thread(target=run, daemon=True)
+    thread.start()
+    thread.join(seconds)
+    if not found:
+        raise AssertionError(f"nothing after {seconds} seconds")
+    value, error = found[0]
+    if error is not None:
+        raise error
+    return value
+
+
+class Losing(concurrent.futures.Executor):
+    """An executor that loses the first result of each question and asks it again. Where that raises an error, its future is never done: so
+    is dask's, where a worker dies."""
+
+    def submit(self, call, *arguments):
+        future = concurrent.futures.Future()
+
+        def run():
+            with contextlib.suppress(Exception):
+                call(*arguments)
+            with contextlib.suppress(Exception):
+                future.set_result(call(*arguments))
+
+        threading.Thread(target=run, daemon=True).start()
+        return future
+
+
+class Giving(concurrent.futures.Executor):
+    """An executor whose workers give something else: what `change` makes of the result, the first so many times."""
+
+    def __init__(self, change, times=1000):
+        self.change, self.times = change, times
+
+    def submit(self, call, *arguments):
+        future = concurrent.futures.Future()
+        self.times -= 1
+        try:
+            future.set_result(self.change(call(*arguments)) if self.times >= 0 else call(*arguments))
+        except Exception as error:
+            future.set_exception(error)
+        return future
 
 
 class Map(unittest.TestCase):
@@ -66,10 +147,7 @@ class Map(unittest.TestCase):
         """The first two programs that are started end by a signal when they are asked."""
         for times, succeeds in ((2, True), (9, False)):
             with fakes.Fakes() as folder:
-                marks = os.path.join(folder.folder.name, "mark")
-                count = f"for k in {' '.join(map(str, range(times)))}; do if mkdir '{marks}'$k 2>/dev/null; then kill -9 $$; fi; done"
-                program = folder.shell(f"{count}\nexec '{find_program()}'")
-                group = CoxeterGroup("A", 3, program=program)
+                group = CoxeterGroup("A", 3, program=folder.killed(times, find_program()))
                 with concurrent.futures.ThreadPoolExecutor(1) as executor:
                     found = group.map("length", ["121", "12", "1"], executor=executor)
                     if succeeds:
@@ -84,6 +162,157 @@ class Map(unittest.TestCase):
             with self.assertRaises(ProgramEnded) as caught:
                 list(group.map("length", ["1"], executor=executor))
             self.assertEqual(caught.exception.status, 5)
+
+
+    def test_an_executor_that_loses_results(self):
+        """It asks again, and where that raises an error it never tells."""
+        with fakes.Fakes() as folder:
+            group = CoxeterGroup("A", 3, program=folder.killed(4, find_program()))
+            found = within(20, lambda: list(group.map("length", ["121", "12", "1"], executor=Losing(), chunksize=3)))
+            self.assertEqual(found, [3, 2, 1])
+            group = CoxeterGroup("A", 3, program=folder.killed(99, find_program()))
+            with self.assertRaises(ProgramEnded):
+                within(20, lambda: list(group.map("length", ["121"], executor=Losing())))
+
+    def test_workers_that_give_something_else(self):
+        """None, too few results, too many, and what is none."""
+        changes = [
+            lambda it: None,
+            lambda it: [],
+            lambda it: ("results", it[1][1:]),
+            lambda it: ("results", it[1] * 2),
+            lambda it: ("results", dict.fromkeys(it[1])),
+            lambda it: (*it, 1),
+            lambda it: ("error", "text"),
+            lambda it: ("other", it[1]),
+            lambda it: it[1],
+        ]
+        group = CoxeterGroup("A", 3)
+        for change in changes:
+            with self.assertRaises(UnexpectedResult) as caught:
+                list(group.map("length", ["1", "12"], executor=Giving(change), chunksize=2))
+            self.assertEqual(caught.exception.count, 2)
+            self.assertIn("of 2 questions", str(caught.exception))
+            self.assertEqual(str(pickle.loads(pickle.dumps(caught.exception))), str(caught.exception))
+
+    def test_executors_that_fail(self):
+        def fail(_):
+            raise OSError("the worker was killed")
+
+        group = CoxeterGroup("A", 3)
+        self.assertEqual(list(group.map("length", ["1", "12"], executor=Giving(fail, times=3))), [1, 2])
+        with self.assertRaises(CoxeterError) as caught:
+            list(group.map("length", ["1", "12"], executor=Giving(fail)))
+        self.assertIn("OSError: the worker was killed", str(caught.exception))
+
+    def test_errors_that_are_not_the_program_s(self):
+        """They are raised as they are, and one that can't be pickled by its text."""
+        for executor in executors():
+            with executor, CoxeterGroup("A", 3) as group:
+                with self.assertRaises(TypeError):
+                    list(group.map("length", [3], executor=executor))
+        self.assertIsInstance(many.portable(ValueError(3)), ValueError)
+        self.assertIn("ValueError: <unlocked", str(many.portable(ValueError(threading.Lock()))))
+
+    def test_what_is_not_read_is_not_asked(self):
+        with concurrent.futures.ThreadPoolExecutor(1) as executor, CoxeterGroup("A", 3) as group:
+            begin, closed, ask = threading.Event(), threading.Event(), many.ask
+            executor.submit(begin.wait, 60)
+            found = group.map("length", ["1"] * 50, executor=executor)
+
+            def slow(*words):
+                """All questions but the first are answered when the results are no longer wanted."""
+                if asked.call_count > 1:
+                    closed.wait(60)
+                return ask(*words)
+
+            with unittest.mock.patch.object(many, "ask", side_effect=slow) as asked:
+                begin.set()
+                self.assertEqual(next(found), 1)
+                found.close()
+                closed.set()
+                executor.submit(int).result()
+            self.assertLessEqual(asked.call_count, 2)
+
+
+@unittest.skipUnless(HAS_DASK, "dask and distributed are not installed")
+class Dask(unittest.TestCase):
+    """Workers and programs that are killed, on a cluster of this machine."""
+
+    def test_killed_in_a_loop(self):
+        """A worker, its program, or both are killed again and again while they are asked. Nothing hangs, and nothing is wrong."""
+        chance = random.Random(4)
+        with CoxeterGroup("A", 5) as group, dask(workers=3) as client:
+            right = {w: group.kazhdan_lusztig_basis(w) for w in group.elements()}
+
+            def kill(times):
+                for _ in range(times):
+                    done.wait(chance.uniform(0.1, 0.4))
+                    pids = workers(client)
+                    for pid in chance.sample(pids, min(1, len(pids))):
+                        programs = children(pid)
+                        chosen = [programs, [pid], [*programs, pid]][chance.randrange(3)]
+                        for it in chosen:
+                            with contextlib.suppress(ProcessLookupError):
+                                os.kill(it, signal.SIGKILL)
+
+            for kind in (client.get_executor(), client) * 2:
+                done = threading.Event()
+                killer = threading.Thread(target=kill, args=(8,), daemon=True)
+                killer.start()
+                try:
+                    table = within(200, lambda kind=kind: group.kazhdan_lusztig_table(executor=kind, chunksize=4))
+                    self.assertEqual(set(table), set(right))
+                except Unanswered as error:
+                    table = error.table
+                    self.assertEqual(set(table) | set(error.words), set(right))
+                finally:
+                    done.set()
+                    killer.join()
+                self.assertTrue(all(right[w] == row for w, row in table.items()))
+
+    def test_the_client_is_asked(self):
+        """The futures of dask's executor may never be done where workers are killed. Its options stay."""
+        with dask(workers=1) as client:
+            asked = many.submitting(client.get_executor(retries=2))
+            self.assertEqual((asked.func, asked.keywords), (client.submit, {"retries": 2}))
+            self.assertEqual(many.submitting(client), client.submit)
+
+    def test_nothing_is_unpickled(self):
+        """Certificates come through a client that unpickles nothing. Other results do not."""
+        plain = ["dask", "msgpack"]
+        with CoxeterGroup("A", 3) as group, dask(deserializers=plain) as client:
+            table = within(120, lambda: group.kazhdan_lusztig_table(executor=client.get_executor(), chunksize=8, certified=True))
+            self.assertEqual(table, group.kazhdan_lusztig_table())
+
+
+def workers(client):
+    """The processes of the workers of a client."""
+    return [it for it in map(pid_of, client.scheduler_info()["workers"]) if it is not None]
+
+
+def pid_of(address):
+    """The process that listens at an address of this machine."""
+    port = f"{int(address.rpartition(':')[2]):04X}"
+    with open("/proc/net/tcp", encoding="ascii") as table:
+        lines = [line.split() for line in table][1:]
+    inodes = {f"socket:[{it[9]}]" for it in lines if it[1].endswith(f":{port}") and it[3] == "0A"}
+    for pid in filter(str.isdigit, os.listdir("/proc")):
+        with contextlib.suppress(OSError):
+            for name in os.listdir(f"/proc/{pid}/fd"):
+                if os.readlink(f"/proc/{pid}/fd/{name}") in inodes:
+                    return int(pid)
+    return None
+
+
+def children(pid):
+    """The processes that a process has started."""
+    found = []
+    with contextlib.suppress(OSError):
+        for task in os.listdir(f"/proc/{pid}/task"):
+            with open(f"/proc/{pid}/task/{task}/children", encoding="ascii") as listed:
+                found += map(int, listed.read().split())
+    return found
 
 
 class Table(unittest.TestCase):

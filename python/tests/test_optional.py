@@ -9,6 +9,7 @@ import subprocess
 import unittest
 
 from coxeter_shell import CoxeterGroup, Polynomial, gap
+from coxeter_shell import kinds as known_kinds
 
 
 def has(name):
@@ -177,6 +178,8 @@ class Sage(unittest.TestCase):
             (["C", 2, 1], "matrix 3 4 4 2"),
         ]:
             kinds = [CartanType(cartan_type), CoxeterMatrix(cartan_type), WeylGroup(cartan_type), SageGroup(cartan_type)]
+            self.assertEqual(CoxeterGroup(kinds[0]).sage().cartan_type(), kinds[0])
+            self.assertEqual(CoxeterGroup(cartan_type)._matrix, CoxeterGroup(kinds[0])._matrix)
             for kind in kinds:
                 with CoxeterGroup(kind) as group:
                     self.assertEqual(group.line, line)
@@ -188,14 +191,24 @@ class Sage(unittest.TestCase):
                             self.assertEqual(group.left_descents(w), tuple(descents))
                     self.assertEqual(group.sage_element(group.sage().from_reduced_word(group._nodes)).length(), group.rank)
 
+    def test_affine_types(self):
+        """The nodes of affine types by their names are Sage's, with the node 0 as the last letter."""
+        from sage.all import CartanType
+
+        for letter, (least, greatest) in known_kinds.AFFINE.items():
+            for number in range(least, min(greatest, 8) + 1):
+                cartan_type = [letter.upper(), number, 1]
+                self.assertEqual(CoxeterGroup(cartan_type)._matrix, CoxeterGroup(CartanType(cartan_type))._matrix)
+
     def test_permutations(self):
         """Permutations of Sage are maps, as here. Its groups of permutations and of signed ones multiply from left to right."""
-        from sage.all import Permutations, SymmetricGroup
+        from sage.all import Permutation, Permutations, SymmetricGroup
         from sage.combinat.colored_permutations import SignedPermutations
 
         with CoxeterGroup("A", 3) as group:
             for p in Permutations(4):
                 self.assertEqual((group.to_permutation(p), group.from_permutation(p)), (tuple(p), group.normal_form(p)))
+            self.assertEqual(group.normal_form(Permutation([4, 3, 2, 1])), group.long_element())
             for p in SymmetricGroup(4):
                 self.assertEqual(group.to_permutation(p), (~p).tuple())
         with CoxeterGroup("B", 3) as group:

@@ -8,7 +8,7 @@ import tempfile
 import unittest
 
 import fakes
-from coxeter_shell import CoxeterGroup, find_program, pictures
+from coxeter_shell import CoxeterGroup, drawing, find_program, pictures
 
 HASSE = """graph hasse {
   rankdir=BT
@@ -101,7 +101,7 @@ class Pictures(unittest.TestCase):
             (1, ("cells", "A 3", "--program", "/nowhere"), "there is no program '/nowhere'"),
             (1, ("hasse", "A 2", "12", "--out", "h.gif"), ".svg or .png"),
             (1, ("hasse", "A 2", "12", "--out", "/nowhere/h.dot"), "/nowhere/h.dot"),
-            (2, (), "usage"),
+            (2, ("tree", "A 2"), "usage"),
             (2, ("hasse", "A 2"), "usage"),
             (2, ("hasse", "A 2", "1", "2", "12"), "one word or two"),
             (2, ("wgraph", "A 2", "--side", "middle"), "invalid choice"),
@@ -133,10 +133,25 @@ class Pictures(unittest.TestCase):
             path = os.path.join(tools, "broken.svg")
             ended, _, error = run("hasse", "A 2", "12", "--out", path, path=both)
             self.assertEqual((ended, error, os.path.exists(path)), (1, "coxeter_shell: dot failed: broken\n", False))
+            path = os.path.join(tools, "broken.png")
             words = ("hasse", "A 2", "12", "--out", path, "--program", find_program())
             ended, _, error = run(*words, path=os.path.join(tools, "none"))
             self.assertEqual(ended, 1)
             self.assertIn("is not installed (Debian: the package graphviz)", error)
+
+    def test_svg_without_graphviz(self):
+        """A plain picture is drawn, as `svg()` draws it."""
+        with tempfile.TemporaryDirectory() as folder, CoxeterGroup("A", 2) as group:
+            for words, graph in [
+                (("hasse", "A 2", "121"), group.hasse_diagram("e", "121")),
+                (("hasse", "A 2", "1", "121"), group.hasse_diagram("1", "121")),
+                (("wgraph", "A 2", "--side", "right"), group.W_graph("right")),
+            ]:
+                path = os.path.join(folder, "p.svg")
+                program = ("--program", find_program())
+                self.assertEqual(run(*words, "--out", path, *program, path=os.path.join(folder, "none")), (0, "", ""))
+                with open(path, encoding="utf-8") as made:
+                    self.assertEqual(made.read(), drawing.layered(*graph.layers()))
 
     @unittest.skipIf(shutil.which("dot") is None, "graphviz is not installed")
     def test_graphviz_itself(self):

@@ -1,6 +1,7 @@
 """The process behind a group: when it starts and ends, many questions, and programs that do something wrong."""
 import concurrent.futures
 import gc
+import math
 import os
 import pickle
 import random
@@ -24,6 +25,7 @@ from coxeter_shell import (
     ProgramEnded,
     ProgramError,
     ProgramNotFound,
+    QuestionTimeout,
     Refusal,
     UnexpectedAnswer,
     parents,
@@ -438,6 +440,54 @@ class Raw(unittest.TestCase):
                     group.ask(line)
 
 
+class Late(unittest.TestCase):
+    """A limit of time for the answer to a question."""
+
+    def test_no_answer(self):
+        with fakes.Fakes() as folder:
+            for code in ("time.sleep(60)", "say('2', 'e'); time.sleep(60)"):
+                with CoxeterGroup("A", 2, program=folder.fake(code), timeout=0.5) as group:
+                    begun = time.monotonic()
+                    with self.assertRaises(QuestionTimeout) as caught:
+                        group.bruhat_interval("e", "12")
+                    self.assertLess(time.monotonic() - begun, 30)
+                    self.assertEqual((caught.exception.line, caught.exception.seconds), ("interval e 12", 0.5))
+                    self.assertIn("no answer to 'interval e 12' after 0.5 seconds", str(caught.exception))
+                    self.assertEqual(str(pickle.loads(pickle.dumps(caught.exception))), str(caught.exception))
+                    with self.assertRaises(QuestionTimeout):
+                        group.jobs([["length 1", "length 2"]])
+            # A program that starts too slowly is late as well.
+            with CoxeterGroup("A", 2, program=folder.shell("sleep 60"), timeout=0.5) as group:
+                with self.assertRaises(QuestionTimeout):
+                    group.length("1")
+
+    def test_goes_on(self):
+        """After a question that was too long the group is there as before, and so is one without a limit."""
+        with CoxeterGroup("E", 7) as group:
+            with group.within(0.3), self.assertRaises(QuestionTimeout):
+                group.ask("work 1 1000000")
+            self.assertIsNone(group.timeout)
+            self.assertEqual(group.length("123"), 3)
+            with group.within(300):
+                self.assertEqual((group.length("12"), len(list(group.iter_bruhat_interval("e", "12")))), (2, 4))
+        same = pickle.loads(pickle.dumps(CoxeterGroup("A", 2, timeout=3)))
+        self.assertEqual(same.timeout, 3)
+
+    def test_an_iterator_has_time_for_its_items(self):
+        with fakes.Fakes() as folder, CoxeterGroup("A", 2, program=folder.saying("2", "e", "1"), timeout=60) as group:
+            items = group.iter_bruhat_interval("e", "1")
+            self.assertIsNone(group.program._timer)
+            self.assertEqual(list(items), [(), (1,)])
+
+    def test_what_is_no_limit(self):
+        wrong = [(it, ValueError) for it in (0, -1, math.nan, math.inf)] + [(it, TypeError) for it in ("1", True)]
+        for value, error in wrong:
+            with self.assertRaises(error):
+                CoxeterGroup("A", 2, timeout=value)
+            with self.assertRaises(error), CoxeterGroup("A", 2).within(value):
+                pass
+
+
 class Wrong(unittest.TestCase):
     """Programs that die, close a pipe, or answer something else."""
 
@@ -520,7 +570,8 @@ class Wrong(unittest.TestCase):
 
     def test_wrong_arguments(self):
         for options in ({"context": 0}, {"roots": "x"}, {"coef": -1}, {"roots": 4097}, {"workers": 17}):
-            with CoxeterGroup("A", 3, **options) as group, self.assertRaises(ProgramError) as caught:
+            with CoxeterGroup("A", 3) as group, self.assertRaises(ProgramError) as caught:
+                group.program.options = options
                 group.length("1")
             self.assertIn("its options are wrong", str(caught.exception))
             self.assertIn("usage", str(caught.exception))

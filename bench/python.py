@@ -1,0 +1,104 @@
+#!/usr/bin/env python3
+"""How long the Python package takes for long answers, and how much memory, beside the program alone.
+
+    bench/python.py [--before FOLDER] [--runs N] [--only NAME] [PROGRAM]
+                        the program of this repository, if none is named
+
+Each row is a question that has a long answer, or many short ones, asked in a process of its own:
+
+- `W-graph of E 6`, `W-graph of D 6`: `W_graph()`,
+- `cell order of E 6`: `cell_order("two-sided")`,
+- `mu of D 6`, `mu of S 8`: `mu_table()`,
+- `all P of D 5`: `kazhdan_lusztig_table()`,
+- `cosets of E 8`: the 2,160 shortest representatives of the cosets of D 7, by `coset_representatives`.
+
+With --before the package in another folder, say the `python` of another checkout, runs in turn with that of this one. Each figure is the least of
+all runs: `seconds` of the clock, `Python` the processor time of the Python process alone, without that of the program, and `MB` the most memory
+that the Python process had. `program` is the time of the clock of the program alone for the same lines, where the package asks few of them; its
+answer is read and dropped.
+"""
+import argparse
+import json
+import os
+import resource
+import subprocess
+import sys
+import time
+
+from intervals import TOP
+
+NAMES = {
+    "W-graph of E 6": (("E", 6), "W_graph()", ["lwgraph"]),
+    "W-graph of D 6": (("D", 6), "W_graph()", ["lwgraph"]),
+    "cell order of E 6": (("E", 6), 'cell_order("two-sided")', ["lrcells", "lwgraph", "rwgraph"]),
+    "mu of D 6": (("D", 6), "mu_table()", ["lwgraph"]),
+    "mu of S 8": (("A", 7), "mu_table()", ["lwgraph"]),
+    "all P of D 5": (("D", 5), "kazhdan_lusztig_table()", None),
+    "cosets of E 8": (("E", 8), "coset_representatives([2, 3, 4, 5, 6, 7, 8])", None),
+}
+
+
+def child(name, folder, program):
+    """Asks a question, and prints what it took."""
+    sys.path.insert(0, folder)
+    import coxeter_shell
+
+    kind, call, _ = NAMES[name]
+    with coxeter_shell.CoxeterGroup(*kind, program=program) as W:
+        W.length("e")
+        begun, used = time.monotonic(), time.process_time()
+        found = eval(f"W.{call}", {"W": W})
+        size = len(found) if hasattr(found, "__len__") else sum(1 for _ in found)
+        took = time.monotonic() - begun, time.process_time() - used
+    print(json.dumps([*took, resource.getrusage(resource.RUSAGE_SELF).ru_maxrss / 1024, size]))
+
+
+def alone(name, program):
+    """How long the program alone takes for the same lines."""
+    (letter, rank), _, lines = NAMES[name]
+    if lines is None:
+        return None
+    script = "\n".join([f"type {letter} {rank}", *lines, ""])
+    begun = time.monotonic()
+    subprocess.run([program], input=script.encode(), stdout=subprocess.DEVNULL, check=True)
+    return time.monotonic() - begun
+
+
+def main():
+    parser = argparse.ArgumentParser(description=__doc__, formatter_class=argparse.RawDescriptionHelpFormatter)
+    parser.add_argument("program", nargs="?", default=os.path.join(TOP, "crates", "coxeter", "out", "coxeter"))
+    parser.add_argument("--before")
+    parser.add_argument("--runs", type=int, default=3)
+    parser.add_argument("--only")
+    parser.add_argument("--child", nargs=2, help=argparse.SUPPRESS)
+    given = parser.parse_args()
+    program = os.path.abspath(given.program)
+    if given.child:
+        child(*given.child, program)
+        return
+    folders = {"now": os.path.join(TOP, "python")}
+    if given.before:
+        folders = {"before": os.path.abspath(given.before), **folders}
+    head = "".join(f"{f'{it} seconds':>17}{'Python':>9}{'MB':>7}" for it in folders)
+    print(f"{'':20}{head}{'program':>9}")
+    for name in NAMES:
+        if given.only not in (None, name):
+            continue
+        found, sizes, least = {it: [] for it in folders}, set(), []
+        for _ in range(given.runs):
+            for it, folder in folders.items():
+                words = [sys.executable, __file__, program, "--child", name, folder]
+                *took, size = json.loads(subprocess.run(words, stdout=subprocess.PIPE, check=True).stdout)
+                found[it].append(took)
+                sizes.add(size)
+            least.append(alone(name, program))
+        if len(sizes) != 1:
+            sys.exit(f"{name}: the answers differ: {sizes}")
+        row = ""
+        for it in folders:
+            seconds, used, memory = map(min, zip(*found[it]))
+            row += f"{seconds:17.2f}{used:9.2f}{memory:7.0f}"
+        print(f"{name:20}{row}{'' if least[0] is None else f'{min(least):9.2f}'}", flush=True)
+
+
+main()

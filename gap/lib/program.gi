@@ -1,0 +1,180 @@
+#############################################################################
+##
+##  The program `coxeter`, as a process that answers lines
+##
+
+InstallValue( CoxeterShellRefusals, [] );
+CoxeterShellRefusals[10] := "the program has no such command";
+CoxeterShellRefusals[11] := "the command takes another number of arguments";
+CoxeterShellRefusals[12] := "an argument should be a number and is none, or it is out of range";
+CoxeterShellRefusals[13] := "there is no such type";
+CoxeterShellRefusals[14] := "a label of the matrix is not 0, 2, 3, 4 or 6";
+CoxeterShellRefusals[15] := "no group is set";
+CoxeterShellRefusals[16] := "a word has a letter that the group doesn't have";
+CoxeterShellRefusals[17] := "a word has more than 255 letters";
+CoxeterShellRefusals[18] := "the line has more than 4,096 bytes";
+CoxeterShellRefusals[19] := "the line has a byte that is no printing ASCII character and no space";
+CoxeterShellRefusals[21] := "the group has more small roots than the option `roots' allows";
+CoxeterShellRefusals[31] := Concatenation( "the interval below the element, or the group, is infinite or has more members than the ",
+    "option `context' allows, or than 4,096 in a certificate" );
+CoxeterShellRefusals[32] := Concatenation( "a coefficient of a Kazhdan-Lusztig polynomial is beyond the option `coef', ",
+    "or a value of mu is too large" );
+CoxeterShellRefusals[34] := Concatenation( "R-polynomials are refused for elements whose lengths differ by more than 39, ",
+    "and certificates of longer elements" );
+CoxeterShellRefusals[35] := "a list of jobs has more than 16 blocks, or more than 1,000 lines";
+
+# The line that marks the end of an answer, and what the program says to it.
+BindGlobal( "CoxeterShellMark", "\t\n" );
+BindGlobal( "CoxeterShellMarkAnswer", "error 19\n" );
+
+# The most letters of a word.
+BindGlobal( "CoxeterShellMostOfWord", 255 );
+
+# The most bytes of a line, and those that are sent to one process before another one is started: it reads 16,777,216.
+BindGlobal( "CoxeterShellMostOfLine", 4096 );
+BindGlobal( "CoxeterShellMostOfInput", 16000000 );
+
+# The groups whose programs run. GAP has room for 64 processes in all, so that the one that was started first is ended where there are more.
+BindGlobal( "CoxeterShellRunning", [] );
+BindGlobal( "CoxeterShellMostRunning", 40 );
+
+#F  CoxeterShellRefuse( <number>, <line> ) . . . the error of a refusal, in words
+BindGlobal( "CoxeterShellRefuse", function( number, line )
+    local meaning;
+    meaning := "a refusal that this package doesn't know";
+    if IsBound( CoxeterShellRefusals[number] ) then
+        meaning := CoxeterShellRefusals[number];
+    fi;
+    if Length( line ) > 100 then
+        line := Concatenation( line{[ 1 .. 80 ]}, " .." );
+    fi;
+    ErrorNoReturn( Concatenation( "error ", String( number ), ": ", meaning, " (the line was ", line, ")" ) );
+end );
+
+#F  CoxeterShellProgram( <path> ) . . . . . . . . . . . . the path of the program
+##
+##  It is <path>, else what the environment variable COXETER names, else the program that was built in the checkout which this package lies
+##  in, else the command on the PATH.
+BindGlobal( "CoxeterShellProgram", function( path )
+    local environment, folder, built;
+    environment := GAPInfo.SystemEnvironment;
+    if path = fail and IsRecord( environment ) and IsBound( environment.COXETER ) and environment.COXETER <> "" then
+        path := environment.COXETER;
+    fi;
+    if path = fail then
+        for folder in DirectoriesPackageLibrary( "CoxeterShell", "" ) do
+            built := Filename( folder, "../crates/coxeter/out/coxeter" );
+            if built <> fail and IsExecutableFile( built ) then
+                return built;
+            fi;
+        od;
+        path := Filename( DirectoriesSystemPrograms(), "coxeter" );
+        if path = fail then
+            ErrorNoReturn( "the program coxeter was not found: give its path by the option `program', or by the environment ",
+                "variable COXETER, or put it on the PATH" );
+        fi;
+    fi;
+    if not IsExecutableFile( path ) or IsDirectoryPath( path ) then
+        ErrorNoReturn( "there is no program ", path );
+    fi;
+    return path;
+end );
+
+#F  CoxeterShellExchange( <W>, <line> ) . . . . . sends a line, and reads its answer
+##
+##  Where GAP is interrupted in the middle, W!.sure stays false, and the next question starts another process. To a blank line nothing but the
+##  mark is answered: another program may never say that.
+BindGlobal( "CoxeterShellExchange", function( W, line )
+    local text, end_, found;
+    W!.sure := false;
+    text := Concatenation( line, "\n", CoxeterShellMark );
+    W!.sent := W!.sent + Length( text );
+    if WriteAll( W!.stream, text ) <> true then
+        CoxeterShellClose( W );
+        ErrorNoReturn( "the program ended before it was asked ", line );
+    fi;
+    found := "";
+    end_ := Concatenation( "\n", CoxeterShellMarkAnswer );
+    repeat
+        # GAP can't be interrupted while it waits in ReadAll.
+        repeat until UNIXSelect( [ FileDescriptorOfStream( W!.stream ) ], [], [], 0, 200000 ) > 0;
+        text := ReadAll( W!.stream, 65536 );
+        if text = fail then
+            CoxeterShellClose( W );
+            if line = "" then
+                line := "anything: is it the program coxeter?";
+            fi;
+            ErrorNoReturn( "the program ended before it had answered ", line );
+        fi;
+        Append( found, text );
+        if line = "" and not StartsWith( CoxeterShellMarkAnswer, found ) then
+            CoxeterShellClose( W );
+            ErrorNoReturn( "this is not the program coxeter, or its options are wrong: it says ", NormalizedWhitespace( found ) );
+        fi;
+    until found = CoxeterShellMarkAnswer or EndsWith( found, end_ );
+    W!.sure := true;
+    return SplitString( found{[ 1 .. Length( found ) - Length( CoxeterShellMarkAnswer ) ]}, "\n" );
+end );
+
+#F  CoxeterShellStart( <W> ) . . . . . . starts the process of a group, and sets it
+BindGlobal( "CoxeterShellStart", function( W )
+    local answer, path;
+    CoxeterShellClose( W );
+    path := CoxeterShellProgram( W!.program );
+    if Length( CoxeterShellRunning ) >= CoxeterShellMostRunning then
+        CoxeterShellClose( CoxeterShellRunning[1] );
+    fi;
+    W!.stream := InputOutputLocalProcess( DirectoryCurrent(), path, W!.arguments );
+    if W!.stream = fail then
+        ErrorNoReturn( "the program ", path, " can't be started: perhaps other packages run too many processes" );
+    fi;
+    Add( CoxeterShellRunning, W );
+    W!.sent := 0;
+    CoxeterShellExchange( W, "" );
+    answer := CoxeterShellExchange( W, W!.group );
+    if Length( answer ) = 1 and StartsWith( answer[1], "error " ) then
+        CoxeterShellClose( W );
+        CoxeterShellRefuse( Int( answer[1]{[ 7 .. Length( answer[1] ) ]} ), W!.group );
+    elif answer <> [] then
+        CoxeterShellClose( W );
+        ErrorNoReturn( "an unexpected answer to ", W!.group, ": nothing should have come, and not ", answer[1] );
+    fi;
+end );
+
+InstallGlobalFunction( CoxeterShellAsk, function( W, line )
+    local answer, words;
+    if not IsCoxeterShellGroup( W ) or not IsString( line ) then
+        ErrorNoReturn( "usage: CoxeterShellAsk( <W>, <line> ) with a group of this package and a string" );
+    fi;
+    if Length( line ) > CoxeterShellMostOfLine then
+        CoxeterShellRefuse( 18, line );
+    elif ForAny( line, it -> it < ' ' or it > '~' ) then
+        CoxeterShellRefuse( 19, line );
+    fi;
+    words := SplitString( line, "", " " );
+    if words <> [] and words[1] in [ "type", "matrix" ] then
+        ErrorNoReturn( "the group of this object stays: make another object for another group" );
+    elif words in [ [ "quit" ], [ "jobs" ] ] then
+        ErrorNoReturn( words[1], " is not answered at once: CoxeterShellClose ends the program, and questions are asked one by one" );
+    fi;
+    if W!.stream = fail or not W!.sure or W!.sent + Length( line ) + 4 > CoxeterShellMostOfInput then
+        CoxeterShellStart( W );
+    fi;
+    answer := CoxeterShellExchange( W, line );
+    if Length( answer ) = 1 and StartsWith( answer[1], "error " ) then
+        CoxeterShellRefuse( Int( answer[1]{[ 7 .. Length( answer[1] ) ]} ), line );
+    fi;
+    return answer;
+end );
+
+InstallGlobalFunction( CoxeterShellClose, function( W )
+    local at;
+    at := PositionProperty( CoxeterShellRunning, it -> IsIdenticalObj( it, W ) );
+    if at <> fail then
+        Remove( CoxeterShellRunning, at );
+    fi;
+    if W!.stream <> fail then
+        CloseStream( W!.stream );
+        W!.stream := fail;
+    fi;
+end );
