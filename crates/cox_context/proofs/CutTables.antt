@@ -1,7 +1,7 @@
 -- Tables of members that are cut back to the first of them.
-use Rattle.std.proofs.Common.{◌≡◌, ℕ, ◌+◌, ◌-◌, ◌*◌, ◌≤◌, ◌<◌, List, [], ◌∷◌, ◌++◌, length, take, Contains, Option, None, Some, sym}
+use Rattle.std.proofs.Common.{◌≡◌, ℕ, ◌+◌, ◌-◌, ◌*◌, ◌≤◌, ◌<◌, List, [], ◌∷◌, ◌++◌, length, take, reverse, Contains, Option, None, Some, sym}
 use Rattle.std.proofs.Common.{◌∙◌, ⊎_elim, arith, lt-ltb, ap}
-use Rattle.std.proofs.lemmas.Bool.{cases_lt, le-ltb}
+use Rattle.std.proofs.lemmas.Bool.{cases_lt, cases_eq, le-ltb}
 use Rattle.std.proofs.lemmas.List.{get_or-take, length-take-le, take_all}
 use Rattle.cox_base.specs.Matrix.{IsLetter}
 use Rattle.cox_base.specs.IntegerMatrix.{IntegerMatrix}
@@ -10,7 +10,9 @@ use Rattle.cox_base.specs.Descents.{IsLeftDescent, IsRightDescent}
 use Rattle.cox_context.specs.Closed.{IsClosed, Elements}
 use Rattle.cox_context.specs.Numbers.{word_at}
 use Rattle.cox_context.specs.Numbering.{IsNumberOf}
-use Rattle.cox_context.specs.Shifts.{entry, AreLeftShifts, AreRightShifts, AreSets, IsContext}
+use Rattle.cox_context.specs.Contexts.{IsContext}
+use Rattle.cox_context.specs.Inverses.{AreKeptInverses}
+use Rattle.cox_context.specs.Shifts.{entry, AreLeftShifts, AreRightShifts, AreSets}
 use Rattle.cox_context.specs.Rows.{number_below, IsCutBack}
 use Rattle.cox_context.proofs.PlacedWords.{contains-placed, placed-contains}
 use Rattle.cox_context.proofs.ShiftPlaces.{place-within, entry-is}
@@ -49,20 +51,21 @@ module _ (A : IntegerMatrix) (words : List (List ℕ)) (closed : IsClosed A word
       )))
       (cases_lt k n)
 
-  module _ (old new : List ℕ) (cut : IsCutBack (n * A.rank) n old new) where
-    entry-cut : (s i : ℕ) → IsLetter A.rank s → i < n → entry A.rank new s i ≡ number_below n (entry A.rank old s i)
-    entry-cut s i l m = rw (← entry-is A.rank new s i, ← entry-is A.rank old s i) (cut.each (i * A.rank + (s - 1)) (place-within A.rank n i s l m))
+  module _ (rank : ℕ) (old new : List ℕ) (cut : IsCutBack (n * rank) n old new) where
+    entry-cut : (s i : ℕ) → IsLetter rank s → i < n → entry rank new s i ≡ number_below n (entry rank old s i)
+    entry-cut s i l m = rw (← entry-is rank new s i, ← entry-is rank old s i) (cut.each (i * rank + (s - 1)) (place-within rank n i s l m))
 
+  module _ (old new : List ℕ) (cut : IsCutBack (n * A.rank) n old new) where
     pub left-cut : AreLeftShifts A words old → AreLeftShifts A (take n words) new
     left-cut h = record {
       size = rw count cut.size;
-      shift = λ s i l m. let less : i < n = omega (arith, m, count) in rw (entry-cut s i l less, first-word i less)
+      shift = λ s i l m. let less : i < n = omega (arith, m, count) in rw (entry-cut A.rank old new cut s i l less, first-word i less)
           (number-cut (normal_form A (s ∷ word_at words i)) (entry A.rank old s i) (h.shift s i l (omega (arith, less, within))));
     }
 
     pub right-cut : length old ≡ length words * A.rank → AreRightShifts A words old → AreRightShifts A (take n words) new
     right-cut size h = record {
-      shift = λ s i l m k. let less : i < n = omega (arith, m, count) in rw (entry-cut s i l less, first-word i less)
+      shift = λ s i l m k. let less : i < n = omega (arith, m, count) in rw (entry-cut A.rank old new cut s i l less, first-word i less)
           (number-cut (normal_form A (word_at words i ++ s ∷ [])) (entry A.rank old s i) (h.shift s i l (omega (arith, less, within))
           (rw size (place-within A.rank (length words) i s l (omega (arith, less, within))))));
     }
@@ -74,17 +77,38 @@ module _ (A : IntegerMatrix) (words : List (List ℕ)) (closed : IsClosed A word
         (h.bit i k (omega (arith, less, within)));
   }
 
-  pub context-cut : (left right left_sets right_sets narrow_left narrow_right new_left new_right : List ℕ)
-      → IsContext A words left right left_sets right_sets narrow_left narrow_right → IsClosed A (take n words)
+  module _ (old new : List ℕ) (empty : length old ≡ 0 → length new ≡ 0) (cut : 0 < length old → IsCutBack (n * 1) n old new) where
+    kept-before : 0 < length new → 0 < length old
+    kept-before some = ⊎_elim (λ (none : length old ≡ 0). absurd (omega (arith, empty none, some)))
+        (λ (other : length old ≡ 0 → ⊥). omega (arith, other)) (cases_eq (length old) 0)
+
+    pub inverses-cut : AreKeptInverses A words old → AreKeptInverses A (take n words) new
+    inverses-cut h = record {
+      size = λ some. omega (arith, (cut (kept-before some)).size, count);
+      inverses = record {
+        inverse = λ i l m.
+            let some = kept-before (omega (arith, m))
+            in let less : i < n = omega (arith, l, count)
+            in rw (entry-cut 1 old new (cut some) 1 i (record { from_one = omega arith; to_rank = omega arith }) less, first-word i less)
+            (number-cut (normal_form A (reverse (word_at words i))) (entry 1 old 1 i)
+            (h.inverses.inverse i (omega (arith, less, within)) (omega (arith, less, within, h.size some))));
+      };
+    }
+
+  pub context-cut : (left right left_sets right_sets narrow_left narrow_right inverses new_left new_right new_inverses : List ℕ)
+      → IsContext A words left right left_sets right_sets narrow_left narrow_right inverses → IsClosed A (take n words)
       → IsCutBack (n * A.rank) n left new_left → IsCutBack (n * A.rank) n right new_right
-      → IsContext A (take n words) new_left new_right (take n left_sets) (take n right_sets) [] []
-  context-cut left right left_sets right_sets narrow_left narrow_right new_left new_right h first left_is right_is = record {
-    closed = first;
-    left_shifts = left-cut left new_left left_is h.left_shifts;
-    right_size = rw count right_is.size;
-    right_shifts = right-cut right new_right right_is h.right_size h.right_shifts;
-    left_bits = sets-cut (IsLeftDescent A) left_sets h.left_bits;
-    right_bits = sets-cut (IsRightDescent A) right_sets h.right_bits;
-    left_narrow = λ k l. absurd (omega (arith, l));
-    right_narrow = λ k l. absurd (omega (arith, l));
-  }
+      → (length inverses ≡ 0 → length new_inverses ≡ 0) → (0 < length inverses → IsCutBack (n * 1) n inverses new_inverses)
+      → IsContext A (take n words) new_left new_right (take n left_sets) (take n right_sets) [] [] new_inverses
+  context-cut left right left_sets right_sets narrow_left narrow_right inverses new_left new_right new_inverses h first left_is right_is
+      empty cut = record {
+        closed = first;
+        left_shifts = left-cut left new_left left_is h.left_shifts;
+        right_size = rw count right_is.size;
+        right_shifts = right-cut right new_right right_is h.right_size h.right_shifts;
+        left_bits = sets-cut (IsLeftDescent A) left_sets h.left_bits;
+        right_bits = sets-cut (IsRightDescent A) right_sets h.right_bits;
+        left_narrow = λ k l. absurd (omega (arith, l));
+        right_narrow = λ k l. absurd (omega (arith, l));
+        kept_inverses = inverses-cut inverses new_inverses empty cut h.kept_inverses;
+      }

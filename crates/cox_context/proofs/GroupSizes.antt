@@ -29,8 +29,8 @@ IsShort A n word = IsElement A word × (length word ≤ n)
 
 -- the first words of a list are its first ..
 module _ (P : List ℕ → Type 0) (words : List (List ℕ)) (n : ℕ) (are : IsListOf P words) (within : n ≤ length words) where
-  size : length (take n words) ≡ n
-  size = length-take-le n words within
+  pub taken-length : length (take n words) ≡ n
+  taken-length = length-take-le n words within
 
   at : (i : ℕ) → i < n → word_at (take n words) i ≡ word_at words i
   at i l = get_or-take n words i [] l
@@ -38,18 +38,19 @@ module _ (P : List ℕ → Type 0) (words : List (List ℕ)) (n : ℕ) (are : Is
   here_or_later : (i : ℕ) → i < length words → Contains (take n words) (word_at words i)
       ⊎ ((other : List ℕ) → Contains (take n words) other → shortlex_cmp other (word_at words i) ≡ Less)
   here_or_later i l = ⊎_elim
-      (λ (inside : i < n). inl (subst (Contains (take n words)) (at i inside) (contains-at (take n words) i (omega (arith, inside, size)))))
+      (λ (inside : i < n).
+      inl (subst (Contains (take n words)) (at i inside) (contains-at (take n words) i (omega (arith, inside, taken-length)))))
       (λ (beyond : n ≤ i). inr (λ other c. let p = contains-placed (take n words) other c in
-      let before : p.i < n = omega (arith, p.within, size) in
+      let before : p.i < n = omega (arith, p.within, taken-length) in
       rw (sym (sym (at p.i before) ∙ p.is)) (are.rising p.i i (omega (arith, before, beyond)) l)))
       (cases_lt i n)
 
-  taken : IsPrefixOf P (take n words)
+  pub taken : IsPrefixOf P (take n words)
   taken = record {
-    rising = λ i j l k. let b : j < n = omega (arith, k, size) in
+    rising = λ i j l k. let b : j < n = omega (arith, k, taken-length) in
         rw (at i (omega (arith, l, b)), at j b) (are.rising i j l (omega (arith, b, within)));
     sound = λ word c. let p = contains-placed (take n words) word c in
-        let b : p.i < n = omega (arith, p.within, size) in
+        let b : p.i < n = omega (arith, p.within, taken-length) in
         subst P (sym (at p.i b) ∙ p.is) (are.sound (word_at words p.i) (contains-at words p.i (omega (arith, b, within))));
     first = λ word holds. let p = contains-placed words word (are.whole word holds) in
         subst
@@ -118,7 +119,7 @@ module _ (A : IntegerMatrix) (g : IsAdmissible A) where
             before-shortlex_cmp {v = other} {w = word} (by_length (omega (arith, far, (prefix.sound other c).1)))))
             (λ (near : length word ≤ MAX_LETTERS). prefix.first word (e, near)) (cases_lt MAX_LETTERS (length word));
       };
-      count = size (IsShort A MAX_LETTERS) list.0 (limit + 1) list.1 (omega (arith, many));
+      count = taken-length (IsShort A MAX_LETTERS) list.0 (limit + 1) list.1 (omega (arith, many));
       short = λ word c. (prefix.sound word c).1;
     }
       where

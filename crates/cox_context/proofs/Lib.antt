@@ -40,6 +40,8 @@ pub mod BuilderTables
 pub mod NumbersOfWords
 -- the table of right shifts
 pub mod RightShifts
+-- inverses of members, and their table
+pub mod InverseNumbers
 -- lists in ShortLex order
 pub mod ShortLexLists
 -- Bruhat intervals as lists
@@ -58,3 +60,5 @@ pub mod ListedMembers
 pub mod PushedRows
 -- tables that are cut back
 pub mod CutTables
+-- how many words a union has, and why a growth is refused
+pub mod UnionSizes

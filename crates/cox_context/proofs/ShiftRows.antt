@@ -97,7 +97,7 @@ row-start rank n lower old e = record {
 
 module _ (rank n : ℕ) (lower old table : List ℕ) (t next : ℕ) (q : next ≡ t + 1) (lt : IsLetter rank t)
     (h : IsRowPushed rank n lower t old table) (x : ℕ) (is : entry_number x ≡ entry rank lower t 0)
-    (inside : (r k : ℕ) → IsLetter rank r → entry rank lower r 0 ≡ Some k → k < n) where
+    (inside : (r k : ℕ) → IsLetter rank r → entry rank lower r 0 ≡ Some k → k ≤ n) where
   -- the entry of the next letter comes last
   here : n * rank + (t - 1) ≡ length table
   here = sym h.size
@@ -108,13 +108,18 @@ module _ (rank n : ℕ) (lower old table : List ℕ) (t next : ℕ) (q : next �
   in_row : (r : ℕ) → IsLetter rank r → r < t → n * rank + (r - 1) < length table
   in_row r l less = omega (arith, here, l.from_one, less)
 
+  -- what an earlier letter leads to, a member or the new one itself
+  noted_at : (r k : ℕ) → IsLetter rank r → r < t → k ≤ n → k * rank + (r - 1) < length table
+  noted_at r k l less m = ⊎_elim (λ (old : k < n). before r k l old)
+      (λ (last : n ≤ k). let e : k ≡ n = omega (arith, last, m) in rw e (in_row r l less)) (cases_lt k n)
+
   row : (r : ℕ) → IsLetter rank r → r < next → entry rank (table ++ x ∷ []) r n ≡ entry rank lower r 0
   row r l less =
       ⊎_elim (λ (below : r < t). entry-old rank table r n x (in_row r l below) ∙ h.row r l below)
       (λ (above : t ≤ r). let e : r ≡ t = omega (arith, above, less, q) in rw e (entry-new rank table t n x here ∙ is)) (cases_lt r t)
 
   back : (r k : ℕ) → IsLetter rank r → r < t → entry rank lower r 0 ≡ Some k → entry rank (table ++ x ∷ []) r k ≡ Some n
-  back r k l below f = entry-old rank table r k x (before r k l (inside r k l f)) ∙ h.back r k l below f
+  back r k l below f = entry-old rank table r k x (noted_at r k l below (inside r k l f)) ∙ h.back r k l below f
 
   kept : (r j : ℕ) → IsLetter rank r → j < n → (r < next → entry rank lower r 0 ≡ Some j → ⊥)
       → entry rank (table ++ x ∷ []) r j ≡ entry rank old r j
@@ -141,17 +146,18 @@ module _ (rank n : ℕ) (lower old table : List ℕ) (t next : ℕ) (q : next �
       → IsRowPushed rank n lower next old (set (table ++ x ∷ []) (k * rank + (t - 1)) n)
   row-link k some small = record {
     size = omega (arith, size, length-set (table ++ x ∷ []) (k * rank + (t - 1)) n);
-    row = λ r l less. other r n l (λ both. omega (arith, both.1, lower_one)) ∙ row r l less;
+    row = λ r l less. ⊎_elim (λ (e : r ≡ t). ⊎_elim (λ (f : k ≡ n). rw e (own f))
+        (λ (ne : k ≡ n → ⊥). other r n l (λ both. ne (sym both.1)) ∙ row r l less) (cases_eq k n))
+        (λ (ne : r ≡ t → ⊥). other r n l (λ both. ne both.0) ∙ row r l less) (cases_eq r t);
     back = λ r j l less f. ⊎_elim (λ (below : r < t). other r j l (λ both. omega (arith, both.0, below)) ∙ back r j l below f)
         (λ (above : t ≤ r). last r j f (omega (arith, above, less, q))) (cases_lt r t);
     kept = λ r j l m ne. other r j l (λ both. ne (omega (arith, both.0, q)) (rw (both.0, both.1) some)) ∙ kept r j l m ne;
   }
     where
-      lower_one : k < n
-      lower_one = inside t k lt some
-
       there : k * rank + (t - 1) < length (table ++ x ∷ [])
-      there = omega (arith, before t k lt lower_one, length-append table (x ∷ []))
+      there = ⊎_elim (λ (old : k < n). omega (arith, before t k lt old, length-append table (x ∷ [])))
+          (λ (above : n ≤ k). let e : k ≡ n = omega (arith, above, inside t k lt some) in rw e (omega (arith, here, length-append table (x ∷ []))))
+          (cases_lt k n)
 
       other : (r j : ℕ) → IsLetter rank r → ((r ≡ t) × (j ≡ k) → ⊥)
           → entry rank (set (table ++ x ∷ []) (k * rank + (t - 1)) n) r j ≡ entry rank (table ++ x ∷ []) r j
@@ -163,6 +169,12 @@ module _ (rank n : ℕ) (lower old table : List ℕ) (t next : ℕ) (q : next �
           let two : Some k ≡ Some j = sym some ∙ (rw e at f)
           in let same : j ≡ k = cc
           in rw (e, same) (entry-set_same rank (table ++ x ∷ []) t k n there ∙ entry_number-some n small)
+
+      -- the member itself
+      own : k ≡ n → entry rank (set (table ++ x ∷ []) (k * rank + (t - 1)) n) t n ≡ entry rank lower t 0
+      own f =
+          let itself : entry rank lower t 0 ≡ Some n = some ∙ ap (λ (i : ℕ). Some i) f
+          in last t n itself refl ∙ sym itself
 
 -- ---- with the row the table has the shifts of one member more
 

@@ -50,6 +50,35 @@ contains_cases words y word c =
     in ⊎_elim (λ below. inl (placed-contains words word (record { i = p.i; within = below; is = sym (word_at-old words y p.i below) ∙ p.is })))
     (λ last. inr (sym (word_at-new words y p.i last) ∙ p.is)) (push_cases words y p.i p.within)
 
+-- distinct words, and one that is none of them
+pub distinct-push : (words : List (List ℕ)) (y : List ℕ)
+    → ((i j : ℕ) → i < length words → j < length words → word_at words i ≡ word_at words j → i ≡ j)
+    → (Contains words y → ⊥) → (i j : ℕ) → i < length (words ++ y ∷ []) → j < length (words ++ y ∷ [])
+    → word_at (words ++ y ∷ []) i ≡ word_at (words ++ y ∷ []) j → i ≡ j
+distinct-push words y distinct none i j l m e =
+    ⊎_elim
+    (λ (a : i < length words). ⊎_elim (λ (b : j < length words). distinct i j a b (sym (old i a) ∙ e ∙ old j b))
+    (λ (b : j ≡ length words). absurd (none (placed-contains words y (record {
+      i = i;
+      within = a;
+      is = sym (old i a) ∙ e ∙ last_word j b;
+    }))))
+    (push_cases words y j m))
+    (λ (a : i ≡ length words). ⊎_elim
+    (λ (b : j < length words). absurd (none (placed-contains words y (record {
+      i = j;
+      within = b;
+      is = sym (old j b) ∙ sym e ∙ last_word i a;
+    }))))
+    (λ (b : j ≡ length words). omega (arith, a, b)) (push_cases words y j m))
+    (push_cases words y i l)
+  where
+    old : (k : ℕ) → k < length words → word_at (words ++ y ∷ []) k ≡ word_at words k
+    old k l = word_at-old words y k l
+
+    last_word : (k : ℕ) → k ≡ length words → word_at (words ++ y ∷ []) k ≡ y
+    last_word k e = word_at-new words y k e
+
 module _ (A : IntegerMatrix) (g : IsAdmissible A) (words : List (List ℕ)) (closed : IsClosed A words) where
   -- ---- an element that has all below it among the members, and is none, may be the next member
   module _ (y : List ℕ) (element : IsElement A y) (none : Contains words y → ⊥)
@@ -59,22 +88,6 @@ module _ (A : IntegerMatrix) (g : IsAdmissible A) (words : List (List ℕ)) (clo
 
     last_word : (i : ℕ) → i ≡ length words → word_at (words ++ y ∷ []) i ≡ y
     last_word i e = word_at-new words y i e
-
-    pushed-distinct : (i j : ℕ) → i < length (words ++ y ∷ []) → j < length (words ++ y ∷ [])
-        → word_at (words ++ y ∷ []) i ≡ word_at (words ++ y ∷ []) j → i ≡ j
-    pushed-distinct i j l m e =
-        ⊎_elim
-        (λ (a : i < length words). ⊎_elim (λ (b : j < length words). closed.distinct i j a b (sym (old i a) ∙ e ∙ old j b))
-        (λ (b : j ≡ length words). absurd (none (placed-contains words y (record { i = i; within = a; is = sym (old i a) ∙ e ∙ last_word j b }))))
-        (push_cases words y j m))
-        (λ (a : i ≡ length words). ⊎_elim
-        (λ (b : j < length words). absurd (none (placed-contains words y (record {
-          i = j;
-          within = b;
-          is = sym (old j b) ∙ sym e ∙ last_word i a;
-        }))))
-        (λ (b : j ≡ length words). omega (arith, a, b)) (push_cases words y j m))
-        (push_cases words y i l)
 
     pushed-upward : (i j : ℕ) → i < length (words ++ y ∷ []) → j < length (words ++ y ∷ [])
         → IsBelow A (word_at (words ++ y ∷ []) i) (word_at (words ++ y ∷ []) j) → i ≤ j
@@ -87,7 +100,7 @@ module _ (A : IntegerMatrix) (g : IsAdmissible A) (words : List (List ℕ)) (clo
 
     pub closed-push : length y ≤ MAX_LETTERS → length words < MAX_MEMBERS → IsClosed A (words ++ y ∷ [])
     closed-push short few = record {
-      distinct = pushed-distinct;
+      distinct = distinct-push words y closed.distinct none;
       upward = pushed-upward;
       element = λ word c. ⊎_elim (λ there. closed.element word there) (λ e. rw (← e) element) (contains_cases words y word c);
       down = λ z w c e b. ⊎_elim (λ there. contains-push words y z (closed.down z w there e b))

@@ -18,6 +18,10 @@ pub mod Numbers
 pub mod Numbering
 -- the tables of shifts
 pub mod Shifts
+-- the table of inverses
+pub mod Inverses
+-- what a context keeps
+pub mod Contexts
 -- left shifts as they are lent
 pub mod LentShifts
 -- a row of the table of left shifts

@@ -4,9 +4,8 @@ use Rattle.std.specs.Prelude.{Option, None, Some, if◌then◌else◌, IsBitSet,
 use Rattle.cox_base.specs.Matrix.{IsLetter}
 use Rattle.cox_base.specs.IntegerMatrix.{IntegerMatrix}
 use Rattle.cox_base.specs.ShortLex.{normal_form}
-use Rattle.cox_base.specs.Descents.{IsLeftDescent, IsRightDescent}
+use Rattle.cox_base.specs.Descents.{IsLeftDescent}
 use Rattle.cox_context.specs.declared.shifts.TheConstants.{NO_MEMBER, NO_NARROW_MEMBER}
-use Rattle.cox_context.specs.Closed.{IsClosed}
 use Rattle.cox_context.specs.Numbers.{word_at}
 use Rattle.cox_context.specs.Numbering.{IsNumberOf}
 
@@ -54,15 +53,3 @@ IsLower A members w s (Some k) = IsLeftDescent A w s × (k < length members) × 
 pub record AreSets (P : List ℕ → ℕ → Type 0) (members : List (List ℕ)) (sets : List ℕ) : Type 0 where
   pub size : length sets ≡ length members
   pub bit : (i k : ℕ) → i < length members → IsBitSet (slice_index sets i) k ↔ P (word_at members i) (k + 1)
-
--- what a context keeps: its members, the tables of their shifts, the sets of their descents, and the narrow tables of shifts
-pub record IsContext (A : IntegerMatrix) (members : List (List ℕ)) (left right left_sets right_sets narrow_left narrow_right : List ℕ)
-    : Type 0 where
-  pub closed : IsClosed A members
-  pub left_shifts : AreLeftShifts A members left
-  pub right_size : length right ≡ length members * A.rank
-  pub right_shifts : AreRightShifts A members right
-  pub left_bits : AreSets (IsLeftDescent A) members left_sets
-  pub right_bits : AreSets (IsRightDescent A) members right_sets
-  pub left_narrow : AreNarrow left narrow_left
-  pub right_narrow : AreNarrow right narrow_right

@@ -8,10 +8,12 @@
 //! Nothing here goes through all members but the making of the marks. So a growth costs time in proportion to the new members and the rank,
 //! and to the elements below the ends of w together.
 ghost use Rattle.std.specs.Prelude.{◌≡◌, ℕ, List, ◌+◌, ◌<◌, ◌≤◌, ◌∷◌, ◌↔◌, [], length, drop, slice_index, OnOk, IfOk, Contains};
+ghost use Rattle.std.specs.Prelude.{◌++◌, IfErr};
 ghost use Rattle.cox_base.specs.Matrix.{IsLetter};
 ghost use Rattle.cox_base.specs.IntegerMatrix.{integer_matrix};
 ghost use Rattle.cox_base.specs.ShortLex.{normal_form};
 ghost use Rattle.cox_context.specs.Appending.{IsTopWord, IsNextMember};
+ghost use Rattle.cox_context.specs.FaultMeaning.{IsOverfull};
 ghost use Rattle.cox_context.specs.Numbers.{word_at};
 ghost use Rattle.cox_context.specs.Spread.{listed_words, AreKept, AreMarked, AreFound, IsFound, AreAppended, IsGrownBy};
 ghost use Rattle.cox_context.specs.Union.{IsInUnion};
@@ -44,6 +46,7 @@ pub(crate) fn append_below(
     ensures members { OnOk result ((word : List ℕ) → Contains context.new.members word
         ↔ IsInUnion (integer_matrix context.old.matrix) top.now.items context.old.members word) }
     ensures few { length context.new.members ≤ limit }
+    ensures refused { IfErr result (IsOverfull (IsInUnion (integer_matrix context.old.matrix) top.now.items context.old.members) limit) }
 {
     let _count = context.len();
     let Ok(mut found) = Found::new(alloc, context) else {
@@ -78,6 +81,8 @@ fn step(
     ensures marked { OnOk result (AreMarked context.new.members found.new.marks.items found.new.numbers.items) }
     ensures found { OnOk result (AreFound (integer_matrix context.old.matrix) (drop at top.now.items)
         (listed_words context.new.members found.new.numbers.items)) }
+    ensures refused { IfErr result
+        (IsOverfull (IsInUnion (integer_matrix context.old.matrix) (drop at top.now.items) context.old.members) limit) }
 {
     let s = top[at];
     let _count = context.len();
@@ -126,6 +131,8 @@ impl Found {
         ensures found { OnOk result (IsFound
             (normal_form (integer_matrix context.old.matrix) (s ∷ word_at context.old.members (slice_index self.old.numbers.items place)))
             (listed_words context.old.members self.old.numbers.items) (listed_words context.new.members self.new.numbers.items)) }
+        ensures refused { IfErr result (IsOverfull (Contains (context.old.members ++ normal_form (integer_matrix context.old.matrix)
+            (s ∷ word_at context.old.members (slice_index self.old.numbers.items place)) ∷ [])) limit) }
     {
         let number = context.len();
         let x = self.numbers[place];

@@ -319,14 +319,14 @@ impl<'a> Builder<'a> {
 }
 
 /// Appends the row of the member y with this number, for which there is room: its shifts by the letters that shorten it, which are noted at
-/// both members.
+/// both members. Or its inverse, in a table that has one entry for each member.
 pub(crate) fn push_row(table: &mut Vec<u32>, rank: u32, number: u32, lower: &[u32])
     requires limit { rank ≤ MAX_RANK }
     requires few { number ≤ MAX_MEMBERS }
     requires size { length table.old.items ≡ number * rank }
     requires room { vec_len table.old + rank ≤ vec_capacity table.old }
     requires lower { rank ≤ length lower.now }
-    requires below { (t k : ℕ) → IsLetter rank t → entry rank lower.now t 0 ≡ Some k → k < number }
+    requires below { (t k : ℕ) → IsLetter rank t → entry rank lower.now t 0 ≡ Some k → k ≤ number }
     ensures { IsRowPushed rank number lower.now (rank + 1) table.old.items table.new.items }
 {
     for t in 1..rank as u8 + 1 {

@@ -1,5 +1,5 @@
 //! Contexts and their calls.
-ghost use Rattle.std.specs.Prelude.{◌≡◌, ℕ, List, Contains, ◌+◌, ◌<◌, ◌≤◌, ◌↔◌, ◌∷◌, ◌++◌, [], length, take, IfOk, IfErr, OnOk, OnErr, IsTrue, IsBitSet};
+ghost use Rattle.std.specs.Prelude.{◌≡◌, ℕ, List, Contains, ◌+◌, ◌<◌, ◌≤◌, ◌↔◌, ◌∷◌, ◌++◌, [], length, take, reverse, IfOk, IfErr, OnOk, OnErr, IsTrue, IsBitSet};
 ghost use Rattle.cox_base.specs.Matrix.{IsLetter, IsWord};
 ghost use Rattle.cox_base.specs.Admissible.{IsAdmissible};
 ghost use Rattle.cox_base.specs.IntegerMatrix.{integer_matrix};
@@ -19,10 +19,11 @@ ghost use Rattle.cox_context.specs.Shifts.{AreLeftShifts};
 
 use crate::ContextFault;
 use crate::appending::append_below;
-use crate::builder::{Builder, Listing, push_row};
+use crate::builder::{Builder, Listing};
 use crate::descents::{letters_of, lowering_set, lowering_sets};
+use crate::inverses::{cut_back_inverses, inverses, kept_inverse, push_inverse};
 use crate::members::{Link, MAX_MEMBERS};
-use crate::right_shifts::{last_right_shifts, right_shifts};
+use crate::right_shifts::{push_last_row, right_shifts};
 use crate::scope::Scope;
 use crate::shifts::{MAX_NARROW_MEMBERS, cut_back, entry_by, narrowed};
 use cox_base::{Coxeter, MAX_LETTERS, Side, Word};
@@ -35,8 +36,8 @@ use std::marker::Model;
 ///
 /// A member's number is its place, from 0, so the identity has the number 0. Numbers rise in Bruhat order. In a new context the members are
 /// in ShortLex order; those that are added later come behind them. The members' left and right shifts and descents are kept by number. On
-/// request the shifts of few members are kept in two bytes each too, so that look-ups read half as much memory. Contracts see the Coxeter
-/// matrix and the list of the members; `len` tells what holds of each such list.
+/// request the numbers of their inverses are kept, too, and the shifts of few members in two bytes each, so that look-ups read half as much
+/// memory. Contracts see the Coxeter matrix and the list of the members; `len` tells what holds of each such list.
 #[derive(Drop)]
 pub struct Context {
     group: Coxeter,
@@ -47,19 +48,21 @@ pub struct Context {
     // the shifts in two bytes each, where they are kept so
     narrow_left: Vec<u16>,
     narrow_right: Vec<u16>,
+    // the number of each member's inverse, where they are kept
+    inverses: Vec<u32>,
 }
 
 impl Model for Context {
     ghost use Rattle.cox_base.specs.IntegerMatrix.{integer_matrix};
     ghost use Rattle.cox_context.specs.Closed.{Elements};
-    ghost use Rattle.cox_context.specs.Shifts.{IsContext};
+    ghost use Rattle.cox_context.specs.Contexts.{IsContext};
 
     ghost Value = { Elements };
 
     ghost view = { λ c. record { matrix = c.group; members = c.listing.members } };
 
     ghost invariant = { λ c. IsContext (integer_matrix c.group) c.listing.members c.listing.left.items c.right.items c.left_descents.items
-        c.right_descents.items c.narrow_left.items c.narrow_right.items };
+        c.right_descents.items c.narrow_left.items c.narrow_right.items c.inverses.items };
 }
 
 impl Context {
@@ -186,8 +189,10 @@ impl Context {
         ensures members { OnOk result ((word : List ℕ) → Contains self.new.members word
             ↔ IsInUnion (integer_matrix group.now) w.now.items self.old.members word) }
         ensures few { OnOk result (length self.new.members ≤ limit) }
+        ensures refused { IfErr result (IsRefusal (IsInUnion (integer_matrix group.now) w.now.items self.old.members) limit) }
         ensures unchanged { OnErr result (self.new ≡ self.old) }
     {
+        let _letters = w.len();
         let first = self.len();
         if first > limit {
             return Err(ContextFault::Size {
@@ -223,10 +228,11 @@ impl Context {
         self.right.reserve(rank as usize)?;
         self.left_descents.reserve(1)?;
         self.right_descents.reserve(1)?;
+        self.inverses.reserve(1)?;
         self.listing.append(&self.group, s, j)?;
         let shifts = self.listing.shifts(&self.group);
-        let row = last_right_shifts(&shifts, self.right.as_slice(), number);
-        push_row(&mut self.right, rank, number, &row);
+        push_last_row(&mut self.right, &shifts);
+        push_inverse(&mut self.inverses, &shifts, self.right.as_slice());
         let left_set = lowering_set(self.listing.left.as_slice(), rank, number);
         self.left_descents.push_reserved(left_set);
         let right_set = lowering_set(self.right.as_slice(), rank, number);
@@ -249,6 +255,7 @@ impl Context {
         let rank = self.group.rank();
         self.listing.cut_back(rank, count);
         cut_back(&mut self.right, rank, count);
+        cut_back_inverses(&mut self.inverses, count);
         self.left_descents.truncate(count as usize);
         self.right_descents.truncate(count as usize);
         self.narrow_left.clear();
@@ -280,6 +287,7 @@ impl Context {
             right_descents,
             narrow_left: Vec::new(alloc),
             narrow_right: Vec::new(alloc),
+            inverses: Vec::new(alloc),
         })
     }
 
@@ -297,6 +305,18 @@ impl Context {
         let narrow_right = narrowed(alloc, self.right.as_slice())?;
         self.narrow_left = narrow_left;
         self.narrow_right = narrow_right;
+        Ok(())
+    }
+
+    /// Keeps the number of each member's inverse, so that `inverse` is one look-up; members that are added later get theirs.
+    ///
+    /// It takes four bytes a member, and one look-up of a right shift for each.
+    pub fn keep_inverses(&mut self, alloc: Global) -> Result<(), AllocError>
+        ensures { self.new ≡ self.old }
+    {
+        let shifts = self.listing.shifts(&self.group);
+        let inverses = inverses(alloc, &shifts, self.right.as_slice())?;
+        self.inverses = inverses;
         Ok(())
     }
 
@@ -411,6 +431,35 @@ impl Context {
     {
         let (narrow, table) = (self.narrow_right.as_slice(), self.right.as_slice());
         entry_by(narrow, table, self.group.rank(), s, i)
+    }
+
+    /// The number of x^-1 for the member x with the number i; `None` exactly where x^-1 is no member. In A 3 the interval of `12` has four
+    /// elements: `12` has none in it, and the other three are their own inverses.
+    ///
+    /// Where inverses are not kept, it goes along the word of the member.
+    pub fn inverse(&self, i: u32) -> Option<u32>
+        requires member { i < length self.now.members }
+        ensures { IsNumberOf self.now.members (normal_form (integer_matrix self.now.matrix) (reverse (word_at self.now.members i))) result }
+    {
+        if self.inverses.is_empty() {
+            return self.inverse_along(i);
+        }
+        kept_inverse(self.inverses.as_slice(), i)
+    }
+
+    /// The same along the word of the member: the inverse of s v is the inverse of v with s behind it.
+    #[cold]
+    fn inverse_along(&self, i: u32) -> Option<u32>
+        requires member { i < length self.now.members }
+        ensures { IsNumberOf self.now.members (normal_form (integer_matrix self.now.matrix) (reverse (word_at self.now.members i))) result }
+    {
+        let _len = self.len();
+        if i == 0 {
+            return Some(0);
+        }
+        let link = self.link(i);
+        let inverse = self.inverse_along(link.rest)?;
+        self.right(link.first, inverse)
     }
 
     /// The length of the member with the number i.

@@ -16,6 +16,7 @@
 //! - `lower`: the shorter elements t y of a new element y
 //! - `lifting`: whether a new element is below the top
 //! - `right_shifts`: the table of right shifts
+//! - `inverses`: the table of inverses
 //! - `descents`: the descents of each member, read off these tables
 //! - `laws`: each interval has one list in ShortLex order, closed downwards
 #![tactic(auto)]
@@ -25,6 +26,7 @@ mod builder;
 mod context;
 mod descents;
 mod fault;
+mod inverses;
 pub mod laws;
 mod lifting;
 mod lower;

@@ -1,5 +1,5 @@
 //! The table of right shifts, from that of left shifts.
-ghost use Rattle.std.specs.Prelude.{◌≡◌, ℕ, ◌+◌, ◌-◌, ◌*◌, ◌<◌, ◌≤◌, ◌∷◌, ◌++◌, [], length, IfOk, OnOk};
+ghost use Rattle.std.specs.Prelude.{◌≡◌, ℕ, ◌+◌, ◌-◌, ◌*◌, ◌<◌, ◌≤◌, ◌∷◌, ◌++◌, [], length, vec_len, vec_capacity, IfOk, OnOk};
 ghost use Rattle.cox_base.specs.Matrix.{IsLetter};
 ghost use Rattle.cox_base.specs.IntegerMatrix.{integer_matrix};
 ghost use Rattle.cox_base.specs.ShortLex.{normal_form};
@@ -7,6 +7,7 @@ ghost use Rattle.cox_context.specs.Numbers.{word_at};
 ghost use Rattle.cox_context.specs.Numbering.{IsNumberOf};
 ghost use Rattle.cox_context.specs.Shifts.{entry, AreRightShifts, AreOfOthers};
 
+use crate::builder;
 use crate::shifts::{LeftShifts, NO_MEMBER, entry};
 use cox_base::MAX_RANK;
 use std::alloc::{AllocError, Global};
@@ -61,8 +62,23 @@ fn right_shift(shifts: &LeftShifts, right: &[u32], s: u8, i: u32) -> Option<u32>
     shifts.shift(link.first, shifted)
 }
 
+/// Adds the row of the last member, for which there is room, to those of the others: its right shifts, each of which is noted at both
+/// members.
+pub(crate) fn push_last_row(table: &mut Vec<u32>, shifts: &LeftShifts)
+    requires some { 1 < length shifts.now.members }
+    requires others { AreOfOthers (integer_matrix shifts.now.matrix) shifts.now.members table.old.items }
+    requires room { vec_len table.old + shifts.now.matrix.rank ≤ vec_capacity table.old }
+    ensures size { length table.new.items ≡ length shifts.now.members * shifts.now.matrix.rank }
+    ensures shifts { AreRightShifts (integer_matrix shifts.now.matrix) shifts.now.members table.new.items }
+{
+    let rank = shifts.rank();
+    let last = shifts.members().len() - 1;
+    let row = last_right_shifts(shifts, table.as_slice(), last);
+    builder::push_row(table, rank, last, &row);
+}
+
 /// The right shifts of the last member, in the order of the letters, by those that the other members had before it came.
-pub(crate) fn last_right_shifts(shifts: &LeftShifts, right: &[u32], i: u32) -> [u32; MAX_RANK]
+fn last_right_shifts(shifts: &LeftShifts, right: &[u32], i: u32) -> [u32; MAX_RANK]
     requires some { 0 < i }
     requires last { i + 1 ≡ length shifts.now.members }
     requires right { AreOfOthers (integer_matrix shifts.now.matrix) shifts.now.members right.now }

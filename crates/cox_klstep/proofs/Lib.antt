@@ -48,8 +48,6 @@ pub mod PoolPrints
 pub mod TurnedMembers
 -- numbers of turned members as they are found, and as they are undone
 pub mod TurnNumbers
--- members taken by one symmetry after another
-pub mod ComposedImages
 -- turned members as they are listed and sorted
 pub mod TurnedLists
 -- the row of a member that reads its polynomials off those of an image
@@ -58,5 +56,3 @@ pub mod TurnedRows
 pub mod TurnedMus
 -- one polynomial more that is found ahead
 pub mod FoundMore
--- the inverses of the first members
-pub mod Inverses

@@ -31,8 +31,9 @@ pub record AreLists (e : Elements) (end : ℕ) (lists : List (Vec ℕ)) : Type 0
   pub few : length lists ≤ 2 ^ 16
   pub each : (set : ℕ) → IfSome (slice_get lists set) (IsList e end set)
 
--- the tables are those of a context: symmetries as they take its members, and the candidates
+-- the tables are those of a context: how many members it has, symmetries as they take these, and the candidates
 pub record AreTables (e : Elements) (tables : Tables) : Type 0 where
+  pub count : tables.count ≡ length e.members
   pub turns : AreTurns e tables.turns.items
   pub candidates : AreLists e (length e.members) tables.candidates.items
 

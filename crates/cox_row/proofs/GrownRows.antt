@@ -15,7 +15,7 @@ use Rattle.cox_row.specs.Rising.{number_at, AreWithin}
 use Rattle.cox_row.specs.ExtremalNumbers.{AreExtremal}
 use Rattle.cox_row.specs.Polynomials.{HavePolynomials}
 use Rattle.cox_row.specs.Mus.{AreMus}
-use Rattle.cox_row.specs.Views.{AreImages, IsViewOf, ServesFor}
+use Rattle.cox_row.specs.Views.{AreImages, AreImagesBy, IsViewOf, ServesFor}
 use Rattle.cox_row.specs.RowOf.{IsRowOf}
 use Rattle.cox_row.proofs.ImageLists.{image-within}
 
@@ -77,6 +77,11 @@ module _ (A : IntegerMatrix) (g : IsAdmissible A) (old new : List (List ℕ)) (f
             in h.there x was (rw (are.word x was) at b);
       }
 
+      images_by-grown : (p : ℕ → ℕ) (inverted : Bool) (images : Option (List (Option ℕ))) → AreImagesBy A old w p inverted images
+          → AreImagesBy A new w p inverted images
+      images_by-grown p inverted None h = h
+      images_by-grown p inverted (Some images) h = images-grown p inverted images h
+
       view-grown : (view : View) → IsViewOf A old w view → IsViewOf A new w view
       view-grown view h = record {
         p = h.p;
@@ -84,7 +89,7 @@ module _ (A : IntegerMatrix) (g : IsAdmissible A) (old new : List (List ℕ)) (f
         symmetry = h.symmetry;
         within = omega (arith, h.within, are.size);
         element = rw (are.word view.member h.within) h.element;
-        images = images-grown h.p h.inverted (arc_value view.images) h.images;
+        images = images_by-grown h.p h.inverted view.images h.images;
       }
 
       serves-grown : (view : Option View) (v : List ℕ) → ServesFor A old w view v → ServesFor A new w view v

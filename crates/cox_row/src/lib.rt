@@ -10,11 +10,12 @@
 //!
 //! A row may also read its polynomials off those that are kept for another element. Where a symmetry of the group, with inversion or
 //! without, takes w to v, it takes x to some y, and P(x,w) is P(y,v). So the row of w keeps where the members are taken, and shares the
-//! polynomials of v.
+//! polynomials of v. For inversion alone it keeps no list, since the context has the number of the inverse of each member.
 //!
 //! - `row`: the row and its parts
 //! - `places`: the places of polynomials in a pool
-//! - `images`: where members are taken, by number
+//! - `images`: a list of the images of members, by number
+//! - `member_map`: where a symmetry takes the members, by such a list or, for inversion alone, by the context
 //! - `raised`: raising a member by the descents of another
 //! - `look_up`: the polynomial and mu of any member, how many polynomials there are, and the extremal members
 //! - `search`: the place of a number in a list that rises
@@ -25,6 +26,7 @@
 mod images;
 mod look_up;
 mod lower_rows;
+mod member_map;
 mod places;
 mod raised;
 mod row;
@@ -34,6 +36,7 @@ mod search;
 pub use images::Images;
 pub use look_up::{extremal_members, indexed_polynomial, mu, polynomial, pool_len};
 pub use lower_rows::LowerRows;
+pub use member_map::MemberMap;
 pub use places::Places;
 pub use raised::{is_extremal, is_subset, raise_fully};
 pub use row::{MU_LIMIT, Row, RowParts, Values, View};

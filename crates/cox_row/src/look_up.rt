@@ -73,7 +73,10 @@ fn found_polynomial<'a>(
     let _len = ctx.len();
     match row.view() {
         None => kept_polynomial(ctx, row.values(), index, i, x),
-        Some(view) => kept_polynomial(ctx, row.values(), index, view.member, view.images.at(x)?),
+        Some(view) => {
+            let image = view.images.image(ctx, x)?;
+            kept_polynomial(ctx, row.values(), index, view.member, image)
+        }
     }
 }
 

@@ -1,9 +1,10 @@
 //! A context, and rows of some of its members.
 ghost use Rattle.std.specs.Prelude.{List, Contains, ◌≡◌, ◌≢◌, ◌⊎◌, ℕ, ◌<◌, ◌≤◌, ◌↔◌, [], length, IfSome, IsSome, OnOk, OnErr, Some, None};
-ghost use Rattle.std.specs.Prelude.{is_some, true, pos, ◌≤ℤ◌};
+ghost use Rattle.std.specs.Prelude.{is_some, true, pos, ◌≤ℤ◌, IfErr};
 ghost use Rattle.cox_base.specs.Admissible.{IsAdmissible};
 ghost use Rattle.cox_base.specs.IntegerMatrix.{integer_matrix};
 ghost use Rattle.cox_context.specs.Closed.{IsClosed};
+ghost use Rattle.cox_context.specs.FaultMeaning.{IsRefusal};
 ghost use Rattle.cox_base.specs.Matrix.{IsWord};
 ghost use Rattle.cox_context.specs.Union.{IsInUnion};
 ghost use Rattle.cox_context.specs.Numbers.{word_at};
@@ -165,6 +166,7 @@ impl Held {
         ensures members { OnOk result ((word : List ℕ) → Contains self.new.elements.members word
             ↔ IsInUnion (integer_matrix group.now) w.now.items self.old.elements.members word) }
         ensures few { OnOk result (length self.new.elements.members ≤ limit) }
+        ensures refused { IfErr result (IsRefusal (IsInUnion (integer_matrix group.now) w.now.items self.old.elements.members) limit) }
         ensures holds { self.new.holds ≡ self.old.holds }
         ensures unchanged { OnErr result (self.new ≡ self.old) }
         ensures steps { self.new.steps ≡ self.old.steps }

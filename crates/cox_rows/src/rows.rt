@@ -1,6 +1,6 @@
 //! A context with rows of its members: look-ups, and contexts that grow.
 ghost use Rattle.std.specs.Prelude.{List, Contains, OnErr, ◌≡◌, ◌≢◌, ◌⊎◌, true, is_some, ℕ, ◌<◌, ◌≤◌, ◌↔◌, [], length, IfSome, IsSome, IsTrue, IfOk, OnOk};
-ghost use Rattle.std.specs.Prelude.{pos, ◌≤ℤ◌};
+ghost use Rattle.std.specs.Prelude.{pos, ◌≤ℤ◌, IfErr};
 ghost use Rattle.cox_base.specs.IntegerMatrix.{integer_matrix};
 ghost use Rattle.cox_base.specs.Matrix.{IsWord};
 ghost use Rattle.cox_base.specs.ShortLex.{normal_form};
@@ -8,6 +8,7 @@ ghost use Rattle.cox_base.specs.Bruhat.{IsBelow};
 ghost use Rattle.cox_poly.specs.Polynomial.{coefficient};
 ghost use Rattle.cox_hecke.specs.Row.{IsKazhdanLusztig, IsMu};
 ghost use Rattle.cox_context.specs.Union.{IsInUnion};
+ghost use Rattle.cox_context.specs.FaultMeaning.{IsRefusal};
 ghost use Rattle.cox_row.specs.Distinct.{HasDistinctPolynomials};
 ghost use Rattle.cox_base.specs.Admissible.{IsAdmissible};
 ghost use Rattle.cox_context.specs.Closed.{IsClosed};
@@ -55,6 +56,7 @@ impl Rows {
     {
         let mut context = context;
         context.keep_narrow_shifts(alloc)?;
+        context.keep_inverses(alloc)?;
         Ok(Rows {
             held: Held::new(alloc, context, limit),
             settled: Vec::new(alloc),
@@ -185,6 +187,7 @@ impl Rows {
         ensures members { OnOk result ((word : List ℕ) → Contains self.new.elements.members word
             ↔ IsInUnion (integer_matrix group.now) w.now.items self.old.elements.members word) }
         ensures few { OnOk result (length self.new.elements.members ≤ limit) }
+        ensures refused { IfErr result (IsRefusal (IsInUnion (integer_matrix group.now) w.now.items self.old.elements.members) limit) }
         ensures number { IfOk result (λ i. IsNumberOf self.new.elements.members (normal_form (integer_matrix group.now) w.now.items)
             (Some i)) }
         ensures holds { self.new.holds ≡ self.old.holds }
@@ -199,8 +202,7 @@ impl Rows {
         }
         let before = context.len();
         self.held.extend(group, w, limit)?;
-        let alloc = *self.settled.allocator();
-        self.tables = grown(alloc, self.held.context(), before, self.tables.take());
+        self.tables = grown(self.held.context(), before, self.tables.take());
         match self.context().number_of(group, w) {
             Some(i) => Ok(i),
             None => unreachable!(),
@@ -210,7 +212,7 @@ impl Rows {
 
 /// Tables of the context, from those that it had when it had fewer members, so many. There are none where it is twice as large now, since new
 /// ones may know more symmetries, or where memory does not suffice. The next row makes new ones.
-fn grown(alloc: Global, context: &Context, before: u32, tables: Option<Tables>) -> Option<Tables>
+fn grown(context: &Context, before: u32, tables: Option<Tables>) -> Option<Tables>
     requires { IfSome tables (AreEarlierTables context.now) }
     ensures { IfSome result (AreTables context.now) }
 {
@@ -218,7 +220,7 @@ fn grown(alloc: Global, context: &Context, before: u32, tables: Option<Tables>) 
     if context.len() / 2 >= before {
         return None;
     }
-    match tables.grow(alloc, context) {
+    match tables.grow(context) {
         Ok(()) => Some(tables),
         Err(_) => None,
     }

@@ -1,10 +1,14 @@
 -- One letter more.
-use Rattle.std.proofs.Common.{◌≡◌, ◌<◌, ◌-◌, ◌+◌, [], length, drop, arith, refl, ◌∙◌}
+use Rattle.std.proofs.Common.{rules, ◌≡◌, ◌<◌, ◌-◌, ◌+◌, [], length, drop, arith, refl, ◌∙◌}
 use Rattle.std.proofs.lemmas.List.{drop_all}
+use Rattle.std.specs.Prelude.{IfErr}
 use Rattle.cox_base.specs.IntegerMatrix.{integer_matrix}
+use Rattle.cox_context.specs.FaultMeaning.{IsOverfull}
 use Rattle.cox_context.specs.Spread.{listed_words, AreAppended, AreFound}
+use Rattle.cox_context.specs.Union.{IsInUnion}
 use Rattle.cox_context.proofs.AppendedEnds.{end-longer, appended-none, appended-trans, appended-more, appended-union}
 use Rattle.cox_context.proofs.Spreading.{found-identity}
+use Rattle.cox_context.proofs.UnionSizes.{overfull-end}
 use Rattle.cox_context.proofs.appending.append_below.Goals as goal
 
 pub loop-done-init : goal.loop-done-init
@@ -59,3 +63,14 @@ returns-clause-members c =
     in let found : AreFound A top (listed_words c.loop-done.context.members c.loop-done.found.numbers.items) = rw e at h.found
     in appended-union A c.len-count.ensures.admissible c.args.context.now.members c.loop-done.context.members
     (rw h.matrix at c.len-count-2.ensures.closed) top appended c.loop-done.found.marks.items c.loop-done.found.numbers.items h.marked found
+
+pub returns-in_err-step-clause-refused : goal.returns-in_err-step-clause-refused
+returns-in_err-step-clause-refused c =
+    let A = integer_matrix c.args.context.now.matrix
+    in let top = c.args.top.now.items
+    in let h = c.loop-done.invariant
+    in let at = c.len-letters.result - 1 - c.loop-done.done
+    in let told : IfErr c.from_residual.result (IsOverfull (IsInUnion (integer_matrix c.loop-done.context.matrix) (drop at top)
+    c.loop-done.context.members) c.args.limit) = search rules
+    in overfull-end A c.len-count.ensures.admissible top c.requires.top.reduced at (length top - c.loop-done.done)
+    c.args.context.now.members c.loop-done.context.members h.appended c.args.limit c.from_residual.result (rw h.matrix at told)

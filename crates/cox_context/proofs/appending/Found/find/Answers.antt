@@ -8,6 +8,7 @@ use Rattle.cox_context.specs.Closed.{Elements}
 use Rattle.cox_context.specs.Numbers.{word_at}
 use Rattle.cox_context.specs.Spread.{mark_at, listed_words, was_there, was_added}
 use Rattle.cox_context.proofs.ListedMembers.{listed-push, listed-member, listed-next, marked-set, marked-push}
+use Rattle.cox_context.proofs.UnionSizes.{full-more}
 use Rattle.cox_context.proofs.appending.Found.find.Goals as goal
 
 pub append-requires-clause-next : goal.append-requires-clause-next
@@ -96,3 +97,14 @@ returns-clause-found c =
     in let listed : c.push_reserved.new.self.items ≡ numbers ++ c.len-number.result ∷ [] = search rules
     in rw (members, listed, c.len-number.ensures.len, x_is) (was_added (λ t. c.in_default.ensures (listed-member words marks numbers h y t))
     (listed-next words marks numbers h y))
+
+pub returns-then-number-limit-clause-refused : goal.returns-then-number-limit-clause-refused
+returns-then-number-limit-clause-refused c =
+    let A = integer_matrix c.args.context.now.matrix
+    in let words = c.args.context.now.members
+    in let numbers = c.args.self.now.numbers.items
+    in let x_is : slice_index numbers c.args.place ≡ c.index-x.result.now
+    = get_or_default numbers c.args.place 0 c.index-x.result.now c.requires.place ∙ sym c.index-x.ensures
+    in let more = full-more A words c.len-number.ensures.closed (normal_form A (c.args.s ∷ word_at words c.index-x.result.now))
+    c.in_default.ensures c.args.limit (omega (arith, c.if-number-limit.true, c.len-number.ensures.len))
+    in (refl, refl, rw x_is more)

@@ -27,4 +27,8 @@ invariant_of-result c =
           (rw (c.rank-rank.ensures.rank, c.len-count.ensures.len, c.as_slice-2.ensures.value) at c.in-Ok-lowering_sets-2.ensures);
       left_narrow = λ k l. absurd (omega (arith, l));
       right_narrow = λ k l. absurd (omega (arith, l));
+      kept_inverses = record {
+        size = λ some. absurd (omega (arith, some));
+        inverses = record { inverse = λ i l m. absurd (omega (arith, m)) };
+      };
     }
