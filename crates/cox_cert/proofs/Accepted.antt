@@ -1,7 +1,8 @@
 -- The text of a certificate gives its lines.
 use Rattle.std.proofs.Common.{◌≡◌, ◌≢◌, ℕ, suc, ◌+◌, ◌-◌, ◌*◌, ◌<◌, ◌≤◌, ◌==◌, true, false, List, [], ◌∷◌, ◌++◌, map, length, flat_map}
-use Rattle.std.proofs.Common.{ℤ, codes, decimal, get_or, nat_lt, refl, ap, ◌∙◌, arith, append_assoc, IsTrue}
+use Rattle.std.proofs.Common.{ℤ, codes, decimal, get_or, nat_lt, refl, ap, ◌∙◌, arith, append_assoc, length-append, IsTrue}
 use Rattle.std.specs.List.{All, join_by}
+use Rattle.std.proofs.lemmas.List.{length-map}
 use Rattle.std.proofs.lemmas.Bool.Decides.{nat_tests}
 use Rattle.std.proofs.lemmas.Bool.{ne_eqb, true≢false}
 use Rattle.std.proofs.lemmas.List.Elements.{All-head, All-tail, All-cons, All-nil, All-append, All-weaker, All-same, All-from_get_or}
@@ -13,7 +14,7 @@ use Rattle.cox_poly.specs.PolynomialText.{polynomial_text}
 use Rattle.cox_poly.proofs.Splits.{AreNot}
 use Rattle.cox_outside.specs.Line.{line_feed, lines_of, content_of, is_foreign}
 use Rattle.cox_outside.specs.Unbroken.{IsUnbroken}
-use Rattle.cox_outside.specs.declared.limits.TheConstants.{LINE_LIMIT}
+use Rattle.cox_outside.specs.declared.limits.TheConstants.{LINE_LIMIT, INPUT_LIMIT}
 use Rattle.cox_outside.proofs.Lines.{lines_of-line}
 use Rattle.cox_rowcheck.specs.declared.limits.TheConstants.{MAX_LISTED}
 use Rattle.cox_rowcheck.specs.SmallPolynomials.{IsSmall}
@@ -75,7 +76,19 @@ lines-content (line ∷ lines) plain =
     let rest = lines-content lines (All-tail (λ l. AreNot is_foreign l) line lines plain) in
     ap (λ l. l ∷ map content_of lines) first ∙ ap (λ l. line ∷ l) rest
 
--- the lines of a certificate are plain and short
+-- how many bytes lines have with their ends
+ended-size : (most : ℕ) (lines : List (List ℕ)) → All (IsPlainText most) lines → length (ended lines) ≤ (most + 1) * length lines
+unfolding ended
+ended-size most [] all = omega arith
+ended-size most (line ∷ lines) all =
+    let first = All-head (IsPlainText most) line lines all in
+    let rest = ended-size most lines (All-tail (IsPlainText most) line lines all) in
+    omega (arith, first.size, rest, length-append line (line_feed ∷ ended lines))
+
+-- the lines of a certificate are plain and short: none has more bytes than this
+abbrev pub most_bytes : ℕ
+most_bytes = 2000
+
 labels_text-plain : (labels : List ℕ) → All (λ m. IsTrue (is_label m)) labels → IsPlainText (2 * length labels) (labels_text labels)
 labels_text-plain labels admitted =
     plain-flat_map (λ label. codes " " ++ decimal label) 2 labels
@@ -86,11 +99,11 @@ labels_text-plain labels admitted =
         plain-append 1 1 (codes " ") (decimal m) (record { size = omega arith; plain = (refl, tt) })
         (decimal-plain 1 m (omega arith) (omega arith) (omega arith))
 
-pub matrix_line-plain : (g : CoxeterMatrix) → IsCoxeterMatrix g → g.rank ≤ MAX_RANK → IsPlainText LINE_LIMIT (matrix_line g)
+pub matrix_line-plain : (g : CoxeterMatrix) → IsCoxeterMatrix g → g.rank ≤ MAX_RANK → IsPlainText most_bytes (matrix_line g)
 matrix_line-plain g is limit =
     let few = label_count-limit g.rank limit in
     let count = is.count in
-    plain-more (7 + 2 * length g.labels) LINE_LIMIT (matrix_line g) (omega arith)
+    plain-more (7 + 2 * length g.labels) most_bytes (matrix_line g) (omega arith)
     (plain-append 7 (2 * length g.labels) (codes "cert " ++ decimal g.rank) (labels_text g.labels)
     (plain-append 5 2 (codes "cert ") (decimal g.rank)
     (record { size = omega arith; plain = (refl, (refl, (refl, (refl, (refl, tt))))) })
@@ -102,46 +115,46 @@ short_word-plain rank word limit is =
     let short = is.short in
     plain-more (3 * length word + 1) 766 (word_text rank word) (omega arith) (word_text-plain rank word limit is.letters)
 
-pub top_line-plain : (rank : ℕ) (word : List ℕ) → rank ≤ MAX_RANK → IsShortWord rank word → IsPlainText LINE_LIMIT (top_line rank word)
+pub top_line-plain : (rank : ℕ) (word : List ℕ) → rank ≤ MAX_RANK → IsShortWord rank word → IsPlainText most_bytes (top_line rank word)
 top_line-plain rank word limit is =
-    plain-more 774 LINE_LIMIT (top_line rank word) (omega arith)
+    plain-more 774 most_bytes (top_line rank word) (omega arith)
     (plain-append 8 766 (codes "element ") (word_text rank word)
     (record { size = omega arith; plain = (refl, (refl, (refl, (refl, (refl, (refl, (refl, (refl, tt)))))))) })
     (short_word-plain rank word limit is))
 
-pub count_line-plain : (n : ℕ) → n ≤ MAX_LISTED → IsPlainText LINE_LIMIT (count_line n)
+pub count_line-plain : (n : ℕ) → n ≤ MAX_LISTED → IsPlainText most_bytes (count_line n)
 count_line-plain n few =
-    plain-more 9 LINE_LIMIT (count_line n) (omega arith)
+    plain-more 9 most_bytes (count_line n) (omega arith)
     (plain-append 5 4 (codes "rows ") (decimal n) (record { size = omega arith; plain = (refl, (refl, (refl, (refl, (refl, tt))))) })
     (decimal-plain 4 n (omega arith) (omega arith) (omega arith)))
 
 row_line-plain : (rank : ℕ) (row : List ℕ × List ℤ) → rank ≤ MAX_RANK → IsLine rank row → IsSmall row.1
-    → IsPlainText LINE_LIMIT (row_line rank row)
+    → IsPlainText most_bytes (row_line rank row)
 row_line-plain rank row limit is small =
-    plain-more 1728 LINE_LIMIT (row_line rank row) (omega arith)
+    plain-more 1728 most_bytes (row_line rank row) (omega arith)
     (plain-append 767 961 (word_text rank row.0 ++ codes ":") (polynomial_text row.1)
     (plain-append 766 1 (word_text rank row.0) (codes ":") (short_word-plain rank row.0 limit is.word)
     (record { size = omega arith; plain = (refl, tt) }))
     (polynomial_text-plain row.1 is.polynomial small))
 
 rows-plain : (rank : ℕ) (rows : List (List ℕ × List ℤ)) → rank ≤ MAX_RANK → All (IsLine rank) rows → All IsSmall (polynomials_of rows)
-    → All (IsPlainText LINE_LIMIT) (map (row_line rank) rows)
-rows-plain rank [] limit are small = All-nil (IsPlainText LINE_LIMIT)
+    → All (IsPlainText most_bytes) (map (row_line rank) rows)
+rows-plain rank [] limit are small = All-nil (IsPlainText most_bytes)
 rows-plain rank (row ∷ rows) limit are small =
-    All-cons (IsPlainText LINE_LIMIT) (row_line rank row) (map (row_line rank) rows)
+    All-cons (IsPlainText most_bytes) (row_line rank row) (map (row_line rank) rows)
     (row_line-plain rank row limit (All-head (IsLine rank) row rows are) (All-head IsSmall row.1 (polynomials_of rows) small))
     (rows-plain rank rows limit (All-tail (IsLine rank) row rows are) (All-tail IsSmall row.1 (polynomials_of rows) small))
 
-pub end_line-plain : IsPlainText LINE_LIMIT end_line
+pub end_line-plain : IsPlainText most_bytes end_line
 end_line-plain = record { size = omega arith; plain = (refl, (refl, (refl, tt))) }
 
 -- the lines behind the first
 abbrev later_lines : Certificate → List (List ℕ)
 later_lines c = (top_line c.matrix.rank c.top ∷ count_line (length c.rows) ∷ map (row_line c.matrix.rank) c.rows) ++ end_line ∷ []
 
-certificate_lines-plain : (c : Certificate) → IsCertificate c → HasSmall c → All (IsPlainText LINE_LIMIT) (certificate_lines c)
+certificate_lines-plain : (c : Certificate) → IsCertificate c → HasSmall c → All (IsPlainText most_bytes) (certificate_lines c)
 certificate_lines-plain c is small =
-    let P = IsPlainText LINE_LIMIT in
+    let P = IsPlainText most_bytes in
     let rank = c.matrix.rank in
     let rows = map (row_line rank) c.rows in
     let count = count_line (length c.rows) in
@@ -157,7 +170,7 @@ certificate_text-contents : (c : Certificate) → IsCertificate c → HasSmall c
     → contents (certificate_text c ++ line_feed ∷ []) ≡ certificate_lines c
 certificate_text-contents c is small =
     let lines = certificate_lines c in
-    let plain = All-weaker (IsPlainText LINE_LIMIT) (λ line. AreNot is_foreign line) (λ line l. l.plain) lines
+    let plain = All-weaker (IsPlainText most_bytes) (λ line. AreNot is_foreign line) (λ line l. l.plain) lines
     (certificate_lines-plain c is small) in
     let unbroken = All-weaker (λ line. AreNot is_foreign line) IsUnbroken plain-unbroken lines plain in
     ap contents (joined-ended (matrix_line c.matrix) (later_lines c)) ∙ ap (map content_of) (ended-lines lines unbroken)
@@ -167,10 +180,22 @@ pub certificate_text-gives : (c : Certificate) → IsCertificate c → HasSmall 
 certificate_text-gives c is small =
     let text = certificate_text c ++ line_feed ∷ [] in
     let written = certificate_text-contents c is small in
-    let short = All-weaker (IsPlainText LINE_LIMIT) (λ line. length line ≤ LINE_LIMIT) (λ line l. l.size) (certificate_lines c)
+    let short = All-weaker (IsPlainText most_bytes) (λ line. length line ≤ LINE_LIMIT) (λ line l. omega (arith, l.size))
+    (certificate_lines c)
     (certificate_lines-plain c is small) in
     record {
       is = is;
       written = written;
       short = All-same (λ line. length line ≤ LINE_LIMIT) (contents text) (certificate_lines c) written short;
     }
+
+-- and its text is within the limit of a check
+pub certificate_text-within : (c : Certificate) → IsCertificate c → HasSmall c → length (certificate_text c ++ line_feed ∷ []) ≤ INPUT_LIMIT
+certificate_text-within c is small =
+    let rows = map (row_line c.matrix.rank) c.rows in
+    let same = ap length (joined-ended (matrix_line c.matrix) (later_lines c)) in
+    let size = ended-size most_bytes (certificate_lines c) (certificate_lines-plain c is small) in
+    let front = matrix_line c.matrix ∷ top_line c.matrix.rank c.top ∷ count_line (length c.rows) ∷ rows in
+    let count : length (certificate_lines c) ≡ 4 + length c.rows
+    = omega (arith, length-append front (end_line ∷ []), length-map c.rows (row_line c.matrix.rank)) in
+    omega (arith, same, size, count, is.few)

@@ -1,5 +1,5 @@
 -- The contract of a whole check, from what was read and what was written.
-use Rattle.std.proofs.Common.{◌≡◌, ◌≢◌, inl, inr, ℕ, ◌<◌, ◌≤◌, true, false, List, [], ◌∷◌, length, map, drop}
+use Rattle.std.proofs.Common.{◌≡◌, ◌≢◌, ◌⊎◌, inl, inr, ℕ, ◌<◌, ◌≤◌, true, false, List, [], ◌∷◌, length, map, drop}
 use Rattle.std.proofs.Common.{Option, Some, None}
 use Rattle.std.proofs.Common.{Err, refl, sym, ◌∙◌, subst, arith}
 use Rattle.std.specs.Prelude.{IsSomeAnd}
@@ -10,18 +10,20 @@ use Rattle.cox_outside.specs.FaultCount.{count_after}
 use Rattle.cox_outside.specs.Supply.{Supply, SourceCause}
 use Rattle.cox_outside.specs.Outlet.{Outlet, Writes, SinkCause, IsPrefix}
 use Rattle.cox_outside.proofs.Known.{prepend_known-none, Writes-none}
+use Rattle.cox_cert.specs.declared.status.Cause.{Cause}
 use Rattle.cox_cert.specs.declared.status.Cause.TheVariants.{Grammar, Top, Interval, Size, Row}
 use Rattle.cox_cert.specs.declared.status.CheckStatus.{CheckStatus}
 use Rattle.cox_cert.specs.declared.status.CheckStatus.TheVariants.{Yes, No, Usage, ReadFault, WriteFault, NoMemory, InputLimit}
 use Rattle.cox_cert.specs.declared.collecting.Halt.{Halt}
 use Rattle.cox_cert.specs.declared.collecting.Halt.TheVariants as halt
-use Rattle.cox_cert.specs.Certificate.{Certificate, Gives}
+use Rattle.cox_cert.specs.Certificate.{Certificate, Gives, contents}
 use Rattle.cox_cert.specs.Causes.{IsFirstCause, IsProof}
 use Rattle.cox_cert.specs.Checks.{ReadsAll, Says, IsDue, ReadsWithin, IsCheck, words_behind}
 use Rattle.cox_cert.specs.Checks.{status_text, is_read_fault, is_write_fault}
 use Rattle.cox_cert.specs.Collected.{Gathers, status_of}
 use Rattle.cox_cert.specs.Judgements.{IsJudged}
 use Rattle.cox_cert.specs.Unhindered.{Rose, IsUnhindered}
+use Rattle.cox_cert.proofs.Verdicts.{no_cause}
 use Rattle.cox_cert.specs.Verdicts.{IsTold, IsVerdict, IsCut, Tells}
 
 -- ---- the verdict
@@ -266,3 +268,25 @@ check-unhindered ReadFault source left old new h no_read no_write within =
 check-unhindered WriteFault source left old new h no_read no_write within = no_write (rose-told old.faults new.faults h.write_fault)
 check-unhindered NoMemory source left old new h no_read no_write within = tt
 check-unhindered InputLimit source left old new h no_read no_write within = not-over source.left h.says within
+
+-- a proof within the limit is accepted then, or memory runs out
+module _ (source left : Supply) (old new : Outlet) (bytes : List ℕ) (text : source.left ≡ Some bytes) (limit : length bytes ≤ INPUT_LIMIT)
+    (proof : IsProof (contents bytes)) (no_read : ¬ Rose source.faults left.faults) (no_write : ¬ Rose old.faults new.faults) where
+  hindered : (status : CheckStatus) → IsCheck status [] source left old new → IsUnhindered status
+  hindered status h = check-unhindered status source left old new h no_read no_write (rw text limit)
+
+  refuted : (cause : Cause) → ReadsAll (IsFirstCause cause) source.left left.left → ⊥
+  refuted cause says = no_cause (contents bytes) proof cause (rw text at says.0).1
+
+  pub check-proof : (status : CheckStatus) → IsCheck status [] source left old new → (status ≡ Yes) ⊎ (status ≡ NoMemory)
+  check-proof Yes h = inl refl
+  check-proof NoMemory h = inr refl
+  check-proof (No Grammar) h = absurd (no_cause (contents bytes) proof Grammar (rw text at h.says))
+  check-proof (No Top) h = absurd (refuted Top h.says)
+  check-proof (No Interval) h = absurd (refuted Interval h.says)
+  check-proof (No Size) h = absurd (refuted Size h.says)
+  check-proof (No Row) h = absurd (refuted Row h.says)
+  check-proof Usage h = absurd (hindered Usage h)
+  check-proof ReadFault h = absurd (hindered ReadFault h)
+  check-proof WriteFault h = absurd (hindered WriteFault h)
+  check-proof InputLimit h = absurd (hindered InputLimit h)

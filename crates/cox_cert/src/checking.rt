@@ -13,7 +13,7 @@ use std::alloc::Global;
 /// Checks the certificate that the source gives, and writes the verdict. `words` are the arguments, and begin with the program's name;
 /// there may be no others.
 ///
-/// The source is read to its end, or up to the first line that no certificate has there. Of the text
+/// The source is read to its end. Where its lines are those of no certificate, the rest may be unread. Of the text
 /// `cert 1|element 1|rows 2|e:1|1:1|end`, with line ends for the bars, it writes `yes`.
 pub fn check<S: Source, K: Sink>(
     alloc: Global,

@@ -1,5 +1,5 @@
 //! Laws of certificates, of the verdicts on them and of whole checks: functions with an empty body, whose contracts state them.
-ghost use Rattle.std.specs.Prelude.{◌≡◌, ◌≤◌, ◌++◌, ◌∷◌, [], ℕ, List, length, IsSomeAnd};
+ghost use Rattle.std.specs.Prelude.{◌≡◌, ◌≤◌, ◌++◌, ◌∷◌, [], ℕ, List, length, true, IsSomeAnd};
 ghost use Rattle.cox_outside.specs.Line.{line_feed};
 ghost use Rattle.cox_outside.specs.declared.limits.TheConstants.{INPUT_LIMIT};
 ghost use Rattle.cox_outside.specs.Supply.{Supply};
@@ -8,12 +8,11 @@ ghost use Rattle.cox_cert.specs.Certificate.{Certificate, IsCertificate, Gives, 
 ghost use Rattle.cox_cert.specs.Causes.{HasTop, HasInterval, HasSmall, HasRow, IsFirstCause, IsProof};
 ghost use Rattle.cox_cert.specs.Checks.{IsCheck};
 ghost use Rattle.cox_cert.specs.Unhindered.{Rose, IsUnhindered};
-ghost use Rattle.cox_cert.specs.declared.status.Cause.{Cause};
 
-use crate::status::CheckStatus;
+use crate::status::{Cause, CheckStatus};
 
 /// Lines are those of one certificate at most. A certificate that states the row of its element is accepted, as it is written. Each text
-/// has one verdict.
+/// has one verdict at most.
 pub fn certificates()
     ensures one { (lines : List (List ℕ)) (c d : Certificate) → Gives lines c → Gives lines d → c ≡ d }
     ensures accepted { (c : Certificate) → IsCertificate c → HasTop c → HasInterval c → HasSmall c → HasRow c
@@ -27,4 +26,10 @@ pub fn complete()
     ensures { (status : CheckStatus) (source left : Supply) (old new : Outlet) → IsCheck status [] source left old new
         → ¬ Rose source.faults left.faults → ¬ Rose old.faults new.faults
         → IsSomeAnd source.left (λ text. length text ≤ INPUT_LIMIT) → IsUnhindered status }
+{}
+
+/// Statuses that `==` tells to be equal are the same, and causes too.
+pub fn statuses()
+    ensures statuses { (a b : CheckStatus) → ⟦<CheckStatus as PartialEq>⟧.eq a b ≡ true → a ≡ b }
+    ensures causes { (a b : Cause) → ⟦<Cause as PartialEq>⟧.eq a b ≡ true → a ≡ b }
 {}

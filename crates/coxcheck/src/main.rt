@@ -1,10 +1,10 @@
 //! The program `coxcheck`: it checks the certificate on standard input, and writes the verdict on standard output.
 //!
-//! It ends with the number of a `cox_cert::CheckStatus`. What it writes is proved in `cox_cert`. Here the arguments are collected, which
-//! may run out of memory, and the check is handed a source and a sink. Of words behind the program's name it matters only that there are
+//! It ends with the number of a `cox_cert::CheckStatus`. What it writes is proved in `cox_cert`. `main` makes the standard streams, collects
+//! the arguments, which may run out of memory, and gives the status out. Of words behind the program's name it matters only that there are
 //! some, so where one is no text another stands for it. Each function but `main` is generic over the source and the sink, and its contract
-//! is that of one whole check, `IsCheck` of `cox_cert`, so nothing is read or written before it, behind it or beside it; `main` makes the
-//! standard streams, and gives the status out.
+//! is that of one whole check, `IsCheck` of `cox_cert`, with the arguments that were collected, so nothing is read or written before it,
+//! behind it or beside it.
 //!
 //! - `tests`: whole checks over sources and sinks in memory
 #![tactic(auto)]
@@ -12,17 +12,16 @@
 #[cfg(test)]
 mod tests;
 
-ghost use Rattle.std.specs.Prelude.{◌≡◌, ◌≢◌, ℕ, List, [], map, drop};
+ghost use Rattle.std.specs.Prelude.{◌≡◌, ◌≢◌, ℕ, List, [], map, drop, IfOk, IfErr, IfSome, IfNone};
 ghost use Rattle.std.specs.Process.{exit_status};
 ghost use Rattle.std.specs.String.{string_bytes};
 ghost use Rattle.cox_cert.specs.Checks.{IsCheck, code_of};
 
 use cox_cert::{CheckStatus, check};
 use cox_outside::{Sink, Source, StdSink, StdSource, arguments_of};
-use std::alloc::Global;
+use std::alloc::{AllocError, Global};
 use std::io;
 use std::process::ExitCode;
-use std::rt::Env;
 
 /// What the program is called, as its first argument.
 const NAME: &str = "coxcheck";
@@ -53,19 +52,24 @@ fn run_arguments<S: Source, K: Sink>(
     check(alloc, &[NAME], source, sink)
 }
 
-/// Checks with the arguments of this environment. What an environment has for arguments no contract tells, so it is a check with some
-/// words behind the name.
-fn start<E: Env, S: Source, K: Sink>(
-    env: &E,
+/// Checks with the arguments that were collected: those that are all texts, `None` where one is not, or want of memory. One that is no
+/// text counts as words behind the name, so the check is the one that has any such words.
+fn start<S: Source, K: Sink>(
     alloc: Global,
+    collected: Result<Option<Vec<String>>, AllocError>,
     source: &mut S,
     sink: &mut K,
 ) -> CheckStatus
-    ensures { (words : List (List ℕ))
-        × IsCheck result words (S.seen source.old) (S.seen source.new) (K.seen sink.old) (K.seen sink.new)
-        × (words ≢ [] → source.new ≡ source.old) }
+    ensures texts { IfOk collected (λ found. IfSome found (λ arguments. IsCheck result (drop 1 (map string_bytes arguments.items))
+        (S.seen source.old) (S.seen source.new) (K.seen sink.old) (K.seen sink.new))) }
+    ensures no_texts { IfOk collected (λ found. IfNone found ((words : List (List ℕ)) → words ≢ []
+        → IsCheck result words (S.seen source.old) (S.seen source.new) (K.seen sink.old) (K.seen sink.new))) }
+    ensures none { IfErr collected (λ _. (result ≡ CheckStatus.NoMemory) × (source.new ≡ source.old) × (sink.new ≡ sink.old)) }
+    ensures unread { IfOk collected (λ found. IfSome found (λ arguments. drop 1 (map string_bytes arguments.items) ≢ []
+        → source.new ≡ source.old)) }
+    ensures no_texts_unread { IfOk collected (λ found. IfNone found (source.new ≡ source.old)) }
 {
-    match arguments_of(env, alloc, NAME) {
+    match collected {
         Ok(Some(arguments)) => run_arguments(alloc, &arguments, source, sink),
         Ok(None) => refuse(alloc, source, sink),
         Err(_) => CheckStatus::NoMemory,
@@ -82,5 +86,6 @@ fn exit_code(status: CheckStatus) -> ExitCode
 fn main(rt: HostRuntime) -> ExitCode {
     let mut source = StdSource::new(rt.reader());
     let mut sink = StdSink::new(io::writer(&rt));
-    exit_code(start(&rt, rt.alloc(), &mut source, &mut sink))
+    let collected = arguments_of(&rt, rt.alloc(), NAME);
+    exit_code(start(rt.alloc(), collected, &mut source, &mut sink))
 }

@@ -2,9 +2,9 @@
 
 ghost use Rattle.std.specs.Prelude.{◌≤◌};
 
-use crate::{check, start};
+use crate::{NAME, check, start};
 use cox_cert::{Cause, CheckStatus};
-use cox_outside::{MemorySink, MemorySource};
+use cox_outside::{MemorySink, MemorySource, arguments_of};
 use std::alloc::{AllocError, Global};
 use std::env::FillError;
 use std::process::Abort;
@@ -304,7 +304,8 @@ fn starts(rt: HostRuntime) -> Result<(), Fail> {
     for (arguments, failing_reads, failing_writes, status, written) in STARTS {
         let mut source = MemorySource::new(text_of(alloc, WHOLE)?, 7, failing_reads.to_vec(alloc)?);
         let mut sink = MemorySink::new(alloc, 20, 5, failing_writes.to_vec(alloc)?)?;
-        let ended = start(&Called(arguments), alloc, &mut source, &mut sink);
+        let collected = arguments_of(&Called(arguments), alloc, NAME);
+        let ended = start(alloc, collected, &mut source, &mut sink);
         assert_eq!(rt; ended, *status, "at {arguments:?}");
         assert_eq!(rt; sink.bytes(), written.as_bytes(), "at {arguments:?}");
     }
