@@ -21,7 +21,7 @@ ghost use Rattle.cox_poly.specs.Puts.{Puts};
 ghost use Rattle.cox_print.specs.AnswerText.{element_text, descent_text};
 ghost use Rattle.cox_replies.specs.Kept.{IsSameWork};
 ghost use Rattle.cox_replies.specs.SessionLimits.{limits_of};
-ghost use Rattle.cox_replies.specs.InquiryQuestion.{RefusesNone, RefusesFar, IsOrderText, r_text};
+ghost use Rattle.cox_replies.specs.InquiryQuestion.{RefusesFar, IsOrderText, r_text};
 ghost use Rattle.cox_replies.specs.InquiryQuestion.{one_question, two_question, question_of};
 ghost use Rattle.cox_command.specs.ParseContract.{HasLetters};
 ghost use Rattle.cox_replies.specs.Putting.{PutsUnless, IsEnded};
@@ -119,8 +119,10 @@ impl Workspace {
     ) -> Result<(), Unanswered>
         requires word { IsWord self.old.table.rank w.now.items }
         requires ready { M.ready maker.now }
-        ensures puts { PutsUnless result (one_question kind (limits_of self.old.options) self.old.table w.now.items).Refuses
-            (one_question kind (limits_of self.old.options) self.old.table w.now.items).IsText out.old.items out.new.items }
+        ensures puts { PutsUnless result (one_question kind (limits_of self.old.options) self.old.table
+            (integer_matrix self.old.table) w.now.items).Refuses
+            (one_question kind (limits_of self.old.options) self.old.table
+            (integer_matrix self.old.table) w.now.items).IsText out.old.items out.new.items }
         ensures same { IsSameWork self.old self.new }
     {
         let table = self.table();
@@ -152,9 +154,9 @@ impl Workspace {
         requires first { IsWord self.old.table.rank y.now.items }
         requires second { IsWord self.old.table.rank w.now.items }
         requires ready { M.ready maker.now }
-        ensures puts { PutsUnless result (two_question kind (limits_of self.old.options) self.old.table.rank
+        ensures puts { PutsUnless result (two_question kind (limits_of self.old.options)
             (integer_matrix self.old.table) y.now.items w.now.items).Refuses
-            (two_question kind (limits_of self.old.options) self.old.table.rank (integer_matrix self.old.table)
+            (two_question kind (limits_of self.old.options) (integer_matrix self.old.table)
             y.now.items w.now.items).IsText out.old.items out.new.items }
         ensures same { IsSameWork self.old self.new }
     {
@@ -184,7 +186,7 @@ impl Workspace {
 /// Puts the normal form of w.
 fn put_normal_form(out: &mut Vec<u8>, table: &RootTable, w: &Word) -> Result<(), Unanswered>
     requires { IsWord table.now.rank w.now.items }
-    ensures { PutsUnless result RefusesNone
+    ensures { PutsUnless result (λ why. ⊥)
         (λ text. text ≡ element_text table.now.rank (normal_form (integer_matrix table.now) w.now.items))
         out.old.items out.new.items }
 {
@@ -194,7 +196,7 @@ fn put_normal_form(out: &mut Vec<u8>, table: &RootTable, w: &Word) -> Result<(),
 /// Puts the normal form of the inverse of w.
 fn put_inverse(out: &mut Vec<u8>, table: &RootTable, w: &Word) -> Result<(), Unanswered>
     requires { IsWord table.now.rank w.now.items }
-    ensures { PutsUnless result RefusesNone
+    ensures { PutsUnless result (λ why. ⊥)
         (λ text. text ≡ element_text table.now.rank (normal_form (integer_matrix table.now) (reverse w.now.items)))
         out.old.items out.new.items }
 {
@@ -205,7 +207,7 @@ fn put_inverse(out: &mut Vec<u8>, table: &RootTable, w: &Word) -> Result<(), Una
 fn put_inorder(out: &mut Vec<u8>, table: &RootTable, y: &Word, w: &Word) -> Result<(), Unanswered>
     requires first { IsWord table.now.rank y.now.items }
     requires second { IsWord table.now.rank w.now.items }
-    ensures { PutsUnless result RefusesNone (IsOrderText (integer_matrix table.now) y.now.items w.now.items) out.old.items out.new.items }
+    ensures { PutsUnless result (λ why. ⊥) (IsOrderText (integer_matrix table.now) y.now.items w.now.items) out.old.items out.new.items }
 {
     unrefused(put_truth(out, table.below(y, w)))
 }

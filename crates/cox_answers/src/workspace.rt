@@ -63,7 +63,7 @@ impl Workspace {
     ghost use Rattle.cox_command.specs.ParseContract.{HasLetters};
     ghost use Rattle.cox_replies.specs.SessionLimits.{limits_of};
     ghost use Rattle.cox_replies.specs.GroupReply.{RefusesGroupRows};
-    ghost use Rattle.cox_replies.specs.Listed.{RefusesLarge};
+    ghost use Rattle.cox_replies.specs.Listed.{RefusesLargeOr};
     ghost use Rattle.cox_replies.specs.Question.{IsRefused};
     ghost use Rattle.cox_replies.specs.RowReply.{RefusesRow};
     ghost use Rattle.cox_replies.specs.Kept.{AreKept, HoldsElement, HoldsRow, HoldsAll, IsSameWork, Keeps};
@@ -188,7 +188,7 @@ impl Workspace {
         requires { IsWord self.old.table.rank w.now.items }
         ensures same { IsSameWork self.old self.new }
         ensures kept { AreKept self.old.table (limits_of self.old.options) self.new.rows }
-        ensures interval { Keeps result (RefusesLarge (limits_of self.old.options) (integer_matrix self.old.table) w.now.items)
+        ensures interval { Keeps result (RefusesLargeOr (limits_of self.old.options) (integer_matrix self.old.table) w.now.items ⊥)
             (HoldsElement (integer_matrix self.old.table) w.now.items) self.new.rows }
         ensures group { IsCoxeterMatrix self.old.table }
     {
@@ -331,7 +331,7 @@ impl Workspace {
         requires ready { M.ready maker.now }
         ensures same { IsSameWork self.old self.new }
         ensures kept { AreKept self.old.table (limits_of self.old.options) self.new.rows }
-        ensures interval { Keeps result (RefusesLarge (limits_of self.old.options) (integer_matrix self.old.table) w.now.items)
+        ensures interval { Keeps result (RefusesLargeOr (limits_of self.old.options) (integer_matrix self.old.table) w.now.items ⊥)
             (HoldsElement (integer_matrix self.old.table) w.now.items) self.new.rows }
         ensures group { IsCoxeterMatrix self.old.table }
     {

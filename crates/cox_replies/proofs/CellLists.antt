@@ -6,10 +6,10 @@ use Rattle.cox_base.specs.IntegerMatrix.{IntegerMatrix}
 use Rattle.cox_base.specs.Members.{IsElement}
 use Rattle.cox_base.specs.SortedList.{IsRising, IsListOf}
 use Rattle.cox_context.specs.Numbers.{word_at}
-use Rattle.cox_context.proofs.PlacedWords.{contains-placed, placed-contains, rising-place}
+use Rattle.cox_context.proofs.PlacedWords.{contains-placed, contains-at, placed-contains, rising-place}
 use Rattle.cox_row.specs.Rising.{number_at, AreRising, AreWithin}
 use Rattle.cox_cells.specs.declared.kind.CellKind.{CellKind}
-use Rattle.cox_cells.specs.Cells.{IsInCell, first_of, IsCell, AreCells}
+use Rattle.cox_cells.specs.Cells.{IsInCell, itself, first_of, IsCell, AreCells}
 use Rattle.cox_cells.specs.NumberedCells.{lists_of, list_at, words_of}
 use Rattle.cox_cells.proofs.StepChains.{cell-back, cell-join}
 use Rattle.cox_cells.proofs.OneList.{first-element}
@@ -30,6 +30,24 @@ module _ (kind : CellKind) (A : IntegerMatrix) where
 
       own : IsInCell kind A (first_of cell) x
       own = is.all.sound x there
+
+  -- and the list of an element's cell is a cell
+  pub cell-is : (cell : List (List ℕ)) (x : List ℕ) → IsElement A x → IsListOf (IsInCell kind A x) cell → IsCell kind A cell
+  cell-is cell x e is = record {
+    some = some;
+    all = record {
+      rising = is.rising;
+      sound = λ y c. cell-join kind A (first_of cell) x y (cell-back kind A x (first_of cell) e own) (is.sound y c);
+      whole = λ y r. is.whole y (cell-join kind A x (first_of cell) y own r);
+    };
+  }
+    where
+      some : 0 < length cell
+      some = let p = contains-placed cell x (is.whole x (record { element = e; forth = itself x; back = itself x })) in
+          omega (arith, p.within)
+
+      own : IsInCell kind A x (first_of cell)
+      own = is.sound (first_of cell) (contains-at cell 0 some)
 
   pub some_cell : (cells : List (List (List ℕ))) → AreCells kind A cells → (x : List ℕ) → IsElement A x
       → (cell : List (List ℕ)) × IsListOf (IsInCell kind A x) cell

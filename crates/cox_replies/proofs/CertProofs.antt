@@ -1,11 +1,11 @@
 -- Where `cert` is not refused, its answer is a certificate that a check accepts.
-use Rattle.std.proofs.Common.{◌≡◌, ℕ, ◌+◌, ◌<◌, ◌≤◌, List, [], ◌∷◌, ◌++◌, length, get_or, None, inr, refl, ap, ◌∙◌, ⊎_elim, arith}
-use Rattle.std.proofs.Common.{ℤ, pos}
+use Rattle.std.proofs.Common.{◌≡◌, ℕ, ◌+◌, ◌<◌, ◌≤◌, List, [], ◌∷◌, ◌++◌, length, get_or, None, Some, ◌⊎◌, inr, refl, ap, ◌∙◌}
+use Rattle.std.proofs.Common.{⊎_elim, arith, ℤ, pos, min}
 use Rattle.std.specs.Prelude.{unsigned_abs}
 use Rattle.std.proofs.lemmas.Bool.{cases_lt}
 use Rattle.std.proofs.lemmas.Int.{by_lt_z}
 use Rattle.std.proofs.lemmas.List.{length-map, get_or-map, get_or_default}
-use Rattle.cox_base.specs.Matrix.{CoxeterMatrix, IsWord}
+use Rattle.cox_base.specs.Matrix.{CoxeterMatrix}
 use Rattle.cox_base.specs.IntegerMatrix.{IntegerMatrix, integer_matrix}
 use Rattle.cox_base.specs.Admissible.{IsCoxeterMatrix, IsAdmissible}
 use Rattle.cox_base.specs.ShortLex.{normal_form}
@@ -30,13 +30,23 @@ use Rattle.cox_rowcheck.specs.declared.limits.TheConstants.{MAX_LISTED, MAX_DEGR
 use Rattle.cox_rowcheck.proofs.IntervalRows.{interval-at, interval-short, interval-named}
 use Rattle.cox_rows.specs.Beyond.{IsBeyond, coefficient as large_coefficient}
 use Rattle.cox_outside.specs.Line.{line_feed}
-use Rattle.cox_cert.specs.Certificate.{Certificate, IsCertificate, IsShortWord, IsLine, words_of, polynomials_of, contents}
+use Rattle.cox_cert.specs.Certificate.{Certificate, IsCertificate, IsShortWord, IsLine, words_of, polynomials_of}
+use Rattle.cox_cert.specs.Certificate.{contents, certificate_text}
 use Rattle.cox_cert.specs.Causes.{HasTop, HasInterval, HasSmall, HasRow, IsProof}
-use Rattle.cox_cert.proofs.Accepted.{certificate_text-gives}
+use Rattle.cox_cert.proofs.Accepted.{certificate_text-gives, certificate_text-within}
+use Rattle.cox_cert.proofs.WholeChecks.{check-proof}
+use Rattle.cox_cert.specs.Checks.{IsCheck}
+use Rattle.cox_cert.specs.Unhindered.{Rose}
+use Rattle.cox_cert.specs.declared.status.CheckStatus.{CheckStatus}
+use Rattle.cox_cert.specs.declared.status.CheckStatus.TheVariants.{Yes, NoMemory}
+use Rattle.cox_outside.specs.Supply.{Supply}
+use Rattle.cox_outside.specs.Outlet.{Outlet}
+use Rattle.cox_outside.specs.declared.limits.TheConstants.{INPUT_LIMIT}
 use Rattle.cox_replies.specs.Limits.{Limits}
 use Rattle.cox_replies.specs.Question.{IsRefused}
-use Rattle.cox_replies.specs.CertReply.{listed_limit, RefusesCert, IsCertificateOf, IsCertText}
+use Rattle.cox_replies.specs.CertReply.{RefusesCert, IsCertText}
 use Rattle.cox_replies.proofs.CertRefusals.{cert-none}
+use Rattle.cox_replies.proofs.CertTexts.{IsCertificateOf, cert-certificate}
 use Rattle.cox_replies.proofs.KeptRows.{interval-member}
 
 -- P(x,w) has no coefficient above a limit, or the row of w is beyond it
@@ -73,7 +83,7 @@ module _ (limits : Limits) (m : CoxeterMatrix) (w : List ℕ) (matrix : IsCoxete
   few : length c.rows ≤ MAX_LISTED
   few = ⊎_elim
       (λ (many : MAX_LISTED < length c.rows). absurd ((cert-none limits (integer_matrix m) w free).0
-      (HasMoreThan-listed (IsInInterval (integer_matrix m) w) (listed_limit limits.context) (words_of c.rows) is.interval
+      (HasMoreThan-listed (IsInInterval (integer_matrix m) w) (min limits.context MAX_LISTED) (words_of c.rows) is.interval
       (omega (arith, many, count)))))
       (λ (less : length c.rows ≤ MAX_LISTED). less)
       (cases_lt MAX_LISTED (length c.rows))
@@ -152,14 +162,29 @@ module _ (limits : Limits) (m : CoxeterMatrix) (w : List ℕ) (matrix : IsCoxete
         (same-sym (integer_matrix m) admissible (normal_form-same (integer_matrix m) admissible w)) (is.row.each i l);
   })
 
-pub cert-accepted : (limits : Limits) (m : CoxeterMatrix) (w text : List ℕ) → IsCoxeterMatrix m → m.rank ≤ MAX_RANK
-    → IsWord m.rank w → IsRefused (RefusesCert limits (integer_matrix m) w) None → IsCertText m w text
-    → IsProof (contents (text ++ line_feed ∷ []))
-cert-accepted limits m w text matrix rank word free (c, is, e) = rw e (record {
-  certificate = c;
-  gives = certificate_text-gives c (certificate-written limits m w matrix rank free c is) (has_small limits m w matrix rank free c is);
-  top = has_top limits m w matrix rank free c is;
-  interval = has_interval limits m w matrix rank free c is;
-  small = has_small limits m w matrix rank free c is;
-  row = has_row limits m w matrix rank free c is;
-})
+module _ (limits : Limits) (m : CoxeterMatrix) (w text : List ℕ) (matrix : IsCoxeterMatrix m) (rank : m.rank ≤ MAX_RANK)
+    (free : IsRefused (RefusesCert limits (integer_matrix m) w) None) (is_text : IsCertText m w text) where
+  found : (c : Certificate) × IsCertificateOf m w c × (text ≡ certificate_text c)
+  found = cert-certificate m (IsAdmissible-integer_matrix m matrix) w text is_text
+
+  pub cert-accepted : IsProof (contents (text ++ line_feed ∷ []))
+  cert-accepted = rw found.2 (record {
+    certificate = found.0;
+    gives = certificate_text-gives found.0 (certificate-written limits m w matrix rank free found.0 found.1)
+        (has_small limits m w matrix rank free found.0 found.1);
+    top = has_top limits m w matrix rank free found.0 found.1;
+    interval = has_interval limits m w matrix rank free found.0 found.1;
+    small = has_small limits m w matrix rank free found.0 found.1;
+    row = has_row limits m w matrix rank free found.0 found.1;
+  })
+
+  cert-within : length (text ++ line_feed ∷ []) ≤ INPUT_LIMIT
+  cert-within = rw found.2 (certificate_text-within found.0 (certificate-written limits m w matrix rank free found.0 found.1)
+      (has_small limits m w matrix rank free found.0 found.1))
+
+  -- a check of it accepts it, where nothing hinders the check
+  pub cert-checked : (status : CheckStatus) (source left : Supply) (old new : Outlet) → IsCheck status [] source left old new
+      → ¬ Rose source.faults left.faults → ¬ Rose old.faults new.faults → source.left ≡ Some (text ++ line_feed ∷ [])
+      → (status ≡ Yes) ⊎ (status ≡ NoMemory)
+  cert-checked status source left old new check no_read no_write told = check-proof source left old new (text ++ line_feed ∷ []) told
+      cert-within cert-accepted no_read no_write status check

@@ -1,27 +1,28 @@
 -- The question of `cert` has one right text at most, and can be answered.
-use Rattle.std.proofs.Common.{◌≡◌, ◌⊎◌, ℕ, ◌<◌, ◌≤◌, List, inl, inr, ap, sym, ◌∙◌, ⊎_elim, arith, pos}
+use Rattle.std.proofs.Common.{◌≡◌, ◌⊎◌, ℕ, ◌<◌, ◌≤◌, List, inl, inr, ⊎_elim, arith, pos, min}
 use Rattle.std.proofs.lemmas.Bool.{cases_lt}
 use Rattle.std.proofs.lemmas.Int.{ints}
 use Rattle.cox_base.specs.Matrix.{CoxeterMatrix}
 use Rattle.cox_base.specs.IntegerMatrix.{IntegerMatrix, integer_matrix}
 use Rattle.cox_base.specs.Admissible.{IsAdmissible}
 use Rattle.cox_base.specs.Length.{word_length}
+use Rattle.cox_base.specs.Members.{IsInInterval}
 use Rattle.cox_rpoly.specs.declared.TheConstants.{MAX_DIFFERENCE}
 use Rattle.cox_hecke.proofs.AllRows.{row_of, row_of-is}
 use Rattle.cox_context.proofs.IntervalLists.{interval-exists, interval-decided}
-use Rattle.cox_rowcheck.specs.declared.limits.TheConstants.{MAX_COEFFICIENT}
+use Rattle.cox_rowcheck.specs.declared.limits.TheConstants.{MAX_LISTED, MAX_COEFFICIENT}
 use Rattle.cox_rows.proofs.BeyondDecided.{tell-beyond}
 use Rattle.cox_rows.proofs.NeedDecided.{tell-needs_beyond}
-use Rattle.cox_cert.specs.Certificate.{certificate_text}
 use Rattle.cox_command.specs.declared.refusal.Refusal.{Refusal}
 use Rattle.cox_command.specs.declared.refusal.Refusal.TheVariants.{LargeInterval, FarApart, LargeRow}
 use Rattle.cox_replies.specs.Limits.{Limits}
-use Rattle.cox_replies.specs.CertReply.{listed_limit, RefusesCert, IsCertText}
+use Rattle.cox_replies.specs.CertReply.{RefusesCert, IsCertText}
 use Rattle.cox_replies.specs.Answerable.{IsAnswerable}
-use Rattle.cox_replies.proofs.CertTexts.{cert-text, certificate-unique}
+use Rattle.cox_replies.proofs.RowQuestions.{listed-by_row}
+use Rattle.cox_replies.proofs.CertTexts.{cert-text}
 
 pub cert-one : (m : CoxeterMatrix) (g : IsAdmissible (integer_matrix m)) (w a b : List ℕ) → IsCertText m w a → IsCertText m w b → a ≡ b
-cert-one m g w a b s t = s.2 ∙ ap certificate_text (certificate-unique m g w s.0 t.0 s.1 t.1) ∙ sym t.2
+cert-one m g w a b s t = listed-by_row (integer_matrix m) g w (IsInInterval (integer_matrix m) w) _ a b s t
 
 -- either of two facts is decided
 either-decided : {P Q : Type 0} → P ⊎ (P → ⊥) → Q ⊎ (Q → ⊥) → (P ⊎ Q) ⊎ (P ⊎ Q → ⊥)
@@ -37,7 +38,7 @@ long-decided n = ⊎_elim (λ long. inl long)
 cert-decided : (A : IntegerMatrix) (g : IsAdmissible A) (limits : Limits) (w : List ℕ) (why : Refusal)
     → RefusesCert limits A w why ⊎ (RefusesCert limits A w why → ⊥)
 cert-decided A g limits w LargeInterval =
-    ⊎_elim (λ many. inl many) (λ few. inr few.0) (interval-decided A g (listed_limit limits.context) w)
+    ⊎_elim (λ many. inl many) (λ few. inr few.0) (interval-decided A g (min limits.context MAX_LISTED) w)
 cert-decided A g limits w FarApart = long-decided (word_length A w)
 cert-decided A g limits w LargeRow = either-decided
     (tell-needs_beyond A g (pos limits.coefficient) (omega (arith, ints)) w) (tell-beyond A g MAX_COEFFICIENT (omega (arith, ints)) w)

@@ -1,5 +1,5 @@
 -- When a certificate is refused.
-use Rattle.std.proofs.Common.{◌≡◌, ◌⊎◌, ℕ, ◌<◌, ◌≤◌, List, length, Option, None, Some, IsSome, IsSomeAnd, Result, Ok, Err}
+use Rattle.std.proofs.Common.{◌≡◌, ◌⊎◌, ℕ, ◌<◌, ◌≤◌, List, length, Option, None, Some, IsSome, IsSomeAnd, Result, Ok, Err, min}
 use Rattle.std.proofs.Common.{inl, inr, refl, ⊎_elim, arith, pos}
 use Rattle.std.proofs.Math.Nat.{min-le_left, min-le_right, le-min}
 use Rattle.std.proofs.lemmas.Bool.{cases_lt}
@@ -18,27 +18,27 @@ use Rattle.cox_replies.specs.declared.unanswered.Unanswered.{Unanswered}
 use Rattle.cox_replies.specs.declared.unanswered.Unanswered.TheVariants.{Refused, NoMemory}
 use Rattle.cox_replies.specs.Limits.{Limits}
 use Rattle.cox_replies.specs.Question.{IsRefused}
-use Rattle.cox_replies.specs.Listed.{RefusesLarge}
+use Rattle.cox_replies.specs.Listed.{RefusesLargeOr}
 use Rattle.cox_replies.specs.RowReply.{RefusesRow}
-use Rattle.cox_replies.specs.CertReply.{listed_limit, RefusesListing, RefusesCert}
+use Rattle.cox_replies.specs.CertReply.{RefusesListedOr, RefusesCert}
 use Rattle.cox_replies.specs.Kept.{Keeps}
 use Rattle.cox_replies.specs.Putting.{PutsUnless, Finds}
-use Rattle.cox_replies.proofs.LargeOr.{large_or-none}
+use Rattle.cox_replies.proofs.LargeOr.{row-more, large_or-none}
 
 module _ (limits : Limits) (A : IntegerMatrix) (w : List ℕ) where
   -- ---- the members
 
   -- more than the option's limit is more than the lower one of both limits
-  more-listed : HasMoreThan limits.context (IsInInterval A w) → HasMoreThan (listed_limit limits.context) (IsInInterval A w)
+  more-listed : HasMoreThan limits.context (IsInInterval A w) → HasMoreThan (min limits.context MAX_LISTED) (IsInInterval A w)
   more-listed many = (many.0, many.1, many.2, omega (arith, many.3, min-le_left limits.context MAX_LISTED))
 
   -- a list of too many members
   pub listing-many : (words : List (List ℕ)) → IsListOf (IsInInterval A w) words → MAX_LISTED < length words
-      → IsRefused (RefusesListing limits A w) (Some LargeInterval)
+      → IsRefused (RefusesListedOr limits A w ⊥) (Some LargeInterval)
   listing-many words list many = inr (
     λ none. none,
     inl (
-      HasMoreThan-listed (IsInInterval A w) (listed_limit limits.context) words list
+      HasMoreThan-listed (IsInInterval A w) (min limits.context MAX_LISTED) words list
           (omega (arith, many, min-le_right limits.context MAX_LISTED)),
       refl,
     ),
@@ -46,7 +46,7 @@ module _ (limits : Limits) (A : IntegerMatrix) (w : List ℕ) where
 
   -- a list of no more than a check takes, of an interval within the option's limit
   listing-few : (words : List (List ℕ)) → IsListOf (IsInInterval A w) words → length words ≤ MAX_LISTED
-      → (HasMoreThan limits.context (IsInInterval A w) → ⊥) → HasMoreThan (listed_limit limits.context) (IsInInterval A w) → ⊥
+      → (HasMoreThan limits.context (IsInInterval A w) → ⊥) → HasMoreThan (min limits.context MAX_LISTED) (IsInInterval A w) → ⊥
   listing-few words list few small many = ⊎_elim
       (λ (less : limits.context < MAX_LISTED).
       let lower : limits.context ≤ MAX_LISTED = omega (arith, less) in
@@ -72,26 +72,23 @@ module _ (limits : Limits) (A : IntegerMatrix) (w : List ℕ) where
 
   pub listing-long : (words : List (List ℕ)) → IsListOf (IsInInterval A w) words → length words ≤ MAX_LISTED
       → (HasMoreThan limits.context (IsInInterval A w) → ⊥) → MAX_DIFFERENCE < word_length A w
-      → IsRefused (RefusesListing limits A w) (Some FarApart)
+      → IsRefused (RefusesListedOr limits A w ⊥) (Some FarApart)
   listing-long words list few small long = inr (λ none. none, inr (listing-few words list few small, inl (long, refl)))
 
   pub listing-allowed : (words : List (List ℕ)) → IsListOf (IsInInterval A w) words → length words ≤ MAX_LISTED
       → (HasMoreThan limits.context (IsInInterval A w) → ⊥) → word_length A w ≤ MAX_DIFFERENCE
-      → IsRefused (RefusesListing limits A w) None
+      → IsRefused (RefusesListedOr limits A w ⊥) None
   listing-allowed words list few small short =
       inr (λ none. none, inr (listing-few words list few small, inr (λ long. omega (arith, short, long), inr (λ none. none, refl))))
 
   -- ---- what refuses the list refuses the certificate
 
-  pub cert-listing : (why : Refusal) → IsRefused (RefusesListing limits A w) (Some why) → IsRefused (RefusesCert limits A w) (Some why)
-  cert-listing why (inl (none, e)) = absurd none
-  cert-listing why (inr (none, inl large)) = inr (none, inl large)
-  cert-listing why (inr (none, inr (few, inl long))) = inr (none, inr (few, inl long))
-  cert-listing why (inr (none, inr (few, inr (short, inl (large, e))))) = absurd large
-  cert-listing why (inr (none, inr (few, inr (short, inr (small, e))))) = absurd (cc e)
+  pub cert-listing : (why : Refusal) → IsRefused (RefusesListedOr limits A w ⊥) (Some why) → IsRefused (RefusesCert limits A w) (Some why)
+  cert-listing = row-more (HasMoreThan (min limits.context MAX_LISTED) (IsInInterval A w)) (MAX_DIFFERENCE < word_length A w)
+      (NeedsBeyond A (pos limits.coefficient) w ⊎ IsBeyond A MAX_COEFFICIENT w)
 
   -- a large interval
-  pub cert-interval : (why : Refusal) → IsRefused (RefusesLarge limits A w) (Some why) → IsRefused (RefusesCert limits A w) (Some why)
+  pub cert-interval : (why : Refusal) → IsRefused (RefusesLargeOr limits A w ⊥) (Some why) → IsRefused (RefusesCert limits A w) (Some why)
   cert-interval why (inl (none, e)) = absurd none
   cert-interval why (inr (none, inl (many, e))) = inr (none, inl (more-listed many, e))
   cert-interval why (inr (none, inr (few, inl (far, e)))) = absurd far
@@ -99,14 +96,14 @@ module _ (limits : Limits) (A : IntegerMatrix) (w : List ℕ) where
   cert-interval why (inr (none, inr (few, inr (near, inr (small, e))))) = absurd (cc e)
 
   -- what nothing refuses
-  pub listing-none : IsRefused (RefusesListing limits A w) None
-      → (HasMoreThan (listed_limit limits.context) (IsInInterval A w) → ⊥) × (MAX_DIFFERENCE < word_length A w → ⊥)
+  pub listing-none : IsRefused (RefusesListedOr limits A w ⊥) None
+      → (HasMoreThan (min limits.context MAX_LISTED) (IsInInterval A w) → ⊥) × (MAX_DIFFERENCE < word_length A w → ⊥)
   listing-none (inl (none, e)) = absurd none
   listing-none (inr (_, inl (many, e))) = absurd (cc e)
   listing-none (inr (_, inr (few, inl (long, e)))) = absurd (cc e)
   listing-none (inr (_, inr (few, inr (short, rest)))) = (few, short)
 
-  pub cert-none : IsRefused (RefusesCert limits A w) None → (HasMoreThan (listed_limit limits.context) (IsInInterval A w) → ⊥)
+  pub cert-none : IsRefused (RefusesCert limits A w) None → (HasMoreThan (min limits.context MAX_LISTED) (IsInInterval A w) → ⊥)
       × (MAX_DIFFERENCE < word_length A w → ⊥) × (NeedsBeyond A (pos limits.coefficient) w ⊎ IsBeyond A MAX_COEFFICIENT w → ⊥)
   cert-none (inl (none, e)) = absurd none
   cert-none (inr (_, inl (many, e))) = absurd (cc e)
@@ -116,16 +113,16 @@ module _ (limits : Limits) (A : IntegerMatrix) (w : List ℕ) where
 
   -- ---- rows that are too large
 
-  pub cert-large : IsRefused (RefusesListing limits A w) None → NeedsBeyond A (pos limits.coefficient) w ⊎ IsBeyond A MAX_COEFFICIENT w
+  pub cert-large : IsRefused (RefusesListedOr limits A w ⊥) None → NeedsBeyond A (pos limits.coefficient) w ⊎ IsBeyond A MAX_COEFFICIENT w
       → IsRefused (RefusesCert limits A w) (Some LargeRow)
   cert-large free large = let none = listing-none free in inr (λ n. n, inr (none.0, inr (none.1, inl (large, refl))))
 
-  pub cert-allowed : IsRefused (RefusesListing limits A w) None
+  pub cert-allowed : IsRefused (RefusesListedOr limits A w ⊥) None
       → (NeedsBeyond A (pos limits.coefficient) w ⊎ IsBeyond A MAX_COEFFICIENT w → ⊥) → IsRefused (RefusesCert limits A w) None
   cert-allowed free small = let none = listing-none free in inr (λ n. n, inr (none.0, inr (none.1, inr (small, refl))))
 
   -- a row that is refused where the list is not
-  pub cert-row : (why : Refusal) → (HasMoreThan limits.context (IsInInterval A w) → ⊥) → IsRefused (RefusesListing limits A w) None
+  pub cert-row : (why : Refusal) → (HasMoreThan limits.context (IsInInterval A w) → ⊥) → IsRefused (RefusesListedOr limits A w ⊥) None
       → IsRefused (RefusesRow limits A w) (Some why) → IsRefused (RefusesCert limits A w) (Some why)
   cert-row why few free (inl (none, e)) = absurd none
   cert-row why few free (inr (_, inl (many, e))) = absurd (few many)

@@ -43,20 +43,20 @@ some-decided P decided (x ∷ words) = ⊎_elim (λ (p : P x). inl (x, here, p))
     later none (inr rest) = inr (not-any none rest)
 
 module _ (limits : Limits) (A : IntegerMatrix) (g : IsAdmissible A) where
-  graph-one : (rank : ℕ) (side : Side) (a b : List ℕ) → IsGraphText rank side A a → IsGraphText rank side A b → a ≡ b
-  graph-one rank side a b p q =
-      p.2 ∙ ap (λ vertices. list_text (map (vertex_text rank (descent_set side A)) vertices)) (one_listing A g p.0 q.0 p.1 q.1) ∙ sym q.2
+  graph-one : (side : Side) (a b : List ℕ) → IsGraphText side A a → IsGraphText side A b → a ≡ b
+  graph-one side a b p q =
+      p.2 ∙ ap (λ vertices. list_text (map (vertex_text A.rank (descent_set side A)) vertices)) (one_listing A g p.0 q.0 p.1 q.1) ∙ sym q.2
 
-  cells-one : (rank : ℕ) (kind : CellKind) (a b : List ℕ) → IsCellsText rank kind A a → IsCellsText rank kind A b → a ≡ b
-  cells-one rank kind a b p q =
-      p.2 ∙ ap (λ cells. list_text (map (members_text rank) cells)) (one_list kind A p.0 q.0 p.1 q.1) ∙ sym q.2
+  cells-one : (kind : CellKind) (a b : List ℕ) → IsCellsText kind A a → IsCellsText kind A b → a ≡ b
+  cells-one kind a b p q =
+      p.2 ∙ ap (λ cells. list_text (map (members_text A.rank) cells)) (one_list kind A p.0 q.0 p.1 q.1) ∙ sym q.2
 
-  pub group-one : (rank : ℕ) (kind : NoWord) → HasOneText (group_question kind limits rank A)
-  group-one rank Lwgraph = graph-one rank _
-  group-one rank Rwgraph = graph-one rank _
-  group-one rank Lcells = cells-one rank _
-  group-one rank Rcells = cells-one rank _
-  group-one rank Lrcells = cells-one rank _
+  pub group-one : (kind : NoWord) → HasOneText (group_question kind limits A)
+  group-one Lwgraph = graph-one _
+  group-one Rwgraph = graph-one _
+  group-one Lcells = cells-one _
+  group-one Rcells = cells-one _
+  group-one Lrcells = cells-one _
 
   -- whether a group is refused is decided
   pub group_rows-decided : (why : Refusal) → RefusesGroupRows limits A why ⊎ (RefusesGroupRows limits A why → ⊥)
@@ -79,29 +79,22 @@ module _ (limits : Limits) (A : IntegerMatrix) (g : IsAdmissible A) where
   pub group-list : IsRefused (RefusesGroupRows limits A) None → (words : List (List ℕ)) × IsListOf (IsElement A) words
   group-list free = ⊎_elim (λ large. absurd (not-large free large)) (λ small. (small.1, small.2)) (group-decided A g limits.context)
 
-  graph-answerable : (rank : ℕ) (side : Side) → IsAnswerable (record {
-    Refuses = RefusesGroupRows limits A;
-    IsText = IsGraphText rank side A;
-  })
-  graph-answerable rank side = record {
+  graph-answerable : (side : Side) → IsAnswerable (record { Refuses = RefusesGroupRows limits A; IsText = IsGraphText side A })
+  graph-answerable side = record {
     decided = group_rows-decided;
     answer = λ free. let list = group-list free in let vertices = some_listing A g list.0
         list.1 in (_, (vertices.0, vertices.1, refl));
   }
 
-  cells-answerable : (rank : ℕ) (kind : CellKind) → IsAnswerable (record {
-    Refuses = RefusesGroupRows limits A;
-    IsText = IsCellsText rank
-        kind A;
-  })
-  cells-answerable rank kind = record {
+  cells-answerable : (kind : CellKind) → IsAnswerable (record { Refuses = RefusesGroupRows limits A; IsText = IsCellsText kind A })
+  cells-answerable kind = record {
     decided = group_rows-decided;
     answer = λ free. let list = group-list free in (_, (_, some_list kind A g list.0 list.1, refl));
   }
 
-  pub group-answerable : (rank : ℕ) (kind : NoWord) → IsAnswerable (group_question kind limits rank A)
-  group-answerable rank Lwgraph = graph-answerable rank _
-  group-answerable rank Rwgraph = graph-answerable rank _
-  group-answerable rank Lcells = cells-answerable rank _
-  group-answerable rank Rcells = cells-answerable rank _
-  group-answerable rank Lrcells = cells-answerable rank _
+  pub group-answerable : (kind : NoWord) → IsAnswerable (group_question kind limits A)
+  group-answerable Lwgraph = graph-answerable _
+  group-answerable Rwgraph = graph-answerable _
+  group-answerable Lcells = cells-answerable _
+  group-answerable Rcells = cells-answerable _
+  group-answerable Lrcells = cells-answerable _

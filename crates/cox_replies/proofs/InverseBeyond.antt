@@ -28,6 +28,31 @@ use Rattle.cox_replies.specs.InverseReply.{inverse_limit, IsInverseBeyond, row, 
 use Rattle.cox_replies.proofs.InverseTexts.{inverse_of-high}
 use Rattle.cox_replies.proofs.RowQuestions.{both-decided}
 
+-- by what P(x,z) and Q(x,w) are
+module _ (A : IntegerMatrix) (limit : ℕ) (y w : List ℕ) where
+  pub polynomial-large : (x z : List ℕ) (k : ℕ) (c : ℤ) → IsBelow A y x → IsBelow A x z → IsBelow A z w
+      → IsLargeCoefficient A MAX_COEFFICIENT x z k c → IsInverseBeyond A limit y w
+  polynomial-large x z k c above order below large =
+      let value : large.is.row x k ≡ c = sym (large.is.at k) ∙ large.value in
+      polynomial {p = large.is.row} x z k above order below large.is.is (rw value large.above)
+
+  pub inverse-large : (x : List ℕ) (k : ℕ) (c : ℤ) → IsBelow A y x → IsBelow A x w → IsLargeInverse A (inverse_limit limit) x w k c
+      → IsInverseBeyond A limit y w
+  inverse-large x k c above below large =
+      let value : large.is.row x k ≡ c = sym (large.is.at k) ∙ large.value in
+      inverse {q = large.is.row} x k above below large.is.is (rw value large.above)
+
+  pub by-large : {C : Type 0} → ((z : List ℕ) → LiesBetween A y w z → NeedsBeyond A (pos limit) z → C)
+      → ((x z : List ℕ) (k : ℕ) (c : ℤ) → IsBelow A y x → IsBelow A x z → IsBelow A z w
+      → IsLargeCoefficient A MAX_COEFFICIENT x z k c → C)
+      → ((x : List ℕ) (k : ℕ) (c : ℤ) → IsBelow A y x → IsBelow A x w → IsLargeInverse A (inverse_limit limit) x w k c → C)
+      → IsInverseBeyond A limit y w → C
+  by-large rows polynomials inverses (row {z} above below beyond) = rows z (record { above = above; below = below }) beyond
+  by-large rows polynomials inverses (polynomial {p} x z k above order below is large) = polynomials x z k (p x k) above order below
+      (record { polynomial = p x; is = record { row = p; is = is; at = λ j. refl }; value = refl; above = large })
+  by-large rows polynomials inverses (inverse {q} x k above below is large) = inverses x k (q x k) above below
+      (record { polynomial = q x; is = record { row = q; is = is; at = λ j. refl }; value = refl; above = large })
+
 module _ (A : IntegerMatrix) (g : IsAdmissible A) where
   -- a property of elements that can be told: some element between y and w has it, or none
   tell-between : (P : List ℕ → Type 0) → ((x z : List ℕ) → SameElement A x z → P x → P z) → ((x : List ℕ) → P x ⊎ (P x → ⊥))
@@ -119,28 +144,21 @@ module _ (A : IntegerMatrix) (g : IsAdmissible A) where
 
   pub tell-inverse_beyond : (limit : ℕ) (y w : List ℕ) → IsInverseBeyond A limit y w ⊎ (IsInverseBeyond A limit y w → ⊥)
   tell-inverse_beyond limit y w = ⊎_elim
-      (λ (found : (z : List ℕ) × LiesBetween A y w z × NeedsBeyond A (pos limit) z). inl (row found.1 found.2))
+      (λ (found : (z : List ℕ) × LiesBetween A y w z × NeedsBeyond A (pos limit) z). inl (row found.1.above found.1.below found.2))
       (λ (no_row : (z : List ℕ) → LiesBetween A y w z → NeedsBeyond A (pos limit) z → ⊥). ⊎_elim
       (λ (found : (z : List ℕ) × LiesBetween A y w z × HasLargeRow MAX_COEFFICIENT y z).
-      inl (polynomial found.2.1.above found.2.1.below found.1.below found.2.2.2))
+      let large = found.2 in
+      inl (polynomial-large A limit y w large.0 found.0 large.2.0 large.2.1 large.1.above large.1.below found.1.below large.2.2))
       (λ (no_polynomial : (z : List ℕ) → LiesBetween A y w z → HasLargeRow MAX_COEFFICIENT y z → ⊥). ⊎_elim
       (λ (found : (x : List ℕ) × LiesBetween A y w x × HasLargeInverse (inverse_limit limit) w x).
-      inl (inverse found.1.above found.1.below found.2.2))
+      inl (inverse-large A limit y w found.0 found.2.0 found.2.1 found.1.above found.1.below found.2.2))
       (λ (no_inverse : (x : List ℕ) → LiesBetween A y w x → HasLargeInverse (inverse_limit limit) w x → ⊥).
-      inr (none no_row no_polynomial no_inverse))
+      inr (by-large A limit y w no_row
+      (λ x z k c above order below large. no_polynomial z (record { above = below-trans A g above order; below = below })
+      (x, record { above = above; below = order }, (k, c, large)))
+      (λ x k c above below large. no_inverse x (record { above = above; below = below }) (k, c, large))))
       (tell-between (HasLargeInverse (inverse_limit limit) w) (inverse-words (inverse_limit limit) w)
       (tell-inverse (inverse_limit limit) (largest-least limit) w) y w))
       (tell-between (HasLargeRow MAX_COEFFICIENT y) (row-words MAX_COEFFICIENT y) (tell-row MAX_COEFFICIENT (omega (arith, ints)) y) y w))
       (tell-between (NeedsBeyond A (pos limit)) (needs_beyond-same A g (pos limit) (omega (arith, ints)))
       (tell-needs_beyond A g (pos limit) (omega (arith, ints))) y w)
-    where
-      none : ((z : List ℕ) → LiesBetween A y w z → NeedsBeyond A (pos limit) z → ⊥)
-          → ((z : List ℕ) → LiesBetween A y w z → HasLargeRow MAX_COEFFICIENT y z → ⊥)
-          → ((x : List ℕ) → LiesBetween A y w x → HasLargeInverse (inverse_limit limit) w x → ⊥)
-          → IsInverseBeyond A limit y w → ⊥
-      none no_row no_polynomial no_inverse (row {z} between beyond) = no_row z between beyond
-      none no_row no_polynomial no_inverse (polynomial {x} {z} {k} {c} above order below large) =
-          no_polynomial z (record { above = below-trans A g above order; below = below })
-          (x, record { above = above; below = order }, (k, c, large))
-      none no_row no_polynomial no_inverse (inverse {x} {k} {c} above below large) =
-          no_inverse x (record { above = above; below = below }) (k, c, large)

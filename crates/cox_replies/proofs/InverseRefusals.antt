@@ -29,14 +29,15 @@ use Rattle.cox_replies.specs.declared.unanswered.Unanswered.TheVariants.{Refused
 use Rattle.cox_replies.specs.declared.unanswered.Unanswered.TheVariants as unanswered
 use Rattle.cox_replies.specs.Limits.{Limits}
 use Rattle.cox_replies.specs.Question.{IsRefused}
-use Rattle.cox_replies.specs.Listed.{RefusesLarge}
-use Rattle.cox_replies.specs.InverseReply.{inverse_limit, RefusesInverse, IsInverseText, IsInverseBeyond, row, polynomial, inverse}
+use Rattle.cox_replies.specs.Listed.{RefusesLargeOr}
+use Rattle.cox_replies.specs.InverseReply.{inverse_limit, RefusesInverse, IsInverseText, IsInverseBeyond, row}
 use Rattle.cox_replies.specs.Kept.{Keeps}
 use Rattle.cox_replies.specs.KeptBetween.{IsSomeBeyond, RefusesBetween, HoldsBetween, inverse_unanswered}
 use Rattle.cox_replies.specs.Putting.{PutsUnless, unrefused}
 use Rattle.cox_replies.proofs.KeptRows.{large-free}
 use Rattle.cox_replies.proofs.Unless.{PutsUnless-put}
 use Rattle.cox_replies.proofs.InverseTexts.{invpol-text}
+use Rattle.cox_replies.proofs.InverseBeyond.{polynomial-large, inverse-large, by-large}
 use Rattle.cox_replies.proofs.LargeOr.{large_or-interval, large_or-allowed, large_or-refused, large_or-none, large_or-weaker}
 
 module _ (limits : Limits) (A : IntegerMatrix) (y w : List ℕ) where
@@ -44,19 +45,19 @@ module _ (limits : Limits) (A : IntegerMatrix) (y w : List ℕ) where
   Beyond = IsInverseBeyond A limits.coefficient y w
 
   -- a large interval is refused
-  pub inverse-interval : (why : Refusal) → IsRefused (RefusesLarge limits A w) (Some why)
+  pub inverse-interval : (why : Refusal) → IsRefused (RefusesLargeOr limits A w ⊥) (Some why)
       → IsRefused (RefusesInverse limits A y w) (Some why)
   inverse-interval why refused = large_or-interval limits A w (IsBelow A y w × Beyond) why refused
 
   -- where y ≤ w fails no row is needed
-  pub inverse-none : IsRefused (RefusesLarge limits A w) None → (IsBelow A y w → ⊥) → IsRefused (RefusesInverse limits A y w) None
+  pub inverse-none : IsRefused (RefusesLargeOr limits A w ⊥) None → (IsBelow A y w → ⊥) → IsRefused (RefusesInverse limits A y w) None
   inverse-none free none = large_or-allowed limits A w (IsBelow A y w × Beyond) (large-free limits A w free) (λ p. none p.0)
 
   -- a row between y and w that is beyond its limits
   pub inverse-between : IsBelow A y w → (why : Refusal) → IsRefused (RefusesBetween limits A y w) (Some why)
       → IsRefused (RefusesInverse limits A y w) (Some why)
   inverse-between below why refused = large_or-weaker limits A w (IsSomeBeyond A limits.coefficient y w) (IsBelow A y w × Beyond)
-      (λ some. (below, row some.1 some.2)) why refused
+      (λ some. (below, row some.1.above some.1.below some.2)) why refused
 
   pub inverse-refused : IsRefused (RefusesBetween limits A y w) None → IsBelow A y w → IsInverseBeyond A limits.coefficient y w
       → IsRefused (RefusesInverse limits A y w) (Some LargeRow)
@@ -67,12 +68,10 @@ module _ (limits : Limits) (A : IntegerMatrix) (y w : List ℕ) where
       → IsRefused (RefusesInverse limits A y w) None
   inverse-allowed free within =
       let none = large_or-none limits A w (IsSomeBeyond A limits.coefficient y w) free in
-      large_or-allowed limits A w (IsBelow A y w × Beyond) none.0 (λ p. not none.1 p.1)
-    where
-      not : (IsSomeBeyond A limits.coefficient y w → ⊥) → Beyond → ⊥
-      not none (row {z} between beyond) = none (z, between, beyond)
-      not none (polynomial {x} {z} {k} {c} above order below large) = within.polynomials x z above order below k c large
-      not none (inverse {x} {k} {c} above below large) = within.inverses x above below k c large
+      large_or-allowed limits A w (IsBelow A y w × Beyond) none.0 (λ p. by-large A limits.coefficient y w
+      (λ z between beyond. none.1 (z, between, beyond))
+      (λ x z k c above order below large. within.polynomials x z above order below k c large)
+      (λ x k c above below large. within.inverses x above below k c large) p.1)
 
 -- by the members that the elements of y and w are
 module _ (A : IntegerMatrix) (g : IsAdmissible A) (y w v u : List ℕ) (bottom : v ≡ normal_form A y) (top : u ≡ normal_form A w) where
@@ -114,12 +113,14 @@ module _ (A : IntegerMatrix) (g : IsAdmissible A) (y w v u : List ℕ) (bottom :
       (is_high : word_at e.members high ≡ u) (coefficient : ℕ) where
     pub fault-inverse_beyond : (fault : InverseFault) → (fault ≡ NoMemory → ⊥)
         → IsInverseFault e low high (inverse_limit coefficient) fault → IsInverseBeyond A coefficient y w
-    fault-inverse_beyond (Coefficient x z degree value) other is = polynomial
+    fault-inverse_beyond (Coefficient x z degree value) other is =
+        polynomial-large A coefficient y w (word_at e.members x) (word_at e.members z) degree value
         (above-words (word_at e.members x) (rw (matrix, is_low) at is.pair.above))
         (rw matrix at is.pair.order)
         (below-words (word_at e.members z) (rw (matrix, is_high) at is.pair.below))
         (rw matrix at is.least.large)
-    fault-inverse_beyond (Inverse x degree value) other is = inverse
+    fault-inverse_beyond (Inverse x degree value) other is =
+        inverse-large A coefficient y w (word_at e.members x) degree value
         (above-words (word_at e.members x) (rw (matrix, is_low) at is.pair.above))
         (below-words (word_at e.members x) (rw (matrix, is_high) at is.pair.order))
         (large_inverse-words A g (inverse_limit coefficient) (word_at e.members x) (word_at e.members x) u w

@@ -44,7 +44,7 @@ use Rattle.cox_replies.specs.Kept.{Work, IsSameWork, AreOf, AreKept, HoldsElemen
 use Rattle.cox_replies.specs.KeptBetween.{IsSomeBeyond, RefusesBetween, HoldsBetween, IsFaultOfOne, IsReadOff}
 use Rattle.cox_replies.specs.InverseReply.{inverse_limit}
 use Rattle.cox_replies.specs.Limits.{Limits}
-use Rattle.cox_replies.specs.Listed.{RefusesLarge}
+use Rattle.cox_replies.specs.Listed.{RefusesLargeOr}
 use Rattle.cox_replies.specs.Question.{IsRefused}
 use Rattle.cox_replies.specs.SessionLimits.{limits_of}
 use Rattle.cox_replies.proofs.KeptRows.{filter-shorter, large-free}
@@ -165,8 +165,8 @@ pub record AreTaken (G : CoxeterMatrix) (set : Options) (w : List ℕ) (i : ℕ)
 -- they are such, after the interval from the identity to w was added to what is kept
 pub are-taken : (old rest new : Work) (w : List ℕ) (i : ℕ) (rows : Holding) (taken : Option Holding) → rest ≡ new → IsSameWork old new
     → AreKept old.table (limits_of old.options) new.rows
-    → Keeps {X = ℕ} (Ok i) (RefusesLarge (limits_of old.options) (integer_matrix old.table) w) (HoldsElement (integer_matrix old.table) w)
-    new.rows → taken ≡ rest.rows → taken ≡ Some rows → AreTaken old.table old.options w i rest rows
+    → Keeps {X = ℕ} (Ok i) (RefusesLargeOr (limits_of old.options) (integer_matrix old.table) w ⊥)
+    (HoldsElement (integer_matrix old.table) w) new.rows → taken ≡ rest.rows → taken ≡ Some rows → AreTaken old.table old.options w i rest rows
 are-taken old rest new w i rows taken is same kept interval value some =
     let here : new.rows ≡ Some rows = sym (ap (λ (work : Work). work.rows) is) ∙ sym value ∙ some in
     record {

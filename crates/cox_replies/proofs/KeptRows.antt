@@ -1,5 +1,5 @@
 -- What a session keeps: intervals that are part of a context, and faults of rows as causes of a refusal.
-use Rattle.std.proofs.Common.{◌≡◌, ℕ, ◌≤◌, Bool, List, length, filter, Contains, None, Some, inl, inr, refl, ap, ◌∙◌, Err}
+use Rattle.std.proofs.Common.{◌≡◌, ℕ, ◌≤◌, Bool, List, length, filter, Contains, None, Some, inl, refl, ap, ◌∙◌, Err}
 use Rattle.std.proofs.Common.{arith, pos, ◌≤ℤ◌, Result, Ok, OnOk, IfErr}
 use Rattle.std.proofs.lemmas.Int.{ints}
 use Rattle.std.proofs.lemmas.List.Sums.{length-filter, count_by-le-length}
@@ -32,9 +32,9 @@ use Rattle.cox_rows.proofs.FaultsOfRows.{fault-beyond}
 use Rattle.cox_replies.specs.Kept.{AreOf, IsMore, HoldsRow, Keeps, unanswered_by, unless_fault}
 use Rattle.cox_replies.specs.Limits.{Limits}
 use Rattle.cox_replies.specs.Question.{IsRefused}
-use Rattle.cox_replies.specs.Listed.{RefusesLarge}
+use Rattle.cox_replies.specs.Listed.{RefusesLargeOr}
 use Rattle.cox_replies.specs.RowReply.{RefusesRow}
-use Rattle.cox_replies.proofs.LargeOr.{large_or-allowed, large_or-refused}
+use Rattle.cox_replies.proofs.LargeOr.{large_or-none, large_or-allowed, large_or-refused}
 
 -- a filtered list is no longer
 pub filter-shorter : (test : List ℕ → Bool) (xs : List (List ℕ)) → length (filter test xs) ≤ length xs
@@ -60,10 +60,8 @@ module _ (A : IntegerMatrix) (g : IsAdmissible A) (w : List ℕ) where
 
 -- causes of refusals
 module _ (limits : Limits) (A : IntegerMatrix) (w : List ℕ) where
-  pub large-free : IsRefused (RefusesLarge limits A w) None → HasMoreThan limits.context (IsInInterval A w) → ⊥
-  large-free (inl (none, e)) = absurd none
-  large-free (inr (_, inl (many, e))) = absurd (cc e)
-  large-free (inr (_, inr (few, rest))) = few
+  pub large-free : IsRefused (RefusesLargeOr limits A w ⊥) None → HasMoreThan limits.context (IsInInterval A w) → ⊥
+  large-free free = (large_or-none limits A w ⊥ free).0
 
 -- more rows of a group are rows of the group
 pub more-of : (G : CoxeterMatrix) (limits : Limits) (old new : Holding) → AreOf G limits old → IsMore old new → AreOf G limits new

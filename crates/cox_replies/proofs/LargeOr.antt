@@ -8,18 +8,29 @@ use Rattle.cox_context.proofs.IntervalLists.{interval-decided}
 use Rattle.cox_command.specs.declared.refusal.Refusal.{Refusal}
 use Rattle.cox_command.specs.declared.refusal.Refusal.TheVariants.{LargeInterval, LargeRow}
 use Rattle.cox_replies.specs.Limits.{Limits}
-use Rattle.cox_replies.specs.Question.{IsRefused}
-use Rattle.cox_replies.specs.Listed.{RefusesLarge, RefusesLargeOr}
+use Rattle.cox_replies.specs.Question.{RefusesIf, IsRefused}
+use Rattle.cox_replies.specs.Listed.{RefusesLargeOr}
+
+-- what refuses by a cause of a large row refuses by a weaker one too
+pub row-weaker : (large far row weaker : Type 0) → (row → weaker) → (why : Refusal) → IsRefused (RefusesIf large far row) (Some why)
+    → IsRefused (RefusesIf large far weaker) (Some why)
+row-weaker large far row weaker more why (inl (none, e)) = absurd none
+row-weaker large far row weaker more why (inr (none, inl many)) = inr (none, inl many)
+row-weaker large far row weaker more why (inr (none, inr (few, inl apart))) = inr (none, inr (few, inl apart))
+row-weaker large far row weaker more why (inr (none, inr (few, inr (near, inl (cause, e))))) =
+    inr (none, inr (few, inr (near, inl (more cause, e))))
+row-weaker large far row weaker more why (inr (none, inr (few, inr (near, inr (small, e))))) = absurd (cc e)
+
+-- what refuses without one refuses with one
+pub row-more : (large far row : Type 0) (why : Refusal) → IsRefused (RefusesIf large far ⊥) (Some why)
+    → IsRefused (RefusesIf large far row) (Some why)
+row-more large far row = row-weaker large far ⊥ row (λ none. absurd none)
 
 module _ (limits : Limits) (A : IntegerMatrix) (w : List ℕ) where
   -- a large interval is refused whatever rows are asked for
-  pub large_or-interval : (Large : Type 0) (why : Refusal) → IsRefused (RefusesLarge limits A w) (Some why)
+  pub large_or-interval : (Large : Type 0) (why : Refusal) → IsRefused (RefusesLargeOr limits A w ⊥) (Some why)
       → IsRefused (RefusesLargeOr limits A w Large) (Some why)
-  large_or-interval Large why (inl (none, e)) = absurd none
-  large_or-interval Large why (inr (none, inl large)) = inr (none, inl large)
-  large_or-interval Large why (inr (none, inr (few, inl (far, e)))) = absurd far
-  large_or-interval Large why (inr (none, inr (few, inr (near, inl (beyond, e))))) = absurd beyond
-  large_or-interval Large why (inr (none, inr (few, inr (near, inr (small, e))))) = absurd (cc e)
+  large_or-interval Large = row-more (HasMoreThan limits.context (IsInInterval A w)) ⊥ Large
 
   pub large_or-allowed : (Large : Type 0) → (HasMoreThan limits.context (IsInInterval A w) → ⊥) → (Large → ⊥)
       → IsRefused (RefusesLargeOr limits A w Large) None
@@ -42,12 +53,7 @@ module _ (limits : Limits) (A : IntegerMatrix) (w : List ℕ) where
   pub large_or-weaker : (Large Larger : Type 0) → (Large → Larger) → (why : Refusal)
       → IsRefused (RefusesLargeOr limits A w Large) (Some why)
       → IsRefused (RefusesLargeOr limits A w Larger) (Some why)
-  large_or-weaker Large Larger weaker why (inl (none, e)) = absurd none
-  large_or-weaker Large Larger weaker why (inr (none, inl large)) = inr (none, inl large)
-  large_or-weaker Large Larger weaker why (inr (none, inr (few, inl (far, e)))) = absurd far
-  large_or-weaker Large Larger weaker why (inr (none, inr (few, inr (near, inl (large, e))))) =
-      inr (none, inr (few, inr (near, inl (weaker large, e))))
-  large_or-weaker Large Larger weaker why (inr (none, inr (few, inr (near, inr (small, e))))) = absurd (cc e)
+  large_or-weaker Large Larger = row-weaker (HasMoreThan limits.context (IsInInterval A w)) ⊥ Large Larger
 
   -- whether there is a cause is decided, if it is whether the rows are too large
   pub large_or-decided : IsAdmissible A → (Large : Type 0) → Large ⊎ (Large → ⊥) → (why : Refusal)

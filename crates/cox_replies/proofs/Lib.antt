@@ -50,6 +50,8 @@ pub mod ListSearch
 -- the left cell of an element, and the text of its module
 pub mod CellLists
 pub mod ModuleTexts
+-- modules that are printed meet the relations
+pub mod PrintedModules
 -- the text of an inverse polynomial, and whether one between two elements is too large
 pub mod InverseTexts
 pub mod InverseBeyond

@@ -27,12 +27,12 @@ abbrev pub pair_line : ℕ → ℕ → List (List ℕ) → Family → ℕ → Li
 pair_line rank n members p k = 10 ∷ pair_text rank (word_at members k) (coefficients_to n (p (word_at members k)))
 
 -- the number of items, and the items
-pub pairs_text-lines : (rank : ℕ) (A : IntegerMatrix) (w : List ℕ) (p : Family) (members : List (List ℕ)) (numbers : List ℕ)
-    → pairs_text rank A w p (words_at members numbers)
-    ≡ decimal (length numbers) ++ flat_map (pair_line rank (word_length A w) members p) numbers
-pairs_text-lines rank A w p members numbers =
+pub pairs_text-lines : (A : IntegerMatrix) (w : List ℕ) (p : Family) (members : List (List ℕ)) (numbers : List ℕ)
+    → pairs_text A w p (words_at members numbers)
+    ≡ decimal (length numbers) ++ flat_map (pair_line A.rank (word_length A w) members p) numbers
+pairs_text-lines A w p members numbers =
     let words = words_at members numbers in
-    let pair : List ℕ → List ℕ = λ x. pair_text rank x (coefficients_to (word_length A w) (p x)) in
+    let pair : List ℕ → List ℕ = λ x. pair_text A.rank x (coefficients_to (word_length A w) (p x)) in
     let count : length (map pair words) ≡ length numbers = length-map words pair ∙ length-map numbers (λ k. word_at members k) in
     let items = flat_map-map (λ item. 10 ∷ item) pair words ∙ flat_map-map (λ word. 10 ∷ pair word) (λ k. word_at members k) numbers in
     ap (λ n. decimal n ++ flat_map (λ item. 10 ∷ item) (map pair words)) count ∙ ap (λ t. decimal (length numbers) ++ t) items

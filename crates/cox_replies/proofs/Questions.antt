@@ -10,7 +10,7 @@ use Rattle.cox_base.specs.Admissible.{IsAdmissible}
 use Rattle.cox_base.specs.Length.{word_length}
 use Rattle.cox_base.specs.Bruhat.{IsBelow}
 use Rattle.cox_command.specs.declared.refusal.Refusal.{Refusal}
-use Rattle.cox_command.specs.declared.refusal.Refusal.TheVariants.{LargeInterval, FarApart}
+use Rattle.cox_command.specs.declared.refusal.Refusal.TheVariants.{FarApart}
 use Rattle.cox_command.specs.declared.inquiry.OneWord.{OneWord}
 use Rattle.cox_command.specs.declared.inquiry.OneWord.TheVariants.{Compute, Length, Inverse, Descent, Coatoms, Betti}
 use Rattle.cox_command.specs.declared.inquiry.OneWord.TheVariants.{Klbasis, Ihbetti, Extremals, Cert, Module}
@@ -20,18 +20,19 @@ use Rattle.cox_base.specs.Members.{IsInInterval}
 use Rattle.cox_base.specs.SortedList.{IsListOf}
 use Rattle.cox_base.specs.Interval.{IsBetween, IsCoatom}
 use Rattle.cox_context.proofs.ShortLexLists.{IsListOf-unique}
-use Rattle.cox_context.proofs.IntervalLists.{is_below, is_below-tells, interval-exists, between-of, coatoms-of, interval-decided}
+use Rattle.cox_context.proofs.IntervalLists.{is_below, is_below-tells, interval-exists, between-of, coatoms-of}
 use Rattle.cox_print.specs.AnswerText.{truth_text, elements_text}
 use Rattle.cox_command.specs.declared.inquiry.Inquiry.{Inquiry}
 use Rattle.cox_command.specs.declared.inquiry.Inquiry.TheVariants.{One, Two, Plain, Work}
 use Rattle.cox_replies.specs.Limits.{Limits}
-use Rattle.cox_replies.specs.Listed.{RefusesLarge}
-use Rattle.cox_replies.specs.InquiryQuestion.{RefusesNone, RefusesFar, counts_text, one_question, two_question, question_of}
+use Rattle.cox_replies.specs.Listed.{RefusesLargeOr}
+use Rattle.cox_replies.specs.InquiryQuestion.{RefusesFar, counts_text, one_question, two_question, question_of}
 use Rattle.cox_replies.specs.RowReply.{IsExtremalBelow, pairs_text, ihbetti_text}
 use Rattle.cox_replies.specs.WorkReply.{generated_words}
 use Rattle.cox_replies.specs.Answerable.{HasOneText, IsAnswerable}
 use Rattle.cox_replies.proofs.RowQuestions.{pol-unique, mu-unique_text, listed-by_row, pol-answerable, mu-answerable, klbasis-answerable}
 use Rattle.cox_replies.proofs.RowQuestions.{extremals-answerable, ihbetti-answerable}
+use Rattle.cox_replies.proofs.LargeOr.{large_or-decided}
 use Rattle.cox_replies.proofs.GroupQuestions.{group-one, group-answerable}
 use Rattle.cox_replies.proofs.CertQuestions.{cert-one, cert-answerable}
 use Rattle.cox_replies.proofs.ModuleQuestions.{module-one, module-answerable}
@@ -53,7 +54,7 @@ truth-unique P false false p q = refl
 
 -- each question has one right text at most
 module _ (limits : Limits) (m : CoxeterMatrix) (g : IsAdmissible (integer_matrix m)) where
-  one-text : (kind : OneWord) (w : List ℕ) → HasOneText (one_question kind limits m w)
+  one-text : (kind : OneWord) (w : List ℕ) → HasOneText (one_question kind limits m (integer_matrix m) w)
   one-text Compute w a b p q = p ∙ sym q
   one-text Length w a b p q = p ∙ sym q
   one-text Inverse w a b p q = p ∙ sym q
@@ -61,50 +62,48 @@ module _ (limits : Limits) (m : CoxeterMatrix) (g : IsAdmissible (integer_matrix
   one-text Coatoms w a b p q = listed-unique (IsCoatom (integer_matrix m) w) (elements_text m.rank) a b p q
   one-text Betti w a b p q = listed-unique (IsInInterval (integer_matrix m) w) (counts_text (integer_matrix m) w) a b p q
   one-text Klbasis w a b p q =
-      listed-by_row (integer_matrix m) g w (IsInInterval (integer_matrix m) w) (pairs_text m.rank (integer_matrix m) w) a b p q
+      listed-by_row (integer_matrix m) g w (IsInInterval (integer_matrix m) w) (pairs_text (integer_matrix m) w) a b p q
   one-text Ihbetti w a b p q =
       listed-by_row (integer_matrix m) g w (IsInInterval (integer_matrix m) w) (ihbetti_text (integer_matrix m) w) a b p q
   one-text Extremals w a b p q =
-      listed-by_row (integer_matrix m) g w (IsExtremalBelow (integer_matrix m) w) (pairs_text m.rank (integer_matrix m) w) a b p q
+      listed-by_row (integer_matrix m) g w (IsExtremalBelow (integer_matrix m) w) (pairs_text (integer_matrix m) w) a b p q
   one-text Cert w a b p q = cert-one m g w a b p q
-  one-text Module w a b p q = module-one (integer_matrix m) g w m.rank a b p q
+  one-text Module w a b p q = module-one (integer_matrix m) g w a b p q
 
 module _ (limits : Limits) (A : IntegerMatrix) (g : IsAdmissible A) where
-  two-text : (rank : ℕ) (kind : TwoWord) (y w : List ℕ) → HasOneText (two_question kind limits rank A y w)
-  two-text rank Inorder y w a b p q = p.2 ∙ ap truth_text (truth-unique (IsBelow A y w) p.0 q.0 p.1 q.1) ∙ sym q.2
-  two-text rank Interval y w a b p q = listed-unique (IsBetween A y w) (elements_text rank) a b p q
-  two-text rank Rpol y w a b p q = p ∙ sym q
-  two-text rank Pol y w a b p q = pol-unique A g y w a b p q
-  two-text rank Invpol y w a b p q = invpol-one A g y w a b p q
-  two-text rank Mu y w a b p q = mu-unique_text A g y w a b p q
+  two-text : (kind : TwoWord) (y w : List ℕ) → HasOneText (two_question kind limits A y w)
+  two-text Inorder y w a b p q = p.2 ∙ ap truth_text (truth-unique (IsBelow A y w) p.0 q.0 p.1 q.1) ∙ sym q.2
+  two-text Interval y w a b p q = listed-unique (IsBetween A y w) (elements_text A.rank) a b p q
+  two-text Rpol y w a b p q = p ∙ sym q
+  two-text Pol y w a b p q = pol-unique A g y w a b p q
+  two-text Invpol y w a b p q = invpol-one A g y w a b p q
+  two-text Mu y w a b p q = mu-unique_text A g y w a b p q
 
 pub question-one : (inquiry : Inquiry) (limits : Limits) (g : CoxeterMatrix) → IsAdmissible (integer_matrix g)
     → HasOneText (question_of inquiry limits g)
 question-one (One kind w) limits g admissible = one-text limits g admissible kind w.items
-question-one (Two kind y w) limits g admissible = two-text limits (integer_matrix g) admissible g.rank kind y.items w.items
-question-one (Plain kind) limits g admissible = group-one limits (integer_matrix g) admissible g.rank kind
+question-one (Two kind y w) limits g admissible = two-text limits (integer_matrix g) admissible kind y.items w.items
+question-one (Plain kind) limits g admissible = group-one limits (integer_matrix g) admissible kind
 question-one (Work start count) limits g admissible = work-one (integer_matrix g) admissible (generated_words g.rank count start)
 
 -- a question that nothing refuses, whose text is computed
-computed : (text : List ℕ) → IsAnswerable (record { Refuses = RefusesNone; IsText = λ t. t ≡ text })
+computed : (text : List ℕ) → IsAnswerable (record { Refuses = λ why. ⊥; IsText = λ t. t ≡ text })
 computed text = record { decided = λ why. inr (λ none. none); answer = λ free. (text, refl) }
 
 module _ (limits : Limits) (A : IntegerMatrix) (g : IsAdmissible A) where
-  -- whether an interval is too large is decided
-  large-decided : (w : List ℕ) (why : Refusal) → RefusesLarge limits A w why ⊎ (RefusesLarge limits A w why → ⊥)
-  large-decided w LargeInterval = ⊎_elim (λ many. inl many) (λ few. inr few.0) (interval-decided A g limits.context w)
-  large-decided w _ = inr (λ none. none)
-
   -- a text of words that are kept of an interval
   listed : (w : List ℕ) (P : List ℕ → Type 0) (keep : List (List ℕ) → List (List ℕ)) (text_of : List (List ℕ) → List ℕ)
       → ((xs : List (List ℕ)) → IsListOf (IsInInterval A w) xs → IsListOf P (keep xs))
       → IsAnswerable (record {
-        Refuses = RefusesLarge limits A w;
+        Refuses = RefusesLargeOr limits A w ⊥;
         IsText = λ text. (words : List (List ℕ)) × IsListOf P words × (text ≡ text_of words);
       })
   listed w P keep text_of of =
       let members = interval-exists A g w in
-      record { decided = large-decided w; answer = λ free. (text_of (keep members.0), (keep members.0, of members.0 members.1, refl)) }
+      record {
+        decided = large_or-decided limits A w g ⊥ (inr (λ none. none));
+        answer = λ free. (text_of (keep members.0), (keep members.0, of members.0 members.1, refl));
+      }
 
   -- whether R(y,w) is of too high a degree is decided
   deep-decided : (y w : List ℕ) → RefusesFar A y w FarApart ⊎ (RefusesFar A y w FarApart → ⊥)
@@ -122,19 +121,19 @@ module _ (limits : Limits) (A : IntegerMatrix) (g : IsAdmissible A) where
   far-decided y w _ = inr (λ none. none)
 
   -- each question can be answered
-  two-answerable : (rank : ℕ) (kind : TwoWord) (y w : List ℕ) → IsAnswerable (two_question kind limits rank A y w)
-  two-answerable rank Inorder y w = record {
+  two-answerable : (kind : TwoWord) (y w : List ℕ) → IsAnswerable (two_question kind limits A y w)
+  two-answerable Inorder y w = record {
     decided = λ why. inr (λ none. none);
     answer = λ free. (truth_text (is_below A y w), (is_below A y w, is_below-tells A g y w, refl));
   }
-  two-answerable rank Interval y w = listed w (IsBetween A y w) _ (elements_text rank) (between-of A g y w)
-  two-answerable rank Rpol y w = record { decided = far-decided y w; answer = λ free. (_, refl) }
-  two-answerable rank Pol y w = pol-answerable A g limits y w
-  two-answerable rank Invpol y w = invpol-answerable A g limits y w
-  two-answerable rank Mu y w = mu-answerable A g limits y w
+  two-answerable Interval y w = listed w (IsBetween A y w) _ (elements_text A.rank) (between-of A g y w)
+  two-answerable Rpol y w = record { decided = far-decided y w; answer = λ free. (_, refl) }
+  two-answerable Pol y w = pol-answerable A g limits y w
+  two-answerable Invpol y w = invpol-answerable A g limits y w
+  two-answerable Mu y w = mu-answerable A g limits y w
 
 module _ (limits : Limits) (m : CoxeterMatrix) (g : IsAdmissible (integer_matrix m)) where
-  one-answerable : (kind : OneWord) (w : List ℕ) → IsAnswerable (one_question kind limits m w)
+  one-answerable : (kind : OneWord) (w : List ℕ) → IsAnswerable (one_question kind limits m (integer_matrix m) w)
   one-answerable Compute w = computed _
   one-answerable Length w = computed _
   one-answerable Inverse w = computed _
@@ -143,16 +142,16 @@ module _ (limits : Limits) (m : CoxeterMatrix) (g : IsAdmissible (integer_matrix
       listed limits (integer_matrix m) g w (IsCoatom (integer_matrix m) w) _ (elements_text m.rank) (coatoms-of (integer_matrix m) g w)
   one-answerable Betti w = listed limits (integer_matrix m) g w (IsInInterval (integer_matrix m) w) (λ xs. xs)
       (counts_text (integer_matrix m) w) (λ xs a. a)
-  one-answerable Klbasis w = klbasis-answerable (integer_matrix m) g limits m.rank w
+  one-answerable Klbasis w = klbasis-answerable (integer_matrix m) g limits w
   one-answerable Ihbetti w = ihbetti-answerable (integer_matrix m) g limits w
-  one-answerable Extremals w = extremals-answerable (integer_matrix m) g limits m.rank w
+  one-answerable Extremals w = extremals-answerable (integer_matrix m) g limits w
   one-answerable Cert w = cert-answerable m g limits w
-  one-answerable Module w = module-answerable limits (integer_matrix m) g m.rank w
+  one-answerable Module w = module-answerable limits (integer_matrix m) g w
 
 pub question-answerable : (inquiry : Inquiry) (limits : Limits) (g : CoxeterMatrix) → IsAdmissible (integer_matrix g)
     → IsAnswerable (question_of inquiry limits g)
 question-answerable (One kind w) limits g admissible = one-answerable limits g admissible kind w.items
-question-answerable (Two kind y w) limits g admissible = two-answerable limits (integer_matrix g) admissible g.rank kind y.items w.items
-question-answerable (Plain kind) limits g admissible = group-answerable limits (integer_matrix g) admissible g.rank kind
+question-answerable (Two kind y w) limits g admissible = two-answerable limits (integer_matrix g) admissible kind y.items w.items
+question-answerable (Plain kind) limits g admissible = group-answerable limits (integer_matrix g) admissible kind
 question-answerable (Work start count) limits g admissible =
     work-answerable (integer_matrix g) admissible limits (generated_words g.rank count start)

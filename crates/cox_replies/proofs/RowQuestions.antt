@@ -136,14 +136,14 @@ module _ (A : IntegerMatrix) (g : IsAdmissible A) where
   mu-answerable limits y w = let m = mu-exists A g y w in
       record { decided = row-decided limits w; answer = λ free. (_, (m.0, m.1, refl)) }
 
-  pub klbasis-answerable : (limits : Limits) (rank : ℕ) (w : List ℕ)
-      → IsAnswerable (record { Refuses = RefusesRow limits A w; IsText = IsOfRow A w (IsInInterval A w) (pairs_text rank A w) })
-  klbasis-answerable limits rank w = listed limits w (IsInInterval A w) (λ xs. xs) (pairs_text rank A w) (λ xs are. are)
+  pub klbasis-answerable : (limits : Limits) (w : List ℕ)
+      → IsAnswerable (record { Refuses = RefusesRow limits A w; IsText = IsOfRow A w (IsInInterval A w) (pairs_text A w) })
+  klbasis-answerable limits w = listed limits w (IsInInterval A w) (λ xs. xs) (pairs_text A w) (λ xs are. are)
 
-  pub extremals-answerable : (limits : Limits) (rank : ℕ) (w : List ℕ)
-      → IsAnswerable (record { Refuses = RefusesRow limits A w; IsText = IsOfRow A w (IsExtremalBelow A w) (pairs_text rank A w) })
-  extremals-answerable limits rank w =
-      listed limits w (IsExtremalBelow A w) _ (pairs_text rank A w) (extremals-of w)
+  pub extremals-answerable : (limits : Limits) (w : List ℕ)
+      → IsAnswerable (record { Refuses = RefusesRow limits A w; IsText = IsOfRow A w (IsExtremalBelow A w) (pairs_text A w) })
+  extremals-answerable limits w =
+      listed limits w (IsExtremalBelow A w) _ (pairs_text A w) (extremals-of w)
 
   pub ihbetti-answerable : (limits : Limits) (w : List ℕ) → IsAnswerable (record
       { Refuses = RefusesRow limits A w; IsText = IsOfRow A w (IsInInterval A w) (ihbetti_text A w) })

@@ -7,28 +7,19 @@ use Rattle.cox_base.specs.IntegerMatrix.{IntegerMatrix}
 use Rattle.cox_base.specs.Length.{word_length}
 use Rattle.cox_command.specs.declared.refusal.Refusal.{Refusal}
 use Rattle.cox_command.specs.declared.refusal.Refusal.TheVariants.{FarApart}
-use Rattle.cox_base.specs.Members.{IsInInterval}
-use Rattle.cox_base.specs.SortedList.{HasMoreThan}
 use Rattle.cox_rpoly.specs.Depth.{IsDeep}
 use Rattle.cox_poly.specs.Puts.{PutsPrefix, Puts}
 use Rattle.cox_poly.proofs.Behind.{PutsPrefix-first, PutsPrefix-second}
 use Rattle.cox_replies.specs.declared.unanswered.Unanswered.{Unanswered}
 use Rattle.cox_replies.specs.declared.unanswered.Unanswered.TheVariants.{Refused, NoMemory}
-use Rattle.cox_replies.specs.Limits.{Limits}
 use Rattle.cox_replies.specs.Question.{command_refusals, IsRefused}
-use Rattle.cox_replies.specs.Listed.{RefusesLarge}
-use Rattle.cox_replies.specs.InquiryQuestion.{RefusesNone, RefusesFar}
+use Rattle.cox_replies.specs.InquiryQuestion.{RefusesFar}
 use Rattle.cox_replies.specs.Putting.{PutsSome, PutsUnless, IsEnded, unrefused}
 use Rattle.cox_replies.proofs.Refusing.{IsFirstRefusal-none}
 
 -- nothing was put of a text
 pub PutsPrefix-none : (text before after : List ℕ) → after ≡ before → PutsPrefix text before after
 PutsPrefix-none text before after same = record { prefix = []; rest = text; parts = refl; behind = same ∙ sym (append-nil before) }
-
--- an interval within the limit is not refused
-pub large-allowed : (limits : Limits) (A : IntegerMatrix) (w : List ℕ) → (HasMoreThan limits.context (IsInInterval A w) → ⊥)
-    → IsRefused (RefusesLarge limits A w) None
-large-allowed limits A w few = inr (λ none. none, inr (few, inr (λ none. none, inr (λ none. none, refl))))
 
 -- two elements are refused exactly where their R-polynomial is of too high a degree
 pub far-refused : (A : IntegerMatrix) (y w : List ℕ) (d : ℕ) → IsDeep A y w d → IsRefused (RefusesFar A y w) (Some FarApart)
@@ -55,9 +46,9 @@ PutsUnless-put (Err error) Refuses IsText before after free some = inr (free, so
 
 -- a text of a command that nothing can refuse
 pub PutsUnless-free : (put : Result Unit AllocError) (IsText : List ℕ → Type 0) (text before after : List ℕ) → IsText text
-    → Puts put text before after → PutsUnless (unrefused put) RefusesNone IsText before after
+    → Puts put text before after → PutsUnless (unrefused put) (λ why. ⊥) IsText before after
 PutsUnless-free put IsText text before after is puts =
-    PutsUnless-put put RefusesNone IsText before after (IsFirstRefusal-none RefusesNone (λ why none. none) command_refusals)
+    PutsUnless-put put (λ why. ⊥) IsText before after (IsFirstRefusal-none (λ why. ⊥) (λ why none. none) command_refusals)
     (text, is, puts)
 
 -- the same text, with the end of its last line

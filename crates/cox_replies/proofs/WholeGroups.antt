@@ -33,6 +33,7 @@ use Rattle.cox_replies.specs.Limits.{Limits}
 use Rattle.cox_replies.specs.Question.{IsRefused}
 use Rattle.cox_replies.specs.GroupReply.{RefusesGroupRows}
 use Rattle.cox_replies.proofs.KeptRows.{more-of}
+use Rattle.cox_replies.proofs.LargeOr.{row-more}
 use Rattle.cox_replies.specs.Kept.{AreOf, IsMore, HoldsGroup, HoldsAll, Keeps, unanswered_by, unless_fault}
 use Rattle.cox_replies.specs.GroupSize.{RefusesLargeGroup}
 
@@ -84,11 +85,8 @@ module _ (limits : Limits) (A : IntegerMatrix) where
   -- what refuses the group refuses its rows
   pub large-rows_refused : (why : Refusal) → IsRefused (RefusesLargeGroup limits A) (Some why)
       → IsRefused (RefusesGroupRows limits A) (Some why)
-  large-rows_refused why (inl p) = absurd p.0
-  large-rows_refused why (inr (m, inl p)) = inr (λ none. none, inl (p.0, p.1))
-  large-rows_refused why (inr (m, inr (l, inl p))) = absurd p.0
-  large-rows_refused why (inr (m, inr (l, inr (f, inl p)))) = absurd p.0
-  large-rows_refused why (inr (m, inr (l, inr (f, inr (r, e))))) = absurd (cc e)
+  large-rows_refused = row-more (IsTooLarge (IsElement A) limits.context) ⊥
+      ((IsTooLarge (IsElement A) limits.context → ⊥) × (w : List ℕ) × IsElement A w × IsBeyond A (pos limits.coefficient) w)
 
   pub rows-refused : (IsTooLarge (IsElement A) limits.context → ⊥) → (w : List ℕ) → IsElement A w → IsBeyond A (pos limits.coefficient) w
       → IsRefused (RefusesGroupRows limits A) (Some LargeRow)

@@ -13,38 +13,35 @@ use Rattle.cox_cells.specs.declared.kind.CellKind.{CellKind}
 use Rattle.cox_cells.specs.declared.kind.CellKind.TheVariants as Kinds
 use Rattle.cox_cells.specs.Cells.{AreCells}
 use Rattle.cox_command.specs.declared.refusal.Refusal.{Refusal}
-use Rattle.cox_command.specs.declared.refusal.Refusal.TheVariants.{LargeInterval, LargeRow}
 use Rattle.cox_command.specs.declared.inquiry.NoWord.{NoWord}
 use Rattle.cox_command.specs.declared.inquiry.NoWord.TheVariants.{Lwgraph, Rwgraph, Lcells, Rcells, Lrcells}
 use Rattle.cox_print.specs.AnswerText.{list_text, members_text, head_text, edge_text}
 use Rattle.cox_replies.specs.Limits.{Limits}
-use Rattle.cox_replies.specs.Question.{Question}
+use Rattle.cox_replies.specs.Question.{Question, RefusesIf}
 
 -- the group has more elements than the limit, or one of too many letters; or else the row of some element has a
 -- coefficient, or a value of mu, above its limit
 abbrev pub RefusesGroupRows : Limits → IntegerMatrix → Refusal → Type 0
-RefusesGroupRows limits A LargeInterval = IsTooLarge (IsElement A) limits.context
-RefusesGroupRows limits A LargeRow =
-    (IsTooLarge (IsElement A) limits.context → ⊥) × (w : List ℕ) × IsElement A w × IsBeyond A (pos limits.coefficient) w
-RefusesGroupRows limits A _ = ⊥
+RefusesGroupRows limits A = let large = IsTooLarge (IsElement A) limits.context in
+    RefusesIf large ⊥ ((large → ⊥) × (w : List ℕ) × IsElement A w × IsBeyond A (pos limits.coefficient) w)
 
 -- a vertex of the W-graph: the element, its label, and each element that is joined to it, with the value of the edge
 abbrev pub vertex_text : ℕ → (List ℕ → List ℕ) → Vertex → List ℕ
 vertex_text rank label v = head_text rank v.element (label v.element) ++ flat_map (λ j. edge_text rank j.element j.value) v.joined
 
 -- the W-graph, with the descent sets on a side as labels
-abbrev pub IsGraphText : ℕ → Side → IntegerMatrix → List ℕ → Type 0
-IsGraphText rank side A text = (vertices : List Vertex) × AreVertices A vertices
-    × (text ≡ list_text (map (vertex_text rank (descent_set side A)) vertices))
+abbrev pub IsGraphText : Side → IntegerMatrix → List ℕ → Type 0
+IsGraphText side A text = (vertices : List Vertex) × AreVertices A vertices
+    × (text ≡ list_text (map (vertex_text A.rank (descent_set side A)) vertices))
 
 -- the cells
-abbrev pub IsCellsText : ℕ → CellKind → IntegerMatrix → List ℕ → Type 0
-IsCellsText rank kind A text = (cells : List (List (List ℕ))) × AreCells kind A cells × (text ≡ list_text (map (members_text rank) cells))
+abbrev pub IsCellsText : CellKind → IntegerMatrix → List ℕ → Type 0
+IsCellsText kind A text = (cells : List (List (List ℕ))) × AreCells kind A cells × (text ≡ list_text (map (members_text A.rank) cells))
 
 -- what a command asks of the group
-abbrev pub group_question : NoWord → Limits → ℕ → IntegerMatrix → Question
-group_question Lwgraph limits rank A = record { Refuses = RefusesGroupRows limits A; IsText = IsGraphText rank Sides.Left A }
-group_question Rwgraph limits rank A = record { Refuses = RefusesGroupRows limits A; IsText = IsGraphText rank Sides.Right A }
-group_question Lcells limits rank A = record { Refuses = RefusesGroupRows limits A; IsText = IsCellsText rank Kinds.Left A }
-group_question Rcells limits rank A = record { Refuses = RefusesGroupRows limits A; IsText = IsCellsText rank Kinds.Right A }
-group_question Lrcells limits rank A = record { Refuses = RefusesGroupRows limits A; IsText = IsCellsText rank Kinds.Both A }
+abbrev pub group_question : NoWord → Limits → IntegerMatrix → Question
+group_question Lwgraph limits A = record { Refuses = RefusesGroupRows limits A; IsText = IsGraphText Sides.Left A }
+group_question Rwgraph limits A = record { Refuses = RefusesGroupRows limits A; IsText = IsGraphText Sides.Right A }
+group_question Lcells limits A = record { Refuses = RefusesGroupRows limits A; IsText = IsCellsText Kinds.Left A }
+group_question Rcells limits A = record { Refuses = RefusesGroupRows limits A; IsText = IsCellsText Kinds.Right A }
+group_question Lrcells limits A = record { Refuses = RefusesGroupRows limits A; IsText = IsCellsText Kinds.Both A }

@@ -6,16 +6,14 @@ use Rattle.cox_base.specs.Members.{IsElement}
 use Rattle.cox_context.specs.TooLarge.{IsTooLarge}
 use Rattle.cox_base.specs.SortedList.{IsListOf}
 use Rattle.cox_command.specs.declared.refusal.Refusal.{Refusal}
-use Rattle.cox_command.specs.declared.refusal.Refusal.TheVariants.{LargeInterval}
 use Rattle.cox_replies.specs.declared.unanswered.Unanswered.{Unanswered}
 use Rattle.cox_replies.specs.declared.unanswered.Unanswered.TheVariants as unanswered
-use Rattle.cox_replies.specs.Question.{IsRefused}
+use Rattle.cox_replies.specs.Question.{RefusesIf, IsRefused}
 use Rattle.cox_replies.specs.Limits.{Limits}
 
 -- the group has more elements than the limit, or one of too many letters
 abbrev pub RefusesLargeGroup : Limits → IntegerMatrix → Refusal → Type 0
-RefusesLargeGroup limits A LargeInterval = IsTooLarge (IsElement A) limits.context
-RefusesLargeGroup limits A _ = ⊥
+RefusesLargeGroup limits A = RefusesIf (IsTooLarge (IsElement A) limits.context) ⊥ ⊥
 
 -- all elements were given, or they are refused; or memory ran out
 abbrev pub GivesGroup : Result Elements Unanswered → Limits → IntegerMatrix → Type 0

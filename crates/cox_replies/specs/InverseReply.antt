@@ -1,17 +1,15 @@
 -- What `invpol` asks: when inverse Kazhdan-Lusztig polynomials are refused, and which text is right.
-use Rattle.std.specs.Prelude.{◌≡◌, ℕ, List, ℤ, pos}
+use Rattle.std.specs.Prelude.{◌≡◌, ℕ, List, ℤ, pos, ◌<ℤ◌, unsigned_abs}
 use Rattle.std.specs.Int.{int_min}
 use Rattle.cox_base.specs.IntegerMatrix.{IntegerMatrix}
 use Rattle.cox_base.specs.Length.{word_length}
 use Rattle.cox_base.specs.Bruhat.{IsBelow}
 use Rattle.cox_poly.specs.PolynomialText.{polynomial_text}
 use Rattle.cox_hecke.specs.Family.{Family}
-use Rattle.cox_hecke.specs.ListedElements.{LiesBetween}
-use Rattle.cox_klstep.specs.Limits.{IsLargeCoefficient}
+use Rattle.cox_hecke.specs.Row.{IsRow}
 use Rattle.cox_rows.specs.Beyond.{NeedsBeyond}
 use Rattle.cox_inverse.specs.declared.fault.TheConstants.{MAX_COEFFICIENT}
 use Rattle.cox_inverse.specs.InverseRow.{IsInverseRow}
-use Rattle.cox_inverse.specs.InverseFaults.{IsLargeInverse}
 use Rattle.cox_command.specs.declared.refusal.Refusal.{Refusal}
 use Rattle.cox_replies.specs.Limits.{Limits}
 use Rattle.cox_replies.specs.Listed.{RefusesLargeOr}
@@ -22,13 +20,14 @@ abbrev pub inverse_limit : ℕ → ℤ
 inverse_limit limit = int_min (pos limit) MAX_COEFFICIENT
 
 -- Some polynomial between y and w is too large: the row of some z with y ≤ z ≤ w needs a row that is beyond its limits; or some P(x,z) with
--- y ≤ x ≤ z ≤ w has a coefficient above MAX_COEFFICIENT; or some Q(x,w) with y ≤ x ≤ w has one above the limit of inverse polynomials.
+-- y ≤ x ≤ z ≤ w has a coefficient above MAX_COEFFICIENT in absolute value; or some Q(x,w) with y ≤ x ≤ w has one above the limit of inverse
+-- polynomials.
 pub data IsInverseBeyond (A : IntegerMatrix) (limit : ℕ) (y w : List ℕ) : Type 0 where
-  row : {z : List ℕ} → LiesBetween A y w z → NeedsBeyond A (pos limit) z → IsInverseBeyond A limit y w
-  polynomial : {x z : List ℕ} {k : ℕ} {c : ℤ} → IsBelow A y x → IsBelow A x z → IsBelow A z w
-      → IsLargeCoefficient A MAX_COEFFICIENT x z k c → IsInverseBeyond A limit y w
-  inverse : {x : List ℕ} {k : ℕ} {c : ℤ} → IsBelow A y x → IsBelow A x w
-      → IsLargeInverse A (inverse_limit limit) x w k c → IsInverseBeyond A limit y w
+  row : {z : List ℕ} → IsBelow A y z → IsBelow A z w → NeedsBeyond A (pos limit) z → IsInverseBeyond A limit y w
+  polynomial : {p : Family} (x z : List ℕ) (k : ℕ) → IsBelow A y x → IsBelow A x z → IsBelow A z w → IsRow A z p
+      → MAX_COEFFICIENT <ℤ pos (unsigned_abs (p x k)) → IsInverseBeyond A limit y w
+  inverse : {q : Family} (x : List ℕ) (k : ℕ) → IsBelow A y x → IsBelow A x w → IsInverseRow A w q
+      → inverse_limit limit <ℤ pos (unsigned_abs (q x k)) → IsInverseBeyond A limit y w
 
 -- the interval from the identity to w has more members than the limit; or y ≤ w, and some polynomial between them is too large
 abbrev pub RefusesInverse : Limits → IntegerMatrix → List ℕ → List ℕ → Refusal → Type 0

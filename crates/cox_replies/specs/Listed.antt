@@ -6,18 +6,12 @@ use Rattle.cox_base.specs.SortedList.{IsListOf, HasMoreThan}
 use Rattle.cox_hecke.specs.Family.{Family}
 use Rattle.cox_hecke.specs.Row.{IsRow}
 use Rattle.cox_command.specs.declared.refusal.Refusal.{Refusal}
-use Rattle.cox_command.specs.declared.refusal.Refusal.TheVariants.{LargeInterval, LargeRow}
 use Rattle.cox_replies.specs.Limits.{Limits}
+use Rattle.cox_replies.specs.Question.{RefusesIf}
 
--- the interval from the identity to w has more members than the limit
-abbrev pub RefusesLarge : Limits → IntegerMatrix → List ℕ → Refusal → Type 0
-RefusesLarge limits A w LargeInterval = HasMoreThan limits.context (IsInInterval A w)
-RefusesLarge limits A w _ = ⊥
-
--- that, or else these rows are too large
+-- the interval from the identity to w has more members than the limit; or there is this cause of a large row
 abbrev pub RefusesLargeOr : Limits → IntegerMatrix → List ℕ → Type 0 → Refusal → Type 0
-RefusesLargeOr limits A w Large LargeRow = Large
-RefusesLargeOr limits A w Large why = RefusesLarge limits A w why
+RefusesLargeOr limits A w row = RefusesIf (HasMoreThan limits.context (IsInInterval A w)) ⊥ row
 
 -- what is made of the list of the elements with a property
 abbrev pub IsOfList : {X : Type 0} → (List ℕ → Type 0) → (List (List ℕ) → X) → X → Type 0

@@ -38,6 +38,6 @@ module_text rank cell images letters =
     decimal (length cell) ++ 10 ∷ members_text rank cell ++ flat_map (operator_text rank cell images) letters
 
 -- the module of the left cell of w
-abbrev pub IsModuleText : ℕ → IntegerMatrix → List ℕ → List ℕ → Type 0
-IsModuleText rank A w text = (cell : List (List ℕ)) × IsListOf (IsInCell Left A (normal_form A w)) cell
-    × (images : ℕ → ℕ → List Term) × AreImages A cell images × (text ≡ module_text rank cell images (letters A.rank))
+abbrev pub IsModuleText : IntegerMatrix → List ℕ → List ℕ → Type 0
+IsModuleText A w text = (cell : List (List ℕ)) × IsListOf (IsInCell Left A (normal_form A w)) cell
+    × (images : ℕ → ℕ → List Term) × AreImages A cell images × (text ≡ module_text A.rank cell images (letters A.rank))

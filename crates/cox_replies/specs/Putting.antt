@@ -12,7 +12,7 @@ use Rattle.cox_command.specs.declared.refusal.Refusal.{Refusal}
 use Rattle.cox_replies.specs.declared.unanswered.Unanswered.{Unanswered}
 use Rattle.cox_replies.specs.declared.unanswered.Unanswered.TheVariants as unanswered
 use Rattle.cox_replies.specs.Question.{IsRefused}
-use Rattle.cox_replies.specs.Listed.{RefusesLarge}
+use Rattle.cox_replies.specs.Listed.{RefusesLargeOr}
 use Rattle.cox_replies.specs.Limits.{Limits}
 
 -- one of the right texts was put; where memory ran out, a prefix of one
@@ -42,7 +42,7 @@ unrefused (Err error) = Err unanswered.NoMemory
 -- the interval from the identity to w was given, or it is refused
 abbrev pub GivesInterval : Result Elements Unanswered → Limits → IntegerMatrix → List ℕ → Type 0
 GivesInterval (Ok context) limits A w = IsListOf (IsInInterval A w) context.members × (HasMoreThan limits.context (IsInInterval A w) → ⊥)
-GivesInterval (Err (unanswered.Refused why)) limits A w = IsRefused (RefusesLarge limits A w) (Some why)
+GivesInterval (Err (unanswered.Refused why)) limits A w = IsRefused (RefusesLargeOr limits A w ⊥) (Some why)
 GivesInterval (Err unanswered.NoMemory) limits A w = Unit {0}
 
 -- nothing refuses, and what was found is right; or it is refused; or memory ran out

@@ -14,6 +14,13 @@ pub record Question : Type 1 where
 abbrev pub command_refusals : List Refusal
 command_refusals = ManyRoots ∷ LargeInterval ∷ FarApart ∷ LargeRow ∷ []
 
+-- the refusals with these causes: a large interval or group, elements that are far apart, a large row
+abbrev pub RefusesIf : Type 0 → Type 0 → Type 0 → Refusal → Type 0
+RefusesIf large far row LargeInterval = large
+RefusesIf large far row FarApart = far
+RefusesIf large far row LargeRow = row
+RefusesIf large far row _ = ⊥
+
 -- the first of these refusals that has a cause, if one has
 abbrev pub IsFirstRefusal : (Refusal → Type 0) → List Refusal → Option Refusal → Type 0
 IsFirstRefusal Refuses [] found = found ≡ None

@@ -36,8 +36,8 @@ abbrev pub IsMuText : IntegerMatrix → List ℕ → List ℕ → List ℕ → T
 IsMuText A y w text = (m : ℤ) × IsMu A y w m × (text ≡ signed_decimal m)
 
 -- a list of elements x, each with P(x,w), where p is the row of w
-abbrev pub pairs_text : ℕ → IntegerMatrix → List ℕ → Family → List (List ℕ) → List ℕ
-pairs_text rank A w p words = list_text (map (λ x. pair_text rank x (coefficients_to (word_length A w) (p x))) words)
+abbrev pub pairs_text : IntegerMatrix → List ℕ → Family → List (List ℕ) → List ℕ
+pairs_text A w p words = list_text (map (λ x. pair_text A.rank x (coefficients_to (word_length A w) (p x))) words)
 
 -- an extremal x ≤ w: each left descent of w is one of x, and each right descent of w is one of x
 pub record IsExtremalBelow (A : IntegerMatrix) (w word : List ℕ) : Type 0 where

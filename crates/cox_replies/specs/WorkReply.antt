@@ -49,6 +49,6 @@ IsWorkText A words text = (list : List (List ℤ)) × ArePolynomials A words lis
     (unsigned_abs (int_rem_euclid (fold (λ sum c. sum +ℤ c) (pos 0) (flat_map (λ p. p) list)) (pos (2 ^ 64)))))
 
 -- what `work` asks, by the generator's first state and the number of words
-abbrev pub work_question : ℕ → ℕ → Limits → ℕ → IntegerMatrix → Question
-work_question start count limits rank A = let words = generated_words rank count start in
+abbrev pub work_question : ℕ → ℕ → Limits → IntegerMatrix → Question
+work_question start count limits A = let words = generated_words A.rank count start in
     record { Refuses = RefusesWork limits A words; IsText = IsWorkText A words }

@@ -20,7 +20,7 @@ ghost use Rattle.cox_cert.specs.CertificateParts.{certificate_head, certificate_
 ghost use Rattle.cox_replies.specs.Limits.{Limits};
 ghost use Rattle.cox_replies.specs.Question.{IsRefused};
 ghost use Rattle.cox_replies.specs.RowReply.{RefusesRow, pairs_text};
-ghost use Rattle.cox_replies.specs.CertReply.{RefusesListing, RefusesCert, IsCertText};
+ghost use Rattle.cox_replies.specs.CertReply.{RefusesListedOr, RefusesCert, IsCertText};
 ghost use Rattle.cox_replies.specs.Putting.{PutsUnless, Finds, words_at};
 
 use crate::pairs::{members_below, put_pairs};
@@ -58,7 +58,7 @@ pub fn listed_below(alloc: Global, rows: &Rows, i: u32) -> Result<Vec<u32>, Unan
     ensures list { (limits : Limits) (w : List ℕ) → word_at rows.now.elements.members i
         ≡ normal_form (integer_matrix rows.now.elements.matrix) w
         → (HasMoreThan limits.context (IsInInterval (integer_matrix rows.now.elements.matrix) w) → ⊥)
-        → Finds result (RefusesListing limits (integer_matrix rows.now.elements.matrix) w)
+        → Finds result (RefusesListedOr limits (integer_matrix rows.now.elements.matrix) w ⊥)
         (λ numbers. IsListOf (IsInInterval (integer_matrix rows.now.elements.matrix) w)
         (words_at rows.now.elements.members numbers.items)) }
 {
@@ -88,7 +88,7 @@ pub fn put_certificate(
         (word_at rows.now.elements.members i)) below.now }
     ensures { (limits : Limits) (w : List ℕ) → word_at rows.now.elements.members i ≡ normal_form (integer_matrix rows.now.elements.matrix) w
         → IsListOf (IsInInterval (integer_matrix rows.now.elements.matrix) w) (words_at rows.now.elements.members below.now)
-        → IsRefused (RefusesListing limits (integer_matrix rows.now.elements.matrix) w) None
+        → IsRefused (RefusesListedOr limits (integer_matrix rows.now.elements.matrix) w ⊥) None
         → (NeedsBeyond (integer_matrix rows.now.elements.matrix) (pos limits.coefficient) w → ⊥)
         → PutsUnless result (RefusesCert limits (integer_matrix rows.now.elements.matrix) w) (IsCertText rows.now.elements.matrix w)
         out.old.items out.new.items }
@@ -111,7 +111,7 @@ fn put_lines(out: &mut Vec<u8>, rows: &Rows, i: u32, below: &[u32]) -> Result<()
     ensures { (w : List ℕ) (p : Family) → word_at rows.now.elements.members i ≡ normal_form (integer_matrix rows.now.elements.matrix) w
         → IsRow (integer_matrix rows.now.elements.matrix) w p
         → Puts result (certificate_head rows.now.elements.matrix (normal_form (integer_matrix rows.now.elements.matrix) w)
-        ++ pairs_text rows.now.elements.matrix.rank (integer_matrix rows.now.elements.matrix) w p
+        ++ pairs_text (integer_matrix rows.now.elements.matrix) w p
         (words_at rows.now.elements.members below.now) ++ certificate_foot) out.old.items out.new.items }
 {
     let context = rows.context();

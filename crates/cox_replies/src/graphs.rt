@@ -30,7 +30,7 @@ pub fn put_group_of(out: &mut Vec<u8>, rows: &Rows, kind: NoWord) -> Result<(), 
     requires whole { IsListOf (IsElement (integer_matrix rows.now.elements.matrix)) rows.now.elements.members }
     requires held { (i : ℕ) → i < length rows.now.elements.members → HasRow rows.now i }
     ensures { (limits : Limits) → PutsSome result
-        (group_question kind limits rows.now.elements.matrix.rank (integer_matrix rows.now.elements.matrix)).IsText
+        (group_question kind limits (integer_matrix rows.now.elements.matrix)).IsText
         out.old.items out.new.items }
 {
     match kind {
@@ -46,7 +46,7 @@ pub fn put_group_of(out: &mut Vec<u8>, rows: &Rows, kind: NoWord) -> Result<(), 
 fn put_group_graph(out: &mut Vec<u8>, rows: &Rows, side: Side) -> Result<(), NoMemory>
     requires whole { IsListOf (IsElement (integer_matrix rows.now.elements.matrix)) rows.now.elements.members }
     requires held { (i : ℕ) → i < length rows.now.elements.members → HasRow rows.now i }
-    ensures { PutsSome result (IsGraphText rows.now.elements.matrix.rank side (integer_matrix rows.now.elements.matrix))
+    ensures { PutsSome result (IsGraphText side (integer_matrix rows.now.elements.matrix))
         out.old.items out.new.items }
 {
     prove!(rows.context().len() > 0);
@@ -58,7 +58,7 @@ fn put_group_graph(out: &mut Vec<u8>, rows: &Rows, side: Side) -> Result<(), NoM
 fn put_group_cells(out: &mut Vec<u8>, rows: &Rows, kind: CellKind) -> Result<(), NoMemory>
     requires whole { IsListOf (IsElement (integer_matrix rows.now.elements.matrix)) rows.now.elements.members }
     requires held { (i : ℕ) → i < length rows.now.elements.members → HasRow rows.now i }
-    ensures { PutsSome result (IsCellsText rows.now.elements.matrix.rank kind (integer_matrix rows.now.elements.matrix))
+    ensures { PutsSome result (IsCellsText kind (integer_matrix rows.now.elements.matrix))
         out.old.items out.new.items }
 {
     prove!(rows.context().len() > 0);

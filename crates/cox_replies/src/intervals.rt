@@ -11,7 +11,7 @@ ghost use Rattle.cox_poly.specs.Puts.{Puts};
 ghost use Rattle.cox_print.specs.AnswerText.{elements_text};
 ghost use Rattle.cox_replies.specs.SessionLimits.{limits_of};
 ghost use Rattle.cox_replies.specs.InquiryQuestion.{counts_text};
-ghost use Rattle.cox_replies.specs.Listed.{RefusesLarge, IsOfList};
+ghost use Rattle.cox_replies.specs.Listed.{RefusesLargeOr, IsOfList};
 ghost use Rattle.cox_replies.specs.Putting.{PutsSome, PutsUnless, GivesInterval, words_at};
 
 use crate::unanswered::{Unanswered, unrefused};
@@ -36,7 +36,7 @@ pub fn put_interval(
 ) -> Result<(), Unanswered>
     requires first { IsWord table.now.rank y.now.items }
     requires second { IsWord table.now.rank w.now.items }
-    ensures { PutsUnless result (RefusesLarge (limits_of options) (integer_matrix table.now) w.now.items)
+    ensures { PutsUnless result (RefusesLargeOr (limits_of options) (integer_matrix table.now) w.now.items ⊥)
         (IsOfList (IsBetween (integer_matrix table.now) y.now.items w.now.items) (elements_text table.now.rank))
         out.old.items out.new.items }
 {
@@ -52,7 +52,7 @@ pub fn put_coatoms(
     w: &Word,
 ) -> Result<(), Unanswered>
     requires word { IsWord table.now.rank w.now.items }
-    ensures { PutsUnless result (RefusesLarge (limits_of options) (integer_matrix table.now) w.now.items)
+    ensures { PutsUnless result (RefusesLargeOr (limits_of options) (integer_matrix table.now) w.now.items ⊥)
         (IsOfList (IsCoatom (integer_matrix table.now) w.now.items) (elements_text table.now.rank)) out.old.items out.new.items }
 {
     let context = interval_of(*out.allocator(), table, options, w)?;
@@ -67,7 +67,7 @@ pub fn put_betti(
     w: &Word,
 ) -> Result<(), Unanswered>
     requires word { IsWord table.now.rank w.now.items }
-    ensures { PutsUnless result (RefusesLarge (limits_of options) (integer_matrix table.now) w.now.items)
+    ensures { PutsUnless result (RefusesLargeOr (limits_of options) (integer_matrix table.now) w.now.items ⊥)
         (IsOfList (IsInInterval (integer_matrix table.now) w.now.items) (counts_text (integer_matrix table.now) w.now.items))
         out.old.items out.new.items }
 {

@@ -40,7 +40,7 @@ pub fn put_module_of(
     requires word { IsWord table.now.rank w.now.items }
     requires whole { IsListOf (IsElement (integer_matrix rows.now.elements.matrix)) rows.now.elements.members }
     requires held { (i : ℕ) → i < length rows.now.elements.members → HasRow rows.now i }
-    ensures { PutsSome result (IsModuleText rows.now.elements.matrix.rank (integer_matrix rows.now.elements.matrix) w.now.items)
+    ensures { PutsSome result (IsModuleText (integer_matrix rows.now.elements.matrix) w.now.items)
         out.old.items out.new.items }
 {
     let context = rows.context();
@@ -59,7 +59,7 @@ fn put_cell_of(out: &mut Vec<u8>, rows: &Rows, cell: &[u32]) -> Result<(), NoMem
     requires within { AreWithin (length rows.now.elements.members) cell.now }
     ensures { let A = integer_matrix rows.now.elements.matrix in (w : List ℕ)
         → IsListOf (IsInCell Left A (normal_form A w)) (cell_words rows.now.elements.members cell.now)
-        → PutsSome result (IsModuleText rows.now.elements.matrix.rank A w) out.old.items out.new.items }
+        → PutsSome result (IsModuleText A w) out.old.items out.new.items }
 {
     let context = rows.context();
     let graph = WGraph::build(*out.allocator(), context, rows)?;

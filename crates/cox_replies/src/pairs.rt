@@ -28,7 +28,7 @@ pub fn put_all_pairs(out: &mut Vec<u8>, rows: &Rows, i: u32) -> Result<(), NoMem
     requires there { HasRow rows.now i }
     ensures { (w : List ℕ) → word_at rows.now.elements.members i ≡ normal_form (integer_matrix rows.now.elements.matrix) w
         → PutsSome result (IsOfRow (integer_matrix rows.now.elements.matrix) w (IsInInterval (integer_matrix rows.now.elements.matrix) w)
-        (pairs_text rows.now.elements.matrix.rank (integer_matrix rows.now.elements.matrix) w)) out.old.items out.new.items }
+        (pairs_text (integer_matrix rows.now.elements.matrix) w)) out.old.items out.new.items }
 {
     let below = members_below(*out.allocator(), rows, i)?;
     put_pairs(out, rows, i, below.as_slice())
@@ -41,7 +41,7 @@ pub fn put_extremal_pairs(out: &mut Vec<u8>, rows: &Rows, i: u32) -> Result<(), 
     requires there { HasRow rows.now i }
     ensures { (w : List ℕ) → word_at rows.now.elements.members i ≡ normal_form (integer_matrix rows.now.elements.matrix) w
         → PutsSome result (IsOfRow (integer_matrix rows.now.elements.matrix) w (IsExtremalBelow (integer_matrix rows.now.elements.matrix) w)
-        (pairs_text rows.now.elements.matrix.rank (integer_matrix rows.now.elements.matrix) w)) out.old.items out.new.items }
+        (pairs_text (integer_matrix rows.now.elements.matrix) w)) out.old.items out.new.items }
 {
     prove!(rows.context().len() > 0);
     let Some(row) = rows.row(i) else {
@@ -62,7 +62,7 @@ pub fn put_pairs(out: &mut Vec<u8>, rows: &Rows, i: u32, numbers: &[u32]) -> Res
         (word_at rows.now.elements.members i)) numbers.now }
     ensures { (w : List ℕ) (p : Family) → word_at rows.now.elements.members i ≡ normal_form (integer_matrix rows.now.elements.matrix) w
         → IsRow (integer_matrix rows.now.elements.matrix) w p
-        → Puts result (pairs_text rows.now.elements.matrix.rank (integer_matrix rows.now.elements.matrix) w p
+        → Puts result (pairs_text (integer_matrix rows.now.elements.matrix) w p
         (words_at rows.now.elements.members numbers.now)) out.old.items out.new.items }
 {
     let rank = rows.context().matrix().rank();

@@ -51,7 +51,8 @@ pub fn put_row_of(out: &mut Vec<u8>, rows: &Rows, i: u32, kind: RowKind) -> Resu
     requires member { i < length rows.now.elements.members }
     requires there { HasRow rows.now i }
     ensures { (limits : Limits) (w : List ℕ) → word_at rows.now.elements.members i ≡ normal_form (integer_matrix rows.now.elements.matrix) w
-        → PutsSome result (one_question (row_command kind) limits rows.now.elements.matrix w).IsText out.old.items out.new.items }
+        → PutsSome result (one_question (row_command kind) limits rows.now.elements.matrix
+        (integer_matrix rows.now.elements.matrix) w).IsText out.old.items out.new.items }
 {
     match kind {
         RowKind::Klbasis => put_all_pairs(out, rows, i),
@@ -75,7 +76,7 @@ pub fn put_entry_of(
     requires table { table.now ≡ rows.now.elements.matrix }
     requires word { IsWord table.now.rank y.now.items }
     ensures { (limits : Limits) (w : List ℕ) → word_at rows.now.elements.members i ≡ normal_form (integer_matrix table.now) w
-        → PutsSome result (two_question (entry_command kind) limits table.now.rank (integer_matrix table.now) y.now.items w).IsText
+        → PutsSome result (two_question (entry_command kind) limits (integer_matrix table.now) y.now.items w).IsText
         out.old.items out.new.items }
 {
     match kind {

@@ -59,8 +59,10 @@ impl Workspace {
     ) -> Option<Result<(), Unanswered>>
         requires word { IsWord self.now.table.rank w.now.items }
         ensures puts { IfSome result (λ put. PutsUnless put
-            (one_question kind (limits_of self.now.options) self.now.table w.now.items).Refuses
-            (one_question kind (limits_of self.now.options) self.now.table w.now.items).IsText out.old.items out.new.items) }
+            (one_question kind (limits_of self.now.options) self.now.table
+            (integer_matrix self.now.table) w.now.items).Refuses
+            (one_question kind (limits_of self.now.options) self.now.table
+            (integer_matrix self.now.table) w.now.items).IsText out.old.items out.new.items) }
         ensures none { IfNone result (out.new ≡ out.old) }
     {
         match kind {
@@ -83,9 +85,9 @@ impl Workspace {
     ) -> Option<Result<(), Unanswered>>
         requires first { IsWord self.now.table.rank y.now.items }
         requires second { IsWord self.now.table.rank w.now.items }
-        ensures puts { IfSome result (λ put. PutsUnless put (two_question kind (limits_of self.now.options) self.now.table.rank
+        ensures puts { IfSome result (λ put. PutsUnless put (two_question kind (limits_of self.now.options)
             (integer_matrix self.now.table) y.now.items w.now.items).Refuses
-            (two_question kind (limits_of self.now.options) self.now.table.rank (integer_matrix self.now.table)
+            (two_question kind (limits_of self.now.options) (integer_matrix self.now.table)
             y.now.items w.now.items).IsText out.old.items out.new.items) }
         ensures none { IfNone result (out.new ≡ out.old) }
     {

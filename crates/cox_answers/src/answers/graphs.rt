@@ -23,7 +23,7 @@ impl Workspace {
     ) -> Result<(), Unanswered>
         requires ready { M.ready maker.now }
         ensures puts { PutsUnless result (RefusesGroupRows (limits_of self.old.options) (integer_matrix self.old.table))
-            (group_question kind (limits_of self.old.options) self.old.table.rank (integer_matrix self.old.table)).IsText
+            (group_question kind (limits_of self.old.options) (integer_matrix self.old.table)).IsText
             out.old.items out.new.items }
         ensures same { IsSameWork self.old self.new }
         ensures group { IsCoxeterMatrix self.old.table }
@@ -41,7 +41,7 @@ impl Workspace {
         kind: NoWord,
     ) -> Option<Result<(), Unanswered>>
         ensures puts { IfSome result (λ put. PutsUnless put (RefusesGroupRows (limits_of self.now.options) (integer_matrix self.now.table))
-            (group_question kind (limits_of self.now.options) self.now.table.rank (integer_matrix self.now.table)).IsText
+            (group_question kind (limits_of self.now.options) (integer_matrix self.now.table)).IsText
             out.old.items out.new.items) }
         ensures none { IfNone result (out.new ≡ out.old) }
     {

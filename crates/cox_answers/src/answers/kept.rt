@@ -4,7 +4,7 @@ ghost use Rattle.cox_base.specs.Matrix.{IsWord};
 ghost use Rattle.cox_base.specs.Admissible.{IsCoxeterMatrix};
 ghost use Rattle.cox_base.specs.IntegerMatrix.{integer_matrix};
 ghost use Rattle.cox_replies.specs.SessionLimits.{limits_of};
-ghost use Rattle.cox_replies.specs.Listed.{RefusesLarge};
+ghost use Rattle.cox_replies.specs.Listed.{RefusesLargeOr};
 ghost use Rattle.cox_replies.specs.Kept.{AreKept, HoldsElement, Keeps, IsMore};
 
 use crate::row_maker::RowMaker;
@@ -41,7 +41,7 @@ pub fn keep_interval(
     requires word { IsWord table.now.rank w.now.items }
     requires kept { AreKept table.now (limits_of options) kept.old }
     ensures kept { AreKept table.now (limits_of options) kept.new }
-    ensures interval { Keeps result (RefusesLarge (limits_of options) (integer_matrix table.now) w.now.items)
+    ensures interval { Keeps result (RefusesLargeOr (limits_of options) (integer_matrix table.now) w.now.items ⊥)
         (HoldsElement (integer_matrix table.now) w.now.items) kept.new }
     ensures group { IsCoxeterMatrix table.now }
 {
@@ -115,7 +115,7 @@ fn keep_alone(
 ) -> Result<u32, Unanswered>
     requires { IsWord table.now.rank w.now.items }
     ensures kept { AreKept table.now (limits_of options) kept.new }
-    ensures interval { Keeps result (RefusesLarge (limits_of options) (integer_matrix table.now) w.now.items)
+    ensures interval { Keeps result (RefusesLargeOr (limits_of options) (integer_matrix table.now) w.now.items ⊥)
         (HoldsElement (integer_matrix table.now) w.now.items) kept.new }
     ensures group { IsCoxeterMatrix table.now }
 {

@@ -26,7 +26,7 @@ impl Workspace {
         requires word { IsWord self.old.table.rank w.now.items }
         requires ready { M.ready maker.now }
         ensures puts { PutsUnless result (RefusesGroupRows (limits_of self.old.options) (integer_matrix self.old.table))
-            (IsModuleText self.old.table.rank (integer_matrix self.old.table) w.now.items) out.old.items out.new.items }
+            (IsModuleText (integer_matrix self.old.table) w.now.items) out.old.items out.new.items }
         ensures same { IsSameWork self.old self.new }
         ensures group { IsCoxeterMatrix self.old.table }
     {
@@ -42,7 +42,7 @@ impl Workspace {
     ) -> Option<Result<(), Unanswered>>
         requires word { IsWord self.now.table.rank w.now.items }
         ensures puts { IfSome result (λ put. PutsUnless put (RefusesGroupRows (limits_of self.now.options) (integer_matrix self.now.table))
-            (IsModuleText self.now.table.rank (integer_matrix self.now.table) w.now.items) out.old.items out.new.items) }
+            (IsModuleText (integer_matrix self.now.table) w.now.items) out.old.items out.new.items) }
         ensures none { IfNone result (out.new ≡ out.old) }
     {
         if !self.has_group() {

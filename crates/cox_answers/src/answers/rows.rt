@@ -28,7 +28,8 @@ impl Workspace {
         requires word { IsWord self.old.table.rank w.now.items }
         requires ready { M.ready maker.now }
         ensures puts { PutsUnless result (RefusesRow (limits_of self.old.options) (integer_matrix self.old.table) w.now.items)
-            (one_question (row_command kind) (limits_of self.old.options) self.old.table w.now.items).IsText
+            (one_question (row_command kind) (limits_of self.old.options) self.old.table
+            (integer_matrix self.old.table) w.now.items).IsText
             out.old.items out.new.items }
         ensures same { IsSameWork self.old self.new }
         ensures group { IsCoxeterMatrix self.old.table }
@@ -48,7 +49,8 @@ impl Workspace {
         requires word { IsWord self.now.table.rank w.now.items }
         ensures puts { IfSome result (λ put. PutsUnless put
             (RefusesRow (limits_of self.now.options) (integer_matrix self.now.table) w.now.items)
-            (one_question (row_command kind) (limits_of self.now.options) self.now.table w.now.items).IsText
+            (one_question (row_command kind) (limits_of self.now.options) self.now.table
+            (integer_matrix self.now.table) w.now.items).IsText
             out.old.items out.new.items) }
         ensures none { IfNone result (out.new ≡ out.old) }
     {
@@ -70,7 +72,7 @@ impl Workspace {
         requires second { IsWord self.old.table.rank w.now.items }
         requires ready { M.ready maker.now }
         ensures puts { PutsUnless result (RefusesRow (limits_of self.old.options) (integer_matrix self.old.table) w.now.items)
-            (two_question (entry_command kind) (limits_of self.old.options) self.old.table.rank (integer_matrix self.old.table)
+            (two_question (entry_command kind) (limits_of self.old.options) (integer_matrix self.old.table)
             y.now.items w.now.items).IsText out.old.items out.new.items }
         ensures same { IsSameWork self.old self.new }
         ensures group { IsCoxeterMatrix self.old.table }
@@ -93,7 +95,7 @@ impl Workspace {
         requires second { IsWord self.now.table.rank w.now.items }
         ensures puts { IfSome result (λ put. PutsUnless put
             (RefusesRow (limits_of self.now.options) (integer_matrix self.now.table) w.now.items)
-            (two_question (entry_command kind) (limits_of self.now.options) self.now.table.rank (integer_matrix self.now.table)
+            (two_question (entry_command kind) (limits_of self.now.options) (integer_matrix self.now.table)
             y.now.items w.now.items).IsText out.old.items out.new.items) }
         ensures none { IfNone result (out.new ≡ out.old) }
     {

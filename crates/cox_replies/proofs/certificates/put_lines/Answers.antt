@@ -26,7 +26,7 @@ returns-in_err-put_head c = λ w p is row.
     let e = c.args.rows.now.elements in
     let A = integer_matrix e.matrix in
     Puts-first_of_three _ (certificate_head e.matrix (normal_form A w))
-    (pairs_text e.matrix.rank A w p (words_at e.members c.args.below.now)) certificate_foot _ _ (search rules)
+    (pairs_text A w p (words_at e.members c.args.below.now)) certificate_foot _ _ (search rules)
     (rw (c.word.ensures, c.matrix.ensures, c.context-context.ensures.context, is) at (c.in_err-put_head.ensures {u = tt}))
 
 pub returns-in_err-put_pairs : goal.returns-in_err-put_pairs
@@ -34,7 +34,7 @@ returns-in_err-put_pairs c = λ w p is row.
     let e = c.args.rows.now.elements in
     let A = integer_matrix e.matrix in
     Puts-second_of_three _ (certificate_head e.matrix (normal_form A w))
-    (pairs_text e.matrix.rank A w p (words_at e.members c.args.below.now)) certificate_foot _ _ _
+    (pairs_text A w p (words_at e.members c.args.below.now)) certificate_foot _ _ _
     (rw (c.word.ensures, c.matrix.ensures, c.context-context.ensures.context, is) at (c.in_ok-put_head.ensures {u = tt}))
     (search rules) (c.in_err-put_pairs.ensures {u = tt} w p is row)
 
@@ -43,6 +43,6 @@ returns c = λ w p is row.
     let e = c.args.rows.now.elements in
     let A = integer_matrix e.matrix in
     Puts-third_of_three _ (certificate_head e.matrix (normal_form A w))
-    (pairs_text e.matrix.rank A w p (words_at e.members c.args.below.now)) certificate_foot _ _ _ _
+    (pairs_text A w p (words_at e.members c.args.below.now)) certificate_foot _ _ _ _
     (rw (c.word.ensures, c.matrix.ensures, c.context-context.ensures.context, is) at (c.in_ok-put_head.ensures {u = tt}))
     (c.in_ok-put_pairs.ensures {u = tt} w p is row) c.put_foot.ensures

@@ -13,14 +13,14 @@ use Rattle.cox_replies.proofs.modules.put_cell_of.Goals as goal
 pub returns-in_err-graph : goal.returns-in_err-graph
 returns-in_err-graph c = λ w is.
     let e = c.args.rows.now.elements in
-    let some = module-of_cell (integer_matrix e.matrix) c.context-context.ensures.admissible w e.matrix.rank
+    let some = module-of_cell (integer_matrix e.matrix) c.context-context.ensures.admissible w
     (cell_words e.members c.args.cell.now) is in
     (some.0, some.1, Puts-failed _ _ _ _ (search rules) (PutsPrefix-none _ _ _ refl))
 
 pub returns-in_err-action : goal.returns-in_err-action
 returns-in_err-action c = λ w is.
     let e = c.args.rows.now.elements in
-    let some = module-of_cell (integer_matrix e.matrix) c.context-context.ensures.admissible w e.matrix.rank
+    let some = module-of_cell (integer_matrix e.matrix) c.context-context.ensures.admissible w
     (cell_words e.members c.args.cell.now) is in
     (some.0, some.1, Puts-failed _ _ _ _ (search rules) (PutsPrefix-none _ _ _ refl))
 

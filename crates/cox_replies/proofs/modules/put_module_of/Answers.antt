@@ -22,7 +22,7 @@ unreachable-requires c =
 pub returns-in_err-cells : goal.returns-in_err-cells
 returns-in_err-cells c =
     let e = c.args.rows.now.elements in
-    let some = some_module (integer_matrix e.matrix) c.context-context.ensures.admissible c.args.w.now.items e.matrix.rank e.members
+    let some = some_module (integer_matrix e.matrix) c.context-context.ensures.admissible c.args.w.now.items e.members
     c.requires.whole in
     (some.0, some.1, Puts-failed _ _ _ _ (search rules) (PutsPrefix-none _ _ _ refl))
 

@@ -16,7 +16,7 @@ returns-in_err-below c = λ w is.
     let A = integer_matrix e.matrix in
     let g = IsAdmissible-integer_matrix e.matrix c.requires.group in
     let members = interval-exists A g w in (
-      pairs_text e.matrix.rank A w (row_of A g w) members.0,
+      pairs_text A w (row_of A g w) members.0,
       (row_of A g w, row_of-is A g w, (members.0, members.1, refl)),
       Puts-failed _ _ _ _ (search rules) (PutsPrefix-none _ _ _ refl),
     )
@@ -27,7 +27,7 @@ returns c = λ w is.
     let A = integer_matrix e.matrix in
     let g = IsAdmissible-integer_matrix e.matrix c.requires.group in
     let words = words_at e.members c.in_ok-below.below.items in (
-      pairs_text e.matrix.rank A w (row_of A g w) words,
+      pairs_text A w (row_of A g w) words,
       (row_of A g w, row_of-is A g w, (words, (c.in_ok-below.ensures {u = tt}).interval w is, refl)),
       rw c.as_slice.ensures.value at (c.put_pairs.ensures w (row_of A g w) is (row_of-is A g w)),
     )

@@ -67,7 +67,7 @@ returns-in_err-extremal c = λ w is.
     let A = integer_matrix e.matrix in
     let g = IsAdmissible-integer_matrix e.matrix c.requires.group in
     let list = extremals-exist A g w in (
-      pairs_text e.matrix.rank A w (row_of A g w) list.0,
+      pairs_text A w (row_of A g w) list.0,
       (row_of A g w, row_of-is A g w, (list.0, list.1, refl)),
       Puts-failed _ _ _ _ (search rules) (PutsPrefix-none _ _ _ refl),
     )
@@ -82,7 +82,7 @@ returns c = λ w is.
     let new = c.put_in_order.new.numbers.items in
     let extremal : AreExtremal A e.members (word_at e.members c.args.i) old
     = rw c.context-2.ensures.context at c.in_ok-extremal.ensures in (
-      pairs_text e.matrix.rank A w (row_of A g w) (words_at e.members new),
+      pairs_text A w (row_of A g w) (words_at e.members new),
       (
         row_of A g w,
         row_of-is A g w,

@@ -4,7 +4,7 @@ use Rattle.std.proofs.lemmas.Int.{ints}
 use Rattle.cox_base.specs.IntegerMatrix.{integer_matrix}
 use Rattle.cox_base.proofs.AdmissibleMatrices.{IsAdmissible-integer_matrix}
 use Rattle.cox_replies.specs.SessionLimits.{limits_of}
-use Rattle.cox_replies.proofs.Unless.{large-allowed}
+use Rattle.cox_replies.proofs.LargeOr.{large_or-allowed}
 use Rattle.cox_replies.proofs.KeptRows.{interval-member}
 use Rattle.cox_answers.proofs.answers.kept.keep_alone.Goals as goal
 
@@ -29,5 +29,7 @@ pub returns-clause-interval : goal.returns-clause-interval
 returns-clause-interval c =
     let A = integer_matrix c.args.table.now in
     let told = c.in_ok-context.ensures {u = tt} in
-    let made = c.in_ok-new.ensures {u = tt} in
-    (large-allowed (limits_of c.args.options) A c.args.w.now.items told.members.1, rw made (c.in-Some.ensures {u = tt}))
+    let made = c.in_ok-new.ensures {u = tt} in (
+      large_or-allowed (limits_of c.args.options) A c.args.w.now.items ⊥ told.members.1 (λ none. none),
+      rw made (c.in-Some.ensures {u = tt}),
+    )

@@ -3,7 +3,7 @@ use Rattle.std.proofs.Common.{◌∙◌, Some, arith}
 use Rattle.cox_base.specs.IntegerMatrix.{integer_matrix}
 use Rattle.cox_replies.specs.SessionLimits.{limits_of}
 use Rattle.cox_replies.specs.Kept.{AreOf}
-use Rattle.cox_replies.proofs.Unless.{large-allowed}
+use Rattle.cox_replies.proofs.LargeOr.{large_or-allowed}
 use Rattle.cox_replies.proofs.KeptBetween.{found-few}
 use Rattle.cox_answers.proofs.answers.kept.keep_interval.Goals as goal
 
@@ -32,4 +32,4 @@ returns-in-Ok-clause-interval c =
     } in
     let few = found-few limits G (rw group at c.context-context.ensures.admissible) w c.extend.new.self now
     (rw group at c.context-context.ensures.closed) (Some c.in-Ok.i) grown.number in
-    (large-allowed limits (integer_matrix G) w few, grown.number)
+    (large_or-allowed limits (integer_matrix G) w ⊥ few (λ none. none), grown.number)

@@ -1,11 +1,13 @@
 -- The proof of `put_cert`.
-use Rattle.std.proofs.Common.{◌≡◌}
+use Rattle.std.proofs.Common.{◌≡◌, subst}
 use Rattle.std.proofs.lemmas.Result.{err_from_is_err_and}
+use Rattle.cox_base.specs.Matrix.{CoxeterMatrix}
 use Rattle.cox_base.specs.IntegerMatrix.{integer_matrix}
 use Rattle.cox_replies.specs.SessionLimits.{limits_of}
-use Rattle.cox_replies.specs.CertReply.{RefusesListing, RefusesCert}
+use Rattle.cox_replies.specs.CertReply.{RefusesListedOr, RefusesCert, IsCertText}
 use Rattle.cox_replies.specs.RowReply.{RefusesRow}
 use Rattle.cox_replies.specs.Kept.{AreOf, HoldsElement, HoldsRow}
+use Rattle.cox_replies.specs.Putting.{PutsUnless}
 use Rattle.cox_replies.proofs.KeptRows.{large-free}
 use Rattle.cox_replies.proofs.CertRefusals.{cert-listing, cert-row, row-none, PutsUnless-unkept, PutsUnless-unfound, kept-some}
 use Rattle.cox_answers.proofs.workspace.Workspace.put_cert.Goals as goal
@@ -23,7 +25,7 @@ returns-in_err-below-clause-puts g c =
     let few = large-free limits A w told.interval.0 in
     let finds = rw of.group at (c.listed_below.ensures.list limits w (rw of.group holds.1) (rw of.group few)) in
     let p = err_from_is_err_and c.from_residual-in_err-below.result c.from_residual-in_err-below.ensures.1 in
-    rw (p.1, p.2) (PutsUnless-unfound (RefusesListing limits A w) (RefusesCert limits A w) _ _ (cert-listing limits A w) _
+    rw (p.1, p.2) (PutsUnless-unfound (RefusesListedOr limits A w ⊥) (RefusesCert limits A w) _ _ (cert-listing limits A w) _
     c.listed_below.result c.in_err-below.field-0.0 (c.in_err-below.was {u = tt}) finds)
 
 pub returns-in_err-make_row-clause-puts : goal.returns-in_err-make_row-clause-puts
@@ -85,5 +87,7 @@ returns-clause-puts g c =
     let after : AreOf G limits later = rw (c.rows-2.ensures, told.same.table, told.same.options) at done.kept in
     let same : later.elements ≡ rows.elements = rw (c.rows.ensures, c.rows-2.ensures) at done.members in
     let small = row-none limits A w (made w told.interval.1 few).0 in
-    rw after.group at (c.put_certificate.ensures limits w (rw (same, of.group) holds.1) (rw (same, c.as_slice.ensures.value) listed.1)
+    subst (λ (m : CoxeterMatrix). PutsUnless c.put_certificate.result (RefusesCert limits (integer_matrix m) w) (IsCertText m w)
+    c.args.out.now.items c.put_certificate.new.out.items) after.group
+    (c.put_certificate.ensures limits w (rw (same, of.group) holds.1) (rw (same, c.as_slice.ensures.value) listed.1)
     (rw same listed.0) (rw after.group small))

@@ -10,7 +10,8 @@ use Rattle.cox_context.specs.Numbering.{IsNumberOf}
 use Rattle.cox_replies.specs.SessionLimits.{limits_of}
 use Rattle.cox_replies.specs.Kept.{AreOf}
 use Rattle.cox_replies.specs.KeptBetween.{IsReadOff}
-use Rattle.cox_replies.proofs.Unless.{PutsUnless-put, large-allowed}
+use Rattle.cox_replies.proofs.LargeOr.{large_or-allowed}
+use Rattle.cox_replies.proofs.Unless.{PutsUnless-put}
 use Rattle.cox_replies.proofs.InverseTexts.{invpol-zero}
 use Rattle.cox_replies.proofs.InverseRefusals.{inverse-none}
 use Rattle.cox_replies.proofs.KeptBetween.{read_off-keeps}
@@ -25,7 +26,8 @@ returns-then-not-below-clause-puts c =
     let w = c.args.w.now.items in
     let says = rw c.table.ensures at c.below.ensures in
     let none : IsBelow A y w → ⊥ = λ below. false≢true (sym c.if-not-below.true ∙ says.1 below) in
-    rw c.unrefused.ensures (PutsUnless-put _ _ _ _ _ (inverse-none limits A y w (large-allowed limits A w c.in_ok-_number.ensures.few) none)
+    let free = large_or-allowed limits A w ⊥ c.in_ok-_number.ensures.few (λ nothing. nothing) in
+    rw c.unrefused.ensures (PutsUnless-put _ _ _ _ _ (inverse-none limits A y w free none)
     (_, invpol-zero A (IsAdmissible-integer_matrix G c.rank.ensures.matrix) y w none, c.put_text.ensures))
 
 pub put_inverse-requires : goal.put_inverse-requires
