@@ -1,6 +1,6 @@
 -- A line that may stand in a block leaves the state.
 use Rattle.std.proofs.Common.{◌≡◌, ◌⊎◌, inl, inr, ℕ, List, [], ◌∷◌, Option, Some, None, IsSomeAnd, MatchOption}
-use Rattle.std.proofs.Common.{refl, ap, ◌∙◌, subst, ⊎_elim}
+use Rattle.std.proofs.Common.{refl, sym, ◌∙◌, subst, ⊎_elim, false}
 use Rattle.std.specs.Option.{option_map}
 use Rattle.cox_tokens.specs.Tokens.{tokens_of}
 use Rattle.cox_command.specs.declared.refusal.Refusal.{Refusal}
@@ -13,14 +13,14 @@ use Rattle.cox_command.specs.CommandWord.{command_word_of}
 use Rattle.cox_command.specs.LineRefusal.{line_refusal}
 use Rattle.cox_command.specs.CommandReading.{command_by, command_of}
 use Rattle.cox_command.specs.BlockLines.{word_refusal, tokens_block_refusal, block_refusal}
-use Rattle.cox_shell.specs.Reply.{State, Reply, rank_of, refusal}
+use Rattle.cox_shell.specs.Reply.{State, Reply, rank_of, refusal, silence, answered}
 use Rattle.cox_shell.specs.CommandReply.{IsCommandReply}
 use Rattle.cox_shell.specs.ContentReply.{IsContentReply}
 use Rattle.std.specs.Prelude.{Result, Ok, Err, IfOk, OnErr}
 use Rattle.std.specs.declared.alloc.AllocError.{AllocError}
 use Rattle.cox_shell.specs.declared.session.Said.{Said}
 use Rattle.cox_shell.specs.Saying.{Says, SaysPrefix}
-use Rattle.cox_shell.proofs.KeptGroup.{IsInquiryReply-state}
+use Rattle.cox_shell.proofs.KeptGroup.{IsInquiryReply-all}
 
 -- a command is on elements
 abbrev IsAsking : Command → Type 0
@@ -51,30 +51,43 @@ asking_tokens (name ∷ arguments) rank command free given = by_name (command_wo
         let same : command_by verb arguments rank ≡ command = cc given in
         inr (subst IsAsking same (asking verb name arguments rank free))
 
--- such a command leaves the state
-asking-state : (command : Command) (state : State) (reply : Reply) → (command ≡ Nothing) ⊎ IsAsking command
-    → IsCommandReply command state reply → reply.after ≡ state
-asking-state command state reply which is = ⊎_elim
+-- what holds of refusals, answers and silence holds of the reply to such a command ..
+asking-all : (command : Command) (state : State) (P : Reply → Type 0) → ((why : Refusal) → P (refusal state why)) → P (silence state)
+    → ((text : List ℕ) → P (answered state text)) → (reply : Reply) → (command ≡ Nothing) ⊎ IsAsking command
+    → IsCommandReply command state reply → P reply
+asking-all command state P refused silent answer reply which is = ⊎_elim
     (λ (e : command ≡ Nothing). let nothing : IsCommandReply Nothing state reply = subst (λ c. IsCommandReply c state reply) e is in
-    ap (λ (r : Reply). r.after) nothing)
-    (λ (asks : IsAsking command). IsInquiryReply-state asks.0 state reply (subst (λ c. IsCommandReply c state reply) asks.1 is)) which
+    subst P (sym nothing) silent)
+    (λ (asks : IsAsking command). IsInquiryReply-all asks.0 state P refused answer reply
+    (subst (λ c. IsCommandReply c state reply) asks.1 is)) which
 
-pub block_reply-state : (state : State) (content : List ℕ) (reply : Reply) → block_refusal content ≡ None
-    → IsContentReply state content reply → reply.after ≡ state
+-- .. and so of that to a line which may stand in a block
+pub block_reply-all : (state : State) (content : List ℕ) (P : Reply → Type 0) → ((why : Refusal) → P (refusal state why))
+    → P (silence state) → ((text : List ℕ) → P (answered state text)) → (reply : Reply) → block_refusal content ≡ None
+    → IsContentReply state content reply → P reply
 unfolding IsContentReply
-block_reply-state state content reply free is = by_refusal (line_refusal content (rank_of state)) is
+block_reply-all state content P refused silent answer reply free is = by_refusal (line_refusal content (rank_of state)) is
   where
     by_command : (o : Option Command) → command_of (tokens_of content) (rank_of state) ≡ o
-        → IsSomeAnd o (λ command. IsCommandReply command state reply) → reply.after ≡ state
+        → IsSomeAnd o (λ command. IsCommandReply command state reply) → P reply
     by_command None given is = absurd is
-    by_command (Some command) given is =
-        asking-state command state reply (asking_tokens (tokens_of content) (rank_of state) command free given) is
+    by_command (Some command) given is = asking-all command state P refused silent answer reply
+        (asking_tokens (tokens_of content) (rank_of state) command free given) is
 
     by_refusal : (o : Option Refusal)
         → MatchOption o (IsSomeAnd (command_of (tokens_of content) (rank_of state)) (λ command. IsCommandReply command state reply))
-        (λ why. reply ≡ refusal state why) → reply.after ≡ state
+        (λ why. reply ≡ refusal state why) → P reply
     by_refusal None is = by_command (command_of (tokens_of content) (rank_of state)) refl is
-    by_refusal (Some why) is = ap (λ (r : Reply). r.after) is
+    by_refusal (Some why) is = subst P (sym is) (refused why)
+
+-- it leaves the state, and does not end the run
+pub block_reply-state : (state : State) (content : List ℕ) (reply : Reply) → block_refusal content ≡ None
+    → IsContentReply state content reply → reply.after ≡ state
+block_reply-state state content = block_reply-all state content (λ r. r.after ≡ state) (λ why. refl) refl (λ text. refl)
+
+pub block_reply-going : (state : State) (content : List ℕ) (reply : Reply) → block_refusal content ≡ None
+    → IsContentReply state content reply → reply.quits ≡ false
+block_reply-going state content = block_reply-all state content (λ r. r.quits ≡ false) (λ why. refl) refl (λ text. refl)
 
 -- so the state stays whatever was said to it
 pub block_said-same : (result : Result Said AllocError) (state next : State) (content before after : List ℕ) → block_refusal content ≡ None

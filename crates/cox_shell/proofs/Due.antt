@@ -10,8 +10,8 @@ use Rattle.cox_outside.specs.declared.limits.TheConstants.{INPUT_LIMIT}
 use Rattle.cox_outside.specs.Line.{line_feed, ended_lines, lines_of, lines_within}
 use Rattle.cox_outside.specs.Outlet.{IsPrefix}
 use Rattle.cox_replies.specs.Limits.{Limits}
-use Rattle.cox_shell.specs.Reply.{Reply}
-use Rattle.cox_shell.specs.Answer.{texts, script_lines}
+use Rattle.cox_shell.specs.Reply.{Reply, texts}
+use Rattle.cox_shell.specs.Answer.{script_lines}
 use Rattle.cox_shell.specs.ScriptAnswer.{IsAnswer}
 use Rattle.cox_shell.specs.Top.{AreDue}
 use Rattle.cox_outside.proofs.Lines.{onto_first, into_first, lines_of-byte, ended_lines-byte}

@@ -23,8 +23,9 @@ use Rattle.cox_shell.specs.declared.status.Stopped.{Stopped}
 use Rattle.cox_shell.specs.declared.status.Stopped.TheVariants as why
 use Rattle.cox_shell.specs.Status.{is_read_fault, is_write_fault}
 use Rattle.cox_shell.specs.Stopping.{status_of}
-use Rattle.cox_shell.specs.Reply.{State, Reply}
-use Rattle.cox_shell.specs.Answer.{AreReplies, texts, has_quit, bytes_of}
+use Rattle.cox_shell.specs.Reply.{State, Reply, texts}
+use Rattle.cox_shell.specs.Answer.{AreReplies, state_behind, has_quit, bytes_of}
+use Rattle.cox_shell.specs.Keeping.{Keeps}
 use Rattle.cox_shell.specs.Run.{Stand, IsServed, IsCutOff, Serves, stopped_read_fault, stopped_write_fault}
 use Rattle.cox_shell.specs.Outcome.{HasRead, WritesPrefix, WritesAll, StopsThere, IsCutShort, AnswersAll, AnswersEnded}
 use Rattle.cox_shell.specs.Outcome.{AnswersToFault, AnswersToLimit, Runs}
@@ -32,6 +33,7 @@ use Rattle.cox_shell.proofs.KnownValues.{IfSome-made, IfSome-each, IfSome-follow
 use Rattle.cox_shell.proofs.Replies.{AreReplies-one, AreReplies-quit}
 use Rattle.cox_shell.proofs.NoLines.{no_lines-end}
 use Rattle.cox_shell.proofs.TakenLines.{TakenLines, TakenLines-one, TakenLines-append, HasRead-taken, HasRead-begun, HasRead-limit}
+use Rattle.cox_shell.proofs.KeptStates.{none-kept, reply-kept, Steps, served-steps}
 use Rattle.cox_shell.proofs.Quitting.{quits-closed}
 use Rattle.cox_shell.proofs.Progress.{state_behind-push}
 use Rattle.cox_shell.proofs.Progress.{Progress, going_lines, texts-push, has_refusal-push, has_quit-push, as_many-push}
@@ -71,7 +73,7 @@ all_so_far : (refused : Bool) (old now next : Stand) (p : Progress refused old n
 all_so_far refused old now next p none same stays = record {
   replies = p.done;
   are_replies = no_more refused old now p none;
-  behind = stays ∙ p.behind;
+  behind = subst (λ (state : State). Keeps state (state_behind old.state p.done)) (sym stays) p.behind;
   writes = subst (λ out. Writes (texts p.done) old.out out) (sym same) p.writes;
 }
 
@@ -112,7 +114,7 @@ meets_end refused old now next p read m whole same stays =
         are_all = inr (m.end, rw test (sym whole));
         replies = p.done;
         are_replies = so_far refused old now p;
-        behind = stays ∙ p.behind;
+        behind = subst (λ (state : State). Keeps state (state_behind old.state p.done)) (sym stays) p.behind;
         writes = subst (λ out. Writes (texts p.done) old.out out) (sym same) p.writes;
       });
     }
@@ -149,14 +151,14 @@ StopsThere-taken lines replies halt old now t as_many = record {
   few (Some halt) t = omega (arith, ap length (t.none_pending refl))
 
 -- a line ended the run
-pub ends_at_quit : (refused : Bool) (old now next : Stand) → now.stop ≡ None → Progress refused old now → IsServed false true now next
-    → AnswersAll refused old next
-ends_at_quit refused old now next going p s =
-    let lines : List (List ℕ) = p.lines ++ s.taken.line ∷ [] in
+ends_at_step : (refused : Bool) (old now next : Stand) → now.stop ≡ None → (p : Progress refused old now)
+    → Steps false true (state_behind old.state p.done) now next → AnswersAll refused old next
+ends_at_step refused old now next going p s =
+    let lines : List (List ℕ) = p.lines ++ s.line ∷ [] in
     let replies : List Reply = p.done ++ s.reply ∷ [] in
     let read : TakenLines lines next.stop old.ahead next.ahead = TakenLines-append p.lines
-    (s.taken.line ∷ []) next.stop old.ahead now.ahead next.ahead (going_lines refused old now going p)
-    (TakenLines-one next.stop s.taken.line now.ahead next.ahead s.taken.takes) in
+    (s.line ∷ []) next.stop old.ahead now.ahead next.ahead (going_lines refused old now going p)
+    (TakenLines-one next.stop s.line now.ahead next.ahead s.takes) in
     let written : Writes (texts replies) old.out next.out = subst (λ t. Writes t old.out next.out) (sym (texts-push p.done s.reply))
     (Writes-append (texts p.done) s.reply.text old.out now.out next.out p.writes s.writes) in
     let quits : has_quit replies ≡ true = has_quit-push p.done s.reply false true p.quits s.quitting in
@@ -165,7 +167,7 @@ ends_at_quit refused old now next going p s =
         lines = lines;
         has_read = HasRead-taken lines next.stop old.ahead next.ahead read;
         replies = replies;
-        are_replies = p.says (s.taken.line ∷ []) (s.reply ∷ []) (AreReplies-one now.state s.taken.line s.reply s.taken.is_reply);
+        are_replies = p.says (s.line ∷ []) (s.reply ∷ []) (AreReplies-one (state_behind old.state p.done) s.line s.reply s.is_reply);
         prefix = texts replies;
         is_prefix = ([], sym (append-nil (texts replies)));
         writes = written;
@@ -175,17 +177,23 @@ ends_at_quit refused old now next going p s =
         are_replies = IfSome-made (λ more. lines ++ more) (λ all. AreReplies old.state all replies) (lines_ahead old.ahead)
             (lines_ahead next.ahead) read.cut
             (IfSome-each (λ more. AreReplies old.state (lines ++ more) replies) (lines_ahead next.ahead) (λ more. all more));
-        behind = s.state_after ∙ sym (state_behind-push old.state p.done s.reply);
+        behind = subst (λ (state : State). Keeps next.state state) (sym (state_behind-push old.state p.done s.reply)) s.keeps;
         writes = written;
       };
       refuses = has_refusal-push p.done s.reply refused false p.refuses s.refuses ∙ or-false refused;
       ends = rw quits (StopsThere-taken lines replies next.stop old.ahead next.ahead read
-          (as_many-push p.done p.lines s.reply s.taken.line p.as_many));
-      reading = inl (ap (λ (t : State). t.list) s.state_after ∙ quits-closed now.state s.taken.line s.reply s.taken.is_reply s.quitting);
+          (as_many-push p.done p.lines s.reply s.line p.as_many));
+      reading = inl (none-kept next.state s.reply.after s.keeps
+          (quits-closed (state_behind old.state p.done) s.line s.reply s.is_reply s.quitting));
     } where
-      all : (more : List (List ℕ)) → AreReplies old.state ((p.lines ++ s.taken.line ∷ []) ++ more) (p.done ++ s.reply ∷ [])
-      all more = subst (λ lines. AreReplies old.state lines (p.done ++ s.reply ∷ [])) (sym (append_assoc p.lines (s.taken.line ∷ []) more))
-          (p.says (s.taken.line ∷ more) (s.reply ∷ []) (AreReplies-quit now.state s.taken.line s.reply more s.taken.is_reply s.quitting))
+      all : (more : List (List ℕ)) → AreReplies old.state ((p.lines ++ s.line ∷ []) ++ more) (p.done ++ s.reply ∷ [])
+      all more = subst (λ lines. AreReplies old.state lines (p.done ++ s.reply ∷ [])) (sym (append_assoc p.lines (s.line ∷ []) more))
+          (p.says (s.line ∷ more) (s.reply ∷ []) (AreReplies-quit (state_behind old.state p.done) s.line s.reply more s.is_reply s.quitting))
+
+pub ends_at_quit : (refused : Bool) (old now next : Stand) → now.stop ≡ None → Progress refused old now → IsServed false true now next
+    → AnswersAll refused old next
+ends_at_quit refused old now next going p served = ends_at_step refused old now next going p
+    (served-steps false true (state_behind old.state p.done) now next p.behind served)
 
 -- the lines so far are those that end among the bytes so far and the beginning of a line
 ended_so_far : (refused : Bool) (old now next : Stand) (p : Progress refused old now) (read : TakenLines p.lines None old.ahead now.ahead)
@@ -200,7 +208,7 @@ ended_so_far refused old now next p read begun unbroken part none_pending within
   are_replies = subst (λ lines. AreReplies old.state lines p.done)
       (sym (read.ended refl begun ∙ ap (λ l. p.lines ++ l) (ended_lines-none begun unbroken) ∙ append-nil p.lines))
       (so_far refused old now p);
-  behind = stays ∙ p.behind;
+  behind = subst (λ (state : State). Keeps state (state_behind old.state p.done)) (sym stays) p.behind;
   none_quits = p.quits;
   writes = subst (λ out. Writes (texts p.done) old.out out) (sym same) p.writes;
 }
@@ -239,9 +247,11 @@ pub ends_cut_off : (refused : Bool) (old now next : Stand) → now.stop ≡ None
     → (short : IsCutShort old next)
     × (IfSome now.out.room (λ left. left < length cut.reply.text) → IfSome old.out.room (λ left. left < length (texts short.part.replies)))
 ends_cut_off refused old now next going p cut =
+    let is = reply-kept now.state (state_behind old.state p.done) p.behind cut.taken.line cut.reply cut.taken.is_reply in
+    let reply = is.0 in
     let lines : List (List ℕ) = p.lines ++ cut.taken.line ∷ [] in
-    let replies : List Reply = p.done ++ cut.reply ∷ [] in
-    let joined : texts replies ≡ texts p.done ++ cut.reply.text = texts-push p.done cut.reply in
+    let replies : List Reply = p.done ++ reply ∷ [] in
+    let joined : texts replies ≡ texts p.done ++ cut.reply.text = texts-push p.done reply ∙ ap (λ t. texts p.done ++ t) is.2.text in
     let read : TakenLines lines next.stop old.ahead next.ahead =
     TakenLines-append p.lines (cut.taken.line ∷ []) next.stop old.ahead now.ahead next.ahead
     (going_lines refused old now going p) (TakenLines-one next.stop cut.taken.line now.ahead next.ahead cut.taken.takes) in (
@@ -250,8 +260,8 @@ ends_cut_off refused old now next going p cut =
           lines = lines;
           has_read = HasRead-taken lines next.stop old.ahead next.ahead read;
           replies = replies;
-          are_replies = p.says (cut.taken.line ∷ []) (cut.reply ∷ [])
-              (AreReplies-one now.state cut.taken.line cut.reply cut.taken.is_reply);
+          are_replies = p.says (cut.taken.line ∷ []) (reply ∷ [])
+              (AreReplies-one (state_behind old.state p.done) cut.taken.line reply is.1);
           prefix = texts p.done ++ cut.prefix;
           is_prefix = (
             cut.is_prefix.0,
@@ -261,7 +271,7 @@ ends_cut_off refused old now next going p cut =
           writes = Writes-append (texts p.done) cut.prefix old.out now.out next.out p.writes cut.writes;
         };
         few = StopsThere-taken lines replies next.stop old.ahead next.ahead read
-            (as_many-push p.done p.lines cut.reply cut.taken.line p.as_many);
+            (as_many-push p.done p.lines reply cut.taken.line p.as_many);
       },
       λ small. IfSome-made (λ left. left + length (texts p.done))
           (λ left. left < length (texts replies)) old.out.room now.out.room p.writes.room

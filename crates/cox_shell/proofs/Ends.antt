@@ -9,18 +9,19 @@ use Rattle.cox_command.specs.declared.refusal.Refusal.{Refusal}
 use Rattle.cox_command.specs.declared.refusal.Refusal.TheVariants.{LongList}
 use Rattle.cox_command.specs.RefusalNumber.{refusal_number}
 use Rattle.cox_command.specs.BlockLines.{list_word_of}
-use Rattle.cox_shell.specs.Reply.{OpenList, State, Reply, closed, refusal, silence}
-use Rattle.cox_shell.specs.OpenLists.{is_long}
+use Rattle.cox_shell.specs.Reply.{Kept, OpenList, State, Reply, closed, with_list, refusal, silence}
+use Rattle.cox_shell.specs.OpenLists.{then_line, then_block, kept_lines, is_long}
 use Rattle.cox_shell.specs.ContentReply.{IsContentReply}
-use Rattle.cox_shell.specs.Blocks.{Told, AnswersBlocks, IsListReply, IsEndOfList, list_answered}
+use Rattle.cox_shell.specs.Blocks.{AreKeptReplies, IsListReply, IsEndOfList, list_answered}
 use Rattle.cox_shell.specs.ListReply.{IsReplyTo, IsReplyInList, kept_refusal, unread_reply}
 use Rattle.cox_shell.specs.Answer.{IsClosing}
-use Rattle.cox_shell.specs.Keeping.{with_kept, with_next}
+use Rattle.cox_shell.specs.Keeping.{with_kept, with_next, Keeps}
 use Rattle.cox_shell.specs.Saying.{IsSaid}
-use Rattle.cox_shell.specs.ToldText.{Numbered, no_text, said_by, TellsBlocks, IsToldOf}
+use Rattle.cox_shell.specs.ToldText.{Numbered, numbered, no_text, said_by, TellsBlocks, IsToldOf}
 use Rattle.cox_shell.specs.declared.session.Stage.{Stage}
 use Rattle.cox_shell.specs.declared.session.Stage.TheVariants.{Opened, Set}
 use Rattle.cox_shell.specs.SessionState.{state_of}
+use Rattle.cox_shell.proofs.KeptLists.{with_line-keeps, with_block-keeps}
 
 -- where none is open
 pub outside_reply : (state : State) (content : List ℕ) (reply : Reply) → state.list ≡ None → IsContentReply state content reply
@@ -33,11 +34,16 @@ unread_outside state why none = ap (λ o. kept_refusal o state why) none
 
 -- a block begins, the list ends, or the line is kept
 pub next_reply : (state : State) (content : List ℕ) → IsSome state.list → list_word_of (tokens_of content) ≡ Some Next
-    → IsReplyTo state content (silence (with_next state))
+    → (after : State) × IsReplyTo state content (silence after) × Keeps (with_next state) after
 next_reply state content some next = by_list state.list refl some where
-  by_list : (o : Option OpenList) → state.list ≡ o → IsSome o → IsReplyTo state content (silence (with_next state))
+  by_list : (o : Option OpenList) → state.list ≡ o → IsSome o
+      → (after : State) × IsReplyTo state content (silence after) × Keeps (with_next state) after
   by_list None e some = absurd (cc some)
-  by_list (Some list) e some = rw e (rw next refl)
+  by_list (Some list) e some = (
+    with_list state (then_block list),
+    rw e (rw next refl),
+    record { limits = refl; group = refl; list = rw e (with_block-keeps list) },
+  )
 
 pub end_reply : (state : State) (content : List ℕ) (reply : Reply) → list_word_of (tokens_of content) ≡ Some End
     → IsEndOfList state reply → IsReplyTo state content reply
@@ -48,20 +54,36 @@ end_reply state content reply end is = by_list state.list is where
   by_list (Some list) is = rw end is
 
 pub keep_reply : (state : State) (content : List ℕ) → IsSome state.list → list_word_of (tokens_of content) ≡ None
-    → IsReplyTo state content (silence (with_kept state (record { content = content; refused = None })))
+    → (after : State) × IsReplyTo state content (silence after)
+    × Keeps (with_kept state (record { content = content; refused = None })) after
 keep_reply state content some no_word = by_list state.list refl some where
+  line : Kept
+  line = record { content = content; refused = None }
+
   by_list : (o : Option OpenList) → state.list ≡ o → IsSome o
-      → IsReplyTo state content (silence (with_kept state (record { content = content; refused = None })))
+      → (after : State) × IsReplyTo state content (silence after) × Keeps (with_kept state line) after
   by_list None e some = absurd (cc some)
-  by_list (Some list) e some = rw e (rw no_word refl)
+  by_list (Some list) e some = (
+    with_list state (then_line list line),
+    rw e (rw no_word refl),
+    record { limits = refl; group = refl; list = rw e (with_line-keeps list line) },
+  )
 
 pub unread_kept : (state : State) (why : Refusal) → IsSome state.list
-    → unread_reply state why ≡ silence (with_kept state (record { content = []; refused = Some why }))
+    → (after : State) × (unread_reply state why ≡ silence after)
+    × Keeps (with_kept state (record { content = []; refused = Some why })) after
 unread_kept state why some = by_list state.list refl some where
+  line : Kept
+  line = record { content = []; refused = Some why }
+
   by_list : (o : Option OpenList) → state.list ≡ o → IsSome o
-      → unread_reply state why ≡ silence (with_kept state (record { content = []; refused = Some why }))
+      → (after : State) × (unread_reply state why ≡ silence after) × Keeps (with_kept state line) after
   by_list None e some = absurd (cc some)
-  by_list (Some list) e some = rw e refl
+  by_list (Some list) e some = (
+    with_list state (then_line list line),
+    rw e refl,
+    record { limits = refl; group = refl; list = rw e (with_line-keeps list line) },
+  )
 
 -- the state with this list open, or none
 abbrev pub with_one : State → Option OpenList → State
@@ -75,17 +97,17 @@ module _ (state : State) (list : OpenList) where
   -- the reply to a list, by whether it is long
   of_test : (b : Bool) (reply : Reply) → is_long list ≡ b
       → MatchBool b (reply ≡ refusal (closed state) LongList)
-      ((told : Told) × AnswersBlocks (closed state) list told × (reply ≡ list_answered (closed state) told)) → IsListReply state list reply
+      ((replies : List Reply) × AreKeptReplies (closed state) (kept_lines list) replies × (reply ≡ list_answered (closed state) replies)) → IsListReply state list reply
   of_test b reply test is = subst (λ b. MatchBool b (reply ≡ refusal (closed state) LongList)
-      ((told : Told) × AnswersBlocks (closed state) list told × (reply ≡ list_answered (closed state) told))) (sym test) is
+      ((replies : List Reply) × AreKeptReplies (closed state) (kept_lines list) replies × (reply ≡ list_answered (closed state) replies))) (sym test) is
 
   -- it is refused, or is what its blocks are answered
   pub long_reply : state.list ≡ None → is_long list ≡ true → IsListReply state list (refusal state LongList)
   long_reply none long = of_test true (refusal state LongList) long (ap (λ s. refusal s LongList) (sym (closed-same state none)))
 
-  pub told_reply : (told : Told) → is_long list ≡ false → AnswersBlocks (closed state) list told
-      → IsListReply state list (list_answered (closed state) told)
-  told_reply told short are = of_test false (list_answered (closed state) told) short (told, are, refl)
+  pub told_reply : (replies : List Reply) → is_long list ≡ false → AreKeptReplies (closed state) (kept_lines list) replies
+      → IsListReply state list (list_answered (closed state) replies)
+  told_reply replies short are = of_test false (list_answered (closed state) replies) short (replies, are, refl)
 
 -- what was told from nothing where none is open
 pub told-outside : (state : State) (blocks : OpenList) (before told : Numbered) → state.list ≡ None → before ≡ no_text
@@ -94,9 +116,10 @@ told-outside state blocks before told none empty are =
     subst (λ s. TellsBlocks s blocks no_text told) (sym (closed-same state none)) (subst (λ b. TellsBlocks state blocks b told) empty are)
 
 -- what is said of it
-pub said_by-is : (state : State) (told : Told) → IsSaid (said_by (option_map refusal_number told.refused)) (list_answered state told)
-said_by-is state told = by_refusal told.refused refl where
-  by_refusal : (o : Option Refusal) → told.refused ≡ o → IsSaid (said_by (option_map refusal_number o)) (list_answered state told)
+pub said_by-is : (state : State) (replies : List Reply) → IsSaid (said_by (numbered replies).refused) (list_answered state replies)
+said_by-is state replies = by_refusal (list_answered state replies).refused refl where
+  by_refusal : (o : Option Refusal) → (list_answered state replies).refused ≡ o
+      → IsSaid (said_by (option_map refusal_number o)) (list_answered state replies)
   by_refusal None e = (e, refl)
   by_refusal (Some why) e = (subst (λ r. IsSomeAnd r (λ other. refusal_number why ≡ refusal_number other)) (sym e) refl, refl)
 

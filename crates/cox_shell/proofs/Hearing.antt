@@ -19,7 +19,7 @@ use Rattle.cox_outside.specs.Outlet.{Writes}
 use Rattle.cox_shell.specs.Reply.{State, Reply}
 use Rattle.cox_shell.specs.ListReply.{IsReplyTo, unread_reply}
 use Rattle.cox_shell.specs.LineReply.{content_refusal}
-use Rattle.cox_shell.specs.Saying.{Says}
+use Rattle.cox_shell.specs.Saying.{SaysKept}
 use Rattle.cox_shell.specs.declared.status.Stopped.{Stopped}
 use Rattle.cox_shell.specs.declared.status.Stopped.TheVariants as why
 use Rattle.cox_outside.proofs.Known.{Writes-none}
@@ -45,12 +45,12 @@ pub hears_refused : (said : Result Said AllocError) (why : Refusal) (line : List
     (old new : Ahead)
     (before after : List ℕ)
     → content_refusal (content_of line) ≡ Some why → TakesNext halt line old new → before ≡ []
-    → IfOk said (λ told. (reply : Reply) × (reply ≡ unread_reply state why) × Says told reply next before after)
+    → IfOk said (λ told. (reply : Reply) × (reply ≡ unread_reply state why) × SaysKept told reply next before after)
     → Hears (heard_of said) state next halt old new after
 hears_refused said why line state next halt old new before after refused takes empty says =
-    elim said as (λ s. IfOk s (λ told. (reply : Reply) × (reply ≡ unread_reply state why) × Says told reply next before after)
+    elim said as (λ s. IfOk s (λ told. (reply : Reply) × (reply ≡ unread_reply state why) × SaysKept told reply next before after)
     → Hears (heard_of s) state next halt old new after) [
-      | Ok told ↦ λ s. (s.0, taken s.0 s.1, subst (λ b. Says told s.0 next b after) empty s.2)
+      | Ok told ↦ λ s. (s.0, taken s.0 s.1, subst (λ b. SaysKept told s.0 next b after) empty s.2)
       | Err error ↦ λ s. (unread_reply state why, taken (unread_reply state why) refl)
     ] says
   where
@@ -84,13 +84,13 @@ told (Some why) P is = refl
 
 -- a reply that was said is served once it is written
 pub Says-serves : (said : Said) (old new : Stand) (reply : Reply) (buffer : List ℕ)
-    → TakesReplied reply old.state new.stop old.ahead new.ahead → Says said reply new.state [] buffer → Writes reply.text old.out new.out
+    → TakesReplied reply old.state new.stop old.ahead new.ahead → SaysKept said reply new.state [] buffer → Writes reply.text old.out new.out
     → Serves (Ok said) old new
 Says-serves Answered old new reply buffer taken says writes = record {
   reply = reply;
   taken = taken;
   writes = writes;
-  state_after = says.state_after;
+  keeps = says.keeps;
   refuses = ap is_some says.tells.0;
   quitting = says.tells.1;
 }
@@ -98,7 +98,7 @@ Says-serves (Refused number) old new reply buffer taken says writes = record {
   reply = reply;
   taken = taken;
   writes = writes;
-  state_after = says.state_after;
+  keeps = says.keeps;
   refuses = told reply.refused (λ why. number ≡ refusal_number why) says.tells.0;
   quitting = says.tells.1;
 }
@@ -106,7 +106,7 @@ Says-serves Quit old new reply buffer taken says writes = record {
   reply = reply;
   taken = taken;
   writes = writes;
-  state_after = says.state_after;
+  keeps = says.keeps;
   refuses = ap is_some says.tells.0;
   quitting = says.tells.1;
 }

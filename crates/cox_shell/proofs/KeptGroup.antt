@@ -12,7 +12,7 @@ use Rattle.cox_command.specs.CommandWord.{command_word_of}
 use Rattle.cox_tokens.specs.Tokens.{tokens_of}
 use Rattle.cox_command.specs.LineRefusal.{command_refusal, tokens_refusal, line_refusal}
 use Rattle.cox_command.specs.CommandReading.{command_by, command_of}
-use Rattle.cox_shell.specs.Reply.{State, Reply, rank_of, with_group, refusal, silence}
+use Rattle.cox_shell.specs.Reply.{State, Reply, rank_of, with_group, refusal, silence, answered}
 use Rattle.cox_command.specs.declared.inquiry.Inquiry.{Inquiry}
 use Rattle.cox_shell.specs.CommandReply.{IsDecided}
 use Rattle.cox_replies.specs.InquiryQuestion.{question_of}
@@ -20,15 +20,6 @@ use Rattle.cox_shell.specs.CommandReply.{Answers, IsInquiryReply, RefusesGroup, 
 use Rattle.cox_shell.proofs.DecidedReplies.{IsDecided-all}
 use Rattle.cox_shell.specs.ContentReply.{IsContentReply}
 use Rattle.cox_shell.proofs.SetMatrices.{group_set-is}
-
--- a command on elements leaves the state
-inquiry-state : (inquiry : Inquiry) (state : State) (g : CoxeterMatrix) (reply : Reply)
-    → (let question = question_of inquiry state.limits g in IsDecided state question.Refuses (Answers state question) reply)
-    → reply.after ≡ state
-inquiry-state inquiry state g reply is =
-    let question = question_of inquiry state.limits g in
-    IsDecided-all question.Refuses state (Answers state question) (λ r. r.after ≡ state) (λ why. refl)
-    (λ r answer. ap (λ (s : Reply). s.after) answer.2) reply is
 
 -- what follows for each value follows where there is one
 of_some : {X : Type 0} (o : Option X) (P : X → Type 0) (S : Type 0) → ((x : X) → o ≡ Some x → P x → S) → IsSomeAnd o P → S
@@ -39,10 +30,17 @@ of_some (Some x) P S of is = of x refl is
 abbrev pub HasMatrix : State → Type 0
 HasMatrix state = IfSome state.group IsCoxeterMatrix
 
--- the reply to a command on elements leaves the state
+-- what holds of refusals and of answers holds of the reply to a command on elements
+pub IsInquiryReply-all : (inquiry : Inquiry) (state : State) (P : Reply → Type 0) → ((why : Refusal) → P (refusal state why))
+    → ((text : List ℕ) → P (answered state text)) → (reply : Reply) → IsInquiryReply inquiry state reply → P reply
+IsInquiryReply-all inquiry state P refused answer reply is = of_some state.group _ (P reply) (λ g set decided.
+    let question = question_of inquiry state.limits g in
+    IsDecided-all question.Refuses state (Answers state question) P refused
+    (λ r by_text. subst P (sym by_text.2) (answer by_text.0)) reply decided) is
+
+-- it leaves the state
 pub IsInquiryReply-state : (inquiry : Inquiry) (state : State) (reply : Reply) → IsInquiryReply inquiry state reply → reply.after ≡ state
-IsInquiryReply-state inquiry state reply is = of_some state.group _ (reply.after ≡ state)
-    (λ g set. inquiry-state inquiry state g reply) is
+IsInquiryReply-state inquiry state = IsInquiryReply-all inquiry state (λ r. r.after ≡ state) (λ why. refl) (λ text. refl)
 
 module _ (state : State) (matrix : HasMatrix state) (reply : Reply) where
   unchanged : reply.after ≡ state → HasMatrix reply.after

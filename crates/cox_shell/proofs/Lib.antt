@@ -39,6 +39,8 @@ pub mod SomeReply
 pub mod KeptGroup
 -- a line that may stand in a block leaves the state
 pub mod BlockLines
+-- the lines of a block are answered as a script
+pub mod BlockScripts
 -- the reply to a line is one and exists, whether a list is open or none
 pub mod ListReplies
 -- no list is open behind a line that ends the run
@@ -51,6 +53,10 @@ pub mod Lists
 pub mod Counts
 -- the replies where a list is open
 pub mod Ends
+-- what is kept of a list
+pub mod KeptLists
+-- what a session answers that keeps less of a list that is too long
+pub mod KeptStates
 -- what is done at the end of reading
 pub mod Closings
 -- each script has an answer

@@ -1,6 +1,5 @@
 -- The reply to a line is one and exists, whether a list is open or none, and the group stays a Coxeter matrix.
 use Rattle.std.proofs.Common.{◌≡◌, ℕ, Bool, true, false, List, [], ◌∷◌, ◌++◌, Option, Some, None, MatchOption, sym, ◌∙◌, ap, refl}
-use Rattle.std.proofs.Common.{append_assoc}
 use Rattle.std.specs.Bool.{MatchBool}
 use Rattle.cox_tokens.specs.Tokens.{tokens_of}
 use Rattle.cox_command.specs.declared.blocks.ListWord.{ListWord}
@@ -10,9 +9,8 @@ use Rattle.cox_command.specs.declared.refusal.Refusal.TheVariants.{LongList}
 use Rattle.cox_command.specs.BlockLines.{block_refusal, list_word_of}
 use Rattle.cox_shell.specs.Reply.{Kept, OpenList, State, Reply, closed, with_list, refusal, silence}
 use Rattle.cox_shell.specs.ContentReply.{IsContentReply}
-use Rattle.cox_shell.specs.OpenLists.{is_long, with_block}
-use Rattle.cox_shell.specs.Blocks.{IsBlockReply, IsKeptReply, Told, nothing, then_told, told_by, first_of, AnswersBlock, AnswersBlocks}
-use Rattle.cox_shell.specs.Blocks.{IsListReply, list_answered}
+use Rattle.cox_shell.specs.OpenLists.{kept_lines, is_long, then_block}
+use Rattle.cox_shell.specs.Blocks.{IsBlockReply, IsKeptReply, AreKeptReplies, IsListReply, list_answered}
 use Rattle.cox_shell.specs.ListReply.{IsWordReply, IsReplyInList, IsReplyTo, kept_reply, unread_reply, kept_refusal}
 use Rattle.cox_shell.proofs.ContentReply.{IsContentReply-unique}
 use Rattle.cox_shell.proofs.SomeReply.{IsContentReply-exists}
@@ -41,62 +39,48 @@ module _ (state : State) (matrix : HasMatrix state) where
       (some_option (block_refusal line.content) (λ r. IsContentReply state line.content r) state
       (IsContentReply-exists state line.content matrix))
 
-  -- blocks are answered in one way
-  pub AnswersBlock-unique : (lines : List Kept) (one other : Told) → AnswersBlock state lines one → AnswersBlock state lines other
-      → one ≡ other
-  AnswersBlock-unique [] one other p q = p ∙ sym q
-  AnswersBlock-unique (line ∷ lines) one other p q =
-      p.4 ∙ ap (λ r. then_told (told_by r) p.2) (IsKeptReply-unique line p.0 q.0 p.1 q.1)
-      ∙ ap (λ t. then_told (told_by q.0) t) (AnswersBlock-unique lines p.2 q.2 p.3 q.3) ∙ sym q.4
+  -- kept lines are answered in one way
+  pub AreKeptReplies-unique : (lines : List Kept) (one other : List Reply) → AreKeptReplies state lines one
+      → AreKeptReplies state lines other → one ≡ other
+  AreKeptReplies-unique [] one other p q = p ∙ sym q
+  AreKeptReplies-unique (line ∷ lines) [] other p q = absurd p
+  AreKeptReplies-unique (line ∷ lines) (reply ∷ one) [] p q = absurd q
+  AreKeptReplies-unique (line ∷ lines) (reply ∷ one) (also ∷ other) p q =
+      ap (λ l. reply ∷ l) (AreKeptReplies-unique lines one other p.1 q.1)
+      ∙ ap (λ r. r ∷ other) (IsKeptReply-unique line reply also p.0 q.0)
 
-  AnswersBlocks-unique : (blocks : List (List Kept)) (one other : Told) → AnswersBlocks state blocks one → AnswersBlocks state blocks other
-      → one ≡ other
-  AnswersBlocks-unique [] one other p q = p ∙ sym q
-  AnswersBlocks-unique (block ∷ blocks) one other p q =
-      p.4 ∙ ap (λ t. then_told t p.2) (AnswersBlock-unique block p.0 q.0 p.1 q.1)
-      ∙ ap (λ t. then_told q.0 t) (AnswersBlocks-unique blocks p.2 q.2 p.3 q.3) ∙ sym q.4
-
-  block-exists : (lines : List Kept) → (told : Told) × AnswersBlock state lines told
-  block-exists [] = (nothing, refl)
-  block-exists (line ∷ lines) =
-      let one = kept-exists line in
-      let rest = block-exists lines in
-      (then_told (told_by one.0) rest.0, (one.0, one.1, rest.0, rest.1, refl))
-
-  blocks-exist : (blocks : List (List Kept)) → (told : Told) × AnswersBlocks state blocks told
-  blocks-exist [] = (nothing, refl)
-  blocks-exist (block ∷ blocks) =
-      let one = block-exists block in
-      let rest = blocks-exist blocks in
-      (then_told one.0 rest.0, (one.0, one.1, rest.0, rest.1, refl))
+  replies-exist : (lines : List Kept) → (replies : List Reply) × AreKeptReplies state lines replies
+  replies-exist [] = ([], refl)
+  replies-exist (line ∷ lines) =
+      let one = kept-exists line in let rest = replies-exist lines in (one.0 ∷ rest.0, (one.1, rest.1))
 
 -- a list is answered in one way
 pub IsListReply-unique : (state : State) → HasMatrix state → (list : OpenList) (one other : Reply) → IsListReply state list one
     → IsListReply state list other → one ≡ other
 IsListReply-unique state matrix list one other p q = by_test (is_long list) p q where
   by_test : (b : Bool) → MatchBool b (one ≡ refusal (closed state) LongList)
-      ((told : Told) × AnswersBlocks (closed state) list told × (one ≡ list_answered (closed state) told))
+      ((replies : List Reply) × AreKeptReplies (closed state) (kept_lines list) replies × (one ≡ list_answered (closed state) replies))
       → MatchBool b (other ≡ refusal (closed state) LongList)
-      ((told : Told) × AnswersBlocks (closed state) list told × (other ≡ list_answered (closed state) told)) → one ≡ other
+      ((replies : List Reply) × AreKeptReplies (closed state) (kept_lines list) replies × (other ≡ list_answered (closed state) replies)) → one ≡ other
   by_test true p q = p ∙ sym q
-  by_test false p q = p.2 ∙ ap (list_answered (closed state)) (AnswersBlocks-unique (closed state) matrix list p.0 q.0 p.1 q.1)
+  by_test false p q = p.2 ∙ ap (list_answered (closed state)) (AreKeptReplies-unique (closed state) matrix (kept_lines list) p.0 q.0 p.1 q.1)
       ∙ sym q.2
 
 pub IsListReply-exists : (state : State) → HasMatrix state → (list : OpenList) → (reply : Reply) × IsListReply state list reply
 IsListReply-exists state matrix list = by_test (is_long list) where
   by_test : (b : Bool) → (reply : Reply) × MatchBool b (reply ≡ refusal (closed state) LongList)
-      ((told : Told) × AnswersBlocks (closed state) list told × (reply ≡ list_answered (closed state) told))
+      ((replies : List Reply) × AreKeptReplies (closed state) (kept_lines list) replies × (reply ≡ list_answered (closed state) replies))
   by_test true = (refusal (closed state) LongList, refl)
   by_test false =
-      let told = blocks-exist (closed state) matrix list in
-      (list_answered (closed state) told.0, (told.0, told.1, refl))
+      let replies = replies-exist (closed state) matrix (kept_lines list) in
+      (list_answered (closed state) replies.0, (replies.0, replies.1, refl))
 
 -- no list is open after it, and it does not end the run
 pub IsListReply-closed : (state : State) (list : OpenList) (reply : Reply) → IsListReply state list reply
     → (reply.after ≡ closed state) × (reply.quits ≡ false)
 IsListReply-closed state list reply is = by_test (is_long list) is where
   by_test : (b : Bool) → MatchBool b (reply ≡ refusal (closed state) LongList)
-      ((told : Told) × AnswersBlocks (closed state) list told × (reply ≡ list_answered (closed state) told))
+      ((replies : List Reply) × AreKeptReplies (closed state) (kept_lines list) replies × (reply ≡ list_answered (closed state) replies))
       → (reply.after ≡ closed state) × (reply.quits ≡ false)
   by_test true is = (ap (λ (r : Reply). r.after) is, ap (λ (r : Reply). r.quits) is)
   by_test false is = (ap (λ (r : Reply). r.after) is.2, ap (λ (r : Reply). r.quits) is.2)
@@ -120,7 +104,7 @@ module _ (state : State) (list : OpenList) (content : List ℕ) where
         × MatchOption o (reply ≡ kept_reply state list (record { content = content; refused = None }))
         (λ word. IsWordReply word state list reply)
     by_word None = (kept_reply state list (record { content = content; refused = None }), refl)
-    by_word (Some Next) = (silence (with_list state (with_block list)), refl)
+    by_word (Some Next) = (silence (with_list state (then_block list)), refl)
     by_word (Some End) = IsListReply-exists state matrix list
 
   -- the group stays as it is in a list, and no line there ends the run
@@ -165,37 +149,11 @@ unread-matrix state why matrix = by_list state.list where
   by_list None = matrix
   by_list (Some list) = matrix
 
-pub first_of-assoc : {X : Type 0} (a b c : Option X) → first_of (first_of a b) c ≡ first_of a (first_of b c)
-first_of-assoc None b c = refl
-first_of-assoc (Some n) b c = refl
-
-abbrev pub told_of : List ℕ → Option Refusal → Told
-told_of text refused = record { text = text; refused = refused }
-
-pub same_told : (t u : List ℕ) (r q : Option Refusal) → t ≡ u → r ≡ q → told_of t r ≡ told_of u q
-same_told t u r q e f = rw (e, f) refl
-
-nothing_then : (a : Told) → then_told nothing a ≡ a
-nothing_then a = refl
-
-pub then_assoc : (a b c : Told) → then_told (then_told a b) c ≡ then_told a (then_told b c)
-then_assoc a b c = same_told ((a.text ++ b.text) ++ c.text) (a.text ++ (b.text ++ c.text))
-    (first_of (first_of a.refused b.refused) c.refused) (first_of a.refused (first_of b.refused c.refused))
-    (append_assoc a.text b.text c.text) (first_of-assoc a.refused b.refused c.refused)
-
--- a block in a list is answered as it is alone, whatever stands before and behind it
-pub block_alone : (state : State) (before after : List (List Kept)) (block : List Kept) (told : Told)
-    → AnswersBlocks state (before ++ block ∷ after) told
-    → (first : Told) × (alone : Told) × (last : Told) × AnswersBlocks state before first × AnswersBlock state block alone
-    × AnswersBlocks state after last × (told ≡ then_told first (then_told alone last))
-block_alone state [] after block told is = (nothing, is.0, is.2, refl, is.1, is.3, is.4 ∙ sym (nothing_then (then_told is.0 is.2)))
-block_alone state (one ∷ before) after block told is =
-    let rest = block_alone state before after block is.2 is.3 in (
-      then_told is.0 rest.0,
-      rest.1,
-      rest.2,
-      (is.0, is.1, rest.0, rest.3, refl),
-      rest.4,
-      rest.5,
-      is.4 ∙ ap (λ t. then_told is.0 t) rest.6 ∙ sym (then_assoc is.0 rest.0 (then_told rest.1 rest.2)),
-    )
+-- the replies to some lines and then to others are those to the one and to the others
+pub split_replies : (state : State) (first rest : List Kept) (all : List Reply) → AreKeptReplies state (first ++ rest) all
+    → (p : List Reply) × (q : List Reply) × AreKeptReplies state first p × AreKeptReplies state rest q × (all ≡ p ++ q)
+split_replies state [] rest all are = ([], all, refl, are, refl)
+split_replies state (line ∷ first) rest [] are = absurd are
+split_replies state (line ∷ first) rest (reply ∷ all) are =
+    let more = split_replies state first rest all are.1 in
+    (reply ∷ more.0, more.1, (are.0, more.2), more.3, ap (λ l. reply ∷ l) more.4)

@@ -9,9 +9,11 @@ use Rattle.std.proofs.Math.Bool.{or-false, or-true}
 use Rattle.cox_outside.specs.Feed.{HasFewPending}
 use Rattle.cox_outside.specs.Outlet.{Writes}
 use Rattle.cox_outside.proofs.Known.{Writes-none, Writes-append}
-use Rattle.cox_shell.specs.Reply.{State, Reply}
-use Rattle.cox_shell.specs.Answer.{AreReplies, state_behind, texts, has_refusal, has_quit}
+use Rattle.cox_shell.specs.Reply.{State, Reply, texts}
+use Rattle.cox_shell.specs.Answer.{AreReplies, state_behind, has_refusal, has_quit}
+use Rattle.cox_shell.specs.Keeping.{Keeps}
 use Rattle.cox_shell.specs.Run.{Stand, IsServed}
+use Rattle.cox_shell.proofs.KeptStates.{Keeps-same, served-steps}
 use Rattle.cox_shell.proofs.Replies.{AreReplies-cons, AreReplies-rejoin}
 use Rattle.cox_shell.proofs.TakenLines.{TakenLines, TakenLines-none, TakenLines-one, TakenLines-append}
 
@@ -21,9 +23,9 @@ pub record Progress (refused : Bool) (old now : Stand) : Type 0 where
   pub read : TakenLines lines now.stop old.ahead now.ahead
   pub done : List Reply
   pub as_many : length done ≡ length lines
-  pub says : (more : List (List ℕ)) (rest : List Reply) → AreReplies now.state more rest
+  pub says : (more : List (List ℕ)) (rest : List Reply) → AreReplies (state_behind old.state done) more rest
       → AreReplies old.state (lines ++ more) (done ++ rest)
-  pub behind : now.state ≡ state_behind old.state done
+  pub behind : Keeps now.state (state_behind old.state done)
   pub writes : Writes (texts done) old.out now.out
   pub refuses : has_refusal done ≡ refused
   pub quits : has_quit done ≡ false
@@ -65,7 +67,7 @@ Progress-start here going few = record {
   done = [];
   as_many = refl;
   says = λ more rest h. h;
-  behind = refl;
+  behind = Keeps-same here.state here.state refl;
   writes = Writes-none here.out;
   refuses = refl;
   quits = refl;
@@ -79,21 +81,25 @@ going_lines refused old now going p = subst (λ halt. TakenLines p.lines halt ol
 -- one more line was served, which does not end the run
 Progress-more : (before refused : Bool) (old now next : Stand) → now.stop ≡ None → Progress before old now
     → IsServed refused false now next → Progress (before || refused) old next
-Progress-more before refused old now next going p s = record {
-  lines = p.lines ++ s.taken.line ∷ [];
-  read = TakenLines-append p.lines (s.taken.line ∷ []) next.stop old.ahead now.ahead next.ahead (going_lines before old now going p)
-      (TakenLines-one next.stop s.taken.line now.ahead next.ahead s.taken.takes);
-  done = p.done ++ s.reply ∷ [];
-  as_many = as_many-push p.done p.lines s.reply s.taken.line p.as_many;
-  says = λ more rest h. AreReplies-rejoin old.state p.lines more p.done rest s.taken.line s.reply
-      (p.says (s.taken.line ∷ more) (s.reply ∷ rest)
-      (AreReplies-cons now.state next.state s.taken.line s.reply more rest s.taken.is_reply s.quitting s.state_after h));
-  behind = s.state_after ∙ sym (state_behind-push old.state p.done s.reply);
-  writes = subst (λ t. Writes t old.out next.out) (sym (texts-push p.done s.reply))
-      (Writes-append (texts p.done) s.reply.text old.out now.out next.out p.writes s.writes);
-  refuses = has_refusal-push p.done s.reply before refused p.refuses s.refuses;
-  quits = has_quit-push p.done s.reply false false p.quits s.quitting;
-}
+Progress-more before refused old now next going p served =
+    let s = served-steps refused false (state_behind old.state p.done) now next p.behind served in
+    let after = state_behind-push old.state p.done s.reply in
+    record {
+      lines = p.lines ++ s.line ∷ [];
+      read = TakenLines-append p.lines (s.line ∷ []) next.stop old.ahead now.ahead next.ahead (going_lines before old now going p)
+          (TakenLines-one next.stop s.line now.ahead next.ahead s.takes);
+      done = p.done ++ s.reply ∷ [];
+      as_many = as_many-push p.done p.lines s.reply s.line p.as_many;
+      says = λ more rest h. AreReplies-rejoin old.state p.lines more p.done rest s.line s.reply
+          (p.says (s.line ∷ more) (s.reply ∷ rest)
+          (AreReplies-cons (state_behind old.state p.done) (state_behind old.state (p.done ++ s.reply ∷ [])) s.line s.reply more rest
+          s.is_reply s.quitting after h));
+      behind = subst (λ (state : State). Keeps next.state state) (sym after) s.keeps;
+      writes = subst (λ t. Writes t old.out next.out) (sym (texts-push p.done s.reply))
+          (Writes-append (texts p.done) s.reply.text old.out now.out next.out p.writes s.writes);
+      refuses = has_refusal-push p.done s.reply before refused p.refuses s.refuses;
+      quits = has_quit-push p.done s.reply false false p.quits s.quitting;
+    }
 
 -- it was answered
 pub Progress-answered : (refused : Bool) (old now next : Stand) → now.stop ≡ None → Progress refused old now

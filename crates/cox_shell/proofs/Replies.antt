@@ -7,11 +7,11 @@ use Rattle.cox_outside.specs.Line.{content_of}
 use Rattle.cox_outside.specs.Outlet.{IsPrefix}
 use Rattle.cox_command.specs.declared.refusal.Refusal.{Refusal}
 use Rattle.cox_replies.specs.Limits.{Limits}
-use Rattle.cox_shell.specs.Reply.{OpenList, State, Reply, opening}
+use Rattle.cox_shell.specs.Reply.{OpenList, State, Reply, opening, texts}
 use Rattle.cox_shell.specs.ListReply.{IsReplyTo, unread_reply}
 use Rattle.cox_shell.specs.Blocks.{IsListReply}
 use Rattle.cox_shell.specs.LineReply.{IsReply, content_refusal}
-use Rattle.cox_shell.specs.Answer.{AreReplies, AreAllReplies, IsClosing, state_behind, texts, script_lines}
+use Rattle.cox_shell.specs.Answer.{AreReplies, AreAllReplies, IsClosing, state_behind, script_lines}
 use Rattle.cox_shell.specs.ScriptAnswer.{IsAnswer}
 use Rattle.cox_shell.proofs.ListReplies.{IsReplyTo-unique, IsReplyTo-matrix, IsListReply-unique, unread-matrix}
 use Rattle.cox_shell.proofs.KeptGroup.{HasMatrix}

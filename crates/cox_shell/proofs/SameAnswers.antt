@@ -4,8 +4,8 @@ use Rattle.cox_outside.specs.Supply.{Supply}
 use Rattle.cox_outside.specs.Outlet.{Outlet, Writes}
 use Rattle.cox_shell.specs.declared.status.Status.{Status}
 use Rattle.cox_shell.specs.declared.status.Status.TheVariants.{Done, Refused, Usage, ReadFault, WriteFault, NoMemory, InputLimit}
-use Rattle.cox_shell.specs.Reply.{Reply, opening}
-use Rattle.cox_shell.specs.Answer.{AreScriptReplies, texts, has_refusal, script_lines}
+use Rattle.cox_shell.specs.Reply.{Reply, opening, texts}
+use Rattle.cox_shell.specs.Answer.{AreScriptReplies, has_refusal, script_lines}
 use Rattle.cox_shell.specs.Top.{given_limits, AnswersWhole}
 use Rattle.cox_shell.specs.WholeRun.{IsRun}
 use Rattle.cox_shell.specs.SameRuns.{IsWhole, DifferInWorkers, AnswersAlike}
@@ -21,7 +21,7 @@ module _ (arguments : List (List ℕ)) (script : List ℕ) (source left : Supply
   IsAnswered status = (replies : List Reply) × AreScriptReplies (given_limits arguments) script replies × Writes (texts replies) old new
       × (status ≡ whole_status (has_refusal replies))
 
-  from_whole : (refused : Bool) → AnswersWhole refused (given_limits arguments) source.left old new → IsAnswered (whole_status refused)
+  from_whole : (refused : Bool) → AnswersWhole refused (given_limits arguments) source.left left.left old new → IsAnswered (whole_status refused)
   from_whole refused h = (h.replies, rw known at h.are_replies, h.writes, ap whole_status (sym h.refuses))
 
   answered : (status : Status) → IsRun status arguments source left old new → IsWhole status → IsAnswered status

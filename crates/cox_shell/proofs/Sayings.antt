@@ -1,6 +1,6 @@
 -- What is said to lines.
 use Rattle.std.proofs.Common.{◌≡◌, ℕ, List, ◌++◌, Result, Ok, Err, IfOk, OnErr, Option, Some, None, IsSomeAnd, inl, inr}
-use Rattle.std.proofs.Common.{refl, sym, ap, ◌∙◌}
+use Rattle.std.proofs.Common.{refl, sym, ap, ◌∙◌, subst}
 use Rattle.std.proofs.lemmas.List.{append-nil}
 use Rattle.std.specs.declared.alloc.AllocError.{AllocError}
 use Rattle.cox_base.specs.Matrix.{CoxeterMatrix}
@@ -17,8 +17,10 @@ use Rattle.cox_shell.specs.CommandReply.{IsDecided, IsCommandReply}
 use Rattle.cox_replies.specs.InquiryQuestion.{question_of}
 use Rattle.cox_shell.specs.CommandReply.{Answers, IsInquiryReply}
 use Rattle.cox_replies.proofs.Unless.{PutsPrefix-none}
-use Rattle.cox_shell.specs.Saying.{Says, SaysPrefix, Tells, Concludes}
+use Rattle.cox_shell.specs.Saying.{Says, SaysKept, SaysPrefix, Tells, Concludes}
 use Rattle.cox_replies.specs.Putting.{PutsUnless, IsEnded}
+use Rattle.cox_shell.specs.Keeping.{Keeps}
+use Rattle.cox_shell.proofs.KeptStates.{Keeps-same}
 
 -- nothing is said to a line that is answered nothing
 pub Says-silence : (state new : State) (out : List ℕ) → new ≡ state → Says Answered (silence state) new out out
@@ -109,12 +111,33 @@ pub SaysPrefix-broken : (result : Result Said AllocError) (reply : Reply) (state
 SaysPrefix-broken (Ok said) reply state before after puts = tt
 SaysPrefix-broken (Err error) reply state before after puts = record { puts_prefix = puts; same_state = refl }
 
+-- what was said is what was said and kept
+pub Says-kept : (result : Result Said AllocError) (Was Is : Reply → Type 0) (state : State) (before after : List ℕ)
+    → ((reply : Reply) → Was reply → Is reply)
+    → IfOk result (λ said. (reply : Reply) × Was reply × Says said reply state before after)
+    → IfOk result (λ said. (reply : Reply) × Is reply × SaysKept said reply state before after)
+Says-kept (Ok said) Was Is state before after of (reply, was, says) =
+    (reply, of reply was, record { tells = says.tells; text = says.text; keeps = Keeps-same state reply.after says.state_after })
+Says-kept (Err error) Was Is state before after of says = tt
+
+pub Says-kept_reply : (result : Result Said AllocError) (Was : State → Reply) (reply : Reply) (state : State) (before after : List ℕ)
+    → reply ≡ Was state → IfOk result (λ said. Says said (Was state) state before after)
+    → IfOk result (λ said. SaysKept said reply state before after)
+Says-kept_reply (Ok said) Was reply state before after is says =
+    rw is (record { tells = says.tells; text = says.text; keeps = Keeps-same state (Was state).after says.state_after })
+Says-kept_reply (Err error) Was reply state before after is says = tt
+
 -- nothing is said to a line that is kept, or that begins a block
-pub silent-says : (result : Result Said AllocError) (next after : State) (Is : Reply → Type 0) (out : List ℕ) → Is (silence after)
-    → IfOk result (λ said. (said ≡ Answered) × (next ≡ after))
-    → IfOk result (λ said. (reply : Reply) × Is reply × Says said reply next out out)
-silent-says (Ok said) next after Is out is done = (silence after, is, rw done.0 (Says-silence after next out done.1))
-silent-says (Err error) next after Is out is done = tt
+kept-silence : (state kept after : State) (out : List ℕ) → state ≡ kept → Keeps kept after
+    → SaysKept Answered (silence after) state out out
+kept-silence state kept after out same keeps =
+    record { tells = (refl, refl); text = sym (append-nil out); keeps = subst (λ (s : State). Keeps s after) (sym same) keeps }
+
+pub silent-says : (result : Result Said AllocError) (next kept after : State) (Is : Reply → Type 0) (out : List ℕ) → Is (silence after)
+    → Keeps kept after → IfOk result (λ said. (said ≡ Answered) × (next ≡ kept))
+    → IfOk result (λ said. (reply : Reply) × Is reply × SaysKept said reply next out out)
+silent-says (Ok said) next kept after Is out is keeps done = (silence after, is, rw done.0 (kept-silence next kept after out done.1 keeps))
+silent-says (Err error) next kept after Is out is keeps done = tt
 
 pub silent-breaks : (result : Result Said AllocError) (old next after : State) (Is : Reply → Type 0) (out : List ℕ) → Is (silence after)
     → OnErr result (next ≡ old) → OnErr result ((reply : Reply) × Is reply × SaysPrefix reply old next out out)
@@ -123,10 +146,10 @@ silent-breaks (Err error) old next after Is out is same =
     (silence after, is, record { puts_prefix = PutsPrefix-none (silence after).text out out refl; same_state = same })
 
 -- the same of the one reply that is right
-pub silent-one : (result : Result Said AllocError) (next after : State) (reply : Reply) (out : List ℕ) → reply ≡ silence after
-    → IfOk result (λ said. (said ≡ Answered) × (next ≡ after)) → IfOk result (λ said. Says said reply next out out)
-silent-one (Ok said) next after reply out is done = rw (done.0, is) (Says-silence after next out done.1)
-silent-one (Err error) next after reply out is done = tt
+pub silent-one : (result : Result Said AllocError) (next kept after : State) (reply : Reply) (out : List ℕ) → reply ≡ silence after
+    → Keeps kept after → IfOk result (λ said. (said ≡ Answered) × (next ≡ kept)) → IfOk result (λ said. SaysKept said reply next out out)
+silent-one (Ok said) next kept after reply out is keeps done = rw (done.0, is) (kept-silence next kept after out done.1 keeps)
+silent-one (Err error) next kept after reply out is keeps done = tt
 
 pub silent-one_breaks : (result : Result Said AllocError) (old next after : State) (reply : Reply) (out : List ℕ) → reply ≡ silence after
     → OnErr result (next ≡ old) → OnErr result (SaysPrefix reply old next out out)

@@ -20,18 +20,20 @@ use Rattle.cox_options.specs.declared.options.Options.{Options}
 use Rattle.cox_shell.specs.declared.status.Status.{Status}
 use Rattle.cox_shell.specs.declared.status.Status.TheVariants.{Done, Refused, Usage, ReadFault, WriteFault, NoMemory, InputLimit}
 use Rattle.cox_replies.specs.Limits.{Limits}
-use Rattle.cox_shell.specs.Reply.{State, Reply, OpenList, opening}
+use Rattle.cox_shell.specs.Reply.{State, Reply, OpenList, opening, texts}
 use Rattle.cox_shell.specs.Blocks.{IsListReply}
 use Rattle.cox_replies.specs.SessionLimits.{limits_of}
-use Rattle.cox_shell.specs.Answer.{AreReplies, AreAllReplies, AreScriptReplies, IsClosing, state_behind, texts, has_refusal, has_quit}
+use Rattle.cox_shell.specs.Answer.{AreReplies, AreAllReplies, AreScriptReplies, IsClosing, state_behind, has_refusal, has_quit}
 use Rattle.cox_shell.specs.Answer.{script_lines, bytes_of}
+use Rattle.cox_shell.specs.Keeping.{Keeps}
 use Rattle.cox_shell.specs.Run.{Stand, stand}
 use Rattle.cox_shell.specs.Outcome.{Runs, WritesPrefix, WritesAll, StopsThere, IsCutShort, AnswersAll, AnswersEnded}
 use Rattle.cox_shell.specs.Outcome.{EndsReading}
 use Rattle.cox_shell.specs.Closing.{HasClosed, IsClosingCut}
-use Rattle.cox_shell.specs.Top.{usage_line, given_limits, AnswersWhole, AnswersGiven, AreDue, AreDueAtEnd, IsDue, WritesDue}
+use Rattle.cox_shell.specs.Top.{usage_line, given_limits, StopsReading, IsReadWhole, AnswersWhole, AnswersGiven, AreDue, AreDueAtEnd}
+use Rattle.cox_shell.specs.Top.{IsDue, WritesDue}
 use Rattle.cox_shell.specs.GivenLimits.{GiveLimits}
-use Rattle.cox_shell.specs.Reading.{StopsReading, IsReadWhole}
+use Rattle.cox_shell.proofs.KeptStates.{some-kept, closing-kept}
 use Rattle.cox_shell.proofs.ListReplies.{IsListReply-closed}
 use Rattle.cox_shell.proofs.KnownValues.{IfSome-made, IfSome-unmade, IfSome-follows}
 
@@ -145,13 +147,13 @@ module _ (limits : Limits) (script : Option (List ℕ)) (old : Outlet) (state : 
 
   -- replies to lines, and to the end of reading
   abbrev all_replies : (lines : List (List ℕ)) (replies closing : List Reply) → AreReplies (opening limits) lines replies
-      → state ≡ state_behind (opening limits) replies → IsClosing state closing
+      → Keeps state (state_behind (opening limits) replies) → IsClosing state closing
       → AreAllReplies (opening limits) lines (replies ++ closing)
   all_replies lines replies closing are behind closes = record {
     replies = replies;
     are_replies = are;
     closing = closing;
-    closes = subst (λ s. IsClosing s closing) behind closes;
+    closes = closing-kept state (state_behind (opening limits) replies) behind closing closes;
     all_are = refl;
   }
 
@@ -178,7 +180,7 @@ module _ (limits : Limits) (script : Option (List ℕ)) (old : Outlet) (state : 
           | inr whole ↦ inr (IsAtEnd-left reader.feed.pending supply.left whole.0, whole.1)
         ];
     are_replies = all_replies h.lines h.replies closing h.are_replies h.behind closes;
-    some = subst (λ (s : State). IsSome s.list) h.behind some;
+    some = some-kept state (state_behind (opening limits) h.replies) h.behind some;
   }
 
   -- at a read fault, and at the limit, reading has ended
@@ -259,38 +261,36 @@ module _ (limits : Limits) (script : Option (List ℕ)) (old : Outlet) (state : 
     both_written replies closing before at_end = subst (λ t. Writes t old new) (sym (texts-append replies closing))
         (Writes-append (texts replies) (texts closing) old mid new before at_end)
 
-    -- the script was answered whole
-    pub AnswersAll-whole : (before refused : Bool) → AnswersAll before begins ends → HasClosed refused state mid new
-        → AnswersWhole (before || refused) limits script old new
-    AnswersAll-whole before refused h c = record {
-      replies = h.writes_all.replies ++ c.closing;
-      are_replies = script_replies h.writes_all c.closing c.closes;
-      refuses = list_any-append (λ (r : Reply). is_some r.refused) h.writes_all.replies c.closing
-          ∙ ap (λ b. b || has_refusal c.closing) h.refuses ∙ ap (λ b. before || b) c.refuses;
-      writes = both_written h.writes_all.replies c.closing h.writes_all.writes c.writes;
-    }
-
-    -- and read to its end, or to the line that ends the run
-    pub AnswersAll-read : (before refused : Bool) → AnswersAll before begins ends → HasClosed refused state mid new
-        → (replies : List Reply) × IfSome script (λ bytes. AreScriptReplies limits bytes replies) × IsReadWhole replies script supply.left
+    -- the script was read to its end, or to the line that ends the run
+    AnswersAll-read : (before refused : Bool) (h : AnswersAll before begins ends) (c : HasClosed refused state mid new)
+        → IsReadWhole (h.writes_all.replies ++ c.closing) script supply.left
     AnswersAll-read before refused h c =
         let replies = h.writes_all.replies in
         let quits : has_quit (replies ++ c.closing) ≡ has_quit replies =
         list_any-append (λ (r : Reply). r.quits) replies c.closing ∙ ap (λ b. has_quit replies || b) (none_quits state c.closing c.closes)
-        ∙ or-false (has_quit replies) in (
-          replies ++ c.closing,
-          script_replies h.writes_all c.closing c.closes,
-          subst (λ b. MatchBool b (StopsReading (replies ++ c.closing) script supply.left)
-              (IfSome script (λ bytes. length bytes ≤ INPUT_LIMIT) × IsAtEnd supply.left)) (sym quits)
-              (elim (has_quit replies) as
-              (λ b. MatchBool b (StopsThere replies begins.ahead ends.ahead)
-              (IfSome script (λ bytes. length bytes ≤ INPUT_LIMIT) × IsAtEnd ends.ahead.bytes)
-              → MatchBool b (StopsReading (replies ++ c.closing) script supply.left)
-              (IfSome script (λ bytes. length bytes ≤ INPUT_LIMIT) × IsAtEnd supply.left)) [
-                | true ↦ λ stops. StopsThere-reading replies c.closing stops
-                | false ↦ λ whole. (whole.0, IsAtEnd-left reader.feed.pending supply.left whole.1)
-              ] h.ends),
-        )
+        ∙ or-false (has_quit replies) in
+        subst (λ b. MatchBool b (StopsReading (replies ++ c.closing) script supply.left)
+        (IfSome script (λ bytes. length bytes ≤ INPUT_LIMIT) × IsAtEnd supply.left)) (sym quits)
+        (elim (has_quit replies) as
+        (λ b. MatchBool b (StopsThere replies begins.ahead ends.ahead)
+        (IfSome script (λ bytes. length bytes ≤ INPUT_LIMIT) × IsAtEnd ends.ahead.bytes)
+        → MatchBool b (StopsReading (replies ++ c.closing) script supply.left)
+        (IfSome script (λ bytes. length bytes ≤ INPUT_LIMIT) × IsAtEnd supply.left)) [
+          | true ↦ λ stops. StopsThere-reading replies c.closing stops
+          | false ↦ λ whole. (whole.0, IsAtEnd-left reader.feed.pending supply.left whole.1)
+        ] h.ends)
+
+    -- and it was answered whole
+    pub AnswersAll-whole : (before refused : Bool) → AnswersAll before begins ends → HasClosed refused state mid new
+        → AnswersWhole (before || refused) limits script supply.left old new
+    AnswersAll-whole before refused h c = record {
+      replies = h.writes_all.replies ++ c.closing;
+      are_replies = script_replies h.writes_all c.closing c.closes;
+      read = AnswersAll-read before refused h c;
+      refuses = list_any-append (λ (r : Reply). is_some r.refused) h.writes_all.replies c.closing
+          ∙ ap (λ b. b || has_refusal c.closing) h.refuses ∙ ap (λ b. before || b) c.refuses;
+      writes = both_written h.writes_all.replies c.closing h.writes_all.writes c.writes;
+    }
 
     -- the lines that end among these bytes were answered
     AnswersEnded-given : (refused : Bool) (given : List ℕ) (left : Option (List ℕ)) → script ≡ prepend_known given left

@@ -15,19 +15,20 @@ use Rattle.cox_options.specs.Arguments.{is_refused, IsTaken, IsUsage}
 use Rattle.cox_shell.specs.declared.status.Status.{Status}
 use Rattle.cox_shell.specs.declared.status.Status.TheVariants.{Done, Refused, Usage, ReadFault, WriteFault, NoMemory, InputLimit}
 use Rattle.cox_replies.specs.Limits.{Limits}
-use Rattle.cox_shell.specs.Reply.{OpenList, State, Reply}
-use Rattle.cox_shell.specs.Answer.{AreScriptReplies, texts}
+use Rattle.cox_shell.specs.Reply.{OpenList, State, Reply, texts}
+use Rattle.cox_shell.specs.Answer.{AreScriptReplies}
 use Rattle.cox_shell.specs.Run.{stand}
 use Rattle.cox_shell.specs.Status.{is_read_fault, is_write_fault}
 use Rattle.cox_shell.specs.Unhindered.{Rose, IsUnhindered}
+use Rattle.cox_shell.specs.Limited.{IsOverlong}
 use Rattle.cox_shell.specs.Outcome.{Runs, WritesPrefix, AnswersAll, EndsReading}
 use Rattle.cox_shell.specs.declared.closing.Closed.{Closed}
 use Rattle.cox_shell.specs.declared.closing.Closed.TheVariants as closed
 use Rattle.cox_shell.specs.Closing.{Closes, IsClosingCut, EndsBy, closed_status, closed_write_fault}
-use Rattle.cox_shell.specs.Top.{usage_line, given_limits, AnswersWhole, AnswersGiven, AreDue, AreDueAtEnd, WritesDue}
-use Rattle.cox_shell.specs.Reading.{IsReadBy, IsReadWhole, StopsReading}
+use Rattle.cox_shell.specs.Top.{usage_line, given_limits, StopsReading, AnswersWhole, AnswersGiven, AreDue, AreDueAtEnd, WritesDue}
+use Rattle.cox_shell.specs.Reading.{IsReadBy}
 use Rattle.cox_shell.specs.WholeRun.{IsRun}
-use Rattle.cox_shell.proofs.Whole.{beginning, AnswersAll-whole, AnswersAll-read, Runs-given, Runs-limit, Runs-takes}
+use Rattle.cox_shell.proofs.Whole.{beginning, AnswersAll-whole, Runs-given, Runs-limit, Runs-takes}
 use Rattle.cox_shell.proofs.Whole.{fault_reading, limit_reading, cut_due, closed_due, closing_due, closing_lost}
 use Rattle.cox_shell.proofs.Whole.{WritesDue-none, IsDue-usage, IsCutShort-stops, StopsReading-none}
 
@@ -83,7 +84,7 @@ module _ (arguments : List (List ℕ)) (source : Supply) (state : State) (reader
   not_wrong wrong = absurd (not-taken_and_wrong arguments right wrong)
 
   -- the script was answered whole
-  run-whole : (refused : Bool) → AnswersWhole refused limits source.left old new → SourceCause source left false → SinkCause old new false
+  run-whole : (refused : Bool) → AnswersWhole refused limits source.left left.left old new → SourceCause source left false → SinkCause old new false
       → WritesDue false false arguments source.left left.left old new → IsRun (cond refused Refused Done) arguments source left old new
   run-whole true answers reads writes due = record {
     done = λ e. absurd (cc e);
@@ -283,78 +284,56 @@ module _ (arguments : List (List ℕ)) (source : Supply) (state : State) (reader
   Takes : Type 0
   Takes = (given : List ℕ) × (source.left ≡ prepend_known given left.left) × (length given ≤ INPUT_LIMIT + 1)
 
-  read-whole : (status : Status) → ¬ IsCut status
-      → (replies : List Reply) × IfSome source.left (λ bytes. AreScriptReplies limits bytes replies)
-      × IsReadWhole replies source.left left.left → Takes → IsReadBy status arguments source.left left.left
-  unfolding Takes
-  read-whole status whole read takes = record {
-    whole = λ which. read;
-    stops = λ cut taken. absurd (whole cut);
-    within = takes;
-  }
-
-  read-cut : (status : Status) → ((status ≡ Done) ⊎ (status ≡ Refused) → ⊥)
+  read-cut : (status : Status)
       → ((replies : List Reply) × AreDue limits source.left left.left replies × StopsReading replies source.left left.left)
-      ⊎ ((lost : Bool) × (replies : List Reply) × AreDueAtEnd lost limits source.left left.left replies)
-      → Takes → IsReadBy status arguments source.left left.left
+      ⊎ ((lost : Bool) × (lost ≡ true → SourceCause source left true) × (replies : List Reply)
+      × AreDueAtEnd lost limits source.left left.left replies)
+      → Takes → IsReadBy status arguments source left
   unfolding Takes
-  read-cut status part stops takes = record {
-    whole = λ which. absurd (part which);
-    stops = λ cut taken. stops;
-    within = takes;
-  }
+  read-cut status stops takes = record { stops = λ cut taken. stops; within = takes }
 
-  read-rest : (status : Status) → ((status ≡ Done) ⊎ (status ≡ Refused) → ⊥) → ¬ IsCut status → Takes
-      → IsReadBy status arguments source.left left.left
+  read-rest : (status : Status) → ¬ IsCut status → Takes → IsReadBy status arguments source left
   unfolding Takes
-  read-rest status part whole takes = record {
-    whole = λ which. absurd (part which);
-    stops = λ cut taken. absurd (whole cut);
-    within = takes;
-  }
+  read-rest status whole takes = record { stops = λ cut taken. absurd (whole cut); within = takes }
 
-  read-fault : Takes → IsReadBy ReadFault arguments source.left left.left
-  read-fault takes = read-rest ReadFault (λ w. ⊎_elim (λ e. cc e) (λ e. cc e) w) (λ w. ⊎_elim (λ e. cc e) (λ e. cc e) w) takes
+  read-fault : Takes → IsReadBy ReadFault arguments source left
+  read-fault takes = read-rest ReadFault (λ w. ⊎_elim (λ e. cc e) (λ e. cc e) w) takes
 
-  read-limit : Takes → IsReadBy InputLimit arguments source.left left.left
-  read-limit takes = read-rest InputLimit (λ w. ⊎_elim (λ e. cc e) (λ e. cc e) w) (λ w. ⊎_elim (λ e. cc e) (λ e. cc e) w) takes
+  read-limit : Takes → IsReadBy InputLimit arguments source left
+  read-limit takes = read-rest InputLimit (λ w. ⊎_elim (λ e. cc e) (λ e. cc e) w) takes
 
   -- the reply to the end of the list was cut off
-  read-closing : (status : Status) → ((status ≡ Done) ⊎ (status ≡ Refused) → ⊥) → (lost : Bool) → Reading lost → IsClosingCut state mid new
-      → Takes → IsReadBy status arguments source.left left.left
-  read-closing status part lost h cut takes = read-cut status part
-      (inr (let p = at_end lost h cut in (lost, p.0, p.1))) takes
+  read-closing : (status : Status) (lost : Bool) → (lost ≡ true → SourceCause source left true) → Reading lost → IsClosingCut state mid new
+      → Takes → IsReadBy status arguments source left
+  read-closing status lost told h cut takes = read-cut status (inr (let p = at_end lost h cut in (lost, told, p.0, p.1))) takes
 
   read-whole-ends : (before : Bool) → AnswersAll before (beginning limits source.left old) (stand state reader left mid)
       → (closed : Closed) → Closes closed state mid new → Takes
-      → IsReadBy (closed_status closed (cond before Refused Done)) arguments source.left left.left
-  read-whole-ends before h closed.Answered c takes = read-whole (cond before Refused Done) (not_cut before)
-      (AnswersAll-read limits source.left old state reader left mid new before false h c) takes
+      → IsReadBy (closed_status closed (cond before Refused Done)) arguments source left
+  read-whole-ends before h closed.Answered c takes = read-rest (cond before Refused Done) (not_cut before) takes
     where
       not_cut : (b : Bool) → ¬ IsCut (cond b Refused Done)
       not_cut true which = ⊎_elim (λ e. cc e) (λ e. cc e) which
       not_cut false which = ⊎_elim (λ e. cc e) (λ e. cc e) which
-  read-whole-ends before h closed.Refused c takes = read-whole (closed_status closed.Refused (cond before Refused Done)) (not_cut before)
-      (AnswersAll-read limits source.left old state reader left mid new before true h c) takes
+  read-whole-ends before h closed.Refused c takes = read-rest (closed_status closed.Refused (cond before Refused Done)) (not_cut before) takes
     where
       not_cut : (b : Bool) → ¬ IsCut (closed_status closed.Refused (cond b Refused Done))
       not_cut true which = ⊎_elim (λ e. cc e) (λ e. cc e) which
       not_cut false which = ⊎_elim (λ e. cc e) (λ e. cc e) which
   read-whole-ends before h closed.WriteFault c takes =
-      read-closing WriteFault (λ which. ⊎_elim (λ e. cc e) (λ e. cc e) which) false (in_list false h.reading c.0.some) c.0 takes
+      read-closing WriteFault false (λ e. absurd (cc e)) (in_list false h.reading c.0.some) c.0 takes
   read-whole-ends before h closed.NoMemory c takes =
-      read-closing NoMemory (λ which. ⊎_elim (λ e. cc e) (λ e. cc e) which) false (in_list false h.reading c.some) c takes
+      read-closing NoMemory false (λ e. absurd (cc e)) (in_list false h.reading c.some) c takes
 
-  read-other-ends : (ended : Status) → (ended ≡ ReadFault) ⊎ (ended ≡ InputLimit) → (lost : Bool) → Reading lost
-      → (closed : Closed) → Closes closed state mid new → Takes → IsReadBy (closed_status closed ended) arguments source.left left.left
-  read-other-ends ended which lost h closed.Answered c takes =
+  read-other-ends : (ended : Status) → (ended ≡ ReadFault) ⊎ (ended ≡ InputLimit) → (lost : Bool)
+      → (lost ≡ true → SourceCause source left true) → Reading lost
+      → (closed : Closed) → Closes closed state mid new → Takes → IsReadBy (closed_status closed ended) arguments source left
+  read-other-ends ended which lost told h closed.Answered c takes =
       ⊎_elim (λ (e : ended ≡ ReadFault). rw e (read-fault takes)) (λ (e : ended ≡ InputLimit). rw e (read-limit takes)) which
-  read-other-ends ended which lost h closed.Refused c takes =
+  read-other-ends ended which lost told h closed.Refused c takes =
       ⊎_elim (λ (e : ended ≡ ReadFault). rw e (read-fault takes)) (λ (e : ended ≡ InputLimit). rw e (read-limit takes)) which
-  read-other-ends ended which lost h closed.WriteFault c takes =
-      read-closing WriteFault (λ which. ⊎_elim (λ e. cc e) (λ e. cc e) which) lost h c.0 takes
-  read-other-ends ended which lost h closed.NoMemory c takes =
-      read-closing NoMemory (λ which. ⊎_elim (λ e. cc e) (λ e. cc e) which) lost h c takes
+  read-other-ends ended which lost told h closed.WriteFault c takes = read-closing WriteFault lost told h c.0 takes
+  read-other-ends ended which lost told h closed.NoMemory c takes = read-closing NoMemory lost told h c takes
 
 module _ (arguments : List (List ℕ)) (source : Supply) (state : State) (reader : Reader) (left : Supply) (old mid : Outlet)
     (right : IsTaken arguments) where
@@ -387,30 +366,30 @@ module _ (arguments : List (List ℕ)) (source : Supply) (state : State) (reader
   run-lines new NoMemory result runs ends reads writes = rw (ends.0, ends.1) (cut-no_memory runs reads writes)
 
   pub read-lines : (new : Outlet) (ended result : Status) → Over ended → EndsBy ended result state mid new
-      → IsReadBy result arguments source.left left.left
+      → SourceCause source left (is_read_fault ended) → IsReadBy result arguments source left
   unfolding Takes
-  read-lines new ended result runs ends = by_status ended runs ends
+  read-lines new ended result runs ends reads = by_status ended runs ends reads
       (Runs-takes (given_limits arguments) source.left old state reader left mid ended runs)
     where
-      by_status : (ended : Status) → Over ended → EndsBy ended result state mid new
+      by_status : (ended : Status) → Over ended → EndsBy ended result state mid new → SourceCause source left (is_read_fault ended)
           → (given : List ℕ) × (source.left ≡ prepend_known given left.left) × (length given ≤ INPUT_LIMIT + 1)
-          → IsReadBy result arguments source.left left.left
-      by_status Done runs ends takes =
+          → IsReadBy result arguments source left
+      by_status Done runs ends reads takes =
           rw ends.3 (read-whole-ends arguments source state reader left old mid new right false runs ends.0 ends.1 takes)
-      by_status Refused runs ends takes =
+      by_status Refused runs ends reads takes =
           rw ends.3 (read-whole-ends arguments source state reader left old mid new right true runs ends.0 ends.1 takes)
-      by_status Usage runs ends takes = absurd runs
-      by_status ReadFault runs ends takes =
-          rw ends.3 (read-other-ends arguments source state reader left old mid new right ReadFault (inl refl) true
+      by_status Usage runs ends reads takes = absurd runs
+      by_status ReadFault runs ends reads takes =
+          rw ends.3 (read-other-ends arguments source state reader left old mid new right ReadFault (inl refl) true (λ e. reads)
           (fault_reading (given_limits arguments) source.left old state reader left mid runs) ends.0 ends.1 takes)
-      by_status InputLimit runs ends takes =
-          rw ends.3 (read-other-ends arguments source state reader left old mid new right InputLimit (inr refl) false
+      by_status InputLimit runs ends reads takes =
+          rw ends.3 (read-other-ends arguments source state reader left old mid new right InputLimit (inr refl) false (λ e. absurd (cc e))
           (limit_reading (given_limits arguments) source.left old state reader left mid runs) ends.0 ends.1 takes)
-      by_status WriteFault runs ends takes =
-          rw ends.0 (read-cut arguments source state reader left old mid new right WriteFault (λ w. ⊎_elim (λ e. cc e) (λ e. cc e) w)
+      by_status WriteFault runs ends reads takes =
+          rw ends.0 (read-cut arguments source state reader left old mid new right WriteFault
           (inl (IsCutShort-stops (given_limits arguments) source.left old state reader left mid runs.0)) takes)
-      by_status NoMemory runs ends takes =
-          rw ends.0 (read-cut arguments source state reader left old mid new right NoMemory (λ w. ⊎_elim (λ e. cc e) (λ e. cc e) w)
+      by_status NoMemory runs ends reads takes =
+          rw ends.0 (read-cut arguments source state reader left old mid new right NoMemory
           (inl (IsCutShort-stops (given_limits arguments) source.left old state reader left mid runs)) takes)
 
 -- ---- memory ran out before anything was read
@@ -431,11 +410,10 @@ run-none arguments supply outlet = record {
   prefix = WritesDue-none arguments supply.left outlet;
 }
 
-pub read-none : (arguments : List (List ℕ)) (script : Option (List ℕ)) → IsReadBy NoMemory arguments script script
-read-none arguments script = record {
-  whole = λ which. absurd (⊎_elim (λ e. cc e) (λ e. cc e) which);
-  stops = λ which taken. inl (StopsReading-none (given_limits arguments) script);
-  within = takes-none script;
+pub read-none : (arguments : List (List ℕ)) (supply : Supply) → IsReadBy NoMemory arguments supply supply
+read-none arguments supply = record {
+  stops = λ which taken. inl (StopsReading-none (given_limits arguments) supply.left);
+  within = takes-none supply.left;
 }
 
 -- ---- the usage line
@@ -482,14 +460,11 @@ module _ (arguments : List (List ℕ)) (supply : Supply) (old new : Outlet) (wro
   }
 
 -- nothing is read then
-pub read-usage : (status : Status) (arguments : List (List ℕ)) (script : Option (List ℕ)) → IsUsage arguments
-    → (status ≡ Usage) ⊎ (status ≡ WriteFault) → IsReadBy status arguments script script
-read-usage status arguments script wrong which = record {
-  whole = λ done. absurd (⊎_elim
-      (λ (e : status ≡ Usage). ⊎_elim (λ (d : status ≡ Done). cc (e, d)) (λ (d : status ≡ Refused). cc (e, d)) done)
-      (λ (e : status ≡ WriteFault). ⊎_elim (λ (d : status ≡ Done). cc (e, d)) (λ (d : status ≡ Refused). cc (e, d)) done) which);
+pub read-usage : (status : Status) (arguments : List (List ℕ)) (supply : Supply) → IsUsage arguments
+    → IsReadBy status arguments supply supply
+read-usage status arguments supply wrong = record {
   stops = λ cut taken. absurd (not-taken_and_wrong arguments taken wrong);
-  within = takes-none script;
+  within = takes-none supply.left;
 }
 
 -- ---- without faults
@@ -511,3 +486,29 @@ run-unhindered NoMemory arguments source left old new run right no_read no_write
 run-unhindered InputLimit arguments source left old new run right no_read no_write within =
     let limit = run.limit refl in
     not-within limit.1.given limit.0 source.left left.left limit.1.taken limit.2 within
+
+-- a script that was answered whole, and has no line that ends the run, is within the limit
+not-over : (refused : Bool) (limits : Limits) (script : List ℕ) (known left : Option (List ℕ)) (old new : Outlet) → known ≡ Some script
+    → IsOverlong limits script → AnswersWhole refused limits known left old new → ⊥
+not-over refused limits script known left old new is long whole =
+    let are : AreScriptReplies limits script whole.replies = rw is at whole.are_replies in
+    let read = rw (long.none_quits whole.replies are, is) at whole.read in
+    omega (arith, long.over, read.0)
+
+-- a longer script ends at the limit, or memory runs out
+pub run-longer : (status : Status) (arguments : List (List ℕ)) (script : List ℕ) (source left : Supply) (old new : Outlet)
+    → IsRun status arguments source left old new → IsTaken arguments → ¬ Rose source.faults left.faults → ¬ Rose old.faults new.faults
+    → source.left ≡ Some script → IsOverlong (given_limits arguments) script → (status ≡ InputLimit) ⊎ (status ≡ NoMemory)
+run-longer Done arguments script source left old new run right no_read no_write known long =
+    absurd (not-over false (given_limits arguments) script source.left left.left old new known long (run.done refl))
+run-longer Refused arguments script source left old new run right no_read no_write known long =
+    absurd (not-over true (given_limits arguments) script source.left left.left old new known long (run.refused refl))
+run-longer Usage arguments script source left old new run right no_read no_write known long =
+    absurd (not-taken_and_wrong arguments right (run.usage refl).0)
+run-longer ReadFault arguments script source left old new run right no_read no_write known long =
+    absurd (no_read (rose-told source.faults left.faults (subst (λ lost. left.faults ≡ count_after lost source.faults)
+    (run.fault_lost refl) run.read_fault.faults)))
+run-longer WriteFault arguments script source left old new run right no_read no_write known long =
+    absurd (no_write (rose-told old.faults new.faults run.write_fault))
+run-longer NoMemory arguments script source left old new run right no_read no_write known long = inr refl
+run-longer InputLimit arguments script source left old new run right no_read no_write known long = inl refl

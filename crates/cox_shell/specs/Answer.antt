@@ -15,10 +15,6 @@ AreReplies state (line ∷ lines) [] = ⊥
 AreReplies state (line ∷ lines) (reply ∷ replies) = IsReply state line reply
     × MatchBool reply.quits (replies ≡ []) (AreReplies reply.after lines replies)
 
--- what replies write
-abbrev pub texts : List Reply → List ℕ
-texts replies = flat_map (λ reply. reply.text) replies
-
 -- whether one of them is a refusal
 abbrev pub has_refusal : List Reply → Bool
 has_refusal replies = list_any (λ reply. is_some reply.refused) replies

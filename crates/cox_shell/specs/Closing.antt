@@ -7,8 +7,8 @@ use Rattle.cox_shell.specs.declared.session.Said.{Said}
 use Rattle.cox_shell.specs.declared.session.Said.TheVariants as said
 use Rattle.cox_shell.specs.declared.status.Status.{Status}
 use Rattle.cox_shell.specs.declared.status.Status.TheVariants as status
-use Rattle.cox_shell.specs.Reply.{State, Reply}
-use Rattle.cox_shell.specs.Answer.{IsClosing, texts, has_refusal}
+use Rattle.cox_shell.specs.Reply.{State, Reply, texts}
+use Rattle.cox_shell.specs.Answer.{IsClosing, has_refusal}
 
 -- the list was ended, if one was open, and its reply written, which is a refusal or not
 pub record HasClosed (refused : Bool) (state : State) (old new : Outlet) : Type 0 where

@@ -16,6 +16,8 @@ pub mod ListReply
 pub mod GivenReply
 -- the reply to a line
 pub mod LineReply
+-- the lines of a block as a script
+pub mod BlockScripts
 -- the replies to the lines of a script
 pub mod Answer
 -- the text that answers a script

@@ -7,16 +7,16 @@ use Rattle.cox_command.specs.declared.refusal.Refusal.{Refusal}
 use Rattle.cox_command.specs.BlockLines.{list_word_of}
 use Rattle.cox_shell.specs.Reply.{Kept, OpenList, State, Reply, with_list, refusal, silence}
 use Rattle.cox_shell.specs.ContentReply.{IsContentReply}
-use Rattle.cox_shell.specs.OpenLists.{with_line, with_block}
+use Rattle.cox_shell.specs.OpenLists.{then_line, then_block}
 use Rattle.cox_shell.specs.Blocks.{IsListReply}
 
 -- the reply to a line that is kept: nothing
 abbrev pub kept_reply : State → OpenList → Kept → Reply
-kept_reply state list line = silence (with_list state (with_line list line))
+kept_reply state list line = silence (with_list state (then_line list line))
 
 -- in a list `next` begins another block and `end` ends the list
 abbrev pub IsWordReply : ListWord → State → OpenList → Reply → Type 0
-IsWordReply Next state list reply = reply ≡ silence (with_list state (with_block list))
+IsWordReply Next state list reply = reply ≡ silence (with_list state (then_block list))
 IsWordReply End state list reply = IsListReply state list reply
 
 -- every other line is kept

@@ -1,5 +1,6 @@
 -- Lists of blocks that are open.
-use Rattle.std.specs.Prelude.{ℕ, ◌+◌, Bool, ◌||◌, nat_lt, if◌then◌else◌, [], ◌∷◌, ◌++◌, length}
+use Rattle.std.specs.Prelude.{Bool, ◌||◌, nat_lt, List, [], ◌∷◌, ◌++◌, length}
+use Rattle.std.specs.List.{flat_map}
 use Rattle.cox_shell.specs.declared.limits.TheConstants.{MAX_BLOCKS, MAX_LINES}
 use Rattle.cox_shell.specs.Reply.{Kept, OpenList}
 
@@ -17,18 +18,10 @@ then_line (block ∷ next ∷ blocks) line = block ∷ then_line (next ∷ block
 abbrev pub then_block : OpenList → OpenList
 then_block list = list ++ [] ∷ []
 
--- how many lines the blocks have in all
-abbrev pub lines_in : OpenList → ℕ
-lines_in [] = 0
-lines_in (block ∷ blocks) = length block + lines_in blocks
+-- the lines of all blocks, in their order
+abbrev pub kept_lines : OpenList → List Kept
+kept_lines list = flat_map (λ block. block) list
 
 -- whether there are too many blocks, or too many lines in all
 abbrev pub is_long : OpenList → Bool
-is_long list = nat_lt MAX_BLOCKS (length list) || nat_lt MAX_LINES (lines_in list)
-
--- The list with one more line, and with one more block. A list that is too long stays as it is: its end is refused, whatever follows.
-abbrev pub with_line : OpenList → Kept → OpenList
-with_line list line = if is_long list then list else then_line list line
-
-abbrev pub with_block : OpenList → OpenList
-with_block list = if is_long list then list else then_block list
+is_long list = nat_lt MAX_BLOCKS (length list) || nat_lt MAX_LINES (length (kept_lines list))

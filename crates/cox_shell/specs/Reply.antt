@@ -1,5 +1,6 @@
 -- What a line is answered.
 use Rattle.std.specs.Prelude.{ℕ, ◌++◌, Bool, true, false, List, [], ◌∷◌, Option, None, Some}
+use Rattle.std.specs.List.{flat_map}
 use Rattle.std.specs.Option.{option_map}
 use Rattle.cox_base.specs.Matrix.{CoxeterMatrix}
 use Rattle.cox_command.specs.declared.refusal.Refusal.{Refusal}
@@ -64,3 +65,7 @@ farewell state = record { text = []; after = state; refused = None; quits = true
 -- the reply with one line of text, or several of which this is the text without the last line's end
 abbrev pub answered : State → List ℕ → Reply
 answered state text = record { text = text ++ 10 ∷ []; after = state; refused = None; quits = false }
+
+-- what replies write
+abbrev pub texts : List Reply → List ℕ
+texts replies = flat_map (λ reply. reply.text) replies

@@ -1,27 +1,40 @@
 -- What is told of several lines, with the number of the first refusal among them.
-use Rattle.std.specs.Prelude.{◌≡◌, ℕ, List, [], ◌++◌, Option, None, Some, Result, Ok, Err}
+use Rattle.std.specs.Prelude.{◌≡◌, ℕ, List, [], ◌++◌, Option, None, Some, slice_get, Result, Ok, Err}
+use Rattle.std.specs.List.{filter_map}
 use Rattle.std.specs.Option.{option_map}
 use Rattle.std.specs.declared.alloc.AllocError.{AllocError}
 use Rattle.cox_command.specs.RefusalNumber.{refusal_number}
 use Rattle.cox_shell.specs.declared.session.Said.{Said}
 use Rattle.cox_shell.specs.declared.session.Said.TheVariants.{Answered, Refused, Quit}
-use Rattle.cox_shell.specs.Reply.{Kept, State, Reply, closed}
-use Rattle.cox_shell.specs.Blocks.{Told, told_by, first_of, IsKeptReply, AnswersBlock, AnswersBlocks}
+use Rattle.cox_shell.specs.Reply.{Kept, State, Reply, closed, texts}
+use Rattle.cox_shell.specs.OpenLists.{kept_lines}
+use Rattle.cox_shell.specs.Blocks.{IsKeptReply, AreKeptReplies}
 
 -- the texts, and the number
 pub record Numbered : Type 0 where
   pub text : List ℕ
   pub refused : Option ℕ
 
-abbrev pub numbered : Told → Numbered
-numbered told = record { text = told.text; refused = option_map refusal_number told.refused }
+-- what a reply writes, and the number of its refusal
+abbrev pub numbered_by : Reply → Numbered
+numbered_by reply = record { text = reply.text; refused = option_map refusal_number reply.refused }
+
+-- what replies write, and the number of the first refusal among them
+abbrev pub numbered : List Reply → Numbered
+numbered replies =
+    record { text = texts replies; refused = option_map refusal_number (slice_get (filter_map (λ reply. reply.refused) replies) 0) }
 
 abbrev pub no_text : Numbered
 no_text = record { text = []; refused = None }
 
+-- the first of two numbers, if there is one
+abbrev pub first_number : Option ℕ → Option ℕ → Option ℕ
+first_number None other = other
+first_number (Some one) other = Some one
+
 -- one after the other
 abbrev pub then_numbered : Numbered → Numbered → Numbered
-then_numbered a b = record { text = a.text ++ b.text; refused = first_of a.refused b.refused }
+then_numbered a b = record { text = a.text ++ b.text; refused = first_number a.refused b.refused }
 
 -- the number that is said
 abbrev pub number_said : Said → Option ℕ
@@ -37,13 +50,14 @@ said_by (Some number) = Refused number
 -- what is told of a line of a block, of a block, or of several, behind what was told before
 abbrev pub TellsLine : State → Kept → Numbered → Numbered → Type 0
 TellsLine state line before after =
-    (reply : Reply) × IsKeptReply state line reply × (after ≡ then_numbered before (numbered (told_by reply)))
+    (reply : Reply) × IsKeptReply state line reply × (after ≡ then_numbered before (numbered_by reply))
 
 abbrev pub TellsBlock : State → List Kept → Numbered → Numbered → Type 0
-TellsBlock state lines before after = (told : Told) × AnswersBlock state lines told × (after ≡ then_numbered before (numbered told))
+TellsBlock state lines before after =
+    (replies : List Reply) × AreKeptReplies state lines replies × (after ≡ then_numbered before (numbered replies))
 
 abbrev pub TellsBlocks : State → List (List Kept) → Numbered → Numbered → Type 0
-TellsBlocks state blocks before after = (told : Told) × AnswersBlocks state blocks told × (after ≡ then_numbered before (numbered told))
+TellsBlocks state blocks before after = TellsBlock state (kept_lines blocks) before after
 
 -- what blocks are answered in this state, if no list is open there
 abbrev pub IsToldOf : State → List (List Kept) → Numbered → Type 0

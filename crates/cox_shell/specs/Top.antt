@@ -1,15 +1,16 @@
 -- What a whole run has written.
-use Rattle.std.specs.Prelude.{◌≡◌, ℕ, ◌<◌, ◌⊎◌, Bool, true, false, List, [], ◌∷◌, ◌++◌, length, take, map, codes, Option, IfSome}
+use Rattle.std.specs.Prelude.{◌≡◌, ℕ, ◌+◌, ◌<◌, ◌≤◌, ◌⊎◌, Bool, true, false, List, [], ◌∷◌, ◌++◌, length, take, map, codes, Option, IfSome}
 use Rattle.std.specs.Prelude.{unwrap_or, MatchBool, IsSome}
 use Rattle.std.specs.Borrow.{Bor}
 use Rattle.std.specs.Io.KnownBytes.{prepend_known, IsAtEnd}
-use Rattle.cox_outside.specs.declared.limits.TheConstants.{INPUT_LIMIT}
+use Rattle.cox_outside.specs.declared.limits.TheConstants.{INPUT_LIMIT, CHUNK_SIZE}
 use Rattle.cox_outside.specs.Line.{line_feed, ended_lines}
 use Rattle.cox_outside.specs.Outlet.{Outlet, Writes, IsPrefix}
 use Rattle.cox_options.specs.Arguments.{is_refused, given_number}
 use Rattle.cox_replies.specs.Limits.{Limits}
-use Rattle.cox_shell.specs.Reply.{Reply, opening}
-use Rattle.cox_shell.specs.Answer.{AreReplies, AreAllReplies, AreScriptReplies, state_behind, texts, has_refusal, has_quit, script_lines}
+use Rattle.cox_shell.specs.Reply.{Reply, opening, texts}
+use Rattle.cox_shell.specs.Answer.{AreReplies, AreAllReplies, AreScriptReplies, state_behind, has_refusal, has_quit, script_lines}
+use Rattle.cox_shell.specs.Answer.{bytes_of}
 
 -- what is written for wrong arguments
 abbrev pub usage_line : List ℕ
@@ -25,10 +26,22 @@ given_limits arguments =
     let number : List ℕ → ℕ = λ name. unwrap_or (given_number name arguments) 0 in
     record { context = number (codes "context"); coefficient = number (codes "coef"); roots = number (codes "roots") }
 
--- the replies to the script were written, all and nothing else, with a refusal among them or without
-pub record AnswersWhole (refused : Bool) (limits : Limits) (script : Option (List ℕ)) (old new : Outlet) : Type 0 where
+-- fewer bytes than a chunk were read beyond the lines that have these replies
+abbrev pub StopsReading : List Reply → Option (List ℕ) → Option (List ℕ) → Type 0
+StopsReading replies script left = (given : List ℕ) × (script ≡ prepend_known given left)
+    × IfSome script (λ bytes. length given < length (bytes_of (take (length replies) (script_lines bytes))) + CHUNK_SIZE)
+
+-- one of the replies ends the run, and no more was read; or the script was within the limit and was read to its end
+abbrev pub IsReadWhole : List Reply → Option (List ℕ) → Option (List ℕ) → Type 0
+IsReadWhole replies script left = MatchBool (has_quit replies)
+    (StopsReading replies script left)
+    (IfSome script (λ bytes. length bytes ≤ INPUT_LIMIT) × IsAtEnd left)
+
+-- the replies to the script were written, all and nothing else, with a refusal among them or without; and so far it was read
+pub record AnswersWhole (refused : Bool) (limits : Limits) (script left : Option (List ℕ)) (old new : Outlet) : Type 0 where
   pub replies : List Reply
   pub are_replies : IfSome script (λ bytes. AreScriptReplies limits bytes replies)
+  pub read : IsReadWhole replies script left
   pub refuses : has_refusal replies ≡ refused
   pub writes : Writes (texts replies) old new
 

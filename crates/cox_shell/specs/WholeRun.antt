@@ -13,9 +13,10 @@ use Rattle.cox_shell.specs.Top.{usage_line, given_limits, AnswersWhole, AnswersG
 
 -- a run with these arguments ended by this status, between what was known of the source and the sink before it and what is known after it
 pub record IsRun (status : Status) (arguments : List (List ℕ)) (source left : Supply) (old new : Outlet) : Type 0 where
-  -- At these the script's answer is written whole, within the limits that the arguments give.
-  pub done : status ≡ Done → AnswersWhole false (given_limits arguments) source.left old new
-  pub refused : status ≡ Refused → AnswersWhole true (given_limits arguments) source.left old new
+  -- At these the script's answer is written whole, within the limits that the arguments give, and the script was read to its end, or to the
+  -- line that ends the run.
+  pub done : status ≡ Done → AnswersWhole false (given_limits arguments) source.left left.left old new
+  pub refused : status ≡ Refused → AnswersWhole true (given_limits arguments) source.left left.left old new
   -- At a read fault it is the answer to the lines that were read whole. A list that is open then ends.
   pub given : status ≡ ReadFault → AnswersGiven (given_limits arguments) source.left left.left old new
   -- At the limit it is the answer to the lines that end within as many bytes, in the same way, and one byte more was read.

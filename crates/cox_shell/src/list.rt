@@ -108,8 +108,8 @@ impl Block {
     }
 }
 
-/// A list of blocks that is open. Contracts see the lines of each block. It takes no more once it is too long, so it has at most one block
-/// or one line more than a list may have.
+/// What is kept of a list of blocks that is open. Contracts see the lines of each block. It takes no more once it is too long, so it has at
+/// most one block and one line more than a list may have.
 #[derive(Drop)]
 pub struct JobList {
     blocks: Vec<Block>,
@@ -118,17 +118,19 @@ pub struct JobList {
 impl Model for JobList {
     ghost use Rattle.std.specs.Prelude.{◌<◌, length};
     ghost use Rattle.cox_shell.specs.Reply.{OpenList};
+    ghost use Rattle.cox_shell.specs.Keeping.{IsBounded};
 
     ghost Value = { OpenList };
 
     ghost view = { λ list. list.blocks.items };
 
-    ghost invariant = { λ list. 0 < length list.blocks.items };
+    ghost invariant = { λ list. (0 < length list.blocks.items) × IsBounded list.blocks.items };
 }
 
 impl JobList {
     ghost use Rattle.std.specs.Prelude.{◌≡◌, IfOk, OnOk, OnErr};
-    ghost use Rattle.cox_shell.specs.OpenLists.{opening_list, with_line, with_block};
+    ghost use Rattle.cox_shell.specs.OpenLists.{opening_list};
+    ghost use Rattle.cox_shell.specs.Keeping.{with_line, with_block, IsBounded};
 
     /// A list of one empty block.
     pub fn new(alloc: Global) -> Result<JobList, AllocError>
@@ -165,7 +167,8 @@ impl JobList {
 
     /// Its blocks.
     pub fn blocks(&self) -> &[Block]
-        ensures { result.now ≡ self.now }
+        ensures blocks { result.now ≡ self.now }
+        ensures bounded { IsBounded result.now }
     {
         self.blocks.as_slice()
     }

@@ -65,7 +65,8 @@ pub enum Stage {
 
 /// A session, which answers lines one by one, each by the lines before.
 ///
-/// Contracts see the limits that its options give, the Coxeter matrix of the group that is set, and the list of blocks that is open.
+/// Contracts see the limits that its options give, the Coxeter matrix of the group that is set, and what is kept of the list of blocks that
+/// is open (`Keeps`): the whole list, or, of a list that is too long, no more than makes it so.
 #[derive(Drop)]
 pub struct Session {
     stage: Stage,
@@ -97,13 +98,13 @@ impl Session {
     ghost use Rattle.cox_replies.specs.SessionLimits.{limits_of};
     ghost use Rattle.cox_shell.specs.ContentReply.{IsContentReply};
     ghost use Rattle.cox_shell.specs.CommandReply.{IsCommandReply, IsInquiryReply};
-    ghost use Rattle.cox_shell.specs.OpenLists.{with_line, with_block, is_long};
+    ghost use Rattle.cox_shell.specs.OpenLists.{is_long};
     ghost use Rattle.cox_shell.specs.ListReply.{IsReplyTo, unread_reply};
     ghost use Rattle.cox_shell.specs.Blocks.{IsKeptReply, IsListReply, IsEndOfList};
     ghost use Rattle.cox_shell.specs.ToldText.{TellsBlock, TellsBlocks, TellsLine, IsToldOf};
     ghost use Rattle.cox_shell.specs.GivenReply.{IsShort, IsGivenReply, IsBadReply};
-    ghost use Rattle.cox_shell.specs.Keeping.{with_kept, with_next};
-    ghost use Rattle.cox_shell.specs.Saying.{Says, SaysPrefix, Tells, Concludes};
+    ghost use Rattle.cox_shell.specs.Keeping.{with_kept, with_next, IsBounded};
+    ghost use Rattle.cox_shell.specs.Saying.{Says, SaysKept, SaysPrefix, Tells, Concludes};
     ghost use Rattle.cox_poly.specs.Puts.{PutsPrefix};
 
     /// A session with these options, and no group.
@@ -123,7 +124,7 @@ impl Session {
     pub fn answer(&mut self, line: &[u8], out: &mut Vec<u8>) -> Result<Said, AllocError>
         requires size { length line.now < 2 ^ 32 }
         ensures ok { IfOk result (λ said. (reply : Reply) × IsReplyTo self.old line.now reply
-            × Says said reply self.new out.old.items out.new.items) }
+            × SaysKept said reply self.new out.old.items out.new.items) }
         ensures err { OnErr result ((reply : Reply) × IsReplyTo self.old line.now reply
             × SaysPrefix reply self.old self.new out.old.items out.new.items) }
     {
@@ -141,7 +142,7 @@ impl Session {
     ) -> Result<Said, AllocError>
         requires size { length line.now < 2 ^ 32 }
         ensures ok { IfOk result (λ said. (reply : Reply) × IsReplyTo self.old line.now reply
-            × Says said reply self.new out.old.items out.new.items) }
+            × SaysKept said reply self.new out.old.items out.new.items) }
         ensures err { OnErr result ((reply : Reply) × IsReplyTo self.old line.now reply
             × SaysPrefix reply self.old self.new out.old.items out.new.items) }
     {
@@ -168,7 +169,7 @@ impl Session {
     pub fn bad(&mut self, n: u8, out: &mut Vec<u8>) -> Result<Said, AllocError>
         requires { (n ≡ 18) ⊎ (n ≡ 19) }
         ensures ok { IfOk result (λ said. (reply : Reply) × IsBadReply self.old n reply
-            × Says said reply self.new out.old.items out.new.items) }
+            × SaysKept said reply self.new out.old.items out.new.items) }
         ensures err { OnErr result ((reply : Reply) × IsBadReply self.old n reply
             × SaysPrefix reply self.old self.new out.old.items out.new.items) }
     {
@@ -178,9 +179,11 @@ impl Session {
         self.take_unread(Refusal::ForeignByte, out)
     }
 
-    /// The blocks of the list that is open. `None` exactly where none is.
+    /// The blocks that are kept of the list that is open: all its blocks, or, of a list that is too long, no more than make it so.
+    /// `None` exactly where none is open.
     pub fn blocks(&self) -> Option<&[Block]>
-        ensures { MatchOption result (self.now.list ≡ None) (λ blocks. self.now.list ≡ Some blocks.now) }
+        ensures kept { MatchOption result (self.now.list ≡ None) (λ blocks. self.now.list ≡ Some blocks.now) }
+        ensures bounded { IfSome result (λ blocks. IsBounded blocks.now) }
     {
         match &self.list {
             Some(list) => Some(list.blocks()),
@@ -246,7 +249,7 @@ impl Session {
         requires size { IsShort given }
         requires ready { M.ready maker.now }
         ensures ok { IfOk result (λ said. (reply : Reply) × IsGivenReply self.old given.entry reply
-            × Says said reply self.new out.old.items out.new.items) }
+            × SaysKept said reply self.new out.old.items out.new.items) }
         ensures err { OnErr result ((reply : Reply) × IsGivenReply self.old given.entry reply
             × SaysPrefix reply self.old self.new out.old.items out.new.items) }
     {
@@ -298,7 +301,7 @@ impl Session {
         requires size { length line.now < 2 ^ 32 }
         requires ready { M.ready maker.now }
         ensures ok { IfOk result (λ said. (reply : Reply) × IsReplyTo self.old line.now reply
-            × Says said reply self.new out.old.items out.new.items) }
+            × SaysKept said reply self.new out.old.items out.new.items) }
         ensures err { OnErr result ((reply : Reply) × IsReplyTo self.old line.now reply
             × SaysPrefix reply self.old self.new out.old.items out.new.items) }
     {
@@ -319,7 +322,7 @@ impl Session {
         requires open_list { IsSome self.old.list }
         requires ready { M.ready maker.now }
         ensures ok { IfOk result (λ said. (reply : Reply) × IsReplyTo self.old line.now reply
-            × Says said reply self.new out.old.items out.new.items) }
+            × SaysKept said reply self.new out.old.items out.new.items) }
         ensures err { OnErr result ((reply : Reply) × IsReplyTo self.old line.now reply
             × SaysPrefix reply self.old self.new out.old.items out.new.items) }
     {
@@ -332,7 +335,7 @@ impl Session {
 
     /// Takes a line whose bytes are refused so.
     fn take_unread(&mut self, why: Refusal, out: &mut Vec<u8>) -> Result<Said, AllocError>
-        ensures ok { IfOk result (λ said. Says said (unread_reply self.old why) self.new out.old.items out.new.items) }
+        ensures ok { IfOk result (λ said. SaysKept said (unread_reply self.old why) self.new out.old.items out.new.items) }
         ensures err { OnErr result (SaysPrefix (unread_reply self.old why) self.old self.new out.old.items out.new.items) }
     {
         if self.has_list() {

@@ -21,8 +21,7 @@ impl Model for ToldText {
 
 impl ToldText {
     ghost use Rattle.std.specs.Prelude.{◌≡◌, [], ◌++◌, OnOk, OnErr};
-    ghost use Rattle.cox_shell.specs.Blocks.{first_of};
-    ghost use Rattle.cox_shell.specs.ToldText.{no_text, then_numbered, number_said, said_by};
+    ghost use Rattle.cox_shell.specs.ToldText.{no_text, first_number, then_numbered, number_said, said_by};
 
     /// Nothing.
     pub fn new(alloc: Global) -> ToldText
@@ -45,7 +44,7 @@ impl ToldText {
 
     /// Puts the text back, with what was said of the line behind it.
     pub fn put(&mut self, text: Vec<u8>, said: Said)
-        ensures { self.new ≡ record { text = text.items; refused = first_of self.old.refused (number_said said) } }
+        ensures { self.new ≡ record { text = text.items; refused = first_number self.old.refused (number_said said) } }
     {
         self.text = text;
         if self.refused.is_none() {

@@ -53,7 +53,7 @@ pub fn run<R: Threads + Wait + Sync, S: Source, K: Sink, G: Gate + Sync>(
 ) -> Status
     ensures run { IsRun result (argument_texts words.now)
         (S.seen source.old) (S.seen source.new) (K.seen sink.old) (K.seen sink.new) }
-    ensures reading { IsReadBy result (argument_texts words.now) (S.seen source.old).left (S.seen source.new).left }
+    ensures reading { IsReadBy result (argument_texts words.now) (S.seen source.old) (S.seen source.new) }
     ensures unread { is_refused (argument_texts words.now) ≡ true → source.new ≡ source.old }
 {
     if let Ok(options) = read(alloc, words) {
@@ -75,7 +75,7 @@ pub fn run_one<S: Source, K: Sink>(
 ) -> Status
     ensures run { IsRun result (argument_texts words.now)
         (S.seen source.old) (S.seen source.new) (K.seen sink.old) (K.seen sink.new) }
-    ensures reading { IsReadBy result (argument_texts words.now) (S.seen source.old).left (S.seen source.new).left }
+    ensures reading { IsReadBy result (argument_texts words.now) (S.seen source.old) (S.seen source.new) }
     ensures unread { is_refused (argument_texts words.now) ≡ true → source.new ≡ source.old }
 {
     match read(alloc, words) {
@@ -90,7 +90,7 @@ fn put_usage<K: Sink>(sink: &mut K) -> Status
     ensures run { (arguments : List (List ℕ)) (supply : Supply) → IsUsage arguments
         → IsRun result arguments supply supply (K.seen sink.old) (K.seen sink.new) }
     ensures reading { (arguments : List (List ℕ)) (supply : Supply) → IsUsage arguments
-        → IsReadBy result arguments supply.left supply.left }
+        → IsReadBy result arguments supply supply }
 {
     match write_all(sink, USAGE) {
         Ok(()) => Status::Usage,
@@ -110,7 +110,7 @@ fn run_with<R: Threads + Wait + Sync, S: Source, K: Sink, G: Gate + Sync>(
     ensures run { (arguments : List (List ℕ)) → GiveLimits arguments (limits_of options)
         → IsRun result arguments (S.seen source.old) (S.seen source.new) (K.seen sink.old) (K.seen sink.new) }
     ensures reading { (arguments : List (List ℕ)) → GiveLimits arguments (limits_of options)
-        → IsReadBy result arguments (S.seen source.old).left (S.seen source.new).left }
+        → IsReadBy result arguments (S.seen source.old) (S.seen source.new) }
 {
     let workers = options.workers();
     let maker = ByWorkers {
@@ -140,7 +140,7 @@ fn run_by<M: BlockTeller, S: Source, K: Sink>(
     ensures run { (arguments : List (List ℕ)) → GiveLimits arguments (limits_of options)
         → IsRun result arguments (S.seen source.old) (S.seen source.new) (K.seen sink.old) (K.seen sink.new) }
     ensures reading { (arguments : List (List ℕ)) → GiveLimits arguments (limits_of options)
-        → IsReadBy result arguments (S.seen source.old).left (S.seen source.new).left }
+        → IsReadBy result arguments (S.seen source.old) (S.seen source.new) }
 {
     let Ok(mut reader) = LineReader::new(alloc) else {
         return Status::NoMemory;

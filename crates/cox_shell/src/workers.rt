@@ -27,9 +27,12 @@ use std::thread::Threads;
 /// From how many missing rows on workers are asked at once.
 const MANY_ROWS: usize = 1_024;
 
-/// How many polynomials one thread adds up before workers are asked for fewer rows, beside two for each member: that takes it some five
-/// milliseconds. To start threads, and to make a store and tables over all members, is not worth it for less.
-const FEW_POLYNOMIALS: u64 = 16_384;
+/// How many polynomials one thread adds up before workers are asked for fewer rows, beside [`FEW_FOR_EACH_MEMBER`]. To start threads, and to
+/// make a store and tables over all members, is not worth it for less.
+const FEW_POLYNOMIALS: u64 = 131_072;
+
+/// How many more it adds up for each member of the context: a store and the tables of workers take time and memory in proportion to these.
+const FEW_FOR_EACH_MEMBER: u64 = 16;
 
 /// Rows are made, and blocks are answered, by functions that run workers.
 #[derive(Clone, Copy, Drop)]
@@ -93,7 +96,7 @@ fn begin_rows(rows: &mut Rows, wanted: &[u32]) -> bool
     if are_many(rows, wanted) {
         return false;
     }
-    let most = FEW_POLYNOMIALS + 2 * u64::from(rows.context().len());
+    let most = FEW_POLYNOMIALS + FEW_FOR_EACH_MEMBER * u64::from(rows.context().len());
     let last = rows.steps().saturating_add(most);
     'each: for &i in wanted {
         let left = last.saturating_sub(rows.steps());

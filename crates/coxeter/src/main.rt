@@ -6,7 +6,7 @@
 //! collected, which may run out of memory, and the run is handed a source and a sink. Where an argument is no
 //! text, a wrong argument is handed over in place of all. Each function but `main` is generic over the source and the
 //! sink, and its contract is that of one whole run, `IsRun` and `IsReadBy` of `cox_shell`, so nothing is read or written before it,
-//! behind it or beside it; `main` makes the standard streams, and gives the status out.
+//! behind it or beside it; `main` collects the arguments and makes the standard streams. No other function sees the environment.
 //!
 //! - `tests`: whole runs over sources and sinks in memory
 //! - `starting`: whole runs from the arguments of an environment
@@ -23,10 +23,12 @@ mod tests;
 #[cfg(test)]
 mod workers;
 
-ghost use Rattle.std.specs.Prelude.{◌≡◌, ℕ, List, map};
+ghost use Rattle.std.specs.Prelude.{◌≡◌, ℕ, List, map, IfOk, IfErr, IfSome, IfNone};
 ghost use Rattle.std.specs.Process.{exit_status};
 ghost use Rattle.std.specs.String.{string_bytes};
 ghost use Rattle.cox_options.specs.Arguments.{IsUsage};
+ghost use Rattle.cox_shell.specs.declared.status.Status.{Status};
+ghost use Rattle.cox_shell.specs.declared.status.Status.TheVariants.{NoMemory};
 ghost use Rattle.cox_shell.specs.ExitCode.{code_of};
 ghost use Rattle.cox_shell.specs.Top.{argument_texts};
 ghost use Rattle.cox_shell.specs.Reading.{IsReadBy};
@@ -35,10 +37,9 @@ ghost use Rattle.cox_shell.specs.WholeRun.{IsRun};
 use cox_options::wrong_arguments;
 use cox_outside::{Open, Sink, Source, StdSink, StdSource, arguments_of, texts};
 use cox_shell::Status;
-use std::alloc::Global;
+use std::alloc::{AllocError, Global};
 use std::io;
 use std::process::ExitCode;
-use std::rt::Env;
 use std::sync::Wait;
 use std::thread::Threads;
 
@@ -54,7 +55,7 @@ fn run<R: Threads + Wait + Sync, S: Source, K: Sink>(
     sink: &mut K,
 ) -> Status
     ensures run { IsRun result (argument_texts words.now) (S.seen source.old) (S.seen source.new) (K.seen sink.old) (K.seen sink.new) }
-    ensures reading { IsReadBy result (argument_texts words.now) (S.seen source.old).left (S.seen source.new).left }
+    ensures reading { IsReadBy result (argument_texts words.now) (S.seen source.old) (S.seen source.new) }
 {
     cox_shell::run(rt, alloc, words, source, sink, &Open)
 }
@@ -69,7 +70,7 @@ fn run_arguments<R: Threads + Wait + Sync, S: Source, K: Sink>(
 ) -> Status
     ensures run { IsRun result (map string_bytes arguments.now)
         (S.seen source.old) (S.seen source.new) (K.seen sink.old) (K.seen sink.new) }
-    ensures reading { IsReadBy result (map string_bytes arguments.now) (S.seen source.old).left (S.seen source.new).left }
+    ensures reading { IsReadBy result (map string_bytes arguments.now) (S.seen source.old) (S.seen source.new) }
 {
     match texts(alloc, arguments) {
         Ok(texts) => run(rt, alloc, &texts, source, sink),
@@ -86,25 +87,30 @@ fn refuse<R: Threads + Wait + Sync, S: Source, K: Sink>(
 ) -> Status
     ensures { (arguments : List (List ℕ)) × IsUsage arguments
         × IsRun result arguments (S.seen source.old) (S.seen source.new) (K.seen sink.old) (K.seen sink.new)
-        × IsReadBy result arguments (S.seen source.old).left (S.seen source.new).left }
+        × IsReadBy result arguments (S.seen source.old) (S.seen source.new) }
 {
     run(rt, alloc, &wrong_arguments(), source, sink)
 }
 
-/// Runs the shell with the arguments of this environment. Wrong ones stand for those of which one is no text. What an environment
-/// has for arguments no contract tells, so it is a run with some arguments.
-fn start<R: Threads + Wait + Sync, E: Env, S: Source, K: Sink>(
+/// Runs the shell with the arguments that were found. Wrong ones stand for those of which one is no text. Where there was no memory to
+/// collect them nothing is read or written.
+fn start<R: Threads + Wait + Sync, S: Source, K: Sink>(
     rt: &R,
-    env: &E,
     alloc: Global,
+    found: Result<Option<Vec<String>>, AllocError>,
     source: &mut S,
     sink: &mut K,
 ) -> Status
-    ensures { (arguments : List (List ℕ))
+    ensures run { (arguments : List (List ℕ))
         × IsRun result arguments (S.seen source.old) (S.seen source.new) (K.seen sink.old) (K.seen sink.new)
-        × IsReadBy result arguments (S.seen source.old).left (S.seen source.new).left }
+        × IsReadBy result arguments (S.seen source.old) (S.seen source.new) }
+    ensures texts { IfOk found (λ some. IfSome some (λ arguments. IsRun result (map string_bytes arguments.items)
+        (S.seen source.old) (S.seen source.new) (K.seen sink.old) (K.seen sink.new))) }
+    ensures no_texts { IfOk found (λ some. IfNone some ((arguments : List (List ℕ)) × IsUsage arguments
+        × IsRun result arguments (S.seen source.old) (S.seen source.new) (K.seen sink.old) (K.seen sink.new))) }
+    ensures none { IfErr found (λ _. (result ≡ NoMemory) × (source.new ≡ source.old) × (sink.new ≡ sink.old)) }
 {
-    match arguments_of(env, alloc, NAME) {
+    match found {
         Ok(Some(arguments)) => run_arguments(rt, alloc, &arguments, source, sink),
         Ok(None) => refuse(rt, alloc, source, sink),
         Err(_) => Status::NoMemory,
@@ -118,8 +124,26 @@ fn exit_code(status: Status) -> ExitCode
     ExitCode::from(status.code())
 }
 
+/// Runs the shell with the arguments that were found, and gives its status out. What an environment has for arguments no contract tells, so
+/// it is a run with some arguments.
+fn ended<R: Threads + Wait + Sync, S: Source, K: Sink>(
+    rt: &R,
+    alloc: Global,
+    found: Result<Option<Vec<String>>, AllocError>,
+    source: &mut S,
+    sink: &mut K,
+) -> ExitCode
+    ensures { (status : Status) × (exit_status result ≡ code_of status) × (arguments : List (List ℕ))
+        × IsRun status arguments (S.seen source.old) (S.seen source.new) (K.seen sink.old) (K.seen sink.new)
+        × IsReadBy status arguments (S.seen source.old) (S.seen source.new) }
+{
+    exit_code(start(rt, alloc, found, source, sink))
+}
+
 fn main(rt: HostRuntime) -> ExitCode {
+    let alloc = rt.alloc();
+    let found = arguments_of(&rt, alloc, NAME);
     let mut source = StdSource::new(rt.reader());
     let mut sink = StdSink::new(io::writer(&rt));
-    exit_code(start(&rt, &rt, rt.alloc(), &mut source, &mut sink))
+    ended(&rt, alloc, found, &mut source, &mut sink)
 }

@@ -145,7 +145,8 @@ fn starts(rt: HostRuntime) -> Result<(), Fail> {
         let script = case.script.as_bytes().to_vec(alloc)?;
         let mut source = MemorySource::new(script, 16, case.failing_reads.to_vec(alloc)?);
         let mut sink = MemorySink::new(alloc, 300, 100, case.failing_writes.to_vec(alloc)?)?;
-        let status = start(&rt, &Called(case.arguments), alloc, &mut source, &mut sink);
+        let found = arguments_of(&Called(case.arguments), alloc, NAME);
+        let status = start(&rt, alloc, found, &mut source, &mut sink);
         assert_eq!(rt; status, case.status, "at {:?}", case.arguments);
         assert_eq!(rt;
             sink.bytes(),

@@ -3,11 +3,11 @@ use Rattle.std.proofs.Common.{[]}
 use Rattle.cox_shell.proofs.WholeRuns.{run-none, read-none}
 use Rattle.coxeter.proofs.start.Goals as goal
 
-pub returns-in-Ok-Some : goal.returns-in-Ok-Some
-returns-in-Ok-Some g c = (_, c.run_arguments.ensures.run, c.run_arguments.ensures.reading)
+pub returns-in-Ok-Some-clause-run : goal.returns-in-Ok-Some-clause-run
+returns-in-Ok-Some-clause-run g c = (_, c.run_arguments.ensures.run, c.run_arguments.ensures.reading)
 
-pub returns-in-Ok-None : goal.returns-in-Ok-None
-returns-in-Ok-None g c = (c.refuse.ensures.0, c.refuse.ensures.2, c.refuse.ensures.3)
+pub returns-in-Ok-None-clause-run : goal.returns-in-Ok-None-clause-run
+returns-in-Ok-None-clause-run g c = (c.refuse.ensures.0, c.refuse.ensures.2, c.refuse.ensures.3)
 
-pub returns-in-Err : goal.returns-in-Err
-returns-in-Err g c = ([], run-none [] _ _, read-none [] _)
+pub returns-in-Err-clause-run : goal.returns-in-Err-clause-run
+returns-in-Err-clause-run g c = ([], run-none [] _ _, read-none [] _)

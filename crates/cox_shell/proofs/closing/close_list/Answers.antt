@@ -4,7 +4,7 @@ use Rattle.std.specs.Option.{IfSome}
 use Rattle.std.proofs.lemmas.List.{append-nil}
 use Rattle.cox_outside.specs.Outlet.{IsPrefix}
 use Rattle.cox_outside.proofs.Known.{Writes-none}
-use Rattle.cox_shell.specs.Answer.{texts}
+use Rattle.cox_shell.specs.Reply.{texts}
 use Rattle.cox_shell.proofs.Ends.{closing-of}
 use Rattle.cox_shell.proofs.Closings.{err_of, ok_of, closed-said}
 use Rattle.cox_shell.proofs.closing.close_list.Goals as goal

@@ -1,5 +1,4 @@
 -- What is written is the usage line, or a prefix of it.
-use Rattle.std.proofs.Common.{inl, inr, refl}
 use Rattle.cox_shell.proofs.WholeRuns.{run-usage, run-usage_cut_off, read-usage}
 use Rattle.cox_shell.proofs.top.put_usage.Goals as goal
 
@@ -7,7 +6,7 @@ pub returns-in-Ok-clause-run : goal.returns-in-Ok-clause-run
 returns-in-Ok-clause-run g c arguments supply wrong = run-usage arguments supply _ _ wrong c.in-Ok.ensures.ok c.in-Ok.ensures.cause
 
 pub returns-in-Ok-clause-reading : goal.returns-in-Ok-clause-reading
-returns-in-Ok-clause-reading g c arguments supply wrong = read-usage _ arguments supply.left wrong (inl refl)
+returns-in-Ok-clause-reading g c arguments supply wrong = read-usage _ arguments supply wrong
 
 pub returns-in-Err-clause-run : goal.returns-in-Err-clause-run
 returns-in-Err-clause-run g c arguments supply wrong =
@@ -15,4 +14,4 @@ returns-in-Err-clause-run g c arguments supply wrong =
     run-usage_cut_off arguments supply _ _ wrong put.0 put.1 put.2 c.in-Err.ensures.full c.in-Err.ensures.cause
 
 pub returns-in-Err-clause-reading : goal.returns-in-Err-clause-reading
-returns-in-Err-clause-reading g c arguments supply wrong = read-usage _ arguments supply.left wrong (inr refl)
+returns-in-Err-clause-reading g c arguments supply wrong = read-usage _ arguments supply wrong

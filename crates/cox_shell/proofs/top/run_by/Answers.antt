@@ -25,4 +25,4 @@ returns-clause-reading g c arguments give =
     give.taken _ c.run_lines-ended.result c.end_with-status.result
     (Runs-beginning c.run_lines-ended.result _ _ _ (g.S.Source.seen c.args.source.now) _ _
     (c.new-session.ensures ∙ ap opening give.limits_are) c.in-Ok.ensures c.run_lines-ended.ensures.runs)
-    c.end_with-status.ensures
+    c.end_with-status.ensures c.run_lines-ended.ensures.source_cause

@@ -1,0 +1,6 @@
+-- The law `longer`.
+use Rattle.cox_shell.proofs.WholeRuns.{run-longer}
+use Rattle.cox_shell.proofs.laws.longer.Goals as goal
+
+pub returns : goal.returns
+returns c = run-longer

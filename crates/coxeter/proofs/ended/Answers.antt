@@ -1,0 +1,5 @@
+-- The proof of `ended`: the status of the run, whose number is given out.
+use Rattle.coxeter.proofs.ended.Goals as goal
+
+pub returns : goal.returns
+returns g c = let run = c.start.ensures.run in (c.start.result, c.exit_code.ensures, run.0, run.1, run.2)
