@@ -11,7 +11,7 @@ from typing import Any, Iterable, Iterator, Tuple
 from . import drawing, pictures
 from .base import Element, Word
 from .tables import ElementDict, Table
-from .texts import check_rising, counted, gap, whole_number
+from .texts import check_rising, counted, edge, gap
 
 Vertex = collections.namedtuple("Vertex", "element descents edges")
 Vertex.__doc__ = "A vertex of a W-graph: the element, its descents, and the values of its edges by its neighbours."
@@ -269,11 +269,9 @@ def places_of(spelling, places, numbers):
     their numbers."""
     found, values = [], {}
     for text, number in numbers.items():
-        element, _, value = text.rpartition(":")
-        if value != "1":
-            values[number] = whole_number(value)
-            if value == "0":
-                raise ValueError("an edge has no value")
+        element, value = edge(text)
+        if value != 1:
+            values[number] = value
         found.append(places.get(element))
         if found[-1] is None:
             spelling.element(element)
