@@ -91,32 +91,19 @@ class WGraph(Drawn, Table):
         >>> WGraph.read(CoxeterGroup("A", 1), "left", texts) == CoxeterGroup("A", 1).W_graph()
         True
         """
-        numbers = collections.defaultdict(itertools.count().__next__)
-        own, sets, rows = [], [], []
+        reading = Edges(group._spelling)
+        own, sets = [], []
         for text in items:
-            element, *more = text.split(" ")
+            element, *more = text.split(" ", 2)
             if not more:
                 raise ValueError("its label is missing")
             own.append(element)
             sets.append(more[0])
-            rows.append(array.array("I", map(numbers.__getitem__, itertools.islice(more, 1, None))))
+            reading.add(element, more[1].split(" ") if len(more) > 1 else [])
         elements = list(map(group._spelling.element, own))
         check_rising(elements)
         read = {text: group._spelling.letter_set(text) for text in set(sets)}
-        places, values = places_of(group._spelling, {text: at for at, text in enumerate(own)}, numbers)
-        near, other = [], {}
-        for x, row in enumerate(rows):
-            found = [places[number] for number in row]
-            if None in found:
-                raise ValueError(f"{own[x]} has an edge to an element that is no vertex")
-            if not all(map(operator.lt, found, itertools.islice(found, 1, None))):
-                raise ValueError("the elements should be in ShortLex order")
-            near.append(array.array("I", found))
-            if not values.keys().isdisjoint(row):
-                other.update(((x, y), values[number]) for number, y in zip(row, found) if number in values)
-            rows[x] = None
-        check_both_ways(own, near, other)
-        return cls(group, side, elements, [read[text] for text in sets], near, other)
+        return cls(group, side, elements, [read[text] for text in sets], *reading.end())
 
     @property
     def vertices(self):
@@ -162,9 +149,19 @@ class WGraph(Drawn, Table):
         >>> list(CoxeterGroup("A", 1).W_graph().edges())
         [((), (1,), 1)]
         """
-        elements, other = self._elements, self._other
+        return self.edges_across(0)
+
+    def edges_across(self, least: int) -> Iterator[Any]:
+        """The same for those edges alone whose elements differ in length by at least so much.
+
+        >>> list(CoxeterGroup("A", 3).W_graph().edges_across(3))
+        [((2,), (2, 1, 3, 2), 1), ((1, 3), (1, 2, 3, 2, 1), 1)]
+        """
+        elements, other, lengths = self._elements, self._other, list(map(len, self._elements))
         for x, near in enumerate(self._near):
-            for y in near[bisect.bisect(near, x) :]:
+            # Longer elements stand behind shorter ones.
+            first = max(x + 1, bisect.bisect_left(lengths, lengths[x] + least))
+            for y in near[bisect.bisect_left(near, first) :]:
                 yield elements[x], elements[y], other.get((x, y), 1)
 
     def steps(self) -> Iterator[Tuple[Element, Element, int]]:
@@ -199,13 +196,17 @@ class WGraph(Drawn, Table):
         >>> sorted(graph.steps_between({x: len(x) for x in graph}))
         [(1, 0), (1, 2), (2, 1), (3, 2)]
         """
-        named = [names[x] for x in self._elements]
-        numbers = {name: number for number, name in enumerate(dict.fromkeys(named))}
-        named, names, sets, found = [numbers[name] for name in named], list(numbers), self._masks(), set()
-        for x, near in enumerate(self._near):
-            mine, of = sets[x], named[x]
-            found.update([(of, named[y]) for y in near if mine & ~sets[y] and named[y] != of])
-        return {(names[one], names[other]) for one, other in found}
+        # The elements of one name with the same descents are taken together.
+        kinds = [*zip((names[x] for x in self._elements), self._masks())]
+        numbers = {kind: number for number, kind in enumerate(dict.fromkeys(kinds))}
+        listed, own = list(numbers), [numbers[kind] for kind in kinds]
+        reached = [set() for _ in listed]
+        for of, near in zip(own, self._near):
+            reached[of].update(map(own.__getitem__, near))
+        found = set()
+        for (name, mine), others in zip(listed, reached):
+            found.update((name, other) for other, sets in map(listed.__getitem__, others) if mine & ~sets and other != name)
+        return found
 
     def part(self, elements: Iterable[Word]) -> WGraph:
         """The part of the graph that has these elements alone, and the edges between them.
@@ -264,38 +265,84 @@ class WGraph(Drawn, Table):
         return gap(list(self.edges()))
 
 
-def places_of(spelling, places, numbers):
-    """For the numbers of the texts of edges the places of their elements, None for those that are no vertices; and the values other than 1, by
-    their numbers."""
-    found, values = [], {}
-    for text, number in numbers.items():
-        element, value = edge(text)
+class Edges:
+    """Reads the edges of a W-graph, vertex by vertex. An edge is read once, at its second vertex. What stands at its first has to be the text
+    that follows from it: so each edge is one from both sides, with one value, and those of a vertex are in ShortLex order."""
+
+    def __init__(self, spelling):
+        self.spelling = spelling
+        # The places of the vertices by the texts of the edges of value 1 to them, and these texts by the places.
+        self.places, self.texts = {}, []
+        # The places of the neighbours before each vertex, and the texts of the edges to those behind it.
+        self.before, self.behind = [], []
+        self.other = {}
+
+    def add(self, element, edges):
+        """Reads the edges of a vertex, as far as they lead back."""
+        place, count = len(self.texts), self.back(edges)
+        self.behind.append(" ".join(edges[count:]))
+        del edges[count:]
+        try:
+            found = list(map(self.places.__getitem__, edges))
+        except KeyError:
+            found = [self.read(place, *edge(text)) for text in edges]
+        if not all(map(operator.lt, found, itertools.islice(found, 1, None))):
+            raise ValueError("the elements should be in ShortLex order")
+        self.before.append(array.array("I", found))
+        self.texts.append(f"{element}:1")
+        self.places[self.texts[-1]] = place
+
+    def back(self, edges):
+        """How many edges lead to vertices that were read. They come before the others."""
+        least, most = 0, len(edges)
+        while least < most:
+            middle = (least + most) // 2
+            text = edges[middle]
+            if text in self.places or (not text.endswith(":1") and f"{text.rpartition(':')[0]}:1" in self.places):
+                least = middle + 1
+            else:
+                most = middle
+        return least
+
+    def read(self, place, element, value):
+        """The place of an element that was read, with an edge of this value."""
+        found = self.places.get(f"{element}:1")
+        if found is None:
+            raise ValueError("the elements should be in ShortLex order")
         if value != 1:
-            values[number] = value
-        found.append(places.get(element))
-        if found[-1] is None:
-            spelling.element(element)
-    return found, values
+            self.other[place, found] = self.other[found, place] = value
+        return found
 
+    def end(self):
+        """The neighbours of each vertex, as rising places, and the values other than 1 by pairs of places."""
+        near = [[] for _ in self.before]
+        for x, before in enumerate(self.before):
+            for y in before:
+                near[y].append(x)
+        valued = {x for x, _ in self.other}
+        for x, behind in enumerate(near):
+            texts = self.valued(x, behind) if x in valued else map(self.texts.__getitem__, behind)
+            if " ".join(texts) != self.behind[x]:
+                self.wrong(x, list(self.valued(x, behind)))
+            near[x], self.behind[x] = self.before[x] + array.array("I", behind), None
+        return near, self.other
 
-def check_both_ways(own, near, other):
-    """Sees to it that each edge is one from both sides, with one value. Neighbours are places, in rising order."""
-    # How many neighbours of each vertex have been met from their side. Those before it in ShortLex order are met before it.
-    met = [bisect.bisect(row, x) for x, row in enumerate(near)]
-    for x, row in enumerate(near):
-        for y in row:
-            if y >= x:
-                break
-            at = met[y]
-            if at >= len(near[y]) or near[y][at] != x:
-                raise ValueError(f"the edge from {own[x]} to {own[y]} is not an edge back")
-            met[y] = at + 1
-    for x, row in enumerate(near):
-        if met[x] < len(row) or x in row:
-            raise ValueError(f"the edge from {own[x]} to {own[row[min(met[x], len(row) - 1)]]} is not an edge back")
-    for (x, y), value in other.items():
-        if other.get((y, x)) != value:
-            raise ValueError(f"the edge from {own[x]} to {own[y]} is not an edge back")
+    def valued(self, x, behind):
+        """The texts of the edges of a vertex to those behind it."""
+        for y in behind:
+            value = self.other.get((x, y), 1)
+            yield f"{self.texts[y][:-1]}{value}"
+
+    def wrong(self, x, wanted):
+        """Says what is wrong with the edges of a vertex to those behind it, if they are others than are wanted."""
+        given, own = self.behind[x].split(" ") if self.behind[x] else [], self.texts[x][:-2]
+        named = [it for it, _ in map(edge, given)]
+        check_rising(list(map(self.spelling.element, named)))
+        if any(f"{it}:1" not in self.places for it in named):
+            raise ValueError(f"{own} has an edge to an element that is no vertex")
+        lost = [(it.rpartition(":")[0], own) for it in wanted if it not in given]
+        lost += [(own, it.rpartition(":")[0]) for it in given if it not in wanted]
+        raise ValueError("the edge from {} to {} is not an edge back".format(*lost[0]))
 
 
 class HasseDiagram(Drawn, ElementDict):

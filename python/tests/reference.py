@@ -7,6 +7,7 @@ A polynomial is the tuple of its coefficients by rising degree, without zeros at
 """
 import functools
 import itertools
+import operator
 import os
 import sys
 
@@ -43,10 +44,15 @@ def left_descents(w):
     return right_descents(inverse(w))
 
 
+@functools.lru_cache(None)
+def counts(w):
+    """For all i and j how many values of j or more w has at its first i places."""
+    return [sum(it >= j for it in w[:i]) for i in range(len(w)) for j in range(len(w))]
+
+
 def below(x, w):
-    """Bruhat order: for all i and j, w has at least as many values of j or more at its first i places as x has."""
-    size = range(len(w))
-    return all(sum(it >= j for it in x[:i]) <= sum(it >= j for it in w[:i]) for i in size for j in size)
+    """Bruhat order: none of these numbers is greater for x than for w."""
+    return all(map(operator.le, counts(x), counts(w)))
 
 
 def numbered(x, w):
