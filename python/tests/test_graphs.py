@@ -138,6 +138,12 @@ class Read(unittest.TestCase):
             (["2", "e 11 1:1", "1 1 e:1"], "no set of letters"),
             (["2", "1 1 e:1", "e - 1:1"], "ShortLex"),
             (["2", "e - 1:1  2:1", "1 1 e:1"], "no whole number"),
+            (["3", "e - 2:1 1:1", "1 1 e:1", "2 2 e:1"], "ShortLex"),
+            (["4", "e - 1:1 2:1", "1 1 e:1 12:1", "2 2 e:1 12:1", "12 1 2:1 1:1"], "ShortLex"),
+            (["3", "e - 1:1 2:2 2:2", "1 1 e:1", "2 2 e:2 e:2"], "ShortLex"),
+            (["3", "e - 1:1 2:1", "1 1 e:1", "2 2 e:2"], "the edge from 2 to e is not an edge back"),
+            (["3", "e - 1:1 2:01", "1 1 e:1", "2 2 e:1"], "no whole number"),
+            (["3", "e - 1:1 2:1", "1 1 e:1", "2 2 e:01"], "no whole number"),
             (["3", "e - 1:1", "1 1 e:1"], "the list should have 3 items"),
             (["1", "e - 1:1", "1 1 e:1"], "the list should have 1 items"),
         ]:

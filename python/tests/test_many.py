@@ -168,11 +168,11 @@ class Map(unittest.TestCase):
         """It asks again, and where that raises an error it never tells."""
         with fakes.Fakes() as folder:
             group = CoxeterGroup("A", 3, program=folder.killed(4, find_program()))
-            found = within(20, lambda: list(group.map("length", ["121", "12", "1"], executor=Losing(), chunksize=3)))
+            found = within(120, lambda: list(group.map("length", ["121", "12", "1"], executor=Losing(), chunksize=3)))
             self.assertEqual(found, [3, 2, 1])
             group = CoxeterGroup("A", 3, program=folder.killed(99, find_program()))
             with self.assertRaises(ProgramEnded):
-                within(20, lambda: list(group.map("length", ["121"], executor=Losing())))
+                within(120, lambda: list(group.map("length", ["121"], executor=Losing())))
 
     def test_workers_that_give_something_else(self):
         """None, too few results, too many, and what is none."""
