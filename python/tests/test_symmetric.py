@@ -3,7 +3,6 @@ import itertools
 import random
 import unittest
 
-import definitions
 import reference
 from coxeter_shell import CoxeterGroup, Polynomial
 
@@ -28,7 +27,7 @@ class Reference(unittest.TestCase):
         """A n by its reflection representation is the same."""
         for n in (1, 2, 3):
             real = reference.group(n).part
-            found = definitions.finite_group(n, definitions.labels_of("A", n))
+            found = reference.definitions.finite_group(n, reference.definitions.labels_of("A", n))
             self.assertEqual((found.words, found.left, found.right), (real.words, real.left, real.right))
             self.assertEqual((found.r_polynomials, found.edges), (real.r_polynomials, real.edges))
             self.assertEqual(*(list(map(part.row, range(part.size))) for part in (found, real)))
