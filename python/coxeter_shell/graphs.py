@@ -273,14 +273,14 @@ class Edges:
         self.spelling = spelling
         # The places of the vertices by the texts of the edges of value 1 to them, and these texts by the places.
         self.places, self.texts = {}, []
-        # The places of the neighbours before each vertex, and the texts of the edges to those behind it.
+        # The places of the neighbours before each vertex, and the text of the edges to those behind it, None where there is none.
         self.before, self.behind = [], []
         self.other = {}
 
     def add(self, element, edges):
         """Reads the edges of a vertex, as far as they lead back."""
         place, count = len(self.texts), self.back(edges)
-        self.behind.append(" ".join(edges[count:]))
+        self.behind.append(" ".join(edges[count:]) if count < len(edges) else None)
         del edges[count:]
         try:
             found = list(map(self.places.__getitem__, edges))
@@ -322,7 +322,7 @@ class Edges:
         valued = {x for x, _ in self.other}
         for x, behind in enumerate(near):
             texts = self.valued(x, behind) if x in valued else map(self.texts.__getitem__, behind)
-            if " ".join(texts) != self.behind[x]:
+            if (" ".join(texts) if behind else None) != self.behind[x]:
                 self.wrong(x, list(self.valued(x, behind)))
             near[x], self.behind[x] = self.before[x] + array.array("I", behind), None
         return near, self.other
@@ -335,7 +335,7 @@ class Edges:
 
     def wrong(self, x, wanted):
         """Says what is wrong with the edges of a vertex to those behind it, if they are others than are wanted."""
-        given, own = self.behind[x].split(" ") if self.behind[x] else [], self.texts[x][:-2]
+        given, own = [] if self.behind[x] is None else self.behind[x].split(" "), self.texts[x][:-2]
         named = [it for it, _ in map(edge, given)]
         check_rising(list(map(self.spelling.element, named)))
         if any(f"{it}:1" not in self.places for it in named):
