@@ -193,7 +193,8 @@ class AtTerminal(unittest.TestCase):
                 terminal.type("\nlength 12\n")
                 open(typed, "w", encoding="ascii").close()
                 shown = terminal.expect(r"^(?:-- 30 items, \d+\.\d s\n)?A 4> length 12\n7\nA 4> ")
-                self.assertEqual(re.findall("^[^\n]+$", shown, re.M), ["30"] + ["e"] * 30)
+                # The terminal may have shown what was typed at once.
+                self.assertEqual([it for it in shown.split("\n") if it not in ("", "length 12")], ["30"] + ["e"] * 30)
 
     def test_interrupts(self):
         with fakes.Fakes() as folder:
