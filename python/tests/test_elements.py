@@ -197,8 +197,9 @@ class Elements(unittest.TestCase):
         """Of integer matrices: the order k needs phi(p^a) rows for each p^a > 2 that divides it exactly."""
 
         def rows(k):
+            """So many rows, or more than 16."""
             total, p = 0, 2
-            while k > 1:
+            while k > 1 and total <= 16:
                 power = 1
                 while k % p == 0:
                     k, power = k // p, power * p
