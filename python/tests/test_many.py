@@ -11,6 +11,7 @@ import unittest
 import unittest.mock
 
 import fakes
+import patience
 import reference
 from coxeter_shell import (
     CoxeterError,
@@ -47,7 +48,7 @@ def executors():
 
 
 def within(seconds, call):
-    """What a call gives in another thread, if it ends within so many seconds."""
+    """What a call gives in another thread, if it ends within so many seconds in which nothing here wants a processor."""
     found = []
 
     def run():
@@ -58,9 +59,9 @@ def within(seconds, call):
 
     thread = threading.Thread(target=run, daemon=True)
     thread.start()
-    thread.join(seconds)
-    if not found:
-        raise AssertionError(f"nothing after {seconds} seconds")
+    limit = patience.Patience(seconds)
+    while not found:
+        limit.wait(thread.join)
     value, error = found[0]
     if error is not None:
         raise error
@@ -168,11 +169,11 @@ class Map(unittest.TestCase):
         """It asks again, and where that raises an error it never tells."""
         with fakes.Fakes() as folder:
             group = CoxeterGroup("A", 3, program=folder.killed(4, find_program()))
-            found = within(120, lambda: list(group.map("length", ["121", "12", "1"], executor=Losing(), chunksize=3)))
+            found = within(20, lambda: list(group.map("length", ["121", "12", "1"], executor=Losing(), chunksize=3)))
             self.assertEqual(found, [3, 2, 1])
             group = CoxeterGroup("A", 3, program=folder.killed(99, find_program()))
             with self.assertRaises(ProgramEnded):
-                within(120, lambda: list(group.map("length", ["121"], executor=Losing())))
+                within(20, lambda: list(group.map("length", ["121"], executor=Losing())))
 
     def test_workers_that_give_something_else(self):
         """None, too few results, too many, and what is none."""
@@ -250,7 +251,7 @@ class Dask(unittest.TestCase):
                     done.wait(chance.uniform(0.1, 0.4))
                     pids = workers(client)
                     for pid in chance.sample(pids, min(1, len(pids))):
-                        programs = children(pid)
+                        programs = patience.children(pid)
                         chosen = [programs, [pid], [*programs, pid]][chance.randrange(3)]
                         for it in chosen:
                             with contextlib.suppress(ProcessLookupError):
@@ -303,16 +304,6 @@ def pid_of(address):
                 if os.readlink(f"/proc/{pid}/fd/{name}") in inodes:
                     return int(pid)
     return None
-
-
-def children(pid):
-    """The processes that a process has started."""
-    found = []
-    with contextlib.suppress(OSError):
-        for task in os.listdir(f"/proc/{pid}/task"):
-            with open(f"/proc/{pid}/task/{task}/children", encoding="ascii") as listed:
-                found += map(int, listed.read().split())
-    return found
 
 
 class Table(unittest.TestCase):

@@ -9,6 +9,7 @@ import unittest
 import unittest.mock
 
 import fakes
+import patience
 import terminals
 from coxeter_shell import CoxeterGroup, Refusal, diagrams, find_program, kinds
 from coxeter_shell.documents import read_document
@@ -209,9 +210,9 @@ class AtTerminal(unittest.TestCase):
                 for question in ("lcells", "slocus 12321", "pol e *"):
                     terminal.type(f"{question}\n")
                     terminal.expect(f"{re.escape(question)}\n")
-                    end = time.monotonic() + terminals.PATIENCE
-                    while not os.path.exists(asked) and time.monotonic() < end:
-                        time.sleep(0.01)
+                    limit = patience.Patience(terminals.PATIENCE, terminal.pid)
+                    while not os.path.exists(asked):
+                        limit.wait(time.sleep)
                     os.remove(asked)
                     terminal.type("\x03")
                     terminal.expect("^-- stopped\nA 3> ")
