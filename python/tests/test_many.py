@@ -262,7 +262,7 @@ class Dask(unittest.TestCase):
                 killer = threading.Thread(target=kill, args=(8,), daemon=True)
                 killer.start()
                 try:
-                    table = within(200, lambda kind=kind: group.kazhdan_lusztig_table(executor=kind, chunksize=4))
+                    table = within(60, lambda kind=kind: group.kazhdan_lusztig_table(executor=kind, chunksize=4))
                     self.assertEqual(set(table), set(right))
                 except Unanswered as error:
                     table = error.table
@@ -283,7 +283,7 @@ class Dask(unittest.TestCase):
         """Certificates come through a client that unpickles nothing. Other results do not."""
         plain = ["dask", "msgpack"]
         with CoxeterGroup("A", 3) as group, dask(deserializers=plain) as client:
-            table = within(120, lambda: group.kazhdan_lusztig_table(executor=client.get_executor(), chunksize=8, certified=True))
+            table = within(60, lambda: group.kazhdan_lusztig_table(executor=client.get_executor(), chunksize=8, certified=True))
             self.assertEqual(table, group.kazhdan_lusztig_table())
 
 
