@@ -28,6 +28,9 @@ from coxeter_shell import (
 
 HAS_DASK = importlib.util.find_spec("distributed") is not None
 
+# So many seconds a question to dask may take: on a busy machine its scheduler waits up to five minutes for a worker that doesn't answer.
+DASK = 400
+
 
 @contextlib.contextmanager
 def dask(workers=2, **options):
@@ -262,7 +265,7 @@ class Dask(unittest.TestCase):
                 killer = threading.Thread(target=kill, args=(8,), daemon=True)
                 killer.start()
                 try:
-                    table = within(60, lambda kind=kind: group.kazhdan_lusztig_table(executor=kind, chunksize=4))
+                    table = within(DASK, lambda kind=kind: group.kazhdan_lusztig_table(executor=kind, chunksize=4))
                     self.assertEqual(set(table), set(right))
                 except Unanswered as error:
                     table = error.table
@@ -283,7 +286,7 @@ class Dask(unittest.TestCase):
         """Certificates come through a client that unpickles nothing. Other results do not."""
         plain = ["dask", "msgpack"]
         with CoxeterGroup("A", 3) as group, dask(deserializers=plain) as client:
-            table = within(60, lambda: group.kazhdan_lusztig_table(executor=client.get_executor(), chunksize=8, certified=True))
+            table = within(DASK, lambda: group.kazhdan_lusztig_table(executor=client.get_executor(), chunksize=8, certified=True))
             self.assertEqual(table, group.kazhdan_lusztig_table())
 
 
