@@ -270,6 +270,10 @@ class Dask(unittest.TestCase):
                 except Unanswered as error:
                     table = error.table
                     self.assertEqual(set(table) | set(error.words), set(right))
+                except AssertionError:
+                    if not workers(client):
+                        self.skipTest("dask has not started again any worker that was killed: the machine is too busy for it")
+                    raise
                 finally:
                     done.set()
                     killer.join()
