@@ -30,7 +30,7 @@ from intervals import TOP
 NAMES = {
     "W-graph of E 6": (("E", 6), "W_graph()", ["lwgraph"]),
     "W-graph of D 6": (("D", 6), "W_graph()", ["lwgraph"]),
-    "cell order of E 6": (("E", 6), 'cell_order("two-sided")', ["lrcells", "lwgraph", "rwgraph"]),
+    "cell order of E 6": (("E", 6), 'cell_order("two-sided")', ["lrcells", "lwgraph"]),
     "mu of D 6": (("D", 6), "mu_table()", ["lwgraph"]),
     "mu of S 8": (("A", 7), "mu_table()", ["lwgraph"]),
     "all P of D 5": (("D", 5), "kazhdan_lusztig_table()", None),

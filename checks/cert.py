@@ -26,9 +26,10 @@ import random
 import re
 import subprocess
 
-from certificates import BASE, ENTRIES, GRAMMAR, INTERVAL, ROW, SIZE, TOP, Group, answer, cause, matrix_line, read, word_text
+from answers import rank_and_labels, word_text
+from certificates import GRAMMAR, INTERVAL, ROW, SIZE, TOP, answer, cause, matrix_line, read
 from common import Count, program
-from definitions import labels_of
+from definitions import ENTRIES, Matrices
 
 # How many spoiled certificates there are of each, and how many of these have one byte changed.
 SPOILED, BYTES = 24, 6
@@ -109,12 +110,7 @@ def ask(built, line, command, words, arguments=()):
 
 def group_of(line):
     """The group that a line sets."""
-    command, first, *others = line.split()
-    if command == "matrix":
-        return Group(int(first), list(map(int, others)))
-    rank = int(others[0])
-    labels = labels_of(first, rank)
-    return Group(rank, [labels.get(pair, 2) for pair in itertools.combinations(range(1, rank + 1), 2)])
+    return Matrices(*rank_and_labels(line))
 
 
 # ---- certificates
@@ -147,7 +143,7 @@ def drawn(built):
     draw = random.Random(18)
     for line in [*FINITE, "type G 2"]:
         group = group_of(line)
-        yield line, [word_text(group.rank, word) for word in group.elements()]
+        yield line, [word_text(group.rank, word) for level in group.levels() for word in level.values()]
     for line, count, most in DRAWN:
         rank, words = group_of(line).rank, []
         while len(words) < 8 * count:
@@ -478,7 +474,6 @@ def main():
     parser.add_argument("programs", nargs="*")
     given = parser.parse_args()
     built, checker, count = program(given.programs[:1]), program(given.programs[1:], "coxcheck"), Count()
-    assert BASE > 2 * 3**39 * 40 * 4096 * 2**31
     for arguments, line, words, first in ANSWERS:
         count.check(f"cert {words} in {line:.40} {arguments}", ask(built, line, "cert", [words], arguments)[:1], [first])
     causes = collections.Counter()

@@ -25,8 +25,9 @@ import time
 import tty
 
 import faults
-from certificates import Certificate, Group, MOST_OF_INPUT, cause, answer
+from certificates import Certificate, MOST_OF_INPUT, cause, answer
 from common import Count, program
+from definitions import Matrices
 
 CHECKER = program(sys.argv[1:2], "coxcheck")
 COUNT = Count()
@@ -301,11 +302,11 @@ def many_rows():
     # Elements with very many others below them: the interval is left where it has too many.
     letters = [1 + k * 7 % 16 for k in range(39)]
     for label in ("0", "3", "6"):
-        group = Group(16, (int(label),) * 120)
+        group = Matrices(16, (int(label),) * 120)
         element = ".".join(map(str, group.normal_form(letters)))
         judged(f"39 letters in rank 16 with labels {label}", joined(rank16(element, label)), 3)
     # The words come one after the other from a large interval.
-    group = Group(9, (0,) * 36)
+    group = Matrices(9, (0,) * 36)
     word = "123456789" * 4 + "123"
     short = ("".join(letters) for n in range(1, 5) for letters in itertools.product("123456789", repeat=n))
     lines = [f"{it}:1" for it in ["e", *itertools.islice(short, 4094), word]]

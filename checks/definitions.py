@@ -1,15 +1,23 @@
-"""Coxeter groups by their definitions, to compare the program with: finite ones, and the elements of any up to some length. It is slow,
-and shares nothing with the program.
+"""Coxeter groups and Kazhdan-Lusztig polynomials by their definitions: what all checks, and the tests of the package for Python, compare
+with. It is plain and slow, and shares nothing with the programs and the packages.
 
-An element is the number of its normal form in ShortLex order. A polynomial in q is its value at q = 2^64, an integer, since
-all coefficients here are below 2^63. `Group.text` gives the program's answer to a line.
+The elements of a group are given by how letters are multiplied to them (`Elements`): as matrices here, as permutations in
+python/tests/reference.py. A `Part` has finitely many of them, with each element all those below it. There an element is its number in
+ShortLex order.
+
+A polynomial in q is its value at q = BASE, an integer: all coefficients here are smaller than half of that, also those of the R-polynomials of
+lengths up to 39, which are at most 3^39.
 """
+import functools
 import itertools
 
 BASE, HALF = 1 << 64, 1 << 63
 
-# The pairs a(s,t), a(t,s) for s < t, by the label.
+# The pairs a(s,t), a(t,s) for s < t, by the label. The label 0 is infinity.
 ENTRIES = {2: (0, 0), 3: (-1, -1), 4: (-1, -2), 6: (-1, -3), 0: (-2, -2)}
+
+
+# ---- polynomials
 
 
 def coefficients(p):
@@ -21,152 +29,207 @@ def coefficients(p):
     return found
 
 
+def polynomial(listed):
+    """The polynomial with these coefficients."""
+    return sum(c * BASE**degree for degree, c in enumerate(listed))
+
+
+def invariant(total, distance):
+    """The p of degree at most (d-1)/2 with q^d p(1/q) - p = total, where d is the distance. So the part of low degree of the total is -p."""
+    low = [-c for c in coefficients(total)[: (distance + 1) // 2]]
+    p = polynomial(low)
+    turned = sum(c * BASE ** (distance - k) for k, c in enumerate(low))
+    assert turned - p == total, "the row is not invariant"
+    return p
+
+
+# ---- groups
+
+
 def labels_of(kind, n):
-    """The labels other than 2 of a named type, by the pairs s < t."""
-    chain = {(s, s + 1): 3 for s in range(1, n)}
+    """The labels of a named type above the diagonal, row by row."""
+    labels = {(s, s + 1): 3 for s in range(1, n)}
     if kind == "D":
-        del chain[n - 1, n]
-    return chain | {"A": {}, "B": {(n - 1, n): 4}, "D": {(n - 2, n): 3}, "F": {(2, 3): 4}, "G": {(1, 2): 6}}[kind]
+        del labels[n - 1, n]
+    labels.update({"A": {}, "B": {(n - 1, n): 4}, "D": {(n - 2, n): 3}, "F": {(2, 3): 4}, "G": {(1, 2): 6}}[kind])
+    return tuple(labels.get(pair, 2) for pair in itertools.combinations(range(1, n + 1), 2))
 
 
-def polynomial_text(p):
-    """A polynomial as it is printed."""
-    text = ""
-    for degree, c in enumerate(coefficients(p)):
-        if c:
-            power = "" if degree == 0 else "q" if degree == 1 else f"q^{degree}"
-            number = str(c) if not power or abs(c) != 1 else "-" if c < 0 else ""
-            text += ("+" if text and c > 0 else "") + number + power
-    return text or "0"
+class Elements:
+    """How the elements of a group are multiplied by letters: `letters`, the element `one`, `right(x, s)` and `left(s, x)`."""
+
+    def product(self, word):
+        """The element of a word."""
+        return functools.reduce(self.right, word, self.one)
+
+    def levels(self, among=None, most=None):
+        """The elements by their lengths, each with its ShortLex-first word: all, or those among these, or those of at most so many letters.
+        A first word without its last letter is one too."""
+        level, shorter, length = {self.one: ()}, {}, 0
+        while level:
+            yield level
+            longer = {}
+            if length != most:
+                for (element, word), s in itertools.product(level.items(), self.letters):
+                    further = self.right(element, s)
+                    if further not in shorter and further not in longer and (among is None or further in among):
+                        longer[further] = (*word, s)
+            level, shorter, length = longer, level, length + 1
+
+    def below(self, word, most=None):
+        """The elements below that of a word: those of its subwords. None where these are more than so many."""
+        found = {self.one}
+        for s in word:
+            found |= {self.right(element, s) for element in found}
+            if most is not None and len(found) > most:
+                return None
+        return found
 
 
-def letters_text(letters, empty):
-    return "".join(map(str, letters)) or empty
+class Matrices(Elements):
+    """A group by its rank and its labels above the diagonal, row by row. An element is its matrix, by columns: the letter s takes the basis
+    vector e(t) to e(t) - a(s,t) e(s)."""
 
-
-class Group:
-    """A group with so many letters, at most 9, and these labels other than 2; of an infinite one the elements of at most so many
-    letters."""
-
-    def __init__(self, rank, labels, most=None):
+    def __init__(self, rank, labels):
+        self.rank, self.labels = rank, tuple(labels)
         self.letters = range(1, rank + 1)
-        self.words, numbers = self.elements(self.reflections(rank, labels), most)
-        number = {word: i for i, word in enumerate(self.words)}
-        self.size, self.length = len(self.words), [len(word) for word in self.words]
-        # A longer element that is left out counts as one behind all others.
-        self.left = {s: [number.get(numbers[s, word], self.size) for word in self.words] for s in self.letters}
-        self.length.append(len(self.words[-1]) + 1)
-        self.inverse = [*(self.element(word[::-1]) for word in self.words), self.size]
-        self.right = {s: [self.inverse[self.left[s][self.inverse[i]]] for i in range(self.size)] for s in self.letters}
-        self.lefts = [self.shortening(self.left, i) for i in range(self.size)]
-        self.rights = [self.shortening(self.right, i) for i in range(self.size)]
-        self.below = self.orders()
-        self.rs, self.rows = self.r_polynomials(), {}
+        # For each letter s the t with a(s,t) other than 0, each with a(s,t).
+        self.near = {s: [(s, 2)] for s in self.letters}
+        for (s, t), label in zip(itertools.combinations(self.letters, 2), labels):
+            if label != 2:
+                self.near[s].append((t, ENTRIES[label][0]))
+                self.near[t].append((s, ENTRIES[label][1]))
+        self.one = tuple(tuple(int(i == j) for j in self.letters) for i in self.letters)
 
-    @staticmethod
-    def reflections(rank, labels):
-        """The matrices of e(t) -> e(t) - a(s,t) e(s), by their rows."""
-        entry = {(s, s): 2 for s in range(1, rank + 1)}
-        for s, t in itertools.combinations(range(1, rank + 1), 2):
-            entry[s, t], entry[t, s] = ENTRIES[labels.get((s, t), 2)]
-        one = [[int(i == j) for j in range(1, rank + 1)] for i in range(1, rank + 1)]
-        matrices = {0: tuple(map(tuple, one))}
-        for s in range(1, rank + 1):
-            rows = [list(row) for row in one]
-            rows[s - 1] = [rows[s - 1][t - 1] - entry[s, t] for t in range(1, rank + 1)]
-            matrices[s] = tuple(map(tuple, rows))
-        return matrices
+    def right(self, element, s):
+        columns, own = list(element), element[s - 1]
+        for t, a in self.near[s]:
+            columns[t - 1] = tuple(c - a * d for c, d in zip(columns[t - 1], own))
+        return tuple(columns)
 
-    @staticmethod
-    def elements(matrices, most):
-        """The ShortLex-first word of each element, in ShortLex order; and that of s w by the letter s and the word of w, if it is among
-        them."""
+    def left(self, s, element):
+        return tuple((*c[: s - 1], c[s - 1] - sum(a * c[t - 1] for t, a in self.near[s]), *c[s:]) for c in element)
 
-        def times(a, b):
-            columns = list(zip(*b))
-            return tuple(tuple(sum(map(int.__mul__, row, column)) for column in columns) for row in a)
+    def normal_form(self, word):
+        """The ShortLex-first word of the same element: again and again the least s with l(sw) < l(w), which are those for which the inverse
+        of w takes e(s) to a negative vector."""
+        inverse, letters = self.product(reversed(word)), []
+        while first := next((s for s in self.letters if min(inverse[s - 1]) < 0), None):
+            letters.append(first)
+            inverse = self.right(inverse, first)
+        return tuple(letters)
 
-        letters = [s for s in matrices if s]
-        first = {matrices[0]: ()}
-        level = [matrices[0]]
-        while level and (most is None or len(first[level[0]]) < most):
-            found = {}
-            for m, s in itertools.product(level, letters):
-                further = times(m, matrices[s])
-                if further not in first and further not in found:
-                    found[further] = (*first[m], s)
-            first.update(found)
-            level = sorted(found, key=found.get)
-        moved = {(s, word): first.get(times(matrices[s], m)) for m, word in first.items() for s in letters}
-        return list(first.values()), moved
+
+def finite_group(rank, labels, most=None):
+    """All elements of a finite group with these labels; of an infinite one those of at most so many letters."""
+    group = Matrices(rank, labels)
+    return Part(group, group.levels(most=most))
+
+
+class Part:
+    """Elements that have with each all those below it, in ShortLex order, by their lengths with the first word of each.
+
+    `words` are the first words, `elements` the elements, `numbers` the numbers of these. A product that is left out has the number
+    `size`, and counts as longer than all others.
+    """
+
+    def __init__(self, group, levels):
+        self.group = group
+        found = [pair for level in levels for pair in level.items()]
+        self.elements, self.words = map(list, zip(*found))
+        self.numbers = {element: i for i, element in enumerate(self.elements)}
+        self.size, self.rows, self.inverse_rows = len(found), {}, {}
+        self.length = [*map(len, self.words), len(self.words[-1]) + 1]
+
+    @functools.cached_property
+    def right(self):
+        """For each letter the numbers of the products with it on the right."""
+        return {s: [self.numbers.get(self.group.right(it, s), self.size) for it in self.elements] for s in self.group.letters}
+
+    @functools.cached_property
+    def left(self):
+        """For each letter the numbers of the products with it on the left."""
+        return {s: [self.numbers.get(self.group.left(s, it), self.size) for it in self.elements] for s in self.group.letters}
+
+    @functools.cached_property
+    def inverse(self):
+        """The numbers of the inverses, of which none may be left out."""
+        return [self.numbers[self.group.product(reversed(word))] for word in self.words]
+
+    @functools.cached_property
+    def lefts(self):
+        """The left descents of each element."""
+        return [[s for s in self.group.letters if self.length[self.left[s][i]] < self.length[i]] for i in range(self.size)]
+
+    @functools.cached_property
+    def rights(self):
+        """The right descents of each element."""
+        return [[s for s in self.group.letters if self.length[self.right[s][i]] < self.length[i]] for i in range(self.size)]
 
     def element(self, word):
-        """The element of a word."""
-        i = 0
-        for s in reversed(word):
-            i = self.left[s][i]
-        return i
+        """The number of the element of a word."""
+        return self.numbers[self.group.product(word)]
 
-    def shortening(self, moved, i):
-        return [s for s in self.letters if self.length[moved[s][i]] < self.length[i]]
-
-    def orders(self):
+    @functools.cached_property
+    def below(self):
         """For each element those below it: the elements of the subwords of its word."""
-        below = []
-        for word in self.words:
-            found = {0}
-            for s in word:
-                found |= {self.right[s][i] for i in found}
-            below.append(sorted(found))
-        return below
+        return [sorted(column) for column in self.r_polynomials]
 
+    @functools.cached_property
     def r_polynomials(self):
-        """R(x,w) for x <= w, by the recursion for the first letter of w."""
-        rs = [{0: 1}]
+        """For each w the R(x,w) for x <= w, by the recursion for the last letter s of w. Below w are those below ws, and their products with
+        s; R(x,w) is never 0 there."""
+        columns = [{0: 1}]
         for w in range(1, self.size):
-            s = self.words[w][0]
-            lower, row = rs[self.left[s][w]], {}
-            for x in self.below[w]:
-                moved = self.left[s][x]
-                same = lower.get(moved, 0)
-                row[x] = same if moved < x else (BASE - 1) * lower.get(x, 0) + BASE * same
-            rs.append(row)
-        return rs
+            right = self.right[self.words[w][-1]]
+            shorter, column = columns[right[w]], {}
+            for x in {*shorter, *(right[it] for it in shorter)}:
+                moved = right[x]
+                same = shorter.get(moved, 0)
+                column[x] = same if moved < x else (BASE - 1) * shorter.get(x, 0) + BASE * same
+            columns.append(column)
+        return columns
 
     def row(self, w):
         """P(x,w) for x <= w, by its definition: with d = l(w)-l(x), q^d P(1/q) - P is the sum of R(x,z) P(z,w) over the z with
-        x < z <= w, and the degree of P is at most (d-1)/2. So the part of low degree of the sum is -P."""
-        if w in self.rows:
-            return self.rows[w]
-        row = {w: 1}
-        for x in reversed(self.below[w][:-1]):
-            total = sum(self.rs[z][x] * p for z, p in row.items() if x in self.rs[z])
-            distance = self.length[w] - self.length[x]
-            low = [-c for c in coefficients(total)[: (distance + 1) // 2]]
-            row[x] = sum(c * BASE**k for k, c in enumerate(low))
-            turned = sum(c * BASE ** (distance - k) for k, c in enumerate(low))
-            assert turned - row[x] == total, "the row is not invariant"
-        self.rows[w] = row
-        return row
+        x < z <= w, and the degree of P is at most (d-1)/2."""
+        if w not in self.rows:
+            row, sums = {}, dict.fromkeys(self.below[w], 0)
+            for z in reversed(self.below[w]):
+                row[z] = invariant(sums[z], self.length[w] - self.length[z]) if z != w else 1
+                for x, r in self.r_polynomials[z].items():
+                    sums[x] += r * row[z]
+            self.rows[w] = row
+        return self.rows[w]
 
     def inverse_row(self, w):
         """Q(x,w) for x <= w, by its definition: the sum of (-1)^(l(z)-l(x)) P(x,z) Q(z,w) over the z with x <= z <= w is 1 where x = w,
         else 0, and P(x,x) = 1."""
-        row = {w: 1}
-        for x in reversed(self.below[w][:-1]):
-            row[x] = -sum((-1) ** (self.length[z] - self.length[x]) * self.row(z).get(x, 0) * q for z, q in row.items())
-        return row
+        if w not in self.inverse_rows:
+            row, sums = {}, dict.fromkeys(self.below[w], 0)
+            for z in reversed(self.below[w]):
+                row[z] = -sums[z] if z != w else 1
+                for x, p in self.row(z).items():
+                    sums[x] += (-1) ** (self.length[z] - self.length[x]) * p * row[z]
+            self.inverse_rows[w] = row
+        return self.inverse_rows[w]
 
     def mu(self, x, w):
+        """The coefficient of P(x,w) in degree (l(w)-l(x)-1)/2, 0 where that is no whole number, or not x < w."""
         distance = self.length[w] - self.length[x]
-        if x == w or distance % 2 == 0 or x not in self.rs[w]:
+        if x == w or distance % 2 == 0 or x not in self.r_polynomials[w]:
             return 0
         return dict(enumerate(coefficients(self.row(w)[x]))).get(distance // 2, 0)
 
-    def edges(self, x):
-        """Each element that is joined to x, with the value of the edge."""
-        values = ((y, self.mu(x, y) or self.mu(y, x)) for y in range(self.size))
-        return {y: value for y, value in values if value}
+    def betti(self, w):
+        """The sum of q^l(x) P(x,w) over the x <= w."""
+        return sum(p * BASE ** self.length[x] for x, p in self.row(w).items())
+
+    @functools.cached_property
+    def edges(self):
+        """For each element those that it is joined to in the W-graph, in ShortLex order, with the values of the edges."""
+        values = ({y: self.mu(x, y) or self.mu(y, x) for y in range(self.size)} for x in range(self.size))
+        return [{y: value for y, value in row.items() if value} for row in values]
 
     def cells(self, *sides):
         """The elements of each cell, by chains of steps from x to y where y lacks a descent of x, on one of these sides."""
@@ -175,17 +238,12 @@ class Group:
             seen, ahead = {x}, [x]
             while ahead:
                 at = ahead.pop()
-                new = {y for y in self.edges_of(at) if any(set(side[at]) - set(side[y]) for side in sides)} - seen
+                new = {y for y in self.edges[at] if any(set(side[at]) - set(side[y]) for side in sides)} - seen
                 seen |= new
                 ahead.extend(new)
             reach.append(seen)
         first = [min(y for y in reach[x] if x in reach[y]) for x in range(self.size)]
         return [[x for x in range(self.size) if first[x] == y] for y in range(self.size) if first[y] == y]
-
-    def edges_of(self, x):
-        if not hasattr(self, "graph"):
-            self.graph = [self.edges(x) for x in range(self.size)]
-        return self.graph[x]
 
     def needed(self, w):
         """The rows that the row of w is made from, with itself: with each z, where s is its least left descent, that of sz, and those
@@ -203,111 +261,3 @@ class Group:
     def extremals(self, w):
         """The x <= w that have each left and each right descent of w."""
         return [x for x in self.below[w] if {*self.lefts[w]} <= {*self.lefts[x]} and {*self.rights[w]} <= {*self.rights[x]}]
-
-    # ---- texts
-
-    def name(self, i):
-        return letters_text(self.words[i], "e")
-
-    def listed(self, items):
-        return [str(len(items)), *items]
-
-    def graph_text(self, side):
-        heads = (f"{self.name(x)} {letters_text(side[x], '-')}" for x in range(self.size))
-        tails = ("".join(f" {self.name(y)}:{value}" for y, value in self.edges_of(x).items()) for x in range(self.size))
-        return self.listed([head + tail for head, tail in zip(heads, tails)])
-
-    def cells_text(self, *sides):
-        return self.listed([" ".join(map(self.name, cell)) for cell in self.cells(*sides)])
-
-    def row_text(self, w, members):
-        return self.listed([f"{self.name(x)}:{polynomial_text(self.row(w)[x])}" for x in members])
-
-    def work(self, state, count):
-        """The sums over the rows of generated words."""
-        entries = degree = total = 0
-        for _ in range(count):
-            word = []
-            for _ in range(12):
-                state = (75 * state + 74) % 65537
-                word.append(1 + state % len(self.letters))
-            rows = [coefficients(p) for p in self.row(self.element(word)).values()]
-            entries += len(rows)
-            degree = max(degree, *(len(p) - 1 for p in rows))
-            total += sum(map(sum, rows))
-        return [f"words {count} entries {entries} degree {degree} sum {total % BASE}"]
-
-    def whole(self, command):
-        """The answer to a command on the whole group."""
-        side = {"l": [self.lefts], "r": [self.rights]}
-        if command.endswith("wgraph"):
-            return self.graph_text(*side[command[0]])
-        return self.cells_text(*([self.lefts, self.rights] if command == "lrcells" else side[command[0]]))
-
-    def one(self, command, w):
-        """The answer to a command with one word."""
-        counts = [[i for i in self.below[w] if self.length[i] == k] for k in range(self.length[w] + 1)]
-        if command == "klbasis":
-            return self.row_text(w, self.below[w])
-        if command == "extremals":
-            return self.row_text(w, self.extremals(w))
-        if command == "ihbetti":
-            found = coefficients(sum(p * BASE ** self.length[x] for x, p in self.row(w).items()))
-            return [" ".join(map(str, found + [0] * (len(counts) - len(found))))]
-        return {
-            "compute": lambda: [self.name(w)],
-            "length": lambda: [str(self.length[w])],
-            "inverse": lambda: [self.name(self.inverse[w])],
-            "descent": lambda: [f"L {letters_text(self.lefts[w], '-')} R {letters_text(self.rights[w], '-')}"],
-            "coatoms": lambda: self.listed([self.name(i) for i in counts[-2]] if w else []),
-            "betti": lambda: [" ".join(str(len(level)) for level in counts)],
-        }[command]()
-
-    def two(self, command, y, w):
-        """The answer to a command with two words."""
-        return {
-            "inorder": lambda: ["true" if y in self.rs[w] else "false"],
-            "interval": lambda: self.listed([self.name(x) for x in self.below[w] if y in self.rs[x]]),
-            "rpol": lambda: [polynomial_text(self.rs[w].get(y, 0))],
-            "pol": lambda: [polynomial_text(self.row(w).get(y, 0))],
-            "invpol": lambda: [polynomial_text(self.inverse_row(w).get(y, 0))],
-            "mu": lambda: [str(self.mu(y, w))],
-        }[command]()
-
-    def text(self, line):
-        """The answer to a line that is accepted: a command on words, or on the group."""
-        command, *arguments = line.split()
-        if command == "work":
-            lines = self.work(*map(int, arguments))
-        else:
-            words = [self.element([] if it == "e" else list(map(int, it))) for it in arguments]
-            lines = (self.whole, self.one, self.two)[len(words)](command, *words)
-        return "".join(f"{it}\n" for it in lines)
-
-
-def group_of(line):
-    """The group that a line with `type` or `matrix` sets."""
-    command, first, *others = line.split()
-    if command == "type":
-        return Group(int(others[0]), labels_of(first, int(others[0])))
-    pairs = itertools.combinations(range(1, int(first) + 1), 2)
-    return Group(int(first), dict(zip(pairs, map(int, others))))
-
-
-def example(text):
-    """A script and what answers it, as bytes. Behind a line that is refused stands its answer, after a bar. `jobs`, `next` and `end` are
-    answered nothing, and the lines of a list as outside."""
-    group, script, answers, ended = None, "", "", False
-    for line in text.splitlines():
-        line, _, refusal = line.partition(" | ")
-        script += f"{line}\n"
-        ended = ended or (line == "quit" and not refusal)
-        if ended or line.strip() in ("", *(() if refusal else ("jobs", "next", "end"))):
-            continue
-        if refusal:
-            answers += f"{refusal}\n"
-        elif line.startswith(("type ", "matrix ")):
-            group = group_of(line)
-        else:
-            answers += group.text(line)
-    return script.encode(), answers.encode()

@@ -16,7 +16,7 @@ import sys
 import tempfile
 
 from common import WORKERS, Count, program
-from definitions import example
+from answers import example
 
 HERE = os.path.dirname(os.path.abspath(__file__))
 DONE, REFUSED, BAD_USAGE, NO_MEMORY = 0, 1, 2, 5

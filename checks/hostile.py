@@ -15,8 +15,9 @@ import subprocess
 import sys
 import time
 
+from answers import Answers, example
 from common import WORKERS, Count, peak, program
-from definitions import Group, example, labels_of
+from definitions import finite_group, labels_of
 
 COXETER = program(sys.argv[1:])
 COUNT = Count()
@@ -188,9 +189,10 @@ def many_lines(workers):
     check(f"ten million blank lines {workers}", b"\n" * 10_000_000, DONE, b"", workers)
     print(f"ten million blank lines {workers}: {time.time() - begin:.1f} s", flush=True)
     # `klbasis` of all elements of A 3, again and again, up to the most bytes.
-    group = Group(3, labels_of("A", 3))
-    commands = [f"klbasis {group.name(i)}" for i in range(group.size)]
-    script, answers = lines(*commands), "".join(map(group.text, commands)).encode()
+    group = finite_group(3, labels_of("A", 3))
+    answering = Answers(group)
+    commands = [f"klbasis {answering.name(i)}" for i in range(group.size)]
+    script, answers = lines(*commands), "".join(map(answering.text, commands)).encode()
     times = (MOST_BYTES - 10) // len(script)
     begin = time.time()
     check(f"16 MB of klbasis {workers}", b"type A 3\n" + script * times, DONE, answers * times, workers)

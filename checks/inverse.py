@@ -14,19 +14,19 @@ of the gate.
 import random
 import subprocess
 import sys
-from itertools import combinations
 
+from answers import Answers, polynomial_text, terms_of
 from common import Count, program
-from definitions import Group, labels_of, polynomial_text
+from definitions import finite_group, labels_of
 
 # The type and the rank, whether all rows are made first, and how many pairs are asked for, at random; all pairs where there is no number.
 FINITE = [("A", 4, False, None), ("B", 3, False, None), ("D", 4, False, None), ("F", 4, True, None)]
 FINITE += [("A", 5, False, 200), ("B", 4, False, 200)]
 # How many lines one run is given at most: the input of a run has a limit.
 LINES = 200_000
-# The line that sets the group, its rank, its labels other than 2, and the most letters.
+# The line that sets the group, its rank, its labels above the diagonal, and the most letters.
 DEFINED = [
-    ("matrix 3 3 3 3", 3, dict.fromkeys(combinations(range(1, 4), 2), 3), 8),
+    ("matrix 3 3 3 3", 3, (3, 3, 3), 8),
     ("type A 3", 3, labels_of("A", 3), None),
     ("type B 3", 3, labels_of("B", 3), None),
 ]
@@ -86,13 +86,13 @@ def check_finite(count, built, kind, rank, whole, number):
 
 def check_defined(count, built, line, rank, labels, most):
     """All pairs against the definition."""
-    group = Group(rank, labels, most)
-    names = [group.name(i) for i in range(group.size)]
+    group = finite_group(rank, labels, most)
+    names = [Answers(group).name(i) for i in range(group.size)]
     answers = iter(inverses(built, line, [(x, w) for w in names for x in names]))
     for w in range(group.size):
         row = group.inverse_row(w)
         for x in range(group.size):
-            count.check(f"Q({names[x]},{names[w]}) in {line}", next(answers, None), polynomial_text(row.get(x, 0)))
+            count.check(f"Q({names[x]},{names[w]}) in {line}", next(answers, None), polynomial_text(terms_of(row.get(x, 0))))
 
 
 def main():

@@ -4,9 +4,10 @@
     checks/limits.py
 
 Each limit of a package is looked up in the source that the program is proved and built from, by the
-name of its constant there. What a refusal means both packages have to say in the same words. It prints
-what differs, and a last line with counts; the exit status is 1 where something differs. It needs
-Python 3 alone, runs no program, and is no part of the gate.
+name of its constant there; so are those that stand in the text of a refusal, and the numbers that
+named types take. What a refusal means both packages have to say in the same words. It prints what
+differs, and a last line with counts; the exit status is 1 where something differs. It needs Python 3
+alone, runs no program, and is no part of the gate.
 """
 import os
 import re
@@ -42,6 +43,16 @@ LIMITS = [
     ("cox_rowcheck/src/limits.rt", "MAX_COEFFICIENT", certificates.MOST_OF_COEFFICIENT),
 ]
 
+# The number of a refusal or of an exit status, and the limits that its text has to name.
+NAMED = [
+    (errors.MEANINGS, 17, [("cox_base/src/limits.rt", "MAX_LETTERS")]),
+    (errors.MEANINGS, 18, [("cox_outside/src/limits.rt", "LINE_LIMIT")]),
+    (errors.MEANINGS, 31, [("cox_rowcheck/src/limits.rt", "MAX_LISTED")]),
+    (errors.MEANINGS, 34, [("cox_rpoly/src/lib.rt", "MAX_DIFFERENCE")]),
+    (errors.MEANINGS, 35, [("cox_shell/src/limits.rt", "MAX_BLOCKS"), ("cox_shell/src/limits.rt", "MAX_LINES")]),
+    (errors.STATUSES, 6, [("cox_outside/src/limits.rt", "INPUT_LIMIT")]),
+]
+
 # The same of what stands in gap/lib/program.gi.
 LIMITS_OF_GAP = [
     ("cox_outside/src/limits.rt", "LINE_LIMIT", "MostOfLine"),
@@ -54,6 +65,21 @@ def constant(path, name):
     with open(os.path.join(TOP, "crates", path), encoding="utf-8") as source:
         found = re.search(rf"^pub(?:\(crate\))? const {name}: \w+ = ([0-9_]+);", source.read(), re.M)
     return int(found.group(1).replace("_", "")) if found else None
+
+
+def named_types():
+    """The named types as `has_type` of cox_base takes them: the least and the greatest number of each letter."""
+    with open(os.path.join(TOP, "crates", "cox_base", "src", "named_type.rt"), encoding="utf-8") as source:
+        lines = re.findall("^ +b'(\\w)' => (.*),$", source.read().partition("fn has_type(")[2].partition("_ => false")[0], re.M)
+    greatest, found = kinds.MOST_RANK, {}
+    for letter, text in lines:
+        least, most = re.fullmatch(r"(?:(\d+) <= n && n (<=? ?\S+)(?: as u32)?|n == \d+)", text).groups()
+        if least is None:
+            found[letter] = (int(text.split()[-1]),) * 2
+        else:
+            sign, number = most.split()
+            found[letter] = int(least), (greatest if number == "MAX_RANK" else int(number)) - (sign == "<")
+    return found
 
 
 def of_gap(name):
@@ -72,6 +98,10 @@ def main():
     count = Count()
     for path, name, ours in LIMITS:
         count.check(f"{name} in crates/{path}", ours, constant(path, name))
+    for texts, key, constants in NAMED:
+        numbers = [int(it.replace(",", "")) for it in re.findall("[0-9][0-9,]*", texts[key])]
+        count.check(f"the numbers of {texts[key]!r}", numbers, [constant(*it) for it in constants])
+    count.check("the named types", kinds.TYPES, named_types())
     for path, name, gap_name in LIMITS_OF_GAP:
         [ours] = re.findall(rf'"CoxeterShell{gap_name}", ([0-9]+) \);', of_gap("program.gi"))
         count.check(f"{name} in crates/{path}, for GAP", int(ours), constant(path, name))

@@ -14,7 +14,7 @@ import os
 import subprocess
 
 from common import TOP, Count, program
-from definitions import Group, labels_of
+from definitions import finite_group, labels_of
 
 # Whole groups, whose rows several workers share; single rows, dealt out as chains; rows that are kept from line to line; refusals; and
 # lists of jobs, whose blocks are answered at once.
@@ -46,7 +46,7 @@ def counts(group, rows):
 def stress(count):
     """Compares the first lines that `crates/workers_stress` has to print, of all rows and of what the last one needs, each by 1, 2, 4
     and 16 workers."""
-    group = Group(4, labels_of("A", 4))
+    group = finite_group(4, labels_of("A", 4))
     want = [counts(group, range(group.size))] * 4 + ["of the last one " + counts(group, group.needed(group.size - 1))] * 4
     with open(os.path.join(TOP, "crates", "workers_stress", "stdout"), encoding="utf-8") as lines:
         count.check("crates/workers_stress/stdout", lines.read().splitlines()[: len(want)], want)

@@ -100,7 +100,7 @@ class CellTheory(Base):
         >>> CoxeterGroup("A", 3).mu_table()
         {((2,), (2, 1, 3, 2)): 1, ((1, 3), (1, 2, 3, 2, 1)): 1}
         """
-        pairs = (((x, w), value) for x, w, value in self.W_graph().edges() if len(w) - len(x) >= min_difference)
+        pairs = (((x, w), value) for x, w, value in self.W_graph().edges_across(min_difference))
         return PairDict(self, pairs, "mu")
 
     def _cell(self, side, w):

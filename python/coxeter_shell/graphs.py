@@ -5,13 +5,13 @@ import array
 import bisect
 import collections
 import itertools
-import operator
 from typing import Any, Iterable, Iterator, Tuple
 
 from . import drawing, pictures
 from .base import Element, Word
+from .edges import Edges
 from .tables import ElementDict, Table
-from .texts import check_rising, counted, gap, whole_number
+from .texts import check_rising, counted, gap
 
 Vertex = collections.namedtuple("Vertex", "element descents edges")
 Vertex.__doc__ = "A vertex of a W-graph: the element, its descents, and the values of its edges by its neighbours."
@@ -91,32 +91,19 @@ class WGraph(Drawn, Table):
         >>> WGraph.read(CoxeterGroup("A", 1), "left", texts) == CoxeterGroup("A", 1).W_graph()
         True
         """
-        numbers = collections.defaultdict(itertools.count().__next__)
-        own, sets, rows = [], [], []
+        reading = Edges(group._spelling)
+        own, sets = [], []
         for text in items:
-            element, *more = text.split(" ")
+            element, *more = text.split(" ", 2)
             if not more:
                 raise ValueError("its label is missing")
             own.append(element)
             sets.append(more[0])
-            rows.append(array.array("I", map(numbers.__getitem__, itertools.islice(more, 1, None))))
+            reading.add(element, more[1].split(" ") if len(more) > 1 else [])
         elements = list(map(group._spelling.element, own))
         check_rising(elements)
         read = {text: group._spelling.letter_set(text) for text in set(sets)}
-        places, values = places_of(group._spelling, {text: at for at, text in enumerate(own)}, numbers)
-        near, other = [], {}
-        for x, row in enumerate(rows):
-            found = [places[number] for number in row]
-            if None in found:
-                raise ValueError(f"{own[x]} has an edge to an element that is no vertex")
-            if not all(map(operator.lt, found, itertools.islice(found, 1, None))):
-                raise ValueError("the elements should be in ShortLex order")
-            near.append(array.array("I", found))
-            if not values.keys().isdisjoint(row):
-                other.update(((x, y), values[number]) for number, y in zip(row, found) if number in values)
-            rows[x] = None
-        check_both_ways(own, near, other)
-        return cls(group, side, elements, [read[text] for text in sets], near, other)
+        return cls(group, side, elements, [read[text] for text in sets], *reading.end())
 
     @property
     def vertices(self):
@@ -162,9 +149,19 @@ class WGraph(Drawn, Table):
         >>> list(CoxeterGroup("A", 1).W_graph().edges())
         [((), (1,), 1)]
         """
-        elements, other = self._elements, self._other
+        return self.edges_across(0)
+
+    def edges_across(self, least: int) -> Iterator[Any]:
+        """The same for those edges alone whose elements differ in length by at least so much.
+
+        >>> list(CoxeterGroup("A", 3).W_graph().edges_across(3))
+        [((2,), (2, 1, 3, 2), 1), ((1, 3), (1, 2, 3, 2, 1), 1)]
+        """
+        elements, other, lengths = self._elements, self._other, list(map(len, self._elements))
         for x, near in enumerate(self._near):
-            for y in near[bisect.bisect(near, x) :]:
+            # Longer elements stand behind shorter ones.
+            first = max(x + 1, bisect.bisect_left(lengths, lengths[x] + least))
+            for y in near[bisect.bisect_left(near, first) :]:
                 yield elements[x], elements[y], other.get((x, y), 1)
 
     def steps(self) -> Iterator[Tuple[Element, Element, int]]:
@@ -199,13 +196,17 @@ class WGraph(Drawn, Table):
         >>> sorted(graph.steps_between({x: len(x) for x in graph}))
         [(1, 0), (1, 2), (2, 1), (3, 2)]
         """
-        named = [names[x] for x in self._elements]
-        numbers = {name: number for number, name in enumerate(dict.fromkeys(named))}
-        named, names, sets, found = [numbers[name] for name in named], list(numbers), self._masks(), set()
-        for x, near in enumerate(self._near):
-            mine, of = sets[x], named[x]
-            found.update([(of, named[y]) for y in near if mine & ~sets[y] and named[y] != of])
-        return {(names[one], names[other]) for one, other in found}
+        # The elements of one name with the same descents are taken together.
+        kinds = [*zip((names[x] for x in self._elements), self._masks())]
+        numbers = {kind: number for number, kind in enumerate(dict.fromkeys(kinds))}
+        listed, own = list(numbers), [numbers[kind] for kind in kinds]
+        reached = [set() for _ in listed]
+        for of, near in zip(own, self._near):
+            reached[of].update(map(own.__getitem__, near))
+        found = set()
+        for (name, mine), others in zip(listed, reached):
+            found.update((name, other) for other, sets in map(listed.__getitem__, others) if mine & ~sets and other != name)
+        return found
 
     def part(self, elements: Iterable[Word]) -> WGraph:
         """The part of the graph that has these elements alone, and the edges between them.
@@ -262,42 +263,6 @@ class WGraph(Drawn, Table):
 
     def _gap_init_(self):
         return gap(list(self.edges()))
-
-
-def places_of(spelling, places, numbers):
-    """For the numbers of the texts of edges the places of their elements, None for those that are no vertices; and the values other than 1, by
-    their numbers."""
-    found, values = [], {}
-    for text, number in numbers.items():
-        element, _, value = text.rpartition(":")
-        if value != "1":
-            values[number] = whole_number(value)
-            if value == "0":
-                raise ValueError("an edge has no value")
-        found.append(places.get(element))
-        if found[-1] is None:
-            spelling.element(element)
-    return found, values
-
-
-def check_both_ways(own, near, other):
-    """Sees to it that each edge is one from both sides, with one value. Neighbours are places, in rising order."""
-    # How many neighbours of each vertex have been met from their side. Those before it in ShortLex order are met before it.
-    met = [bisect.bisect(row, x) for x, row in enumerate(near)]
-    for x, row in enumerate(near):
-        for y in row:
-            if y >= x:
-                break
-            at = met[y]
-            if at >= len(near[y]) or near[y][at] != x:
-                raise ValueError(f"the edge from {own[x]} to {own[y]} is not an edge back")
-            met[y] = at + 1
-    for x, row in enumerate(near):
-        if met[x] < len(row) or x in row:
-            raise ValueError(f"the edge from {own[x]} to {own[row[min(met[x], len(row) - 1)]]} is not an edge back")
-    for (x, y), value in other.items():
-        if other.get((y, x)) != value:
-            raise ValueError(f"the edge from {own[x]} to {own[y]} is not an edge back")
 
 
 class HasseDiagram(Drawn, ElementDict):

@@ -584,7 +584,7 @@ class CoxeterGroup(Elements, Names, CellTheory, Schubert, Hecke, Many, Jobs):
         element, *more = text.split(" ")
         if not more:
             raise ValueError("its label is missing")
-        edges = [texts.edge(self._spelling, it) for it in more[1:]]
+        edges = [(self._spelling.element(it), value) for it, value in map(texts.edge, more[1:])]
         texts.check_rising([y for y, value in edges])
         return Vertex(self._spelling.element(element), self._spelling.letter_set(more[0]), ElementDict(self, edges, "mu"))
 

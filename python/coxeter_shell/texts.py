@@ -148,12 +148,12 @@ def check_rising(elements):
         raise ValueError("the elements should be in ShortLex order")
 
 
-def edge(spelling, text):
-    """An edge of an item of a W-graph: the element, and the edge's value."""
+def edge(text):
+    """An edge of an item of a W-graph: the text of the element, and the edge's value."""
     element, _, value = text.rpartition(":")
     if value == "0":
         raise ValueError("an edge has no value")
-    return spelling.element(element), whole_number(value)
+    return element, 1 if value == "1" else whole_number(value)
 
 
 def gap(value: Any) -> str:

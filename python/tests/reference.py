@@ -1,4 +1,5 @@
-"""The symmetric groups by their definitions, to compare with. It is slow, and shares nothing with the package.
+"""The symmetric groups as permutations, to compare with. Kazhdan-Lusztig polynomials and cells are those of checks/definitions.py, which this
+stands on; like that it is slow, and shares nothing with the package.
 
 An element of A n is a permutation of 0 to n, as the tuple of its values. A word s1 s2 .. is the composition of the
 transpositions (s1-1 s1), (s2-1 s2), .., so that multiplying by s on the right swaps the values at the places s-1 and s.
@@ -6,24 +7,14 @@ A polynomial is the tuple of its coefficients by rising degree, without zeros at
 """
 import functools
 import itertools
+import operator
+import os
+import sys
 
+sys.path.append(os.path.join(os.path.dirname(os.path.abspath(__file__)), "..", "..", "checks"))
 
-def plus(a, b, factor=1, shift=0):
-    """The polynomial a + factor q^shift b."""
-    total = list(a) + [0] * (len(b) + shift - len(a))
-    for degree, coefficient in enumerate(b, shift):
-        total[degree] += factor * coefficient
-    while total and total[-1] == 0:
-        total.pop()
-    return tuple(total)
-
-
-def times(a, b):
-    """The product of two polynomials."""
-    total = ()
-    for degree, coefficient in enumerate(a):
-        total = plus(total, b, coefficient, degree)
-    return total
+import definitions  # noqa: E402
+from definitions import BASE, coefficients, invariant  # noqa: E402
 
 
 def length(w):
@@ -53,63 +44,50 @@ def left_descents(w):
     return right_descents(inverse(w))
 
 
+@functools.lru_cache(None)
+def counts(w):
+    """For all i and j how many values of j or more w has at its first i places."""
+    return [sum(it >= j for it in w[:i]) for i in range(len(w)) for j in range(len(w))]
+
+
 def below(x, w):
-    """Bruhat order: for all i and j, w has at least as many values of j or more at its first i places as x has."""
-    size = range(len(w))
-    return all(sum(it >= j for it in x[:i]) <= sum(it >= j for it in w[:i]) for i in size for j in size)
+    """Bruhat order: none of these numbers is greater for x than for w."""
+    return all(map(operator.le, counts(x), counts(w)))
 
 
-@functools.lru_cache(None)
+def numbered(x, w):
+    """The part of checks/definitions.py that has all of A n, and the numbers of two elements in it."""
+    real = group(len(w) - 1)
+    return real.part, real.number[x], real.number[w]
+
+
 def r_polynomial(x, w):
-    """R(x, w) by Kazhdan and Lusztig's recursion."""
-    if not below(x, w):
-        return ()
-    if x == w:
-        return (1,)
-    s = right_descents(w)[0]
-    xs, ws = right(x, s), right(w, s)
-    if s in right_descents(x):
-        return r_polynomial(xs, ws)
-    return plus(times((-1, 1), r_polynomial(x, ws)), r_polynomial(xs, ws), 1, 1)
+    """R(x, w)."""
+    part, x, w = numbered(x, w)
+    return tuple(coefficients(part.r_polynomials[w].get(x, 0)))
 
 
-@functools.lru_cache(None)
 def polynomial(x, w):
-    """P(x, w) by its definition: q^d P(1/q) - P is the sum of R(x, z) P(z, w) over the z with x < z <= w, where d is
-    l(w) - l(x) and the degree of P is at most (d-1)/2. So the part of low degree of the sum is -P."""
-    if not below(x, w):
-        return ()
-    if x == w:
-        return (1,)
-    total = ()
-    for z in group(len(w) - 1):
-        if z != x and below(x, z) and below(z, w):
-            total = plus(total, times(r_polynomial(x, z), polynomial(z, w)))
-    distance = length(w) - length(x)
-    found = plus((), [-it for it in total[: (distance - 1) // 2 + 1]])
-    reverse = plus((), [0] * (distance - len(found) + 1) + list(reversed(found)))
-    assert plus(reverse, found, -1) == total
-    return found
+    """P(x, w)."""
+    part, x, w = numbered(x, w)
+    return tuple(coefficients(part.row(w).get(x, 0)))
 
 
-@functools.lru_cache(None)
 def inverse_polynomial(x, w):
-    """Q(x, w) by its definition: the sum of (-1)^(l(z)-l(x)) P(x, z) Q(z, w) over the z with x <= z <= w is 1 where x = w, else 0."""
-    if not below(x, w):
-        return ()
-    total = (1,) if x == w else ()
-    for z in group(len(w) - 1):
-        if z != x and below(x, z) and below(z, w):
-            total = plus(total, times(polynomial(x, z), inverse_polynomial(z, w)), -((-1) ** (length(z) - length(x))))
-    return total
+    """Q(x, w)."""
+    part, x, w = numbered(x, w)
+    return tuple(coefficients(part.inverse_row(w).get(x, 0)))
 
 
 def mu(x, w):
-    distance = length(w) - length(x)
-    if distance < 1 or distance % 2 == 0:
-        return 0
-    p = polynomial(x, w)
-    return p[distance // 2] if len(p) > distance // 2 else 0
+    part, x, w = numbered(x, w)
+    return part.mu(x, w)
+
+
+def intersection_betti(w):
+    """The coefficients of the sum of q^l(x) P(x, w) over the x <= w."""
+    part, _, w = numbered(w, w)
+    return tuple(coefficients(part.betti(w)))
 
 
 # ---- parabolic polynomials
@@ -121,39 +99,33 @@ def is_shortest(w, letters):
 
 
 @functools.lru_cache(None)
-def parabolic_r_polynomial(u, v, letters, kind):
-    """Deodhar's R(u, v) for the cosets of W_J, by his recursion. The kind is a polynomial: q or -1."""
-    if not below(u, v):
-        return ()
-    if u == v:
-        return (1,)
+def parabolic_r_value(u, v, letters, kind):
+    """Deodhar's R(u, v) for the cosets of W_J at q = BASE, by his recursion. The kind is q or -1, at q = BASE too."""
+    if not below(u, v) or u == v:
+        return int(u == v)
     s = left_descents(v)[0]
     su, sv = left(u, s), left(v, s)
     if s in left_descents(u):
-        return parabolic_r_polynomial(su, sv, letters, kind)
-    shorter = parabolic_r_polynomial(u, sv, letters, kind)
+        return parabolic_r_value(su, sv, letters, kind)
+    shorter = parabolic_r_value(u, sv, letters, kind)
     if is_shortest(su, letters):
-        return plus(times((-1, 1), shorter), parabolic_r_polynomial(su, sv, letters, kind), 1, 1)
-    return times(plus((-1, 1), kind, -1), shorter)
+        return (BASE - 1) * shorter + BASE * parabolic_r_value(su, sv, letters, kind)
+    return (BASE - 1 - kind) * shorter
 
 
 @functools.lru_cache(None)
+def parabolic_value(u, v, letters, kind):
+    """Deodhar's P(u, v) at q = BASE, by its definition: as P, over the shortest elements of cosets alone."""
+    if not below(u, v) or u == v:
+        return int(u == v)
+    between = [z for z in group(len(v) - 1) if z != u and is_shortest(z, letters) and below(u, z) and below(z, v)]
+    total = sum(parabolic_r_value(u, z, letters, kind) * parabolic_value(z, v, letters, kind) for z in between)
+    return invariant(total, length(v) - length(u))
+
+
 def parabolic_polynomial(u, v, letters, kind):
-    """Deodhar's P(u, v), by its definition: as `polynomial`, over the shortest elements of cosets alone."""
-    if not below(u, v):
-        return ()
-    if u == v:
-        return (1,)
-    total = ()
-    for z in group(len(v) - 1):
-        if z != u and is_shortest(z, letters) and below(u, z) and below(z, v):
-            r = parabolic_r_polynomial(u, z, letters, kind)
-            total = plus(total, times(r, parabolic_polynomial(z, v, letters, kind)))
-    distance = length(v) - length(u)
-    found = plus((), [-it for it in total[: (distance - 1) // 2 + 1]])
-    reverse = plus((), [0] * (distance - len(found) + 1) + list(reversed(found)))
-    assert plus(reverse, found, -1) == total
-    return found
+    """Deodhar's P(u, v). The kind is a polynomial: q or -1."""
+    return tuple(coefficients(parabolic_value(u, v, letters, definitions.polynomial(kind))))
 
 
 # ---- Schubert varieties
@@ -188,7 +160,8 @@ def is_smooth_at(w, x):
 
 def a_values(n):
     """Lusztig's function a on A n by its definition: the greatest degree in v of the coefficient of C(z) in a product C(x) C(y) of elements
-    of the Kazhdan-Lusztig basis. These coefficients are polynomials in v + 1/v, and have the same degree in it."""
+    of the Kazhdan-Lusztig basis. These coefficients are polynomials in v + 1/v, and have the same degree in it; they are written by that
+    here, so C(s) C(s) is q C(s)."""
     elements = list(group(n))
     below_by = {}
     for s, w in itertools.product(range(1, n + 1), elements):
@@ -196,31 +169,31 @@ def a_values(n):
 
     def add(vector, other, factor):
         for z, p in other.items():
-            vector[z] = plus(vector.get(z, ()), times(p, factor))
+            vector[z] = vector.get(z, 0) + factor * p
 
     def by_letter(s, vector):
         """C(s) times a combination of basis elements."""
         found = {}
         for w, p in vector.items():
             if s in left_descents(w):
-                add(found, {w: p}, (0, 1))
+                add(found, {w: p}, BASE)
             else:
-                add(found, {left(w, s): p}, (1,))
-                add(found, {z: times(p, (value,)) for z, value in below_by[s, w]}, (1,))
+                add(found, {left(w, s): p}, 1)
+                add(found, dict(below_by[s, w]), p)
         return found
 
     greatest = dict.fromkeys(elements, 0)
     for y in elements:
-        products = {elements[0]: {y: (1,)}}
+        products = {elements[0]: {y: 1}}
         for x in elements[1:]:
             s = left_descents(x)[0]
             shorter = left(x, s)
             product = by_letter(s, products[shorter])
             for z, value in below_by[s, shorter]:
-                add(product, products[z], (-value,))
+                add(product, products[z], -value)
             products[x] = product
             for z, p in product.items():
-                greatest[z] = max(greatest[z], len(p) - 1)
+                greatest[z] = max(greatest[z], len(coefficients(p)) - 1)
     return greatest
 
 
@@ -257,37 +230,36 @@ def word_with_cycles(cycles):
     return word
 
 
+class Permutations(definitions.Elements):
+    """A n, for checks/definitions.py."""
+
+    def __init__(self, n):
+        self.letters, self.one = range(1, n + 1), tuple(range(n + 1))
+
+    def right(self, element, s):
+        return right(element, s)
+
+    def left(self, s, element):
+        return left(element, s)
+
+
 class Group:
-    """A n: its elements in ShortLex order of their normal forms. `words` has the normal form of each."""
+    """A n: its elements in ShortLex order of their normal forms. `words` has the normal form of each, `number` its number."""
 
     def __init__(self, n):
         self.n = n
-        self.words = {tuple(range(n + 1)): ()}
-        level = list(self.words)
-        while level:
-            # The first word of each element of the next length: normal forms are closed under beginnings.
-            found = {}
-            for w in level:
-                for s in range(1, n + 1):
-                    ws = right(w, s)
-                    if ws not in self.words and ws not in found:
-                        found[ws] = (*self.words[w], s)
-            level = sorted(found, key=found.get)
-            self.words.update((w, found[w]) for w in level)
+        self.part = definitions.Part(Permutations(n), Permutations(n).levels())
+        self.number, self.words = self.part.numbers, dict(zip(self.part.elements, self.part.words))
 
     def __iter__(self):
         return iter(self.words)
 
     def element(self, word):
-        w = tuple(range(self.n + 1))
-        for s in word:
-            w = right(w, s)
-        return w
+        return self.part.group.product(word)
 
     def edges(self, x):
         """The neighbours of x in the W-graph, in ShortLex order, with the values."""
-        values = {y: mu(x, y) or mu(y, x) for y in self}
-        return {y: value for y, value in values.items() if value}
+        return {self.part.elements[y]: value for y, value in self.part.edges[self.number[x]].items()}
 
     def cells_of(self, key):
         """The classes of elements with the same key, in ShortLex order of their first members."""
@@ -297,18 +269,9 @@ class Group:
         return list(classes.values())
 
     def cells_by_graph(self, *descents):
-        """The strong components of the graph with an edge from x to its neighbours y where the descents of y don't have
-        all of those of x, for one kind of descents or for both."""
-        steps = {x: {y for y in self.edges(x) if any(set(of(x)) - set(of(y)) for of in descents)} for x in self}
-        reach = {}
-        for x in self:
-            seen, todo = {x}, [x]
-            while todo:
-                new = steps[todo.pop()] - seen
-                seen |= new
-                todo.extend(new)
-            reach[x] = seen
-        return self.cells_of(lambda x: min(y for y in reach[x] if x in reach[y]))
+        """The cells by their definition, for one kind of descents or for both."""
+        cells = self.part.cells(*(list(map(of, self)) for of in descents))
+        return [[self.part.words[x] for x in cell] for cell in cells]
 
 
 @functools.lru_cache(None)

@@ -11,8 +11,10 @@ import sys
 import termios
 import time
 
-# So many seconds a test waits for something to be shown.
-PATIENCE = 120
+from patience import Patience
+
+# So many seconds a test waits for something to be shown, while nothing wants a processor.
+PATIENCE = 30
 
 # What readline sends besides texts: sequences for colours, for pasting, and for moving about.
 SEQUENCE = re.compile(r"\x1b\[[0-9;?]*[@-~]|\x07")
@@ -56,35 +58,40 @@ class Terminal:
 
     def expect(self, pattern):
         """Waits until something is shown that fits, behind what was awaited last, and gives what stands between."""
-        end = time.monotonic() + PATIENCE
+        limit, more = Patience(PATIENCE, self.pid), True
         while True:
             found = re.compile(pattern, re.M).search(self.shown, self._at)
             if found is not None:
                 between = self.shown[self._at : found.start()]
                 self._at = found.end()
                 return between
-            if time.monotonic() > end or not self._read(end - time.monotonic()):
+            try:
+                more = more and limit.wait(self._read)
+            except AssertionError:
+                more = False
+            if not more:
                 raise AssertionError(f"{pattern!r} is not shown behind {self.shown[self._at:]!r}")
 
     def ended(self):
         """Waits for the end, and gives the exit status."""
-        end = time.monotonic() + PATIENCE
-        while self._read(end - time.monotonic()):
-            pass
-        while self.status is None:
-            done, status = os.waitpid(self.pid, os.WNOHANG)
-            if done:
-                self.status = -os.WTERMSIG(status) if os.WIFSIGNALED(status) else os.WEXITSTATUS(status)
-            elif time.monotonic() > end:
-                raise AssertionError(f"the process doesn't end; it showed {self.shown!r}")
-            else:
-                time.sleep(0.01)
+        limit = Patience(PATIENCE, self.pid)
+        try:
+            while limit.wait(self._read):
+                pass
+            while self.status is None:
+                done, status = os.waitpid(self.pid, os.WNOHANG)
+                if done:
+                    self.status = -os.WTERMSIG(status) if os.WIFSIGNALED(status) else os.WEXITSTATUS(status)
+                else:
+                    limit.wait(time.sleep)
+        except AssertionError:
+            raise AssertionError(f"the process doesn't end; it showed {self.shown!r}") from None
         return self.status
 
     def _read(self, seconds):
-        """Takes what is shown next. False at the end."""
-        if not select.select([self.terminal], [], [], max(seconds, 0))[0]:
-            return False
+        """Takes what is shown next, if something is within so many seconds. False at the end."""
+        if not select.select([self.terminal], [], [], seconds)[0]:
+            return True
         try:
             data = os.read(self.terminal, 65536)
         except OSError as error:

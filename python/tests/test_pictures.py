@@ -1,12 +1,13 @@
 """Pictures and the command line that makes them."""
 import os
-import re
 import shutil
 import subprocess
 import sys
 import tempfile
 import unittest
+import unittest.mock
 
+import coxeter_shell
 import fakes
 from coxeter_shell import CoxeterGroup, drawing, find_program, pictures
 
@@ -153,17 +154,19 @@ class Pictures(unittest.TestCase):
                 with open(path, encoding="utf-8") as made:
                     self.assertEqual(made.read(), drawing.layered(*graph.layers()))
 
-    @unittest.skipIf(shutil.which("dot") is None, "graphviz is not installed")
-    def test_graphviz_itself(self):
-        with CoxeterGroup("B", 3) as group:
-            for text in (pictures.hasse(group, "12321"), pictures.w_graph(group), pictures.cells(group)):
-                drawn = pictures.draw(text, "svg").decode()
-                nodes = set(re.findall('^  (?:{ rank=same; |subgraph cluster_[0-9]+ { )?"([0-9e]+)"', text, re.M))
-                nodes |= set(re.findall('"([0-9e]+)";', text))
-                self.assertEqual(len(re.findall('class="node"', drawn)), len(nodes))
-                self.assertEqual(len(re.findall('class="edge"', drawn)), text.count(" -- "))
-                self.assertEqual(len(re.findall('class="cluster"', drawn)), text.count("subgraph"))
-            self.assertEqual(pictures.draw(text, "png")[:4], b"\x89PNG")
+    def test_png_in_notebooks(self):
+        """A notebook gets the PNG of graphviz beside the SVG: none where there is no graphviz, and none of a large graph."""
+        with fakes.Fakes() as folder, tempfile.TemporaryDirectory() as tools, CoxeterGroup("A", 2) as group:
+            graphs = group.W_graph(), group.hasse_diagram("e", "121"), group.cell_order()
+            shutil.copy(folder.shell('echo "$*"; cat'), os.path.join(tools, "dot"))
+            for graph in graphs:
+                with unittest.mock.patch.dict(os.environ, PATH=f"{tools}:{os.environ['PATH']}"):
+                    self.assertEqual(graph._repr_png_(), f"-Tpng\n{graph.dot()}".encode("ascii"))
+                    with unittest.mock.patch.object(coxeter_shell.graphs, "MOST_DRAWN", len(graph) - 1):
+                        self.assertIsNone(graph._repr_png_())
+                with unittest.mock.patch.dict(os.environ, PATH=os.path.join(tools, "none")):
+                    self.assertIsNone(graph._repr_png_())
+                    self.assertIn("</svg>", graph._repr_svg_())
 
 
 if __name__ == "__main__":

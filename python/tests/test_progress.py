@@ -89,16 +89,18 @@ class Progress(unittest.TestCase):
         source = """
 import sys
 from coxeter_shell import CoxeterGroup, progress
-progress.WAIT, progress.TICK, progress.DELAY = 0.1, 0.2, 100
+progress.WAIT, progress.TICK, progress.DELAY = 0.05, 0.1, 100
 with CoxeterGroup("A", 2, program=sys.argv[1], progress=True) as group:
     print(len(group.left_cells()), group.length("12"))
 """
         with fakes.Fakes() as folder:
-            slow = folder.fake('time.sleep(0.6)\nsay(*(["1", "e 1"] if line == "lcells" else ["7"]))')
+            slow = folder.fake('time.sleep(1)\nsay(*(["1", "e 1"] if line == "lcells" else ["7"]))')
             ran = subprocess.run([sys.executable, "-c", source, slow], capture_output=True, check=True)
         self.assertEqual(ran.stdout, b"1 7\n")
         said = ran.stderr.decode()
-        start, one = r"^((\rthe program starts, [0-9] s)+\r +\r)?", r"(\r{0}: computing, [0-9] s){{2,}}\r +\r"
+        # On a busy machine the program's start and the line that sets the group are awaited too.
+        start = r"^((\rthe program starts, [0-9]+ s)+\r +\r)?((\rtype A 2: computing, [0-9]+ s)+\r +\r)?"
+        one = r"(\r{0}: computing, [0-9]+ s){{2,}}\r +\r"
         self.assertRegex(said, f"{start}{one.format('lcells')}{one.format('length 12')}$")
 
     def test_in_a_notebook(self):

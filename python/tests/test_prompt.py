@@ -9,6 +9,7 @@ import unittest
 import unittest.mock
 
 import fakes
+import patience
 import terminals
 from coxeter_shell import CoxeterGroup, Refusal, diagrams, find_program, kinds
 from coxeter_shell.documents import read_document
@@ -182,14 +183,19 @@ class AtTerminal(unittest.TestCase):
     def test_typed_ahead(self):
         """While the program computes two lines are typed, of which one is blank. The answer is shown without a stop then."""
         with fakes.Fakes() as folder:
-            slow = folder.fake("time.sleep(4 if line == 'lcells' else 0)\nsay(*(['30'] + ['e'] * 30 if line == 'lcells' else ['7']))")
+            typed = os.path.join(folder.folder.name, "typed")
+            waiting = f"while line == 'lcells' and not os.path.exists({typed!r}):\n    time.sleep(0.01)\n"
+            slow = folder.fake(f"{waiting}say(*(['30'] + ['e'] * 30 if line == 'lcells' else ['7']))")
             with at_prompt("--program", slow, rows=10) as terminal:
                 terminal.expect("coxeter> ")
                 self.ask(terminal, "type A 4")
                 terminal.type("lcells\n")
                 terminal.expect("lcells\n")
                 terminal.type("\nlength 12\n")
-                terminal.expect(r"^-- 30 items, \d+\.\d s\nA 4> length 12\n7\nA 4> ")
+                open(typed, "w", encoding="ascii").close()
+                shown = terminal.expect(r"^(?:-- 30 items, \d+\.\d s\n)?A 4> length 12\n7\nA 4> ")
+                # The terminal may have shown what was typed at once.
+                self.assertEqual([it for it in shown.split("\n") if it not in ("", "length 12")], ["30"] + ["e"] * 30)
 
     def test_interrupts(self):
         with fakes.Fakes() as folder:
@@ -204,9 +210,9 @@ class AtTerminal(unittest.TestCase):
                 for question in ("lcells", "slocus 12321", "pol e *"):
                     terminal.type(f"{question}\n")
                     terminal.expect(f"{re.escape(question)}\n")
-                    end = time.monotonic() + terminals.PATIENCE
-                    while not os.path.exists(asked) and time.monotonic() < end:
-                        time.sleep(0.01)
+                    limit = patience.Patience(terminals.PATIENCE, terminal.pid)
+                    while not os.path.exists(asked):
+                        limit.wait(time.sleep)
                     os.remove(asked)
                     terminal.type("\x03")
                     terminal.expect("^-- stopped\nA 3> ")

@@ -10,6 +10,32 @@ from coxeter_shell import CoxeterGroup, Polynomial
 SAMPLE = 400
 
 
+class Reference(unittest.TestCase):
+    """The permutations against what checks/definitions.py makes of their products alone."""
+
+    def test_permutations(self):
+        for n in (1, 2, 3, 4):
+            real = reference.group(n)
+            for x, i in real.number.items():
+                self.assertEqual(real.part.length[i], reference.length(x))
+                self.assertEqual(real.part.inverse[i], real.number[reference.inverse(x)])
+                self.assertEqual(tuple(real.part.lefts[i]), reference.left_descents(x))
+                self.assertEqual(tuple(real.part.rights[i]), reference.right_descents(x))
+                self.assertEqual(real.part.below[i], [real.number[y] for y in real if reference.below(y, x)])
+
+    def test_matrices(self):
+        """A n by its reflection representation is the same."""
+        for n in (1, 2, 3):
+            real = reference.group(n).part
+            found = reference.definitions.finite_group(n, reference.definitions.labels_of("A", n))
+            self.assertEqual((found.words, found.left, found.right), (real.words, real.left, real.right))
+            self.assertEqual((found.r_polynomials, found.edges), (real.r_polynomials, real.edges))
+            self.assertEqual(*(list(map(part.row, range(part.size))) for part in (found, real)))
+            words = [word + word[::-1] + word[:2] for word in found.words]
+            normal = map(found.group.normal_form, words)
+            self.assertEqual([found.words.index(it) for it in normal], list(map(found.element, words)))
+
+
 class Symmetric(unittest.TestCase):
     def setUp(self):
         random.seed(20)
@@ -97,10 +123,7 @@ class Symmetric(unittest.TestCase):
                         extremal[it] = p
                 self.assertEqual(list(group.extremal_pairs(word).items()), list(extremal.items()))
                 self.assertEqual(list(group.iter_extremal_pairs(word)), list(extremal.items()))
-                total = ()
-                for it, p in row.items():
-                    total = reference.plus(total, p, 1, len(it))
-                self.assertEqual(group.intersection_betti_numbers(word), total)
+                self.assertEqual(group.intersection_betti_numbers(word), reference.intersection_betti(w))
 
     def test_W_graphs(self):
         for group, real in self.groups(3):
