@@ -8,7 +8,8 @@
 - `lcells`, and `module` of the largest left cell, of A 7, B 6 and E 6, or of those of `--groups` among them.
 - `work 7 100000` in A 4.
 
-`--native FILE` names a program that does the same (called as FILE LETTER N); it runs in turn with the others, and its whole time counts.
+`--native FILE` names a program that does the same, as bench/native/cells.rs (called as FILE LETTER N); it runs in turn with the others, and its
+whole time counts.
 Each figure is the least of five runs, or of one where a run takes more than ten seconds. Memory is the peak of the whole run, as the kernel
 tells it. With `--instructions` each row has millions of instructions in place of times, counted by valgrind's callgrind.
 """

@@ -5,8 +5,8 @@
                         the programs of this repository, if none are named
 
 Each row is a certificate, most of them of nearly 4,096 elements or of an element of nearly 39 letters. The program makes it once, and the
-checker reads it, which has to say yes. `--native FILE` names a program that checks the same, not verified (called as FILE t, with the
-certificate as its input); it runs in turn with the checker. `--cert` measures `cert w` beside `klbasis w` in its place; the time of a run
+checker reads it, which has to say yes. `--native FILE` names a program that checks the same, not verified, as bench/native/cert.rs (called as FILE t, with
+the certificate as its input); it runs in turn with the checker. `--cert` measures `cert w` beside `klbasis w` in its place; the time of a run
 that asks `length w` is taken off.
 
 Each figure is the least of five runs, of sixty where a run takes less than a tenth of a second, or of one where it takes more than ten

@@ -8,8 +8,8 @@ All Q(x,w0) of a group, for its longest element w0: one script with a line `invp
 that asks `length x` in place of these is taken off. The rows of the group are made on the way. And by the sums, where the rows are not all
 of a group: `invpol e w` in the affine group of A 2.
 
-`--native FILE` names a program that makes the same polynomials by the sums (called as FILE LETTER N, which writes `rows TIME` and
-`all Q(x,w): TIME`); it runs in turn with the others, and both times count. Each figure is the least of five runs, of sixty where a run
+`--native FILE` names a program that makes the same polynomials by the sums, as bench/native/inverse.rs (called as FILE LETTER N, which writes
+`rows TIME` and `all Q(x,w): TIME`); it runs in turn with the others, and both times count. Each figure is the least of five runs, of sixty where a run
 takes less than a tenth of a second, or of one where it takes more than ten seconds. Memory is the peak of the whole run, as the kernel
 tells it.
 """

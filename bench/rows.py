@@ -11,8 +11,8 @@
   and B 5 rising and falling, and the first 3,000 below 1234 repeated eight times in the affine group of A 3, rising. What is kept grows
   with each of them.
 
-`--native FILE` names a program that makes the same rows (called as FILE LETTER N, which writes a line `rows TIME` to standard error); it
-runs in turn with the others. Each figure is the least of five runs, of sixty where a run takes less than a tenth of a second, or of one
+`--native FILE` names a program that makes the same rows, as bench/native/rows.rs does (called as FILE LETTER N, which writes a line `rows TIME`
+to standard error); it runs in turn with the others. Each figure is the least of five runs, of sixty where a run takes less than a tenth of a second, or of one
 where it takes more than ten seconds. Memory is the peak of the whole run, as the kernel tells it. With `--instructions` each row has
 millions of instructions in place of times, counted by valgrind's callgrind.
 """

@@ -2,13 +2,21 @@
 """Which definitions the clauses of `run` unfold to, or those of `check`: what a reader has to believe, beside the toolchain.
 
     checks/believed.py [--list] [--kit KIT] [--clause NAME] [--beyond OTHER] [FUNCTION]
+    checks/believed.py --command NAME
+    checks/believed.py --write
 
 It begins with the names in the clauses of FUNCTION (`run` if none is named) in crates/cox_shell/src/top.rt, or of `check` in
-crates/cox_cert/src/checking.rt, and follows them through the `use` lines and definitions of crates/*/specs. For each file it prints how many lines those of
+crates/cox_cert/src/checking.rt, and of `code`, which gives the exit status, in the file `status.rt` beside it, and follows them through the
+`use` lines and definitions of crates/*/specs. For each file it prints how many lines those of
 its definitions have that are reached, and which are not reached; with `--list` also which are. Then come the types of
 the code that are reached, and the names of std and of the kit's crates. With `--kit`, the folder of the toolchain, the
-definitions of `clap` are followed too. With `--clause` it begins with the clause of that name alone. With `--beyond` it leaves out what
+definitions of `clap` are followed too. With `--clause` it begins with the clause of that name of FUNCTION alone. With `--beyond` it leaves out what
 the clauses of that function unfold to.
+
+With `--command` it prints what a reader of the answer to one command has to believe, say `pol`: the lines of the mathematics that the
+answer is, those of its text, and those of its refusals, with the reading of a line, each part counted, and each line in one part alone.
+`--write` puts these counts into the table at the head of docs/PROVED.md, and those of `run` and `check` into docs/DEFINITIONS.md and
+README.md; checks/documents.py fails where they are others.
 
 Lines of a definition are those that are neither blank nor comment; `use` lines are not counted. It needs Python 3 alone.
 """
@@ -19,9 +27,10 @@ import sys
 from collections import defaultdict
 
 TOP = os.path.dirname(os.path.dirname(os.path.abspath(__file__)))
-# The file of each function that can be named.
+# The file of each function that can be named, and the file of `code`, which gives the exit status.
 SHELL, CHECKER = "cox_shell/src/top.rt", "cox_cert/src/checking.rt"
 STARTS = {"run": SHELL, "run_one": SHELL, "check": CHECKER}
+STATUSES = {SHELL: "cox_shell/src/status.rt", CHECKER: "cox_cert/src/status.rt"}
 NAME = r"[^\s(){}\[\].,;:λ→×∷≡≢≤<>=¬⊎⊥↔+\-*/&|\"]+(?:-[^\s(){}\[\].,;:]+)*"
 HEAD = re.compile(rf"(?:pub\s+)?(?:abbrev|unfoldable|record|data)\s+(?:pub\s+)?({NAME})")
 USE = re.compile(r"^(?:ghost\s+|pub\s+)?use\s+([\w.]+?)(?:\.\{([^}]*)\}|\s+as\s+(\w+))?;?[ \t]*$", re.M)
@@ -90,18 +99,25 @@ def specs(folders):
     return files
 
 
-def clauses(function, clause):
-    """The file of a function, and the text of its clauses, or of the one with a name."""
-    here = File(os.path.join(TOP, "crates", STARTS[function]))
+def head_of(path, function):
+    """A file of code, and the clauses of a function there."""
+    here = File(os.path.join(TOP, "crates", path))
     begin = re.search(rf"\bfn {function}\b", here.text)
     if not begin:
-        sys.exit(f"{STARTS[function]} has no function {function}")
-    head = here.text[begin.start() : here.text.index("\n{", begin.start())]
-    head = re.sub(r"^\s*//.*$", "", head, flags=re.M)
+        sys.exit(f"{path} has no function {function}")
+    head = here.text[begin.start() : begin.start() + re.search(r"\n *\{\n", here.text[begin.start() :]).start()]
+    return here, re.sub(r"^\s*//.*$", "", head, flags=re.M)
+
+
+def clauses(function, clause):
+    """Where to begin: files, and the text of clauses in each."""
+    here, head = head_of(STARTS[function], function)
     named = re.findall(r"\bensures\s+(\w+)\s*(\{.*?)(?=\bensures\b|$)", head, re.S)
     if clause and clause not in dict(named):
         sys.exit(f"{function} has no clause {clause}")
-    return here, "\n".join(text for name, text in named if clause in (None, name))
+    if clause:
+        return [(here, dict(named)[clause])]
+    return [(here, "\n".join(text for _, text in named)), head_of(STATUSES[STARTS[function]], "code")]
 
 
 def names_in(text):
@@ -111,9 +127,10 @@ def names_in(text):
     return set(re.findall(NAME, text)) | set(re.findall(r"\w+\.\w+", text))
 
 
-def follow(files, here, text):
-    """All items that are reached from a text in a file, and the names from outside the files of definitions."""
-    reached, outside, todo = defaultdict(set), set(), [(here, text)]
+def follow(files, starts, text_of=Item.text):
+    """All items that are reached from texts in files, and the names from outside the files of definitions. What is taken for the text of
+    an item another function may say."""
+    reached, outside, todo = defaultdict(set), set(), list(starts)
 
     def take(path, name):
         file = files.get(path)
@@ -123,7 +140,7 @@ def follow(files, here, text):
             item = file.items[name]
             if item not in reached[path]:
                 reached[path].add(item)
-                todo.append((file, item.text()))
+                todo.append((file, text_of(item)))
         elif name in file.imports:
             take(*file.imports[name])
         else:
@@ -140,6 +157,185 @@ def follow(files, here, text):
             elif last and alias in file.aliases:
                 outside.add((file.aliases[alias], last))
     return reached, outside
+
+
+# ---- one command
+
+REPLIES = "Rattle.cox_replies.specs."
+GRAMMAR = "Rattle.cox_command.specs."
+# The definitions that say what a command word asks, by the shape of the word in the table of command words.
+QUESTIONS = {"One": "one_question", "Two": "two_question", "Plain": "group_question", "Work": "work_question"}
+# The files whose definitions say how an answer is written.
+TEXTS = {"cox_base.WordText", "cox_poly.PolynomialText", "cox_poly.Numerals", "cox_cert.Certificate"}
+# What every command's refusals begin with: the first refusal that has a cause, the command of a line, and the numbers.
+READING = ["IsRefused", "line_refusal", "command_of", "refusal_number"]
+PARTS = ("mathematics", "text", "refusals")
+
+
+def commands(files):
+    """The commands on elements and on the whole group, by their names: the shape and the variant of each."""
+    table = files[GRAMMAR + "CommandWord"].items["command_word_of"].text()
+    found = re.findall(r'codes "(\w+)"\) then Some (?:\((\w+) (\w+)\)|(\w+))', table)
+    return {name: (shape or other, variant) for name, shape, variant, other in found if (shape or other) in QUESTIONS}
+
+
+def question(files, shape, variant):
+    """The file of the definition that says what a command asks, the lines of its case, its refusals and its text."""
+    name = QUESTIONS[shape]
+    file = next(file for path, file in files.items() if path.startswith(REPLIES) and any(name == item.name for item in file.all))
+    lines, found = [], False
+    for line in file.items[name].lines[1:]:
+        if line.startswith(name):
+            found = not variant or line.split()[1] == variant
+        if found:
+            lines.append(line)
+    text = "\n".join(lines).partition("=")[2]
+    parts = re.search(r"Refuses = (.*?);\s*IsText = (.*?)\s*}", text, re.S)
+    refuses, answer = parts.groups() if parts else ("", text)
+    before = text[: parts.start()] if parts else ""
+    return file, lines, refuses + before, answer + before
+
+
+# The shapes of command words, by which the definitions of the grammar part their cases.
+SHAPES = {"Named", "Matrix", "Quit", "Jobs", "One", "Two", "Plain", "Work"}
+
+
+def lines_for(item, name, shape):
+    """The lines of a definition without its cases for other shapes of command words, and without other words in their table."""
+    kept, keep = [], True
+    for line in item.lines:
+        if line.startswith(item.name + " "):
+            keep = re.search(r"\w+", line[len(item.name) :] + " x").group(0) not in SHAPES - {shape}
+        if keep and (item.name != "command_word_of" or "codes" not in line or f'codes "{name}"' in line):
+            kept.append(line)
+    return kept
+
+
+def of_command(files, name):
+    """The lines that a reader of the answer to a command has to believe, by part and file, and those of its own case. Each file has a list
+    of items with their lines."""
+    shape, variant = commands(files)[name]
+    text_of = lambda item: "\n".join(lines_for(item, name, shape))
+    file, lines, refuses, answer = question(files, shape, variant)
+    # How the group and the words of a line become what is asked of, as the integer matrix of the group.
+    asked = next(it for it in files.values() if "question_of" in it.items)
+    given = text_of(asked.items["question_of"]).partition("\n")[2].partition("=")[2].replace(QUESTIONS[shape], "")
+    by_answer, by_refusals = follow(files, [(file, answer)], text_of)[0], defaultdict(set)
+    for path, items in follow(files, [(asked, given)], text_of)[0].items():
+        by_answer[path] |= items
+    for other, text in [(file, refuses)] + [(other, word) for other in files.values() for word in READING if word in other.items]:
+        for path, items in follow(files, [(other, text)], text_of)[0].items():
+            by_refusals[path] |= items - by_answer[path]
+    parts = {part: defaultdict(list) for part in PARTS}
+    for path, file in files.items():
+        is_text = path.startswith(REPLIES) or ".cox_print." in path or place(path) in TEXTS
+        for part, items in ("text" if is_text else "mathematics", by_answer[path]), ("refusals", by_refusals[path]):
+            parts[part][path] = [(item, lines_for(item, name, shape)) for item in file.all if item in items]
+    return parts, lines
+
+
+def count_of(parts):
+    """How many lines each part has."""
+    return [sum(len(lines) for items in parts[part].values() for _, lines in items) for part in PARTS]
+
+
+def print_command(files, name):
+    """Prints the lines of one command, part by part and file by file."""
+    parts, lines = of_command(files, name)
+    counts = count_of(parts)
+    print(f"What `{name}` asks ({len(lines)} lines):\n")
+    print("\n".join(lines))
+    for part, count in zip(PARTS, counts):
+        print(f"\n==== {part}: {count} lines")
+        for path in files:
+            if parts[part][path]:
+                print(f"\n-- {place(path).replace('.', '/specs/')}.antt")
+                for item, kept in parts[part][path]:
+                    print("\n".join(item.comments + kept))
+    print(f"\n{len(lines)} lines of its case, " + ", ".join(f"{count} of {part}" for part, count in zip(PARTS, counts)))
+
+
+# ---- what documents say
+
+
+def numbers(files):
+    """The counts that documents tell: of each crate's lines for `run` and beyond them for `check`, of the lines that are not reached, and of
+    each command."""
+    of = {name: follow(files, clauses(name, None))[0] for name in ("run", "check")}
+    only = follow(files, clauses("run", "run"))[0]
+    lines = lambda reached: sum(len(item.lines) for items in reached.values() for item in items)
+    beyond = {path: items - of["run"][path] for path, items in of["check"].items()}
+    by_crate = lambda reached: {
+        crate: sum(len(item.lines) for path, items in reached.items() if path.split(".")[1] == crate for item in items)
+        for crate in {path.split(".")[1] for path in reached}
+    }
+    left = sum(len(item.lines) for path, items in of["run"].items() if items for item in files[path].all if item not in items)
+    return {
+        "run": by_crate(of["run"]),
+        "beyond": by_crate(beyond),
+        "total": lines(of["run"]),
+        "written": lines(only),
+        "check": lines(of["check"]),
+        "more": lines(beyond),
+        "left": left,
+        "commands": {name: [len(of_command(files, name)[1]), *count_of(of_command(files, name)[0])] for name in commands(files)},
+    }
+
+
+def with_sums(section, counts):
+    """A table of DEFINITIONS.md, whose first cells name crates and whose second ones have their lines."""
+
+    def row(found):
+        crates = re.findall(r"`(\w+)`", found.group(1))
+        return f"| {found.group(1)} | {sum(counts.get(it, 0) for it in crates):,} |"
+
+    return re.sub(r"^\| ([^|]*`[^|]*`[^|]*) \| [0-9,]+ \|", row, section, flags=re.M)
+
+
+def told(files):
+    """The documents that tell counts, by their paths: as they are, and as they should be; and the sentences that are missing."""
+    known, texts, missing = numbers(files), {}, []
+    for path in ("docs/DEFINITIONS.md", "docs/PROVED.md", "README.md"):
+        with open(os.path.join(TOP, path), encoding="utf-8") as document:
+            texts[path] = document.read()
+    new = dict(texts)
+
+    def put(path, before, number, behind):
+        words = [re.escape(it).replace(r"\ ", r"\s+") for it in (before, behind)]
+        pattern = rf"({words[0]})[0-9][0-9,]*({words[1]})"
+        if not re.search(pattern, new[path]):
+            missing.append(f"{path} does not say '{before}N{behind}'")
+        new[path] = re.sub(pattern, lambda it: f"{it.group(1)}{number:,}{it.group(2)}", new[path], count=1)
+
+    path = "docs/DEFINITIONS.md"
+    first, second, rest = new[path].partition("**The second program's claim**")
+    table = re.search(r"^\| crate \| lines \|.*?(?=\n\n)", first, re.M | re.S)
+    mended = with_sums(table.group(0), known["run"])
+    first = first.replace(table.group(0), re.sub(r"^\| together \| [0-9,]+ \|", f"| together | {known['total']:,} |", mended, flags=re.M))
+    table = re.search(r"^\| crate \| lines \|.*?(?=\n\n)", rest, re.M | re.S)
+    new[path] = first + second + rest.replace(table.group(0), with_sums(table.group(0), known["beyond"]), 1)
+    put(path, "Of all these lines ", known["written"], " are those of what is written alone")
+    put(path, "In the same files stand ", known["left"], " lines more")
+    put(path, "It unfolds to ", known["check"], " lines")
+    put(path, "of which ", known["check"] - known["more"], " are among those above")
+    put(path, "The ", known["more"], " that are not")
+    put("README.md", "read the definitions (", known["total"], " lines for `coxeter`")
+    put("README.md", "`coxeter`, ", known["check"], " for `coxcheck`")
+    put("README.md", "for `coxcheck`, ", known["total"] + known["more"], " for both)")
+    rows = dict(re.findall(r"^\| `(\w+)[^`]*` \| (.*?) \| [0-9]+ \| [0-9]+ \| [0-9]+ \|$", new["docs/PROVED.md"], re.M))
+    lines = [ROW.format(name=shown(files, name), said=rows.get(name, "?"), own=own, m=m, t=t, r=r) for name, (own, m, t, r) in known["commands"].items()]
+    table = re.search(rf"^{re.escape(HEAD_OF_COMMANDS)}\n(?:\|.*\n)*", new["docs/PROVED.md"], re.M)
+    new["docs/PROVED.md"] = new["docs/PROVED.md"].replace(table.group(0), HEAD_OF_COMMANDS + "\n|---|---|---|---|---|\n" + "".join(lines))
+    return {path: (texts[path], new[path]) for path in texts}, missing
+
+
+HEAD_OF_COMMANDS = "| command | what it answers | mathematics | text | refusals |"
+ROW = "| `{name}` | {said} | {m} | {t} | {r} |\n"
+
+
+def shown(files, name):
+    """A command with the arguments that it takes."""
+    return name + {"One": " w", "Two": " y w", "Plain": "", "Work": " g k"}[commands(files)[name][0]]
 
 
 def path_of(files, file):
@@ -175,6 +371,8 @@ def main():
     words.add_argument("--kit", help="the folder of the toolchain: follow the definitions of clap too")
     words.add_argument("--clause", help="follow the clause of this name alone")
     words.add_argument("--beyond", choices=STARTS, help="leave out what this function's clauses unfold to")
+    words.add_argument("--command", help="print what one command's answer unfolds to")
+    words.add_argument("--write", action="store_true", help="write the counts into the documents")
     words.add_argument("function", nargs="?", choices=STARTS, default="run", help="whose clauses (default: run)")
     words = words.parse_args()
     listed = words.list
@@ -183,9 +381,20 @@ def main():
     if words.kit:
         folders.append(os.path.join(words.kit, "rattle", "clap"))
     files = specs(folders)
-    reached, outside = follow(files, *clauses(words.function, words.clause))
+    if words.command:
+        if words.command not in commands(files):
+            sys.exit(f"no command on elements or on the whole group: {words.command}; there are {' '.join(commands(files))}")
+        return print_command(files, words.command)
+    if words.write:
+        documents, missing = told(files)
+        print("\n".join(missing), end="\n" if missing else "")
+        for path, (_, new) in documents.items():
+            with open(os.path.join(TOP, path), "w", encoding="utf-8") as document:
+                document.write(new)
+        return None
+    reached, outside = follow(files, clauses(words.function, words.clause))
     if words.beyond:
-        known, _ = follow(files, *clauses(words.beyond, None))
+        known, _ = follow(files, clauses(words.beyond, None))
         reached = defaultdict(set, {path: items - known[path] for path, items in reached.items()})
     total = commented = left = 0
     for path, file in files.items():
@@ -212,4 +421,5 @@ def main():
     print(f"in the same files {left} lines are not reached")
 
 
-main()
+if __name__ == "__main__":
+    main()

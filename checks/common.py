@@ -81,6 +81,14 @@ def unread(descriptor):
     return int.from_bytes(fcntl.ioctl(descriptor, termios.FIONREAD, bytes(4)), sys.byteorder)
 
 
+def refuse_library(folder):
+    """The library of checks/refuse.c, which is built into this folder by cc."""
+    path = os.path.join(folder, "refuse.so")
+    source = os.path.join(TOP, "checks", "refuse.c")
+    subprocess.run(["cc", "-shared", "-fPIC", "-O2", "-o", path, source], check=True)
+    return path
+
+
 def peak(child):
     """The most memory that a process has had by now, in KiB, once it has read what it was given."""
     while unread(child.stdin.fileno()):

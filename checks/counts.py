@@ -100,4 +100,5 @@ def main():
     count.end("counts")
 
 
-main()
+if __name__ == "__main__":
+    main()

@@ -15,10 +15,9 @@ import subprocess
 import sys
 import tempfile
 
-from common import WORKERS, Count, program
+from common import WORKERS, Count, program, refuse_library
 from answers import example
 
-HERE = os.path.dirname(os.path.abspath(__file__))
 DONE, REFUSED, BAD_USAGE, NO_MEMORY = 0, 1, 2, 5
 USAGE = b"usage: coxeter [--workers N] [--context N] [--coef N] [--roots N]\n"
 
@@ -94,9 +93,7 @@ class Runs:
     """Runs of a program with refused requests."""
 
     def __init__(self, built, folder):
-        self.built, self.library = built, os.path.join(folder, "refuse.so")
-        source = os.path.join(HERE, "refuse.c")
-        subprocess.run(["cc", "-shared", "-fPIC", "-O2", "-o", self.library, source], check=True)
+        self.built, self.library = built, refuse_library(folder)
 
     def run(self, script, arguments, first=0, last=0):
         """The status, what was written to standard output and to standard error, and the number of requests."""

@@ -6,16 +6,17 @@
 Lists at their limits and far beyond, blank, long and foreign lines, lines that no block may have, lists that are open at the end, one list
 after another, lists by chance, lists inside which reading ends, and sixteen blocks that ask for all of B 5. Each is answered with 1, 2 and 16 workers. What a line gives is
 asked of the program by a script of that line and its group alone. It prints what differs, and a last line with counts; the exit status
-is 1 where something differs. It needs Python 3 and Linux, takes a minute or two, and is no part of the gate.
+is 1 where something differs. It needs Python 3, Linux and cc, takes a minute or two, and is no part of the gate.
 """
 import functools
 import os
 import random
 import subprocess
 import sys
+import tempfile
 import time
 
-from common import WORKERS, Count, peak, program
+from common import WORKERS, Count, program, refuse_library
 
 COXETER = program(sys.argv[1:])
 COUNT = Count()
@@ -31,13 +32,15 @@ def run(script, arguments=(), stdout=subprocess.PIPE, **streams):
     return ran.returncode, ran.stdout, ran.stderr
 
 
-def most_memory(script):
-    """The most memory that a run has had, in KiB, once it has read this beginning of a script."""
-    with subprocess.Popen([COXETER], stdin=subprocess.PIPE, stdout=subprocess.DEVNULL, bufsize=0) as child:
-        child.stdin.write(script)
-        most = peak(child)
-        child.stdin.close()
-    return most
+def most_memory(library, script):
+    """The most memory that a run of this script holds at one time, in KiB: what it was given and has not given back, counted at each request
+    (checks/refuse.c). What the kernel tells of a process wavers by more than what is compared here."""
+    read_end, write_end = os.pipe()
+    variables = {"LD_PRELOAD": library, "REFUSE_HELD": str(write_end)}
+    subprocess.run([COXETER], input=script, stdout=subprocess.DEVNULL, env=variables, pass_fds=[write_end], timeout=SECONDS)
+    os.close(write_end)
+    with open(read_end, "rb") as report:
+        return int(report.read()) >> 10
 
 
 @functools.cache
@@ -154,12 +157,16 @@ def at_the_limits():
 def millions():
     """A list of millions of lines and blocks takes no more memory than one that is just too long."""
     begun = time.monotonic()
-    script = GROUP + b"\njobs\n" + b"\n" * 5_000_000 + b"next\n" * 500_000
+    both = b"\n" * 5_000_000 + b"next\n" * 500_000
+    script = GROUP + b"\njobs\n" + both
     check("a list of millions of lines and blocks", script + b"end\nlength 1\n", b"error 35\n1\n")
     check("the same, open at the end", script, b"error 35\n")
-    short = most_memory(GROUP + b"\njobs\n" + b"\n" * 1_001)
-    for what, lines in (("lines", b"\n" * 10_000_000), ("blocks", b"next\n" * 3_000_000), ("both", script)):
-        most = most_memory(GROUP + b"\njobs\n" + lines)
+    rows = (("lines", b"\n" * 10_000_000), ("blocks", b"next\n" * 3_000_000), ("both", both))
+    with tempfile.TemporaryDirectory() as folder:
+        library = refuse_library(folder)
+        short = most_memory(library, GROUP + b"\njobs\n" + b"\n" * 1_001)
+        found = [(what, most_memory(library, GROUP + b"\njobs\n" + lines)) for what, lines in rows]
+    for what, most in found:
         COUNT.check(f"millions of {what} take at most 64 KiB more: {short}, {most}", most - short <= 64, True)
     print(f"lists of millions of lines: {time.monotonic() - begun:.1f} s, at most {short} KiB", flush=True)
 

@@ -235,4 +235,5 @@ def main():
     count.end("modules")
 
 
-main()
+if __name__ == "__main__":
+    main()

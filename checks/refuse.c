@@ -5,11 +5,15 @@
 //   REFUSE_FIRST=N   the first one that is refused; at 0, or without it, none is
 //   REFUSE_LAST=N    the last one
 //   REFUSE_COUNT=N   at the end the count of requests is written to the file descriptor N, as a line
+//   REFUSE_HELD=N    at the end the most bytes that were held at one time are written to the file descriptor N, as a line
+//
+// What is held is counted as the library rounds it; what it keeps for itself, and how it shares pages out, is not.
 //
 // Built by: cc -shared -fPIC -O2 -o refuse.so refuse.c
 #define _GNU_SOURCE
 #include <dlfcn.h>
 #include <errno.h>
+#include <malloc.h>
 #include <pthread.h>
 #include <stdatomic.h>
 #include <stdio.h>
@@ -21,12 +25,14 @@ extern void *__libc_malloc(size_t);
 extern void *__libc_calloc(size_t, size_t);
 extern void *__libc_realloc(void *, size_t);
 extern void *__libc_memalign(size_t, size_t);
+extern void __libc_free(void *);
 
 typedef int starting(pthread_t *, const pthread_attr_t *, void *(*)(void *), void *);
 
 static atomic_ulong requests;
+static atomic_long held, most;
 static unsigned long first, last;
-static int report = -1;
+static int report = -1, report_held = -1;
 static starting *start;
 
 static unsigned long number(const char *name) {
@@ -38,15 +44,20 @@ static unsigned long number(const char *name) {
 __attribute__((constructor)) static void begin(void) {
     start = (starting *)dlsym(RTLD_NEXT, "pthread_create");
     report = getenv("REFUSE_COUNT") ? (int)number("REFUSE_COUNT") : -1;
+    report_held = getenv("REFUSE_HELD") ? (int)number("REFUSE_HELD") : -1;
     last = number("REFUSE_LAST");
     first = number("REFUSE_FIRST");
     atomic_store(&requests, 0);
+    atomic_store(&held, 0);
+    atomic_store(&most, 0);
 }
 
 __attribute__((destructor)) static void end(void) {
     if (report >= 0)
         dprintf(report, "%lu\n", atomic_load(&requests));
-    report = -1;
+    if (report_held >= 0)
+        dprintf(report_held, "%ld\n", atomic_load(&most));
+    report = report_held = -1;
 }
 
 // A program that has threads may end by this, and then nothing is called at its end.
@@ -66,14 +77,44 @@ static void *none(void) {
     return NULL;
 }
 
-void *malloc(size_t size) { return refused() ? none() : __libc_malloc(size); }
-void *calloc(size_t count, size_t size) { return refused() ? none() : __libc_calloc(count, size); }
-void *realloc(void *old, size_t size) { return refused() ? none() : __libc_realloc(old, size); }
-void *memalign(size_t align, size_t size) { return refused() ? none() : __libc_memalign(align, size); }
-void *aligned_alloc(size_t align, size_t size) { return refused() ? none() : __libc_memalign(align, size); }
+// Notes that a block is held, or that it is no longer.
+static void *hold(void *block) {
+    if (block) {
+        long now = atomic_fetch_add(&held, malloc_usable_size(block)) + malloc_usable_size(block);
+        long before = atomic_load(&most);
+        while (now > before && !atomic_compare_exchange_weak(&most, &before, now))
+            ;
+    }
+    return block;
+}
+
+static void let_go(void *block) {
+    if (block)
+        atomic_fetch_sub(&held, malloc_usable_size(block));
+}
+
+void *malloc(size_t size) { return refused() ? none() : hold(__libc_malloc(size)); }
+void *calloc(size_t count, size_t size) { return refused() ? none() : hold(__libc_calloc(count, size)); }
+void *memalign(size_t align, size_t size) { return refused() ? none() : hold(__libc_memalign(align, size)); }
+void *aligned_alloc(size_t align, size_t size) { return memalign(align, size); }
+
+void *realloc(void *old, size_t size) {
+    if (refused())
+        return none();
+    long before = old ? malloc_usable_size(old) : 0;
+    void *block = __libc_realloc(old, size);
+    if (block || size == 0)
+        atomic_fetch_sub(&held, before);
+    return hold(block);
+}
+
+void free(void *block) {
+    let_go(block);
+    __libc_free(block);
+}
 
 int posix_memalign(void **result, size_t align, size_t size) {
-    void *found = refused() ? NULL : __libc_memalign(align, size);
+    void *found = refused() ? NULL : hold(__libc_memalign(align, size));
     if (!found)
         return ENOMEM;
     *result = found;
