@@ -17,8 +17,8 @@ use Rattle.cox_poly.proofs.Coefficients.{times_q_power-zero, times_q_power-suc}
 use Rattle.cox_poly.proofs.Coefficients.{flip-none, flip-plus, flip-minus, flip-scaled, flip-suc, flip-times_q, flip_low-times_q}
 use Rattle.cox_poly.proofs.Products.{product-plus, product-negated, product-scaled, product-times_q}
 use Rattle.cox_rpoly.specs.RPolynomial.{r_polynomial}
+use Rattle.cox_rpoly.specs.InverseOperators.{shortens_left}
 use Rattle.cox_hecke.specs.Family.{Family}
-use Rattle.cox_hecke.specs.Operators.{shortens_left}
 use Rattle.cox_hecke.specs.Sums.{bar_sum}
 use Rattle.cox_hecke.specs.StepFamily.{step}
 use Rattle.cox_hecke.proofs.Descents.{Moves, left_moves}

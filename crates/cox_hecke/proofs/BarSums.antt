@@ -14,9 +14,9 @@ use Rattle.cox_poly.specs.Products.{product}
 use Rattle.cox_poly.specs.Multiples.{negated}
 use Rattle.cox_poly.proofs.Products.{product-plus, plus-product, negated-product, product-times_q, times_q-product}
 use Rattle.cox_rpoly.specs.RPolynomial.{r_polynomial}
+use Rattle.cox_rpoly.specs.InverseOperators.{shortens_left}
 use Rattle.cox_rpoly.proofs.PolynomialsOfElements.{r_polynomial-same}
 use Rattle.cox_hecke.specs.Family.{Family, RespectsElements}
-use Rattle.cox_hecke.specs.Operators.{shortens_left}
 use Rattle.cox_hecke.specs.Sums.{bar_sum}
 use Rattle.cox_hecke.specs.ListedElements.{occurrences}
 use Rattle.cox_hecke.specs.ClosedLists.{IsClosedUnder}

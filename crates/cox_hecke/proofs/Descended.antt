@@ -26,8 +26,8 @@ use Rattle.cox_reflect.proofs.WordsAndSubwords.{reverse-push}
 use Rattle.cox_poly.specs.Coefficients.{Coefficients, times_q}
 use Rattle.cox_poly.specs.Products.{times_q_power}
 use Rattle.cox_poly.specs.Multiples.{scaled}
+use Rattle.cox_rpoly.specs.InverseOperators.{shortens_left}
 use Rattle.cox_hecke.specs.Family.{Family, RespectsElements}
-use Rattle.cox_hecke.specs.Operators.{shortens_left}
 use Rattle.cox_hecke.specs.Row.{IsRow, IsMu, middle_coefficient}
 use Rattle.cox_hecke.specs.Step.{IsCorrection}
 use Rattle.cox_hecke.specs.StepFamily.{step, Correction, AreCorrections, correction_sum}

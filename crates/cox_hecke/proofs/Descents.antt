@@ -20,7 +20,8 @@ use Rattle.cox_reflect.proofs.Search.{normal_form-same, word_length-equal, word_
 use Rattle.cox_reflect.proofs.Lengths.{word_length-is, word_length-cons_reverse, word_length-reverse, IsReduced-tail}
 use Rattle.cox_reflect.proofs.Roots.{left_descent-letter, left_descent_reverse}
 use Rattle.cox_reflect.proofs.Deletion.{left_length, right_length, sides_same}
-use Rattle.cox_hecke.specs.Operators.{shortens_left, shortens_right}
+use Rattle.cox_rpoly.specs.InverseOperators.{shortens_left}
+use Rattle.cox_hecke.specs.Operators.{shortens_right}
 
 -- from length m to length n, down by one or up by one
 abbrev pub Moves : Bool → ℕ → ℕ → Type 0

@@ -24,8 +24,8 @@ use Rattle.cox_reflect.proofs.NormalElements.{element-normal_form, element-uniqu
 use Rattle.cox_reflect.proofs.Listing.{listing, in-contains}
 use Rattle.cox_reflect.proofs.Roots.{left_descent-letter}
 use Rattle.cox_reflect.proofs.Bruhat.{below-same, below-refl, below_identity, lift_down, lift_up}
+use Rattle.cox_rpoly.specs.InverseOperators.{shortens_left}
 use Rattle.cox_hecke.specs.ListedElements.{is_same, occurrences, ListsEach, LiesBetween}
-use Rattle.cox_hecke.specs.Operators.{shortens_left}
 use Rattle.cox_hecke.proofs.Descents.{yes-nat_lt, no-nat_lt, shortens_left-same, shortens_left-back, some_left_descent}
 use Rattle.cox_hecke.proofs.ListSums.{same-is_same, is_same-same, not_same-is_same, same_or_not, occurrences-at}
 

@@ -22,8 +22,8 @@ use Rattle.cox_reflect.proofs.Roots.{left_descent-letter}
 use Rattle.cox_poly.specs.Coefficients.{Coefficients}
 use Rattle.cox_poly.specs.Products.{times_q_power}
 use Rattle.cox_poly.specs.Multiples.{minus, scaled}
+use Rattle.cox_rpoly.specs.InverseOperators.{shortens_left}
 use Rattle.cox_hecke.specs.Family.{Family, RespectsElements}
-use Rattle.cox_hecke.specs.Operators.{shortens_left}
 use Rattle.cox_hecke.specs.Sums.{sum_over}
 use Rattle.cox_hecke.specs.Row.{IsRow}
 use Rattle.cox_hecke.specs.ListedElements.{occurrences}

@@ -16,16 +16,16 @@ use Rattle.cox_reflect.proofs.Search.{word_length-equal, word_length-length}
 use Rattle.cox_base.specs.Length.{word_length}
 use Rattle.cox_reflect.proofs.Lengths.{IsReduced-reverse, IsReduced-tail, empty_same}
 use Rattle.cox_poly.specs.Coefficients.{Coefficients, zero_polynomial, plus, times_q, times_q_less_one}
+use Rattle.cox_rpoly.specs.InverseOperators.{shortens_left, left_inverse, left_inverse_word, unit}
+use Rattle.cox_rpoly.proofs.Expansion.{unit-one, unit-other}
 use Rattle.cox_hecke.specs.Family.{Family, RespectsElements}
 use Rattle.cox_hecke.specs.ListedElements.{is_same}
-use Rattle.cox_hecke.specs.Operators.{basis, shortens_left, left, right, left_inverse, right_inverse, left_word, right_word}
-use Rattle.cox_hecke.specs.Operators.{left_inverse_word}
+use Rattle.cox_hecke.specs.Operators.{basis, left, right, right_inverse, left_word, right_word}
 use Rattle.cox_hecke.specs.StepFamily.{step}
 use Rattle.cox_hecke.proofs.Descents.{shortens_left-same, shortens_left-back, reduced-letter, reduced-rises}
 use Rattle.cox_hecke.proofs.Signed.{at_inverses, at_inverses-respects, at_inverses-by_left, plus_signed, first_times_q, first_alone}
 use Rattle.cox_hecke.proofs.Signed.{minus_signed}
 use Rattle.cox_hecke.proofs.Signed.{family_times_q, left_signed-back, back-left, by_left-respects, by_right-respects}
-use Rattle.cox_hecke.proofs.RPolynomials.{unit, unit-one, unit-other}
 use Rattle.cox_hecke.proofs.WordOperators.{left_along, back_along, left_along-same, back_along-same}
 use Rattle.cox_hecke.proofs.ListSums.{same_or_not, same-is_same, not_same-is_same}
 use Rattle.cox_hecke.proofs.ElementLists.{is_same-moved}
@@ -41,7 +41,7 @@ left_along-word A (s ∷ u) h =
     left_along-word A u (left A s h) ∙ sym (left_word-append A (reverse u) (s ∷ []) h)
     ∙ ap (λ (v : List ℕ). left_word A v h) (sym (reverse-cons s u))
 
-pub back_along-word : (A : IntegerMatrix) (u : List ℕ) (h : Family) → left_inverse_word A u h ≡ back_along A true u h
+back_along-word : (A : IntegerMatrix) (u : List ℕ) (h : Family) → left_inverse_word A u h ≡ back_along A true u h
 back_along-word A [] h = refl
 back_along-word A (s ∷ u) h = ap (left_inverse A s) (back_along-word A u h)
 

@@ -3,10 +3,8 @@
 -- descent.
 use Rattle.std.proofs.Common.{◌≡◌, ℕ, zero, suc, Bool, true, false, not, if◌then◌else◌, List, [], ◌∷◌, ◌++◌, reverse}
 use Rattle.std.proofs.Common.{refl, ap, sym, ◌∙◌, ⊎_elim, arith}
-use Rattle.std.specs.Prelude.{◌==◌}
 use Rattle.std.proofs.lemmas.Int.{ints}
 use Rattle.std.proofs.lemmas.Bool.{cases_eq}
-use Rattle.std.proofs.lemmas.Bool.Decides.{nat_tests}
 use Rattle.std.proofs.lemmas.List.Elements.{All-head, All-tail}
 use Rattle.std.proofs.lemmas.List.{reverse-reverse}
 use mathlib.Core.List.{reverse-cons}
@@ -24,21 +22,20 @@ use Rattle.cox_reflect.proofs.Lengths.{word_length-is, word_length-reverse, IsRe
 use Rattle.cox_reflect.proofs.WordsAndSubwords.{IsWord-reverse, reverse-push}
 use Rattle.cox_reflect.proofs.Roots.{left_descent-letter, descent-reverse, reverse-descent}
 use Rattle.cox_reflect.proofs.Lengths.{empty_same}
-use Rattle.cox_poly.specs.Coefficients.{Coefficients, zero_polynomial, one_polynomial, plus, times_q, times_q_less_one}
+use Rattle.cox_poly.specs.Coefficients.{Coefficients, zero_polynomial, plus, times_q, times_q_less_one}
 use Rattle.cox_poly.specs.Multiples.{minus}
-use Rattle.cox_rpoly.specs.RPolynomial.{r_along, r_polynomial}
+use Rattle.cox_rpoly.specs.RPolynomial.{r_polynomial}
+use Rattle.cox_rpoly.specs.Recursion.{r_along}
+use Rattle.cox_rpoly.specs.InverseOperators.{shortens_left, unit}
 use Rattle.cox_rpoly.proofs.AlongWords.{along-shorter, along-longer}
-use Rattle.cox_rpoly.proofs.PolynomialsOfElements.{r_polynomial-is, r_polynomial-same}
+use Rattle.cox_rpoly.proofs.Expansion.{unit-other, r_polynomial-is}
+use Rattle.cox_rpoly.proofs.PolynomialsOfElements.{r_polynomial-same}
 use Rattle.cox_hecke.specs.Family.{Family, RespectsElements}
-use Rattle.cox_hecke.specs.Operators.{shortens_left, shortens_right}
+use Rattle.cox_hecke.specs.Operators.{shortens_right}
 use Rattle.cox_hecke.proofs.Descents.{nat_lt-yes, nat_lt-no, yes-nat_lt, no-nat_lt, shortens_left-back}
 use Rattle.cox_hecke.proofs.Signed.{signed, left_back, right_back, at_inverses, at_inverses-by_left, first_alone, minus_signed}
 use Rattle.cox_hecke.proofs.Signed.{left_back-right_back}
 use Rattle.cox_hecke.proofs.WordOperators.{back_along, back_along-respects, back_along-same}
-
--- T(e)
-abbrev pub unit : IntegerMatrix → Family
-unit A x = if word_length A x == 0 then one_polynomial else zero_polynomial
 
 -- ---- along a word, by these operators
 
@@ -74,12 +71,6 @@ sides_core false false true zero = refl
 sides_core false false true (suc k) = refl
 sides_core b false false k = refl
 
-pub unit-one : (A : IntegerMatrix) (x : List ℕ) → word_length A x ≡ 0 → unit A x ≡ one_polynomial
-unit-one A x z = rw z refl
-
-pub unit-other : (A : IntegerMatrix) (x : List ℕ) → (word_length A x ≡ 0 → ⊥) → unit A x ≡ zero_polynomial
-unit-other A x n = let e : (word_length A x == 0) ≡ false = grind (arith, nat_tests) in rw e refl
-
 back_along-append : (A : IntegerMatrix) (b : Bool) (u v : List ℕ) (h : Family)
     → back_along A b (u ++ v) h ≡ back_along A b u (back_along A b v h)
 back_along-append A b [] v h = refl
@@ -92,7 +83,7 @@ module _ (A : IntegerMatrix) (g : IsAdmissible A) where
   -- by any reduced word
   pub r-word : (x w u : List ℕ) → IsReduced A u → SameElement A u w → r_polynomial A x w ≡ back_along A false u (unit A) x
   r-word x w u r e =
-      r_polynomial-is A x w ∙ along-operators A (normal_form A w) x
+      r_polynomial-is A g x w ∙ along-operators A (normal_form A w) x
       ∙ ap (λ (h : Family). h x)
       (back_along-same A g false (normal_form A w) u (unit A) (IsReduced-normal_form A g w) r
       (same-trans A g (normal_form-same A g w) (same-sym A g e)) unit-respects)

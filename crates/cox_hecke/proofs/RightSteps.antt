@@ -17,8 +17,9 @@ use Rattle.cox_reflect.proofs.Roots.{descent-reverse, reverse-descent}
 use Rattle.cox_poly.specs.Coefficients.{Coefficients, plus, times_q}
 use Rattle.cox_poly.specs.Products.{times_q_power}
 use Rattle.cox_poly.specs.Multiples.{minus, scaled}
+use Rattle.cox_rpoly.specs.InverseOperators.{shortens_left}
 use Rattle.cox_hecke.specs.Family.{Family}
-use Rattle.cox_hecke.specs.Operators.{shortens_left, shortens_right}
+use Rattle.cox_hecke.specs.Operators.{shortens_right}
 use Rattle.cox_hecke.specs.Row.{IsRow, IsMu}
 use Rattle.cox_hecke.specs.ListedElements.{occurrences}
 use Rattle.cox_hecke.specs.Step.{IsCorrection}

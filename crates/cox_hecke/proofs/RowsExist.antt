@@ -22,13 +22,14 @@ use Rattle.cox_poly.specs.Size.{HasDegreeAtMost}
 use Rattle.cox_poly.proofs.Coefficients.{flip-one}
 use Rattle.cox_poly.proofs.Products.{one-product}
 use Rattle.cox_rpoly.specs.RPolynomial.{r_polynomial}
+use Rattle.cox_rpoly.specs.InverseOperators.{shortens_left, unit}
 use Rattle.cox_rpoly.proofs.PolynomialsOfElements.{r_polynomial-equal}
+use Rattle.cox_rpoly.proofs.Expansion.{unit-one, unit-other}
 use Rattle.cox_hecke.specs.Family.{Family}
-use Rattle.cox_hecke.specs.Operators.{shortens_left}
 use Rattle.cox_hecke.specs.Sums.{bar_sum}
 use Rattle.cox_hecke.specs.Row.{IsRow}
 use Rattle.cox_hecke.proofs.Descents.{nat_lt-yes, shortens_left-back, some_left_descent}
-use Rattle.cox_hecke.proofs.RPolynomials.{unit, unit-one, unit-respects, unit-other}
+use Rattle.cox_hecke.proofs.RPolynomials.{unit-respects}
 use Rattle.cox_hecke.proofs.ListSums.{same-is_same}
 use Rattle.cox_hecke.proofs.ElementLists.{below_list}
 use Rattle.cox_hecke.proofs.Balance.{Balanced}

@@ -11,8 +11,9 @@ use Rattle.cox_reflect.proofs.Elements.{same-trans, same-cons, same-push, same-s
 use Rattle.cox_reflect.proofs.WordsAndSubwords.{reverse-push}
 use Rattle.cox_poly.specs.Coefficients.{Coefficients, plus, times_q, times_q_less_one}
 use Rattle.cox_poly.specs.Multiples.{minus, negated}
+use Rattle.cox_rpoly.specs.InverseOperators.{shortens_left}
 use Rattle.cox_hecke.specs.Family.{Family, RespectsElements}
-use Rattle.cox_hecke.specs.Operators.{shortens_left, shortens_right}
+use Rattle.cox_hecke.specs.Operators.{shortens_right}
 use Rattle.cox_hecke.proofs.Descents.{shortens_left-same, shortens_right-same, shortens_left-back, shortens_right-back}
 use Rattle.cox_hecke.proofs.Descents.{shortens-reverse}
 use Rattle.cox_hecke.proofs.Descents.{SidesOf, apart, together, sides_of}

@@ -16,8 +16,8 @@ use Rattle.cox_reflect.proofs.Bruhat.{below-same, below-trans, below-length, bel
 use Rattle.cox_poly.specs.Coefficients.{Coefficients, zero_polynomial, one_polynomial, plus, times_q}
 use Rattle.cox_poly.specs.Products.{times_q_power}
 use Rattle.cox_poly.proofs.Coefficients.{times_q_power_at, times_q_power_below}
+use Rattle.cox_rpoly.specs.InverseOperators.{shortens_left}
 use Rattle.cox_hecke.specs.Family.{Family, RespectsElements}
-use Rattle.cox_hecke.specs.Operators.{shortens_left}
 use Rattle.cox_hecke.specs.Row.{IsRow}
 use Rattle.cox_hecke.specs.ListedElements.{is_same, occurrences}
 use Rattle.cox_hecke.specs.StepFamily.{step}

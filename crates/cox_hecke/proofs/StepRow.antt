@@ -23,8 +23,8 @@ use Rattle.cox_poly.specs.Products.{times_q_power, product}
 use Rattle.cox_poly.specs.Multiples.{minus, scaled}
 use Rattle.cox_poly.proofs.Products.{product-zero}
 use Rattle.cox_rpoly.specs.RPolynomial.{r_polynomial}
+use Rattle.cox_rpoly.specs.InverseOperators.{shortens_left}
 use Rattle.cox_hecke.specs.Family.{Family, RespectsElements}
-use Rattle.cox_hecke.specs.Operators.{shortens_left}
 use Rattle.cox_hecke.specs.Sums.{sum_over, bar_sum}
 use Rattle.cox_hecke.specs.ClosedLists.{IsClosedUnder}
 use Rattle.cox_hecke.specs.Row.{IsRow, middle_coefficient}

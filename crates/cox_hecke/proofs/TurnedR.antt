@@ -1,5 +1,5 @@
 -- R(x,w) turned round in degree d = l(w) - l(x) is (-1)^d R(x,w): by induction along a word of w.
-use Rattle.std.proofs.Common.{◌≡◌, ℕ, zero, suc, ◌+◌, List, [], ◌∷◌, length, ⊎_elim, pos, ◌+ℤ◌, ◌-ℤ◌, refl, ap, ◌∙◌, arith}
+use Rattle.std.proofs.Common.{◌≡◌, ℕ, zero, suc, ◌+◌, List, [], ◌∷◌, length, ⊎_elim, pos, refl, ap, ◌∙◌, arith}
 use Rattle.std.proofs.lemmas.Int.{ints}
 use Rattle.std.proofs.lemmas.List.Elements.{All-head, All-tail}
 use Rattle.cox_base.specs.Matrix.{IsLetter, IsWord}
@@ -13,34 +13,15 @@ use Rattle.cox_reflect.proofs.Lengths.{word_length-is, cons-word_length}
 use Rattle.cox_reflect.proofs.Deletion.{left_length}
 use Rattle.cox_poly.specs.Coefficients.{Coefficients, zero_polynomial, plus, times_q, times_q_less_one}
 use Rattle.cox_poly.specs.Products.{flip}
-use Rattle.cox_poly.specs.Multiples.{minus, negated}
+use Rattle.cox_poly.specs.Multiples.{negated}
 use Rattle.cox_poly.specs.Size.{HasDegreeAtMost}
 use Rattle.cox_poly.proofs.Coefficients.{flip_at, flip_above, flip-none, flip-one, flip-plus, flip-minus, flip-suc, flip-times_q}
-use Rattle.cox_rpoly.specs.RPolynomial.{r_along, r_polynomial}
+use Rattle.cox_rpoly.specs.Sign.{times_sign}
+use Rattle.cox_rpoly.specs.RPolynomial.{r_polynomial}
+use Rattle.cox_rpoly.specs.Recursion.{r_along}
 use Rattle.cox_rpoly.proofs.AlongWords.{along-identity, along-shorter, along-longer, along-long, along-degree, shortens}
-use Rattle.cox_rpoly.proofs.PolynomialsOfElements.{r_polynomial-is}
-use Rattle.cox_hecke.specs.Sign.{times_sign}
-
-times_sign-plus : (d : ℕ) (f h : Coefficients) (k : ℕ) → times_sign d (plus f h) k ≡ times_sign d f k +ℤ times_sign d h k
-times_sign-plus zero f h k = refl
-times_sign-plus (suc d) f h k = omega (arith, ints, times_sign-plus d f h k)
-
-pub times_sign-minus : (d : ℕ) (f h : Coefficients) (k : ℕ) → times_sign d (minus f h) k ≡ times_sign d f k -ℤ times_sign d h k
-times_sign-minus zero f h k = refl
-times_sign-minus (suc d) f h k = omega (arith, ints, times_sign-minus d f h k)
-
-pub times_sign-times_q : (d : ℕ) (f : Coefficients) (k : ℕ) → times_sign d (times_q f) k ≡ times_q (times_sign d f) k
-times_sign-times_q zero f k = refl
-times_sign-times_q (suc d) f zero = omega (arith, ints, times_sign-times_q d f zero)
-times_sign-times_q (suc d) f (suc k) = omega (arith, ints, times_sign-times_q d f (suc k))
-
-pub times_sign-negated : (d : ℕ) (f : Coefficients) (k : ℕ) → times_sign d (negated f) k ≡ negated (times_sign d f) k
-times_sign-negated zero f k = refl
-times_sign-negated (suc d) f k = omega (arith, ints, times_sign-negated d f k)
-
-pub times_sign-none : (d : ℕ) (k : ℕ) → times_sign d zero_polynomial k ≡ pos 0
-times_sign-none zero k = refl
-times_sign-none (suc d) k = omega (arith, ints, times_sign-none d k)
+use Rattle.cox_rpoly.proofs.Signs.{times_sign-plus, times_sign-minus, times_sign-times_q}
+use Rattle.cox_rpoly.proofs.Expansion.{r_polynomial-is}
 
 at : {f h : Coefficients} → f ≡ h → (k : ℕ) → f k ≡ h k
 at e k = ap (λ (f : Coefficients). f k) e
@@ -129,4 +110,4 @@ module _ (A : IntegerMatrix) (g : IsAdmissible A) where
   pub r-turned : (x w : List ℕ) (d : ℕ) → word_length A w ≡ word_length A x + d
       → (k : ℕ) → flip d (r_polynomial A x w) k ≡ times_sign d (r_polynomial A x w) k
   r-turned x w d e k =
-      rw (r_polynomial-is A x w) (along-turned x (normal_form A w) d (IsWord-normal_form A g w) (omega (arith, e, word_length-is A w)) k)
+      rw (r_polynomial-is A g x w) (along-turned x (normal_form A w) d (IsWord-normal_form A g w) (omega (arith, e, word_length-is A w)) k)

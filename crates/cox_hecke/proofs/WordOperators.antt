@@ -14,8 +14,9 @@ use Rattle.cox_reflect.proofs.Search.{word_length-equal}
 use Rattle.cox_reflect.proofs.Lengths.{IsReduced-tail, empty_same}
 use Rattle.cox_reflect.proofs.Roots.{descent-letter}
 use Rattle.cox_poly.specs.Coefficients.{Coefficients, times_q}
+use Rattle.cox_rpoly.specs.InverseOperators.{shortens_left}
 use Rattle.cox_hecke.specs.Family.{Family, RespectsElements}
-use Rattle.cox_hecke.specs.Operators.{shortens_left, shortens_right}
+use Rattle.cox_hecke.specs.Operators.{shortens_right}
 use Rattle.cox_hecke.proofs.Descents.{nat_lt-yes, Moves, right_moves, shortens_right-back, reduced-letter, reduced-rises}
 use Rattle.cox_hecke.proofs.Descents.{some_right_descent}
 use Rattle.cox_hecke.proofs.Signed.{left_signed, right_signed, left_back, family_times_q}

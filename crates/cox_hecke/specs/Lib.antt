@@ -2,8 +2,6 @@
 pub mod Family
 -- the operators of the Hecke algebra
 pub mod Operators
--- signs
-pub mod Sign
 -- sums over lists of elements
 pub mod Sums
 -- lists that name elements by any of their words

@@ -1,17 +1,15 @@
 -- The operators of the Hecke algebra: multiplication by T(s) from the left and from the right (Kazhdan and Lusztig 1979, section 1;
--- Humphreys 7.1 to 7.4), as they act on coefficients.
+-- Humphreys 7.1 to 7.4), as they act on coefficients. Multiplication by q T(s)^-1 from the left is in `cox_rpoly`.
 use Rattle.std.specs.Prelude.{ℕ, Bool, if◌then◌else◌, nat_lt, List, [], ◌∷◌, ◌++◌}
 use Rattle.cox_base.specs.IntegerMatrix.{IntegerMatrix}
 use Rattle.cox_base.specs.Length.{word_length}
 use Rattle.cox_poly.specs.Coefficients.{plus, times_q, times_q_less_one, zero_polynomial, one_polynomial}
 use Rattle.cox_poly.specs.Multiples.{minus}
+use Rattle.cox_rpoly.specs.InverseOperators.{shortens_left}
 use Rattle.cox_hecke.specs.Family.{Family}
 use Rattle.cox_hecke.specs.ListedElements.{is_same}
 
--- whether sx < x, and whether xs < x
-abbrev pub shortens_left : IntegerMatrix → ℕ → List ℕ → Bool
-shortens_left A s x = nat_lt (word_length A (s ∷ x)) (word_length A x)
-
+-- whether xs < x
 abbrev pub shortens_right : IntegerMatrix → ℕ → List ℕ → Bool
 shortens_right A s x = nat_lt (word_length A (x ++ s ∷ [])) (word_length A x)
 
@@ -23,10 +21,6 @@ left A s h x = if shortens_left A s x then plus (h (s ∷ x)) (times_q_less_one 
 -- h T(s)
 abbrev pub right : IntegerMatrix → ℕ → Family → Family
 right A s h x = if shortens_right A s x then plus (h (x ++ s ∷ [])) (times_q_less_one (h x)) else times_q (h (x ++ s ∷ []))
-
--- q T(s)^-1 h, which is T(s) h - (q-1) h
-abbrev pub left_inverse : IntegerMatrix → ℕ → Family → Family
-left_inverse A s h x = if shortens_left A s x then h (s ∷ x) else minus (times_q (h (s ∷ x))) (times_q_less_one (h x))
 
 -- h q T(s)^-1
 abbrev pub right_inverse : IntegerMatrix → ℕ → Family → Family
@@ -41,11 +35,6 @@ left_word A (s ∷ u) h = left A s (left_word A u h)
 abbrev pub right_word : IntegerMatrix → List ℕ → Family → Family
 right_word A [] h = h
 right_word A (s ∷ u) h = right_word A u (right A s h)
-
--- q^k T(s1)^-1 T(s2)^-1 .. T(sk)^-1 h
-abbrev pub left_inverse_word : IntegerMatrix → List ℕ → Family → Family
-left_inverse_word A [] h = h
-left_inverse_word A (s ∷ u) h = left_inverse A s (left_inverse_word A u h)
 
 -- T(w)
 abbrev pub basis : IntegerMatrix → List ℕ → Family

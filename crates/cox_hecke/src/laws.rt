@@ -18,9 +18,10 @@ ghost use Rattle.cox_poly.specs.Coefficients.{Coefficients, plus, times_q, times
 ghost use Rattle.cox_poly.specs.Products.{flip};
 ghost use Rattle.cox_poly.specs.Multiples.{minus};
 ghost use Rattle.cox_rpoly.specs.RPolynomial.{r_polynomial};
+ghost use Rattle.cox_rpoly.specs.InverseOperators.{left_inverse, left_inverse_word};
+ghost use Rattle.cox_rpoly.specs.Sign.{times_sign};
 ghost use Rattle.cox_hecke.specs.Family.{Family, RespectsElements};
-ghost use Rattle.cox_hecke.specs.Operators.{basis, left, right, left_inverse, right_inverse, left_word, right_word, left_inverse_word};
-ghost use Rattle.cox_hecke.specs.Sign.{times_sign};
+ghost use Rattle.cox_hecke.specs.Operators.{basis, left, right, right_inverse, left_word, right_word};
 ghost use Rattle.cox_hecke.specs.Sums.{bar_sum};
 ghost use Rattle.cox_hecke.specs.ClosedLists.{IsClosedUnder};
 ghost use Rattle.cox_hecke.specs.Row.{IsRow, IsKazhdanLusztig, IsMu};
@@ -59,7 +60,7 @@ pub fn respect()
 {}
 
 /// The product of the operators along a reduced word depends on the word's element alone. For a reduced word of w the product of the T(s)
-/// is T(w), and the product of the q T(s)^-1 is the sum of the (-1)^(l(w)-l(x)) R(x,w) T(x): that is how R is defined in Humphreys 7.4.
+/// is T(w), and the product of the q T(s)^-1 is the sum of the (-1)^(l(w)-l(x)) R(x,w) T(x): R is defined by that of the normal form.
 pub fn words()
     ensures left { (A : IntegerMatrix) → IsAdmissible A → (u v : List ℕ) (h : Family) → IsReduced A u → IsReduced A v
         → SameElement A u v → RespectsElements A h → (x : List ℕ) (k : ℕ) → left_word A u h x k ≡ left_word A v h x k }

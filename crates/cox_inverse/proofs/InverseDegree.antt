@@ -13,8 +13,8 @@ use Rattle.cox_reflect.proofs.Bruhat.{below-length, below-equal_length}
 use Rattle.cox_poly.specs.Coefficients.{Coefficients, one_polynomial}
 use Rattle.cox_poly.specs.Products.{product}
 use Rattle.cox_poly.proofs.Products.{product-one, HasDegreeAtMost-product}
+use Rattle.cox_rpoly.specs.Sign.{times_sign}
 use Rattle.cox_hecke.specs.Family.{Family}
-use Rattle.cox_hecke.specs.Sign.{times_sign}
 use Rattle.cox_hecke.specs.Sums.{sum_over}
 use Rattle.cox_hecke.specs.ListedElements.{ListsEach}
 use Rattle.cox_hecke.proofs.ElementLists.{Tells-ListsEach, below_list, below_or_not}

@@ -14,8 +14,9 @@ use Rattle.cox_reflect.proofs.Bruhat.{below-length, below-equal_length}
 use Rattle.cox_poly.specs.Coefficients.{Coefficients, zero_polynomial, one_polynomial, plus}
 use Rattle.cox_poly.specs.Products.{product}
 use Rattle.cox_poly.proofs.Products.{product-zero, zero-product, one-product}
+use Rattle.cox_rpoly.specs.Sign.{times_sign}
+use Rattle.cox_rpoly.proofs.Signs.{times_sign-none}
 use Rattle.cox_hecke.specs.Family.{Family, RespectsElements}
-use Rattle.cox_hecke.specs.Sign.{times_sign}
 use Rattle.cox_hecke.specs.Sums.{sum_over}
 use Rattle.cox_hecke.specs.Row.{IsRow}
 use Rattle.cox_hecke.specs.ListedElements.{is_same, occurrences, ListsEach, LiesBetween}
@@ -24,7 +25,6 @@ use Rattle.cox_hecke.proofs.ListSums.{sum_over-equal, sum_over-plus, sum_over-on
 use Rattle.cox_hecke.proofs.ListSums.{same-is_same, is_same-same, is_same-respects}
 use Rattle.cox_hecke.proofs.ElementLists.{below_or_not}
 use Rattle.cox_hecke.proofs.OneRow.{between_or_not}
-use Rattle.cox_hecke.proofs.TurnedR.{times_sign-none}
 use Rattle.cox_hecke.proofs.AllRows.{row_of, row_of-is, row_of-same, row_of-value}
 use Rattle.cox_inverse.specs.InverseRow.{signed_term}
 

@@ -24,9 +24,9 @@ use Rattle.cox_poly.proofs.Coefficients.{flip-none, flip-plus, flip-minus}
 use Rattle.cox_poly.proofs.Products.{product-zero, zero-product, one-product, product-one, product-scaled, HasDegreeAtMost-product}
 use Rattle.cox_poly.proofs.FlippedProducts.{flip-product}
 use Rattle.cox_rpoly.specs.RPolynomial.{r_polynomial}
+use Rattle.cox_rpoly.specs.Sign.{times_sign}
 use Rattle.cox_rpoly.proofs.PolynomialsOfElements.{r_polynomial-equal, r_polynomial-not_below}
 use Rattle.cox_hecke.specs.Family.{Family, RespectsElements}
-use Rattle.cox_hecke.specs.Sign.{times_sign}
 use Rattle.cox_hecke.specs.Sums.{sum_over, bar_sum}
 use Rattle.cox_hecke.specs.Row.{IsRow, IsKazhdanLusztig}
 use Rattle.cox_hecke.specs.ListedElements.{is_same, occurrences, LiesBetween}

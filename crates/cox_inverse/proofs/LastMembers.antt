@@ -13,7 +13,7 @@ use Rattle.cox_hecke.specs.ListedElements.{occurrences, LiesBetween}
 use Rattle.cox_hecke.proofs.ListSums.{occurrences-at}
 use Rattle.cox_context.specs.Closed.{Elements, IsClosed}
 use Rattle.cox_context.specs.Numbers.{word_at}
-use Rattle.cox_context.proofs.PlacedWords.{contains-placed, rising-place}
+use Rattle.cox_context.proofs.PlacedWords.{contains-placed}
 use Rattle.cox_context.proofs.Shifting.{element-at, member-below, later-not_below}
 use Rattle.cox_row.specs.Rising.{number_at, AreRising}
 use Rattle.cox_inverse.specs.NumberedInverses.{number_before, AreBetween}

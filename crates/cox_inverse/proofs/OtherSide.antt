@@ -15,9 +15,10 @@ use Rattle.cox_reflect.proofs.Bruhat.{below-refl, below-trans}
 use Rattle.cox_poly.specs.Coefficients.{Coefficients, zero_polynomial, one_polynomial}
 use Rattle.cox_poly.specs.Products.{product}
 use Rattle.cox_poly.proofs.Products.{product_of_none, product-zero, zero-product, product-one, one-product, product-associative}
+use Rattle.cox_rpoly.specs.Sign.{times_sign}
+use Rattle.cox_rpoly.proofs.Signs.{times_sign-none}
 use Rattle.cox_hecke.specs.Family.{Family, RespectsElements}
 use Rattle.cox_hecke.specs.Operators.{basis}
-use Rattle.cox_hecke.specs.Sign.{times_sign}
 use Rattle.cox_hecke.specs.Sums.{sum_over}
 use Rattle.cox_hecke.specs.Row.{IsRow}
 use Rattle.cox_hecke.specs.ListedElements.{is_same, occurrences, ListsEach, LiesBetween}
@@ -26,7 +27,6 @@ use Rattle.cox_hecke.proofs.ListSums.{sum_over-equal, sum_over-none, sum_over-sw
 use Rattle.cox_hecke.proofs.ListSums.{same_or_not, same-is_same, not_same-is_same}
 use Rattle.cox_hecke.proofs.ElementLists.{Tells-ListsEach, below_list, below_or_not, sorted-once}
 use Rattle.cox_hecke.proofs.OneRow.{between_or_not}
-use Rattle.cox_hecke.proofs.TurnedR.{times_sign-none}
 use Rattle.cox_hecke.proofs.AllRows.{row_of, row_of-is, row_of-same, row_of-value}
 use Rattle.cox_inverse.specs.InverseRow.{IsInverseRow}
 use Rattle.cox_inverse.proofs.ProductLaws.{product-sum_over, sum_over-product, times_sign-product, product-times_sign}

@@ -24,9 +24,10 @@ use Rattle.cox_poly.specs.Multiples.{minus, scaled}
 use Rattle.cox_poly.proofs.Coefficients.{times_q_power-one}
 use Rattle.cox_poly.proofs.Products.{product-one}
 use Rattle.cox_rpoly.specs.RPolynomial.{r_polynomial}
+use Rattle.cox_rpoly.specs.InverseOperators.{shortens_left}
 use Rattle.cox_rpoly.proofs.PolynomialsOfElements.{r_polynomial-same, r_polynomial-equal, r_polynomial-not_below}
 use Rattle.cox_hecke.specs.Family.{Family, RespectsElements}
-use Rattle.cox_hecke.specs.Operators.{basis, shortens_left}
+use Rattle.cox_hecke.specs.Operators.{basis}
 use Rattle.cox_hecke.specs.Sums.{bar_sum}
 use Rattle.cox_hecke.specs.ListedElements.{occurrences}
 use Rattle.cox_hecke.specs.ClosedLists.{IsClosedUnder}

@@ -16,7 +16,7 @@ use Rattle.cox_poly.specs.Products.{product}
 use Rattle.cox_poly.specs.Multiples.{minus}
 use Rattle.cox_poly.specs.Polynomial.{coefficient, HasDegreeBelow}
 use Rattle.cox_poly.specs.Limit.{AllWithin}
-use Rattle.cox_hecke.specs.Sign.{times_sign}
+use Rattle.cox_rpoly.specs.Sign.{times_sign}
 use Rattle.cox_hecke.specs.Sums.{sum_over}
 use Rattle.cox_hecke.specs.Row.{IsKazhdanLusztig}
 use Rattle.cox_hecke.proofs.AllRows.{row_of, row_of-is, kazhdan_lusztig-value}

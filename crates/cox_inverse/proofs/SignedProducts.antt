@@ -12,7 +12,7 @@ use Rattle.cox_poly.specs.Polynomial.{coefficient, coefficient_after, HasDegreeB
 use Rattle.cox_poly.specs.Limit.{AllWithin}
 use Rattle.cox_poly.proofs.Norms.{absolute_after}
 use Rattle.cox_poly.proofs.Products.{terms_below, terms_below-product, terms_below-all, zero-product}
-use Rattle.cox_hecke.specs.Sign.{times_sign}
+use Rattle.cox_rpoly.specs.Sign.{times_sign}
 use Rattle.cox_inverse.specs.declared.fault.TheConstants.{MAX_COEFFICIENT}
 
 -- ---- signs

@@ -4,7 +4,7 @@ use Rattle.std.proofs.lemmas.Int.{ints}
 use Rattle.cox_lemmas.proofs.Ring.{mul_neg, neg_mul, mul_assoc, one_times}
 use Rattle.cox_poly.specs.Coefficients.{Coefficients}
 use Rattle.cox_poly.specs.Multiples.{scaled}
-use Rattle.cox_hecke.specs.Sign.{times_sign}
+use Rattle.cox_rpoly.specs.Sign.{times_sign}
 
 -- (-1)^d
 abbrev pub sign : ℕ → ℤ

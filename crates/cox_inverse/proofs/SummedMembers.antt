@@ -9,7 +9,7 @@ use Rattle.cox_reflect.proofs.Bruhat.{below-length}
 use Rattle.cox_poly.specs.Products.{product}
 use Rattle.cox_poly.specs.Multiples.{minus}
 use Rattle.cox_poly.specs.Polynomial.{coefficient}
-use Rattle.cox_hecke.specs.Sign.{times_sign}
+use Rattle.cox_rpoly.specs.Sign.{times_sign}
 use Rattle.cox_hecke.specs.Row.{IsKazhdanLusztig}
 use Rattle.cox_context.specs.Closed.{Elements, IsClosed}
 use Rattle.cox_context.specs.Numbers.{word_at}

@@ -6,7 +6,7 @@ ghost use Rattle.cox_poly.specs.Multiples.{minus, scaled};
 ghost use Rattle.cox_poly.specs.Coefficients.{Coefficients};
 ghost use Rattle.cox_poly.specs.Polynomial.{coefficient, HasDegreeBelow};
 ghost use Rattle.cox_poly.specs.Limit.{IsWithin, AllWithin};
-ghost use Rattle.cox_hecke.specs.Sign.{times_sign};
+ghost use Rattle.cox_rpoly.specs.Sign.{times_sign};
 ghost use Rattle.cox_context.specs.Numbers.{word_at};
 ghost use Rattle.cox_inverse.specs.InverseRow.{IsInverse};
 ghost use Rattle.cox_inverse.specs.NumberedInverses.{AreInverses, number_before};

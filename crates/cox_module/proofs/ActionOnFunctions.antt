@@ -3,8 +3,8 @@ use Rattle.std.specs.Prelude.{ℕ, zero, suc, Bool, if◌then◌else◌, List, [
 use Rattle.cox_base.specs.IntegerMatrix.{IntegerMatrix}
 use Rattle.cox_poly.specs.Coefficients.{Coefficients, zero_polynomial, plus, times_q}
 use Rattle.cox_poly.specs.Multiples.{negated, scaled}
+use Rattle.cox_rpoly.specs.InverseOperators.{shortens_left, left_inverse}
 use Rattle.cox_hecke.specs.Family.{Family}
-use Rattle.cox_hecke.specs.Operators.{shortens_left, left_inverse}
 use Rattle.cox_hecke.specs.Sums.{sum_over}
 
 -- f where b, else 0

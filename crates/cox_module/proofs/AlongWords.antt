@@ -14,9 +14,9 @@ use Rattle.cox_base.specs.Reduced.{IsReduced}
 use Rattle.cox_reflect.proofs.Search.{word_length-equal}
 use Rattle.cox_poly.specs.Coefficients.{Coefficients, plus, times_q, times_q_less_one}
 use Rattle.cox_poly.specs.Multiples.{minus, negated}
+use Rattle.cox_rpoly.specs.InverseOperators.{shortens_left, left_inverse, left_inverse_word}
+use Rattle.cox_rpoly.specs.Sign.{times_sign}
 use Rattle.cox_hecke.specs.Family.{Family, RespectsElements}
-use Rattle.cox_hecke.specs.Operators.{shortens_left, left_inverse, left_inverse_word}
-use Rattle.cox_hecke.specs.Sign.{times_sign}
 use Rattle.cox_hecke.specs.ListedElements.{occurrences}
 use Rattle.cox_hecke.proofs.AllRows.{row_of, row_of-is}
 use Rattle.cox_hecke.proofs.OperatorLaws.{left_inverse_word-same}

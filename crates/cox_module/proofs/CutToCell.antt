@@ -12,8 +12,8 @@ use Rattle.cox_base.specs.Element.{SameElement}
 use Rattle.cox_reflect.proofs.Elements.{same-refl}
 use Rattle.cox_poly.specs.Coefficients.{Coefficients, zero_polynomial, plus, times_q}
 use Rattle.cox_poly.specs.Multiples.{negated, scaled}
+use Rattle.cox_rpoly.specs.InverseOperators.{shortens_left}
 use Rattle.cox_hecke.specs.Family.{Family, RespectsElements}
-use Rattle.cox_hecke.specs.Operators.{shortens_left}
 use Rattle.cox_hecke.specs.ListedElements.{occurrences}
 use Rattle.cox_hecke.specs.Sums.{sum_over}
 use Rattle.cox_hecke.proofs.Signed.{respected}

@@ -10,7 +10,7 @@ use Rattle.cox_base.specs.IntegerMatrix.{IntegerMatrix}
 use Rattle.cox_base.specs.Admissible.{IsAdmissible}
 use Rattle.cox_base.specs.Length.{word_length}
 use Rattle.cox_base.specs.Descents.{IsLeftDescent}
-use Rattle.cox_hecke.specs.Operators.{shortens_left}
+use Rattle.cox_rpoly.specs.InverseOperators.{shortens_left}
 use Rattle.cox_hecke.proofs.Descents.{yes-nat_lt, no-nat_lt}
 use Rattle.cox_wgraph.specs.Edges.{IsEdgeValue, IsJoined}
 use Rattle.cox_wgraph.proofs.EdgeValues.{edge-exists, edge-unique}

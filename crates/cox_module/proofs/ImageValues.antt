@@ -15,9 +15,9 @@ use Rattle.cox_reflect.proofs.Elements.{same-refl, same-sym, same-trans, same-eq
 use Rattle.cox_reflect.proofs.Search.{normal_form-equal}
 use Rattle.cox_poly.specs.Coefficients.{Coefficients, zero_polynomial, plus, times_q}
 use Rattle.cox_poly.specs.Multiples.{negated, scaled}
+use Rattle.cox_rpoly.specs.InverseOperators.{shortens_left}
 use Rattle.cox_hecke.specs.Family.{Family, RespectsElements}
 use Rattle.cox_hecke.specs.ListedElements.{is_same, occurrences}
-use Rattle.cox_hecke.specs.Operators.{shortens_left}
 use Rattle.cox_hecke.specs.Sums.{sum_over}
 use Rattle.cox_hecke.proofs.Signed.{respected}
 use Rattle.cox_hecke.proofs.Descents.{shortens_left-same, nat_lt-yes, yes-nat_lt, no-nat_lt, nat_lt-no}

@@ -9,8 +9,8 @@ use Rattle.cox_poly.specs.Coefficients.{Coefficients, zero_polynomial, plus, tim
 use Rattle.cox_poly.specs.Products.{product}
 use Rattle.cox_poly.specs.Multiples.{negated, scaled}
 use Rattle.cox_poly.proofs.Products.{product-plus, product-negated, product-scaled, product-times_q, product-zero}
+use Rattle.cox_rpoly.specs.InverseOperators.{shortens_left}
 use Rattle.cox_hecke.specs.Family.{Family}
-use Rattle.cox_hecke.specs.Operators.{shortens_left}
 use Rattle.cox_hecke.specs.Sums.{sum_over}
 use Rattle.cox_module.proofs.ActionOnFunctions.{through, through_word, lift}
 

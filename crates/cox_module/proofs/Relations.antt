@@ -20,8 +20,8 @@ use Rattle.cox_reflect.proofs.Elements.{same-refl, same-sym, same-trans}
 use Rattle.cox_reflect.proofs.Search.{normal_form-same, normal_form-equal, word_length-equal}
 use Rattle.cox_reflect.proofs.Bruhat.{below-length, below-equal_length}
 use Rattle.cox_poly.specs.Coefficients.{Coefficients, plus, times_q}
+use Rattle.cox_rpoly.specs.InverseOperators.{shortens_left}
 use Rattle.cox_hecke.specs.Family.{Family, RespectsElements}
-use Rattle.cox_hecke.specs.Operators.{shortens_left}
 use Rattle.cox_hecke.specs.ListedElements.{occurrences}
 use Rattle.cox_hecke.proofs.ListSums.{occurrences-at}
 use Rattle.cox_hecke.proofs.Descents.{shortens_left-same, nat_lt-yes, yes-nat_lt, no-nat_lt}

@@ -1,19 +1,16 @@
 -- The text of an R-polynomial, by the list of its coefficients up to a degree.
-use Rattle.std.proofs.Common.{◌≡◌, ℕ, zero, suc, ◌+◌, ◌<◌, ◌≤◌, List, [], ◌∷◌, map, length, ℤ, pos, refl, ap, sym, ◌∙◌, ⊎_elim}
+use Rattle.std.proofs.Common.{◌≡◌, ℕ, zero, suc, ◌+◌, ◌<◌, ◌≤◌, List, [], ◌∷◌, map, ℤ, pos, refl, ap, sym, ◌∙◌}
 use Rattle.std.proofs.Common.{arith}
 use Rattle.std.specs.List.{range_with_len}
-use Rattle.std.proofs.lemmas.Bool.{cases_eq}
 use Rattle.cox_base.specs.IntegerMatrix.{IntegerMatrix}
-use Rattle.cox_base.specs.ShortLex.{normal_form}
+use Rattle.cox_base.specs.Admissible.{IsAdmissible}
 use Rattle.cox_base.specs.Length.{word_length}
 use Rattle.cox_poly.specs.Coefficients.{Coefficients}
 use Rattle.cox_poly.specs.Polynomial.{coefficient, SameCoefficients}
 use Rattle.cox_poly.specs.PolynomialText.{terms_text, polynomial_text}
 use Rattle.cox_poly.proofs.Terms.{terms_from}
-use Rattle.cox_rpoly.specs.RPolynomial.{r_along, r_polynomial}
-use Rattle.cox_rpoly.proofs.AlongWords.{along-identity, along-other, along-shorter, along-longer, shortens}
-use Rattle.cox_rpoly.proofs.PolynomialsOfElements.{r_polynomial-is}
-use Rattle.cox_reflect.proofs.Lengths.{word_length-is}
+use Rattle.cox_rpoly.specs.RPolynomial.{r_polynomial}
+use Rattle.cox_rpoly.proofs.PolynomialsOfElements.{r_polynomial-degree}
 use Rattle.cox_replies.specs.RowReply.{coefficients_to}
 use Rattle.cox_replies.specs.InquiryQuestion.{r_text}
 
@@ -42,28 +39,13 @@ listed f a (suc n) (suc k) beyond =
     ≡ a + suc i = omega arith in rw e (beyond (suc i) (omega arith)) in
     let e : a + suc k ≡ a + 1 + k = omega arith in rw e (listed f (a + 1) n k next)
 
--- R along a word has no higher degree than the word has letters
-degree_along : (A : IntegerMatrix) (v x : List ℕ) (k : ℕ) → length v < k → r_along A x v k ≡ pos 0
-degree_along A [] x zero above = absurd (omega arith)
-degree_along A [] x (suc k) above =
-    ⊎_elim (λ (is : word_length A x ≡ 0). rw (along-identity A x is) refl)
-    (λ (other : word_length A x ≡ 0 → ⊥). rw (along-other A x (omega arith)) refl)
-    (cases_eq (word_length A x) 0)
-degree_along A (s ∷ v) x zero above = absurd (omega arith)
-degree_along A (s ∷ v) x (suc k) above =
-    let shorter : length v < k = omega arith in
-    ⊎_elim (λ shortened. rw (along-shorter A x s v shortened) (degree_along A v (s ∷ x) (suc k) (omega arith)))
-    (λ lengthened. rw (along-longer A x s v lengthened)
-    (rw (degree_along A v x k shorter, degree_along A v x (suc k) (omega arith), degree_along A v (s ∷ x) k shorter) refl))
-    (shortens A x s)
-
 -- R of two words has no higher degree than the length of the second
-degree : (A : IntegerMatrix) (x w : List ℕ) (k : ℕ) → word_length A w < k → r_polynomial A x w k ≡ pos 0
-degree A x w k above = rw (r_polynomial-is A x w) (degree_along A (normal_form A w) x k (omega (arith, word_length-is A w)))
+degree : (A : IntegerMatrix) → IsAdmissible A → (x w : List ℕ) (k : ℕ) → word_length A w < k → r_polynomial A x w k ≡ pos 0
+degree A g x w k above = r_polynomial-degree A g x w (word_length A w) (omega arith) k above
 
 -- the text of a polynomial with these coefficients
-pub is-r_text : (A : IntegerMatrix) (y w : List ℕ) (p : List ℤ) → ((k : ℕ) → coefficient p k ≡ r_polynomial A y w k)
+pub is-r_text : (A : IntegerMatrix) → IsAdmissible A → (y w : List ℕ) (p : List ℤ) → ((k : ℕ) → coefficient p k ≡ r_polynomial A y w k)
     → polynomial_text p ≡ r_text A y w
-is-r_text A y w p is = same_text p (coefficients_to (word_length A w) (r_polynomial A y w))
+is-r_text A g y w p is = same_text p (coefficients_to (word_length A w) (r_polynomial A y w))
     (λ k. is k ∙ sym (let e : 0 + k ≡ k = omega arith in rw e at (listed (r_polynomial A y w) 0 (word_length A w + 1) k
-    (λ i above. let f : 0 + i ≡ i = omega arith in rw f (degree A y w i (omega arith))))))
+    (λ i above. let f : 0 + i ≡ i = omega arith in rw f (degree A g y w i (omega arith))))))

@@ -18,6 +18,7 @@ pub fn put_rpol(out: &mut Vec<u8>, table: &RootTable, y: &Word, w: &Word) -> Res
     ensures { PutsUnless result (RefusesFar (integer_matrix table.now) y.now.items w.now.items)
         (λ text. text ≡ r_text (integer_matrix table.now) y.now.items w.now.items) out.old.items out.new.items }
 {
+    let _rank = table.group().rank();
     prove!(y.len() <= MAX_LETTERS && w.len() <= MAX_LETTERS);
     match r(*out.allocator(), table, y, w) {
         Ok(p) => unrefused(p.put_text(out)),

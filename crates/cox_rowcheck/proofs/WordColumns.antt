@@ -25,10 +25,12 @@ use Rattle.cox_poly.specs.Polynomial.{coefficient}
 use Rattle.cox_rpoly.specs.RPolynomial.{r_polynomial}
 use Rattle.cox_rpoly.specs.Terms.{numbered}
 use Rattle.cox_rpoly.proofs.PolynomialsOfElements.{r_polynomial-same, r_polynomial-not_below}
-use Rattle.cox_hecke.proofs.RPolynomials.{unit, unit-one, unit-other, r-word}
+use Rattle.cox_rpoly.specs.InverseOperators.{unit}
+use Rattle.cox_rpoly.proofs.Expansion.{unit-one, unit-other}
+use Rattle.cox_hecke.proofs.RPolynomials.{r-word}
 use Rattle.cox_context.specs.Closed.{IsClosed}
 use Rattle.cox_context.specs.Numbers.{word_at}
-use Rattle.cox_context.proofs.PlacedWords.{contains-placed, rising-place}
+use Rattle.cox_context.proofs.PlacedWords.{contains-placed}
 use Rattle.cox_context.proofs.Shifting.{first-member, length-at, member-below, later-not_below}
 use Rattle.cox_rowcheck.specs.Columns.{IsColumn}
 use Rattle.cox_rowcheck.specs.EntryLists.{HasOneMore}

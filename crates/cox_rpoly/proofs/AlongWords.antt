@@ -1,7 +1,7 @@
 -- R along a word, by induction on the word.
 use Rattle.std.proofs.Common.{◌≡◌, ℕ, zero, suc, ◌+◌, ◌*◌, ◌^◌, ◌<◌, ◌≤◌, Bool, true, false, if◌then◌else◌, List, [], ◌∷◌, length, pos}
 use Rattle.std.proofs.Common.{refl, ap, sym, ◌∙◌, ⊎_elim, arith, inl, inr, ◌⊎◌, lit<}
-use Rattle.std.specs.Prelude.{nat_lt, ◌==◌}
+use Rattle.std.specs.Prelude.{◌==◌}
 use Rattle.std.proofs.lemmas.Bool.{cases_lt, cases_eq}
 use Rattle.std.proofs.lemmas.Bool.Decides.{nat_tests}
 use Rattle.std.proofs.Math.Nat.{pow-le-pow_right}
@@ -22,7 +22,19 @@ use Rattle.cox_poly.specs.Coefficients.{Coefficients, zero_polynomial, one_polyn
 use Rattle.cox_poly.specs.Size.{HasNormAtMost, HasDegreeAtMost, absolute_sum}
 use Rattle.cox_poly.proofs.Norms.{HasNormAtMost-zero, HasNormAtMost-one, HasNormAtMost-plus, HasNormAtMost-times_q}
 use Rattle.cox_poly.proofs.Norms.{HasNormAtMost-times_q_less_one, HasNormAtMost-same}
-use Rattle.cox_rpoly.specs.RPolynomial.{r_along}
+use Rattle.cox_rpoly.specs.InverseOperators.{shortens_left}
+use Rattle.cox_rpoly.specs.Recursion.{r_along}
+
+-- ---- whether a letter shortens a word
+
+pub shortens_left-yes : (A : IntegerMatrix) (x : List ℕ) (s : ℕ) → IsLeftDescent A x s → shortens_left A s x ≡ true
+shortens_left-yes A x s d = grind (arith, nat_tests)
+
+pub shortens_left-no : (A : IntegerMatrix) (x : List ℕ) (s : ℕ) → (IsLeftDescent A x s → ⊥) → shortens_left A s x ≡ false
+shortens_left-no A x s n =
+    let le : word_length A x ≤ word_length A (s ∷ x) = ⊎_elim (λ d. absurd (n d)) (λ (h : word_length A x ≤ word_length A (s ∷ x)). h)
+    (cases_lt (word_length A (s ∷ x)) (word_length A x))
+    in grind (arith, nat_tests)
 
 -- ---- the four cases
 
@@ -40,15 +52,12 @@ along-other A x e = go (word_length A x == 0) refl
 
 pub along-shorter : (A : IntegerMatrix) (x : List ℕ) (s : ℕ) (v : List ℕ) → IsLeftDescent A x s → r_along A x (s ∷ v) ≡ r_along A (s ∷ x) v
 unfolding r_along
-along-shorter A x s v d = let t : nat_lt (word_length A (s ∷ x)) (word_length A x) ≡ true = grind (arith, nat_tests) in rw t refl
+along-shorter A x s v d = rw (shortens_left-yes A x s d) refl
 
 pub along-longer : (A : IntegerMatrix) (x : List ℕ) (s : ℕ) (v : List ℕ) → (IsLeftDescent A x s → ⊥)
     → r_along A x (s ∷ v) ≡ plus (times_q_less_one (r_along A x v)) (times_q (r_along A (s ∷ x) v))
 unfolding r_along
-along-longer A x s v n =
-    let le : word_length A x ≤ word_length A (s ∷ x) = ⊎_elim (λ d. absurd (n d)) (λ (h : word_length A x ≤ word_length A (s ∷ x)). h)
-    (cases_lt (word_length A (s ∷ x)) (word_length A x))
-    in let t : nat_lt (word_length A (s ∷ x)) (word_length A x) ≡ false = grind (arith, nat_tests) in rw t refl
+along-longer A x s v n = rw (shortens_left-no A x s n) refl
 
 -- whether s shortens x
 pub shortens : (A : IntegerMatrix) (x : List ℕ) (s : ℕ) → IsLeftDescent A x s ⊎ (IsLeftDescent A x s → ⊥)

@@ -1,5 +1,9 @@
 -- R along a word: where it is 0 and 1, how large it gets, and that it depends on the elements alone
 pub mod AlongWords
+-- signs
+pub mod Signs
+-- the definition of R gives R along the normal form
+pub mod Expansion
 -- the same of two elements, by the normal form; the recursion
 pub mod PolynomialsOfElements
 -- lists of forty coefficients

@@ -1,5 +1,5 @@
--- R of two elements, by the normal form.
-use Rattle.std.proofs.Common.{◌≡◌, ℕ, ◌+◌, ◌^◌, ◌<◌, ◌≤◌, List, ◌∷◌, pos, refl, ap, sym, ◌∙◌, ⊎_elim, arith}
+-- R of two elements, which is the recursion along the normal form of the second.
+use Rattle.std.proofs.Common.{◌≡◌, ℕ, ◌+◌, ◌^◌, ◌<◌, ◌≤◌, List, ◌∷◌, pos, ap, sym, ◌∙◌, ⊎_elim, arith}
 use Rattle.cox_base.specs.IntegerMatrix.{IntegerMatrix}
 use Rattle.cox_base.specs.Admissible.{IsAdmissible}
 use Rattle.cox_base.specs.Element.{SameElement}
@@ -17,26 +17,25 @@ use Rattle.cox_reflect.proofs.NormalForm.{normal_form-descent}
 use Rattle.cox_reflect.proofs.Bruhat.{below-same}
 use Rattle.cox_poly.specs.Coefficients.{Coefficients, one_polynomial, plus, times_q, times_q_less_one}
 use Rattle.cox_poly.specs.Size.{HasNormAtMost, HasDegreeAtMost}
-use Rattle.cox_rpoly.specs.RPolynomial.{r_along, r_polynomial}
+use Rattle.cox_rpoly.specs.RPolynomial.{r_polynomial}
+use Rattle.cox_rpoly.specs.Recursion.{r_along}
 use Rattle.cox_rpoly.proofs.AlongWords.{along-shorter, along-longer, along-same, along-itself, along-not_below, along-degree, along-norm}
-
-pub r_polynomial-is : (A : IntegerMatrix) (x w : List ℕ) → r_polynomial A x w ≡ r_along A x (normal_form A w)
-unfolding r_polynomial
-r_polynomial-is A x w = refl
+use Rattle.cox_rpoly.proofs.Expansion.{r_polynomial-is}
 
 module _ (A : IntegerMatrix) (g : IsAdmissible A) where
   pub r_polynomial-same : {x y v w : List ℕ} → SameElement A x y → SameElement A v w → r_polynomial A x v ≡ r_polynomial A y w
   r_polynomial-same {x} {y} {v} {w} e f =
-      r_polynomial-is A x v ∙ ap (r_along A x) (normal_form-equal A g f) ∙ along-same A g e (normal_form A w) ∙ sym (r_polynomial-is A y w)
+      r_polynomial-is A g x v ∙ ap (r_along A x) (normal_form-equal A g f) ∙ along-same A g e (normal_form A w)
+      ∙ sym (r_polynomial-is A g y w)
 
   pub r_polynomial-equal : {x w : List ℕ} → SameElement A x w → r_polynomial A x w ≡ one_polynomial
   r_polynomial-equal {x} {w} e =
-      r_polynomial-same e (same-refl A g w) ∙ r_polynomial-is A w w
+      r_polynomial-same e (same-refl A g w) ∙ r_polynomial-is A g w w
       ∙ along-itself A g w (normal_form A w) (IsReduced-normal_form A g w) (same-sym A g (normal_form-same A g w))
 
   pub r_polynomial-not_below : (x w : List ℕ) → (IsBelow A x w → ⊥) → (k : ℕ) → r_polynomial A x w k ≡ pos 0
   r_polynomial-not_below x w not_below k =
-      ap (λ (f : Coefficients). f k) (r_polynomial-is A x w)
+      ap (λ (f : Coefficients). f k) (r_polynomial-is A g x w)
       ∙ along-not_below A g x (normal_form A w) (IsReduced-normal_form A g w)
       (λ b. not_below (below-same A g (same-refl A g x) (normal_form-same A g w) b)) k
 
@@ -46,8 +45,8 @@ module _ (A : IntegerMatrix) (g : IsAdmissible A) where
   pub r_polynomial-shorter : (x w : List ℕ) (s : ℕ) → IsLeastLeftDescent A w s → IsLeftDescent A x s → r_polynomial A x w
       ≡ r_polynomial A (s ∷ x) (s ∷ w)
   r_polynomial-shorter x w s d c =
-      r_polynomial-is A x w ∙ ap (r_along A x) (first w s d) ∙ along-shorter A x s (normal_form A (s ∷ w)) c
-      ∙ sym (r_polynomial-is A (s ∷ x) (s ∷ w))
+      r_polynomial-is A g x w ∙ ap (r_along A x) (first w s d) ∙ along-shorter A x s (normal_form A (s ∷ w)) c
+      ∙ sym (r_polynomial-is A g (s ∷ x) (s ∷ w))
 
   pub r_polynomial-moved : (x w : List ℕ) (s : ℕ) → IsLeastLeftDescent A w s → (IsLeftDescent A x s → ⊥) → r_polynomial A (s ∷ x) w
       ≡ r_polynomial A x (s ∷ w)
@@ -60,18 +59,20 @@ module _ (A : IntegerMatrix) (g : IsAdmissible A) where
   pub r_polynomial-longer : (x w : List ℕ) (s : ℕ) → IsLeastLeftDescent A w s → (IsLeftDescent A x s → ⊥)
       → r_polynomial A x w ≡ plus (times_q_less_one (r_polynomial A (s ∷ x) w)) (times_q (r_polynomial A (s ∷ x) (s ∷ w)))
   r_polynomial-longer x w s d n =
-      r_polynomial-is A x w ∙ ap (r_along A x) (first w s d) ∙ along-longer A x s (normal_form A (s ∷ w)) n
+      r_polynomial-is A g x w ∙ ap (r_along A x) (first w s d) ∙ along-longer A x s (normal_form A (s ∷ w)) n
       ∙ ap (λ (f : Coefficients). plus (times_q_less_one f) (times_q (r_along A (s ∷ x) (normal_form A (s ∷ w)))))
-      (sym (r_polynomial-is A x (s ∷ w)) ∙ sym (r_polynomial-moved x w s d n))
-      ∙ ap (λ (h : Coefficients). plus (times_q_less_one (r_polynomial A (s ∷ x) w)) (times_q h)) (sym (r_polynomial-is A (s ∷ x) (s ∷ w)))
+      (sym (r_polynomial-is A g x (s ∷ w)) ∙ sym (r_polynomial-moved x w s d n))
+      ∙ ap (λ (h : Coefficients). plus (times_q_less_one (r_polynomial A (s ∷ x) w)) (times_q h))
+      (sym (r_polynomial-is A g (s ∷ x) (s ∷ w)))
 
   pub r_polynomial-norm : (x w : List ℕ) (n : ℕ) → word_length A w ≤ word_length A x + n → HasNormAtMost (r_polynomial A x w) (3 ^ n)
-  r_polynomial-norm x w n near = rw (r_polynomial-is A x w) (along-norm A g x (normal_form A w) n (omega (arith, near, word_length-is A w)))
+  r_polynomial-norm x w n near = rw (r_polynomial-is A g x w)
+      (along-norm A g x (normal_form A w) n (omega (arith, near, word_length-is A w)))
 
   pub r_polynomial-degree : (x w : List ℕ) (n : ℕ) → word_length A w ≤ word_length A x + n → HasDegreeAtMost (r_polynomial A x w) n
-  r_polynomial-degree x w n near = rw (r_polynomial-is A x w)
+  r_polynomial-degree x w n near = rw (r_polynomial-is A g x w)
       (along-degree A g x (normal_form A w) n (omega (arith, near, word_length-is A w)))
 
   -- along the normal form of w
   pub r_polynomial-form : (x w form : List ℕ) → form ≡ normal_form A w → r_along A x form ≡ r_polynomial A x w
-  r_polynomial-form x w form e = rw e (sym (r_polynomial-is A x w))
+  r_polynomial-form x w form e = rw e (sym (r_polynomial-is A g x w))

@@ -9,7 +9,7 @@ use Rattle.cox_poly.specs.Polynomial.{coefficient}
 use Rattle.cox_rpoly.specs.declared.TheConstants.{MAX_DIFFERENCE}
 use Rattle.cox_rpoly.specs.declared.terms.Link.{Link}
 use Rattle.cox_rpoly.specs.declared.terms.Link.TheVariants.{Shorter, Longer}
-use Rattle.cox_rpoly.specs.RPolynomial.{r_along}
+use Rattle.cox_rpoly.specs.Recursion.{r_along}
 use Rattle.cox_rpoly.specs.ElementValues.{Naming}
 use Rattle.cox_rpoly.specs.Terms.{numbered}
 

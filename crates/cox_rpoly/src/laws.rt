@@ -26,6 +26,7 @@ pub fn elements()
 {}
 
 /// For the least left descent s of w: R(x,w) = R(sx,sw) where sx < x, else R(x,w) = (q-1) R(sx,w) + q R(sx,sw), and R(sx,w) = R(x,sw).
+/// With the values at w = e this determines R, and the code goes by it.
 pub fn recursion()
     ensures shorter { (A : IntegerMatrix) → IsAdmissible A → (x w : List ℕ) (s : ℕ) → IsLeastLeftDescent A w s → IsLeftDescent A x s
         → (k : ℕ) → r_polynomial A x w k ≡ r_polynomial A (s ∷ x) (s ∷ w) k }

@@ -6,7 +6,8 @@ ghost use Rattle.cox_base.specs.Length.{word_length};
 ghost use Rattle.cox_base.specs.Reduced.{IsReduced};
 ghost use Rattle.cox_base.specs.Matrix.{IsWord};
 ghost use Rattle.cox_poly.specs.Polynomial.{coefficient, IsPolynomial};
-ghost use Rattle.cox_rpoly.specs.RPolynomial.{r_along, r_polynomial};
+ghost use Rattle.cox_rpoly.specs.RPolynomial.{r_polynomial};
+ghost use Rattle.cox_rpoly.specs.Recursion.{r_along};
 ghost use Rattle.cox_rpoly.specs.ElementValues.{IfMade, IsValueMade};
 ghost use Rattle.cox_rpoly.specs.Depth.{IsDeep};
 

@@ -1,6 +1,7 @@
 -- The proof of `put_rpol`.
 use Rattle.std.proofs.Common.{◌≡◌, ℕ, Err, ap, refl, ◌∙◌}
 use Rattle.cox_base.specs.IntegerMatrix.{integer_matrix}
+use Rattle.cox_reflect.proofs.Admissible.{IsAdmissible-integer_matrix}
 use Rattle.cox_rpoly.specs.Depth.{IsDeep}
 use Rattle.cox_rpoly.specs.declared.r_fault.RFault.TheVariants.{Deep}
 use Rattle.cox_replies.proofs.PolynomialTexts.{is-r_text}
@@ -19,6 +20,7 @@ returns-in-Ok c =
     let near : (d : ℕ) → IsDeep A c.args.y.now.items c.args.w.now.items d → ⊥ =
     λ d deep. let bad : c.r.result ≡ Err (Deep d) = (c.r.ensures.deep d).1 deep in let good = c.in-Ok.is in cc in
     let value = c.in-Ok.ensures {u = tt} in
-    let text = is-r_text A c.args.y.now.items c.args.w.now.items _ value.value in
+    let g = IsAdmissible-integer_matrix c.args.table.now (rw c.group.ensures at c.rank-rank.ensures.matrix) in
+    let text = is-r_text A g c.args.y.now.items c.args.w.now.items _ value.value in
     rw c.unrefused.ensures
     (PutsUnless-put _ _ _ _ _ (far-allowed A c.args.y.now.items c.args.w.now.items near) (_, text, c.put_text.ensures))

@@ -8,7 +8,7 @@ use Rattle.cox_poly.specs.Polynomial.{coefficient}
 use Rattle.cox_rpoly.specs.declared.TheConstants.{MAX_DIFFERENCE}
 use Rattle.cox_rpoly.specs.Terms.{numbered}
 use Rattle.cox_context.specs.Numbers.{word_at}
-use Rattle.cox_context.proofs.PlacedWords.{rising-place, contains-placed}
+use Rattle.cox_context.proofs.PlacedWords.{contains-placed}
 use Rattle.cox_context.proofs.Shifting.{element-at}
 use Rattle.cox_rowcheck.specs.SmallPolynomials.{IsSmall}
 use Rattle.cox_rowcheck.specs.MemberFamily.{family_of}
