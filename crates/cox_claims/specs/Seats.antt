@@ -1,5 +1,5 @@
 -- A seat as callers see it.
-use Rattle.std.specs.Prelude.{◌≡◌, ℕ, ◌+◌, ◌-◌, ◌^◌, min, true, [], Option, Some}
+use Rattle.std.specs.Prelude.{◌≡◌, ℕ, ◌+◌, ◌-◌, ◌^◌, ◌<◌, min, true, [], Option, Some}
 use Rattle.atomic_table.specs.Seated.{TableId}
 use Rattle.cox_fill_core.specs.declared.event.RowState.{RowState}
 use Rattle.cox_claims.specs.declared.view.View.{View}
@@ -31,6 +31,10 @@ Holds seat i = holds (view_of seat) i ≡ true
 
 abbrev pub HoldsNothing : Seat → Type 0
 HoldsNothing seat = (view_of seat).held ≡ []
+
+-- each row that the seat holds has a greater number than i
+abbrev pub HoldsBeyond : Seat → ℕ → Type 0
+HoldsBeyond seat i = (j : ℕ) → Holds seat j → i < j
 
 -- the seat has seen row i Published, or Void, or Claimed by another
 abbrev pub HasSeen : Seat → ℕ → Type 0

@@ -62,7 +62,7 @@ pub struct Claims {
 
 impl Claims {
     ghost use Rattle.cox_claims.specs.Seats.{view_of, number_of, splits_of, one_more_split, IsSameSeat, Holds, HoldsNothing, HasSeen};
-    ghost use Rattle.cox_claims.specs.Seats.{HasSeenVoid, HasMarked, Reads};
+    ghost use Rattle.cox_claims.specs.Seats.{HoldsBeyond, HasSeenVoid, HasMarked, Reads};
     ghost use Rattle.cox_claims.specs.Tables.{rows_of, IsSeatOf, Closes};
 
     /// A table of this many rows, all Free, and its first seat, which has the number 0 and has seen nothing.
@@ -156,10 +156,13 @@ impl Claims {
         self.wake(row);
     }
 
-    /// Sleeps while a row is Claimed, until it is published or given up. It may also return before.
-    pub fn sleep_on<R: Wait>(&self, rt: &R, row: u32)
-        requires { row < rows_of self.now }
+    /// Sleeps while a row is Claimed, until it is published or given up. It may also return before. All rows that the seat holds have
+    /// greater numbers.
+    pub fn sleep_on<R: Wait>(&self, rt: &R, seat: &Seat, row: u32)
+        requires row { row < rows_of self.now }
+        requires order { HoldsBeyond seat.now row }
     {
+        let _ = seat;
         self.sleepers.fetch_add(1, SeqCst);
         self.table.shared.park(rt, row as usize, CLAIMED as u32);
         self.sleepers.fetch_sub(1, SeqCst);

@@ -2,7 +2,7 @@
 ghost use Rattle.std.specs.Prelude.{◌≡◌, ◌≢◌, ℕ, ◌<◌, ◌≤◌, [], max, length, vec_len, vec_capacity, ℤ, pos, ◌≤ℤ◌, IfOk};
 ghost use Rattle.cox_claims.specs.Knowledge.{holds, SeesAll, newcomer, Looks, TriesClaim, Publishes, Voids, parted, told, joined};
 ghost use Rattle.cox_claims.specs.Seats.{view_of, number_of, splits_of, one_more_split, IsSameSeat, Holds, HoldsNothing, HasSeen};
-ghost use Rattle.cox_claims.specs.Seats.{HasSeenVoid, HasMarked, Reads};
+ghost use Rattle.cox_claims.specs.Seats.{HoldsBeyond, HasSeenVoid, HasMarked, Reads};
 ghost use Rattle.cox_claims.specs.Tables.{rows_of, IsSeatOf};
 ghost use Rattle.cox_fill_core.specs.declared.event.RowState.{RowState};
 ghost use Rattle.cox_fill_core.specs.declared.event.RowState.TheVariants.{Free};
@@ -140,11 +140,13 @@ impl RowStore {
         self.claims.void(seat, member);
     }
 
-    /// Sleeps while the row of a member is Claimed, until it is published or given up. It may also return before.
-    pub fn sleep_on<R: Wait>(&self, rt: &R, member: u32)
-        requires { member < length (elements_of self.now).members }
+    /// Sleeps while the row of a member is Claimed, until it is published or given up. It may also return before. All rows that the seat
+    /// holds have greater numbers.
+    pub fn sleep_on<R: Wait>(&self, rt: &R, seat: &Seat, member: u32)
+        requires member { member < length (elements_of self.now).members }
+        requires order { HoldsBeyond seat.now member }
     {
-        self.claims.sleep_on(rt, member);
+        self.claims.sleep_on(rt, seat, member);
     }
 
     /// Lends the row of a member that the seat has seen Published, until the guard is let go.

@@ -102,7 +102,8 @@ impl RowCell {
 
 /// Whether a cell with this word has a row, and one reader more may come.
 fn can_be_read(word: u64) -> bool
-    ensures { IsTrue result → (word % 4 ≡ 1) × (readers word < 2 ^ 30 - 1) × (word + 4 < 2 ^ 64) }
+    ensures only { IsTrue result → (word % 4 ≡ 1) × (readers word < 2 ^ 30 - 1) × (word + 4 < 2 ^ 64) }
+    ensures always { (word % 4 ≡ 1) → (readers word < 2 ^ 30 - 1) → IsTrue result }
 {
     word % ONE_READER == PRESENT && word % 0x1_0000_0000 / ONE_READER < MOST_READERS
 }

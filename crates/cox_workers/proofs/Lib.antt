@@ -4,6 +4,8 @@ pub mod Guards
 pub mod SeatSteps
 -- what work leaves
 pub mod Working
+-- which rows a seat waits for
+pub mod WaitingOrder
 -- a member's shorter element and corrections
 pub mod NeedsByNumber
 -- what a seat has published, voided and seen

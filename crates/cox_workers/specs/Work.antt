@@ -1,5 +1,5 @@
 -- What a worker does to its seat while it makes the row of a member.
-use Rattle.std.specs.Prelude.{◌≡◌, ◌⊎◌, ℕ, ◌<◌, length, true, false, ◌||◌, ℤ}
+use Rattle.std.specs.Prelude.{◌≡◌, ◌⊎◌, ℕ, ◌<◌, ◌≤◌, length, true, false, ◌||◌, ℤ}
 use Rattle.cox_base.specs.IntegerMatrix.{integer_matrix}
 use Rattle.cox_hecke.specs.Needs.{IsNeeded}
 use Rattle.cox_context.specs.Closed.{Elements}
@@ -9,7 +9,7 @@ use Rattle.cox_klstep.specs.Faults.{IsFault}
 use Rattle.cox_klstep.specs.NeedsOf.{HasNeeds}
 use Rattle.cox_claims.specs.declared.seat.Seat.{Seat}
 use Rattle.cox_claims.specs.Knowledge.{SeesAll, TellsSameSeats, has_published, has_voided}
-use Rattle.cox_claims.specs.Seats.{view_of, splits_of, IsSameSeat, HasSeen, HasSeenVoid}
+use Rattle.cox_claims.specs.Seats.{view_of, splits_of, IsSameSeat, Holds, HasSeen, HasSeenVoid}
 use Rattle.cox_workers.specs.declared.missing.Missing.{Missing}
 use Rattle.cox_workers.specs.declared.missing.Missing.TheVariants.{Void, Fault}
 
@@ -17,6 +17,10 @@ use Rattle.cox_workers.specs.declared.missing.Missing.TheVariants.{Void, Fault}
 pub record IsNeededAt (e : Elements) (i j : ℕ) : Type 0 where
   pub within : j < length e.members
   pub needed : IsNeeded (integer_matrix e.matrix) (word_at e.members i) (word_at e.members j)
+
+-- each row that the seat holds has the number i or a greater one
+abbrev pub HoldsFrom : Seat → ℕ → Type 0
+HoldsFrom seat i = (j : ℕ) → Holds seat j → i ≤ j
 
 -- the seat published or voided row j, or one that it met did
 abbrev pub HasEnded : Seat → ℕ → Type 0

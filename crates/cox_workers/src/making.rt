@@ -5,7 +5,7 @@ ghost use Rattle.cox_klstep.specs.FoundAhead.{AreFound};
 ghost use Rattle.cox_klstep.specs.Tasks.{IsTask};
 ghost use Rattle.cox_klstep.specs.NeedsOf.{HasNeeds};
 ghost use Rattle.cox_claims.specs.Knowledge.{Publishes};
-ghost use Rattle.cox_claims.specs.Seats.{view_of, splits_of, IsSameSeat, Holds, HasSeen, HasSeenVoid, HasSeenClaimed};
+ghost use Rattle.cox_claims.specs.Seats.{view_of, splits_of, IsSameSeat, Holds, HoldsBeyond, HasSeen, HasSeenVoid, HasSeenClaimed};
 ghost use Rattle.cox_row.specs.RowOf.{IsRowAt};
 ghost use Rattle.cox_row.specs.Within.{IsRowWithin};
 ghost use Rattle.cox_row_store.specs.Stores.{limit_of, IsSeat};
@@ -25,13 +25,13 @@ use std::thread::Threads;
 
 impl<'a> Bench<'a> {
     ghost use Rattle.cox_workers.specs.Ready.{IsWorkerReady, IsWorkFor};
-    ghost use Rattle.cox_workers.specs.Work.{IsSeatKept, VoidsNone, IsRowMissing, IsUnmade};
+    ghost use Rattle.cox_workers.specs.Work.{HoldsFrom, IsSeatKept, VoidsNone, IsRowMissing, IsUnmade};
     ghost use Rattle.cox_workers.specs.Shelves.{IsOn};
 
     /// Sees to it that the row of the member with the number i is Published, with those that it is made from.
     ///
     /// The row is claimed before anything is done for it. Where another has claimed it, this waits until the row is Published or Void. The
-    /// gate is passed before each claim and each publication.
+    /// gate is passed before each claim and each publication. The seat waits for rows alone that have lesser numbers than all that it holds.
     ///
     /// Whatever the answer, the seat holds what it held: a row that was claimed on the way is Published, or else Void. In place of the row
     /// of i that of a member that it needs may be the one that is `Void` or has the `Fault`; a fault with the row of the member w is told
@@ -47,6 +47,7 @@ impl<'a> Bench<'a> {
     ) -> Result<(), Missing>
         requires ready { IsWorkerReady self.now seat.old hand.old }
         requires member { i < length self.now.context.now.members }
+        requires order { HoldsBeyond seat.old i }
         ensures work { IsWorkFor self.now i seat.old seat.new hand.old hand.new }
         ensures here { OnOk result (HasSeen seat.new i × VoidsNone seat.old seat.new) }
         ensures void { OnErr result (HasSeenVoid seat.new i) }
@@ -77,6 +78,7 @@ impl<'a> Bench<'a> {
         requires own { IsSeat self.now.store.now seat.old }
         requires member { i < length self.now.context.now.members }
         requires claimed { HasSeenClaimed seat.old i }
+        requires order { HoldsBeyond seat.old i }
         ensures own { IsSeat self.now.store.now seat.new }
         ensures kept { IsSeatKept self.now.context.now i seat.old seat.new }
         ensures here { OnOk result (HasSeen seat.new i × VoidsNone seat.old seat.new) }
@@ -88,7 +90,7 @@ impl<'a> Bench<'a> {
             match self.look(seat, i) {
                 RowState::Published => return Ok(()),
                 RowState::Void => return Err(Missing::Void(i)),
-                _ => self.store.sleep_on(rt, i),
+                _ => self.store.sleep_on(rt, seat, i),
             }
         }
         unreachable!()
@@ -107,6 +109,7 @@ impl<'a> Bench<'a> {
         requires ready { IsWorkerReady self.now seat.old hand.old }
         requires member { i < length self.now.context.now.members }
         requires held { Holds seat.old i }
+        requires order { HoldsFrom seat.old i }
         ensures work { IsWorkFor self.now i seat.old seat.new hand.old hand.new }
         ensures none { OnOk result (VoidsNone seat.old seat.new) }
         ensures row { IfOk result (IsRowAt self.now.context.now i) }
@@ -148,6 +151,7 @@ impl<'a> Bench<'a> {
         requires ready { IsWorkerReady self.now seat.old hand.old }
         requires member { i < length self.now.context.now.members }
         requires held { Holds seat.old i }
+        requires order { HoldsFrom seat.old i }
         ensures work { IsWorkFor self.now i seat.old seat.new hand.old hand.new }
         ensures none { OnOk result (VoidsNone seat.old seat.new) }
         ensures needs { OnOk result (HasNeeds self.now.context.now (IsOn hand.new.shelf) i) }
@@ -190,6 +194,7 @@ impl<'a> Bench<'a> {
     ) -> Result<(), Missing>
         requires ready { IsWorkerReady self.now seat.old hand.old }
         requires member { u < length self.now.context.now.members }
+        requires order { HoldsBeyond seat.old u }
         ensures work { IsWorkFor self.now u seat.old seat.new hand.old hand.new }
         ensures here { OnOk result (IsOn hand.new.shelf u × VoidsNone seat.old seat.new) }
         ensures missing { IfErr result (IsRowMissing self.now.context.now (limit_of self.now.store.now) u seat.old seat.new) }

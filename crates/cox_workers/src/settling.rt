@@ -1,5 +1,6 @@
 //! One row of a member that is wanted: it is made, or given up.
 ghost use Rattle.std.specs.Prelude.{◌<◌, length};
+ghost use Rattle.cox_claims.specs.Seats.{HoldsNothing};
 ghost use Rattle.cox_row_store.specs.Stores.{IsSeat};
 
 use crate::bench::Bench;
@@ -25,6 +26,7 @@ impl<'a> Bench<'a> {
     )
         requires ready { IsWorkerReady self.now seat.old hand.old }
         requires member { member < length self.now.context.now.members }
+        requires idle { HoldsNothing seat.old }
         ensures { IsWorkFor self.now member seat.old seat.new hand.old hand.new }
     {
         if self.look(seat, member) == RowState::Free {
@@ -43,6 +45,7 @@ impl<'a> Bench<'a> {
     )
         requires worker { IsSeatWith self.now seat.old hand.old }
         requires member { member < length self.now.context.now.members }
+        requires idle { HoldsNothing seat.old }
         ensures worker { IsSeatWith self.now seat.new hand.new }
         ensures kept { IsSeatKept self.now.context.now member seat.old seat.new }
         ensures settled { HasSeenEnd seat.new member }
@@ -64,6 +67,7 @@ impl<'a> Bench<'a> {
     fn give_up<R: Wait, G: Gate>(&self, rt: &R, gate: &G, seat: &mut Seat, member: u32)
         requires own { IsSeat self.now.store.now seat.old }
         requires member { member < length self.now.context.now.members }
+        requires idle { HoldsNothing seat.old }
         ensures own { IsSeat self.now.store.now seat.new }
         ensures kept { IsSeatKept self.now.context.now member seat.old seat.new }
         ensures settled { HasSeenEnd seat.new member }

@@ -1,5 +1,6 @@
 //! Rows by several workers: each makes rows that they need and that nobody has claimed.
 ghost use Rattle.std.specs.Prelude.{◌≡◌, ℕ, ◌<◌, ◌+◌, ◌^◌, ◌%◌, length, IfSome};
+ghost use Rattle.cox_claims.specs.Seats.{HoldsNothing};
 ghost use Rattle.cox_row.specs.Rising.{number_at};
 
 use crate::bench::Bench;
@@ -29,6 +30,7 @@ impl<'a> Bench<'a> {
     ) -> Option<u32>
         requires ready { IsWorkerReady self.now seat.old hand.old }
         requires member { i < length self.now.context.now.members }
+        requires idle { HoldsNothing seat.old }
         ensures work { IsWorkFor self.now i seat.old seat.new hand.old hand.new }
         ensures claimed { IfSome result (λ j. j < length self.now.context.now.members) }
     {
@@ -75,6 +77,7 @@ impl<'a> Bench<'a> {
     ) -> Option<u32>
         requires ready { IsWorkerReady self.now seat.old hand.old }
         requires member { u < length self.now.context.now.members }
+        requires idle { HoldsNothing seat.old }
         ensures work { IsWorkFor self.now u seat.old seat.new hand.old hand.new }
         ensures claimed { IfSome result (λ j. j < length self.now.context.now.members) }
     {

@@ -8,6 +8,7 @@ use Rattle.cox_claims.specs.Knowledge.{looked}
 use Rattle.cox_claims.specs.Seats.{view_of, HasSeen}
 use Rattle.cox_row_store.specs.Stores.{limit_of}
 use Rattle.cox_workers.proofs.SeatSteps.{needs-map, unmade_by-needed, unmade_err, looked_void, published_kept, voided_kept, unmade_missing}
+use Rattle.cox_workers.proofs.WaitingOrder.{beyond-still, from-beyond, looked-beyond, won-from}
 use Rattle.cox_workers.proofs.Working.{ready_still, work-trans, work-needed, work-tables, work-list}
 use Rattle.cox_workers.proofs.NeedsByNumber.{lower-needed_at, correction-needed_at, correction-before_at}
 use Rattle.cox_workers.specs.Shelves.{IsOn}
@@ -76,8 +77,26 @@ pub obtain-returns-then-take_published-clause-work : goal.obtain-returns-then-ta
 obtain-returns-then-take_published-clause-work g t c = c.take_published.ensures.work c.args.u
 
 pub obtain-ensure-requires : goal.obtain-ensure-requires
-obtain-ensure-requires g t c = λ κs outlives.
-    (omega (arith, c.decreases), (outlives.0, (outlives.1, (search rules, ((c.take_published.ensures.work c.args.u).ready, c.requires.member)))))
+obtain-ensure-requires g t c = λ κs outlives. (
+  omega (arith, c.decreases),
+  (
+    outlives.0,
+    (
+      outlives.1,
+      (
+        search rules,
+        (
+          (c.take_published.ensures.work c.args.u).ready,
+          (
+            c.requires.member,
+            beyond-still c.args.u c.args.seat.now c.take_published.new.seat
+                (c.take_published.ensures.work c.args.u).kept.held c.requires.order,
+          ),
+        ),
+      ),
+    ),
+  ),
+)
 
 pub obtain-returns-in_err-ensure-clause-work : goal.obtain-returns-in_err-ensure-clause-work
 obtain-returns-in_err-ensure-clause-work g t c = work-trans (c.take_published.ensures.work c.args.u) c.ensure.ensures.work
@@ -101,7 +120,23 @@ take_in-obtain-requires g t c = λ κs outlives.
     let less = lower-before e c.len-len.ensures.admissible c.len-len.ensures.closed c.of-descent.result c.of-descent.ensures.descent
     in (
       omega (arith, less, c.of-descent.ensures.number, c.decreases),
-      (outlives.0, (outlives.1, (search rules, (c.requires.ready, c.of-descent.ensures.descent.lower_within)))),
+      (
+        outlives.0,
+        (
+          outlives.1,
+          (
+            search rules,
+            (
+              c.requires.ready,
+              (
+                c.of-descent.ensures.descent.lower_within,
+                from-beyond c.args.i c.of-descent.result.lower c.args.seat.now c.args.seat.now
+                    (omega (arith, less, c.of-descent.ensures.number)) refl c.requires.order,
+              ),
+            ),
+          ),
+        ),
+      ),
     )
 
 pub take_in-returns-in_err-obtain-clause-work : goal.take_in-returns-in_err-obtain-clause-work
@@ -147,7 +182,23 @@ take_in-obtain-requires-in-corrections g t c = λ κs outlives.
     c.deref-u-items.ensures.value c.in_ok-needs.ensures c.corrections-test.true
     in (
       omega (arith, before, c.decreases),
-      (outlives.0, (outlives.1, (search rules, (c.corrections.invariant.work.ready, needed.within)))),
+      (
+        outlives.0,
+        (
+          outlives.1,
+          (
+            search rules,
+            (
+              c.corrections.invariant.work.ready,
+              (
+                needed.within,
+                from-beyond c.args.i (number_at c.deref-u-items.result.now c.corrections.u-index) c.args.seat.now c.corrections.seat before
+                    c.corrections.invariant.work.kept.held c.requires.order,
+              ),
+            ),
+          ),
+        ),
+      ),
     )
 
 pub take_in-corrections-init : goal.take_in-corrections-init

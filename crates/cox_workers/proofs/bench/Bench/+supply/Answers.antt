@@ -1,5 +1,5 @@
 -- The worker's steps.
-use Rattle.std.proofs.Common.{rules, Some, arith}
+use Rattle.std.proofs.Common.{rules, Some, arith, ◌∙◌}
 use Rattle.cox_klstep.proofs.NeededRows.{lower-before}
 use Rattle.cox_workers.specs.Work.{IsNeededAt}
 use Rattle.cox_workers.proofs.Working.{work-trans, work-same, work-again, work-lower, work-needed, work-list, option_or-both}
@@ -44,7 +44,7 @@ supply-provide-first-requires g t c =
     let less = lower-before e c.len-len.ensures.admissible c.len-len.ensures.closed c.of-descent.result c.of-descent.ensures.descent
     in (
       omega (arith, less, c.of-descent.ensures.number, c.decreases),
-      (outlives.0, (outlives.1, (search rules, (c.requires.ready, c.of-descent.ensures.descent.lower_within)))),
+      (outlives.0, (outlives.1, (search rules, (c.requires.ready, (c.of-descent.ensures.descent.lower_within, c.requires.idle))))),
     )
 
 pub supply-returns-then-is_some-clause-work : goal.supply-returns-then-is_some-clause-work
@@ -92,7 +92,19 @@ supply-provide-requires g t c =
     c.as_slice.ensures.value c.in-Ok.ensures turn.1
     in (
       omega (arith, before, turn.2, c.decreases),
-      (outlives.0, (outlives.1, (search rules, (c.corrections.invariant.work.ready, rw turn.2 needed.within)))),
+      (
+        outlives.0,
+        (
+          outlives.1,
+          (
+            search rules,
+            (
+              c.corrections.invariant.work.ready,
+              (rw turn.2 needed.within, c.corrections.invariant.work.kept.held ∙ c.requires.idle),
+            ),
+          ),
+        ),
+      ),
     )
 
 pub supply-corrections-preserved : goal.supply-corrections-preserved
