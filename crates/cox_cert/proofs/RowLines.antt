@@ -13,7 +13,7 @@ use Rattle.arrayvec.specs.ArrayVec.{ArrayVec}
 use Rattle.cox_poly.proofs.Polynomials.{same_polynomial}
 use Rattle.cox_poly.proofs.JoinedTerms.{polynomial_text-one}
 use Rattle.cox_poly.proofs.Splits.{AreNot, Begins, AreSame, split-one, behind-begins}
-use Rattle.cox_cert.specs.Certificate.{IsShortWord, IsLine, row_line}
+use Rattle.cox_certtext.specs.Certificate.{IsShortWord, IsLine, row_line}
 use Rattle.cox_cert.specs.declared.reading.RowLine.{RowLine}
 use Rattle.cox_cert.specs.declared.reading.RowLine.TheVariants.{Small, Large, Foreign}
 use Rattle.cox_cert.specs.LineReading.{ReadsPolynomial, ReadsRow}

@@ -26,12 +26,12 @@ use Rattle.cox_hecke.proofs.PolynomialValues.{kl_polynomial-value, kl_polynomial
 use Rattle.cox_context.specs.Numbers.{word_at}
 use Rattle.cox_context.proofs.PlacedWords.{contains-placed}
 use Rattle.cox_context.proofs.ShortLexLists.{HasMoreThan-listed}
-use Rattle.cox_rowcheck.specs.declared.limits.TheConstants.{MAX_LISTED, MAX_DEGREE, MAX_COEFFICIENT}
+use Rattle.cox_certtext.specs.declared.limits.TheConstants.{MAX_LISTED, MAX_DEGREE, MAX_COEFFICIENT}
 use Rattle.cox_rowcheck.proofs.IntervalRows.{interval-at, interval-short, interval-named}
 use Rattle.cox_rows.specs.Beyond.{IsBeyond, coefficient as large_coefficient}
 use Rattle.cox_outside.specs.Line.{line_feed}
-use Rattle.cox_cert.specs.Certificate.{Certificate, IsCertificate, IsShortWord, IsLine, words_of, polynomials_of}
-use Rattle.cox_cert.specs.Certificate.{contents, certificate_text}
+use Rattle.cox_certtext.specs.Certificate.{Certificate, IsCertificate, IsShortWord, IsLine, words_of, polynomials_of}
+use Rattle.cox_certtext.specs.Certificate.{contents, certificate_text}
 use Rattle.cox_cert.specs.Causes.{HasTop, HasInterval, HasSmall, HasRow, IsProof}
 use Rattle.cox_cert.proofs.Accepted.{certificate_text-gives, certificate_text-within}
 use Rattle.cox_cert.proofs.WholeChecks.{check-proof}
@@ -46,7 +46,7 @@ use Rattle.cox_replies.specs.Limits.{Limits}
 use Rattle.cox_replies.specs.Question.{IsRefused}
 use Rattle.cox_replies.specs.CertReply.{RefusesCert, IsCertText}
 use Rattle.cox_replies.proofs.CertRefusals.{cert-none}
-use Rattle.cox_replies.proofs.CertTexts.{IsCertificateOf, cert-certificate}
+use Rattle.cox_certlaw.proofs.CertificateRows.{IsCertificateOf, cert-certificate}
 use Rattle.cox_replies.proofs.KeptRows.{interval-member}
 
 -- P(x,w) has no coefficient above a limit, or the row of w is beyond it

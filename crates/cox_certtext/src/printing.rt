@@ -2,10 +2,9 @@
 ghost use Rattle.std.specs.Prelude.{◌<◌, ◌≤◌};
 ghost use Rattle.cox_base.specs.Matrix.{IsWord};
 ghost use Rattle.cox_poly.specs.Puts.{Puts};
-ghost use Rattle.cox_cert.specs.Certificate.{matrix_line};
-ghost use Rattle.cox_cert.specs.LabelPairs.{IsNextPair};
-ghost use Rattle.cox_cert.specs.LineReading.{labels_text};
-ghost use Rattle.cox_cert.specs.CertificateParts.{label_text, next_top_line, certificate_head, certificate_foot};
+ghost use Rattle.cox_certtext.specs.Certificate.{matrix_line};
+ghost use Rattle.cox_certtext.specs.LabelPairs.{IsNextPair};
+ghost use Rattle.cox_certtext.specs.CertificateParts.{label_text, labels_text, next_top_line, certificate_head, certificate_foot};
 
 use cox_base::{Coxeter, MAX_RANK, Word};
 use cox_print::{NoMemory, put_count, put_element, put_text};

@@ -1,9 +1,9 @@
 -- The proof of `put_head`.
 use Rattle.std.proofs.Common.{codes, rules}
 use Rattle.cox_print.proofs.ThreeTexts.{Puts-first_of_three, Puts-second_of_three, Puts-third_of_three}
-use Rattle.cox_cert.specs.Certificate.{matrix_line}
-use Rattle.cox_cert.specs.CertificateParts.{next_top_line}
-use Rattle.cox_cert.proofs.printing.put_head.Goals as goal
+use Rattle.cox_certtext.specs.Certificate.{matrix_line}
+use Rattle.cox_certtext.specs.CertificateParts.{next_top_line}
+use Rattle.cox_certtext.proofs.printing.put_head.Goals as goal
 
 pub returns-in_err-put_matrix_line : goal.returns-in_err-put_matrix_line
 returns-in_err-put_matrix_line c = Puts-first_of_three _ (matrix_line c.args.g.now)

@@ -4,8 +4,8 @@ use Rattle.std.specs.List.{flat_map}
 use Rattle.std.proofs.lemmas.Grind.{flat_map-append}
 use Rattle.std.proofs.lemmas.List.{length-map, append-nil}
 use Rattle.cox_print.specs.AnswerText.{list_text}
-use Rattle.cox_cert.specs.Certificate.{Certificate, matrix_line, row_line, end_line, certificate_text}
-use Rattle.cox_cert.specs.CertificateParts.{next_top_line, certificate_head, certificate_foot}
+use Rattle.cox_certtext.specs.Certificate.{Certificate, matrix_line, row_line, end_line, certificate_text}
+use Rattle.cox_certtext.specs.CertificateParts.{next_top_line, certificate_head, certificate_foot}
 
 joined : (m t r d f e : List ℕ) → m ++ (t ++ ((r ++ d) ++ (f ++ e))) ≡ ((m ++ t) ++ r) ++ (d ++ f) ++ e
 joined m t r d f e = simp append_assoc

@@ -1,6 +1,6 @@
-//! What may be asked at most: for these sizes no sum overflows.
+//! What a certificate has at most: for these sizes no sum of a check overflows.
 
-/// The most elements of a list.
+/// The most elements below the element of a certificate.
 pub const MAX_LISTED: usize = 4096;
 
 /// The greatest degree of a polynomial.

@@ -1,12 +1,17 @@
 -- The text of a certificate in parts: what stands before the list of its rows, and what stands behind it.
 use Rattle.std.specs.Prelude.{ℕ, List, ◌∷◌, ◌++◌, codes, decimal}
+use Rattle.std.specs.List.{flat_map}
 use Rattle.cox_base.specs.Matrix.{CoxeterMatrix}
 use Rattle.cox_outside.specs.Line.{line_feed}
-use Rattle.cox_cert.specs.Certificate.{matrix_line, top_line, end_line}
+use Rattle.cox_certtext.specs.Certificate.{matrix_line, top_line, end_line}
 
 -- a label in the first line
 abbrev pub label_text : ℕ → List ℕ
 label_text label = codes " " ++ decimal label
+
+-- the labels of a matrix, as they stand in its line
+abbrev pub labels_text : List ℕ → List ℕ
+labels_text labels = flat_map label_text labels
 
 -- the line of the element, behind the end of the line before
 abbrev pub next_top_line : ℕ → List ℕ → List ℕ

@@ -3,7 +3,7 @@ use Rattle.std.proofs.Common.{◌≡◌, ℕ, ◌+◌, ◌-◌, ◌*◌, ◌/◌
 use Rattle.std.proofs.lemmas.Bool.{cases_lt}
 use Rattle.cox_base.specs.Matrix.{labels_before, place}
 use Rattle.cox_base.proofs.LabelPlaces.{labels_before-all, labels_before-next}
-use Rattle.cox_cert.specs.LabelPairs.{IsNextPair}
+use Rattle.cox_certtext.specs.LabelPairs.{IsNextPair}
 
 -- the nodes of the label at the place k, if there is one: s and t with s < t; behind the last label s is the rank
 pub record IsPair (n k s t : ℕ) : Type 0 where

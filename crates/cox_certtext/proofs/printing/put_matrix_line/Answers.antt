@@ -1,8 +1,8 @@
 -- The proof of `put_matrix_line`.
 use Rattle.std.proofs.Common.{codes, decimal, rules}
 use Rattle.cox_print.proofs.ThreeTexts.{Puts-first_of_three, Puts-second_of_three, Puts-third_of_three}
-use Rattle.cox_cert.specs.LineReading.{labels_text}
-use Rattle.cox_cert.proofs.printing.put_matrix_line.Goals as goal
+use Rattle.cox_certtext.specs.CertificateParts.{labels_text}
+use Rattle.cox_certtext.proofs.printing.put_matrix_line.Goals as goal
 
 pub returns-in_err-put_text : goal.returns-in_err-put_text
 returns-in_err-put_text c = Puts-first_of_three _ (codes "cert ") (decimal c.args.g.now.rank) (labels_text c.args.g.now.labels) _ _

@@ -2,7 +2,7 @@
 use Rattle.std.proofs.Common.{codes, rules}
 use Rattle.cox_base.specs.WordText.{word_text}
 use Rattle.cox_poly.proofs.Behind.{Puts-first, Puts-second}
-use Rattle.cox_cert.proofs.printing.put_top_line.Goals as goal
+use Rattle.cox_certtext.proofs.printing.put_top_line.Goals as goal
 
 pub returns-in_err-put_text : goal.returns-in_err-put_text
 returns-in_err-put_text c =

@@ -3,9 +3,9 @@ use Rattle.std.proofs.Common.{◌≡◌, ◌<◌, ◌≤◌, ◌*◌, ◌-◌, �
 use Rattle.std.proofs.lemmas.List.{append-nil}
 use Rattle.cox_base.proofs.Entries.{label-above}
 use Rattle.cox_poly.proofs.Behind.{Puts-failed, PutsPrefix-next, append-next, append-all}
-use Rattle.cox_cert.specs.CertificateParts.{label_text}
-use Rattle.cox_cert.proofs.LabelOrder.{first-pair, pair-inside, pair-next}
-use Rattle.cox_cert.proofs.printing.put_labels.Goals as goal
+use Rattle.cox_certtext.specs.CertificateParts.{label_text}
+use Rattle.cox_certtext.proofs.LabelOrder.{first-pair, pair-inside, pair-next}
+use Rattle.cox_certtext.proofs.printing.put_labels.Goals as goal
 
 pub loop-k-init : goal.loop-k-init
 loop-k-init c = (first-pair c.args.g.now.rank c.rank-rank.ensures.matrix.some, sym (append-nil c.args.out.now.items))

@@ -9,7 +9,7 @@ use Rattle.cox_poly.specs.Polynomial.{IsPolynomial}
 use Rattle.cox_outside.specs.Line.{line_feed, lines_of, content_of}
 use Rattle.cox_outside.specs.declared.limits.TheConstants.{LINE_LIMIT}
 use Rattle.cox_print.specs.AnswerText.{pair_text}
-use Rattle.cox_rowcheck.specs.declared.limits.TheConstants.{MAX_LISTED}
+use Rattle.cox_certtext.specs.declared.limits.TheConstants.{MAX_LISTED}
 
 -- a group, a word of it, and words with a polynomial each
 pub record Certificate : Type 0 where
