@@ -11,7 +11,7 @@ use Rattle.cox_base.specs.Matrix.{CoxeterMatrix, is_label}
 use Rattle.cox_base.specs.Admissible.{IsCoxeterMatrix}
 use Rattle.cox_base.specs.WordText.{word_text}
 use Rattle.cox_poly.specs.PolynomialText.{polynomial_text}
-use Rattle.cox_poly.proofs.Splits.{AreNot}
+use Rattle.cox_polyread.proofs.Splits.{AreNot}
 use Rattle.cox_outside.specs.Line.{line_feed, lines_of, content_of, is_foreign}
 use Rattle.cox_outside.specs.Unbroken.{IsUnbroken}
 use Rattle.cox_outside.specs.declared.limits.TheConstants.{LINE_LIMIT, INPUT_LIMIT}

@@ -15,7 +15,7 @@ use Rattle.cox_certtext.specs.Certificate.{Certificate, IsShortWord, IsLine, IsC
 use Rattle.cox_certtext.specs.Certificate.{matrix_line, top_line, count_line, row_line, end_line, certificate_lines}
 use Rattle.cox_cert.specs.Drafts.{IsGroup, BeginsNone}
 use Rattle.cox_cert.proofs.MatrixLines.{matrix_line-one}
-use Rattle.cox_poly.proofs.Splits.{AreNot}
+use Rattle.cox_polyread.proofs.Splits.{AreNot}
 use Rattle.cox_cert.proofs.PlainTexts.{AreNot-at}
 use Rattle.cox_cert.proofs.PlainLines.{count_line-one, lines-plain}
 

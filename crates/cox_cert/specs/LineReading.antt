@@ -1,7 +1,7 @@
 -- For code: what the lines of a certificate give.
 use Rattle.std.specs.Prelude.{◌≡◌, ◌≢◌, ℕ, ◌<◌, List, All, ℤ}
 use Rattle.arrayvec.specs.ArrayVec.{ArrayVec}
-use Rattle.cox_poly.specs.PolynomialReading.{IsTextOf}
+use Rattle.cox_polyread.specs.PolynomialReading.{IsTextOf}
 use Rattle.cox_rowcheck.specs.SmallPolynomials.{IsSmall}
 use Rattle.cox_cert.specs.declared.reading.RowLine.{RowLine}
 use Rattle.cox_cert.specs.declared.reading.RowLine.TheVariants.{Small, Large, Foreign}
