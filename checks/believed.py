@@ -166,7 +166,7 @@ GRAMMAR = "Rattle.cox_command.specs."
 # The definitions that say what a command word asks, by the shape of the word in the table of command words.
 QUESTIONS = {"One": "one_question", "Two": "two_question", "Plain": "group_question", "Work": "work_question"}
 # The files whose definitions say how an answer is written.
-TEXTS = {"cox_base.WordText", "cox_poly.PolynomialText", "cox_poly.Numerals", "cox_cert.Certificate"}
+TEXTS = {"cox_base.WordText", "cox_poly.PolynomialText", "cox_poly.Numerals", "cox_certtext.Certificate"}
 # What every command's refusals begin with: the first refusal that has a cause, the command of a line, and the numbers.
 READING = ["IsRefused", "line_refusal", "command_of", "refusal_number"]
 PARTS = ("mathematics", "text", "refusals")

@@ -58,23 +58,23 @@ SAID = [
     (
         "docs/COXCHECK.md",
         "| coefficients | {} in absolute value |",
-        "cox_rowcheck",
+        "cox_certtext",
         "MAX_COEFFICIENT",
     ),
     ("docs/COXCHECK.md", "| bytes of the input | {} |", "cox_outside", "INPUT_LIMIT"),
     ("docs/PROVED.md", "At status 6 the same of the first {} bytes", "cox_outside", "INPUT_LIMIT"),
     ("docs/PROVED.md", "fewer than {} bytes were read beyond", "cox_outside", "CHUNK_SIZE"),
-    ("docs/PROVED.md", "by its normal form of at most {} letters", "cox_rowcheck", "MAX_DEGREE"),
+    ("docs/PROVED.md", "by its normal form of at most {} letters", "cox_certtext", "MAX_DEGREE"),
     ("docs/PROVED.md", "the lengths differ by more than {}", "cox_rpoly", "MAX_DIFFERENCE"),
-    ("docs/PROVED.md", "For at most {} elements", "cox_rowcheck", "MAX_LISTED"),
+    ("docs/PROVED.md", "For at most {} elements", "cox_certtext", "MAX_LISTED"),
     ("docs/PROVED.md", "fewer than {}, else the first 64", "cox_symmetry", "MAX_SYMMETRIES"),
     ("docs/DEFINITIONS.md", "`--context` up to {}", "cox_options", "MAX_CONTEXT"),
     ("docs/DEFINITIONS.md", "`--roots` up to {}", "cox_options", "MAX_ROOTS"),
     ("docs/DEFINITIONS.md", "`--workers` up to {}", "cox_options", "MAX_WORKERS"),
     ("docs/DECISIONS.md", "At the limit** of {} bytes", "cox_outside", "INPUT_LIMIT"),
     ("docs/DECISIONS.md", "At most {} symmetries are listed", "cox_symmetry", "MAX_SYMMETRIES"),
-    ("docs/COXCHECK.md", "| letters of the element | {} |", "cox_rowcheck", "MAX_DEGREE"),
-    ("docs/COXCHECK.md", "| elements below it | {} |", "cox_rowcheck", "MAX_LISTED"),
+    ("docs/COXCHECK.md", "| letters of the element | {} |", "cox_certtext", "MAX_DEGREE"),
+    ("docs/COXCHECK.md", "| elements below it | {} |", "cox_certtext", "MAX_LISTED"),
 ]
 CODE = re.compile(r"^```.*?^```$", re.M | re.S)
 

@@ -38,16 +38,16 @@ LIMITS = [
     ("cox_options/src/options.rt", "MAX_CONTEXT", program.OPTIONS["context"][1]),
     ("cox_options/src/options.rt", "MAX_ROOTS", program.OPTIONS["roots"][1]),
     ("cox_options/src/options.rt", "MAX_COEF", program.OPTIONS["coef"][1]),
-    ("cox_rowcheck/src/limits.rt", "MAX_LISTED", certificates.MOST_OF_CERTIFICATE),
-    ("cox_rowcheck/src/limits.rt", "MAX_DEGREE", certificates.MOST_OF_LETTERS),
-    ("cox_rowcheck/src/limits.rt", "MAX_COEFFICIENT", certificates.MOST_OF_COEFFICIENT),
+    ("cox_certtext/src/limits.rt", "MAX_LISTED", certificates.MOST_OF_CERTIFICATE),
+    ("cox_certtext/src/limits.rt", "MAX_DEGREE", certificates.MOST_OF_LETTERS),
+    ("cox_certtext/src/limits.rt", "MAX_COEFFICIENT", certificates.MOST_OF_COEFFICIENT),
 ]
 
 # The number of a refusal or of an exit status, and the limits that its text has to name.
 NAMED = [
     (errors.MEANINGS, 17, [("cox_base/src/limits.rt", "MAX_LETTERS")]),
     (errors.MEANINGS, 18, [("cox_outside/src/limits.rt", "LINE_LIMIT")]),
-    (errors.MEANINGS, 31, [("cox_rowcheck/src/limits.rt", "MAX_LISTED")]),
+    (errors.MEANINGS, 31, [("cox_certtext/src/limits.rt", "MAX_LISTED")]),
     (errors.MEANINGS, 34, [("cox_rpoly/src/lib.rt", "MAX_DIFFERENCE")]),
     (errors.MEANINGS, 35, [("cox_shell/src/limits.rt", "MAX_BLOCKS"), ("cox_shell/src/limits.rt", "MAX_LINES")]),
     (errors.STATUSES, 6, [("cox_outside/src/limits.rt", "INPUT_LIMIT")]),

@@ -11,17 +11,17 @@ use Rattle.cox_base.specs.Matrix.{CoxeterMatrix, is_label}
 use Rattle.cox_base.specs.Admissible.{IsCoxeterMatrix}
 use Rattle.cox_base.specs.WordText.{word_text}
 use Rattle.cox_poly.specs.PolynomialText.{polynomial_text}
-use Rattle.cox_poly.proofs.Splits.{AreNot}
+use Rattle.cox_polyread.proofs.Splits.{AreNot}
 use Rattle.cox_outside.specs.Line.{line_feed, lines_of, content_of, is_foreign}
 use Rattle.cox_outside.specs.Unbroken.{IsUnbroken}
 use Rattle.cox_outside.specs.declared.limits.TheConstants.{LINE_LIMIT, INPUT_LIMIT}
 use Rattle.cox_outside.proofs.Lines.{lines_of-line}
-use Rattle.cox_rowcheck.specs.declared.limits.TheConstants.{MAX_LISTED}
+use Rattle.cox_certtext.specs.declared.limits.TheConstants.{MAX_LISTED}
 use Rattle.cox_rowcheck.specs.SmallPolynomials.{IsSmall}
-use Rattle.cox_cert.specs.Certificate.{Certificate, IsShortWord, IsCertificate, IsLine, Gives, row_line, end_line, matrix_line}
-use Rattle.cox_cert.specs.Certificate.{count_line, top_line, certificate_lines, certificate_text, contents, polynomials_of}
+use Rattle.cox_certtext.specs.Certificate.{Certificate, IsShortWord, IsCertificate, IsLine, Gives, row_line, end_line, matrix_line}
+use Rattle.cox_certtext.specs.Certificate.{count_line, top_line, certificate_lines, certificate_text, contents, polynomials_of}
 use Rattle.cox_cert.specs.Causes.{HasSmall}
-use Rattle.cox_cert.specs.LineReading.{labels_text}
+use Rattle.cox_certtext.specs.CertificateParts.{labels_text}
 use Rattle.cox_cert.proofs.PlainTexts.{IsPlainText, AreNot-at, plain-append, plain-more, plain-flat_map, decimal-plain}
 use Rattle.cox_cert.proofs.WordLines.{word_text-plain}
 use Rattle.cox_cert.proofs.MatrixLines.{labels-digits, label_count-limit}

@@ -8,7 +8,7 @@ use Rattle.cox_base.specs.declared.limits.TheConstants.{MAX_RANK}
 use Rattle.cox_base.specs.Matrix.{CoxeterMatrix}
 use Rattle.cox_base.specs.WordText.{word_text}
 use Rattle.cox_base.proofs.WordTexts.{word_text-one}
-use Rattle.cox_cert.specs.Certificate.{Certificate, IsCertificate, IsLine, Gives, row_line, end_line, certificate_lines}
+use Rattle.cox_certtext.specs.Certificate.{Certificate, IsCertificate, IsLine, Gives, row_line, end_line, certificate_lines}
 use Rattle.cox_cert.proofs.MatrixLines.{matrix_line-one}
 use Rattle.cox_cert.proofs.RowLines.{row_line-one}
 

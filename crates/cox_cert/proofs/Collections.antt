@@ -20,7 +20,7 @@ use Rattle.cox_cert.specs.declared.draft.Form.{Form}
 use Rattle.cox_cert.specs.declared.draft.Form.TheVariants as form
 use Rattle.cox_cert.specs.declared.collecting.Halt.{Halt}
 use Rattle.cox_cert.specs.declared.collecting.Halt.TheVariants as halt
-use Rattle.cox_cert.specs.Certificate.{Certificate, Gives, contents}
+use Rattle.cox_certtext.specs.Certificate.{Certificate, Gives, contents}
 use Rattle.cox_cert.specs.Causes.{IsFirstCause}
 use Rattle.cox_cert.specs.Checks.{ReadsAll, ReadsWithin}
 use Rattle.cox_cert.specs.Drafts.{IsForm, BeginsNone, HasAll}

@@ -2,7 +2,7 @@
 use Rattle.std.proofs.Common.{◌≡◌, ℕ, ◌==◌, Bool, List, ◌++◌, take, drop, sym, ◌∙◌}
 use Rattle.std.specs.List.{position_or_len}
 use Rattle.std.proofs.lemmas.List.{take-append-drop}
-use Rattle.cox_poly.proofs.Splits.{AreNot, Begins, AreSame, split-one, before-not, behind-begins}
+use Rattle.cox_polyread.proofs.Splits.{AreNot, Begins, AreSame, split-one, before-not, behind-begins}
 
 -- whether a byte is this one
 abbrev pub is_byte : ℕ → ℕ → Bool

@@ -7,8 +7,9 @@ use Rattle.std.proofs.lemmas.Bool.{and_parts, and_from, le-leb, both_ways}
 use Rattle.std.proofs.lemmas.Fmt.{length-decimal-le, first_decimal, decimal_nonempty}
 use Rattle.cox_tokens.specs.Number.{is_number, value_of}
 use Rattle.cox_tokens.specs.declared.number.TheConstants.{MAX_DIGITS}
-use Rattle.cox_poly.proofs.Numerals.{number_text-decimal, number_text-value_of, value_of-above, is_numeral-number_text, is_numeral-digits}
-use Rattle.cox_poly.proofs.Numerals.{is_numeral-all}
+use Rattle.cox_poly.proofs.Numerals.{number_text-decimal}
+use Rattle.cox_polyread.proofs.ReadNumerals.{number_text-value_of, value_of-above, is_numeral-number_text, is_numeral-digits}
+use Rattle.cox_polyread.proofs.ReadNumerals.{is_numeral-all}
 use Rattle.cox_poly.specs.Numerals.{number_text}
 
 -- a numeral of a number above 0 is not empty, and no zero leads it

@@ -10,12 +10,12 @@ use Rattle.cox_base.specs.Admissible.{IsCoxeterMatrix}
 use Rattle.cox_base.specs.declared.limits.TheConstants.{MAX_RANK}
 use Rattle.cox_outside.specs.Line.{is_foreign}
 use Rattle.cox_outside.specs.declared.limits.TheConstants.{LINE_LIMIT}
-use Rattle.cox_rowcheck.specs.declared.limits.TheConstants.{MAX_LISTED}
-use Rattle.cox_cert.specs.Certificate.{Certificate, IsShortWord, IsLine, IsCertificate, Gives}
-use Rattle.cox_cert.specs.Certificate.{matrix_line, top_line, count_line, row_line, end_line, certificate_lines}
+use Rattle.cox_certtext.specs.declared.limits.TheConstants.{MAX_LISTED}
+use Rattle.cox_certtext.specs.Certificate.{Certificate, IsShortWord, IsLine, IsCertificate, Gives}
+use Rattle.cox_certtext.specs.Certificate.{matrix_line, top_line, count_line, row_line, end_line, certificate_lines}
 use Rattle.cox_cert.specs.Drafts.{IsGroup, BeginsNone}
 use Rattle.cox_cert.proofs.MatrixLines.{matrix_line-one}
-use Rattle.cox_poly.proofs.Splits.{AreNot}
+use Rattle.cox_polyread.proofs.Splits.{AreNot}
 use Rattle.cox_cert.proofs.PlainTexts.{AreNot-at}
 use Rattle.cox_cert.proofs.PlainLines.{count_line-one, lines-plain}
 

@@ -11,9 +11,9 @@ use Rattle.cox_base.specs.SortedList.{IsListOf}
 use Rattle.cox_rpoly.specs.declared.TheConstants.{MAX_DIFFERENCE}
 use Rattle.cox_rowcheck.specs.ListedRows.{AreRow}
 use Rattle.cox_rowcheck.specs.SmallPolynomials.{IsSmall}
-use Rattle.cox_rowcheck.specs.declared.limits.TheConstants.{MAX_LISTED}
+use Rattle.cox_certtext.specs.declared.limits.TheConstants.{MAX_LISTED}
 use Rattle.cox_cert.specs.declared.draft.Draft.{Draft}
-use Rattle.cox_cert.specs.Certificate.{Certificate, words_of, polynomials_of}
+use Rattle.cox_certtext.specs.Certificate.{Certificate, words_of, polynomials_of}
 use Rattle.cox_cert.specs.Causes.{HasTop, HasInterval, HasRow}
 use Rattle.cox_cert.specs.Drafts.{IsDraftOf, letters_of}
 use Rattle.cox_cert.specs.Judgements.{HasCertificate, IsTop, IsInterval, IsRow}

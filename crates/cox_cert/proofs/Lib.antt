@@ -33,7 +33,3 @@ pub mod LastMember
 pub mod Judgings
 -- the contract of a whole check
 pub mod WholeChecks
--- the text of a certificate by its parts
-pub mod CertificateTexts
--- the labels of a Coxeter matrix in their order
-pub mod LabelOrder

@@ -15,9 +15,10 @@ use Rattle.cox_base.specs.Admissible.{IsCoxeterMatrix}
 use Rattle.cox_base.specs.Table.{IsFirstBad}
 use Rattle.cox_base.proofs.Positions.{position-None_all}
 use Rattle.cox_base.proofs.LabelPlaces.{labels_before-all, labels_before-small}
-use Rattle.cox_poly.proofs.Splits.{AreNot, Begins, AreSame, split-one}
-use Rattle.cox_cert.specs.Certificate.{matrix_line}
-use Rattle.cox_cert.specs.LineReading.{labels_text, AreDigits}
+use Rattle.cox_polyread.proofs.Splits.{AreNot, Begins, AreSame, split-one}
+use Rattle.cox_certtext.specs.Certificate.{matrix_line}
+use Rattle.cox_certtext.specs.CertificateParts.{labels_text}
+use Rattle.cox_cert.specs.LineReading.{AreDigits}
 use Rattle.cox_cert.proofs.PlainTexts.{decimal-bytes}
 use Rattle.cox_cert.proofs.Cuts.{is_byte, cut-one}
 

@@ -6,10 +6,10 @@ use Rattle.std.proofs.lemmas.List.Elements.{All-nil, All-cons, All-head, All-tai
 use Rattle.arrayvec.specs.ArrayVec.{ArrayVec}
 use Rattle.cox_base.specs.Matrix.{CoxeterMatrix}
 use Rattle.cox_rowcheck.specs.SmallPolynomials.{IsSmall}
-use Rattle.cox_rowcheck.specs.declared.limits.TheConstants.{MAX_LISTED}
+use Rattle.cox_certtext.specs.declared.limits.TheConstants.{MAX_LISTED}
 use Rattle.cox_cert.specs.declared.draft.Draft.{Draft}
-use Rattle.cox_cert.specs.Certificate.{Certificate, IsShortWord, IsLine, Gives, words_of, polynomials_of}
-use Rattle.cox_cert.specs.Certificate.{matrix_line, top_line, count_line, row_line, end_line}
+use Rattle.cox_certtext.specs.Certificate.{Certificate, IsShortWord, IsLine, Gives, words_of, polynomials_of}
+use Rattle.cox_certtext.specs.Certificate.{matrix_line, top_line, count_line, row_line, end_line}
 use Rattle.cox_cert.specs.Drafts.{letters_of, IsDraftOf, IsGroup, HasHead, HasRows, HasAll, BeginsNone}
 use Rattle.cox_cert.proofs.FirstLines.{none-top, none-count, none-row, none-end, none-behind, unfinished-rows}
 

@@ -13,11 +13,11 @@ use Rattle.cox_base.specs.declared.limits.TheConstants.{MAX_RANK}
 use Rattle.cox_base.specs.WordText.{word_text}
 use Rattle.cox_poly.specs.Numerals.{digits_below, number_text, integer_text}
 use Rattle.cox_poly.specs.PolynomialText.{power_text, factor_text, term_text, plus_text, next_term_text, terms_text, terms, polynomial_text}
-use Rattle.cox_poly.proofs.Splits.{AreNot, AreNot-append}
+use Rattle.cox_polyread.proofs.Splits.{AreNot, AreNot-append}
 use Rattle.cox_outside.specs.Line.{is_foreign}
-use Rattle.cox_rowcheck.specs.declared.limits.TheConstants.{MAX_LISTED}
-use Rattle.cox_cert.specs.Certificate.{Certificate, IsCertificate, IsLine, matrix_line, top_line, count_line, row_line, end_line}
-use Rattle.cox_cert.specs.Certificate.{certificate_lines}
+use Rattle.cox_certtext.specs.declared.limits.TheConstants.{MAX_LISTED}
+use Rattle.cox_certtext.specs.Certificate.{Certificate, IsCertificate, IsLine, matrix_line, top_line, count_line, row_line, end_line}
+use Rattle.cox_certtext.specs.Certificate.{certificate_lines}
 use Rattle.cox_cert.proofs.Accepted.{matrix_line-plain, top_line-plain, count_line-plain, end_line-plain, short_word-plain}
 
 -- ---- the text of a polynomial of any size

@@ -6,7 +6,7 @@ use Rattle.std.proofs.lemmas.Bool.Decides.{nat_tests}
 use Rattle.std.proofs.lemmas.Fmt.{decimal_by_steps, length-decimal-le}
 use Rattle.std.proofs.lemmas.List.Elements.{All-head, All-tail}
 use Rattle.cox_outside.specs.Line.{is_foreign}
-use Rattle.cox_poly.proofs.Splits.{AreNot, AreNot-append}
+use Rattle.cox_polyread.proofs.Splits.{AreNot, AreNot-append}
 
 -- a numeral is made of digits
 pub decimal-bytes : (f : ℕ → Bool) (n : ℕ) → n < 2 ^ 64 → ((d : ℕ) → d < 10 → f (48 + d) ≡ false) → AreNot f (decimal n)

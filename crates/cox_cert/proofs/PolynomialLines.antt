@@ -10,7 +10,7 @@ use Rattle.cox_poly.specs.Numerals.{number_text, integer_text}
 use Rattle.cox_poly.specs.PolynomialText.{power_text, factor_text, plus_text, term_text, next_term_text, terms_text, polynomial_text}
 use Rattle.cox_poly.proofs.Numerals.{number_text-decimal}
 use Rattle.cox_poly.proofs.Terms.{terms_from}
-use Rattle.cox_rowcheck.specs.declared.limits.TheConstants.{MAX_DEGREE}
+use Rattle.cox_certtext.specs.declared.limits.TheConstants.{MAX_DEGREE}
 use Rattle.cox_rowcheck.specs.SmallPolynomials.{IsSmall}
 use Rattle.cox_cert.proofs.PlainTexts.{IsPlainText, plain-append, plain-more, plain-cond, decimal-plain, AreNot-behind}
 use Rattle.cox_outside.specs.Line.{is_foreign}

@@ -8,12 +8,12 @@ use Rattle.cox_base.specs.declared.limits.TheConstants.{MAX_RANK}
 use Rattle.cox_base.specs.WordText.{word_text}
 use Rattle.cox_base.proofs.WordTexts.{word_text-one}
 use Rattle.cox_poly.specs.PolynomialText.{polynomial_text}
-use Rattle.cox_poly.specs.PolynomialReading.{IsTextOf}
+use Rattle.cox_polyread.specs.PolynomialReading.{IsTextOf}
 use Rattle.arrayvec.specs.ArrayVec.{ArrayVec}
 use Rattle.cox_poly.proofs.Polynomials.{same_polynomial}
-use Rattle.cox_poly.proofs.JoinedTerms.{polynomial_text-one}
-use Rattle.cox_poly.proofs.Splits.{AreNot, Begins, AreSame, split-one, behind-begins}
-use Rattle.cox_cert.specs.Certificate.{IsShortWord, IsLine, row_line}
+use Rattle.cox_polyread.proofs.JoinedTerms.{polynomial_text-one}
+use Rattle.cox_polyread.proofs.Splits.{AreNot, Begins, AreSame, split-one, behind-begins}
+use Rattle.cox_certtext.specs.Certificate.{IsShortWord, IsLine, row_line}
 use Rattle.cox_cert.specs.declared.reading.RowLine.{RowLine}
 use Rattle.cox_cert.specs.declared.reading.RowLine.TheVariants.{Small, Large, Foreign}
 use Rattle.cox_cert.specs.LineReading.{ReadsPolynomial, ReadsRow}

@@ -12,7 +12,7 @@ use Rattle.cox_outside.specs.Ahead.{Ahead, Takes, MeetsEnd}
 use Rattle.cox_outside.specs.Reader.{TakesNext}
 use Rattle.cox_outside.proofs.Lines.{lines_of-line, lines_of-last}
 use Rattle.cox_outside.proofs.Taking.{Takes-none, Takes-append}
-use Rattle.cox_cert.specs.Certificate.{contents}
+use Rattle.cox_certtext.specs.Certificate.{contents}
 
 -- the contents of the lines that lie ahead, where the bytes are told
 abbrev pub contents_ahead : Ahead → Option (List (List ℕ))

@@ -2,7 +2,7 @@
 use Rattle.std.proofs.Common.{◌≡◌, ℕ, List, refl, subst}
 use Rattle.cox_cert.specs.declared.status.Cause.{Cause}
 use Rattle.cox_cert.specs.declared.status.Cause.TheVariants.{Grammar, Top, Interval, Size, Row}
-use Rattle.cox_cert.specs.Certificate.{Certificate, Gives}
+use Rattle.cox_certtext.specs.Certificate.{Certificate, Gives}
 use Rattle.cox_cert.specs.Causes.{HasTop, HasInterval, HasSmall, HasRow, IsFirstCause, IsProof}
 use Rattle.cox_cert.proofs.Certificates.{gives-one}
 

@@ -16,7 +16,7 @@ use Rattle.cox_cert.specs.declared.status.CheckStatus.{CheckStatus}
 use Rattle.cox_cert.specs.declared.status.CheckStatus.TheVariants.{Yes, No, Usage, ReadFault, WriteFault, NoMemory, InputLimit}
 use Rattle.cox_cert.specs.declared.collecting.Halt.{Halt}
 use Rattle.cox_cert.specs.declared.collecting.Halt.TheVariants as halt
-use Rattle.cox_cert.specs.Certificate.{Certificate, Gives, contents}
+use Rattle.cox_certtext.specs.Certificate.{Certificate, Gives, contents}
 use Rattle.cox_cert.specs.Causes.{IsFirstCause, IsProof}
 use Rattle.cox_cert.specs.Checks.{ReadsAll, Says, IsDue, ReadsWithin, IsCheck, words_behind}
 use Rattle.cox_cert.specs.Checks.{status_text, is_read_fault, is_write_fault}

@@ -12,8 +12,8 @@ use Rattle.cox_base.specs.WordText.{has_digits, separator, word_text}
 use Rattle.cox_base.specs.WordReading.{ReadsWord}
 use Rattle.cox_base.proofs.WordTexts.{text-read}
 use Rattle.cox_base.proofs.NamedWords.{text-word, word_of-short}
-use Rattle.cox_poly.proofs.Splits.{AreNot, AreNot-append}
-use Rattle.cox_cert.specs.Certificate.{IsShortWord}
+use Rattle.cox_polyread.proofs.Splits.{AreNot, AreNot-append}
+use Rattle.cox_certtext.specs.Certificate.{IsShortWord}
 use Rattle.cox_cert.proofs.PlainTexts.{decimal-bytes, IsPlainText, plain-append, plain-more, plain-cond, plain-flat_map, decimal-plain}
 
 -- a letter behind the first, with what separates it from the one before

@@ -9,7 +9,7 @@ use Rattle.cox_rowcheck.specs.ListedRows.{AreRow}
 use Rattle.cox_rowcheck.specs.SmallPolynomials.{IsSmall}
 use Rattle.cox_cert.specs.declared.status.Cause.{Cause}
 use Rattle.cox_cert.specs.declared.status.Cause.TheVariants.{Grammar, Top, Interval, Size, Row}
-use Rattle.cox_cert.specs.Certificate.{Certificate, Gives, words_of, polynomials_of}
+use Rattle.cox_certtext.specs.Certificate.{Certificate, Gives, words_of, polynomials_of}
 
 -- the element is given by its normal form, of at most MAX_DIFFERENCE letters
 pub record HasTop (c : Certificate) : Type 0 where

@@ -11,7 +11,7 @@ use Rattle.cox_cert.specs.declared.status.Cause.{Cause}
 use Rattle.cox_cert.specs.declared.status.Cause.TheVariants.{Grammar, Top, Interval, Size, Row}
 use Rattle.cox_cert.specs.declared.status.CheckStatus.{CheckStatus}
 use Rattle.cox_cert.specs.declared.status.CheckStatus.TheVariants.{Yes, No, Usage, ReadFault, WriteFault, NoMemory, InputLimit}
-use Rattle.cox_cert.specs.Certificate.{contents}
+use Rattle.cox_certtext.specs.Certificate.{contents}
 use Rattle.cox_cert.specs.Causes.{IsFirstCause, IsProof}
 
 -- the number of a cause, as it is written

@@ -13,7 +13,7 @@ use Rattle.cox_cert.specs.declared.draft.Draft.{Draft}
 use Rattle.cox_cert.specs.declared.draft.Form.{Form}
 use Rattle.cox_cert.specs.declared.collecting.Halt.{Halt}
 use Rattle.cox_cert.specs.declared.collecting.Halt.TheVariants.{Foreign, Failed, Limit, NoMemory}
-use Rattle.cox_cert.specs.Certificate.{Certificate, Gives, contents}
+use Rattle.cox_certtext.specs.Certificate.{Certificate, Gives, contents}
 use Rattle.cox_cert.specs.Causes.{IsFirstCause}
 use Rattle.cox_cert.specs.Checks.{ReadsAll}
 use Rattle.cox_cert.specs.Drafts.{IsDraftOf, IsForm, BeginsNone}

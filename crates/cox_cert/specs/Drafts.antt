@@ -4,12 +4,12 @@ use Rattle.arrayvec.specs.ArrayVec.{ArrayVec}
 use Rattle.cox_base.specs.Matrix.{CoxeterMatrix}
 use Rattle.cox_base.specs.Admissible.{IsCoxeterMatrix}
 use Rattle.cox_base.specs.declared.limits.TheConstants.{MAX_RANK}
-use Rattle.cox_rowcheck.specs.declared.limits.TheConstants.{MAX_LISTED}
+use Rattle.cox_certtext.specs.declared.limits.TheConstants.{MAX_LISTED}
 use Rattle.cox_cert.specs.declared.draft.Draft.{Draft}
 use Rattle.cox_cert.specs.declared.draft.Form.{Form}
 use Rattle.cox_cert.specs.declared.draft.Form.TheVariants as form
-use Rattle.cox_cert.specs.Certificate.{Certificate, IsShortWord, IsLine, IsCertificate, Gives, words_of, polynomials_of}
-use Rattle.cox_cert.specs.Certificate.{matrix_line, top_line, count_line, row_line, certificate_lines}
+use Rattle.cox_certtext.specs.Certificate.{Certificate, IsShortWord, IsLine, IsCertificate, Gives, words_of, polynomials_of}
+use Rattle.cox_certtext.specs.Certificate.{matrix_line, top_line, count_line, row_line, certificate_lines}
 use Rattle.cox_cert.specs.Causes.{HasSmall}
 
 -- the letters of words

@@ -11,7 +11,7 @@ use Rattle.cox_cert.specs.declared.status.Cause.TheVariants.{Grammar, Top, Inter
 use Rattle.cox_cert.specs.declared.status.CheckStatus.{CheckStatus}
 use Rattle.cox_cert.specs.declared.status.CheckStatus.TheVariants.{Yes, No, Usage, ReadFault, WriteFault, NoMemory, InputLimit}
 use Rattle.cox_cert.specs.declared.draft.Draft.{Draft}
-use Rattle.cox_cert.specs.Certificate.{Certificate, IsCertificate}
+use Rattle.cox_certtext.specs.Certificate.{Certificate, IsCertificate}
 use Rattle.cox_cert.specs.Causes.{HasTop, HasInterval, HasSmall, HasRow}
 use Rattle.cox_cert.specs.Drafts.{IsDraftOf, letters_of}
 

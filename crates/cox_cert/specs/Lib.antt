@@ -1,5 +1,3 @@
--- certificates and their texts
-pub mod Certificate
 -- for code: what the lines of a certificate give
 pub mod LineReading
 -- why a text proves nothing
@@ -15,7 +13,3 @@ pub mod Judgements
 pub mod Verdicts
 -- checks that nothing from outside hindered
 pub mod Unhindered
--- the text of a certificate in parts
-pub mod CertificateParts
--- for code: the nodes of the labels, in their order
-pub mod LabelPairs

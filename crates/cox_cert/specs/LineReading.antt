@@ -1,16 +1,11 @@
 -- For code: what the lines of a certificate give.
-use Rattle.std.specs.Prelude.{◌≡◌, ◌≢◌, ℕ, ◌<◌, List, ◌++◌, All, codes, decimal, ℤ}
-use Rattle.std.specs.List.{flat_map}
+use Rattle.std.specs.Prelude.{◌≡◌, ◌≢◌, ℕ, ◌<◌, List, All, ℤ}
 use Rattle.arrayvec.specs.ArrayVec.{ArrayVec}
-use Rattle.cox_poly.specs.PolynomialReading.{IsTextOf}
+use Rattle.cox_polyread.specs.PolynomialReading.{IsTextOf}
 use Rattle.cox_rowcheck.specs.SmallPolynomials.{IsSmall}
 use Rattle.cox_cert.specs.declared.reading.RowLine.{RowLine}
 use Rattle.cox_cert.specs.declared.reading.RowLine.TheVariants.{Small, Large, Foreign}
-use Rattle.cox_cert.specs.Certificate.{IsShortWord, IsLine, row_line}
-
--- the labels of a matrix, as they stand in its line
-abbrev pub labels_text : List ℕ → List ℕ
-labels_text labels = flat_map (λ label. codes " " ++ decimal label) labels
+use Rattle.cox_certtext.specs.Certificate.{IsShortWord, IsLine, row_line}
 
 -- labels of one digit
 abbrev pub AreDigits : List ℕ → Type 0

@@ -1,15 +1,16 @@
 //! Whether a certificate states the row of its element.
 ghost use Rattle.std.specs.Prelude.{◌≡◌, ◌↔◌, false, IsTrue, IfOk, IfSome, MatchOption};
-ghost use Rattle.cox_cert.specs.Certificate.{Certificate, IsCertificate};
+ghost use Rattle.cox_certtext.specs.Certificate.{Certificate, IsCertificate};
 ghost use Rattle.cox_cert.specs.Drafts.{IsDraftOf, letters_of};
 ghost use Rattle.cox_cert.specs.Judgements.{IsTop, IsInterval, IsRow, IsFirst, IsJudged, HasCertificate};
 
 use crate::draft::Draft;
 use crate::status::{Cause, CheckStatus};
 use cox_base::Word;
+use cox_certtext::MAX_LISTED;
 use cox_context::{Context, ContextFault};
 use cox_reflect::normal_form;
-use cox_rowcheck::{MAX_LISTED, is_row};
+use cox_rowcheck::is_row;
 use cox_rpoly::MAX_DIFFERENCE;
 use std::alloc::{AllocError, Global};
 

@@ -4,7 +4,7 @@ ghost use Rattle.cox_outside.specs.Line.{line_feed};
 ghost use Rattle.cox_outside.specs.declared.limits.TheConstants.{INPUT_LIMIT};
 ghost use Rattle.cox_outside.specs.Supply.{Supply};
 ghost use Rattle.cox_outside.specs.Outlet.{Outlet};
-ghost use Rattle.cox_cert.specs.Certificate.{Certificate, IsCertificate, Gives, certificate_text, contents};
+ghost use Rattle.cox_certtext.specs.Certificate.{Certificate, IsCertificate, Gives, certificate_text, contents};
 ghost use Rattle.cox_cert.specs.Causes.{HasTop, HasInterval, HasSmall, HasRow, IsFirstCause, IsProof};
 ghost use Rattle.cox_cert.specs.Checks.{IsCheck};
 ghost use Rattle.cox_cert.specs.Unhindered.{Rose, IsUnhindered};

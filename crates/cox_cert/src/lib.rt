@@ -1,6 +1,6 @@
-//! Certificates of rows: a group, an element w of it, the elements x <= w, and P(x,w) for each of them, as lines of text.
+//! The check of certificates of rows. A certificate is a group, an element w of it, the elements x <= w, and P(x,w) for each of them, as
+//! lines of text; `cox_certtext` says which lines.
 //!
-//! - `printing`: what stands before the list of the rows, and behind it
 //! - `status`: how a check ends
 //! - `reading`: the lines of a certificate, read: the element, the number of rows, the rows, the end
 //! - `matrix_reading`: its first line, read
@@ -19,10 +19,8 @@ mod judging;
 pub mod laws;
 mod matrix_reading;
 mod parts;
-mod printing;
 mod reading;
 mod status;
 
 pub use checking::check;
-pub use printing::{put_foot, put_head};
 pub use status::{Cause, CheckStatus};

@@ -2,8 +2,9 @@
 ghost use Rattle.std.specs.Prelude.{◌≡◌, ◌≢◌, ◌≤◌, ◌<◌, ℕ, List, length, All, decimal, IfSome, IfNone, MatchOption};
 ghost use Rattle.cox_base.specs.Matrix.{CoxeterMatrix};
 ghost use Rattle.cox_base.specs.Admissible.{IsCoxeterMatrix};
-ghost use Rattle.cox_cert.specs.Certificate.{matrix_line};
-ghost use Rattle.cox_cert.specs.LineReading.{labels_text, AreDigits};
+ghost use Rattle.cox_certtext.specs.Certificate.{matrix_line};
+ghost use Rattle.cox_certtext.specs.CertificateParts.{labels_text};
+ghost use Rattle.cox_cert.specs.LineReading.{AreDigits};
 
 use crate::parts::{behind, cut, read_decimal};
 use arrayvec::ArrayVec;

@@ -2,7 +2,7 @@
 ghost use Rattle.std.specs.Prelude.{◌≡◌, ◌≢◌, ◌==◌, ◌≤◌, ◌<◌, ◌^◌, ℕ, List, ◌++◌, length, take, drop, decimal, MatchOption};
 ghost use Rattle.std.specs.List.{position_or_len};
 ghost use Rattle.cox_base.specs.WordText.{word_text};
-ghost use Rattle.cox_cert.specs.Certificate.{IsShortWord};
+ghost use Rattle.cox_certtext.specs.Certificate.{IsShortWord};
 
 use cox_base::{MAX_RANK, Word, read_word};
 use cox_outside::LINE_LIMIT;

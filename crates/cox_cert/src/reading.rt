@@ -1,13 +1,15 @@
 //! The lines of a certificate behind the first, read. Each line is that of one thing at most.
 ghost use Rattle.std.specs.Prelude.{◌≡◌, ◌≢◌, ◌≤◌, ◌<◌, ◌↔◌, ℕ, List, length, IsTrue, IfSome, IfNone, IfOk};
-ghost use Rattle.cox_cert.specs.Certificate.{IsShortWord, top_line, count_line, end_line};
+ghost use Rattle.cox_certtext.specs.Certificate.{IsShortWord, top_line, count_line, end_line};
 ghost use Rattle.cox_cert.specs.LineReading.{ReadsPolynomial, ReadsRow};
 
 use crate::parts::{behind, cut, read_decimal, read_letters};
 use cox_base::{MAX_RANK, Word};
+use cox_certtext::{MAX_DEGREE, MAX_LISTED};
 use cox_outside::LINE_LIMIT;
-use cox_poly::{Poly, TextFault};
-use cox_rowcheck::{MAX_DEGREE, MAX_LISTED, is_small};
+use cox_poly::Poly;
+use cox_polyread::{TextFault, read_polynomial};
+use cox_rowcheck::is_small;
 use std::alloc::{AllocError, Global};
 
 /// What a line of the list gives.
@@ -66,7 +68,7 @@ pub(crate) fn read_row(alloc: Global, line: &[u8], rank: u32) -> Result<RowLine,
 fn row_of(alloc: Global, word: Word, text: &[u8]) -> Result<RowLine, AllocError>
     ensures { IfOk result (λ row. ReadsPolynomial row word text.now) }
 {
-    match Poly::read_text(alloc, text, MAX_DEGREE) {
+    match read_polynomial(alloc, text, MAX_DEGREE) {
         Ok(p) if is_small(&p) => Ok(RowLine::Small(word, p)),
         Ok(_) | Err(TextFault::TooLarge) => Ok(RowLine::Large(word)),
         Err(TextFault::NotAPolynomial) => Ok(RowLine::Foreign),

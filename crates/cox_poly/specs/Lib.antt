@@ -16,12 +16,8 @@ pub mod Puts
 pub mod Numerals
 -- the text of a polynomial
 pub mod PolynomialText
--- the same numbers as they are read
-pub mod ReadNumerals
 -- the terms of a polynomial, one after the other
 pub mod ListedText
--- how the text of a polynomial is read
-pub mod PolynomialReading
 -- polynomials that stand one behind another
 pub mod PolyLists
 -- a number that equal polynomials have in common

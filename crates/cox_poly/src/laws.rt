@@ -4,21 +4,12 @@ ghost use Rattle.cox_poly.specs.Coefficients.{Coefficients, plus, times_q, times
 ghost use Rattle.cox_poly.specs.Products.{product};
 ghost use Rattle.cox_poly.specs.Multiples.{scaled};
 ghost use Rattle.cox_poly.specs.Size.{HasNormAtMost};
-ghost use Rattle.cox_poly.specs.PolynomialText.{polynomial_text};
-ghost use Rattle.cox_poly.specs.PolynomialReading.{IsTextOf};
-ghost use Rattle.cox_poly.specs.Polynomial.{coefficient, IsPolynomial, SameCoefficients};
+ghost use Rattle.cox_poly.specs.Polynomial.{IsPolynomial, SameCoefficients};
 
 /// A polynomial is known by its coefficients: there is one list without trailing zeros that has
 /// them.
 pub fn known_by_coefficients()
     ensures { (p r : List ℤ) → IsPolynomial p → IsPolynomial r → SameCoefficients p r → p ≡ r }
-{}
-
-/// The text determines the polynomial: coefficients that are written alike agree at each degree, and so there is one
-/// polynomial at most with a text.
-pub fn known_by_text()
-    ensures coefficients { (f g : List ℤ) → polynomial_text f ≡ polynomial_text g → SameCoefficients f g }
-    ensures one { (p r : List ℤ) (text : List ℕ) → IsTextOf p text → IsTextOf r text → p ≡ r }
 {}
 
 /// The sum of the absolute values of the coefficients bounds each coefficient, and those sums add

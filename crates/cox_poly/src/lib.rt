@@ -1,4 +1,4 @@
-//! Polynomials in `q` over the integers: exact sums, and their text, written and read.
+//! Polynomials in `q` over the integers: exact sums, and their text.
 //!
 //! Contracts see a [`Poly`] as the list of its coefficients, from the constant one up, without
 //! trailing zeros, so equal polynomials are equal lists. An [`Acc`] adds multiples of polynomials
@@ -13,7 +13,6 @@
 //! - `poly_fault`: why a sum is no polynomial;
 //! - `append`: bytes and whole numbers in decimal, for all that is printed;
 //! - `polynomial_text`: the text of a polynomial, and what stands before a power in it;
-//! - `polynomial_reading`, `term_reading`: the text read back; `text_fault`: why one is not read;
 //! - `laws`: facts of polynomials that no single call states.
 #![tactic(auto)]
 
@@ -26,10 +25,7 @@ mod poly_fault;
 mod poly_list;
 mod poly_view;
 mod polynomial;
-mod polynomial_reading;
 mod polynomial_text;
-mod term_reading;
-mod text_fault;
 
 pub use accumulator::{Acc, DEGREES};
 pub use poly_fault::PolyFault;
@@ -37,7 +33,6 @@ pub use poly_list::PolyList;
 pub use poly_view::PolyView;
 pub use polynomial::Poly;
 pub use polynomial_text::put_factor;
-pub use text_fault::TextFault;
 
 /// Out of memory.
 pub type NoMemory = AllocError;

@@ -5,13 +5,9 @@ ghost use Rattle.cox_poly.specs.Polynomial.{coefficient, IsPolynomial, IsStorabl
 ghost use Rattle.cox_poly.specs.Polynomial.{IsTrimmedLength};
 ghost use Rattle.cox_poly.specs.Puts.{Puts};
 ghost use Rattle.cox_poly.specs.PolynomialText.{polynomial_text};
-ghost use Rattle.cox_poly.specs.PolynomialReading.{IsPolynomialText, IsTextOf, IsTextOfLarge, Fits};
-ghost use Rattle.cox_poly.specs.declared.text_fault.TextFault.TheVariants.{NotAPolynomial, TooLarge, NoMemory};
 
 use crate::NoMemory;
 use crate::poly_view::PolyView;
-use crate::polynomial_reading::read_polynomial;
-use crate::text_fault::TextFault;
 use std::alloc::{AllocError, Global};
 use std::marker::Model;
 
@@ -119,8 +115,8 @@ impl Poly {
         self.view().degree()
     }
 
-    // The polynomial with these coefficients, of which the last is not 0.
-    pub(crate) fn from_trimmed(coefficients: Vec<i64>) -> Poly
+    /// The polynomial with these coefficients, from the constant one up, of which the last is not 0. It takes no memory.
+    pub fn from_trimmed(coefficients: Vec<i64>) -> Poly
         requires { IsStorable coefficients.items }
         ensures { result ≡ coefficients.items }
     {
@@ -133,24 +129,6 @@ impl Poly {
         ensures { Puts result (polynomial_text self.now) out.old.items out.new.items }
     {
         self.view().put_text(out)
-    }
-
-    /// The polynomial with this text, which is as [`put_text`](Poly::put_text) writes it; no degree may be above `most`.
-    ///
-    /// `NotAPolynomial` comes exactly where no polynomial has this text, whatever the size of its coefficients and degrees.
-    /// `TooLarge` comes where one has it, and a degree is above `most` or a coefficient has more than 64 bits. Memory is
-    /// asked for as the terms are read, for `most + 1` coefficients and no more. The time is in proportion to the bytes
-    /// and to `most`.
-    ///
-    /// `1-2q^2` is read, and none of `1q`, `q^1`, `+1`, `q+1` and `01` is.
-    pub fn read_text(alloc: Global, text: &[u8], most: u32) -> Result<Poly, TextFault>
-        ensures read { IfOk result (λ p. IsTextOf p text.now) }
-        ensures within { IfOk result (Fits most) }
-        ensures foreign { result ≡ Err NotAPolynomial → ¬ IsPolynomialText text.now }
-        ensures too_large { result ≡ Err TooLarge → IsTextOfLarge most text.now }
-        ensures again { (p : List ℤ) → IsTextOf p text.now → Fits most p → (result ≡ Ok p) ⊎ (result ≡ Err NoMemory) }
-    {
-        read_polynomial(alloc, text, most)
     }
 }
 

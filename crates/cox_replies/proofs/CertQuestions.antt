@@ -10,7 +10,7 @@ use Rattle.cox_base.specs.Members.{IsInInterval}
 use Rattle.cox_rpoly.specs.declared.TheConstants.{MAX_DIFFERENCE}
 use Rattle.cox_hecke.proofs.AllRows.{row_of, row_of-is}
 use Rattle.cox_context.proofs.IntervalLists.{interval-exists, interval-decided}
-use Rattle.cox_rowcheck.specs.declared.limits.TheConstants.{MAX_LISTED, MAX_COEFFICIENT}
+use Rattle.cox_certtext.specs.declared.limits.TheConstants.{MAX_LISTED, MAX_COEFFICIENT}
 use Rattle.cox_rows.proofs.BeyondDecided.{tell-beyond}
 use Rattle.cox_rows.proofs.NeedDecided.{tell-needs_beyond}
 use Rattle.cox_command.specs.declared.refusal.Refusal.{Refusal}
@@ -48,5 +48,5 @@ pub cert-answerable : (m : CoxeterMatrix) (g : IsAdmissible (integer_matrix m)) 
     → IsAnswerable (record { Refuses = RefusesCert limits (integer_matrix m) w; IsText = IsCertText m w })
 cert-answerable m g limits w = let members = interval-exists (integer_matrix m) g w in record {
   decided = cert-decided (integer_matrix m) g limits w;
-  answer = λ free. (_, cert-text m g w (row_of (integer_matrix m) g w) (row_of-is (integer_matrix m) g w) members.0 members.1);
+  answer = λ free. (_, cert-text m w (row_of (integer_matrix m) g w) (row_of-is (integer_matrix m) g w) members.0 members.1);
 }

@@ -9,7 +9,7 @@ use Rattle.cox_base.specs.Members.{IsInInterval}
 use Rattle.cox_base.specs.SortedList.{IsListOf, HasMoreThan}
 use Rattle.cox_context.proofs.ShortLexLists.{HasMoreThan-listed, HasMoreThan-few}
 use Rattle.cox_rpoly.specs.declared.TheConstants.{MAX_DIFFERENCE}
-use Rattle.cox_rowcheck.specs.declared.limits.TheConstants.{MAX_LISTED, MAX_COEFFICIENT}
+use Rattle.cox_certtext.specs.declared.limits.TheConstants.{MAX_LISTED, MAX_COEFFICIENT}
 use Rattle.cox_rows.specs.Beyond.{IsBeyond, NeedsBeyond}
 use Rattle.cox_rows.specs.Holding.{Holding}
 use Rattle.cox_command.specs.declared.refusal.Refusal.{Refusal}

@@ -1,63 +1,34 @@
--- The certificate of the row of w: there is one, and its text is the row's list between the other lines.
-use Rattle.std.proofs.Common.{◌≡◌, ℕ, ◌+◌, ◌<◌, List, [], ◌∷◌, ◌++◌, length, map, All, ℤ, refl, ap, sym, ◌∙◌, arith}
-use Rattle.std.proofs.lemmas.List.{length-map, get_or-map}
+-- The certificate of the row of w, and its text: the row's list between the other lines.
+use Rattle.std.proofs.Common.{◌≡◌, ℕ, List, [], ◌∷◌, ◌++◌, map, ℤ, refl, ap, sym, ◌∙◌}
 use Rattle.cox_base.specs.Matrix.{CoxeterMatrix}
 use Rattle.cox_base.specs.IntegerMatrix.{IntegerMatrix, integer_matrix}
-use Rattle.cox_base.specs.Admissible.{IsAdmissible}
 use Rattle.cox_base.specs.ShortLex.{normal_form}
 use Rattle.cox_base.specs.Length.{word_length}
 use Rattle.cox_base.specs.Members.{IsInInterval}
 use Rattle.cox_base.specs.SortedList.{IsListOf}
-use Rattle.cox_context.specs.Numbers.{word_at}
-use Rattle.cox_poly.specs.Polynomial.{coefficient, IsPolynomial, SameCoefficients}
-use Rattle.cox_rpoly.specs.Terms.{numbered}
 use Rattle.cox_hecke.specs.Family.{Family}
 use Rattle.cox_hecke.specs.Row.{IsRow}
-use Rattle.cox_rowcheck.specs.ListedRows.{AreRow}
 use Rattle.cox_print.specs.AnswerText.{pair_text, list_text}
-use Rattle.cox_cert.specs.Certificate.{Certificate, words_of, polynomials_of, row_line, certificate_text}
-use Rattle.cox_cert.specs.CertificateParts.{certificate_head, certificate_foot}
-use Rattle.cox_cert.proofs.CertificateTexts.{certificate_text-parts}
+use Rattle.cox_certtext.specs.Certificate.{Certificate, row_line, certificate_text}
+use Rattle.cox_certtext.specs.CertificateParts.{certificate_head, certificate_foot}
+use Rattle.cox_certtext.proofs.CertificateTexts.{certificate_text-parts}
 use Rattle.cox_replies.specs.RowReply.{coefficients_to, pairs_text}
 use Rattle.cox_replies.specs.CertReply.{IsCertText}
-use Rattle.cox_replies.proofs.PolynomialTexts.{same_text, listed}
-use Rattle.cox_replies.proofs.PairTexts.{row-high}
-use Rattle.cox_replies.proofs.TrimmedLists.{trim, trim-same, trim-polynomial}
-
--- the certificate of the row of w, as it is read: no polynomial has a trailing zero
-pub record IsCertificateOf (g : CoxeterMatrix) (w : List ℕ) (c : Certificate) : Type 0 where
-  pub matrix : c.matrix ≡ g
-  pub top : c.top ≡ normal_form (integer_matrix g) w
-  pub interval : IsListOf (IsInInterval (integer_matrix g) w) (words_of c.rows)
-  pub row : AreRow (integer_matrix g) w (words_of c.rows) (polynomials_of c.rows)
-  pub normal : All IsPolynomial (polynomials_of c.rows)
 
 -- P(x,w), where p is the row of w
-abbrev whole_in : IntegerMatrix → List ℕ → Family → List ℕ → List ℤ
+abbrev pub whole_in : IntegerMatrix → List ℕ → Family → List ℕ → List ℤ
 whole_in A w p x = coefficients_to (word_length A w) (p x)
 
-abbrev polynomial_in : IntegerMatrix → List ℕ → Family → List ℕ → List ℤ
-polynomial_in A w p x = trim (whole_in A w p x)
-
 -- the words, each with its polynomial
-abbrev rows_of : (List ℕ → List ℤ) → List (List ℕ) → List (List ℕ × List ℤ)
+abbrev pub rows_of : (List ℕ → List ℤ) → List (List ℕ) → List (List ℕ × List ℤ)
 rows_of polynomial words = map (λ x. (x, polynomial x)) words
 
-abbrev certificate_of : CoxeterMatrix → List ℕ → (List ℕ → List ℤ) → List (List ℕ) → Certificate
+abbrev pub certificate_of : CoxeterMatrix → List ℕ → (List ℕ → List ℤ) → List (List ℕ) → Certificate
 certificate_of m w polynomial words = record {
   matrix = m;
   top = normal_form (integer_matrix m) w;
   rows = rows_of polynomial words;
 }
-
-words_of-rows : (polynomial : List ℕ → List ℤ) (words : List (List ℕ)) → words_of (rows_of polynomial words) ≡ words
-words_of-rows polynomial [] = refl
-words_of-rows polynomial (x ∷ words) = ap (λ xs. x ∷ xs) (words_of-rows polynomial words)
-
-polynomials_of-rows : (polynomial : List ℕ → List ℤ) (words : List (List ℕ))
-    → polynomials_of (rows_of polynomial words) ≡ map polynomial words
-polynomials_of-rows polynomial [] = refl
-polynomials_of-rows polynomial (x ∷ words) = ap (λ ps. polynomial x ∷ ps) (polynomials_of-rows polynomial words)
 
 -- the lines of the rows
 row_lines-rows : (rank : ℕ) (polynomial : List ℕ → List ℤ) (words : List (List ℕ))
@@ -66,16 +37,8 @@ row_lines-rows rank polynomial [] = refl
 row_lines-rows rank polynomial (x ∷ words) =
     ap (λ lines. pair_text rank x (polynomial x) ∷ lines) (row_lines-rows rank polynomial words)
 
--- polynomials with the same coefficients give the same lines
-same_lines : (rank : ℕ) (polynomial other : List ℕ → List ℤ) → ((x : List ℕ) → SameCoefficients (polynomial x) (other x))
-    → (words : List (List ℕ))
-    → map (λ x. pair_text rank x (polynomial x)) words ≡ map (λ x. pair_text rank x (other x)) words
-same_lines rank polynomial other same [] = refl
-same_lines rank polynomial other same (x ∷ words) =
-    rw (same_text (polynomial x) (other x) (same x), same_lines rank polynomial other same words) refl
-
 -- the text of such a certificate
-text-parts : (m : CoxeterMatrix) (w : List ℕ) (polynomial : List ℕ → List ℤ) (words : List (List ℕ))
+pub text-parts : (m : CoxeterMatrix) (w : List ℕ) (polynomial : List ℕ → List ℤ) (words : List (List ℕ))
     → certificate_text (certificate_of m w polynomial words)
     ≡ certificate_head m (normal_form (integer_matrix m) w) ++ list_text (map (λ x. pair_text m.rank x (polynomial x)) words)
     ++ certificate_foot
@@ -84,55 +47,9 @@ text-parts m w polynomial words =
     ∙ ap (λ lines. certificate_head m (normal_form (integer_matrix m) w) ++ list_text lines ++ certificate_foot)
     (row_lines-rows m.rank polynomial words)
 
-module _ (m : CoxeterMatrix) (g : IsAdmissible (integer_matrix m)) (w : List ℕ) (p : Family) (row : IsRow (integer_matrix m) w p) where
-  value : (x : List ℕ) (k : ℕ) → coefficient (polynomial_in (integer_matrix m) w p x) k ≡ p x k
-  value x k =
-      let whole = coefficients_to (word_length (integer_matrix m) w) (p x) in
-      trim-same whole k ∙ (let e : 0 + k ≡ k = omega arith in rw e at (listed (p x) 0 (word_length (integer_matrix m) w + 1) k
-      (λ i above. let f : 0 + i ≡ i = omega arith in rw f (row-high (integer_matrix m) g w p row x i (omega (arith, above))
-      (omega (arith, above))))))
-
-  are_row : (words : List (List ℕ)) → AreRow (integer_matrix m) w words (map (polynomial_in (integer_matrix m) w p) words)
-  are_row words = record {
-    count = length-map words (polynomial_in (integer_matrix m) w p);
-    each = λ i l.
-        let at : numbered (map (polynomial_in (integer_matrix m) w p) words) i
-        ≡ polynomial_in (integer_matrix m) w p (word_at words i) = get_or-map (polynomial_in (integer_matrix m) w p) words i [] [] l in
-        record { row = p; is = row; at = λ k. rw at (value (word_at words i) k) };
-  }
-
-  normal : (words : List (List ℕ)) → All IsPolynomial (map (polynomial_in (integer_matrix m) w p) words)
-  normal words i d l =
-      let inside : i < length words = omega (arith, l, length-map words (polynomial_in (integer_matrix m) w p)) in
-      rw (get_or-map (polynomial_in (integer_matrix m) w p) words i [] d inside)
-      (trim-polynomial (coefficients_to (word_length (integer_matrix m) w) (p (word_at words i))))
-
-  certificate_of-is : (words : List (List ℕ)) → IsListOf (IsInInterval (integer_matrix m) w) words
-      → IsCertificateOf m w (certificate_of m w (polynomial_in (integer_matrix m) w p) words)
-  certificate_of-is words list = let polynomial = polynomial_in (integer_matrix m) w p in record {
-    matrix = refl;
-    top = refl;
-    interval = rw (words_of-rows polynomial words) list;
-    row = rw (words_of-rows polynomial words, polynomials_of-rows polynomial words) (are_row words);
-    normal = rw (polynomials_of-rows polynomial words) (normal words);
-  }
-
-  -- its text
-  pub cert-text : (words : List (List ℕ)) → IsListOf (IsInInterval (integer_matrix m) w) words
-      → IsCertText m w (certificate_head m (normal_form (integer_matrix m) w) ++ pairs_text (integer_matrix m) w p words
-      ++ certificate_foot)
-  cert-text words list = (p, row, (words, list, sym (text-parts m w (whole_in (integer_matrix m) w p) words)))
-
--- each right text is that of such a certificate
-pub cert-certificate : (m : CoxeterMatrix) (g : IsAdmissible (integer_matrix m)) (w text : List ℕ) → IsCertText m w text
-    → (c : Certificate) × IsCertificateOf m w c × (text ≡ certificate_text c)
-cert-certificate m g w text (p, row, (words, list, e)) =
-    let whole = whole_in (integer_matrix m) w p in
-    let trimmed = polynomial_in (integer_matrix m) w p in (
-      certificate_of m w trimmed words,
-      certificate_of-is m g w p row words list,
-      e ∙ text-parts m w whole words
-          ∙ ap (λ lines. certificate_head m (normal_form (integer_matrix m) w) ++ list_text lines ++ certificate_foot)
-          (sym (same_lines m.rank trimmed whole (λ x. trim-same (whole x)) words))
-          ∙ sym (text-parts m w trimmed words),
-    )
+-- its text
+pub cert-text : (m : CoxeterMatrix) (w : List ℕ) (p : Family) → IsRow (integer_matrix m) w p → (words : List (List ℕ))
+    → IsListOf (IsInInterval (integer_matrix m) w) words
+    → IsCertText m w (certificate_head m (normal_form (integer_matrix m) w) ++ pairs_text (integer_matrix m) w p words
+    ++ certificate_foot)
+cert-text m w p row words list = (p, row, (words, list, sym (text-parts m w (whole_in (integer_matrix m) w p) words)))

@@ -61,15 +61,11 @@ pub mod InverseRefusals
 pub mod LargeOr
 -- rows of the elements between two, among those that are kept
 pub mod KeptBetween
--- polynomials without trailing zeros
-pub mod TrimmedLists
 -- the certificate of a row, and its text
 pub mod CertTexts
 -- whether a row has a coefficient above a limit
 pub mod RowLimits
 -- when a certificate is refused
 pub mod CertRefusals
--- certificates that are printed are accepted
-pub mod CertProofs
 -- Coxeter matrices with the same labels
 pub mod SameMatrices

@@ -7,9 +7,9 @@ use Rattle.cox_base.specs.Length.{word_length}
 use Rattle.cox_base.specs.Members.{IsInInterval}
 use Rattle.cox_base.specs.SortedList.{HasMoreThan}
 use Rattle.cox_rpoly.specs.declared.TheConstants.{MAX_DIFFERENCE}
-use Rattle.cox_rowcheck.specs.declared.limits.TheConstants.{MAX_LISTED, MAX_COEFFICIENT}
+use Rattle.cox_certtext.specs.declared.limits.TheConstants.{MAX_LISTED, MAX_COEFFICIENT}
 use Rattle.cox_rows.specs.Beyond.{IsBeyond, NeedsBeyond}
-use Rattle.cox_cert.specs.Certificate.{certificate_text}
+use Rattle.cox_certtext.specs.Certificate.{certificate_text}
 use Rattle.cox_command.specs.declared.refusal.Refusal.{Refusal}
 use Rattle.cox_replies.specs.Limits.{Limits}
 use Rattle.cox_replies.specs.Question.{RefusesIf}

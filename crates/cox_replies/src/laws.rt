@@ -1,27 +1,16 @@
 //! The laws of questions, for every group. The functions do nothing: their clauses are theorems.
-ghost use Rattle.std.specs.Prelude.{◌≡◌, ◌⊎◌, ◌≤◌, ◌∷◌, [], ◌++◌, ℕ, List, length, Contains, None, Some};
+ghost use Rattle.std.specs.Prelude.{◌≡◌, ℕ, List, length, Contains, None};
 ghost use Rattle.cox_base.specs.Admissible.{IsCoxeterMatrix, IsAdmissible};
 ghost use Rattle.cox_base.specs.IntegerMatrix.{integer_matrix};
-ghost use Rattle.cox_base.specs.Matrix.{CoxeterMatrix, IsWord};
+ghost use Rattle.cox_base.specs.Matrix.{CoxeterMatrix};
 ghost use Rattle.cox_base.specs.ShortLex.{normal_form, letters};
-ghost use Rattle.cox_base.specs.declared.limits.TheConstants.{MAX_RANK};
-ghost use Rattle.cox_outside.specs.Line.{line_feed};
-ghost use Rattle.cox_outside.specs.Supply.{Supply};
-ghost use Rattle.cox_outside.specs.Outlet.{Outlet};
 ghost use Rattle.cox_cells.specs.declared.kind.CellKind.TheVariants.{Left};
 ghost use Rattle.cox_cells.specs.Cells.{IsCell};
 ghost use Rattle.cox_module.specs.declared.term.Term.{Term};
 ghost use Rattle.cox_module.specs.Images.{AreImages};
 ghost use Rattle.cox_module.specs.Relations.{MeetRelations};
-ghost use Rattle.cox_cert.specs.Certificate.{contents};
-ghost use Rattle.cox_cert.specs.Causes.{IsProof};
-ghost use Rattle.cox_cert.specs.Checks.{IsCheck};
-ghost use Rattle.cox_cert.specs.Unhindered.{Rose};
-ghost use Rattle.cox_cert.specs.declared.status.CheckStatus.{CheckStatus};
-ghost use Rattle.cox_cert.specs.declared.status.CheckStatus.TheVariants.{Yes, NoMemory};
 ghost use Rattle.cox_command.specs.declared.inquiry.Inquiry.{Inquiry};
 ghost use Rattle.cox_replies.specs.Answerable.{HasOneText, IsAnswerable};
-ghost use Rattle.cox_replies.specs.CertReply.{RefusesCert, IsCertText};
 ghost use Rattle.cox_replies.specs.GroupReply.{RefusesGroupRows};
 ghost use Rattle.cox_replies.specs.InquiryQuestion.{question_of};
 ghost use Rattle.cox_replies.specs.Limits.{Limits};
@@ -38,18 +27,6 @@ pub fn one_text()
 pub fn answerable()
     ensures { (inquiry : Inquiry) (limits : Limits) (g : CoxeterMatrix) → IsAdmissible (integer_matrix g)
         → IsAnswerable (question_of inquiry limits g) }
-{}
-
-/// What `cert` answers is a proof. A check of it says so, with no words behind the program's name and without faults, unless memory runs
-/// out.
-pub fn certificates()
-    ensures proof { (limits : Limits) (g : CoxeterMatrix) (w text : List ℕ) → IsCoxeterMatrix g → g.rank ≤ MAX_RANK → IsWord g.rank w
-        → IsRefused (RefusesCert limits (integer_matrix g) w) None → IsCertText g w text → IsProof (contents (text ++ line_feed ∷ [])) }
-    ensures checked { (limits : Limits) (g : CoxeterMatrix) (w text : List ℕ) → IsCoxeterMatrix g → g.rank ≤ MAX_RANK → IsWord g.rank w
-        → IsRefused (RefusesCert limits (integer_matrix g) w) None → IsCertText g w text
-        → (status : CheckStatus) (source left : Supply) (old new : Outlet) → IsCheck status [] source left old new
-        → ¬ Rose source.faults left.faults → ¬ Rose old.faults new.faults → source.left ≡ Some (text ++ line_feed ∷ [])
-        → (status ≡ Yes) ⊎ (status ≡ NoMemory) }
 {}
 
 /// What `module` answers is a module of the Hecke algebra: the images that it lists, of the elements of a left cell, meet the relations.

@@ -2,7 +2,7 @@
 use Rattle.std.specs.Prelude.{◌+◌, List, ℤ}
 use Rattle.cox_poly.specs.Polynomial.{HasDegreeBelow}
 use Rattle.cox_poly.specs.Limit.{AllWithin}
-use Rattle.cox_rowcheck.specs.declared.limits.TheConstants.{MAX_DEGREE, MAX_COEFFICIENT}
+use Rattle.cox_certtext.specs.declared.limits.TheConstants.{MAX_DEGREE, MAX_COEFFICIENT}
 
 -- no degree is above MAX_DEGREE, and no coefficient above MAX_COEFFICIENT in absolute value
 pub record IsSmall (p : List ℤ) : Type 0 where

@@ -5,7 +5,6 @@
 //! Groups", 7.9, 7.10): p(w) is 1, the degrees of the others are low, and q^d p(x)(1/q), with d = l(w) - l(x), is the sum of R(x,y) p(y)
 //! over the y with x <= y <= w. So it rests on R-polynomials alone, and on nothing of how rows are made.
 //!
-//! - `limits`: what may be asked at most
 //! - `row_check`: the conditions, one by one
 //! - `sums`: the sums of the R(x,y) p(y), for all x at once
 //! - `column`: R(x,y) for one y and all x
@@ -19,7 +18,6 @@
 mod column;
 mod entries;
 pub mod laws;
-mod limits;
 mod order;
 mod prefixes;
 mod row_check;
@@ -28,6 +26,5 @@ mod sums;
 #[cfg(test)]
 mod tests;
 
-pub use limits::{MAX_COEFFICIENT, MAX_DEGREE, MAX_LISTED};
 pub use row_check::is_row;
 pub use small::{are_small, is_small};

@@ -8,7 +8,7 @@ ghost use Rattle.cox_poly.specs.Polynomial.{coefficient};
 ghost use Rattle.cox_poly.specs.Products.{flip};
 ghost use Rattle.cox_rpoly.specs.declared.TheConstants.{MAX_DIFFERENCE};
 ghost use Rattle.cox_context.specs.Numbers.{word_at};
-ghost use Rattle.cox_rowcheck.specs.declared.limits.TheConstants.{MAX_LISTED};
+ghost use Rattle.cox_certtext.specs.declared.limits.TheConstants.{MAX_LISTED};
 ghost use Rattle.cox_rowcheck.specs.ListedRows.{AreRow};
 ghost use Rattle.cox_rowcheck.specs.SmallPolynomials.{IsSmall};
 ghost use Rattle.cox_rowcheck.specs.Conditions.{MeetsBound, AreBounded, AreTurned};

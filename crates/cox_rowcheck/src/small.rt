@@ -1,10 +1,10 @@
 //! Whether polynomials are small.
 ghost use Rattle.std.specs.Prelude.{◌↔◌, IsTrue, All};
 ghost use Rattle.cox_poly.specs.Limit.{IsWithin};
-ghost use Rattle.cox_rowcheck.specs.declared.limits.TheConstants.{MAX_COEFFICIENT};
+ghost use Rattle.cox_certtext.specs.declared.limits.TheConstants.{MAX_COEFFICIENT};
 ghost use Rattle.cox_rowcheck.specs.SmallPolynomials.{IsSmall};
 
-use crate::limits::{MAX_COEFFICIENT, MAX_DEGREE};
+use cox_certtext::{MAX_COEFFICIENT, MAX_DEGREE};
 use cox_poly::Poly;
 
 /// Whether a coefficient is small.

@@ -7,7 +7,7 @@ ghost use Rattle.cox_poly.specs.Products.{product};
 ghost use Rattle.cox_rpoly.specs.declared.TheConstants.{MAX_DIFFERENCE};
 ghost use Rattle.cox_rpoly.specs.Terms.{numbered};
 ghost use Rattle.cox_context.specs.Numbers.{word_at};
-ghost use Rattle.cox_rowcheck.specs.declared.limits.TheConstants.{MAX_LISTED};
+ghost use Rattle.cox_certtext.specs.declared.limits.TheConstants.{MAX_LISTED};
 ghost use Rattle.cox_rowcheck.specs.SmallPolynomials.{IsSmall};
 ghost use Rattle.cox_rowcheck.specs.Columns.{IsColumn};
 ghost use Rattle.cox_rowcheck.specs.MemberSums.{HasAdded, AreZeros, AreSums};

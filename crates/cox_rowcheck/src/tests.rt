@@ -6,8 +6,9 @@ ghost use Rattle.cox_base.specs.Members.{IsInInterval};
 ghost use Rattle.cox_base.specs.SortedList.{IsListOf};
 ghost use Rattle.cox_context.specs.Numbers.{word_at};
 
-use crate::{MAX_LISTED, are_small, is_row};
+use crate::{are_small, is_row};
 use cox_base::{Coxeter, Word, read_word};
+use cox_certtext::MAX_LISTED;
 use cox_context::Context;
 use cox_minroots::{MAX_SMALL_ROOTS, RootTable};
 use cox_poly::Poly;

@@ -3,7 +3,7 @@
 //!
 //! - `fixtures`: what several tests begin with
 //! - `matrices`: the matrices and words of `cox_base`
-//! - `polynomials`: the polynomials of `cox_poly`, their text, and accumulators
+//! - `polynomials`: the polynomials of `cox_poly`, their text, also read by `cox_polyread`, and accumulators
 //! - `reflections`: words of `cox_reflect`
 //! - `r_polynomials`: R of `cox_rpoly`
 //! - `small_roots`: the tables of `cox_minroots`

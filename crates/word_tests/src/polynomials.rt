@@ -1,6 +1,7 @@
 //! Polynomials, their text, and accumulators, by hand.
 use crate::fixtures::text_of;
-use cox_poly::{Acc, Poly, PolyFault, PolyList, TextFault};
+use cox_poly::{Acc, Poly, PolyFault, PolyList};
+use cox_polyread::{TextFault, read_polynomial};
 use std::alloc::Global;
 use std::test::Fail;
 
@@ -81,7 +82,7 @@ fn lists(rt: HostRuntime) -> Result<(), Fail> {
 
 /// The polynomial with a text.
 fn read(alloc: Global, text: &str) -> Result<Poly, TextFault> {
-    Poly::read_text(alloc, text.as_bytes(), 255)
+    read_polynomial(alloc, text.as_bytes(), 255)
 }
 
 #[test]
@@ -187,7 +188,7 @@ fn texts_of_large_polynomials(rt: HostRuntime) -> Result<(), Fail> {
         "10000000000000000000000000000000000000000000000000000000000000000000000000000000",
     ];
     for text in table {
-        assert!(rt; Poly::read_text(alloc, text.as_bytes(), 39).err() == Some(TextFault::TooLarge));
+        assert!(rt; read_polynomial(alloc, text.as_bytes(), 39).err() == Some(TextFault::TooLarge));
     }
     Ok(())
 }

@@ -3,8 +3,9 @@ use Rattle.std.proofs.Common.{ℕ, ◌<◌, sym, ap, subst, ◌∙◌, length, g
 use Rattle.std.specs.Char.{is_ascii_digit}
 use Rattle.std.proofs.lemmas.Bool.{false≢true}
 use Rattle.std.proofs.lemmas.List.Elements.{All-get_or, All-push}
-use Rattle.cox_poly.proofs.Numerals.{is_digit}
-use Rattle.cox_cert.specs.LineReading.{labels_text, AreDigits}
+use Rattle.cox_polyread.proofs.ReadNumerals.{is_digit}
+use Rattle.cox_certtext.specs.CertificateParts.{labels_text}
+use Rattle.cox_cert.specs.LineReading.{AreDigits}
 use Rattle.cox_cert.proofs.MatrixLines.{HasLabel, length-labels_text, labels_text-at, labels_text-push}
 use Rattle.cox_cert.proofs.matrix_reading.read_labels.Goals as goal
 use Rattle.cox_cert.proofs.matrix_reading.read_labels.Goals.{then-space-ne32-via-then-space-ne32}

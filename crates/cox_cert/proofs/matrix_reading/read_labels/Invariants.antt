@@ -1,6 +1,7 @@
 -- What the loop of `read_labels` keeps.
 use Rattle.std.proofs.Common.{◌≡◌, ◌*◌, length, take}
-use Rattle.cox_cert.specs.LineReading.{labels_text, AreDigits}
+use Rattle.cox_certtext.specs.CertificateParts.{labels_text}
+use Rattle.cox_cert.specs.LineReading.{AreDigits}
 use Rattle.cox_cert.proofs.matrix_reading.read_labels.Given as goal
 
 abbrev pub invariant-loop-k : goal.invariant-loop-k

@@ -7,7 +7,7 @@ use Rattle.cox_base.specs.IntegerMatrix.{integer_matrix}
 use Rattle.cox_base.specs.Admissible.{IsAdmissible}
 use Rattle.cox_context.specs.Closed.{IsClosed}
 use Rattle.cox_row.specs.RowOf.{pool_of}
-use Rattle.cox_rowcheck.specs.declared.limits.TheConstants.{MAX_COEFFICIENT}
+use Rattle.cox_certtext.specs.declared.limits.TheConstants.{MAX_COEFFICIENT}
 use Rattle.cox_replies.proofs.RowLimits.{large-beyond, within-not_beyond}
 use Rattle.cox_replies.proofs.certificates.has_large.Goals as goal
 

@@ -3,7 +3,7 @@ use Rattle.std.proofs.Common.{ℕ, ◌<◌}
 use Rattle.cox_poly.specs.Limit.{AllWithin}
 use Rattle.cox_row.specs.Polynomials.{polynomial_at}
 use Rattle.cox_row.specs.RowOf.{pool_of}
-use Rattle.cox_rowcheck.specs.declared.limits.TheConstants.{MAX_COEFFICIENT}
+use Rattle.cox_certtext.specs.declared.limits.TheConstants.{MAX_COEFFICIENT}
 use Rattle.cox_replies.proofs.certificates.has_large.Given as goal
 
 abbrev pub invariant-loop-k : goal.invariant-loop-k

@@ -2,7 +2,7 @@
 use Rattle.std.proofs.Common.{ℕ, ◌<◌}
 use Rattle.cox_poly.specs.Polynomial.{coefficient}
 use Rattle.cox_poly.specs.Limit.{IsWithin}
-use Rattle.cox_rowcheck.specs.declared.limits.TheConstants.{MAX_COEFFICIENT}
+use Rattle.cox_certtext.specs.declared.limits.TheConstants.{MAX_COEFFICIENT}
 use Rattle.cox_replies.proofs.certificates.large_degree.Given as goal
 
 abbrev pub invariant-loop-d : goal.invariant-loop-d

@@ -6,7 +6,7 @@ use Rattle.cox_base.specs.Length.{word_length}
 use Rattle.cox_reflect.proofs.Lengths.{word_length-is}
 use Rattle.cox_context.specs.Numbers.{word_at}
 use Rattle.cox_rpoly.specs.declared.TheConstants.{MAX_DIFFERENCE}
-use Rattle.cox_rowcheck.specs.declared.limits.TheConstants.{MAX_LISTED}
+use Rattle.cox_certtext.specs.declared.limits.TheConstants.{MAX_LISTED}
 use Rattle.cox_replies.specs.Putting.{words_at}
 use Rattle.cox_replies.proofs.CertRefusals.{listing-many, listing-long, listing-allowed}
 use Rattle.cox_replies.proofs.certificates.listed_below.Goals as goal

@@ -10,7 +10,7 @@ use Rattle.cox_reflect.proofs.Elements.{same-sym}
 use Rattle.cox_reflect.proofs.Search.{normal_form-same}
 use Rattle.cox_hecke.proofs.AllRows.{row_of, row_of-is}
 use Rattle.cox_context.specs.Numbers.{word_at}
-use Rattle.cox_rowcheck.specs.declared.limits.TheConstants.{MAX_COEFFICIENT}
+use Rattle.cox_certtext.specs.declared.limits.TheConstants.{MAX_COEFFICIENT}
 use Rattle.cox_rows.specs.Beyond.{IsBeyond}
 use Rattle.cox_rows.proofs.BeyondDecided.{beyond-same}
 use Rattle.cox_replies.specs.Putting.{words_at}
@@ -42,4 +42,4 @@ returns c = λ limits w is list free small.
     let row = row_of-is A g w in
     let words = words_at e.members c.args.below.now in
     rw c.unrefused.ensures (PutsUnless-put _ _ _ _ _ (cert-allowed limits A w free (λ large. ⊎_elim small none large))
-    (_, cert-text e.matrix g w p row words list, c.put_lines.ensures w p is row))
+    (_, cert-text e.matrix w p row words list, c.put_lines.ensures w p is row))

@@ -8,7 +8,7 @@ use Rattle.cox_context.specs.Closed.{IsClosed}
 use Rattle.cox_context.specs.Numbers.{word_at}
 use Rattle.cox_context.proofs.PlacedWords.{contains-at}
 use Rattle.cox_print.proofs.ThreeTexts.{Puts-first_of_three, Puts-second_of_three, Puts-third_of_three}
-use Rattle.cox_cert.specs.CertificateParts.{certificate_head, certificate_foot}
+use Rattle.cox_certtext.specs.CertificateParts.{certificate_head, certificate_foot}
 use Rattle.cox_replies.specs.RowReply.{pairs_text}
 use Rattle.cox_replies.specs.Putting.{words_at}
 use Rattle.cox_replies.proofs.certificates.put_lines.Goals as goal

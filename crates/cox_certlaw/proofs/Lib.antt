@@ -1,0 +1,6 @@
+-- polynomials without trailing zeros
+pub mod TrimmedLists
+-- the certificate whose text is answered
+pub mod CertificateRows
+-- certificates that are answered are accepted
+pub mod CertProofs
