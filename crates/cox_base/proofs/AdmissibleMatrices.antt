@@ -2,17 +2,17 @@
 use Rattle.std.proofs.Common.{◌≡◌, ℕ, ◌<◌, ◌≤◌, false, IsTrue, slice_index, ⊎_elim, refl, arith}
 use Rattle.std.proofs.lemmas.Bool.{cases_lt, cases_eq}
 use Rattle.std.proofs.lemmas.Bool.Decides.{nat_tests}
-use Rattle.cox_base.specs.Matrix.{CoxeterMatrix, IsLetter, is_label, place, label}
+use Rattle.cox_base.specs.Matrix.{CoxeterMatrix, IsLetter, is_between, is_label, place, label}
 use Rattle.cox_base.specs.Admissible.{IsCoxeterMatrix, IsAdmissible, IsAdmissiblePair, HasOrder}
-use Rattle.cox_base.specs.IntegerMatrix.{integer_matrix, is_letter, entry_of, entry_above, entry_below}
+use Rattle.cox_base.specs.IntegerMatrix.{integer_matrix, entry_of, entry_above, entry_below}
 use Rattle.cox_base.specs.Admissible.{two, three, four, six, infinity, order_two, order_three, order_four, order_six}
 use Rattle.cox_base.proofs.LabelPlaces.{place-within}
 use Rattle.cox_base.proofs.Entries.{label-above, entry_of-diagonal, entry_of-above, entry_of-below, entry_of-row_outside}
 use Rattle.cox_base.proofs.Entries.{entry_of-column_outside}
 
 -- what is no letter
-is_letter-false : (rank s : ℕ) → (IsLetter rank s → ⊥) → is_letter rank s ≡ false
-is_letter-false rank s outside =
+is_between-false : (rank s : ℕ) → (IsLetter rank s → ⊥) → is_between 1 rank s ≡ false
+is_between-false rank s outside =
     ⊎_elim (λ beyond. let h : rank < s = beyond in grind (arith, nat_tests))
     (λ within. ⊎_elim (λ none. let h : s < 1 = none in grind (arith, nat_tests))
     (λ some. absurd (outside (record { from_one = some; to_rank = within }))) (cases_lt s 1))
@@ -60,8 +60,8 @@ IsAdmissible-integer_matrix g matrix = record {
       let m = slice_index g.labels (place g.rank s t) in
       rw (entry_of-above g s t letter.from_one rising other.to_rank, entry_of-below g t s letter.from_one rising other.to_rank)
       (IsAdmissiblePair-label m (label-admitted g matrix s t letter.from_one rising other.to_rank));
-  row_outside = λ s t outside. entry_of-row_outside g s t (is_letter-false g.rank s outside);
-  column_outside = λ s t outside. entry_of-column_outside g s t (is_letter-false g.rank t outside);
+  row_outside = λ s t outside. entry_of-row_outside g s t (is_between-false g.rank s outside);
+  column_outside = λ s t outside. entry_of-column_outside g s t (is_between-false g.rank t outside);
 }
 
 -- a finite label is the order of the product of its letters

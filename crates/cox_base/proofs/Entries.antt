@@ -1,8 +1,8 @@
 -- The labels and the entries of a Coxeter matrix, case by case.
 use Rattle.std.proofs.Common.{◌≡◌, ℕ, ◌<◌, ◌≤◌, false, pos, nat_abs, slice_index, min, max, ◌⊎◌, arith}
 use Rattle.std.proofs.lemmas.Bool.Decides.{nat_tests}
-use Rattle.cox_base.specs.Matrix.{CoxeterMatrix, place, label}
-use Rattle.cox_base.specs.IntegerMatrix.{is_letter, entry_of, entry_above, entry_below}
+use Rattle.cox_base.specs.Matrix.{CoxeterMatrix, is_between, place, label}
+use Rattle.cox_base.specs.IntegerMatrix.{entry_of, entry_above, entry_below}
 
 -- a label above the diagonal, as it stands in the list
 pub label-above : (g : CoxeterMatrix) (s t : ℕ) → s < t → label g s t ≡ slice_index g.labels (place g.rank s t)
@@ -37,11 +37,11 @@ unfolding entry_of
 entry_of-below g s t from_one falling to_rank = rw (← label-above g t s falling) (grind (arith, nat_tests))
 
 -- outside the rank
-pub entry_of-row_outside : (g : CoxeterMatrix) (s t : ℕ) → is_letter g.rank s ≡ false → entry_of g s t ≡ pos 0
+pub entry_of-row_outside : (g : CoxeterMatrix) (s t : ℕ) → is_between 1 g.rank s ≡ false → entry_of g s t ≡ pos 0
 unfolding entry_of
 entry_of-row_outside g s t outside = rw outside
 
-pub entry_of-column_outside : (g : CoxeterMatrix) (s t : ℕ) → is_letter g.rank t ≡ false → entry_of g s t ≡ pos 0
+pub entry_of-column_outside : (g : CoxeterMatrix) (s t : ℕ) → is_between 1 g.rank t ≡ false → entry_of g s t ≡ pos 0
 unfolding entry_of
 entry_of-column_outside g s t outside = grind (arith, nat_tests)
 

@@ -1,5 +1,5 @@
 -- Coxeter matrices (Humphreys, "Reflection Groups and Coxeter Groups", 5.1), with the labels 2, 3, 4, 6 and infinity.
-use Rattle.std.specs.Prelude.{ℕ, zero, suc, ◌+◌, ◌-◌, ◌≤◌, ◌==◌, Bool, ◌||◌, if◌then◌else◌, nat_lt, List, slice_index, All}
+use Rattle.std.specs.Prelude.{ℕ, zero, suc, ◌+◌, ◌-◌, ◌≤◌, ◌==◌, Bool, ◌&&◌, ◌||◌, if◌then◌else◌, nat_lt, nat_le, List, slice_index, All}
 
 -- A Coxeter matrix is symmetric, with 1 on its diagonal. So it is given by its rank n and by the labels above the diagonal, row by row:
 -- m(1,2), m(1,3), .., m(1,n), m(2,3), .., m(n-1,n). Infinity is written 0.
@@ -11,6 +11,10 @@ pub record CoxeterMatrix : Type 0 where
 pub record IsLetter (rank s : ℕ) : Type 0 where
   pub from_one : 1 ≤ s
   pub to_rank : s ≤ rank
+
+-- low ≤ n ≤ high
+abbrev pub is_between : ℕ → ℕ → ℕ → Bool
+is_between low high n = nat_le low n && nat_le n high
 
 -- each letter of a word is one of the rank
 abbrev pub IsWord : ℕ → List ℕ → Type 0

@@ -1,6 +1,6 @@
 -- The ShortLex order of words, and the normal form of an element: the ShortLex-first word that names it.
-use Rattle.std.specs.Prelude.{ℕ, zero, suc, Bool, true, ◌&&◌, List, [], ◌∷◌, ◌++◌, map, length, find, unwrap_or}
-use Rattle.std.specs.List.{range_with_len, flat_map}
+use Rattle.std.specs.Prelude.{ℕ, zero, suc, Bool, List, [], ◌∷◌, ◌++◌, map, length, find, unwrap_or}
+use Rattle.std.specs.List.{range_with_len, flat_map, list_all}
 use Rattle.std.specs.Ordering.{int_eq, nat_cmp, ordering_then}
 use Rattle.std.specs.Cmp.Lexicographic.{slice_cmp}
 use Rattle.std.specs.declared.cmp.Ordering.{Ordering}
@@ -21,14 +21,9 @@ unfoldable pub words_up_to : ℕ → ℕ → List (List ℕ)
 words_up_to n zero = words_of_length n zero
 words_up_to n (suc k) = words_up_to n k ++ words_of_length n (suc k)
 
--- whether a test holds of each letter, 1 to n
-unfoldable pub each_letter : ℕ → (ℕ → Bool) → Bool
-each_letter zero test = true
-each_letter (suc n) test = each_letter n test && test (suc n)
-
 -- whether two matrices of rank n are equal, row by row and column by column
 unfoldable pub same_matrix : ℕ → Matrix → Matrix → Bool
-same_matrix n M N = each_letter n (λ i. each_letter n (λ t. int_eq (M i t) (N i t)))
+same_matrix n M N = list_all (λ i. list_all (λ t. int_eq (M i t) (N i t)) (letters n)) (letters n)
 
 -- The normal form of the element that u names: of the words of at most |u| letters, in ShortLex order, the first with the matrix M(u).
 unfoldable pub normal_form : IntegerMatrix → List ℕ → List ℕ

@@ -1,43 +1,46 @@
 -- The normal form, found by search: it names the element, no word of the element is shorter, and it depends on the element alone.
-use Rattle.std.proofs.Common.{◌↔◌, ◌≡◌, ℕ, zero, suc, ◌≤◌, ◌<◌, Bool, true, List, [], ◌∷◌, ◌++◌, map, length, refl, ap, sym, ◌∙◌}
-use Rattle.std.proofs.Common.{⊎_elim, arith, subst, Some, find}
+use Rattle.std.proofs.Common.{◌↔◌, ◌≡◌, ℕ, zero, suc, ◌+◌, ◌≤◌, ◌<◌, Bool, true, List, [], ◌∷◌, ◌++◌, map, length, refl, ap, sym}
+use Rattle.std.proofs.Common.{◌∙◌, ⊎_elim, arith, subst, Some, find}
 use Rattle.std.proofs.Math.Path.{fun_ext}
 use Rattle.std.proofs.lemmas.Bool.{cases_eq, cases_lt, and_parts, and_from}
 use Rattle.std.proofs.lemmas.Bool.Decides.{Decides-int_eq}
 use Rattle.std.specs.Ordering.{int_eq}
+use Rattle.std.specs.List.{list_all}
 use Rattle.cox_base.specs.Matrix.{IsLetter, IsWord}
 use Rattle.cox_base.specs.IntegerMatrix.{IntegerMatrix}
 use Rattle.cox_base.specs.Admissible.{IsAdmissible}
 use Rattle.cox_base.specs.Element.{matrix, SameElement}
-use Rattle.cox_base.specs.ShortLex.{letters, words_of_length, words_up_to, each_letter, same_matrix, normal_form}
+use Rattle.cox_base.specs.ShortLex.{letters, words_of_length, words_up_to, same_matrix, normal_form}
 use Rattle.std.proofs.lemmas.List.{append-nil, append_assoc}
 use Rattle.std.proofs.lemmas.List.Elements.{All-nil, All-cons, All-head, All-tail}
-use Rattle.cox_reflect.proofs.Sums.{letter_above, last_letter, letter_cases}
+use Rattle.cox_reflect.proofs.Sums.{letter_cases}
 use Rattle.cox_base.specs.Length.{word_length}
 use Rattle.cox_base.proofs.Positions.{find-passes}
 use Rattle.std.specs.Bool.{one_answer}
 use Rattle.cox_reflect.proofs.Elements.{same-refl, same-equal, same-sym, same-trans, same-cons, same-outside}
-use Rattle.cox_reflect.proofs.Members.{In, here, Each, none, more, In-append_left, In-append_right, In-map, In-flat_map, In-range}
+use Rattle.cox_reflect.proofs.Members.{In, here, there, Each, none, more, In-append_left, In-append_right, In-map, In-flat_map, In-range}
 use Rattle.cox_reflect.proofs.Members.{Each-append, Each-map, Each-flat_map, Each-weaker, Each-range, Each-find}
 use Rattle.cox_reflect.proofs.Members.{find-in, find-prefix}
 
-each_letter-out : (n : ℕ) (test : ℕ → Bool) → each_letter n test ≡ true → (t : ℕ) → IsLetter n t → test t ≡ true
-unfolding each_letter
-each_letter-out zero test e t l = absurd (omega (arith, l.from_one, l.to_rank))
-each_letter-out (suc n) test e t l =
-    ⊎_elim at (before (each_letter-out n test (and_parts (each_letter n test) (test (suc n)) e).0 t)) (cases_eq t (suc n))
-  where
-    at : t ≡ suc n → test t ≡ true
-    at f = rw f (and_parts (each_letter n test) (test (suc n)) e).1
+-- a test that holds of each of a list
+test-out : (test : ℕ → Bool) (ts : List ℕ) → list_all test ts ≡ true → (t : ℕ) → In t ts → test t ≡ true
+test-out test [] e t i = elim i [ ]
+test-out test (x ∷ ts) e t here = (and_parts (test x) (list_all test ts) e).0
+test-out test (x ∷ ts) e t (there i) = test-out test ts (and_parts (test x) (list_all test ts) e).1 t i
 
-    before : (IsLetter n t → test t ≡ true) → (t ≡ suc n → ⊥) → test t ≡ true
-    before prefix ne = prefix (record { from_one = l.from_one; to_rank = omega (arith, l.to_rank) })
+test-in : (test : ℕ → Bool) (P : ℕ → Type 0) (ts : List ℕ) → Each P ts → ((t : ℕ) → P t → test t ≡ true) → list_all test ts ≡ true
+test-in test P [] none h = refl
+test-in test P (t ∷ ts) (more p each) h = and_from (test t) (list_all test ts) (h t p) (test-in test P ts each h)
 
-each_letter-in : (n : ℕ) (test : ℕ → Bool) → ((t : ℕ) → IsLetter n t → test t ≡ true) → each_letter n test ≡ true
-unfolding each_letter
-each_letter-in zero test h = refl
-each_letter-in (suc n) test h =
-    and_from (each_letter n test) (test (suc n)) (each_letter-in n test (λ t l. h t (letter_above n t l))) (h (suc n) (last_letter n))
+-- .. and of each letter
+letters-out : (n : ℕ) (test : ℕ → Bool) → list_all test (letters n) ≡ true → (t : ℕ) → IsLetter n t → test t ≡ true
+unfolding letters
+letters-out n test e t l = test-out test (letters n) e t (In-range 1 n t l.from_one (omega (arith, l.to_rank)))
+
+letters-in : (n : ℕ) (test : ℕ → Bool) → ((t : ℕ) → IsLetter n t → test t ≡ true) → list_all test (letters n) ≡ true
+unfolding letters
+letters-in n test h = test-in test (λ s. (1 ≤ s) × (s < 1 + n)) (letters n) (Each-range 1 n)
+    (λ t p. h t (record { from_one = p.0; to_rank = omega (arith, p.1) }))
 
 -- the test of the search passes exactly the words of the element
 passes-same : (A : IntegerMatrix) (w u : List ℕ) → same_matrix A.rank (matrix A w) (matrix A u) ≡ true
@@ -45,16 +48,16 @@ passes-same : (A : IntegerMatrix) (w u : List ℕ) → same_matrix A.rank (matri
 unfolding same_matrix
 passes-same A w u e = record {
   equal = λ i t k l. (Decides-int_eq (matrix A w i t) (matrix A u i t)).0
-      (each_letter-out A.rank (λ t. int_eq (matrix A w i t) (matrix A u i t))
-      (each_letter-out A.rank (λ i. each_letter A.rank (λ t. int_eq (matrix A w i t) (matrix A u i t))) e i k) t l);
+      (letters-out A.rank (λ t. int_eq (matrix A w i t) (matrix A u i t))
+      (letters-out A.rank (λ i. list_all (λ t. int_eq (matrix A w i t) (matrix A u i t)) (letters A.rank)) e i k) t l);
 }
 
 pub same-passes : (A : IntegerMatrix) (w u : List ℕ) → SameElement A w u
     → same_matrix A.rank (matrix A w) (matrix A u) ≡ true
 unfolding same_matrix
 same-passes A w u e =
-    each_letter-in A.rank (λ i. each_letter A.rank (λ t. int_eq (matrix A w i t) (matrix A u i t)))
-    (λ i k. each_letter-in A.rank (λ t. int_eq (matrix A w i t) (matrix A u i t))
+    letters-in A.rank (λ i. list_all (λ t. int_eq (matrix A w i t) (matrix A u i t)) (letters A.rank))
+    (λ i k. letters-in A.rank (λ t. int_eq (matrix A w i t) (matrix A u i t))
     (λ t l. (Decides-int_eq (matrix A w i t) (matrix A u i t)).1 (e.equal i t k l)))
 
 -- ---- the list that is searched

@@ -10,11 +10,9 @@ use Rattle.cox_reflect.specs.Action.{Vector, simple_root, pairing, reflect}
 use Rattle.cox_reflect.specs.Transpose.{transposed}
 
 -- p is negative, and p r is 1, 2 or 3
-pub record IsShortStep (A : IntegerMatrix) (s : ℕ) (b c : Vector) : Type 0 where
-  pub letter : IsLetter A.rank s
-  pub negative : pairing A s b <ℤ pos 0
-  pub at_least_one : pos 1 ≤ℤ (pairing A s b *ℤ pairing (transposed A) s c)
-  pub at_most_three : (pairing A s b *ℤ pairing (transposed A) s c) ≤ℤ pos 3
+abbrev pub IsShortStep : IntegerMatrix → ℕ → Vector → Vector → Type 0
+IsShortStep A s b c = let p = pairing A s b in let r = pairing (transposed A) s c in
+    record { letter : IsLetter A.rank s; negative : p <ℤ pos 0; at_least_one : pos 1 ≤ℤ (p *ℤ r); at_most_three : (p *ℤ r) ≤ℤ pos 3 }
 
 -- b is small, with the coroot c: the simple roots are small, and so is what a short step makes of a small root; no other root is
 pub data IsSmall (A : IntegerMatrix) : Vector → Vector → Type 0 where
@@ -22,9 +20,8 @@ pub data IsSmall (A : IntegerMatrix) : Vector → Vector → Type 0 where
   step : {s : ℕ} {b c : Vector} → IsShortStep A s b c → IsSmall A b c → IsSmall A (reflect A s b) (reflect (transposed A) s c)
 
 -- a small root, whatever its coroot
-pub record IsSmallRoot (A : IntegerMatrix) (b : Vector) : Type 0 where
-  pub coroot : Vector
-  pub small : IsSmall A b coroot
+abbrev pub IsSmallRoot : IntegerMatrix → Vector → Type 0
+IsSmallRoot A b = record { coroot : Vector; small : IsSmall A b coroot }
 
 -- there are more than max small roots: max + 1 different ones are given, root 0 to root max
 pub record HasMoreSmallRoots (A : IntegerMatrix) (max : ℕ) : Type 0 where
