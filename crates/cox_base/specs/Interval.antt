@@ -7,16 +7,12 @@ use Rattle.cox_base.specs.Bruhat.{IsBelow}
 use Rattle.cox_base.specs.Members.{IsElement}
 
 -- an element x with y ≤ x ≤ w
-pub record IsBetween (A : IntegerMatrix) (y w word : List ℕ) : Type 0 where
-  pub element : IsElement A word
-  pub above : IsBelow A y word
-  pub below : IsBelow A word w
+abbrev pub IsBetween : IntegerMatrix → List ℕ → List ℕ → List ℕ → Type 0
+IsBetween A y w word = record { element : IsElement A word; above : IsBelow A y word; below : IsBelow A word w }
 
 -- an element x < w with l(x) = l(w) - 1
-pub record IsCoatom (A : IntegerMatrix) (w word : List ℕ) : Type 0 where
-  pub element : IsElement A word
-  pub below : IsBelow A word w
-  pub letters : length word + 1 ≡ word_length A w
+abbrev pub IsCoatom : IntegerMatrix → List ℕ → List ℕ → Type 0
+IsCoatom A w word = record { element : IsElement A word; below : IsBelow A word w; letters : length word + 1 ≡ word_length A w }
 
 -- how many words of a list have k letters
 abbrev pub count_of_length : List (List ℕ) → ℕ → ℕ

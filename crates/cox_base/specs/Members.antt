@@ -9,6 +9,5 @@ pub record IsElement (A : IntegerMatrix) (word : List ℕ) : Type 0 where
   pub normal : normal_form A word ≡ word
 
 -- an element x with x ≤ w
-pub record IsInInterval (A : IntegerMatrix) (w word : List ℕ) : Type 0 where
-  pub element : IsElement A word
-  pub below : IsBelow A word w
+abbrev pub IsInInterval : IntegerMatrix → List ℕ → List ℕ → Type 0
+IsInInterval A w word = record { element : IsElement A word; below : IsBelow A word w }

@@ -12,10 +12,8 @@ use Rattle.cox_cells.specs.declared.kind.CellKind.{CellKind}
 use Rattle.cox_cells.specs.declared.kind.CellKind.TheVariants.{Left, Right, Both}
 
 -- some descent of x on the side is none of y
-pub record HasOwnDescent (side : Side) (A : IntegerMatrix) (x y : List ℕ) : Type 0 where
-  pub letter : ℕ
-  pub descent : IsDescent side A x letter
-  pub none : ¬ IsDescent side A y letter
+abbrev pub HasOwnDescent : Side → IntegerMatrix → List ℕ → List ℕ → Type 0
+HasOwnDescent side A x y = record { letter : ℕ; descent : IsDescent side A x letter; none : ¬ IsDescent side A y letter }
 
 -- some left descent, for left cells; some right descent, for right cells; either, for cells of both sides
 abbrev pub HasOwn : CellKind → IntegerMatrix → List ℕ → List ℕ → Type 0
@@ -24,9 +22,8 @@ HasOwn Right A x y = HasOwnDescent Sides.Right A x y
 HasOwn Both A x y = HasOwnDescent Sides.Left A x y ⊎ HasOwnDescent Sides.Right A x y
 
 -- a step from x to y: they are joined, and some descent of x is none of y
-pub record IsStep (kind : CellKind) (A : IntegerMatrix) (x y : List ℕ) : Type 0 where
-  pub neighbour : IsNeighbour A x y
-  pub own : HasOwn kind A x y
+abbrev pub IsStep : CellKind → IntegerMatrix → List ℕ → List ℕ → Type 0
+IsStep kind A x y = record { neighbour : IsNeighbour A x y; own : HasOwn kind A x y }
 
 -- x ≤ w in the preorder: a chain of steps leads from x to w, possibly of none
 pub data Precedes (kind : CellKind) (A : IntegerMatrix) : List ℕ → List ℕ → Type 0 where
@@ -34,19 +31,16 @@ pub data Precedes (kind : CellKind) (A : IntegerMatrix) : List ℕ → List ℕ 
   onward : (x y w : List ℕ) → IsStep kind A x y → Precedes kind A y w → Precedes kind A x w
 
 -- y is in the cell of x: each is below the other
-pub record IsInCell (kind : CellKind) (A : IntegerMatrix) (x y : List ℕ) : Type 0 where
-  pub element : IsElement A y
-  pub forth : Precedes kind A x y
-  pub back : Precedes kind A y x
+abbrev pub IsInCell : CellKind → IntegerMatrix → List ℕ → List ℕ → Type 0
+IsInCell kind A x y = record { element : IsElement A y; forth : Precedes kind A x y; back : Precedes kind A y x }
 
 -- the first word of a list
 abbrev pub first_of : List (List ℕ) → List ℕ
 first_of cell = word_at cell 0
 
 -- the elements of one cell, in ShortLex order
-pub record IsCell (kind : CellKind) (A : IntegerMatrix) (cell : List (List ℕ)) : Type 0 where
-  pub some : 0 < length cell
-  pub all : IsListOf (IsInCell kind A (first_of cell)) cell
+abbrev pub IsCell : CellKind → IntegerMatrix → List (List ℕ) → Type 0
+IsCell kind A cell = record { some : 0 < length cell; all : IsListOf (IsInCell kind A (first_of cell)) cell }
 
 -- the cells of a finite group, in the order of their first members
 pub record AreCells (kind : CellKind) (A : IntegerMatrix) (cells : List (List (List ℕ))) : Type 0 where

@@ -7,7 +7,5 @@ use Rattle.cox_base.specs.SideDescents.{IsDescent}
 use Rattle.cox_hecke.specs.Row.{IsMu}
 
 -- A step from v by s is corrected by the u with su < u for which m = mu(u,v) is not 0.
-pub record IsCorrection (side : Side) (A : IntegerMatrix) (s : ℕ) (v u : List ℕ) (m : ℤ) : Type 0 where
-  pub shortens : IsDescent side A u s
-  pub is_mu : IsMu A u v m
-  pub some : m ≢ pos 0
+abbrev pub IsCorrection : Side → IntegerMatrix → ℕ → List ℕ → List ℕ → ℤ → Type 0
+IsCorrection side A s v u m = record { shortens : IsDescent side A u s; is_mu : IsMu A u v m; some : m ≢ pos 0 }

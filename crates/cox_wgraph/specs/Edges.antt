@@ -4,17 +4,12 @@ use Rattle.cox_base.specs.IntegerMatrix.{IntegerMatrix}
 use Rattle.cox_hecke.specs.Row.{IsMu}
 
 -- m is mu(x,y) or mu(y,x), whichever is not 0, else 0: since at least one of them is 0, m is their sum
-pub record IsEdgeValue (A : IntegerMatrix) (x y : List ℕ) (m : ℤ) : Type 0 where
-  pub up : ℤ
-  pub down : ℤ
-  pub is_up : IsMu A x y up
-  pub is_down : IsMu A y x down
-  pub value : m ≡ up +ℤ down
+abbrev pub IsEdgeValue : IntegerMatrix → List ℕ → List ℕ → ℤ → Type 0
+IsEdgeValue A x y m = record { up : ℤ; down : ℤ; is_up : IsMu A x y up; is_down : IsMu A y x down; value : m ≡ up +ℤ down }
 
 -- x and y are joined by an edge, and m is its value
-pub record IsEdge (A : IntegerMatrix) (x y : List ℕ) (m : ℤ) : Type 0 where
-  pub value : IsEdgeValue A x y m
-  pub some : m ≢ pos 0
+abbrev pub IsEdge : IntegerMatrix → List ℕ → List ℕ → ℤ → Type 0
+IsEdge A x y m = record { value : IsEdgeValue A x y m; some : m ≢ pos 0 }
 
 -- x and y are joined
 abbrev pub IsJoined : IntegerMatrix → List ℕ → List ℕ → Type 0

@@ -7,14 +7,12 @@ use Rattle.cox_base.specs.SortedList.{IsListOf}
 use Rattle.cox_wgraph.specs.Edges.{IsEdgeValue, IsJoined}
 
 -- an element that is joined to another, and the value of the edge
-pub record Joined : Type 0 where
-  pub element : List ℕ
-  pub value : ℤ
+abbrev pub Joined : Type 0
+Joined = record { element : List ℕ; value : ℤ }
 
 -- an element that is joined to x
-pub record IsNeighbour (A : IntegerMatrix) (x y : List ℕ) : Type 0 where
-  pub element : IsElement A y
-  pub joined : IsJoined A x y
+abbrev pub IsNeighbour : IntegerMatrix → List ℕ → List ℕ → Type 0
+IsNeighbour A x y = record { element : IsElement A y; joined : IsJoined A x y }
 
 -- the elements that are joined to x, in ShortLex order, with the values of the edges
 pub record AreJoined (A : IntegerMatrix) (x : List ℕ) (list : List Joined) : Type 0 where
@@ -22,9 +20,8 @@ pub record AreJoined (A : IntegerMatrix) (x : List ℕ) (list : List Joined) : T
   pub values : All (λ j. IsEdgeValue A x j.element j.value) list
 
 -- an element, and what is joined to it
-pub record Vertex : Type 0 where
-  pub element : List ℕ
-  pub joined : List Joined
+abbrev pub Vertex : Type 0
+Vertex = record { element : List ℕ; joined : List Joined }
 
 -- the vertices of the graph: all elements in ShortLex order, each with what is joined to it
 pub record AreVertices (A : IntegerMatrix) (vertices : List Vertex) : Type 0 where
