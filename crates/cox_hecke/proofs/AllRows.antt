@@ -41,11 +41,18 @@ module _ (A : IntegerMatrix) (g : IsAdmissible A) where
   mu-value x w m p c row =
       c.value
       ∙ ap (λ (f : Coefficients). middle_coefficient (word_length A w - word_length A x) f)
-      (kazhdan_lusztig-value x w c.polynomial c.is ∙ row_of-value w p row x)
+      (λ i k. row-unique A g w c.row p c.is row x k i)
 
   pub mu-by_row : (x w : List ℕ) (m : ℤ) (p : Family) → IsRow A w p → m ≡ middle_coefficient (word_length A w - word_length A x) (p x)
       → IsMu A x w m
-  mu-by_row x w m p row e = record { polynomial = p x; is = record { row = p; is = row; at = λ k. refl }; value = e }
+  mu-by_row x w m p row e = record { row = p; is = row; value = e }
+
+  -- by P(x,w)
+  pub mu-by_polynomial : (x w : List ℕ) (m : ℤ) (f : Coefficients) → IsKazhdanLusztig A x w f
+      → m ≡ middle_coefficient (word_length A w - word_length A x) f → IsMu A x w m
+  mu-by_polynomial x w m f c e =
+      mu-by_row x w m c.row c.is
+      (e ∙ ap (λ (h : Coefficients). middle_coefficient (word_length A w - word_length A x) h) (λ i k. c.at k i))
 
   pub mu-unique : (x w : List ℕ) (m n : ℤ) → IsMu A x w m → IsMu A x w n → m ≡ n
   mu-unique x w m n c d = mu-value x w m (row_of w) c (row_of-is w) ∙ sym (mu-value x w n (row_of w) d (row_of-is w))

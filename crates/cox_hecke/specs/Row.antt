@@ -34,6 +34,6 @@ middle_coefficient d f = if d % 2 == 1 then f (d / 2) else pos 0
 -- m is mu(x,w): the coefficient of q^((d-1)/2) in P(x,w) where d = l(w) - l(x) is odd, else 0. Where x is not shorter than w the cut-off
 -- difference is 0, which is even.
 pub record IsMu (A : IntegerMatrix) (x w : List ℕ) (m : ℤ) : Type 0 where
-  pub polynomial : Coefficients
-  pub is : IsKazhdanLusztig A x w polynomial
-  pub value : m ≡ middle_coefficient (word_length A w - word_length A x) polynomial
+  pub row : Family
+  pub is : IsRow A w row
+  pub value : m ≡ middle_coefficient (word_length A w - word_length A x) (row x)

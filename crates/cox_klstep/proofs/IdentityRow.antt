@@ -12,7 +12,7 @@ use Rattle.cox_poly.specs.Coefficients.{one_polynomial}
 use Rattle.cox_poly.specs.Polynomial.{coefficient}
 use Rattle.cox_poly.specs.Limit.{AllWithin}
 use Rattle.cox_hecke.specs.Row.{IsKazhdanLusztig, IsMu}
-use Rattle.cox_hecke.proofs.AllRows.{row_of, row_of-is}
+use Rattle.cox_hecke.proofs.AllRows.{row_of, row_of-is, mu-by_polynomial}
 use Rattle.cox_context.specs.Closed.{IsClosed}
 use Rattle.cox_context.specs.Numbers.{word_at}
 use Rattle.cox_row.specs.Extremal.{IsExtremal}
@@ -46,12 +46,10 @@ module _ (A : IntegerMatrix) (g : IsAdmissible A) (members : List (List ℕ)) (c
   }
 
   is-zero : IsMu A (word_at members 0) (word_at members 0) (pos 0)
-  is-zero = record {
-    polynomial = coefficient (pos 1 ∷ []);
-    is = is-one;
-    value = sym (middle-even (word_length A (word_at members 0) - word_length A (word_at members 0)) (coefficient (pos 1 ∷ []))
-        (λ e. omega (arith, e)));
-  }
+  is-zero =
+      mu-by_polynomial A g (word_at members 0) (word_at members 0) (pos 0) (coefficient (pos 1 ∷ [])) is-one
+      (sym (middle-even (word_length A (word_at members 0) - word_length A (word_at members 0)) (coefficient (pos 1 ∷ []))
+      (λ e. omega (arith, e))))
 
   begun-start : AreBegun A members (word_at members 0) (pos 1) 0 [] [] []
   begun-start = record {

@@ -59,9 +59,9 @@ module _ (A : IntegerMatrix) (g : IsAdmissible A) where
   mu-text y w v m e is = (
     m,
     mu-by_row A g y w m (row_of A g w) (row_of-is A g w) (is.value
-        ∙ ap (λ n. middle_coefficient (n - word_length A y) is.polynomial) (length-same w v e)
-        ∙ ap (middle_coefficient (word_length A w - word_length A y)) (row-value A g w (row_of A g w) (row_of-is A g w) y v is.polynomial
-        (rw e (normal_form-same A g w)) is.is)),
+        ∙ ap (λ n. middle_coefficient (n - word_length A y) (is.row y)) (length-same w v e)
+        ∙ ap (middle_coefficient (word_length A w - word_length A y)) (row-value A g w (row_of A g w) (row_of-is A g w) y v (is.row y)
+        (rw e (normal_form-same A g w)) (record { row = is.row; is = is.is; at = λ k. refl }))),
     refl,
   )
 

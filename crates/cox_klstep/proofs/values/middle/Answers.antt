@@ -6,6 +6,7 @@ use Rattle.cox_base.specs.Length.{word_length}
 use Rattle.cox_poly.specs.Polynomial.{coefficient}
 use Rattle.cox_context.specs.Numbers.{word_at}
 use Rattle.cox_context.proofs.Shifting.{length-at}
+use Rattle.cox_hecke.proofs.AllRows.{mu-by_polynomial}
 use Rattle.cox_klstep.proofs.Middles.{middle-odd, middle-even}
 use Rattle.cox_klstep.proofs.values.middle.Goals as goal
 
@@ -18,12 +19,10 @@ returns-then-difference-eq1 c = λ is.
     in let d : word_length A (word_at c.args.ctx.now.members c.args.i) - word_length A (word_at c.args.ctx.now.members c.args.x)
     ≡ c.saturating_sub-difference.result
     = omega (arith, long, short, c.length.ensures, c.length-2.ensures, c.saturating_sub-difference.ensures)
-    in rw (to_z-of_z w64 c.coefficient.result fits) record {
-      polynomial = coefficient c.args.polynomial.now;
-      is = is;
-      value = rw d (c.coefficient.ensures ∙ sym (middle-odd c.saturating_sub-difference.result (coefficient c.args.polynomial.now)
-          c.if-difference-eq1.true));
-    }
+    in rw (to_z-of_z w64 c.coefficient.result fits) (mu-by_polynomial A c.len-len.ensures.admissible _ _ _
+    (coefficient c.args.polynomial.now) is
+    (rw d (c.coefficient.ensures ∙ sym (middle-odd c.saturating_sub-difference.result (coefficient c.args.polynomial.now)
+    c.if-difference-eq1.true))))
 
 pub returns-else-difference-eq1 : goal.returns-else-difference-eq1
 returns-else-difference-eq1 c = λ is.
@@ -33,8 +32,5 @@ returns-else-difference-eq1 c = λ is.
     in let d : word_length A (word_at c.args.ctx.now.members c.args.i) - word_length A (word_at c.args.ctx.now.members c.args.x)
     ≡ c.saturating_sub-difference.result
     = omega (arith, long, short, c.length.ensures, c.length-2.ensures, c.saturating_sub-difference.ensures)
-    in record {
-      polynomial = coefficient c.args.polynomial.now;
-      is = is;
-      value = rw d (sym (middle-even c.saturating_sub-difference.result (coefficient c.args.polynomial.now) c.if-difference-eq1.false));
-    }
+    in mu-by_polynomial A c.len-len.ensures.admissible _ _ _ (coefficient c.args.polynomial.now) is
+    (rw d (sym (middle-even c.saturating_sub-difference.result (coefficient c.args.polynomial.now) c.if-difference-eq1.false)))
