@@ -3,7 +3,7 @@ use Rattle.std.specs.Prelude.{ℕ, ℤ, ◌++◌, Bool, if◌then◌else◌, Lis
 use Rattle.std.specs.Fmt.{signed_decimal}
 use Rattle.std.specs.List.{flat_map, join_by}
 use Rattle.cox_base.specs.WordText.{letters_or, word_text}
-use Rattle.cox_poly.specs.PolynomialText.{factor_text, polynomial_text}
+use Rattle.cox_poly.specs.PolynomialText.{polynomial_text}
 
 -- an element: its normal form as it is written, `e` for the identity
 abbrev pub element_text : ℕ → List ℕ → List ℕ
@@ -44,18 +44,6 @@ head_text rank x label = element_text rank x ++ codes " " ++ set_text rank label
 -- an edge of it: the element that it leads to, and its value
 abbrev pub edge_text : ℕ → List ℕ → ℤ → List ℕ
 edge_text rank y value = codes " " ++ element_text rank y ++ codes ":" ++ signed_decimal value
-
--- what stands before the image of an element under a letter
-abbrev pub image_head_text : ℕ → ℕ → List ℕ → List ℕ
-image_head_text rank s x = decimal s ++ (codes " " ++ element_text rank x) ++ codes ":"
-
--- what stands before the coefficient of an element in an image
-abbrev pub term_head_text : ℕ → List ℕ → List ℕ
-term_head_text rank y = codes " " ++ element_text rank y ++ codes "="
-
--- a number times v, which is q^(1/2): `v`, `-v`, `2v`
-abbrev pub half_text : ℤ → List ℕ
-half_text m = factor_text 1 m ++ codes "v"
 
 -- a count and its name
 abbrev pub count_text : List ℕ → ℕ → List ℕ

@@ -1,8 +1,9 @@
 //! Images of elements under letters, as in the module of a left cell, and their coefficients.
-ghost use Rattle.std.specs.Prelude.{◌<◌, ◌≤◌};
+ghost use Rattle.std.specs.Prelude.{◌<◌, ◌≤◌, ◌++◌, codes, decimal};
 ghost use Rattle.cox_base.specs.Matrix.{IsWord};
 ghost use Rattle.cox_poly.specs.Puts.{Puts};
-ghost use Rattle.cox_print.specs.AnswerText.{image_head_text, term_head_text, half_text};
+ghost use Rattle.cox_poly.specs.PolynomialText.{factor_text};
+ghost use Rattle.cox_print.specs.AnswerText.{element_text};
 
 use crate::NoMemory;
 use crate::items::put_other_element;
@@ -16,7 +17,7 @@ use cox_poly::put_factor;
 pub fn put_image_head(out: &mut Vec<u8>, rank: u32, s: u8, x: &Word) -> Result<(), NoMemory>
     requires rank { rank ≤ MAX_RANK }
     requires word { IsWord rank x.now.items }
-    ensures { Puts result (image_head_text rank s x.now.items) out.old.items out.new.items }
+    ensures { Puts result (decimal s ++ (codes " " ++ element_text rank x.now.items) ++ codes ":") out.old.items out.new.items }
 {
     put_natural(out, u64::from(s))?;
     put_other_element(out, rank, x)?;
@@ -28,7 +29,7 @@ pub fn put_image_head(out: &mut Vec<u8>, rank: u32, s: u8, x: &Word) -> Result<(
 pub fn put_term_head(out: &mut Vec<u8>, rank: u32, y: &Word) -> Result<(), NoMemory>
     requires rank { rank ≤ MAX_RANK }
     requires word { IsWord rank y.now.items }
-    ensures { Puts result (term_head_text rank y.now.items) out.old.items out.new.items }
+    ensures { Puts result (codes " " ++ element_text rank y.now.items ++ codes "=") out.old.items out.new.items }
 {
     put_other_element(out, rank, y)?;
     put_text(out, b"=")
@@ -36,7 +37,7 @@ pub fn put_term_head(out: &mut Vec<u8>, rank: u32, y: &Word) -> Result<(), NoMem
 
 /// Appends a number times v, which is q^(1/2), as in `v`, `-v` and `2v`.
 pub fn put_half(out: &mut Vec<u8>, m: i64) -> Result<(), NoMemory>
-    ensures { Puts result (half_text m) out.old.items out.new.items }
+    ensures { Puts result (factor_text 1 m ++ codes "v") out.old.items out.new.items }
 {
     put_factor(out, 1, m)?;
     put_text(out, b"v")

@@ -1,5 +1,6 @@
 -- The text of the module of a left cell depends on its images alone.
-use Rattle.std.proofs.Common.{◌≡◌, ℕ, zero, suc, ◌+◌, ◌≤◌, ◌<◌, List, [], ◌∷◌, ◌++◌, length, get_or, All, decimal, refl, ap, ap₂, arith}
+use Rattle.std.proofs.Common.{◌≡◌, ℕ, zero, suc, ◌+◌, ◌≤◌, ◌<◌, List, [], ◌∷◌, ◌++◌, length, get_or, All, codes, decimal, refl, ap, ap₂}
+use Rattle.std.proofs.Common.{arith}
 use Rattle.std.specs.List.{flat_map, range_with_len}
 use Rattle.std.proofs.lemmas.List.FromFn.{length-range_with_len, get_or-range_with_len}
 use Rattle.std.proofs.lemmas.List.Elements.{All-nil, All-cons, All-head, All-tail}
@@ -9,7 +10,7 @@ use Rattle.cox_base.specs.Admissible.{IsAdmissible}
 use Rattle.cox_base.specs.ShortLex.{letters}
 use Rattle.cox_base.specs.SortedList.{IsRising}
 use Rattle.cox_context.specs.Numbers.{word_at}
-use Rattle.cox_print.specs.AnswerText.{members_text, term_head_text}
+use Rattle.cox_print.specs.AnswerText.{element_text, members_text}
 use Rattle.cox_module.specs.declared.term.Term.{Term}
 use Rattle.cox_module.specs.Images.{AreImages}
 use Rattle.cox_module.proofs.OneImage.{image-once}
@@ -28,8 +29,12 @@ all-below n a zero most = All-nil (λ k. k < n)
 all-below n a (suc m) most =
     All-cons (λ k. k < n) a (range_with_len (a + 1) m) (omega (arith, most)) (all-below n (a + 1) m (omega (arith, most)))
 
-pub head-same : (r rank : ℕ) (x y : List ℕ) → r ≡ rank → x ≡ y → term_head_text r x ≡ term_head_text rank y
-head-same r rank x y ranks words = λ i. term_head_text (ranks i) (words i)
+-- what stands before the coefficient of an element
+abbrev pub term_head : ℕ → List ℕ → List ℕ
+term_head rank y = codes " " ++ element_text rank y ++ codes "="
+
+pub head-same : (r rank : ℕ) (x y : List ℕ) → r ≡ rank → x ≡ y → term_head r x ≡ term_head rank y
+head-same r rank x y ranks words = λ i. term_head (ranks i) (words i)
 
 -- the image of the k-th element, behind the end of the line before
 abbrev pub image_line : ℕ → List (List ℕ) → (ℕ → ℕ → List Term) → ℕ → ℕ → List ℕ

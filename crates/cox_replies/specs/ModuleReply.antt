@@ -11,21 +11,23 @@ use Rattle.cox_module.specs.declared.term.Entry.{Entry}
 use Rattle.cox_module.specs.declared.term.Entry.TheVariants.{Minus, Square, Half}
 use Rattle.cox_module.specs.declared.term.Term.{Term}
 use Rattle.cox_module.specs.Images.{AreImages}
-use Rattle.cox_print.specs.AnswerText.{members_text, image_head_text, term_head_text, half_text}
+use Rattle.cox_poly.specs.PolynomialText.{factor_text}
+use Rattle.cox_print.specs.AnswerText.{element_text, members_text}
 
 -- a coefficient: -1, v^2, or a multiple of v
 abbrev pub entry_text : Entry → List ℕ
 entry_text Minus = codes "-1"
 entry_text Square = codes "v^2"
-entry_text (Half m) = half_text m
+entry_text (Half m) = factor_text 1 m ++ codes "v"
 
 -- a term: the element at its place of the cell, and its coefficient
 abbrev pub term_text : ℕ → List (List ℕ) → Term → List ℕ
-term_text rank cell t = term_head_text rank (word_at cell t.place) ++ entry_text t.entry
+term_text rank cell t = (codes " " ++ element_text rank (word_at cell t.place) ++ codes "=") ++ entry_text t.entry
 
 -- the image of the element x of the cell under the letter s
 abbrev pub image_text : ℕ → List (List ℕ) → ℕ → List ℕ → List Term → List ℕ
-image_text rank cell s x image = image_head_text rank s x ++ flat_map (term_text rank cell) image
+image_text rank cell s x image =
+    (decimal s ++ (codes " " ++ element_text rank x) ++ codes ":") ++ flat_map (term_text rank cell) image
 
 -- the images of all elements of the cell under a letter, each behind the end of the line before
 abbrev pub operator_text : ℕ → List (List ℕ) → (ℕ → ℕ → List Term) → ℕ → List ℕ

@@ -1,12 +1,12 @@
 -- The proof of `put_image`.
-use Rattle.std.proofs.Common.{◌∷◌, ◌++◌, [], rules}
+use Rattle.std.proofs.Common.{◌∷◌, ◌++◌, [], codes, decimal, rules}
 use Rattle.std.specs.List.{flat_map}
 use Rattle.cox_reflect.proofs.NormalElements.{element-word}
 use Rattle.cox_poly.proofs.Behind.{Puts-first, Puts-second}
 use Rattle.cox_context.specs.Numbers.{word_at}
 use Rattle.cox_context.proofs.PlacedWords.{contains-at}
 use Rattle.cox_row.specs.Rising.{number_at}
-use Rattle.cox_print.specs.AnswerText.{image_head_text}
+use Rattle.cox_print.specs.AnswerText.{element_text}
 use Rattle.cox_module.specs.NumberedImages.{cell_words}
 use Rattle.cox_module.proofs.CellNumbers.{words-at}
 use Rattle.cox_replies.specs.ModuleReply.{term_text, image_text}
@@ -32,7 +32,8 @@ returns-in_err-put_image_head c =
     let members = c.args.context.now.members in
     let rank = c.args.context.now.matrix.rank in
     let cell = c.args.cell.now in
-    let head = image_head_text rank c.args.s (word_at members (number_at cell c.args.k)) in
+    let x = word_at members (number_at cell c.args.k) in
+    let head = decimal c.args.s ++ (codes " " ++ element_text rank x) ++ codes ":" in
     let rest = flat_map (term_text rank (cell_words members cell)) c.args.image.now in
     rw (words-at members cell c.args.k c.requires.place)
     (Puts-second _ (10 ∷ []) (head ++ rest) _ _ _ (c.in_ok-put_end.ensures {u = tt})
@@ -44,7 +45,8 @@ returns c =
     let members = c.args.context.now.members in
     let rank = c.args.context.now.matrix.rank in
     let cell = c.args.cell.now in
-    let head = image_head_text rank c.args.s (word_at members (number_at cell c.args.k)) in
+    let x = word_at members (number_at cell c.args.k) in
+    let head = decimal c.args.s ++ (codes " " ++ element_text rank x) ++ codes ":" in
     let rest = flat_map (term_text rank (cell_words members cell)) c.args.image.now in
     rw (words-at members cell c.args.k c.requires.place)
     (Puts-second _ (10 ∷ []) (head ++ rest) _ _ _ (c.in_ok-put_end.ensures {u = tt})
