@@ -28,8 +28,7 @@ use Rattle.cox_module.specs.declared.term.Entry.{Entry}
 use Rattle.cox_module.specs.declared.term.Entry.TheVariants.{Minus, Square, Half}
 use Rattle.cox_module.specs.declared.term.Term.{Term}
 use Rattle.cox_module.specs.FreeModule.{Vector, times_entry}
-use Rattle.cox_module.specs.Images.{IsEntry, AreImages}
-use Rattle.cox_module.proofs.TermsByPlace.{IsTerm, term, term_at, ArePlaced, terms-placed}
+use Rattle.cox_module.specs.Images.{IsEntry, IsTerm, term, term_at, IsImage, AreImages}
 use Rattle.cox_module.proofs.ActionOnFunctions.{only_if, through, through_word}
 use Rattle.cox_module.proofs.LinearFunctions.{value_at, value_word}
 use Rattle.cox_module.proofs.LinearOperators.{times_q-linear}
@@ -155,7 +154,7 @@ module _ (A : IntegerMatrix) (g : IsAdmissible A) (cell : List (List ℕ))
         (terms-parts terms (All-tail (λ (u : Term). u.place < length cell) t terms within)
         (All-tail (IsTerm A cell s (word_at cell k)) t terms each))
 
-    module _ (image : List Term) (is : ArePlaced A cell s (word_at cell k) (length cell) image) where
+    module _ (image : List Term) (is : IsImage A cell s k image) where
       within_at : (i : ℕ) → i < length image → (term_at image i).place < length cell
       within_at i m = is.before i (term 0 Minus) m
 
@@ -285,8 +284,7 @@ module _ (A : IntegerMatrix) (g : IsAdmissible A) (cell : List (List ℕ))
         let p = named-standing A g cell y some
         in respected A g (as_family-respects A g cell (λ i. value_at f (images s i))) p.same
         ∙ as_family-at A g cell distinct (λ i. value_at f (images s i)) p.place p.within
-        ∙ image-value f s p.place p.within (images s p.place)
-        (terms-placed A cell s (word_at cell p.place) (are s p.place letter p.within))
+        ∙ image-value f s p.place p.within (images s p.place) (are s p.place letter p.within)
         ∙ sym (respected A g (through-respects A g cell s (as_family A g cell f) (as_family-respects A g cell f)) p.same)
 
     pub word-value : (u : List ℕ) → IsWord A.rank u → (f : Vector) (k : ℕ) → k < length cell

@@ -10,9 +10,9 @@ use Rattle.cox_context.proofs.ShortLexLists.{IsListOf-unique}
 use Rattle.cox_module.specs.declared.term.Entry.{Entry}
 use Rattle.cox_module.specs.declared.term.Entry.TheVariants.{Minus}
 use Rattle.cox_module.specs.declared.term.Term.{Term}
-use Rattle.cox_module.specs.Images.{IsEntry, AreTermsBefore, IsImage, begun, passed, added}
+use Rattle.cox_module.specs.Images.{IsEntry, term, term_at, AreTermsBefore, IsImage}
 use Rattle.cox_module.proofs.Entries.{entry-unique, entry_or_not}
-use Rattle.cox_module.proofs.TermsByPlace.{term, term_at, ArePlaced, terms-placed}
+use Rattle.cox_module.proofs.TermsByPlace.{terms-none, terms-passed, terms-added}
 
 module _ (A : IntegerMatrix) (g : IsAdmissible A) (cell : List (List ℕ)) (rising : IsRising cell) (s : ℕ) (x : List ℕ) where
   -- ---- one list at most
@@ -30,7 +30,7 @@ module _ (A : IntegerMatrix) (g : IsAdmissible A) (cell : List (List ℕ)) (risi
   size : (terms : List Term) → length (map word_of terms) ≡ length terms
   size terms = length-map terms word_of
 
-  listed : (terms : List Term) → ArePlaced A cell s x (length cell) terms → IsListOf HasEntry (map word_of terms)
+  listed : (terms : List Term) → AreTermsBefore A cell s x (length cell) terms → IsListOf HasEntry (map word_of terms)
   unfolding HasEntry
   listed terms are = record {
     rising = λ i j less l.
@@ -58,9 +58,10 @@ module _ (A : IntegerMatrix) (g : IsAdmissible A) (cell : List (List ℕ)) (risi
             is = word-at terms found.0 found.1 ∙ ap (word_at cell) found.2 ∙ p.is;
           })
 
-  placed-once : (terms others : List Term) → ArePlaced A cell s x (length cell) terms → ArePlaced A cell s x (length cell) others
+  pub terms-once : (terms others : List Term) → AreTermsBefore A cell s x (length cell) terms
+      → AreTermsBefore A cell s x (length cell) others
       → terms ≡ others
-  placed-once terms others are are' = ext_get_or (term 0 Minus) terms others length_is at
+  terms-once terms others are are' = ext_get_or (term 0 Minus) terms others length_is at
     where
       words : map word_of terms ≡ map word_of others
       words = IsListOf-unique HasEntry (map word_of terms) (map word_of others) (listed terms are) (listed others are')
@@ -80,22 +81,17 @@ module _ (A : IntegerMatrix) (g : IsAdmissible A) (cell : List (List ℕ)) (risi
           (rw place at (are.each i (term 0 Minus) l)) (are'.each i (term 0 Minus) m)
           in λ j. term (place j) (entry j)
 
-  pub terms-once : (terms others : List Term) → AreTermsBefore A cell s x (length cell) terms
-      → AreTermsBefore A cell s x (length cell) others
-      → terms ≡ others
-  terms-once terms others are are' = placed-once terms others (terms-placed A cell s x are) (terms-placed A cell s x are')
-
   -- ---- one at least
 
   terms_before : (n : ℕ) → (terms : List Term) × AreTermsBefore A cell s x n terms
-  terms_before zero = ([], begun)
+  terms_before zero = ([], terms-none A cell s x)
   terms_before (suc n) = go (terms_before n) (entry_or_not A g s x (word_at cell n))
     where
       go : (terms : List Term) × AreTermsBefore A cell s x n terms
           → ((e : Entry) × IsEntry A s x (word_at cell n) e) ⊎ ((e : Entry) → IsEntry A s x (word_at cell n) e → ⊥)
           → (terms : List Term) × AreTermsBefore A cell s x (suc n) terms
-      go (terms, are) (inl (e, is)) = (terms ++ term n e ∷ [], added e are is)
-      go (terms, are) (inr none) = (terms, passed are none)
+      go (terms, are) (inl (e, is)) = (terms ++ term n e ∷ [], terms-added A cell s x n terms are e is)
+      go (terms, are) (inr none) = (terms, terms-passed A cell s x n terms are none)
 
   pub terms-exist : (terms : List Term) × AreTermsBefore A cell s x (length cell) terms
   terms-exist = terms_before (length cell)

@@ -1,6 +1,5 @@
 -- The terms of an image, place by place.
-use Rattle.std.proofs.Common.{◌≡◌, ℕ, suc, ◌≤◌, ◌<◌, List, [], ◌∷◌, ◌++◌, length, get_or, All, ⊎_elim, refl, ap, ◌∙◌, arith}
-use Rattle.std.specs.Prelude.{slice_index_or}
+use Rattle.std.proofs.Common.{◌≡◌, ℕ, suc, ◌≤◌, ◌<◌, List, [], ◌∷◌, ◌++◌, length, get_or, ⊎_elim, refl, ap, ◌∙◌, arith}
 use Rattle.std.proofs.lemmas.Bool.{cases_lt}
 use Rattle.std.proofs.lemmas.List.Elements.{All-nil, All-push}
 use Rattle.cox_lemmas.proofs.PushedItems.{push-length, push-old, push-new, push_cases}
@@ -9,30 +8,10 @@ use Rattle.cox_context.specs.Numbers.{word_at}
 use Rattle.cox_module.specs.declared.term.Entry.{Entry}
 use Rattle.cox_module.specs.declared.term.Entry.TheVariants.{Minus}
 use Rattle.cox_module.specs.declared.term.Term.{Term}
-use Rattle.cox_module.specs.Images.{IsEntry, AreTermsBefore, begun, passed, added}
-
--- a term of t(s) x, at a place of the cell
-abbrev pub IsTerm : IntegerMatrix → List (List ℕ) → ℕ → List ℕ → Term → Type 0
-IsTerm A cell s x term = IsEntry A s x (word_at cell term.place) term.entry
-
--- a term by its place and its entry
-abbrev pub term : ℕ → Entry → Term
-term place entry = record { place = place; entry = entry }
-
--- the i-th term
-abbrev pub term_at : List Term → ℕ → Term
-term_at terms i = slice_index_or terms i (term 0 Minus)
-
--- the terms at the places before the n-th: all that there are, by rising place
-pub record ArePlaced (A : IntegerMatrix) (cell : List (List ℕ)) (s : ℕ) (x : List ℕ) (n : ℕ) (terms : List Term) : Type 0 where
-  pub rising : (i j : ℕ) → i < j → j < length terms → (term_at terms i).place < (term_at terms j).place
-  pub before : All (λ (t : Term). t.place < n) terms
-  pub each : All (IsTerm A cell s x) terms
-  pub whole : (j : ℕ) (entry : Entry) → j < n → IsEntry A s x (word_at cell j) entry
-      → (i : ℕ) × (i < length terms) × ((term_at terms i).place ≡ j)
+use Rattle.cox_module.specs.Images.{IsEntry, IsTerm, term, term_at, AreTermsBefore}
 
 module _ (A : IntegerMatrix) (cell : List (List ℕ)) (s : ℕ) (x : List ℕ) where
-  terms-none : ArePlaced A cell s x 0 []
+  pub terms-none : AreTermsBefore A cell s x 0 []
   terms-none = record {
     rising = λ i j less l. absurd (omega (arith, l));
     before = All-nil (λ (t : Term). t.place < 0);
@@ -40,12 +19,12 @@ module _ (A : IntegerMatrix) (cell : List (List ℕ)) (s : ℕ) (x : List ℕ) w
     whole = λ j e l. absurd (omega (arith, l));
   }
 
-  module _ (n : ℕ) (terms : List Term) (are : ArePlaced A cell s x n terms) where
+  module _ (n : ℕ) (terms : List Term) (are : AreTermsBefore A cell s x n terms) where
     older : (d : Term) (i : ℕ) → i < length terms → (get_or terms i d).place < suc n
     older d i l = let less = are.before i d l in omega (arith, less)
 
     -- the next place has no term
-    terms-passed : ((e : Entry) → IsEntry A s x (word_at cell n) e → ⊥) → ArePlaced A cell s x (suc n) terms
+    pub terms-passed : ((e : Entry) → IsEntry A s x (word_at cell n) e → ⊥) → AreTermsBefore A cell s x (suc n) terms
     terms-passed none = record {
       rising = are.rising;
       before = λ i d l. older d i l;
@@ -56,7 +35,7 @@ module _ (A : IntegerMatrix) (cell : List (List ℕ)) (s : ℕ) (x : List ℕ) w
     }
 
     -- the next place has one
-    terms-added : (e : Entry) → IsEntry A s x (word_at cell n) e → ArePlaced A cell s x (suc n) (terms ++ term n e ∷ [])
+    pub terms-added : (e : Entry) → IsEntry A s x (word_at cell n) e → AreTermsBefore A cell s x (suc n) (terms ++ term n e ∷ [])
     terms-added e is = record {
       rising = λ i j less l. ⊎_elim
           (λ (old : j < length terms).
@@ -87,9 +66,3 @@ module _ (A : IntegerMatrix) (cell : List (List ℕ)) (s : ℕ) (x : List ℕ) w
           omega (arith, l, push-length terms (term n e)),
           ap (λ (t : Term). t.place) (push-old terms (term n e) (term 0 Minus) i l) ∙ same,
         )
-
-  -- terms place by place are all
-  pub terms-placed : {n : ℕ} {terms : List Term} → AreTermsBefore A cell s x n terms → ArePlaced A cell s x n terms
-  terms-placed begun = terms-none
-  terms-placed (passed {n} {terms} are none) = terms-passed n terms (terms-placed are) none
-  terms-placed (added {n} {terms} e are is) = terms-added n terms (terms-placed are) e is

@@ -5,7 +5,6 @@ use Rattle.std.proofs.lemmas.List.FromFn.{length-range_with_len}
 use Rattle.cox_poly.proofs.Behind.{PutsPrefix-next, Puts-failed, append-all, append-next}
 use Rattle.cox_module.specs.NumberedImages.{cell_words, image_in}
 use Rattle.cox_module.proofs.CellNumbers.{words-size}
-use Rattle.cox_module.proofs.TermsByPlace.{terms-placed}
 use Rattle.cox_replies.proofs.ModuleTexts.{image_line, place-at}
 use Rattle.cox_replies.proofs.modules.put_operator.Goals as goal
 
@@ -19,7 +18,7 @@ pub put_image-requires-clause-terms : goal.put_image-requires-clause-terms
 put_image-requires-clause-terms c =
     let size = words-size c.args.context.now.members c.args.cell.now in
     let is = c.requires.images c.args.s c.loop-k.k c.requires.letter (omega (arith, size, c.loop-k-test.true)) in
-    rw c.image.ensures (rw size at (terms-placed _ _ _ _ is).before)
+    rw c.image.ensures (rw size at is.before)
 
 pub returns-in_err-put_image : goal.returns-in_err-put_image
 returns-in_err-put_image c =

@@ -2,7 +2,7 @@
 use Rattle.std.proofs.Common.{refl, arith, rules}
 use Rattle.cox_poly.proofs.Behind.{PutsPrefix-next, Puts-failed, append-all}
 use Rattle.cox_module.specs.declared.term.Entry.TheVariants.{Minus}
-use Rattle.cox_module.proofs.TermsByPlace.{term, term_at}
+use Rattle.cox_module.specs.Images.{term, term_at}
 use Rattle.cox_module.specs.NumberedImages.{cell_words}
 use Rattle.cox_replies.specs.ModuleReply.{term_text}
 use Rattle.cox_replies.proofs.modules.put_terms.Goals as goal
