@@ -190,10 +190,21 @@ def question(files, shape, variant):
         if found:
             lines.append(line)
     text = "\n".join(lines).partition("=")[2]
-    parts = re.search(r"Refuses = (.*?);\s*IsText = (.*?)\s*}", text, re.S)
-    refuses, answer = parts.groups() if parts else ("", text)
-    before = text[: parts.start()] if parts else ""
-    return file, lines, refuses + before, answer + before
+    before, asks, behind = text.partition(" asks ")
+    refuses, answer = arguments(behind) if asks else ("", text)
+    return file, lines, refuses + before + asks, answer + (before if asks else "")
+
+
+def arguments(text):
+    """The arguments of a text, each in parentheses."""
+    found, begin, depth = [], 0, 0
+    for place, letter in enumerate(text):
+        depth += {"(": 1, ")": -1}.get(letter, 0)
+        if letter == "(" and depth == 1:
+            begin = place
+        if letter == ")" and depth == 0:
+            found.append(text[begin : place + 1])
+    return found
 
 
 # The shapes of command words, by which the definitions of the grammar part their cases.

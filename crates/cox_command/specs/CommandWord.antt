@@ -36,5 +36,4 @@ command_word_of token = if bytes_eq token (codes "type") then Some Named
     else if bytes_eq token (codes "lcells") then Some (Plain Lcells)
     else if bytes_eq token (codes "rcells") then Some (Plain Rcells)
     else if bytes_eq token (codes "lrcells") then Some (Plain Lrcells)
-    else if bytes_eq token (codes "work") then Some Work
-    else None
+    else if bytes_eq token (codes "work") then Some Work else None

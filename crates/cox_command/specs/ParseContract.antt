@@ -2,7 +2,7 @@
 use Rattle.std.specs.Prelude.{◌≡◌, ◌≤◌, ℕ, List, Option, None, Some, Result, Ok, Err, IsSomeAnd}
 use Rattle.cox_base.specs.Matrix.{IsWord}
 use Rattle.cox_tokens.specs.Tokens.{tokens_of}
-use Rattle.cox_command.specs.LineRefusal.{command_refusal, tokens_refusal, line_refusal}
+use Rattle.cox_command.specs.LineRefusal.{command_refusal, line_refusal}
 use Rattle.cox_command.specs.CommandReading.{command_by, command_of}
 use Rattle.cox_command.specs.declared.limits.TheConstants.{MAX_START, MAX_COUNT}
 use Rattle.cox_command.specs.declared.refusal.Refusal.{Refusal}
@@ -32,14 +32,14 @@ HasWordsOf _ rank = Unit {0}
 -- reading a line: its refusal, or the command that it gives
 abbrev pub ParsesAs : Result Command LineFault → List ℕ → Option ℕ → Type 0
 ParsesAs (Ok command) line rank =
-    (line_refusal line rank ≡ None) × (command_of (tokens_of line) rank ≡ Some command) × HasWordsOf command rank
-ParsesAs (Err fault) line rank = line_refusal line rank ≡ Some fault.refusal
+    (line_refusal (tokens_of line) rank ≡ None) × (command_of (tokens_of line) rank ≡ Some command) × HasWordsOf command rank
+ParsesAs (Err fault) line rank = line_refusal (tokens_of line) rank ≡ Some fault.refusal
 
 -- the same of the tokens of a line
 abbrev pub ReadsTokens : Result Command Refusal → List (List ℕ) → Option ℕ → Type 0
 ReadsTokens (Ok command) tokens rank =
-    (tokens_refusal tokens rank ≡ None) × (command_of tokens rank ≡ Some command) × HasWordsOf command rank
-ReadsTokens (Err refusal) tokens rank = tokens_refusal tokens rank ≡ Some refusal
+    (line_refusal tokens rank ≡ None) × (command_of tokens rank ≡ Some command) × HasWordsOf command rank
+ReadsTokens (Err refusal) tokens rank = line_refusal tokens rank ≡ Some refusal
 
 -- the same of a command word and its arguments
 abbrev pub ReadsArguments : Result Command Refusal → CommandWord → List (List ℕ) → Option ℕ → Type 0

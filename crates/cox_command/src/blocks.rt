@@ -1,7 +1,8 @@
 //! Lines in a list of blocks: those that part it, and those that no block may have.
-ghost use Rattle.std.specs.Prelude.{◌≡◌, ◌<◌, ◌^◌, length};
+ghost use Rattle.std.specs.Prelude.{◌≡◌, ◌<◌, ◌^◌, ◌||◌, length, codes};
+ghost use Rattle.std.specs.Str.{bytes_eq};
 ghost use Rattle.cox_tokens.specs.Tokens.{tokens_of};
-ghost use Rattle.cox_command.specs.BlockLines.{list_word_of, parts_list, block_refusal};
+ghost use Rattle.cox_command.specs.BlockLines.{list_word_of, block_refusal};
 
 use crate::Refusal;
 use crate::command_word::{CommandWord, command_word};
@@ -39,7 +40,7 @@ pub fn list_word(line: &[u8]) -> Option<ListWord>
 /// Why a line may not stand in a block, whatever its arguments are: `type`, `matrix`, `quit` and `jobs` are no commands there, and `next`
 /// and `end` have no arguments. None of the others is refused by where it stands.
 pub fn block_refusal(line: &[u8]) -> Option<Refusal>
-    ensures { result ≡ block_refusal line.now }
+    ensures { result ≡ block_refusal (tokens_of line.now) }
 {
     let (name, _) = first_token(line)?;
     match command_word(name) {
@@ -53,7 +54,7 @@ pub fn block_refusal(line: &[u8]) -> Option<Refusal>
 
 /// Whether a token is `next` or `end`.
 fn parts_list(token: &[u8]) -> bool
-    ensures { result ≡ parts_list token.now }
+    ensures { result ≡ (bytes_eq token.now (codes "next") || bytes_eq token.now (codes "end")) }
 {
     token == b"next".as_slice() || token == b"end".as_slice()
 }

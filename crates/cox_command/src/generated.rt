@@ -1,7 +1,7 @@
 //! The words that `work` generates.
-ghost use Rattle.std.specs.Prelude.{◌≡◌, ◌≤◌};
+ghost use Rattle.std.specs.Prelude.{◌≡◌, ◌+◌, ◌*◌, ◌%◌, ◌≤◌};
 ghost use Rattle.cox_base.specs.Matrix.{IsWord, IsLetter};
-ghost use Rattle.cox_command.specs.Generated.{next_state, state_letter, state_behind_word, generated_word};
+ghost use Rattle.cox_command.specs.Generated.{state_after, generated_word};
 
 use crate::limits::MAX_START;
 use cox_base::{MAX_RANK, Word};
@@ -16,7 +16,7 @@ pub(crate) const INCREMENT: u32 = 74;
 pub(crate) const MODULUS: u32 = 65_537;
 
 /// How many letters a generated word has.
-pub(crate) const WORD_LETTERS: usize = 12;
+pub const WORD_LETTERS: usize = 12;
 
 /// The word that the generator gives from the state `g`, over the letters of a group of this rank, and the state behind it.
 ///
@@ -28,7 +28,7 @@ pub fn work_word(g: u32, rank: u32) -> (Word, u32)
     requires to_most { rank ≤ MAX_RANK }
     ensures word { result.0.items ≡ generated_word rank g }
     ensures letters { IsWord rank result.0.items }
-    ensures state { result.1 ≡ state_behind_word g }
+    ensures state { result.1 ≡ state_after WORD_LETTERS g }
     ensures most { result.1 ≤ MAX_START }
 {
     let mut word = Word::new();
@@ -43,7 +43,7 @@ pub fn work_word(g: u32, rank: u32) -> (Word, u32)
 /// The state after one step.
 fn step(g: u32) -> u32
     requires { g ≤ MAX_START }
-    ensures state { result ≡ next_state g }
+    ensures state { result ≡ (MULTIPLIER * g + INCREMENT) % MODULUS }
     ensures most { result ≤ MAX_START }
 {
     (MULTIPLIER * g + INCREMENT) % MODULUS
@@ -53,7 +53,7 @@ fn step(g: u32) -> u32
 fn letter_of(g: u32, rank: u32) -> u8
     requires from_one { 1 ≤ rank }
     requires to_most { rank ≤ MAX_RANK }
-    ensures is { result ≡ state_letter rank g }
+    ensures is { result ≡ 1 + g % rank }
     ensures letter { IsLetter rank result }
 {
     (1 + g % rank) as u8

@@ -1,8 +1,7 @@
 //! The arguments that set a group.
 ghost use Rattle.std.specs.Prelude.{◌≡◌, ◌≤◌, ℕ, Option, Some, None, map, length, IfSome, is_some, if◌then◌else◌};
 ghost use Rattle.std.specs.List.{list_all};
-ghost use Rattle.cox_tokens.specs.Number.{is_number, value_of};
-ghost use Rattle.cox_command.specs.LineRefusal.{is_rank};
+ghost use Rattle.cox_tokens.specs.Number.{is_number, is_number_in, value_of};
 ghost use Rattle.cox_command.specs.ParseContract.{ReadsArguments};
 ghost use Rattle.cox_command.specs.declared.command_word.CommandWord.TheVariants.{Named, Matrix};
 
@@ -54,7 +53,7 @@ pub fn parse_matrix(mut arguments: Tokens) -> Result<Command, Refusal>
 
 /// A rank: a number from 1 to the greatest rank.
 fn read_rank(token: &[u8]) -> Option<usize>
-    ensures { result ≡ (if is_rank token.now then Some (value_of token.now) else None) }
+    ensures { result ≡ (if is_number_in 1 MAX_RANK token.now then Some (value_of token.now) else None) }
 {
     let n = read_number_in(token, 1, MAX_RANK as u32)?;
     Some(n as usize)

@@ -1,11 +1,11 @@
 //! Laws of the definitions.
 ghost use Rattle.std.specs.Prelude.{◌≡◌, ℕ, List, Option, Some, None};
 ghost use Rattle.cox_command.specs.CommandReading.{command_of};
-ghost use Rattle.cox_command.specs.LineRefusal.{tokens_refusal};
+ghost use Rattle.cox_command.specs.LineRefusal.{line_refusal};
 ghost use Rattle.cox_command.specs.declared.command.Command.{Command};
 
 /// The tokens of a line that is not refused give a command.
 pub fn accepted_gives_command()
-    ensures { (tokens : List (List ℕ)) (rank : Option ℕ) → tokens_refusal tokens rank ≡ None
+    ensures { (tokens : List (List ℕ)) (rank : Option ℕ) → line_refusal tokens rank ≡ None
         → (command : Command) × (command_of tokens rank ≡ Some command) }
 {}

@@ -36,7 +36,7 @@ mod work_arguments;
 
 pub use blocks::{ListWord, block_refusal, list_word};
 pub use command::{Command, LineFault};
-pub use generated::work_word;
+pub use generated::{WORD_LETTERS, work_word};
 pub use inquiry::{Inquiry, NoWord, OneWord, TwoWord};
 pub use laws::accepted_gives_command;
 pub use limits::{MAX_COUNT, MAX_START};

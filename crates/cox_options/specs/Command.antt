@@ -19,22 +19,14 @@ number_options =
     record { name = codes "context"; most = MAX_CONTEXT; default = MAX_CONTEXT_TEXT.now }
     ∷ record { name = codes "roots"; most = MAX_ROOTS; default = MAX_ROOTS_TEXT.now }
     ∷ record { name = codes "coef"; most = MAX_COEF; default = MAX_COEF_TEXT.now }
-    ∷ record { name = codes "workers"; most = MAX_WORKERS; default = DEFAULT_WORKERS_TEXT.now }
-    ∷ []
+    ∷ record { name = codes "workers"; most = MAX_WORKERS; default = DEFAULT_WORKERS_TEXT.now } ∷ []
 
 -- the option as clap reads it, with a number of 64 bits
 abbrev pub number_rule : NumberOption → Rule
-number_rule option = record (new_rule option.name) {
-  long = Some option.name;
-  action = Some Set;
-  defaults = option.default ∷ [];
-  parser = Some (Unsigned 1 option.most);
-}
+number_rule option = record (new_rule option.name)
+    { long = Some option.name; action = Some Set; defaults = option.default ∷ []; parser = Some (Unsigned 1 option.most) }
 
--- a command without the flags that clap adds by itself; with no version told it adds none for that
-abbrev pub without_help : App → App
-without_help = on_top (λ s. record s { disable_help_flag = true })
-
--- the command `coxeter` with its options
+-- the command `coxeter` with its options, and without the flags that clap adds by itself; with no version told it adds none for that
 abbrev pub coxeter_app : App
-coxeter_app = fold with_rule (without_help (new_app (codes "coxeter"))) (map number_rule number_options)
+coxeter_app =
+    fold with_rule (on_top (λ s. record s { disable_help_flag = true }) (new_app (codes "coxeter"))) (map number_rule number_options)

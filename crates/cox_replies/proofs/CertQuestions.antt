@@ -15,6 +15,7 @@ use Rattle.cox_rows.proofs.BeyondDecided.{tell-beyond}
 use Rattle.cox_rows.proofs.NeedDecided.{tell-needs_beyond}
 use Rattle.cox_command.specs.declared.refusal.Refusal.{Refusal}
 use Rattle.cox_command.specs.declared.refusal.Refusal.TheVariants.{LargeInterval, FarApart, LargeRow}
+use Rattle.cox_replies.specs.Question.{asks}
 use Rattle.cox_replies.specs.Limits.{Limits}
 use Rattle.cox_replies.specs.CertReply.{RefusesCert, IsCertText}
 use Rattle.cox_replies.specs.Answerable.{IsAnswerable}
@@ -45,7 +46,7 @@ cert-decided A g limits w LargeRow = either-decided
 cert-decided A g limits w _ = inr (λ none. none)
 
 pub cert-answerable : (m : CoxeterMatrix) (g : IsAdmissible (integer_matrix m)) (limits : Limits) (w : List ℕ)
-    → IsAnswerable (record { Refuses = RefusesCert limits (integer_matrix m) w; IsText = IsCertText m w })
+    → IsAnswerable (asks (RefusesCert limits (integer_matrix m) w) (IsCertText m w))
 cert-answerable m g limits w = let members = interval-exists (integer_matrix m) g w in record {
   decided = cert-decided (integer_matrix m) g limits w;
   answer = λ free. (_, cert-text m w (row_of (integer_matrix m) g w) (row_of-is (integer_matrix m) g w) members.0 members.1);

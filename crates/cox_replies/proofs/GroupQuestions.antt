@@ -23,7 +23,7 @@ use Rattle.cox_command.specs.declared.inquiry.NoWord.TheVariants.{Lwgraph, Rwgra
 use Rattle.cox_command.specs.declared.refusal.Refusal.{Refusal}
 use Rattle.cox_command.specs.declared.refusal.Refusal.TheVariants.{LargeInterval, LargeRow}
 use Rattle.cox_replies.specs.Limits.{Limits}
-use Rattle.cox_replies.specs.Question.{IsRefused}
+use Rattle.cox_replies.specs.Question.{IsRefused, asks}
 use Rattle.cox_replies.specs.GroupReply.{RefusesGroupRows, vertex_text, IsGraphText, IsCellsText, group_question}
 use Rattle.cox_replies.specs.Answerable.{HasOneText, IsAnswerable}
 
@@ -79,14 +79,14 @@ module _ (limits : Limits) (A : IntegerMatrix) (g : IsAdmissible A) where
   pub group-list : IsRefused (RefusesGroupRows limits A) None → (words : List (List ℕ)) × IsListOf (IsElement A) words
   group-list free = ⊎_elim (λ large. absurd (not-large free large)) (λ small. (small.1, small.2)) (group-decided A g limits.context)
 
-  graph-answerable : (side : Side) → IsAnswerable (record { Refuses = RefusesGroupRows limits A; IsText = IsGraphText side A })
+  graph-answerable : (side : Side) → IsAnswerable (asks (RefusesGroupRows limits A) (IsGraphText side A))
   graph-answerable side = record {
     decided = group_rows-decided;
     answer = λ free. let list = group-list free in let vertices = some_listing A g list.0
         list.1 in (_, (vertices.0, vertices.1, refl));
   }
 
-  cells-answerable : (kind : CellKind) → IsAnswerable (record { Refuses = RefusesGroupRows limits A; IsText = IsCellsText kind A })
+  cells-answerable : (kind : CellKind) → IsAnswerable (asks (RefusesGroupRows limits A) (IsCellsText kind A))
   cells-answerable kind = record {
     decided = group_rows-decided;
     answer = λ free. let list = group-list free in (_, (_, some_list kind A g list.0 list.1, refl));

@@ -10,6 +10,7 @@ use Rattle.cox_hecke.proofs.ElementLists.{below_or_not}
 use Rattle.cox_inverse.specs.InverseRow.{IsInverseRow}
 use Rattle.cox_inverse.proofs.InverseRowExists.{inverse_of, inverse_of-is, inverse_of-value}
 use Rattle.cox_command.specs.declared.refusal.Refusal.{Refusal}
+use Rattle.cox_replies.specs.Question.{asks}
 use Rattle.cox_replies.specs.Limits.{Limits}
 use Rattle.cox_replies.specs.RowReply.{coefficients_to}
 use Rattle.cox_replies.specs.InverseReply.{RefusesInverse, IsInverseText, IsInverseBeyond}
@@ -32,7 +33,6 @@ module _ (A : IntegerMatrix) (g : IsAdmissible A) where
   inverse-decided limits y w = large_or-decided limits A w g (IsBelow A y w × IsInverseBeyond A limits.coefficient y w)
       (both-decided (below_or_not A g y w) (tell-inverse_beyond A g limits.coefficient y w))
 
-  pub invpol-answerable : (limits : Limits) (y w : List ℕ) → IsAnswerable (record
-      { Refuses = RefusesInverse limits A y w; IsText = IsInverseText A y w })
+  pub invpol-answerable : (limits : Limits) (y w : List ℕ) → IsAnswerable (asks (RefusesInverse limits A y w) (IsInverseText A y w))
   invpol-answerable limits y w =
       record { decided = inverse-decided limits y w; answer = λ free. (_, (inverse_of A g w, inverse_of-is A g w, refl)) }

@@ -12,6 +12,7 @@ use Rattle.cox_cells.specs.Cells.{IsInCell}
 use Rattle.cox_cells.proofs.SomeList.{some_list}
 use Rattle.cox_module.specs.Images.{AreImages}
 use Rattle.cox_module.proofs.OneImage.{image-exists}
+use Rattle.cox_replies.specs.Question.{asks}
 use Rattle.cox_replies.specs.Limits.{Limits}
 use Rattle.cox_replies.specs.GroupReply.{RefusesGroupRows}
 use Rattle.cox_replies.specs.ModuleReply.{IsModuleText, module_text}
@@ -40,7 +41,7 @@ module _ (A : IntegerMatrix) (g : IsAdmissible A) (w : List ℕ) where
       in module-of_cell cell.0 cell.1
 
 pub module-answerable : (limits : Limits) (A : IntegerMatrix) (g : IsAdmissible A) (w : List ℕ)
-    → IsAnswerable (record { Refuses = RefusesGroupRows limits A; IsText = IsModuleText A w })
+    → IsAnswerable (asks (RefusesGroupRows limits A) (IsModuleText A w))
 module-answerable limits A g w = record {
   decided = group_rows-decided limits A g;
   answer = λ free. let list = group-list limits A g free in some_module A g w list.0 list.1;

@@ -24,6 +24,7 @@ use Rattle.cox_context.proofs.IntervalLists.{is_below, is_below-tells, interval-
 use Rattle.cox_print.specs.AnswerText.{truth_text, elements_text}
 use Rattle.cox_command.specs.declared.inquiry.Inquiry.{Inquiry}
 use Rattle.cox_command.specs.declared.inquiry.Inquiry.TheVariants.{One, Two, Plain, Work}
+use Rattle.cox_replies.specs.Question.{asks}
 use Rattle.cox_replies.specs.Limits.{Limits}
 use Rattle.cox_replies.specs.Listed.{RefusesLargeOr}
 use Rattle.cox_replies.specs.InquiryQuestion.{RefusesFar, counts_text, one_question, two_question, question_of}
@@ -87,17 +88,14 @@ question-one (Plain kind) limits g admissible = group-one limits (integer_matrix
 question-one (Work start count) limits g admissible = work-one (integer_matrix g) admissible (generated_words g.rank count start)
 
 -- a question that nothing refuses, whose text is computed
-computed : (text : List ℕ) → IsAnswerable (record { Refuses = λ why. ⊥; IsText = λ t. t ≡ text })
+computed : (text : List ℕ) → IsAnswerable (asks (λ why. ⊥) (λ t. t ≡ text))
 computed text = record { decided = λ why. inr (λ none. none); answer = λ free. (text, refl) }
 
 module _ (limits : Limits) (A : IntegerMatrix) (g : IsAdmissible A) where
   -- a text of words that are kept of an interval
   listed : (w : List ℕ) (P : List ℕ → Type 0) (keep : List (List ℕ) → List (List ℕ)) (text_of : List (List ℕ) → List ℕ)
       → ((xs : List (List ℕ)) → IsListOf (IsInInterval A w) xs → IsListOf P (keep xs))
-      → IsAnswerable (record {
-        Refuses = RefusesLargeOr limits A w ⊥;
-        IsText = λ text. (words : List (List ℕ)) × IsListOf P words × (text ≡ text_of words);
-      })
+      → IsAnswerable (asks (RefusesLargeOr limits A w ⊥) (λ text. (words : List (List ℕ)) × IsListOf P words × (text ≡ text_of words)))
   listed w P keep text_of of =
       let members = interval-exists A g w in
       record {

@@ -22,6 +22,7 @@ use Rattle.cox_context.proofs.IntervalLists.{interval-exists}
 use Rattle.cox_rows.specs.Beyond.{NeedsBeyond}
 use Rattle.cox_rows.proofs.NeedDecided.{tell-needs_beyond}
 use Rattle.cox_command.specs.declared.refusal.Refusal.{Refusal}
+use Rattle.cox_replies.specs.Question.{asks}
 use Rattle.cox_replies.specs.Limits.{Limits}
 use Rattle.cox_replies.specs.Listed.{IsOfRow}
 use Rattle.cox_replies.specs.RowReply.{RefusesRow, coefficients_to, IsPolText, IsMuText, pairs_text, IsExtremalBelow, ihbetti_text}
@@ -93,7 +94,7 @@ module _ (A : IntegerMatrix) (g : IsAdmissible A) where
   -- a text by the row of w and the elements that are kept of its interval
   listed : (limits : Limits) (w : List ℕ) (P : List ℕ → Type 0) (keep : List (List ℕ) → List (List ℕ))
       (text_of : Family → List (List ℕ) → List ℕ) → ((xs : List (List ℕ)) → IsListOf (IsInInterval A w) xs → IsListOf P (keep xs))
-      → IsAnswerable (record { Refuses = RefusesRow limits A w; IsText = IsOfRow A w P text_of })
+      → IsAnswerable (asks (RefusesRow limits A w) (IsOfRow A w P text_of))
   listed limits w P keep text_of of = let members = interval-exists A g w in record {
     decided = row-decided limits w;
     answer = λ free. (
@@ -127,24 +128,22 @@ module _ (A : IntegerMatrix) (g : IsAdmissible A) where
   pub extremals-exist : (w : List ℕ) → (words : List (List ℕ)) × IsListOf (IsExtremalBelow A w) words
   extremals-exist w = let members = interval-exists A g w in (_, extremals-of w members.0 members.1)
 
-  pub pol-answerable : (limits : Limits) (y w : List ℕ) → IsAnswerable (record
-      { Refuses = RefusesRow limits A w; IsText = IsPolText A y w })
+  pub pol-answerable : (limits : Limits) (y w : List ℕ) → IsAnswerable (asks (RefusesRow limits A w) (IsPolText A y w))
   pol-answerable limits y w =
       record { decided = row-decided limits w; answer = λ free. (_, (row_of A g w, row_of-is A g w, refl)) }
 
-  pub mu-answerable : (limits : Limits) (y w : List ℕ) → IsAnswerable (record { Refuses = RefusesRow limits A w; IsText = IsMuText A y w })
+  pub mu-answerable : (limits : Limits) (y w : List ℕ) → IsAnswerable (asks (RefusesRow limits A w) (IsMuText A y w))
   mu-answerable limits y w = let m = mu-exists A g y w in
       record { decided = row-decided limits w; answer = λ free. (_, (m.0, m.1, refl)) }
 
   pub klbasis-answerable : (limits : Limits) (w : List ℕ)
-      → IsAnswerable (record { Refuses = RefusesRow limits A w; IsText = IsOfRow A w (IsInInterval A w) (pairs_text A w) })
+      → IsAnswerable (asks (RefusesRow limits A w) (IsOfRow A w (IsInInterval A w) (pairs_text A w)))
   klbasis-answerable limits w = listed limits w (IsInInterval A w) (λ xs. xs) (pairs_text A w) (λ xs are. are)
 
   pub extremals-answerable : (limits : Limits) (w : List ℕ)
-      → IsAnswerable (record { Refuses = RefusesRow limits A w; IsText = IsOfRow A w (IsExtremalBelow A w) (pairs_text A w) })
+      → IsAnswerable (asks (RefusesRow limits A w) (IsOfRow A w (IsExtremalBelow A w) (pairs_text A w)))
   extremals-answerable limits w =
       listed limits w (IsExtremalBelow A w) _ (pairs_text A w) (extremals-of w)
 
-  pub ihbetti-answerable : (limits : Limits) (w : List ℕ) → IsAnswerable (record
-      { Refuses = RefusesRow limits A w; IsText = IsOfRow A w (IsInInterval A w) (ihbetti_text A w) })
+  pub ihbetti-answerable : (limits : Limits) (w : List ℕ) → IsAnswerable (asks (RefusesRow limits A w) (IsOfRow A w (IsInInterval A w) (ihbetti_text A w)))
   ihbetti-answerable limits w = listed limits w (IsInInterval A w) (λ xs. xs) (ihbetti_text A w) (λ xs are. are)

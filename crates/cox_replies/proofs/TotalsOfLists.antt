@@ -6,7 +6,7 @@ use Rattle.cox_base.specs.IntegerMatrix.{IntegerMatrix}
 use Rattle.cox_base.specs.Length.{word_length}
 use Rattle.cox_hecke.specs.Family.{Family}
 use Rattle.cox_replies.specs.RowReply.{coefficients_to}
-use Rattle.cox_replies.specs.WorkReply.{row_polynomials, ArePolynomials, degree_from}
+use Rattle.cox_replies.specs.WorkReply.{ArePolynomials, degree_from}
 use Rattle.cox_replies.specs.Totals.{Totals, both_totals, sum_of, polynomial_totals, row_totals, AreTotals}
 use Rattle.cox_replies.proofs.RowTotals.{same_totals, both-none_left, both-assoc}
 
@@ -49,6 +49,10 @@ totals_of-append (p ∷ a) b =
     totals_of-cons p (a ++ b) ∙ ap (both_totals (polynomial_totals p)) (totals_of-append a b)
     ∙ sym (both-assoc (polynomial_totals p) (totals_of a) (totals_of b)) ∙ ap (λ t. both_totals t (totals_of b)) (sym (totals_of-cons p a))
 
+-- the polynomials P(x,w) of elements x, each by its coefficients, where p is the row of w
+abbrev row_polynomials : IntegerMatrix → List ℕ → Family → List (List ℕ) → List (List ℤ)
+row_polynomials A w p words = map (λ x. coefficients_to (word_length A w) (p x)) words
+
 -- of a row
 row-list : (A : IntegerMatrix) (w : List ℕ) (p : Family) (members : List (List ℕ))
     → row_totals A w p members ≡ totals_of (row_polynomials A w p members)
@@ -66,7 +70,7 @@ polynomials-of A (w ∷ words) totals (first, (p, row, members, is, sum), rest, 
     let here : List (List ℤ) = row_polynomials A w p members in
     let later = polynomials-of A words rest are in (
       here ++ later.0,
-      (here, (p, row, (members, is, refl)), later.0, later.1, refl),
+      (here, later.0, refl, later.1, (p, row, (members, is, refl))),
       both ∙ ap₂ both_totals (sum ∙ row-list A w p members) later.2 ∙ sym (totals_of-append here later.0),
     )
 
@@ -74,7 +78,7 @@ polynomials-of A (w ∷ words) totals (first, (p, row, members, is, sum), rest, 
 pub totals_of-are : (A : IntegerMatrix) (words : List (List ℕ)) (list : List (List ℤ)) → ArePolynomials A words list
     → AreTotals A words (totals_of list)
 totals_of-are A [] list none = ap totals_of none
-totals_of-are A (w ∷ words) list (first, (p, row, (members, is, here)), rest, are, both) = (
+totals_of-are A (w ∷ words) list (first, rest, both, are, (p, row, (members, is, here))) = (
   totals_of first,
   (p, row, members, is, ap totals_of here ∙ sym (row-list A w p members)),
   totals_of rest,

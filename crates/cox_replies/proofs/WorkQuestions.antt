@@ -15,7 +15,7 @@ use Rattle.cox_command.specs.declared.refusal.Refusal.TheVariants.{ForeignLetter
 use Rattle.cox_command.specs.declared.refusal.Refusal.TheVariants.{FarApart, LargeRow, LongList}
 use Rattle.cox_print.specs.AnswerText.{work_text}
 use Rattle.cox_replies.specs.Limits.{Limits}
-use Rattle.cox_replies.specs.Question.{command_refusals, IsRefused}
+use Rattle.cox_replies.specs.Question.{command_refusals, IsRefused, asks}
 use Rattle.cox_replies.specs.RowReply.{RefusesRow}
 use Rattle.cox_replies.specs.WorkReply.{RefusesWork, IsWorkText}
 use Rattle.cox_replies.specs.Totals.{Totals, no_totals, both_totals, row_totals, AreTotalsOf, AreTotals}
@@ -97,10 +97,7 @@ module _ (A : IntegerMatrix) (g : IsAdmissible A) where
         (λ refused. inr (λ r. ⊎_elim no (λ p. refused p.0) r)) (refused-decided w None))
         (refused-decided w (Some why))
 
-    pub work-answerable : (words : List (List ℕ)) → IsAnswerable (record {
-      Refuses = RefusesWork limits A words;
-      IsText = IsWorkText A words;
-    })
+    pub work-answerable : (words : List (List ℕ)) → IsAnswerable (asks (RefusesWork limits A words) (IsWorkText A words))
     work-answerable words = record {
       decided = work-decided words;
       answer = λ free.

@@ -5,7 +5,8 @@ use Rattle.std.specs.Int.{int_rem_euclid}
 use Rattle.cox_base.specs.IntegerMatrix.{IntegerMatrix}
 use Rattle.cox_base.specs.Admissible.{IsAdmissible}
 use Rattle.cox_command.specs.declared.refusal.Refusal.{Refusal}
-use Rattle.cox_command.specs.Generated.{state_behind_word}
+use Rattle.cox_command.specs.declared.generated.TheConstants.{WORD_LETTERS}
+use Rattle.cox_command.specs.Generated.{state_after}
 use Rattle.cox_print.specs.AnswerText.{work_text}
 use Rattle.cox_replies.specs.Limits.{Limits}
 use Rattle.cox_replies.specs.Question.{command_refusals, IsFirstRefusal, IsRefused}
@@ -102,7 +103,7 @@ PutsUnless-unsummed NoMemory Refuses Are IsText out nothing = inl refl
 -- there are as many words as were asked for
 length-generated : (rank count g : ℕ) → length (generated_words rank count g) ≡ count
 length-generated rank zero g = refl
-length-generated rank (suc count) g = ap suc (length-generated rank count (state_behind_word g))
+length-generated rank (suc count) g = ap suc (length-generated rank count (state_after WORD_LETTERS g))
 
 -- so their line begins with that number
 pub work-line : (A : IntegerMatrix) (rank count g : ℕ) (totals : Totals) → AreTotals A (generated_words rank count g) totals

@@ -17,7 +17,7 @@ use Rattle.cox_command.specs.declared.inquiry.NoWord.{NoWord}
 use Rattle.cox_command.specs.declared.inquiry.NoWord.TheVariants.{Lwgraph, Rwgraph, Lcells, Rcells, Lrcells}
 use Rattle.cox_print.specs.AnswerText.{list_text, members_text, head_text, edge_text}
 use Rattle.cox_replies.specs.Limits.{Limits}
-use Rattle.cox_replies.specs.Question.{Question, RefusesIf}
+use Rattle.cox_replies.specs.Question.{Question, RefusesIf, asks}
 
 -- the group has more elements than the limit, or one of too many letters; or else the row of some element has a
 -- coefficient, or a value of mu, above its limit
@@ -40,8 +40,8 @@ IsCellsText kind A text = (cells : List (List (List ℕ))) × AreCells kind A ce
 
 -- what a command asks of the group
 abbrev pub group_question : NoWord → Limits → IntegerMatrix → Question
-group_question Lwgraph limits A = record { Refuses = RefusesGroupRows limits A; IsText = IsGraphText Sides.Left A }
-group_question Rwgraph limits A = record { Refuses = RefusesGroupRows limits A; IsText = IsGraphText Sides.Right A }
-group_question Lcells limits A = record { Refuses = RefusesGroupRows limits A; IsText = IsCellsText Kinds.Left A }
-group_question Rcells limits A = record { Refuses = RefusesGroupRows limits A; IsText = IsCellsText Kinds.Right A }
-group_question Lrcells limits A = record { Refuses = RefusesGroupRows limits A; IsText = IsCellsText Kinds.Both A }
+group_question Lwgraph limits A = asks (RefusesGroupRows limits A) (IsGraphText Sides.Left A)
+group_question Rwgraph limits A = asks (RefusesGroupRows limits A) (IsGraphText Sides.Right A)
+group_question Lcells limits A = asks (RefusesGroupRows limits A) (IsCellsText Kinds.Left A)
+group_question Rcells limits A = asks (RefusesGroupRows limits A) (IsCellsText Kinds.Right A)
+group_question Lrcells limits A = asks (RefusesGroupRows limits A) (IsCellsText Kinds.Both A)

@@ -22,7 +22,7 @@ use Rattle.cox_print.specs.AnswerText.{element_text, descent_text, truth_text, n
 use Rattle.cox_command.specs.declared.inquiry.Inquiry.{Inquiry}
 use Rattle.cox_command.specs.declared.inquiry.Inquiry.TheVariants.{One, Two, Plain, Work}
 use Rattle.cox_replies.specs.Limits.{Limits}
-use Rattle.cox_replies.specs.Question.{Question, RefusesIf}
+use Rattle.cox_replies.specs.Question.{Question, RefusesIf, asks}
 use Rattle.cox_replies.specs.Listed.{RefusesLargeOr, IsOfList, IsOfRow}
 use Rattle.cox_replies.specs.RowReply.{RefusesRow, coefficients_to, IsPolText, IsMuText, pairs_text, IsExtremalBelow, ihbetti_text}
 use Rattle.cox_replies.specs.GroupReply.{RefusesGroupRows, group_question}
@@ -49,7 +49,7 @@ r_text A y w = polynomial_text (coefficients_to (word_length A w) (r_polynomial 
 
 -- nothing refuses, and this is the text
 abbrev pub text_question : List ℕ → Question
-text_question answer = record { Refuses = λ why. ⊥; IsText = λ text. text ≡ answer }
+text_question answer = asks (λ why. ⊥) (λ text. text ≡ answer)
 
 -- what a command asks of the element of w, in a group with this integer matrix
 abbrev pub one_question : OneWord → Limits → CoxeterMatrix → IntegerMatrix → List ℕ → Question
@@ -57,27 +57,22 @@ one_question Compute limits g A w = text_question (element_text A.rank (normal_f
 one_question Length limits g A w = text_question (decimal (word_length A w))
 one_question Inverse limits g A w = text_question (element_text A.rank (normal_form A (reverse w)))
 one_question Descent limits g A w = text_question (descent_text A.rank (descent_set Left A w) (descent_set Right A w))
-one_question Coatoms limits g A w =
-    record { Refuses = RefusesLargeOr limits A w ⊥; IsText = IsOfList (IsCoatom A w) (elements_text A.rank) }
-one_question Betti limits g A w = record { Refuses = RefusesLargeOr limits A w ⊥; IsText = IsOfList (IsInInterval A w) (counts_text A w) }
-one_question Klbasis limits g A w =
-    record { Refuses = RefusesRow limits A w; IsText = IsOfRow A w (IsInInterval A w) (pairs_text A w) }
-one_question Ihbetti limits g A w =
-    record { Refuses = RefusesRow limits A w; IsText = IsOfRow A w (IsInInterval A w) (ihbetti_text A w) }
-one_question Extremals limits g A w =
-    record { Refuses = RefusesRow limits A w; IsText = IsOfRow A w (IsExtremalBelow A w) (pairs_text A w) }
-one_question Cert limits g A w = record { Refuses = RefusesCert limits A w; IsText = IsCertText g w }
-one_question Module limits g A w = record { Refuses = RefusesGroupRows limits A; IsText = IsModuleText A w }
+one_question Coatoms limits g A w = asks (RefusesLargeOr limits A w ⊥) (IsOfList (IsCoatom A w) (elements_text A.rank))
+one_question Betti limits g A w = asks (RefusesLargeOr limits A w ⊥) (IsOfList (IsInInterval A w) (counts_text A w))
+one_question Klbasis limits g A w = asks (RefusesRow limits A w) (IsOfRow A w (IsInInterval A w) (pairs_text A w))
+one_question Ihbetti limits g A w = asks (RefusesRow limits A w) (IsOfRow A w (IsInInterval A w) (ihbetti_text A w))
+one_question Extremals limits g A w = asks (RefusesRow limits A w) (IsOfRow A w (IsExtremalBelow A w) (pairs_text A w))
+one_question Cert limits g A w = asks (RefusesCert limits A w) (IsCertText g w)
+one_question Module limits g A w = asks (RefusesGroupRows limits A) (IsModuleText A w)
 
 -- what a command asks of the elements of y and w
 abbrev pub two_question : TwoWord → Limits → IntegerMatrix → List ℕ → List ℕ → Question
-two_question Inorder limits A y w = record { Refuses = λ why. ⊥; IsText = IsOrderText A y w }
-two_question Interval limits A y w =
-    record { Refuses = RefusesLargeOr limits A w ⊥; IsText = IsOfList (IsBetween A y w) (elements_text A.rank) }
-two_question Rpol limits A y w = record { Refuses = RefusesFar A y w; IsText = λ text. text ≡ r_text A y w }
-two_question Pol limits A y w = record { Refuses = RefusesRow limits A w; IsText = IsPolText A y w }
-two_question Invpol limits A y w = record { Refuses = RefusesInverse limits A y w; IsText = IsInverseText A y w }
-two_question Mu limits A y w = record { Refuses = RefusesRow limits A w; IsText = IsMuText A y w }
+two_question Inorder limits A y w = asks (λ why. ⊥) (IsOrderText A y w)
+two_question Interval limits A y w = asks (RefusesLargeOr limits A w ⊥) (IsOfList (IsBetween A y w) (elements_text A.rank))
+two_question Rpol limits A y w = asks (RefusesFar A y w) (λ text. text ≡ r_text A y w)
+two_question Pol limits A y w = asks (RefusesRow limits A w) (IsPolText A y w)
+two_question Invpol limits A y w = asks (RefusesInverse limits A y w) (IsInverseText A y w)
+two_question Mu limits A y w = asks (RefusesRow limits A w) (IsMuText A y w)
 
 -- what a command on elements asks of those of its words, in a group
 abbrev pub question_of : Inquiry → Limits → CoxeterMatrix → Question

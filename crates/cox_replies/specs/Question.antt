@@ -10,6 +10,10 @@ pub record Question : Type 1 where
   -- this text is right; the end of its last line is not part of it
   pub IsText : List ℕ → Type 0
 
+-- the question with these refusals and these right texts
+abbrev pub asks : (Refusal → Type 0) → (List ℕ → Type 0) → Question
+asks Refuses IsText = record { Refuses = Refuses; IsText = IsText }
+
 -- the order in which the refusals by the group and by elements are tried
 abbrev pub command_refusals : List Refusal
 command_refusals = ManyRoots ∷ LargeInterval ∷ FarApart ∷ LargeRow ∷ []

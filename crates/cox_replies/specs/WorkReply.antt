@@ -9,17 +9,18 @@ use Rattle.cox_base.specs.Length.{word_length}
 use Rattle.cox_hecke.specs.Family.{Family}
 use Rattle.cox_base.specs.Members.{IsInInterval}
 use Rattle.cox_command.specs.declared.refusal.Refusal.{Refusal}
-use Rattle.cox_command.specs.Generated.{generated_word, state_behind_word}
+use Rattle.cox_command.specs.declared.generated.TheConstants.{WORD_LETTERS}
+use Rattle.cox_command.specs.Generated.{state_after, generated_word}
 use Rattle.cox_print.specs.AnswerText.{work_text}
 use Rattle.cox_replies.specs.Limits.{Limits}
 use Rattle.cox_replies.specs.Listed.{IsOfRow}
-use Rattle.cox_replies.specs.Question.{Question, IsRefused}
+use Rattle.cox_replies.specs.Question.{Question, IsRefused, asks}
 use Rattle.cox_replies.specs.RowReply.{RefusesRow, coefficients_to}
 
 -- the words that are generated from a state, one after the other
 abbrev pub generated_words : ℕ → ℕ → ℕ → List (List ℕ)
 generated_words rank zero g = []
-generated_words rank (suc count) g = generated_word rank g ∷ generated_words rank count (state_behind_word g)
+generated_words rank (suc count) g = generated_word rank g ∷ generated_words rank count (state_after WORD_LETTERS g)
 
 -- the words are refused as the first of them that is refused, each by its own row
 abbrev pub RefusesWork : Limits → IntegerMatrix → List (List ℕ) → Refusal → Type 0
@@ -27,15 +28,11 @@ RefusesWork limits A [] why = ⊥
 RefusesWork limits A (w ∷ words) why = IsRefused (RefusesRow limits A w) (Some why)
     ⊎ (IsRefused (RefusesRow limits A w) None × RefusesWork limits A words why)
 
--- the polynomials P(x,w) of elements x, each by its coefficients, where p is the row of w
-abbrev pub row_polynomials : IntegerMatrix → List ℕ → Family → List (List ℕ) → List (List ℤ)
-row_polynomials A w p words = map (λ x. coefficients_to (word_length A w) (p x)) words
-
--- those of each of the words w in order, and all x ≤ w
+-- the polynomials P(x,w) of each of these words w in order, and of all x ≤ w, each by its coefficients
 abbrev pub ArePolynomials : IntegerMatrix → List (List ℕ) → List (List ℤ) → Type 0
 ArePolynomials A [] list = list ≡ []
-ArePolynomials A (w ∷ words) list = (first : List (List ℤ)) × IsOfRow A w (IsInInterval A w) (row_polynomials A w) first
-    × (rest : List (List ℤ)) × ArePolynomials A words rest × (list ≡ first ++ rest)
+ArePolynomials A (w ∷ words) list = (first : List (List ℤ)) × (rest : List (List ℤ)) × (list ≡ first ++ rest) × ArePolynomials A words rest
+    × IsOfRow A w (IsInInterval A w) (λ p members. map (λ x. coefficients_to (word_length A w) (p x)) members) first
 
 -- the greatest degree of a coefficient that is not 0, where the first of them has degree d; 0 where there is none
 abbrev pub degree_from : ℕ → List ℤ → ℕ
@@ -50,5 +47,5 @@ IsWorkText A words text = (list : List (List ℤ)) × ArePolynomials A words lis
 
 -- what `work` asks, by the generator's first state and the number of words
 abbrev pub work_question : ℕ → ℕ → Limits → IntegerMatrix → Question
-work_question start count limits A = let words = generated_words A.rank count start in
-    record { Refuses = RefusesWork limits A words; IsText = IsWorkText A words }
+work_question start count limits A =
+    let words = generated_words A.rank count start in asks (RefusesWork limits A words) (IsWorkText A words)

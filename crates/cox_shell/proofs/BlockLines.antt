@@ -1,5 +1,5 @@
 -- A line that may stand in a block leaves the state.
-use Rattle.std.proofs.Common.{◌≡◌, ◌⊎◌, inl, inr, ℕ, List, [], ◌∷◌, Option, Some, None, IsSomeAnd, MatchOption}
+use Rattle.std.proofs.Common.{◌≡◌, ◌⊎◌, inl, inr, ℕ, List, [], ◌∷◌, ◌++◌, Option, Some, None, IsSomeAnd, MatchOption}
 use Rattle.std.proofs.Common.{refl, sym, ◌∙◌, subst, ⊎_elim, false}
 use Rattle.std.specs.Option.{option_map}
 use Rattle.cox_tokens.specs.Tokens.{tokens_of}
@@ -12,8 +12,8 @@ use Rattle.cox_command.specs.declared.inquiry.Inquiry.{Inquiry}
 use Rattle.cox_command.specs.CommandWord.{command_word_of}
 use Rattle.cox_command.specs.LineRefusal.{line_refusal}
 use Rattle.cox_command.specs.CommandReading.{command_by, command_of}
-use Rattle.cox_command.specs.BlockLines.{word_refusal, tokens_block_refusal, block_refusal}
-use Rattle.cox_shell.specs.Reply.{State, Reply, rank_of, refusal, silence, answered}
+use Rattle.cox_command.specs.BlockLines.{word_refusal, block_refusal}
+use Rattle.cox_shell.specs.Reply.{State, Reply, rank_of, refusal, silence}
 use Rattle.cox_shell.specs.CommandReply.{IsCommandReply}
 use Rattle.cox_shell.specs.ContentReply.{IsContentReply}
 use Rattle.std.specs.Prelude.{Result, Ok, Err, IfOk, OnErr}
@@ -39,7 +39,7 @@ asking (word.Plain kind) name arguments rank free = (_, refl)
 asking word.Work name arguments rank free = (_, refl)
 
 -- and so do tokens that may be a line of a block, unless there is none
-asking_tokens : (tokens : List (List ℕ)) (rank : Option ℕ) (command : Command) → tokens_block_refusal tokens ≡ None
+asking_tokens : (tokens : List (List ℕ)) (rank : Option ℕ) (command : Command) → block_refusal tokens ≡ None
     → command_of tokens rank ≡ Some command → (command ≡ Nothing) ⊎ IsAsking command
 asking_tokens [] rank command free given = inl (cc given)
 asking_tokens (name ∷ arguments) rank command free given = by_name (command_word_of name) free given
@@ -53,7 +53,7 @@ asking_tokens (name ∷ arguments) rank command free given = by_name (command_wo
 
 -- what holds of refusals, answers and silence holds of the reply to such a command ..
 asking-all : (command : Command) (state : State) (P : Reply → Type 0) → ((why : Refusal) → P (refusal state why)) → P (silence state)
-    → ((text : List ℕ) → P (answered state text)) → (reply : Reply) → (command ≡ Nothing) ⊎ IsAsking command
+    → ((text : List ℕ) → P (record (silence state) { text = text ++ 10 ∷ [] })) → (reply : Reply) → (command ≡ Nothing) ⊎ IsAsking command
     → IsCommandReply command state reply → P reply
 asking-all command state P refused silent answer reply which is = ⊎_elim
     (λ (e : command ≡ Nothing). let nothing : IsCommandReply Nothing state reply = subst (λ c. IsCommandReply c state reply) e is in
@@ -63,10 +63,10 @@ asking-all command state P refused silent answer reply which is = ⊎_elim
 
 -- .. and so of that to a line which may stand in a block
 pub block_reply-all : (state : State) (content : List ℕ) (P : Reply → Type 0) → ((why : Refusal) → P (refusal state why))
-    → P (silence state) → ((text : List ℕ) → P (answered state text)) → (reply : Reply) → block_refusal content ≡ None
+    → P (silence state) → ((text : List ℕ) → P (record (silence state) { text = text ++ 10 ∷ [] })) → (reply : Reply) → block_refusal (tokens_of content) ≡ None
     → IsContentReply state content reply → P reply
 unfolding IsContentReply
-block_reply-all state content P refused silent answer reply free is = by_refusal (line_refusal content (rank_of state)) is
+block_reply-all state content P refused silent answer reply free is = by_refusal (line_refusal (tokens_of content) (rank_of state)) is
   where
     by_command : (o : Option Command) → command_of (tokens_of content) (rank_of state) ≡ o
         → IsSomeAnd o (λ command. IsCommandReply command state reply) → P reply
@@ -81,16 +81,16 @@ block_reply-all state content P refused silent answer reply free is = by_refusal
     by_refusal (Some why) is = subst P (sym is) (refused why)
 
 -- it leaves the state, and does not end the run
-pub block_reply-state : (state : State) (content : List ℕ) (reply : Reply) → block_refusal content ≡ None
+pub block_reply-state : (state : State) (content : List ℕ) (reply : Reply) → block_refusal (tokens_of content) ≡ None
     → IsContentReply state content reply → reply.after ≡ state
 block_reply-state state content = block_reply-all state content (λ r. r.after ≡ state) (λ why. refl) refl (λ text. refl)
 
-pub block_reply-going : (state : State) (content : List ℕ) (reply : Reply) → block_refusal content ≡ None
+pub block_reply-going : (state : State) (content : List ℕ) (reply : Reply) → block_refusal (tokens_of content) ≡ None
     → IsContentReply state content reply → reply.quits ≡ false
 block_reply-going state content = block_reply-all state content (λ r. r.quits ≡ false) (λ why. refl) refl (λ text. refl)
 
 -- so the state stays whatever was said to it
-pub block_said-same : (result : Result Said AllocError) (state next : State) (content before after : List ℕ) → block_refusal content ≡ None
+pub block_said-same : (result : Result Said AllocError) (state next : State) (content before after : List ℕ) → block_refusal (tokens_of content) ≡ None
     → IfOk result (λ said. (reply : Reply) × IsContentReply state content reply × Says said reply next before after)
     → OnErr result ((reply : Reply) × IsContentReply state content reply × SaysPrefix reply state next before after) → next ≡ state
 block_said-same (Ok said) state next content before after free ok err =

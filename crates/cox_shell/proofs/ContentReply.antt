@@ -11,7 +11,7 @@ use Rattle.cox_base.specs.Admissible.{IsCoxeterMatrix, IsAdmissible}
 use Rattle.cox_base.specs.IntegerMatrix.{integer_matrix}
 use Rattle.cox_base.proofs.AdmissibleMatrices.{IsAdmissible-integer_matrix}
 use Rattle.cox_command.specs.declared.inquiry.Inquiry.{Inquiry}
-use Rattle.cox_shell.specs.Reply.{State, Reply, rank_of, with_group, refusal, silence}
+use Rattle.cox_shell.specs.Reply.{State, Reply, rank_of, refusal, silence}
 use Rattle.cox_replies.specs.InquiryQuestion.{question_of}
 use Rattle.cox_shell.specs.CommandReply.{IsInquiryReply, RefusesGroup, IsCommandReply}
 use Rattle.cox_shell.specs.ContentReply.{IsContentReply}
@@ -40,7 +40,7 @@ IsCommandReply-unique Nothing state matrix one other p q = p ∙ sym q
 IsCommandReply-unique Quit state matrix one other p q = p ∙ sym q
 IsCommandReply-unique Jobs state matrix one other p q = p ∙ sym q
 IsCommandReply-unique (Group g) state matrix one other p q =
-    IsDecided-unique (RefusesGroup state.limits g) state (λ answer. answer ≡ silence (with_group state g))
+    IsDecided-unique (RefusesGroup state.limits g) state (λ answer. answer ≡ silence (record state { group = Some g }))
     (λ a b e f. e ∙ sym f) one other p q
 IsCommandReply-unique (Ask inquiry) state matrix one other p q = IsInquiryReply-unique inquiry state matrix one other p q
 
@@ -63,17 +63,17 @@ pub IsContentReply-unique : (state : State) (content : List ℕ) → HasMatrix s
     → IsContentReply state content other → one ≡ other
 unfolding IsContentReply
 IsContentReply-unique state content matrix one other p q =
-    by_refusal (line_refusal content (rank_of state)) (command_of (tokens_of content) (rank_of state)) state matrix one other p q
+    by_refusal (line_refusal (tokens_of content) (rank_of state)) (command_of (tokens_of content) (rank_of state)) state matrix one other p q
 
 -- the reply to the command that a content gives
 pub IsContentReply-command : (state : State) (content : List ℕ) (command : Command) (reply : Reply)
-    → line_refusal content (rank_of state) ≡ None → command_of (tokens_of content) (rank_of state) ≡ Some command
+    → line_refusal (tokens_of content) (rank_of state) ≡ None → command_of (tokens_of content) (rank_of state) ≡ Some command
     → IsCommandReply command state reply → IsContentReply state content reply
 unfolding IsContentReply
 IsContentReply-command state content command reply accepted given is = rw (accepted, given) is
 
 -- the reply to a content that is refused
-pub IsContentReply-refusal : (state : State) (content : List ℕ) (why : Refusal) → line_refusal content (rank_of state) ≡ Some why
+pub IsContentReply-refusal : (state : State) (content : List ℕ) (why : Refusal) → line_refusal (tokens_of content) (rank_of state) ≡ Some why
     → IsContentReply state content (refusal state why)
 unfolding IsContentReply
 IsContentReply-refusal state content why refused = rw refused

@@ -1,10 +1,10 @@
 -- The reply of a command is one, and exists where each cause of a refusal is decided, for any question.
-use Rattle.std.proofs.Common.{◌≡◌, ◌⊎◌, Option, None, Some, MatchOption, refl, sym, ap, ◌∙◌, subst}
+use Rattle.std.proofs.Common.{◌≡◌, ◌⊎◌, ℕ, List, [], ◌∷◌, ◌++◌, Option, None, Some, MatchOption, refl, sym, ap, ◌∙◌, subst}
 use Rattle.cox_command.specs.declared.refusal.Refusal.{Refusal}
 use Rattle.cox_replies.specs.Question.{Question, command_refusals, IsRefused}
 use Rattle.cox_replies.specs.Answerable.{HasOneText, IsAnswerable}
 use Rattle.cox_replies.proofs.Refusing.{IsFirstRefusal-unique, IsFirstRefusal-exists}
-use Rattle.cox_shell.specs.Reply.{State, Reply, refusal, answered}
+use Rattle.cox_shell.specs.Reply.{State, Reply, refusal, silence}
 use Rattle.cox_shell.specs.CommandReply.{IsDecided, Answers}
 
 module _ (Refuses : Refusal → Type 0) where
@@ -45,10 +45,10 @@ pub IsReply-unique : (state : State) (question : Question) → HasOneText questi
     → IsDecided state question.Refuses (Answers state question) one → IsDecided state question.Refuses (Answers state question) other → one
     ≡ other
 IsReply-unique state question one_text = IsDecided-unique question.Refuses state (Answers state question)
-    (λ one other p q. p.2 ∙ ap (answered state) (one_text p.0 q.0 p.1 q.1) ∙ sym q.2)
+    (λ one other p q. p.2 ∙ ap (λ (t : List ℕ). record (silence state) { text = t ++ 10 ∷ [] }) (one_text p.0 q.0 p.1 q.1) ∙ sym q.2)
 
 -- .. and it exists
 pub IsReply-exists : (state : State) (question : Question) → IsAnswerable question
     → (reply : Reply) × IsDecided state question.Refuses (Answers state question) reply
 IsReply-exists state question can = IsDecided-exists question.Refuses state (Answers state question) can.decided
-    (λ free. let line = can.answer free in (answered state line.0, (line.0, line.1, refl)))
+    (λ free. let line = can.answer free in (record (silence state) { text = line.0 ++ 10 ∷ [] }, (line.0, line.1, refl)))

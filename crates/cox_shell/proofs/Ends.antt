@@ -9,11 +9,11 @@ use Rattle.cox_command.specs.declared.refusal.Refusal.{Refusal}
 use Rattle.cox_command.specs.declared.refusal.Refusal.TheVariants.{LongList}
 use Rattle.cox_command.specs.RefusalNumber.{refusal_number}
 use Rattle.cox_command.specs.BlockLines.{list_word_of}
-use Rattle.cox_shell.specs.Reply.{Kept, OpenList, State, Reply, closed, with_list, refusal, silence}
+use Rattle.cox_shell.specs.Reply.{Kept, OpenList, State, Reply, closed, refusal, silence}
 use Rattle.cox_shell.specs.OpenLists.{then_line, then_block, kept_lines, is_long}
 use Rattle.cox_shell.specs.ContentReply.{IsContentReply}
 use Rattle.cox_shell.specs.Blocks.{AreKeptReplies, IsListReply, IsEndOfList, list_answered}
-use Rattle.cox_shell.specs.ListReply.{IsReplyTo, IsReplyInList, kept_refusal, unread_reply}
+use Rattle.cox_shell.specs.ListReply.{IsReplyTo, IsReplyInList, unread_reply}
 use Rattle.cox_shell.specs.Answer.{IsClosing}
 use Rattle.cox_shell.specs.Keeping.{with_kept, with_next, Keeps}
 use Rattle.cox_shell.specs.Saying.{IsSaid}
@@ -21,6 +21,7 @@ use Rattle.cox_shell.specs.ToldText.{Numbered, numbered, no_text, said_by, Tells
 use Rattle.cox_shell.specs.declared.session.Stage.{Stage}
 use Rattle.cox_shell.specs.declared.session.Stage.TheVariants.{Opened, Set}
 use Rattle.cox_shell.specs.SessionState.{state_of}
+use Rattle.cox_shell.proofs.Lists.{kept_refusal}
 use Rattle.cox_shell.proofs.KeptLists.{with_line-keeps, with_block-keeps}
 
 -- where none is open
@@ -40,7 +41,7 @@ next_reply state content some next = by_list state.list refl some where
       → (after : State) × IsReplyTo state content (silence after) × Keeps (with_next state) after
   by_list None e some = absurd (cc some)
   by_list (Some list) e some = (
-    with_list state (then_block list),
+    record state { list = Some (then_block list) },
     rw e (rw next refl),
     record { limits = refl; group = refl; list = rw e (with_block-keeps list) },
   )
@@ -64,7 +65,7 @@ keep_reply state content some no_word = by_list state.list refl some where
       → (after : State) × IsReplyTo state content (silence after) × Keeps (with_kept state line) after
   by_list None e some = absurd (cc some)
   by_list (Some list) e some = (
-    with_list state (then_line list line),
+    record state { list = Some (then_line list line) },
     rw e (rw no_word refl),
     record { limits = refl; group = refl; list = rw e (with_line-keeps list line) },
   )
@@ -80,7 +81,7 @@ unread_kept state why some = by_list state.list refl some where
       → (after : State) × (unread_reply state why ≡ silence after) × Keeps (with_kept state line) after
   by_list None e some = absurd (cc some)
   by_list (Some list) e some = (
-    with_list state (then_line list line),
+    record state { list = Some (then_line list line) },
     rw e refl,
     record { limits = refl; group = refl; list = rw e (with_line-keeps list line) },
   )

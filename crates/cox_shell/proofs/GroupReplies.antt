@@ -7,11 +7,11 @@ use Rattle.cox_small.specs.RootCounts.{HasFewSmallRoots}
 use Rattle.cox_small.proofs.Counting.{not_both}
 use Rattle.cox_command.specs.declared.refusal.Refusal.TheVariants.{ManyRoots}
 use Rattle.cox_command.specs.declared.command.Command.TheVariants.{Group}
-use Rattle.cox_shell.specs.Reply.{State, with_group, refusal, silence}
+use Rattle.cox_shell.specs.Reply.{State, refusal, silence}
 use Rattle.cox_shell.specs.CommandReply.{IsCommandReply}
 
 pub group-set : (state : State) (g : CoxeterMatrix) → HasFewSmallRoots (integer_matrix g) state.limits.roots
-    → IsCommandReply (Group g) state (silence (with_group state g))
+    → IsCommandReply (Group g) state (silence (record state { group = Some g }))
 group-set state g few =
     (None, inr (not_both (integer_matrix g) state.limits.roots few, inr (λ none. none, inr (λ none. none, inr (λ none. none, refl)))), refl)
 

@@ -1,5 +1,5 @@
 -- The group that is set stays a Coxeter matrix.
-use Rattle.std.proofs.Common.{◌≡◌, ℕ, List, [], ◌∷◌, Option, Some, None, IfSome}
+use Rattle.std.proofs.Common.{◌≡◌, ℕ, List, [], ◌∷◌, ◌++◌, Option, Some, None, IfSome}
 use Rattle.std.proofs.Common.{IsSomeAnd, MatchOption, refl, sym, ap, subst}
 use Rattle.std.specs.Option.{option_map}
 use Rattle.cox_base.specs.Matrix.{CoxeterMatrix}
@@ -10,9 +10,9 @@ use Rattle.cox_command.specs.declared.command.Command.TheVariants.{Nothing, Quit
 use Rattle.cox_command.specs.declared.command_word.CommandWord.{CommandWord}
 use Rattle.cox_command.specs.CommandWord.{command_word_of}
 use Rattle.cox_tokens.specs.Tokens.{tokens_of}
-use Rattle.cox_command.specs.LineRefusal.{command_refusal, tokens_refusal, line_refusal}
+use Rattle.cox_command.specs.LineRefusal.{command_refusal, line_refusal}
 use Rattle.cox_command.specs.CommandReading.{command_by, command_of}
-use Rattle.cox_shell.specs.Reply.{State, Reply, rank_of, with_group, refusal, silence, answered}
+use Rattle.cox_shell.specs.Reply.{State, Reply, rank_of, refusal, silence}
 use Rattle.cox_command.specs.declared.inquiry.Inquiry.{Inquiry}
 use Rattle.cox_shell.specs.CommandReply.{IsDecided}
 use Rattle.cox_replies.specs.InquiryQuestion.{question_of}
@@ -32,7 +32,7 @@ HasMatrix state = IfSome state.group IsCoxeterMatrix
 
 -- what holds of refusals and of answers holds of the reply to a command on elements
 pub IsInquiryReply-all : (inquiry : Inquiry) (state : State) (P : Reply → Type 0) → ((why : Refusal) → P (refusal state why))
-    → ((text : List ℕ) → P (answered state text)) → (reply : Reply) → IsInquiryReply inquiry state reply → P reply
+    → ((text : List ℕ) → P (record (silence state) { text = text ++ 10 ∷ [] })) → (reply : Reply) → IsInquiryReply inquiry state reply → P reply
 IsInquiryReply-all inquiry state P refused answer reply is = of_some state.group _ (P reply) (λ g set decided.
     let question = question_of inquiry state.limits g in
     IsDecided-all question.Refuses state (Answers state question) P refused
@@ -47,7 +47,7 @@ module _ (state : State) (matrix : HasMatrix state) (reply : Reply) where
   unchanged same = subst HasMatrix (sym same) matrix
 
   -- so it stays by a command that is given and accepted
-  by_command : (command : Command) (tokens : List (List ℕ)) → tokens_refusal tokens (rank_of state) ≡ None
+  by_command : (command : Command) (tokens : List (List ℕ)) → line_refusal tokens (rank_of state) ≡ None
       → command_of tokens (rank_of state) ≡ Some command
       → IsCommandReply command state reply → HasMatrix reply.after
   by_command Nothing tokens accepted given is = unchanged (ap (λ (r : Reply). r.after) is)
@@ -55,7 +55,7 @@ module _ (state : State) (matrix : HasMatrix state) (reply : Reply) where
   by_command Jobs tokens accepted given is = rw is matrix
   by_command (Ask inquiry) tokens accepted given is = unchanged (IsInquiryReply-state inquiry state reply is)
   by_command (Group g) tokens accepted given is =
-      IsDecided-all (RefusesGroup state.limits g) state (λ answer. answer ≡ silence (with_group state g)) (λ r. HasMatrix r.after)
+      IsDecided-all (RefusesGroup state.limits g) state (λ answer. answer ≡ silence (record state { group = Some g })) (λ r. HasMatrix r.after)
       (λ why. matrix)
       (λ r answer. rw answer (of_tokens tokens accepted given)) reply is
     where
@@ -64,7 +64,7 @@ module _ (state : State) (matrix : HasMatrix state) (reply : Reply) where
       by_name None arguments accepted given = absurd (cc given)
       by_name (Some word) arguments accepted given = group_set-is word arguments (rank_of state) g accepted (cc given)
 
-      of_tokens : (tokens : List (List ℕ)) → tokens_refusal tokens (rank_of state) ≡ None
+      of_tokens : (tokens : List (List ℕ)) → line_refusal tokens (rank_of state) ≡ None
           → command_of tokens (rank_of state) ≡ Some (Group g) → IsCoxeterMatrix g
       of_tokens [] accepted given = absurd (cc given)
       of_tokens (name ∷ arguments) accepted given = by_name (command_word_of name) arguments accepted given
@@ -73,9 +73,9 @@ module _ (state : State) (matrix : HasMatrix state) (reply : Reply) where
 pub IsContentReply-matrix : (state : State) (content : List ℕ) (reply : Reply) → HasMatrix state → IsContentReply state content reply
     → HasMatrix reply.after
 unfolding IsContentReply
-IsContentReply-matrix state content reply matrix is = by_refusal (line_refusal content (rank_of state)) refl is
+IsContentReply-matrix state content reply matrix is = by_refusal (line_refusal (tokens_of content) (rank_of state)) refl is
   where
-    by_refusal : (o : Option Refusal) → line_refusal content (rank_of state) ≡ o
+    by_refusal : (o : Option Refusal) → line_refusal (tokens_of content) (rank_of state) ≡ o
         → MatchOption o (IsSomeAnd (command_of (tokens_of content) (rank_of state)) (λ command. IsCommandReply command state reply))
         (λ why. reply ≡ refusal state why) → HasMatrix reply.after
     by_refusal None e is = of_some (command_of (tokens_of content) (rank_of state)) _ (HasMatrix reply.after)

@@ -12,15 +12,16 @@ use Rattle.cox_command.specs.declared.refusal.Refusal.{Refusal}
 use Rattle.cox_command.specs.declared.refusal.Refusal.TheVariants.{LongList}
 use Rattle.cox_command.specs.BlockLines.{list_word_of}
 use Rattle.cox_replies.specs.Limits.{Limits}
-use Rattle.cox_shell.specs.Reply.{Kept, OpenList, State, Reply, closed, with_list, refusal, silence}
+use Rattle.cox_shell.specs.Reply.{Kept, OpenList, State, Reply, closed, refusal, silence}
 use Rattle.cox_shell.specs.OpenLists.{then_line, then_block}
 use Rattle.cox_shell.specs.Keeping.{IsKeptOf, AreKeptOf, Keeps}
 use Rattle.cox_shell.specs.ContentReply.{IsContentReply}
 use Rattle.cox_shell.specs.Blocks.{IsListReply}
-use Rattle.cox_shell.specs.ListReply.{IsWordReply, IsReplyInList, kept_reply, kept_refusal}
+use Rattle.cox_shell.specs.ListReply.{IsWordReply, IsReplyInList, kept_reply}
 use Rattle.cox_shell.specs.LineReply.{IsReply, content_refusal}
 use Rattle.cox_shell.specs.Answer.{IsClosing}
 use Rattle.cox_shell.specs.Run.{Stand, IsServed}
+use Rattle.cox_shell.proofs.Lists.{kept_refusal}
 use Rattle.cox_shell.proofs.KeptLists.{kept-line, kept-block, kept-trans, same-kept}
 
 -- ---- states
@@ -107,13 +108,13 @@ module _ (kept state : State) (keeps : Keeps kept state) where
     by_lists (Some o) None h is = absurd h
     by_lists (Some o) (Some p) h is = (is.0, list-reply o p h is.0 is.1, is.2)
 
-  silent : (reply : Reply) (l m : OpenList) → IsKeptOf l m → reply ≡ silence (with_list kept l)
-      → IsLike reply (silence (with_list state m))
+  silent : (reply : Reply) (l m : OpenList) → IsKeptOf l m → reply ≡ silence (record kept { list = Some l })
+      → IsLike reply (silence (record state { list = Some m }))
   silent reply l m which is = record {
     text = sym (ap (λ (r : Reply). r.text) is);
     refused = sym (ap (λ (r : Reply). r.refused) is);
     quits = sym (ap (λ (r : Reply). r.quits) is);
-    keeps = subst (λ (s : State). Keeps s (with_list state m)) (sym (ap (λ (r : Reply). r.after) is))
+    keeps = subst (λ (s : State). Keeps s (record state { list = Some m })) (sym (ap (λ (r : Reply). r.after) is))
         (record { limits = keeps.limits; group = keeps.group; list = which });
   }
 
@@ -129,7 +130,7 @@ module _ (kept state : State) (keeps : Keeps kept state) where
     by_word None is =
         (kept_reply state m line, refl, silent reply (then_line l line) (then_line m line) (kept-line l m line which) is)
     by_word (Some Next) is =
-        (silence (with_list state (then_block m)), refl, silent reply (then_block l) (then_block m) (kept-block l m which) is)
+        (silence (record state { list = Some (then_block m) }), refl, silent reply (then_block l) (then_block m) (kept-block l m which) is)
     by_word (Some End) is = (reply, list-reply l m which reply is, itself reply)
 
   -- the reply to a line by what is kept is like the reply to it

@@ -61,3 +61,5 @@ pub mod KeptStates
 pub mod Closings
 -- each script has an answer
 pub mod SomeAnswer
+-- what a line is answered that gives a command on elements
+pub mod AnsweredLines

@@ -1,17 +1,19 @@
 -- The reply to a line is one and exists, whether a list is open or none, and the group stays a Coxeter matrix.
 use Rattle.std.proofs.Common.{◌≡◌, ℕ, Bool, true, false, List, [], ◌∷◌, ◌++◌, Option, Some, None, MatchOption, sym, ◌∙◌, ap, refl}
 use Rattle.std.specs.Bool.{MatchBool}
+use Rattle.std.specs.Option.{option_or}
 use Rattle.cox_tokens.specs.Tokens.{tokens_of}
 use Rattle.cox_command.specs.declared.blocks.ListWord.{ListWord}
 use Rattle.cox_command.specs.declared.blocks.ListWord.TheVariants.{Next, End}
 use Rattle.cox_command.specs.declared.refusal.Refusal.{Refusal}
 use Rattle.cox_command.specs.declared.refusal.Refusal.TheVariants.{LongList}
 use Rattle.cox_command.specs.BlockLines.{block_refusal, list_word_of}
-use Rattle.cox_shell.specs.Reply.{Kept, OpenList, State, Reply, closed, with_list, refusal, silence}
+use Rattle.cox_shell.specs.Reply.{Kept, OpenList, State, Reply, closed, refusal, silence}
 use Rattle.cox_shell.specs.ContentReply.{IsContentReply}
 use Rattle.cox_shell.specs.OpenLists.{kept_lines, is_long, then_block}
-use Rattle.cox_shell.specs.Blocks.{IsBlockReply, IsKeptReply, AreKeptReplies, IsListReply, list_answered}
-use Rattle.cox_shell.specs.ListReply.{IsWordReply, IsReplyInList, IsReplyTo, kept_reply, unread_reply, kept_refusal}
+use Rattle.cox_shell.specs.Blocks.{IsKeptReply, AreKeptReplies, IsListReply, list_answered}
+use Rattle.cox_shell.specs.ListReply.{IsWordReply, IsReplyInList, IsReplyTo, kept_reply, unread_reply}
+use Rattle.cox_shell.proofs.Lists.{kept_refusal}
 use Rattle.cox_shell.proofs.ContentReply.{IsContentReply-unique}
 use Rattle.cox_shell.proofs.SomeReply.{IsContentReply-exists}
 use Rattle.cox_shell.proofs.KeptGroup.{HasMatrix, IsContentReply-matrix}
@@ -30,14 +32,12 @@ some_option (Some why) P state p = (refusal state why, refl)
 module _ (state : State) (matrix : HasMatrix state) where
   -- a line of a block has one reply
   IsKeptReply-unique : (line : Kept) (one other : Reply) → IsKeptReply state line one → IsKeptReply state line other → one ≡ other
-  IsKeptReply-unique line = by_option line.refused (λ r. IsBlockReply state line.content r) state
-      (by_option (block_refusal line.content) (λ r. IsContentReply state line.content r) state
-      (IsContentReply-unique state line.content matrix))
+  IsKeptReply-unique line = by_option (option_or line.refused (block_refusal (tokens_of line.content)))
+      (λ r. IsContentReply state line.content r) state (IsContentReply-unique state line.content matrix)
 
   kept-exists : (line : Kept) → (reply : Reply) × IsKeptReply state line reply
-  kept-exists line = some_option line.refused (λ r. IsBlockReply state line.content r) state
-      (some_option (block_refusal line.content) (λ r. IsContentReply state line.content r) state
-      (IsContentReply-exists state line.content matrix))
+  kept-exists line = some_option (option_or line.refused (block_refusal (tokens_of line.content)))
+      (λ r. IsContentReply state line.content r) state (IsContentReply-exists state line.content matrix)
 
   -- kept lines are answered in one way
   pub AreKeptReplies-unique : (lines : List Kept) (one other : List Reply) → AreKeptReplies state lines one
@@ -104,7 +104,7 @@ module _ (state : State) (list : OpenList) (content : List ℕ) where
         × MatchOption o (reply ≡ kept_reply state list (record { content = content; refused = None }))
         (λ word. IsWordReply word state list reply)
     by_word None = (kept_reply state list (record { content = content; refused = None }), refl)
-    by_word (Some Next) = (silence (with_list state (then_block list)), refl)
+    by_word (Some Next) = (silence (record state { list = Some (then_block list) }), refl)
     by_word (Some End) = IsListReply-exists state matrix list
 
   -- the group stays as it is in a list, and no line there ends the run

@@ -7,11 +7,12 @@ use Rattle.cox_command.specs.declared.command.Command.{Command}
 use Rattle.cox_command.specs.declared.command.Command.TheVariants.{Nothing, Quit, Group, Jobs, Ask}
 use Rattle.cox_command.specs.LineRefusal.{line_refusal}
 use Rattle.cox_command.specs.CommandReading.{command_of}
-use Rattle.cox_shell.specs.Reply.{OpenList, State, Reply, rank_of, with_group, refusal, silence}
+use Rattle.cox_shell.specs.Reply.{OpenList, State, Reply, rank_of, refusal, silence}
 use Rattle.cox_shell.specs.CommandReply.{RefusesGroup, IsCommandReply}
 use Rattle.cox_shell.specs.ContentReply.{IsContentReply}
-use Rattle.cox_shell.specs.ListReply.{IsReplyInList, kept_refusal}
+use Rattle.cox_shell.specs.ListReply.{IsReplyInList}
 use Rattle.cox_shell.specs.LineReply.{IsReply, content_refusal}
+use Rattle.cox_shell.proofs.Lists.{kept_refusal}
 use Rattle.cox_shell.proofs.DecidedReplies.{IsDecided-all}
 use Rattle.cox_shell.proofs.KeptGroup.{IsInquiryReply-state}
 use Rattle.cox_shell.proofs.ListReplies.{in_list-group}
@@ -33,12 +34,12 @@ command-list Quit state reply is = by_state state reply (ap (λ (r : Reply). r.a
 command-list Jobs state reply is = by_going state reply (ap (λ (r : Reply). r.quits) is)
 command-list (Ask inquiry) state reply is = by_state state reply (IsInquiryReply-state inquiry state reply is)
 command-list (Group g) state reply is =
-    IsDecided-all (RefusesGroup state.limits g) state (λ answer. answer ≡ silence (with_group state g)) (λ r. KeepsList state r)
+    IsDecided-all (RefusesGroup state.limits g) state (λ answer. answer ≡ silence (record state { group = Some g })) (λ r. KeepsList state r)
     (λ why quits. refl) (λ r answer. by_going state r (ap (λ (s : Reply). s.quits) answer)) reply is
 
 content-list : (state : State) (content : List ℕ) (reply : Reply) → IsContentReply state content reply → KeepsList state reply
 unfolding IsContentReply
-content-list state content reply is = by_refusal (line_refusal content (rank_of state)) is
+content-list state content reply is = by_refusal (line_refusal (tokens_of content) (rank_of state)) is
   where
     by_command : (o : Option Command) → IsSomeAnd o (λ command. IsCommandReply command state reply) → KeepsList state reply
     by_command None is = absurd is

@@ -1,5 +1,5 @@
 -- What is said to lines.
-use Rattle.std.proofs.Common.{◌≡◌, ℕ, List, ◌++◌, Result, Ok, Err, IfOk, OnErr, Option, Some, None, IsSomeAnd, inl, inr}
+use Rattle.std.proofs.Common.{◌≡◌, ℕ, true, List, [], ◌∷◌, ◌++◌, Result, Ok, Err, IfOk, OnErr, Option, Some, None, IsSomeAnd, inl, inr}
 use Rattle.std.proofs.Common.{refl, sym, ap, ◌∙◌, subst}
 use Rattle.std.proofs.lemmas.List.{append-nil}
 use Rattle.std.specs.declared.alloc.AllocError.{AllocError}
@@ -10,7 +10,7 @@ use Rattle.cox_replies.specs.declared.unanswered.Unanswered.{Unanswered}
 use Rattle.cox_replies.specs.declared.unanswered.Unanswered.TheVariants as unanswered
 use Rattle.cox_shell.specs.declared.session.Said.{Said}
 use Rattle.cox_shell.specs.declared.session.Said.TheVariants.{Answered, Quit}
-use Rattle.cox_shell.specs.Reply.{State, Reply, refusal, silence, farewell, answered}
+use Rattle.cox_shell.specs.Reply.{State, Reply, refusal, silence}
 use Rattle.cox_replies.specs.Question.{Question}
 use Rattle.cox_command.specs.declared.command.Command.TheVariants.{Jobs}
 use Rattle.cox_shell.specs.CommandReply.{IsDecided, IsCommandReply}
@@ -26,8 +26,8 @@ use Rattle.cox_shell.proofs.KeptStates.{Keeps-same}
 pub Says-silence : (state new : State) (out : List ℕ) → new ≡ state → Says Answered (silence state) new out out
 Says-silence state new out same = record { tells = (refl, refl); text = sym (append-nil out); state_after = same }
 
-pub Says-farewell : (state : State) (out : List ℕ) → Says Quit (farewell state) state out out
-Says-farewell state out = record { tells = (refl, refl); text = sym (append-nil out); state_after = refl }
+pub Says-quit : (state : State) (out : List ℕ) → Says Quit (record (silence state) { quits = true }) state out out
+Says-quit state out = record { tells = (refl, refl); text = sym (append-nil out); state_after = refl }
 
 -- the reply to a command on elements, where a group is set
 pub IsInquiryReply-decided : (inquiry : Inquiry) (state : State) (g : CoxeterMatrix) (reply : Reply) → state.group ≡ Some g
@@ -47,7 +47,7 @@ module _ (state : State) (question : Question) where
   Concludes-says (Ok done) result before mid after put end =
       let line = put.2 in
       rw end.0 (
-        answered state line.0,
+        record (silence state) { text = line.0 ++ 10 ∷ [] },
         (None, put.0, (line.0, line.1, refl)),
         record { tells = (refl, refl); text = end.1 ∙ put.3 ∙ ap (λ t. before ++ t) line.2; state_after = refl },
       )
@@ -69,7 +69,7 @@ module _ (state : State) (question : Question) where
       (some.0, some.1, record { puts_prefix = PutsPrefix-none some.0.text before after (end.1 ∙ same); same_state = refl })
   Concludes-breaks some (Err unanswered.NoMemory) (Err error) before mid after (inr part) end =
       let line = part.2 in (
-        answered state line.0,
+        record (silence state) { text = line.0 ++ 10 ∷ [] },
         (None, part.0, (line.0, line.1, refl)),
         record { puts_prefix = rw (end.1, ← line.2) part.3; same_state = refl },
       )

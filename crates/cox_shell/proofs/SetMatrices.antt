@@ -1,6 +1,6 @@
 -- The matrix that an accepted command sets is a Coxeter matrix.
 use Rattle.std.proofs.Common.{◌≡◌, ℕ, ◌+◌, ◌-◌, ◌*◌, ◌/◌, Bool, true, false, if◌then◌else◌, List, [], ◌∷◌, drop, map, length, Option}
-use Rattle.std.proofs.Common.{Some, None, is_none, ◌&&◌, refl, ◌∙◌, subst, arith, eqb-true, leb-true, length-drop}
+use Rattle.std.proofs.Common.{Some, None, refl, ◌∙◌, subst, arith, eqb-true, leb-true, length-drop}
 use Rattle.std.specs.List.{slice_index}
 use Rattle.std.proofs.lemmas.Bool.{and_parts, not-false}
 use Rattle.std.proofs.lemmas.List.{length-map}
@@ -14,9 +14,9 @@ use Rattle.cox_command.specs.declared.refusal.Refusal.{Refusal}
 use Rattle.cox_command.specs.declared.refusal.Refusal.TheVariants.{WrongCount, WrongNumber, NoGroup, UnknownType, WrongLabel}
 use Rattle.cox_command.specs.declared.command_word.CommandWord.{CommandWord}
 use Rattle.cox_command.specs.declared.command_word.CommandWord.TheVariants.{Named, Matrix}
-use Rattle.cox_tokens.specs.Number.{value_of}
-use Rattle.cox_command.specs.LineRefusal.{argument, names_type, is_rank, has_wrong_count, has_wrong_number, has_no_type, has_wrong_label}
-use Rattle.cox_command.specs.LineRefusal.{needs_group, command_refusal}
+use Rattle.cox_base.specs.declared.limits.TheConstants.{MAX_RANK}
+use Rattle.cox_tokens.specs.Number.{is_number_in, value_of}
+use Rattle.cox_command.specs.LineRefusal.{argument, names_type, applies, command_refusal}
 use Rattle.cox_command.specs.CommandReading.{command_by}
 use Rattle.cox_command.specs.declared.command.Command.TheVariants.{Group}
 
@@ -34,8 +34,8 @@ abbrev pub matrix_of : List (List ℕ) → CoxeterMatrix
 matrix_of arguments = record { rank = value_of (argument arguments 0); labels = map value_of (drop 1 arguments) }
 
 -- the matrix of a type that there is
-named_matrix-is : (arguments : List (List ℕ)) → has_no_type Named arguments ≡ false → IsCoxeterMatrix (named_matrix arguments)
-named_matrix-is arguments typed = by_name (argument arguments 0) (not-false _ typed)
+named_matrix-is : (arguments : List (List ℕ)) (rank : Option ℕ) → applies Named arguments rank UnknownType ≡ false → IsCoxeterMatrix (named_matrix arguments)
+named_matrix-is arguments rank typed = by_name (argument arguments 0) (not-false _ typed)
   where
     n : ℕ
     n = value_of (argument arguments 1)
@@ -46,11 +46,12 @@ named_matrix-is arguments typed = by_name (argument arguments 0) (not-false _ ty
     by_name (letter ∷ next ∷ name) typed = absurd (cc typed)
 
 -- the matrix of labels that are admitted, as many as there have to be
-matrix_of-is : (arguments : List (List ℕ)) → has_wrong_count Matrix arguments ≡ false → has_wrong_number Matrix arguments ≡ false
-    → has_wrong_label Matrix arguments ≡ false → IsCoxeterMatrix (matrix_of arguments)
-matrix_of-is arguments counted numbers labelled =
+matrix_of-is : (arguments : List (List ℕ)) (rank : Option ℕ) → applies Matrix arguments rank WrongCount ≡ false
+    → applies Matrix arguments rank WrongNumber ≡ false → applies Matrix arguments rank WrongLabel ≡ false
+    → IsCoxeterMatrix (matrix_of arguments)
+matrix_of-is arguments rank counted numbers labelled =
     let n = value_of (argument arguments 0) in
-    let ranked : is_rank (argument arguments 0) ≡ true = (and_parts _ _ (not-false _ numbers)).0 in
+    let ranked : is_number_in 1 MAX_RANK (argument arguments 0) ≡ true = (and_parts _ _ (not-false _ numbers)).0 in
     let count = eqb-true (length arguments) (1 + n * (n - 1) / 2) (not-false _ (rw ranked at counted)) in
     record {
       some = leb-true 1 n (and_parts _ _ (and_parts _ _ ranked).0).1;
@@ -61,13 +62,13 @@ matrix_of-is arguments counted numbers labelled =
 
 -- the matrix that a command sets which no test refuses
 tested-is : (word : CommandWord) (arguments : List (List ℕ)) (rank : Option ℕ) (g : CoxeterMatrix)
-    → has_wrong_count word arguments ≡ false → has_wrong_number word arguments ≡ false
-    → has_no_type word arguments ≡ false → has_wrong_label word arguments ≡ false
+    → applies word arguments rank WrongCount ≡ false → applies word arguments rank WrongNumber ≡ false
+    → applies word arguments rank UnknownType ≡ false → applies word arguments rank WrongLabel ≡ false
     → command_by word arguments rank ≡ Group g → IsCoxeterMatrix g
 tested-is Named arguments rank g counted numbers typed labelled sets =
-    let same : named_matrix arguments ≡ g = cc sets in subst IsCoxeterMatrix same (named_matrix-is arguments typed)
+    let same : named_matrix arguments ≡ g = cc sets in subst IsCoxeterMatrix same (named_matrix-is arguments rank typed)
 tested-is Matrix arguments rank g counted numbers typed labelled sets =
-    let same : matrix_of arguments ≡ g = cc sets in subst IsCoxeterMatrix same (matrix_of-is arguments counted numbers labelled)
+    let same : matrix_of arguments ≡ g = cc sets in subst IsCoxeterMatrix same (matrix_of-is arguments rank counted numbers labelled)
 tested-is word arguments rank g counted numbers typed labelled sets = absurd (cc sets)
 
 -- the matrix that an accepted command sets
@@ -75,9 +76,9 @@ pub group_set-is : (word : CommandWord) (arguments : List (List ℕ)) (rank : Op
     → command_refusal (Some word) arguments rank ≡ None
     → command_by word arguments rank ≡ Group g → IsCoxeterMatrix g
 group_set-is word arguments rank g accepted sets =
-    let counted = passed_over (has_wrong_count word arguments) WrongCount _ accepted in
-    let numbered = passed_over (has_wrong_number word arguments) WrongNumber _ counted.1 in
-    let grouped = passed_over (needs_group word && is_none rank) NoGroup _ numbered.1 in
-    let typed = passed_over (has_no_type word arguments) UnknownType _ grouped.1 in
-    let labelled = passed_over (has_wrong_label word arguments) WrongLabel _ typed.1 in
+    let counted = passed_over (applies word arguments rank WrongCount) WrongCount _ accepted in
+    let numbered = passed_over (applies word arguments rank WrongNumber) WrongNumber _ counted.1 in
+    let grouped = passed_over (applies word arguments rank NoGroup) NoGroup _ numbered.1 in
+    let typed = passed_over (applies word arguments rank UnknownType) UnknownType _ grouped.1 in
+    let labelled = passed_over (applies word arguments rank WrongLabel) WrongLabel _ typed.1 in
     tested-is word arguments rank g counted.0 numbered.0 typed.0 labelled.0 sets

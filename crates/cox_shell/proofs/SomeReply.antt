@@ -1,5 +1,5 @@
 -- Each content has a reply, where no list is open.
-use Rattle.std.proofs.Common.{◌≡◌, ℕ, Bool, ◌&&◌, true, false, List, [], ◌∷◌, Option, Some, None, IfSome, IsSomeAnd}
+use Rattle.std.proofs.Common.{◌≡◌, ◌∙◌, ℕ, true, false, List, [], ◌∷◌, Option, Some, None, IfSome, IsSomeAnd}
 use Rattle.std.proofs.Common.{MatchOption}
 use Rattle.std.proofs.Common.{◌⊎◌, inl, inr, ⊎_elim, refl, sym, true≢false}
 use Rattle.std.specs.Option.{option_map}
@@ -14,8 +14,7 @@ use Rattle.cox_command.specs.declared.command_word.CommandWord.{CommandWord}
 use Rattle.cox_command.specs.declared.command_word.CommandWord.TheVariants.{Named, Matrix, Quit, Jobs, One, Two, Plain, Work}
 use Rattle.cox_command.specs.CommandWord.{command_word_of}
 use Rattle.cox_tokens.specs.Tokens.{tokens_of}
-use Rattle.cox_command.specs.LineRefusal.{has_wrong_count, has_wrong_number, needs_group, command_refusal, tokens_refusal}
-use Rattle.cox_command.specs.LineRefusal.{line_refusal, argument}
+use Rattle.cox_command.specs.LineRefusal.{argument, applies, command_refusal, line_refusal}
 use Rattle.cox_tokens.specs.Number.{value_of}
 use Rattle.cox_command.specs.CommandReading.{command_by, command_of, word_argument}
 use Rattle.cox_command.specs.declared.inquiry.Inquiry.{Inquiry}
@@ -23,8 +22,7 @@ use Rattle.cox_command.specs.declared.inquiry.Inquiry.TheVariants as inquiry
 use Rattle.cox_small.proofs.Counting.{not_both}
 use Rattle.cox_small.proofs.Deciding.{HasMoreSmallRoots-decided}
 use Rattle.cox_replies.specs.Limits.{Limits}
-use Rattle.cox_shell.specs.Reply.{State, Reply, rank_of, with_group, with_list, refusal, silence, farewell}
-use Rattle.cox_shell.specs.OpenLists.{opening_list}
+use Rattle.cox_shell.specs.Reply.{State, Reply, rank_of, refusal, silence}
 use Rattle.cox_shell.specs.CommandReply.{IsDecided}
 use Rattle.cox_replies.specs.InquiryQuestion.{question_of}
 use Rattle.cox_shell.specs.CommandReply.{Answers, IsInquiryReply, RefusesGroup, IsCommandReply}
@@ -52,8 +50,8 @@ group-decided limits g admissible _ = inr (λ none. none)
 pub group-reply : (state : State) (g : CoxeterMatrix) → IsAdmissible (integer_matrix g)
     → (reply : Reply) × IsCommandReply (Group g) state reply
 group-reply state g admissible =
-    IsDecided-exists (RefusesGroup state.limits g) state (λ answer. answer ≡ silence (with_group state g))
-    (group-decided state.limits g admissible) (λ free. (silence (with_group state g), refl))
+    IsDecided-exists (RefusesGroup state.limits g) state (λ answer. answer ≡ silence (record state { group = Some g }))
+    (group-decided state.limits g admissible) (λ free. (silence (record state { group = Some g }), refl))
 
 -- the reply where a group is set
 in_group : (group : Option CoxeterMatrix) (Is : CoxeterMatrix → Reply → Type 0) → IfSome group IsCoxeterMatrix → (group ≡ None → ⊥)
@@ -63,17 +61,13 @@ in_group None Is matrix set each = absurd (set refl)
 in_group (Some g) Is matrix set each = each g (IsAdmissible-integer_matrix g matrix)
 
 -- a command that is accepted has the group that it needs
-needed : (word : CommandWord) (arguments : List (List ℕ)) (group : Option CoxeterMatrix) → needs_group word ≡ true
+needed : (word : CommandWord) (arguments : List (List ℕ)) (group : Option CoxeterMatrix) → applies word arguments None NoGroup ≡ true
     → command_refusal (Some word) arguments (option_map (λ g. g.rank) group) ≡ None → group ≡ None → ⊥
 needed word arguments (Some g) needs accepted none = absurd (cc none)
 needed word arguments None needs accepted none =
-    let counted = (passed_over (has_wrong_count word arguments) WrongCount _ accepted).1 in
-    let numbered = (passed_over (has_wrong_number word arguments) WrongNumber _ counted).1 in
-    lacking (needs_group word) needs (passed_over (needs_group word && true) NoGroup _ numbered).0
-  where
-    lacking : (b : Bool) → b ≡ true → (b && true) ≡ false → ⊥
-    lacking true needs has = true≢false has
-    lacking false needs has = true≢false (sym needs)
+    let counted = (passed_over (applies word arguments None WrongCount) WrongCount _ accepted).1 in
+    let numbered = (passed_over (applies word arguments None WrongNumber) WrongNumber _ counted).1 in
+    true≢false (sym needs ∙ (passed_over (applies word arguments None NoGroup) NoGroup _ numbered).0)
 
 module _ (state : State) (matrix : IfSome state.group IsCoxeterMatrix) where
   -- the reply to a command on elements, where a group is set
@@ -89,8 +83,8 @@ module _ (state : State) (matrix : IfSome state.group IsCoxeterMatrix) where
   by_word Matrix arguments accepted =
       let g = matrix_of arguments in
       group-reply state g (IsAdmissible-integer_matrix g (group_set-is Matrix arguments (rank_of state) g accepted refl))
-  by_word Quit arguments accepted = (farewell state, refl)
-  by_word Jobs arguments accepted = (silence (with_list state opening_list), refl)
+  by_word Quit arguments accepted = (record (silence state) { quits = true }, refl)
+  by_word Jobs arguments accepted = (silence (record state { list = Some ([] ∷ []) }), refl)
   by_word (One kind) arguments accepted =
       let w = word_argument (rank_of state) arguments 0 in
       some_reply (inquiry.One kind w) (needed (One kind) arguments state.group refl accepted)
@@ -111,7 +105,7 @@ module _ (state : State) (matrix : IfSome state.group IsCoxeterMatrix) where
   by_name None arguments accepted = absurd (cc accepted)
   by_name (Some word) arguments accepted = by_word word arguments accepted
 
-  by_tokens : (tokens : List (List ℕ)) → tokens_refusal tokens (rank_of state) ≡ None
+  by_tokens : (tokens : List (List ℕ)) → line_refusal tokens (rank_of state) ≡ None
       → (reply : Reply) × IsSomeAnd (command_of tokens (rank_of state)) (λ command. IsCommandReply command state reply)
   by_tokens [] accepted = (silence state, refl)
   by_tokens (name ∷ arguments) accepted = by_name (command_word_of name) arguments accepted
@@ -120,9 +114,9 @@ module _ (state : State) (matrix : IfSome state.group IsCoxeterMatrix) where
 pub IsContentReply-exists : (state : State) (content : List ℕ) → IfSome state.group IsCoxeterMatrix → (reply : Reply)
     × IsContentReply state content reply
 unfolding IsContentReply
-IsContentReply-exists state content matrix = by_refusal (line_refusal content (rank_of state)) refl
+IsContentReply-exists state content matrix = by_refusal (line_refusal (tokens_of content) (rank_of state)) refl
   where
-    by_refusal : (o : Option Refusal) → line_refusal content (rank_of state) ≡ o
+    by_refusal : (o : Option Refusal) → line_refusal (tokens_of content) (rank_of state) ≡ o
         → (reply : Reply) × MatchOption o
         (IsSomeAnd (command_of (tokens_of content) (rank_of state)) (λ command. IsCommandReply command state reply))
         (λ why. reply ≡ refusal state why)

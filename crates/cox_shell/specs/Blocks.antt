@@ -1,21 +1,19 @@
 -- What the blocks of a list are answered, and the list.
 use Rattle.std.specs.Prelude.{◌≡◌, ℕ, false, MatchBool, IsSomeAnd, List, [], ◌∷◌, slice_get, MatchOption}
 use Rattle.std.specs.List.{filter_map}
+use Rattle.std.specs.Option.{option_or}
+use Rattle.cox_tokens.specs.Tokens.{tokens_of}
 use Rattle.cox_command.specs.declared.refusal.Refusal.TheVariants.{LongList}
 use Rattle.cox_command.specs.BlockLines.{block_refusal}
 use Rattle.cox_shell.specs.Reply.{Kept, OpenList, State, Reply, closed, refusal, texts}
 use Rattle.cox_shell.specs.ContentReply.{IsContentReply}
 use Rattle.cox_shell.specs.OpenLists.{kept_lines, is_long}
 
--- The reply to a line of a block: it is refused if it may not stand there; else it is answered as outside. No line of a block changes the
--- state.
-abbrev pub IsBlockReply : State → List ℕ → Reply → Type 0
-IsBlockReply state content reply =
-    MatchOption (block_refusal content) (IsContentReply state content reply) (λ why. reply ≡ refusal state why)
-
--- the reply to a line that is kept
+-- The reply to a line that is kept: it is refused if its bytes are, or if it may not stand in a block; else it is answered as outside. No
+-- such line changes the state.
 abbrev pub IsKeptReply : State → Kept → Reply → Type 0
-IsKeptReply state line reply = MatchOption line.refused (IsBlockReply state line.content reply) (λ why. reply ≡ refusal state why)
+IsKeptReply state line reply = MatchOption (option_or line.refused (block_refusal (tokens_of line.content)))
+    (IsContentReply state line.content reply) (λ why. reply ≡ refusal state why)
 
 -- these are the replies to lines that are kept, in their order, each as it is given in this state
 abbrev pub AreKeptReplies : State → List Kept → List Reply → Type 0

@@ -1,5 +1,5 @@
 -- The replies to commands: to those on elements by their questions.
-use Rattle.std.specs.Prelude.{◌≡◌, ℕ, List, IsSomeAnd}
+use Rattle.std.specs.Prelude.{◌≡◌, ℕ, true, ◌++◌, List, [], ◌∷◌, Some, IsSomeAnd}
 use Rattle.cox_base.specs.Matrix.{CoxeterMatrix}
 use Rattle.cox_base.specs.IntegerMatrix.{integer_matrix}
 use Rattle.cox_command.specs.declared.refusal.Refusal.{Refusal}
@@ -9,8 +9,7 @@ use Rattle.cox_command.specs.declared.command.Command.TheVariants.{Nothing, Quit
 use Rattle.cox_small.specs.SmallRoots.{HasMoreSmallRoots}
 use Rattle.cox_command.specs.declared.inquiry.Inquiry.{Inquiry}
 use Rattle.cox_replies.specs.Limits.{Limits}
-use Rattle.cox_shell.specs.Reply.{State, Reply, refusal, with_group, with_list, silence, farewell, answered}
-use Rattle.cox_shell.specs.OpenLists.{opening_list}
+use Rattle.cox_shell.specs.Reply.{State, Reply, refusal, silence}
 use Rattle.cox_replies.specs.Question.{Question, IsRefused}
 use Rattle.cox_replies.specs.InquiryQuestion.{question_of}
 use Rattle.std.specs.Prelude.{Option, MatchOption}
@@ -20,9 +19,9 @@ abbrev pub IsDecided : State → (Refusal → Type 0) → (Reply → Type 0) →
 IsDecided state Refuses Answers reply =
     (found : Option Refusal) × IsRefused Refuses found × MatchOption found (Answers reply) (λ why. reply ≡ refusal state why)
 
--- an answer to a question, which leaves the state
+-- an answer to a question: a right text and the end of its last line, and nothing else changes
 abbrev pub Answers : State → Question → Reply → Type 0
-Answers state question reply = (text : List ℕ) × question.IsText text × (reply ≡ answered state text)
+Answers state question reply = (text : List ℕ) × question.IsText text × (reply ≡ record (silence state) { text = text ++ 10 ∷ [] })
 
 -- the reply to a command on elements, where a group is set
 abbrev pub IsInquiryReply : Inquiry → State → Reply → Type 0
@@ -34,11 +33,11 @@ abbrev pub RefusesGroup : Limits → CoxeterMatrix → Refusal → Type 0
 RefusesGroup limits g ManyRoots = HasMoreSmallRoots (integer_matrix g) limits.roots
 RefusesGroup limits g _ = ⊥
 
--- the reply to a command
+-- The reply to a command. A blank line is answered nothing; `quit` ends the run; a group is set; `jobs` opens a list of one empty block.
 abbrev pub IsCommandReply : Command → State → Reply → Type 0
 IsCommandReply Nothing state reply = reply ≡ silence state
-IsCommandReply Quit state reply = reply ≡ farewell state
+IsCommandReply Quit state reply = reply ≡ record (silence state) { quits = true }
 IsCommandReply (Group g) state reply =
-    IsDecided state (RefusesGroup state.limits g) (λ answer. answer ≡ silence (with_group state g)) reply
-IsCommandReply Jobs state reply = reply ≡ silence (with_list state opening_list)
+    IsDecided state (RefusesGroup state.limits g) (λ answer. answer ≡ silence (record state { group = Some g })) reply
+IsCommandReply Jobs state reply = reply ≡ silence (record state { list = Some ([] ∷ []) })
 IsCommandReply (Ask inquiry) state reply = IsInquiryReply inquiry state reply

@@ -8,6 +8,6 @@ use Rattle.cox_shell.specs.CommandReply.{IsCommandReply}
 
 -- The reply to a line with this content: its refusal, or the reply to the command that it gives.
 unfoldable pub IsContentReply : State → List ℕ → Reply → Type 0
-IsContentReply state content reply = MatchOption (line_refusal content (rank_of state))
+IsContentReply state content reply = MatchOption (line_refusal (tokens_of content) (rank_of state))
     (IsSomeAnd (command_of (tokens_of content) (rank_of state)) (λ command. IsCommandReply command state reply))
     (λ why. reply ≡ refusal state why)

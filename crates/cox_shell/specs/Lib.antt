@@ -6,6 +6,8 @@ pub mod SessionState
 pub mod CommandReply
 -- the reply to the content of a line, where no list is open
 pub mod ContentReply
+-- what the laws on single commands say
+pub mod Answered
 -- lists of blocks that are open
 pub mod OpenLists
 -- what the blocks of a list are answered

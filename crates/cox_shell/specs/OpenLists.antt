@@ -4,10 +4,6 @@ use Rattle.std.specs.List.{flat_map}
 use Rattle.cox_shell.specs.declared.limits.TheConstants.{MAX_BLOCKS, MAX_LINES}
 use Rattle.cox_shell.specs.Reply.{Kept, OpenList}
 
--- a list of one empty block
-abbrev pub opening_list : OpenList
-opening_list = [] ∷ []
-
 -- a line behind the last of the last block
 abbrev pub then_line : OpenList → Kept → OpenList
 then_line [] line = (line ∷ []) ∷ []

@@ -27,17 +27,9 @@ pub record State : Type 0 where
 abbrev pub opening : Limits → State
 opening limits = record { limits = limits; group = None; list = None }
 
--- the state after a group is set
-abbrev pub with_group : State → CoxeterMatrix → State
-with_group state g = record { limits = state.limits; group = Some g; list = state.list }
-
--- the state with this list open
-abbrev pub with_list : State → OpenList → State
-with_list state list = record { limits = state.limits; group = state.group; list = Some list }
-
 -- the state with no list open
 abbrev pub closed : State → State
-closed state = record { limits = state.limits; group = state.group; list = None }
+closed state = record state { list = None }
 
 -- the rank of the group that is set
 abbrev pub rank_of : State → Option ℕ
@@ -57,14 +49,6 @@ refusal state why = record { text = refusal_text (refusal_number why) ++ 10 ∷ 
 -- the reply to a line that is answered nothing, and leaves this state
 abbrev pub silence : State → Reply
 silence state = record { text = []; after = state; refused = None; quits = false }
-
--- the reply that ends the run
-abbrev pub farewell : State → Reply
-farewell state = record { text = []; after = state; refused = None; quits = true }
-
--- the reply with one line of text, or several of which this is the text without the last line's end
-abbrev pub answered : State → List ℕ → Reply
-answered state text = record { text = text ++ 10 ∷ []; after = state; refused = None; quits = false }
 
 -- what replies write
 abbrev pub texts : List Reply → List ℕ

@@ -34,8 +34,7 @@ StopsReading replies script left = (given : List ℕ) × (script ≡ prepend_kno
 -- one of the replies ends the run, and no more was read; or the script was within the limit and was read to its end
 abbrev pub IsReadWhole : List Reply → Option (List ℕ) → Option (List ℕ) → Type 0
 IsReadWhole replies script left = MatchBool (has_quit replies)
-    (StopsReading replies script left)
-    (IfSome script (λ bytes. length bytes ≤ INPUT_LIMIT) × IsAtEnd left)
+    (StopsReading replies script left) (IfSome script (λ bytes. length bytes ≤ INPUT_LIMIT) × IsAtEnd left)
 
 -- the replies to the script were written, all and nothing else, with a refusal among them or without; and so far it was read
 pub record AnswersWhole (refused : Bool) (limits : Limits) (script left : Option (List ℕ)) (old new : Outlet) : Type 0 where

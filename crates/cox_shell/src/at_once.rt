@@ -1,12 +1,13 @@
 //! Blocks that are answered at once, each by one thread.
 //!
-//! Each block is answered in a session of its own. What was told of the blocks is put together in their order, so it does not depend on the
-//! threads.
+//! Each thread answers its blocks in a session of its own. What was told of the blocks is put together in their order, so it does not depend
+//! on the threads.
 ghost use Rattle.std.specs.Prelude.{◌≡◌, ◌<◌, ◌≤◌, ◌+◌, ◌^◌, false, length, IfSome};
 ghost use Rattle.std.specs.Thread.{IsSync};
 ghost use Rattle.cox_shell.specs.OpenLists.{is_long};
 ghost use Rattle.cox_shell.specs.ToldText.{IsToldOf, IsToldUnless};
 
+use crate::ahead::Beside;
 use crate::list::Block;
 use crate::session::Session;
 use crate::told::ToldText;
@@ -82,7 +83,7 @@ fn share_of(count: usize, some: u32, all: u32) -> usize
     count.min(parts / all as usize)
 }
 
-/// What blocks are answered, told by this thread one after another.
+/// What blocks are answered, told by this thread one after another, in a session of its own, which reads the rows of this one.
 fn tell_by_turns<R: Wait, G: Gate>(
     rt: &R,
     gate: &G,
@@ -94,10 +95,14 @@ fn tell_by_turns<R: Wait, G: Gate>(
     requires { first + length blocks.now < 2 ^ 32 }
     ensures { IsToldUnless result session.now blocks.now }
 {
+    let mut own = session.fresh(alloc)?;
+    let maker = Beside {
+        shared: session.workspace(),
+    };
     let mut told = ToldText::new(alloc);
     'turns: for place in 0..blocks.len() {
         gate.pass(rt, first + place as u32, Point::Block, 0);
-        session.tell_alone(&blocks[place], &mut told, alloc)?;
+        own.tell_block(&maker, &blocks[place], &mut told)?;
     }
     Ok(told)
 }

@@ -1,15 +1,55 @@
 //! Laws on answers, over the definitions alone.
 
-ghost use Rattle.std.specs.Prelude.{◌≡◌, ◌≤◌, ◌⊎◌, ◌∷◌, ◌++◌, ℕ, List, length, map, true, Some, None, IfSome, IsSomeAnd, All};
+ghost use Rattle.std.specs.Prelude.{◌≡◌, ◌≤◌, ◌<◌, ◌⊎◌, ◌∷◌, [], ◌++◌, ◌+◌, ◌↔◌, ℕ, ℤ, pos, List, length, map, true, Some, None, IfSome};
+ghost use Rattle.std.specs.Prelude.{IsSomeAnd, All, Bool, IsTrue, codes, reverse, decimal, min};
+ghost use Rattle.std.specs.Fmt.{signed_decimal};
 ghost use Rattle.cox_base.specs.Admissible.{IsCoxeterMatrix};
+ghost use Rattle.cox_base.specs.Matrix.{CoxeterMatrix};
+ghost use Rattle.cox_base.specs.IntegerMatrix.{integer_matrix};
+ghost use Rattle.cox_base.specs.ShortLex.{normal_form};
+ghost use Rattle.cox_base.specs.Length.{word_length};
+ghost use Rattle.cox_base.specs.Bruhat.{IsBelow};
+ghost use Rattle.cox_base.specs.Members.{IsElement, IsInInterval};
+ghost use Rattle.cox_base.specs.Interval.{IsBetween, IsCoatom, counts_by_length};
+ghost use Rattle.cox_base.specs.SortedList.{HasMoreThan};
+ghost use Rattle.cox_base.specs.WordText.{word_text};
+ghost use Rattle.cox_base.specs.declared.side.Side.TheVariants.{Left, Right};
+ghost use Rattle.cox_base.specs.SideDescents.{descent_set};
+ghost use Rattle.cox_context.specs.TooLarge.{IsTooLarge};
+ghost use Rattle.cox_poly.specs.PolynomialText.{polynomial_text};
+ghost use Rattle.cox_poly.specs.Products.{times_q_power};
+ghost use Rattle.cox_rpoly.specs.RPolynomial.{r_polynomial};
+ghost use Rattle.cox_rpoly.specs.declared.TheConstants.{MAX_DIFFERENCE};
+ghost use Rattle.cox_hecke.specs.Family.{Family};
+ghost use Rattle.cox_hecke.specs.Row.{IsRow, IsMu};
+ghost use Rattle.cox_hecke.specs.Sums.{sum_over};
 ghost use Rattle.cox_outside.specs.declared.limits.TheConstants.{INPUT_LIMIT};
 ghost use Rattle.cox_outside.specs.Supply.{Supply};
 ghost use Rattle.cox_outside.specs.Outlet.{Outlet, IsPrefix};
+ghost use Rattle.cox_command.specs.LineRefusal.{line_refusal};
+ghost use Rattle.cox_command.specs.CommandReading.{command_of};
+ghost use Rattle.cox_command.specs.declared.command.Command.TheVariants.{Ask};
+ghost use Rattle.cox_command.specs.declared.inquiry.Inquiry.{Inquiry};
+ghost use Rattle.cox_command.specs.declared.refusal.Refusal.TheVariants.{LargeInterval, FarApart, LargeRow};
+ghost use Rattle.cox_print.specs.AnswerText.{elements_text, truth_text, pair_text, list_text, members_text, descent_text, numbers_text};
 ghost use Rattle.cox_options.specs.Arguments.{IsTaken};
+ghost use Rattle.cox_rows.specs.Beyond.{IsBeyond, NeedsBeyond};
+ghost use Rattle.cox_cells.specs.declared.kind.CellKind.TheVariants.{Left as LeftCells, Right as RightCells, Both as TwoSidedCells};
+ghost use Rattle.cox_cells.specs.Cells.{AreCells};
+ghost use Rattle.cox_inverse.specs.InverseRow.{IsInverseRow};
+ghost use Rattle.cox_rowcheck.specs.declared.limits.TheConstants.{MAX_LISTED, MAX_COEFFICIENT};
 ghost use Rattle.cox_replies.specs.Limits.{Limits};
+ghost use Rattle.cox_replies.specs.Listed.{IsOfList};
+ghost use Rattle.cox_replies.specs.RowReply.{coefficients_to, IsExtremalBelow};
+ghost use Rattle.cox_replies.specs.InverseReply.{IsInverseBeyond};
+ghost use Rattle.cox_replies.specs.InquiryQuestion.{question_of};
+ghost use Rattle.cox_replies.specs.CertReply.{IsCertText};
+ghost use Rattle.cox_replies.specs.ModuleReply.{IsModuleText};
+ghost use Rattle.cox_replies.specs.GroupReply.{IsGraphText};
 ghost use Rattle.cox_shell.specs.Reply.{Kept, OpenList, State, Reply, texts};
 ghost use Rattle.cox_shell.specs.OpenLists.{kept_lines};
 ghost use Rattle.cox_shell.specs.Blocks.{AreKeptReplies};
+ghost use Rattle.cox_shell.specs.Answered.{ReadsAs, IsAnswered};
 ghost use Rattle.cox_shell.specs.Answer.{AreReplies, AreScriptReplies};
 ghost use Rattle.cox_shell.specs.ScriptAnswer.{IsAnswer};
 ghost use Rattle.cox_shell.specs.BlockScripts.{CanStand, kept_of};
@@ -82,6 +122,113 @@ pub fn complete()
         → IsRun status arguments source left old new
         → IsTaken arguments → ¬ Rose source.faults left.faults → ¬ Rose old.faults new.faults
         → IsSomeAnd source.left (λ script. length script ≤ INPUT_LIMIT) → IsUnhindered status }
+{}
+
+/// What a command on elements, or on the whole group, is answered, where a group is set and no list is open: it goes by its question alone.
+pub fn inquiries()
+    ensures { (state : State) (g : CoxeterMatrix) (tokens : List (List ℕ)) (inquiry : Inquiry) → state.group ≡ Some g
+        → line_refusal tokens (Some g.rank) ≡ None → command_of tokens (Some g.rank) ≡ Some (Ask inquiry)
+        → (let question = question_of inquiry state.limits g in
+        IsAnswered state tokens (question.Refuses LargeInterval) (question.Refuses FarApart) (question.Refuses LargeRow) question.IsText) }
+{}
+
+/// The same of single commands, written out: u and v are the words that y and w read as. A line is refused by 31 exactly where there are
+/// more x <= v, or more elements of the group, than the limit; else by 34 exactly where elements are too far apart for R, or for a check;
+/// else by 32 exactly where a row that is needed is beyond the limits. Else it is answered the text that stands last.
+pub fn commands()
+    ensures compute { (state : State) (g : CoxeterMatrix) (w v : List ℕ) → state.group ≡ Some g → ReadsAs g w v
+        → (let A = integer_matrix g in IsAnswered state (codes "compute" ∷ w ∷ [])
+        ⊥ ⊥ ⊥
+        (λ text. text ≡ word_text g.rank (normal_form A v))) }
+    ensures length { (state : State) (g : CoxeterMatrix) (w v : List ℕ) → state.group ≡ Some g → ReadsAs g w v
+        → (let A = integer_matrix g in IsAnswered state (codes "length" ∷ w ∷ [])
+        ⊥ ⊥ ⊥
+        (λ text. text ≡ decimal (word_length A v))) }
+    ensures inverse { (state : State) (g : CoxeterMatrix) (w v : List ℕ) → state.group ≡ Some g → ReadsAs g w v
+        → (let A = integer_matrix g in IsAnswered state (codes "inverse" ∷ w ∷ [])
+        ⊥ ⊥ ⊥
+        (λ text. text ≡ word_text g.rank (normal_form A (reverse v)))) }
+    ensures descent { (state : State) (g : CoxeterMatrix) (w v : List ℕ) → state.group ≡ Some g → ReadsAs g w v
+        → (let A = integer_matrix g in IsAnswered state (codes "descent" ∷ w ∷ [])
+        ⊥ ⊥ ⊥
+        (λ text. text ≡ descent_text g.rank (descent_set Left A v) (descent_set Right A v))) }
+    ensures coatoms { (state : State) (g : CoxeterMatrix) (w v : List ℕ) → state.group ≡ Some g → ReadsAs g w v
+        → (let A = integer_matrix g in IsAnswered state (codes "coatoms" ∷ w ∷ [])
+        (HasMoreThan state.limits.context (IsInInterval A v)) ⊥ ⊥
+        (IsOfList (IsCoatom A v) (elements_text g.rank))) }
+    ensures betti { (state : State) (g : CoxeterMatrix) (w v : List ℕ) → state.group ≡ Some g → ReadsAs g w v
+        → (let A = integer_matrix g in IsAnswered state (codes "betti" ∷ w ∷ [])
+        (HasMoreThan state.limits.context (IsInInterval A v)) ⊥ ⊥
+        (IsOfList (IsInInterval A v) (λ words. numbers_text (counts_by_length words (word_length A v))))) }
+    ensures klbasis { (state : State) (g : CoxeterMatrix) (w v : List ℕ) → state.group ≡ Some g → ReadsAs g w v
+        → (let A = integer_matrix g in IsAnswered state (codes "klbasis" ∷ w ∷ [])
+        (HasMoreThan state.limits.context (IsInInterval A v)) ⊥ (NeedsBeyond A (pos state.limits.coefficient) v)
+        (λ text. (p : Family) × IsRow A v p × IsOfList (IsInInterval A v)
+        (λ words. list_text (map (λ x. pair_text g.rank x (coefficients_to (word_length A v) (p x))) words)) text)) }
+    ensures ihbetti { (state : State) (g : CoxeterMatrix) (w v : List ℕ) → state.group ≡ Some g → ReadsAs g w v
+        → (let A = integer_matrix g in IsAnswered state (codes "ihbetti" ∷ w ∷ [])
+        (HasMoreThan state.limits.context (IsInInterval A v)) ⊥ (NeedsBeyond A (pos state.limits.coefficient) v)
+        (λ text. (p : Family) × IsRow A v p × IsOfList (IsInInterval A v) (λ words. numbers_text
+        (coefficients_to (word_length A v) (sum_over words (λ x. times_q_power (word_length A x) (p x))))) text)) }
+    ensures extremals { (state : State) (g : CoxeterMatrix) (w v : List ℕ) → state.group ≡ Some g → ReadsAs g w v
+        → (let A = integer_matrix g in IsAnswered state (codes "extremals" ∷ w ∷ [])
+        (HasMoreThan state.limits.context (IsInInterval A v)) ⊥ (NeedsBeyond A (pos state.limits.coefficient) v)
+        (λ text. (p : Family) × IsRow A v p × IsOfList (IsExtremalBelow A v)
+        (λ words. list_text (map (λ x. pair_text g.rank x (coefficients_to (word_length A v) (p x))) words)) text)) }
+    ensures cert { (state : State) (g : CoxeterMatrix) (w v : List ℕ) → state.group ≡ Some g → ReadsAs g w v
+        → (let A = integer_matrix g in IsAnswered state (codes "cert" ∷ w ∷ [])
+        (HasMoreThan (min state.limits.context MAX_LISTED) (IsInInterval A v)) (MAX_DIFFERENCE < word_length A v)
+        (NeedsBeyond A (pos state.limits.coefficient) v ⊎ IsBeyond A MAX_COEFFICIENT v)
+        (IsCertText g v)) }
+    ensures left_module { (state : State) (g : CoxeterMatrix) (w v : List ℕ) → state.group ≡ Some g → ReadsAs g w v
+        → (let A = integer_matrix g in let large = IsTooLarge (IsElement A) state.limits.context in
+        IsAnswered state (codes "module" ∷ w ∷ [])
+        large ⊥ ((large → ⊥) × (x : List ℕ) × IsElement A x × IsBeyond A (pos state.limits.coefficient) x)
+        (IsModuleText A v)) }
+    ensures inorder { (state : State) (g : CoxeterMatrix) (y w u v : List ℕ) → state.group ≡ Some g → ReadsAs g y u → ReadsAs g w v
+        → (let A = integer_matrix g in IsAnswered state (codes "inorder" ∷ y ∷ w ∷ [])
+        ⊥ ⊥ ⊥
+        (λ text. (truth : Bool) × (IsTrue truth ↔ IsBelow A u v) × (text ≡ truth_text truth))) }
+    ensures interval { (state : State) (g : CoxeterMatrix) (y w u v : List ℕ) → state.group ≡ Some g → ReadsAs g y u → ReadsAs g w v
+        → (let A = integer_matrix g in IsAnswered state (codes "interval" ∷ y ∷ w ∷ [])
+        (HasMoreThan state.limits.context (IsInInterval A v)) ⊥ ⊥
+        (IsOfList (IsBetween A u v) (elements_text g.rank))) }
+    ensures rpol { (state : State) (g : CoxeterMatrix) (y w u v : List ℕ) → state.group ≡ Some g → ReadsAs g y u → ReadsAs g w v
+        → (let A = integer_matrix g in IsAnswered state (codes "rpol" ∷ y ∷ w ∷ [])
+        ⊥ (IsBelow A u v × (word_length A u + MAX_DIFFERENCE < word_length A v)) ⊥
+        (λ text. text ≡ polynomial_text (coefficients_to (word_length A v) (r_polynomial A u v)))) }
+    ensures pol { (state : State) (g : CoxeterMatrix) (y w u v : List ℕ) → state.group ≡ Some g → ReadsAs g y u → ReadsAs g w v
+        → (let A = integer_matrix g in IsAnswered state (codes "pol" ∷ y ∷ w ∷ [])
+        (HasMoreThan state.limits.context (IsInInterval A v)) ⊥ (NeedsBeyond A (pos state.limits.coefficient) v)
+        (λ text. (p : Family) × IsRow A v p × (text ≡ polynomial_text (coefficients_to (word_length A v) (p u))))) }
+    ensures invpol { (state : State) (g : CoxeterMatrix) (y w u v : List ℕ) → state.group ≡ Some g → ReadsAs g y u → ReadsAs g w v
+        → (let A = integer_matrix g in IsAnswered state (codes "invpol" ∷ y ∷ w ∷ [])
+        (HasMoreThan state.limits.context (IsInInterval A v)) ⊥ (IsBelow A u v × IsInverseBeyond A state.limits.coefficient u v)
+        (λ text. (q : Family) × IsInverseRow A v q × (text ≡ polynomial_text (coefficients_to (word_length A v) (q u))))) }
+    ensures mu { (state : State) (g : CoxeterMatrix) (y w u v : List ℕ) → state.group ≡ Some g → ReadsAs g y u → ReadsAs g w v
+        → (let A = integer_matrix g in IsAnswered state (codes "mu" ∷ y ∷ w ∷ [])
+        (HasMoreThan state.limits.context (IsInInterval A v)) ⊥ (NeedsBeyond A (pos state.limits.coefficient) v)
+        (λ text. (m : ℤ) × IsMu A u v m × (text ≡ signed_decimal m))) }
+    ensures lwgraph { (state : State) (g : CoxeterMatrix) → state.group ≡ Some g
+        → (let A = integer_matrix g in let large = IsTooLarge (IsElement A) state.limits.context in IsAnswered state (codes "lwgraph" ∷ [])
+        large ⊥ ((large → ⊥) × (x : List ℕ) × IsElement A x × IsBeyond A (pos state.limits.coefficient) x)
+        (IsGraphText Left A)) }
+    ensures rwgraph { (state : State) (g : CoxeterMatrix) → state.group ≡ Some g
+        → (let A = integer_matrix g in let large = IsTooLarge (IsElement A) state.limits.context in IsAnswered state (codes "rwgraph" ∷ [])
+        large ⊥ ((large → ⊥) × (x : List ℕ) × IsElement A x × IsBeyond A (pos state.limits.coefficient) x)
+        (IsGraphText Right A)) }
+    ensures lcells { (state : State) (g : CoxeterMatrix) → state.group ≡ Some g
+        → (let A = integer_matrix g in let large = IsTooLarge (IsElement A) state.limits.context in IsAnswered state (codes "lcells" ∷ [])
+        large ⊥ ((large → ⊥) × (x : List ℕ) × IsElement A x × IsBeyond A (pos state.limits.coefficient) x)
+        (λ text. (cells : List (List (List ℕ))) × AreCells LeftCells A cells × (text ≡ list_text (map (members_text g.rank) cells)))) }
+    ensures rcells { (state : State) (g : CoxeterMatrix) → state.group ≡ Some g
+        → (let A = integer_matrix g in let large = IsTooLarge (IsElement A) state.limits.context in IsAnswered state (codes "rcells" ∷ [])
+        large ⊥ ((large → ⊥) × (x : List ℕ) × IsElement A x × IsBeyond A (pos state.limits.coefficient) x)
+        (λ text. (cells : List (List (List ℕ))) × AreCells RightCells A cells × (text ≡ list_text (map (members_text g.rank) cells)))) }
+    ensures lrcells { (state : State) (g : CoxeterMatrix) → state.group ≡ Some g
+        → (let A = integer_matrix g in let large = IsTooLarge (IsElement A) state.limits.context in IsAnswered state (codes "lrcells" ∷ [])
+        large ⊥ ((large → ⊥) × (x : List ℕ) × IsElement A x × IsBeyond A (pos state.limits.coefficient) x)
+        (λ text. (cells : List (List (List ℕ))) × AreCells TwoSidedCells A cells × (text ≡ list_text (map (members_text g.rank) cells)))) }
 {}
 
 /// Statuses that compare as equal are equal.

@@ -128,13 +128,12 @@ impl Model for JobList {
 }
 
 impl JobList {
-    ghost use Rattle.std.specs.Prelude.{◌≡◌, IfOk, OnOk, OnErr};
-    ghost use Rattle.cox_shell.specs.OpenLists.{opening_list};
+    ghost use Rattle.std.specs.Prelude.{◌≡◌, [], ◌∷◌, IfOk, OnOk, OnErr};
     ghost use Rattle.cox_shell.specs.Keeping.{with_line, with_block, IsBounded};
 
     /// A list of one empty block.
     pub fn new(alloc: Global) -> Result<JobList, AllocError>
-        ensures { IfOk result (λ list. list ≡ opening_list) }
+        ensures { IfOk result (λ list. list ≡ [] ∷ []) }
     {
         let mut blocks = Vec::new(alloc);
         blocks.push(Block::new(alloc))?;

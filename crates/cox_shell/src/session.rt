@@ -382,7 +382,7 @@ impl Session {
     }
 
     /// A session of its own in the same state, where no list is open. No row is made in it yet.
-    fn fresh(&self, alloc: Global) -> Result<Session, AllocError>
+    pub(crate) fn fresh(&self, alloc: Global) -> Result<Session, AllocError>
         ensures { IfOk result (λ own. own ≡ closed self.now) }
     {
         match &self.stage {
@@ -437,24 +437,8 @@ impl Session {
         Ok(told)
     }
 
-    /// Tells what a block is answered, in a session of its own, which reads the rows of this one.
-    pub(crate) fn tell_alone(
-        &self,
-        block: &Block,
-        told: &mut ToldText,
-        alloc: Global,
-    ) -> Result<(), AllocError>
-        ensures { OnOk result (TellsBlock (closed self.now) block.now told.old told.new) }
-    {
-        let mut own = self.fresh(alloc)?;
-        let maker = Beside {
-            shared: self.workspace(),
-        };
-        own.tell_block(&maker, block, told)
-    }
-
     /// What the session works with, if a group is set.
-    fn workspace(&self) -> Option<&Workspace> {
+    pub(crate) fn workspace(&self) -> Option<&Workspace> {
         match &self.stage {
             Stage::Opened(_) => None,
             Stage::Set(work) => Some(work),
@@ -492,7 +476,7 @@ impl Session {
     }
 
     /// Tells what the lines of a block are answered, one after another.
-    fn tell_block<M: RowMaker>(
+    pub(crate) fn tell_block<M: RowMaker>(
         &mut self,
         maker: &M,
         block: &Block,

@@ -34,6 +34,13 @@ const FEW_POLYNOMIALS: u64 = 131_072;
 /// How many more it adds up for each member of the context: a store and the tables of workers take time and memory in proportion to these.
 const FEW_FOR_EACH_MEMBER: u64 = 16;
 
+/// From how many lines on a list is answered by several threads, whatever its lines are. To start a thread, and a session for it, takes as
+/// long as to answer some hundred short lines.
+const MANY_LINES: usize = 256;
+
+/// From how many bytes on a line may take long: it has some twenty letters then.
+const LONG_LINE: usize = 24;
+
 /// Rows are made, and blocks are answered, by functions that run workers.
 #[derive(Clone, Copy, Drop)]
 pub struct ByWorkers<F, T> {
@@ -83,8 +90,34 @@ impl<
             return None;
         }
         session.make_ahead(self, alloc, blocks);
+        if !are_worth_threads(blocks) {
+            return None;
+        }
         (self.tell)(session, alloc, blocks)
     }
+}
+
+/// Whether it may take longer to answer these blocks than to start threads for them: they have many lines, or one that may take long.
+fn are_worth_threads(blocks: &[Block]) -> bool {
+    let mut lines = 0usize;
+    for block in blocks {
+        lines = lines.saturating_add(block.lines().len());
+        if has_long_line(block) {
+            return true;
+        }
+    }
+    lines >= MANY_LINES
+}
+
+/// Whether a line of a block may take long, though its rows are there: it is on long words, on the whole group, or on generated words.
+fn has_long_line(block: &Block) -> bool {
+    for line in block.lines() {
+        let content = line.content();
+        if content.len() >= LONG_LINE || !content.contains(&b' ') || content.starts_with(b"work") {
+            return true;
+        }
+    }
+    false
 }
 
 /// Makes rows of the members with these numbers, and those that they are made from, by this thread, until workers are worth it; none where

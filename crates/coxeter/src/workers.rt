@@ -72,15 +72,16 @@ fn meet_at_a_gate(rt: HostRuntime) -> Result<(), Fail> {
     Ok(())
 }
 
-/// Few rows, which cost little, are made by one thread: no other is started for them.
+/// Few rows, which cost little, are made by one thread, and a list of short lines is answered by one: no other is started for them.
 #[test]
 fn few_rows_pass_no_gate(rt: HostRuntime) -> Result<(), Fail> {
     let alloc = rt.alloc();
     let gate = MeetingGate::new(alloc, 120)?;
-    let script = "type A 4\nklbasis 12321\nlrcells\n";
+    let script = "type A 4\nklbasis 12321\nlrcells\njobs\npol 2 2132\nnext\nmu 2 2132\nend\n";
     let (status, _) = run_by(&rt, alloc, script, "2", &gate)?;
     assert_eq!(rt; status, Status::Done);
     assert_eq!(rt; gate.claims(), 0);
+    assert_eq!(rt; gate.blocks(), 0);
     Ok(())
 }
 
@@ -88,7 +89,7 @@ fn few_rows_pass_no_gate(rt: HostRuntime) -> Result<(), Fail> {
 #[test]
 fn blocks_meet_at_a_gate(rt: HostRuntime) -> Result<(), Fail> {
     let alloc = rt.alloc();
-    let script = "type A 4\njobs\nklbasis 2132\nnext\nklbasis 12321\nend\n";
+    let script = "type A 4\njobs\nlcells\nnext\nklbasis 12321\nend\n";
     let gate = MeetingGate::new(alloc, 120)?;
     let (status, sink) = run_by(&rt, alloc, script, "2", &gate)?;
     let (_, one) = run_by(&rt, alloc, script, "1", &Open)?;

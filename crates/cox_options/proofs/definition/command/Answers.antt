@@ -1,15 +1,19 @@
 -- The command that is built is the one of the definition: each call of `arg` adds the rule of the next option.
-use Rattle.std.proofs.Common.{◌≡◌, ◌∙◌, ap, ap₂, codes, ℕ}
+use Rattle.std.proofs.Common.{◌≡◌, ◌∙◌, ap, ap₂, codes, ℕ, true}
 use Rattle.std.proofs.lemmas.Result.{IfOk-weaker}
 use Rattle.cox_options.specs.declared.options.TheConstants.{MAX_CONTEXT_TEXT, MAX_ROOTS_TEXT, DEFAULT_WORKERS_TEXT}
-use Rattle.clap.specs.Words.{Rule, Text, app_of, new_app, with_rule}
-use Rattle.clap.specs.Simple.{app_of_fields}
-use Rattle.cox_options.specs.Command.{number_rule, without_help}
+use Rattle.clap.specs.Words.{App, Rule, Text, app_of, new_app, with_rule}
+use Rattle.clap.specs.Simple.{app_of_fields, on_top}
+use Rattle.cox_options.specs.Command.{number_rule}
 use Rattle.cox_options.proofs.definition.command.Goals as goal
 
 -- the rule of an option, by its parts
 abbrev rule : Text → Text → ℕ → Rule
 rule name default most = number_rule (record { name = name; most = most; default = default })
+
+-- a command without the flag for help
+abbrev without_help : App → App
+without_help = on_top (λ s. record s { disable_help_flag = true })
 
 pub returns : goal.returns
 returns c =

@@ -1,12 +1,12 @@
 -- The proof of `Session::set_group`.
-use Rattle.std.proofs.Common.{◌≡◌, refl, ap, ◌∙◌}
+use Rattle.std.proofs.Common.{◌≡◌, Some, refl, ap, ◌∙◌}
 use Rattle.cox_base.specs.IntegerMatrix.{integer_matrix}
 use Rattle.cox_base.proofs.AdmissibleMatrices.{IsAdmissible-integer_matrix}
 use Rattle.cox_small.specs.RootCounts.{HasFewSmallRoots}
 use Rattle.cox_command.specs.declared.command.Command.TheVariants.{Group}
 use Rattle.cox_command.specs.declared.refusal.Refusal.TheVariants.{ManyRoots}
 use Rattle.cox_replies.specs.Limits.{Limits}
-use Rattle.cox_shell.specs.Reply.{refusal, silence, with_group}
+use Rattle.cox_shell.specs.Reply.{refusal, silence}
 use Rattle.cox_shell.specs.CommandReply.{IsCommandReply}
 use Rattle.cox_shell.proofs.Sayings.{Says-silence, Says-reply, SaysPrefix-reply}
 use Rattle.cox_replies.proofs.Unless.{PutsPrefix-none}
@@ -21,7 +21,7 @@ returns-in-Ok-clause-ok c =
     let few : HasFewSmallRoots (integer_matrix c.args.group.now) c.args.self.now.limits.roots = rw limit at c.in-Ok.ensures.few in
     let list : c.self.inside.list ≡ c.args.self.now.list
     = list_of c.self.inside.stage c.self.inside.list c.args.self.now c.self.view_is in (
-      silence (with_group c.args.self.now c.args.group.now),
+      silence (record c.args.self.now { group = Some c.args.group.now }),
       group-set c.args.self.now c.args.group.now few,
       Says-silence _ _ _ (rw (c.new.ensures.options, c.new.ensures.table, c.in-Ok.ensures.group, c.options-options.ensures, list) refl),
     )
