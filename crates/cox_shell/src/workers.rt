@@ -113,7 +113,8 @@ fn are_worth_threads(blocks: &[Block]) -> bool {
 fn has_long_line(block: &Block) -> bool {
     for line in block.lines() {
         let content = line.content();
-        if content.len() >= LONG_LINE || !content.contains(&b' ') || content.starts_with(b"work") {
+        let is_on_group = !content.is_empty() && !content.contains(&b' ');
+        if is_on_group || content.len() >= LONG_LINE || content.starts_with(b"work") {
             return true;
         }
     }
