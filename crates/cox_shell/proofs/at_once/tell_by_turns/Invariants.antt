@@ -1,8 +1,12 @@
--- What was told so far.
+-- What was told so far; the session of its own stays as it is.
+use Rattle.std.proofs.Common.{◌≡◌}
 use Rattle.cox_shell.specs.Reply.{closed}
 use Rattle.cox_shell.specs.ToldText.{no_text}
 use Rattle.cox_shell.proofs.ToldBlocks.{HasToldBlocks}
 use Rattle.cox_shell.proofs.at_once.tell_by_turns.Given as goal
 
 abbrev pub invariant-turns : goal.invariant-turns
-invariant-turns g l = HasToldBlocks (closed l.fn.session) l.fn.blocks l.place no_text l.told
+invariant-turns g l = record {
+  same : l.own ≡ closed l.fn.session;
+  told : HasToldBlocks (closed l.fn.session) l.fn.blocks l.place no_text l.told;
+}
