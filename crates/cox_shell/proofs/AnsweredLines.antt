@@ -1,17 +1,16 @@
 -- What a line is answered whose tokens give a command on elements.
-use Rattle.std.proofs.Common.{◌≡◌, ◌⊎◌, inl, inr, ℕ, List, [], ◌∷◌, length, Option, Some, None, MatchOption, IsSomeAnd, refl, ap, subst}
+use Rattle.std.proofs.Common.{◌≡◌, inl, inr, ℕ, List, [], ◌∷◌, length, Option, Some, None, MatchOption, IsSomeAnd, refl, ap, subst}
 use Rattle.std.proofs.lemmas.Bool.{le-ltb}
 use Rattle.cox_base.specs.declared.limits.TheConstants.{MAX_LETTERS}
 use Rattle.cox_base.specs.Matrix.{CoxeterMatrix}
 use Rattle.cox_base.specs.IntegerMatrix.{IntegerMatrix, integer_matrix}
-use Rattle.cox_base.specs.WordText.{pieces_of, first_foreign, word_of}
+use Rattle.cox_base.specs.WordText.{pieces_of}
 use Rattle.cox_tokens.specs.Tokens.{tokens_of}
 use Rattle.cox_command.specs.CommandWord.{command_word_of}
 use Rattle.cox_command.specs.LineRefusal.{command_refusal, line_refusal}
 use Rattle.cox_command.specs.CommandReading.{command_by, command_of}
 use Rattle.cox_command.specs.declared.refusal.Refusal.{Refusal}
 use Rattle.cox_command.specs.declared.refusal.Refusal.TheVariants.{ManyRoots, LargeInterval, FarApart, LargeRow}
-use Rattle.cox_command.specs.declared.command.Command.{Command}
 use Rattle.cox_command.specs.declared.command.Command.TheVariants.{Ask}
 use Rattle.cox_command.specs.declared.command_word.CommandWord.{CommandWord}
 use Rattle.cox_command.specs.declared.command_word.CommandWord.TheVariants as word
@@ -30,7 +29,7 @@ use Rattle.cox_replies.specs.GroupReply.{group_question}
 use Rattle.cox_replies.specs.WorkReply.{RefusesWork, generated_words}
 use Rattle.cox_replies.specs.InquiryQuestion.{one_question, two_question, question_of}
 use Rattle.cox_shell.specs.Reply.{State, Reply, rank_of, refusal}
-use Rattle.cox_shell.specs.CommandReply.{IsDecided, Answers, IsInquiryReply, IsCommandReply}
+use Rattle.cox_shell.specs.CommandReply.{IsDecided, Answers, IsInquiryReply}
 use Rattle.cox_shell.specs.ContentReply.{IsContentReply}
 use Rattle.cox_shell.specs.Answered.{ReadsAs, IsWritten, IsAnswered, error_31, error_34, error_32, answer}
 use Rattle.std.specs.Option.{option_map}

@@ -2,7 +2,6 @@
 use Rattle.std.proofs.Common.{◌≡◌, ℕ, List, [], ◌∷◌, ◌++◌, Option, Some, None, IfSome}
 use Rattle.std.proofs.Common.{IsSomeAnd, MatchOption, refl, sym, ap, subst}
 use Rattle.std.specs.Option.{option_map}
-use Rattle.cox_base.specs.Matrix.{CoxeterMatrix}
 use Rattle.cox_base.specs.Admissible.{IsCoxeterMatrix}
 use Rattle.cox_command.specs.declared.refusal.Refusal.{Refusal}
 use Rattle.cox_command.specs.declared.command.Command.{Command}
@@ -14,7 +13,6 @@ use Rattle.cox_command.specs.LineRefusal.{command_refusal, line_refusal}
 use Rattle.cox_command.specs.CommandReading.{command_by, command_of}
 use Rattle.cox_shell.specs.Reply.{State, Reply, rank_of, refusal, silence}
 use Rattle.cox_command.specs.declared.inquiry.Inquiry.{Inquiry}
-use Rattle.cox_shell.specs.CommandReply.{IsDecided}
 use Rattle.cox_replies.specs.InquiryQuestion.{question_of}
 use Rattle.cox_shell.specs.CommandReply.{Answers, IsInquiryReply, RefusesGroup, IsCommandReply}
 use Rattle.cox_shell.proofs.DecidedReplies.{IsDecided-all}

@@ -1,5 +1,5 @@
 -- What is kept of a list.
-use Rattle.std.proofs.Common.{◌≡◌, ◌⊎◌, ◌≤◌, ◌+◌, ℕ, Bool, true, false, inl, inr, [], ◌∷◌, ◌++◌, List, length, Option, Some, None}
+use Rattle.std.proofs.Common.{◌≡◌, ◌≤◌, ◌+◌, Bool, true, false, inl, inr, [], ◌∷◌, ◌++◌, List, length, Option, Some, None}
 use Rattle.std.proofs.Common.{refl, sym, ap, ◌∙◌, subst, arith, length-append, ◌<◌, Result, Ok, Err}
 use Rattle.std.specs.Prelude.{OnOk, OnErr}
 use Rattle.std.specs.declared.alloc.AllocError.{AllocError}

@@ -1,5 +1,5 @@
 -- The lines of a block as a script.
-use Rattle.std.specs.Prelude.{◌≡◌, ℕ, List, Option, None}
+use Rattle.std.specs.Prelude.{◌≡◌, ℕ, List, None}
 use Rattle.cox_outside.specs.Line.{content_of}
 use Rattle.cox_tokens.specs.Tokens.{tokens_of}
 use Rattle.cox_command.specs.BlockLines.{block_refusal}

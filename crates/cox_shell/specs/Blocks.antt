@@ -1,5 +1,5 @@
 -- What the blocks of a list are answered, and the list.
-use Rattle.std.specs.Prelude.{◌≡◌, ℕ, false, MatchBool, IsSomeAnd, List, [], ◌∷◌, slice_get, MatchOption}
+use Rattle.std.specs.Prelude.{◌≡◌, false, MatchBool, IsSomeAnd, List, [], ◌∷◌, slice_get, MatchOption}
 use Rattle.std.specs.List.{filter_map}
 use Rattle.std.specs.Option.{option_or}
 use Rattle.cox_tokens.specs.Tokens.{tokens_of}

@@ -1,5 +1,5 @@
 -- The reply to a line by its content, whether a list is open or none.
-use Rattle.std.specs.Prelude.{◌≡◌, ℕ, List, [], Option, None, Some, MatchOption}
+use Rattle.std.specs.Prelude.{◌≡◌, ℕ, List, [], None, Some, MatchOption}
 use Rattle.std.specs.Option.{option_map_or}
 use Rattle.cox_tokens.specs.Tokens.{tokens_of}
 use Rattle.cox_command.specs.declared.blocks.ListWord.{ListWord}
