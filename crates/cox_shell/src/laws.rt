@@ -37,7 +37,7 @@ ghost use Rattle.cox_rows.specs.Beyond.{IsBeyond, NeedsBeyond};
 ghost use Rattle.cox_cells.specs.declared.kind.CellKind.TheVariants.{Left as LeftCells, Right as RightCells, Both as TwoSidedCells};
 ghost use Rattle.cox_cells.specs.Cells.{AreCells};
 ghost use Rattle.cox_inverse.specs.InverseRow.{IsInverseRow};
-ghost use Rattle.cox_rowcheck.specs.declared.limits.TheConstants.{MAX_LISTED, MAX_COEFFICIENT};
+ghost use Rattle.cox_certtext.specs.declared.limits.TheConstants.{MAX_LISTED, MAX_COEFFICIENT};
 ghost use Rattle.cox_replies.specs.Limits.{Limits};
 ghost use Rattle.cox_replies.specs.Listed.{IsOfList};
 ghost use Rattle.cox_replies.specs.RowReply.{coefficients_to, IsExtremalBelow};
