@@ -117,11 +117,12 @@ def most_at_once(rows):
 def crates(base):
     """Proves several crates at once, each behind those that it stands on, and only those of the program."""
     here = Checkout(base)
-    uses = {b"low1": b"", b"low2": b"low1", b"low3": b"", b"low4": b"", b"low5": b"low2", b"low6": b"low5", b"high": b"low4 std"}
+    chain = {b"low1": b"", b"low2": b"low1", b"low5": b"low2", b"low6": b"low5"}
+    uses = {**chain, b"low3": b"", b"low4": b"", b"low7": b"", b"low8": b"", b"high": b"low4 std"}
     rows = b"".join(b"%b: %b\n" % it for it in uses.items())
-    here.write(here.path(b"crates.txt"), b"# all\ncoxeter: low6 low5 low3 high std\n%bother: low1\n" % rows)
+    here.write(here.path(b"crates.txt"), b"# all\ncoxeter: low6 low5 low3 low7 low8 high std\n%bother: low1\n" % rows)
     for crate in [b"other", *uses]:
-        here.source(b"//! Code.\n", crate, b"lib.rt")
+        here.source(b"//! Code.\n" * (2 if crate in chain else 1), crate, b"lib.rt")
 
     def proved(what="checked"):
         path = os.path.join(here.tools, what.encode())
@@ -132,17 +133,20 @@ def crates(base):
         os.remove(path)
         return lines
 
-    ran = here.run()
-    check("a program of several crates", ran, 7, ONE, True)
-    jobs = int(ran.stderr.split(b" checks at once")[0].split()[-1])
+    ran = here.begin(stdin=subprocess.DEVNULL)
+    out, said = ran.communicate()
+    say("a program of several crates", (out, ran.returncode), (b"program of one:\n", 7))
+    jobs = int(said.split(b" checks at once")[0].split()[-1])
     lines = proved()
     say("what is proved", sorted(it for it in lines if it.startswith(b"+")), sorted(b"+" + it for it in uses))
     early = [(it, low) for it in uses for low in uses[it].replace(b"std", b"").split() if lines.index(b"+" + it) < lines.index(b"-" + low)]
     say("each behind those that it stands on", early, [])
     say("the longest chain first", lines[0], b"+low1")
-    say("how many at once", most_at_once(lines), min(3, jobs))
+    say("how many at once", most_at_once(lines), min(5, jobs))
+    each = dict(line.split() for line in proved("jobs"))
+    say("the longest chain has all jobs, and the others have one", each, {it: b"%d" % (jobs if it in chain else 1) for it in uses})
     names = [*uses, b"other"]
-    say("what came of it", [os.path.exists(here.path(b"crates/%b/out/rlib/stamp" % it)) for it in names], [True] * 7 + [False])
+    say("what came of it", [os.path.exists(here.path(b"crates/%b/out/rlib/stamp" % it)) for it in names], [True] * 9 + [False])
     say("no folder is left", os.path.exists(here.path(b"crates/coxeter/out/rooms")), False)
     here.source(b"two")
     check("another time", here.run(), 7, b"program of two:\ninput\n", True)
