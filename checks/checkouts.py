@@ -15,8 +15,9 @@ signal.signal(signal.SIGINT, signal.default_int_handler)
 # 'Builds' the program of the folder that it is run in: one that prints what the source said at the end of the build, its arguments,
 # and its input, and ends with 7, as `rt run` then does. It first does what a file `meanwhile` says, if there is one, and fails where
 # the source says so, or where it is run twice at once. Under `lib` it writes down the crate, behind a + where it begins and a - where
-# it ends, and what it found of that crate from before; it fails where crates.txt names a crate that has no line there, or one below is
-# not proved. `check` is none of its words, since it leaves no library for the crates above.
+# it ends, how many jobs it has, and what it found of that crate from before: all, or what was kept of a run that did not end. It takes
+# long where there is a file `slow` beside it. It fails where crates.txt names a crate that has no line there, or one below is not
+# proved. `check` is none of its words, since it leaves no library for the crates above.
 RT = b"""#!/bin/sh
 for count; do :; done
 case "$1 $2" in
@@ -43,7 +44,10 @@ case "$1 $2" in
   "lib --jobs")
     name=${PWD##*/}
     echo "+$name" >>"${0%rt}checked"
+    echo "$name $3" >>"${0%rt}jobs"
     [ ! -e out/before ] || echo "$name" >>"${0%rt}again"
+    [ ! -e out/incremental ] || echo "$name" >>"${0%rt}kept"
+    mkdir -p out/incremental
     for it in $(sed "s/.*://" ../../crates.txt); do
       [ "$it" = std ] || grep -q "^$it:" ../../crates.txt || exit 1
     done
@@ -51,6 +55,7 @@ case "$1 $2" in
       [ "$it" = "$name" ] || [ -e "../$it/out/rlib/stamp" ] || exit 1
     done
     sleep 1
+    [ ! -e "${0%rt}slow" ] || exec sleep 100
     [ "$(cat src/lib.rt)" = broken ] && exit 1
     mkdir -p out/rlib
     : >out/rlib/stamp

@@ -103,6 +103,30 @@ def shown(base):
     say("at last", (ran.stdout.read(), ran.wait()), (b"program of two:\ninput\n", 7))
 
 
+def beside(base):
+    """One crate alone is proved beside a first answer, and leaves it processors."""
+    here = Checkout(base)
+    here.write(here.path(b"crates.txt"), b"coxeter: low1 low2\nlow1:\nlow2:\n")
+    for crate in (b"low1", b"low2"):
+        here.source(b"//! Code.\n", crate, b"lib.rt")
+    here.write(here.path(b"trying"), b"until [ -e ../../go ]; do sleep 0.1; done\n")
+    ran = here.begin()
+    ran.stdin.write(b"input\n")
+    ran.stdin.close()
+    ran.stdin = None
+    begun = os.path.join(here.tools, b"jobs")
+    wait_for(begun)
+    time.sleep(0.5)
+    with open(begun, "rb") as file:
+        found = [line.split() for line in file]
+    here.write(here.path(b"go"), b"")
+    out, said = ran.communicate()
+    jobs = int(said.split(b" checks at once")[0].split()[-1])
+    say("beside a first answer", [it[1:] for it in found], [[b"%d" % max(jobs - 3, 1)]])
+    with open(begun, "rb") as file:
+        say("and behind it", (len(file.readlines()), out, ran.returncode), (2, ONE, 7))
+
+
 def inputs(base):
     """Which inputs are kept."""
     here = slow(base)
@@ -497,6 +521,6 @@ def disks(base):
 
 
 try_all(
-    shown, inputs, long_answers, none, late, differences, writes, terminals, conversations, others, interrupts, killed, two_at_once,
+    shown, beside, inputs, long_answers, none, late, differences, writes, terminals, conversations, others, interrupts, killed, two_at_once,
     folders, disks,
 )

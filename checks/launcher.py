@@ -105,6 +105,17 @@ def failures(base):
     check("with rt again", here.run(), 7, b"program of two:\ninput\n", True)
 
 
+def noted(here, what):
+    """What the stand-in wrote into that file beside it. The file goes."""
+    path = os.path.join(here.tools, what.encode())
+    if not os.path.exists(path):
+        return []
+    with open(path, "rb") as file:
+        lines = file.read().splitlines()
+    os.remove(path)
+    return lines
+
+
 def most_at_once(rows):
     """How many crates were proved at once, by the rows that the stand-in wrote."""
     now = most = 0
@@ -117,46 +128,44 @@ def most_at_once(rows):
 def crates(base):
     """Proves several crates at once, each behind those that it stands on, and only those of the program."""
     here = Checkout(base)
-    uses = {b"low1": b"", b"low2": b"low1", b"low3": b"", b"low4": b"", b"low5": b"low2", b"low6": b"low5", b"high": b"low4 std"}
+    chain = {b"low1": b"", b"low2": b"low1", b"low5": b"low2", b"low6": b"low5"}
+    uses = {**chain, b"low3": b"", b"low4": b"", b"low7": b"", b"low8": b"", b"high": b"low4 std"}
     rows = b"".join(b"%b: %b\n" % it for it in uses.items())
-    here.write(here.path(b"crates.txt"), b"# all\ncoxeter: low6 low5 low3 high std\n%bother: low1\n" % rows)
+    here.write(here.path(b"crates.txt"), b"# all\ncoxeter: low6 low5 low3 low7 low8 high std\n%bother: low1\n" % rows)
     for crate in [b"other", *uses]:
-        here.source(b"//! Code.\n", crate, b"lib.rt")
+        here.source(b"//! Code.\n" * (2 if crate in chain else 1), crate, b"lib.rt")
 
-    def proved(what="checked"):
-        path = os.path.join(here.tools, what.encode())
-        if not os.path.exists(path):
-            return []
-        with open(path, "rb") as file:
-            lines = file.read().splitlines()
-        os.remove(path)
-        return lines
-
-    ran = here.run()
-    check("a program of several crates", ran, 7, ONE, True)
-    jobs = int(ran.stderr.split(b" checks at once")[0].split()[-1])
-    lines = proved()
+    ran = here.begin(stdin=subprocess.DEVNULL)
+    out, said = ran.communicate()
+    say("a program of several crates", (out, ran.returncode), (b"program of one:\n", 7))
+    jobs = int(said.split(b" checks at once")[0].split()[-1])
+    lines = noted(here, "checked")
     say("what is proved", sorted(it for it in lines if it.startswith(b"+")), sorted(b"+" + it for it in uses))
     early = [(it, low) for it in uses for low in uses[it].replace(b"std", b"").split() if lines.index(b"+" + it) < lines.index(b"-" + low)]
     say("each behind those that it stands on", early, [])
     say("the longest chain first", lines[0], b"+low1")
-    say("how many at once", most_at_once(lines), min(3, jobs))
+    say("how many at once", most_at_once(lines), min(5, jobs))
+    each = {name: int(count) for name, count in map(bytes.split, noted(here, "jobs"))}
+    say("the longest chain has all jobs", [each[it] for it in chain], [jobs] * 4)
+    first, last = lines.index(b"+low1"), lines.index(b"-low6")
+    beside = [it for it in uses if it not in chain and b"+" + it in lines[first:last]]
+    say("what begins beside it has one", [each[it] for it in beside], [1] * len(beside))
     names = [*uses, b"other"]
-    say("what came of it", [os.path.exists(here.path(b"crates/%b/out/rlib/stamp" % it)) for it in names], [True] * 7 + [False])
+    say("what came of it", [os.path.exists(here.path(b"crates/%b/out/rlib/stamp" % it)) for it in names], [True] * 9 + [False])
     say("no folder is left", os.path.exists(here.path(b"crates/coxeter/out/rooms")), False)
     here.source(b"two")
     check("another time", here.run(), 7, b"program of two:\ninput\n", True)
-    say("nothing is proved ahead then", proved(), [])
+    say("nothing is proved ahead then", noted(here, "checked"), [])
     time.sleep(1.1)
     here.source(b"//! Other code.\n", b"low5", b"lib.rt")
     check("a lower crate that changed", here.run(), 7, b"program of two:\ninput\n", True)
-    say("it and those above it", proved(), [b"+low5", b"-low5", b"+low6", b"-low6"])
-    say("by what is there of them", proved("again"), [b"low5", b"low6"])
+    say("it and those above it", noted(here, "checked"), [b"+low5", b"-low5", b"+low6", b"-low6"])
+    say("by what is there of them", noted(here, "again"), [b"low5", b"low6"])
     time.sleep(1.1)
     here.source(b"broken", b"low2", b"lib.rt")
     here.source(b"broken")
     check("a lower crate that is refused", here.run(), 70, b"", True)
-    say("nothing above it is tried", proved(), [b"+low2"])
+    say("nothing above it is tried", noted(here, "checked"), [b"+low2"])
     say("what was there of it stays", os.path.exists(here.path(b"crates/low2/out/before")), True)
 
 
@@ -180,6 +189,30 @@ def turns(base):
     os.rmdir(building)
     os.remove(here.path(b"meanwhile"))
     check("the one after it", here.run(), 7, b"program of two:\ninput\n", True)
+
+
+def goes_on(base):
+    """Goes on with what was kept of a crate whose proof was not ended."""
+    here = Checkout(base)
+    here.write(here.path(b"crates.txt"), b"coxeter: low\nlow:\n")
+    here.source(b"//! Code.\n", b"low", b"lib.rt")
+    here.write(os.path.join(here.tools, b"slow"), b"")
+    for number, kept in ((signal.SIGINT, []), (signal.SIGKILL, [b"low"])):
+        cut = here.begin(stdin=subprocess.DEVNULL)
+        wait_for(os.path.join(here.tools, b"checked"))
+        time.sleep(0.5)
+        os.killpg(cut.pid, number)
+        cut.communicate()
+        say(f"cut by {number.name}", (noted(here, "checked"), noted(here, "kept")), ([b"+low"], kept))
+    os.remove(os.path.join(here.tools, b"slow"))
+    check("the one after these", here.run(), 7, ONE, True)
+    say("it goes on", noted(here, "kept"), [b"low"])
+    time.sleep(1.1)
+    here.source(b"broken", b"low", b"lib.rt")
+    shutil.rmtree(here.path(b"crates/low/out/incremental"))
+    here.source(b"broken")
+    check("a crate that is refused", here.run(), 70, b"", True)
+    say("what was kept of it", os.path.exists(here.path(b"crates/low/out/incremental")), True)
 
 
 def running(base):
@@ -248,4 +281,4 @@ def copies(base):
     say("one that comes out different", lines()[:2], (1, [True, False]))
 
 
-try_all(changes, places, names, failures, crates, turns, running, progress, copies)
+try_all(changes, places, names, failures, crates, turns, goes_on, running, progress, copies)
