@@ -12,5 +12,7 @@ pub data IsBeyond (A : IntegerMatrix) (limit : ℤ) (w : List ℕ) : Type 0 wher
   mu : {x : List ℕ} {m : ℤ} → IsMu A x w m → pos MU_LIMIT <ℤ pos (unsigned_abs m) → IsBeyond A limit w
 
 -- some element of Need(w) is such
-abbrev pub NeedsBeyond : IntegerMatrix → ℤ → List ℕ → Type 0
-NeedsBeyond A limit w = record { element : List ℕ; needed : IsNeeded A w element; beyond : IsBeyond A limit element }
+pub record NeedsBeyond (A : IntegerMatrix) (limit : ℤ) (w : List ℕ) : Type 0 where
+  pub element : List ℕ
+  pub needed : IsNeeded A w element
+  pub beyond : IsBeyond A limit element
