@@ -54,6 +54,9 @@ OPTIONS = {"workers": (1, 16), "context": (1, MOST_OF_CONTEXT), "roots": (1, 409
 # So many lines are read before they are made texts.
 MOST_AT_ONCE = 4096
 
+# The bytes that a line of an answer has: printing ASCII characters and spaces.
+PRINTING = bytes(range(0x20, 0x7F))
+
 # How many seconds a process that is told to end has for it.
 PATIENCE = 2
 
@@ -324,7 +327,8 @@ class Program:
         if not data.endswith(b"\n"):
             raise ProgramEnded(question, self._stop())
         line = data[:-1].decode("latin-1")
-        self._check_characters(line)
+        if not line or data.translate(None, PRINTING) != b"\n":
+            self._wrong_characters(line)
         if line == MARK_ANSWER:
             self._marks, line = self._marks - 1, None
             if not self._marks:
@@ -364,15 +368,15 @@ class Program:
 
     def _texts(self, lines):
         """The texts of some lines, whose list is emptied."""
-        texts = b"".join(lines).decode("latin-1").split("\n")[:-1]
+        data = b"".join(lines)
+        texts = data.decode("latin-1").split("\n")[:-1]
         lines.clear()
-        for text in texts:
-            self._check_characters(text)
+        if data.translate(None, PRINTING) != b"\n" * len(texts) or "" in texts:
+            self._wrong_characters(next(it for it in texts if not it or not it.isascii() or not it.isprintable()))
         return texts
 
-    def _check_characters(self, line):
-        if not (line and line.isascii() and line.isprintable()):
-            self.unexpected(self._asked, line, "a line should be of printing ASCII characters and spaces")
+    def _wrong_characters(self, line):
+        self.unexpected(self._asked, line, "a line should be of printing ASCII characters and spaces")
 
     def _kill(self):
         """Ends the process at once, in the middle of an answer."""
