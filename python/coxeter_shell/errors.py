@@ -1,4 +1,7 @@
 """What can go wrong."""
+from __future__ import annotations
+
+from typing import Any, List, Optional
 
 # The refusals of the program, in the words of its manual.
 MEANINGS = {
@@ -41,7 +44,7 @@ class Refusal(CoxeterError):
     `detail` says which of the causes it is, where that is known, and is else empty. The group is as it was before.
     """
 
-    def __init__(self, number, line, detail=""):
+    def __init__(self, number: int, line: str, detail: str = "") -> None:
         super().__init__(number, line)
         self.number = number
         self.line = line
@@ -56,7 +59,7 @@ class Refusal(CoxeterError):
 class JobRefusal(Refusal):
     """The program refused a line of a list of jobs. `block` is the number of its block and `index` that of the line in it, both from 0."""
 
-    def __init__(self, number, line, block, index):
+    def __init__(self, number: int, line: str, block: int, index: int) -> None:
         super().__init__(number, line)
         self.args = number, line, block, index
         self.block, self.index = block, index
@@ -79,7 +82,7 @@ class ProgramEnded(ProgramError):
     `status` is its exit status, negative for a signal, or None where the program had to be ended.
     """
 
-    def __init__(self, line, status):
+    def __init__(self, line: str, status: Optional[int]) -> None:
         super().__init__(line, status)
         self.line = line
         self.status = status
@@ -99,7 +102,7 @@ class ProgramEnded(ProgramError):
 class QuestionTimeout(ProgramError):
     """The program had not answered a question after `seconds`, and was ended. The next question starts a new one with the same group."""
 
-    def __init__(self, line, seconds):
+    def __init__(self, line: str, seconds: float) -> None:
         super().__init__(line, seconds)
         self.line = line
         self.seconds = seconds
@@ -111,7 +114,7 @@ class QuestionTimeout(ProgramError):
 class CheckFailed(ProgramError):
     """The program `coxcheck` ended without saying yes or no. `status` is its exit status, negative for a signal."""
 
-    def __init__(self, status):
+    def __init__(self, status: int) -> None:
         super().__init__(status)
         self.status = status
 
@@ -124,7 +127,7 @@ class CheckFailed(ProgramError):
 class ProgramClosed(ProgramEnded):
     """An iterator is asked for more, but its program has been ended, or belongs to another process. `why` says it."""
 
-    def __init__(self, line, why):
+    def __init__(self, line: str, why: str) -> None:
         super().__init__(line, None)
         self.why = why
 
@@ -138,7 +141,7 @@ class ProgramClosed(ProgramEnded):
 class UnexpectedAnswer(ProgramError):
     """An answer that doesn't have the shape that it should have. `line` was asked, and `answer` is what came."""
 
-    def __init__(self, line, answer, why):
+    def __init__(self, line: str, answer: Any, why: str) -> None:
         super().__init__(line, answer, why)
         self.line = line
         self.answer = answer
@@ -152,7 +155,7 @@ class UnexpectedAnswer(ProgramError):
 class UnexpectedResult(CoxeterError):
     """A worker of an executor gave something else than the results of so many questions. `result` is what it gave."""
 
-    def __init__(self, result, count):
+    def __init__(self, result: Any, count: int) -> None:
         super().__init__(result, count)
         self.result = result
         self.count = count
@@ -167,7 +170,7 @@ class Unanswered(CoxeterError):
     `words` is the list of the elements whose rows are missing, and `table` has the other rows.
     """
 
-    def __init__(self, words, table):
+    def __init__(self, words: List[Any], table: Any) -> None:
         super().__init__(words, table)
         self.words = words
         self.table = table

@@ -5,16 +5,19 @@ import array
 import bisect
 import collections
 import itertools
-from typing import Any, Iterable, Iterator, Tuple
+from typing import Any, Dict, Iterable, Iterator, List, Set, Tuple
 
 from . import drawing, pictures
-from .base import Element, Word
+from .base import Base, Element, Word
 from .edges import Edges
 from .tables import ElementDict, Table
 from .texts import check_rising, counted, gap
 
 Vertex = collections.namedtuple("Vertex", "element descents edges")
 Vertex.__doc__ = "A vertex of a W-graph: the element, its descents, and the values of its edges by its neighbours."
+
+# The nodes of a plain picture, row by row, each as its name and its text; and its edges, as two names and a text.
+Layers = Tuple[List[List[Tuple[str, str]]], List[Tuple[str, str, str]]]
 
 # Larger graphs are not drawn in a notebook.
 MOST_DRAWN = 200
@@ -55,7 +58,7 @@ class Drawn:
         """The picture for notebooks whose SVG is taken out, where graphviz is installed."""
         return pictures.draw(self.dot(), "png") if len(self) <= MOST_DRAWN and pictures.shutil.which("dot") else None
 
-    def layers(self):
+    def layers(self) -> Layers:
         """What the plain picture is drawn of: the nodes by the lengths of their elements, and the edges, as texts."""
         raise NotImplementedError
 
@@ -75,7 +78,15 @@ class WGraph(Drawn, Table):
     # A large graph has millions of edges. So they are kept as rising arrays of the places of neighbours, and vertices are made when they
     # are asked for. `_other` has the values other than 1, by pairs of places.
 
-    def __init__(self, group, side, elements, descents, near, other):
+    def __init__(
+        self,
+        group: Base,
+        side: str,
+        elements: Iterable[Element],
+        descents: List[Element],
+        near: List[Any],
+        other: Dict[Tuple[int, int], int],
+    ) -> None:
         self.group = group
         self.side = side
         self._descents, self._near, self._other = descents, near, other
@@ -84,7 +95,7 @@ class WGraph(Drawn, Table):
         self._vertices = None
 
     @classmethod
-    def read(cls, group, side, items):
+    def read(cls, group: Base, side: str, items: Iterable[str]) -> WGraph:
         """The graph of the texts of its vertices. Others are a ValueError.
 
         >>> texts = ["e - 1:1", "1 1 e:1"]
@@ -189,7 +200,7 @@ class WGraph(Drawn, Table):
         masks = {letters: sum(1 << s for s in letters) for letters in set(self._descents)}
         return [masks[letters] for letters in self._descents]
 
-    def steps_between(self, names):
+    def steps_between(self, names: Dict[Element, Any]) -> Set[Tuple[Any, Any]]:
         """The pairs of different names that a step leads from one to the other of, where `names` gives an element its name.
 
         >>> graph = CoxeterGroup("A", 2).W_graph()
@@ -200,10 +211,10 @@ class WGraph(Drawn, Table):
         kinds = [*zip((names[x] for x in self._elements), self._masks())]
         numbers = {kind: number for number, kind in enumerate(dict.fromkeys(kinds))}
         listed, own = list(numbers), [numbers[kind] for kind in kinds]
-        reached = [set() for _ in listed]
+        reached: List[Set[int]] = [set() for _ in listed]
         for of, near in zip(own, self._near):
             reached[of].update(map(own.__getitem__, near))
-        found = set()
+        found: Set[Tuple[Any, Any]] = set()
         for (name, mine), others in zip(listed, reached):
             found.update((name, other) for other, sets in map(listed.__getitem__, others) if mine & ~sets and other != name)
         return found
@@ -222,11 +233,11 @@ class WGraph(Drawn, Table):
         other = {(new[x], new[y]): value for (x, y), value in self._other.items() if x in new and y in new}
         return WGraph(self.group, self.side, [self._elements[x] for x in chosen], [self._descents[x] for x in chosen], near, other)
 
-    def rows(self):
+    def rows(self) -> Iterator[Tuple[Any, ...]]:
         sets = dict(zip(self._elements, self._descents))
         return ((x, sets[x], y, sets[y], value) for x, y, value in self.edges())
 
-    def texts(self):
+    def texts(self) -> Iterator[Tuple[str, ...]]:
         """The rows as texts. The empty set of descents is `-`."""
         for x, of_x, y, of_y, value in self.rows():
             yield self.group.text(x), self.group.set_text(of_x), self.group.text(y), self.group.set_text(of_y), str(value)
@@ -235,8 +246,8 @@ class WGraph(Drawn, Table):
         """The graph as a DOT text. The label of a vertex has its descents in its second line."""
         return pictures.w_graph_text(self)
 
-    def layers(self):
-        rows = {}
+    def layers(self) -> Layers:
+        rows: Dict[int, List[Tuple[str, str]]] = {}
         for x, descents in zip(self._elements, self._descents):
             text = self.group.text(x)
             rows.setdefault(len(x), []).append((text, f"{text} {{{self.group.set_text(descents).strip('-')}}}"))
@@ -277,10 +288,10 @@ class HasseDiagram(Drawn, ElementDict):
 
     columns = "element", "covered"
 
-    def __init__(self, group, items=(), value="covered"):
+    def __init__(self, group: Base, items: Any = (), value: str = "covered") -> None:
         super().__init__(group, items, value)
 
-    def rows(self):
+    def rows(self) -> Iterator[Tuple[Any, ...]]:
         """The edges: an element, and one that it covers."""
         return self.edges()
 
@@ -296,8 +307,8 @@ class HasseDiagram(Drawn, ElementDict):
         """The diagram as a DOT text."""
         return pictures.hasse_text(self)
 
-    def layers(self):
-        rows = {}
+    def layers(self) -> Layers:
+        rows: Dict[int, List[Tuple[str, str]]] = {}
         for x in self:
             rows.setdefault(len(x), []).append((self.group.text(x),) * 2)
         return list(rows.values()), [(self.group.text(z), self.group.text(x), "") for x, z in self.edges()]
@@ -332,7 +343,7 @@ class CellOrder(Drawn, Table):
 
     columns = "cell", "covered"
 
-    def __init__(self, group, side, cells, graph):
+    def __init__(self, group: Base, side: str, cells: Iterable[List[Element]], graph: WGraph) -> None:
         self.group, self.side = group, side
         self.cells = ElementDict(group, ((cell[0], cell) for cell in cells), "cell")
         self._names = ElementDict(group, ((x, cell[0]) for cell in cells for x in cell), "cell")
@@ -411,15 +422,16 @@ class CellOrder(Drawn, Table):
             further = set().union(*(self._below[it] - {it} for it in below))
             yield from ((name, it) for it in self.cells if it in below and it not in further)
 
-    def rows(self):
+    def rows(self) -> Iterator[Tuple[Any, ...]]:
         return self.edges()
 
     def dot(self) -> str:
         """The order as a DOT text. The label of a cell has the number of its elements in its second line."""
         return pictures.cell_order_text(self)
 
-    def layers(self):
-        height, rows = {}, []
+    def layers(self) -> Layers:
+        height: Dict[Element, int] = {}
+        rows: List[List[Tuple[str, str]]] = []
         for name in sorted(self.cells, key=lambda it: len(self._below[it])):
             height[name] = max((height[it] + 1 for it in self._below[name] - {name}), default=0)
             rows += [[]] * (height[name] == len(rows))

@@ -143,6 +143,8 @@ def cartan_of(kind, matrix):
     """The Cartan type of an object of Sage as a tuple, None where it has none that is known here and has this Coxeter matrix."""
     cartan = kind.cartan_type() if hasattr(kind, "cartan_type") else kind
     letter, number, affine = (getattr(cartan, name, None) for name in ("letter", "n", "affine"))
+    if callable(affine):  # the finite types of Sage have a method of this name, which gives another type
+        affine = None
     if not isinstance(letter, str) or number is None or affine not in (None, False, 0, 1):
         return None
     found = (letter, int(number), 1) if affine else (letter, int(number))

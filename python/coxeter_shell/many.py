@@ -2,6 +2,7 @@
 from __future__ import annotations
 
 import concurrent.futures
+import contextlib
 import copy
 import functools
 import json
@@ -10,6 +11,7 @@ import pickle
 import queue
 import threading
 import uuid
+import warnings
 from typing import Any, Iterable, Iterator, Optional
 
 from . import certificates
@@ -20,6 +22,9 @@ from .tables import RowTable, Table
 
 # So often a question is asked where a worker or its program is killed.
 TRIES = 3
+
+# For so many seconds a cluster of dask may have no worker before that is told.
+WITHOUT_WORKERS = 60
 
 # The groups of this thread, each with a program of its own.
 _mine = threading.local()
@@ -152,6 +157,7 @@ class Asked:
 
     def __init__(self, executor, what, items, chunksize):
         self.submitting, self.what, self.items = submitting(executor), what, items
+        self.client = client_of(executor)
         order = sorted(range(len(items)), key=lambda k: -size(items[k]))
         self.chunks = [order[at : at + chunksize] for at in range(0, len(order), chunksize)]
         self.tries = [0] * len(self.chunks)
@@ -174,13 +180,14 @@ class Asked:
         numbers = {k: number for number, chunk in enumerate(self.chunks) for k in chunk}
         found = {}
         try:
-            for k in range(len(self.items)):
-                number = numbers[k]
-                while k not in found:
-                    results = self.result(number)
-                    if results is not None:
-                        found.update(zip(self.chunks[number], results))
-                yield found.pop(k)
+            with watched(self.client):
+                for k in range(len(self.items)):
+                    number = numbers[k]
+                    while k not in found:
+                        results = self.result(number)
+                        if results is not None:
+                            found.update(zip(self.chunks[number], results))
+                    yield found.pop(k)
         finally:
             self.cancel()
 
@@ -191,17 +198,18 @@ class Asked:
         try:
             for number in range(left):
                 self.tell(number, done)
-            while left:
-                number = done.get()
-                try:
-                    results = self.result(number)
-                except Exception as error:
-                    results = error
-                if results is None:
-                    self.tell(number, done)
-                else:
-                    left -= 1
-                    yield self.questions(number), results
+            with watched(self.client):
+                while left:
+                    number = done.get()
+                    try:
+                        results = self.result(number)
+                    except Exception as error:
+                        results = error
+                    if results is None:
+                        self.tell(number, done)
+                    else:
+                        left -= 1
+                        yield self.questions(number), results
         finally:
             self.cancel()
 
@@ -236,13 +244,47 @@ class Asked:
                 future.cancel()
 
 
+def client_of(executor):
+    """The client of dask that an executor is, or that is behind it; None where there is none."""
+    if type(executor).__module__.split(".")[0] != "distributed":
+        return None
+    return getattr(executor, "_client", executor)
+
+
 def submitting(executor):
     """The `submit` of an executor; that of the client behind an executor of dask, whose own futures may never be done where workers are
     killed, while those of the client are."""
-    client = getattr(executor, "_client", None)
-    if client is None or type(executor).__module__.split(".")[0] != "distributed":
+    client = client_of(executor)
+    if client is None or client is executor:
         return executor.submit
     return functools.partial(client.submit, **getattr(executor, "_kwargs", {}))
+
+
+@contextlib.contextmanager
+def watched(client):
+    """For a `with` block in which results of a client of dask are awaited: a warning says where its cluster has had no worker for a while.
+    Dask waits for one without end."""
+    if client is None:
+        yield
+        return
+    ended = threading.Event()
+    threading.Thread(target=watch, args=(client, ended), name="coxeter_shell watches dask", daemon=True).start()
+    try:
+        yield
+    finally:
+        ended.set()
+
+
+def watch(client, ended):
+    """Says, until `ended` is set, each time that there has been no worker for a while."""
+    without = 0
+    while not ended.wait(WITHOUT_WORKERS / 10):
+        try:
+            without = 0 if client.scheduler_info()["workers"] else without + 1
+        except Exception:  # the client is closed, or is not to be asked so
+            return
+        if without == 10:
+            warnings.warn(f"dask has had no worker for {WITHOUT_WORKERS} seconds, and waits for one without end", RuntimeWarning)
 
 
 class ExecutorFailed(CoxeterError):

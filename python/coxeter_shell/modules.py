@@ -35,7 +35,7 @@ class CellModule:
         self.elements, self.images = elements, images
 
     @classmethod
-    def read(cls, spelling, rank, lines):
+    def read(cls, spelling: texts.Spelling, rank: int, lines: List[str]) -> CellModule:
         """The module of an answer, line by line. Another answer is a ValueError.
 
         >>> CellModule.read(CoxeterGroup("A", 1)._spelling, 1, ["1", "e", "1 e: e=v^2"]).matrix(1)

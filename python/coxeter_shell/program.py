@@ -26,7 +26,7 @@ from typing import Any, Iterable, List, NoReturn, Optional
 from . import parents
 from .documents import checkouts
 from .errors import ProgramClosed, ProgramEnded, ProgramNotFound, QuestionTimeout, Refusal, UnexpectedAnswer
-from .provenance import own_program, provenance
+from .provenance import Provenance, own_program, provenance
 
 MARK = "\t"
 MARK_ANSWER = "error 19"
@@ -53,6 +53,9 @@ OPTIONS = {"workers": (1, 16), "context": (1, MOST_OF_CONTEXT), "roots": (1, 409
 
 # So many lines are read before they are made texts.
 MOST_AT_ONCE = 4096
+
+# The bytes that a line of an answer has: printing ASCII characters and spaces.
+PRINTING = bytes(range(0x20, 0x7F))
 
 # How many seconds a process that is told to end has for it.
 PATIENCE = 2
@@ -84,7 +87,8 @@ class Program:
         self._late = False
         self.watch = None
         self._lock = threading.RLock()
-        self._process = self._end = self._owner = None
+        self._process: Any = None
+        self._end = self._owner = None
         self._sent = 0  # bytes
         self._asked = ""  # the last question
         self._unread = None  # a weak reference to its answer, until that is read to its end
@@ -171,7 +175,7 @@ class Program:
         if process is not None:
             process.kill()
 
-    def provenance(self):
+    def provenance(self) -> Provenance:
         """Where the program comes from: its file and the checksum of that, the release that it is, and the logic that it was proved in.
         It is a `Provenance`, whose text has a line for each.
 
@@ -182,7 +186,7 @@ class Program:
             process = None if self._process is None or self.foreign() else self._process.pid
             return provenance(find_program(self.path), process)
 
-    def start(self, size=MOST_OF_LINE):
+    def start(self, size: int = MOST_OF_LINE) -> None:
         """Starts the process and sets the group, unless a process is there that can take one more question of this size."""
         with self._lock:
             if self._process is not None and (self.foreign() or not self._begun or not self._sure):
@@ -217,7 +221,7 @@ class Program:
             else:
                 self._stop()
 
-    def foreign(self):
+    def foreign(self) -> bool:
         """Whether the process belongs to the Python process that this one was forked from."""
         return self._owner != os.getpid()
 
@@ -306,7 +310,7 @@ class Program:
         while self._unread is not None:
             self.read_line()
 
-    def read_line(self, first=False):
+    def read_line(self, first: bool = False) -> Optional[str]:
         """The next line of the answer to the last question, None at a mark, and at its end."""
         if self._unread is None:
             return None
@@ -323,7 +327,8 @@ class Program:
         if not data.endswith(b"\n"):
             raise ProgramEnded(question, self._stop())
         line = data[:-1].decode("latin-1")
-        self._check_characters(line)
+        if not line or data.translate(None, PRINTING) != b"\n":
+            self._wrong_characters(line)
         if line == MARK_ANSWER:
             self._marks, line = self._marks - 1, None
             if not self._marks:
@@ -331,9 +336,11 @@ class Program:
         self._sure = True
         return line
 
-    def read_lines(self):
+    def read_lines(self) -> List[str]:
         """The lines up to the next mark."""
-        texts, lines, end = [], [], f"{MARK_ANSWER}\n".encode()
+        texts: List[str] = []
+        lines: List[bytes] = []
+        end = f"{MARK_ANSWER}\n".encode()
         if self._unread is None:
             return texts
         self._sure = False
@@ -361,15 +368,15 @@ class Program:
 
     def _texts(self, lines):
         """The texts of some lines, whose list is emptied."""
-        texts = b"".join(lines).decode("latin-1").split("\n")[:-1]
+        data = b"".join(lines)
+        texts = data.decode("latin-1").split("\n")[:-1]
         lines.clear()
-        for text in texts:
-            self._check_characters(text)
+        if data.translate(None, PRINTING) != b"\n" * len(texts) or "" in texts:
+            self._wrong_characters(next(it for it in texts if not it or not it.isascii() or not it.isprintable()))
         return texts
 
-    def _check_characters(self, line):
-        if not (line and line.isascii() and line.isprintable()):
-            self.unexpected(self._asked, line, "a line should be of printing ASCII characters and spaces")
+    def _wrong_characters(self, line):
+        self.unexpected(self._asked, line, "a line should be of printing ASCII characters and spaces")
 
     def _kill(self):
         """Ends the process at once, in the middle of an answer."""
@@ -377,7 +384,7 @@ class Program:
             self._process.kill()
             self._stop()
 
-    def refusal(self, lines, question):
+    def refusal(self, lines: List[str], question: str) -> Optional[int]:
         """The number of the refusal that the lines of an answer are, None where they are another answer."""
         if not lines or not lines[0].startswith("error"):
             return None

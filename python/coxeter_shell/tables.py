@@ -7,6 +7,8 @@ import io
 import itertools
 from typing import Any, Iterator, Optional, Tuple
 
+from .base import Base
+
 # A table with more rows is not written out as a text: a notebook stores what its last line is.
 MOST_WRITTEN = 500
 
@@ -114,7 +116,7 @@ class ElementDict(Plain, dict):
 
     _plain = dict
 
-    def __init__(self, group, items=(), value="value"):
+    def __init__(self, group: Base, items: Any = (), value: str = "value") -> None:
         super().__init__(items)
         self.group = group
         self.value = value
@@ -135,7 +137,7 @@ class ElementDict(Plain, dict):
     def __contains__(self, word):
         return dict.__contains__(self, self._key(word))
 
-    def get(self, word, default=None):
+    def get(self, word: Any, default: Any = None) -> Any:
         return dict.get(self, self._key(word), default)
 
     def _key(self, word):
@@ -188,7 +190,7 @@ class RowTable(ElementDict):
 
     columns = "w", "x", "polynomial"
 
-    def __init__(self, group, items=(), value="row"):
+    def __init__(self, group: Base, items: Any = (), value: str = "row") -> None:
         super().__init__(group, items, value)
 
     def rows(self) -> Iterator[Tuple[Any, ...]]:
@@ -205,7 +207,7 @@ class Cells(Plain, list):
     columns = "cell", "element"
     _plain = list
 
-    def __init__(self, group, cells=()):
+    def __init__(self, group: Base, cells: Any = ()) -> None:
         super().__init__(cells)
         self.group = group
 

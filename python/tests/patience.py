@@ -27,6 +27,22 @@ class Patience:
         return found
 
 
+class Moving(Patience):
+    """A limit of so many seconds in which what is seen stays the same."""
+
+    def __init__(self, seconds, seen):
+        super().__init__(seconds)
+        self.seconds, self.seen, self.before = seconds, seen, seen()
+
+    def wait(self, call):
+        """The same. The limit begins anew where something else is seen."""
+        seen = self.seen()
+        if seen != self.before:
+            self.before = seen
+            super().__init__(self.seconds, self.pid)
+        return super().wait(call)
+
+
 def is_wanted(pid):
     """Whether a thread of the process, but this one, or of those that it has started, has a processor or waits for one."""
     for it in family(pid):

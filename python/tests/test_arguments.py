@@ -106,7 +106,7 @@ class Wrong(unittest.TestCase):
 
         rows = CoxeterGroup("B", 3).coxeter_matrix()
         entries = Matrix({(s, t): rows[s - 1][t - 1] for s in (1, 2, 3) for t in (1, 2, 3)})
-        cartan = types.SimpleNamespace(letter="C", n=3, affine=False, coxeter_matrix=lambda: entries)
+        cartan = types.SimpleNamespace(letter="C", n=3, affine=lambda: ["C", 3, 1], coxeter_matrix=lambda: entries)
         stub = unittest.mock.MagicMock()
         with unittest.mock.patch.dict("sys.modules", {"sage": types.ModuleType("sage"), "sage.all": stub}):
             for group in (CoxeterGroup(cartan), pickle.loads(pickle.dumps(CoxeterGroup(cartan))), CoxeterGroup("C3")):

@@ -2,6 +2,7 @@
 import concurrent.futures
 import contextlib
 import importlib.util
+import itertools
 import os
 import pickle
 import random
@@ -28,18 +29,20 @@ from coxeter_shell import (
 
 HAS_DASK = importlib.util.find_spec("distributed") is not None
 
-# So many seconds a question to dask may take: on a busy machine its scheduler waits up to five minutes for a worker that doesn't answer.
-DASK = 400
+# For so many seconds a table over dask may stand still: its scheduler waits up to five minutes for a worker that doesn't answer.
+STILL = 330
 
 
 @contextlib.contextmanager
 def dask(workers=2, **options):
-    """A client of dask with workers on this machine, for a `with` block."""
+    """A client of dask with workers on this machine, for a `with` block. A worker that was killed is awaited however long its start takes."""
+    from dask import config
     from distributed import Client, LocalCluster
 
     how = {"n_workers": workers, "threads_per_worker": 1, "dashboard_address": None}
-    with LocalCluster(**how) as cluster, Client(cluster, **options) as client:
-        yield client
+    with config.set({"distributed.deploy.lost-worker-timeout": "1 hour"}):
+        with LocalCluster(**how) as cluster, Client(cluster, **options) as client:
+            yield client
 
 
 def executors():
@@ -50,8 +53,8 @@ def executors():
             yield client.get_executor()
 
 
-def within(seconds, call):
-    """What a call gives in another thread, if it ends within so many seconds in which nothing here wants a processor."""
+def within(limit, call):
+    """What a call gives in another thread, if it ends within a limit of time."""
     found = []
 
     def run():
@@ -62,13 +65,32 @@ def within(seconds, call):
 
     thread = threading.Thread(target=run, daemon=True)
     thread.start()
-    limit = patience.Patience(seconds)
     while not found:
         limit.wait(thread.join)
     value, error = found[0]
     if error is not None:
         raise error
     return value
+
+
+@contextlib.contextmanager
+def moving(client):
+    """A limit for a `with` block that is reached where a table over dask stands still: no row comes, no question is asked again, no worker
+    comes or goes, and no process is started or ends."""
+    steps = itertools.count()
+    with contextlib.ExitStack() as patched:
+        for owner, name in ((CoxeterGroup, "_row_of"), (CoxeterGroup, "_certified"), (many.Asked, "submit")):
+
+            def noted(*words, call=getattr(owner, name)):
+                next(steps)
+                return call(*words)
+
+            patched.enter_context(unittest.mock.patch.object(owner, name, noted))
+
+        def seen():
+            return repr(steps), set(client.scheduler_info()["workers"]), patience.children(os.getpid())
+
+        yield patience.Moving(STILL, seen)
 
 
 class Losing(concurrent.futures.Executor):
@@ -172,11 +194,11 @@ class Map(unittest.TestCase):
         """It asks again, and where that raises an error it never tells."""
         with fakes.Fakes() as folder:
             group = CoxeterGroup("A", 3, program=folder.killed(4, find_program()))
-            found = within(20, lambda: list(group.map("length", ["121", "12", "1"], executor=Losing(), chunksize=3)))
+            found = within(patience.Patience(20), lambda: list(group.map("length", ["121", "12", "1"], executor=Losing(), chunksize=3)))
             self.assertEqual(found, [3, 2, 1])
             group = CoxeterGroup("A", 3, program=folder.killed(99, find_program()))
             with self.assertRaises(ProgramEnded):
-                within(20, lambda: list(group.map("length", ["121"], executor=Losing())))
+                within(patience.Patience(20), lambda: list(group.map("length", ["121"], executor=Losing())))
 
     def test_workers_that_give_something_else(self):
         """None, too few results, too many, and what is none."""
@@ -217,6 +239,35 @@ class Map(unittest.TestCase):
                     list(group.map("length", [3], executor=executor))
         self.assertIsInstance(many.portable(ValueError(3)), ValueError)
         self.assertIn("ValueError: <unlocked", str(many.portable(ValueError(threading.Lock()))))
+
+    def test_a_cluster_without_workers(self):
+        """Dask waits for a worker without end, and a warning says so. A stand-in has what dask's client has."""
+
+        class Client(concurrent.futures.ThreadPoolExecutor):
+            __module__ = "distributed.client"
+            workers = {}
+
+            def scheduler_info(self):
+                return {"workers": self.workers}
+
+        group, told = CoxeterGroup("A", 3), threading.Event()
+
+        def waits(*words):
+            told.wait(60)
+            return [3]
+
+        with unittest.mock.patch.multiple(many, WITHOUT_WORKERS=0.5, ask=waits), Client(1) as client:
+            with unittest.mock.patch.object(many.warnings, "warn", side_effect=lambda *_: told.set()) as warned:
+                self.assertEqual(list(group.map("length", ["121"], executor=client)), [3])
+                self.assertIn("no worker for 0.5 seconds", warned.call_args[0][0])
+                self.assertEqual(warned.call_count, 1)
+                # Where there is one, nothing is said.
+                told.clear()
+                client.workers = {"tcp://127.0.0.1:1": {}}
+                threading.Timer(1.5, told.set).start()
+                self.assertEqual(list(group.map("length", ["121"], executor=client)), [3])
+                self.assertEqual(warned.call_count, 1)
+        self.assertFalse([it for it in threading.enumerate() if it.name == "coxeter_shell watches dask" and not told.wait(1)])
 
     def test_what_is_not_read_is_not_asked(self):
         with concurrent.futures.ThreadPoolExecutor(1) as executor, CoxeterGroup("A", 3) as group:
@@ -265,15 +316,12 @@ class Dask(unittest.TestCase):
                 killer = threading.Thread(target=kill, args=(8,), daemon=True)
                 killer.start()
                 try:
-                    table = within(DASK, lambda kind=kind: group.kazhdan_lusztig_table(executor=kind, chunksize=4))
+                    with moving(client) as limit:
+                        table = within(limit, lambda kind=kind: group.kazhdan_lusztig_table(executor=kind, chunksize=4))
                     self.assertEqual(set(table), set(right))
                 except Unanswered as error:
                     table = error.table
                     self.assertEqual(set(table) | set(error.words), set(right))
-                except AssertionError:
-                    if not workers(client):
-                        self.skipTest("dask has not started again any worker that was killed: the machine is too busy for it")
-                    raise
                 finally:
                     done.set()
                     killer.join()
@@ -290,7 +338,8 @@ class Dask(unittest.TestCase):
         """Certificates come through a client that unpickles nothing. Other results do not."""
         plain = ["dask", "msgpack"]
         with CoxeterGroup("A", 3) as group, dask(deserializers=plain) as client:
-            table = within(DASK, lambda: group.kazhdan_lusztig_table(executor=client.get_executor(), chunksize=8, certified=True))
+            with moving(client) as limit:
+                table = within(limit, lambda: group.kazhdan_lusztig_table(executor=client.get_executor(), chunksize=8, certified=True))
             self.assertEqual(table, group.kazhdan_lusztig_table())
 
 
