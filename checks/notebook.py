@@ -91,8 +91,8 @@ def by_ipython(notebook, cells):
 def plain(output):
     """What is compared of an output: its texts, and that a picture is one."""
     data = {"text": output["text"]} if "text" in output else output["data"]
-    texts = {kind: it if isinstance(it, str) else "".join(it) for kind, it in data.items()}
-    return {kind: text[:4] if kind == PICTURE else text for kind, text in texts.items() if kind != DRAWN}
+    texts = {kind: it if isinstance(it, str) else "".join(it) for kind, it in data.items() if kind != DRAWN}
+    return {kind: text[:4] if kind == PICTURE else text for kind, text in texts.items()}
 
 
 if __name__ == "__main__":
