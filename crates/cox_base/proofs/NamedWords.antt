@@ -55,7 +55,8 @@ joined-pieces rank text = elim (cases_Bool (has_digits rank)) [
 joined-letters : (rank s : ℕ) (word : List ℕ) → word_text rank (s ∷ word) ≡ joined (separator rank) (map decimal (s ∷ word))
 joined-letters rank s word = ap (λ rest. decimal s ++ rest) (others word)
   where
-    others : (word : List ℕ) → flat_map (λ t. separator rank ++ decimal t) word ≡ flat_map (λ next. separator rank ++ next) (map decimal word)
+    others : (word : List ℕ)
+        → flat_map (λ t. separator rank ++ decimal t) word ≡ flat_map (λ next. separator rank ++ next) (map decimal word)
     others [] = refl
     others (t ∷ word) = ap (λ rest. (separator rank ++ decimal t) ++ rest) (others word)
 
