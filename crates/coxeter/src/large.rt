@@ -1,5 +1,5 @@
 //! Large answers, which no lack of memory cuts off, with values from outside.
-use cox_outside::{MemorySink, MemorySource};
+use cox_doubles::{MemorySink, MemorySource};
 use cox_shell::{Status, run_one};
 use std::alloc::{AllocError, Global};
 use std::test::Fail;

@@ -1,7 +1,8 @@
 //! Whole runs from the arguments of an environment.
 
 use crate::{NAME, start};
-use cox_outside::{MemorySink, MemorySource, arguments_of};
+use cox_doubles::{MemorySink, MemorySource};
+use cox_outside::arguments_of;
 use cox_shell::Status;
 use std::env::FillError;
 use std::rt::Env;

@@ -1,6 +1,7 @@
 //! Whole runs over sources and sinks in memory.
 
-use cox_outside::{Got, MemorySink, MemorySource, Open, Source};
+use cox_doubles::{MemorySink, MemorySource};
+use cox_outside::{Got, Open, Source};
 use cox_shell::{Status, run_one};
 use std::alloc::{AllocError, Global};
 use std::process::Abort;

@@ -1,5 +1,6 @@
 //! Whole runs with several workers: they write the same bytes, and behind a gate two of them work at once.
-use cox_outside::{Gate, MeetingGate, MemorySink, MemorySource, Open};
+use cox_doubles::{MeetingGate, MemorySink, MemorySource};
+use cox_outside::{Gate, Open};
 use cox_shell::{Session, Status, run, run_one};
 use std::alloc::{AllocError, Global};
 use std::sync::Wait;
