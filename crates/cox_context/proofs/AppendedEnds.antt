@@ -114,7 +114,7 @@ module _ (c : CoxeterMatrix) (g : IsAdmissible (integer_matrix c)) (top : List �
         below z e b =
             ⊎_elim (λ there. inl (listed-member words marks numbers marked z there)) (λ is. inr (rw read at is))
             (next-below (integer_matrix c) g (slice_index top at) (drop (at + 1) top) end-letter end-descent size j
-                (listed_words words numbers) h
+            (listed_words words numbers) h
             inside absent z e (rw read b))
 
         short : length y ≤ MAX_LETTERS

@@ -22,7 +22,7 @@ use Rattle.cox_context.proofs.ShiftPlaces.{place-within, entry-is}
 pub elements-whole : (e : Elements) (n : ℕ) → n ≡ length e.members → e ≡ record { matrix = e.matrix; members = take n e.members }
 elements-whole e n count =
     rw count (ap (λ (words : List (List ℕ)). record { matrix = e.matrix; members = words })
-        (sym (take_all (length e.members) e.members (omega arith))))
+    (sym (take_all (length e.members) e.members (omega arith))))
 
 module _ (A : IntegerMatrix) (words : List (List ℕ)) (closed : IsClosed A words) (n : ℕ) (within : n ≤ length words) where
   first-word : (i : ℕ) → i < n → word_at (take n words) i ≡ word_at words i

@@ -41,7 +41,7 @@ listed-old words y (n ∷ numbers) within =
     let first : word_at (words ++ y ∷ []) n ≡ word_at words n = word_at-old words y n (within 0 (omega arith))
     in let rest = listed-old words y numbers (λ p l. within (suc p) (omega (arith, l)))
     in ap (λ (word : List ℕ). word ∷ map (λ i. word_at (words ++ y ∷ []) i) numbers) first
-        ∙ ap (λ (r : List (List ℕ)). word_at words n ∷ r) rest
+    ∙ ap (λ (r : List (List ℕ)). word_at words n ∷ r) rest
 
 -- the identity alone
 pub listed-identity : (A : IntegerMatrix) → IsAdmissible A → (words : List (List ℕ)) → IsClosed A words

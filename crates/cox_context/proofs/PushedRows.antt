@@ -172,7 +172,7 @@ sets-push P words y sets x h bit = record {
   bit = λ i k l. ⊎_elim (λ (less : i < length words). rw (word_at-old words y i less, push-old sets x 0 i (omega (arith, less, h.size)))
       (h.bit i k less))
       (λ (e : i ≡ length words). rw (word_at-new words y i e, push-new sets x 0 i (omega (arith, e, h.size))) (bit k))
-          (push_cases words y i l);
+      (push_cases words y i l);
 }
 
 -- ---- a context with one member more

@@ -81,7 +81,7 @@ returns-in_err-find-clause-appended c =
     in let appended : AreAppended A (drop c.args.at top) c.args.context.now.members c.find.new.context.members
     = appended-trans A (drop c.args.at top) c.args.context.now.members mid c.find.new.context.members h.appended
     (appended-one A (drop c.args.at top)
-        (normal_form A (slice_index top c.args.at ∷ word_at mid (slice_index numbers c.loop-place.place))) mid
+    (normal_form A (slice_index top c.args.at ∷ word_at mid (slice_index numbers c.loop-place.place))) mid
     c.find.new.context.members below grown)
     in appended
 
@@ -131,7 +131,7 @@ loop-place-preserved c =
     in let appended : AreAppended A (drop c.args.at top) c.args.context.now.members c.find.new.context.members
     = appended-trans A (drop c.args.at top) c.args.context.now.members mid c.find.new.context.members h.appended
     (appended-one A (drop c.args.at top)
-        (normal_form A (slice_index top c.args.at ∷ word_at mid (slice_index numbers c.loop-place.place))) mid
+    (normal_form A (slice_index top c.args.at ∷ word_at mid (slice_index numbers c.loop-place.place))) mid
     c.find.new.context.members below grown)
     in let next = rw (h.matrix, s, ← read) at c.in_ok-find.ensures.found
     in record {

@@ -79,7 +79,8 @@ returns-else-fits-2-clause-too_large c _ =
 
 -- a polynomial that has the text and fits is the answer
 pub returns-then-is_zero-clause-again : goal.returns-then-is_zero-clause-again
-returns-then-is_zero-clause-again c = ?
+returns-then-is_zero-clause-again c =
+    read-again c.args.most c.args.text.now (Ok c.from_trimmed.result) (search rules) (λ e. cc e) (λ e. cc e)
 
 pub returns-in_default-clause-again : goal.returns-in_default-clause-again
 returns-in_default-clause-again c =

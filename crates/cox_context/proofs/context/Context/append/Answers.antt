@@ -29,7 +29,7 @@ invariant_of-self-2 c =
     in let x_is : IsLoweringSet v.group.rank c.append.new.self.left.items (length words) (v.group.rank + 1) c.lowering_set-left_set.result
     = rw (c.rank-rank.ensures.rank, c.len-number.ensures.len, c.as_slice-2.ensures.value) at c.lowering_set-left_set.ensures
     in let z_is : IsLoweringSet v.group.rank c.push_last_row.new.table.items (length words)
-        (v.group.rank + 1) c.lowering_set-right_set.result
+    (v.group.rank + 1) c.lowering_set-right_set.result
     = rw (c.rank-rank.ensures.rank, c.len-number.ensures.len, c.as_slice-3.ensures.value) at c.lowering_set-right_set.ensures
     in rw (
       members,
