@@ -20,3 +20,5 @@ pub mod AddedProducts
 pub mod GrowingSums
 -- what the conditions on members decide
 pub mod Decision
+-- polynomials turned round, as far as a sum goes
+pub mod TurnedSums

@@ -97,7 +97,7 @@ returns-then-first-clause-again c =
 pub returns-then-fits-2-clause-again : goal.returns-then-fits-2-clause-again
 returns-then-fits-2-clause-again c =
     read-again c.args.most c.args.text.now (Ok c.from_trimmed-then-fits-2.result) (returns-then-fits-2-clause-read c) (λ e. cc e)
-        (λ e. cc e)
+    (λ e. cc e)
 
 pub returns-else-fits-2-clause-again : goal.returns-else-fits-2-clause-again
 returns-else-fits-2-clause-again c =
