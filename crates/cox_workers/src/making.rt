@@ -12,10 +12,10 @@ ghost use Rattle.cox_row.specs.RowOf.{IsRowAt};
 ghost use Rattle.cox_row.specs.Within.{IsRowWithin};
 ghost use Rattle.cox_row_store.specs.Stores.{limit_of, IsSeat};
 
-use crate::worker_context::WorkerContext;
 use crate::gathering::Budget;
-use crate::worker_scratch::WorkerScratch;
 use crate::missing::Missing;
+use crate::worker_context::WorkerContext;
+use crate::worker_scratch::WorkerScratch;
 use cox_klstep::{ByThreads, Descent, FoundPolynomial, RowTask, find_together, needs, row};
 use cox_outside::{Gate, Point};
 use cox_row::{LowerRows, Row};

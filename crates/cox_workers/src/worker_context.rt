@@ -24,7 +24,12 @@ impl<'a> WorkerContext<'a> {
     ghost use Rattle.cox_workers.specs.Work.{IsSeatKept, VoidsNone};
 
     /// The context of the worker with this number.
-    pub fn new(alloc: Global, context: &'a Context, store: &'a RowStore, number: u32) -> WorkerContext<'a>
+    pub fn new(
+        alloc: Global,
+        context: &'a Context,
+        store: &'a RowStore,
+        number: u32,
+    ) -> WorkerContext<'a>
         requires { elements_of store.now ≡ context.now }
         ensures context { result.context.now ≡ context.now }
         ensures store { result.store.now ≡ store.now }

@@ -2,8 +2,8 @@
 ghost use Rattle.std.specs.Prelude.{IfOk};
 ghost use Rattle.cox_row_store.specs.Stores.{IsSeat};
 
-use crate::worker_context::WorkerContext;
 use crate::read_rows::ReadRows;
+use crate::worker_context::WorkerContext;
 use cox_klstep::{Steps, Tables};
 use cox_row_store::Seat;
 use std::alloc::AllocError;

@@ -19,7 +19,10 @@ fn makes_the_rows_of_a2(rt: HostRuntime) -> Result<(), Fail> {
     assert_eq!(rt; store.look(&mut seat, 0), RowState::Free);
     let worker = WorkerContext::new(alloc, &context, &store, 1);
     let mut scratch = WorkerScratch::new(&worker, &seat)?;
-    assert_eq!(rt; worker.ensure(&rt, &Open, &mut seat, &mut scratch, 5), Ok(()));
+    assert_eq!(rt;
+        worker.ensure(&rt, &Open, &mut seat, &mut scratch, 5),
+        Ok(())
+    );
     let guard = store.read(&rt, &seat, 5);
     let Some(found) = polynomial(&context, guard.row(), 5, 0) else {
         panic!(rt; "e is below 121");
