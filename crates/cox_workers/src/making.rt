@@ -36,9 +36,8 @@ impl<'a> WorkerContext<'a> {
     /// gate is passed before each claim and each publication. The seat waits only for rows whose numbers are less than those of all rows
     /// that it holds.
     ///
-    /// Whatever the answer, the seat holds what it held: a row that was claimed on the way is Published, or else Void. In place of the row
-    /// of i that of a member that it needs may be the one that is `Void` or has the `Fault`; a fault with the row of the member w is told
-    /// of with w.
+    /// Whatever the answer, the seat holds what it held: a row that was claimed on the way is Published, or else Void. The error may be
+    /// about a row that the row of i needs; it names the member.
     #[cycle(ensure)]
     pub fn ensure<R: Threads + Wait + Sync, G: Gate>(
         &self,

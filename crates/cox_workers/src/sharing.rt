@@ -52,6 +52,7 @@ impl<'a> WorkerContext<'a> {
             return None;
         };
         let count = corrections.len();
+        // Each worker begins five eighths of the list further on than the one before it, so that they seldom meet at one row.
         let start = (self.number as usize).wrapping_mul(count / 2 + count / 8);
         let mut claimed = None;
         'corrections: for index in 0..count {

@@ -21,7 +21,7 @@ pub struct WorkerScratch<'a> {
 impl<'a> WorkerScratch<'a> {
     ghost use Rattle.cox_workers.specs.Ready.{IsWorkerReady};
 
-    /// What a worker has at the start: no row that it reads. It keeps each row that it reads until it is let go.
+    /// What a worker has at the start: no row that it reads. Each row that it reads can be read until the scratch memory is dropped.
     pub fn new(worker: &WorkerContext<'a>, seat: &Seat) -> Result<WorkerScratch<'a>, AllocError>
         requires { IsSeat worker.now.store.now seat.now }
         ensures { IfOk result (IsWorkerReady worker.now seat.now) }
