@@ -20,8 +20,6 @@ use Rattle.cox_cells.specs.NumberedCells.{IsNumberedStep, AreSteps, AreStepsTo, 
 use Rattle.cox_cells.proofs.DescentSets.{own-letters}
 
 module _ (kind : CellKind) (e : Elements) where
-  pub steps-none : AreSteps kind e 0 []
-  steps-none = record { step = λ i j d. absurd (omega (arith, d.1)); all = λ i j l. absurd (omega (arith, l)) }
 
   -- ---- one step
 

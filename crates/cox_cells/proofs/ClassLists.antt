@@ -57,13 +57,6 @@ module _ (classes : List ℕ) (n : ℕ) where
 
 -- ---- all lists
 
-pub gathered-start : (classes places : List ℕ) → AreGathered classes 0 places []
-gathered-start classes places = record {
-  each = λ k l. absurd (omega (arith, l));
-  in_order = λ j k less l. absurd (omega (arith, l));
-  whole = λ i l. absurd (omega (arith, l));
-}
-
 module _ (size : ℕ) (classes : List ℕ) (least : (i : ℕ) → i < size → IsLeastOfClass size classes i) (n : ℕ) (inside : n < size)
     (places : List ℕ) (lists : List (List ℕ)) (h : AreGathered classes n places lists) where
   class-most : (i : ℕ) → i < size → slice_index classes i ≤ i

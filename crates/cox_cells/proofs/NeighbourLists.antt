@@ -1,5 +1,5 @@
 -- The neighbours of one member more.
-use Rattle.std.proofs.Common.{◌≡◌, ℕ, ◌+◌, ◌-◌, ◌<◌, ◌≤◌, List, [], ◌∷◌, ◌++◌, length, take, drop, refl, ◌∙◌, ap, ⊎_elim, arith}
+use Rattle.std.proofs.Common.{◌≡◌, ℕ, ◌+◌, ◌-◌, ◌<◌, ◌≤◌, List, [], ◌∷◌, ◌++◌, length, take, drop, ◌∙◌, ap, ⊎_elim, arith}
 use Rattle.std.proofs.lemmas.List.{take-append-le, take_all, drop-append-le, length-append, length-drop}
 use Rattle.std.proofs.Math.Seq.{drop-append_seam}
 use Rattle.std.proofs.lemmas.Bool.{cases_lt}
@@ -22,15 +22,6 @@ between-new : (numbers more : List ℕ) (end : ℕ) → end ≡ length (numbers 
 between-new numbers more end is =
     let whole : length more ≤ end - length numbers = omega (arith, length-append numbers more)
     in ap (take (end - length numbers)) (drop-append_seam numbers more) ∙ take_all (end - length numbers) more whole
-
-pub neighbours-none : (e : Elements) → AreNeighbours e 0 (0 ∷ []) []
-neighbours-none e = record {
-  count = refl;
-  last = refl;
-  rise = λ k l. absurd (omega (arith, l));
-  room = λ k l. absurd (omega (arith, l));
-  each = λ k l. absurd (omega (arith, l));
-}
 
 module _ (e : Elements) (n : ℕ) (offsets numbers more : List ℕ) (end : ℕ) (h : AreNeighbours e n offsets numbers)
     (new : HasNeighbours e n more)

@@ -50,10 +50,6 @@ module _ (A : IntegerMatrix) (g : IsAdmissible A) where
   pub edge : List ℕ → List ℕ → ℤ
   edge x y = mu_at x y +ℤ mu_at y x
 
-  pub edge-is : (x y : List ℕ) → edge x y ≡ mu_at x y +ℤ mu_at y x
-  unfolding edge
-  edge-is x y = refl
-
   -- .. where s is a left descent of y, else 0
   pub weight : ℕ → List ℕ → List ℕ → ℤ
   weight s x y = if shortens_left A s y then edge x y else pos 0

@@ -50,11 +50,6 @@ lift-two n f = λ i k. at k i
     at (suc zero) = refl
     at (suc (suc k)) = twice (lift n f k)
 
--- inside
-pub lift-inside : (n : ℕ) (f : Coefficients) → lift n (negated (times_q f)) ≡ lift (suc n) f
-lift-inside zero f = refl
-lift-inside (suc n) f = ap (λ (h : Coefficients). negated (times_q h)) (lift-inside n f)
-
 pub lift-square : (n : ℕ) (f : Coefficients) → lift n (times_q (times_q f)) ≡ lift (suc (suc n)) f
 lift-square zero f = sym (lift-two zero f)
 lift-square (suc n) f = ap (λ (h : Coefficients). negated (times_q h)) (lift-square n f)

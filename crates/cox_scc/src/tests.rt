@@ -33,6 +33,17 @@ fn path_of(alloc: Global, n: u32, closed: bool) -> Result<Digraph, NoMemory>
     Ok(graph)
 }
 
+// The star with edges from 0 to all other vertices.
+fn star_of(alloc: Global, n: u32) -> Result<Digraph, NoMemory>
+    ensures { IfOk result (λ graph. vertices_of graph ≡ n) }
+{
+    let mut graph = Digraph::new(alloc, n)?;
+    for b in 1..n {
+        graph.add(0, b)?;
+    }
+    Ok(graph)
+}
+
 #[test]
 fn small_graphs(rt: HostRuntime) -> Result<(), Fail> {
     let alloc = rt.alloc();
@@ -86,5 +97,19 @@ fn long_paths(rt: HostRuntime) -> Result<(), Fail> {
     );
     let cycle = classes(alloc, &path_of(alloc, 100_000, true)?)?;
     assert!(rt; cycle.len() == 100_000 && cycle.iter().all(|&class| class == 0));
+    Ok(())
+}
+
+// A pass that went over the edges of a vertex from the first again, after each vertex that it entered from there, would take minutes.
+#[test]
+fn many_edges_at_one_vertex(rt: HostRuntime) -> Result<(), Fail> {
+    let alloc = rt.alloc();
+    let star = classes(alloc, &star_of(alloc, 1_000_000)?)?;
+    assert!(rt; star.len() == 1_000_000);
+    assert!(rt;
+        star.iter()
+            .enumerate()
+            .all(|(k, &class)| k == class as usize)
+    );
     Ok(())
 }

@@ -17,9 +17,6 @@ use Rattle.cox_wgraph.proofs.EdgeValues.{edge-exists, edge-unique}
 
 -- ---- one listing
 
-no_joined : Joined
-no_joined = record { element = []; value = pos 0 }
-
 joined-path : (j k : Joined) → j.element ≡ k.element → j.value ≡ k.value → j ≡ k
 joined-path j k e f = λ i. record { element = e i; value = f i }
 

@@ -18,6 +18,7 @@ fn makes_the_rows_of_the_longest_element(rt: HostRuntime) -> Result<(), Fail> {
     let mut rows = Rows::new(alloc, context, i64::MAX)?;
     assert!(rt; !rows.has(5));
     assert!(rt; !rows.is_settled(5));
+    assert!(rt; !rows.has_needs(5));
     rows.ensure(5)?;
     assert!(rt; rows.is_settled(5));
     assert_eq!(rt; rows.pool_len(5), 1);
@@ -31,6 +32,7 @@ fn makes_the_rows_of_the_longest_element(rt: HostRuntime) -> Result<(), Fail> {
     }
     rows.ensure_all()?;
     assert!(rt; rows.take(5).is_some());
+    assert!(rt; rows.has_needs(5));
     assert!(rt; !rows.has(5));
     assert!(rt; rows.has(4));
     Ok(())
