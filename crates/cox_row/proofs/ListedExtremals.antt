@@ -22,15 +22,6 @@ module _ (A : IntegerMatrix) (members : List (List ℕ)) (w : List ℕ) where
     pub whole : (x : ℕ) → x < n → IsExtremal A w (word_at members x) → IsBelow A (word_at members x) w
         → (k : ℕ) × (k < length numbers) × (number_at numbers k ≡ x)
 
-  pub extremal_to-none : AreExtremalTo 0 []
-  extremal_to-none = record {
-    rising = λ j k l m. absurd (omega (arith, m));
-    within = λ k l. absurd (omega (arith, l));
-    extremal = λ k l. absurd (omega (arith, l));
-    below = λ k l. absurd (omega (arith, l));
-    whole = λ x l e b. absurd (omega (arith, l));
-  }
-
   module _ (n : ℕ) (numbers : List ℕ) (h : AreExtremalTo n numbers) where
     pub extremal_to-push : IsExtremal A w (word_at members n) → IsBelow A (word_at members n) w → AreExtremalTo (n + 1) (numbers ++ n ∷ [])
     extremal_to-push e b = record {

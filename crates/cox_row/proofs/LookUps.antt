@@ -7,10 +7,9 @@ use Rattle.cox_poly.specs.Polynomial.{coefficient}
 use Rattle.cox_hecke.specs.Row.{IsKazhdanLusztig, IsMu}
 use Rattle.cox_context.specs.Numbers.{word_at}
 use Rattle.cox_row.specs.Rising.{number_at}
-use Rattle.cox_row.specs.Extremal.{IsExtremal}
 use Rattle.cox_row.specs.ExtremalNumbers.{AreExtremal}
 use Rattle.cox_row.specs.Polynomials.{polynomial_at, HavePolynomials}
-use Rattle.cox_row.specs.Mus.{value_at, AreMus}
+use Rattle.cox_row.specs.Mus.{AreMus}
 use Rattle.cox_row.specs.Raised.{StandsFor}
 use Rattle.cox_row.proofs.MuOfElements.{mu-zero}
 
@@ -25,17 +24,6 @@ module _ (A : IntegerMatrix) (members : List (List ℕ)) (w : List ℕ) where
   pub below-at : (x : List ℕ) (top k : ℕ) (numbers : List ℕ) → AreExtremal A members w numbers → StandsFor A w x (word_at members top)
       → k < length numbers → number_at numbers k ≡ top → IsBelow A x w
   below-at x top k numbers h stands l e = stands.from (rw e at (h.below k l))
-
-  -- an extremal element that the row does not have is not below w
-  pub absent-outside : (x : List ℕ) (top : ℕ) (numbers : List ℕ) → AreExtremal A members w numbers → top < length members
-      → IsExtremal A w (word_at members top) → StandsFor A w x (word_at members top)
-      → ((k : ℕ) → k < length numbers → number_at numbers k ≡ top → ⊥) → IsBelow A x w → ⊥
-  absent-outside x top numbers h l e stands none b = let there = h.whole top l e (stands.to b) in none there.0 there.1 there.2
-
-  pub mu-at : (u k : ℕ) (numbers : List ℕ) (values : List ℤ) → AreMus A members w numbers values → k < length numbers
-      → number_at numbers k ≡ u
-      → IsMu A (word_at members u) w (value_at values k)
-  mu-at u k numbers values h l e = rw e at (h.value k l)
 
   -- a member that the list of mu does not have has 0
   pub mu-absent : (g : IsAdmissible A) (u : ℕ) (numbers : List ℕ) (values : List ℤ) → AreMus A members w numbers values → u < length members

@@ -38,6 +38,6 @@ pub use look_up::{extremal_members, indexed_polynomial, mu, polynomial, pool_len
 pub use lower_rows::LowerRows;
 pub use member_map::MemberMap;
 pub use places::Places;
-pub use raised::{is_extremal, is_subset, raise_fully};
-pub use row::{MU_LIMIT, Row, RowParts, Values, View};
+pub use raised::{is_subset, raise_fully};
+pub use row::{MU_LIMIT, Row, Values, View};
 pub use row_index::RowIndex;

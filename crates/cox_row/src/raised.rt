@@ -42,7 +42,7 @@ pub fn raise_fully(ctx: &Context, i: u32, x: u32) -> Option<u32>
 }
 
 /// Whether the member x is extremal for the member w with the number i: each descent of w is one of x, on both sides.
-pub fn is_extremal(ctx: &Context, i: u32, x: u32) -> bool
+pub(crate) fn is_extremal(ctx: &Context, i: u32, x: u32) -> bool
     requires i { i < length ctx.now.members }
     requires x { x < length ctx.now.members }
     ensures { IsTrue result ↔ IsExtremal (integer_matrix ctx.now.matrix) (word_at ctx.now.members i) (word_at ctx.now.members x) }
