@@ -2,24 +2,26 @@
 //!
 //! `coxeter` reads lines, answers each, and ends with the number of a `cox_shell::Status`. All text
 //! goes to standard output. What it writes is proved in `cox_shell`, which starts as many threads as the
-//! arguments say, behind a gate that holds nobody. Here the arguments are
+//! arguments say, behind the gate that it is handed; that of `main` holds nobody. Here the arguments are
 //! collected, which may run out of memory, and the run is handed a source and a sink. Where an argument is no
 //! text, a wrong argument is handed over in place of all. Each function but `main` is generic over the source and the
 //! sink, and its contract is that of one whole run, `IsRun` and `IsReadBy` of `cox_shell`, so nothing is read or written before it,
 //! behind it or beside it; `main` collects the arguments and makes the standard streams. No other function sees the environment.
 //!
-//! - `tests`: whole runs over sources and sinks in memory
-//! - `starting`: whole runs from the arguments of an environment
-//! - `large`: large answers, which no lack of memory cuts off
-//! - `workers`: whole runs with several workers, one of them behind a gate
+//! The scripts that need no arguments of their own are the crate's `stdin`, and what has to be written for them is its `stdout`. Tests:
+//!
+//! - `runs`: whole runs from the arguments of an environment, over a source and a sink in memory
+//! - `starting`: such runs with options and faults
+//! - `large`: large answers, which no lack of memory cuts off; lines and inputs at their limits
+//! - `workers`: such runs with several workers, some of them behind a gate
 #![tactic(auto)]
 
 #[cfg(test)]
 mod large;
 #[cfg(test)]
-mod starting;
+mod runs;
 #[cfg(test)]
-mod tests;
+mod starting;
 #[cfg(test)]
 mod workers;
 
@@ -30,13 +32,12 @@ ghost use Rattle.cox_options.specs.Arguments.{IsUsage};
 ghost use Rattle.cox_shell.specs.declared.status.Status.{Status};
 ghost use Rattle.cox_shell.specs.declared.status.Status.TheVariants.{NoMemory};
 ghost use Rattle.cox_shell.specs.ExitCode.{code_of};
-ghost use Rattle.cox_shell.specs.Top.{argument_texts};
 ghost use Rattle.cox_shell.specs.Reading.{IsReadBy};
 ghost use Rattle.cox_shell.specs.WholeRun.{IsRun};
 
 use cox_options::wrong_arguments;
-use cox_outside::{Open, Sink, Source, StdSink, StdSource, arguments_of, texts};
-use cox_shell::Status;
+use cox_outside::{Gate, Open, Sink, Source, StdSink, StdSource, arguments_of, texts};
+use cox_shell::{Status, run};
 use std::alloc::{AllocError, Global};
 use std::io;
 use std::process::ExitCode;
@@ -46,60 +47,49 @@ use std::thread::Threads;
 /// What the program is called, as its first argument.
 const NAME: &str = "coxeter";
 
-/// Runs the shell with arguments of these texts.
-fn run<R: Threads + Wait + Sync, S: Source, K: Sink>(
-    rt: &R,
-    alloc: Global,
-    words: &[&str],
-    source: &mut S,
-    sink: &mut K,
-) -> Status
-    ensures run { IsRun result (argument_texts words.now) (S.seen source.old) (S.seen source.new) (K.seen sink.old) (K.seen sink.new) }
-    ensures reading { IsReadBy result (argument_texts words.now) (S.seen source.old) (S.seen source.new) }
-{
-    cox_shell::run(rt, alloc, words, source, sink, &Open)
-}
-
 /// Runs the shell with these arguments.
-fn run_arguments<R: Threads + Wait + Sync, S: Source, K: Sink>(
+fn run_arguments<R: Threads + Wait + Sync, S: Source, K: Sink, G: Gate + Sync>(
     rt: &R,
     alloc: Global,
     arguments: &[String],
     source: &mut S,
     sink: &mut K,
+    gate: &G,
 ) -> Status
     ensures run { IsRun result (map string_bytes arguments.now)
         (S.seen source.old) (S.seen source.new) (K.seen sink.old) (K.seen sink.new) }
     ensures reading { IsReadBy result (map string_bytes arguments.now) (S.seen source.old) (S.seen source.new) }
 {
     match texts(alloc, arguments) {
-        Ok(texts) => run(rt, alloc, &texts, source, sink),
+        Ok(texts) => run(rt, alloc, &texts, source, sink, gate),
         Err(_) => Status::NoMemory,
     }
 }
 
 /// Runs the shell with arguments that give no options, which stand for those of which one is no text.
-fn refuse<R: Threads + Wait + Sync, S: Source, K: Sink>(
+fn refuse<R: Threads + Wait + Sync, S: Source, K: Sink, G: Gate + Sync>(
     rt: &R,
     alloc: Global,
     source: &mut S,
     sink: &mut K,
+    gate: &G,
 ) -> Status
     ensures { (arguments : List (List ℕ)) × IsUsage arguments
         × IsRun result arguments (S.seen source.old) (S.seen source.new) (K.seen sink.old) (K.seen sink.new)
         × IsReadBy result arguments (S.seen source.old) (S.seen source.new) }
 {
-    run(rt, alloc, &wrong_arguments(), source, sink)
+    run(rt, alloc, &wrong_arguments(), source, sink, gate)
 }
 
 /// Runs the shell with the arguments that were found. Wrong ones stand for those of which one is no text. Where there was no memory to
 /// collect them nothing is read or written.
-fn start<R: Threads + Wait + Sync, S: Source, K: Sink>(
+fn start<R: Threads + Wait + Sync, S: Source, K: Sink, G: Gate + Sync>(
     rt: &R,
     alloc: Global,
     found: Result<Option<Vec<String>>, AllocError>,
     source: &mut S,
     sink: &mut K,
+    gate: &G,
 ) -> Status
     ensures run { (arguments : List (List ℕ))
         × IsRun result arguments (S.seen source.old) (S.seen source.new) (K.seen sink.old) (K.seen sink.new)
@@ -111,8 +101,8 @@ fn start<R: Threads + Wait + Sync, S: Source, K: Sink>(
     ensures none { IfErr found (λ _. (result ≡ NoMemory) × (source.new ≡ source.old) × (sink.new ≡ sink.old)) }
 {
     match found {
-        Ok(Some(arguments)) => run_arguments(rt, alloc, &arguments, source, sink),
-        Ok(None) => refuse(rt, alloc, source, sink),
+        Ok(Some(arguments)) => run_arguments(rt, alloc, &arguments, source, sink, gate),
+        Ok(None) => refuse(rt, alloc, source, sink, gate),
         Err(_) => Status::NoMemory,
     }
 }
@@ -126,18 +116,19 @@ fn exit_code(status: Status) -> ExitCode
 
 /// Runs the shell with the arguments that were found, and gives its status out. What an environment has for arguments no contract tells, so
 /// it is a run with some arguments.
-fn ended<R: Threads + Wait + Sync, S: Source, K: Sink>(
+fn ended<R: Threads + Wait + Sync, S: Source, K: Sink, G: Gate + Sync>(
     rt: &R,
     alloc: Global,
     found: Result<Option<Vec<String>>, AllocError>,
     source: &mut S,
     sink: &mut K,
+    gate: &G,
 ) -> ExitCode
     ensures { (status : Status) × (exit_status result ≡ code_of status) × (arguments : List (List ℕ))
         × IsRun status arguments (S.seen source.old) (S.seen source.new) (K.seen sink.old) (K.seen sink.new)
         × IsReadBy status arguments (S.seen source.old) (S.seen source.new) }
 {
-    exit_code(start(rt, alloc, found, source, sink))
+    exit_code(start(rt, alloc, found, source, sink, gate))
 }
 
 fn main(rt: HostRuntime) -> ExitCode {
@@ -145,5 +136,5 @@ fn main(rt: HostRuntime) -> ExitCode {
     let found = arguments_of(&rt, alloc, NAME);
     let mut source = StdSource::new(rt.reader());
     let mut sink = StdSink::new(io::writer(&rt));
-    ended(&rt, alloc, found, &mut source, &mut sink)
+    ended(&rt, alloc, found, &mut source, &mut sink, &Open)
 }
