@@ -177,8 +177,8 @@ fn keep_rows(rt: HostRuntime) -> Result<(), Fail> {
     let alloc = rt.alloc();
     let gate = Census::new(alloc, 1, 51_840)?;
     let script = concat!(
-        "type E 6\npol e 12345612345612345612345612345612345\n",
-        "pol 1 12345612345612345612345612345612345\n",
+        "type E 6\npol e 12314231435423143542654231435426543\n",
+        "pol 1 12314231435423143542654231435426543\n",
     );
     let (status, _) = run_by(&rt, alloc, script, b"2", &gate)?;
     assert_eq!(rt; status, Status::Done);
