@@ -60,16 +60,19 @@ fn an_answer_of_16_megabytes(rt: HostRuntime) -> Result<(), Fail> {
 /// In the infinite dihedral group 510 elements are below a word of 255 letters: all shorter ones, and itself.
 #[test]
 fn intervals_of_the_longest_word(rt: HostRuntime) -> Result<(), Fail> {
-    let mut script = b"matrix 2 0\nklbasis 1".to_vec(rt.alloc())?;
-    for _ in 0..127 {
-        script.extend_from_slice(b"21")?;
+    let mut script = b"matrix 2 0".to_vec(rt.alloc())?;
+    for command in ["\nklbasis 1", "\ncoatoms 1"] {
+        script.extend_from_slice(command.as_bytes())?;
+        for _ in 0..127 {
+            script.extend_from_slice(b"21")?;
+        }
     }
     let room: &[&[u8]] = &[b"coxeter", b"--context=510"];
     let (_, sink) = end_of(&rt, rt.alloc(), plain(room, &script), &Open)?;
     assert!(rt; sink.bytes().starts_with(b"510\ne:1\n1:1\n2:1\n12:1\n"));
     let less: &[&[u8]] = &[b"coxeter", b"--context=509"];
     let (_, sink) = end_of(&rt, rt.alloc(), plain(less, &script), &Open)?;
-    assert_eq!(rt; sink.bytes(), b"error 31\n".as_slice());
+    assert_eq!(rt; sink.bytes(), b"error 31\nerror 31\n".as_slice());
     Ok(())
 }
 

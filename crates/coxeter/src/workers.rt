@@ -70,6 +70,12 @@ impl Census {
         (once, again)
     }
 
+    /// How often all workers have passed before a claim.
+    fn claims(&self) -> u64 {
+        let counts = self.claims.iter();
+        counts.fold(0u64, |sum, passes| sum.saturating_add(passes.load(SeqCst)))
+    }
+
     /// How many workers have claimed rows, how many blocks were begun, and how many holds ended before the others came.
     fn seen(&self) -> (u64, u64, u64) {
         (
@@ -117,6 +123,7 @@ fn run_by<R: Threads + Wait + Sync, G: Gate + Sync>(
 const SCRIPTS: &[&str] = &[
     concat!(
         "pol e 1\nmatrix 2 5\ntype H 3\nfoo\ncompute\nmatrix 10\nmatrix 2\ntype A x\ntype A 4\nlrcells\nwork 7 20\ntype D 5\nlrcells\n",
+        "type A 4\njobs\nlcells\nnext\nklbasis 12321\nend\n",
         "type B 3\nklbasis 12321\npol e 123212321\nlwgraph\nmu 1 12321\nrcells\nextremals 232123\n",
         "type A 3\ninvpol 2 2132\ninvpol e 121321\nmatrix 3 3 3 3\ninvpol 3 32132132\n",
         "type A 3\njobs\nlrcells\nnext\nfoo\n\tpol\nnext\n\nnext\nquit\nmu 2 2132\nnext\nend\njobs\nklbasis 2132\nnext\npol 2 2132",
@@ -166,6 +173,7 @@ fn work_at_once(rt: HostRuntime) -> Result<(), Fail> {
         assert_eq!(rt; status, Status::Done);
         assert_eq!(rt; gate.seen(), (awaited, 16, 0), "{awaited} workers");
         assert_eq!(rt; gate.published(), (1920, 0), "{awaited} workers");
+        assert!(rt; gate.claims() >= 1920, "{awaited} workers");
         assert!(rt; sink.bytes() == one.bytes(), "{awaited} workers");
     }
     Ok(())
