@@ -268,8 +268,10 @@ def limits(problems, write):
     """The table of limits, and the sentences that tell one."""
     text = read(ARCHITECTURE)
     table = new = section(text, "## Where limits stand")
-    for cells in list(rows_of(table))[1:]:
+    for cells in rows_of(table):
         names, files = spans(cells[2]), spans(cells[3])
+        if not names:
+            continue  # the head of a table
         found = [[constant(path, name) for path in files] for name in names]
         values = [next((it for it in row if it is not None), "?") for row in found]
         wanted = "; ".join(shown(it) for it in values)

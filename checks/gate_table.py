@@ -30,7 +30,7 @@ HEAD = "| crate | proof, with tests | edits | all | commit |\n|---|---|---|---|-
 ROW = re.compile(r"^\| `(\w+)` \| ([0-9.]*) \| ([0-9.]*) \| [0-9.]+ \| (\w*) \|$", re.M)
 SUMMARY = re.compile(r"The last run that was measured so is of commit .*?\n\n", re.S)
 # What README.md says of the gate, and behind it what that has printed.
-PRINTED = re.compile(r"(by the\s+developers' gate .*?should be\.\n)(\nAt commit `\w+` it printed\n\n(?:    [^\n]*\n)+)?", re.S)
+PRINTED = re.compile(r"(by the\s+developers' gate .*?is refused\.\n)(\nAt commit `\w+` it printed\n\n(?:    [^\n]*\n)+)?", re.S)
 TICKS = os.sysconf("SC_CLK_TCK") * 60
 
 

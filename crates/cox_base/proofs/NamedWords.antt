@@ -1,11 +1,11 @@
 -- The word that a text names: where the pieces of the text are letters, it is written so; and it has no more letters than there are pieces.
 use Rattle.std.proofs.Common.{◌≡◌, ℕ, suc, ◌+◌, ◌<◌, ◌≤◌, Bool, true, false, cond, Option, Some, None, List, [], ◌∷◌, ◌++◌, map, length}
-use Rattle.std.proofs.Common.{decimal, codes, refl, sym, ap, ◌∙◌, arith, inl, inr, append-nil, ◌==◌, bytes_eq}
+use Rattle.std.proofs.Common.{decimal, codes, refl, sym, ap, ◌∙◌, arith, inl, inr, append-nil}
 use Rattle.std.specs.List.{filter_map, cons_option, flat_map, slice_split, join_by, join_with_byte}
 use Rattle.std.proofs.lemmas.Bool.{cases_Bool}
 use Rattle.std.proofs.lemmas.Slice.Eq.{bytes_eq-Decides}
 use Rattle.std.proofs.lemmas.List.Splits.{join_with_byte-slice_split}
-use Rattle.cox_base.specs.WordText.{has_digits, separator, word_text, pieces_of, letter_of, word_of, first_foreign}
+use Rattle.cox_base.specs.WordText.{has_digits, separator, word_text, is_e, is_dot, pieces_of, letter_of, word_of, first_foreign}
 use Rattle.cox_base.proofs.TextPieces.{letter_of-is, foreign_from, foreign_from-here, foreign_from-next}
 
 -- pieces that are letters are the numerals of what they name
@@ -48,27 +48,28 @@ joined-dot (piece ∷ next ∷ pieces) = ap (λ rest. piece ++ 46 ∷ rest) (joi
 joined-pieces : (rank : ℕ) (text : List ℕ) → joined (separator rank) (pieces_of rank text) ≡ text
 joined-pieces rank text = elim (cases_Bool (has_digits rank)) [
   | inl digits ↦ rw digits (joined-nothing (map (λ byte. byte ∷ []) text) ∙ joined-bytes text)
-  | inr dotted ↦ rw dotted (joined-dot (slice_split (λ byte. byte == 46) text) ∙ join_with_byte-slice_split 46 text)
+  | inr dotted ↦ rw dotted (joined-dot (slice_split is_dot text) ∙ join_with_byte-slice_split 46 text)
 ]
 
 -- and numerals give the text of a word
 joined-letters : (rank s : ℕ) (word : List ℕ) → word_text rank (s ∷ word) ≡ joined (separator rank) (map decimal (s ∷ word))
 joined-letters rank s word = ap (λ rest. decimal s ++ rest) (others word)
   where
-    others : (word : List ℕ) → flat_map (λ t. separator rank ++ decimal t) word ≡ flat_map (λ next. separator rank ++ next) (map decimal word)
+    others : (word : List ℕ)
+        → flat_map (λ t. separator rank ++ decimal t) word ≡ flat_map (λ next. separator rank ++ next) (map decimal word)
     others [] = refl
     others (t ∷ word) = ap (λ rest. (separator rank ++ decimal t) ++ rest) (others word)
 
 -- a text whose pieces are letters is that of the word that it names
 pub text-word : (rank : ℕ) (text : List ℕ) → 0 < length text → first_foreign rank text ≡ None → word_text rank (word_of rank text) ≡ text
-text-word rank text some none = tested (bytes_eq text (codes "e")) refl
+text-word rank text some none = tested (is_e text) refl
   where
     whole : (word : List ℕ) → map decimal word ≡ pieces_of rank text → word_text rank word ≡ text
     whole [] pieces = absurd (let none : text ≡ [] = sym (joined-pieces rank text) ∙ ap (joined (separator rank)) (sym pieces) in
         omega (arith, ap (length {A = ℕ}) none))
     whole (s ∷ word) pieces = joined-letters rank s word ∙ ap (joined (separator rank)) pieces ∙ joined-pieces rank text
 
-    tested : (b : Bool) → bytes_eq text (codes "e") ≡ b → word_text rank (word_of rank text) ≡ text
+    tested : (b : Bool) → is_e text ≡ b → word_text rank (word_of rank text) ≡ text
     tested true e = rw e (sym ((bytes_eq-Decides text (codes "e")).0 e))
     tested false e =
         rw e (whole (filter_map (letter_of rank) (pieces_of rank text)) (numerals-pieces rank 1 (pieces_of rank text) (rw e at none)))
@@ -84,7 +85,7 @@ length-filter_map h (piece ∷ pieces) = found (h piece) (length-filter_map h pi
     found (Some s) few = omega arith
 
 pub word_of-short : (rank : ℕ) (text : List ℕ) → length (word_of rank text) ≤ length (pieces_of rank text)
-word_of-short rank text = tested (bytes_eq text (codes "e")) (pieces_of rank text)
+word_of-short rank text = tested (is_e text) (pieces_of rank text)
   where
     tested : (b : Bool) (pieces : List (List ℕ)) → length (cond b [] (filter_map (letter_of rank) pieces)) ≤ length pieces
     tested true pieces = omega arith

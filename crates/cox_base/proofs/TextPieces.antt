@@ -1,5 +1,5 @@
 -- The pieces of a text, and the letters that they name.
-use Rattle.std.proofs.Common.{◌≡◌, ℕ, suc, ◌+◌, ◌<◌, ◌≤◌, ◌⊎◌, Bool, true, false, Some, None, Option, List, [], ◌∷◌, ◌++◌, length, ◌==◌}
+use Rattle.std.proofs.Common.{◌≡◌, ℕ, suc, ◌+◌, ◌<◌, ◌≤◌, ◌⊎◌, Bool, true, false, Some, None, Option, List, [], ◌∷◌, ◌++◌, length}
 use Rattle.std.proofs.Common.{take, drop, decimal, refl, sym, ap, ◌∙◌, arith, ⊎_elim, append_assoc, length-drop, drop-cons}
 use Rattle.std.specs.Bool.{Decides}
 use Rattle.std.specs.Option.{option_map, is_none}
@@ -14,7 +14,7 @@ use Rattle.std.proofs.lemmas.List.{take_all, append-nil}
 use Rattle.cox_base.specs.declared.limits.TheConstants.{MAX_RANK}
 use Rattle.cox_base.specs.Matrix.{IsLetter, IsWord}
 use Rattle.cox_base.specs.ShortLex.{letters}
-use Rattle.cox_base.specs.WordText.{has_digits, separator, pieces_of, letter_of}
+use Rattle.cox_base.specs.WordText.{has_digits, separator, is_dot, pieces_of, letter_of}
 use Rattle.cox_base.proofs.Positions.{position-cons_yes, position-cons_no, find-passes, find-range_none, find-range_some, find-range_within}
 
 -- whether a piece is no letter
@@ -105,22 +105,22 @@ IsWord-filter_map rank (piece ∷ pieces) = go (letter_of rank piece) refl (IsWo
     go (Some s) is rest = All-cons (IsLetter rank) s _ (letter_of-IsLetter rank s piece is) rest
 
 -- the pieces of a text with dots
-pub pieces_of-dotted : (rank : ℕ) (text : List ℕ) → has_digits rank ≡ false → pieces_of rank text ≡ slice_split (λ byte. byte == 46) text
+pub pieces_of-dotted : (rank : ℕ) (text : List ℕ) → has_digits rank ≡ false → pieces_of rank text ≡ slice_split is_dot text
 pieces_of-dotted rank text dotted = rw dotted
 
 -- the last piece
-pub slice_split-last : (text piece : List ℕ) (n : ℕ) → n ≡ position_or_len (λ byte. byte == 46) text → piece ≡ take n text → length text ≤ n
-    → slice_split (λ byte. byte == 46) text ≡ piece ∷ []
+pub slice_split-last : (text piece : List ℕ) (n : ℕ) → n ≡ position_or_len is_dot text → piece ≡ take n text → length text ≤ n
+    → slice_split is_dot text ≡ piece ∷ []
 slice_split-last text piece n count front end =
-    let none : All (λ byte. (byte == 46) ≡ false) text = λ k d h. fails_before_first (λ byte. byte == 46) text k d (omega (arith, count)) in
-    slice_split_none (λ byte. byte == 46) text none ∙ ap (λ first. first ∷ []) (sym (front ∙ take_all n text end))
+    let none : All (λ byte. is_dot byte ≡ false) text = λ k d h. fails_before_first is_dot text k d (omega (arith, count)) in
+    slice_split_none is_dot text none ∙ ap (λ first. first ∷ []) (sym (front ∙ take_all n text end))
 
 -- a piece with a dot behind it
-pub slice_split-next : (text piece behind : List ℕ) (dot n : ℕ) → n ≡ position_or_len (λ byte. byte == 46) text → piece ≡ take n text
-    → drop n text ≡ dot ∷ behind → slice_split (λ byte. byte == 46) text ≡ piece ∷ slice_split (λ byte. byte == 46) behind
+pub slice_split-next : (text piece behind : List ℕ) (dot n : ℕ) → n ≡ position_or_len is_dot text → piece ≡ take n text
+    → drop n text ≡ dot ∷ behind → slice_split is_dot text ≡ piece ∷ slice_split is_dot behind
 slice_split-next text piece behind dot n count front back =
     let within : n < length text = omega (arith, length-drop n text, ap length back) in
-    let split = rw (← count) at (slice_split_first (λ byte. byte == 46) text 0 (rw (← count) within)) in
+    let split = rw (← count) at (slice_split_first is_dot text 0 (rw (← count) within)) in
     let next : n + 1 ≡ suc n = omega arith in
     let rest : drop (n + 1) text ≡ behind = cc (drop-cons text n 0 within, next) in
     split ∙ rw (front, rest)

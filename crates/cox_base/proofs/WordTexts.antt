@@ -1,6 +1,6 @@
 -- The text of a word, and its pieces.
 use Rattle.std.proofs.Common.{◌≡◌, ℕ, ◌+◌, ◌/◌, ◌%◌, ◌<◌, ◌≤◌, false, None, List, [], ◌∷◌, ◌++◌, map, length, decimal, codes, ◌==◌}
-use Rattle.std.proofs.Common.{Result, Ok, Err, IsOkAnd, refl, sym, ap, ◌∙◌, arith, ⊎_elim, bytes_eq}
+use Rattle.std.proofs.Common.{Result, Ok, Err, IsOkAnd, refl, sym, ap, ◌∙◌, arith, ⊎_elim}
 use Rattle.std.specs.List.{filter_map, flat_map, slice_split, All}
 use Rattle.arrayvec.specs.ArrayVec.{ArrayVec}
 use Rattle.std.proofs.lemmas.Bool.{cases_Bool, cases_lt}
@@ -13,7 +13,7 @@ use Rattle.cox_base.specs.declared.limits.TheConstants.{MAX_RANK, MAX_DIGIT_RANK
 use Rattle.cox_base.specs.declared.word.WordFault.{WordFault}
 use Rattle.cox_base.specs.declared.word.WordFault.TheVariants.{Long, Letter}
 use Rattle.cox_base.specs.Matrix.{IsLetter, IsWord}
-use Rattle.cox_base.specs.WordText.{has_digits, separator, word_text, pieces_of, letter_of, word_of}
+use Rattle.cox_base.specs.WordText.{has_digits, separator, word_text, is_e, is_dot, pieces_of, letter_of, word_of}
 use Rattle.cox_base.specs.WordText.{foreign_piece, first_foreign}
 use Rattle.cox_base.specs.WordReading.{ReadsWord}
 use Rattle.cox_base.proofs.Numerals.{decimal-two}
@@ -31,22 +31,22 @@ digits-pieces (s ∷ letters) small =
     rw (decimal_digit s one) (ap (λ rest. ((48 + s) ∷ []) ∷ rest) (digits-pieces letters (All-tail (λ t. t < 10) s letters small)))
 
 -- no dot stands in a numeral
-no_dot : (n : ℕ) → n < 100 → All (λ byte. (byte == 46) ≡ false) (decimal n)
+no_dot : (n : ℕ) → n < 100 → All (λ byte. is_dot byte ≡ false) (decimal n)
 no_dot n small =
     ⊎_elim (λ (one : n < 10). rw (decimal_digit n one) (byte (48 + n) [] (omega arith) (All-nil _)))
     (λ (two : 10 ≤ n). rw (decimal-two n two small)
     (byte (48 + n / 10) ((48 + n % 10) ∷ []) (omega arith) (byte (48 + n % 10) [] (omega arith) (All-nil _))))
     (cases_lt n 10)
   where
-    byte : (b : ℕ) (rest : List ℕ) → 46 < b → All (λ byte. (byte == 46) ≡ false) rest → All (λ byte. (byte == 46) ≡ false) (b ∷ rest)
-    byte b rest above none = All-cons (λ byte. (byte == 46) ≡ false) b rest (grind (arith, nat_tests)) none
+    byte : (b : ℕ) (rest : List ℕ) → 46 < b → All (λ byte. is_dot byte ≡ false) rest → All (λ byte. is_dot byte ≡ false) (b ∷ rest)
+    byte b rest above none = All-cons (λ byte. is_dot byte ≡ false) b rest (grind (arith, nat_tests)) none
 
 -- numerals with dots between them
 dotted-pieces : (s : ℕ) (letters : List ℕ) → All (λ t. t < 100) (s ∷ letters)
-    → slice_split (λ byte. byte == 46) (decimal s ++ others_text (codes ".") letters) ≡ map decimal (s ∷ letters)
-dotted-pieces s [] small = rw append-nil (slice_split_none (λ byte. byte == 46) (decimal s) (no_dot s (All-head (λ t. t < 100) s [] small)))
+    → slice_split is_dot (decimal s ++ others_text (codes ".") letters) ≡ map decimal (s ∷ letters)
+dotted-pieces s [] small = rw append-nil (slice_split_none is_dot (decimal s) (no_dot s (All-head (λ t. t < 100) s [] small)))
 dotted-pieces s (t ∷ letters) small =
-    slice_split_at (λ byte. byte == 46) (decimal s) 46 (decimal t ++ others_text (codes ".") letters)
+    slice_split_at is_dot (decimal s) 46 (decimal t ++ others_text (codes ".") letters)
     (no_dot s (All-head (λ t. t < 100) s (t ∷ letters) small)) refl
     ∙ ap (λ pieces. decimal s ∷ pieces) (dotted-pieces t letters (All-tail (λ t. t < 100) s (t ∷ letters) small))
 
@@ -81,19 +81,19 @@ foreign_from-numerals rank (s ∷ word) at limit letters =
     ∙ foreign_from-numerals rank word next limit (All-tail (IsLetter rank) s word letters)
 
 -- no numeral is `e`
-e-letters : (s : ℕ) (rest : List ℕ) → s < 100 → bytes_eq (decimal s ++ rest) (codes "e") ≡ false
-e-letters s rest small =
+is_e-letters : (s : ℕ) (rest : List ℕ) → s < 100 → is_e (decimal s ++ rest) ≡ false
+is_e-letters s rest small =
     ⊎_elim (λ (one : s < 10). rw (decimal_digit s one) (byte (48 + s) rest (omega arith)))
     (λ (two : 10 ≤ s). rw (decimal-two s two small) (byte (48 + s / 10) ((48 + s % 10) ∷ rest) (omega arith))) (cases_lt s 10)
   where
-    byte : (b : ℕ) (rest : List ℕ) → b < 101 → bytes_eq (b ∷ rest) (codes "e") ≡ false
+    byte : (b : ℕ) (rest : List ℕ) → b < 101 → is_e (b ∷ rest) ≡ false
     byte b rest below = let other : (b == 101) ≡ false = grind (arith, nat_tests) in rw other refl
 
 -- the text of a word names the word
 pub word_of-text : (rank : ℕ) (word : List ℕ) → rank ≤ MAX_RANK → IsWord rank word → word_of rank (word_text rank word) ≡ word
 word_of-text rank [] limit letters = refl
 word_of-text rank (s ∷ word) limit letters =
-    let other = e-letters s (others_text (separator rank) word)
+    let other = is_e-letters s (others_text (separator rank) word)
     (omega (arith, limit, (All-head (IsLetter rank) s word letters).to_rank)) in
     rw other (ap (filter_map (letter_of rank)) (pieces_of-letters rank s word limit letters)
     ∙ filter_map-numerals rank (s ∷ word) limit letters)
@@ -121,7 +121,7 @@ text-read rank [] read limit letters short reads = read-whole rank (codes "e") [
 text-read rank (s ∷ word) read limit letters short reads =
     let text = word_text rank (s ∷ word) in
     let pieces = pieces_of-letters rank s word limit letters in
-    let other = e-letters s (others_text (separator rank) word)
+    let other = is_e-letters s (others_text (separator rank) word)
     (omega (arith, limit, (All-head (IsLetter rank) s word letters).to_rank)) in
     read-whole rank text (s ∷ word) read (omega (arith, ap length pieces, length-map (s ∷ word) decimal, short))
     (rw other (ap (foreign_piece rank) pieces ∙ foreign_from-numerals rank (s ∷ word) 1 limit letters))

@@ -25,10 +25,17 @@ letters_or none rank letters = join_by decimal (separator rank) letters
 abbrev pub word_text : ℕ → List ℕ → List ℕ
 word_text rank word = letters_or (codes "e") rank word
 
--- The pieces of a text, one for each letter: its bytes where each letter is one digit, else what stands before, between and after its dots
--- (46 is the code of a dot).
+-- whether a text is `e` alone
+abbrev pub is_e : List ℕ → Bool
+is_e text = bytes_eq text (codes "e")
+
+-- whether a byte is a dot, which stands between two letters (46 is its code)
+abbrev pub is_dot : ℕ → Bool
+is_dot byte = byte == 46
+
+-- The pieces of a text, one for each letter: its bytes where each letter is one digit, else what stands before, between and after its dots.
 abbrev pub pieces_of : ℕ → List ℕ → List (List ℕ)
-pieces_of rank text = if has_digits rank then map (λ byte. byte ∷ []) text else slice_split (λ byte. byte == 46) text
+pieces_of rank text = if has_digits rank then map (λ byte. byte ∷ []) text else slice_split is_dot text
 
 -- the letter that a piece names: the letter of the group that is written so, if there is one
 abbrev pub letter_of : ℕ → List ℕ → Option ℕ
@@ -36,7 +43,7 @@ letter_of rank piece = find (λ letter. bytes_eq (decimal letter) piece) (letter
 
 -- the letters that a text names
 abbrev pub word_of : ℕ → List ℕ → List ℕ
-word_of rank text = if bytes_eq text (codes "e") then [] else filter_map (letter_of rank) (pieces_of rank text)
+word_of rank text = if is_e text then [] else filter_map (letter_of rank) (pieces_of rank text)
 
 -- the place, from 1, of the first byte of a piece: behind the pieces before it, each of them with what separates it from the next
 abbrev pub piece_place : ℕ → List (List ℕ) → ℕ → ℕ
@@ -48,4 +55,4 @@ foreign_piece rank pieces = option_map (piece_place rank pieces) (position (λ p
 
 -- where the first piece of a text begins that is no letter of the group, if there is one
 abbrev pub first_foreign : ℕ → List ℕ → Option ℕ
-first_foreign rank text = if bytes_eq text (codes "e") then None else foreign_piece rank (pieces_of rank text)
+first_foreign rank text = if is_e text then None else foreign_piece rank (pieces_of rank text)

@@ -1,7 +1,6 @@
 //! Coxeter matrices, and the integer matrix by which the group acts.
 ghost use Rattle.std.specs.Prelude.{◌≡◌, ◌+◌, ◌-◌, ◌*◌, ◌/◌, ◌<◌, ◌≤◌, nat_abs, None, if◌then◌else◌, IfOk, IfErr, OnOk, length, All};
-ghost use Rattle.std.specs.Prelude.{IsTrue, take, Some, not, slice_index, option_map, position};
-ghost use Rattle.std.specs.Option.{option_map_or};
+ghost use Rattle.std.specs.Prelude.{IsTrue, Some, not};
 ghost use Rattle.cox_base.specs.Matrix.{CoxeterMatrix, IsLetter, is_label, place, label};
 ghost use Rattle.cox_base.specs.Admissible.{IsCoxeterMatrix};
 ghost use Rattle.cox_base.specs.IntegerMatrix.{entry_of, entry_above, entry_below};

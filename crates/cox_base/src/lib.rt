@@ -27,6 +27,7 @@ mod side;
 mod spelling;
 mod word;
 
+pub use copy::copy_of;
 pub use coxeter::{Coxeter, Label};
 pub use limits::{MAX_DIGIT_RANK, MAX_LABELS, MAX_LETTERS, MAX_RANK};
 pub use named_type::NotAType;

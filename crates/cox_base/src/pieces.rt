@@ -1,8 +1,8 @@
 //! The pieces of a text, one for each letter of a word.
-ghost use Rattle.std.specs.Prelude.{◌≡◌, ℕ, ◌+◌, ◌==◌, ◌≤◌, [], ◌∷◌, length, count_by, MatchOption};
+ghost use Rattle.std.specs.Prelude.{◌≡◌, ℕ, ◌+◌, ◌≤◌, [], ◌∷◌, length, count_by, MatchOption};
 ghost use Rattle.std.specs.List.{position_or_len, slice_split};
 ghost use Rattle.std.specs.Option.{option_map_or};
-ghost use Rattle.cox_base.specs.WordText.{pieces_of};
+ghost use Rattle.cox_base.specs.WordText.{is_dot, pieces_of};
 
 use crate::spelling::has_digits;
 use std::marker::Model;
@@ -65,14 +65,14 @@ pub fn piece_count(text: &[u8], rank: u32) -> usize
 
 /// How many dots there are.
 fn dot_count(bytes: &[u8]) -> usize
-    ensures { result ≡ count_by (λ byte. byte == 46) bytes.now }
+    ensures { result ≡ count_by is_dot bytes.now }
 {
     bytes.iter().filter(|&&byte| byte == b'.').count()
 }
 
 /// How many bytes stand before the first dot.
 fn piece_len(bytes: &[u8]) -> usize
-    ensures count { result ≡ position_or_len (λ byte. byte == 46) bytes.now }
+    ensures count { result ≡ position_or_len is_dot bytes.now }
     ensures within { result ≤ length bytes.now }
 {
     bytes.iter().take_while(|&&byte| byte != b'.').count()
@@ -90,8 +90,7 @@ fn first_byte(bytes: &[u8]) -> Option<(&[u8], &[u8])>
 
 /// What stands before the first dot, and what stands behind it, if there is one.
 fn before_dot(bytes: &[u8]) -> (&[u8], Option<&[u8]>)
-    ensures { slice_split (λ byte. byte == 46) bytes.now
-        ≡ result.0.now ∷ option_map_or (λ behind. slice_split (λ byte. byte == 46) behind.now) result.1 [] }
+    ensures { slice_split is_dot bytes.now ≡ result.0.now ∷ option_map_or (λ behind. slice_split is_dot behind.now) result.1 [] }
 {
     let (piece, rest) = bytes.split_at(piece_len(bytes));
     match rest.split_first() {

@@ -1,7 +1,6 @@
 //! How words are read.
-ghost use Rattle.std.specs.Prelude.{◌≡◌, ◌≢◌, ◌+◌, ◌<◌, ◌≤◌, ◌^◌, ◌⊎◌, ℕ, [], ◌∷◌, length, MatchOption, IfSome, codes, decimal};
-ghost use Rattle.std.specs.Str.{bytes_eq};
-ghost use Rattle.cox_base.specs.WordText.{letter_of};
+ghost use Rattle.std.specs.Prelude.{◌≡◌, ◌≢◌, ◌+◌, ◌<◌, ◌≤◌, ◌^◌, ◌⊎◌, ℕ, [], ◌∷◌, length, MatchOption, IfSome, decimal};
+ghost use Rattle.cox_base.specs.WordText.{is_e, letter_of};
 ghost use Rattle.cox_base.specs.WordReading.{ReadsWord, ReadsPieces};
 
 use crate::limits::{MAX_LETTERS, MAX_RANK};
@@ -53,7 +52,7 @@ fn read_pieces(mut pieces: Pieces, rank: u32) -> Result<Word, WordFault>
 
 /// Whether a text is `e` alone.
 fn is_e(text: &[u8]) -> bool
-    ensures { result ≡ bytes_eq text.now (codes "e") }
+    ensures { result ≡ is_e text.now }
 {
     text == b"e".as_slice()
 }

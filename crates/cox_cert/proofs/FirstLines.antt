@@ -6,8 +6,6 @@ use Rattle.std.proofs.lemmas.List.{length-map}
 use Rattle.std.proofs.lemmas.List.Quantifiers.{position-Some}
 use Rattle.std.proofs.lemmas.List.Elements.{All-head, All-tail}
 use Rattle.cox_base.specs.Matrix.{CoxeterMatrix}
-use Rattle.cox_base.specs.Admissible.{IsCoxeterMatrix}
-use Rattle.cox_base.specs.declared.limits.TheConstants.{MAX_RANK}
 use Rattle.cox_outside.specs.Line.{is_foreign}
 use Rattle.cox_outside.specs.declared.limits.TheConstants.{LINE_LIMIT}
 use Rattle.cox_certtext.specs.declared.limits.TheConstants.{MAX_LISTED}
@@ -20,11 +18,6 @@ use Rattle.cox_cert.proofs.PlainTexts.{AreNot-at}
 use Rattle.cox_cert.proofs.PlainLines.{count_line-one, lines-plain}
 
 -- ---- a foreign line, by its place
-
--- no line of a matrix
-pub none-matrix : (line : List ℕ) → ((g : CoxeterMatrix) → IsCoxeterMatrix g → g.rank ≤ MAX_RANK → line ≢ matrix_line g)
-    → BeginsNone (line ∷ [])
-none-matrix line none rest c gives = none c.matrix gives.is.matrix gives.is.rank (cc gives.written)
 
 -- the matrix of a certificate that begins with the line of this one
 same-matrix : (g : CoxeterMatrix) (c : Certificate) → IsGroup g → IsCertificate c → matrix_line g ≡ matrix_line c.matrix → c.matrix ≡ g
@@ -39,11 +32,6 @@ none-top g line is none rest c gives =
     let e : line ≡ top_line c.matrix.rank c.top = cc gives.written in
     none c.top (subst (λ (h : CoxeterMatrix). IsShortWord h.rank c.top) same gives.is.top)
     (subst (λ (h : CoxeterMatrix). line ≡ top_line h.rank c.top) same e)
-
--- no line of a number of rows
-pub none-count : (first second line : List ℕ) → ((n : ℕ) → 1 ≤ n → n ≤ MAX_LISTED → line ≢ count_line n)
-    → BeginsNone (first ∷ second ∷ line ∷ [])
-none-count first second line none rest c gives = none (length c.rows) gives.is.some gives.is.few (cc gives.written)
 
 -- the line behind so many rows is the next row's ..
 row-there : (rank : ℕ) (lines : List (List ℕ)) (line : List ℕ) (rest : List (List ℕ)) (rows : List (List ℕ × List ℤ)) (last : List ℕ)

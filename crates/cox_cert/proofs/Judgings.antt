@@ -59,16 +59,8 @@ module _ (draft : Draft) (c : Certificate) (parts : IsDraftOf draft c) where
       let both = of_parts (λ g w words. (normal_form (integer_matrix g) w ≡ w) × (length w ≤ MAX_DIFFERENCE)) (h.normal, h.short) in
       record { normal = both.0; short = both.1 }
 
-  pub top-of : HasTop c → IsTop draft
-  top-of h =
-      let both = to_parts (λ g w words. (normal_form (integer_matrix g) w ≡ w) × (length w ≤ MAX_DIFFERENCE)) (h.normal, h.short) in
-      record { normal = both.0; short = both.1 }
-
   pub interval-is : IsInterval draft → HasInterval c
   interval-is h = of_parts (λ g w words. IsListOf (IsInInterval (integer_matrix g) w) words) h
-
-  pub interval-of : HasInterval c → IsInterval draft
-  interval-of h = to_parts (λ g w words. IsListOf (IsInInterval (integer_matrix g) w) words) h
 
   pub row-is : draft.large ≡ false → IsRow draft → HasRow c
   row-is e h =

@@ -11,7 +11,7 @@ use Rattle.cox_cert.specs.declared.draft.Draft.{Draft}
 use Rattle.cox_certtext.specs.Certificate.{Certificate, IsShortWord, IsLine, Gives, words_of, polynomials_of}
 use Rattle.cox_certtext.specs.Certificate.{matrix_line, top_line, count_line, row_line, end_line}
 use Rattle.cox_cert.specs.Drafts.{letters_of, IsDraftOf, IsGroup, HasHead, HasRows, HasAll, BeginsNone}
-use Rattle.cox_cert.proofs.FirstLines.{none-top, none-count, none-row, none-end, none-behind, unfinished-rows}
+use Rattle.cox_cert.proofs.FirstLines.{none-top, none-row, none-end, none-behind, unfinished-rows}
 
 -- ---- all but the last hold
 
@@ -25,15 +25,6 @@ All-last P [] x all = All-head P x [] all
 All-last P (y ∷ xs) x all = All-last P xs x (All-tail P y (xs ++ x ∷ []) all)
 
 -- ---- the head
-
--- an element behind the matrix
-pub head-top : (g : CoxeterMatrix) (top : List ℕ) (line : List ℕ) (lines : List (List ℕ)) → IsGroup g × (lines ≡ matrix_line g ∷ [])
-    → IsShortWord g.rank top → line ≡ top_line g.rank top → HasHead g top (lines ++ line ∷ [])
-head-top g top line lines h word is = record {
-  group = h.0;
-  word = word;
-  written = ap (λ l. l ++ line ∷ []) h.1 ∙ ap (λ t. matrix_line g ∷ t ∷ []) is;
-}
 
 pub head-none : (g : CoxeterMatrix) (line : List ℕ) (lines : List (List ℕ)) → IsGroup g × (lines ≡ matrix_line g ∷ [])
     → ((w : List ℕ) → IsShortWord g.rank w → line ≢ top_line g.rank w) → BeginsNone (lines ++ line ∷ [])
@@ -62,11 +53,6 @@ count-first draft line lines h words large polynomials some few is = record {
   written = ap (λ l. l ++ line ∷ []) h.written
       ∙ ap (λ t. matrix_line draft.group ∷ top_line draft.group.rank draft.top.items ∷ t ∷ []) is;
 }
-
-pub count-none : (g : CoxeterMatrix) (top line : List ℕ) (lines : List (List ℕ)) → HasHead g top lines
-    → ((n : ℕ) → 1 ≤ n → n ≤ MAX_LISTED → line ≢ count_line n) → BeginsNone (lines ++ line ∷ [])
-count-none g top line lines h none =
-    subst (λ l. BeginsNone (l ++ line ∷ [])) (sym h.written) (none-count (matrix_line g) (top_line g.rank top) line none)
 
 -- ---- the rows
 

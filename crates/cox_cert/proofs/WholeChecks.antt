@@ -1,30 +1,24 @@
 -- The contract of a whole check, from what was read and what was written.
-use Rattle.std.proofs.Common.{◌≡◌, ◌≢◌, ◌⊎◌, inl, inr, ℕ, ◌<◌, ◌≤◌, true, false, List, [], ◌∷◌, length, map, drop}
+use Rattle.std.proofs.Common.{◌≡◌, ◌≢◌, ◌⊎◌, inl, inr, ℕ, ◌<◌, ◌≤◌, true, List, [], ◌∷◌, length, map, drop}
 use Rattle.std.proofs.Common.{Option, Some, None}
-use Rattle.std.proofs.Common.{Err, refl, sym, ◌∙◌, subst, arith}
+use Rattle.std.proofs.Common.{refl, sym, subst, arith}
 use Rattle.std.specs.Prelude.{IsSomeAnd}
 use Rattle.std.specs.Option.{IfSome}
-use Rattle.std.specs.Borrow.{Bor}
 use Rattle.cox_outside.specs.declared.limits.TheConstants.{INPUT_LIMIT}
 use Rattle.cox_outside.specs.FaultCount.{count_after}
-use Rattle.cox_outside.specs.Supply.{Supply, SourceCause}
-use Rattle.cox_outside.specs.Outlet.{Outlet, Writes, SinkCause, IsPrefix}
-use Rattle.cox_outside.proofs.Known.{prepend_known-none, Writes-none}
+use Rattle.cox_outside.specs.Supply.{Supply}
+use Rattle.cox_outside.specs.Outlet.{Outlet}
 use Rattle.cox_cert.specs.declared.status.Cause.{Cause}
 use Rattle.cox_cert.specs.declared.status.Cause.TheVariants.{Grammar, Top, Interval, Size, Row}
 use Rattle.cox_cert.specs.declared.status.CheckStatus.{CheckStatus}
 use Rattle.cox_cert.specs.declared.status.CheckStatus.TheVariants.{Yes, No, Usage, ReadFault, WriteFault, NoMemory, InputLimit}
-use Rattle.cox_cert.specs.declared.collecting.Halt.{Halt}
-use Rattle.cox_cert.specs.declared.collecting.Halt.TheVariants as halt
 use Rattle.cox_certtext.specs.Certificate.{Certificate, Gives, contents}
 use Rattle.cox_cert.specs.Causes.{IsFirstCause, IsProof}
-use Rattle.cox_cert.specs.Checks.{ReadsAll, Says, IsDue, ReadsWithin, IsCheck, words_behind}
-use Rattle.cox_cert.specs.Checks.{status_text, is_read_fault, is_write_fault}
-use Rattle.cox_cert.specs.Collected.{Gathers, status_of}
+use Rattle.cox_cert.specs.Checks.{ReadsAll, IsCheck}
 use Rattle.cox_cert.specs.Judgements.{IsJudged}
 use Rattle.cox_cert.specs.Unhindered.{Rose, IsUnhindered}
 use Rattle.cox_cert.proofs.Verdicts.{no_cause}
-use Rattle.cox_cert.specs.Verdicts.{IsTold, IsVerdict, IsCut, Tells}
+use Rattle.cox_cert.specs.Verdicts.{IsVerdict}
 
 -- ---- the verdict
 
@@ -59,34 +53,7 @@ verdict-judged WriteFault c lines text left j gives r = absurd j
 verdict-judged NoMemory c lines text left j gives r = record { says = tt; no_usage = λ e. cc e; told = λ e. cc e }
 verdict-judged InputLimit c lines text left j gives r = absurd j
 
--- it tells of no read fault
-pub judged-no_fault : (status : CheckStatus) (c : Certificate) → IsJudged status c → is_read_fault status ≡ false
-judged-no_fault Yes c j = refl
-judged-no_fault (No cause) c j = refl
-judged-no_fault Usage c j = absurd j
-judged-no_fault ReadFault c j = absurd j
-judged-no_fault WriteFault c j = absurd j
-judged-no_fault NoMemory c j = refl
-judged-no_fault InputLimit c j = absurd j
-
--- no certificate was read
-pub verdict-halted : (why : Halt) (text left : Option (List ℕ)) → Gathers (Err why) text left → IsVerdict (status_of why) text left
-verdict-halted halt.Foreign text left g = record { says = g; no_usage = λ e. cc e; told = λ e. cc e }
-verdict-halted halt.Failed text left g = record { says = tt; no_usage = λ e. cc e; told = λ e. cc e }
-verdict-halted halt.Limit text left g = record { says = g; no_usage = λ e. cc e; told = λ e. cc e }
-verdict-halted halt.NoMemory text left g = record { says = tt; no_usage = λ e. cc e; told = λ e. cc e }
-
-pub verdict-none : (text left : Option (List ℕ)) → IsVerdict NoMemory text left
-verdict-none text left = record { says = tt; no_usage = λ e. cc e; told = λ e. cc e }
-
--- nothing was read
-pub within-none : (text : Option (List ℕ)) → ReadsWithin text text
-within-none text = ([], sym (prepend_known-none text), omega arith)
-
-pub no_fault : (supply : Supply) → SourceCause supply supply false
-no_fault supply = record { faults = refl; same_sure = refl; unsure = λ e. absurd (cc e) }
-
--- ---- the status that is due
+-- ---- the words behind the name
 
 -- there are words behind the name where there are two arguments
 pub behind-none : {X : Type 0} (text : X → List ℕ) (arguments : List X) → length arguments ≤ 1 → drop 1 (map text arguments) ≡ []
@@ -98,125 +65,6 @@ pub behind-some : {X : Type 0} (text : X → List ℕ) (arguments : List X) → 
 behind-some text [] many e = omega arith
 behind-some text (name ∷ []) many e = omega arith
 behind-some text (name ∷ word ∷ more) many e = cc e
-
-pub words-none : (arguments : List (Bor (List ℕ))) → length arguments ≤ 1 → words_behind arguments ≡ []
-words-none arguments few = behind-none (λ (argument : Bor (List ℕ)). argument.now) arguments few
-
-pub words-some : (arguments : List (Bor (List ℕ))) → 1 < length arguments → words_behind arguments ≢ []
-words-some arguments many = behind-some (λ (argument : Bor (List ℕ)). argument.now) arguments many
-
-pub due-verdict : (status : CheckStatus) (words : List (List ℕ)) (text left : Option (List ℕ)) → words ≡ [] → IsVerdict status text left
-    → IsDue status words text left
-due-verdict status words text left none v = record {
-  says = v.says;
-  usage = λ e. absurd (v.no_usage e);
-  usage_always = λ some. absurd (some none);
-}
-
-pub due-usage : (words : List (List ℕ)) (text left : Option (List ℕ)) → words ≢ [] → IsDue Usage words text left
-due-usage words text left some = record { says = tt; usage = λ _. some; usage_always = λ _. refl }
-
--- ---- what was written
-
--- a status that tells of no write fault
-pub told-no_fault : (status : CheckStatus) → IsTold status → is_write_fault status ≡ false
-told-no_fault WriteFault told = absurd (told refl)
-told-no_fault status told = refl
-
--- where the status that is due has no text, nothing is written
-pub tells-none : (due : CheckStatus) (here : Outlet) → IsTold due → status_text due ≡ [] → Tells due due here here
-tells-none due here told none = record {
-  same = λ _. refl;
-  writes = λ _. subst (λ t. Writes t here here) (sym none) (Writes-none here);
-  cut = λ e. absurd (told e);
-  cause = subst (λ b. SinkCause here here b) (sym (told-no_fault due told)) refl;
-}
-
--- its text was written
-pub tells-all : (due : CheckStatus) (old new : Outlet) → IsTold due → Writes (status_text due) old new → SinkCause old new false
-    → Tells due due old new
-tells-all due old new told writes cause = record {
-  same = λ _. refl;
-  writes = λ _. writes;
-  cut = λ e. absurd (told e);
-  cause = subst (λ b. SinkCause old new b) (sym (told-no_fault due told)) cause;
-}
-
--- a write failed
-pub tells-cut : (due : CheckStatus) (old new : Outlet) (text prefix : List ℕ) → text ≡ status_text due → text ≢ [] → IsPrefix prefix text
-    → Writes prefix old new → IfSome old.room (λ count. count < length text) → SinkCause old new true → Tells WriteFault due old new
-tells-cut due old new text prefix is some is_prefix writes room cause = record {
-  same = λ e. absurd (e refl);
-  writes = λ e. absurd (e refl);
-  cut = λ _. subst (λ t. IsCut t old new) is
-      (record { some = some; prefix = prefix; is_prefix = is_prefix; writes = writes; room = room });
-  cause = cause;
-}
-
-module _ (due : CheckStatus) (words : List (List ℕ)) (source left : Supply) (old new : Outlet)
-    (is_due : IsDue due words source.left left.left) (cause : SourceCause source left (is_read_fault due))
-    (within : ReadsWithin source.left left.left) where
-  -- the text that is due was written
-  check-told : (status : CheckStatus) → status ≢ WriteFault → Tells status due old new → IsCheck status words source left old new
-  check-told status other t =
-      let same : due ≡ status = sym (t.same other) in record {
-        says = subst (λ s. Says s source.left left.left) same is_due.says;
-        usage = λ e. is_due.usage (same ∙ e);
-        usage_always = λ some. inl (sym same ∙ is_due.usage_always some);
-        read_fault = subst (λ s. SourceCause source left (is_read_fault s)) same cause;
-        write_fault = t.cause;
-        writes = λ n. subst (λ s. Writes (status_text s) old new) same (t.writes n);
-        cut = λ e. absurd (other e);
-        within = within;
-      }
-
-  -- what has a text to be written is no read fault
-  written-no_fault : (status : CheckStatus) → status_text status ≢ [] → is_read_fault status ≡ false
-  written-no_fault ReadFault some = absurd (some refl)
-  written-no_fault status some = refl
-
-  check-cut : Tells WriteFault due old new → IsCheck WriteFault words source left old new
-  check-cut t =
-      let c = t.cut refl in record {
-        says = tt;
-        usage = λ e. absurd (cc e);
-        usage_always = λ some. inr refl;
-        read_fault = subst (λ b. SourceCause source left b) (written-no_fault due c.some) cause;
-        write_fault = t.cause;
-        writes = λ n. absurd (n refl);
-        cut = λ e. record {
-          due = due;
-          is_due = is_due;
-          some = c.some;
-          prefix = c.prefix;
-          is_prefix = c.is_prefix;
-          writes = c.writes;
-          room = c.room;
-        };
-        within = within;
-      }
-
-  pub check-whole : (status : CheckStatus) → Tells status due old new → IsCheck status words source left old new
-  check-whole WriteFault t = check-cut t
-  check-whole Yes t = check-told Yes (λ e. cc e) t
-  check-whole (No cause) t = check-told (No cause) (λ e. cc e) t
-  check-whole Usage t = check-told Usage (λ e. cc e) t
-  check-whole ReadFault t = check-told ReadFault (λ e. cc e) t
-  check-whole NoMemory t = check-told NoMemory (λ e. cc e) t
-  check-whole InputLimit t = check-told InputLimit (λ e. cc e) t
-
--- nothing was read or written, for want of memory
-pub check-none : (supply : Supply) (outlet : Outlet) → IsCheck NoMemory [] supply supply outlet outlet
-check-none supply outlet = record {
-  says = tt;
-  usage = λ e. absurd (cc e);
-  usage_always = λ some. absurd (some refl);
-  read_fault = no_fault supply;
-  write_fault = refl;
-  writes = λ _. Writes-none outlet;
-  cut = λ e. absurd (cc e);
-  within = within-none supply.left;
-}
 
 -- it matters only whether there are words
 pub check-words : (status : CheckStatus) (words others : List (List ℕ)) (source left : Supply) (old new : Outlet)

@@ -2,8 +2,8 @@
 //! lines of text; `cox_certtext` says which lines.
 //!
 //! - `status`: how a check ends
-//! - `reading`: the lines of a certificate, read: the element, the number of rows, the rows, the end
-//! - `matrix_reading`: its first line, read
+//! - `reading`: reads the lines after the first: the element, the number of rows, the rows, the end
+//! - `matrix_reading`: reads the first line
 //! - `parts`: what stands in a line: a fixed text, a byte, a number, a word
 //! - `draft`: a certificate, as far as its lines are read
 //! - `collecting`: the certificate that the lines of a source give

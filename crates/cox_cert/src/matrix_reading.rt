@@ -1,5 +1,5 @@
 //! The first line of a certificate, read: a Coxeter matrix.
-ghost use Rattle.std.specs.Prelude.{◌≡◌, ◌≢◌, ◌≤◌, ◌<◌, ℕ, List, length, All, decimal, IfSome, IfNone, MatchOption};
+ghost use Rattle.std.specs.Prelude.{◌≡◌, ◌≢◌, ◌≤◌, ◌<◌, ℕ, List, length, decimal, IfSome, IfNone, MatchOption};
 ghost use Rattle.cox_base.specs.Matrix.{CoxeterMatrix};
 ghost use Rattle.cox_base.specs.Admissible.{IsCoxeterMatrix};
 ghost use Rattle.cox_certtext.specs.Certificate.{matrix_line};

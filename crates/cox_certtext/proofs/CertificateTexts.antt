@@ -16,7 +16,8 @@ certificate_text-parts c =
     let rows = map (row_line c.matrix.rank) c.rows in
     let top = next_top_line c.matrix.rank c.top in
     let last : flat_map (λ line. 10 ∷ line) (rows ++ end_line ∷ []) ≡ flat_map (λ line. 10 ∷ line) rows ++ certificate_foot
-    = flat_map-append (λ line. 10 ∷ line) rows (end_line ∷ []) ∙ ap (λ t. flat_map (λ line. 10 ∷ line) rows ++ t) (append-nil certificate_foot) in
+    = flat_map-append (λ line. 10 ∷ line) rows (end_line ∷ [])
+    ∙ ap (λ t. flat_map (λ line. 10 ∷ line) rows ++ t) (append-nil certificate_foot) in
     let count : length rows ≡ length c.rows = length-map c.rows (row_line c.matrix.rank) in
     rw (last, count) (joined (matrix_line c.matrix) top (codes "\nrows ") (decimal (length c.rows)) (flat_map (λ line. 10 ∷ line) rows)
     certificate_foot)

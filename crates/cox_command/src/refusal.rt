@@ -27,11 +27,13 @@ pub enum Refusal {
     ForeignByte,
     /// The group has more small roots than the session's limit.
     ManyRoots,
-    /// The interval from the identity to w has more elements than the session's limit.
+    /// The interval from the identity to w, or the whole group, has more elements than the
+    /// session's limit; or that interval has more than a certificate.
     LargeInterval,
-    /// A row that the row of w needs has a coefficient, or a value of mu, above the session's limit.
+    /// A row that the answer needs has a coefficient, or a value of mu, above a limit; of `invpol` also an inverse polynomial.
     LargeRow,
-    /// y is below w, and their lengths differ by more than is worked with.
+    /// `rpol`: y is below w, and their lengths differ by more than is worked with. `cert`: w has
+    /// more letters than a certificate.
     FarApart,
     /// A list of blocks has too many blocks, or too many lines.
     LongList,

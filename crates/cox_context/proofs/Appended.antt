@@ -87,7 +87,8 @@ module _ (c : CoxeterMatrix) (m : IsCoxeterMatrix c) (words : List (List ℕ)) (
           in omega (arith, short, ap length first-word)
 
     -- the same shorter elements for the normal form
-    normal-lower : (t : ℕ) (x : Option ℕ) → IsLower (integer_matrix c) words (s ∷ word_at words j) t x → IsLower (integer_matrix c) words y t x
+    normal-lower : (t : ℕ) (x : Option ℕ) → IsLower (integer_matrix c) words (s ∷ word_at words j) t x
+        → IsLower (integer_matrix c) words y t x
     normal-lower t None none = λ d. none (omega (
       arith,
       d,

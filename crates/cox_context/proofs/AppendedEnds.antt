@@ -30,7 +30,8 @@ use Rattle.cox_context.proofs.Spreading.{contains_cases, closed-push, below-long
 use Rattle.cox_context.proofs.Spreading.{spread-push, spread-end}
 use Rattle.cox_context.proofs.ListedMembers.{listed-at, listed-member}
 
-module _ (c : CoxeterMatrix) (g : IsAdmissible (integer_matrix c)) (top : List ℕ) (is : IsTopWord c top) (at : ℕ) (l : at < length top) where
+module _ (c : CoxeterMatrix) (g : IsAdmissible (integer_matrix c)) (top : List ℕ) (is : IsTopWord c top) (at : ℕ)
+    (l : at < length top) where
   pub end-cons : drop at top ≡ slice_index top at ∷ drop (at + 1) top
   end-cons = let e : suc at ≡ at + 1 = omega arith in rw (← e) (drop-cons top at 0 l)
 
@@ -91,7 +92,8 @@ module _ (c : CoxeterMatrix) (g : IsAdmissible (integer_matrix c)) (top : List �
     end-member none = record {
       none = none;
       below = below;
-      closed = λ few. closed-push (integer_matrix c) g words closed y (element-normal_form (integer_matrix c) g (slice_index top at ∷ x)) none
+      closed = λ few. closed-push (integer_matrix c) g words closed y
+          (element-normal_form (integer_matrix c) g (slice_index top at ∷ x)) none
           below short few;
     }
       where
@@ -111,7 +113,8 @@ module _ (c : CoxeterMatrix) (g : IsAdmissible (integer_matrix c)) (top : List �
         below : (z : List ℕ) → IsElement (integer_matrix c) z → IsBelow (integer_matrix c) z y → Contains words z ⊎ (y ≡ z)
         below z e b =
             ⊎_elim (λ there. inl (listed-member words marks numbers marked z there)) (λ is. inr (rw read at is))
-            (next-below (integer_matrix c) g (slice_index top at) (drop (at + 1) top) end-letter end-descent size j (listed_words words numbers) h
+            (next-below (integer_matrix c) g (slice_index top at) (drop (at + 1) top) end-letter end-descent size j
+            (listed_words words numbers) h
             inside absent z e (rw read b))
 
         short : length y ≤ MAX_LETTERS

@@ -104,7 +104,8 @@ module _ (A : IntegerMatrix) (g : IsAdmissible A) (words : List (List ℕ)) wher
       (same-refl A g w) (below-cons A g (word_at words k) w t d b)
 
   -- a letter of the top's descents that shortens y, where the members are below the top
-  pub shared : (y descents lower : List ℕ) (top : ArrayVec ℕ) → IsAdmissible A → AreLower A words y lower → descents ≡ left_descents A top.items
+  pub shared : (y descents lower : List ℕ) (top : ArrayVec ℕ) → IsAdmissible A → AreLower A words y lower
+      → descents ≡ left_descents A top.items
       → AreBelowTop A (Some top) words → (t : ℕ) × (k : ℕ) × Contains descents t × (entry A.rank lower t 0 ≡ Some k)
       → IsBelow A y top.items
   shared y descents lower top g h e below (t, k, c, some) =

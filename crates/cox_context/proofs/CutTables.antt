@@ -1,5 +1,6 @@
 -- Tables of members that are cut back to the first of them.
-use Rattle.std.proofs.Common.{◌≡◌, ℕ, ◌+◌, ◌-◌, ◌*◌, ◌≤◌, ◌<◌, List, [], ◌∷◌, ◌++◌, length, take, reverse, Contains, Option, None, Some, sym}
+use Rattle.std.proofs.Common.{◌≡◌, ℕ, ◌+◌, ◌-◌, ◌*◌, ◌≤◌, ◌<◌, List, [], ◌∷◌, ◌++◌, length, take, reverse, Contains, Option, None}
+use Rattle.std.proofs.Common.{Some, sym}
 use Rattle.std.proofs.Common.{◌∙◌, ⊎_elim, arith, lt-ltb, ap}
 use Rattle.std.proofs.lemmas.Bool.{cases_lt, cases_eq, le-ltb}
 use Rattle.std.proofs.lemmas.List.{get_or-take, length-take-le, take_all}
@@ -20,7 +21,8 @@ use Rattle.cox_context.proofs.ShiftPlaces.{place-within, entry-is}
 -- all members are the first ones, as many as there are
 pub elements-whole : (e : Elements) (n : ℕ) → n ≡ length e.members → e ≡ record { matrix = e.matrix; members = take n e.members }
 elements-whole e n count =
-    rw count (ap (λ (words : List (List ℕ)). record { matrix = e.matrix; members = words }) (sym (take_all (length e.members) e.members (omega arith))))
+    rw count (ap (λ (words : List (List ℕ)). record { matrix = e.matrix; members = words })
+    (sym (take_all (length e.members) e.members (omega arith))))
 
 module _ (A : IntegerMatrix) (words : List (List ℕ)) (closed : IsClosed A words) (n : ℕ) (within : n ≤ length words) where
   first-word : (i : ℕ) → i < n → word_at (take n words) i ≡ word_at words i

@@ -77,7 +77,8 @@ module _ (A : IntegerMatrix) (g : IsAdmissible A) where
   }
 
 -- the scope that is meant, of a Coxeter matrix
-pub member-tailed : (c : CoxeterMatrix) → IsCoxeterMatrix c → (top : Option (ArrayVec ℕ)) → IsTailed c.rank (IsMember (integer_matrix c) top)
+pub member-tailed : (c : CoxeterMatrix) → IsCoxeterMatrix c → (top : Option (ArrayVec ℕ))
+    → IsTailed c.rank (IsMember (integer_matrix c) top)
 member-tailed c matrix top =
     let g : IsAdmissible (integer_matrix c) = IsAdmissible-integer_matrix c matrix
     in ideal-tailed (integer_matrix c) g (IsMember (integer_matrix c) top) (ideal-member (integer_matrix c) g top)

@@ -2,7 +2,8 @@
 use Rattle.std.proofs.Common.{◌≡◌, ℕ, suc, ◌<◌, Bool, true, false, List, [], ◌∷◌, ◌++◌, length, map, set, Contains, refl, sym}
 use Rattle.std.proofs.Common.{◌∙◌, ⊎_elim, arith, ap, slice_index}
 use Rattle.std.proofs.lemmas.Bool.{cases_eq, false≢true}
-use Rattle.std.proofs.lemmas.List.{length-map, length-set, length-replicate, get_or-replicate, get_or-map, get_or-set_same, get_or-set_other}
+use Rattle.std.proofs.lemmas.List.{length-map, length-set, length-replicate, get_or-replicate, get_or-map, get_or-set_same}
+use Rattle.std.proofs.lemmas.List.{get_or-set_other}
 use Rattle.std.proofs.Math.ListN.{replicate}
 use Rattle.cox_lemmas.proofs.PushedItems.{push-length, push_cases, push-old, push-new}
 use Rattle.cox_base.specs.IntegerMatrix.{IntegerMatrix}
@@ -31,17 +32,20 @@ listed-push words [] k = refl
 listed-push words (n ∷ numbers) k = ap (λ (rest : List (List ℕ)). word_at words n ∷ rest) (listed-push words numbers k)
 
 -- one word more, whose number is not in the list
-pub listed-old : (words : List (List ℕ)) (y : List ℕ) (numbers : List ℕ) → ((p : ℕ) → p < length numbers → slice_index numbers p < length words)
+pub listed-old : (words : List (List ℕ)) (y : List ℕ) (numbers : List ℕ)
+    → ((p : ℕ) → p < length numbers → slice_index numbers p < length words)
     → listed_words (words ++ y ∷ []) numbers ≡ listed_words words numbers
 unfolding listed_words
 listed-old words y [] within = refl
 listed-old words y (n ∷ numbers) within =
     let first : word_at (words ++ y ∷ []) n ≡ word_at words n = word_at-old words y n (within 0 (omega arith))
     in let rest = listed-old words y numbers (λ p l. within (suc p) (omega (arith, l)))
-    in ap (λ (word : List ℕ). word ∷ map (λ i. word_at (words ++ y ∷ []) i) numbers) first ∙ ap (λ (r : List (List ℕ)). word_at words n ∷ r) rest
+    in ap (λ (word : List ℕ). word ∷ map (λ i. word_at (words ++ y ∷ []) i) numbers) first
+    ∙ ap (λ (r : List (List ℕ)). word_at words n ∷ r) rest
 
 -- the identity alone
-pub listed-identity : (A : IntegerMatrix) → IsAdmissible A → (words : List (List ℕ)) → IsClosed A words → listed_words words (0 ∷ []) ≡ [] ∷ []
+pub listed-identity : (A : IntegerMatrix) → IsAdmissible A → (words : List (List ℕ)) → IsClosed A words
+    → listed_words words (0 ∷ []) ≡ [] ∷ []
 unfolding listed_words
 listed-identity A g words closed = ap (λ (w : List ℕ). w ∷ []) (first-member A g words closed)
 

@@ -34,7 +34,8 @@ use Rattle.cox_context.proofs.FirstLetters.{first-least}
 use Rattle.cox_context.proofs.LowerWalks.{IsAscent, ascent}
 
 -- membership is that of an element below the top
-member-parts : (A : IntegerMatrix) (top : Option (ArrayVec ℕ)) (word : List ℕ) → IsMember A top word → IsElement A word × IsBelowTop A top word
+member-parts : (A : IntegerMatrix) (top : Option (ArrayVec ℕ)) (word : List ℕ) → IsMember A top word
+    → IsElement A word × IsBelowTop A top word
 member-parts A None word p = (p, tt)
 member-parts A (Some top) word p = (p.element, p.below)
 

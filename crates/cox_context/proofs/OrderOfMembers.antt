@@ -147,7 +147,8 @@ module _ (A : IntegerMatrix) (g : IsAdmissible A) (words : List (List ℕ)) (clo
       letter : k + 1 ≤ A.rank → IsLetter A.rank (k + 1)
       letter m = record { from_one = omega arith; to_rank = m }
 
-  pub left-set : (table : List ℕ) (i set : ℕ) → i < length words → AreLeftShifts A words table → IsLoweringSet A.rank table i (A.rank + 1) set
+  pub left-set : (table : List ℕ) (i set : ℕ) → i < length words → AreLeftShifts A words table
+      → IsLoweringSet A.rank table i (A.rank + 1) set
       → (k : ℕ) → IsBitSet set k ↔ IsLeftDescent A (word_at words i) (k + 1)
   left-set table i set l h one = set-of (IsLeftDescent A) table i set one (λ s. left_descent-letter A g (word_at words i) s)
       (λ s m. lower-descent s i (entry A.rank table s i) m l (h.shift s i m l))

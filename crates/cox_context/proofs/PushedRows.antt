@@ -42,7 +42,8 @@ module _ (A : IntegerMatrix) (g : IsAdmissible A) (words : List (List ℕ)) (y :
   old_element j l = rw (word_at-old words y j l) at (element-at A g (words ++ y ∷ []) closed j (omega (arith, l, more)))
 
   -- shifts that lead back, by so many letters: on the left, or on the right; or inversion alone
-  module _ (rank : ℕ) (shift : ℕ → List ℕ → List ℕ) (back : (t : ℕ) (x : List ℕ) → IsLetter rank t → IsElement A x → shift t (shift t x) ≡ x)
+  module _ (rank : ℕ) (shift : ℕ → List ℕ → List ℕ)
+      (back : (t : ℕ) (x : List ℕ) → IsLetter rank t → IsElement A x → shift t (shift t x) ≡ x)
       (row old new : List ℕ) (of_y : (t : ℕ) → IsLetter rank t → IsNumberOf (words ++ y ∷ []) (shift t y) (entry rank row t 0))
       (pushed : IsRowPushed rank (length words) row (rank + 1) old new)
       (before : (t j : ℕ) → IsLetter rank t → j < length words → IsNumberOf words (shift t (word_at words j)) (entry rank old t j)) where
@@ -51,7 +52,8 @@ module _ (A : IntegerMatrix) (g : IsAdmissible A) (words : List (List ℕ)) (y :
     at_new t j l e = rw (e, y_at, pushed.row t l (omega (arith, l.to_rank))) (of_y t l)
 
     -- where t leads from an old word to y, that is noted
-    noted : (t j : ℕ) (x : Option ℕ) → j < length words → shift t y ≡ word_at words j → IsNumberOf (words ++ y ∷ []) (shift t y) x → x ≡ Some j
+    noted : (t j : ℕ) (x : Option ℕ) → j < length words → shift t y ≡ word_at words j → IsNumberOf (words ++ y ∷ []) (shift t y) x
+        → x ≡ Some j
     noted t j None m e none =
         absurd (none (placed-contains (words ++ y ∷ []) (shift t y) (record {
           i = j;
@@ -135,7 +137,8 @@ row-of : (A : IntegerMatrix) (words : List (List ℕ)) (y : List ℕ) (all : Lis
     → (t : ℕ) → IsLetter A.rank t → IsNumberOf (words ++ y ∷ []) (normal_form A (y ++ t ∷ [])) (entry A.rank row t 0)
 row-of A words y all n row is e each t l = rw (is, word_at-new words y n e) at (each t l)
 
-module _ (A : IntegerMatrix) (g : IsAdmissible A) (all : List (List ℕ)) (closed : IsClosed A all) (table : List ℕ) (h : AreOfOthers A all table)
+module _ (A : IntegerMatrix) (g : IsAdmissible A) (all : List (List ℕ)) (closed : IsClosed A all) (table : List ℕ)
+    (h : AreOfOthers A all table)
     (i : ℕ) (last : i + 1 ≡ length all) where
   place : i ≡ length h.others
   place = let count = ap (λ (l : List (List ℕ)). length l) h.is ∙ push-length h.others h.last in omega (arith, last, count)
@@ -166,8 +169,10 @@ pub sets-push : (P : List ℕ → ℕ → Type 0) (words : List (List ℕ)) (y :
     → ((k : ℕ) → IsBitSet x k ↔ P y (k + 1)) → AreSets P (words ++ y ∷ []) (sets ++ x ∷ [])
 sets-push P words y sets x h bit = record {
   size = omega (arith, h.size, push-length words y, push-length sets x);
-  bit = λ i k l. ⊎_elim (λ (less : i < length words). rw (word_at-old words y i less, push-old sets x 0 i (omega (arith, less, h.size))) (h.bit i k less))
-      (λ (e : i ≡ length words). rw (word_at-new words y i e, push-new sets x 0 i (omega (arith, e, h.size))) (bit k)) (push_cases words y i l);
+  bit = λ i k l. ⊎_elim (λ (less : i < length words). rw (word_at-old words y i less, push-old sets x 0 i (omega (arith, less, h.size)))
+      (h.bit i k less))
+      (λ (e : i ≡ length words). rw (word_at-new words y i e, push-new sets x 0 i (omega (arith, e, h.size))) (bit k))
+      (push_cases words y i l);
 }
 
 -- ---- a context with one member more

@@ -73,7 +73,8 @@ module _ (A : IntegerMatrix) (g : IsAdmissible A) (words : List (List ℕ)) (clo
       right-push table s i k h letter size (rw (entry_number-some k (omega (arith, n.0, closed.few))) n)
 
 -- a number in a list that has one word more, at its end
-pub number-more : (words : List (List ℕ)) (y w : List ℕ) (x : Option ℕ) → (y ≡ w → ⊥) → IsNumberOf words w x → IsNumberOf (words ++ y ∷ []) w x
+pub number-more : (words : List (List ℕ)) (y w : List ℕ) (x : Option ℕ) → (y ≡ w → ⊥) → IsNumberOf words w x
+    → IsNumberOf (words ++ y ∷ []) w x
 number-more words y w None ne none = λ c. ⊎_elim none ne (contains_cases words y w c)
 number-more words y w (Some k) ne (inside, is) = (omega (arith, inside, push-length words y), word_at-old words y k inside ∙ is)
 

@@ -22,7 +22,7 @@ use Rattle.cox_reflect.proofs.RankTwo.{is_even, alternating, alternating-zero, a
 use Rattle.cox_reflect.proofs.RankTwo.{alternating-ends, TwoLetters, spread, braids, two_letters, pair_of}
 use Rattle.cox_reflect.proofs.Positivity.{Split, split, positive, spread_nonnegative, BraidEnd, braid_end}
 use Rattle.cox_reflect.proofs.Roots.{no_descent, left_descent_reverse}
-use Rattle.cox_reflect.proofs.TwoDescents.{zigzag, zigzag-order}
+use Rattle.cox_reflect.proofs.Zigzags.{zigzag, zigzag-order}
 
 -- 2 k
 abbrev pub double : ℕ → ℕ

@@ -156,7 +156,8 @@ module _ (rank n : ℕ) (lower old table : List ℕ) (t next : ℕ) (q : next �
     where
       there : k * rank + (t - 1) < length (table ++ x ∷ [])
       there = ⊎_elim (λ (old : k < n). omega (arith, before t k lt old, length-append table (x ∷ [])))
-          (λ (above : n ≤ k). let e : k ≡ n = omega (arith, above, inside t k lt some) in rw e (omega (arith, here, length-append table (x ∷ []))))
+          (λ (above : n ≤ k). let e : k ≡ n = omega (arith, above, inside t k lt some) in rw e
+          (omega (arith, here, length-append table (x ∷ []))))
           (cases_lt k n)
 
       other : (r j : ℕ) → IsLetter rank r → ((r ≡ t) × (j ≡ k) → ⊥)

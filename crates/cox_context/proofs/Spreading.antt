@@ -226,7 +226,8 @@ module _ (A : IntegerMatrix) (g : IsAdmissible A) (s : ℕ) (v : List ℕ) (lett
 
                   here : j ≤ p.p → y ≡ z
                   here more =
-                      let is : p.p ≡ j = omega (arith, more, h.upward p.p j (omega (arith, p.before, h.many)) (omega (arith, inside, h.many)) there)
+                      let is : p.p ≡ j = omega
+                      (arith, more, h.upward p.p j (omega (arith, p.before, h.many)) (omega (arith, inside, h.many)) there)
                       in rw is at again
 
       -- and it is below none of those
@@ -272,13 +273,15 @@ module _ (A : IntegerMatrix) (g : IsAdmissible A) (s : ℕ) (v : List ℕ) (lett
         many = omega (arith, h.many, push-length found y);
         element = λ p l. ⊎_elim (λ less. rw (kept_word p less) (h.element p less)) (λ e. rw (last p e) y_element) (push_cases found y p l);
         upward = λ p q l m b. ⊎_elim
-            (λ (less : q < length found). ⊎_elim (λ (less2 : p < length found). h.upward p q less2 less (rw (kept_word p less2, kept_word q less) at b))
+            (λ (less : q < length found). ⊎_elim
+            (λ (less2 : p < length found). h.upward p q less2 less (rw (kept_word p less2, kept_word q less) at b))
             (λ (e : p ≡ length found). absurd (below-none q less (rw (last p e, kept_word q less) at b))) (push_cases found y p l))
             (λ (e : q ≡ length found). omega (arith, e, l, push-length found y)) (push_cases found y q m);
         first = λ p l. rw (front p l) (h.first p l);
         whole = λ word e b. let k = h.whole word e b in record { p = k.p; before = k.before; is = front k.p k.before ∙ k.is };
         later = λ p from l. ⊎_elim (λ less. rw (kept_word p less) (shifted (word_at found p) (h.later p from less)))
-            (λ e. rw (last p e) (record { above = y_above; i = j; before = omega arith; is = rw (front j inside) refl })) (push_cases found y p l);
+            (λ e. rw (last p e) (record { above = y_above; i = j; before = omega arith; is = rw (front j inside) refl }))
+            (push_cases found y p l);
         done = λ p less. ⊎_elim (λ (before : p < j). rw (front p (omega (arith, before, inside)))
             (contains-push found y (normal_form A (s ∷ word_at found p)) (h.done p before)))
             (λ (more : j ≤ p). let e : p ≡ j = omega (arith, less, more)
@@ -291,7 +294,8 @@ module _ (A : IntegerMatrix) (g : IsAdmissible A) (s : ℕ) (v : List ℕ) (lett
     element = h.element;
     upward = h.upward;
     sound = λ p l. ⊎_elim (λ (less : p < size). below-longer (word_at found p) (h.first p less))
-        (λ (more : size ≤ p). let k = h.later p more l in rw k.is (shift-below (word_at found k.i) (h.first k.i k.before))) (cases_lt p size);
+        (λ (more : size ≤ p). let k = h.later p more l in rw k.is (shift-below (word_at found k.i) (h.first k.i k.before)))
+        (cases_lt p size);
     whole = λ word e b. ⊎_elim (λ q. above word e b q) (λ q. below word e b q) (left_length A g s word letter);
   }
     where

@@ -14,7 +14,7 @@ pub mod WantedMembers
 pub mod Links
 -- words by their numbers in a list
 pub mod Numbers
--- numbers of words, and of the words of one list in another
+-- numbers of words
 pub mod Numbering
 -- the tables of shifts
 pub mod Shifts

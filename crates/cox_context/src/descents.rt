@@ -1,5 +1,5 @@
 //! The descents of each member as a set of bits, read off a table of shifts.
-ghost use Rattle.std.specs.Prelude.{◌≡◌, ℕ, ◌+◌, ◌-◌, ◌*◌, ◌<◌, ◌≤◌, ◌↔◌, length, IfOk, IsTrue, IsBitSet, filter};
+ghost use Rattle.std.specs.Prelude.{◌≡◌, ◌+◌, ◌-◌, ◌*◌, ◌<◌, ◌≤◌, length, IfOk, filter};
 ghost use Rattle.cox_base.specs.ShortLex.{letters};
 ghost use Rattle.cox_context.specs.Shifts.{entry};
 ghost use Rattle.cox_context.specs.Sets.{is_lower, has_letter, IsLoweringSet, AreLoweringSets};

@@ -2,7 +2,7 @@
 ghost use Rattle.std.specs.Prelude.{◌≡◌, ℕ, ◌+◌, ◌*◌, ◌<◌, ◌≤◌, ◌∷◌, length, reverse, vec_len, vec_capacity, IfOk};
 ghost use Rattle.cox_base.specs.IntegerMatrix.{integer_matrix};
 ghost use Rattle.cox_base.specs.ShortLex.{normal_form};
-ghost use Rattle.cox_context.specs.Inverses.{AreInverses, AreKeptInverses, AreInversesOfOthers};
+ghost use Rattle.cox_context.specs.Inverses.{AreKeptInverses, AreInversesOfOthers};
 ghost use Rattle.cox_context.specs.Numbers.{word_at};
 ghost use Rattle.cox_context.specs.Numbering.{IsNumberOf};
 ghost use Rattle.cox_context.specs.Rows.{IsCutBack};

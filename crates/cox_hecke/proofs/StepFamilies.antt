@@ -1,23 +1,19 @@
 -- Step families: by any descent, on either side, there is one, and it is the row.
-use Rattle.std.proofs.Common.{◌≡◌, ℕ, Bool, true, if◌then◌else◌, List, ap, sym, subst, refl, ◌∙◌}
+use Rattle.std.proofs.Common.{◌≡◌, ℕ, if◌then◌else◌, List, sym, subst, refl, ◌∙◌}
 use Rattle.std.specs.Prelude.{All}
 use Rattle.cox_base.specs.declared.side.Side.{Side}
 use Rattle.cox_base.specs.declared.side.Side.TheVariants.{Left, Right}
 use Rattle.cox_base.specs.IntegerMatrix.{IntegerMatrix}
 use Rattle.cox_base.specs.Admissible.{IsAdmissible}
-use Rattle.cox_poly.specs.Coefficients.{Coefficients, plus, times_q}
 use Rattle.cox_poly.specs.Multiples.{minus}
 use Rattle.cox_hecke.specs.Family.{Family}
 use Rattle.cox_hecke.specs.Row.{IsRow}
 use Rattle.cox_base.specs.SideDescents.{times_letter, IsDescent}
-use Rattle.cox_hecke.specs.StepFamily.{shortens}
 use Rattle.cox_hecke.specs.StepFamily.{step, Correction, AreCorrections, correction_sum, IsStepFamily}
 use Rattle.cox_hecke.proofs.AllRows.{row_of, row_of-is}
 use Rattle.cox_hecke.proofs.LeftSteps.{left-recursion, left-corrections_exist}
 use Rattle.cox_hecke.proofs.RightSteps.{right-recursion, right-corrections_exist}
-use Rattle.cox_hecke.proofs.Descents.{nat_lt-yes}
 use Rattle.cox_hecke.proofs.Descended.{All-from}
-use Rattle.cox_hecke.proofs.PolynomialValues.{kl_polynomial, kl_polynomial-is_row}
 
 module _ (A : IntegerMatrix) (g : IsAdmissible A) where
   pub recursion : (side : Side) (w : List ℕ) (s : ℕ) → IsDescent side A w s → (p : Family) → IsRow A (times_letter side s w) p
@@ -55,27 +51,3 @@ module _ (A : IntegerMatrix) (g : IsAdmissible A) where
           value = λ x k. refl;
         },
       )
-
-  -- where s shortens x too
-  pub kl_polynomial-recursion : (side : Side) (w x : List ℕ) (s : ℕ) → IsDescent side A w s → IsDescent side A x s
-      → (list : List Correction)
-      → AreCorrections side A s (times_letter side s w) list → (k : ℕ)
-      → kl_polynomial A g x w k
-      ≡ minus (plus (kl_polynomial A g (times_letter side s x) (times_letter side s w))
-      (times_q (kl_polynomial A g x (times_letter side s w))))
-      (correction_sum A w (λ u y. kl_polynomial A g y u) list x) k
-  kl_polynomial-recursion side w x s d e list are k =
-      recursion side w s d (λ y. kl_polynomial A g y (times_letter side s w)) (kl_polynomial-is_row A g (times_letter side s w)) list are
-      (λ u y. kl_polynomial A g y u)
-      (All-from (λ c. IsRow A c.element (λ y. kl_polynomial A g y c.element)) (λ c. kl_polynomial-is_row A g c.element) list)
-      (λ y. kl_polynomial A g y w) (kl_polynomial-is_row A g w) x k
-      ∙ ap (λ (f : Coefficients). minus f (correction_sum A w (λ u y. kl_polynomial A g y u) list x) k)
-      (shorter (shortens side A s x) (nat_lt-yes e))
-    where
-      shorter : (b : Bool) → b ≡ true
-          → (if b then plus (kl_polynomial A g (times_letter side s x) (times_letter side s w))
-          (times_q (kl_polynomial A g x (times_letter side s w)))
-          else plus (times_q (kl_polynomial A g (times_letter side s x) (times_letter side s w)))
-          (kl_polynomial A g x (times_letter side s w)))
-          ≡ plus (kl_polynomial A g (times_letter side s x) (times_letter side s w)) (times_q (kl_polynomial A g x (times_letter side s w)))
-      shorter b e = rw e refl

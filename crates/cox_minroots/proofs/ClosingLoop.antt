@@ -4,7 +4,7 @@ use Rattle.std.proofs.lemmas.Bool.{cases_lt}
 use Rattle.cox_base.specs.Matrix.{IsLetter}
 use Rattle.cox_base.specs.IntegerMatrix.{IntegerMatrix}
 use Rattle.cox_minroots.specs.declared.root.Root.{Root}
-use Rattle.cox_minroots.specs.Closure.{AreSmall, HasSimple, HasStep, IsLonger, AreAllSmall}
+use Rattle.cox_minroots.specs.Closure.{AreSmall, HasSimple, HasStep, IsLonger}
 use Rattle.cox_minroots.proofs.SmallRootLists.{HasStep-longer, HasSimple-longer}
 
 -- the steps of the first i roots are done
@@ -14,10 +14,6 @@ pub record IsClosing (A : IntegerMatrix) (max : ℕ) (roots : List Root) (i : �
   pub within : i ≤ length roots
   pub few : i ≤ max
   pub done : (k s : ℕ) → k < i → IsLetter A.rank s → HasStep A roots k s
-
-pub closing-start : (A : IntegerMatrix) (max : ℕ) (roots : List Root) → AreSmall A roots → HasSimple roots A.rank → IsClosing A max roots 0
-closing-start A max roots h k =
-    record { small = h; simple = k; within = omega arith; few = omega arith; done = λ j s l. absurd (omega (arith, l)) }
 
 pub closing-next : (A : IntegerMatrix) (max : ℕ) (old new : List Root) (i : ℕ) → IsClosing A max old i → i < length old → length old ≤ max
     → AreSmall A new → IsLonger old new → ((s : ℕ) → IsLetter A.rank s → HasStep A new i s) → IsClosing A max new (i + 1)
@@ -29,8 +25,3 @@ closing-next A max old new i h l few small longer steps = record {
   done = λ k s m ls. ⊎_elim (λ (before : k < i). HasStep-longer A old new k s longer (omega (arith, before, l)) (h.done k s before ls))
       (λ (after : i ≤ k). let e : k ≡ i = omega (arith, after, m) in rw e (steps s ls)) (cases_lt k i);
 }
-
-pub closing-end : (A : IntegerMatrix) (max : ℕ) (roots : List Root) (i : ℕ) → IsClosing A max roots i → length roots ≤ i
-    → AreAllSmall A roots
-closing-end A max roots i h l =
-    record { small = h.small; simple = h.simple; steps = λ k s m ls. h.done k s (omega (arith, m, l)) ls }

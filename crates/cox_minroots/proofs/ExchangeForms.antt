@@ -4,8 +4,7 @@ use Rattle.std.proofs.Common.{nat_lt, List, [], ◌∷◌, ◌++◌, length, rev
 use Rattle.std.specs.List.{range_with_len, remove}
 use Rattle.std.proofs.Math.Path.{fun_ext}
 use Rattle.std.proofs.lemmas.Bool.{cases_lt, le-ltb}
-use Rattle.std.proofs.lemmas.List.{append-nil, append_assoc, length-append, reverse-append, reverse-reverse}
-use Rattle.std.proofs.lemmas.List.Elements.{All-nil}
+use Rattle.std.proofs.lemmas.List.{length-append, reverse-append, reverse-reverse}
 use Rattle.std.proofs.lemmas.List.Elements.{All-nil}
 use Rattle.cox_base.specs.declared.side.Side.TheVariants.{Right}
 use Rattle.cox_base.specs.Matrix.{IsLetter, IsWord}
@@ -100,24 +99,6 @@ module _ (A : IntegerMatrix) (g : IsAdmissible A) where
       (λ t k. let there : IsRightDescent A v t = rw (reverse-reverse v) at (left_descent_reverse A g (reverse v) t k)
       in let letter = left_descent-letter A g (reverse v) t k
       in none t letter.from_one (omega (arith, letter.to_rank, l)) there)
-
-  pub begun-start : (all : List ℕ) → IsReduced A all → IsWord A.rank all → IsBegun A all [] all
-  begun-start all h k = record { whole = refl; reduced = h; word = k; begun = All-nil (IsLetter A.rank); size = omega arith }
-
-  pub begun-next : (all form rest : List ℕ) (s : ℕ) (next : List ℕ) → IsBegun A all form rest
-      → normal_form A (reverse rest) ≡ s ∷ normal_form A (reverse next) → IsLetter A.rank s → IsReduced A next → IsWord A.rank next
-      → length next + 1 ≡ length rest → IsBegun A all (form ++ s ∷ []) next
-  begun-next all form rest s next h e l r k size = record {
-    whole = h.whole ∙ ap (λ (w : List ℕ). form ++ w) e ∙ sym (append_assoc form (s ∷ []) (normal_form A (reverse next)));
-    reduced = r;
-    word = k;
-    begun = IsWord-append form (s ∷ []) h.begun (IsWord-single l);
-    size = omega (arith, size, h.size, length-append form (s ∷ []));
-  }
-
-  pub begun-end : (all form rest : List ℕ) → IsBegun A all form rest → normal_form A (reverse rest) ≡ []
-      → form ≡ normal_form A (reverse all)
-  begun-end all form rest h e = sym (h.whole ∙ ap (λ (v : List ℕ). form ++ v) e ∙ append-nil form)
 
 -- ---- the list of the right descents
 

@@ -68,9 +68,6 @@ module _ (A : IntegerMatrix) (g : IsAdmissible A) (fits : A.rank ≤ MAX_RANK) (
   lq : IsLetter A.rank q
   lq = rw is_q (h.letters place 0 within)
 
-  pub walk-index : MAX_RANK * i + (q - 1) < length moves
-  walk-index = omega (arith, lq.from_one, lq.to_rank, fits, h.inside, h.table.size)
-
   behind : List ℕ
   behind = drop (length w - k) w
 

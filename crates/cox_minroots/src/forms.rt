@@ -1,8 +1,7 @@
 //! Normal forms, lengths, descents, inverses and products of words: by heights, and where a sum overflows by the table.
-ghost use Rattle.std.specs.Prelude.{◌≡◌, ℕ, ◌+◌, ◌≤◌, ◌<◌, [], ◌∷◌, ◌++◌, length, reverse, IfSome, MatchOption};
+ghost use Rattle.std.specs.Prelude.{◌≡◌, ◌+◌, ◌≤◌, ◌<◌, [], ◌∷◌, ◌++◌, length, reverse, IfSome, MatchOption};
 ghost use Rattle.cox_base.specs.Matrix.{IsLetter, IsWord};
 ghost use Rattle.cox_base.specs.IntegerMatrix.{integer_matrix};
-ghost use Rattle.cox_base.specs.Element.{SameElement};
 ghost use Rattle.cox_base.specs.Length.{word_length};
 ghost use Rattle.cox_base.specs.Descents.{left_descents, right_descents};
 ghost use Rattle.cox_base.specs.Reduced.{IsReduced};

@@ -1,5 +1,5 @@
 //! A set of roots in the order in which they came.
-ghost use Rattle.std.specs.Prelude.{◌≡◌, ℕ, ◌<◌, [], length, Contains, IfOk, OnOk, MatchOption};
+ghost use Rattle.std.specs.Prelude.{◌≡◌, ◌<◌, [], length, Contains, OnOk, MatchOption};
 ghost use Rattle.cox_minroots.specs.RootLists.{root_at, IsInserted};
 
 use crate::root::Root;

@@ -1,7 +1,6 @@
 //! The table of small roots.
-ghost use Rattle.std.specs.Prelude.{◌≡◌, ℕ, ◌+◌, ◌-◌, ◌*◌, ◌<◌, ◌≤◌, length, IfOk, IfErr, OnOk, IsOk};
+ghost use Rattle.std.specs.Prelude.{◌≡◌, ℕ, ◌+◌, ◌-◌, ◌<◌, ◌≤◌, IfOk, IfErr, OnOk};
 ghost use Rattle.cox_base.specs.IntegerMatrix.{integer_matrix};
-ghost use Rattle.cox_base.specs.Admissible.{IsCoxeterMatrix};
 ghost use Rattle.cox_small.specs.SmallRoots.{HasMoreSmallRoots};
 ghost use Rattle.cox_small.specs.RootCounts.{HasFewSmallRoots};
 ghost use Rattle.cox_minroots.specs.Closure.{WhenTooMany};

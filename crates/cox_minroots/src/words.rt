@@ -1,10 +1,4 @@
 //! A table as an arithmetic of words.
-ghost use Rattle.std.specs.Prelude.{◌≡◌, ◌≤◌, ◌↔◌, length, IsTrue};
-ghost use Rattle.cox_base.specs.Matrix.{IsWord};
-ghost use Rattle.cox_base.specs.IntegerMatrix.{integer_matrix};
-ghost use Rattle.cox_base.specs.Bruhat.{IsBelow};
-ghost use Rattle.cox_base.specs.Descents.{left_descents};
-ghost use Rattle.cox_base.specs.ShortLex.{normal_form};
 
 use crate::RootTable;
 use cox_base::{Coxeter, MAX_LETTERS, Word};

@@ -1,10 +1,8 @@
 -- How known bytes, room and writes compose.
-use Rattle.std.proofs.Common.{◌≡◌, ℕ, ◌+◌, ◌-◌, ◌≤◌, Bool, true, false, ◌==◌, List, [], ◌∷◌, ◌++◌, length, take, drop, Option, Some, None}
-use Rattle.std.proofs.Common.{refl, sym, ap, ◌∙◌, arith, append_assoc, length-append, length-drop}
-use Rattle.std.specs.List.{list_any}
+use Rattle.std.proofs.Common.{◌≡◌, ℕ, ◌+◌, List, [], ◌++◌, length, take, drop, Option, Some, None}
+use Rattle.std.proofs.Common.{refl, sym, ap, ◌∙◌, arith, append_assoc, length-append}
 use Rattle.std.specs.Io.KnownBytes.{prepend_known, append_known}
-use Rattle.std.proofs.lemmas.List.{take_at, length-take-le, take-append-drop, drop-drop, append-nil}
-use Rattle.std.proofs.lemmas.Bool.Decides.{nat_tests}
+use Rattle.std.proofs.lemmas.List.{append-nil}
 use Rattle.std.proofs.Math.Seq.{take-add}
 use Rattle.cox_outside.specs.Outlet.{Outlet, Writes, more_room}
 
@@ -60,17 +58,3 @@ Writes-on at count bytes old mid new p q =
 -- bytes were written, and then none
 pub Writes-stay : (bytes : List ℕ) (old mid new : Outlet) → Writes bytes old mid → Writes [] mid new → Writes bytes old new
 Writes-stay bytes old mid new p q = rw (← append-nil bytes) (Writes-append bytes [] old mid new p q)
-
--- a prefix that was copied into a buffer, and what is left behind it
-pub copied_prefix : (at n : ℕ) (xs kept : List ℕ) → n ≤ length xs - at → drop at xs
-    ≡ take n (take n (drop at xs) ++ kept) ++ drop (at + n) xs
-copied_prefix at n xs kept h =
-    let within : n ≤ length (drop at xs) = omega (arith, length-drop at xs) in
-    sym (take-append-drop n (drop at xs))
-    ∙ ap (λ l. l ++ drop n (drop at xs)) (sym (take_at (take n (drop at xs)) kept n (length-take-le n (drop at xs) within)))
-    ∙ ap (λ l. take n (take n (drop at xs) ++ kept) ++ l) (drop-drop n at xs)
-
--- a list in which an element passes is not empty
-pub some_passes : (p : ℕ → Bool) (numbers : List ℕ) → list_any p numbers ≡ true → (length numbers == 0) ≡ false
-some_passes p [] h = cc
-some_passes p (number ∷ numbers) h = grind (arith, nat_tests)

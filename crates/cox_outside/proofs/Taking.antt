@@ -9,9 +9,8 @@ use Rattle.cox_outside.specs.declared.line_reader.Stop.{Stop}
 use Rattle.cox_outside.specs.declared.line_reader.Stop.TheVariants as stop
 use Rattle.cox_outside.specs.Line.{line_feed, lines_within}
 use Rattle.cox_outside.specs.Unbroken.{IsUnbroken}
-use Rattle.cox_outside.specs.declared.limits.TheConstants.{INPUT_LIMIT}
-use Rattle.cox_outside.specs.Ahead.{Ahead, ahead, lines_ahead, Takes, TakesPart, MeetsEnd}
-use Rattle.cox_outside.specs.Reader.{fresh_reader, TakesNext}
+use Rattle.cox_outside.specs.Ahead.{Ahead, lines_ahead, Takes, TakesPart, MeetsEnd}
+use Rattle.cox_outside.specs.Reader.{TakesNext}
 use Rattle.cox_outside.proofs.Known.{prepend_known-append, prepend_known-none}
 use Rattle.cox_outside.proofs.Lines.{lines_within-line, lines_within-last, lines_within-none}
 
@@ -58,10 +57,6 @@ lines_by_end limit line (Some rest) some h end =
     let whole : line ++ rest ≡ line = ap (λ more. line ++ more) end ∙ append-nil line in
     ap Some (ap (lines_within (limit + length line)) whole ∙ lines_within-last (limit + length line) line some (omega arith) h
     ∙ ap (λ lines. line ∷ lines) (sym (ap (lines_within limit) end ∙ lines_within-none limit)))
-
--- a reader that has read nothing has all that the source has left ahead
-pub ahead-fresh : (left : Option (List ℕ)) → ahead fresh_reader.feed left ≡ record { bytes = left; budget = INPUT_LIMIT; pending = [] }
-ahead-fresh left = ap (λ known. record { bytes = known; budget = INPUT_LIMIT; pending = [] }) (prepend_known-none left)
 
 -- at the end no line lay ahead
 pub lines_ahead-end : (old new : Ahead) → MeetsEnd old new → lines_ahead old ≡ option_map (λ _. []) old.bytes

@@ -9,9 +9,7 @@ pub mod Unbroken
 -- what a read gives, and what a write takes
 pub mod SourceRead
 pub mod SinkWrite
--- the forms in memory, and over std's streams
-pub mod Calls
-pub mod Memory
+-- the forms over std's streams
 pub mod Std
 -- single bytes, what lies ahead, the ends of lines, and lines
 pub mod Feed

@@ -1,10 +1,10 @@
 -- One text behind another.
-use Rattle.std.proofs.Common.{◌≡◌, ◌<◌, ◌≤◌, ◌+◌, ℕ, List, ◌++◌, ◌∷◌, [], map, take, drop, length, get_or, Result, Ok, Err, IsErr}
+use Rattle.std.proofs.Common.{◌≡◌, ◌<◌, ◌≤◌, ◌+◌, ℕ, List, ◌++◌, ◌∷◌, [], take, drop, length, get_or, Result, Ok, Err, IsErr}
 use Rattle.std.proofs.Common.{append_assoc, add-one, ap}
 use Rattle.std.proofs.Common.{sym, ◌∙◌}
 use Rattle.std.specs.List.{flat_map}
 use Rattle.std.proofs.Math.Seq.{take-suc, drop-cons}
-use Rattle.std.proofs.lemmas.List.{take-append-drop, map-append, take_all, flat_map_more}
+use Rattle.std.proofs.lemmas.List.{take-append-drop, take_all, flat_map_more}
 use Rattle.std.proofs.lemmas.Grind.{flat_map-append}
 use Rattle.std.specs.declared.alloc.AllocError.{AllocError}
 use Rattle.cox_poly.specs.Puts.{PutsPrefix, Puts}
@@ -47,15 +47,6 @@ pub Puts-second : (result : Result Unit AllocError) (a b old mid new : List ℕ)
     → Puts result (a ++ b) old new
 Puts-second (Ok done) a b old mid new first put = append-second a b old mid new first put
 Puts-second (Err fault) a b old mid new first put = PutsPrefix-second a b old mid new first put
-
--- the texts of the first elements are a prefix of the whole text
-pub PutsPrefix-take : (f : ℕ → ℕ) (xs : List ℕ) (i : ℕ) (old new : List ℕ) → new ≡ old ++ map f (take i xs) → PutsPrefix (map f xs) old new
-PutsPrefix-take f xs i old new put = record {
-  prefix = map f (take i xs);
-  rest = map f (drop i xs);
-  parts = ap (map f) (sym (take-append-drop i xs)) ∙ map-append f (take i xs) (drop i xs);
-  behind = put;
-}
 
 -- the texts of the first items, and then the next one's
 pub append-next : {X : Type 0} (f : X → List ℕ) (xs : List X) (i : ℕ) (x d : X) (old mid new : List ℕ) → i < length xs → x ≡ get_or xs i d

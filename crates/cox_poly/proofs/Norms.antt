@@ -1,13 +1,13 @@
 -- Sums of absolute coefficients.
-use Rattle.std.proofs.Common.{subst, sym, ap, inl, inr, ◌-◌, ◌≡◌, ℕ, zero, suc, ◌+◌, ◌*◌, ◌≤◌, refl, arith}
+use Rattle.std.proofs.Common.{subst, inl, inr, ◌-◌, ◌≡◌, ℕ, zero, suc, ◌+◌, ◌*◌, ◌≤◌, arith}
 use Rattle.std.proofs.Common.{ℤ, unsigned_abs}
 use Rattle.std.proofs.lemmas.Int.{ints, unsigned_abs-mul}
 use Rattle.std.proofs.Math.Nat.{mul-le-mul_left}
-use Rattle.cox_poly.proofs.Coefficients.{times_q_power_at, times_q_power_below, times_q_power-suc}
+use Rattle.cox_poly.proofs.Coefficients.{times_q_power_at, times_q_power_below}
 use Rattle.std.proofs.lemmas.Bool.{cases_lt}
 use Rattle.cox_poly.specs.Coefficients.{Coefficients, zero_polynomial, one_polynomial, plus, times_q, times_q_less_one}
 use Rattle.cox_poly.specs.Products.{times_q_power, without_constant, product}
-use Rattle.cox_poly.specs.Multiples.{minus, negated, scaled}
+use Rattle.cox_poly.specs.Multiples.{minus, scaled}
 use Rattle.cox_poly.specs.Size.{absolute_sum, HasNormAtMost}
 
 -- of sums, differences and multiples
@@ -19,20 +19,11 @@ pub absolute_sum-minus : (n : ℕ) (f g : Coefficients) → absolute_sum n (minu
 absolute_sum-minus zero f g = omega arith
 absolute_sum-minus (suc n) f g = omega (arith, ints, absolute_sum-minus n (without_constant f) (without_constant g))
 
-pub absolute_sum-negated : (n : ℕ) (f : Coefficients) → absolute_sum n (negated f) ≡ absolute_sum n f
-absolute_sum-negated zero f = refl
-absolute_sum-negated (suc n) f = omega (arith, ints, absolute_sum-negated n (without_constant f))
-
 pub absolute_sum-scaled : (n : ℕ) (c : ℤ) (f : Coefficients) → absolute_sum n (scaled c f) ≡ unsigned_abs c * absolute_sum n f
 absolute_sum-scaled zero c f = omega arith
 absolute_sum-scaled (suc n) c f = omega (arith, unsigned_abs-mul c (f zero), absolute_sum-scaled n c (without_constant f))
 
--- a longer prefix has no smaller sum
-pub absolute_sum-more : (n : ℕ) (f : Coefficients) → absolute_sum n f ≤ absolute_sum (suc n) f
-absolute_sum-more zero f = omega arith
-absolute_sum-more (suc n) f = omega (arith, absolute_sum-more n (without_constant f))
-
--- and a coefficient is no larger than a sum that has it
+-- a coefficient is no larger than a sum that has it
 pub absolute_sum-above : (k : ℕ) (f : Coefficients) → unsigned_abs (f k) ≤ absolute_sum (suc k) f
 absolute_sum-above zero f = omega arith
 absolute_sum-above (suc k) f = omega (arith, absolute_sum-above k (without_constant f))
@@ -63,33 +54,9 @@ HasNormAtMost-times_q f a low (suc n) = omega (arith, low n)
 pub HasNormAtMost-times_q_less_one : (f : Coefficients) (a : ℕ) → HasNormAtMost f a → HasNormAtMost (times_q_less_one f) (a + a)
 HasNormAtMost-times_q_less_one f a low = HasNormAtMost-minus (times_q f) f a a (HasNormAtMost-times_q f a low) low
 
-pub HasNormAtMost-scaled : (c : ℤ) (f : Coefficients) (a : ℕ) → HasNormAtMost f a → HasNormAtMost (scaled c f) (unsigned_abs c * a)
-HasNormAtMost-scaled c f a low n = omega (arith, absolute_sum-scaled n c f, mul-le-mul_left (unsigned_abs c) (low n))
-
-pub HasNormAtMost-times_q_power : (n : ℕ) (f : Coefficients) (a : ℕ) → HasNormAtMost f a → HasNormAtMost (times_q_power n f) a
-HasNormAtMost-times_q_power zero f a low = HasNormAtMost-same f (times_q_power 0 f) a
-    (λ k. sym (times_q_power_at f 0 k k (omega arith))) low
-HasNormAtMost-times_q_power (suc n) f a low =
-    HasNormAtMost-same (times_q (times_q_power n f)) (times_q_power (suc n) f) a (λ k. sym (ap (λ h. h k) (times_q_power-suc n f)))
-    (HasNormAtMost-times_q (times_q_power n f) a (HasNormAtMost-times_q_power n f a low))
-
 -- no coefficient is larger
 pub HasNormAtMost-coefficient : (f : Coefficients) (a : ℕ) → HasNormAtMost f a → (k : ℕ) → unsigned_abs (f k) ≤ a
 HasNormAtMost-coefficient f a low k = omega (arith, absolute_sum-above k f, low (suc k))
-
--- a product has no coefficient above the sum of the one factor times a bound on the coefficients of the other
-pub absolute_product : (f g : Coefficients) (b : ℕ) → ((j : ℕ) → unsigned_abs (g j) ≤ b) → (k : ℕ)
-    → unsigned_abs (product f g k) ≤ absolute_sum (suc k) f * b
-absolute_product f g b low zero = omega (arith, unsigned_abs-mul (f zero) (g zero), mul-le-mul_left (unsigned_abs (f zero)) (low zero))
-absolute_product f g b low (suc k) =
-    omega (
-      arith,
-      ints,
-      unsigned_abs-mul (f zero) (g (suc k)),
-      mul-le-mul_left (unsigned_abs (f zero)) (low (suc k)),
-      absolute_product
-          (without_constant f) g b low k,
-    )
 
 -- and the sum of its absolute coefficients is at most the product of theirs
 pub absolute_sum-product : (n : ℕ) (f g : Coefficients) (b : ℕ) → HasNormAtMost g b → absolute_sum n (product f g) ≤ absolute_sum n f * b
@@ -107,13 +74,7 @@ absolute_sum-product (suc n) f g b low =
 pub HasNormAtMost-product : (f g : Coefficients) (a b : ℕ) → HasNormAtMost f a → HasNormAtMost g b → HasNormAtMost (product f g) (a * b)
 HasNormAtMost-product f g a b f_low g_low n = omega (arith, absolute_sum-product n f g b g_low, mul-le-mul_left b (f_low n))
 
--- f + c q^n g, as one addition to a sum makes it: bounds of the sums, and of one coefficient
-pub HasNormAtMost-after : (f g : Coefficients) (c : ℤ) (n a b : ℕ) → HasNormAtMost f a → HasNormAtMost g b
-    → HasNormAtMost (plus f (scaled c (times_q_power n g))) (a + unsigned_abs c * b)
-HasNormAtMost-after f g c n a b f_low g_low =
-    HasNormAtMost-plus f (scaled c (times_q_power n g)) a (unsigned_abs c * b) f_low
-    (HasNormAtMost-scaled c (times_q_power n g) b (HasNormAtMost-times_q_power n g b g_low))
-
+-- a coefficient of f + c q^n g, as one addition to a sum makes it
 pub absolute_after : (f g : Coefficients) (c : ℤ) (n k a b : ℕ) → unsigned_abs (f k) ≤ a → ((j : ℕ) → unsigned_abs (g j) ≤ b)
     → unsigned_abs (plus f (scaled c (times_q_power n g)) k) ≤ a + unsigned_abs c * b
 absolute_after f g c n k a b f_low g_low = elim (cases_lt k n) [

@@ -1,5 +1,5 @@
 -- Polynomials that stand one behind another: one more.
-use Rattle.std.proofs.Common.{◌≡◌, ◌≢◌, ℕ, zero, suc, ◌+◌, ◌-◌, ◌<◌, ◌≤◌, List, [], ◌∷◌, ◌++◌, length, slice_index_or, take, drop, map}
+use Rattle.std.proofs.Common.{◌≡◌, ℕ, zero, suc, ◌+◌, ◌-◌, ◌<◌, ◌≤◌, List, [], ◌∷◌, ◌++◌, length, slice_index_or, take, drop, map}
 use Rattle.std.proofs.Common.{ℤ, refl, sym, ◌∙◌, ap, inl, inr, arith}
 use Rattle.std.proofs.Common.{length-append, length-drop}
 use Rattle.std.proofs.Math.Seq.{drop-append_seam, get_or-append_seam}
@@ -53,11 +53,6 @@ end-new ends e = get_or-append_seam ends e [] 0
 start-kept : (ends : List ℕ) (e k : ℕ) → k ≤ length ends → start_at (ends ++ e ∷ []) k ≡ start_at ends k
 start-kept ends e zero l = refl
 start-kept ends e (suc k) l = end-kept ends e k (omega arith)
-
--- a place that is not the first
-pub start-later : (ends : List ℕ) (k : ℕ) → k ≢ 0 → start_at ends k ≡ end_at ends (k - 1)
-start-later ends zero some = absurd (some refl)
-start-later ends (suc k) some = ap (end_at ends) (omega arith)
 
 start-after : (ends : List ℕ) (e : ℕ) → start_at (ends ++ e ∷ []) (length (ends ++ e ∷ [])) ≡ e
 start-after ends e =

@@ -2,7 +2,6 @@
 ghost use Rattle.std.specs.Prelude.{◌≡◌, ◌*◌, ◌+◌, ◌≤◌, ℕ, ℤ, List, unsigned_abs};
 ghost use Rattle.cox_poly.specs.Coefficients.{Coefficients, plus, times_q, times_q_less_one};
 ghost use Rattle.cox_poly.specs.Products.{product};
-ghost use Rattle.cox_poly.specs.Multiples.{scaled};
 ghost use Rattle.cox_poly.specs.Size.{HasNormAtMost};
 ghost use Rattle.cox_poly.specs.Polynomial.{IsPolynomial, SameCoefficients};
 

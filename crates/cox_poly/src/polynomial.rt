@@ -1,6 +1,6 @@
 //! Polynomials in `q` with coefficients of 64 bits.
-ghost use Rattle.std.specs.Prelude.{◌≡◌, ◌≢◌, ◌↔◌, ℕ, ◌+◌, ◌-◌, ◌^◌, ◌<◌, ◌≤◌, length, [], ◌∷◌, pos, ℤ, List, ◌⊎◌, Ok, Err, IfOk, IfSome};
-ghost use Rattle.std.specs.Prelude.{IsNone, unsigned_abs};
+ghost use Rattle.std.specs.Prelude.{◌≡◌, ◌↔◌, ◌+◌, ◌-◌, ◌^◌, ◌<◌, [], ◌∷◌, pos, ℤ, List, Ok, Err, IfOk, IfSome};
+ghost use Rattle.std.specs.Prelude.{IsNone};
 ghost use Rattle.cox_poly.specs.Polynomial.{coefficient, IsPolynomial, IsStorable, SameCoefficients, HasSmallCoefficients, IsDegree};
 ghost use Rattle.cox_poly.specs.Polynomial.{IsTrimmedLength};
 ghost use Rattle.cox_poly.specs.Puts.{Puts};

@@ -1,11 +1,11 @@
 -- Whole numbers in decimal, as they are read: what is written of a number names it, and digits without leading zeros are what is written
 -- of it.
-use Rattle.std.proofs.Common.{◌≡◌, ℕ, zero, suc, ◌+◌, ◌-◌, ◌*◌, ◌/◌, ◌%◌, ◌^◌, ◌<◌, ◌≤◌, ◌==◌, true, false, not, List, [], ◌∷◌, ◌++◌}
+use Rattle.std.proofs.Common.{◌≡◌, ℕ, zero, suc, ◌+◌, ◌-◌, ◌*◌, ◌/◌, ◌%◌, ◌<◌, ◌≤◌, ◌==◌, true, not, List, [], ◌∷◌, ◌++◌}
 use Rattle.std.proofs.Common.{length, take, get_or, refl, sym, ap, ◌∙◌, inl, inr, append_assoc, append-nil, arith}
 use Rattle.std.specs.Prelude.{nat_lt}
 use Rattle.std.specs.List.{list_all}
 use Rattle.std.specs.Char.{is_ascii_digit}
-use Rattle.std.proofs.lemmas.Bool.{cases_lt, lt-ltb, le-ltb, ne_eqb, and_parts, and_from, and_right, false≢true}
+use Rattle.std.proofs.lemmas.Bool.{cases_lt, lt-ltb, le-ltb, ne_eqb, and_parts, and_from, false≢true}
 use Rattle.std.proofs.lemmas.Bool.Decides.{nat_tests}
 use Rattle.std.proofs.lemmas.List.Sums.{fold_push}
 use Rattle.std.proofs.lemmas.List.Folds.{list_all-append}
@@ -174,14 +174,6 @@ value_of-digit (d ∷ ds) es i d_short same within front less =
     digit_at (d ∷ ds) (suc i) digits within = digit_at ds i (and_parts _ _ digits).1 (omega arith)
 
 -- for code: tests of digits
-pub is_numeral-led : (ds : List ℕ) → get_or ds 0 0 ≡ 48 → is_numeral ds ≡ false
-is_numeral-led [] led = refl
-is_numeral-led (d ∷ ds) led = rw led refl
-
-pub is_numeral-other : (ds : List ℕ) → list_all is_ascii_digit ds ≡ false → is_numeral ds ≡ false
-is_numeral-other [] other = refl
-is_numeral-other (d ∷ ds) other = and_right (not (d == 48)) (list_all is_ascii_digit (d ∷ ds)) other
-
 pub is_numeral-all : (ds : List ℕ) → 0 < length ds → (get_or ds 0 0 ≡ 48 → ⊥) → list_all is_ascii_digit ds ≡ true → is_numeral ds ≡ true
 is_numeral-all [] some first all = absurd (omega arith)
 is_numeral-all (d ∷ ds) some first all = and_from (not (d == 48)) (list_all is_ascii_digit (d ∷ ds)) (rw (ne_eqb d 48 first) refl) all

@@ -112,22 +112,6 @@ pub record IsRead (most : ℕ) (text rest : List ℕ) (first : Bool) (last : Lis
   pub small : fits ≡ true → Fits most polynomial
   pub lost : fits ≡ false → Fits most polynomial → ⊥
 
-pub IsRead-none : (most : ℕ) (text last : List ℕ) (coefficients : List ℤ) → last ≡ [] → coefficients ≡ []
-    → IsRead most text text true last true coefficients
-IsRead-none most text last coefficients none empty = record {
-  polynomial = [];
-  normal = λ some. absurd (omega arith);
-  parts = refl;
-  first_is = refl;
-  begins = λ e. absurd (true≢false e);
-  size = refl;
-  digits = rw none refl;
-  last_is = λ e. absurd (true≢false e);
-  held = λ _. empty;
-  small = λ _. record { degree = λ k above. refl; coefficients = λ k. fits-zero };
-  lost = λ e. absurd (true≢false e);
-}
-
 length-first : (ts : List (ℕ × ℤ)) → is_none ts ≡ true → end_of 0 ts ≡ 0
 length-first [] none = refl
 length-first (t ∷ ts) none = absurd (false≢true none)

@@ -2,7 +2,7 @@
 use Rattle.std.proofs.Common.{◌≡◌, ◌≢◌, ℕ, zero, suc, ◌<◌, ◌≤◌, ◌==◌, Bool, true, false, not, List, [], ◌∷◌, ◌++◌, length, get_or}
 use Rattle.std.proofs.Common.{take, drop, ℤ, pos, refl, sym, ap, ◌∙◌, arith}
 use Rattle.std.specs.List.{position_or_len}
-use Rattle.std.proofs.lemmas.Bool.{ne_eqb, both_ways, true≢false}
+use Rattle.std.proofs.lemmas.Bool.{ne_eqb, true≢false}
 use Rattle.std.proofs.lemmas.List.{take-append-drop}
 use Rattle.cox_poly.specs.PolynomialText.{power_text}
 use Rattle.cox_poly.specs.ListedText.{listed_term_text}
@@ -13,7 +13,8 @@ use Rattle.cox_polyread.specs.PolynomialReading.{IsPower, IsNoPower, IsSize, IsN
 use Rattle.cox_polyread.proofs.ReadNumerals.{value_of-number_text, is_numeral-number_text, number_text-value_of}
 use Rattle.cox_polyread.proofs.ReadNumerals.{value_of-above, is_short_numeral-from}
 use Rattle.cox_polyread.proofs.Splits.{AreNot, AreSame, split-one, before-not, behind-begins}
-use Rattle.cox_polyread.proofs.TermTexts.{has_sign, listed_term_text-parts, size_text-long, power_text-long, size_text-no_q, power_text-begins}
+use Rattle.cox_polyread.proofs.TermTexts.{has_sign, listed_term_text-parts, size_text-long, power_text-long, size_text-no_q}
+use Rattle.cox_polyread.proofs.TermTexts.{power_text-begins}
 use Rattle.cox_polyread.proofs.TermTexts.{unsigned_text-no_sign}
 
 -- a power above q
@@ -97,59 +98,6 @@ IsNoUnsigned-size text n size power has place front back has_is none k m some sa
     let parts = unsigned-parts text n k m place some same in
     let flag : not (k == 0) ≡ has = has_power k power (parts.back ∙ sym back) ∙ sym has_is in
     none m some (sym (ap (λ h. size_text h m) flag) ∙ parts.front ∙ sym front)
-
-pub IsUnsigned-parts : (text : List ℕ) (n : ℕ) (size_text power size degree : List ℕ) (has : Bool) → size_text ≡ take n text
-    → power ≡ drop n text → has ≡ not (length power == 0) → IsPower degree power → IsSize has size size_text → IsUnsigned size degree text
-IsUnsigned-parts text n sizes power size degree has front back has_is is_power is_size = record {
-  size_digits = is_size.digits;
-  degree_digits = is_power.digits;
-  written =
-      let flag : not (value_of degree == 0) ≡ has = has_power (value_of degree) power is_power.written ∙ sym has_is in
-      ap (λ h. size_text h (value_of size) ++ power_text (value_of degree)) flag
-      ∙ ap (λ l. l ++ power_text (value_of degree)) is_size.written ∙ ap (λ l. sizes ++ l) is_power.written
-      ∙ ap (λ l. l ++ power) front ∙ ap (λ l. take n text ++ l) back ∙ take-append-drop n text;
-}
-
--- the first byte of a text
-pub begins-at : (text : List ℕ) (byte : ℕ) → 0 < length text → get_or text 0 0 ≡ byte → text ≡ byte ∷ drop 1 text
-begins-at [] byte some first = absurd (omega arith)
-begins-at (x ∷ xs) byte some first = rw first refl
-
-pub begins-is : (text : List ℕ) (byte : ℕ) → text ≡ byte ∷ drop 1 text → (0 < length text) × (get_or text 0 0 ≡ byte)
-begins-is text byte is = (omega (arith, ap (length {A = ℕ}) is), ap (λ l. get_or l 0 0) is)
-
--- the sign
-no_sign-behind : (x : ℕ) (xs behind : List ℕ) → is_sign x ≡ true → begins_with_sign behind ≡ false → x ∷ xs ≡ behind → ⊥
-no_sign-behind x xs [] sign none same = cc
-no_sign-behind x xs (y ∷ behind) sign none same = let e : x ≡ y = cc in both_ways (is_sign y) none (rw e at sign)
-
-pub IsSigned-minus : (first : Bool) (text : List ℕ) → text ≡ 45 ∷ drop 1 text → IsSigned first true (drop 1 text) text
-IsSigned-minus first text is = record { split = is; only = only first }
-  where
-    only : (first other : Bool) (behind : List ℕ) → text ≡ sign_text first other ++ behind → begins_with_sign behind ≡ false
-        → behind ≡ drop 1 text
-    only first true behind same none = sym (ap (drop 1) same)
-    only true false behind same none = absurd (no_sign-behind 45 (drop 1 text) behind refl none (sym is ∙ same))
-    only false false behind same none = absurd (omega (arith, ap (λ l. get_or l 0 0) is, ap (λ l. get_or l 0 0) same))
-
-pub IsSigned-first : (text : List ℕ) → (text ≡ 45 ∷ drop 1 text → ⊥) → IsSigned true false text text
-IsSigned-first text other = record { split = refl; only = only }
-  where
-    only : (negative : Bool) (behind : List ℕ) → text ≡ sign_text true negative ++ behind → begins_with_sign behind ≡ false → behind ≡ text
-    only true behind same none = absurd (other (same ∙ ap (λ l. 45 ∷ l) (sym (ap (drop 1) same))))
-    only false behind same none = sym same
-
-pub IsSigned-plus : (text : List ℕ) → text ≡ 43 ∷ drop 1 text → IsSigned false false (drop 1 text) text
-IsSigned-plus text is = record { split = is; only = only }
-  where
-    only : (negative : Bool) (behind : List ℕ) → text ≡ sign_text false negative ++ behind → begins_with_sign behind ≡ false
-        → behind ≡ drop 1 text
-    only true behind same none = absurd (omega (arith, ap (λ l. get_or l 0 0) is, ap (λ l. get_or l 0 0) same))
-    only false behind same none = sym (ap (drop 1) same)
-
-pub IsNoSigned-other : (text : List ℕ) → (text ≡ 45 ∷ drop 1 text → ⊥) → (text ≡ 43 ∷ drop 1 text → ⊥) → IsNoSigned false text
-IsNoSigned-other text minus plus true rest same = minus (same ∙ ap (λ l. 45 ∷ l) (sym (ap (drop 1) same)))
-IsNoSigned-other text minus plus false rest same = plus (same ∙ ap (λ l. 43 ∷ l) (sym (ap (drop 1) same)))
 
 -- a term by its sign and what stands behind it
 pub IsTerm-signed : (first negative : Bool) (text rest size degree : List ℕ) → IsSigned first negative rest text

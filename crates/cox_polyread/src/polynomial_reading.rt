@@ -40,12 +40,20 @@ fn fitting(negative: bool, size: &[u8], degree: &[u8], most: u32) -> Option<(u32
     Some((k, c))
 }
 
-// The polynomial with this text, term by term, of a degree that is at most this.
-fn read_terms(alloc: Global, text: &[u8], most: u32) -> Result<Poly, TextFault>
+/// The polynomial with this text, which is as [`Poly::put_text`] writes it; no degree may be above `most`.
+///
+/// `NotAPolynomial` comes exactly where no polynomial has this text, whatever the size of its coefficients and degrees.
+/// `TooLarge` comes where one has it, and a degree is above `most` or a coefficient has more than 64 bits. Memory is
+/// asked for as the terms are read, for `most + 1` coefficients and no more. The time is in proportion to the bytes
+/// and to `most`.
+///
+/// `1-2q^2` is read, and none of `1q`, `q^1`, `+1`, `q+1` and `01` is.
+pub fn read_polynomial(alloc: Global, text: &[u8], most: u32) -> Result<Poly, TextFault>
     ensures read { IfOk result (λ p. IsTextOf p text.now) }
-    ensures fits { IfOk result (Fits most) }
+    ensures within { IfOk result (Fits most) }
     ensures foreign { result ≡ Err NotAPolynomial → ¬ IsPolynomialText text.now }
-    ensures large { result ≡ Err TooLarge → IsTextOfLarge most text.now }
+    ensures too_large { result ≡ Err TooLarge → IsTextOfLarge most text.now }
+    ensures again { (p : List ℤ) → IsTextOf p text.now → Fits most p → (result ≡ Ok p) ⊎ (result ≡ Err NoMemory) }
 {
     let mut coefficients = Vec::new(alloc);
     if is_zero(text) {
@@ -83,22 +91,4 @@ fn read_terms(alloc: Global, text: &[u8], most: u32) -> Result<Poly, TextFault>
     } else {
         Err(TextFault::TooLarge)
     }
-}
-
-/// The polynomial with this text, which is as [`Poly::put_text`] writes it; no degree may be above `most`.
-///
-/// `NotAPolynomial` comes exactly where no polynomial has this text, whatever the size of its coefficients and degrees.
-/// `TooLarge` comes where one has it, and a degree is above `most` or a coefficient has more than 64 bits. Memory is
-/// asked for as the terms are read, for `most + 1` coefficients and no more. The time is in proportion to the bytes
-/// and to `most`.
-///
-/// `1-2q^2` is read, and none of `1q`, `q^1`, `+1`, `q+1` and `01` is.
-pub fn read_polynomial(alloc: Global, text: &[u8], most: u32) -> Result<Poly, TextFault>
-    ensures read { IfOk result (λ p. IsTextOf p text.now) }
-    ensures within { IfOk result (Fits most) }
-    ensures foreign { result ≡ Err NotAPolynomial → ¬ IsPolynomialText text.now }
-    ensures too_large { result ≡ Err TooLarge → IsTextOfLarge most text.now }
-    ensures again { (p : List ℤ) → IsTextOf p text.now → Fits most p → (result ≡ Ok p) ⊎ (result ≡ Err NoMemory) }
-{
-    read_terms(alloc, text, most)
 }

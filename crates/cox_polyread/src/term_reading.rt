@@ -1,8 +1,8 @@
 //! One term of a polynomial, as it is read: its sign, and the digits of its size and of its degree.
-ghost use Rattle.std.specs.Prelude.{◌≡◌, ◌≢◌, ◌+◌, ◌-◌, ◌<◌, ◌≤◌, ◌^◌, ◌↔◌, ◌∷◌, true, min, nat_lt, length, drop, IsTrue, IfSome, IsNone};
+ghost use Rattle.std.specs.Prelude.{◌≡◌, ◌+◌, ◌-◌, ◌<◌, ◌≤◌, ◌^◌, ◌↔◌, ◌∷◌, true, min, nat_lt, length, drop, IsTrue};
 ghost use Rattle.std.specs.Prelude.{MatchOption, FitsSigned};
 ghost use Rattle.std.specs.Int.{w64};
-ghost use Rattle.std.specs.List.{position_or_len, list_all};
+ghost use Rattle.std.specs.List.{position_or_len};
 ghost use Rattle.std.specs.Char.{is_ascii_digit};
 ghost use Rattle.cox_polyread.specs.ReadNumerals.{value_of, is_numeral, is_short_numeral};
 ghost use Rattle.cox_polyread.specs.PolynomialReading.{is_sign, is_q, signed, IsSigned, IsNoSigned, IsPower, IsNoPower, IsSize, IsNoSize};

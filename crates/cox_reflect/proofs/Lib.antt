@@ -40,9 +40,9 @@ pub mod Bruhat
 pub mod Sizes
 -- the signs of roots, as columns of matrices of words
 pub mod RootSigns
--- for code: which letter goes, found by following a root through the word
+-- which letter of a word goes
 pub mod Removal
--- for code: the lists of descents by a test of one's own, and the least descent
+-- for code: the lists of descents by a test of one's own
 pub mod DescentLists
 -- heights of roots: how a letter before the word changes them, their size, and descents by their signs
 pub mod HeightsUnderLetters
@@ -52,8 +52,8 @@ pub mod HeightTurns
 pub mod LetterLists
 -- products and sums in 128 bits, and tested differences at any width
 pub mod Computed
--- two letters in turn, and their order where both shorten an element
-pub mod TwoDescents
+-- two letters in turn
+pub mod Zigzags
 -- normal forms, read off by descents
 pub mod FormsByDescents
 -- Bruhat order by lifting

@@ -140,13 +140,3 @@ module _ (A : IntegerMatrix) (g : IsAdmissible A) where
         (λ zeros. no_zero_root w s l (record { coordinate = zeros })),
     λ r. descent_coordinate w s r.0 l r.1 r.2,
   )
-
-  pub left_descent_coordinate : (w : List ℕ) (s i : ℕ) → IsLetter A.rank s → IsLetter A.rank i
-      → matrix A (reverse w) i s <ℤ pos 0 → IsLeftDescent A w s
-  left_descent_coordinate w s i l k h = reverse_left_descent A g w s (descent_coordinate (reverse w) s i l k h)
-
-  pub left_descent_by_coordinate : (w : List ℕ) (s : ℕ) → IsLetter A.rank s
-      → IsLeftDescent A w s ↔ ((i : ℕ) × IsLetter A.rank i × (matrix A (reverse w) i s <ℤ pos 0))
-  left_descent_by_coordinate w s l =
-      let right = descent_by_coordinate (reverse w) s l
-      in (λ d. right.0 (left_descent_reverse A g w s d), λ r. reverse_left_descent A g w s (right.1 r))

@@ -144,10 +144,6 @@ module _ (A : IntegerMatrix) (g : IsAdmissible A) where
       → IsNonnegative (act A u (simple_root s))
   root-positive_at u s i h = ⊎_elim (λ p. p) (λ n. absurd (omega (arith, linears, h, n i))) (root_sign u s)
 
-  pub root-negative_at : (u : List ℕ) (s i : ℕ) → act A u (simple_root s) i <ℤ pos 0
-      → IsNonpositive (act A u (simple_root s))
-  root-negative_at u s i h = ⊎_elim (λ p. absurd (omega (arith, linears, h, p i))) (λ n. n) (root_sign u s)
-
   -- no root is both
   pub root-apart : (u : List ℕ) (s : ℕ) → IsNonnegative (act A u (simple_root s))
       → IsNonpositive (act A u (simple_root s)) → ⊥
@@ -155,16 +151,7 @@ module _ (A : IntegerMatrix) (g : IsAdmissible A) where
 
   -- ---- descents by the sign of one coordinate
 
-  -- a negative coordinate: s shortens u
-  pub descent_negative : (u : List ℕ) (s i : ℕ) → IsLetter A.rank s → act A u (simple_root s) i <ℤ pos 0
-      → IsRightDescent A u s
-  descent_negative u s i l h = go (sign_of u s l)
-    where
-      go : SignOf A u s → IsRightDescent A u s
-      go (longer e p) = absurd (omega (arith, linears, p i, h))
-      go (shorter e n) = omega (arith, e)
-
-  -- none: it does not
+  -- a nonnegative root: s does not shorten u
   pub no_descent : (u : List ℕ) (s : ℕ) → IsLetter A.rank s → IsNonnegative (act A u (simple_root s))
       → IsRightDescent A u s → ⊥
   no_descent u s l h d = go (sign_of u s l)
@@ -194,14 +181,6 @@ module _ (A : IntegerMatrix) (g : IsAdmissible A) where
 
   pub reverse-descent : (u : List ℕ) (s : ℕ) → IsLeftDescent A (reverse u) s → IsRightDescent A u s
   reverse-descent u s d = rw (reverse-reverse u) at (left_descent_reverse (reverse u) s d)
-
-  pub left_descent_negative : (u : List ℕ) (s i : ℕ) → IsLetter A.rank s → act A (reverse u) (simple_root s) i <ℤ pos 0
-      → IsLeftDescent A u s
-  left_descent_negative u s i l h = reverse_left_descent u s (descent_negative (reverse u) s i l h)
-
-  pub no_left_descent : (u : List ℕ) (s : ℕ) → IsLetter A.rank s → IsNonnegative (act A (reverse u) (simple_root s))
-      → IsLeftDescent A u s → ⊥
-  no_left_descent u s l h d = no_descent (reverse u) s l h (left_descent_reverse u s d)
 
   -- a letter outside the rank is no descent
   pub no_foreign_descent : (u : List ℕ) (s : ℕ) → (IsLetter A.rank s → ⊥) → IsRightDescent A u s → ⊥

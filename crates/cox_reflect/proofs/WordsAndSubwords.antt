@@ -1,5 +1,5 @@
 -- Words over the letters of the rank, and subwords.
-use Rattle.std.proofs.Common.{◌≡◌, ℕ, ◌≤◌, List, [], ◌∷◌, ◌++◌, length, reverse, arith}
+use Rattle.std.proofs.Common.{◌≡◌, ℕ, List, [], ◌∷◌, ◌++◌, reverse}
 use Rattle.std.proofs.lemmas.List.{append-nil, reverse-append}
 use mathlib.Core.List.{reverse-cons}
 use Rattle.std.proofs.lemmas.List.Elements.{All-nil, All-cons, All-head, All-tail, All-append}
@@ -63,11 +63,6 @@ IsSubword-reverse (kept {s = s} {v = v} {w = w} a) =
     rw (reverse-cons s v, reverse-cons s w) (IsSubword-append (IsSubword-reverse a) (kept none))
 IsSubword-reverse (left_out {s = s} {v = v} {w = w} a) =
     rw (reverse-cons s w) (rw (append-nil (reverse v)) at (IsSubword-append (IsSubword-reverse a) (left_out {s = s} none)))
-
-pub length-subword : {v w : List ℕ} → IsSubword v w → length v ≤ length w
-length-subword none = omega arith
-length-subword (kept a) = omega (arith, length-subword a)
-length-subword (left_out a) = omega (arith, length-subword a)
 
 pub IsWord-subword : {n : ℕ} {v w : List ℕ} → IsSubword v w → IsWord n w → IsWord n v
 IsWord-subword none h = h

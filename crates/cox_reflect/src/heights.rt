@@ -1,5 +1,5 @@
 //! Heights of roots in 64 bits.
-ghost use Rattle.std.specs.Prelude.{◌≡◌, ℕ, ◌≤◌, ◌↔◌, List, [], ◌∷◌, reverse, length, IsTrue, IsSome, IfSome, MatchOption, pos, ◌<ℤ◌};
+ghost use Rattle.std.specs.Prelude.{◌≡◌, ℕ, ◌≤◌, ◌↔◌, List, [], ◌∷◌, reverse, length, IsTrue, IsSome, IfSome, MatchOption};
 ghost use Rattle.cox_base.specs.Matrix.{IsLetter, IsWord};
 ghost use Rattle.cox_base.specs.IntegerMatrix.{IntegerMatrix, integer_matrix};
 ghost use Rattle.cox_base.specs.Admissible.{IsAdmissible};
@@ -7,7 +7,6 @@ ghost use Rattle.cox_base.specs.Bruhat.{IsBelow};
 ghost use Rattle.cox_base.specs.Descents.{IsLeftDescent, left_descents};
 ghost use Rattle.cox_base.specs.Reduced.{IsReduced};
 ghost use Rattle.cox_base.specs.ShortLex.{normal_form};
-ghost use Rattle.cox_reflect.specs.RootHeight.{at_letter};
 ghost use Rattle.cox_reflect.specs.Height.{AreHeights, AreOfShortElement, AreShortWith};
 ghost use Rattle.cox_reflect.specs.LeastDescent.{IsLeastLeftDescent};
 

@@ -1,5 +1,4 @@
 //! Heights of roots in 128 bits.
-ghost use Rattle.std.specs.Prelude.{◌≡◌, ℕ, ◌≤◌, ◌↔◌, List, [], ◌∷◌, IsTrue, IsSome, IfSome, pos, ◌<ℤ◌};
 
 use crate::height_row::HeightRow;
 use cox_base::{Coxeter, MAX_RANK};

@@ -26,7 +26,7 @@ use std::sync::Wait;
 pub struct RowStore {
     claims: Claims,
     cells: Vec<RowCell>,
-    // An empty cell that nothing is put into: by its tag contracts see the context.
+    // A cell that stays empty. Through its tag contracts see the context.
     anchor: RowCell,
     limit: i64,
     // No rows: the room for those that are taken out in the end.

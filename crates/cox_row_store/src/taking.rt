@@ -12,8 +12,8 @@ use cox_row::Row;
 use cox_rowcell::RowCell;
 use std::sync::Wait;
 
-/// The rows of these cells, one entry for each: its row where a look finds it Published, or none. It waits for a row that is said to be
-/// Published and is not there, which never comes.
+/// The rows of these cells, one entry for each: its row where a look finds it Published, or none. It would wait for ever at an empty cell
+/// of a Published row. There is none: `RowStore::publish` fills the cell first.
 pub(crate) fn take_rows<R: Wait>(
     rt: &R,
     claims: &Claims,

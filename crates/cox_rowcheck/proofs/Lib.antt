@@ -20,5 +20,3 @@ pub mod AddedProducts
 pub mod GrowingSums
 -- what the conditions on members decide
 pub mod Decision
--- polynomials turned round, as far as a sum goes
-pub mod TurnedSums

@@ -13,17 +13,6 @@ use Rattle.cox_rowcheck.specs.declared.column.Column.{Column}
 use Rattle.cox_rowcheck.specs.Prefixes.{IsColumnOf, ArePrefixes}
 
 module _ (A : IntegerMatrix) (members : List (List ℕ)) where
-  -- the identity alone
-  pub prefixes-first : (column : Column) → IsColumnOf A members [] column → ArePrefixes A members [] (column ∷ [])
-  prefixes-first column is = record {
-    some = omega arith;
-    within = omega arith;
-    each = λ d other l. at d other l;
-  }
-    where
-      at : (d : ℕ) (other : Column) → d < 1 → IsColumnOf A members (take d []) (slice_index_or (column ∷ []) d other)
-      at d other l = let first : d ≡ 0 = omega (arith, l) in rw first is
-
   -- the one of the first d letters
   pub prefix-at : (word : List ℕ) (stack : List Column) (d : ℕ) (column : Column) → ArePrefixes A members word stack → d < length stack
       → column ≡ slice_index_or stack d column → IsColumnOf A members (take d word) column

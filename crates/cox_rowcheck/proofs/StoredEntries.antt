@@ -1,11 +1,12 @@
 -- Polynomials one behind another in one list of coefficients: one by its place, and one more; and how (q - 1) f + q h is written.
-use Rattle.std.proofs.Common.{◌≡◌, ℕ, zero, suc, ◌+◌, ◌-◌, ◌^◌, ◌<◌, ◌≤◌, List, [], ◌∷◌, ◌++◌, length, slice_index_or, take, drop, set}
-use Rattle.std.proofs.Common.{ℤ, pos, ◌+ℤ◌, ◌-ℤ◌, unsigned_abs, FitsSigned, w64, ⊎_elim, refl, sym, ◌∙◌, ap, arith, length-append, length-drop}
+use Rattle.std.proofs.Common.{◌≡◌, ℕ, zero, suc, ◌+◌, ◌-◌, ◌^◌, ◌<◌, ◌≤◌, List, [], ◌∷◌, ◌++◌, length, take, drop, set}
+use Rattle.std.proofs.Common.{ℤ, pos, ◌+ℤ◌, ◌-ℤ◌, unsigned_abs, FitsSigned, w64, ⊎_elim, refl, sym, ◌∙◌, ap, arith, length-append}
+use Rattle.std.proofs.Common.{length-drop}
 use Rattle.std.specs.Prelude.{All}
 use Rattle.std.proofs.Math.Seq.{drop-append_seam}
 use Rattle.std.proofs.lemmas.Bool.{cases_lt}
 use Rattle.std.proofs.lemmas.Int.{ints, fits_signed_from_abs}
-use Rattle.std.proofs.lemmas.List.{drop-append-le, take-append-le, take_all, drop_all, append-nil, map-append, length-map, get_or-map}
+use Rattle.std.proofs.lemmas.List.{drop-append-le, take-append-le, take_all, drop_all, append-nil, map-append, length-map}
 use Rattle.std.proofs.lemmas.List.{get_or-set_same, get_or-set_other}
 use Rattle.std.proofs.lemmas.List.Elements.{All-head, All-tail, All-weaker, All-push}
 use borrow.Rule.Slice.PartMut.{put_mid}
@@ -19,10 +20,6 @@ use Rattle.cox_rowcheck.specs.EntryLists.{piece, pieces, IsSpan, HasOneMore, Has
 
 pub pieces-length : (coefficients : List ℤ) (spans : List Span) → length (pieces coefficients spans) ≡ length spans
 pieces-length coefficients spans = length-map spans (piece coefficients)
-
-pub pieces-at : (coefficients : List ℤ) (spans : List Span) (i : ℕ) (d : Span) → i < length spans
-    → slice_index_or (pieces coefficients spans) i [] ≡ piece coefficients (slice_index_or spans i d)
-pieces-at coefficients spans i d l = get_or-map (piece coefficients) spans i d [] l
 
 -- coefficients that are put behind the others leave these where they are
 module _ (old more : List ℤ) where

@@ -2,7 +2,7 @@
 //!
 //! The column of vt, for a letter t that makes v longer, is made from that of v: R(x,vt) is R(xt,v) where t shortens x, else
 //! (q-1) R(x,v) + q R(xt,v) (Humphreys 7.5). Where xt is no member it is not below v, and R(xt,v) is 0.
-ghost use Rattle.std.specs.Prelude.{◌≡◌, ℕ, ◌<◌, ◌∷◌, [], ◌++◌, length, Contains, IfOk, OnOk};
+ghost use Rattle.std.specs.Prelude.{◌≡◌, ◌<◌, ◌∷◌, [], ◌++◌, length, Contains, IfOk, OnOk};
 ghost use Rattle.cox_base.specs.Matrix.{IsLetter};
 ghost use Rattle.cox_base.specs.IntegerMatrix.{integer_matrix};
 ghost use Rattle.cox_base.specs.ShortLex.{normal_form};

@@ -27,4 +27,4 @@ mod sums;
 mod tests;
 
 pub use row_check::is_row;
-pub use small::{are_small, is_small};
+pub use small::is_small;

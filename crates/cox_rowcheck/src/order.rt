@@ -1,5 +1,5 @@
 //! The members in lexicographic order: those that begin alike stand together.
-ghost use Rattle.std.specs.Prelude.{◌≡◌, ℕ, map, IsPermutation, IsSorted, IfOk};
+ghost use Rattle.std.specs.Prelude.{◌≡◌, map, IsPermutation, IsSorted, IfOk};
 ghost use Rattle.std.specs.Ordering.{nat_cmp};
 ghost use Rattle.std.specs.Cmp.Lexicographic.{slice_cmp};
 ghost use Rattle.cox_rowcheck.specs.Prefixes.{letters_of};

@@ -1,5 +1,5 @@
 //! Whether polynomials are small.
-ghost use Rattle.std.specs.Prelude.{◌↔◌, IsTrue, All};
+ghost use Rattle.std.specs.Prelude.{◌↔◌, IsTrue};
 ghost use Rattle.cox_poly.specs.Limit.{IsWithin};
 ghost use Rattle.cox_certtext.specs.declared.limits.TheConstants.{MAX_COEFFICIENT};
 ghost use Rattle.cox_rowcheck.specs.SmallPolynomials.{IsSmall};
@@ -26,18 +26,6 @@ pub fn is_small(p: &Poly) -> bool
     }
     for k in 0..degree + 1 {
         if !is_within(p.coefficient(k)) {
-            return false;
-        }
-    }
-    true
-}
-
-/// Whether all polynomials are.
-pub fn are_small(polynomials: &[Poly]) -> bool
-    ensures { IsTrue result ↔ All IsSmall polynomials.now }
-{
-    for p in polynomials {
-        if !is_small(p) {
             return false;
         }
     }

@@ -1,12 +1,13 @@
 //! The check of a row, in A 3.
-ghost use Rattle.std.specs.Prelude.{◌≡◌, ◌<◌, length, IfSome};
+ghost use Rattle.std.specs.Prelude.{◌≡◌, ◌↔◌, ◌<◌, length, IfSome, IsTrue, All};
 ghost use Rattle.cox_base.specs.Matrix.{IsWord};
 ghost use Rattle.cox_base.specs.IntegerMatrix.{integer_matrix};
 ghost use Rattle.cox_base.specs.Members.{IsInInterval};
 ghost use Rattle.cox_base.specs.SortedList.{IsListOf};
 ghost use Rattle.cox_context.specs.Numbers.{word_at};
+ghost use Rattle.cox_rowcheck.specs.SmallPolynomials.{IsSmall};
 
-use crate::{are_small, is_row};
+use crate::{is_row, is_small};
 use cox_base::{Coxeter, Word, read_word};
 use cox_certtext::MAX_LISTED;
 use cox_context::Context;
@@ -29,6 +30,18 @@ fn polynomials(alloc: Global, ctx: &Context, places: &[u32]) -> Result<Vec<Poly>
         }
     }
     Ok(polynomials)
+}
+
+/// Whether all polynomials are small.
+fn are_small(polynomials: &[Poly]) -> bool
+    ensures { IsTrue result ↔ All IsSmall polynomials.now }
+{
+    for p in polynomials {
+        if !is_small(p) {
+            return false;
+        }
+    }
+    true
 }
 
 /// Whether these polynomials are the row of w.

@@ -32,8 +32,11 @@ use std::marker::Model;
 /// A context, and the rows of some of its members. Every row that is held is within the limits.
 #[derive(Drop)]
 pub struct Rows {
+    // The context, and the rows by number.
     pub(crate) held: Held,
+    // For each member whether it is noted as settled. A member without an entry is not.
     pub(crate) settled: Vec<bool>,
+    // Tables that make rows faster: none until a row is made, and after the context has doubled.
     pub(crate) tables: Option<Tables>,
 }
 

@@ -37,9 +37,6 @@ module _ {X : Type 0} where
         });
   }
 
-  pub Extends-refl : (layer : List X) → Extends layer layer
-  Extends-refl layer = record { kept = λ i x a. a }
-
   pub Extends-trans : (a b c : List X) → Extends a b → Extends b c → Extends a c
   Extends-trans a b c e f = record { kept = λ i x h. f.kept i x (e.kept i x h) }
 

@@ -1,6 +1,6 @@
 //! Polynomials of a degree of at most [`MAX_DIFFERENCE`], by their coefficients from the constant one up, and the values of a layer by
 //! links.
-ghost use Rattle.std.specs.Prelude.{◌≡◌, ℕ, ◌+◌, ◌^◌, ◌<◌, ◌≤◌, pos, unsigned_abs, All, IfOk};
+ghost use Rattle.std.specs.Prelude.{◌≡◌, ℕ, ◌+◌, ◌^◌, ◌<◌, All, IfOk};
 ghost use Rattle.cox_poly.specs.Coefficients.{zero_polynomial, one_polynomial, plus, times_q, times_q_less_one};
 ghost use Rattle.cox_poly.specs.Polynomial.{coefficient};
 ghost use Rattle.cox_rpoly.specs.Terms.{LeavesRoom, IsLinkWithin, linked_value, AreLinkedValues, AreOnes};

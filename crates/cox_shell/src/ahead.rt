@@ -9,10 +9,11 @@ use cox_command::{Command, Inquiry, parse};
 use cox_rows::Rows;
 use std::alloc::{AllocError, Global};
 
-/// Makes no row. Whoever asks finds those that a session has made, where it has a group, and makes what is missing.
+/// The row maker of a thread that answers blocks. It makes no rows, and lends the workspace of the session whose list is answered. What
+/// that does not give, the thread's own session makes.
 #[derive(Clone, Copy, Drop)]
 pub struct Beside<'a> {
-    /// What the session has.
+    /// The workspace of that session, if a group is set.
     pub shared: Option<&'a Workspace>,
 }
 

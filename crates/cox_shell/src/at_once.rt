@@ -16,8 +16,7 @@ use std::alloc::{AllocError, Global};
 use std::sync::Wait;
 use std::thread::{Threads, join};
 
-/// What the blocks of a list are answered, which is not too long, told at once by so many threads at most. `None` where memory ran out
-/// among them.
+/// The answer to the blocks of a list that is not too long, by at most so many threads. `None` if memory ran out in one of them.
 ///
 /// The thread of each block passes the gate under the number of the block, from 1, before it begins the block.
 pub fn tell_list<R: Threads + Wait + Sync, G: Gate + Sync>(
@@ -35,7 +34,7 @@ pub fn tell_list<R: Threads + Wait + Sync, G: Gate + Sync>(
     tell_at_once(rt, gate, session, alloc, blocks, 1, workers).ok()
 }
 
-/// What blocks are answered, told at once by so many threads at most. The first of them has the number `first`.
+/// The same for some of the blocks. The first of them has the number `first`.
 fn tell_at_once<R: Threads + Wait + Sync, G: Gate + Sync>(
     rt: &R,
     gate: &G,
@@ -83,7 +82,7 @@ fn share_of(count: usize, some: u32, all: u32) -> usize
     count.min(parts / all as usize)
 }
 
-/// What blocks are answered, told by this thread one after another, in a session of its own, which reads the rows of this one.
+/// The answer to blocks by this thread alone, one after another. It has a session of its own, which reads the rows of this one.
 fn tell_by_turns<R: Wait, G: Gate>(
     rt: &R,
     gate: &G,

@@ -46,8 +46,8 @@ impl Closed {
     }
 }
 
-/// Ends the list that is open, if one is, where a run over the lines ended by this status; the status that this leads to. Where a write
-/// failed or memory ran out nothing more is done. What the buffer held is lost.
+/// Ends the open list, if there is one, after a run over the lines that ended by this status. Gives the status of the whole run. After a
+/// failed write, or without memory, nothing more is done. What the buffer held is lost.
 pub fn end_with<M: BlockTeller, K: Sink>(
     ended: Status,
     maker: &M,

@@ -45,7 +45,7 @@ impl Said {
     }
 }
 
-/// What was given of a line.
+/// A line as the reader gives it.
 #[derive(Clone, Copy)]
 pub enum Given<'a> {
     /// Its content, of bytes from 0x20 to 0x7E.
@@ -63,7 +63,9 @@ pub enum Stage {
     Set(Workspace),
 }
 
-/// A session, which answers lines one by one, each by the lines before.
+/// A session. It answers lines one by one; an answer may depend on the lines before. A run calls
+/// `answer_given` for each line, and `end_list` where reading ends inside a list. The other public
+/// calls that answer are for callers that have lines of their own.
 ///
 /// Contracts see the limits that its options give, the Coxeter matrix of the group that is set, and what is kept of the list of blocks that
 /// is open (`Keeps`): the whole list, or, of a list that is too long, no more than makes it so.
@@ -206,8 +208,9 @@ impl Session {
         own.answer_blocks(&OneThread, blocks, out)
     }
 
-    /// Answers the blocks of a list in the same way, with as many workers as the options say: so many blocks at once, each by one thread.
-    /// The thread of a block passes the gate under the number of the block, from 1, before it begins the block.
+    /// Answers the blocks of a list in the same way, by at most as many threads as the options say, each block by one thread. Such a thread
+    /// passes the gate under the number of the block, from 1, before it begins the block. Where the lines are few and short, one thread
+    /// answers all blocks and passes no gate for them.
     pub fn answer_jobs<R: Threads + Wait + Sync, G: Gate + Sync>(
         &self,
         rt: &R,
@@ -624,7 +627,7 @@ impl Session {
         Ok(Said::Answered)
     }
 
-    /// Answers a command on elements.
+    /// Answers an inquiry.
     fn answer_inquiry<M: RowMaker>(
         &mut self,
         maker: &M,
@@ -647,7 +650,7 @@ impl Session {
         }
     }
 
-    /// What is said where a command put its line, or was refused.
+    /// What is said of an inquiry that was answered, or refused.
     fn conclude(&self, put: Result<(), Unanswered>, out: &mut Vec<u8>) -> Result<Said, AllocError>
         ensures { Concludes put self.now result out.old.items out.new.items }
     {

@@ -13,14 +13,14 @@ pub enum Status {
     Refused,
     /// The arguments are wrong. The usage line is written.
     Usage,
-    /// A read failed. The answers to the lines that were read whole are written, and to a list that was open.
+    /// A read failed. The answers to the lines that were read whole are written, and the answer to a list that was open.
     ReadFault,
     /// A write failed. A prefix of the answers to the lines that were read is written.
     WriteFault,
     /// Memory ran out. A prefix of the answers to the lines that were read is written.
     NoMemory,
     /// There were more bytes than may be read. The answers to the lines that end by LF within the
-    /// limit are written, and to a list that was open.
+    /// limit are written, and the answer to a list that was open.
     InputLimit,
 }
 

@@ -40,9 +40,10 @@ const USAGE: &[u8] = b"usage: coxeter [--workers N] [--context N] [--coef N] [--
 ///
 /// A list of blocks that is open where reading ends is answered then, as by a line `end`.
 ///
-/// What it writes does not depend on the workers: `IsRun` is the contract of [`run_one`] too, which has the same answers by one
-/// thread. Each worker passes the gate before each claim and each publication of a row, and before each block of a list, whose blocks are
-/// answered at once. What the session takes of memory is not given back at the end: a process makes one run.
+/// What it writes does not depend on the workers: `IsRun` is the contract of [`run_one`] too, which has the same answers by one thread.
+/// Workers are started only where that is worth it (`workers.rt`). Each passes the gate before each claim and each publication of a row,
+/// and before each block of a list that threads answer. What the session takes of memory is not given back at the end: a process makes one
+/// run.
 pub fn run<R: Threads + Wait + Sync, S: Source, K: Sink, G: Gate + Sync>(
     rt: &R,
     alloc: Global,

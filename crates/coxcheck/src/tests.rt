@@ -4,7 +4,8 @@ ghost use Rattle.std.specs.Prelude.{◌≤◌};
 
 use crate::{NAME, check, start};
 use cox_cert::{Cause, CheckStatus};
-use cox_outside::{MemorySink, MemorySource, arguments_of};
+use cox_doubles::{MemorySink, MemorySource};
+use cox_outside::arguments_of;
 use std::alloc::{AllocError, Global};
 use std::env::FillError;
 use std::process::Abort;

@@ -1,12 +1,10 @@
 //! The program `coxeter`: it answers the script on standard input, on standard output.
 //!
-//! `coxeter` reads lines, answers each, and ends with the number of a `cox_shell::Status`. All text
-//! goes to standard output. What it writes is proved in `cox_shell`, which starts as many threads as the
-//! arguments say, behind the gate that it is handed; that of `main` holds nobody. Here the arguments are
-//! collected, which may run out of memory, and the run is handed a source and a sink. Where an argument is no
-//! text, a wrong argument is handed over in place of all. Each function but `main` is generic over the source and the
-//! sink, and its contract is that of one whole run, `IsRun` and `IsReadBy` of `cox_shell`, so nothing is read or written before it,
-//! behind it or beside it; `main` collects the arguments and makes the standard streams. No other function sees the environment.
+//! It reads lines, answers each, and ends with the number of a `cox_shell::Status`. All text goes to standard output. `cox_shell` proves
+//! what is written, and starts at most as many threads as the arguments say; the gate that `main` hands to them holds nobody. `main` collects
+//! the arguments, which may run out of memory, and makes the standard streams; no other function sees the environment. If an argument is no
+//! text, arguments that are refused take the place of all. Each function but `main` is generic over the source and the sink. Its contract is that of one whole
+//! run (`IsRun`, `IsReadBy`), so nothing is read or written before, after or beside it.
 //!
 //! The scripts that need no arguments of their own are the crate's `stdin`, and what has to be written for them is its `stdout`. Tests:
 //!
@@ -66,7 +64,7 @@ fn run_arguments<R: Threads + Wait + Sync, S: Source, K: Sink, G: Gate + Sync>(
     }
 }
 
-/// Runs the shell with arguments that give no options, which stand for those of which one is no text.
+/// Runs the shell with arguments that are refused, where one of the given ones is no text.
 fn refuse<R: Threads + Wait + Sync, S: Source, K: Sink, G: Gate + Sync>(
     rt: &R,
     alloc: Global,
@@ -81,8 +79,8 @@ fn refuse<R: Threads + Wait + Sync, S: Source, K: Sink, G: Gate + Sync>(
     run(rt, alloc, &wrong_arguments(), source, sink, gate)
 }
 
-/// Runs the shell with the arguments that were found. Wrong ones stand for those of which one is no text. Where there was no memory to
-/// collect them nothing is read or written.
+/// Runs the shell with the arguments that were found, or with refused ones where one is no text. If there was no memory to collect them,
+/// nothing is read or written.
 fn start<R: Threads + Wait + Sync, S: Source, K: Sink, G: Gate + Sync>(
     rt: &R,
     alloc: Global,
@@ -114,8 +112,8 @@ fn exit_code(status: Status) -> ExitCode
     ExitCode::from(status.code())
 }
 
-/// Runs the shell with the arguments that were found, and gives its status out. What an environment has for arguments no contract tells, so
-/// it is a run with some arguments.
+/// Runs the shell with the arguments that were found, and gives its status out. No contract tells which arguments an environment has, so
+/// this one speaks of a run with some arguments.
 fn ended<R: Threads + Wait + Sync, S: Source, K: Sink, G: Gate + Sync>(
     rt: &R,
     alloc: Global,

@@ -1,6 +1,7 @@
 //! Whole runs from the arguments of an environment, over a source and a sink in memory.
 use crate::{NAME, start};
-use cox_outside::{Gate, MemorySink, MemorySource, arguments_of};
+use cox_doubles::{MemorySink, MemorySource};
+use cox_outside::{Gate, arguments_of};
 use cox_shell::Status;
 use std::alloc::{AllocError, Global};
 use std::env::FillError;

@@ -2,7 +2,8 @@
 
 use crate::NAME;
 use crate::runs::{Called, Run, end_of, plain};
-use cox_outside::{Got, MemorySink, MemorySource, Open, Source, arguments_of};
+use cox_doubles::{MemorySink, MemorySource};
+use cox_outside::{Got, Open, Source, arguments_of};
 use cox_shell::{Status, run_one};
 use std::test::Fail;
 

@@ -1,6 +1,7 @@
 //! Whole runs with several workers: they write the same bytes, they work at once, and they make no row twice.
 use crate::runs::{end_of, plain};
-use cox_outside::{Gate, MemorySink, Open, Point};
+use cox_doubles::MemorySink;
+use cox_outside::{Gate, Open, Point};
 use cox_shell::{Session, Status};
 use std::alloc::{AllocError, Global};
 use std::sync::Wait;

@@ -5,8 +5,8 @@
 //! - `commands`: the lines of `cox_command`
 //! - `options`: the options of `cox_options`
 //! - `texts`: the texts of `cox_print`
-//! - `lines`: the lines of `cox_outside`, and its sources and sinks in memory
-//! - `streams`: its sources and sinks over streams that count calls
+//! - `lines`: the lines of `cox_outside`, and the sources and sinks in memory of `cox_doubles`
+//! - `streams`: the sources and sinks of `cox_outside` over streams that count calls
 //! - `faults`: the texts of faults
 #![tactic(auto)]
 

@@ -1,8 +1,9 @@
 //! Lines: which come of which bytes. And what sources and sinks in memory and over std's streams do.
 
+use cox_doubles::{MemorySink, MemorySource};
 use cox_outside::{
-    Got, INPUT_LIMIT, LINE_LIMIT, LineReader, MemorySink, MemorySource, Next, Sink, Source,
-    StdSink, StdSource, Took, WriteFailed, write_all,
+    Got, INPUT_LIMIT, LINE_LIMIT, LineReader, Next, Sink, Source, StdSink, StdSource, Took,
+    WriteFailed, write_all,
 };
 use std::alloc::{AllocError, Global};
 use std::process::Abort;

@@ -8,8 +8,9 @@ ghost use Rattle.std.specs.Prelude.{◌≡◌, ◌≤◌};
 
 use cox_base::Coxeter;
 use cox_context::Context;
+use cox_doubles::MeetingGate;
 use cox_minroots::{MAX_SMALL_ROOTS, RootTable};
-use cox_outside::{Gate, MeetingGate, Open, Point};
+use cox_outside::{Gate, Open, Point};
 use cox_row::Row;
 use cox_row_store::RowStore;
 use cox_workers::{all_members, fill, fill_row};

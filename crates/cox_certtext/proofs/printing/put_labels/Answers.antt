@@ -33,7 +33,8 @@ loop-k-preserved c =
     let there : c.loop-k._k < length g.labels = rw c.rank-rank.ensures.matrix.count within in (
       pair-next g.rank c.loop-k._k c.loop-k.s c.loop-k.t c.next_pair-next.result.0 c.next_pair-next.result.1 pair inside
           (rw c.rank-rank.ensures.rank at c.next_pair-next.ensures),
-      append-next label_text g.labels c.loop-k._k c.label.result 0 _ _ _ there value c.loop-k.invariant.1 (c.in_ok-put_label.ensures {u = tt}),
+      append-next label_text g.labels c.loop-k._k c.label.result 0 _ _ _ there value c.loop-k.invariant.1
+          (c.in_ok-put_label.ensures {u = tt}),
     )
 
 pub returns-in_err-put_label : goal.returns-in_err-put_label

@@ -38,7 +38,8 @@ loop-done-preserved c =
     in let h = c.loop-done.invariant
     in let at = length top - (c.loop-done.done + 1)
     in let less : at < length top = omega (arith, c.len-letters.ensures.value, c.loop-done-test.true)
-    in let e : c.len-letters.result - 1 - c.loop-done.done ≡ length top - (c.loop-done.done + 1) = omega (arith, c.len-letters.ensures.value)
+    in let e : c.len-letters.result - 1 - c.loop-done.done ≡ length top - (c.loop-done.done + 1)
+    = omega (arith, c.len-letters.ensures.value)
     in let f : length top - c.loop-done.done ≡ at + 1 = omega (arith, c.len-letters.ensures.value, c.loop-done-test.true)
     in let before : AreAppended A (drop (at + 1) top) c.args.context.now.members c.loop-done.context.members = rw f at h.appended
     in let step : AreAppended A (drop at top) c.loop-done.context.members c.step.new.context.members

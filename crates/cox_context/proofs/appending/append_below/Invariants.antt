@@ -7,7 +7,8 @@ use Rattle.cox_context.proofs.appending.append_below.Given as goal
 abbrev pub invariant-loop-done : goal.invariant-loop-done
 invariant-loop-done l = record {
   matrix : l.context.matrix ≡ l.initial.context.matrix;
-  appended : AreAppended (integer_matrix l.initial.context.matrix) (drop (length l.top.items - l.done) l.top.items) l.initial.context.members
+  appended : AreAppended (integer_matrix l.initial.context.matrix)
+      (drop (length l.top.items - l.done) l.top.items) l.initial.context.members
       l.context.members;
   few : length l.context.members ≤ l.limit;
   marked : AreMarked l.context.members l.found.marks.items l.found.numbers.items;

@@ -8,7 +8,8 @@ use Rattle.cox_reflect.proofs.NormalElements.{element-normal_form}
 use Rattle.cox_context.specs.FaultMeaning.{IsOverfull}
 use Rattle.cox_context.specs.Numbers.{word_at}
 use Rattle.cox_context.specs.Spread.{listed_words, AreAppended}
-use Rattle.cox_context.proofs.AppendedEnds.{end-start, end-found, end-next, end-below, end-member, appended-none, appended-trans, appended-one}
+use Rattle.cox_context.proofs.AppendedEnds.{end-start, end-found, end-next, end-below, end-member, appended-none, appended-trans}
+use Rattle.cox_context.proofs.AppendedEnds.{appended-one}
 use Rattle.cox_context.proofs.ListedMembers.{listed-length, listed-at}
 use Rattle.cox_context.proofs.UnionSizes.{overfull-one}
 use Rattle.cox_context.proofs.appending.step.Goals as goal
@@ -79,7 +80,8 @@ returns-in_err-find-clause-appended c =
     in let grown = rw (h.matrix, s) at c.find.ensures.members
     in let appended : AreAppended A (drop c.args.at top) c.args.context.now.members c.find.new.context.members
     = appended-trans A (drop c.args.at top) c.args.context.now.members mid c.find.new.context.members h.appended
-    (appended-one A (drop c.args.at top) (normal_form A (slice_index top c.args.at ∷ word_at mid (slice_index numbers c.loop-place.place))) mid
+    (appended-one A (drop c.args.at top)
+    (normal_form A (slice_index top c.args.at ∷ word_at mid (slice_index numbers c.loop-place.place))) mid
     c.find.new.context.members below grown)
     in appended
 
@@ -128,7 +130,8 @@ loop-place-preserved c =
     in let grown = rw (h.matrix, s) at c.find.ensures.members
     in let appended : AreAppended A (drop c.args.at top) c.args.context.now.members c.find.new.context.members
     = appended-trans A (drop c.args.at top) c.args.context.now.members mid c.find.new.context.members h.appended
-    (appended-one A (drop c.args.at top) (normal_form A (slice_index top c.args.at ∷ word_at mid (slice_index numbers c.loop-place.place))) mid
+    (appended-one A (drop c.args.at top)
+    (normal_form A (slice_index top c.args.at ∷ word_at mid (slice_index numbers c.loop-place.place))) mid
     c.find.new.context.members below grown)
     in let next = rw (h.matrix, s, ← read) at c.in_ok-find.ensures.found
     in record {

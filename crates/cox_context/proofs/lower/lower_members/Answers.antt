@@ -12,7 +12,8 @@ use Rattle.cox_context.proofs.lower.lower_members.Goals.{in-Some, in_default}
 
 pub loop-t-init : goal.loop-t-init
 loop-t-init c = entries-start c.args.shifts.now.matrix.rank
-    (λ q x. IsLower (integer_matrix c.args.shifts.now.matrix) c.args.shifts.now.members (c.args.s ∷ word_at c.args.shifts.now.members c.args.i) q x) MAX_RANK (omega (arith, c.rank.ensures.rank, c.rank.ensures.limit))
+    (λ q x. IsLower (integer_matrix c.args.shifts.now.matrix) c.args.shifts.now.members
+    (c.args.s ∷ word_at c.args.shifts.now.members c.args.i) q x) MAX_RANK (omega (arith, c.rank.ensures.rank, c.rank.ensures.limit))
 
 pub loop-t-preserved : goal.loop-t-preserved
 loop-t-preserved c =
@@ -28,12 +29,14 @@ loop-t-preserved c =
           }
           in let small : w.in-Some.k < NO_MEMBER = omega (arith, found.1, c.rank.ensures.closed.few)
           in rw w.lower-is (entries-set c.args.shifts.now.matrix.rank
-          (λ q x. IsLower (integer_matrix c.args.shifts.now.matrix) c.args.shifts.now.members (c.args.s ∷ word_at c.args.shifts.now.members c.args.i) q x)
+          (λ q x. IsLower (integer_matrix c.args.shifts.now.matrix) c.args.shifts.now.members
+          (c.args.s ∷ word_at c.args.shifts.now.members c.args.i) q x)
           c.loop-t.t (c.loop-t.t + 1) w.in-Some.k c.loop-t.lower refl l c.loop-t.invariant small found)
       | in_default w ↦
           let none = rw w.in_default.is at c.in_ok-k.ensures.lower
           in rw w.lower-is (entries-skip c.args.shifts.now.matrix.rank
-          (λ q x. IsLower (integer_matrix c.args.shifts.now.matrix) c.args.shifts.now.members (c.args.s ∷ word_at c.args.shifts.now.members c.args.i) q x) c.loop-t.t (c.loop-t.t + 1) c.loop-t.lower refl c.loop-t.invariant none)
+          (λ q x. IsLower (integer_matrix c.args.shifts.now.matrix) c.args.shifts.now.members
+          (c.args.s ∷ word_at c.args.shifts.now.members c.args.i) q x) c.loop-t.t (c.loop-t.t + 1) c.loop-t.lower refl c.loop-t.invariant none)
     ]
 
 pub returns-clause-lower : goal.returns-clause-lower

@@ -19,7 +19,8 @@ push_row-requires-clause-below c = λ t k l f.
     c.len-last.ensures.some
     in let before = last-before (integer_matrix c.args.shifts.now.matrix)
     (IsAdmissible-integer_matrix c.args.shifts.now.matrix c.rank-rank.ensures.matrix) c.args.shifts.now.members c.rank-rank.ensures.closed
-    c.args.table.now.items c.requires.others (c.len-last.result - 1) last c.last_right_shifts-row.result c.last_right_shifts-row.ensures.each t k
+    c.args.table.now.items c.requires.others
+    (c.len-last.result - 1) last c.last_right_shifts-row.result c.last_right_shifts-row.ensures.each t k
     (rw c.rank-rank.ensures.rank at l) (rw c.rank-rank.ensures.rank at f)
     in omega (arith, before)
 

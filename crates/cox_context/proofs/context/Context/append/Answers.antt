@@ -28,7 +28,8 @@ invariant_of-self-2 c =
     in let kept = rw (c.shifts-shifts.ensures, members) at c.push_inverse.ensures.kept
     in let x_is : IsLoweringSet v.group.rank c.append.new.self.left.items (length words) (v.group.rank + 1) c.lowering_set-left_set.result
     = rw (c.rank-rank.ensures.rank, c.len-number.ensures.len, c.as_slice-2.ensures.value) at c.lowering_set-left_set.ensures
-    in let z_is : IsLoweringSet v.group.rank c.push_last_row.new.table.items (length words) (v.group.rank + 1) c.lowering_set-right_set.result
+    in let z_is : IsLoweringSet v.group.rank c.push_last_row.new.table.items (length words)
+    (v.group.rank + 1) c.lowering_set-right_set.result
     = rw (c.rank-rank.ensures.rank, c.len-number.ensures.len, c.as_slice-3.ensures.value) at c.lowering_set-right_set.ensures
     in rw (
       members,

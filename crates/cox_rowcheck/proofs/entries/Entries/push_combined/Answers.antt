@@ -18,5 +18,6 @@ pub returns : goal.returns
 returns c =
     let e = c.self.inside
     in let more = (c.in_ok-append_combined.ensures {u = tt}).appended
-    in rw (← c.self.view_is, c.in_ok-push.ensures.items) (appended-more e.coefficients.items c.append_combined.new.list.items _ e.spans.items
+    in rw (← c.self.view_is, c.in_ok-push.ensures.items)
+    (appended-more e.coefficients.items c.append_combined.new.list.items _ e.spans.items
     (span c) c.self.invariant more (omega (arith, c.len-start.ensures)) (omega (arith, c.len-end.ensures))).1

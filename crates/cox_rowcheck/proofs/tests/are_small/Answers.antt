@@ -3,7 +3,7 @@ use Rattle.std.proofs.Common.{◌≡◌, ◌<◌, ◌≤◌, ℕ, IsTrue, slice_
 use Rattle.std.proofs.lemmas.Bool.{cases_lt, false≢true}
 use Rattle.std.proofs.lemmas.List.{get_or_default}
 use Rattle.cox_rowcheck.specs.SmallPolynomials.{IsSmall}
-use Rattle.cox_rowcheck.proofs.small.are_small.Goals as goal
+use Rattle.cox_rowcheck.proofs.tests.are_small.Goals as goal
 
 pub returns-then-not-is_small : goal.returns-then-not-is_small
 returns-then-not-is_small c = (

@@ -1,6 +1,5 @@
 //! A gate at which two workers have to meet, for tests.
-use crate::NoMemory;
-use crate::gate::{Gate, Point};
+use cox_outside::{Gate, NoMemory, Point};
 use std::alloc::Global;
 use std::sync::Wait;
 use std::sync::atomic::AtomicU64;

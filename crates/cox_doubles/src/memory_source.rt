@@ -2,13 +2,13 @@
 
 ghost use Rattle.std.specs.Prelude.{◌≡◌, ◌<◌, ◌≤◌, ◌++◌, length, take, drop};
 ghost use Rattle.std.specs.Io.KnownBytes.{prepend_known, IsAtEnd};
-ghost use Rattle.cox_outside.specs.Calls.{no_calls};
+ghost use Rattle.cox_doubles.specs.Calls.{no_calls};
 ghost use Rattle.cox_outside.specs.SourceRead.{GotFits, got_bytes, got_count, got_failed};
 ghost use Rattle.cox_outside.specs.Supply.{SourceCause};
-ghost use Rattle.cox_outside.specs.Memory.{supply_of, next_got, after_read};
+ghost use Rattle.cox_doubles.specs.Memory.{supply_of, next_got, after_read};
 
 use crate::calls::CallLog;
-use crate::source::{Got, Source};
+use cox_outside::{Got, Source};
 use std::marker::Model;
 
 /// A source over bytes in memory. It tells the bytes left, and is sure where no call has to fail.
@@ -22,7 +22,7 @@ pub struct MemorySource {
 
 impl Model for MemorySource {
     ghost use Rattle.std.specs.Prelude.{◌≤◌, drop, vec_len};
-    ghost use Rattle.cox_outside.specs.Memory.{MemorySupply};
+    ghost use Rattle.cox_doubles.specs.Memory.{MemorySupply};
 
     ghost Value = { MemorySupply };
 
@@ -50,7 +50,7 @@ impl MemorySource {
 impl Source for MemorySource {
     ghost seen = { supply_of };
 
-    #[tactic(auto, using(crate::proofs::Known::copied_prefix, crate::proofs::Known::some_passes))]
+    #[tactic(auto, using(crate::proofs::Memory::copied_prefix, crate::proofs::Memory::some_passes))]
     /// Fails exactly where the call has to; else it gives as many bytes as the piece, the buffer and
     /// the bytes left allow.
     fn read(&mut self, into: &mut [u8]) -> Got

@@ -1,0 +1,2 @@
+-- what a read of a source in memory leaves, and lists that are not empty
+pub mod Memory
