@@ -81,9 +81,6 @@ module _ (e : Elements) (numbers : List ℕ) (w x : List ℕ) where
   abbrev A : IntegerMatrix
   A = integer_matrix e.matrix
 
-  pub off-none : (sums : List ℤ) → ((k : ℕ) → coefficient sums k ≡ pos 0) → AreLastOff e numbers w x 0 sums
-  off-none sums none g k = omega (arith, ints, none k)
-
   pub off-more : (n d : ℕ) (p r old new : List ℤ)
       → IsKazhdanLusztig A x (word_at e.members (number_before numbers n)) (coefficient p)
       → IsInverse A (word_at e.members (number_before numbers n)) w (coefficient r)

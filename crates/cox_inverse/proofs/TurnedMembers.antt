@@ -1,7 +1,6 @@
--- A context that is a whole finite group: products with the longest element are members, and where all its rows are within a limit, so
--- are the
--- inverse rows.
-use Rattle.std.proofs.Common.{◌≡◌, ℕ, ◌+◌, ◌<◌, List, [], ◌∷◌, ◌++◌, length, get_or, take, ℤ, ◌∙◌}
+-- A context that is a whole finite group: the longest element is the last member, products with it are members, and where all rows are
+-- within a limit, so are the inverse rows.
+use Rattle.std.proofs.Common.{◌≡◌, ℕ, ◌+◌, ◌<◌, ◌≤◌, List, [], ◌∷◌, ◌++◌, length, get_or, take, ℤ, ◌∙◌, arith}
 use Rattle.std.specs.Prelude.{◌≤ℤ◌, Contains}
 use Rattle.std.proofs.lemmas.List.{append-nil, append_assoc, take_more}
 use Rattle.std.proofs.lemmas.List.Elements.{All-get_or}
@@ -28,6 +27,7 @@ use Rattle.cox_inverse.specs.WholeGroups.{IsLongestMember, IsTurned}
 use Rattle.cox_inverse.specs.InverseRow.{IsInverse}
 use Rattle.cox_inverse.specs.InverseFaults.{IsInverseWithin, AreWithinLimits}
 use Rattle.cox_inverse.proofs.InversePolynomials.{inverse-unique}
+use Rattle.cox_inverse.proofs.LongestElement.{turned-back}
 use Rattle.cox_inverse.proofs.TurnedAround.{turned-below}
 use Rattle.cox_inverse.proofs.InversionByLongest.{inversion-longest}
 use Rattle.cox_inverse.proofs.LastMembers.{below-member}
@@ -47,6 +47,17 @@ module _ (e : Elements) (g : IsAdmissible (integer_matrix e.matrix)) (closed : I
   -- no product with the longest element is above it
   turned-low : (x : List ℕ) → IsBelow A (word_at e.members longest ++ x) (word_at e.members longest)
   turned-low x = rw append-nil at (turned-below A g (word_at e.members longest) is.is [] x (below-least A g x))
+
+  -- each element is below it
+  all-below : (x : List ℕ) → IsBelow A x (word_at e.members longest)
+  all-below x = below-same A g (turned-back A g (word_at e.members longest) is.is x) (same-refl A g (word_at e.members longest))
+      (turned-low (word_at e.members longest ++ x))
+
+  -- it is the last member
+  pub longest-last : (last : ℕ) → last < length e.members → length e.members ≤ last + 1 → longest ≡ last
+  longest-last last l end =
+      let before = closed.upward last longest l is.member (all-below (word_at e.members last))
+      in omega (arith, before, end, is.member)
 
   shifted : (at s : ℕ) (done : List ℕ) → word_at e.members at ≡ normal_form A (word_at e.members longest ++ done)
       → SameElement A (word_at e.members at ++ s ∷ []) (word_at e.members longest ++ (done ++ s ∷ []))

@@ -1,10 +1,12 @@
 -- Contexts that are whole finite groups.
-use Rattle.std.specs.Prelude.{ℕ, ◌<◌, List, ◌++◌, length, ℤ, Some}
+use Rattle.std.specs.Prelude.{ℕ, ◌<◌, List, ◌++◌, length, ℤ, pos, ◌<ℤ◌, unsigned_abs, Some}
 use Rattle.cox_base.specs.IntegerMatrix.{integer_matrix}
 use Rattle.cox_base.specs.ShortLex.{normal_form}
+use Rattle.cox_poly.specs.Polynomial.{coefficient}
 use Rattle.cox_context.specs.Closed.{Elements}
 use Rattle.cox_context.specs.Numbers.{word_at}
 use Rattle.cox_context.specs.Numbering.{IsNumberOf}
+use Rattle.cox_row.specs.Polynomials.{polynomial_at}
 use Rattle.cox_klstep.specs.LargeMembers.{IsWithinLimit}
 use Rattle.cox_inverse.specs.Longest.{IsLongest}
 use Rattle.cox_inverse.specs.declared.finite.WholeGroup.{WholeGroup}
@@ -24,3 +26,10 @@ pub record IsReadable (e : Elements) (holds : ℕ → Type 0) (limit : ℤ) (who
 abbrev pub IsTurned : Elements → ℕ → ℕ → ℕ → Type 0
 IsTurned e longest x i =
     IsNumberOf e.members (normal_form (integer_matrix e.matrix) (word_at e.members longest ++ word_at e.members x)) (Some i)
+
+-- some coefficient of a polynomial of the pool is above the limit in absolute value
+pub record HasLarge (limit : ℤ) (pool : List (List ℤ)) : Type 0 where
+  pub place : ℕ
+  pub within : place < length pool
+  pub degree : ℕ
+  pub above : limit <ℤ pos (unsigned_abs (coefficient (polynomial_at pool place) degree))

@@ -5,7 +5,8 @@ ghost use Rattle.cox_inverse.specs.declared.fault.InverseFault.TheVariants.{NoMe
 use std::alloc::AllocError;
 use thiserror::Error;
 
-/// The greatest absolute value of a coefficient of P(x,z) that goes into an inverse row.
+/// The greatest absolute value of a coefficient of P(x,z) that goes into an inverse row. A sum for a coefficient has at most 2^28 products
+/// of two such, so it is within 2^122, and does not leave its 128 bits.
 pub const MAX_COEFFICIENT: i64 = (1 << 47) - 1;
 
 /// Why an inverse row of w from w down to y is not made.

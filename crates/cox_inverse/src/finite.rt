@@ -1,5 +1,5 @@
 //! Finite groups: with the longest element w0, Q(x,w) is P(w0 w, w0 x) (Kazhdan and Lusztig 1979, theorem 3.1).
-ghost use Rattle.std.specs.Prelude.{◌≡◌, ℕ, ◌<◌, pos, ◌≤ℤ◌, length, IfSome, IsTrue};
+ghost use Rattle.std.specs.Prelude.{◌≡◌, ℕ, ◌<◌, pos, ◌≤ℤ◌, length, false, IfSome, IfNone, IsTrue};
 ghost use Rattle.cox_base.specs.IntegerMatrix.{integer_matrix};
 ghost use Rattle.cox_base.specs.Bruhat.{IsBelow};
 ghost use Rattle.cox_poly.specs.Polynomial.{coefficient};
@@ -10,7 +10,7 @@ ghost use Rattle.cox_row.specs.RowOf.{pool_of};
 ghost use Rattle.cox_row.specs.Within.{IsRowWithin};
 ghost use Rattle.cox_inverse.specs.InverseRow.{IsInverse};
 ghost use Rattle.cox_inverse.specs.InverseFaults.{AreWithinLimits};
-ghost use Rattle.cox_inverse.specs.WholeGroups.{IsLongestMember, IsReadable, IsTurned};
+ghost use Rattle.cox_inverse.specs.WholeGroups.{IsLongestMember, IsReadable, IsTurned, HasLarge};
 
 use crate::fault::MAX_COEFFICIENT;
 use crate::large::large_degree;
@@ -25,13 +25,15 @@ pub struct WholeGroup {
 }
 
 impl WholeGroup {
-    /// The group, if the members are a whole finite group, the row of each is there, and no coefficient of these rows is above the limit.
+    /// The group; `None` exactly where the members are no whole finite group, a row is not there, or a coefficient of the rows is above the
+    /// limit.
     ///
     /// Where the rows' own limit is not above it, no coefficient is looked at.
     pub fn of<L: LowerRows>(ctx: &Context, rows: &L, limit: i64) -> Option<WholeGroup>
         requires rows { L.elements rows.now ≡ ctx.now }
         requires least { pos 0 ≤ℤ limit }
-        ensures { IfSome result (IsReadable ctx.now (L.holds rows.now) limit) }
+        ensures readable { IfSome result (IsReadable ctx.now (L.holds rows.now) limit) }
+        ensures none { IfNone result ((whole : WholeGroup) → ¬ IsReadable ctx.now (L.holds rows.now) limit whole) }
     {
         let longest = longest_member(ctx)?;
         let greatest = rows.limit();
@@ -81,7 +83,8 @@ impl WholeGroup {
 fn is_within(row: &Row, greatest: i64, limit: i64) -> bool
     requires within { IsRowWithin greatest row.now }
     requires least { pos 0 ≤ℤ limit }
-    ensures { IsTrue result → (j : ℕ) → j < length (pool_of row.now) → AllWithin limit (polynomial_at (pool_of row.now) j) }
+    ensures small { IsTrue result → (j : ℕ) → j < length (pool_of row.now) → AllWithin limit (polynomial_at (pool_of row.now) j) }
+    ensures large { result ≡ false → HasLarge limit (pool_of row.now) }
 {
     if greatest <= limit {
         return true;
@@ -112,9 +115,11 @@ fn turned(ctx: &Context, longest: u32, x: u32) -> u32
     at
 }
 
-/// The number of the longest element, where the members are a whole finite group: the last one, if each letter is a right descent of it.
+/// The number of the longest element; `None` exactly where the members are no whole finite group. It is the last one, if each letter is a
+/// right descent of that.
 fn longest_member(ctx: &Context) -> Option<u32>
-    ensures { IfSome result (IsLongestMember ctx.now) }
+    ensures some { IfSome result (IsLongestMember ctx.now) }
+    ensures none { IfNone result ((i : ℕ) → ¬ IsLongestMember ctx.now i) }
 {
     let _len = ctx.len();
     let last = ctx.len() - 1;

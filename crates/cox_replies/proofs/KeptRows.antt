@@ -27,6 +27,7 @@ use Rattle.cox_hecke.specs.Needs.{IsNeeded}
 use Rattle.cox_context.specs.Numbering.{IsNumberOf}
 use Rattle.cox_rows.specs.Holding.{Holding, HasRow}
 use Rattle.cox_rows.specs.Ensured.{IsEnsured}
+use Rattle.cox_rows.proofs.EnsuredNeeds.{ensured-refl}
 use Rattle.cox_rows.proofs.NeedDecided.{needs_beyond-same}
 use Rattle.cox_rows.proofs.FaultsOfRows.{fault-beyond}
 use Rattle.cox_replies.specs.Kept.{AreOf, IsMore, HoldsRow, Keeps, unanswered_by, unless_fault}
@@ -146,11 +147,5 @@ pub settled-keeps : (limits : Limits) (G : CoxeterMatrix) → IsAdmissible (inte
     → IsRefused (RefusesRow limits (integer_matrix G) w) None × HoldsRow (integer_matrix G) w i rows
 settled-keeps limits G g w i rows of number few there small =
     let more : IsMore rows rows = record { same = record { elements = refl; limit = refl }; there = λ j held. held } in
-    let ensured : IsEnsured (word_at rows.elements.members i) rows rows = record {
-      elements = refl;
-      limit = refl;
-      kept = λ j held. held;
-      needed = λ j held. inl held;
-      again = λ _. refl;
-    } in
+    let ensured = ensured-refl (word_at rows.elements.members i) rows in
     still-keeps limits G g w i rows rows rows of number more ensured few (Ok tt) there small tt

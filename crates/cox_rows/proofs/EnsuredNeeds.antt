@@ -33,6 +33,8 @@ use Rattle.cox_klstep.specs.declared.fault.StepFault.{StepFault}
 use Rattle.cox_klstep.specs.Faults.{IsFault}
 use Rattle.cox_rows.specs.RowsFaults.{IsRowsFault, IsFaultOfSome}
 use Rattle.cox_rows.specs.Ensured.{IsEnsured, AreNeedsSmall}
+use Rattle.cox_rows.specs.CountedRows.{AreRowsCounted}
+use Rattle.cox_rows.proofs.CountedRows.{counted-none, counted-trans}
 use Rattle.cox_rows.proofs.FaultsOfRows.{fault-weaker, fault-of_member}
 use Rattle.cox_rows.proofs.NeedCases.{least-unique, correction-words}
 use Rattle.cox_rows.proofs.NeedDecided.{needs_beyond-same}
@@ -40,7 +42,14 @@ use Rattle.cox_rows.proofs.NeedDecided.{needs_beyond-same}
 -- ---- states
 
 pub ensured-refl : (w : List ℕ) (h : Holding) → IsEnsured w h h
-ensured-refl w h = record { elements = refl; limit = refl; kept = λ j l. l; needed = λ j l. inl l; again = λ all. refl }
+ensured-refl w h = record {
+  elements = refl;
+  limit = refl;
+  kept = λ j l. l;
+  needed = λ j l. inl l;
+  counted = counted-none h;
+  again = λ all. refl;
+}
 
 pub ensured-trans : (w : List ℕ) (a b c : Holding) → IsEnsured w a b → IsEnsured w b c → IsEnsured w a c
 ensured-trans w a b c f h = record {
@@ -49,6 +58,7 @@ ensured-trans w a b c f h = record {
   kept = λ j l. h.kept j (f.kept j l);
   needed = λ j l. ⊎_elim (λ (old : HasRow b j). f.needed j old)
       (λ (new : IsNeeded (integer_matrix b.elements.matrix) w (word_at b.elements.members j)). inr (rw f.elements at new)) (h.needed j l);
+  counted = counted-trans a b c f.elements h.kept f.counted h.counted;
   again = λ all. h.again (rw f.elements (λ j l n. f.kept j (all j l n))) ∙ f.again all;
 }
 
@@ -62,30 +72,32 @@ ensured-needed a b w v g n h = record {
   needed = λ j l. ⊎_elim (λ (old : HasRow a j). inl old)
       (λ (new : IsNeeded (integer_matrix a.elements.matrix) v (word_at a.elements.members j)).
       inr (needed-trans (integer_matrix a.elements.matrix) g w v (word_at a.elements.members j) n new)) (h.needed j l);
+  counted = h.counted;
   again = λ all. h.again (λ j l m. all j l (needed-trans (integer_matrix a.elements.matrix) g w v (word_at a.elements.members j) n m));
 }
 
 -- the row of w itself is made
 pub ensured-made : (a b : Holding) (i : ℕ) → IsAdmissible (integer_matrix a.elements.matrix) → b.elements ≡ a.elements → b.limit ≡ a.limit
     → ((j : ℕ) → HasRow a j → HasRow b j) → ((j : ℕ) → j ≢ i → HasRow b j → HasRow a j) → i < length a.elements.members
-    → (HasRow a i → b.steps ≡ a.steps) → IsEnsured (word_at a.elements.members i) a b
-ensured-made a b i g elements limit kept others within again = record {
+    → AreRowsCounted a b → (HasRow a i → b.steps ≡ a.steps) → IsEnsured (word_at a.elements.members i) a b
+ensured-made a b i g elements limit kept others within counted again = record {
   elements = elements;
   limit = limit;
   kept = kept;
   needed = λ j l. ⊎_elim
       (λ (e : j ≡ i). inr (rw e (itself (same-refl (integer_matrix a.elements.matrix) g (word_at a.elements.members i)))))
       (λ (apart : j ≢ i). inl (others j apart l)) (cases_eq j i);
+  counted = counted;
   again = λ all. again (all i within (itself (same-refl (integer_matrix a.elements.matrix) g (word_at a.elements.members i))));
 }
 
 pub ensured-then : (a b c : Holding) (i : ℕ) → IsAdmissible (integer_matrix a.elements.matrix)
     → IsEnsured (word_at a.elements.members i) a b → c.elements ≡ b.elements → c.limit ≡ b.limit
     → ((j : ℕ) → HasRow b j → HasRow c j) → ((j : ℕ) → j ≢ i → HasRow c j → HasRow b j) → i < length a.elements.members
-    → (HasRow b i → c.steps ≡ b.steps) → IsEnsured (word_at a.elements.members i) a c
-ensured-then a b c i g h elements limit kept others within again = ensured-trans (word_at a.elements.members i) a b c h
+    → AreRowsCounted b c → (HasRow b i → c.steps ≡ b.steps) → IsEnsured (word_at a.elements.members i) a c
+ensured-then a b c i g h elements limit kept others within counted again = ensured-trans (word_at a.elements.members i) a b c h
     (subst (λ (e : Elements). IsEnsured (word_at e.members i) b c) h.elements
-    (ensured-made b c i (rw h.elements g) elements limit kept others (rw h.elements within) again))
+    (ensured-made b c i (rw h.elements g) elements limit kept others (rw h.elements within) counted again))
 
 -- ---- faults
 

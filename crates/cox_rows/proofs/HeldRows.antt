@@ -1,5 +1,5 @@
 -- Rows by place: what is held is what is there, and places without rows change nothing.
-use Rattle.std.proofs.Common.{◌≡◌, ℕ, zero, suc, ◌<◌, List, [], ◌∷◌, ◌++◌, length, true, false, Option, None, Some, is_some, refl, sym, ◌∙◌}
+use Rattle.std.proofs.Common.{◌≡◌, ℕ, zero, suc, ◌<◌, List, [], ◌∷◌, length, true, false, Option, None, Some, is_some, refl, sym, ◌∙◌}
 use Rattle.std.specs.Prelude.{IfSome, slice_index_or, ℤ}
 use Rattle.cox_context.specs.Closed.{Elements}
 use Rattle.cox_row.specs.declared.row.Row.{Row}
@@ -11,13 +11,6 @@ pub held-at : (rows : List (Option Row)) (i : ℕ) → slice_index_or (held rows
 held-at [] i = refl
 held-at (row ∷ rows) zero = refl
 held-at (row ∷ rows) (suc i) = held-at rows i
-
--- one place more, without a row
-pub row_at-push : (rows : List (Option Row)) (i : ℕ) → row_at (rows ++ None ∷ []) i ≡ row_at rows i
-row_at-push [] zero = refl
-row_at-push [] (suc i) = refl
-row_at-push (row ∷ rows) zero = refl
-row_at-push (row ∷ rows) (suc i) = row_at-push rows i
 
 -- the row at a place is what the predicate says
 pub row-predicate : (e : Elements) (limit : ℤ) (rows : List (Option Row)) (i : ℕ) (row : Row) → AreRows e limit rows

@@ -2,12 +2,9 @@
 use Rattle.std.proofs.Common.{◌≡◌, ◌≢◌, ◌⊎◌, inl, inr, ⊎_elim, ℕ, ◌+◌, ◌<◌, ◌≤◌, List, length, true, Option, None, Some, is_some, refl, sym}
 use Rattle.std.proofs.Common.{ap, ◌∙◌, arith}
 use Rattle.std.proofs.lemmas.Bool.{cases_lt, cases_eq}
-use Rattle.std.proofs.lemmas.List.{get_or_past}
-use Rattle.std.specs.Prelude.{IfSome, ℤ}
-use Rattle.cox_context.specs.Closed.{Elements}
 use Rattle.cox_row.specs.declared.row.Row.{Row}
 use Rattle.cox_row.specs.RowLists.{row_at}
-use Rattle.cox_rows.specs.Holding.{IsHeldRow, AreBoth}
+use Rattle.cox_rows.specs.Holding.{AreBoth}
 use Rattle.cox_rows.proofs.HeldRows.{not-there}
 
 -- the rows before the place n were put among the others
@@ -61,29 +58,6 @@ module _ (rows more : List (Option Row)) (n : ℕ) (all left rest : List (Option
       there : (i : ℕ) → is_some (row_at all i) ≡ true → is_some (row_at next i) ≡ true
       there i some = ⊎_elim (λ (e : i ≡ n). ap (λ k. is_some (row_at next k)) e ∙ ap is_some at)
           (λ (apart : i ≢ n). ap is_some (same i apart) ∙ some) (cases_eq i n)
-
--- when all are put, the rows are those of both lists
-pub put-whole : (rows more all left : List (Option Row)) → ArePut rows more (length more) all left → AreBoth rows more all
-put-whole rows more all left h = record {
-  from = h.from;
-  first_there = h.first_there;
-  second_there = λ i some. ⊎_elim (λ (less : i < length more). h.second_there i less some)
-      (λ (past : length more ≤ i). absurd (not-there (row_at more i) (get_or_past more i None past) some)) (cases_lt i (length more));
-}
-
-pub both-swapped : (first second all : List (Option Row)) → AreBoth second first all → AreBoth first second all
-both-swapped first second all h = record {
-  from = λ i. ⊎_elim (λ (e : row_at all i ≡ row_at second i). inr e) (λ (e : row_at all i ≡ row_at first i). inl e) (h.from i);
-  first_there = h.second_there;
-  second_there = h.first_there;
-}
-
--- what is there is the row of its member, where that is so in both lists
-pub both-rows : (e : Elements) (limit : ℤ) (first second all : List (Option Row)) → AreBoth first second all
-    → ((i : ℕ) → IfSome (row_at first i) (IsHeldRow e limit i)) → ((i : ℕ) → IfSome (row_at second i) (IsHeldRow e limit i))
-    → (i : ℕ) → IfSome (row_at all i) (IsHeldRow e limit i)
-both-rows e limit first second all h one two i = ⊎_elim
-    (λ (same : row_at all i ≡ row_at first i). rw same (one i)) (λ (same : row_at all i ≡ row_at second i). rw same (two i)) (h.from i)
 
 pub both-others : (first second all : List (Option Row)) → AreBoth first second all → (i : ℕ) → is_some (row_at all i) ≡ true
     → (is_some (row_at first i) ≡ true) ⊎ (is_some (row_at second i) ≡ true)

@@ -1,5 +1,5 @@
 -- Rows and settled members in a larger context; a union with the interval of w has w; and a context that has w already is that union.
-use Rattle.std.proofs.Common.{◌≡◌, inl, inr, ⊎_elim, ℕ, List, Bool, Option, None, Some, ◌↔◌, ℤ}
+use Rattle.std.proofs.Common.{◌≡◌, inl, inr, ⊎_elim, ℕ, List, Option, None, Some, ◌↔◌, ℤ}
 use Rattle.std.proofs.Common.{arith}
 use Rattle.std.specs.Prelude.{Contains, IfSome}
 use Rattle.cox_base.specs.IntegerMatrix.{IntegerMatrix, integer_matrix}
@@ -19,9 +19,7 @@ use Rattle.cox_context.proofs.PlacedWords.{contains-at}
 use Rattle.cox_row.specs.declared.row.Row.{Row}
 use Rattle.cox_row.specs.RowLists.{row_at}
 use Rattle.cox_row.proofs.GrownRows.{row-grown}
-use Rattle.cox_klstep.specs.declared.tables.Tables.{Tables}
-use Rattle.cox_rows.specs.Holding.{Holding, IsHeldRow, AreRows}
-use Rattle.cox_rows.specs.Ensured.{IsStore}
+use Rattle.cox_rows.specs.Holding.{IsHeldRow, AreRows}
 
 -- ---- rows
 
@@ -41,20 +39,6 @@ module _ (old new : Elements) (g : IsAdmissible (integer_matrix old.matrix)) (fr
 
   pub rows-kept : (limit : ℤ) (rows : List (Option Row)) → AreRows old limit rows → AreRows new limit rows
   rows-kept limit rows h = record { least = h.least; each = λ i. some-kept limit i (row_at rows i) (h.each i) }
-
--- ---- settled members
-
-pub store-kept : (old new : Holding) (settled : List Bool) (before : Option Tables) → new.elements.matrix ≡ old.elements.matrix
-    → new.limit ≡ old.limit → AreKept old.elements.members new.elements.members → IsStore old settled before → IsStore new settled None
-store-kept old new settled before matrix limit are store = record {
-  known = λ i set.
-      let h = store.known i set
-      in record {
-        member = omega (arith, h.member, are.size);
-        small = λ n. h.small (rw (matrix, limit, are.word i h.member) at n);
-      };
-  usable = tt;
-}
 
 -- ---- nothing new
 

@@ -14,6 +14,8 @@ pub mod HeldRows
 pub mod RowBeyond
 -- faults of rows
 pub mod FaultsOfRows
+-- how many polynomials are added up at least
+pub mod CountedRows
 -- how rows change while others are made
 pub mod EnsuredNeeds
 -- how much is added up

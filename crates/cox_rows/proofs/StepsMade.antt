@@ -1,18 +1,34 @@
 -- The polynomials that are added up for one row more.
-use Rattle.std.proofs.Common.{◌≡◌, ℕ, refl, arith}
+use Rattle.std.proofs.Common.{◌≡◌, ◌≢◌, ℕ, subst, arith}
 use Rattle.cox_context.specs.Closed.{Elements}
 use Rattle.cox_klstep.specs.CountedSteps.{counted, IsWithinSteps, IsCounted}
-
--- none
-pub steps-none : (e : Elements) (i steps : ℕ) → IsWithinSteps e i steps steps
-steps-none e i steps = record { identity = λ none. refl; few = λ s numbers least are extremal all. omega arith }
+use Rattle.cox_klstep.specs.ImagesAtHand.{IsMadeByStep}
+use Rattle.cox_rows.specs.Holding.{Holding, HasRow}
+use Rattle.cox_rows.specs.CountedRows.{AreRowsCounted}
+use Rattle.cox_rows.proofs.CountedRows.{counted-one}
 
 module _ (e : Elements) (i old more new : ℕ) (is : new ≡ counted old more) where
-  pub steps-added : (more ≡ 0 → new ≡ old) → IsWithinSteps e i 0 more → IsWithinSteps e i old new
+  steps-added : (more ≡ 0 → new ≡ old) → IsWithinSteps e i 0 more → IsWithinSteps e i old new
   steps-added none h = record {
     identity = λ z. none (h.identity z);
     few = λ s numbers least are extremal all. let few = h.few s numbers least are extremal all in omega (arith, few, is);
   }
 
-  pub counted-added : IsCounted e i 0 more → IsCounted e i old new
+  counted-added : IsCounted e i 0 more → IsCounted e i old new
   counted-added h extremal all = let some = h extremal all in omega (arith, some, is)
+
+-- the row of the member i was made from a, which is the same as b, and what it took was added to the count: so d was left
+module _ (i more : ℕ) {a b : Holding} (d : Holding) (same : a ≡ b) (is : d.steps ≡ counted a.steps more) where
+  pub steps-over : (more ≡ 0 → d.steps ≡ a.steps) → IsWithinSteps a.elements i 0 more → IsWithinSteps b.elements i b.steps d.steps
+  steps-over none h =
+      subst (λ (s : Holding). IsWithinSteps s.elements i s.steps d.steps) same (steps-added a.elements i a.steps more d.steps is none h)
+
+  pub counted-over : (IsMadeByStep a.elements (HasRow a) i → IsCounted a.elements i 0 more) → IsMadeByStep b.elements (HasRow b) i
+      → IsCounted b.elements i b.steps d.steps
+  counted-over made = subst (λ (s : Holding). IsMadeByStep s.elements (HasRow s) i → IsCounted s.elements i s.steps d.steps) same
+      (λ by_step. counted-added a.elements i a.steps more d.steps is (made by_step))
+
+  pub rows-over : ((j : ℕ) → j ≢ i → HasRow d j → HasRow a j) → ((j : ℕ) → HasRow a j → HasRow d j)
+      → (HasRow d i → (HasRow a i → ⊥) → IsMadeByStep a.elements (HasRow a) i → IsCounted a.elements i 0 more) → AreRowsCounted b d
+  rows-over others kept made = subst (λ (s : Holding). AreRowsCounted s d) same (counted-one a d i others kept (omega (arith, is))
+      (λ there before by_step. counted-added a.elements i a.steps more d.steps is (made there before by_step)))

@@ -9,15 +9,18 @@ use Rattle.cox_context.specs.Numbers.{word_at}
 use Rattle.cox_klstep.specs.declared.tables.Tables.{Tables}
 use Rattle.cox_klstep.specs.TablesOf.{AreTables}
 use Rattle.cox_rows.specs.Beyond.{NeedsBeyond}
+use Rattle.cox_rows.specs.CountedRows.{AreRowsCounted}
 use Rattle.cox_rows.specs.Holding.{Holding, HasRow}
 
--- the context and the limit stay, what is held stays, and what is new is needed by w; nothing is added up where all that w needs is held
+-- the context and the limit stay, what is held stays, and what is new is needed by w; what is added up is counted, and nothing is where all
+-- that w needs is held
 pub record IsEnsured (w : List ℕ) (old new : Holding) : Type 0 where
   pub elements : new.elements ≡ old.elements
   pub limit : new.limit ≡ old.limit
   pub kept : (j : ℕ) → HasRow old j → HasRow new j
   pub needed : (j : ℕ) → HasRow new j
       → HasRow old j ⊎ IsNeeded (integer_matrix old.elements.matrix) w (word_at old.elements.members j)
+  pub counted : AreRowsCounted old new
   pub again : ((j : ℕ) → j < length old.elements.members
       → IsNeeded (integer_matrix old.elements.matrix) w (word_at old.elements.members j) → HasRow old j) → new.steps ≡ old.steps
 

@@ -19,6 +19,7 @@ ghost use Rattle.cox_klstep.specs.Faults.{IsFault};
 ghost use Rattle.cox_klstep.specs.CountedSteps.{IsWithinSteps, IsCounted};
 ghost use Rattle.cox_klstep.specs.ImagesAtHand.{IsMadeByStep};
 ghost use Rattle.cox_rows.specs.Beyond.{NeedsBeyond};
+ghost use Rattle.cox_rows.specs.CountedRows.{AreRowsCounted};
 ghost use Rattle.cox_rows.specs.Holding.{HasRow, held};
 ghost use Rattle.cox_rows.specs.RowsFaults.{IsRowsFault, IsFaultOfSome};
 ghost use Rattle.cox_rows.specs.Ensured.{IsEnsured, IsSettled, AreNeedsSmall};
@@ -139,6 +140,7 @@ impl Rows {
         ensures there { OnOk result ((i : ℕ) → i < length self.old.elements.members → HasRow self.new i) }
         ensures small { OnOk result ((i : ℕ) → i < length self.old.elements.members
             → ¬ NeedsBeyond (integer_matrix self.old.elements.matrix) self.old.limit (word_at self.old.elements.members i)) }
+        ensures counted { AreRowsCounted self.old self.new }
         ensures again { ((i : ℕ) → i < length self.old.elements.members → HasRow self.old i) → self.new.steps ≡ self.old.steps }
         ensures fault { IfErr result (IsFaultOfSome self.old.elements self.old.limit) }
     {
@@ -276,6 +278,7 @@ impl Rows {
         ensures limit { self.new.limit ≡ self.old.limit }
         ensures kept { (j : ℕ) → HasRow self.old j → HasRow self.new j }
         ensures there { OnOk result (HasRow self.new i) }
+        ensures counted { AreRowsCounted self.old self.new }
         ensures again { HasRow self.old i → self.new.steps ≡ self.old.steps }
         ensures small { OnOk result (¬ NeedsBeyond (integer_matrix self.old.elements.matrix) self.old.limit
             (word_at self.old.elements.members i)) }
@@ -318,6 +321,7 @@ impl Rows {
         ensures steps { IsWithinSteps self.old.elements i self.old.steps self.new.steps }
         ensures counted { OnOk result (¬ HasRow self.old i → IsMadeByStep self.old.elements (HasRow self.old) i
             → IsCounted self.old.elements i self.old.steps self.new.steps) }
+        ensures rows { AreRowsCounted self.old self.new }
         ensures fault { IfErr result (IsFault (integer_matrix self.old.elements.matrix) self.old.elements.members self.old.limit
             (λ w. w ≡ i)) }
     {

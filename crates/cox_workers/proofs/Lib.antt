@@ -10,7 +10,7 @@ pub mod WaitingOrder
 pub mod NeedsByNumber
 -- what a seat has published, voided and seen
 pub mod Growing
--- places that are dealt out by turns
-pub mod SameTurn
+-- the places that fall to one worker
+pub mod OwnPlaces
 -- the law of families
 pub mod GivenRows

@@ -8,8 +8,8 @@ use Rattle.cox_row.specs.Rising.{number_at}
 use Rattle.cox_row_store.specs.declared.store.RowStore.{RowStore}
 use Rattle.cox_row_store.specs.Stores.{elements_of, IsSeat}
 use Rattle.cox_claims.specs.Rule.{how_many}
-use Rattle.cox_workers.specs.declared.bench.Bench.{Bench}
-use Rattle.cox_workers.specs.declared.hand.Hand.{Hand}
+use Rattle.cox_workers.specs.declared.worker_context.WorkerContext.{WorkerContext}
+use Rattle.cox_workers.specs.declared.worker_scratch.WorkerScratch.{WorkerScratch}
 use Rattle.cox_workers.specs.Ready.{IsSeatWith}
 use Rattle.cox_workers.specs.Work.{IsNeededAt, HasEnded, MadeOfSeen}
 
@@ -22,7 +22,7 @@ abbrev pub IsNeededForSome : Elements → List ℕ → ℕ → Type 0
 IsNeededForSome e wanted j = (p : ℕ) × (p < length wanted) × IsNeededAt e (number_at wanted p) j
 
 -- it is the same seat, none was split from it, and it met none; it holds what it held, has seen all that it had seen, has published and
--- voided rows alone that wanted ones need, and has published none before those that it is made from
+-- voided only rows that wanted ones need, and has published none before those that it is made from
 pub record IsSeatGrown (e : Elements) (wanted : List ℕ) (old new : Seat) : Type 0 where
   pub same : IsSameSeat old new
   pub seats : TellsSameSeats (view_of old) (view_of new)
@@ -31,10 +31,10 @@ pub record IsSeatGrown (e : Elements) (wanted : List ℕ) (old new : Seat) : Typ
   pub ended : (j : ℕ) → HasEnded new j → HasEnded old j ⊎ IsNeededForSome e wanted j
   pub made : MadeOfSeen e old new
 
--- what work on rows that are wanted leaves: the worker can go on, if it has a hand, and its seat has grown
-pub record IsWorkOn (bench : Bench) (wanted : List ℕ) (old new : Seat) (hand : Option Hand) : Type 0 where
-  pub worker : IsSeatWith bench new hand
-  pub grown : IsSeatGrown bench.context.now wanted old new
+-- what work on rows that are wanted leaves: the worker can go on, if it has scratch memory, and its seat has grown
+pub record IsWorkOn (worker : WorkerContext) (wanted : List ℕ) (old new : Seat) (scratch : Option WorkerScratch) : Type 0 where
+  pub seat : IsSeatWith worker new scratch
+  pub grown : IsSeatGrown worker.context.now wanted old new
 
 -- of each generation as many seats were met since as were split: all seats that were split from this one met it again, and so did all that
 -- were split from these
@@ -60,7 +60,7 @@ pub record IsFilled (store : RowStore) (Place : ℕ → Type 0) (wanted : List �
   pub idle : HoldsNothing new
   -- it has seen all that it had seen
   pub seen : SeesAll (view_of old) (view_of new)
-  -- it, and the seats that it met, published and voided rows alone that wanted ones need
+  -- it, and the seats that it met, published and voided only rows that wanted ones need
   pub ended : (j : ℕ) → HasEnded new j → HasEnded old j ⊎ IsNeededForSome (elements_of store) wanted j
   -- and published none before those that it is made from
   pub made : MadeOfSeen (elements_of store) old new

@@ -1,7 +1,7 @@
 -- guards by the numbers of members
 pub mod Guarded
 -- rows that a worker reads
-pub mod Shelves
+pub mod RowsRead
 -- when a worker can work
 pub mod Ready
 -- what a worker does to its seat

@@ -4,34 +4,37 @@
 //! claimed it waits for. It holds a claim only on rows with greater numbers than the row that it waits for. A row that it cannot make it
 //! gives up.
 //!
+//! Of the calls for one row: `settle` sees it Published or Void; `make_free` makes it if nobody has claimed it; `ensure` claims, makes and
+//! publishes it, or waits for the worker that has claimed it; `provide` makes it after what it needs, as far as nobody has claimed that;
+//! `supply` makes only what it needs; `take_published` lets the worker read it if it is Published by now; `gather` looks for more such rows.
+//!
 //! - `missing`: why a row is not there
-//! - `shelf`: rows that a worker reads
-//! - `bench`, `hand`: what a worker works at, and what it keeps from row to row
+//! - `read_rows`: rows that a worker reads
+//! - `worker_context`, `worker_scratch`: what a worker works at, and what it keeps from row to row
 //! - `making`: one row, and those that it is made from
 //! - `gathering`: rows that are there already and may serve
 //! - `sharing`: one row by several workers
 //! - `settling`: one row that is wanted, made or given up
-//! - `ahead`: memory that a worker takes ahead
-//! - `turns`: all rows that are wanted, as one worker goes through them
+//! - `heap_reserve`: memory that a worker takes before it needs it
+//! - `schedule`: all rows that are wanted, as one worker goes through them
 //! - `filling`: the same by several workers
 //! - `laws`: the law of families
 #![tactic(auto)]
 
-mod ahead;
-mod bench;
 mod filling;
 mod gathering;
-mod hand;
+mod heap_reserve;
 pub mod laws;
 mod making;
 mod missing;
+mod read_rows;
+mod schedule;
 mod settling;
 mod sharing;
-mod shelf;
-mod turns;
+mod worker_context;
+mod worker_scratch;
 
-pub use bench::Bench;
 pub use filling::{all_members, fill, fill_row};
-pub use hand::Hand;
 pub use missing::Missing;
-pub use shelf::Shelf;
+pub use worker_context::WorkerContext;
+pub use worker_scratch::WorkerScratch;

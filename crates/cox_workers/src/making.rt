@@ -1,19 +1,21 @@
 //! One row, and those that it is made from.
-ghost use Rattle.std.specs.Prelude.{◌≡◌, ◌<◌, length, OnOk, OnErr, IfOk, IfErr};
+ghost use Rattle.std.specs.Prelude.{◌≡◌, ◌≢◌, ◌<◌, length, OnOk, OnErr, IfOk, IfErr};
 ghost use Rattle.std.specs.Thread.{IsSync};
 ghost use Rattle.cox_klstep.specs.FoundAhead.{AreFound};
 ghost use Rattle.cox_klstep.specs.Tasks.{IsTask};
 ghost use Rattle.cox_klstep.specs.NeedsOf.{HasNeeds};
-ghost use Rattle.cox_claims.specs.Knowledge.{Publishes};
-ghost use Rattle.cox_claims.specs.Seats.{view_of, splits_of, IsSameSeat, Holds, HoldsBeyond, HasSeen, HasSeenVoid, HasSeenClaimed};
+ghost use Rattle.cox_claims.specs.Knowledge.{TriesClaim, Publishes};
+ghost use Rattle.cox_claims.specs.Seats.{view_of, splits_of, IsSameSeat, Holds, HoldsBeyond, HasSeen, HasSeenVoid, HasSeenClaimed, Reads};
+ghost use Rattle.cox_fill_core.specs.declared.event.RowState.{RowState};
+ghost use Rattle.cox_fill_core.specs.declared.event.RowState.TheVariants.{Free};
 ghost use Rattle.cox_row.specs.RowOf.{IsRowAt};
 ghost use Rattle.cox_row.specs.Within.{IsRowWithin};
 ghost use Rattle.cox_row_store.specs.Stores.{limit_of, IsSeat};
 
-use crate::bench::Bench;
 use crate::gathering::Budget;
-use crate::hand::Hand;
 use crate::missing::Missing;
+use crate::worker_context::WorkerContext;
+use crate::worker_scratch::WorkerScratch;
 use cox_klstep::{ByThreads, Descent, FoundPolynomial, RowTask, find_together, needs, row};
 use cox_outside::{Gate, Point};
 use cox_row::{LowerRows, Row};
@@ -23,45 +25,44 @@ use std::mem;
 use std::sync::Wait;
 use std::thread::Threads;
 
-impl<'a> Bench<'a> {
+impl<'a> WorkerContext<'a> {
     ghost use Rattle.cox_workers.specs.Ready.{IsWorkerReady, IsWorkFor};
     ghost use Rattle.cox_workers.specs.Work.{HoldsFrom, IsSeatKept, VoidsNone, IsRowMissing, IsUnmade};
-    ghost use Rattle.cox_workers.specs.Shelves.{IsOn};
+    ghost use Rattle.cox_workers.specs.RowsRead.{IsRead};
 
     /// Sees to it that the row of the member with the number i is Published, with those that it is made from.
     ///
     /// The row is claimed before anything is done for it. Where another has claimed it, this waits until the row is Published or Void. The
-    /// gate is passed before each claim and each publication. The seat waits for rows alone that have lesser numbers than all that it holds.
+    /// gate is passed before each claim and each publication. The seat waits only for rows whose numbers are less than those of all rows
+    /// that it holds.
     ///
-    /// Whatever the answer, the seat holds what it held: a row that was claimed on the way is Published, or else Void. In place of the row
-    /// of i that of a member that it needs may be the one that is `Void` or has the `Fault`; a fault with the row of the member w is told
-    /// of with w.
+    /// Whatever the answer, the seat holds what it held: a row that was claimed on the way is Published, or else Void. The error may be
+    /// about a row that the row of i needs; it names the member.
     #[cycle(ensure)]
     pub fn ensure<R: Threads + Wait + Sync, G: Gate>(
         &self,
         rt: &R,
         gate: &G,
         seat: &mut Seat,
-        hand: &mut Hand<'a>,
+        scratch: &mut WorkerScratch<'a>,
         i: u32,
     ) -> Result<(), Missing>
-        requires ready { IsWorkerReady self.now seat.old hand.old }
+        requires ready { IsWorkerReady self.now seat.old scratch.old }
         requires member { i < length self.now.context.now.members }
         requires order { HoldsBeyond seat.old i }
-        ensures work { IsWorkFor self.now i seat.old seat.new hand.old hand.new }
+        ensures work { IsWorkFor self.now i seat.old seat.new scratch.old scratch.new }
         ensures here { OnOk result (HasSeen seat.new i × VoidsNone seat.old seat.new) }
         ensures void { OnErr result (HasSeenVoid seat.new i) }
         ensures missing { IfErr result (IsRowMissing self.now.context.now (limit_of self.now.store.now) i seat.old seat.new) }
     {
         let _len = self.context.len();
-        gate.pass(rt, self.worker, Point::Claim, i);
-        match self.store.claim(seat, i) {
+        match self.claim(rt, gate, seat, i) {
             Claimed::Won => {}
             Claimed::Lost(RowState::Published) => return Ok(()),
             Claimed::Lost(RowState::Void) => return Err(Missing::Void(i)),
             Claimed::Lost(_) => return self.wait(rt, seat, i),
         }
-        match self.made(rt, gate, seat, hand, i) {
+        match self.made(rt, gate, seat, scratch, i) {
             Ok(row) => {
                 self.publish(rt, gate, seat, i, row);
                 Ok(())
@@ -71,6 +72,27 @@ impl<'a> Bench<'a> {
                 Err(missing)
             }
         }
+    }
+
+    /// Passes the gate, and then claims the row of a member, by one step.
+    pub(crate) fn claim<R: Wait, G: Gate>(
+        &self,
+        rt: &R,
+        gate: &G,
+        seat: &mut Seat,
+        member: u32,
+    ) -> Claimed
+        requires own { IsSeat self.now.store.now seat.old }
+        requires member { member < length self.now.context.now.members }
+        ensures own { IsSeat self.now.store.now seat.new }
+        ensures seat { IsSameSeat seat.old seat.new }
+        ensures splits { splits_of seat.new ≡ splits_of seat.old }
+        ensures step { TriesClaim (view_of seat.old) member result (view_of seat.new) }
+        ensures won { result ≡ Claimed.Won → Holds seat.new member }
+        ensures lost { (state : RowState) → result ≡ Claimed.Lost state → (state ≢ Free) × Reads seat.old member state seat.new }
+    {
+        gate.pass(rt, self.number, Point::Claim, member);
+        self.store.claim(seat, member)
     }
 
     /// Waits until a row that another has claimed is Published or Void. It sleeps meanwhile.
@@ -103,22 +125,22 @@ impl<'a> Bench<'a> {
         rt: &R,
         gate: &G,
         seat: &mut Seat,
-        hand: &mut Hand<'a>,
+        scratch: &mut WorkerScratch<'a>,
         i: u32,
     ) -> Result<Row, Missing>
-        requires ready { IsWorkerReady self.now seat.old hand.old }
+        requires ready { IsWorkerReady self.now seat.old scratch.old }
         requires member { i < length self.now.context.now.members }
         requires held { Holds seat.old i }
         requires order { HoldsFrom seat.old i }
-        ensures work { IsWorkFor self.now i seat.old seat.new hand.old hand.new }
+        ensures work { IsWorkFor self.now i seat.old seat.new scratch.old scratch.new }
         ensures none { OnOk result (VoidsNone seat.old seat.new) }
         ensures row { IfOk result (IsRowAt self.now.context.now i) }
         ensures within { IfOk result (IsRowWithin (limit_of self.now.store.now)) }
         ensures needs { OnOk result (HasNeeds self.now.context.now (HasSeen seat.new) i) }
         ensures missing { IfErr result (IsUnmade self.now.context.now (limit_of self.now.store.now) i seat.old seat.new) }
     {
-        let budget = self.take_in(rt, gate, seat, hand, i)?;
-        self.gather(rt, seat, hand, i, budget);
+        let budget = self.take_in(rt, gate, seat, scratch, i)?;
+        self.gather(rt, seat, scratch, i, budget);
         let threads = self.threads;
         let team = ByThreads {
             find: |alloc: Global, task: &RowTask| -> Vec<FoundPolynomial>
@@ -131,30 +153,30 @@ impl<'a> Bench<'a> {
             self.alloc,
             self.context,
             i,
-            &hand.shelf,
-            &mut hand.tables,
-            &mut hand.steps,
+            &scratch.rows,
+            &mut scratch.tables,
+            &mut scratch.steps,
         )?;
         Ok(row)
     }
 
-    /// Puts the rows that the row of the member with the number i is made from on the shelf. Tells what their corrections cost.
+    /// Reads the rows that the row of the member with the number i is made from. Tells what their corrections cost.
     #[cycle(ensure)]
     fn take_in<R: Threads + Wait + Sync, G: Gate>(
         &self,
         rt: &R,
         gate: &G,
         seat: &mut Seat,
-        hand: &mut Hand<'a>,
+        scratch: &mut WorkerScratch<'a>,
         i: u32,
     ) -> Result<Budget, Missing>
-        requires ready { IsWorkerReady self.now seat.old hand.old }
+        requires ready { IsWorkerReady self.now seat.old scratch.old }
         requires member { i < length self.now.context.now.members }
         requires held { Holds seat.old i }
         requires order { HoldsFrom seat.old i }
-        ensures work { IsWorkFor self.now i seat.old seat.new hand.old hand.new }
+        ensures work { IsWorkFor self.now i seat.old seat.new scratch.old scratch.new }
         ensures none { OnOk result (VoidsNone seat.old seat.new) }
-        ensures needs { OnOk result (HasNeeds self.now.context.now (IsOn hand.new.shelf) i) }
+        ensures needs { OnOk result (HasNeeds self.now.context.now (IsRead scratch.new.rows) i) }
         ensures missing { IfErr result (IsUnmade self.now.context.now (limit_of self.now.store.now) i seat.old seat.new) }
     {
         let _len = self.context.len();
@@ -165,45 +187,45 @@ impl<'a> Bench<'a> {
             });
         }
         let descent = Descent::of(self.context, i);
-        self.obtain(rt, gate, seat, hand, descent.lower)?;
-        let mut corrections = mem::replace(&mut hand.corrections, Vec::new(self.alloc));
-        let lower = hand.shelf.row(descent.lower);
+        self.obtain(rt, gate, seat, scratch, descent.lower)?;
+        let mut corrections = mem::replace(&mut scratch.corrections, Vec::new(self.alloc));
+        let lower = scratch.rows.row(descent.lower);
         needs(self.context, &descent, lower, &mut corrections)?;
         let mut cost = 0u64;
         'corrections: for &u in corrections.iter() {
-            self.obtain(rt, gate, seat, hand, u)?;
+            self.obtain(rt, gate, seat, scratch, u)?;
             cost = cost.saturating_add(u64::from(u) + 1);
         }
         let budget = Budget {
             corrections: corrections.len(),
             cost,
         };
-        hand.corrections = corrections;
+        scratch.corrections = corrections;
         Ok(budget)
     }
 
-    /// Puts the row of the member with the number u on the shelf, after those that it is made from.
+    /// Reads the row of the member with the number u, after those that it is made from.
     #[cycle(ensure)]
     fn obtain<R: Threads + Wait + Sync, G: Gate>(
         &self,
         rt: &R,
         gate: &G,
         seat: &mut Seat,
-        hand: &mut Hand<'a>,
+        scratch: &mut WorkerScratch<'a>,
         u: u32,
     ) -> Result<(), Missing>
-        requires ready { IsWorkerReady self.now seat.old hand.old }
+        requires ready { IsWorkerReady self.now seat.old scratch.old }
         requires member { u < length self.now.context.now.members }
         requires order { HoldsBeyond seat.old u }
-        ensures work { IsWorkFor self.now u seat.old seat.new hand.old hand.new }
-        ensures here { OnOk result (IsOn hand.new.shelf u × VoidsNone seat.old seat.new) }
+        ensures work { IsWorkFor self.now u seat.old seat.new scratch.old scratch.new }
+        ensures here { OnOk result (IsRead scratch.new.rows u × VoidsNone seat.old seat.new) }
         ensures missing { IfErr result (IsRowMissing self.now.context.now (limit_of self.now.store.now) u seat.old seat.new) }
     {
-        if self.take_published(rt, seat, hand, u) {
+        if self.take_published(rt, seat, scratch, u) {
             return Ok(());
         }
-        self.ensure(rt, gate, seat, hand, u)?;
-        self.shelve(rt, seat, hand, u);
+        self.ensure(rt, gate, seat, scratch, u)?;
+        self.read_row(rt, seat, scratch, u);
         Ok(())
     }
 
@@ -221,7 +243,7 @@ impl<'a> Bench<'a> {
         ensures step { Publishes (view_of seat.old) i (view_of seat.new) }
         ensures seen { HasSeen seat.new i }
     {
-        gate.pass(rt, self.worker, Point::Publish, i);
+        gate.pass(rt, self.number, Point::Publish, i);
         self.store.publish(rt, seat, i, row);
     }
 }

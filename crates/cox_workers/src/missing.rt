@@ -10,10 +10,10 @@ use thiserror::Error;
 /// Why a row is not there.
 #[derive(Clone, Copy, Debug, PartialEq, Eq, Error)]
 pub enum Missing {
-    /// The row of this member, which is needed, was given up, and not by who asks.
+    /// Another seat gave up the row of this member, which is needed.
     #[error("the row of member {0} was given up")]
     Void(u32),
-    /// Who asks gave up a row that is needed, for this reason.
+    /// This seat gave up a row that is needed, for this reason.
     #[error("{0}")]
     Fault(StepFault),
 }

@@ -3,14 +3,14 @@ ghost use Rattle.std.specs.Prelude.{◌<◌, length};
 ghost use Rattle.cox_claims.specs.Seats.{HoldsNothing};
 ghost use Rattle.cox_row_store.specs.Stores.{IsSeat};
 
-use crate::bench::Bench;
-use crate::hand::Hand;
-use cox_outside::{Gate, Point};
+use crate::worker_context::WorkerContext;
+use crate::worker_scratch::WorkerScratch;
+use cox_outside::Gate;
 use cox_row_store::{Claimed, RowState, Seat};
 use std::sync::Wait;
 use std::thread::Threads;
 
-impl<'a> Bench<'a> {
+impl<'a> WorkerContext<'a> {
     ghost use Rattle.cox_workers.specs.Ready.{IsSeatWith, IsWorkerReady, IsWorkFor};
     ghost use Rattle.cox_workers.specs.Work.{IsSeatKept};
     ghost use Rattle.cox_workers.specs.Filled.{HasSeenEnd};
@@ -21,32 +21,33 @@ impl<'a> Bench<'a> {
         rt: &R,
         gate: &G,
         seat: &mut Seat,
-        hand: &mut Hand<'a>,
+        scratch: &mut WorkerScratch<'a>,
         member: u32,
     )
-        requires ready { IsWorkerReady self.now seat.old hand.old }
+        requires ready { IsWorkerReady self.now seat.old scratch.old }
         requires member { member < length self.now.context.now.members }
         requires idle { HoldsNothing seat.old }
-        ensures { IsWorkFor self.now member seat.old seat.new hand.old hand.new }
+        ensures { IsWorkFor self.now member seat.old seat.new scratch.old scratch.new }
     {
         if self.look(seat, member) == RowState::Free {
-            let _ = self.ensure(rt, gate, seat, hand, member);
+            let _ = self.ensure(rt, gate, seat, scratch, member);
         }
     }
 
-    /// Sees to it that the row of a member is Published or Void, if it is not so already: makes it, or gives it up where there is no hand.
+    /// Sees to it that the row of a member is Published or Void, if it is not so already: makes it, or gives it up where there is no scratch
+    /// memory.
     pub(crate) fn settle<R: Threads + Wait + Sync, G: Gate>(
         &self,
         rt: &R,
         gate: &G,
         seat: &mut Seat,
-        hand: &mut Option<Hand<'a>>,
+        scratch: &mut Option<WorkerScratch<'a>>,
         member: u32,
     )
-        requires worker { IsSeatWith self.now seat.old hand.old }
+        requires worker { IsSeatWith self.now seat.old scratch.old }
         requires member { member < length self.now.context.now.members }
         requires idle { HoldsNothing seat.old }
-        ensures worker { IsSeatWith self.now seat.new hand.new }
+        ensures worker { IsSeatWith self.now seat.new scratch.new }
         ensures kept { IsSeatKept self.now.context.now member seat.old seat.new }
         ensures settled { HasSeenEnd seat.new member }
     {
@@ -55,9 +56,9 @@ impl<'a> Bench<'a> {
             RowState::Published | RowState::Void => return,
             _ => {}
         }
-        match hand {
-            Some(hand) => {
-                let _ = self.ensure(rt, gate, seat, hand, member);
+        match scratch {
+            Some(scratch) => {
+                let _ = self.ensure(rt, gate, seat, scratch, member);
             }
             None => self.give_up(rt, gate, seat, member),
         }
@@ -73,8 +74,7 @@ impl<'a> Bench<'a> {
         ensures settled { HasSeenEnd seat.new member }
     {
         let _len = self.context.len();
-        gate.pass(rt, self.worker, Point::Claim, member);
-        match self.store.claim(seat, member) {
+        match self.claim(rt, gate, seat, member) {
             Claimed::Won => self.store.void(seat, member),
             Claimed::Lost(RowState::Published) | Claimed::Lost(RowState::Void) => {}
             Claimed::Lost(_) => {

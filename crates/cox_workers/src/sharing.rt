@@ -3,8 +3,8 @@ ghost use Rattle.std.specs.Prelude.{◌≡◌, ℕ, ◌<◌, ◌+◌, ◌^◌, �
 ghost use Rattle.cox_claims.specs.Seats.{HoldsNothing};
 ghost use Rattle.cox_row.specs.Rising.{number_at};
 
-use crate::bench::Bench;
-use crate::hand::Hand;
+use crate::worker_context::WorkerContext;
+use crate::worker_scratch::WorkerScratch;
 use cox_klstep::{Descent, needs};
 use cox_outside::Gate;
 use cox_row::LowerRows;
@@ -13,7 +13,7 @@ use std::mem;
 use std::sync::Wait;
 use std::thread::Threads;
 
-impl<'a> Bench<'a> {
+impl<'a> WorkerContext<'a> {
     ghost use Rattle.cox_workers.specs.Ready.{IsWorkerReady, IsWorkFor};
 
     /// Makes those rows that the row of the member with the number i needs and that no worker has claimed.
@@ -25,13 +25,13 @@ impl<'a> Bench<'a> {
         rt: &R,
         gate: &G,
         seat: &mut Seat,
-        hand: &mut Hand<'a>,
+        scratch: &mut WorkerScratch<'a>,
         i: u32,
     ) -> Option<u32>
-        requires ready { IsWorkerReady self.now seat.old hand.old }
+        requires ready { IsWorkerReady self.now seat.old scratch.old }
         requires member { i < length self.now.context.now.members }
         requires idle { HoldsNothing seat.old }
-        ensures work { IsWorkFor self.now i seat.old seat.new hand.old hand.new }
+        ensures work { IsWorkFor self.now i seat.old seat.new scratch.old scratch.new }
         ensures claimed { IfSome result (λ j. j < length self.now.context.now.members) }
     {
         let _len = self.context.len();
@@ -39,26 +39,27 @@ impl<'a> Bench<'a> {
             return None;
         }
         let descent = Descent::of(self.context, i);
-        let first = self.provide(rt, gate, seat, hand, descent.lower);
+        let first = self.provide(rt, gate, seat, scratch, descent.lower);
         if first.is_some() {
             return first;
         }
-        if !self.take_published(rt, seat, hand, descent.lower) {
+        if !self.take_published(rt, seat, scratch, descent.lower) {
             return None;
         }
-        let mut corrections = mem::replace(&mut hand.corrections, Vec::new(self.alloc));
-        let lower = hand.shelf.row(descent.lower);
+        let mut corrections = mem::replace(&mut scratch.corrections, Vec::new(self.alloc));
+        let lower = scratch.rows.row(descent.lower);
         let Ok(()) = needs(self.context, &descent, lower, &mut corrections) else {
             return None;
         };
         let count = corrections.len();
-        let start = (self.worker as usize).wrapping_mul(count / 2 + count / 8);
+        // Each worker begins five eighths of the list further on than the one before it, so that they seldom meet at one row.
+        let start = (self.number as usize).wrapping_mul(count / 2 + count / 8);
         let mut claimed = None;
-        'corrections: for turn in 0..count {
-            let u = number_at_turn(corrections.as_slice(), start, turn);
-            claimed = self.provide(rt, gate, seat, hand, u).or(claimed);
+        'corrections: for index in 0..count {
+            let u = rotated(corrections.as_slice(), start, index);
+            claimed = self.provide(rt, gate, seat, scratch, u).or(claimed);
         }
-        hand.corrections = corrections;
+        scratch.corrections = corrections;
         claimed
     }
 
@@ -72,28 +73,28 @@ impl<'a> Bench<'a> {
         rt: &R,
         gate: &G,
         seat: &mut Seat,
-        hand: &mut Hand<'a>,
+        scratch: &mut WorkerScratch<'a>,
         u: u32,
     ) -> Option<u32>
-        requires ready { IsWorkerReady self.now seat.old hand.old }
+        requires ready { IsWorkerReady self.now seat.old scratch.old }
         requires member { u < length self.now.context.now.members }
         requires idle { HoldsNothing seat.old }
-        ensures work { IsWorkFor self.now u seat.old seat.new hand.old hand.new }
+        ensures work { IsWorkFor self.now u seat.old seat.new scratch.old scratch.new }
         ensures claimed { IfSome result (λ j. j < length self.now.context.now.members) }
     {
         match self.look(seat, u) {
             RowState::Free => {}
             // Who has claimed it may be making what it needs.
-            RowState::Claimed => return self.supply(rt, gate, seat, hand, u).or(Some(u)),
+            RowState::Claimed => return self.supply(rt, gate, seat, scratch, u).or(Some(u)),
             _ => return None,
         }
-        let claimed = self.supply(rt, gate, seat, hand, u);
+        let claimed = self.supply(rt, gate, seat, scratch, u);
         if claimed.is_some() {
             return claimed;
         }
         match self.look(seat, u) {
             RowState::Free => {
-                let _ = self.ensure(rt, gate, seat, hand, u);
+                let _ = self.ensure(rt, gate, seat, scratch, u);
                 None
             }
             RowState::Claimed => Some(u),
@@ -102,12 +103,12 @@ impl<'a> Bench<'a> {
     }
 }
 
-/// The number at this turn. The turns go through all numbers once, from the place `start` on and round to the first place.
-fn number_at_turn(numbers: &[u32], start: usize, turn: usize) -> u32
-    requires { turn < length numbers.now }
+/// The number at an index of the list that begins at the place `start` and goes round to the first place.
+fn rotated(numbers: &[u32], start: usize, index: usize) -> u32
+    requires { index < length numbers.now }
     ensures some { (k : ℕ) × (k < length numbers.now) × (result ≡ number_at numbers.now k) }
-    ensures turn { start + turn < 2 ^ 64 → result ≡ number_at numbers.now ((start + turn) % length numbers.now) }
+    ensures place { start + index < 2 ^ 64 → result ≡ number_at numbers.now ((start + index) % length numbers.now) }
 {
-    let place = start.wrapping_add(turn) % numbers.len();
+    let place = start.wrapping_add(index) % numbers.len();
     numbers[place]
 }

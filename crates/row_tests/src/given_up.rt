@@ -8,7 +8,7 @@ use cox_context::Context;
 use cox_outside::Open;
 use cox_row_store::{Claimed, RowState, RowStore, Seat};
 use cox_rows::Rows;
-use cox_workers::{Bench, Hand, Missing, all_members, fill};
+use cox_workers::{Missing, WorkerContext, WorkerScratch, all_members, fill};
 use std::alloc::Global;
 use std::process::Abort;
 use std::sync::Wait;
@@ -51,13 +51,13 @@ fn give_up<R: Abort + Threads + Wait + Sync>(
 {
     assert_eq!(rt; store.claim(seat, 2), Claimed::Won);
     store.void(seat, 2);
-    let bench = Bench::new(alloc, context, store, 1);
-    let mut hand = Hand::new(&bench, seat)?;
+    let worker = WorkerContext::new(alloc, context, store, 1);
+    let mut scratch = WorkerScratch::new(&worker, seat)?;
     assert_eq!(rt;
-        bench.ensure(rt, &Open, seat, &mut hand, 18),
+        worker.ensure(rt, &Open, seat, &mut scratch, 18),
         Err(Missing::Void(2))
     );
-    drop(hand);
+    drop(scratch);
     assert_eq!(rt; store.look(seat, 18), RowState::Void);
     Ok(())
 }

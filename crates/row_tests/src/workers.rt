@@ -3,7 +3,7 @@ use crate::fixtures::elements;
 use cox_outside::Open;
 use cox_row::{LowerRows, polynomial};
 use cox_row_store::{RowState, RowStore};
-use cox_workers::{Bench, Hand, all_members, fill};
+use cox_workers::{WorkerContext, WorkerScratch, all_members, fill};
 use std::test::Fail;
 
 /// How many rows there are.
@@ -17,9 +17,12 @@ fn makes_the_rows_of_a2(rt: HostRuntime) -> Result<(), Fail> {
     let context = elements(&rt, alloc, b'A', 2, 6)?;
     let (store, mut seat) = RowStore::new(alloc, &context, 2_147_483_647)?;
     assert_eq!(rt; store.look(&mut seat, 0), RowState::Free);
-    let bench = Bench::new(alloc, &context, &store, 1);
-    let mut hand = Hand::new(&bench, &seat)?;
-    assert_eq!(rt; bench.ensure(&rt, &Open, &mut seat, &mut hand, 5), Ok(()));
+    let worker = WorkerContext::new(alloc, &context, &store, 1);
+    let mut scratch = WorkerScratch::new(&worker, &seat)?;
+    assert_eq!(rt;
+        worker.ensure(&rt, &Open, &mut seat, &mut scratch, 5),
+        Ok(())
+    );
     let guard = store.read(&rt, &seat, 5);
     let Some(found) = polynomial(&context, guard.row(), 5, 0) else {
         panic!(rt; "e is below 121");
@@ -27,7 +30,7 @@ fn makes_the_rows_of_a2(rt: HostRuntime) -> Result<(), Fail> {
     assert_eq!(rt; found.coefficient(0), 1);
     assert_eq!(rt; found.coefficient(1), 0);
     drop(guard);
-    drop(hand);
+    drop(scratch);
     let all = all_members(alloc, &context)?;
     let seat = fill(&rt, alloc, &context, &store, seat, all.as_slice(), 2, &Open);
     let rows = store.into_rows(&rt, seat);

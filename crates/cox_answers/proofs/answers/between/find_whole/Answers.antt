@@ -9,4 +9,4 @@ pub returns : goal.returns
 returns c =
     let fits : FitsSigned w64 c.inverse_limit.result = search rules in
     read_off-found (limits_of c.args.options) c.args.rows.now c.of.result (c.has_all.ensures.small c.if-not-has_all.false)
-    (rw (c.context.ensures.context, to_z-of_z w64 c.inverse_limit.result fits, c.inverse_limit.ensures.limit) at c.of.ensures)
+    (rw (c.context.ensures.context, to_z-of_z w64 c.inverse_limit.result fits, c.inverse_limit.ensures.limit) at c.of.ensures.readable)

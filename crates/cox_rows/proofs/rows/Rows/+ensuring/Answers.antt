@@ -11,11 +11,19 @@ use Rattle.cox_klstep.proofs.NeededRows.{listed-needs, lower-before, shorter-nee
 use Rattle.cox_rows.specs.Holding.{HasRow}
 use Rattle.cox_klstep.specs.Faults.{IsFault}
 use Rattle.cox_rows.specs.RowsFaults.{IsRowsFault}
-use Rattle.cox_rows.proofs.EnsuredNeeds.{ensured-needed, ensured-then, fault-needed, fault-own}
+use Rattle.cox_rows.proofs.EnsuredNeeds.{ensured-refl, ensured-needed, ensured-then, fault-needed, fault-own}
 use Rattle.cox_rows.proofs.EnsuredNeeds.{under_way-start, under_way-rows, under_way-next}
 use Rattle.cox_rows.proofs.EnsuredNeeds.{listed-small}
 use Rattle.cox_rows.proofs.EnsuredNeeds.{identity-small}
 use Rattle.cox_rows.proofs.rows.Rows.+ensuring.Goals as goal
+
+-- ---- nothing is left to do
+
+pub ensure_until-returns-then-is_settled-clause-rows : goal.ensure_until-returns-then-is_settled-clause-rows
+ensure_until-returns-then-is_settled-clause-rows t c = ensured-refl _ c.args.self.now
+
+pub ensure_lower-returns-then-i-eq0-clause-rows : goal.ensure_lower-returns-then-i-eq0-clause-rows
+ensure_lower-returns-then-i-eq0-clause-rows t c = ensured-refl _ c.args.self.now
 
 -- ---- the row and what it is made from
 
@@ -23,7 +31,7 @@ pub ensure_until-returns-in_err-make-clause-rows : goal.ensure_until-returns-in_
 ensure_until-returns-in_err-make-clause-rows t c =
     ensured-then c.args.self.now c.ensure_lower.new.self c.make.new.self c.args.i c.context-context.ensures.admissible
     c.ensure_lower.ensures.rows c.make.ensures.elements c.make.ensures.limit c.make.ensures.kept c.make.ensures.others c.requires
-    c.make.ensures.again
+    c.make.ensures.rows c.make.ensures.again
 
 pub ensure_until-returns-in_err-make-clause-fault : goal.ensure_until-returns-in_err-make-clause-fault
 ensure_until-returns-in_err-make-clause-fault t c =
@@ -37,13 +45,13 @@ pub ensure_until-returns-in_err-settle-clause-rows : goal.ensure_until-returns-i
 ensure_until-returns-in_err-settle-clause-rows t c = rw c.settle.ensures.same
     (ensured-then c.args.self.now c.ensure_lower.new.self c.make.new.self c.args.i c.context-context.ensures.admissible
     c.ensure_lower.ensures.rows c.make.ensures.elements c.make.ensures.limit c.make.ensures.kept c.make.ensures.others c.requires
-    c.make.ensures.again)
+    c.make.ensures.rows c.make.ensures.again)
 
 pub ensure_until-returns-clause-rows : goal.ensure_until-returns-clause-rows
 ensure_until-returns-clause-rows t c = rw c.settle.ensures.same
     (ensured-then c.args.self.now c.ensure_lower.new.self c.make.new.self c.args.i c.context-context.ensures.admissible
     c.ensure_lower.ensures.rows c.make.ensures.elements c.make.ensures.limit c.make.ensures.kept c.make.ensures.others c.requires
-    c.make.ensures.again)
+    c.make.ensures.rows c.make.ensures.again)
 
 pub ensure_until-returns-in_err-settle-clause-fault : goal.ensure_until-returns-in_err-settle-clause-fault
 ensure_until-returns-in_err-settle-clause-fault t c =
@@ -116,7 +124,8 @@ ensure_lower-returns-in_err-corrections-clause-rows t c =
 pub ensure_lower-each-init : goal.ensure_lower-each-init
 ensure_lower-each-init t c =
     let is : IsDescentAt c.args.self.now.elements c.of-descent.result = rw c.context-context.ensures.context at c.of-descent.ensures.descent
-    in under_way-start (word_at c.args.self.now.elements.members c.args.i) c.args.self.now c.ensure_until.new.self c.deref-u-items.result.now
+    in under_way-start (word_at c.args.self.now.elements.members c.args.i) c.args.self.now c.ensure_until.new.self
+    c.deref-u-items.result.now
     (ensured-needed c.args.self.now c.ensure_until.new.self (word_at c.args.self.now.elements.members c.args.i)
     (word_at c.args.self.now.elements.members c.of-descent.result.lower) c.context-context.ensures.admissible
     (rw c.of-descent.ensures.number at (shorter-needed c.args.self.now.elements c.context-context.ensures.admissible
@@ -190,7 +199,8 @@ ensure_lower-each-preserved t c =
     c.context-context.ensures.admissible c.each.invariant refl
     (rw c.of-descent.ensures.number at (correction-needed c.args.self.now.elements c.context-context.ensures.admissible
     c.context-context.ensures.closed c.of-descent.result is c.deref-u-items.result.now are c.each.u-index l))
-    c.ensure_until-in-each.ensures.rows (c.in_ok-ensure_until-2.ensures.there c.if-not-branch-2.false) (c.in_ok-ensure_until-2.ensures.small c.if-not-branch-2.false)
+    c.ensure_until-in-each.ensures.rows (c.in_ok-ensure_until-2.ensures.there c.if-not-branch-2.false)
+    (c.in_ok-ensure_until-2.ensures.small c.if-not-branch-2.false)
 
 pub ensure_lower-returns-clause-rows : goal.ensure_lower-returns-clause-rows
 ensure_lower-returns-clause-rows t c = c.each.invariant.rows

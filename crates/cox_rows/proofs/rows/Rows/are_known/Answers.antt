@@ -41,6 +41,7 @@ returns c t u m l is =
     (same-refl (integer_matrix e.matrix) g (word_at e.members u))
     (same-sym (integer_matrix e.matrix) g (lower-same e g c.context-context.ensures.closed c.args.descent.now c.requires.descent))
     is.is_mu) is.some
-    in let place : number_at c.neighbours-u-items.result.now q.0 ≡ u = ap (λ numbers. number_at numbers q.0) c.neighbours-u-items.ensures ∙ q.2
+    in let place : number_at c.neighbours-u-items.result.now q.0 ≡ u
+    = ap (λ numbers. number_at numbers q.0) c.neighbours-u-items.ensures ∙ q.2
     in let all : length c.args.lower.now.neighbours.items ≤ c.loop-u.u-index = rw c.neighbours-u-items.ensures at c.loop-u-test.false
     in rw place at (c.loop-u.invariant q.0 (omega (arith, q.1, all)) (rw place is.shortens))

@@ -4,6 +4,7 @@ use Rattle.cox_base.specs.IntegerMatrix.{integer_matrix}
 use Rattle.cox_context.specs.Numbers.{word_at}
 use Rattle.cox_rows.specs.Beyond.{NeedsBeyond}
 use Rattle.cox_rows.specs.Holding.{HasRow}
+use Rattle.cox_rows.specs.CountedRows.{AreRowsCounted}
 use Rattle.cox_rows.proofs.rows.Rows.ensure_all.Given as goal
 
 abbrev pub invariant-members : goal.invariant-members
@@ -14,5 +15,6 @@ invariant-members l = record {
   there : (k : ℕ) → k < l.i → HasRow l.self k;
   small : (k : ℕ) → k < l.i → NeedsBeyond (integer_matrix l.fn.self.elements.matrix) l.fn.self.limit
       (word_at l.fn.self.elements.members k) → ⊥;
+  counted : AreRowsCounted l.fn.self l.self;
   again : ((k : ℕ) → k < length l.fn.self.elements.members → HasRow l.fn.self k) → l.self.steps ≡ l.fn.self.steps;
 }

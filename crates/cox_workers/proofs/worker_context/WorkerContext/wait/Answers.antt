@@ -1,0 +1,26 @@
+-- The seat only looks. If the row is Void, it is that row itself.
+use Rattle.std.proofs.Common.{◌∙◌}
+use Rattle.cox_workers.proofs.SeatSteps.{kept-trans, looked_void}
+use Rattle.cox_workers.proofs.worker_context.WorkerContext.wait.Goals as goal
+
+pub returns-in-Published-clause-kept : goal.returns-in-Published-clause-kept
+returns-in-Published-clause-kept g c = kept-trans c.args.self.now.context.now c.args.i c.args.seat.now c.loop.seat c.look.new.seat
+    c.loop.invariant.kept (c.look.ensures.kept c.args.i)
+
+pub returns-in-Void-clause-kept : goal.returns-in-Void-clause-kept
+returns-in-Void-clause-kept g c = kept-trans c.args.self.now.context.now c.args.i c.args.seat.now c.loop.seat c.look.new.seat
+    c.loop.invariant.kept (c.look.ensures.kept c.args.i)
+
+pub returns-in-Void-clause-missing : goal.returns-in-Void-clause-missing
+returns-in-Void-clause-missing g c =
+    looked_void c.args.self.now.context.now c.len-len.ensures.admissible c.args.i c.args.seat.now c.loop.seat c.look.new.seat
+    c.requires.member
+    c.loop.invariant.none c.in-Void.ensures.step.after
+
+pub loop-preserved : goal.loop-preserved
+loop-preserved g c = record {
+  own = c.look.ensures.own;
+  kept = kept-trans c.args.self.now.context.now c.args.i c.args.seat.now c.loop.seat c.look.new.seat c.loop.invariant.kept
+      (c.look.ensures.kept c.args.i);
+  none = c.look.ensures.none ∙ c.loop.invariant.none;
+}
