@@ -1,10 +1,10 @@
 //! The program `coxeter`: it answers the script on standard input, on standard output.
 //!
 //! It reads lines, answers each, and ends with the number of a `cox_shell::Status`. All text goes to standard output. `cox_shell` proves
-//! what is written, and starts at most as many threads as the arguments say; the gate that `main` hands to them holds nobody. `main` collects
-//! the arguments, which may run out of memory, and makes the standard streams; no other function sees the environment. If an argument is no
-//! text, arguments that are refused take the place of all. Each function but `main` is generic over the source and the sink. Its contract is that of one whole
-//! run (`IsRun`, `IsReadBy`), so nothing is read or written before, after or beside it.
+//! what is written, and starts at most as many threads as the arguments say; the gate that `main` hands to them holds nobody. `main`
+//! collects the arguments, which may run out of memory, and makes the standard streams; no other function sees the environment. If an
+//! argument is no text, arguments that are refused take the place of all. Each function but `main` is generic over the source and the
+//! sink. Its contract is that of one whole run (`IsRun`, `IsReadBy`), so nothing is read or written before, after or beside it.
 //!
 //! The scripts that need no arguments of their own are the crate's `stdin`, and what has to be written for them is its `stdout`. Tests:
 //!
