@@ -13,8 +13,9 @@ the code that are reached, and the names of std and of the kit's crates. With `-
 definitions of `clap` are followed too. With `--clause` it begins with the clause of that name of FUNCTION alone. With `--beyond` it leaves out what
 the clauses of that function unfold to.
 
-With `--command` it prints what a reader of the answer to one command has to believe, say `pol`: the lines of the mathematics that the
-answer is, those of its text, and those of its refusals, with the reading of a line, each part counted, and each line in one part alone.
+With `--command` it prints what is proved of one command, say `pol`: its clause of the law `commands` in crates/cox_shell/src/laws.rt. Then
+come the lines that a reader of that has to believe: of the mathematics that the answer is, of its text, and of its refusals, with the tokens
+of a line and the words that they read as, each part counted, and each line in one part alone.
 `--write` puts these counts into the table at the head of docs/PROVED.md, and those of `run` and `check` into docs/DEFINITIONS.md and
 README.md; checks/documents.py fails where they are others.
 
@@ -105,19 +106,24 @@ def head_of(path, function):
     begin = re.search(rf"\bfn {function}\b", here.text)
     if not begin:
         sys.exit(f"{path} has no function {function}")
-    head = here.text[begin.start() : begin.start() + re.search(r"\n *\{\n", here.text[begin.start() :]).start()]
+    head = here.text[begin.start() : begin.start() + re.search(r"\n *\{\}?\n", here.text[begin.start() :]).start()]
     return here, re.sub(r"^\s*//.*$", "", head, flags=re.M)
+
+
+def named_clauses(path, function):
+    """A file of code, and the clauses of a function there that have names, by these."""
+    here, head = head_of(path, function)
+    return here, dict(re.findall(r"\bensures\s+(\w+)\s*(\{.*?)(?=\bensures\b|$)", head, re.S))
 
 
 def clauses(function, clause):
     """Where to begin: files, and the text of clauses in each."""
-    here, head = head_of(STARTS[function], function)
-    named = re.findall(r"\bensures\s+(\w+)\s*(\{.*?)(?=\bensures\b|$)", head, re.S)
-    if clause and clause not in dict(named):
+    here, named = named_clauses(STARTS[function], function)
+    if clause and clause not in named:
         sys.exit(f"{function} has no clause {clause}")
     if clause:
-        return [(here, dict(named)[clause])]
-    return [(here, "\n".join(text for _, text in named)), head_of(STATUSES[STARTS[function]], "code")]
+        return [(here, named[clause])]
+    return [(here, "\n".join(named.values())), head_of(STATUSES[STARTS[function]], "code")]
 
 
 def names_in(text):
@@ -127,20 +133,22 @@ def names_in(text):
     return set(re.findall(NAME, text)) | set(re.findall(r"\w+\.\w+", text))
 
 
-def follow(files, starts, text_of=Item.text):
-    """All items that are reached from texts in files, and the names from outside the files of definitions. What is taken for the text of
-    an item another function may say."""
+def follow(files, starts, left=frozenset()):
+    """All items that are reached from texts in files, but for those whose names are to be left, and the names from outside the files of
+    definitions."""
     reached, outside, todo = defaultdict(set), set(), list(starts)
 
     def take(path, name):
         file = files.get(path)
         if file is None:
             outside.add((path, name))
+        elif name in left:
+            return
         elif name in file.items:
             item = file.items[name]
             if item not in reached[path]:
                 reached[path].add(item)
-                todo.append((file, text_of(item)))
+                todo.append((file, item.text()))
         elif name in file.imports:
             take(*file.imports[name])
         else:
@@ -161,109 +169,92 @@ def follow(files, starts, text_of=Item.text):
 
 # ---- one command
 
+# The laws, of which `commands` has a clause for each command but `work`, which is a case of `inquiries` alone.
+LAWS = "cox_shell/src/laws.rt"
 REPLIES = "Rattle.cox_replies.specs."
 GRAMMAR = "Rattle.cox_command.specs."
-# The definitions that say what a command word asks, by the shape of the word in the table of command words.
-QUESTIONS = {"One": "one_question", "Two": "two_question", "Plain": "group_question", "Work": "work_question"}
+# What stands behind the name of a command, by the shape of its word in the table of command words.
+SHAPES = {"One": " w", "Two": " y w", "Plain": "", "Work": " g k"}
 # The files whose definitions say how an answer is written.
 TEXTS = {"cox_base.WordText", "cox_poly.PolynomialText", "cox_poly.Numerals", "cox_certtext.Certificate"}
-# What every command's refusals begin with: the first refusal that has a cause, the command of a line, and the numbers.
-READING = ["IsRefused", "line_refusal", "command_of", "refusal_number"]
+# The reply to a line, by which a run is said to write, and the questions of all commands. A sentence tells what follows from the one for
+# its command, so its reader unfolds neither.
+NOT_UNFOLDED = {"IsContentReply", "question_of"}
 PARTS = ("mathematics", "text", "refusals")
 
 
 def commands(files):
-    """The commands on elements and on the whole group, by their names: the shape and the variant of each."""
+    """The commands on elements and on the whole group, by their names: each as it is written."""
     table = files[GRAMMAR + "CommandWord"].items["command_word_of"].text()
     found = re.findall(r'codes "(\w+)"\) then Some (?:\((\w+) (\w+)\)|(\w+))', table)
-    return {name: (shape or other, variant) for name, shape, variant, other in found if (shape or other) in QUESTIONS}
-
-
-def question(files, shape, variant):
-    """The file of the definition that says what a command asks, the lines of its case, its refusals and its text."""
-    name = QUESTIONS[shape]
-    file = next(file for path, file in files.items() if path.startswith(REPLIES) and any(name == item.name for item in file.all))
-    lines, found = [], False
-    for line in file.items[name].lines[1:]:
-        if line.startswith(name):
-            found = not variant or line.split()[1] == variant
-        if found:
-            lines.append(line)
-    text = "\n".join(lines).partition("=")[2]
-    before, asks, behind = text.partition(" asks ")
-    refuses, answer = arguments(behind) if asks else ("", text)
-    return file, lines, refuses + before + asks, answer + (before if asks else "")
+    return {name: name + SHAPES[shape or other] for name, shape, _, other in found if (shape or other) in SHAPES}
 
 
 def arguments(text):
-    """The arguments of a text, each in parentheses."""
-    found, begin, depth = [], 0, 0
-    for place, letter in enumerate(text):
-        depth += {"(": 1, ")": -1}.get(letter, 0)
-        if letter == "(" and depth == 1:
-            begin = place
-        if letter == ")" and depth == 0:
-            found.append(text[begin : place + 1])
+    """The arguments that a text begins with: names, and what stands in parentheses, up to the end of the parentheses around them."""
+    found, depth = [], 0
+    for piece in re.findall(r"[()]|[^\s()]+", text):
+        depth += (piece == "(") - (piece == ")")
+        if depth < 0:
+            break
+        if piece == "(" and depth == 1 or piece not in "()" and depth == 0:
+            found.append("")
+        if found:
+            found[-1] += piece + " "
     return found
 
 
-# The shapes of command words, by which the definitions of the grammar part their cases.
-SHAPES = {"Named", "Matrix", "Quit", "Jobs", "One", "Two", "Plain", "Work"}
-
-
-def lines_for(item, name, shape):
-    """The lines of a definition without its cases for other shapes of command words, and without other words in their table."""
-    kept, keep = [], True
-    for line in item.lines:
-        if line.startswith(item.name + " "):
-            keep = re.search(r"\w+", line[len(item.name) :] + " x").group(0) not in SHAPES - {shape}
-        if keep and (item.name != "command_word_of" or "codes" not in line or f'codes "{name}"' in line):
-            kept.append(line)
-    return kept
+def sentence(files, name):
+    """What is proved of a command: its lines; where the answer begins, and where all else does, as files with a text of each."""
+    here, named = named_clauses(LAWS, "commands")
+    for text in named.values():
+        before, _, behind = text.partition("IsAnswered")
+        if f'codes "{name}"' in behind:
+            answer = arguments(behind)[-1]
+            return text.strip().splitlines(), [(here, answer + "integer_matrix")], [(here, before + "IsAnswered" + behind)]
+    asked = [it for path, it in files.items() if path.startswith(REPLIES) and f"{name}_question" in it.items]
+    if not asked:
+        sys.exit(f"{LAWS} has no clause for {name}")
+    item = asked[0].items[f"{name}_question"]
+    before, _, behind = item.text().partition("=")[2].partition(" asks ")
+    law = head_of(LAWS, "inquiries")
+    return item.lines, [(asked[0], before + arguments(behind)[-1]), (here, "integer_matrix")], [law, (asked[0], behind)]
 
 
 def of_command(files, name):
-    """The lines that a reader of the answer to a command has to believe, by part and file, and those of its own case. Each file has a list
-    of items with their lines."""
-    shape, variant = commands(files)[name]
-    text_of = lambda item: "\n".join(lines_for(item, name, shape))
-    file, lines, refuses, answer = question(files, shape, variant)
-    # How the group and the words of a line become what is asked of, as the integer matrix of the group.
-    asked = next(it for it in files.values() if "question_of" in it.items)
-    given = text_of(asked.items["question_of"]).partition("\n")[2].partition("=")[2].replace(QUESTIONS[shape], "")
-    by_answer, by_refusals = follow(files, [(file, answer)], text_of)[0], defaultdict(set)
-    for path, items in follow(files, [(asked, given)], text_of)[0].items():
-        by_answer[path] |= items
-    for other, text in [(file, refuses)] + [(other, word) for other in files.values() for word in READING if word in other.items]:
-        for path, items in follow(files, [(other, text)], text_of)[0].items():
-            by_refusals[path] |= items - by_answer[path]
+    """The lines of what is proved of a command, and those that a reader of it has to believe, by part and file. Each file has a list of
+    items."""
+    lines, answer, whole = sentence(files, name)
+    by_answer = follow(files, answer)[0]
+    rest = follow(files, whole, NOT_UNFOLDED)[0]
     parts = {part: defaultdict(list) for part in PARTS}
     for path, file in files.items():
         is_text = path.startswith(REPLIES) or ".cox_print." in path or place(path) in TEXTS
-        for part, items in ("text" if is_text else "mathematics", by_answer[path]), ("refusals", by_refusals[path]):
-            parts[part][path] = [(item, lines_for(item, name, shape)) for item in file.all if item in items]
-    return parts, lines
+        for part, items in ("text" if is_text else "mathematics", by_answer[path]), ("refusals", rest[path] - by_answer[path]):
+            parts[part][path] = [item for item in file.all if item in items]
+    return lines, parts
 
 
-def count_of(parts):
-    """How many lines each part has."""
-    return [sum(len(lines) for items in parts[part].values() for _, lines in items) for part in PARTS]
+def count_of(files, name):
+    """How many lines are proved of a command, and how many each part has."""
+    lines, parts = of_command(files, name)
+    return [len(lines), *(sum(len(item.lines) for items in parts[part].values() for item in items) for part in PARTS)]
 
 
 def print_command(files, name):
     """Prints the lines of one command, part by part and file by file."""
-    parts, lines = of_command(files, name)
-    counts = count_of(parts)
-    print(f"What `{name}` asks ({len(lines)} lines):\n")
+    lines, parts = of_command(files, name)
+    own, *counts = count_of(files, name)
+    print(f"What is proved of `{name}`:\n")
     print("\n".join(lines))
     for part, count in zip(PARTS, counts):
         print(f"\n==== {part}: {count} lines")
         for path in files:
             if parts[part][path]:
                 print(f"\n-- {place(path).replace('.', '/specs/')}.antt")
-                for item, kept in parts[part][path]:
-                    print("\n".join(item.comments + kept))
-    print(f"\n{len(lines)} lines of its case, " + ", ".join(f"{count} of {part}" for part, count in zip(PARTS, counts)))
+                for item in parts[part][path]:
+                    print("\n".join(item.comments + item.lines))
+    print(f"\n{own} lines of what is proved, " + ", ".join(f"{count} of {part}" for part, count in zip(PARTS, counts)))
 
 
 # ---- what documents say
@@ -289,7 +280,7 @@ def numbers(files):
         "check": lines(of["check"]),
         "more": lines(beyond),
         "left": left,
-        "commands": {name: [len(of_command(files, name)[1]), *count_of(of_command(files, name)[0])] for name in commands(files)},
+        "commands": {name: count_of(files, name) for name in commands(files)},
     }
 
 
@@ -333,20 +324,16 @@ def told(files):
     put("README.md", "read the definitions (", known["total"], " lines for `coxeter`")
     put("README.md", "`coxeter`, ", known["check"], " for `coxcheck`")
     put("README.md", "for `coxcheck`, ", known["total"] + known["more"], " for both)")
-    rows = dict(re.findall(r"^\| `(\w+)[^`]*` \| (.*?) \| [0-9]+ \| [0-9]+ \| [0-9]+ \|$", new["docs/PROVED.md"], re.M))
-    lines = [ROW.format(name=shown(files, name), said=rows.get(name, "?"), own=own, m=m, t=t, r=r) for name, (own, m, t, r) in known["commands"].items()]
+    rows = dict(re.findall(r"^\| `(\w+)[^`]*` \| (.*?) \|(?: [0-9]+ \|)+$", new["docs/PROVED.md"], re.M))
+    shown = commands(files)
+    lines = [ROW.format(name=shown[name], said=rows.get(name, "?"), own=own, m=m, t=t, r=r) for name, (own, m, t, r) in known["commands"].items()]
     table = re.search(rf"^{re.escape(HEAD_OF_COMMANDS)}\n(?:\|.*\n)*", new["docs/PROVED.md"], re.M)
-    new["docs/PROVED.md"] = new["docs/PROVED.md"].replace(table.group(0), HEAD_OF_COMMANDS + "\n|---|---|---|---|---|\n" + "".join(lines))
+    new["docs/PROVED.md"] = new["docs/PROVED.md"].replace(table.group(0), HEAD_OF_COMMANDS + "\n|---|---|---|---|---|---|\n" + "".join(lines))
     return {path: (texts[path], new[path]) for path in texts}, missing
 
 
-HEAD_OF_COMMANDS = "| command | what it answers | mathematics | text | refusals |"
-ROW = "| `{name}` | {said} | {m} | {t} | {r} |\n"
-
-
-def shown(files, name):
-    """A command with the arguments that it takes."""
-    return name + {"One": " w", "Two": " y w", "Plain": "", "Work": " g k"}[commands(files)[name][0]]
+HEAD_OF_COMMANDS = "| command | what is proved that it answers | in lines | mathematics | text | refusals |"
+ROW = "| `{name}` | {said} | {own} | {m} | {t} | {r} |\n"
 
 
 def path_of(files, file):

@@ -22,13 +22,15 @@ equations: the relations of modules, the inversion of polynomials. It prints wha
 last line with counts; the exit status is 1 where something differs. It needs Python 3 and Linux
 alone, takes some minutes, and is no part of the gate.
 """
+import os
 import resource
 import subprocess
 import sys
 import time
 from itertools import combinations
 
-from common import Count, program
+import believed
+from common import TOP, Count, program
 from answers import polynomial_text, terms_of
 from counts import betti, powers, staircase, text
 from definitions import finite_group, labels_of
@@ -306,6 +308,10 @@ OF_GROUP = ["lwgraph", "rwgraph", "lcells", "rcells", "lrcells", "work 7 200"]
 def commands(built):
     """Each command in D 5 gives with a small stack what it gives with a large one, whatever the
     number of workers, also in a list."""
+    crates = os.path.join(TOP, "crates")
+    files = believed.specs([os.path.join(crates, it) for it in os.listdir(crates)])
+    asked = [it.split()[0] for it in COMMANDS + OF_GROUP]
+    COUNT.check("each command is asked", sorted(asked), sorted(believed.commands(files)))
     lines = [
         f"{command} {w}"
         for command in COMMANDS

@@ -1,23 +1,25 @@
 //! The program `coxeter`: it answers the script on standard input, on standard output.
 //!
 //! It reads lines, answers each, and ends with the number of a `cox_shell::Status`. All text goes to standard output. `cox_shell` proves
-//! what is written, and starts at most as many threads as the arguments say; their gate holds nobody. `main` collects the arguments, which
-//! may run out of memory, and makes the standard streams; no other function sees the environment. If an argument is no text, arguments that
-//! are refused take the place of all. Each function but `main` is generic over the source and the sink. Its contract is that of one whole
-//! run (`IsRun`, `IsReadBy`), so nothing is read or written before, after or beside it.
+//! what is written, and starts at most as many threads as the arguments say; the gate that `main` hands to them holds nobody. `main`
+//! collects the arguments, which may run out of memory, and makes the standard streams; no other function sees the environment. If an
+//! argument is no text, arguments that are refused take the place of all. Each function but `main` is generic over the source and the
+//! sink. Its contract is that of one whole run (`IsRun`, `IsReadBy`), so nothing is read or written before, after or beside it.
 //!
-//! - `tests`: whole runs over sources and sinks in memory
-//! - `starting`: whole runs from the arguments of an environment
-//! - `large`: large answers, which no lack of memory cuts off
-//! - `workers`: whole runs with several workers, one of them behind a gate
+//! The scripts that need no arguments of their own are the crate's `stdin`, and what has to be written for them is its `stdout`. Tests:
+//!
+//! - `runs`: whole runs from the arguments of an environment, over a source and a sink in memory
+//! - `starting`: such runs with options and faults
+//! - `large`: large answers, which no lack of memory cuts off; lines and inputs at their limits
+//! - `workers`: such runs with several workers, some of them behind a gate
 #![tactic(auto)]
 
 #[cfg(test)]
 mod large;
 #[cfg(test)]
-mod starting;
+mod runs;
 #[cfg(test)]
-mod tests;
+mod starting;
 #[cfg(test)]
 mod workers;
 
@@ -28,13 +30,12 @@ ghost use Rattle.cox_options.specs.Arguments.{IsUsage};
 ghost use Rattle.cox_shell.specs.declared.status.Status.{Status};
 ghost use Rattle.cox_shell.specs.declared.status.Status.TheVariants.{NoMemory};
 ghost use Rattle.cox_shell.specs.ExitCode.{code_of};
-ghost use Rattle.cox_shell.specs.Top.{argument_texts};
 ghost use Rattle.cox_shell.specs.Reading.{IsReadBy};
 ghost use Rattle.cox_shell.specs.WholeRun.{IsRun};
 
 use cox_options::wrong_arguments;
-use cox_outside::{Open, Sink, Source, StdSink, StdSource, arguments_of, texts};
-use cox_shell::Status;
+use cox_outside::{Gate, Open, Sink, Source, StdSink, StdSource, arguments_of, texts};
+use cox_shell::{Status, run};
 use std::alloc::{AllocError, Global};
 use std::io;
 use std::process::ExitCode;
@@ -44,60 +45,49 @@ use std::thread::Threads;
 /// What the program is called, as its first argument.
 const NAME: &str = "coxeter";
 
-/// Runs the shell with arguments of these texts.
-fn run<R: Threads + Wait + Sync, S: Source, K: Sink>(
-    rt: &R,
-    alloc: Global,
-    words: &[&str],
-    source: &mut S,
-    sink: &mut K,
-) -> Status
-    ensures run { IsRun result (argument_texts words.now) (S.seen source.old) (S.seen source.new) (K.seen sink.old) (K.seen sink.new) }
-    ensures reading { IsReadBy result (argument_texts words.now) (S.seen source.old) (S.seen source.new) }
-{
-    cox_shell::run(rt, alloc, words, source, sink, &Open)
-}
-
 /// Runs the shell with these arguments.
-fn run_arguments<R: Threads + Wait + Sync, S: Source, K: Sink>(
+fn run_arguments<R: Threads + Wait + Sync, S: Source, K: Sink, G: Gate + Sync>(
     rt: &R,
     alloc: Global,
     arguments: &[String],
     source: &mut S,
     sink: &mut K,
+    gate: &G,
 ) -> Status
     ensures run { IsRun result (map string_bytes arguments.now)
         (S.seen source.old) (S.seen source.new) (K.seen sink.old) (K.seen sink.new) }
     ensures reading { IsReadBy result (map string_bytes arguments.now) (S.seen source.old) (S.seen source.new) }
 {
     match texts(alloc, arguments) {
-        Ok(texts) => run(rt, alloc, &texts, source, sink),
+        Ok(texts) => run(rt, alloc, &texts, source, sink, gate),
         Err(_) => Status::NoMemory,
     }
 }
 
 /// Runs the shell with arguments that are refused, where one of the given ones is no text.
-fn refuse<R: Threads + Wait + Sync, S: Source, K: Sink>(
+fn refuse<R: Threads + Wait + Sync, S: Source, K: Sink, G: Gate + Sync>(
     rt: &R,
     alloc: Global,
     source: &mut S,
     sink: &mut K,
+    gate: &G,
 ) -> Status
     ensures { (arguments : List (List ℕ)) × IsUsage arguments
         × IsRun result arguments (S.seen source.old) (S.seen source.new) (K.seen sink.old) (K.seen sink.new)
         × IsReadBy result arguments (S.seen source.old) (S.seen source.new) }
 {
-    run(rt, alloc, &wrong_arguments(), source, sink)
+    run(rt, alloc, &wrong_arguments(), source, sink, gate)
 }
 
 /// Runs the shell with the arguments that were found, or with refused ones where one is no text. If there was no memory to collect them,
 /// nothing is read or written.
-fn start<R: Threads + Wait + Sync, S: Source, K: Sink>(
+fn start<R: Threads + Wait + Sync, S: Source, K: Sink, G: Gate + Sync>(
     rt: &R,
     alloc: Global,
     found: Result<Option<Vec<String>>, AllocError>,
     source: &mut S,
     sink: &mut K,
+    gate: &G,
 ) -> Status
     ensures run { (arguments : List (List ℕ))
         × IsRun result arguments (S.seen source.old) (S.seen source.new) (K.seen sink.old) (K.seen sink.new)
@@ -109,8 +99,8 @@ fn start<R: Threads + Wait + Sync, S: Source, K: Sink>(
     ensures none { IfErr found (λ _. (result ≡ NoMemory) × (source.new ≡ source.old) × (sink.new ≡ sink.old)) }
 {
     match found {
-        Ok(Some(arguments)) => run_arguments(rt, alloc, &arguments, source, sink),
-        Ok(None) => refuse(rt, alloc, source, sink),
+        Ok(Some(arguments)) => run_arguments(rt, alloc, &arguments, source, sink, gate),
+        Ok(None) => refuse(rt, alloc, source, sink, gate),
         Err(_) => Status::NoMemory,
     }
 }
@@ -124,18 +114,19 @@ fn exit_code(status: Status) -> ExitCode
 
 /// Runs the shell with the arguments that were found, and gives its status out. No contract tells which arguments an environment has, so
 /// this one speaks of a run with some arguments.
-fn ended<R: Threads + Wait + Sync, S: Source, K: Sink>(
+fn ended<R: Threads + Wait + Sync, S: Source, K: Sink, G: Gate + Sync>(
     rt: &R,
     alloc: Global,
     found: Result<Option<Vec<String>>, AllocError>,
     source: &mut S,
     sink: &mut K,
+    gate: &G,
 ) -> ExitCode
     ensures { (status : Status) × (exit_status result ≡ code_of status) × (arguments : List (List ℕ))
         × IsRun status arguments (S.seen source.old) (S.seen source.new) (K.seen sink.old) (K.seen sink.new)
         × IsReadBy status arguments (S.seen source.old) (S.seen source.new) }
 {
-    exit_code(start(rt, alloc, found, source, sink))
+    exit_code(start(rt, alloc, found, source, sink, gate))
 }
 
 fn main(rt: HostRuntime) -> ExitCode {
@@ -143,5 +134,5 @@ fn main(rt: HostRuntime) -> ExitCode {
     let found = arguments_of(&rt, alloc, NAME);
     let mut source = StdSource::new(rt.reader());
     let mut sink = StdSink::new(io::writer(&rt));
-    ended(&rt, alloc, found, &mut source, &mut sink)
+    ended(&rt, alloc, found, &mut source, &mut sink, &Open)
 }

@@ -1,73 +1,149 @@
-//! Whole runs from the arguments of an environment.
+//! Whole runs from the arguments of an environment: with options, with faults, and with inputs that end in each way.
 
-use crate::{NAME, start};
+use crate::NAME;
+use crate::runs::{Called, Run, end_of, plain};
 use cox_doubles::{MemorySink, MemorySource};
-use cox_outside::arguments_of;
-use cox_shell::Status;
-use std::env::FillError;
-use std::rt::Env;
+use cox_outside::{Got, Open, Source, arguments_of};
+use cox_shell::{Status, run_one};
 use std::test::Fail;
-
-/// An environment with these arguments.
-#[derive(Clone, Copy)]
-struct Called<'a>(&'a [&'a [u8]]);
-
-impl Env for Called<'_> {
-    fn arg(&self, i: usize, buf: &mut [u8]) -> Result<usize, FillError> {
-        let Some(argument) = self.0.get(i) else {
-            return Err(FillError::NotPresent);
-        };
-        if argument.len() > buf.len() {
-            return Err(FillError::TooLong);
-        }
-        buf[..argument.len()].copy_from_slice(argument);
-        Ok(argument.len())
-    }
-
-    fn var(&self, _name: &str, _buf: &mut [u8]) -> Result<usize, FillError> {
-        Err(FillError::NotPresent)
-    }
-
-    fn var_at(&self, _i: usize, _buf: &mut [u8]) -> Result<usize, FillError> {
-        Err(FillError::NotPresent)
-    }
-}
-
-/// What a start is given, how often a read or a write fails, and what comes of it.
-struct Start {
-    arguments: &'static [&'static [u8]],
-    script: &'static str,
-    failing_reads: &'static [u64],
-    failing_writes: &'static [u64],
-    written: &'static str,
-    status: Status,
-}
 
 const USAGE: &str = "usage: coxeter [--workers N] [--context N] [--coef N] [--roots N]\n";
 
 const SCRIPT: &str = "type A 3\npol 2 2132\ncompute x\nquit\nfoo\n";
 
+/// The arguments, a script, what has to be written, and how the run has to end.
+type Start = (&'static [&'static [u8]], &'static str, &'static str, Status);
+
 const STARTS: &[Start] = &[
-    Start {
-        arguments: &[b"coxeter"],
-        script: SCRIPT,
-        failing_reads: &[],
-        failing_writes: &[],
-        written: "1+q\nerror 16\n",
-        status: Status::Refused,
-    },
-    // The name is none of the options, and need be no text.
-    Start {
-        arguments: &[b"./\xff", b"--context", b"24", b"--workers=2"],
-        script: "type A 3\nbetti 121321\n",
-        failing_reads: &[],
-        failing_writes: &[],
-        written: "1 3 5 6 5 3 1\n",
-        status: Status::Done,
-    },
+    // Each way in which an input ends, also inside a list.
+    (&[b"coxeter"], "", "", Status::Done),
+    (&[b"coxeter"], "quit\nfoo\n", "", Status::Done),
+    (
+        &[b"coxeter"],
+        "type A 2\r\ncompute 212\r\nlength 212\r",
+        "121\n3\n",
+        Status::Done,
+    ),
+    (
+        &[b"coxeter"],
+        "type B 2\ncompute 2121\ncompute 121212",
+        "1212\n21\n",
+        Status::Done,
+    ),
+    (
+        &[b"coxeter"],
+        "type A 2\njobs\nlength 121\nnext\nlength 12",
+        "3\n2\n",
+        Status::Done,
+    ),
+    (
+        &[b"coxeter"],
+        "type A 1\njobs\nnext\nnext\nnext\nnext\nnext\nnext\nnext\nnext\nnext\nnext\nnext\nnext\nnext\nnext\nnext\n",
+        "",
+        Status::Done,
+    ),
+    (
+        &[b"coxeter"],
+        "type A 1\njobs\nnext\nnext\nnext\nnext\nnext\nnext\nnext\nnext\nnext\nnext\nnext\nnext\nnext\nnext\nnext\nnext\n",
+        "error 35\n",
+        Status::Refused,
+    ),
+    (&[b"coxeter"], SCRIPT, "1+q\nerror 16\n", Status::Refused),
+    // All rows of a whole group, and a list, by two workers. In the left cell of e each letter acts as v^2.
+    (
+        &[b"coxeter", b"--workers", b"2"],
+        "type D 5\nmodule e\ntype A 2\njobs\nwork 7 1\nnext\nlcells\nend\n",
+        concat!(
+            "1\ne\n1 e: e=v^2\n2 e: e=v^2\n3 e: e=v^2\n4 e: e=v^2\n5 e: e=v^2\n",
+            "words 1 entries 4 degree 0 sum 4\n4\ne\n1 21\n2 12\n121\n",
+        ),
+        Status::Done,
+    ),
+    // Options at their limits. The name is none of them, and need be no text.
+    (
+        &[b"./\xff", b"--context", b"24", b"--workers=2"],
+        "type A 3\nbetti 121321\ninterval e 121321\n",
+        concat!(
+            "1 3 5 6 5 3 1\n24\ne\n1\n2\n3\n12\n13\n21\n23\n32\n121\n123\n132\n213\n232\n321\n",
+            "1213\n1232\n1321\n2132\n2321\n12132\n12321\n21321\n121321\n",
+        ),
+        Status::Done,
+    ),
+    (
+        &[b"coxeter", b"--context=23"],
+        "type A 3\nbetti 121321\ninterval e 121321\ninterval 121321 e\n",
+        "error 31\nerror 31\n0\n",
+        Status::Refused,
+    ),
+    (
+        &[b"coxeter", b"--context", b"14"],
+        "type A 3\nextremals 2132\npol e 12321\ninvpol 12 12321\nextremals 2132\ninvpol 2 2132\n",
+        "4\n2:1+q\n121:1\n232:1\n2132:1\nerror 31\nerror 31\n4\n2:1+q\n121:1\n232:1\n2132:1\n1+q\n",
+        Status::Refused,
+    ),
+    (
+        &[b"coxeter", b"--context", b"7"],
+        "type B 2\nwork 0 1\nlcells\npol e 12\n",
+        "error 31\nerror 31\n1\n",
+        Status::Refused,
+    ),
+    (
+        &[b"coxeter", b"--context", b"4"],
+        "type A 2\nbetti 12\n",
+        "1 2 1\n",
+        Status::Done,
+    ),
+    (
+        &[b"coxeter", b"--context", b"3"],
+        "type A 2\nbetti 12\ncoatoms 12\ninterval 12 1\ncert 12\ncert 1\n",
+        "error 31\nerror 31\n0\nerror 31\ncert 2 3\nelement 1\nrows 2\ne:1\n1:1\nend\n",
+        Status::Refused,
+    ),
+    (
+        &[b"coxeter", b"--context", b"1"],
+        "type A 1\ninterval e e\ninterval e 1\nbetti e\n",
+        "1\ne\nerror 31\n1\n",
+        Status::Refused,
+    ),
+    (
+        &[b"coxeter", b"--roots", b"10"],
+        "type A 4\ncompute 11\n",
+        "e\n",
+        Status::Done,
+    ),
+    (
+        &[b"coxeter", b"--roots", b"9"],
+        "type A 4\ncompute 11\n",
+        "error 21\nerror 15\n",
+        Status::Refused,
+    ),
+    (
+        &[b"coxeter", b"--roots=2"],
+        "type A 1\ntype A 2\ncompute 1\nmatrix 2 0\ncompute 12\n",
+        "error 21\n1\n12\n",
+        Status::Refused,
+    ),
+    (
+        &[b"coxeter", b"--coef", b"9223372036854775807"],
+        "type A 4\npol e 1234321\n",
+        "1+2q+q^2\n",
+        Status::Done,
+    ),
+    (
+        &[b"coxeter", b"--coef", b"1"],
+        concat!(
+            "type A 4\npol e 1234321\nmu e 1234321\ncert 1234321\npol e 1\n",
+            "invpol e 1234321\ninvpol 1234321 e\ninvpol 13 1234\nlrcells\nlwgraph\ntype A 2\nlrcells\n",
+        ),
+        concat!(
+            "error 32\nerror 32\nerror 32\n1\n",
+            "error 32\n0\n1\nerror 32\nerror 32\n3\ne\n1 2 12 21\n121\n",
+        ),
+        Status::Refused,
+    ),
     // Four options in nine words, each of which is at work.
-    Start {
-        arguments: &[
+    (
+        &[
             b"coxeter",
             b"--roots",
             b"10",
@@ -78,82 +154,132 @@ const STARTS: &[Start] = &[
             b"--workers",
             b"3",
         ],
-        script: "type A 5\ntype A 4\nbetti 1213214321\npol e 1234321\npol 2 2132\n",
-        failing_reads: &[],
-        failing_writes: &[],
-        written: "error 21\nerror 31\nerror 32\n1+q\n",
-        status: Status::Refused,
-    },
-    Start {
-        arguments: &[b"coxeter", b"--context=23"],
-        script: "type A 3\nbetti 121321\n",
-        failing_reads: &[],
-        failing_writes: &[],
-        written: "error 31\n",
-        status: Status::Refused,
-    },
-    Start {
-        arguments: &[
+        "type A 5\ntype A 4\nbetti 1213214321\npol e 1234321\npol 2 2132\n",
+        "error 21\nerror 31\nerror 32\n1+q\n",
+        Status::Refused,
+    ),
+    // Wrong arguments; the last one here is no text.
+    (&[b"coxeter", b"--foo"], SCRIPT, USAGE, Status::Usage),
+    (
+        &[
             b"coxeter",
             b"--context=23",
             b"--roots=6",
             b"--coef=1",
             b"-v",
         ],
-        script: SCRIPT,
-        failing_reads: &[],
-        failing_writes: &[],
-        written: USAGE,
-        status: Status::Usage,
-    },
-    // The last argument is no text.
-    Start {
-        arguments: &[
+        SCRIPT,
+        USAGE,
+        Status::Usage,
+    ),
+    (
+        &[
             b"coxeter",
             b"--context=23",
             b"--roots=6",
             b"--coef=1",
             b"\xff",
         ],
-        script: SCRIPT,
-        failing_reads: &[],
-        failing_writes: &[],
-        written: USAGE,
-        status: Status::Usage,
-    },
-    Start {
-        arguments: &[b"coxeter"],
-        script: SCRIPT,
-        failing_reads: &[2],
-        failing_writes: &[],
-        written: "",
-        status: Status::ReadFault,
-    },
-    Start {
-        arguments: &[b"coxeter", b"?"],
-        script: SCRIPT,
-        failing_reads: &[1],
-        failing_writes: &[1],
-        written: "",
-        status: Status::WriteFault,
-    },
+        SCRIPT,
+        USAGE,
+        Status::Usage,
+    ),
+];
+
+/// Arguments, a script, the reads of 16 bytes and the writes of five that fail, what has to be written, and how the run has to end.
+type Faulty = (
+    &'static [&'static [u8]],
+    &'static str,
+    &'static [u64],
+    &'static [u64],
+    &'static str,
+    Status,
+);
+
+const FAULTS: &[Faulty] = &[
+    (&[b"coxeter"], SCRIPT, &[2], &[], "", Status::ReadFault),
+    (
+        &[b"coxeter"],
+        SCRIPT,
+        &[3],
+        &[],
+        "1+q\nerror 16\n",
+        Status::ReadFault,
+    ),
+    (
+        &[b"coxeter", b"--workers=16"],
+        SCRIPT,
+        &[3],
+        &[],
+        "1+q\nerror 16\n",
+        Status::ReadFault,
+    ),
+    // Of the lines of a list those that were read whole are answered.
+    (
+        &[b"coxeter", b"--workers=2"],
+        "type A 3\njobs\npol 2 2132\nnext\nmu 2 2132\nend\n",
+        &[3],
+        &[],
+        "1+q\n",
+        Status::ReadFault,
+    ),
+    (
+        &[b"coxeter"],
+        SCRIPT,
+        &[],
+        &[2],
+        "1+q\n",
+        Status::WriteFault,
+    ),
+    (
+        &[b"coxeter", b"--workers=16"],
+        SCRIPT,
+        &[],
+        &[3],
+        "1+q\nerror",
+        Status::WriteFault,
+    ),
+    (
+        &[b"coxeter", b"?"],
+        SCRIPT,
+        &[1],
+        &[1],
+        "",
+        Status::WriteFault,
+    ),
 ];
 
 #[test]
 fn starts(rt: HostRuntime) -> Result<(), Fail> {
-    let alloc = rt.alloc();
-    for case in STARTS {
-        let script = case.script.as_bytes().to_vec(alloc)?;
-        let mut source = MemorySource::new(script, 16, case.failing_reads.to_vec(alloc)?);
-        let mut sink = MemorySink::new(alloc, 300, 100, case.failing_writes.to_vec(alloc)?)?;
-        let found = arguments_of(&Called(case.arguments), alloc, NAME);
-        let status = start(&rt, alloc, found, &mut source, &mut sink);
-        assert_eq!(rt; status, case.status, "at {:?}", case.arguments);
+    for (arguments, script, written, status) in STARTS {
+        let run = plain(arguments, script.as_bytes());
+        let (ended, sink) = end_of(&rt, rt.alloc(), run, &Open)?;
+        assert_eq!(rt; ended, *status, "at {arguments:?} {script:?}");
         assert_eq!(rt;
             sink.bytes(),
-            case.written.as_bytes(),
-            "at {:?}",
-            case.arguments
+            written.as_bytes(),
+            "at {arguments:?} {script:?}"
+        );
+    }
+    Ok(())
+}
+
+#[test]
+fn faults(rt: HostRuntime) -> Result<(), Fail> {
+    for (arguments, script, reads, writes, written, status) in FAULTS {
+        let run = Run {
+            read: 16,
+            write: 5,
+            failing_reads: reads,
+            failing_writes: writes,
+            ..plain(arguments, script.as_bytes())
+        };
+        let (ended, sink) = end_of(&rt, rt.alloc(), run, &Open)?;
+        assert_eq!(rt; ended, *status, "at {arguments:?} {reads:?} {writes:?}");
+        assert_eq!(rt;
+            sink.bytes(),
+            written.as_bytes(),
+            "at {arguments:?} {reads:?} {writes:?}"
         );
     }
     Ok(())
@@ -169,5 +295,18 @@ fn arguments(rt: HostRuntime) -> Result<(), Fail> {
     assert_eq!(rt; arguments[2].as_str(), "\u{e4}");
     let broken = Called(&[b"coxeter", b"--context", b"\xff"]);
     assert!(rt; arguments_of(&broken, rt.alloc(), NAME)?.is_none());
+    Ok(())
+}
+
+#[test]
+fn reads_nothing_after_quit(rt: HostRuntime) -> Result<(), Fail> {
+    let script = b"type A 2\nquit\nfoo\n".to_vec(rt.alloc())?;
+    let mut source = MemorySource::new(script, 1, Vec::new(rt.alloc()));
+    let mut sink = MemorySink::new(rt.alloc(), 9, 9, Vec::new(rt.alloc()))?;
+    let status = run_one(rt.alloc(), &["coxeter"], &mut source, &mut sink);
+    assert_eq!(rt; status, Status::Done);
+    let mut next = [0u8; 9];
+    assert_eq!(rt; source.read(&mut next), Got::Bytes(1));
+    assert_eq!(rt; next[0], b'f');
     Ok(())
 }

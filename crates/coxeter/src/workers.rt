@@ -1,75 +1,199 @@
-//! Whole runs with several workers: they write the same bytes, and behind a gate two of them work at once.
-use cox_doubles::{MeetingGate, MemorySink, MemorySource};
-use cox_outside::{Gate, Open};
-use cox_shell::{Session, Status, run, run_one};
+//! Whole runs with several workers: they write the same bytes, they work at once, and they make no row twice.
+use crate::runs::{end_of, plain};
+use cox_doubles::MemorySink;
+use cox_outside::{Gate, Open, Point};
+use cox_shell::{Session, Status};
 use std::alloc::{AllocError, Global};
 use std::sync::Wait;
+use std::sync::atomic::AtomicU64;
+use std::sync::atomic::Ordering::SeqCst;
 use std::test::Fail;
+use std::thread;
 use std::thread::Threads;
 
-/// Scripts that have to write the same with any number of workers.
-const SCRIPTS: &[&str] = &[
-    "type A 4\nlrcells\nwork 7 20\n",
-    "type D 5\nlrcells\n",
-    "type B 3\nklbasis 12321\npol e 123212321\nlwgraph\nmu 1 12321\nrcells\nextremals 232123\n",
-    "pol e 1\nmatrix 2 5\ntype H 3\nfoo\ncompute\nmatrix 10\nmatrix 2\ntype A x\n",
-    "type A 4\npol e 123\nquit\n",
-    "type A 3\ninvpol 2 2132\ninvpol e 121321\nmatrix 3 3 3 3\ninvpol 3 32132132\n",
-    "type A 3\njobs\nlrcells\nnext\nfoo\n\tpol\nnext\n\nnext\nquit\nmu 2 2132\nnext\nend\njobs\nklbasis 2132\nnext\npol 2 2132",
-];
+/// How often a thread is held, at most, while others do not come.
+const TURNS: u32 = 100_000_000;
 
-/// Each number of workers.
-const NUMBERS: [&str; 16] = [
-    "1", "2", "3", "4", "5", "6", "7", "8", "9", "10", "11", "12", "13", "14", "15", "16",
-];
+/// A gate that sees how many threads work at once, where so many are awaited.
+///
+/// It holds each worker at its first claim until as many workers have come to a claim, and each block before it begins until as many blocks
+/// have come there. It counts how often each row is published, and the holds that ended before the others came.
+#[derive(Drop)]
+struct Census {
+    awaited: u64,
+    claims: Vec<AtomicU64>,
+    workers: AtomicU64,
+    blocks: AtomicU64,
+    published: Vec<AtomicU64>,
+    late: AtomicU64,
+}
+
+/// So many counts, each 0.
+fn counts(alloc: Global, number: usize) -> Result<Vec<AtomicU64>, AllocError> {
+    let mut counts = Vec::with_capacity(alloc, number)?;
+    for _ in 0..number {
+        counts.push(AtomicU64::new(0))?;
+    }
+    Ok(counts)
+}
+
+impl Census {
+    /// A gate where so many threads are awaited, for so many rows.
+    fn new(alloc: Global, awaited: u64, rows: usize) -> Result<Census, AllocError> {
+        Ok(Census {
+            awaited,
+            claims: counts(alloc, 16)?,
+            workers: AtomicU64::new(0),
+            blocks: AtomicU64::new(0),
+            published: counts(alloc, rows)?,
+            late: AtomicU64::new(0),
+        })
+    }
+
+    /// Counts one, and holds the thread until as many as are awaited were counted.
+    fn meet(&self, count: &AtomicU64) {
+        count.fetch_add(1, SeqCst);
+        for _ in 0..TURNS {
+            if count.load(SeqCst) >= self.awaited {
+                return;
+            }
+            thread::yield_now();
+        }
+        self.late.fetch_add(1, SeqCst);
+    }
+
+    /// How many rows were published once, and how many more often.
+    fn published(&self) -> (usize, usize) {
+        let counts = self.published.iter();
+        let once = counts.filter(|passes| passes.load(SeqCst) == 1).count();
+        let counts = self.published.iter();
+        let again = counts.filter(|passes| passes.load(SeqCst) > 1).count();
+        (once, again)
+    }
+
+    /// How often all workers have passed before a claim.
+    fn claims(&self) -> u64 {
+        let counts = self.claims.iter();
+        counts.fold(0u64, |sum, passes| sum.saturating_add(passes.load(SeqCst)))
+    }
+
+    /// How many workers have claimed rows, how many blocks were begun, and how many holds ended before the others came.
+    fn seen(&self) -> (u64, u64, u64) {
+        (
+            self.workers.load(SeqCst),
+            self.blocks.load(SeqCst),
+            self.late.load(SeqCst),
+        )
+    }
+}
+
+impl Gate for Census {
+    fn pass<R: Wait>(&self, rt: &R, worker: u32, point: Point, row: u32) {
+        let _ = rt;
+        match point {
+            Point::Claim => {
+                if let Some(claims) = self.claims.get(worker.saturating_sub(1) as usize)
+                    && claims.fetch_add(1, SeqCst) == 0
+                {
+                    self.meet(&self.workers);
+                }
+            }
+            Point::Publish => {
+                if let Some(passes) = self.published.get(row as usize) {
+                    passes.fetch_add(1, SeqCst);
+                }
+            }
+            Point::Block => self.meet(&self.blocks),
+        }
+    }
+}
 
 /// How a run over a script with this number of workers ends, and the sink that it wrote to.
 fn run_by<R: Threads + Wait + Sync, G: Gate + Sync>(
     rt: &R,
     alloc: Global,
     script: &str,
-    workers: &str,
+    workers: &[u8],
     gate: &G,
 ) -> Result<(Status, MemorySink), AllocError> {
-    let script = script.as_bytes().to_vec(alloc)?;
-    let mut source = MemorySource::new(script, 4096, Vec::new(alloc));
-    let mut sink = MemorySink::new(alloc, 100_000, 4096, Vec::new(alloc))?;
-    let words = ["coxeter", "--workers", workers];
-    let status = run(rt, alloc, &words, &mut source, &mut sink, gate);
-    Ok((status, sink))
+    let arguments: [&[u8]; 3] = [b"coxeter", b"--workers", workers];
+    end_of(rt, alloc, plain(&arguments, script.as_bytes()), gate)
 }
+
+/// Scripts that have to write the same with any number of workers.
+const SCRIPTS: &[&str] = &[
+    concat!(
+        "pol e 1\nmatrix 2 5\ntype H 3\nfoo\ncompute\nmatrix 10\nmatrix 2\ntype A x\ntype A 4\nlrcells\nwork 7 20\ntype D 5\nlrcells\n",
+        "type A 4\njobs\nlcells\nnext\nklbasis 12321\nend\n",
+        "type B 3\nklbasis 12321\npol e 123212321\nlwgraph\nmu 1 12321\nrcells\nextremals 232123\n",
+        "type A 3\ninvpol 2 2132\ninvpol e 121321\nmatrix 3 3 3 3\ninvpol 3 32132132\n",
+        "type A 3\njobs\nlrcells\nnext\nfoo\n\tpol\nnext\n\nnext\nquit\nmu 2 2132\nnext\nend\njobs\nklbasis 2132\nnext\npol 2 2132",
+    ),
+    "type A 4\npol e 123\nquit\n",
+];
+
+/// Each number of workers.
+const NUMBERS: &[&[u8]] = &[
+    b"1", b"2", b"3", b"4", b"5", b"6", b"7", b"8", b"9", b"10", b"11", b"12", b"13", b"14", b"15",
+    b"16",
+];
 
 #[test]
 fn write_the_same(rt: HostRuntime) -> Result<(), Fail> {
     let alloc = rt.alloc();
     for script in SCRIPTS {
-        let bytes = script.as_bytes().to_vec(alloc)?;
-        let mut source = MemorySource::new(bytes, 4096, Vec::new(alloc));
-        let mut sink = MemorySink::new(alloc, 100_000, 4096, Vec::new(alloc))?;
-        let status = run_one(alloc, &["coxeter"], &mut source, &mut sink);
+        let run = plain(&[b"coxeter"], script.as_bytes());
+        let (status, sink) = end_of(&rt, alloc, run, &Open)?;
         for workers in NUMBERS {
             let (ended, other) = run_by(&rt, alloc, script, workers, &Open)?;
-            assert_eq!(rt; ended, status, "{workers} workers at {script:?}");
-            assert_eq!(rt;
-                other.bytes(),
-                sink.bytes(),
-                "{workers} workers at {script:?}"
+            assert_eq!(rt; ended, status, "{workers:?} workers at {script:?}");
+            assert!(rt;
+                other.bytes() == sink.bytes(),
+                "{workers:?} workers at {script:?}"
             );
         }
     }
     Ok(())
 }
 
-/// The second line asks for the rows of the first, which are kept: none is made again. Each is claimed before it is published.
+/// A list of 16 blocks that ask for all rows of D 5, and a line behind it that asks for them again.
+const LIST: &str = concat!(
+    "type D 5\njobs\nmodule e\nnext\nmodule e\nnext\nmodule e\nnext\nmodule e\nnext\nmodule e\nnext\nmodule e\n",
+    "next\nmodule e\nnext\nmodule e\nnext\nmodule e\nnext\nmodule e\nnext\nmodule e\nnext\nmodule e\n",
+    "next\nmodule e\nnext\nmodule e\nnext\nmodule e\nnext\nlrcells\nend\nlrcells\n",
+);
+
+/// As many workers as are asked for make all 1,920 rows before the first block begins, each once, and answer as many blocks at once.
 #[test]
-fn meet_at_a_gate(rt: HostRuntime) -> Result<(), Fail> {
+fn work_at_once(rt: HostRuntime) -> Result<(), Fail> {
     let alloc = rt.alloc();
-    let gate = MeetingGate::new(alloc, 1920)?;
-    let (status, _) = run_by(&rt, alloc, "type D 5\nlrcells\nlrcells\n", "2", &gate)?;
+    let (_, one) = run_by(&rt, alloc, LIST, b"1", &Open)?;
+    for (awaited, workers) in [(2u64, b"2"), (4, b"4")] {
+        let gate = Census::new(alloc, awaited, 1920)?;
+        let (status, sink) = run_by(&rt, alloc, LIST, workers, &gate)?;
+        assert_eq!(rt; status, Status::Done);
+        assert_eq!(rt; gate.seen(), (awaited, 16, 0), "{awaited} workers");
+        assert_eq!(rt; gate.published(), (1920, 0), "{awaited} workers");
+        assert!(rt; gate.claims() >= 1920, "{awaited} workers");
+        assert!(rt; sink.bytes() == one.bytes(), "{awaited} workers");
+    }
+    Ok(())
+}
+
+/// The second line asks for rows that the first one made, of an element of E 6 with 35 letters: none is made again.
+#[test]
+fn keep_rows(rt: HostRuntime) -> Result<(), Fail> {
+    let alloc = rt.alloc();
+    let gate = Census::new(alloc, 1, 51_840)?;
+    let script = concat!(
+        "type E 6\npol e 12314231435423143542654231435426543\n",
+        "pol 1 12314231435423143542654231435426543\n",
+    );
+    let (status, _) = run_by(&rt, alloc, script, b"2", &gate)?;
     assert_eq!(rt; status, Status::Done);
-    assert_eq!(rt; gate.late(), 0);
-    assert_eq!(rt; gate.published_once(), 1920);
-    assert!(rt; gate.claims() >= 1920);
+    let (once, again) = gate.published();
+    assert!(rt; once > 0);
+    assert_eq!(rt; again, 0);
     Ok(())
 }
 
@@ -77,37 +201,25 @@ fn meet_at_a_gate(rt: HostRuntime) -> Result<(), Fail> {
 #[test]
 fn few_rows_pass_no_gate(rt: HostRuntime) -> Result<(), Fail> {
     let alloc = rt.alloc();
-    let gate = MeetingGate::new(alloc, 120)?;
+    let gate = Census::new(alloc, 1, 120)?;
     let script = "type A 4\nklbasis 12321\nlrcells\njobs\npol 2 2132\nnext\nmu 2 2132\nend\n";
-    let (status, _) = run_by(&rt, alloc, script, "2", &gate)?;
+    let (status, _) = run_by(&rt, alloc, script, b"2", &gate)?;
     assert_eq!(rt; status, Status::Done);
-    assert_eq!(rt; gate.claims(), 0);
-    assert_eq!(rt; gate.blocks(), 0);
+    assert_eq!(rt; gate.seen(), (0, 0, 0));
+    assert_eq!(rt; gate.published(), (0, 0));
     Ok(())
 }
 
-/// Each of two blocks is held before it begins, until the other has come there.
+/// The calls of a session that `run` does not make.
 #[test]
-fn blocks_meet_at_a_gate(rt: HostRuntime) -> Result<(), Fail> {
-    let alloc = rt.alloc();
-    let script = "type A 4\njobs\nlcells\nnext\nklbasis 12321\nend\n";
-    let gate = MeetingGate::new(alloc, 120)?;
-    let (status, sink) = run_by(&rt, alloc, script, "2", &gate)?;
-    let (_, one) = run_by(&rt, alloc, script, "1", &Open)?;
-    assert_eq!(rt; status, Status::Done);
-    assert_eq!(rt; gate.blocks(), 2);
-    assert_eq!(rt; gate.late(), 0);
-    assert_eq!(rt; sink.bytes(), one.bytes());
-    Ok(())
-}
-
-#[test]
-fn answer_an_open_list(rt: HostRuntime) -> Result<(), Fail> {
+fn answer_by_calls(rt: HostRuntime) -> Result<(), Fail> {
     let alloc = rt.alloc();
     let options = cox_options::read(alloc, &["coxeter", "--workers", "3"])?;
     let mut session = Session::new(options);
     let mut out = Vec::new(alloc);
     session.answer_with(&rt, b"type A 3", &mut out, &Open)?;
+    session.answer_with(&rt, b"pol 2 2132", &mut out, &Open)?;
+    session.answer(b"mu 2 2132", &mut out)?;
     session.answer_with(&rt, b"jobs", &mut out, &Open)?;
     session.answer_with(&rt, b"pol 2 2132", &mut out, &Open)?;
     session.answer_with(&rt, b"next", &mut out, &Open)?;
@@ -117,20 +229,7 @@ fn answer_an_open_list(rt: HostRuntime) -> Result<(), Fail> {
     session.answer_jobs_one(blocks, &mut out)?;
     assert_eq!(rt;
         out.as_slice(),
-        b"1+q\nerror 18\n1+q\nerror 18\n".as_slice()
+        b"1+q\n1\n1+q\nerror 18\n1+q\nerror 18\n".as_slice()
     );
-    Ok(())
-}
-
-#[test]
-fn answer_one_line(rt: HostRuntime) -> Result<(), Fail> {
-    let alloc = rt.alloc();
-    let options = cox_options::read(alloc, &["coxeter", "--workers", "3"])?;
-    let mut session = Session::new(options);
-    let mut out = Vec::new(alloc);
-    session.answer_with(&rt, b"type A 3", &mut out, &Open)?;
-    session.answer_with(&rt, b"pol 2 2132", &mut out, &Open)?;
-    session.answer(b"pol 2 2132", &mut out)?;
-    assert_eq!(rt; out.as_slice(), b"1+q\n1+q\n".as_slice());
     Ok(())
 }
