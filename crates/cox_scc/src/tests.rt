@@ -100,12 +100,13 @@ fn long_paths(rt: HostRuntime) -> Result<(), Fail> {
     Ok(())
 }
 
-// A pass that went over the edges of a vertex from the first again, after each vertex that it entered from there, would take minutes.
+// A pass that went over the edges of a vertex from the first again, after each vertex that it entered from there, would take 45 billion
+// steps.
 #[test]
 fn many_edges_at_one_vertex(rt: HostRuntime) -> Result<(), Fail> {
     let alloc = rt.alloc();
-    let star = classes(alloc, &star_of(alloc, 1_000_000)?)?;
-    assert!(rt; star.len() == 1_000_000);
+    let star = classes(alloc, &star_of(alloc, 300_000)?)?;
+    assert!(rt; star.len() == 300_000);
     assert!(rt;
         star.iter()
             .enumerate()
