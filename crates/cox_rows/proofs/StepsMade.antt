@@ -1,7 +1,8 @@
 -- The polynomials that are added up for one row more.
 use Rattle.std.proofs.Common.{◌≡◌, ℕ, refl, arith}
 use Rattle.cox_context.specs.Closed.{Elements}
-use Rattle.cox_klstep.specs.CountedSteps.{counted, IsWithinSteps, IsCounted}
+use Rattle.cox_row_builder.specs.Counted.{counted}
+use Rattle.cox_klstep.specs.CountedSteps.{IsWithinSteps, IsCounted}
 
 -- none
 pub steps-none : (e : Elements) (i steps : ℕ) → IsWithinSteps e i steps steps

@@ -1,7 +1,8 @@
 -- The tables are taken out of the same rows, and what the row took is added to the count.
 use Rattle.std.proofs.Common.{subst, sym, ap, ◌∙◌}
-use Rattle.cox_klstep.specs.CountedSteps.{counted, IsCounted, IsWithinSteps}
-use Rattle.cox_klstep.specs.ImagesAtHand.{IsMadeByStep}
+use Rattle.cox_row_builder.specs.Counted.{counted}
+use Rattle.cox_klstep.specs.CountedSteps.{IsCounted, IsWithinSteps}
+use Rattle.cox_row_symmetry.specs.ImagesAtHand.{IsMadeByStep}
 use Rattle.cox_klstep.specs.NeedsOf.{HasNeeds}
 use Rattle.cox_rows.specs.Holding.{Holding, HasRow}
 use Rattle.cox_rows.proofs.SettledMembers.{store-put}
