@@ -1,7 +1,7 @@
 -- numbers that are picked from a list
 pub mod Picked
 -- lists of candidates
-pub mod CandidateLists
+pub mod ListsOfCandidates
 -- extremal members, picked from the candidates
 pub mod PickedExtremals
 -- shifts that are shorter

@@ -2,7 +2,7 @@
 use Rattle.std.proofs.Common.{◌≡◌, ◌==◌, ℕ, [], length, true, ap, ◌∙◌, arith}
 use Rattle.std.specs.Vec.{vec_len}
 use Rattle.std.specs.Global.{Vec}
-use Rattle.cox_row_builder.proofs.CandidateLists.{lists-grown, lists-put, lists-made, lists-there}
+use Rattle.cox_row_builder.proofs.ListsOfCandidates.{lists-grown, lists-put, lists-made, lists-there}
 use Rattle.cox_row_builder.proofs.candidates.CandidateLists.prepare.Goals as goal
 
 vec_len-zero : (v : Vec ℕ) → v.items ≡ [] → vec_len v ≡ 0
