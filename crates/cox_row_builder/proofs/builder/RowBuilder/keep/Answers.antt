@@ -38,19 +38,19 @@ returns-clause-underway c =
           let small : FitsSigned w64 v.middle-value.result = search rules
           in let kept = simp (to_z-of_z w64 c.args.limit fits) at (v.in-Ok.ensures.kept A members w)
           in let begun = kept c.requires.underway.begun c.requires.extremal c.requires.below is
-          in let placed : IsKazhdanLusztig A x w (coefficient (polynomial_at v.keep.new.self.pool v.in-Ok.place)) = record {
+          in let placed : IsKazhdanLusztig A x w (coefficient (polynomial_at c.keep.new.self.pool v.in-Ok.place)) = record {
             row = is.row;
             is = is.is;
             at = λ k. v.in-Ok.ensures.polynomial k ∙ is.at k;
           }
-          in let at : v.at.result ≡ polynomial_at v.keep.new.self.pool v.in-Ok.place = v.at.ensures
+          in let at : v.at.result ≡ polynomial_at c.keep.new.self.pool v.in-Ok.place = v.at.ensures
           in let mu = v.middle-value.ensures (rw at placed)
           in rw v.self-is record {
             begun = begun;
             noted = (simp (to_z-of_z w64 v.middle-value.result small) at (v.in_ok-note-in-Ok.ensures A members w c.args.limit)) g
                 c.requires.underway.noted mu;
             large = large-skip A members w c.args.limit _ _ c.args.self.now.done
-                (λ b. within-none A g c.args.limit x w (polynomial_at v.keep.new.self.pool v.in-Ok.place) placed
+                (λ b. within-none A g c.args.limit x w (polynomial_at c.keep.new.self.pool v.in-Ok.place) placed
                 (begun.small v.in-Ok.place v.in-Ok.ensures.within)) c.requires.underway.large;
             next = next;
           }
