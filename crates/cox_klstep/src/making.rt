@@ -102,10 +102,9 @@ fn add_extremal(
 {
     let _len = ctx.len();
     let x = builder.done();
-    if put_polynomial(ctx, i, source, x, shorter, found, sums, steps) {
-        builder.keep(ctx, i, sums, limit)?;
-    } else {
+    if !put_polynomial(ctx, i, source, x, shorter, found, sums, steps) {
         builder.skip(ctx, i);
+        return Ok(());
     }
-    Ok(())
+    builder.keep(ctx, i, sums, limit)
 }

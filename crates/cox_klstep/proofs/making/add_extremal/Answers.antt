@@ -1,17 +1,28 @@
 -- Something is added up only where x is below w.
-use Rattle.std.proofs.Common.{arith}
+use Rattle.std.proofs.Common.{FitsSigned, w64, rules, arith}
+use Rattle.std.proofs.lemmas.Int.{to_z-of_z}
 use Rattle.cox_klstep.specs.SourceOf.{source_cost}
 use Rattle.cox_klstep.proofs.StepCounts.{cost-next, counted-next}
 use Rattle.cox_klstep.proofs.making.add_extremal.Goals as goal
 
 pub skip-requires-clause-outside : goal.skip-requires-clause-outside
-skip-requires-clause-outside c = λ b. let never = c.put_polynomial.ensures.below.1 b in absurd (cc c.if-put_polynomial.false)
+skip-requires-clause-outside c = λ b. let never = c.put_polynomial.ensures.below.1 b in absurd (cc c.if-not-put_polynomial.true)
 
-pub returns-in_err-keep-clause-steps : goal.returns-in_err-keep-clause-steps
-returns-in_err-keep-clause-steps c = λ start before. cost-next c.args.ctx.now c.args.i (source_cost c.args.source.now) start
+pub returns-then-not-put_polynomial-clause-steps : goal.returns-then-not-put_polynomial-clause-steps
+returns-then-not-put_polynomial-clause-steps c = λ start before. cost-next c.args.ctx.now c.args.i (source_cost c.args.source.now) start
     c.args.builder.now.done c.args.steps.now c.put_polynomial.new.steps c.put_polynomial.result c.requires.extremal
     (omega (arith, c.requires.x, c.requires.i)) c.put_polynomial.ensures.below.0 c.put_polynomial.ensures.none
     c.put_polynomial.ensures.steps before
+
+pub returns-then-not-put_polynomial-clause-counted : goal.returns-then-not-put_polynomial-clause-counted
+returns-then-not-put_polynomial-clause-counted c = λ start before. counted-next c.args.ctx.now c.args.i start c.args.builder.now.done
+    c.args.steps.now c.put_polynomial.new.steps c.put_polynomial.result c.put_polynomial.ensures.below.1 c.put_polynomial.ensures.some
+    c.put_polynomial.ensures.kept before
+
+pub returns-clause-underway : goal.returns-clause-underway
+returns-clause-underway c =
+    let fits : FitsSigned w64 c.args.limit = search rules
+    in simp (to_z-of_z w64 c.args.limit fits) at c.keep.ensures.underway
 
 pub returns-clause-steps : goal.returns-clause-steps
 returns-clause-steps c = λ start before. cost-next c.args.ctx.now c.args.i (source_cost c.args.source.now) start
@@ -19,12 +30,10 @@ returns-clause-steps c = λ start before. cost-next c.args.ctx.now c.args.i (sou
     (omega (arith, c.requires.x, c.requires.i)) c.put_polynomial.ensures.below.0 c.put_polynomial.ensures.none
     c.put_polynomial.ensures.steps before
 
-pub returns-in_err-keep-clause-counted : goal.returns-in_err-keep-clause-counted
-returns-in_err-keep-clause-counted c = λ start before. counted-next c.args.ctx.now c.args.i start c.args.builder.now.done
-    c.args.steps.now c.put_polynomial.new.steps c.put_polynomial.result c.put_polynomial.ensures.below.1 c.put_polynomial.ensures.some
-    c.put_polynomial.ensures.kept before
-
 pub returns-clause-counted : goal.returns-clause-counted
 returns-clause-counted c = λ start before. counted-next c.args.ctx.now c.args.i start c.args.builder.now.done
     c.args.steps.now c.put_polynomial.new.steps c.put_polynomial.result c.put_polynomial.ensures.below.1 c.put_polynomial.ensures.some
     c.put_polynomial.ensures.kept before
+
+pub returns-then-not-put_polynomial-clause-underway : goal.returns-then-not-put_polynomial-clause-underway
+returns-then-not-put_polynomial-clause-underway c = c.skip.ensures.underway c.args.limit c.requires.underway
