@@ -31,9 +31,9 @@ use Rattle.cox_row.specs.Views.{IsViewOf, ServesFor}
 use Rattle.cox_row.specs.RowOf.{AreValuesOf, IsRowAt, pool_of}
 use Rattle.cox_row.specs.Polynomials.{polynomial_at}
 use Rattle.cox_row.specs.Within.{IsRowWithin}
-use Rattle.cox_klstep.specs.LargeMembers.{IsWithinLimit}
-use Rattle.cox_klstep.proofs.LargeCoefficients.{least-large}
-use Rattle.cox_klstep.proofs.Finished.{none-large}
+use Rattle.cox_row_builder.specs.LargeMembers.{IsWithinLimit}
+use Rattle.cox_row_builder.proofs.LargeCoefficients.{least-large}
+use Rattle.cox_row_builder.proofs.Finished.{none-large}
 use Rattle.cox_inverse.specs.declared.fault.TheConstants.{MAX_COEFFICIENT}
 use Rattle.cox_inverse.specs.NumberedInverses.{AreBetween}
 use Rattle.cox_inverse.specs.InverseFaults.{IsPair, IsFirstPair}

@@ -17,7 +17,7 @@ use Rattle.cox_poly.proofs.Polynomials.{AllWithin-same}
 use Rattle.cox_context.specs.Closed.{Elements, IsClosed}
 use Rattle.cox_context.specs.Numbers.{word_at}
 use Rattle.cox_row.specs.Polynomials.{polynomial_at}
-use Rattle.cox_klstep.proofs.LargeCoefficients.{within-same}
+use Rattle.cox_row_builder.proofs.LargeCoefficients.{within-same}
 use Rattle.cox_inverse.specs.declared.fault.TheConstants.{MAX_COEFFICIENT}
 use Rattle.cox_inverse.specs.declared.fault.InverseFault.{InverseFault}
 use Rattle.cox_inverse.specs.declared.fault.InverseFault.TheVariants.{Coefficient, Inverse, NoMemory}

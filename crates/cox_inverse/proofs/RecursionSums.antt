@@ -25,7 +25,7 @@ use Rattle.cox_hecke.proofs.ElementLists.{below_or_not}
 use Rattle.cox_context.specs.Closed.{Elements, IsClosed}
 use Rattle.cox_context.specs.Numbers.{word_at}
 use Rattle.cox_context.proofs.Shifting.{later-not_below}
-use Rattle.cox_klstep.specs.LargeMembers.{IsWithinLimit}
+use Rattle.cox_row_builder.specs.LargeMembers.{IsWithinLimit}
 use Rattle.cox_inverse.specs.InverseRow.{IsInverse}
 use Rattle.cox_inverse.specs.NumberedInverses.{number_before, AreBetween}
 use Rattle.cox_inverse.proofs.InverseSums.{term, term-apart}

@@ -20,8 +20,8 @@ use Rattle.cox_hecke.proofs.PolynomialValues.{kazhdan_lusztig-exists, kazhdan_lu
 use Rattle.cox_context.specs.Closed.{Elements, IsClosed}
 use Rattle.cox_context.specs.Numbers.{word_at}
 use Rattle.cox_context.proofs.Shifting.{element-at, member-below}
-use Rattle.cox_klstep.specs.LargeMembers.{IsWithinLimit}
-use Rattle.cox_klstep.proofs.LargeCoefficients.{within-more, within-same}
+use Rattle.cox_row_builder.specs.LargeMembers.{IsWithinLimit}
+use Rattle.cox_row_builder.proofs.LargeCoefficients.{within-more, within-same}
 use Rattle.cox_inverse.specs.declared.fault.TheConstants.{MAX_COEFFICIENT}
 use Rattle.cox_inverse.specs.WholeGroups.{IsLongestMember, IsTurned}
 use Rattle.cox_inverse.specs.InverseRow.{IsInverse}

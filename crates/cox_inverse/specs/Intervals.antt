@@ -4,7 +4,7 @@ use Rattle.cox_base.specs.IntegerMatrix.{integer_matrix}
 use Rattle.cox_context.specs.Closed.{Elements}
 use Rattle.cox_context.specs.Numbers.{word_at}
 use Rattle.cox_row.specs.Rising.{number_at}
-use Rattle.cox_klstep.specs.LargeMembers.{IsWithinLimit}
+use Rattle.cox_row_builder.specs.LargeMembers.{IsWithinLimit}
 use Rattle.cox_poly.specs.Limit.{IsFirstAbove}
 use Rattle.std.specs.Prelude.{◌≡◌}
 use Rattle.cox_inverse.specs.declared.fault.TheConstants.{MAX_COEFFICIENT}

@@ -5,7 +5,7 @@ use Rattle.cox_base.specs.Bruhat.{IsBelow}
 use Rattle.cox_poly.specs.Coefficients.{Coefficients}
 use Rattle.cox_context.specs.Closed.{Elements}
 use Rattle.cox_context.specs.Numbers.{word_at}
-use Rattle.cox_klstep.specs.LargeMembers.{IsWithinLimit, IsLeastLarge}
+use Rattle.cox_row_builder.specs.LargeMembers.{IsWithinLimit, IsLeastLarge}
 use Rattle.cox_inverse.specs.InverseRow.{IsInverse}
 use Rattle.cox_inverse.specs.declared.fault.TheConstants.{MAX_COEFFICIENT}
 use Rattle.cox_inverse.specs.declared.fault.InverseFault.{InverseFault}

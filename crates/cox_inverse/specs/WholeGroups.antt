@@ -7,7 +7,7 @@ use Rattle.cox_context.specs.Closed.{Elements}
 use Rattle.cox_context.specs.Numbers.{word_at}
 use Rattle.cox_context.specs.Numbering.{IsNumberOf}
 use Rattle.cox_row.specs.Polynomials.{polynomial_at}
-use Rattle.cox_klstep.specs.LargeMembers.{IsWithinLimit}
+use Rattle.cox_row_builder.specs.LargeMembers.{IsWithinLimit}
 use Rattle.cox_inverse.specs.Longest.{IsLongest}
 use Rattle.cox_inverse.specs.declared.finite.WholeGroup.{WholeGroup}
 

@@ -7,7 +7,7 @@ ghost use Rattle.cox_context.specs.Numbers.{word_at};
 ghost use Rattle.cox_row.specs.Rising.{number_at};
 ghost use Rattle.cox_row.specs.RowOf.{IsRowAt};
 ghost use Rattle.cox_row.specs.Within.{IsRowWithin};
-ghost use Rattle.cox_klstep.specs.LargeMembers.{IsWithinLimit};
+ghost use Rattle.cox_row_builder.specs.LargeMembers.{IsWithinLimit};
 ghost use Rattle.cox_inverse.specs.InverseFaults.{IsInverseFault, IsPair};
 ghost use Rattle.cox_inverse.specs.Intervals.{IsInterval, AreRowsThere, ArePairsSmall};
 

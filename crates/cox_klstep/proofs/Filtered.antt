@@ -22,7 +22,7 @@ use Rattle.cox_row.specs.Mus.{value_at, AreMus}
 use Rattle.cox_row.proofs.MuOfElements.{mu-words}
 use Rattle.cox_klstep.specs.declared.step.Correction.{Correction}
 use Rattle.cox_klstep.specs.StepOf.{correction_at, AreNumbered}
-use Rattle.cox_klstep.proofs.DescentsOnSides.{lowered-length}
+use Rattle.cox_row_symmetry.proofs.DescentsOnSides.{lowered-length}
 
 -- the corrections by the neighbours at the places before p
 pub record AreFiltered (side : Side) (A : IntegerMatrix) (members : List (List ℕ)) (s : ℕ) (w : List ℕ) (numbers : List ℕ) (p : ℕ)

@@ -28,7 +28,7 @@ use Rattle.cox_row.proofs.RisingNumbers.{few-rising}
 use Rattle.cox_klstep.specs.declared.step.Correction.{Correction}
 use Rattle.cox_klstep.specs.StepOf.{correction_at, AreNumbered}
 use Rattle.cox_klstep.specs.CorrectionSums.{GivesAt, numbered_sum}
-use Rattle.cox_klstep.proofs.DescentsOnSides.{lowered-below, descent-same, lifted-down}
+use Rattle.cox_row_symmetry.proofs.DescentsOnSides.{lowered-below, descent-same, lifted-down}
 use Rattle.cox_klstep.proofs.NumberedLists.{named, named-sum, occurs-once}
 
 module _ (side : Side) (A : IntegerMatrix) (g : IsAdmissible A) (members : List (List ℕ)) (closed : IsClosed A members) (i : ℕ)

@@ -13,8 +13,9 @@ use Rattle.cox_base.specs.IntegerMatrix.{integer_matrix}
 use Rattle.cox_base.specs.Admissible.{IsAdmissible}
 use Rattle.cox_context.specs.Closed.{IsClosed}
 use Rattle.cox_context.proofs.Shifting.{later-not_below}
-use Rattle.cox_klstep.specs.Drafts.{AreBare}
-use Rattle.cox_klstep.specs.CountedSteps.{counted, IsWithinCost, IsWithinCostTo, IsCounted, IsCountedTo}
+use Rattle.cox_row_builder.specs.Underway.{AreBare}
+use Rattle.cox_row_builder.specs.Counted.{counted}
+use Rattle.cox_klstep.specs.CountedSteps.{IsWithinCost, IsWithinCostTo, IsCounted, IsCountedTo}
 
 more-times : (a b l : ℕ) → a ≤ b → a * l ≤ b * l
 more-times a b l h =

@@ -7,8 +7,9 @@ use Rattle.cox_hecke.specs.Step.{IsCorrection}
 use Rattle.cox_context.specs.Closed.{Elements}
 use Rattle.cox_context.specs.Numbers.{word_at}
 use Rattle.cox_klstep.specs.declared.step.Correction.{Correction}
-use Rattle.cox_klstep.specs.declared.step.Descent.{Descent}
-use Rattle.cox_klstep.specs.StepOf.{AreNumbered, IsLowering}
+use Rattle.cox_row_symmetry.specs.declared.descents.Descent.{Descent}
+use Rattle.cox_row_symmetry.specs.DescentOf.{IsLowering}
+use Rattle.cox_klstep.specs.StepOf.{AreNumbered}
 
 -- what corrections cost: the sum of their numbers, each one more
 abbrev pub total_cost : List Correction → ℕ

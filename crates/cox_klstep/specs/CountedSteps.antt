@@ -1,16 +1,13 @@
 -- How many polynomials are added up for a row.
-use Rattle.std.specs.Prelude.{◌≡◌, ℕ, ◌+◌, ◌-◌, ◌*◌, ◌^◌, ◌<◌, ◌≤◌, List, length, min}
+use Rattle.std.specs.Prelude.{◌≡◌, ℕ, ◌+◌, ◌*◌, ◌<◌, ◌≤◌, List, length}
 use Rattle.cox_base.specs.IntegerMatrix.{integer_matrix}
 use Rattle.cox_reflect.specs.LeastDescent.{IsLeastLeftDescent}
 use Rattle.cox_context.specs.Closed.{Elements}
 use Rattle.cox_context.specs.Numbers.{word_at}
 use Rattle.cox_row.specs.Rising.{number_at}
 use Rattle.cox_row.specs.ExtremalNumbers.{AreExtremal}
+use Rattle.cox_row_builder.specs.Counted.{counted}
 use Rattle.cox_klstep.specs.NeedsOf.{AreNeeds}
-
--- a count after some polynomials more; it stands still at the end of its 64 bits
-abbrev pub counted : ℕ → ℕ → ℕ
-counted old more = min (old + more) (2 ^ 64 - 1)
 
 -- for each extremal x ≤ w at most so many polynomials were added up
 abbrev pub IsWithinCost : Elements → ℕ → ℕ → ℕ → ℕ → Type 0

@@ -1,5 +1,5 @@
--- The extremal members up to one, and where a step leads from them.
-use Rattle.std.specs.Prelude.{◌≡◌, ℕ, ◌+◌, ◌<◌, List, length, Some}
+-- Where a step leads from the extremal members up to one.
+use Rattle.std.specs.Prelude.{◌≡◌, ℕ, ◌<◌, List, length, Some}
 use Rattle.cox_base.specs.declared.side.Side.{Side}
 use Rattle.cox_base.specs.IntegerMatrix.{integer_matrix}
 use Rattle.cox_base.specs.ShortLex.{normal_form}
@@ -7,19 +7,10 @@ use Rattle.cox_base.specs.SideDescents.{times_letter}
 use Rattle.cox_context.specs.Closed.{Elements}
 use Rattle.cox_context.specs.Numbers.{word_at}
 use Rattle.cox_context.specs.Numbering.{IsNumberOf}
-use Rattle.cox_row.specs.Extremal.{IsExtremal}
-use Rattle.cox_row.specs.Rising.{number_at, AreRising, AreWithin}
+use Rattle.cox_row.specs.Rising.{number_at}
+use Rattle.cox_row_builder.specs.Candidates.{AreExtremalUpTo}
 use Rattle.cox_klstep.specs.declared.lowering.Lowered.{Lowered}
 use Rattle.cox_klstep.specs.declared.step.Step.{Step}
-
--- the members that are extremal for the member i, from the first one up to i, rising by number
-pub record AreExtremalUpTo (e : Elements) (i : ℕ) (numbers : List ℕ) : Type 0 where
-  pub rising : AreRising numbers
-  pub before : AreWithin (i + 1) numbers
-  pub each : (k : ℕ) → k < length numbers
-      → IsExtremal (integer_matrix e.matrix) (word_at e.members i) (word_at e.members (number_at numbers k))
-  pub whole : (x : ℕ) → x < i + 1 → IsExtremal (integer_matrix e.matrix) (word_at e.members i) (word_at e.members x)
-      → (k : ℕ) × (k < length numbers) × (number_at numbers k ≡ x)
 
 -- a letter on a side leads from each of these members to the one at the same place
 pub record AreLowered (e : Elements) (side : Side) (letter : ℕ) (numbers shorter : List ℕ) : Type 0 where

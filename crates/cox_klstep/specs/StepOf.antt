@@ -1,11 +1,10 @@
 -- The step by which the row of w is made: a descent s of w, the element v = sw or ws, and what the step from v is corrected by.
-use Rattle.std.specs.Prelude.{◌≡◌, ℕ, ◌+◌, ◌*◌, ◌<◌, List, ◌∷◌, length, slice_index_or, slice_get, IfSome, ℤ, pos}
+use Rattle.std.specs.Prelude.{◌≡◌, ℕ, ◌+◌, ◌*◌, ◌<◌, List, length, slice_index_or, slice_get, IfSome, ℤ, pos}
 use Rattle.std.specs.Borrow.{Bor}
 use Rattle.cox_base.specs.declared.side.Side.{Side}
 use Rattle.cox_base.specs.IntegerMatrix.{IntegerMatrix, integer_matrix}
 use Rattle.cox_base.specs.ShortLex.{normal_form}
 use Rattle.cox_base.specs.Length.{word_length}
-use Rattle.cox_reflect.specs.LeastDescent.{IsLeastLeftDescent}
 use Rattle.cox_base.specs.SideDescents.{times_letter, IsDescent}
 use Rattle.cox_hecke.specs.Step.{IsCorrection}
 use Rattle.cox_context.specs.Closed.{Elements}
@@ -13,7 +12,6 @@ use Rattle.cox_context.specs.Numbers.{word_at}
 use Rattle.cox_row.specs.declared.row.Row.{Row}
 use Rattle.cox_row.specs.RowOf.{IsRowAt}
 use Rattle.cox_klstep.specs.declared.step.Correction.{Correction}
-use Rattle.cox_klstep.specs.declared.step.Descent.{Descent}
 use Rattle.cox_klstep.specs.declared.step.Step.{Step}
 
 -- the correction at a place
@@ -31,21 +29,6 @@ pub record AreNumbered (side : Side) (A : IntegerMatrix) (members : List (List �
       → word_length A w ≡ word_length A (word_at members (correction_at list k).number) + 2 * (correction_at list k).shift
   pub whole : (u : ℕ) (m : ℤ) → u < length members → IsCorrection side A s (times_letter side s w) (word_at members u) m
       → (k : ℕ) × (k < length list) × ((correction_at list k).number ≡ u)
-
--- a descent s of the member w, and the number of the shorter element
-pub record IsLowering (e : Elements) (side : Side) (d : Descent) : Type 0 where
-  pub within : d.member < length e.members
-  pub descent : IsDescent side (integer_matrix e.matrix) (word_at e.members d.member) d.letter
-  pub lower_within : d.lower < length e.members
-  pub lower_is : word_at e.members d.lower
-      ≡ normal_form (integer_matrix e.matrix) (times_letter side d.letter (word_at e.members d.member))
-
--- the least left descent s of the member w, and the number of sw
-pub record IsDescentAt (e : Elements) (d : Descent) : Type 0 where
-  pub within : d.member < length e.members
-  pub least : IsLeastLeftDescent (integer_matrix e.matrix) (word_at e.members d.member) d.letter
-  pub lower_within : d.lower < length e.members
-  pub lower_is : word_at e.members d.lower ≡ normal_form (integer_matrix e.matrix) (d.letter ∷ word_at e.members d.member)
 
 -- the step by which the row of the member with its number is made
 pub record IsRowStep (e : Elements) (step : Step) : Type 0 where

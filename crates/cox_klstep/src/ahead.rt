@@ -10,9 +10,10 @@ ghost use Rattle.cox_klstep.specs.LoweredTo.{IsLoweredBy};
 ghost use Rattle.cox_klstep.specs.SourceOf.{IsMadeFrom};
 ghost use Rattle.cox_klstep.specs.Tasks.{IsTask};
 
-use crate::sums::{Source, Steps, put_polynomial};
+use crate::sums::{Source, put_polynomial};
 use crate::task::RowTask;
 use cox_poly::{Acc, Poly};
+use cox_row_builder::Steps;
 use std::alloc::Global;
 use std::thread::{Threads, join};
 

@@ -7,15 +7,17 @@ ghost use Rattle.cox_base.specs.SideDescents.{times_letter};
 ghost use Rattle.cox_hecke.specs.Step.{IsCorrection};
 ghost use Rattle.cox_context.specs.Numbers.{word_at};
 ghost use Rattle.cox_row.specs.RowOf.{IsRowAt};
-ghost use Rattle.cox_klstep.specs.StepOf.{AreNumbered, correction_at, IsLowering, IsRowStep};
+ghost use Rattle.cox_row_symmetry.specs.DescentOf.{IsLowering};
+ghost use Rattle.cox_klstep.specs.StepOf.{AreNumbered, correction_at, IsRowStep};
 ghost use Rattle.cox_klstep.specs.NeedsOf.{HasNeeds, AreNeeds};
 ghost use Rattle.cox_klstep.specs.ChoiceOf.{IsChoice, total_cost};
 ghost use Rattle.cox_klstep.specs.declared.step.Correction.{Correction};
 
-use crate::step::{Correction, Descent, Step, shift, shortens};
+use crate::step::{Correction, Step};
 use cox_base::Side;
 use cox_context::Context;
 use cox_row::{LowerRows, Row};
+use cox_row_symmetry::{Descent, shift, shortens};
 use std::alloc::{AllocError, Global};
 
 /// A step to a member, and what it costs: the sum of the numbers of its corrections, each one more.

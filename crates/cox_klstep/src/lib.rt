@@ -3,26 +3,22 @@
 //! For a descent s of w on the left, v = sw, and an extremal x <= w, P(x,w) is P(sx,v) + q P(x,v), less the sum of mu(u,v)
 //! q^((l(w)-l(u))/2) P(x,u) over the u with su < u (Kazhdan and Lusztig 1979, 2.2.c; Humphreys 7.11); and the same on the right. Of all
 //! descents whose rows are there the one with the cheapest corrections is taken; it is proved that these cost no more than those of the
-//! least left descent. Where the row of the inverse of w is there, or that of another image under a symmetry, P(x,w) is read off that.
+//! least left descent. Where the row of the inverse of w is there, or that of another image under a symmetry, P(x,w) is read off that
+//! (`cox_row_symmetry`). What is found of a row is put together by `cox_row_builder`.
 //!
-//! - `member`: the row of a member, the row of the identity, and the rows that a row is made from
+//! - `member`: the row of a member, and the rows that a row is made from
 //! - `choice`: which step is taken
-//! - `step`: the descent, the shorter element and the corrections, with shifts and descents on either side
+//! - `step`: the descent, the shorter element and the corrections
 //! - `lowering`: the extremal members up to the member, and where the step leads from them
 //! - `task`: what a row is made from
 //! - `making`: the row, one extremal member after another
-//! - `sums`: the polynomial at one extremal member, by the recursion, and how much was added up
+//! - `sums`: the polynomial at one extremal member, by the recursion
 //! - `ahead`: polynomials that several threads find before the row is made
-//! - `values`: what a row that is being made has: polynomials, values of mu, and members with a coefficient above the limit
-//! - `views`: the row from that of an image under a symmetry
-//! - `turns`: symmetries as they take the members
 //! - `tables`: lists of candidates, symmetries, and what is kept from row to row
-//! - `fault`: why a row is not made
 #![tactic(auto)]
 
 mod ahead;
 mod choice;
-mod fault;
 mod lowering;
 mod making;
 mod member;
@@ -30,16 +26,11 @@ mod step;
 mod sums;
 mod tables;
 mod task;
-mod turns;
-mod values;
-mod views;
 
 pub use ahead::{Alone, ByThreads, FoundPolynomial, Team, find_together};
 pub use choice::correction_sum;
-pub use fault::StepFault;
-pub use member::{identity_row, needs, row};
-pub use step::{Descent, shift, shortens};
-pub use sums::Steps;
-pub use tables::Tables;
+pub use cox_row_builder::{StepFault, Steps, identity_row};
+pub use cox_row_symmetry::{Descent, shift, shortens};
+pub use member::{needs, row};
+pub use tables::{Tables, shared_row};
 pub use task::RowTask;
-pub use views::shared_row;

@@ -3,20 +3,16 @@
 //! What is known of a member, and where shifts lead from it, stands all over memory. So it is looked up in tight loops that do nothing
 //! else, in which the processor waits for several members at a time.
 ghost use Rattle.std.specs.Prelude.{◌≡◌, ◌+◌, ◌<◌, length, OnOk};
-ghost use Rattle.cox_base.specs.IntegerMatrix.{integer_matrix};
-ghost use Rattle.cox_base.specs.SideDescents.{IsDescent};
-ghost use Rattle.cox_context.specs.Numbers.{word_at};
 ghost use Rattle.cox_row.specs.Rising.{number_at};
 ghost use Rattle.cox_klstep.specs.StepOf.{IsRowStep};
-ghost use Rattle.cox_klstep.specs.TablesOf.{AreCandidates};
-ghost use Rattle.cox_klstep.specs.TargetOf.{IsTarget};
-ghost use Rattle.cox_klstep.specs.LoweredTo.{AreExtremalUpTo, AreLowered, IsLoweredBy};
+ghost use Rattle.cox_row_builder.specs.Candidates.{AreCandidates, AreExtremalUpTo};
+ghost use Rattle.cox_row_builder.specs.TargetOf.{IsTarget};
+ghost use Rattle.cox_klstep.specs.LoweredTo.{AreLowered, IsLoweredBy};
 
-use crate::making::Target;
-use crate::step::{Step, shift};
-use crate::tables::push_if;
+use crate::step::Step;
 use cox_context::Context;
-use cox_row::is_subset;
+use cox_row_builder::{Target, choose_extremal};
+use cox_row_symmetry::shift;
 use std::alloc::{AllocError, Global};
 
 /// The extremal members up to a member w, rising by number, and the shorter members to which the step to w leads from them.
@@ -56,7 +52,7 @@ impl Lowered {
         requires member { step.now.member ≡ target.now.member }
         ensures { OnOk result (IsLoweredBy ctx.now target.now.member step.now self.new) }
     {
-        choose(ctx, target, candidates, &mut self.members)?;
+        choose_extremal(ctx, target, candidates, &mut self.members)?;
         lower_each(ctx, step, &self.members, &mut self.shorter)
     }
 
@@ -79,27 +75,6 @@ impl Lowered {
             shorter: self.shorter[k],
         }
     }
-}
-
-/// The extremal ones among the candidates, in place of what the list had.
-fn choose(
-    ctx: &Context,
-    target: &Target,
-    candidates: &[u32],
-    members: &mut Vec<u32>,
-) -> Result<(), AllocError>
-    requires target { IsTarget ctx.now target.now }
-    requires candidates { AreCandidates ctx.now (target.now.member + 1) target.now.left candidates.now }
-    ensures { OnOk result (AreExtremalUpTo ctx.now target.now.member members.new.items) }
-{
-    let _len = ctx.len();
-    members.clear();
-    members.reserve(candidates.len())?;
-    for &x in candidates {
-        let is_extremal = is_subset(target.right, ctx.right_descent_set(x));
-        push_if(members, x, is_extremal);
-    }
-    Ok(())
 }
 
 /// Where the step leads from each of these members, in place of what the list had.

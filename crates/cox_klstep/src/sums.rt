@@ -1,4 +1,4 @@
-//! The recursion at one extremal member: the polynomials that are added up, and how many they are.
+//! The recursion at one extremal member: the polynomials that are added up.
 ghost use Rattle.std.specs.Prelude.{◌≡◌, ℕ, ◌+◌, ◌*◌, ◌^◌, ◌<◌, ◌≤◌, ◌↔◌, length, pos, unsigned_abs, false, IsTrue, IfSome, IsSome, Some};
 ghost use Rattle.std.specs.Arc.{arc_value};
 ghost use Rattle.cox_base.specs.Admissible.{IsAdmissible};
@@ -19,7 +19,7 @@ ghost use Rattle.cox_row.specs.RowOf.{IsRowAt};
 ghost use Rattle.cox_row.specs.Index.{IsIndexOf};
 ghost use Rattle.cox_klstep.specs.StepOf.{IsRowStep, AreNeeded};
 ghost use Rattle.cox_klstep.specs.CorrectionSums.{GivesAt, numbered_sum};
-ghost use Rattle.cox_klstep.specs.CountedSteps.{counted};
+ghost use Rattle.cox_row_builder.specs.Counted.{counted};
 ghost use Rattle.cox_klstep.specs.SourceOf.{IsSource, source_cost};
 ghost use Rattle.cox_klstep.specs.FoundAhead.{IsFoundFor};
 
@@ -27,7 +27,7 @@ use crate::step::{Correction, Step};
 use cox_context::Context;
 use cox_poly::{Acc, Poly, PolyView};
 use cox_row::{Row, RowIndex, indexed_polynomial, polynomial};
-use std::marker::Model;
+use cox_row_builder::Steps;
 
 /// What is added to the sums for an x: factor q^shift P(x,u), for the member u with this number.
 #[derive(Clone, Copy)]
@@ -289,42 +289,4 @@ fn put_found(ctx: &Context, i: u32, polynomial: &Poly, x: u32, sums: &mut Acc, s
         shift: 0,
     };
     add_known(ctx, &polynomial.view(), &term, x, sums, steps);
-}
-
-/// How many polynomials were added up so far. It stands still at the end of its 64 bits.
-#[derive(Drop)]
-pub struct Steps {
-    count: u64,
-}
-
-impl Model for Steps {
-    ghost use Rattle.std.specs.Prelude.{ℕ};
-
-    ghost Value = { ℕ };
-
-    ghost view = { λ s. s.count };
-}
-
-impl Steps {
-    /// None so far.
-    pub fn new() -> Steps
-        ensures { result ≡ 0 }
-    {
-        Steps { count: 0 }
-    }
-
-    /// How many there were.
-    pub fn taken(&self) -> u64
-        ensures { result ≡ self.now }
-    {
-        self.count
-    }
-
-    /// One more.
-    pub(crate) fn take(&mut self)
-        ensures one { self.new ≡ counted self.old 1 }
-        ensures kept { self.old ≤ self.new }
-    {
-        self.count = self.count.saturating_add(1);
-    }
 }

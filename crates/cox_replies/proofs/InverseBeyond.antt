@@ -14,8 +14,8 @@ use Rattle.cox_poly.specs.Coefficients.{Coefficients}
 use Rattle.cox_poly.proofs.Limits.{tell-above}
 use Rattle.cox_hecke.specs.ListedElements.{LiesBetween, occurrences}
 use Rattle.cox_hecke.proofs.ElementLists.{below_or_not, between_list}
-use Rattle.cox_klstep.specs.Limits.{IsLargeCoefficient}
-use Rattle.cox_klstep.proofs.LargeCoefficients.{large-words}
+use Rattle.cox_row_builder.specs.Limits.{IsLargeCoefficient}
+use Rattle.cox_row_builder.proofs.LargeCoefficients.{large-words}
 use Rattle.cox_rows.specs.Beyond.{NeedsBeyond}
 use Rattle.cox_rows.proofs.BeyondDecided.{tell-listed, tell-coefficient}
 use Rattle.cox_rows.proofs.NeedDecided.{tell-needs_beyond, needs_beyond-same}

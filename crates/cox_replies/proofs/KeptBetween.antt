@@ -26,8 +26,8 @@ use Rattle.cox_context.proofs.Shifting.{member-below}
 use Rattle.cox_context.proofs.IntervalLists.{is_below, interval-exists}
 use Rattle.cox_context.proofs.ShortLexLists.{HasMoreThan-few}
 use Rattle.cox_row.specs.Rising.{number_at}
-use Rattle.cox_klstep.specs.declared.fault.StepFault.{StepFault}
-use Rattle.cox_klstep.specs.declared.fault.StepFault.TheVariants.{Coefficient, Mu, NoMemory}
+use Rattle.cox_row_builder.specs.declared.fault.StepFault.{StepFault}
+use Rattle.cox_row_builder.specs.declared.fault.StepFault.TheVariants.{Coefficient, Mu, NoMemory}
 use Rattle.cox_rows.specs.Beyond.{IsBeyond, NeedsBeyond}
 use Rattle.cox_rows.specs.Holding.{Holding, HasRow}
 use Rattle.cox_rows.specs.Ensured.{IsEnsured}

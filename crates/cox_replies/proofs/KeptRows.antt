@@ -17,8 +17,8 @@ use Rattle.cox_context.proofs.ShortLexLists.{IsListOf-filter, HasMoreThan-few}
 use Rattle.cox_context.proofs.IntervalLists.{is_below, is_below-tells}
 use Rattle.cox_rows.specs.Beyond.{NeedsBeyond}
 use Rattle.cox_rows.specs.RowsFaults.{IsRowsFault}
-use Rattle.cox_klstep.specs.declared.fault.StepFault.{StepFault}
-use Rattle.cox_klstep.specs.declared.fault.StepFault.TheVariants.{Coefficient, Mu, NoMemory}
+use Rattle.cox_row_builder.specs.declared.fault.StepFault.{StepFault}
+use Rattle.cox_row_builder.specs.declared.fault.StepFault.TheVariants.{Coefficient, Mu, NoMemory}
 use Rattle.cox_base.specs.Matrix.{CoxeterMatrix}
 use Rattle.cox_base.specs.Element.{SameElement}
 use Rattle.cox_reflect.proofs.Elements.{same-sym}

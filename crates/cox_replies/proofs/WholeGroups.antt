@@ -21,8 +21,8 @@ use Rattle.cox_context.proofs.Shifting.{first-member}
 use Rattle.cox_reflect.proofs.NormalElements.{element-word}
 use Rattle.cox_context.proofs.ShortLexLists.{HasMoreThan-few}
 use Rattle.cox_context.proofs.RefusalCauses.{too_large-found}
-use Rattle.cox_klstep.specs.declared.fault.StepFault.{StepFault}
-use Rattle.cox_klstep.specs.declared.fault.StepFault.TheVariants.{Coefficient, Mu, NoMemory}
+use Rattle.cox_row_builder.specs.declared.fault.StepFault.{StepFault}
+use Rattle.cox_row_builder.specs.declared.fault.StepFault.TheVariants.{Coefficient, Mu, NoMemory}
 use Rattle.cox_rows.specs.Holding.{Holding, HasRow}
 use Rattle.cox_rows.specs.RowsFaults.{IsFaultOfSome}
 use Rattle.cox_rows.specs.Beyond.{IsBeyond, NeedsBeyond}

@@ -13,8 +13,8 @@ use Rattle.cox_command.specs.declared.refusal.Refusal.{Refusal}
 use Rattle.cox_replies.specs.declared.unanswered.Unanswered.{Unanswered}
 use Rattle.cox_replies.specs.declared.unanswered.Unanswered.TheVariants as unanswered
 use Rattle.cox_command.specs.declared.refusal.Refusal.TheVariants.{LargeRow}
-use Rattle.cox_klstep.specs.declared.fault.StepFault.{StepFault}
-use Rattle.cox_klstep.specs.declared.fault.StepFault.TheVariants as fault
+use Rattle.cox_row_builder.specs.declared.fault.StepFault.{StepFault}
+use Rattle.cox_row_builder.specs.declared.fault.StepFault.TheVariants as fault
 use Rattle.cox_replies.specs.Limits.{Limits}
 use Rattle.cox_replies.specs.Question.{IsRefused}
 

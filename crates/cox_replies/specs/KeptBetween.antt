@@ -7,7 +7,7 @@ use Rattle.cox_hecke.specs.Needs.{IsNeeded}
 use Rattle.cox_context.specs.Closed.{Elements}
 use Rattle.cox_context.specs.Numbers.{word_at}
 use Rattle.cox_row.specs.Rising.{number_at}
-use Rattle.cox_klstep.specs.declared.fault.StepFault.{StepFault}
+use Rattle.cox_row_builder.specs.declared.fault.StepFault.{StepFault}
 use Rattle.cox_rows.specs.Beyond.{IsBeyond, NeedsBeyond}
 use Rattle.cox_rows.specs.Holding.{Holding, HasRow}
 use Rattle.cox_rows.specs.RowsFaults.{IsRowsFault}

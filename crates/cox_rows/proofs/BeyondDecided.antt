@@ -18,8 +18,8 @@ use Rattle.cox_hecke.proofs.Descended.{mu-below}
 use Rattle.cox_hecke.proofs.PolynomialValues.{kl_polynomial, kl_polynomial-is, kl_polynomial-low, kazhdan_lusztig-unique}
 use Rattle.cox_row.proofs.MuOfElements.{mu-words}
 use Rattle.cox_row.specs.declared.row.TheConstants.{MU_LIMIT}
-use Rattle.cox_klstep.specs.Limits.{IsLargeCoefficient, IsLargeMu}
-use Rattle.cox_klstep.proofs.LargeCoefficients.{outside-none, large-words}
+use Rattle.cox_row_builder.specs.Limits.{IsLargeCoefficient, IsLargeMu}
+use Rattle.cox_row_builder.proofs.LargeCoefficients.{outside-none, large-words}
 use Rattle.cox_rows.specs.Beyond.{IsBeyond}
 use Rattle.cox_rows.proofs.LargeRows.{coefficient-beyond, mu-beyond, beyond-cases}
 

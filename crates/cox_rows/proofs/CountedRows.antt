@@ -3,8 +3,9 @@ use Rattle.std.proofs.Common.{◌≡◌, ◌≢◌, ◌⊎◌, inl, inr, ⊎_eli
 use Rattle.std.proofs.Common.{refl, ap, arith}
 use Rattle.std.proofs.lemmas.Bool.{both_ways, cases_eq}
 use Rattle.cox_context.specs.Closed.{Elements}
-use Rattle.cox_klstep.specs.CountedSteps.{counted, IsCounted}
-use Rattle.cox_klstep.specs.ImagesAtHand.{IsImageAtHand, IsMadeByStep}
+use Rattle.cox_row_builder.specs.Counted.{counted}
+use Rattle.cox_klstep.specs.CountedSteps.{IsCounted}
+use Rattle.cox_row_symmetry.specs.ImagesAtHand.{IsImageAtHand, IsMadeByStep}
 use Rattle.cox_rows.specs.Holding.{Holding, HasRow}
 use Rattle.cox_rows.specs.CountedRows.{IsNewByStep, IsShare, total, AreRowsCounted}
 

@@ -23,14 +23,14 @@ use Rattle.cox_context.specs.Numbers.{word_at}
 use Rattle.cox_context.proofs.PlacedWords.{contains-placed}
 use Rattle.cox_context.proofs.Shifting.{member-below, first-member, length-at}
 use Rattle.cox_row.specs.Rising.{number_at}
-use Rattle.cox_klstep.specs.declared.step.Descent.{Descent}
-use Rattle.cox_klstep.specs.StepOf.{IsDescentAt}
+use Rattle.cox_row_symmetry.specs.declared.descents.Descent.{Descent}
+use Rattle.cox_row_symmetry.specs.DescentOf.{IsDescentAt}
 use Rattle.cox_klstep.specs.NeedsOf.{AreNeeds}
-use Rattle.cox_klstep.proofs.NeededRows.{lower-same, shorter-before}
+use Rattle.cox_row_symmetry.proofs.LowerMembers.{lower-same, shorter-before}
 use Rattle.cox_rows.specs.Beyond.{NeedsBeyond}
 use Rattle.cox_rows.specs.Holding.{Holding, HasRow}
-use Rattle.cox_klstep.specs.declared.fault.StepFault.{StepFault}
-use Rattle.cox_klstep.specs.Faults.{IsFault}
+use Rattle.cox_row_builder.specs.declared.fault.StepFault.{StepFault}
+use Rattle.cox_row_builder.specs.Faults.{IsFault}
 use Rattle.cox_rows.specs.RowsFaults.{IsRowsFault, IsFaultOfSome}
 use Rattle.cox_rows.specs.Ensured.{IsEnsured, AreNeedsSmall}
 use Rattle.cox_rows.specs.CountedRows.{AreRowsCounted}

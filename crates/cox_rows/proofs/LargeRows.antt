@@ -2,7 +2,7 @@
 use Rattle.std.proofs.Common.{◌≡◌, ℕ, List, ℤ, pos, ◌⊎◌, inl, inr, refl, sym, ◌∙◌}
 use Rattle.cox_base.specs.IntegerMatrix.{IntegerMatrix}
 use Rattle.cox_row.specs.declared.row.TheConstants.{MU_LIMIT}
-use Rattle.cox_klstep.specs.Limits.{IsLargeCoefficient, IsLargeMu}
+use Rattle.cox_row_builder.specs.Limits.{IsLargeCoefficient, IsLargeMu}
 use Rattle.cox_rows.specs.Beyond.{IsBeyond, coefficient, mu}
 
 module _ (A : IntegerMatrix) (limit : ℤ) (w : List ℕ) where

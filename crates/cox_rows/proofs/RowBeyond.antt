@@ -25,9 +25,9 @@ use Rattle.cox_row.specs.Views.{ServesFor}
 use Rattle.cox_row.specs.RowOf.{AreValuesOf, IsRowOf, pool_of}
 use Rattle.cox_row.specs.Within.{IsRowWithin}
 use Rattle.cox_row.proofs.MuOfElements.{mu-words}
-use Rattle.cox_klstep.specs.Limits.{IsLargeCoefficient, IsLargeMu}
-use Rattle.cox_klstep.proofs.Finished.{none-large}
-use Rattle.cox_klstep.proofs.LargeCoefficients.{large-words}
+use Rattle.cox_row_builder.specs.Limits.{IsLargeCoefficient, IsLargeMu}
+use Rattle.cox_row_builder.proofs.Finished.{none-large}
+use Rattle.cox_row_builder.proofs.LargeCoefficients.{large-words}
 use Rattle.cox_rows.specs.Beyond.{IsBeyond}
 use Rattle.cox_rows.proofs.LargeRows.{beyond-cases}
 use Rattle.cox_rows.proofs.TurnedRows.{large_coefficient-turned}

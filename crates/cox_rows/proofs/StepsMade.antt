@@ -1,8 +1,9 @@
 -- The polynomials that are added up for one row more.
 use Rattle.std.proofs.Common.{◌≡◌, ◌≢◌, ℕ, subst, arith}
 use Rattle.cox_context.specs.Closed.{Elements}
-use Rattle.cox_klstep.specs.CountedSteps.{counted, IsWithinSteps, IsCounted}
-use Rattle.cox_klstep.specs.ImagesAtHand.{IsMadeByStep}
+use Rattle.cox_row_symmetry.specs.ImagesAtHand.{IsMadeByStep}
+use Rattle.cox_row_builder.specs.Counted.{counted}
+use Rattle.cox_klstep.specs.CountedSteps.{IsWithinSteps, IsCounted}
 use Rattle.cox_rows.specs.Holding.{Holding, HasRow}
 use Rattle.cox_rows.specs.CountedRows.{AreRowsCounted}
 use Rattle.cox_rows.proofs.CountedRows.{counted-one}

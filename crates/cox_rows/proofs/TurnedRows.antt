@@ -13,7 +13,7 @@ use Rattle.cox_symmetry.proofs.SymmetryGroup.{inverse_symmetry}
 use Rattle.cox_symmetry.proofs.Turned.{turn-word, turn-back, kazhdan_lusztig_turned, mu_turned}
 use Rattle.cox_row.specs.declared.row.TheConstants.{MU_LIMIT}
 use Rattle.cox_row.proofs.MuOfElements.{mu-words}
-use Rattle.cox_klstep.specs.Limits.{IsLargeCoefficient, IsLargeMu}
+use Rattle.cox_row_builder.specs.Limits.{IsLargeCoefficient, IsLargeMu}
 use Rattle.cox_rows.specs.Beyond.{IsBeyond}
 use Rattle.cox_rows.proofs.LargeRows.{coefficient-beyond, mu-beyond, beyond-cases}
 

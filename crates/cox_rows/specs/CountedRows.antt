@@ -3,8 +3,8 @@ use Rattle.std.specs.Prelude.{◌≡◌, ◌⊎◌, ℕ, zero, suc, ◌+◌, ◌
 use Rattle.cox_base.specs.IntegerMatrix.{integer_matrix}
 use Rattle.cox_context.specs.Numbers.{word_at}
 use Rattle.cox_row.specs.ExtremalNumbers.{AreExtremal}
-use Rattle.cox_klstep.specs.CountedSteps.{counted}
-use Rattle.cox_klstep.specs.ImagesAtHand.{IsMadeByStep}
+use Rattle.cox_row_builder.specs.Counted.{counted}
+use Rattle.cox_row_symmetry.specs.ImagesAtHand.{IsMadeByStep}
 use Rattle.cox_rows.specs.Holding.{Holding, HasRow}
 
 -- the row of the member i is new, and no row is held that it could have been read off

@@ -9,7 +9,7 @@ ghost use Rattle.cox_base.specs.Matrix.{IsWord};
 ghost use Rattle.cox_context.specs.Union.{IsInUnion};
 ghost use Rattle.cox_context.specs.Numbers.{word_at};
 ghost use Rattle.cox_row.specs.RowLists.{row_at};
-ghost use Rattle.cox_klstep.specs.CountedSteps.{counted};
+ghost use Rattle.cox_row_builder.specs.Counted.{counted};
 ghost use Rattle.cox_rows.specs.Beyond.{IsBeyond};
 ghost use Rattle.cox_rows.specs.Holding.{Holding, HasRow, IsHeldRow, AreBoth, held};
 ghost use Rattle.cox_context.specs.Spread.{AreKept};

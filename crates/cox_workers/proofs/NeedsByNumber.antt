@@ -5,8 +5,8 @@ use Rattle.cox_base.specs.Admissible.{IsAdmissible}
 use Rattle.cox_context.specs.Closed.{Elements, IsClosed}
 use Rattle.cox_context.specs.Numbers.{word_at}
 use Rattle.cox_row.specs.Rising.{number_at}
-use Rattle.cox_klstep.specs.declared.step.Descent.{Descent}
-use Rattle.cox_klstep.specs.StepOf.{IsDescentAt}
+use Rattle.cox_row_symmetry.specs.declared.descents.Descent.{Descent}
+use Rattle.cox_row_symmetry.specs.DescentOf.{IsDescentAt}
 use Rattle.cox_klstep.specs.NeedsOf.{AreNeeds}
 use Rattle.cox_klstep.proofs.NeededRows.{shorter-needed, correction-needed, correction-before}
 use Rattle.cox_workers.specs.Work.{IsNeededAt}

@@ -12,9 +12,9 @@ use Rattle.cox_hecke.proofs.NeededElements.{needed-trans}
 use Rattle.cox_context.specs.Closed.{Elements}
 use Rattle.cox_context.specs.Numbers.{word_at}
 use Rattle.cox_fill_core.specs.declared.event.RowState.{RowState}
-use Rattle.cox_klstep.specs.declared.fault.StepFault.{StepFault}
-use Rattle.cox_klstep.specs.declared.fault.StepFault.TheVariants.{NoMemory}
-use Rattle.cox_klstep.specs.Faults.{IsFault}
+use Rattle.cox_row_builder.specs.declared.fault.StepFault.{StepFault}
+use Rattle.cox_row_builder.specs.declared.fault.StepFault.TheVariants.{NoMemory}
+use Rattle.cox_row_builder.specs.Faults.{IsFault}
 use Rattle.cox_klstep.specs.NeedsOf.{HasNeeds}
 use Rattle.cox_claims.specs.declared.seat.Seat.{Seat}
 use Rattle.cox_claims.specs.declared.view.View.{View}

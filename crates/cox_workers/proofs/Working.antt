@@ -8,9 +8,9 @@ use Rattle.cox_claims.specs.declared.seat.Seat.{Seat}
 use Rattle.cox_claims.specs.Knowledge.{SeesAll}
 use Rattle.cox_claims.specs.Seats.{view_of}
 use Rattle.cox_context.specs.Closed.{IsClosed}
-use Rattle.cox_klstep.specs.declared.step.Descent.{Descent}
-use Rattle.cox_klstep.specs.StepOf.{IsDescentAt}
-use Rattle.cox_klstep.specs.declared.sums.Steps.{Steps}
+use Rattle.cox_row_symmetry.specs.declared.descents.Descent.{Descent}
+use Rattle.cox_row_symmetry.specs.DescentOf.{IsDescentAt}
+use Rattle.cox_row_builder.specs.declared.steps.Steps.{Steps}
 use Rattle.cox_klstep.specs.declared.tables.Tables.{Tables}
 use Rattle.cox_klstep.specs.TablesOf.{AreTables}
 use Rattle.cox_row_store.specs.Stores.{IsSeat}

@@ -1,6 +1,6 @@
 //! Why a row is not there.
 ghost use Rattle.std.specs.Prelude.{◌≡◌};
-ghost use Rattle.cox_klstep.specs.declared.fault.StepFault.TheVariants.{NoMemory};
+ghost use Rattle.cox_row_builder.specs.declared.fault.StepFault.TheVariants.{NoMemory};
 ghost use Rattle.cox_workers.specs.declared.missing.Missing.TheVariants.{Fault};
 
 use cox_klstep::StepFault;

@@ -8,7 +8,7 @@ use Rattle.cox_base.specs.IntegerMatrix.{integer_matrix}
 use Rattle.cox_poly.specs.Polynomial.{coefficient}
 use Rattle.cox_context.specs.Numbers.{word_at}
 use Rattle.cox_row.specs.Rising.{number_at}
-use Rattle.cox_klstep.proofs.LargeCoefficients.{within-none, outside-none, within-more}
+use Rattle.cox_row_builder.proofs.LargeCoefficients.{within-none, outside-none, within-more}
 use Rattle.cox_inverse.specs.declared.fault.TheConstants.{MAX_COEFFICIENT}
 use Rattle.cox_inverse.proofs.FirstPairs.{at_most, row-within, small-row, first-pair_at}
 use Rattle.cox_inverse.proofs.large.first_in_row.Goals as goal

@@ -3,7 +3,7 @@ use Rattle.std.proofs.Common.{◌≡◌, ◌+◌, ◌<◌, ◌≤◌, length, re
 use Rattle.cox_base.specs.IntegerMatrix.{integer_matrix}
 use Rattle.cox_context.specs.Numbers.{word_at}
 use Rattle.cox_row.specs.Rising.{number_at}
-use Rattle.cox_klstep.proofs.DescentsOnSides.{lowered-letter}
+use Rattle.cox_row_symmetry.proofs.DescentsOnSides.{lowered-letter}
 use Rattle.cox_klstep.proofs.CostedSums.{costed-start, costed-skip, costed-take, costed-small, costed-end}
 use Rattle.cox_klstep.proofs.choice.correction_sum.Goals as goal
 use Rattle.cox_klstep.proofs.choice.correction_sum.Goals.{then-shortens+else-count-most+else-sum-bound, else-shortens}

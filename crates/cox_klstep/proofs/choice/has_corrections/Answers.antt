@@ -3,7 +3,7 @@ use Rattle.std.proofs.Common.{◌≡◌, ◌<◌, ◌≤◌, length, ⊎_elim, a
 use Rattle.std.proofs.lemmas.Bool.{cases_lt}
 use Rattle.cox_base.specs.IntegerMatrix.{integer_matrix}
 use Rattle.cox_context.specs.Numbers.{word_at}
-use Rattle.cox_klstep.proofs.DescentsOnSides.{lowered-letter}
+use Rattle.cox_row_symmetry.proofs.DescentsOnSides.{lowered-letter}
 use Rattle.cox_klstep.proofs.Chosen.{correction-place}
 use Rattle.cox_klstep.proofs.choice.has_corrections.Goals as goal
 use Rattle.cox_klstep.proofs.choice.has_corrections.Goals.{then-shortens+else-not-has, else-shortens}

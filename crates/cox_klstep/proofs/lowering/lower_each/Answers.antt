@@ -4,7 +4,7 @@ use Rattle.cox_lemmas.proofs.PushedItems.{push-length, push-old, push-new, push_
 use Rattle.cox_base.specs.IntegerMatrix.{integer_matrix}
 use Rattle.cox_context.specs.Numbers.{word_at}
 use Rattle.cox_row.specs.Rising.{number_at}
-use Rattle.cox_klstep.proofs.DescentsOnSides.{lowered-letter, lowered-member, extremal-descent}
+use Rattle.cox_row_symmetry.proofs.DescentsOnSides.{lowered-letter, lowered-member, extremal-descent}
 use Rattle.cox_klstep.proofs.lowering.lower_each.Goals as goal
 
 pub shift-requires-clause-letter : goal.shift-requires-clause-letter

@@ -6,7 +6,7 @@ use Rattle.cox_poly.specs.Polynomial.{coefficient}
 use Rattle.cox_hecke.proofs.PolynomialValues.{kl_polynomial, kl_polynomial-is}
 use Rattle.cox_context.specs.Numbers.{word_at}
 use Rattle.cox_klstep.specs.CorrectionSums.{numbered_sum}
-use Rattle.cox_klstep.proofs.DescentsOnSides.{extremal-descent}
+use Rattle.cox_row_symmetry.proofs.DescentsOnSides.{extremal-descent}
 use Rattle.cox_klstep.proofs.AddedSums.{three-sums}
 use Rattle.cox_klstep.proofs.NumberedRecursion.{below-lowered, sums-are}
 use Rattle.cox_klstep.proofs.sums.sum_up.Goals as goal

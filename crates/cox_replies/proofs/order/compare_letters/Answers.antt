@@ -4,8 +4,8 @@ use Rattle.cox_base.specs.IntegerMatrix.{integer_matrix}
 use Rattle.cox_base.specs.Admissible.{IsAdmissible}
 use Rattle.cox_context.specs.Closed.{Elements, IsClosed}
 use Rattle.cox_context.specs.Numbers.{word_at}
-use Rattle.cox_klstep.specs.declared.step.Descent.{Descent}
-use Rattle.cox_klstep.specs.StepOf.{IsDescentAt}
+use Rattle.cox_row_symmetry.specs.declared.descents.Descent.{Descent}
+use Rattle.cox_row_symmetry.specs.DescentOf.{IsDescentAt}
 use Rattle.cox_replies.proofs.OrderOfWords.{first-descent, some-letters, same-letters, next-letters, first-letters}
 use Rattle.cox_replies.proofs.order.compare_letters.Goals as goal
 

@@ -5,11 +5,12 @@ use Rattle.cox_base.specs.IntegerMatrix.{integer_matrix}
 use Rattle.cox_hecke.specs.Needs.{IsNeeded}
 use Rattle.cox_context.specs.Numbers.{word_at}
 use Rattle.cox_row.specs.Rising.{number_at}
-use Rattle.cox_klstep.specs.StepOf.{IsDescentAt}
+use Rattle.cox_row_symmetry.specs.DescentOf.{IsDescentAt}
 use Rattle.cox_klstep.specs.NeedsOf.{AreNeeds}
-use Rattle.cox_klstep.proofs.NeededRows.{listed-needs, lower-before, shorter-needed, correction-before, correction-needed, identity-needs}
+use Rattle.cox_row_symmetry.proofs.LowerMembers.{lower-before}
+use Rattle.cox_klstep.proofs.NeededRows.{listed-needs, shorter-needed, correction-before, correction-needed, identity-needs}
 use Rattle.cox_rows.specs.Holding.{HasRow}
-use Rattle.cox_klstep.specs.Faults.{IsFault}
+use Rattle.cox_row_builder.specs.Faults.{IsFault}
 use Rattle.cox_rows.specs.RowsFaults.{IsRowsFault}
 use Rattle.cox_rows.proofs.EnsuredNeeds.{ensured-refl, ensured-needed, ensured-then, fault-needed, fault-own}
 use Rattle.cox_rows.proofs.EnsuredNeeds.{under_way-start, under_way-rows, under_way-next}

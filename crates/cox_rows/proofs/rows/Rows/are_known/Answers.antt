@@ -7,8 +7,8 @@ use Rattle.cox_reflect.proofs.Elements.{same-refl, same-sym}
 use Rattle.cox_context.specs.Numbers.{word_at}
 use Rattle.cox_row.specs.Rising.{number_at}
 use Rattle.cox_row.proofs.MuOfElements.{mu-words}
-use Rattle.cox_klstep.proofs.DescentsOnSides.{lowered-letter}
-use Rattle.cox_klstep.proofs.NeededRows.{lower-same}
+use Rattle.cox_row_symmetry.proofs.DescentsOnSides.{lowered-letter}
+use Rattle.cox_row_symmetry.proofs.LowerMembers.{lower-same}
 use Rattle.cox_rows.proofs.rows.Rows.are_known.Goals as goal
 use Rattle.cox_rows.proofs.rows.Rows.are_known.Goals.{else-shortens-via-then-shortens+else-not-is_known, else-shortens-via-else-shortens}
 

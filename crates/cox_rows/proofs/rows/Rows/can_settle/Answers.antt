@@ -2,7 +2,7 @@
 use Rattle.std.proofs.Common.{◌≡◌, ℕ, ◌<◌, true, false, ⊎_elim, arith}
 use Rattle.cox_base.specs.IntegerMatrix.{integer_matrix}
 use Rattle.cox_context.specs.Numbers.{word_at}
-use Rattle.cox_klstep.specs.StepOf.{IsDescentAt}
+use Rattle.cox_row_symmetry.specs.DescentOf.{IsDescentAt}
 use Rattle.cox_rows.specs.Beyond.{NeedsBeyond}
 use Rattle.cox_rows.proofs.EnsuredNeeds.{small-before, needs-small}
 use Rattle.cox_rows.proofs.rows.Rows.can_settle.Goals as goal

@@ -1,5 +1,5 @@
 -- The shorter element and the corrections are all that the row is made from.
-use Rattle.cox_klstep.specs.StepOf.{IsDescentAt}
+use Rattle.cox_row_symmetry.specs.DescentOf.{IsDescentAt}
 use Rattle.cox_klstep.proofs.NeededRows.{listed-needs, identity-needs}
 use Rattle.cox_rows.specs.Holding.{HasRow}
 use Rattle.cox_rows.proofs.rows.Rows.has_needs.Goals as goal

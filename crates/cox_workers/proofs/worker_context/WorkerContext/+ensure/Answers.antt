@@ -2,7 +2,8 @@
 use Rattle.std.proofs.Common.{◌≡◌, ◌<◌, ◌≤◌, ⊎_elim, refl, ap, ◌∙◌, subst, rules, arith}
 use Rattle.std.proofs.lemmas.Bool.{cases_lt}
 use Rattle.std.specs.Prelude.{IfErr}
-use Rattle.cox_klstep.proofs.NeededRows.{listed-needs, identity-needs, lower-before}
+use Rattle.cox_row_symmetry.proofs.LowerMembers.{lower-before}
+use Rattle.cox_klstep.proofs.NeededRows.{listed-needs, identity-needs}
 use Rattle.cox_row.specs.Rising.{number_at}
 use Rattle.cox_claims.specs.Knowledge.{looked}
 use Rattle.cox_claims.specs.Seats.{view_of, HasSeen}

@@ -1,6 +1,6 @@
 -- The worker's steps.
 use Rattle.std.proofs.Common.{rules, Some, arith, ◌∙◌}
-use Rattle.cox_klstep.proofs.NeededRows.{lower-before}
+use Rattle.cox_row_symmetry.proofs.LowerMembers.{lower-before}
 use Rattle.cox_workers.specs.Work.{IsNeededAt}
 use Rattle.cox_workers.proofs.Working.{work-trans, work-same, work-again, work-lower, work-needed, work-list, option_or-both}
 use Rattle.cox_workers.proofs.NeedsByNumber.{correction-needed_at, correction-before_at}

@@ -1,6 +1,0 @@
--- There are none before the first member.
-use Rattle.cox_klstep.proofs.LargeFound.{large-start}
-use Rattle.cox_klstep.proofs.values.LargeMembers.new.Goals as goal
-
-pub returns : goal.returns
-returns c = λ A members w limit. rw (c.new.ensures.items, c.new-2.ensures.items) (large-start A members w limit)
