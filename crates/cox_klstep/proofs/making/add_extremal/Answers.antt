@@ -6,7 +6,8 @@ use Rattle.cox_klstep.proofs.StepCounts.{cost-next, counted-next}
 use Rattle.cox_klstep.proofs.making.add_extremal.Goals as goal
 
 pub skip-requires-clause-outside : goal.skip-requires-clause-outside
-skip-requires-clause-outside c = λ b. let never = c.put_polynomial.ensures.below.1 (rw c.done-x.ensures b) in absurd (cc c.if-not-put_polynomial.true)
+skip-requires-clause-outside c = λ b.
+    let never = c.put_polynomial.ensures.below.1 (rw c.done-x.ensures b) in absurd (cc c.if-not-put_polynomial.true)
 
 pub returns-then-not-put_polynomial-clause-steps : goal.returns-then-not-put_polynomial-clause-steps
 returns-then-not-put_polynomial-clause-steps c = λ start before. cost-next c.args.ctx.now c.args.i (source_cost c.args.source.now) start
