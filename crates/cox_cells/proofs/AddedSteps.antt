@@ -20,7 +20,6 @@ use Rattle.cox_cells.specs.NumberedCells.{IsNumberedStep, AreSteps, AreStepsTo, 
 use Rattle.cox_cells.proofs.DescentSets.{own-letters}
 
 module _ (kind : CellKind) (e : Elements) where
-
   -- ---- one step
 
   adds-step : (i j : ℕ) (edges : List (ℕ × ℕ)) → HasOwn kind (integer_matrix e.matrix) (word_at e.members i) (word_at e.members j)

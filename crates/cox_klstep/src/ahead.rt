@@ -75,8 +75,8 @@ impl<F: Fn(Global, &RowTask) -> Vec<FoundPolynomial>> Team for ByThreads<F> {
     }
 }
 
-/// Polynomials of a row, rising by their members, by so many threads. Where there is little to find, or there is one thread, they find
-/// nothing.
+/// Polynomials of a row, by so many threads: rising by their members, unless memory runs out. Where there is little to find, or there is
+/// one thread, there are none.
 pub fn find_together<R: Threads + Sync>(
     rt: &R,
     threads: u32,
@@ -91,13 +91,14 @@ pub fn find_together<R: Threads + Sync>(
         return Vec::new(alloc);
     }
     let mut found = find_from(rt, 0, threads, alloc, task, end);
-    // Without memory for this they stay as they are, and those that are not in order are not come to.
+    // If there is no memory for the sort, the list stays as it is. `Ahead` then passes over polynomials that are out of order, and they are
+    // added up anew.
     let _ = found.sort_by_key(|it: &FoundPolynomial| -> u32 { it.member });
     found
 }
 
-/// What the thread with this number, from 0, finds for the extremal members before a place, and those with greater numbers, each in a thread
-/// of its own.
+/// What the thread with this number, from 0, and all threads with greater numbers find for the extremal members before the place `end`.
+/// Each works in a thread of its own.
 fn find_from<R: Threads + Sync>(
     rt: &R,
     thread: u32,

@@ -94,7 +94,6 @@ module _ (A : IntegerMatrix) (g : IsAdmissible A) where
 
 -- and no letter is missing where x is extremal
 module _ (A : IntegerMatrix) (w x : List ℕ) (wanted present : ℕ) (extremal : IsExtremal A w x) where
-
   pub extremal-right : AreRightDescents A w wanted → AreRightDescents A x present → IsSubset wanted present
   extremal-right r h k b = (h k).1 (extremal.right (k + 1) ((r k).0 b))
 

@@ -63,7 +63,8 @@ impl RowBuilder {
         self.mus.numbers.shrink_to_fit();
     }
 
-    /// Notes the shifts before a member, where none from the members done to that one is extremal.
+    /// Notes mu = 1 for each shorter shift (sw or ws) among the members from those done up to
+    /// `end`. None of these members is extremal.
     pub fn pass(&mut self, ctx: &Context, i: u32, end: u32) -> Result<(), AllocError>
         requires i { i < length ctx.now.members }
         requires ahead { self.old.done ≤ end }
