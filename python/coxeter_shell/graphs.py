@@ -76,9 +76,8 @@ class WGraph(Drawn, Table):
     columns = "x", "descents of x", "y", "descents of y", "mu"
 
     # A large graph has millions of edges. So they are kept as rising arrays of the places of neighbours, and vertices are made when they
-    # are asked for. `_other` has the values other than 1, by pairs of places. `_unread` has the texts of the vertices until their edges are
-    # asked for.
-    _unread: Optional[List[str]] = None
+    # are asked for. `_other` has the values other than 1, by pairs of places. `_unread` has the edges until one is asked for.
+    _unread: Optional[Edges] = None
 
     def __init__(
         self,
@@ -104,26 +103,23 @@ class WGraph(Drawn, Table):
         >>> WGraph.read(CoxeterGroup("A", 1), "left", texts) == CoxeterGroup("A", 1).W_graph()
         True
         """
-        texts = list(items)
-        heads = [text.split(" ", 2)[:2] for text in texts]
-        if not all(len(head) == 2 for head in heads):
-            raise ValueError("its label is missing")
-        elements = [group._spelling.element(it) for it, _ in heads]
+        unread = Edges(group._spelling, list(items))
+        elements = [group._spelling.element(it) for it, _ in unread.heads]
         check_rising(elements)
-        sets = {text: group._spelling.letter_set(text) for text in {it for _, it in heads}}
-        graph = cls(group, side, elements, [sets[it] for _, it in heads], [], {})
-        graph._unread = texts
+        sets = {text: group._spelling.letter_set(text) for text in {it for _, it in unread.heads}}
+        graph = cls(group, side, elements, [sets[it] for _, it in unread.heads], [], {})
+        graph._unread = unread
         return graph
 
     def _edges(self):
         """The neighbours of each vertex, as rising places, and the values other than 1 by pairs of places. The first call reads them."""
-        texts = self._unread
-        if texts is not None:
+        unread = self._unread
+        if unread is not None:
             try:
-                self._near, self._other = Edges(self.group._spelling, texts).read()
+                self._near, self._other = unread.read()
             except ValueError as error:
                 line = self.group._graph_line(self.side)
-                self.group.program.unexpected(line, f"a list of {len(texts)} vertices", str(error))
+                self.group.program.unexpected(line, f"a list of {len(self)} vertices", str(error))
             self._unread = None
         return self._near, self._other
 
