@@ -6,7 +6,8 @@
 
 Each row is a question that has a long answer, or many short ones, asked in a process of its own:
 
-- `W-graph of E 6`, `W-graph of D 6`: `W_graph()`,
+- `W-graph of E 6`, `W-graph of D 6`: `W_graph()`, whose edges are not asked for,
+- `edges of E 6`: `W_graph().edges()`, all of them,
 - `cell order of E 6`: `cell_order("two-sided")`,
 - `mu of D 6`, `mu of S 8`: `mu_table()`,
 - `all P of D 5`: `kazhdan_lusztig_table()`,
@@ -29,6 +30,7 @@ from intervals import TOP
 
 NAMES = {
     "W-graph of E 6": (("E", 6), "W_graph()", ["lwgraph"]),
+    "edges of E 6": (("E", 6), "W_graph().edges()", ["lwgraph"]),
     "W-graph of D 6": (("D", 6), "W_graph()", ["lwgraph"]),
     "cell order of E 6": (("E", 6), 'cell_order("two-sided")', ["lrcells", "lwgraph"]),
     "mu of D 6": (("D", 6), "mu_table()", ["lwgraph"]),

@@ -5,7 +5,7 @@ import array
 import bisect
 import collections
 import itertools
-from typing import Any, Dict, Iterable, Iterator, List, Set, Tuple
+from typing import Any, Dict, Iterable, Iterator, List, Optional, Set, Tuple
 
 from . import drawing, pictures
 from .base import Base, Element, Word
@@ -76,7 +76,8 @@ class WGraph(Drawn, Table):
     columns = "x", "descents of x", "y", "descents of y", "mu"
 
     # A large graph has millions of edges. So they are kept as rising arrays of the places of neighbours, and vertices are made when they
-    # are asked for. `_other` has the values other than 1, by pairs of places.
+    # are asked for. `_other` has the values other than 1, by pairs of places. `_unread` has the edges until one is asked for.
+    _unread: Optional[Edges] = None
 
     def __init__(
         self,
@@ -96,25 +97,35 @@ class WGraph(Drawn, Table):
 
     @classmethod
     def read(cls, group: Base, side: str, items: Iterable[str]) -> WGraph:
-        """The graph of the texts of its vertices. Others are a ValueError.
+        """The graph of the texts of its vertices. Others are a ValueError; but wrong edges are an UnexpectedAnswer, once edges are asked for.
 
         >>> texts = ["e - 1:1", "1 1 e:1"]
         >>> WGraph.read(CoxeterGroup("A", 1), "left", texts) == CoxeterGroup("A", 1).W_graph()
         True
         """
-        reading = Edges(group._spelling)
-        own, sets = [], []
-        for text in items:
-            element, *more = text.split(" ", 2)
-            if not more:
-                raise ValueError("its label is missing")
-            own.append(element)
-            sets.append(more[0])
-            reading.add(element, more[1].split(" ") if len(more) > 1 else [])
-        elements = list(map(group._spelling.element, own))
+        unread = Edges(group._spelling, list(items))
+        elements = [group._spelling.element(it) for it, _ in unread.heads]
         check_rising(elements)
-        read = {text: group._spelling.letter_set(text) for text in set(sets)}
-        return cls(group, side, elements, [read[text] for text in sets], *reading.end())
+        sets = {text: group._spelling.letter_set(text) for text in {it for _, it in unread.heads}}
+        graph = cls(group, side, elements, [sets[it] for _, it in unread.heads], [], {})
+        graph._unread = unread
+        return graph
+
+    def _edges(self):
+        """The neighbours of each vertex, as rising places, and the values other than 1 by pairs of places. The first call reads them."""
+        unread = self._unread
+        if unread is not None:
+            try:
+                self._near, self._other = unread.read()
+            except ValueError as error:
+                line = self.group._graph_line(self.side)
+                self.group.program.unexpected(line, f"a list of {len(self)} vertices", str(error))
+            self._unread = None
+        return self._near, self._other
+
+    def __getstate__(self):
+        self._edges()
+        return self.__dict__
 
     @property
     def vertices(self):
@@ -125,7 +136,8 @@ class WGraph(Drawn, Table):
         return self._vertices
 
     def _vertex(self, x):
-        edges = ((self._elements[y], self._other.get((x, y), 1)) for y in self._near[x])
+        near, other = self._edges()
+        edges = ((self._elements[y], other.get((x, y), 1)) for y in near[x])
         return Vertex(self._elements[x], self._descents[x], ElementDict(self.group, edges, "mu"))
 
     def __repr__(self):
@@ -137,7 +149,7 @@ class WGraph(Drawn, Table):
         return self._all() == other._all()
 
     def _all(self):
-        return self.group, self.side, self._elements, self._descents, self._near, self._other
+        return self.group, self.side, self._elements, self._descents, self._edges()
 
     def __hash__(self):
         return hash((self.group, self.side, len(self)))
@@ -168,8 +180,9 @@ class WGraph(Drawn, Table):
         >>> list(CoxeterGroup("A", 3).W_graph().edges_across(3))
         [((2,), (2, 1, 3, 2), 1), ((1, 3), (1, 2, 3, 2, 1), 1)]
         """
-        elements, other, lengths = self._elements, self._other, list(map(len, self._elements))
-        for x, near in enumerate(self._near):
+        elements, lengths = self._elements, list(map(len, self._elements))
+        all_near, other = self._edges()
+        for x, near in enumerate(all_near):
             # Longer elements stand behind shorter ones.
             first = max(x + 1, bisect.bisect_left(lengths, lengths[x] + least))
             for y in near[bisect.bisect_left(near, first) :]:
@@ -182,14 +195,14 @@ class WGraph(Drawn, Table):
         >>> list(CoxeterGroup("A", 1).W_graph().steps())
         [((1,), (), 1)]
         """
-        elements, other = self._elements, self._other
+        elements, (_, other) = self._elements, self._edges()
         for x, y in self._steps():
             yield elements[x], elements[y], other.get((x, y), 1)
 
     def _steps(self):
         """The steps, by the places of their elements."""
         sets = self._masks()
-        for x, near in enumerate(self._near):
+        for x, near in enumerate(self._edges()[0]):
             mine = sets[x]
             for y in near:
                 if mine & ~sets[y]:
@@ -212,7 +225,7 @@ class WGraph(Drawn, Table):
         numbers = {kind: number for number, kind in enumerate(dict.fromkeys(kinds))}
         listed, own = list(numbers), [numbers[kind] for kind in kinds]
         reached: List[Set[int]] = [set() for _ in listed]
-        for of, near in zip(own, self._near):
+        for of, near in zip(own, self._edges()[0]):
             reached[of].update(map(own.__getitem__, near))
         found: Set[Tuple[Any, Any]] = set()
         for (name, mine), others in zip(listed, reached):
@@ -229,8 +242,9 @@ class WGraph(Drawn, Table):
             raise TypeError(f"the elements are a list of words, and {elements!r} is one text: write [{elements!r}]")
         chosen = sorted({self._places[it] for it in elements})
         new = {x: at for at, x in enumerate(chosen)}
-        near = [array.array("I", [new[y] for y in self._near[x] if y in new]) for x in chosen]
-        other = {(new[x], new[y]): value for (x, y), value in self._other.items() if x in new and y in new}
+        all_near, all_other = self._edges()
+        near = [array.array("I", [new[y] for y in all_near[x] if y in new]) for x in chosen]
+        other = {(new[x], new[y]): value for (x, y), value in all_other.items() if x in new and y in new}
         return WGraph(self.group, self.side, [self._elements[x] for x in chosen], [self._descents[x] for x in chosen], near, other)
 
     def rows(self) -> Iterator[Tuple[Any, ...]]:

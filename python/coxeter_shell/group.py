@@ -3,7 +3,6 @@ from __future__ import annotations
 
 import collections
 import contextlib
-import itertools
 import operator
 import re
 from typing import Any, Iterator, List, Optional, Sequence, Tuple
@@ -373,7 +372,8 @@ class CoxeterGroup(Elements, Names, CellTheory, Schubert, Hecke, Many, Jobs):
     # ---- W-graphs and cells
 
     def W_graph(self, side: str = "left") -> WGraph:
-        """The W-graph of a finite group, for the left or the right descents.
+        """The W-graph of a finite group, for the left or the right descents. Its vertices are read here, and its edges all at once when one is
+        first asked for: then wrong ones are an UnexpectedAnswer.
 
         >>> graph = CoxeterGroup("A", 2).W_graph()
         >>> graph["12"].edges
@@ -381,12 +381,11 @@ class CoxeterGroup(Elements, Names, CellTheory, Schubert, Hecke, Many, Jobs):
         """
         line = self._graph_line(side)
         try:
-            told = self._watch()
-            items = Items(self, None, line)
+            items = self._item_texts(line)
             try:
-                return WGraph.read(self, side, progress.shown(items, items.total, line) if told else items)
+                return WGraph.read(self, side, items)
             except ValueError as error:
-                self.program.unexpected(line, f"a list of {items.total} vertices", str(error))
+                self.program.unexpected(line, f"a list of {len(items)} vertices", str(error))
         except CoxeterError as error:
             raise self._shown(error)
 
@@ -529,21 +528,26 @@ class CoxeterGroup(Elements, Names, CellTheory, Schubert, Hecke, Many, Jobs):
         """The list of the items of a list, which are elements or pairs of an element and something."""
         line = self._line(command, words)
         try:
-            if self._watch():
-                items = Items(self, read, line)
-                return list(progress.shown(items, items.total, line))
-            return self._read(lambda lines: self._items(read, lines), line, self.program.ask(line))
+            return self._read(lambda items: self._known(read, items), line, self._item_texts(line))
         except CoxeterError as error:
             raise self._shown(error)
 
+    def _item_texts(self, line):
+        """The texts of the items of a list."""
+        if self._watch():
+            items = Items(self, None, line)
+            return list(progress.shown(items, items.total, line))
+        return self._read(texts.items, line, self.program.ask(line))
+
     def _items(self, read, lines):
         """The items of a list whose lines are there."""
-        total = texts.number(lines[0]) if lines else 0
-        if total != len(lines) - 1:
-            raise ValueError(f"the list should have {total} items")
+        return self._known(read, texts.items(lines))
+
+    def _known(self, read, items):
+        """Elements, or pairs of an element and something, from their texts."""
         elements = read == self._spelling.element
         known = self._spelling.elements if elements else self._spelling.pairs
-        items = list(map(known.__getitem__, itertools.islice(lines, 1, None)))
+        items = list(map(known.__getitem__, items))
         texts.check_rising(items if elements else [it[0] for it in items])
         return items
 

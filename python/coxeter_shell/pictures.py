@@ -46,8 +46,8 @@ def hasse_text(diagram):
 def w_graph_text(graph):
     """A W-graph as a DOT text. Descents are an attribute, and the second line of the label."""
     lines = []
-    for x in graph:
-        text, descents = graph.group.text(x), graph.group.set_text(graph[x].descents)
+    for x, letters in zip(graph, graph._descents):
+        text, descents = graph.group.text(x), graph.group.set_text(letters)
         lines.append(f'"{text}" [descents="{descents}", label="{text}\\n{{{descents.strip("-")}}}"]')
     return dot("wgraph", lines + edges(graph))
 

@@ -51,6 +51,9 @@ ROOM = len(f"jobs\nend\n{MARK}\n\n{MARK}\n")
 # The options, and what each may be.
 OPTIONS = {"workers": (1, 16), "context": (1, MOST_OF_CONTEXT), "roots": (1, 4096), "coef": (1, 2**63 - 1)}
 
+# So many bytes a pipe of Linux holds: they are read at once.
+PIPE_SIZE = 65536
+
 # So many lines are read before they are made texts.
 MOST_AT_ONCE = 4096
 
@@ -234,7 +237,7 @@ class Program:
     def _spawn(self):
         words = [find_program(self.path), *(f"--{name}={value}" for name, value in self.options.items())]
         check_interpreter(words[0])
-        pipes = {"stdin": subprocess.PIPE, "stdout": subprocess.PIPE}
+        pipes = {"stdin": subprocess.PIPE, "stdout": subprocess.PIPE, "bufsize": PIPE_SIZE}
         try:
             # In a session of its own it is not reached by a Ctrl-C that is meant for Python.
             process = parents.start(words, start_new_session=True, **pipes)

@@ -63,10 +63,9 @@ def two_sided_w_graph(group):
 def w_graph_lines(group, *graphs):
     """A W-graph as `lwgraph` lists it, with the descents of each of the graphs."""
     lines = []
-    for x, vertex in graphs[0].vertices.items():
-        descents = [group.set_text(graph.vertices[x].descents) for graph in graphs]
+    for vertex, *descents in zip(graphs[0].vertices.values(), *(graph._descents for graph in graphs)):
         edges = [f"{group.text(y)}:{value}" for y, value in vertex.edges.items()]
-        lines.append(" ".join([group.text(x), *descents, *edges]))
+        lines.append(" ".join([group.text(vertex.element), *map(group.set_text, descents), *edges]))
     return listed(lines)
 
 

@@ -115,6 +115,14 @@ def numbers(text):
     return tuple(map(number, text.split(" ")))
 
 
+def items(lines):
+    """The texts of the items of a list, of all its lines: the first is their number."""
+    total = number(lines[0]) if lines else 0
+    if total != len(lines) - 1:
+        raise ValueError(f"the list should have {total} items")
+    return lines[1:]
+
+
 def truth(text):
     """`true` or `false`."""
     if text not in ("true", "false"):

@@ -1,4 +1,5 @@
 """W-graphs, Hasse diagrams and tables, as other programs and notebooks see them."""
+import copy
 import csv
 import io
 import os
@@ -12,7 +13,7 @@ import xml.etree.ElementTree
 
 import fakes
 import reference
-from coxeter_shell import CoxeterGroup, Polynomial, Refusal, UnexpectedAnswer, drawing, graphs, magic, pictures
+from coxeter_shell import CoxeterGroup, Polynomial, Refusal, UnexpectedAnswer, drawing, gap, graphs, magic, pictures
 from coxeter_shell.errors import CoxeterError
 
 SVG = "{http://www.w3.org/2000/svg}"
@@ -144,7 +145,7 @@ class Read(unittest.TestCase):
             (["3", "e - 2:1 1:1", "1 1 e:1", "2 2 e:1"], "ShortLex"),
             (["4", "e - 1:1 2:1", "1 1 e:1 12:1", "2 2 e:1 12:1", "12 1 2:1 1:1"], "ShortLex"),
             (["3", "e - 1:1 2:2 2:2", "1 1 e:1", "2 2 e:2 e:2"], "ShortLex"),
-            (["3", "e - 1:1 2:1", "1 1 e:1", "2 2 e:2"], "the edge from 2 to e is not an edge back"),
+            (["3", "e - 1:1 2:1", "1 1 e:1", "2 2 e:2"], "the edge from e to 2 is not an edge back"),
             (["3", "e - 1:1 2:01", "1 1 e:1", "2 2 e:1"], "no whole number"),
             (["3", "e - 1:1 2:1", "1 1 e:1", "2 2 e:01"], "no whole number"),
             (["3", "e - 1:1", "1 1 e:1"], "the list should have 3 items"),
@@ -152,8 +153,62 @@ class Read(unittest.TestCase):
         ]:
             with self.subTest(lines), fakes.Fakes() as folder, CoxeterGroup("A", 2, program=folder.saying(*lines)) as group:
                 with self.assertRaises(UnexpectedAnswer) as caught:
-                    group.W_graph()
+                    list(group.W_graph().edges())
                 self.assertIn(why, str(caught.exception))
+
+    def test_wrong_vertices(self):
+        """The vertices are read at once, with their labels."""
+        for lines in (["2", "e", "1 1"], ["2", "e 11 1:1", "1 1 e:1"], ["2", "1 1 e:1", "e - 1:1"], ["2", "e - 1:1"], ["1", "3 - "]):
+            with self.subTest(lines), fakes.Fakes() as folder, CoxeterGroup("A", 2, program=folder.saying(*lines)) as group:
+                with self.assertRaises(UnexpectedAnswer):
+                    group.W_graph()
+
+    def test_wrong_edges(self):
+        """They are told whenever edges are asked for, in whatever way, and the program is ended then. What needs no edges can be asked."""
+        answers = {"lcells": ["2", "e", "1"], "lwgraph": ["2", "e - 1:1", "1 1 e:2"]}
+        with fakes.Fakes() as folder, CoxeterGroup("A", 1, program=folder.fake(f"say(*{answers}[line])")) as group:
+            graph = group.W_graph()
+            self.assertEqual((len(graph), list(graph), (1,) in graph), (2, [(), (1,)], True))
+            self.assertEqual((repr(graph), hash(graph)), ("<the left W-graph with 2 vertices>", hash((group, "left", 2))))
+            for call in (
+                lambda: graph[()],
+                lambda: graph.vertices,
+                lambda: next(graph.edges()),
+                lambda: next(graph.edges_across(3)),
+                lambda: next(graph.steps()),
+                lambda: graph.steps_between({x: x for x in graph}),
+                lambda: graph.part([()]),
+                lambda: graph == group.W_graph(),
+                lambda: pickle.dumps(graph),
+                lambda: copy.copy(graph),
+                lambda: gap(graph),
+                graph.svg,
+                graph.to_csv,
+                graph.dot,
+                group.mu_table,
+                group.cell_order,
+            ):
+                with self.assertRaises(UnexpectedAnswer) as caught:
+                    call()
+                self.assertEqual((caught.exception.line, caught.exception.why), ("lwgraph", "the edge from e to 1 is not an edge back"))
+                self.assertIsNone(group.program._process)
+
+    def test_read_once(self):
+        """A graph whose edges are not read is equal to the same one that was read, and so are their copies."""
+        with CoxeterGroup("B", 3) as group:
+            one, other, pickled, copied = (group.W_graph() for _ in range(4))
+            with unittest.mock.patch.object(graphs.Edges, "read", side_effect=AssertionError):
+                self.assertEqual((len(one), hash(one), list(one)), (48, hash(other), list(other)))
+            edges = list(one.edges())
+            with unittest.mock.patch.object(graphs.Edges, "read", side_effect=AssertionError):
+                self.assertEqual((list(one.edges()), len(one.vertices)), (edges, 48))
+            for it in (other, pickle.loads(pickle.dumps(pickled)), pickle.loads(pickle.dumps(one)), copy.deepcopy(copied), copy.copy(other)):
+                self.assertEqual((it, list(it.edges())), (one, edges))
+                self.assertNotEqual(it, group.W_graph("right"))
+        # What was made before the group was closed is read after that too.
+        with CoxeterGroup("B", 3) as group:
+            closed = group.W_graph()
+        self.assertEqual(list(closed.edges()), edges)
 
     def test_many_at_once(self):
         """What is asked for by lists of jobs is what single questions answer."""
