@@ -311,10 +311,18 @@ def told(files):
 
     path = "docs/DEFINITIONS.md"
     first, second, rest = new[path].partition("**The second program's claim**")
+
+    def without_a_row(table, counts):
+        """The crates with lines that no row of a table names."""
+        named = set(re.findall(r"`(\w+)`", table))
+        return [f"{path}: no row of a table names {it}" for it, count in counts.items() if count and it not in named]
+
     table = re.search(r"^\| crate \| lines \|.*?(?=\n\n)", first, re.M | re.S)
+    missing += without_a_row(table.group(0), known["run"])
     mended = with_sums(table.group(0), known["run"])
     first = first.replace(table.group(0), re.sub(r"^\| together \| [0-9,]+ \|", f"| together | {known['total']:,} |", mended, flags=re.M))
     table = re.search(r"^\| crate \| lines \|.*?(?=\n\n)", rest, re.M | re.S)
+    missing += without_a_row(table.group(0), known["beyond"])
     new[path] = first + second + rest.replace(table.group(0), with_sums(table.group(0), known["beyond"]), 1)
     put(path, "Of all these lines ", known["written"], " are those of what is written alone")
     put(path, "In the same files stand ", known["left"], " lines more")
