@@ -28,8 +28,8 @@ pub fn is_on_group(inquiry: &Inquiry) -> bool
 {
     match inquiry {
         Inquiry::Plain(_) => true,
-        Inquiry::One(OneWord::Module, _) => true,
-        _ => false,
+        Inquiry::One(kind, _) => matches!(kind, OneWord::Module),
+        Inquiry::Two(..) | Inquiry::Work { .. } => false,
     }
 }
 
@@ -43,13 +43,19 @@ pub fn row_word(inquiry: &Inquiry) -> Option<&Word>
     match inquiry {
         Inquiry::One(kind, w) => match kind {
             OneWord::Klbasis | OneWord::Ihbetti | OneWord::Extremals | OneWord::Cert => Some(w),
-            _ => None,
+            OneWord::Compute
+            | OneWord::Length
+            | OneWord::Inverse
+            | OneWord::Descent
+            | OneWord::Coatoms
+            | OneWord::Betti
+            | OneWord::Module => None,
         },
         Inquiry::Two(kind, _, w) => match kind {
             TwoWord::Pol | TwoWord::Mu => Some(w),
-            _ => None,
+            TwoWord::Inorder | TwoWord::Interval | TwoWord::Rpol | TwoWord::Invpol => None,
         },
-        _ => None,
+        Inquiry::Plain(_) | Inquiry::Work { .. } => None,
     }
 }
 

@@ -71,7 +71,12 @@ impl Workspace {
             OneWord::Extremals => self.put_kept_row(out, RowKind::Extremals, w),
             OneWord::Cert => self.put_kept_cert(out, w),
             OneWord::Module => self.put_kept_module(out, w),
-            _ => None,
+            OneWord::Compute
+            | OneWord::Length
+            | OneWord::Inverse
+            | OneWord::Descent
+            | OneWord::Coatoms
+            | OneWord::Betti => None,
         }
     }
 
@@ -95,7 +100,7 @@ impl Workspace {
             TwoWord::Pol => self.put_kept_entry(out, EntryKind::Pol, y, w),
             TwoWord::Mu => self.put_kept_entry(out, EntryKind::Mu, y, w),
             TwoWord::Invpol => self.put_kept_invpol(out, y, w),
-            _ => None,
+            TwoWord::Inorder | TwoWord::Interval | TwoWord::Rpol => None,
         }
     }
 }
