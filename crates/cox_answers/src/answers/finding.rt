@@ -24,7 +24,8 @@ impl Workspace {
     {
         match *need {
             Need::Nothing => Some(Found::There),
-            Need::Row(w) | Need::Listed(w) => Some(Found::Row(self.settled_number(w)?)),
+            Need::Row(w) => Some(Found::Row(self.settled_number(w)?)),
+            Need::Listed(w) => Some(Found::Row(self.settled_number(w)?)),
             Need::Between(y, w) => self.find_between(y, w),
             Need::Group => {
                 if !self.has_group() {

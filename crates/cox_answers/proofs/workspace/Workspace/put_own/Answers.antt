@@ -4,6 +4,9 @@ use Rattle.cox_replies.specs.SessionLimits.{limits_of}
 use Rattle.cox_answers.proofs.Makes.{PutsUnless-unmade}
 use Rattle.cox_answers.proofs.workspace.Workspace.put_own.Goals as goal
 
+pub make-requires-clause-words : goal.make-requires-clause-words
+make-requires-clause-words g c = c.need_of.ensures.letters c.args.self.now.table.rank c.requires.words
+
 pub returns-in_err-found-clause-puts : goal.returns-in_err-found-clause-puts
 returns-in_err-found-clause-puts g c =
     let work = c.args.self.now in
