@@ -1,5 +1,5 @@
 -- What becomes of a command whose rows are made, or refused.
-use Rattle.std.proofs.Common.{ℕ, List, Option, None, Some, IsSomeAnd, Result, Ok, Err, inl, refl}
+use Rattle.std.proofs.Common.{◌≡◌, ℕ, List, Option, None, Some, IsSomeAnd, Result, Ok, Err, inl, refl}
 use Rattle.cox_base.specs.IntegerMatrix.{IntegerMatrix}
 use Rattle.cox_command.specs.declared.refusal.Refusal.{Refusal}
 use Rattle.cox_command.specs.declared.inquiry.NoWord.{NoWord}
@@ -24,7 +24,7 @@ module _ {X : Type 0} (Old New : Refusal → Type 0) (more : (why : Refusal) →
   Makes-kept Holds kept Is is (Err (Refused why)) keeps = more why keeps
   Makes-kept Holds kept Is is (Err NoMemory) keeps = tt
 
-  -- what is not kept, or not found, is not made
+  -- what is not kept, or not found, or not made, is not made
   pub Makes-unkept : {Y : Type 0} (Holds : X → Holding → Type 0) (kept : Option Holding) (Is : Y → Type 0) (why : Unanswered)
       → Keeps (Err why) Old Holds kept → Makes (Err why) New Is
   Makes-unkept Holds kept Is (Refused why) keeps = more why keeps
@@ -33,6 +33,10 @@ module _ {X : Type 0} (Old New : Refusal → Type 0) (more : (why : Refusal) →
   pub Makes-unfound : {Y : Type 0} (Was : X → Type 0) (Is : Y → Type 0) (why : Unanswered) → Finds (Err why) Old Was → Makes (Err why) New Is
   Makes-unfound Was Is (Refused why) finds = more why finds
   Makes-unfound Was Is NoMemory finds = tt
+
+  pub Makes-unmade : {Y : Type 0} (Was : X → Type 0) (Is : Y → Type 0) (why : Unanswered) → Makes (Err why) Old Was → Makes (Err why) New Is
+  Makes-unmade Was Is (Refused why) makes = more why makes
+  Makes-unmade Was Is NoMemory makes = tt
 
   -- then nothing is put
   pub PutsUnless-unmade : (Was : X → Type 0) (IsText : List ℕ → Type 0) (before : List ℕ) (why : Unanswered)

@@ -32,13 +32,13 @@ pub put_inverse-requires : goal.put_inverse-requires
 put_inverse-requires c =
     let has = kept c.args.self.now c.args.y.now.items c.args.w.now.items c.args.found.now c.requires.found c.in_default.not-Apart in
     record {
-      rows = rw c.table.ensures c.rows.ensures.of;
+      rows = rw (c.options.ensures, c.table.ensures) c.rows.ensures.of;
       first = rw c.table.ensures c.requires.first;
       second = rw c.table.ensures c.requires.second;
       below = rw c.table.ensures has.0;
       held = rw c.table.ensures (rw c.rows.ensures.rows at has.1);
       free = rw (c.options.ensures, c.table.ensures) has.2;
-      whole = rw c.rows.ensures.rows at c.whole-whole.ensures;
+      whole = rw c.options.ensures (rw c.rows.ensures.rows at c.whole-whole.ensures);
     }
 
 pub returns : goal.returns
