@@ -41,8 +41,8 @@ use cox_command::{Inquiry, OneWord, TwoWord};
 use cox_minroots::RootTable;
 use cox_print::{NoMemory, put_count, put_descent, put_element, put_end, put_truth};
 use cox_replies::{
-    EntryKind, RowKind, Unanswered, put_betti, put_cert_of, put_coatoms, put_entry_of, put_group_of, put_interval,
-    put_module_of, put_row_of, put_rpol, unrefused,
+    EntryKind, RowKind, Unanswered, put_betti, put_cert_of, put_coatoms, put_entry_of,
+    put_group_of, put_interval, put_module_of, put_row_of, put_rpol, unrefused,
 };
 
 impl Workspace {

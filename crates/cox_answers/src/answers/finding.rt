@@ -1,5 +1,5 @@
 //! What a command needs: found among the rows that are kept, or made.
-ghost use Rattle.std.specs.Prelude.{◌≡◌, IfSome};
+ghost use Rattle.std.specs.Prelude.{IfSome};
 ghost use Rattle.cox_base.specs.Matrix.{IsWord};
 ghost use Rattle.cox_base.specs.Admissible.{IsCoxeterMatrix};
 ghost use Rattle.cox_base.specs.IntegerMatrix.{integer_matrix};
@@ -75,9 +75,9 @@ impl Workspace {
                 self.keep_group(maker, alloc)?;
                 Ok(Found::There)
             }
-            Need::Words { start, count } => Ok(Found::Totals(
-                self.totals_of_words(maker, alloc, start, count)?,
-            )),
+            Need::Words { start, count } => Ok(Found::Totals(self.totals_of_words(
+                maker, alloc, start, count,
+            )?)),
         }
     }
 

@@ -6,7 +6,6 @@ use Rattle.cox_replies.specs.CertReply.{RefusesListedOr, RefusesCert}
 use Rattle.cox_replies.specs.Kept.{AreOf, HoldsElement, HoldsRow}
 use Rattle.cox_replies.proofs.KeptRows.{large-free}
 use Rattle.cox_replies.proofs.CertRefusals.{cert-listing, cert-row}
-use Rattle.cox_answers.specs.Needs.{IsRowOf}
 use Rattle.cox_answers.proofs.Makes.{Makes-kept, Makes-unfound}
 use Rattle.cox_answers.proofs.workspace.Workspace.make_listed.Goals as goal
 

@@ -1,7 +1,6 @@
 -- The proof of `put_invpol`.
 use Rattle.std.proofs.Common.{◌≡◌, ℕ, List, refl}
 use Rattle.cox_base.specs.IntegerMatrix.{integer_matrix}
-use Rattle.cox_base.specs.Bruhat.{IsBelow}
 use Rattle.cox_base.proofs.AdmissibleMatrices.{IsAdmissible-integer_matrix}
 use Rattle.cox_replies.specs.SessionLimits.{limits_of}
 use Rattle.cox_replies.specs.Kept.{Work}
