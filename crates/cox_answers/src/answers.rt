@@ -1,17 +1,13 @@
-//! The lines that commands on elements answer.
+//! The lines that commands on elements answer: what a command needs is found, or made, and the answer is put from it.
 //!
-//! - `at_hand`: answers from rows that are kept already
+//! - `finding`: what a command needs, found or made
 //! - `ahead`: rows that are made before they are asked for
 //! - `kept`: the rows that a session keeps
 //! - `kept_group`: those of a whole group
 //! - `between`: those of the elements between two
-//! - `rows`: the answers from the row of an element, and single polynomials of it, and mu
-//! - `certificates`: certificates of rows
 //! - `inverse`: single inverse Kazhdan-Lusztig polynomials
-//! - `graphs`: W-graphs and cells
-//! - `modules`: modules of left cells
 //! - `generated`: rows of generated words
-ghost use Rattle.std.specs.Prelude.{◌≡◌, reverse};
+ghost use Rattle.std.specs.Prelude.{◌≡◌, IfSome, IfNone, None, reverse};
 ghost use Rattle.cox_base.specs.Matrix.{IsWord};
 ghost use Rattle.cox_base.specs.Admissible.{IsCoxeterMatrix};
 ghost use Rattle.cox_base.specs.IntegerMatrix.{integer_matrix};
@@ -19,25 +15,25 @@ ghost use Rattle.cox_base.specs.ShortLex.{normal_form};
 ghost use Rattle.cox_base.specs.Descents.{left_descents, right_descents};
 ghost use Rattle.cox_poly.specs.Puts.{Puts};
 ghost use Rattle.cox_print.specs.AnswerText.{element_text, descent_text};
+ghost use Rattle.cox_command.specs.ParseContract.{HasLetters};
+ghost use Rattle.cox_command.specs.declared.inquiry.Inquiry.TheVariants.{One, Two};
 ghost use Rattle.cox_replies.specs.Kept.{IsSameWork};
 ghost use Rattle.cox_replies.specs.SessionLimits.{limits_of};
-ghost use Rattle.cox_replies.specs.InquiryQuestion.{RefusesFar, IsOrderText, r_text};
-ghost use Rattle.cox_replies.specs.InquiryQuestion.{one_question, two_question, question_of};
-ghost use Rattle.cox_command.specs.ParseContract.{HasLetters};
+ghost use Rattle.cox_replies.specs.RowReply.{RefusesRow};
+ghost use Rattle.cox_replies.specs.RowCommands.{row_command, entry_command};
+ghost use Rattle.cox_replies.specs.InquiryQuestion.{IsOrderText, one_question, two_question, question_of};
 ghost use Rattle.cox_replies.specs.Putting.{PutsUnless, IsEnded};
+ghost use Rattle.cox_answers.specs.Needs.{Answers, IsEnough, IsRowOf, HasRowOf};
 
 pub(crate) mod ahead;
-mod at_hand;
 pub(crate) mod between;
-mod certificates;
-mod generated;
-mod graphs;
+mod finding;
+pub(crate) mod generated;
 mod inverse;
 pub(crate) mod kept;
 pub(crate) mod kept_group;
-mod modules;
-mod rows;
 
+use crate::needs::{Found, need_of};
 use crate::row_maker::RowMaker;
 use crate::workspace::Workspace;
 use cox_base::{MAX_RANK, Word};
@@ -45,7 +41,8 @@ use cox_command::{Inquiry, OneWord, TwoWord};
 use cox_minroots::RootTable;
 use cox_print::{NoMemory, put_count, put_descent, put_element, put_end, put_truth};
 use cox_replies::{
-    EntryKind, RowKind, Unanswered, put_betti, put_coatoms, put_interval, put_rpol, unrefused,
+    EntryKind, RowKind, Unanswered, put_betti, put_cert_of, put_coatoms, put_entry_of,
+    put_group_of, put_interval, put_module_of, put_row_of, put_rpol, unrefused,
 };
 
 impl Workspace {
@@ -78,18 +75,46 @@ impl Workspace {
     ) -> Result<(), Unanswered>
         requires words { HasLetters self.old.table.rank inquiry.now }
         requires ready { M.ready maker.now }
-        ensures puts { PutsUnless result (question_of inquiry.now (limits_of self.old.options) self.old.table).Refuses
-            (question_of inquiry.now (limits_of self.old.options) self.old.table).IsText out.old.items out.new.items }
+        ensures puts { Answers result self.old inquiry.now out.old.items out.new.items }
         ensures same { IsSameWork self.old self.new }
     {
         match self.put_shared(maker, out, inquiry) {
             Some(put) => put,
-            None => self.put_own_text(maker, out, inquiry),
+            None => self.put_own(maker, out, inquiry),
         }
     }
 
-    /// Puts that text from rows of its own.
-    fn put_own_text<M: RowMaker>(
+    /// Puts that text from the rows that a maker shares, where they give it, and are of the same group, within the same limits. `None`, and
+    /// nothing is put, where they do not.
+    fn put_shared<M: RowMaker>(
+        &self,
+        maker: &M,
+        out: &mut Vec<u8>,
+        inquiry: &Inquiry,
+    ) -> Option<Result<(), Unanswered>>
+        requires words { HasLetters self.now.table.rank inquiry.now }
+        ensures puts { IfSome result (λ put. Answers put self.now inquiry.now out.old.items out.new.items) }
+        ensures none { IfNone result (out.new ≡ out.old) }
+    {
+        let shared = maker.shared()?;
+        if !self.is_like(shared) {
+            return None;
+        }
+        shared.put_kept(out, inquiry)
+    }
+
+    /// Puts that text where the rows that are kept give it: no row is made. `None`, and nothing is put, where they do not.
+    pub fn put_kept(&self, out: &mut Vec<u8>, inquiry: &Inquiry) -> Option<Result<(), Unanswered>>
+        requires words { HasLetters self.now.table.rank inquiry.now }
+        ensures puts { IfSome result (λ put. Answers put self.now inquiry.now out.old.items out.new.items) }
+        ensures none { IfNone result (out.new ≡ out.old) }
+    {
+        let found = self.find(&need_of(inquiry))?;
+        Some(self.put(out, inquiry, &found))
+    }
+
+    /// Puts that text from rows of its own, which are made where they are not there.
+    fn put_own<M: RowMaker>(
         &mut self,
         maker: &M,
         out: &mut Vec<u8>,
@@ -97,33 +122,38 @@ impl Workspace {
     ) -> Result<(), Unanswered>
         requires words { HasLetters self.old.table.rank inquiry.now }
         requires ready { M.ready maker.now }
-        ensures puts { PutsUnless result (question_of inquiry.now (limits_of self.old.options) self.old.table).Refuses
-            (question_of inquiry.now (limits_of self.old.options) self.old.table).IsText out.old.items out.new.items }
+        ensures puts { Answers result self.old inquiry.now out.old.items out.new.items }
         ensures same { IsSameWork self.old self.new }
     {
+        let found = self.make(maker, *out.allocator(), &need_of(inquiry))?;
+        self.put(out, inquiry, &found)
+    }
+
+    /// Puts that text from what was found of the rows that it needs.
+    fn put(&self, out: &mut Vec<u8>, inquiry: &Inquiry, found: &Found) -> Result<(), Unanswered>
+        requires words { HasLetters self.now.table.rank inquiry.now }
+        requires found { IsEnough self.now inquiry.now found.now }
+        ensures { Answers result self.now inquiry.now out.old.items out.new.items }
+    {
         match inquiry {
-            Inquiry::One(kind, w) => self.put_one_word(maker, out, *kind, w),
-            Inquiry::Two(kind, y, w) => self.put_two_words(maker, out, *kind, y, w),
-            Inquiry::Plain(kind) => self.put_group(maker, out, *kind),
-            Inquiry::Work { start, count } => self.put_generated(maker, out, *start, *count),
+            Inquiry::One(kind, w) => self.put_one(out, *kind, w, found),
+            Inquiry::Two(kind, y, w) => self.put_two(out, *kind, y, w, found),
+            Inquiry::Plain(kind) => unrefused(put_group_of(out, self.rows(), *kind)),
+            Inquiry::Work { start, count } => self.put_totals(out, *start, *count, found),
         }
     }
 
     /// The same for a command with one word.
-    fn put_one_word<M: RowMaker>(
-        &mut self,
-        maker: &M,
+    fn put_one(
+        &self,
         out: &mut Vec<u8>,
         kind: OneWord,
         w: &Word,
+        found: &Found,
     ) -> Result<(), Unanswered>
-        requires word { IsWord self.old.table.rank w.now.items }
-        requires ready { M.ready maker.now }
-        ensures puts { PutsUnless result (one_question kind (limits_of self.old.options) self.old.table
-            (integer_matrix self.old.table) w.now.items).Refuses
-            (one_question kind (limits_of self.old.options) self.old.table
-            (integer_matrix self.old.table) w.now.items).IsText out.old.items out.new.items }
-        ensures same { IsSameWork self.old self.new }
+        requires words { HasLetters self.now.table.rank (One kind w.now) }
+        requires found { IsEnough self.now (One kind w.now) found.now }
+        ensures { Answers result self.now (One kind w.now) out.old.items out.new.items }
     {
         let table = self.table();
         let options = self.options();
@@ -134,52 +164,86 @@ impl Workspace {
             OneWord::Descent => unrefused(put_both_descents(out, table, w)),
             OneWord::Coatoms => put_coatoms(out, table, options, w),
             OneWord::Betti => put_betti(out, table, options, w),
-            OneWord::Klbasis => self.put_row(maker, out, RowKind::Klbasis, w),
-            OneWord::Ihbetti => self.put_row(maker, out, RowKind::Ihbetti, w),
-            OneWord::Extremals => self.put_row(maker, out, RowKind::Extremals, w),
-            OneWord::Cert => self.put_cert(maker, out, w),
-            OneWord::Module => self.put_module(maker, out, w),
+            OneWord::Klbasis => self.put_row(out, RowKind::Klbasis, w, found),
+            OneWord::Ihbetti => self.put_row(out, RowKind::Ihbetti, w, found),
+            OneWord::Extremals => self.put_row(out, RowKind::Extremals, w, found),
+            OneWord::Cert => {
+                let i = self.number_found(w, found);
+                put_cert_of(out, self.rows(), i)
+            }
+            OneWord::Module => unrefused(put_module_of(out, table, self.rows(), w)),
         }
     }
 
     /// The same for a command with two words.
-    fn put_two_words<M: RowMaker>(
-        &mut self,
-        maker: &M,
+    fn put_two(
+        &self,
         out: &mut Vec<u8>,
         kind: TwoWord,
         y: &Word,
         w: &Word,
+        found: &Found,
     ) -> Result<(), Unanswered>
-        requires first { IsWord self.old.table.rank y.now.items }
-        requires second { IsWord self.old.table.rank w.now.items }
-        requires ready { M.ready maker.now }
-        ensures puts { PutsUnless result (two_question kind (limits_of self.old.options)
-            (integer_matrix self.old.table) y.now.items w.now.items).Refuses
-            (two_question kind (limits_of self.old.options) (integer_matrix self.old.table)
-            y.now.items w.now.items).IsText out.old.items out.new.items }
-        ensures same { IsSameWork self.old self.new }
+        requires words { HasLetters self.now.table.rank (Two kind y.now w.now) }
+        requires found { IsEnough self.now (Two kind y.now w.now) found.now }
+        ensures { Answers result self.now (Two kind y.now w.now) out.old.items out.new.items }
     {
         let table = self.table();
-        let options = self.options();
         match kind {
             TwoWord::Inorder => put_inorder(out, table, y, w),
-            TwoWord::Interval => put_interval(out, table, options, y, w),
-            TwoWord::Rpol => self.put_r(out, y, w),
-            TwoWord::Pol => self.put_entry(maker, out, EntryKind::Pol, y, w),
-            TwoWord::Invpol => self.put_invpol(maker, out, y, w),
-            TwoWord::Mu => self.put_entry(maker, out, EntryKind::Mu, y, w),
+            TwoWord::Interval => put_interval(out, table, self.options(), y, w),
+            TwoWord::Rpol => put_rpol(out, table, y, w),
+            TwoWord::Pol => self.put_entry(out, EntryKind::Pol, y, w, found),
+            TwoWord::Invpol => self.put_invpol(out, y, w, found),
+            TwoWord::Mu => self.put_entry(out, EntryKind::Mu, y, w, found),
         }
     }
 
-    /// Puts the R-polynomial of y and w.
-    fn put_r(&self, out: &mut Vec<u8>, y: &Word, w: &Word) -> Result<(), Unanswered>
-        requires first { IsWord self.now.table.rank y.now.items }
-        requires second { IsWord self.now.table.rank w.now.items }
-        ensures { PutsUnless result (RefusesFar (integer_matrix self.now.table) y.now.items w.now.items)
-            (λ text. text ≡ r_text (integer_matrix self.now.table) y.now.items w.now.items) out.old.items out.new.items }
+    /// The same for a command that the row of w answers.
+    fn put_row(
+        &self,
+        out: &mut Vec<u8>,
+        kind: RowKind,
+        w: &Word,
+        found: &Found,
+    ) -> Result<(), Unanswered>
+        requires { HasRowOf self.now w.now.items found.now }
+        ensures { PutsUnless result (RefusesRow (limits_of self.now.options) (integer_matrix self.now.table) w.now.items)
+            (one_question (row_command kind) (limits_of self.now.options) self.now.table
+            (integer_matrix self.now.table) w.now.items).IsText out.old.items out.new.items }
     {
-        put_rpol(out, self.table(), y, w)
+        let i = self.number_found(w, found);
+        unrefused(put_row_of(out, self.rows(), i, kind))
+    }
+
+    /// The same for a command that an entry of the row of w answers.
+    fn put_entry(
+        &self,
+        out: &mut Vec<u8>,
+        kind: EntryKind,
+        y: &Word,
+        w: &Word,
+        found: &Found,
+    ) -> Result<(), Unanswered>
+        requires word { IsWord self.now.table.rank y.now.items }
+        requires found { HasRowOf self.now w.now.items found.now }
+        ensures { PutsUnless result (RefusesRow (limits_of self.now.options) (integer_matrix self.now.table) w.now.items)
+            (two_question (entry_command kind) (limits_of self.now.options) (integer_matrix self.now.table)
+            y.now.items w.now.items).IsText out.old.items out.new.items }
+    {
+        let i = self.number_found(w, found);
+        unrefused(put_entry_of(out, self.rows(), self.table(), i, kind, y))
+    }
+
+    /// The number of w, whose row was found.
+    fn number_found(&self, w: &Word, found: &Found) -> u32
+        requires { HasRowOf self.now w.now.items found.now }
+        ensures { IsRowOf self.now w.now.items result }
+    {
+        let Found::Row(i) = found else {
+            unreachable!();
+        };
+        *i
     }
 }
 

@@ -10,6 +10,7 @@
 //! - `finite`: whether a group is seen to be finite
 //! - `growth`: when the whole group is taken in the place of interval after interval
 //! - `workspace`: what answers work with
+//! - `needs`: what a command needs of the rows that are kept
 //! - `answers`: the texts
 #![tactic(auto)]
 
@@ -17,6 +18,7 @@ mod answers;
 mod finite;
 mod growth;
 mod likeness;
+mod needs;
 mod row_maker;
 mod workspace;
 

@@ -1,6 +1,6 @@
 //! What commands on elements work with.
 
-use crate::answers::ahead::{is_on_group, row_word, with_asked};
+use crate::answers::ahead::{is_on_group, is_on_interval, with_asked};
 use crate::answers::between::{
     ensure_each, find_whole, has_all, interval_between, is_large, with_rows,
 };
@@ -8,9 +8,10 @@ use crate::answers::kept::{add_interval, keep_interval, widen, with_row};
 use crate::answers::kept_group::{holds_group, keep_elements, with_all};
 use crate::finite::{longest_of_few, longest_word};
 use crate::growth::Growth;
+use crate::needs::need_of;
 use crate::row_maker::RowMaker;
 use cox_base::{Coxeter, MAX_RANK, Word};
-use cox_command::{Inquiry, TwoWord};
+use cox_command::Inquiry;
 use cox_inverse::WholeGroup;
 use cox_minroots::RootTable;
 use cox_options::Options;
@@ -66,7 +67,7 @@ impl Workspace {
     ghost use Rattle.cox_replies.specs.Listed.{RefusesLargeOr};
     ghost use Rattle.cox_replies.specs.Question.{IsRefused};
     ghost use Rattle.cox_replies.specs.RowReply.{RefusesRow};
-    ghost use Rattle.cox_replies.specs.Kept.{AreKept, HoldsElement, HoldsRow, HoldsAll, IsSameWork, Keeps};
+    ghost use Rattle.cox_replies.specs.Kept.{AreOf, AreKept, HoldsElement, HoldsRow, HoldsAll, IsSameWork, Keeps};
     ghost use Rattle.cox_replies.specs.KeptBetween.{RefusesBetween, HoldsBetween, IsReadOff};
 
     /// A group with the options of the session; no row is made yet.
@@ -116,8 +117,11 @@ impl Workspace {
     /// The rows that are kept.
     pub(crate) fn rows(&self) -> &Rows
         requires { IsSome self.now.rows }
-        ensures { self.now.rows ≡ Some result.now }
+        ensures rows { self.now.rows ≡ Some result.now }
+        ensures of { AreOf self.now.table (limits_of self.now.options) result.now }
+        ensures group { IsCoxeterMatrix self.now.table }
     {
+        prove!(self.rank() as usize <= MAX_RANK);
         match &self.rows {
             Some(rows) => rows,
             None => unreachable!(),
@@ -441,7 +445,7 @@ impl Workspace {
         ensures { IsSameWork self.old self.new }
     {
         'each: for inquiry in inquiries {
-            if let Some(w) = row_word(inquiry) {
+            if let Some(w) = need_of(inquiry).row() {
                 self.add_interval(alloc, w)?;
             }
         }
@@ -471,13 +475,8 @@ impl Workspace {
         };
         let rows = with_asked(alloc, rows, &self.table, maker, inquiries);
         self.rows = Some(rows);
-        if inquiries.iter().any(|inquiry| is_inverse(inquiry)) {
+        if inquiries.iter().any(|inquiry| is_on_interval(inquiry)) {
             self.has_small();
         }
     }
-}
-
-/// Whether a command asks for an inverse polynomial.
-fn is_inverse(inquiry: &Inquiry) -> bool {
-    matches!(inquiry, Inquiry::Two(TwoWord::Invpol, _, _))
 }

@@ -1,56 +1,27 @@
 //! Rows that are made before they are asked for.
-ghost use Rattle.std.specs.Prelude.{◌≡◌, ℕ, ◌<◌, length, All, IfOk, IfSome, IsTrue, pos};
-ghost use Rattle.cox_base.specs.Matrix.{CoxeterMatrix, IsWord};
-ghost use Rattle.cox_base.specs.IntegerMatrix.{integer_matrix};
+ghost use Rattle.std.specs.Prelude.{◌≡◌, ◌<◌, length, All, IfOk, IfSome};
 ghost use Rattle.cox_command.specs.ParseContract.{HasLetters};
-ghost use Rattle.cox_command.specs.declared.refusal.Refusal.TheVariants.{LargeRow};
 ghost use Rattle.cox_row.specs.Rising.{AreWithin};
-ghost use Rattle.cox_rows.specs.Beyond.{NeedsBeyond};
-ghost use Rattle.cox_replies.specs.Limits.{Limits};
-ghost use Rattle.cox_replies.specs.GroupReply.{RefusesGroupRows};
-ghost use Rattle.cox_replies.specs.InquiryQuestion.{question_of};
 ghost use Rattle.cox_replies.specs.Kept.{IsMore};
 
 use crate::answers::between::with_rows;
+use crate::needs::{Need, need_of};
 use crate::row_maker::RowMaker;
-use cox_base::Word;
-use cox_command::{Inquiry, OneWord, TwoWord};
+use cox_command::Inquiry;
 use cox_klstep::StepFault;
 use cox_minroots::RootTable;
 use cox_replies::listed_below;
 use cox_rows::Rows;
 use std::alloc::{AllocError, Global};
 
-/// Whether a command asks for the rows of all elements of the group. Where these are too large, it is refused.
-pub fn is_on_group(inquiry: &Inquiry) -> bool
-    ensures { IsTrue result → (limits : Limits) (g : CoxeterMatrix) → RefusesGroupRows limits (integer_matrix g) LargeRow
-        → (question_of inquiry.now limits g).Refuses LargeRow }
-{
-    match inquiry {
-        Inquiry::Plain(_) => true,
-        Inquiry::One(OneWord::Module, _) => true,
-        _ => false,
-    }
+/// Whether a command asks for the rows of all elements of the group.
+pub fn is_on_group(inquiry: &Inquiry) -> bool {
+    matches!(need_of(inquiry), Need::Group)
 }
 
-/// The word whose row a command asks for, if it asks for one; `work` and `invpol` ask for more. Where what that row needs is too large, the
-/// command is refused.
-pub fn row_word(inquiry: &Inquiry) -> Option<&Word>
-    ensures letters { (rank : ℕ) → HasLetters rank inquiry.now → IfSome result (λ w. IsWord rank w.now.items) }
-    ensures asked { (limits : Limits) (g : CoxeterMatrix) → IfSome result (λ w.
-        NeedsBeyond (integer_matrix g) (pos limits.coefficient) w.now.items → (question_of inquiry.now limits g).Refuses LargeRow) }
-{
-    match inquiry {
-        Inquiry::One(kind, w) => match kind {
-            OneWord::Klbasis | OneWord::Ihbetti | OneWord::Extremals | OneWord::Cert => Some(w),
-            _ => None,
-        },
-        Inquiry::Two(kind, _, w) => match kind {
-            TwoWord::Pol | TwoWord::Mu => Some(w),
-            _ => None,
-        },
-        _ => None,
-    }
+/// Whether a command asks for the rows between two elements.
+pub fn is_on_interval(inquiry: &Inquiry) -> bool {
+    matches!(need_of(inquiry), Need::Between(..))
 }
 
 /// The same rows, and those of members that the commands ask for, as far as no row that they need is beyond a limit, and there is memory
@@ -103,9 +74,10 @@ fn asked_member(alloc: Global, rows: &Rows, table: &RootTable, inquiry: &Inquiry
     requires words { HasLetters table.now.rank inquiry.now }
     ensures { IfSome result (λ i. i < length rows.now.elements.members) }
 {
-    let w = row_word(inquiry)?;
+    let need = need_of(inquiry);
+    let w = need.row()?;
     let i = rows.context().number_of(table, w)?;
-    if let Inquiry::One(OneWord::Cert, _) = inquiry
+    if let Need::Listed(_) = need
         && listed_below(alloc, rows, i).is_err()
     {
         return None;

@@ -14,11 +14,13 @@ ghost use Rattle.cox_rows.specs.Holding.{HasRow};
 ghost use Rattle.cox_replies.specs.Kept.{IsSameWork};
 ghost use Rattle.cox_replies.specs.SessionLimits.{limits_of};
 ghost use Rattle.cox_replies.specs.RowReply.{RefusesRow, coefficients_to};
-ghost use Rattle.cox_replies.specs.WorkReply.{generated_words, RefusesWork, IsWorkText};
+ghost use Rattle.cox_replies.specs.WorkReply.{generated_words, RefusesWork};
 ghost use Rattle.cox_replies.specs.Totals.{no_totals, both_totals, polynomial_totals, AreTotalsOf, AreTotals, sum_of};
-ghost use Rattle.cox_replies.specs.Putting.{PutsUnless};
+ghost use Rattle.cox_command.specs.declared.inquiry.Inquiry.TheVariants.{Work};
+ghost use Rattle.cox_answers.specs.Needs.{Answers, HasTotals};
 ghost use Rattle.cox_replies.specs.Summing.{SumsUp};
 
+use crate::needs::Found;
 use crate::row_maker::RowMaker;
 use crate::workspace::Workspace;
 use cox_base::Word;
@@ -32,7 +34,7 @@ use std::marker::Model;
 
 /// What is summed up over polynomials of rows: how many there are, their greatest degree, and the sum of all their coefficients.
 #[derive(Drop)]
-struct RowTotals {
+pub struct RowTotals {
     entries: u64,
     degree: u32,
     sum: i128,
@@ -96,28 +98,26 @@ impl RowTotals {
 
 impl Workspace {
     /// Puts the totals of the rows of so many words that are generated from a state.
-    pub(crate) fn put_generated<M: RowMaker>(
-        &mut self,
-        maker: &M,
+    pub(crate) fn put_totals(
+        &self,
         out: &mut Vec<u8>,
         start: u32,
         count: u32,
+        found: &Found,
     ) -> Result<(), Unanswered>
         requires numbers { AreWorkNumbers start count }
-        requires ready { M.ready maker.now }
-        ensures puts { PutsUnless result
-            (RefusesWork (limits_of self.old.options) (integer_matrix self.old.table) (generated_words self.old.table.rank count start))
-            (IsWorkText (integer_matrix self.old.table) (generated_words self.old.table.rank count start)) out.old.items out.new.items }
-        ensures same { IsSameWork self.old self.new }
-        ensures group { IsCoxeterMatrix self.old.table }
+        requires found { HasTotals self.now (generated_words self.now.table.rank count start) found.now }
+        ensures { Answers result self.now (Work start count) out.old.items out.new.items }
     {
-        let totals = self.totals_of_words(maker, *out.allocator(), start, count)?;
+        let Found::Totals(totals) = found else {
+            unreachable!();
+        };
         let sum = low_bits(totals.sum);
         unrefused(put_work(out, u64::from(count), totals.entries, totals.degree, sum))
     }
 
     /// The totals of the rows of so many words that are generated from a state. The first word that is refused decides.
-    fn totals_of_words<M: RowMaker>(
+    pub(crate) fn totals_of_words<M: RowMaker>(
         &mut self,
         maker: &M,
         alloc: Global,

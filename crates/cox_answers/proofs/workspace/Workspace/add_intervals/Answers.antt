@@ -8,4 +8,4 @@ add_interval-requires c =
     let rank = c.args.self.now.table.rank in
     let letters = rw (← c.inquiry-item.is) at (All-get_or (HasLetters rank) c.args.inquiries.now c.each.inquiry-index c.inquiry-item.result
     c.each-test.true c.requires) in
-    rw c.each.invariant.table ((c.in-Some.ensures {u = tt}).letters rank letters)
+    rw c.each.invariant.table ((c.in-Some.ensures {u = tt}) rank (c.need_of.ensures.letters rank letters))

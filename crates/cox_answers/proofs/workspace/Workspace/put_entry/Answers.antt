@@ -5,11 +5,11 @@ use Rattle.cox_replies.specs.Kept.{HoldsRow}
 use Rattle.cox_replies.proofs.Unless.{PutsUnless-put}
 use Rattle.cox_answers.proofs.workspace.Workspace.put_entry.Goals as goal
 
-pub returns-clause-puts : goal.returns-clause-puts
-returns-clause-puts g c =
+pub returns : goal.returns
+returns c =
     let A = integer_matrix c.args.self.now.table in
-    let limits = limits_of c.args.self.now.options in
-    let told = c.in_ok-i.ensures {u = tt} in
-    let holds : HoldsRow A c.args.w.now.items c.in_ok-i.i c.rows-rows.result.now = rw c.rows-rows.ensures at told.row.1 in
-    let some = rw (c.table.ensures, told.same.table) at c.put_entry_of.ensures in
-    rw c.unrefused.ensures (PutsUnless-put _ _ _ _ _ told.row.0 (some limits c.args.w.now.items holds.word))
+    let w = c.args.w.now.items in
+    let told = c.number_found-i.ensures in
+    let holds : HoldsRow A w c.number_found-i.result c.rows.result.now = rw c.rows.ensures.rows at told.0 in
+    let some = rw c.table.ensures at c.put_entry_of.ensures in
+    rw c.unrefused.ensures (PutsUnless-put _ _ _ _ _ told.1 (some (limits_of c.args.self.now.options) w holds.word))

@@ -17,9 +17,9 @@ returns c =
     let i = c.in_ok-i.i in
     let rows = c.rows.result.now in
     let told = c.in_ok-i.ensures in
-    let of : AreOf G limits rows = rw c.rows.ensures at told.kept in
-    let number : IsNumberOf rows.elements.members (normal_form (integer_matrix G) w) (Some i) = rw c.rows.ensures at told.number in
+    let of : AreOf G limits rows = c.rows.ensures.of in
+    let number : IsNumberOf rows.elements.members (normal_form (integer_matrix G) w) (Some i) = rw c.rows.ensures.rows at told.number in
     let settled = c.is_settled.ensures in
     let keeps = settled-keeps limits G (IsAdmissible-integer_matrix G c.rank.ensures.matrix) w i rows of number told.few
     (settled.there c.if-not-is_settled.false) (settled.small c.if-not-is_settled.false).small in
-    record { row = rw c.rows.ensures keeps.1; free = keeps.0; kept = search rules; group = search rules }
+    record { row = rw c.rows.ensures.rows keeps.1; free = keeps.0; kept = search rules; group = search rules }

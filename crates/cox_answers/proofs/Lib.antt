@@ -1,0 +1,2 @@
+-- what is made, or refused
+mod Makes

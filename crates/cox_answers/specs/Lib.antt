@@ -1,0 +1,2 @@
+-- what commands need of the rows that are kept
+pub mod Needs

@@ -1,0 +1,97 @@
+//! What a command needs of the rows that are kept, and what shows that it is there.
+ghost use Rattle.std.specs.Prelude.{ℕ, Some, IfSome};
+ghost use Rattle.cox_base.specs.Matrix.{CoxeterMatrix, IsWord};
+ghost use Rattle.cox_command.specs.ParseContract.{HasLetters};
+ghost use Rattle.cox_command.specs.declared.refusal.Refusal.{Refusal};
+ghost use Rattle.cox_replies.specs.Limits.{Limits};
+ghost use Rattle.cox_replies.specs.Kept.{Work};
+ghost use Rattle.cox_replies.specs.Question.{IsRefused};
+ghost use Rattle.cox_replies.specs.InquiryQuestion.{question_of};
+ghost use Rattle.cox_answers.specs.Needs.{IsOver, need_refuses, IsFound, IsEnough};
+ghost use Rattle.cox_answers.specs.declared.needs.Found.{Found};
+
+use crate::answers::generated::RowTotals;
+use cox_base::Word;
+use cox_command::{Inquiry, OneWord, TwoWord};
+
+/// The rows that a command needs.
+#[derive(Clone, Copy)]
+pub enum Need<'a> {
+    /// None.
+    Nothing,
+    /// That of w.
+    Row(&'a Word),
+    /// That of w, where a certificate is not refused without it.
+    Listed(&'a Word),
+    /// Those of all z with y <= z <= w.
+    Between(&'a Word, &'a Word),
+    /// Those of all elements of the group.
+    Group,
+    /// Those of generated words, one after another.
+    Words {
+        /// The generator's state before the first word.
+        start: u32,
+        /// How many words.
+        count: u32,
+    },
+}
+
+/// What was found of it.
+#[derive(Drop)]
+pub enum Found {
+    /// All of it.
+    There,
+    /// The row of w, which has this number.
+    Row(u32),
+    /// y <= w fails, so nothing lies between them.
+    Apart,
+    /// What the rows of the generated words sum up to.
+    Totals(RowTotals),
+}
+
+/// What a command needs. Where that is refused, the command is refused so.
+pub fn need_of(inquiry: &Inquiry) -> Need<'_>
+    ensures letters { (rank : ℕ) → HasLetters rank inquiry.now → IsOver rank result }
+    ensures refused { (limits : Limits) (g : CoxeterMatrix) (why : Refusal) → IsRefused (need_refuses result limits g) (Some why)
+        → IsRefused (question_of inquiry.now limits g).Refuses (Some why) }
+    ensures enough { (work : Work) (found : Found) → IsFound work result found → IsEnough work inquiry.now found }
+{
+    match inquiry {
+        Inquiry::One(kind, w) => match kind {
+            OneWord::Compute
+            | OneWord::Length
+            | OneWord::Inverse
+            | OneWord::Descent
+            | OneWord::Coatoms
+            | OneWord::Betti => Need::Nothing,
+            OneWord::Klbasis => Need::Row(w),
+            OneWord::Ihbetti => Need::Row(w),
+            OneWord::Extremals => Need::Row(w),
+            OneWord::Cert => Need::Listed(w),
+            OneWord::Module => Need::Group,
+        },
+        Inquiry::Two(kind, y, w) => match kind {
+            TwoWord::Inorder | TwoWord::Interval | TwoWord::Rpol => Need::Nothing,
+            TwoWord::Pol => Need::Row(w),
+            TwoWord::Mu => Need::Row(w),
+            TwoWord::Invpol => Need::Between(y, w),
+        },
+        Inquiry::Plain(_) => Need::Group,
+        Inquiry::Work { start, count } => Need::Words {
+            start: *start,
+            count: *count,
+        },
+    }
+}
+
+impl<'a> Need<'a> {
+    /// The word whose row alone is needed, if it is one.
+    pub fn row(&self) -> Option<&'a Word>
+        ensures { (rank : ℕ) → IsOver rank self.now → IfSome result (λ w. IsWord rank w.now.items) }
+    {
+        match *self {
+            Need::Row(w) | Need::Listed(w) => Some(w),
+            Need::Nothing | Need::Between(..) | Need::Group | Need::Words { .. } => None,
+        }
+    }
+}
