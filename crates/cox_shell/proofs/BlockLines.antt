@@ -14,13 +14,13 @@ use Rattle.cox_command.specs.LineRefusal.{line_refusal}
 use Rattle.cox_command.specs.CommandReading.{command_by, command_of}
 use Rattle.cox_command.specs.BlockLines.{word_refusal, block_refusal}
 use Rattle.cox_shell.specs.Reply.{State, Reply, rank_of, refusal, silence}
-use Rattle.cox_shell.specs.CommandReply.{IsCommandReply}
+use Rattle.cox_shell.specs.CommandReply.{IsCommandReply, IsInquiryReply}
 use Rattle.cox_shell.specs.ContentReply.{IsContentReply}
 use Rattle.std.specs.Prelude.{Result, Ok, Err, IfOk, OnErr}
 use Rattle.std.specs.declared.alloc.AllocError.{AllocError}
 use Rattle.cox_shell.specs.declared.session.Said.{Said}
 use Rattle.cox_shell.specs.Saying.{Says, SaysPrefix}
-use Rattle.cox_shell.proofs.KeptGroup.{IsInquiryReply-all}
+use Rattle.cox_shell.proofs.KeptGroup.{IsInquiryReply-all, IsInquiryReply-state}
 
 -- a command is on elements
 abbrev IsAsking : Command → Type 0
@@ -89,14 +89,10 @@ pub block_reply-going : (state : State) (content : List ℕ) (reply : Reply) →
     → IsContentReply state content reply → reply.quits ≡ false
 block_reply-going state content = block_reply-all state content (λ r. r.quits ≡ false) (λ why. refl) refl (λ text. refl)
 
--- so the state stays whatever was said to it
-pub block_said-same : (result : Result Said AllocError) (state next : State) (content before after : List ℕ) → block_refusal (tokens_of content) ≡ None
-    → IfOk result (λ said. (reply : Reply) × IsContentReply state content reply × Says said reply next before after)
-    → OnErr result ((reply : Reply) × IsContentReply state content reply × SaysPrefix reply state next before after) → next ≡ state
-block_said-same (Ok said) state next content before after free ok err =
-    ok.2.state_after ∙ block_reply-state state content ok.0 free ok.1
-block_said-same (Err error) state next content before after free ok err = err.2.same_state
-
-pub none_of : {X : Type 0} (o : Option X) → ((x : X) → o ≡ Some x → ⊥) → o ≡ None
-none_of None never = refl
-none_of (Some x) never = absurd (never x refl)
+-- a command on elements leaves the state, whatever was said to it
+pub inquiry_said-same : (result : Result Said AllocError) (inquiry : Inquiry) (state next : State) (before after : List ℕ)
+    → IfOk result (λ said. (reply : Reply) × IsInquiryReply inquiry state reply × Says said reply next before after)
+    → OnErr result ((reply : Reply) × IsInquiryReply inquiry state reply × SaysPrefix reply state next before after) → next ≡ state
+inquiry_said-same (Ok said) inquiry state next before after ok err =
+    ok.2.state_after ∙ IsInquiryReply-state inquiry state ok.0 ok.1
+inquiry_said-same (Err error) inquiry state next before after ok err = err.2.same_state

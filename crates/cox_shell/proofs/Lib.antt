@@ -37,6 +37,8 @@ pub mod GroupReplies
 pub mod SomeReply
 -- the group that is set stays a Coxeter matrix
 pub mod KeptGroup
+-- what a line of a block gives
+pub mod BlockReadings
 -- a line that may stand in a block leaves the state
 pub mod BlockLines
 -- the lines of a block are answered as a script

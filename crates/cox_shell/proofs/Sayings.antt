@@ -178,6 +178,13 @@ pub SaysPrefix-puts_reply : (result : Result Said AllocError) (Is : Reply → Ty
 SaysPrefix-puts_reply (Ok said) Is reply old new before after is says = tt
 SaysPrefix-puts_reply (Err error) Is reply old new before after is says = (reply, is, says.puts_prefix)
 
+-- a reply that was told, by what follows for it
+pub Tells-follows : (result : Result Said AllocError) (Was Is : Reply → Type 0) (before after : List ℕ) → ((reply : Reply) → Was reply → Is reply)
+    → IfOk result (λ said. (reply : Reply) × Was reply × Tells said reply before after)
+    → IfOk result (λ said. (reply : Reply) × Is reply × Tells said reply before after)
+Tells-follows (Ok said) Was Is before after of (reply, was, told) = (reply, of reply was, told)
+Tells-follows (Err error) Was Is before after of told = tt
+
 -- a reply that was told was said, where the state is the one after it
 pub Tells-says : (said : Said) (reply : Reply) (state : State) (before after : List ℕ) → Tells said reply before after
     → state ≡ reply.after → Says said reply state before after

@@ -10,6 +10,8 @@ pub mod ContentReply
 pub mod Answered
 -- lists of blocks that are open
 pub mod OpenLists
+-- what a line of a block gives, and the reply to that
+pub mod BlockReading
 -- what the blocks of a list are answered
 pub mod Blocks
 -- the reply to the content of a line, whether a list is open or none

@@ -1,11 +1,11 @@
 //! Rows that are made before the lines of blocks ask for them, and that all threads read.
-ghost use Rattle.std.specs.Prelude.{◌≤◌, All, IfOk, IfSome};
+ghost use Rattle.std.specs.Prelude.{All, IfOk, IfSome};
 ghost use Rattle.cox_command.specs.ParseContract.{HasLetters};
 
+use crate::block_line::{BlockLine, copy_inquiry};
 use crate::list::{Block, KeptLine};
 use cox_answers::{RowMaker, Workspace};
-use cox_base::MAX_RANK;
-use cox_command::{Command, Inquiry, parse};
+use cox_command::Inquiry;
 use cox_rows::Rows;
 use std::alloc::{AllocError, Global};
 
@@ -31,9 +31,8 @@ impl RowMaker for Beside<'_> {
     }
 }
 
-/// The commands on elements, or on the whole group, that the lines of these blocks give, where the group has this rank.
+/// The commands on elements, or on the whole group, that the lines of these blocks give, which were read where the group has this rank.
 pub fn inquiries_of(alloc: Global, blocks: &[Block], rank: u32) -> Result<Vec<Inquiry>, AllocError>
-    requires { rank ≤ MAX_RANK }
     ensures { IfOk result (λ inquiries. All (HasLetters rank) inquiries.items) }
 {
     let mut inquiries = Vec::new(alloc);
@@ -47,14 +46,12 @@ pub fn inquiries_of(alloc: Global, blocks: &[Block], rank: u32) -> Result<Vec<In
     Ok(inquiries)
 }
 
-/// The command on elements, or on the whole group, that a line gives, if it gives one.
+/// The command on elements, or on the whole group, that a line gives, if it was read where the group has this rank, and gives one.
 fn inquiry_of(line: &KeptLine, rank: u32) -> Option<Inquiry>
-    requires { rank ≤ MAX_RANK }
     ensures { IfSome result (λ inquiry. HasLetters rank inquiry) }
 {
-    match parse(line.content(), Some(rank)) {
-        Ok(Command::Ask(inquiry)) => Some(inquiry),
-        Ok(_) => None,
-        Err(_) => None,
+    match line.gives(Some(rank)) {
+        Some(BlockLine::Ask(inquiry)) => Some(copy_inquiry(inquiry)),
+        _ => None,
     }
 }

@@ -71,7 +71,7 @@ fn tell_at_once<R: Threads + Wait + Sync, G: Gate + Sync>(
     Ok(told)
 }
 
-/// How many of so many blocks fall to some of all workers, rounded up.
+/// Of `count` blocks, how many the first `some` of `all` workers answer: the same part of the blocks as they are of the workers, rounded up.
 fn share_of(count: usize, some: u32, all: u32) -> usize
     requires { 1 ≤ all }
     ensures { result ≤ count }

@@ -14,6 +14,7 @@
 //! - `block_teller`, `at_once`: what answers the blocks of a list at once, and how threads do that
 //! - `ahead`: rows that are made before the lines of blocks ask for them, and that all threads read
 //! - `list`, `limits`: lists of blocks, and how long they may be
+//! - `block_line`: what a line of a block gives, read once
 //! - `told`: what is told of the lines of blocks
 //! - `session`: the session, which answers the contents of lines
 //! - `serving`: one line, from the source to the sink
@@ -26,6 +27,7 @@
 
 mod ahead;
 mod at_once;
+mod block_line;
 mod block_teller;
 mod closing;
 pub mod laws;

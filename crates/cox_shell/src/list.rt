@@ -1,40 +1,60 @@
 //! Lists of blocks, and the lines that are kept in them.
+use crate::block_line::{BlockLine, Reading};
 use crate::limits::{MAX_BLOCKS, MAX_LINES};
 use cox_command::Refusal;
 use std::alloc::{AllocError, Global};
 use std::marker::Model;
 
-/// A line that is kept in a list: its content, or why its bytes are refused.
+/// A line that is kept in a list: its content, or why its bytes are refused; and what it gives, if it was read.
 #[derive(Drop)]
 pub struct KeptLine {
     content: Vec<u8>,
     refused: Option<Refusal>,
+    reading: Option<Reading>,
 }
 
 impl Model for KeptLine {
     ghost use Rattle.std.specs.Prelude.{◌<◌, ◌^◌, length};
     ghost use Rattle.cox_shell.specs.Reply.{Kept};
+    ghost use Rattle.cox_shell.specs.BlockReading.{IsReadingOf};
 
     ghost Value = { Kept };
 
     ghost view = { λ line. record { content = line.content.items; refused = line.refused } };
 
-    ghost invariant = { λ line. length line.content.items < 2 ^ 32 };
+    ghost invariant = { λ line. (length line.content.items < 2 ^ 32) × IsReadingOf line.reading line.content.items };
 }
 
 impl KeptLine {
-    ghost use Rattle.std.specs.Prelude.{◌≡◌, ◌<◌, ◌^◌, [], None, Some, length, IfOk};
+    ghost use Rattle.std.specs.Prelude.{◌≡◌, ◌<◌, ◌^◌, [], None, Some, length, IfOk, IfSome};
+    ghost use Rattle.cox_shell.specs.BlockReading.{Gives};
 
     /// A line with this content.
     pub fn new(alloc: Global, content: &[u8]) -> Result<KeptLine, AllocError>
         requires { length content.now < 2 ^ 32 }
         ensures { IfOk result (λ line. line ≡ record { content = content.now; refused = None }) }
     {
-        let mut bytes = Vec::new(alloc);
-        bytes.extend_from_slice(content)?;
         Ok(KeptLine {
-            content: bytes,
+            content: content.to_vec(alloc)?,
             refused: None,
+            reading: None,
+        })
+    }
+
+    /// A line with this content, which was read.
+    pub(crate) fn read(
+        alloc: Global,
+        content: &[u8],
+        reading: Reading,
+    ) -> Result<KeptLine, AllocError>
+        requires size { length content.now < 2 ^ 32 }
+        requires gives { Gives reading.gives content.now reading.rank }
+        ensures { IfOk result (λ line. line ≡ record { content = content.now; refused = None }) }
+    {
+        Ok(KeptLine {
+            content: content.to_vec(alloc)?,
+            refused: None,
+            reading: Some(reading),
         })
     }
 
@@ -45,6 +65,7 @@ impl KeptLine {
         KeptLine {
             content: Vec::new(alloc),
             refused: Some(why),
+            reading: None,
         }
     }
 
@@ -54,6 +75,16 @@ impl KeptLine {
         ensures size { length result.now < 2 ^ 32 }
     {
         self.content.as_slice()
+    }
+
+    /// What it gives where the group that is set, if any, has this rank; `None` where it was not read so.
+    pub(crate) fn gives(&self, rank: Option<u32>) -> Option<&BlockLine>
+        ensures { IfSome result (λ gives. Gives gives.now self.now.content rank) }
+    {
+        match &self.reading {
+            Some(reading) if reading.rank == rank => Some(&reading.gives),
+            _ => None,
+        }
     }
 
     /// Why its bytes are refused, if they are.

@@ -1,18 +1,24 @@
 //! The session, which answers the contents of lines.
+//!
+//! - `commands`: what a line is answered where no list is open
+//! - `lists`: lines where a list is open, and its end
+//! - `blocks`: what the lines of its blocks are answered
 
-use crate::ahead::{Beside, inquiries_of};
+mod blocks;
+mod commands;
+mod lists;
+
 use crate::at_once::tell_list;
 use crate::block_teller::BlockTeller;
-use crate::list::{Block, JobList, KeptLine, is_long};
+use crate::list::{Block, JobList};
 use crate::told::ToldText;
 use crate::workers::{ByWorkers, make_rows};
-use cox_answers::{OneThread, RowMaker, Unanswered, Workspace};
-use cox_base::{Coxeter, MAX_RANK};
-use cox_command::{Command, Inquiry, ListWord, Refusal, block_refusal, list_word, parse};
+use cox_answers::{OneThread, Workspace};
+use cox_base::MAX_RANK;
+use cox_command::Refusal;
 use cox_minroots::{RootFault, RootTable};
 use cox_options::Options;
 use cox_outside::Gate;
-use cox_print::{put_end, put_refusal};
 use cox_rows::Rows;
 use std::alloc::{AllocError, Global};
 use std::marker::Model;
@@ -90,23 +96,18 @@ impl Session {
     ghost use Rattle.std.specs.Thread.{IsSync};
     ghost use Rattle.cox_row.specs.Rising.{AreWithin};
     ghost use Rattle.cox_replies.specs.Kept.{IsMore};
-    ghost use Rattle.std.specs.Prelude.{◌≡◌, ◌<◌, ◌≤◌, ◌⊎◌, ◌^◌, false, length, None, Some, is_some, IfOk, OnErr, OnOk};
-    ghost use Rattle.std.specs.Prelude.{IfSome, IsSome, IsSomeAnd, MatchOption};
+    ghost use Rattle.std.specs.Prelude.{◌≡◌, ◌<◌, ◌≤◌, ◌⊎◌, ◌^◌, false, length, None, Some, is_some, IfOk, OnErr};
+    ghost use Rattle.std.specs.Prelude.{IfSome, MatchOption};
     ghost use Rattle.cox_base.specs.Admissible.{IsCoxeterMatrix};
-    ghost use Rattle.cox_command.specs.declared.command.Command.TheVariants.{Group, Jobs};
-    ghost use Rattle.cox_command.specs.ParseContract.{HasLetters, HasWordsOf};
-    ghost use Rattle.cox_shell.specs.declared.session.Said.TheVariants.{Answered};
-    ghost use Rattle.cox_shell.specs.Reply.{Reply, opening, closed, refusal, silence, rank_of};
+    ghost use Rattle.cox_shell.specs.Reply.{Reply, opening, closed, rank_of};
     ghost use Rattle.cox_replies.specs.SessionLimits.{limits_of};
-    ghost use Rattle.cox_shell.specs.ContentReply.{IsContentReply};
-    ghost use Rattle.cox_shell.specs.CommandReply.{IsCommandReply, IsInquiryReply};
     ghost use Rattle.cox_shell.specs.OpenLists.{is_long};
-    ghost use Rattle.cox_shell.specs.ListReply.{IsReplyTo, unread_reply};
-    ghost use Rattle.cox_shell.specs.Blocks.{IsKeptReply, IsListReply, IsEndOfList};
-    ghost use Rattle.cox_shell.specs.ToldText.{TellsBlock, TellsBlocks, TellsLine, IsToldOf};
+    ghost use Rattle.cox_shell.specs.ListReply.{IsReplyTo};
+    ghost use Rattle.cox_shell.specs.Blocks.{IsListReply};
+    ghost use Rattle.cox_shell.specs.ToldText.{IsToldOf};
     ghost use Rattle.cox_shell.specs.GivenReply.{IsShort, IsGivenReply, IsBadReply};
-    ghost use Rattle.cox_shell.specs.Keeping.{with_kept, with_next, IsBounded};
-    ghost use Rattle.cox_shell.specs.Saying.{Says, SaysKept, SaysPrefix, Tells, Concludes};
+    ghost use Rattle.cox_shell.specs.Keeping.{IsBounded};
+    ghost use Rattle.cox_shell.specs.Saying.{SaysKept, SaysPrefix, Tells};
     ghost use Rattle.cox_poly.specs.Puts.{PutsPrefix};
 
     /// A session with these options, and no group.
@@ -269,31 +270,6 @@ impl Session {
         self.list.is_some()
     }
 
-    /// Ends the list that is open, and answers it. On `NoMemory` the session is as before, and a prefix of the answer is appended.
-    pub(crate) fn end_list<M: BlockTeller>(
-        &mut self,
-        maker: &M,
-        out: &mut Vec<u8>,
-    ) -> Result<Said, AllocError>
-        requires open_list { IsSome self.old.list }
-        requires ready { M.ready maker.now }
-        ensures ok { IfOk result (λ said. (reply : Reply) × IsEndOfList self.old reply
-            × Says said reply self.new out.old.items out.new.items) }
-        ensures err { OnErr result ((reply : Reply) × IsEndOfList self.old reply
-            × SaysPrefix reply self.old self.new out.old.items out.new.items) }
-    {
-        let Some(list) = self.list.take() else {
-            unreachable!();
-        };
-        match self.answer_blocks(maker, list.blocks(), out) {
-            Ok(said) => Ok(said),
-            Err(error) => {
-                self.list = Some(list);
-                Err(error)
-            }
-        }
-    }
-
     /// Answers a line with this content, with rows by this maker.
     fn answer_line<M: BlockTeller>(
         &mut self,
@@ -314,76 +290,6 @@ impl Session {
         self.answer_content(maker, line, out)
     }
 
-    /// Answers a line with this content where a list is open.
-    fn answer_in_list<M: BlockTeller>(
-        &mut self,
-        maker: &M,
-        line: &[u8],
-        out: &mut Vec<u8>,
-    ) -> Result<Said, AllocError>
-        requires size { length line.now < 2 ^ 32 }
-        requires open_list { IsSome self.old.list }
-        requires ready { M.ready maker.now }
-        ensures ok { IfOk result (λ said. (reply : Reply) × IsReplyTo self.old line.now reply
-            × SaysKept said reply self.new out.old.items out.new.items) }
-        ensures err { OnErr result ((reply : Reply) × IsReplyTo self.old line.now reply
-            × SaysPrefix reply self.old self.new out.old.items out.new.items) }
-    {
-        match list_word(line) {
-            Some(ListWord::Next) => self.begin_block(),
-            Some(ListWord::End) => self.end_list(maker, out),
-            None => self.keep_content(line, *out.allocator()),
-        }
-    }
-
-    /// Takes a line whose bytes are refused so.
-    fn take_unread(&mut self, why: Refusal, out: &mut Vec<u8>) -> Result<Said, AllocError>
-        ensures ok { IfOk result (λ said. SaysKept said (unread_reply self.old why) self.new out.old.items out.new.items) }
-        ensures err { OnErr result (SaysPrefix (unread_reply self.old why) self.old self.new out.old.items out.new.items) }
-    {
-        if self.has_list() {
-            return self.keep(KeptLine::refused(*out.allocator(), why));
-        }
-        self.refuse(why, out)
-    }
-
-    /// Begins a block in the list that is open. Without memory nothing changes.
-    fn begin_block(&mut self) -> Result<Said, AllocError>
-        requires { IsSome self.old.list }
-        ensures ok { IfOk result (λ said. (said ≡ Answered) × (self.new ≡ with_next self.old)) }
-        ensures err { OnErr result (self.new ≡ self.old) }
-    {
-        let Some(list) = &mut self.list else {
-            unreachable!();
-        };
-        list.begin_block()?;
-        Ok(Said::Answered)
-    }
-
-    /// Keeps a line with this content in the list that is open. Without memory nothing changes.
-    fn keep_content(&mut self, line: &[u8], alloc: Global) -> Result<Said, AllocError>
-        requires size { length line.now < 2 ^ 32 }
-        requires open_list { IsSome self.old.list }
-        ensures ok { IfOk result (λ said. (said ≡ Answered)
-            × (self.new ≡ with_kept self.old (record { content = line.now; refused = None }))) }
-        ensures err { OnErr result (self.new ≡ self.old) }
-    {
-        self.keep(KeptLine::new(alloc, line)?)
-    }
-
-    /// Keeps a line in the list that is open. Without memory nothing changes.
-    fn keep(&mut self, line: KeptLine) -> Result<Said, AllocError>
-        requires { IsSome self.old.list }
-        ensures ok { IfOk result (λ said. (said ≡ Answered) × (self.new ≡ with_kept self.old line)) }
-        ensures err { OnErr result (self.new ≡ self.old) }
-    {
-        let Some(list) = &mut self.list else {
-            unreachable!();
-        };
-        list.add(line)?;
-        Ok(Said::Answered)
-    }
-
     /// A session of its own in the same state, where no list is open. No row is made in it yet.
     pub(crate) fn fresh(&self, alloc: Global) -> Result<Session, AllocError>
         ensures { IfOk result (λ own. own ≡ closed self.now) }
@@ -394,163 +300,11 @@ impl Session {
         }
     }
 
-    /// Answers blocks, behind what `out` has, where no list is open. On `NoMemory` a prefix of the answer is appended.
-    fn answer_blocks<M: BlockTeller>(
-        &mut self,
-        maker: &M,
-        blocks: &[Block],
-        out: &mut Vec<u8>,
-    ) -> Result<Said, AllocError>
-        requires outside { self.old.list ≡ None }
-        requires ready { M.ready maker.now }
-        ensures same { self.new ≡ self.old }
-        ensures ok { IfOk result (λ said. (reply : Reply) × IsListReply self.old blocks.now reply
-            × Tells said reply out.old.items out.new.items) }
-        ensures err { OnErr result ((reply : Reply) × IsListReply self.old blocks.now reply
-            × PutsPrefix reply.text out.old.items out.new.items) }
-    {
-        let _rank = self.rank();
-        if is_long(blocks) {
-            return self.refuse(Refusal::LongList, out);
-        }
-        let told = self.tell_all(maker, blocks, *out.allocator())?;
-        let said = told.said();
-        told.put_behind(out)?;
-        Ok(said)
-    }
-
-    /// Tells what the blocks of a list are answered, which is not too long: at once, where the maker does that, or else one after another.
-    fn tell_all<M: BlockTeller>(
-        &mut self,
-        maker: &M,
-        blocks: &[Block],
-        alloc: Global,
-    ) -> Result<ToldText, AllocError>
-        requires outside { self.old.list ≡ None }
-        requires short { is_long blocks.now ≡ false }
-        requires ready { M.ready maker.now }
-        ensures same { self.new ≡ self.old }
-        ensures told { IfOk result (λ told. IsToldOf self.old blocks.now told) }
-    {
-        if let Some(told) = maker.tell(self, alloc, blocks) {
-            return Ok(told);
-        }
-        let mut told = ToldText::new(alloc);
-        self.tell_blocks(maker, blocks, &mut told)?;
-        Ok(told)
-    }
-
     /// What the session works with, if a group is set.
     pub(crate) fn workspace(&self) -> Option<&Workspace> {
         match &self.stage {
             Stage::Opened(_) => None,
             Stage::Set(work) => Some(work),
-        }
-    }
-
-    /// Makes the rows that the lines of these blocks will ask for. No answer depends on it.
-    pub(crate) fn make_ahead<M: RowMaker>(&mut self, maker: &M, alloc: Global, blocks: &[Block])
-        requires { M.ready maker.now }
-        ensures { self.new ≡ self.old }
-    {
-        let Stage::Set(work) = &mut self.stage else {
-            return;
-        };
-        if let Ok(inquiries) = inquiries_of(alloc, blocks, work.rank()) {
-            work.make_ahead(maker, alloc, inquiries.as_slice());
-        }
-    }
-
-    /// Tells what blocks are answered, one after another.
-    fn tell_blocks<M: RowMaker>(
-        &mut self,
-        maker: &M,
-        blocks: &[Block],
-        told: &mut ToldText,
-    ) -> Result<(), AllocError>
-        requires ready { M.ready maker.now }
-        ensures same { self.new ≡ self.old }
-        ensures told { OnOk result (TellsBlocks self.old blocks.now told.old told.new) }
-    {
-        'each: for block in blocks {
-            self.tell_block(maker, block, told)?;
-        }
-        Ok(())
-    }
-
-    /// Tells what the lines of a block are answered, one after another.
-    pub(crate) fn tell_block<M: RowMaker>(
-        &mut self,
-        maker: &M,
-        block: &Block,
-        told: &mut ToldText,
-    ) -> Result<(), AllocError>
-        requires ready { M.ready maker.now }
-        ensures same { self.new ≡ self.old }
-        ensures told { OnOk result (TellsBlock self.old block.now told.old told.new) }
-    {
-        'lines: for line in block.lines() {
-            self.tell_line(maker, line, told)?;
-        }
-        Ok(())
-    }
-
-    /// Tells what a line of a block is answered.
-    fn tell_line<M: RowMaker>(
-        &mut self,
-        maker: &M,
-        line: &KeptLine,
-        told: &mut ToldText,
-    ) -> Result<(), AllocError>
-        requires ready { M.ready maker.now }
-        ensures same { self.new ≡ self.old }
-        ensures told { OnOk result (TellsLine self.old line.now told.old told.new) }
-    {
-        let mut text = told.take();
-        let said = self.answer_kept(maker, line, &mut text)?;
-        told.put(text, said);
-        Ok(())
-    }
-
-    /// Answers a line of a block, behind what `out` has.
-    fn answer_kept<M: RowMaker>(
-        &mut self,
-        maker: &M,
-        line: &KeptLine,
-        out: &mut Vec<u8>,
-    ) -> Result<Said, AllocError>
-        requires ready { M.ready maker.now }
-        ensures same { self.new ≡ self.old }
-        ensures ok { IfOk result (λ said. (reply : Reply) × IsKeptReply self.old line.now reply
-            × Tells said reply out.old.items out.new.items) }
-    {
-        if let Some(why) = line.refusal() {
-            return self.refuse(why, out);
-        }
-        let content = line.content();
-        if let Some(why) = block_refusal(content) {
-            return self.refuse(why, out);
-        }
-        self.answer_content(maker, content, out)
-    }
-
-    /// Answers a line with this content as where no list is open, with rows by this maker.
-    fn answer_content<M: RowMaker>(
-        &mut self,
-        maker: &M,
-        line: &[u8],
-        out: &mut Vec<u8>,
-    ) -> Result<Said, AllocError>
-        requires size { length line.now < 2 ^ 32 }
-        requires ready { M.ready maker.now }
-        ensures ok { IfOk result (λ said. (reply : Reply) × IsContentReply self.old line.now reply
-            × Says said reply self.new out.old.items out.new.items) }
-        ensures err { OnErr result ((reply : Reply) × IsContentReply self.old line.now reply
-            × SaysPrefix reply self.old self.new out.old.items out.new.items) }
-    {
-        match parse(line, self.rank()) {
-            Ok(command) => self.obey(maker, command, out),
-            Err(fault) => self.refuse(fault.refusal, out),
         }
     }
 
@@ -574,101 +328,6 @@ impl Session {
             Stage::Opened(options) => *options,
             Stage::Set(work) => work.options(),
         }
-    }
-
-    /// Answers a command, whose words are over the letters of the group.
-    fn obey<M: RowMaker>(
-        &mut self,
-        maker: &M,
-        command: Command,
-        out: &mut Vec<u8>,
-    ) -> Result<Said, AllocError>
-        requires words { HasWordsOf command (rank_of self.old) }
-        requires ready { M.ready maker.now }
-        ensures ok { IfOk result (λ said. (reply : Reply) × IsCommandReply command self.old reply
-            × Says said reply self.new out.old.items out.new.items) }
-        ensures err { OnErr result ((reply : Reply) × IsCommandReply command self.old reply
-            × SaysPrefix reply self.old self.new out.old.items out.new.items) }
-    {
-        match command {
-            Command::Nothing => Ok(Said::Answered),
-            Command::Quit => Ok(Said::Quit),
-            Command::Group(group) => self.set_group(&group, out),
-            Command::Jobs => self.open_list(*out.allocator()),
-            Command::Ask(inquiry) => self.answer_inquiry(maker, &inquiry, out),
-        }
-    }
-
-    /// Sets the group, unless it has more small roots than the options admit.
-    fn set_group(&mut self, group: &Coxeter, out: &mut Vec<u8>) -> Result<Said, AllocError>
-        ensures ok { IfOk result (λ said. (reply : Reply) × IsCommandReply (Group group.now) self.old reply
-            × Says said reply self.new out.old.items out.new.items) }
-        ensures err { OnErr result ((reply : Reply) × IsCommandReply (Group group.now) self.old reply
-            × SaysPrefix reply self.old self.new out.old.items out.new.items) }
-    {
-        prove!(group.rank() as usize <= MAX_RANK);
-        let options = self.options();
-        match RootTable::build(*out.allocator(), group, options.roots()) {
-            Ok(table) => {
-                self.stage = Stage::Set(Workspace::new(table, options));
-                Ok(Said::Answered)
-            }
-            Err(RootFault::TooMany { .. }) => self.refuse(Refusal::ManyRoots, out),
-            Err(RootFault::NoMemory) => Err(AllocError),
-        }
-    }
-
-    /// Opens a list of one empty block. Without memory nothing changes.
-    fn open_list(&mut self, alloc: Global) -> Result<Said, AllocError>
-        ensures ok { IfOk result (λ said. (said ≡ Answered) × IsCommandReply Jobs self.old (silence self.new)) }
-        ensures err { OnErr result (self.new ≡ self.old) }
-    {
-        self.list = Some(JobList::new(alloc)?);
-        Ok(Said::Answered)
-    }
-
-    /// Answers an inquiry.
-    fn answer_inquiry<M: RowMaker>(
-        &mut self,
-        maker: &M,
-        inquiry: &Inquiry,
-        out: &mut Vec<u8>,
-    ) -> Result<Said, AllocError>
-        requires words { IsSomeAnd (rank_of self.old) (λ n. HasLetters n inquiry.now) }
-        requires ready { M.ready maker.now }
-        ensures ok { IfOk result (λ said. (reply : Reply) × IsInquiryReply inquiry.now self.old reply
-            × Says said reply self.new out.old.items out.new.items) }
-        ensures err { OnErr result ((reply : Reply) × IsInquiryReply inquiry.now self.old reply
-            × SaysPrefix reply self.old self.new out.old.items out.new.items) }
-    {
-        match &mut self.stage {
-            Stage::Set(work) => {
-                let put = work.put_answer(maker, out, inquiry);
-                self.conclude(put, out)
-            }
-            Stage::Opened(_) => unreachable!(),
-        }
-    }
-
-    /// What is said of an inquiry that was answered, or refused.
-    fn conclude(&self, put: Result<(), Unanswered>, out: &mut Vec<u8>) -> Result<Said, AllocError>
-        ensures { Concludes put self.now result out.old.items out.new.items }
-    {
-        match put {
-            Ok(()) => Ok(Said::Answered),
-            Err(Unanswered::Refused(why)) => self.refuse(why, out),
-            Err(Unanswered::NoMemory) => Err(AllocError),
-        }
-    }
-
-    /// Refuses a line, behind what `out` has. On `NoMemory` a prefix of the answer is appended.
-    fn refuse(&self, why: Refusal, out: &mut Vec<u8>) -> Result<Said, AllocError>
-        ensures ok { IfOk result (λ said. Says said (refusal self.now why) self.now out.old.items out.new.items) }
-        ensures err { OnErr result (SaysPrefix (refusal self.now why) self.now self.now out.old.items out.new.items) }
-    {
-        put_refusal(out, why.number())?;
-        put_end(out)?;
-        Ok(Said::Refused(why.number()))
     }
 }
 

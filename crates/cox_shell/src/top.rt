@@ -5,6 +5,7 @@ ghost use Rattle.std.specs.Thread.{IsSync};
 ghost use Rattle.cox_row.specs.Rising.{AreWithin};
 ghost use Rattle.cox_replies.specs.Kept.{IsMore};
 ghost use Rattle.cox_options.specs.Arguments.{IsUsage, is_refused};
+ghost use Rattle.cox_options.specs.declared.reading.OptionFault.TheVariants.{Usage};
 ghost use Rattle.cox_outside.specs.Supply.{Supply};
 ghost use Rattle.cox_replies.specs.SessionLimits.{limits_of};
 ghost use Rattle.cox_shell.specs.Top.{argument_texts};
@@ -57,12 +58,10 @@ pub fn run<R: Threads + Wait + Sync, S: Source, K: Sink, G: Gate + Sync>(
     ensures reading { IsReadBy result (argument_texts words.now) (S.seen source.old) (S.seen source.new) }
     ensures unread { is_refused (argument_texts words.now) ≡ true → source.new ≡ source.old }
 {
-    if let Ok(options) = read(alloc, words) {
-        if options.workers() > 1 {
-            return run_with(rt, alloc, options, source, sink, gate);
-        }
+    match read(alloc, words) {
+        Ok(options) => run_with(rt, alloc, options, source, sink, gate),
+        Err(fault) => refuse(fault, sink),
     }
-    run_one(alloc, words, source, sink)
 }
 
 /// Answers the script that the source gives, into the sink. `words` are the arguments, and begin
@@ -81,8 +80,20 @@ pub fn run_one<S: Source, K: Sink>(
 {
     match read(alloc, words) {
         Ok(options) => run_by(&OneThread, alloc, options, source, sink),
-        Err(OptionFault::Usage) => put_usage(sink),
-        Err(OptionFault::NoMemory) => Status::NoMemory,
+        Err(fault) => refuse(fault, sink),
+    }
+}
+
+/// Ends a run whose arguments give no options: nothing is read, and wrong arguments are answered by the usage line.
+fn refuse<K: Sink>(fault: OptionFault, sink: &mut K) -> Status
+    ensures run { (arguments : List (List ℕ)) (supply : Supply) → (fault ≡ Usage → IsUsage arguments)
+        → IsRun result arguments supply supply (K.seen sink.old) (K.seen sink.new) }
+    ensures reading { (arguments : List (List ℕ)) (supply : Supply) → (fault ≡ Usage → IsUsage arguments)
+        → IsReadBy result arguments supply supply }
+{
+    match fault {
+        OptionFault::Usage => put_usage(sink),
+        OptionFault::NoMemory => Status::NoMemory,
     }
 }
 
@@ -99,7 +110,7 @@ fn put_usage<K: Sink>(sink: &mut K) -> Status
     }
 }
 
-/// Answers the script that the source gives, into the sink, with these options and workers.
+/// Answers the script that the source gives, into the sink, with these options, and with as many workers as they say.
 fn run_with<R: Threads + Wait + Sync, S: Source, K: Sink, G: Gate + Sync>(
     rt: &R,
     alloc: Global,
@@ -114,6 +125,9 @@ fn run_with<R: Threads + Wait + Sync, S: Source, K: Sink, G: Gate + Sync>(
         → IsReadBy result arguments (S.seen source.old) (S.seen source.new) }
 {
     let workers = options.workers();
+    if workers == 1 {
+        return run_by(&OneThread, alloc, options, source, sink);
+    }
     let maker = ByWorkers {
         make: |rows: Rows, alloc: Global, wanted: &[u32]| -> Rows
             requires { IsSync R.row × IsSync G.row × (1 ≤ workers) × AreWithin (length rows.elements.members) wanted.now }

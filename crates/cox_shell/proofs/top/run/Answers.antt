@@ -1,14 +1,23 @@
--- The arguments give the limits of the options.
+-- The arguments give the limits of the options, or none.
+use Rattle.std.proofs.Common.{Err, ap, ◌∙◌}
 use Rattle.cox_shell.specs.Top.{argument_texts}
 use Rattle.cox_shell.proofs.Whole.{options-given}
 use Rattle.cox_shell.proofs.top.run.Goals as goal
 
-pub returns-then-workers-gt1-clause-run : goal.returns-then-workers-gt1-clause-run
-returns-then-workers-gt1-clause-run g c = c.run_with.ensures.run (argument_texts c.args.words.now)
+pub returns-in-Ok-clause-run : goal.returns-in-Ok-clause-run
+returns-in-Ok-clause-run g c = c.run_with.ensures.run (argument_texts c.args.words.now)
     (options-given c.in-Ok.options (argument_texts c.args.words.now) c.in-Ok.ensures.taken c.in-Ok.ensures.context c.in-Ok.ensures.coef
     c.in-Ok.ensures.roots)
 
-pub returns-then-workers-gt1-clause-reading : goal.returns-then-workers-gt1-clause-reading
-returns-then-workers-gt1-clause-reading g c = c.run_with.ensures.reading (argument_texts c.args.words.now)
+pub returns-in-Ok-clause-reading : goal.returns-in-Ok-clause-reading
+returns-in-Ok-clause-reading g c = c.run_with.ensures.reading (argument_texts c.args.words.now)
     (options-given c.in-Ok.options (argument_texts c.args.words.now) c.in-Ok.ensures.taken c.in-Ok.ensures.context c.in-Ok.ensures.coef
     c.in-Ok.ensures.roots)
+
+pub returns-in-Err-clause-run : goal.returns-in-Err-clause-run
+returns-in-Err-clause-run g c = c.refuse.ensures.run (argument_texts c.args.words.now) _
+    (λ wrong. c.read.ensures.usage (c.in-Err.is ∙ ap Err wrong))
+
+pub returns-in-Err-clause-reading : goal.returns-in-Err-clause-reading
+returns-in-Err-clause-reading g c = c.refuse.ensures.reading (argument_texts c.args.words.now) (g.S.Source.seen c.args.source.now)
+    (λ wrong. c.read.ensures.usage (c.in-Err.is ∙ ap Err wrong))
