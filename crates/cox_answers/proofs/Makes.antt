@@ -10,7 +10,7 @@ use Rattle.cox_replies.specs.declared.unanswered.Unanswered.TheVariants.{Refused
 use Rattle.cox_replies.specs.Limits.{Limits}
 use Rattle.cox_replies.specs.Question.{IsRefused}
 use Rattle.cox_replies.specs.GroupReply.{RefusesGroupRows, group_question}
-use Rattle.cox_replies.specs.Kept.{Keeps}
+use Rattle.cox_answers.specs.Kept.{Keeps}
 use Rattle.cox_replies.specs.Putting.{PutsUnless, Finds}
 use Rattle.cox_answers.specs.Needs.{Makes}
 

@@ -21,8 +21,8 @@ use Rattle.cox_replies.specs.InverseReply.{RefusesInverse}
 use Rattle.cox_replies.specs.GroupReply.{RefusesGroupRows}
 use Rattle.cox_replies.specs.WorkReply.{generated_words, RefusesWork}
 use Rattle.cox_replies.specs.InquiryQuestion.{question_of}
-use Rattle.cox_replies.specs.Kept.{Work, HoldsRow, HoldsAll}
-use Rattle.cox_replies.specs.KeptBetween.{RefusesBetween, HoldsBetween}
+use Rattle.cox_answers.specs.Kept.{WorkspaceState, HoldsRow, HoldsAll}
+use Rattle.cox_answers.specs.KeptBetween.{RefusesBetween, HoldsBetween}
 use Rattle.cox_replies.specs.Totals.{AreTotals}
 use Rattle.cox_replies.specs.Putting.{PutsUnless}
 use Rattle.cox_answers.specs.declared.needs.Need.{Need}
@@ -31,7 +31,7 @@ use Rattle.cox_answers.specs.declared.needs.Found.{Found}
 use Rattle.cox_answers.specs.declared.needs.Found.TheVariants as found
 
 -- the right text of a command was put, or it is refused and nothing was put, or memory ran out
-abbrev pub Answers : Result Unit Unanswered → Work → Inquiry → List ℕ → List ℕ → Type 0
+abbrev pub Answers : Result Unit Unanswered → WorkspaceState → Inquiry → List ℕ → List ℕ → Type 0
 Answers result work inquiry before after = let question = question_of inquiry (limits_of work.options) work.table in
     PutsUnless result question.Refuses question.IsText before after
 
@@ -60,16 +60,16 @@ need_refuses Group limits g = RefusesGroupRows limits (integer_matrix g)
 need_refuses (Words start count) limits g = RefusesWork limits (integer_matrix g) (generated_words g.rank count start)
 
 -- the row of w is kept under this number, and nothing refuses it
-abbrev pub IsRowOf : Work → List ℕ → ℕ → Type 0
+abbrev pub IsRowOf : WorkspaceState → List ℕ → ℕ → Type 0
 IsRowOf work w i = IsSomeAnd work.rows (HoldsRow (integer_matrix work.table) w i)
     × IsRefused (RefusesRow (limits_of work.options) (integer_matrix work.table) w) None
 
-abbrev pub HasRowOf : Work → List ℕ → Found → Type 0
+abbrev pub HasRowOf : WorkspaceState → List ℕ → Found → Type 0
 HasRowOf work w (found.Row i) = IsRowOf work w i
 HasRowOf work w _ = ⊥
 
 -- there is no element between y and w, or the rows of all of them are kept; and nothing refuses them
-abbrev pub HasBetween : Work → List ℕ → List ℕ → Found → Type 0
+abbrev pub HasBetween : WorkspaceState → List ℕ → List ℕ → Found → Type 0
 HasBetween work y w found.Apart = (IsBelow (integer_matrix work.table) y w → ⊥)
     × IsRefused (RefusesLargeOr (limits_of work.options) (integer_matrix work.table) w ⊥) None
 HasBetween work y w _ = IsBelow (integer_matrix work.table) y w
@@ -77,18 +77,18 @@ HasBetween work y w _ = IsBelow (integer_matrix work.table) y w
     × IsRefused (RefusesBetween (limits_of work.options) (integer_matrix work.table) y w) None
 
 -- the rows of all elements of the group are kept, and nothing refuses them
-abbrev pub HasGroup : Work → Type 0
+abbrev pub HasGroup : WorkspaceState → Type 0
 HasGroup work = IsSomeAnd work.rows (HoldsAll (integer_matrix work.table))
     × IsRefused (RefusesGroupRows (limits_of work.options) (integer_matrix work.table)) None
 
 -- the rows of these words sum up to this, and nothing refuses them
-abbrev pub HasTotals : Work → List (List ℕ) → Found → Type 0
+abbrev pub HasTotals : WorkspaceState → List (List ℕ) → Found → Type 0
 HasTotals work words (found.Totals totals) = AreTotals (integer_matrix work.table) words totals
     × IsRefused (RefusesWork (limits_of work.options) (integer_matrix work.table) words) None
 HasTotals work words _ = ⊥
 
 -- this shows that what is needed is there
-abbrev pub IsFound : Work → Need → Found → Type 0
+abbrev pub IsFound : WorkspaceState → Need → Found → Type 0
 IsFound work Nothing found = Unit {0}
 IsFound work (Row w) found = HasRowOf work w.now.items found
 IsFound work (Listed w) found = HasRowOf work w.now.items found
@@ -97,7 +97,7 @@ IsFound work Group found = HasGroup work
 IsFound work (Words start count) found = HasTotals work (generated_words work.table.rank count start) found
 
 -- this shows that what a command needs is there
-abbrev pub IsEnough : Work → Inquiry → Found → Type 0
+abbrev pub IsEnough : WorkspaceState → Inquiry → Found → Type 0
 IsEnough work (One Klbasis w) found = HasRowOf work w.items found
 IsEnough work (One Ihbetti w) found = HasRowOf work w.items found
 IsEnough work (One Extremals w) found = HasRowOf work w.items found

@@ -17,7 +17,7 @@ ghost use Rattle.cox_poly.specs.Puts.{Puts};
 ghost use Rattle.cox_print.specs.AnswerText.{element_text, descent_text};
 ghost use Rattle.cox_command.specs.ParseContract.{HasLetters};
 ghost use Rattle.cox_command.specs.declared.inquiry.Inquiry.TheVariants.{One, Two};
-ghost use Rattle.cox_replies.specs.Kept.{IsSameWork};
+ghost use Rattle.cox_answers.specs.Kept.{IsSameWorkspace};
 ghost use Rattle.cox_replies.specs.SessionLimits.{limits_of};
 ghost use Rattle.cox_replies.specs.RowReply.{RefusesRow};
 ghost use Rattle.cox_replies.specs.RowCommands.{row_command, entry_command};
@@ -57,7 +57,7 @@ impl Workspace {
         requires ready { M.ready maker.now }
         ensures puts { PutsUnless result (question_of inquiry.now (limits_of self.old.options) self.old.table).Refuses
             (IsEnded (question_of inquiry.now (limits_of self.old.options) self.old.table).IsText) out.old.items out.new.items }
-        ensures same { IsSameWork self.old self.new }
+        ensures same { IsSameWorkspace self.old self.new }
         ensures group { IsCoxeterMatrix self.old.table }
     {
         prove!(self.rank() as usize <= MAX_RANK);
@@ -76,7 +76,7 @@ impl Workspace {
         requires words { HasLetters self.old.table.rank inquiry.now }
         requires ready { M.ready maker.now }
         ensures puts { Answers result self.old inquiry.now out.old.items out.new.items }
-        ensures same { IsSameWork self.old self.new }
+        ensures same { IsSameWorkspace self.old self.new }
     {
         match self.put_shared(maker, out, inquiry) {
             Some(put) => put,
@@ -123,7 +123,7 @@ impl Workspace {
         requires words { HasLetters self.old.table.rank inquiry.now }
         requires ready { M.ready maker.now }
         ensures puts { Answers result self.old inquiry.now out.old.items out.new.items }
-        ensures same { IsSameWork self.old self.new }
+        ensures same { IsSameWorkspace self.old self.new }
     {
         let found = self.make(maker, *out.allocator(), &need_of(inquiry))?;
         self.put(out, inquiry, &found)

@@ -8,18 +8,22 @@
 //! - `row_maker`: what makes rows that are asked for
 //! - `likeness`: whether two workspaces have the same group and limits
 //! - `finite`: whether a group is seen to be finite
-//! - `growth`: when the whole group is taken in the place of interval after interval
+//! - `faults`: what faults lead to
+//! - `whole_group_policy`: when the whole group is taken in the place of interval after interval
+//! - `kept_rows`: the rows that are kept of a group, and what is known of all of them
 //! - `workspace`: what answers work with
 //! - `needs`: what a command needs of the rows that are kept
 //! - `answers`: the texts
 #![tactic(auto)]
 
 mod answers;
+mod faults;
 mod finite;
-mod growth;
+mod kept_rows;
 mod likeness;
 mod needs;
 mod row_maker;
+mod whole_group_policy;
 mod workspace;
 
 pub use cox_replies::Unanswered;

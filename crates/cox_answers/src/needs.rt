@@ -4,7 +4,7 @@ ghost use Rattle.cox_base.specs.Matrix.{CoxeterMatrix, IsWord};
 ghost use Rattle.cox_command.specs.ParseContract.{HasLetters};
 ghost use Rattle.cox_command.specs.declared.refusal.Refusal.{Refusal};
 ghost use Rattle.cox_replies.specs.Limits.{Limits};
-ghost use Rattle.cox_replies.specs.Kept.{Work};
+ghost use Rattle.cox_answers.specs.Kept.{WorkspaceState};
 ghost use Rattle.cox_replies.specs.Question.{IsRefused};
 ghost use Rattle.cox_replies.specs.InquiryQuestion.{question_of};
 ghost use Rattle.cox_answers.specs.Needs.{IsOver, need_refuses, IsFound, IsEnough};
@@ -54,7 +54,7 @@ pub fn need_of(inquiry: &Inquiry) -> Need<'_>
     ensures letters { (rank : ℕ) → HasLetters rank inquiry.now → IsOver rank result }
     ensures refused { (limits : Limits) (g : CoxeterMatrix) (why : Refusal) → IsRefused (need_refuses result limits g) (Some why)
         → IsRefused (question_of inquiry.now limits g).Refuses (Some why) }
-    ensures enough { (work : Work) (found : Found) → IsFound work result found → IsEnough work inquiry.now found }
+    ensures enough { (work : WorkspaceState) (found : Found) → IsFound work result found → IsEnough work inquiry.now found }
 {
     match inquiry {
         Inquiry::One(kind, w) => match kind {

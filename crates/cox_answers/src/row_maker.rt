@@ -1,7 +1,7 @@
 //! What makes rows that are asked for.
 ghost use Rattle.std.specs.Prelude.{length};
 ghost use Rattle.cox_row.specs.Rising.{AreWithin};
-ghost use Rattle.cox_replies.specs.Kept.{IsMore};
+ghost use Rattle.cox_answers.specs.Kept.{IsMore};
 
 use crate::workspace::Workspace;
 use cox_rows::Rows;

@@ -1,21 +1,20 @@
 //! What commands on elements work with.
 
-use crate::answers::ahead::{is_on_group, is_on_interval, with_asked};
-use crate::answers::between::{
-    ensure_each, find_whole, has_all, interval_between, is_large, with_rows,
-};
+use crate::answers::ahead::{is_on_interval, with_asked};
+use crate::answers::between::{ensure_each, interval_between, is_large, with_rows};
 use crate::answers::kept::{add_interval, keep_interval, widen, with_row};
 use crate::answers::kept_group::{holds_group, keep_elements, with_all};
+use crate::faults::unless_fault;
 use crate::finite::{longest_of_few, longest_word};
-use crate::growth::Growth;
-use crate::needs::need_of;
+use crate::kept_rows::KeptRows;
 use crate::row_maker::RowMaker;
+use crate::whole_group_policy::WholeGroupPolicy;
 use cox_base::{Coxeter, MAX_RANK, Word};
 use cox_command::Inquiry;
 use cox_inverse::WholeGroup;
 use cox_minroots::RootTable;
 use cox_options::Options;
-use cox_replies::{Unanswered, unless_fault};
+use cox_replies::Unanswered;
 use cox_rows::Rows;
 use std::alloc::{AllocError, Global};
 use std::marker::Model;
@@ -28,24 +27,21 @@ use std::marker::Model;
 pub struct Workspace {
     table: RootTable,
     options: Options,
-    // Rows of the group, with the context that they are over, once a row was asked for.
-    rows: Option<Rows>,
-    // What inverse polynomials are read off, where these are all rows of a finite group, if that was looked for since the rows changed.
-    whole: Option<Option<WholeGroup>>,
+    // Rows of the group, and what is known of all of them.
+    kept: KeptRows,
     // When the whole group is tried.
-    growth: Growth,
+    policy: WholeGroupPolicy,
 }
 
 impl Model for Workspace {
     ghost use Rattle.cox_replies.specs.SessionLimits.{limits_of};
-    ghost use Rattle.cox_replies.specs.Kept.{Work, AreKept};
-    ghost use Rattle.cox_replies.specs.KeptBetween.{AreReadOff};
+    ghost use Rattle.cox_answers.specs.Kept.{WorkspaceState, AreKept};
 
-    ghost Value = { Work };
+    ghost Value = { WorkspaceState };
 
-    ghost view = { λ w. record { table = w.table; options = w.options; rows = w.rows } };
+    ghost view = { λ w. record { table = w.table; options = w.options; rows = w.kept } };
 
-    ghost invariant = { λ w. AreKept w.table (limits_of w.options) w.rows × AreReadOff (limits_of w.options) w.rows w.whole };
+    ghost invariant = { λ w. AreKept w.table (limits_of w.options) w.kept };
 }
 
 impl Workspace {
@@ -57,18 +53,14 @@ impl Workspace {
     ghost use Rattle.cox_base.specs.Bruhat.{IsBelow};
     ghost use Rattle.cox_base.specs.Members.{IsInInterval};
     ghost use Rattle.cox_base.specs.SortedList.{HasMoreThan};
-    ghost use Rattle.cox_context.specs.Closed.{IsClosed};
-    ghost use Rattle.cox_context.specs.Numbers.{word_at};
-    ghost use Rattle.cox_rows.specs.Beyond.{IsBeyond};
-    ghost use Rattle.cox_rows.specs.Holding.{HasRow};
     ghost use Rattle.cox_command.specs.ParseContract.{HasLetters};
     ghost use Rattle.cox_replies.specs.SessionLimits.{limits_of};
     ghost use Rattle.cox_replies.specs.GroupReply.{RefusesGroupRows};
     ghost use Rattle.cox_replies.specs.Listed.{RefusesLargeOr};
     ghost use Rattle.cox_replies.specs.Question.{IsRefused};
     ghost use Rattle.cox_replies.specs.RowReply.{RefusesRow};
-    ghost use Rattle.cox_replies.specs.Kept.{AreOf, AreKept, HoldsElement, HoldsRow, HoldsAll, IsSameWork, Keeps};
-    ghost use Rattle.cox_replies.specs.KeptBetween.{RefusesBetween, HoldsBetween, IsReadOff};
+    ghost use Rattle.cox_answers.specs.Kept.{AreOf, AreKept, HoldsElement, HoldsRow, HoldsAll, IsSameWorkspace, Keeps};
+    ghost use Rattle.cox_answers.specs.KeptBetween.{RefusesBetween, HoldsBetween, IsReadOff};
 
     /// A group with the options of the session; no row is made yet.
     pub fn new(table: RootTable, options: Options) -> Workspace
@@ -78,9 +70,8 @@ impl Workspace {
         Workspace {
             table,
             options,
-            rows: None,
-            whole: None,
-            growth: Growth::new(),
+            kept: KeptRows::new(),
+            policy: WholeGroupPolicy::new(),
         }
     }
 
@@ -122,20 +113,17 @@ impl Workspace {
         ensures group { IsCoxeterMatrix self.now.table }
     {
         prove!(self.rank() as usize <= MAX_RANK);
-        match &self.rows {
+        match self.kept.rows() {
             Some(rows) => rows,
             None => unreachable!(),
         }
     }
 
     /// What inverse polynomials are read off, where all rows of a finite group are kept.
-    pub(crate) fn whole(&self) -> Option<WholeGroup>
-        ensures { IfSome result (λ group. IsSomeAnd self.now.rows (λ rows. IsReadOff (limits_of self.now.options) rows group)) }
+    pub(crate) fn whole_group(&self) -> Option<WholeGroup>
+        ensures { IfSome result (λ group. IsSomeAnd self.now.rows (λ rows. IsReadOff rows group)) }
     {
-        match self.whole {
-            Some(found) => found,
-            None => None,
-        }
+        self.kept.whole_group()
     }
 
     /// Sees to it that the row of w is kept, and tells its number.
@@ -147,7 +135,7 @@ impl Workspace {
     ) -> Result<u32, Unanswered>
         requires word { IsWord self.old.table.rank w.now.items }
         requires ready { M.ready maker.now }
-        ensures same { IsSameWork self.old self.new }
+        ensures same { IsSameWorkspace self.old self.new }
         ensures kept { AreKept self.old.table (limits_of self.old.options) self.new.rows }
         ensures row { Keeps result (RefusesRow (limits_of self.old.options) (integer_matrix self.old.table) w.now.items)
             (HoldsRow (integer_matrix self.old.table) w.now.items) self.new.rows }
@@ -168,7 +156,7 @@ impl Workspace {
         requires member { IsSomeAnd self.old.rows (λ rows. i < length rows.elements.members) }
         requires kept { AreKept self.old.table (limits_of self.old.options) self.old.rows }
         requires ready { M.ready maker.now }
-        ensures same { IsSameWork self.old self.new }
+        ensures same { IsSameWorkspace self.old self.new }
         ensures kept { AreKept self.old.table (limits_of self.old.options) self.new.rows }
         ensures row { (w : List ℕ) → IsSomeAnd self.old.rows (HoldsElement (integer_matrix self.old.table) w i)
             → (HasMoreThan (limits_of self.old.options).context (IsInInterval (integer_matrix self.old.table) w) → ⊥)
@@ -177,34 +165,33 @@ impl Workspace {
         ensures members { IfSome self.old.rows (λ old. IfSome self.new.rows (λ new. new.elements ≡ old.elements)) }
         ensures number { IfOk result (λ j. j ≡ i) }
     {
-        self.whole = None;
-        let Some(rows) = self.rows.take() else {
+        let kept = self.kept.change();
+        let Some(rows) = kept.take() else {
             unreachable!();
         };
         let mut rows = with_row(alloc, rows, maker, i);
         let made = rows.ensure(i);
-        self.rows = Some(rows);
+        *kept = Some(rows);
         unless_fault(made, i)
     }
 
     /// Sees to it that the interval from the identity to w is part of what is kept, and tells the number of w there.
     pub(crate) fn keep_interval(&mut self, alloc: Global, w: &Word) -> Result<u32, Unanswered>
         requires { IsWord self.old.table.rank w.now.items }
-        ensures same { IsSameWork self.old self.new }
+        ensures same { IsSameWorkspace self.old self.new }
         ensures kept { AreKept self.old.table (limits_of self.old.options) self.new.rows }
         ensures interval { Keeps result (RefusesLargeOr (limits_of self.old.options) (integer_matrix self.old.table) w.now.items ⊥)
             (HoldsElement (integer_matrix self.old.table) w.now.items) self.new.rows }
         ensures group { IsCoxeterMatrix self.old.table }
     {
         prove!(self.rank() as usize <= MAX_RANK);
-        if self.whole.is_some()
+        if self.kept.knows_whole_group()
             && let Some(i) = self.number_of(w)
         {
             return Ok(i);
         }
         self.take_group();
-        self.whole = None;
-        keep_interval(alloc, &mut self.rows, &self.table, self.options, w)
+        keep_interval(alloc, self.kept.change(), &self.table, self.options, w)
     }
 
     /// The number of the element of w, if it is a member.
@@ -215,7 +202,7 @@ impl Workspace {
             (IsInInterval (integer_matrix self.now.table) w.now.items) → ⊥) }
         ensures kept { AreKept self.now.table (limits_of self.now.options) self.now.rows }
     {
-        match &self.rows {
+        match self.kept.rows() {
             Some(rows) => rows.context().number_of(&self.table, w),
             None => None,
         }
@@ -246,7 +233,7 @@ impl Workspace {
         ensures group { IsCoxeterMatrix self.now.table }
     {
         prove!(self.rank() as usize <= MAX_RANK);
-        match &self.rows {
+        match self.kept.rows() {
             Some(rows) => {
                 let _context = rows.context();
                 holds_group(rows)
@@ -269,54 +256,27 @@ impl Workspace {
         requires top { IsSomeAnd self.old.rows
             (λ rows. Contains rows.elements.members (normal_form (integer_matrix self.old.table) w.now.items)) }
         requires ready { M.ready maker.now }
-        ensures same { IsSameWork self.old self.new }
+        ensures same { IsSameWorkspace self.old self.new }
         ensures kept { AreKept self.old.table (limits_of self.old.options) self.new.rows }
         ensures rows { Keeps result (RefusesBetween (limits_of self.old.options) (integer_matrix self.old.table) y.now.items w.now.items)
             (λ _ rows. HoldsBetween (integer_matrix self.old.table) y.now.items w.now.items rows) self.new.rows }
         ensures group { IsCoxeterMatrix self.old.table }
     {
         prove!(self.rank() as usize <= MAX_RANK);
-        if self.has_small() {
+        if self.kept.find_whole_group() {
             return Ok(());
         }
         self.gather(maker, alloc, y, w)?;
-        self.whole = None;
-        let Some(rows) = self.rows.take() else {
+        let kept = self.kept.change();
+        let Some(rows) = kept.take() else {
             unreachable!();
         };
         let between = interval_between(alloc, rows.context(), &self.table, y, w)?;
         let mut rows = with_rows(alloc, rows, maker, between.members.as_slice());
         let made = ensure_each(&mut rows, between.members.as_slice());
-        self.rows = Some(rows);
-        self.has_small();
+        *kept = Some(rows);
+        self.kept.find_whole_group();
         unless_fault(made, ())
-    }
-
-    /// Whether the rows of all members are kept. Then it is looked at once whether inverse polynomials can be read off them.
-    fn has_small(&mut self) -> bool
-        ensures same { self.new ≡ self.old }
-        ensures kept { AreKept self.old.table (limits_of self.old.options) self.old.rows }
-        ensures closed { IsTrue result → IfSome self.old.rows
-            (λ rows. IsClosed (integer_matrix rows.elements.matrix) rows.elements.members) }
-        ensures there { IsTrue result → IfSome self.old.rows (λ rows. (i : ℕ) → i < length rows.elements.members → HasRow rows i) }
-        ensures small { IsTrue result → IfSome self.old.rows (λ rows. (i : ℕ) → i < length rows.elements.members
-            → ¬ IsBeyond (integer_matrix rows.elements.matrix) rows.limit (word_at rows.elements.members i)) }
-    {
-        let known = self.whole();
-        let Some(rows) = &self.rows else {
-            return false;
-        };
-        let _context = rows.context();
-        if known.is_some() {
-            return true;
-        }
-        if !has_all(rows) {
-            return false;
-        }
-        if self.whole.is_none() {
-            self.whole = Some(find_whole(rows, self.options));
-        }
-        true
     }
 
     /// Sees to it that the interval from the identity to w is part of what is kept, and tells the number of w there.
@@ -333,13 +293,12 @@ impl Workspace {
         requires first { IsWord self.old.table.rank y.now.items }
         requires second { IsWord self.old.table.rank w.now.items }
         requires ready { M.ready maker.now }
-        ensures same { IsSameWork self.old self.new }
+        ensures same { IsSameWorkspace self.old self.new }
         ensures kept { AreKept self.old.table (limits_of self.old.options) self.new.rows }
         ensures interval { Keeps result (RefusesLargeOr (limits_of self.old.options) (integer_matrix self.old.table) w.now.items ⊥)
             (HoldsElement (integer_matrix self.old.table) w.now.items) self.new.rows }
         ensures group { IsCoxeterMatrix self.old.table }
     {
-        self.whole = None;
         prove!(self.rank() as usize <= MAX_RANK);
         if self.is_large(y, w) && longest_word(&self.table).is_some() {
             let _ = self.keep_group(maker, alloc);
@@ -352,7 +311,7 @@ impl Workspace {
         requires first { IsWord self.now.table.rank y.now.items }
         requires second { IsWord self.now.table.rank w.now.items }
     {
-        match &self.rows {
+        match self.kept.rows() {
             Some(rows) => is_large(rows, &self.table, y, w),
             None => false,
         }
@@ -360,19 +319,24 @@ impl Workspace {
 
     /// Takes the whole group, where what is kept has a good part of it. No answer depends on it: members and rows that are kept stay.
     fn take_group(&mut self)
-        ensures same { IsSameWork self.old self.new }
+        ensures same { IsSameWorkspace self.old self.new }
     {
-        let count = match &self.rows {
+        let count = match self.kept.rows() {
             Some(rows) => rows.context().len(),
             None => 0,
         };
-        let Some(most) = self.growth.due(count, self.options.context()) else {
+        let Some(most) = self.policy.next_try(count, self.options.context()) else {
             return;
         };
         prove!(self.table.group().rank() as usize <= MAX_RANK);
         if let Some(longest) = longest_of_few(&self.table) {
-            self.whole = None;
-            widen(&mut self.rows, &self.table, self.options, &longest, most);
+            widen(
+                self.kept.change(),
+                &self.table,
+                self.options,
+                &longest,
+                most,
+            );
         }
     }
 
@@ -383,100 +347,52 @@ impl Workspace {
         alloc: Global,
     ) -> Result<(), Unanswered>
         requires ready { M.ready maker.now }
-        ensures same { IsSameWork self.old self.new }
+        ensures same { IsSameWorkspace self.old self.new }
         ensures kept { AreKept self.old.table (limits_of self.old.options) self.new.rows }
         ensures rows { Keeps result (RefusesGroupRows (limits_of self.old.options) (integer_matrix self.old.table))
             (λ _ rows. HoldsAll (integer_matrix self.old.table) rows) self.new.rows }
         ensures group { IsCoxeterMatrix self.old.table }
     {
-        self.whole = None;
-        keep_elements(alloc, &mut self.rows, &self.table, self.options)?;
-        let Some(rows) = self.rows.take() else {
+        let kept = self.kept.change();
+        keep_elements(alloc, kept, &self.table, self.options)?;
+        let Some(rows) = kept.take() else {
             unreachable!();
         };
         let mut rows = with_all(alloc, rows, maker);
         let made = rows.ensure_all();
-        self.rows = Some(rows);
+        *kept = Some(rows);
         unless_fault(made, ())
     }
 
-    /// Makes the rows that commands will ask for, as far as the elements below theirs fit together into what is kept, and settles them.
-    ///
-    /// Where a command is on the whole group, and the group is finite, all its rows are made first. The rows that `work` and `invpol` ask
-    /// for are left to them. No answer depends on it: what is refused, and what memory runs out for, is left to whoever asks.
-    pub fn make_ahead<M: RowMaker>(&mut self, maker: &M, alloc: Global, inquiries: &[Inquiry])
-        requires words { All (HasLetters self.old.table.rank) inquiries.now }
-        requires ready { M.ready maker.now }
-        ensures { IsSameWork self.old self.new }
-    {
-        if self.make_group_ahead(maker, alloc, inquiries).is_ok()
-            && self.add_intervals(alloc, inquiries).is_ok()
-        {
-            self.make_rows_ahead(maker, alloc, inquiries);
-        }
-    }
-
-    /// Makes the rows of the whole group, if a command is on it and it is finite. `Err` where memory ran out.
-    fn make_group_ahead<M: RowMaker>(
-        &mut self,
-        maker: &M,
-        alloc: Global,
-        inquiries: &[Inquiry],
-    ) -> Result<(), AllocError>
-        requires { M.ready maker.now }
-        ensures { IsSameWork self.old self.new }
-    {
-        prove!(self.rank() as usize <= MAX_RANK);
-        if !inquiries.iter().any(|inquiry| is_on_group(inquiry))
-            || longest_word(&self.table).is_none()
-        {
-            return Ok(());
-        }
-        match self.keep_group(maker, alloc) {
-            Err(Unanswered::NoMemory) => Err(AllocError),
-            _ => Ok(()),
-        }
-    }
-
-    /// Adds the elements below those whose rows the commands ask for to what is kept, as far as they fit beside it. `Err` where memory ran
-    /// out.
-    fn add_intervals(&mut self, alloc: Global, inquiries: &[Inquiry]) -> Result<(), AllocError>
-        requires { All (HasLetters self.old.table.rank) inquiries.now }
-        ensures { IsSameWork self.old self.new }
-    {
-        'each: for inquiry in inquiries {
-            if let Some(w) = need_of(inquiry).row() {
-                self.add_interval(alloc, w)?;
-            }
-        }
-        Ok(())
-    }
-
     /// Adds the elements below w to what is kept, if they fit beside it. `Err` where memory ran out.
-    fn add_interval(&mut self, alloc: Global, w: &Word) -> Result<(), AllocError>
+    pub(crate) fn add_interval(&mut self, alloc: Global, w: &Word) -> Result<(), AllocError>
         requires { IsWord self.old.table.rank w.now.items }
-        ensures { IsSameWork self.old self.new }
+        ensures { IsSameWorkspace self.old self.new }
     {
         self.take_group();
-        self.whole = None;
-        add_interval(alloc, &mut self.rows, &self.table, self.options, w)
+        add_interval(alloc, self.kept.change(), &self.table, self.options, w)
     }
 
     /// Makes the rows of members that the commands ask for, and looks whether inverse polynomials can be read off those that are kept, if
     /// they are asked for.
-    fn make_rows_ahead<M: RowMaker>(&mut self, maker: &M, alloc: Global, inquiries: &[Inquiry])
+    pub(crate) fn make_rows_ahead<M: RowMaker>(
+        &mut self,
+        maker: &M,
+        alloc: Global,
+        inquiries: &[Inquiry],
+    )
         requires words { All (HasLetters self.old.table.rank) inquiries.now }
         requires ready { M.ready maker.now }
-        ensures { IsSameWork self.old self.new }
+        ensures { IsSameWorkspace self.old self.new }
     {
-        self.whole = None;
-        let Some(rows) = self.rows.take() else {
+        let kept = self.kept.change();
+        let Some(rows) = kept.take() else {
             return;
         };
         let rows = with_asked(alloc, rows, &self.table, maker, inquiries);
-        self.rows = Some(rows);
+        *kept = Some(rows);
         if inquiries.iter().any(|inquiry| is_on_interval(inquiry)) {
-            self.has_small();
+            self.kept.find_whole_group();
         }
     }
 }

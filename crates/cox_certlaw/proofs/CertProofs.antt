@@ -47,7 +47,7 @@ use Rattle.cox_replies.specs.Question.{IsRefused}
 use Rattle.cox_replies.specs.CertReply.{RefusesCert, IsCertText}
 use Rattle.cox_replies.proofs.CertRefusals.{cert-none}
 use Rattle.cox_certlaw.proofs.CertificateRows.{IsCertificateOf, cert-certificate}
-use Rattle.cox_replies.proofs.KeptRows.{interval-member}
+use Rattle.cox_replies.proofs.OwnIntervals.{interval-member}
 
 -- P(x,w) has no coefficient above a limit, or the row of w is beyond it
 coefficients-within : (A : IntegerMatrix) (g : IsAdmissible A) (w x : List ℕ) (q : List ℤ) → (IsBeyond A MAX_COEFFICIENT w → ⊥)

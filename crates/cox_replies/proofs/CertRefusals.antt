@@ -1,5 +1,5 @@
 -- When a certificate is refused.
-use Rattle.std.proofs.Common.{◌≡◌, ◌⊎◌, ℕ, ◌<◌, ◌≤◌, List, length, Option, None, Some, IsSome, IsSomeAnd, Result, Ok, Err, min}
+use Rattle.std.proofs.Common.{◌≡◌, ◌⊎◌, ℕ, ◌<◌, ◌≤◌, List, length, None, Some, Result, Ok, Err, min}
 use Rattle.std.proofs.Common.{inl, inr, refl, ⊎_elim, arith, pos}
 use Rattle.std.proofs.Math.Nat.{min-le_left, min-le_right, le-min}
 use Rattle.std.proofs.lemmas.Bool.{cases_lt}
@@ -11,7 +11,6 @@ use Rattle.cox_context.proofs.ShortLexLists.{HasMoreThan-listed, HasMoreThan-few
 use Rattle.cox_rpoly.specs.declared.TheConstants.{MAX_DIFFERENCE}
 use Rattle.cox_certtext.specs.declared.limits.TheConstants.{MAX_LISTED, MAX_COEFFICIENT}
 use Rattle.cox_rows.specs.Beyond.{IsBeyond, NeedsBeyond}
-use Rattle.cox_rows.specs.Holding.{Holding}
 use Rattle.cox_command.specs.declared.refusal.Refusal.{Refusal}
 use Rattle.cox_command.specs.declared.refusal.Refusal.TheVariants.{LargeInterval, FarApart, LargeRow}
 use Rattle.cox_replies.specs.declared.unanswered.Unanswered.{Unanswered}
@@ -21,7 +20,6 @@ use Rattle.cox_replies.specs.Question.{IsRefused}
 use Rattle.cox_replies.specs.Listed.{RefusesLargeOr}
 use Rattle.cox_replies.specs.RowReply.{RefusesRow}
 use Rattle.cox_replies.specs.CertReply.{RefusesListedOr, RefusesCert}
-use Rattle.cox_replies.specs.Kept.{Keeps}
 use Rattle.cox_replies.specs.Putting.{PutsUnless, Finds}
 use Rattle.cox_replies.proofs.LargeOr.{row-more, large_or-none}
 
@@ -137,18 +135,9 @@ module _ (limits : Limits) (A : IntegerMatrix) (w : List ℕ) where
   pub row-few : IsRefused (RefusesRow limits A w) None → HasMoreThan limits.context (IsInInterval A w) → ⊥
   row-few free = (large_or-none limits A w (NeedsBeyond A (pos limits.coefficient) w) free).0
 
--- what is refused while rows are kept, or while the members are listed, puts nothing
+-- what is refused while the members are listed puts nothing
 module _ {X : Type 0} (Old New : Refusal → Type 0) (IsText : List ℕ → Type 0) (before : List ℕ)
     (more : (why : Refusal) → IsRefused Old (Some why) → IsRefused New (Some why)) where
-  pub PutsUnless-unkept : (Holds : X → Holding → Type 0) (kept : Option Holding) (result : Result X Unanswered) (why : Unanswered)
-      → result ≡ Err why → Keeps result Old Holds kept → PutsUnless (Err why) New IsText before before
-  PutsUnless-unkept Holds kept (Ok x) why is keeps = absurd (cc is)
-  PutsUnless-unkept Holds kept (Err (Refused one)) (Refused other) is keeps =
-      let same : one ≡ other = cc is in rw (← same) (more one keeps, refl)
-  PutsUnless-unkept Holds kept (Err (Refused one)) NoMemory is keeps = absurd (cc is)
-  PutsUnless-unkept Holds kept (Err NoMemory) (Refused other) is keeps = absurd (cc is)
-  PutsUnless-unkept Holds kept (Err NoMemory) NoMemory is keeps = inl refl
-
   pub PutsUnless-unfound : (Is : X → Type 0) (result : Result X Unanswered) (why : Unanswered)
       → result ≡ Err why → Finds result Old Is → PutsUnless (Err why) New IsText before before
   PutsUnless-unfound Is (Ok x) why is finds = absurd (cc is)
@@ -156,8 +145,3 @@ module _ {X : Type 0} (Old New : Refusal → Type 0) (IsText : List ℕ → Type
   PutsUnless-unfound Is (Err (Refused one)) NoMemory is finds = absurd (cc is)
   PutsUnless-unfound Is (Err NoMemory) (Refused other) is finds = absurd (cc is)
   PutsUnless-unfound Is (Err NoMemory) NoMemory is finds = inl refl
-
--- what is held is there
-pub kept-some : {X : Type 0} (P : X → Type 0) (kept : Option X) → IsSomeAnd kept P → IsSome kept
-kept-some P (Some x) held = refl
-kept-some P None held = absurd held

@@ -36,7 +36,7 @@ module _ (A : IntegerMatrix) (limit : ℕ) (y w : List ℕ) where
       let value : large.is.row x k ≡ c = sym (large.is.at k) ∙ large.value in
       polynomial {p = large.is.row} x z k above order below large.is.is (rw value large.above)
 
-  pub inverse-large : (x : List ℕ) (k : ℕ) (c : ℤ) → IsBelow A y x → IsBelow A x w → IsLargeInverse A (inverse_limit limit) x w k c
+  pub inverse-large : (x : List ℕ) (k : ℕ) (c : ℤ) → IsBelow A y x → IsBelow A x w → IsLargeInverse A (inverse_limit (pos limit)) x w k c
       → IsInverseBeyond A limit y w
   inverse-large x k c above below large =
       let value : large.is.row x k ≡ c = sym (large.is.at k) ∙ large.value in
@@ -45,7 +45,7 @@ module _ (A : IntegerMatrix) (limit : ℕ) (y w : List ℕ) where
   pub by-large : {C : Type 0} → ((z : List ℕ) → LiesBetween A y w z → NeedsBeyond A (pos limit) z → C)
       → ((x z : List ℕ) (k : ℕ) (c : ℤ) → IsBelow A y x → IsBelow A x z → IsBelow A z w
       → IsLargeCoefficient A MAX_COEFFICIENT x z k c → C)
-      → ((x : List ℕ) (k : ℕ) (c : ℤ) → IsBelow A y x → IsBelow A x w → IsLargeInverse A (inverse_limit limit) x w k c → C)
+      → ((x : List ℕ) (k : ℕ) (c : ℤ) → IsBelow A y x → IsBelow A x w → IsLargeInverse A (inverse_limit (pos limit)) x w k c → C)
       → IsInverseBeyond A limit y w → C
   by-large rows polynomials inverses (row {z} above below beyond) = rows z (record { above = above; below = below }) beyond
   by-large rows polynomials inverses (polynomial {p} x z k above order below is large) = polynomials x z k (p x k) above order below
@@ -139,7 +139,7 @@ module _ (A : IntegerMatrix) (g : IsAdmissible A) where
     large-same limit x x v w (same-refl A g x) e large,
   )
 
-  largest-least : (limit : ℕ) → pos 0 ≤ℤ inverse_limit limit
+  largest-least : (limit : ℕ) → pos 0 ≤ℤ inverse_limit (pos limit)
   largest-least limit = omega (arith, ints, clamps)
 
   pub tell-inverse_beyond : (limit : ℕ) (y w : List ℕ) → IsInverseBeyond A limit y w ⊎ (IsInverseBeyond A limit y w → ⊥)
@@ -150,15 +150,15 @@ module _ (A : IntegerMatrix) (g : IsAdmissible A) where
       let large = found.2 in
       inl (polynomial-large A limit y w large.0 found.0 large.2.0 large.2.1 large.1.above large.1.below found.1.below large.2.2))
       (λ (no_polynomial : (z : List ℕ) → LiesBetween A y w z → HasLargeRow MAX_COEFFICIENT y z → ⊥). ⊎_elim
-      (λ (found : (x : List ℕ) × LiesBetween A y w x × HasLargeInverse (inverse_limit limit) w x).
+      (λ (found : (x : List ℕ) × LiesBetween A y w x × HasLargeInverse (inverse_limit (pos limit)) w x).
       inl (inverse-large A limit y w found.0 found.2.0 found.2.1 found.1.above found.1.below found.2.2))
-      (λ (no_inverse : (x : List ℕ) → LiesBetween A y w x → HasLargeInverse (inverse_limit limit) w x → ⊥).
+      (λ (no_inverse : (x : List ℕ) → LiesBetween A y w x → HasLargeInverse (inverse_limit (pos limit)) w x → ⊥).
       inr (by-large A limit y w no_row
       (λ x z k c above order below large. no_polynomial z (record { above = below-trans A g above order; below = below })
       (x, record { above = above; below = order }, (k, c, large)))
       (λ x k c above below large. no_inverse x (record { above = above; below = below }) (k, c, large))))
-      (tell-between (HasLargeInverse (inverse_limit limit) w) (inverse-words (inverse_limit limit) w)
-      (tell-inverse (inverse_limit limit) (largest-least limit) w) y w))
+      (tell-between (HasLargeInverse (inverse_limit (pos limit)) w) (inverse-words (inverse_limit (pos limit)) w)
+      (tell-inverse (inverse_limit (pos limit)) (largest-least limit) w) y w))
       (tell-between (HasLargeRow MAX_COEFFICIENT y) (row-words MAX_COEFFICIENT y) (tell-row MAX_COEFFICIENT (omega (arith, ints)) y) y w))
       (tell-between (NeedsBeyond A (pos limit)) (needs_beyond-same A g (pos limit) (omega (arith, ints)))
       (tell-needs_beyond A g (pos limit) (omega (arith, ints))) y w)

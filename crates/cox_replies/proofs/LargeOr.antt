@@ -27,11 +27,6 @@ pub row-more : (large far row : Type 0) (why : Refusal) → IsRefused (RefusesIf
 row-more large far row = row-weaker large far ⊥ row (λ none. absurd none)
 
 module _ (limits : Limits) (A : IntegerMatrix) (w : List ℕ) where
-  -- a large interval is refused whatever rows are asked for
-  pub large_or-interval : (Large : Type 0) (why : Refusal) → IsRefused (RefusesLargeOr limits A w ⊥) (Some why)
-      → IsRefused (RefusesLargeOr limits A w Large) (Some why)
-  large_or-interval Large = row-more (HasMoreThan limits.context (IsInInterval A w)) ⊥ Large
-
   pub large_or-allowed : (Large : Type 0) → (HasMoreThan limits.context (IsInInterval A w) → ⊥) → (Large → ⊥)
       → IsRefused (RefusesLargeOr limits A w Large) None
   large_or-allowed Large few small = inr (λ none. none, inr (few, inr (λ none. none, inr (small, refl))))
@@ -48,6 +43,10 @@ module _ (limits : Limits) (A : IntegerMatrix) (w : List ℕ) where
   large_or-none Large (inr (_, inr (few, inl (far, e)))) = absurd far
   large_or-none Large (inr (_, inr (few, inr (_, inl (large, e))))) = absurd (cc e)
   large_or-none Large (inr (_, inr (few, inr (_, inr (small, e))))) = (few, small)
+
+  -- where the interval is not refused, it is not too large
+  pub large-free : IsRefused (RefusesLargeOr limits A w ⊥) None → HasMoreThan limits.context (IsInInterval A w) → ⊥
+  large-free free = (large_or-none ⊥ free).0
 
   -- rows that are too large are so by a weaker word too
   pub large_or-weaker : (Large Larger : Type 0) → (Large → Larger) → (why : Refusal)

@@ -26,6 +26,8 @@ pub mod IntervalTexts
 pub mod OrderOfWords
 -- sums over lists that have the same elements
 pub mod SumsInAnyOrder
+-- each element is in its own interval
+pub mod OwnIntervals
 -- the members below one, and the extremal ones
 pub mod RowMembers
 -- the text of members with their polynomials
@@ -34,16 +36,13 @@ pub mod PairTexts
 pub mod RowSums
 -- the texts of single polynomials of a row
 pub mod RowTexts
--- what is kept
-pub mod KeptRows
 -- totals that `work` sums up
 pub mod PolynomialTotals
 pub mod RowTotals
 -- .. as folds over one list of polynomials
 pub mod TotalsOfLists
 pub mod WorkTotals
--- whole groups, and the texts of W-graphs and cells
-pub mod WholeGroups
+-- the texts of W-graphs and cells
 pub mod GroupTexts
 -- a search for a number in a list
 pub mod ListSearch
@@ -55,17 +54,11 @@ pub mod PrintedModules
 -- the text of an inverse polynomial, and whether one between two elements is too large
 pub mod InverseTexts
 pub mod InverseBeyond
--- when an inverse polynomial is refused
-pub mod InverseRefusals
 -- refusals for a large interval, or else for large rows
 pub mod LargeOr
--- rows of the elements between two, among those that are kept
-pub mod KeptBetween
 -- the certificate of a row, and its text
 pub mod CertTexts
 -- whether a row has a coefficient above a limit
 pub mod RowLimits
 -- when a certificate is refused
 pub mod CertRefusals
--- Coxeter matrices with the same labels
-pub mod SameMatrices

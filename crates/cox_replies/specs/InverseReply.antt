@@ -16,8 +16,8 @@ use Rattle.cox_replies.specs.Listed.{RefusesLargeOr}
 use Rattle.cox_replies.specs.RowReply.{coefficients_to}
 
 -- how large a coefficient of an inverse polynomial may be in absolute value, where one of a row may be as large as the limit
-abbrev pub inverse_limit : ℕ → ℤ
-inverse_limit limit = int_min (pos limit) MAX_COEFFICIENT
+abbrev pub inverse_limit : ℤ → ℤ
+inverse_limit limit = int_min limit MAX_COEFFICIENT
 
 -- Some polynomial between y and w is too large: the row of some z with y ≤ z ≤ w needs a row that is beyond its limits; or some P(x,z) with
 -- y ≤ x ≤ z ≤ w has a coefficient above MAX_COEFFICIENT in absolute value; or some Q(x,w) with y ≤ x ≤ w has one above the limit of inverse
@@ -27,7 +27,7 @@ pub data IsInverseBeyond (A : IntegerMatrix) (limit : ℕ) (y w : List ℕ) : Ty
   polynomial : {p : Family} (x z : List ℕ) (k : ℕ) → IsBelow A y x → IsBelow A x z → IsBelow A z w → IsRow A z p
       → MAX_COEFFICIENT <ℤ pos (unsigned_abs (p x k)) → IsInverseBeyond A limit y w
   inverse : {q : Family} (x : List ℕ) (k : ℕ) → IsBelow A y x → IsBelow A x w → IsInverseRow A w q
-      → inverse_limit limit <ℤ pos (unsigned_abs (q x k)) → IsInverseBeyond A limit y w
+      → inverse_limit (pos limit) <ℤ pos (unsigned_abs (q x k)) → IsInverseBeyond A limit y w
 
 -- the interval from the identity to w has more members than the limit; or y ≤ w, and some polynomial between them is too large
 abbrev pub RefusesInverse : Limits → IntegerMatrix → List ℕ → List ℕ → Refusal → Type 0

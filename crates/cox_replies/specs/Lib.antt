@@ -26,13 +26,7 @@ pub mod InquiryQuestion
 pub mod Answerable
 -- what the calls that put answers say of their texts
 pub mod Putting
--- rows that are kept
-pub mod Kept
--- rows of the elements between two, as they are kept
-pub mod KeptBetween
 -- totals of polynomials
 pub mod Totals
 -- totals of rows that are summed up
 pub mod Summing
--- whole groups, as they are listed
-pub mod GroupSize

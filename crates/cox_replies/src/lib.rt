@@ -38,4 +38,4 @@ pub use modules::put_module_of;
 pub use order::{is_in_order, put_in_order};
 pub use polynomials::put_rpol;
 pub use rows::{EntryKind, RowKind, put_entry_of, put_row_of};
-pub use unanswered::{Unanswered, unanswered_by, unless_fault, unrefused};
+pub use unanswered::{Unanswered, unrefused};

@@ -95,7 +95,7 @@ impl Model for Session {
 impl Session {
     ghost use Rattle.std.specs.Thread.{IsSync};
     ghost use Rattle.cox_row.specs.Rising.{AreWithin};
-    ghost use Rattle.cox_replies.specs.Kept.{IsMore};
+    ghost use Rattle.cox_answers.specs.Kept.{IsMore};
     ghost use Rattle.std.specs.Prelude.{◌≡◌, ◌<◌, ◌≤◌, ◌⊎◌, ◌^◌, false, length, None, Some, is_some, IfOk, OnErr};
     ghost use Rattle.std.specs.Prelude.{IfSome, MatchOption};
     ghost use Rattle.cox_base.specs.Admissible.{IsCoxeterMatrix};

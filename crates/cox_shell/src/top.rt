@@ -3,7 +3,7 @@
 ghost use Rattle.std.specs.Prelude.{◌≡◌, ◌≤◌, ℕ, true, false, List, length, IfSome};
 ghost use Rattle.std.specs.Thread.{IsSync};
 ghost use Rattle.cox_row.specs.Rising.{AreWithin};
-ghost use Rattle.cox_replies.specs.Kept.{IsMore};
+ghost use Rattle.cox_answers.specs.Kept.{IsMore};
 ghost use Rattle.cox_options.specs.Arguments.{IsUsage, is_refused};
 ghost use Rattle.cox_options.specs.declared.reading.OptionFault.TheVariants.{Usage};
 ghost use Rattle.cox_outside.specs.Supply.{Supply};

@@ -8,7 +8,7 @@ ghost use Rattle.cox_claims.specs.Knowledge.{SeesAll};
 ghost use Rattle.cox_row.specs.Rising.{AreWithin};
 ghost use Rattle.cox_row_store.specs.Stores.{elements_of, limit_of, IsSeat};
 ghost use Rattle.cox_rows.specs.Holding.{HasRow};
-ghost use Rattle.cox_replies.specs.Kept.{IsSameContext, IsMore};
+ghost use Rattle.cox_answers.specs.Kept.{IsSameContext, IsMore};
 
 use crate::block_teller::BlockTeller;
 use crate::list::Block;
@@ -57,7 +57,7 @@ impl<
     ghost use Rattle.std.specs.Prelude.{◌≡◌, false, length, Option, IfSome};
     ghost use Rattle.cox_row.specs.Rising.{AreWithin};
     ghost use Rattle.cox_rows.specs.Holding.{Holding};
-    ghost use Rattle.cox_replies.specs.Kept.{IsMore};
+    ghost use Rattle.cox_answers.specs.Kept.{IsMore};
     ghost use Rattle.cox_shell.specs.OpenLists.{is_long};
     ghost use Rattle.cox_shell.specs.ToldText.{Numbered, IsToldOf};
 

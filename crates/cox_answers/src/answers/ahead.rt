@@ -2,20 +2,77 @@
 ghost use Rattle.std.specs.Prelude.{◌≡◌, ◌<◌, length, All, IfOk, IfSome};
 ghost use Rattle.cox_command.specs.ParseContract.{HasLetters};
 ghost use Rattle.cox_row.specs.Rising.{AreWithin};
-ghost use Rattle.cox_replies.specs.Kept.{IsMore};
+ghost use Rattle.cox_answers.specs.Kept.{IsMore, IsSameWorkspace};
 
 use crate::answers::between::with_rows;
+use crate::finite::longest_word;
 use crate::needs::{Need, need_of};
 use crate::row_maker::RowMaker;
+use crate::workspace::Workspace;
+use cox_base::MAX_RANK;
 use cox_command::Inquiry;
 use cox_klstep::StepFault;
 use cox_minroots::RootTable;
-use cox_replies::listed_below;
+use cox_replies::{Unanswered, listed_below};
 use cox_rows::Rows;
 use std::alloc::{AllocError, Global};
 
+impl Workspace {
+    /// Makes the rows that commands will ask for, as far as the elements below theirs fit together into what is kept, and settles them.
+    ///
+    /// Where a command is on the whole group, and the group is finite, all its rows are made first. The rows that `work` and `invpol` ask
+    /// for are left to them. No answer depends on it: what is refused, and what memory runs out for, is left to whoever asks.
+    pub fn make_ahead<M: RowMaker>(&mut self, maker: &M, alloc: Global, inquiries: &[Inquiry])
+        requires words { All (HasLetters self.old.table.rank) inquiries.now }
+        requires ready { M.ready maker.now }
+        ensures { IsSameWorkspace self.old self.new }
+    {
+        if self.make_group_ahead(maker, alloc, inquiries).is_ok()
+            && self.add_intervals(alloc, inquiries).is_ok()
+        {
+            self.make_rows_ahead(maker, alloc, inquiries);
+        }
+    }
+
+    /// Makes the rows of the whole group, if a command is on it and it is finite. `Err` where memory ran out.
+    fn make_group_ahead<M: RowMaker>(
+        &mut self,
+        maker: &M,
+        alloc: Global,
+        inquiries: &[Inquiry],
+    ) -> Result<(), AllocError>
+        requires { M.ready maker.now }
+        ensures { IsSameWorkspace self.old self.new }
+    {
+        prove!(self.rank() as usize <= MAX_RANK);
+        if !inquiries.iter().any(|inquiry| is_on_group(inquiry))
+            || longest_word(self.table()).is_none()
+        {
+            return Ok(());
+        }
+        match self.keep_group(maker, alloc) {
+            Err(Unanswered::NoMemory) => Err(AllocError),
+            _ => Ok(()),
+        }
+    }
+
+    /// Adds the elements below those whose rows the commands ask for to what is kept, as far as they fit beside it. `Err` where memory ran
+    /// out.
+    fn add_intervals(&mut self, alloc: Global, inquiries: &[Inquiry]) -> Result<(), AllocError>
+        requires { All (HasLetters self.old.table.rank) inquiries.now }
+        ensures { IsSameWorkspace self.old self.new }
+    {
+        'each: for inquiry in inquiries {
+            if let Some(w) = need_of(inquiry).row() {
+                self.add_interval(alloc, w)?;
+            }
+        }
+        Ok(())
+    }
+}
+
 /// Whether a command asks for the rows of all elements of the group.
-pub fn is_on_group(inquiry: &Inquiry) -> bool {
+fn is_on_group(inquiry: &Inquiry) -> bool {
     matches!(need_of(inquiry), Need::Group)
 }
 

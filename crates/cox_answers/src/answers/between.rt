@@ -9,9 +9,8 @@ ghost use Rattle.cox_row.specs.Rising.{number_at, AreWithin};
 ghost use Rattle.cox_rows.specs.Beyond.{IsBeyond, NeedsBeyond};
 ghost use Rattle.cox_rows.specs.Holding.{HasRow};
 ghost use Rattle.cox_inverse.specs.Intervals.{IsInterval};
-ghost use Rattle.cox_replies.specs.SessionLimits.{limits_of};
-ghost use Rattle.cox_replies.specs.Kept.{IsMore};
-ghost use Rattle.cox_replies.specs.KeptBetween.{IsFaultOfOne, IsReadOff};
+ghost use Rattle.cox_answers.specs.Kept.{IsMore};
+ghost use Rattle.cox_answers.specs.KeptBetween.{IsFaultOfOne, IsReadOff};
 ghost use Rattle.cox_replies.specs.InverseReply.{inverse_limit};
 
 use crate::row_maker::RowMaker;
@@ -20,7 +19,6 @@ use cox_context::Context;
 use cox_inverse::{Interval, MAX_COEFFICIENT, WholeGroup};
 use cox_klstep::StepFault;
 use cox_minroots::RootTable;
-use cox_options::Options;
 use cox_rows::Rows;
 use std::alloc::{AllocError, Global};
 
@@ -65,22 +63,23 @@ pub fn has_all(rows: &Rows) -> bool
 }
 
 /// What inverse polynomials may be read off, if the rows of a whole finite group are there and none of their coefficients is too large.
-pub fn find_whole(rows: &Rows, options: Options) -> Option<WholeGroup>
-    ensures { IfSome result (IsReadOff (limits_of options) rows.now) }
+pub fn find_whole(rows: &Rows) -> Option<WholeGroup>
+    ensures { IfSome result (IsReadOff rows.now) }
 {
     if !has_all(rows) {
         return None;
     }
-    WholeGroup::of(rows.context(), rows, inverse_limit(options))
+    WholeGroup::of(rows.context(), rows, inverse_limit(rows.limit()))
 }
 
-/// How large a coefficient of an inverse polynomial may be in absolute value.
-pub fn inverse_limit(options: Options) -> i64
-    ensures limit { result ≡ inverse_limit (limits_of options).coefficient }
+/// How large a coefficient of an inverse polynomial may be in absolute value, where one of a row may be as large as the limit.
+pub fn inverse_limit(limit: i64) -> i64
+    requires { pos 0 ≤ℤ limit }
+    ensures limit { result ≡ inverse_limit limit }
     ensures least { pos 0 ≤ℤ result }
     ensures most { result ≤ℤ MAX_COEFFICIENT }
 {
-    options.coef().min(MAX_COEFFICIENT)
+    limit.min(MAX_COEFFICIENT)
 }
 
 /// The number of an element that is a member.

@@ -3,7 +3,7 @@ ghost use Rattle.std.specs.Prelude.{IfSome};
 ghost use Rattle.cox_base.specs.Matrix.{IsWord};
 ghost use Rattle.cox_base.specs.Admissible.{IsCoxeterMatrix};
 ghost use Rattle.cox_base.specs.IntegerMatrix.{integer_matrix};
-ghost use Rattle.cox_replies.specs.Kept.{IsSameWork};
+ghost use Rattle.cox_answers.specs.Kept.{IsSameWorkspace};
 ghost use Rattle.cox_replies.specs.SessionLimits.{limits_of};
 ghost use Rattle.cox_replies.specs.CertReply.{RefusesCert};
 ghost use Rattle.cox_replies.specs.InverseReply.{RefusesInverse};
@@ -44,7 +44,7 @@ impl Workspace {
         ensures { IfSome result (HasBetween self.now y.now.items w.now.items) }
     {
         prove!(self.rank() as usize <= MAX_RANK);
-        let _whole = self.whole()?;
+        let _whole = self.whole_group()?;
         let _number = self.number_of(w)?;
         let _context = self.rows().context();
         if self.table().below(y, w) {
@@ -64,7 +64,7 @@ impl Workspace {
         requires words { IsOver self.old.table.rank need.now }
         requires ready { M.ready maker.now }
         ensures made { Makes result (need_refuses need.now (limits_of self.old.options) self.old.table) (IsFound self.new need.now) }
-        ensures same { IsSameWork self.old self.new }
+        ensures same { IsSameWorkspace self.old self.new }
     {
         match *need {
             Need::Nothing => Ok(Found::There),
@@ -92,7 +92,7 @@ impl Workspace {
         requires ready { M.ready maker.now }
         ensures made { Makes result (RefusesCert (limits_of self.old.options) (integer_matrix self.old.table) w.now.items)
             (IsRowOf self.new w.now.items) }
-        ensures same { IsSameWork self.old self.new }
+        ensures same { IsSameWorkspace self.old self.new }
         ensures group { IsCoxeterMatrix self.old.table }
     {
         let i = self.keep_interval(alloc, w)?;
@@ -115,7 +115,7 @@ impl Workspace {
         requires ready { M.ready maker.now }
         ensures made { Makes result (RefusesInverse (limits_of self.old.options) (integer_matrix self.old.table) y.now.items w.now.items)
             (HasBetween self.new y.now.items w.now.items) }
-        ensures same { IsSameWork self.old self.new }
+        ensures same { IsSameWorkspace self.old self.new }
         ensures group { IsCoxeterMatrix self.old.table }
     {
         self.keep_interval(alloc, w)?;

@@ -11,7 +11,7 @@ ghost use Rattle.cox_context.specs.Numbers.{word_at};
 ghost use Rattle.cox_context.specs.declared.members.TheConstants.{MAX_MEMBERS};
 ghost use Rattle.cox_command.specs.ParseContract.{AreWorkNumbers};
 ghost use Rattle.cox_rows.specs.Holding.{HasRow};
-ghost use Rattle.cox_replies.specs.Kept.{IsSameWork};
+ghost use Rattle.cox_answers.specs.Kept.{IsSameWorkspace};
 ghost use Rattle.cox_replies.specs.SessionLimits.{limits_of};
 ghost use Rattle.cox_replies.specs.RowReply.{RefusesRow, coefficients_to};
 ghost use Rattle.cox_replies.specs.WorkReply.{generated_words, RefusesWork};
@@ -129,7 +129,7 @@ impl Workspace {
         ensures totals { SumsUp result (RefusesWork (limits_of self.old.options) (integer_matrix self.old.table)
             (generated_words self.old.table.rank count start))
             (AreTotals (integer_matrix self.old.table) (generated_words self.old.table.rank count start)) }
-        ensures same { IsSameWork self.old self.new }
+        ensures same { IsSameWorkspace self.old self.new }
         ensures group { IsCoxeterMatrix self.old.table }
     {
         let rank = self.rank();
@@ -156,7 +156,7 @@ impl Workspace {
         ensures totals { SumsUp result (RefusesRow (limits_of self.old.options) (integer_matrix self.old.table) w.now.items)
             (AreTotalsOf (integer_matrix self.old.table) w.now.items) }
         ensures few { IfOk result (λ t. t.entries ≤ MAX_MEMBERS) }
-        ensures same { IsSameWork self.old self.new }
+        ensures same { IsSameWorkspace self.old self.new }
         ensures group { IsCoxeterMatrix self.old.table }
     {
         let i = self.keep_row(maker, alloc, w)?;

@@ -1,10 +1,10 @@
 //! The answers on inverse Kazhdan-Lusztig polynomials.
-ghost use Rattle.std.specs.Prelude.{◌≡◌, None, IfSome};
+ghost use Rattle.std.specs.Prelude.{None, IfSome};
 ghost use Rattle.cox_base.specs.Matrix.{IsWord};
 ghost use Rattle.cox_base.specs.IntegerMatrix.{integer_matrix};
 ghost use Rattle.cox_base.specs.Bruhat.{IsBelow};
-ghost use Rattle.cox_replies.specs.Kept.{AreOf};
-ghost use Rattle.cox_replies.specs.KeptBetween.{RefusesBetween, HoldsBetween, IsReadOff, inverse_unanswered};
+ghost use Rattle.cox_answers.specs.Kept.{AreOf};
+ghost use Rattle.cox_answers.specs.KeptBetween.{RefusesBetween, HoldsBetween, IsReadOff};
 ghost use Rattle.cox_replies.specs.SessionLimits.{limits_of};
 ghost use Rattle.cox_replies.specs.InverseReply.{RefusesInverse, IsInverseText};
 ghost use Rattle.cox_replies.specs.Putting.{PutsUnless};
@@ -12,11 +12,11 @@ ghost use Rattle.cox_replies.specs.Question.{IsRefused};
 ghost use Rattle.cox_answers.specs.Needs.{HasBetween};
 
 use crate::answers::between::{inverse_limit, member};
+use crate::faults::inverse_unanswered;
 use crate::needs::Found;
 use crate::workspace::Workspace;
 use cox_base::{MAX_RANK, Word};
-use cox_command::Refusal;
-use cox_inverse::{InverseFault, WholeGroup, inverse_row};
+use cox_inverse::{WholeGroup, inverse_row};
 use cox_minroots::RootTable;
 use cox_options::Options;
 use cox_poly::append::put_text;
@@ -42,7 +42,7 @@ impl Workspace {
         if let Found::Apart = found {
             return unrefused(put_text(out, b"0"));
         }
-        let whole = self.whole();
+        let whole = self.whole_group();
         put_inverse(out, self.rows(), self.table(), self.options(), whole, y, w)
     }
 }
@@ -64,32 +64,20 @@ fn put_inverse(
     requires below { IsBelow (integer_matrix table.now) y.now.items w.now.items }
     requires held { HoldsBetween (integer_matrix table.now) y.now.items w.now.items rows.now }
     requires free { IsRefused (RefusesBetween (limits_of options) (integer_matrix table.now) y.now.items w.now.items) None }
-    requires whole { IfSome whole (IsReadOff (limits_of options) rows.now) }
+    requires whole { IfSome whole (IsReadOff rows.now) }
     ensures { PutsUnless result (RefusesInverse (limits_of options) (integer_matrix table.now) y.now.items w.now.items)
         (IsInverseText (integer_matrix table.now) y.now.items w.now.items) out.old.items out.new.items }
 {
     let context = rows.context();
     let low = member(context, table, y);
     let high = member(context, table, w);
-    let limit = inverse_limit(options);
+    let limit = inverse_limit(options.coef());
     if let Some(group) = whole {
         let polynomial = group.polynomial(context, rows, low, high, limit);
         return unrefused(polynomial.put_text(out));
     }
     match inverse_row(*out.allocator(), context, low, high, rows, limit) {
         Ok(row) => unrefused(row.polynomial(low).put_text(out)),
-        Err(fault) => Err(unanswered_by(fault)),
-    }
-}
-
-/// What a fault of inverse polynomials leads to: one of them is refused, or memory ran out.
-fn unanswered_by(fault: InverseFault) -> Unanswered
-    ensures { result ≡ inverse_unanswered fault }
-{
-    match fault {
-        InverseFault::Coefficient { .. } | InverseFault::Inverse { .. } => {
-            Unanswered::Refused(Refusal::LargeRow)
-        }
-        InverseFault::NoMemory => Unanswered::NoMemory,
+        Err(fault) => Err(inverse_unanswered(fault)),
     }
 }

@@ -5,7 +5,7 @@ ghost use Rattle.cox_base.specs.Admissible.{IsCoxeterMatrix};
 ghost use Rattle.cox_base.specs.IntegerMatrix.{integer_matrix};
 ghost use Rattle.cox_replies.specs.SessionLimits.{limits_of};
 ghost use Rattle.cox_replies.specs.Listed.{RefusesLargeOr};
-ghost use Rattle.cox_replies.specs.Kept.{AreKept, HoldsElement, Keeps, IsMore};
+ghost use Rattle.cox_answers.specs.Kept.{AreKept, HoldsElement, Keeps, IsMore};
 
 use crate::row_maker::RowMaker;
 use cox_base::{MAX_RANK, Word};

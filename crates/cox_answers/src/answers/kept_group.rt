@@ -10,8 +10,8 @@ ghost use Rattle.cox_context.specs.Numbers.{word_at};
 ghost use Rattle.cox_row.specs.Rising.{AreWithin};
 ghost use Rattle.cox_rows.specs.Beyond.{IsBeyond};
 ghost use Rattle.cox_replies.specs.SessionLimits.{limits_of};
-ghost use Rattle.cox_replies.specs.GroupSize.{RefusesLargeGroup, GivesGroup};
-ghost use Rattle.cox_replies.specs.Kept.{AreKept, HoldsGroup, HoldsAll, Keeps, IsMore};
+ghost use Rattle.cox_answers.specs.GroupSize.{RefusesLargeGroup, GivesGroup};
+ghost use Rattle.cox_answers.specs.Kept.{AreKept, HoldsGroup, HoldsAll, Keeps, IsMore};
 
 use crate::answers::between::has_all;
 use crate::row_maker::RowMaker;

@@ -1,6 +1,6 @@
 -- The proof of `is_same_group`.
 use Rattle.std.proofs.Common.{refl, sym, ◌∙◌, arith}
-use Rattle.cox_replies.proofs.SameMatrices.{same_matrices}
+use Rattle.cox_answers.proofs.SameMatrices.{same_matrices}
 use Rattle.cox_answers.proofs.likeness.is_same_group.Goals as goal
 
 pub returns : goal.returns

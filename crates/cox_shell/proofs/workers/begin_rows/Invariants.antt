@@ -1,5 +1,5 @@
 -- The rows that were there are there.
-use Rattle.cox_replies.specs.Kept.{IsMore}
+use Rattle.cox_answers.specs.Kept.{IsMore}
 use Rattle.cox_shell.proofs.workers.begin_rows.Given as goal
 
 abbrev pub invariant-each : goal.invariant-each

@@ -3,7 +3,7 @@ use Rattle.std.proofs.Common.{ℕ, ◌⊎◌}
 use Rattle.cox_claims.specs.Seats.{HoldsNothing, HasSeen}
 use Rattle.cox_row_store.specs.Stores.{IsSeat}
 use Rattle.cox_rows.specs.Holding.{HasRow}
-use Rattle.cox_replies.specs.Kept.{IsSameContext}
+use Rattle.cox_answers.specs.Kept.{IsSameContext}
 use Rattle.cox_shell.proofs.workers.move_rows.Given as goal
 
 abbrev pub invariant-loop-i : goal.invariant-loop-i

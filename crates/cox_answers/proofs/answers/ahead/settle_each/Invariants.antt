@@ -1,5 +1,5 @@
 -- The rows that were there are there.
-use Rattle.cox_replies.specs.Kept.{IsMore}
+use Rattle.cox_answers.specs.Kept.{IsMore}
 use Rattle.cox_answers.proofs.answers.ahead.settle_each.Given as goal
 
 abbrev pub invariant-each : goal.invariant-each

@@ -1,6 +1,6 @@
 -- The proof of `put_inverse`.
-use Rattle.std.proofs.Common.{◌≡◌, Contains, refl, ap, ◌∙◌, subst, rules, w64, FitsSigned}
-use Rattle.std.proofs.lemmas.Int.{to_z-of_z}
+use Rattle.std.proofs.Common.{◌≡◌, pos, Contains, refl, ap, ◌∙◌, subst, arith, rules, w64, FitsSigned}
+use Rattle.std.proofs.lemmas.Int.{ints, to_z-of_z}
 use Rattle.std.proofs.lemmas.List.Elements.{Contains-get_or}
 use Rattle.cox_base.specs.IntegerMatrix.{integer_matrix}
 use Rattle.cox_base.specs.Matrix.{CoxeterMatrix}
@@ -11,9 +11,10 @@ use Rattle.cox_reflect.proofs.Bruhat.{below-refl}
 use Rattle.cox_context.specs.Closed.{Elements}
 use Rattle.cox_context.specs.Numbers.{word_at}
 use Rattle.cox_replies.specs.SessionLimits.{limits_of}
-use Rattle.cox_replies.specs.KeptBetween.{IsReadOff}
-use Rattle.cox_replies.proofs.InverseRefusals.{ends-below, above-words, below-words, fault-inverse_beyond}
-use Rattle.cox_replies.proofs.InverseRefusals.{PutsUnless-inverse_fault, PutsUnless-inverse}
+use Rattle.cox_replies.specs.InverseReply.{inverse_limit}
+use Rattle.cox_answers.specs.KeptBetween.{IsReadOff}
+use Rattle.cox_answers.proofs.InverseRefusals.{ends-below, above-words, below-words, fault-inverse_beyond}
+use Rattle.cox_answers.proofs.InverseRefusals.{PutsUnless-inverse_fault, PutsUnless-inverse}
 use Rattle.cox_answers.proofs.answers.inverse.put_inverse.Goals as goal
 use Rattle.cox_answers.proofs.answers.inverse.put_inverse.Goals.{After-inverse_limit-limit}
 
@@ -31,14 +32,22 @@ ends c =
     rw (matrix c) (ends-below (integer_matrix c.args.table.now) (admissible c) c.args.y.now.items c.args.w.now.items _ _
     c.member-low.ensures.1 c.member-high.ensures.1 c.requires.below)
 
+-- the limit is that of the options
+limit : (c : After-inverse_limit-limit) → c.inverse_limit-limit.result ≡ inverse_limit (pos (limits_of c.args.options).coefficient)
+limit c =
+    let entry : FitsSigned w64 c.coef.result = search rules in
+    let is : c.coef.result ≡ pos (limits_of c.args.options).coefficient = omega (arith, ints, c.coef.ensures.coef, c.coef.ensures.least) in
+    rw (to_z-of_z w64 c.coef.result entry, is) at c.inverse_limit-limit.ensures.limit
+
 -- ---- read off
 
 pub polynomial-polynomial-requires-clause-readable : goal.polynomial-polynomial-requires-clause-readable
 polynomial-polynomial-requires-clause-readable c =
     let fits : FitsSigned w64 c.inverse_limit-limit.result = search rules in
-    let whole : IsReadOff (limits_of c.args.options) c.args.rows.now c.in-Some.group = rw c.in-Some.is at c.requires.whole in
-    rw (c.context-context.ensures.context, to_z-of_z w64 c.inverse_limit-limit.result fits, c.inverse_limit-limit.ensures.limit)
-    whole.readable
+    let at = (goal.at.polynomial-polynomial-requires-clause-readable c).After-inverse_limit-limit in
+    let whole : IsReadOff c.args.rows.now c.in-Some.group = rw c.in-Some.is at c.requires.whole in
+    rw (c.context-context.ensures.context, to_z-of_z w64 c.inverse_limit-limit.result fits, limit at)
+    (rw c.requires.rows.limit at whole.readable)
 
 pub polynomial-polynomial-requires-clause-below : goal.polynomial-polynomial-requires-clause-below
 polynomial-polynomial-requires-clause-below c = ends (goal.at.polynomial-polynomial-requires-clause-below c).After-inverse_limit-limit
@@ -49,7 +58,7 @@ returns-in-Some c =
     let at = (goal.at.returns-in-Some c).After-inverse_limit-limit in
     rw c.unrefused.ensures (PutsUnless-inverse (limits_of c.args.options) (integer_matrix c.args.table.now) (admissible at)
     c.args.y.now.items c.args.w.now.items _ _ c.member-low.ensures.1 c.member-high.ensures.1 _ _ _ _ c.requires.free
-    (rw (matrix at, to_z-of_z w64 c.inverse_limit-limit.result fits, c.inverse_limit-limit.ensures.limit) at
+    (rw (matrix at, to_z-of_z w64 c.inverse_limit-limit.result fits, limit at) at
     c.polynomial-polynomial.ensures.within)
     (rw (matrix at) at c.polynomial-polynomial.ensures.value) c.put_text.ensures)
 
@@ -88,7 +97,7 @@ returns-in-Ok c =
     let told = c.in-Ok.ensures {u = tt} in
     rw c.unrefused-in-Ok.ensures (PutsUnless-inverse (limits_of c.args.options) (integer_matrix c.args.table.now) (admissible at)
     c.args.y.now.items c.args.w.now.items _ _ c.member-low.ensures.1 c.member-high.ensures.1 _ _ _ _ c.requires.free
-    (rw (matrix at, to_z-of_z w64 c.inverse_limit-limit.result fits, c.inverse_limit-limit.ensures.limit) at told.within)
+    (rw (matrix at, to_z-of_z w64 c.inverse_limit-limit.result fits, limit at) at told.within)
     (rw (matrix at) at (c.polynomial.ensures c.context-context.result.now c.member-low.result c.member-high.result _ told.row))
     c.put_text-in-Ok.ensures)
 
@@ -99,8 +108,8 @@ returns-in-Err c =
     let A = integer_matrix c.args.table.now in
     let y = c.args.y.now.items in
     let w = c.args.w.now.items in
-    rw c.unanswered_by.ensures (PutsUnless-inverse_fault (limits_of c.args.options) A y w _ _ c.requires.free c.requires.below
+    rw c.inverse_unanswered.ensures (PutsUnless-inverse_fault (limits_of c.args.options) A y w _ _ c.requires.free c.requires.below
     c.in-Err.fault (λ other. fault-inverse_beyond A (admissible at) y w _ _ c.member-low.ensures.1 c.member-high.ensures.1
     c.context-context.result.now (ap (λ (m : CoxeterMatrix). integer_matrix m) (matrix at)) c.member-low.result c.member-high.result
     refl refl (limits_of c.args.options).coefficient c.in-Err.fault other
-    (rw (to_z-of_z w64 c.inverse_limit-limit.result fits, c.inverse_limit-limit.ensures.limit) at (c.in-Err.ensures {u = tt}).fault)))
+    (rw (to_z-of_z w64 c.inverse_limit-limit.result fits, limit at) at (c.in-Err.ensures {u = tt}).fault)))

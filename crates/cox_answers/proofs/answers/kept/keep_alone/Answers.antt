@@ -5,7 +5,7 @@ use Rattle.cox_base.specs.IntegerMatrix.{integer_matrix}
 use Rattle.cox_base.proofs.AdmissibleMatrices.{IsAdmissible-integer_matrix}
 use Rattle.cox_replies.specs.SessionLimits.{limits_of}
 use Rattle.cox_replies.proofs.LargeOr.{large_or-allowed}
-use Rattle.cox_replies.proofs.KeptRows.{interval-member}
+use Rattle.cox_replies.proofs.OwnIntervals.{interval-member}
 use Rattle.cox_answers.proofs.answers.kept.keep_alone.Goals as goal
 
 pub unreachable-requires : goal.unreachable-requires

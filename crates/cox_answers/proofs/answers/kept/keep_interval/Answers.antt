@@ -2,9 +2,9 @@
 use Rattle.std.proofs.Common.{◌∙◌, Some, arith}
 use Rattle.cox_base.specs.IntegerMatrix.{integer_matrix}
 use Rattle.cox_replies.specs.SessionLimits.{limits_of}
-use Rattle.cox_replies.specs.Kept.{AreOf}
+use Rattle.cox_answers.specs.Kept.{AreOf}
 use Rattle.cox_replies.proofs.LargeOr.{large_or-allowed}
-use Rattle.cox_replies.proofs.KeptBetween.{found-few}
+use Rattle.cox_answers.proofs.KeptMembers.{found-few}
 use Rattle.cox_answers.proofs.answers.kept.keep_interval.Goals as goal
 
 pub returns-in-Ok-clause-kept : goal.returns-in-Ok-clause-kept

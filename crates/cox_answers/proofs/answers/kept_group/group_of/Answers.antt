@@ -1,7 +1,7 @@
 -- The proof of `group_of`.
 use Rattle.std.proofs.Common.{arith}
 use Rattle.cox_base.specs.IntegerMatrix.{integer_matrix}
-use Rattle.cox_replies.proofs.WholeGroups.{not-too_large}
+use Rattle.cox_answers.proofs.WholeGroups.{not-too_large}
 use Rattle.cox_answers.proofs.answers.kept_group.group_of.Goals as goal
 
 pub returns-in-Ok-clause-members : goal.returns-in-Ok-clause-members

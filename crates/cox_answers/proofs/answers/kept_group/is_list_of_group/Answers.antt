@@ -1,6 +1,6 @@
 -- The proof of `is_list_of_group`.
 use Rattle.cox_base.specs.IntegerMatrix.{integer_matrix}
-use Rattle.cox_replies.proofs.WholeGroups.{whole-by_shifts}
+use Rattle.cox_answers.proofs.WholeGroups.{whole-by_shifts}
 use Rattle.cox_answers.proofs.answers.kept_group.is_list_of_group.Goals as goal
 
 pub returns-then-is_whole : goal.returns-then-is_whole

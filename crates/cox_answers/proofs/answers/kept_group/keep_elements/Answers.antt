@@ -1,8 +1,8 @@
 -- The proof of `keep_elements`.
 use Rattle.cox_base.specs.IntegerMatrix.{integer_matrix}
 use Rattle.cox_replies.specs.SessionLimits.{limits_of}
-use Rattle.cox_replies.specs.Kept.{AreOf}
-use Rattle.cox_replies.proofs.WholeGroups.{not-too_large, large-allowed}
+use Rattle.cox_answers.specs.Kept.{AreOf}
+use Rattle.cox_answers.proofs.WholeGroups.{not-too_large, large-allowed}
 use Rattle.cox_answers.proofs.answers.kept_group.keep_elements.Goals as goal
 
 pub returns-then-is_list_of_group-clause-elements : goal.returns-then-is_list_of_group-clause-elements

@@ -8,9 +8,9 @@ use Rattle.cox_base.proofs.AdmissibleMatrices.{IsAdmissible-integer_matrix}
 use Rattle.cox_context.specs.Closed.{IsClosed}
 use Rattle.cox_context.specs.Numbering.{IsNumberOf}
 use Rattle.cox_replies.specs.SessionLimits.{limits_of}
-use Rattle.cox_replies.specs.KeptBetween.{IsReadOff}
+use Rattle.cox_answers.specs.KeptBetween.{IsReadOff}
 use Rattle.cox_replies.proofs.LargeOr.{large_or-allowed}
-use Rattle.cox_replies.proofs.KeptBetween.{read_off-keeps}
+use Rattle.cox_answers.proofs.KeptBetween.{read_off-keeps}
 use Rattle.cox_answers.proofs.workspace.Workspace.find_between.Goals as goal
 
 pub returns-then-below : goal.returns-then-below
@@ -23,7 +23,7 @@ returns-then-below c =
     let i = c.in_ok-_number._number in
     let rows = c.rows.result.now in
     let number : IsNumberOf rows.elements.members (normal_form A w) (Some i) = rw c.rows.ensures.rows at c.in_ok-_number.ensures.number in
-    let read : IsReadOff limits rows c.in_ok-_whole._whole = rw c.rows.ensures.rows at c.in_ok-_whole.ensures in
+    let read : IsReadOff rows c.in_ok-_whole._whole = rw c.rows.ensures.rows at c.in_ok-_whole.ensures in
     let closed : IsClosed A rows.elements.members = rw c.rows.ensures.of.group at c.context-context.ensures.closed in
     let below : IsBelow A y w = (rw c.table.ensures at c.below.ensures).0 c.if-below.true in
     let keeps = read_off-keeps limits G (IsAdmissible-integer_matrix G c.rank.ensures.matrix) y w i rows c.in_ok-_whole._whole

@@ -1,8 +1,8 @@
 -- The proof of `has_group`.
 use Rattle.std.proofs.Common.{◌≡◌, Some, IsTrue, sym, ap, ◌∙◌, rules}
 use Rattle.cox_replies.specs.SessionLimits.{limits_of}
-use Rattle.cox_replies.specs.Kept.{Work, AreOf}
-use Rattle.cox_replies.proofs.WholeGroups.{all-kept}
+use Rattle.cox_answers.specs.Kept.{WorkspaceState, AreOf}
+use Rattle.cox_answers.proofs.WholeGroups.{all-kept}
 use Rattle.cox_answers.proofs.workspace.Workspace.has_group.Goals as goal
 
 pub returns-in-Some : goal.returns-in-Some
@@ -10,10 +10,11 @@ returns-in-Some c =
     let G = c.args.self.now.table in
     let limits = limits_of c.args.self.now.options in
     let rows = c.in-Some.rows in
-    let table : c.self.inside.table ≡ G = ap (λ (work : Work). work.table) c.self.view_is in
-    let options : c.self.inside.options ≡ c.args.self.now.options = ap (λ (work : Work). work.options) c.self.view_is in
-    let is : c.args.self.now.rows ≡ Some rows = sym (ap (λ (work : Work). work.rows) c.self.view_is) ∙ c.in-Some.is in
-    let of : AreOf G limits rows = rw (table, options) at (rw c.in-Some.is at c.self.invariant.0) in
+    let table : c.self.inside.table ≡ G = ap (λ (work : WorkspaceState). work.table) c.self.view_is in
+    let options : c.self.inside.options ≡ c.args.self.now.options = ap (λ (work : WorkspaceState). work.options) c.self.view_is in
+    let inside : c.self.inside.kept ≡ Some rows = sym c.rows.ensures ∙ c.in-Some.is in
+    let is : c.args.self.now.rows ≡ Some rows = sym (ap (λ (work : WorkspaceState). work.rows) c.self.view_is) ∙ inside in
+    let of : AreOf G limits rows = rw (table, options) at (rw inside at c.self.invariant) in
     let held = c.holds_group.ensures in
     let all = λ (done : IsTrue c.holds_group.result). all-kept G limits rows of c.context-context.ensures.closed (held.all done)
     (held.small done) in

@@ -1,7 +1,7 @@
 -- The proof of `keep_row`.
 use Rattle.cox_base.specs.IntegerMatrix.{integer_matrix}
 use Rattle.cox_replies.specs.SessionLimits.{limits_of}
-use Rattle.cox_replies.proofs.KeptRows.{large-free}
+use Rattle.cox_replies.proofs.LargeOr.{large-free}
 use Rattle.cox_answers.proofs.workspace.Workspace.keep_row.Goals as goal
 
 pub returns-clause-row : goal.returns-clause-row

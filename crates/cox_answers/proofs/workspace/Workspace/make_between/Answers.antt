@@ -5,7 +5,7 @@ use Rattle.std.proofs.lemmas.Result.{err_from_is_err_and}
 use Rattle.cox_base.specs.IntegerMatrix.{integer_matrix}
 use Rattle.cox_base.specs.Bruhat.{IsBelow}
 use Rattle.cox_replies.specs.SessionLimits.{limits_of}
-use Rattle.cox_replies.proofs.InverseRefusals.{inverse-between}
+use Rattle.cox_answers.proofs.InverseRefusals.{inverse-between}
 use Rattle.cox_answers.proofs.Makes.{Makes-unkept}
 use Rattle.cox_answers.proofs.workspace.Workspace.make_between.Goals as goal
 

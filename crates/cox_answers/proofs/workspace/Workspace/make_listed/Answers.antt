@@ -3,8 +3,8 @@ use Rattle.cox_base.specs.IntegerMatrix.{integer_matrix}
 use Rattle.cox_replies.specs.SessionLimits.{limits_of}
 use Rattle.cox_replies.specs.RowReply.{RefusesRow}
 use Rattle.cox_replies.specs.CertReply.{RefusesListedOr, RefusesCert}
-use Rattle.cox_replies.specs.Kept.{AreOf, HoldsElement, HoldsRow}
-use Rattle.cox_replies.proofs.KeptRows.{large-free}
+use Rattle.cox_answers.specs.Kept.{AreOf, HoldsElement, HoldsRow}
+use Rattle.cox_replies.proofs.LargeOr.{large-free}
 use Rattle.cox_replies.proofs.CertRefusals.{cert-listing, cert-row}
 use Rattle.cox_answers.proofs.Makes.{Makes-kept, Makes-unfound}
 use Rattle.cox_answers.proofs.workspace.Workspace.make_listed.Goals as goal

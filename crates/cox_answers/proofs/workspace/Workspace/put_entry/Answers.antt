@@ -1,7 +1,7 @@
 -- The proof of `put_entry`.
 use Rattle.cox_base.specs.IntegerMatrix.{integer_matrix}
 use Rattle.cox_replies.specs.SessionLimits.{limits_of}
-use Rattle.cox_replies.specs.Kept.{HoldsRow}
+use Rattle.cox_answers.specs.Kept.{HoldsRow}
 use Rattle.cox_replies.proofs.Unless.{PutsUnless-put}
 use Rattle.cox_answers.proofs.workspace.Workspace.put_entry.Goals as goal
 

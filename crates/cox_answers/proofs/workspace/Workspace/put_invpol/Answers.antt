@@ -3,17 +3,17 @@ use Rattle.std.proofs.Common.{◌≡◌, ℕ, List, refl}
 use Rattle.cox_base.specs.IntegerMatrix.{integer_matrix}
 use Rattle.cox_base.proofs.AdmissibleMatrices.{IsAdmissible-integer_matrix}
 use Rattle.cox_replies.specs.SessionLimits.{limits_of}
-use Rattle.cox_replies.specs.Kept.{Work}
+use Rattle.cox_answers.specs.Kept.{WorkspaceState}
 use Rattle.cox_replies.proofs.Unless.{PutsUnless-put}
 use Rattle.cox_replies.proofs.InverseTexts.{invpol-zero}
-use Rattle.cox_replies.proofs.InverseRefusals.{inverse-none}
+use Rattle.cox_answers.proofs.InverseRefusals.{inverse-none}
 use Rattle.cox_answers.specs.Needs.{HasBetween}
 use Rattle.cox_answers.specs.declared.needs.Found.{Found}
 use Rattle.cox_answers.specs.declared.needs.Found.TheVariants.{There, Apart}
 use Rattle.cox_answers.proofs.workspace.Workspace.put_invpol.Goals as goal
 
 -- where they are not apart, the rows between them are kept
-kept : (work : Work) (y w : List ℕ) (found : Found) → HasBetween work y w found → (found ≡ Apart → ⊥) → HasBetween work y w There
+kept : (work : WorkspaceState) (y w : List ℕ) (found : Found) → HasBetween work y w found → (found ≡ Apart → ⊥) → HasBetween work y w There
 kept work y w Apart has other = absurd (other refl)
 kept work y w _ has other = has
 
@@ -37,7 +37,7 @@ put_inverse-requires c =
       below = rw c.table.ensures has.0;
       held = rw c.table.ensures (rw c.rows.ensures.rows at has.1);
       free = rw (c.options.ensures, c.table.ensures) has.2;
-      whole = rw c.options.ensures (rw c.rows.ensures.rows at c.whole-whole.ensures);
+      whole = rw c.rows.ensures.rows at c.whole_group-whole.ensures;
     }
 
 pub returns : goal.returns

@@ -4,7 +4,7 @@ use Rattle.cox_base.specs.Matrix.{CoxeterMatrix}
 use Rattle.cox_base.specs.IntegerMatrix.{integer_matrix}
 use Rattle.cox_replies.specs.SessionLimits.{limits_of}
 use Rattle.cox_replies.specs.CertReply.{RefusesCert, IsCertText}
-use Rattle.cox_replies.specs.Kept.{HoldsRow}
+use Rattle.cox_answers.specs.Kept.{HoldsRow}
 use Rattle.cox_replies.specs.Putting.{PutsUnless}
 use Rattle.cox_replies.proofs.Unless.{PutsUnless-put}
 use Rattle.cox_answers.specs.Needs.{HasGroup}

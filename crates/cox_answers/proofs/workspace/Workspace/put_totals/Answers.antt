@@ -3,7 +3,7 @@ use Rattle.std.proofs.Common.{◌≡◌, ℕ, List, ap, refl, rules, FitsSigned}
 use Rattle.std.specs.Int.{w128}
 use Rattle.std.proofs.lemmas.Int.{to_z-of_z}
 use Rattle.cox_base.specs.IntegerMatrix.{integer_matrix}
-use Rattle.cox_replies.specs.Kept.{Work}
+use Rattle.cox_answers.specs.Kept.{WorkspaceState}
 use Rattle.cox_replies.specs.Totals.{Totals}
 use Rattle.cox_replies.specs.WorkReply.{generated_words}
 use Rattle.cox_replies.proofs.Unless.{PutsUnless-put}
@@ -13,7 +13,7 @@ use Rattle.cox_answers.specs.declared.needs.Found.{Found}
 use Rattle.cox_answers.specs.declared.needs.Found.TheVariants as shown
 use Rattle.cox_answers.proofs.workspace.Workspace.put_totals.Goals as goal
 
-has-totals : (work : Work) (words : List (List ℕ)) (found : Found) → HasTotals work words found
+has-totals : (work : WorkspaceState) (words : List (List ℕ)) (found : Found) → HasTotals work words found
     → (totals : Totals) × (found ≡ shown.Totals totals)
 has-totals work words (shown.Totals totals) has = (totals, refl)
 has-totals work words _ has = absurd has

@@ -5,8 +5,8 @@ use Rattle.cox_base.specs.ShortLex.{normal_form}
 use Rattle.cox_base.proofs.AdmissibleMatrices.{IsAdmissible-integer_matrix}
 use Rattle.cox_context.specs.Numbering.{IsNumberOf}
 use Rattle.cox_replies.specs.SessionLimits.{limits_of}
-use Rattle.cox_replies.specs.Kept.{AreOf}
-use Rattle.cox_replies.proofs.KeptRows.{settled-keeps}
+use Rattle.cox_answers.specs.Kept.{AreOf}
+use Rattle.cox_answers.proofs.MadeRows.{settled-keeps}
 use Rattle.cox_answers.proofs.workspace.Workspace.settled_number.Goals as goal
 
 pub returns : goal.returns

@@ -1,20 +1,15 @@
--- What a session keeps: intervals that are part of a context, and faults of rows as causes of a refusal.
-use Rattle.std.proofs.Common.{◌≡◌, ℕ, ◌≤◌, Bool, List, length, filter, Contains, None, Some, inl, refl, ap, ◌∙◌, Err}
+-- Rows that were made among those that are kept: they are held, or a fault of them is a cause of a refusal.
+use Rattle.std.proofs.Common.{◌≡◌, ℕ, List, None, Some, refl, ap, ◌∙◌, Err}
 use Rattle.std.proofs.Common.{arith, pos, ◌≤ℤ◌, Result, Ok, OnOk, IfErr}
 use Rattle.std.proofs.lemmas.Int.{ints}
-use Rattle.std.proofs.lemmas.List.Sums.{length-filter, count_by-le-length}
 use Rattle.cox_base.specs.IntegerMatrix.{IntegerMatrix, integer_matrix}
 use Rattle.cox_base.specs.Admissible.{IsAdmissible}
 use Rattle.cox_base.specs.ShortLex.{normal_form}
 use Rattle.cox_reflect.proofs.Search.{normal_form-same}
-use Rattle.cox_reflect.proofs.Bruhat.{below-refl}
 use Rattle.cox_base.specs.Members.{IsInInterval}
-use Rattle.cox_context.specs.Union.{IsInUnion}
-use Rattle.cox_base.specs.SortedList.{IsListOf, HasMoreThan}
+use Rattle.cox_base.specs.SortedList.{HasMoreThan}
 use Rattle.cox_context.specs.Closed.{Elements}
 use Rattle.cox_context.specs.Numbers.{word_at}
-use Rattle.cox_context.proofs.ShortLexLists.{IsListOf-filter, HasMoreThan-few}
-use Rattle.cox_context.proofs.IntervalLists.{is_below, is_below-tells}
 use Rattle.cox_rows.specs.Beyond.{NeedsBeyond}
 use Rattle.cox_rows.specs.RowsFaults.{IsRowsFault}
 use Rattle.cox_row_builder.specs.declared.fault.StepFault.{StepFault}
@@ -22,7 +17,6 @@ use Rattle.cox_row_builder.specs.declared.fault.StepFault.TheVariants.{Coefficie
 use Rattle.cox_base.specs.Matrix.{CoxeterMatrix}
 use Rattle.cox_base.specs.Element.{SameElement}
 use Rattle.cox_reflect.proofs.Elements.{same-sym}
-use Rattle.cox_reflect.proofs.NormalElements.{element-normal_form}
 use Rattle.cox_hecke.specs.Needs.{IsNeeded}
 use Rattle.cox_context.specs.Numbering.{IsNumberOf}
 use Rattle.cox_rows.specs.Holding.{Holding, HasRow}
@@ -30,39 +24,12 @@ use Rattle.cox_rows.specs.Ensured.{IsEnsured}
 use Rattle.cox_rows.proofs.EnsuredNeeds.{ensured-refl}
 use Rattle.cox_rows.proofs.NeedDecided.{needs_beyond-same}
 use Rattle.cox_rows.proofs.FaultsOfRows.{fault-beyond}
-use Rattle.cox_replies.specs.Kept.{AreOf, IsMore, HoldsRow, Keeps, unanswered_by, unless_fault}
+use Rattle.cox_answers.specs.Kept.{AreOf, IsMore, HoldsRow, Keeps}
+use Rattle.cox_answers.specs.Faults.{unanswered_by, unless_fault}
 use Rattle.cox_replies.specs.Limits.{Limits}
 use Rattle.cox_replies.specs.Question.{IsRefused}
-use Rattle.cox_replies.specs.Listed.{RefusesLargeOr}
 use Rattle.cox_replies.specs.RowReply.{RefusesRow}
-use Rattle.cox_replies.proofs.LargeOr.{large_or-none, large_or-allowed, large_or-refused}
-
--- a filtered list is no longer
-pub filter-shorter : (test : List ℕ → Bool) (xs : List (List ℕ)) → length (filter test xs) ≤ length xs
-filter-shorter test xs = rw (length-filter test xs) (count_by-le-length test xs)
-
-module _ (A : IntegerMatrix) (g : IsAdmissible A) (w : List ℕ) where
-  -- w is in its own interval
-  in_interval : IsInInterval A w (normal_form A w)
-  in_interval = record { element = element-normal_form A g w; below = below-refl A g (normal_form-same A g w) }
-
-  pub interval-member : (members : List (List ℕ)) → IsListOf (IsInInterval A w) members → Contains members (normal_form A w)
-  interval-member members are = are.whole (normal_form A w) in_interval
-
-  -- the interval is no larger than a union with it
-  pub union-small : (limit : ℕ) (old new : List (List ℕ)) → IsListOf (IsInUnion A w old) new → length new ≤ limit
-      → HasMoreThan limit (IsInInterval A w) → ⊥
-  union-small limit old new are few = HasMoreThan-few (IsInInterval A w) limit (filter (λ x. is_below A x w) new)
-      (IsListOf-filter (IsInUnion A w old) (IsInInterval A w) (λ x. is_below A x w) new are
-      (λ x p. let tells = is_below-tells A g x w in
-      (λ e. record { element = p.element; below = tells.0 e }, λ q. tells.1 q.below))
-      (λ x q. record { element = q.element; either = inl q.below }))
-      (omega (arith, few, filter-shorter (λ x. is_below A x w) new))
-
--- causes of refusals
-module _ (limits : Limits) (A : IntegerMatrix) (w : List ℕ) where
-  pub large-free : IsRefused (RefusesLargeOr limits A w ⊥) None → HasMoreThan limits.context (IsInInterval A w) → ⊥
-  large-free free = (large_or-none limits A w ⊥ free).0
+use Rattle.cox_replies.proofs.LargeOr.{large_or-allowed, large_or-refused}
 
 -- more rows of a group are rows of the group
 pub more-of : (G : CoxeterMatrix) (limits : Limits) (old new : Holding) → AreOf G limits old → IsMore old new → AreOf G limits new
@@ -91,14 +58,6 @@ module _ (limits : Limits) (G : CoxeterMatrix) (g : IsAdmissible (integer_matrix
 
   number : IsNumberOf mid.elements.members (normal_form (integer_matrix G) w) (Some i)
   number = rw more.same.elements kept
-
-  -- they stay those of the group
-  pub still-of : AreOf G limits new
-  still-of = record {
-    group = ap (λ (e : Elements). e.matrix) ensured.elements ∙ of.group;
-    limit = ensured.limit ∙ of.limit;
-    few = rw ensured.elements of.few;
-  }
 
   holds-row : HasRow new i → HoldsRow (integer_matrix G) w i new
   holds-row there = record { within = rw ensured.elements number.0; word = rw ensured.elements number.1; held = there }

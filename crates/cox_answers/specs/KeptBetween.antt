@@ -11,14 +11,9 @@ use Rattle.cox_row_builder.specs.declared.fault.StepFault.{StepFault}
 use Rattle.cox_rows.specs.Beyond.{IsBeyond, NeedsBeyond}
 use Rattle.cox_rows.specs.Holding.{Holding, HasRow}
 use Rattle.cox_rows.specs.RowsFaults.{IsRowsFault}
-use Rattle.cox_inverse.specs.declared.fault.InverseFault.{InverseFault}
-use Rattle.cox_inverse.specs.declared.fault.InverseFault.TheVariants as fault
 use Rattle.cox_inverse.specs.declared.finite.WholeGroup.{WholeGroup}
 use Rattle.cox_inverse.specs.WholeGroups.{IsReadable}
 use Rattle.cox_command.specs.declared.refusal.Refusal.{Refusal}
-use Rattle.cox_command.specs.declared.refusal.Refusal.TheVariants.{LargeRow}
-use Rattle.cox_replies.specs.declared.unanswered.Unanswered.{Unanswered}
-use Rattle.cox_replies.specs.declared.unanswered.Unanswered.TheVariants as unanswered
 use Rattle.cox_replies.specs.Limits.{Limits}
 use Rattle.cox_replies.specs.Listed.{RefusesLargeOr}
 use Rattle.cox_replies.specs.InverseReply.{inverse_limit}
@@ -44,16 +39,11 @@ IsFaultOfOne e limit numbers fault = (k : ℕ) × (k < length numbers)
 
 -- inverse polynomials may be read off the rows: all of a finite group are held, none is beyond its limits, and no coefficient is above the
 -- limit of inverse polynomials
-pub record IsReadOff (limits : Limits) (rows : Holding) (whole : WholeGroup) : Type 0 where
-  pub readable : IsReadable rows.elements (HasRow rows) (inverse_limit limits.coefficient) whole
+pub record IsReadOff (rows : Holding) (whole : WholeGroup) : Type 0 where
+  pub readable : IsReadable rows.elements (HasRow rows) (inverse_limit rows.limit) whole
   pub small : (i : ℕ) → i < length rows.elements.members
       → ¬ IsBeyond (integer_matrix rows.elements.matrix) rows.limit (word_at rows.elements.members i)
 
 -- where a whole group was found, the rows that are kept are such
-abbrev pub AreReadOff : Limits → Option Holding → Option (Option WholeGroup) → Type 0
-AreReadOff limits kept whole = IfSome whole (λ found. IfSome found (λ group. IsSomeAnd kept (λ rows. IsReadOff limits rows group)))
-
--- what a fault of inverse polynomials leads to
-abbrev pub inverse_unanswered : InverseFault → Unanswered
-inverse_unanswered fault.NoMemory = unanswered.NoMemory
-inverse_unanswered _ = unanswered.Refused LargeRow
+abbrev pub AreReadOff : Option Holding → Option (Option WholeGroup) → Type 0
+AreReadOff kept whole = IfSome whole (λ found. IfSome found (λ group. IsSomeAnd kept (λ rows. IsReadOff rows group)))

@@ -1,5 +1,5 @@
 -- When an inverse polynomial is refused, and what faults of it say.
-use Rattle.std.proofs.Common.{◌≡◌, ℕ, List, Option, None, Some, Result, Ok, Err, ℤ, inl, refl}
+use Rattle.std.proofs.Common.{◌≡◌, ℕ, List, None, Some, Result, Err, ℤ, pos, inl, refl}
 use Rattle.std.specs.declared.alloc.AllocError.{AllocError}
 use Rattle.cox_base.specs.IntegerMatrix.{IntegerMatrix, integer_matrix}
 use Rattle.cox_base.specs.Admissible.{IsAdmissible}
@@ -23,31 +23,21 @@ use Rattle.cox_inverse.proofs.InversePolynomials.{inverse-same}
 use Rattle.cox_inverse.proofs.LastInverses.{large_inverse-words}
 use Rattle.cox_command.specs.declared.refusal.Refusal.{Refusal}
 use Rattle.cox_command.specs.declared.refusal.Refusal.TheVariants.{LargeRow}
-use Rattle.cox_rows.specs.Holding.{Holding}
-use Rattle.cox_replies.specs.declared.unanswered.Unanswered.{Unanswered}
-use Rattle.cox_replies.specs.declared.unanswered.Unanswered.TheVariants.{Refused}
-use Rattle.cox_replies.specs.declared.unanswered.Unanswered.TheVariants as unanswered
 use Rattle.cox_replies.specs.Limits.{Limits}
 use Rattle.cox_replies.specs.Question.{IsRefused}
 use Rattle.cox_replies.specs.Listed.{RefusesLargeOr}
 use Rattle.cox_replies.specs.InverseReply.{inverse_limit, RefusesInverse, IsInverseText, IsInverseBeyond, row}
-use Rattle.cox_replies.specs.Kept.{Keeps}
-use Rattle.cox_replies.specs.KeptBetween.{IsSomeBeyond, RefusesBetween, HoldsBetween, inverse_unanswered}
+use Rattle.cox_answers.specs.KeptBetween.{IsSomeBeyond, RefusesBetween}
+use Rattle.cox_answers.specs.Faults.{inverse_unanswered}
 use Rattle.cox_replies.specs.Putting.{PutsUnless, unrefused}
-use Rattle.cox_replies.proofs.KeptRows.{large-free}
 use Rattle.cox_replies.proofs.Unless.{PutsUnless-put}
 use Rattle.cox_replies.proofs.InverseTexts.{invpol-text}
 use Rattle.cox_replies.proofs.InverseBeyond.{polynomial-large, inverse-large, by-large}
-use Rattle.cox_replies.proofs.LargeOr.{large_or-interval, large_or-allowed, large_or-refused, large_or-none, large_or-weaker}
+use Rattle.cox_replies.proofs.LargeOr.{large-free, large_or-allowed, large_or-refused, large_or-none, large_or-weaker}
 
 module _ (limits : Limits) (A : IntegerMatrix) (y w : List ℕ) where
   abbrev Beyond : Type 0
   Beyond = IsInverseBeyond A limits.coefficient y w
-
-  -- a large interval is refused
-  pub inverse-interval : (why : Refusal) → IsRefused (RefusesLargeOr limits A w ⊥) (Some why)
-      → IsRefused (RefusesInverse limits A y w) (Some why)
-  inverse-interval why refused = large_or-interval limits A w (IsBelow A y w × Beyond) why refused
 
   -- where y ≤ w fails no row is needed
   pub inverse-none : IsRefused (RefusesLargeOr limits A w ⊥) None → (IsBelow A y w → ⊥) → IsRefused (RefusesInverse limits A y w) None
@@ -64,7 +54,7 @@ module _ (limits : Limits) (A : IntegerMatrix) (y w : List ℕ) where
   inverse-refused free below beyond = large_or-refused limits A w (IsBelow A y w × Beyond)
       (large_or-none limits A w (IsSomeBeyond A limits.coefficient y w) free).0 (below, beyond)
 
-  pub inverse-allowed : IsRefused (RefusesBetween limits A y w) None → AreWithinLimits A (inverse_limit limits.coefficient) y w
+  pub inverse-allowed : IsRefused (RefusesBetween limits A y w) None → AreWithinLimits A (inverse_limit (pos limits.coefficient)) y w
       → IsRefused (RefusesInverse limits A y w) None
   inverse-allowed free within =
       let none = large_or-none limits A w (IsSomeBeyond A limits.coefficient y w) free in
@@ -112,7 +102,7 @@ module _ (A : IntegerMatrix) (g : IsAdmissible A) (y w v u : List ℕ) (bottom :
   module _ (e : Elements) (matrix : integer_matrix e.matrix ≡ A) (low high : ℕ) (is_low : word_at e.members low ≡ v)
       (is_high : word_at e.members high ≡ u) (coefficient : ℕ) where
     pub fault-inverse_beyond : (fault : InverseFault) → (fault ≡ NoMemory → ⊥)
-        → IsInverseFault e low high (inverse_limit coefficient) fault → IsInverseBeyond A coefficient y w
+        → IsInverseFault e low high (inverse_limit (pos coefficient)) fault → IsInverseBeyond A coefficient y w
     fault-inverse_beyond (Coefficient x z degree value) other is =
         polynomial-large A coefficient y w (word_at e.members x) (word_at e.members z) degree value
         (above-words (word_at e.members x) (rw (matrix, is_low) at is.pair.above))
@@ -123,7 +113,7 @@ module _ (A : IntegerMatrix) (g : IsAdmissible A) (y w v u : List ℕ) (bottom :
         inverse-large A coefficient y w (word_at e.members x) degree value
         (above-words (word_at e.members x) (rw (matrix, is_low) at is.pair.above))
         (below-words (word_at e.members x) (rw (matrix, is_high) at is.pair.order))
-        (large_inverse-words A g (inverse_limit coefficient) (word_at e.members x) (word_at e.members x) u w
+        (large_inverse-words A g (inverse_limit (pos coefficient)) (word_at e.members x) (word_at e.members x) u w
         (same-refl A g (word_at e.members x)) top-same degree value (rw (matrix, is_high) at is.least.large))
     fault-inverse_beyond NoMemory other is = absurd (other refl)
 
@@ -141,22 +131,10 @@ PutsUnless-inverse_fault limits A y w IsText before free below NoMemory beyond =
 -- what becomes of the text where there is none, by the members that the elements of y and w are
 pub PutsUnless-inverse : (limits : Limits) (A : IntegerMatrix) (g : IsAdmissible A) (y w v u : List ℕ) → v ≡ normal_form A y
     → u ≡ normal_form A w → (put : Result Unit AllocError) (p : List ℤ) (before after : List ℕ)
-    → IsRefused (RefusesBetween limits A y w) None → AreWithinLimits A (inverse_limit limits.coefficient) v u
+    → IsRefused (RefusesBetween limits A y w) None → AreWithinLimits A (inverse_limit (pos limits.coefficient)) v u
     → IsInverse A v u (coefficient p) → Puts put (polynomial_text p) before after
     → PutsUnless (unrefused put) (RefusesInverse limits A y w) (IsInverseText A y w) before after
 PutsUnless-inverse limits A g y w v u bottom top put p before after free within is puts =
     PutsUnless-put put (RefusesInverse limits A y w) (IsInverseText A y w) before after
-    (inverse-allowed limits A y w free (limits-words A g y w v u bottom top (inverse_limit limits.coefficient) within))
+    (inverse-allowed limits A y w free (limits-words A g y w v u bottom top (inverse_limit (pos limits.coefficient)) within))
     (polynomial_text p, invpol-text A g y w p (inverse-words A g y w v u bottom top (coefficient p) is), puts)
-
--- where the rows between y and w were not kept, nothing was put
-pub PutsUnless-between : (limits : Limits) (A : IntegerMatrix) (y w : List ℕ) (IsText : List ℕ → Type 0) (before : List ℕ)
-    (result : Result Unit Unanswered) (why : Unanswered) (kept : Option Holding) → result ≡ Err why → IsBelow A y w
-    → Keeps {X = Unit {0}} result (RefusesBetween limits A y w) (λ _ rows. HoldsBetween A y w rows) kept
-    → PutsUnless (Err why) (RefusesInverse limits A y w) IsText before before
-PutsUnless-between limits A y w IsText before (Ok done) why kept is below keeps = absurd (cc is)
-PutsUnless-between limits A y w IsText before (Err (Refused one)) (Refused other) kept is below keeps =
-    let same : one ≡ other = cc is in rw (← same) (inverse-between limits A y w below one keeps, refl)
-PutsUnless-between limits A y w IsText before (Err (Refused one)) unanswered.NoMemory kept is below keeps = absurd (cc is)
-PutsUnless-between limits A y w IsText before (Err unanswered.NoMemory) (Refused other) kept is below keeps = absurd (cc is)
-PutsUnless-between limits A y w IsText before (Err unanswered.NoMemory) unanswered.NoMemory kept is below keeps = inl refl

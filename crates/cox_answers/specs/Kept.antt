@@ -12,20 +12,17 @@ use Rattle.cox_rows.specs.Holding.{Holding, HasRow}
 use Rattle.cox_command.specs.declared.refusal.Refusal.{Refusal}
 use Rattle.cox_replies.specs.declared.unanswered.Unanswered.{Unanswered}
 use Rattle.cox_replies.specs.declared.unanswered.Unanswered.TheVariants as unanswered
-use Rattle.cox_command.specs.declared.refusal.Refusal.TheVariants.{LargeRow}
-use Rattle.cox_row_builder.specs.declared.fault.StepFault.{StepFault}
-use Rattle.cox_row_builder.specs.declared.fault.StepFault.TheVariants as fault
 use Rattle.cox_replies.specs.Limits.{Limits}
 use Rattle.cox_replies.specs.Question.{IsRefused}
 
 -- what contracts see of a workspace: the group that is set, the options of the session, and the rows that are kept
-pub record Work : Type 0 where
+pub record WorkspaceState : Type 0 where
   pub table : CoxeterMatrix
   pub options : Options
   pub rows : Option Holding
 
 -- the group and the options stayed
-pub record IsSameWork (old new : Work) : Type 0 where
+pub record IsSameWorkspace (old new : WorkspaceState) : Type 0 where
   pub table : new.table ≡ old.table
   pub options : new.options ≡ old.options
 
@@ -73,13 +70,3 @@ abbrev pub Keeps : {X : Type 0} → Result X Unanswered → (Refusal → Type 0)
 Keeps (Ok x) Refuses Holds kept = IsRefused Refuses None × IsSomeAnd kept (Holds x)
 Keeps (Err (unanswered.Refused why)) Refuses Holds kept = IsRefused Refuses (Some why)
 Keeps (Err unanswered.NoMemory) Refuses Holds kept = Unit {0}
-
--- what a fault of rows leads to
-abbrev pub unanswered_by : StepFault → Unanswered
-unanswered_by fault.NoMemory = unanswered.NoMemory
-unanswered_by _ = unanswered.Refused LargeRow
-
--- a value, unless there was a fault of rows
-abbrev pub unless_fault : {X : Type 0} → Result Unit StepFault → X → Result X Unanswered
-unless_fault (Ok done) value = Ok value
-unless_fault (Err fault) value = Err (unanswered_by fault)

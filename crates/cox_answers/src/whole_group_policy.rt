@@ -12,19 +12,20 @@ const TIMES: u32 = 16;
 /// Its rows are views of one another by more symmetries, and no context has to grow any more. A try that fails is undone, so all tries
 /// together cost a constant for each member.
 #[derive(Clone, Copy, Debug, Drop)]
-pub struct Growth {
+pub struct WholeGroupPolicy {
     /// From how many members on the whole group is tried next.
     due: u32,
 }
 
-impl Growth {
+impl WholeGroupPolicy {
     /// Nothing was tried yet.
-    pub fn new() -> Growth {
-        Growth { due: FIRST_TRY }
+    pub fn new() -> WholeGroupPolicy {
+        WholeGroupPolicy { due: FIRST_TRY }
     }
 
-    /// How many elements the group may have that is to be tried now, with so many members; `None` if none is to be tried.
-    pub fn due(&mut self, members: u32, limit: u32) -> Option<u32>
+    /// How many elements the group may have that is to be tried now, with so many members; `None` if none is to be tried. A group that is to
+    /// be tried counts as tried.
+    pub fn next_try(&mut self, members: u32, limit: u32) -> Option<u32>
         requires { 1 ≤ limit }
         ensures some { IfSome result (λ n. 1 ≤ n) }
         ensures limit { IfSome result (λ n. n ≤ limit) }

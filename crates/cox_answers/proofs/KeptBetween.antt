@@ -1,9 +1,8 @@
--- Rows of the elements between two, among those that are kept: which elements are members, and what faults of their rows say.
-use Rattle.std.proofs.Common.{◌≡◌, ℕ, ◌+◌, ◌<◌, ◌≤◌, ⊎_elim, List, ◌∷◌, length, Contains, Option, None, Some, Result, Ok, Err}
-use Rattle.std.proofs.Common.{refl, sym, ap, ◌∙◌, subst, arith, ℤ, pos, ◌≤ℤ◌}
+-- Rows of the elements between two, among those that are kept: that they are held, and what faults of them say.
+use Rattle.std.proofs.Common.{◌≡◌, ℕ, ◌<◌, List, length, Contains, Option, None, Some, Result, Ok, Err}
+use Rattle.std.proofs.Common.{sym, ap, ◌∙◌, subst, arith, pos}
 use Rattle.std.specs.Prelude.{IfSome, IsSomeAnd, OnOk, IfErr}
 use Rattle.std.proofs.lemmas.Int.{ints}
-use Rattle.std.proofs.lemmas.Bool.{cases_lt}
 use Rattle.cox_base.specs.IntegerMatrix.{IntegerMatrix, integer_matrix}
 use Rattle.cox_base.specs.Matrix.{CoxeterMatrix}
 use Rattle.cox_base.specs.Admissible.{IsAdmissible}
@@ -14,25 +13,18 @@ use Rattle.cox_base.specs.Members.{IsInInterval}
 use Rattle.cox_base.specs.SortedList.{HasMoreThan}
 use Rattle.cox_reflect.proofs.Elements.{same-refl, same-sym}
 use Rattle.cox_reflect.proofs.Search.{normal_form-same}
-use Rattle.cox_reflect.proofs.Bruhat.{below-refl, below-same, below-trans, below-descent}
+use Rattle.cox_reflect.proofs.Bruhat.{below-same}
 use Rattle.cox_hecke.specs.ListedElements.{LiesBetween}
-use Rattle.cox_hecke.specs.Needs.{IsNeeded, itself, shorter, corrected}
-use Rattle.cox_hecke.proofs.Descended.{mu-below}
+use Rattle.cox_hecke.specs.Needs.{IsNeeded}
 use Rattle.cox_context.specs.Closed.{IsClosed}
 use Rattle.cox_context.specs.Numbers.{word_at}
 use Rattle.cox_context.specs.Numbering.{IsNumberOf}
-use Rattle.cox_context.proofs.PlacedWords.{contains-placed, contains-at, placed-contains}
-use Rattle.cox_context.proofs.Shifting.{member-below}
-use Rattle.cox_context.proofs.IntervalLists.{is_below, interval-exists}
-use Rattle.cox_context.proofs.ShortLexLists.{HasMoreThan-few}
+use Rattle.cox_context.proofs.PlacedWords.{contains-placed, contains-at}
 use Rattle.cox_row.specs.Rising.{number_at}
 use Rattle.cox_row_builder.specs.declared.fault.StepFault.{StepFault}
 use Rattle.cox_row_builder.specs.declared.fault.StepFault.TheVariants.{Coefficient, Mu, NoMemory}
 use Rattle.cox_rows.specs.Beyond.{IsBeyond, NeedsBeyond}
 use Rattle.cox_rows.specs.Holding.{Holding, HasRow}
-use Rattle.cox_rows.specs.Ensured.{IsEnsured}
-use Rattle.cox_rows.specs.RowsFaults.{IsRowsFault}
-use Rattle.cox_rows.proofs.BeyondDecided.{beyond-same}
 use Rattle.cox_rows.proofs.NeedDecided.{needs_beyond-same}
 use Rattle.cox_rows.proofs.FaultsOfRows.{fault-beyond}
 use Rattle.cox_inverse.specs.declared.interval.Interval.{Interval}
@@ -40,45 +32,16 @@ use Rattle.cox_inverse.specs.Intervals.{IsInterval}
 use Rattle.cox_inverse.specs.declared.finite.WholeGroup.{WholeGroup}
 use Rattle.cox_inverse.specs.WholeGroups.{IsReadable}
 use Rattle.cox_options.specs.declared.options.Options.{Options}
-use Rattle.cox_replies.specs.Kept.{Work, IsSameWork, AreOf, AreKept, HoldsElement, IsMore, Keeps, unanswered_by, unless_fault}
-use Rattle.cox_replies.specs.KeptBetween.{IsSomeBeyond, RefusesBetween, HoldsBetween, IsFaultOfOne, IsReadOff}
+use Rattle.cox_answers.specs.Kept.{WorkspaceState, AreOf, AreKept, HoldsElement, IsMore, Keeps}
+use Rattle.cox_answers.specs.Faults.{unanswered_by, unless_fault}
+use Rattle.cox_answers.specs.KeptBetween.{IsSomeBeyond, RefusesBetween, HoldsBetween, IsFaultOfOne, IsReadOff}
 use Rattle.cox_replies.specs.InverseReply.{inverse_limit}
 use Rattle.cox_replies.specs.Limits.{Limits}
 use Rattle.cox_replies.specs.Listed.{RefusesLargeOr}
 use Rattle.cox_replies.specs.Question.{IsRefused}
 use Rattle.cox_replies.specs.SessionLimits.{limits_of}
-use Rattle.cox_replies.proofs.KeptRows.{filter-shorter, large-free}
-use Rattle.cox_replies.proofs.RowMembers.{interval-size}
-use Rattle.cox_replies.proofs.LargeOr.{large_or-allowed, large_or-refused}
-
-module _ (A : IntegerMatrix) (g : IsAdmissible A) where
-  -- what the row of w needs is below w
-  needed-below : (w z : List ℕ) → IsNeeded A w z → IsBelow A z w
-  needed-below w z (itself e) = below-refl A g e
-  needed-below w v (shorter {z = z} {s = s} n d e) =
-      below-trans A g (below-same A g (same-sym A g e) (same-refl A g z) (below-descent A g z s d.descent)) (needed-below w z n)
-  needed-below w v (corrected {z = z} {s = s} {m = m} n d c) =
-      below-trans A g (mu-below A g v (s ∷ z) m c.is_mu c.some) (below-trans A g (below-descent A g z s d.descent) (needed-below w z n))
-
-  module _ (members : List (List ℕ)) (closed : IsClosed A members) (w : List ℕ) (top : Contains members (normal_form A w)) where
-    -- what is below a member is one
-    pub below-contained : (y : List ℕ) → IsBelow A y w → Contains members (normal_form A y)
-    below-contained y below =
-        let p = contains-placed members (normal_form A w) top in
-        member-below A g members closed y p.i p.within
-        (rw p.is (below-same A g (same-refl A g y) (same-sym A g (normal_form-same A g w)) below))
-
-    -- where no member is beyond the limits, no row below a member needs one that is
-    pub none-needed : (limit : ℤ) → pos 0 ≤ℤ limit → ((i : ℕ) → i < length members → IsBeyond A limit (word_at members i) → ⊥)
-        → (z : List ℕ) → IsBelow A z w → NeedsBeyond A limit z → ⊥
-    none-needed limit least none z below h =
-        let u = h.element in
-        let p = contains-placed members (normal_form A u) (below-contained u (below-trans A g (needed-below z u h.needed) below)) in
-        none p.i p.within (rw p.is (beyond-same A g limit least u (normal_form A u) (same-sym A g (normal_form-same A g u)) h.beyond))
-
--- what has a number is a member
-pub number-contains : (members : List (List ℕ)) (word : List ℕ) (i : ℕ) → IsNumberOf members word (Some i) → Contains members word
-number-contains members word i number = placed-contains members word (record { i = i; within = number.0; is = number.1 })
+use Rattle.cox_replies.proofs.LargeOr.{large-free, large_or-allowed, large_or-refused}
+use Rattle.cox_answers.proofs.KeptMembers.{below-contained, none-needed, number-contains, member-few}
 
 -- where the rows of all members are there, and none is beyond the limits
 module _ (limits : Limits) (G : CoxeterMatrix) (g : IsAdmissible (integer_matrix G)) (y w : List ℕ) (rows : Holding)
@@ -86,19 +49,6 @@ module _ (limits : Limits) (G : CoxeterMatrix) (g : IsAdmissible (integer_matrix
     (top : Contains rows.elements.members (normal_form (integer_matrix G) w)) where
   abbrev whole_members : List (List ℕ)
   whole_members = rows.elements.members
-
-  -- the interval of a member is no larger than what is kept
-  pub member-few : HasMoreThan limits.context (IsInInterval (integer_matrix G) w) → ⊥
-  member-few =
-      let A = integer_matrix G in
-      let p = contains-placed whole_members (normal_form A w) top in
-      let list = interval-exists A g w in
-      HasMoreThan-few (IsInInterval A w) limits.context list.0 list.1 (omega (
-        arith,
-        of.few,
-        interval-size A g whole_members closed p.i p.within w p.is list.0 list.1,
-        filter-shorter (λ x. is_below A x (word_at whole_members p.i)) whole_members,
-      ))
 
   pub all-holds : ((i : ℕ) → i < length rows.elements.members → HasRow rows i) → IsBelow (integer_matrix G) y w
       → HoldsBetween (integer_matrix G) y w rows
@@ -111,13 +61,14 @@ module _ (limits : Limits) (G : CoxeterMatrix) (g : IsAdmissible (integer_matrix
   pub all-allowed : ((i : ℕ) → i < length rows.elements.members
       → IsBeyond (integer_matrix rows.elements.matrix) rows.limit (word_at rows.elements.members i) → ⊥)
       → IsRefused (RefusesBetween limits (integer_matrix G) y w) None
-  all-allowed small = large_or-allowed limits (integer_matrix G) w (IsSomeBeyond (integer_matrix G) limits.coefficient y w) member-few
+  all-allowed small = large_or-allowed limits (integer_matrix G) w (IsSomeBeyond (integer_matrix G) limits.coefficient y w)
+      (member-few limits G g w rows of closed top)
       (λ some. none-needed (integer_matrix G) g whole_members closed w top (pos limits.coefficient) (omega (arith, ints))
       (rw (of.group, of.limit) at small) some.0 some.1.below some.2)
 
 -- where inverse polynomials are read off the rows, the rows between a member and what is below it are held, and not refused
 pub read_off-keeps : (limits : Limits) (G : CoxeterMatrix) → IsAdmissible (integer_matrix G) → (y w : List ℕ) (i : ℕ) (rows : Holding)
-    (whole : WholeGroup) → AreOf G limits rows → IsReadOff limits rows whole → IsClosed (integer_matrix G) rows.elements.members
+    (whole : WholeGroup) → AreOf G limits rows → IsReadOff rows whole → IsClosed (integer_matrix G) rows.elements.members
     → IsNumberOf rows.elements.members (normal_form (integer_matrix G) w) (Some i) → IsBelow (integer_matrix G) y w
     → IsRefused (RefusesBetween limits (integer_matrix G) y w) None × HoldsBetween (integer_matrix G) y w rows
 read_off-keeps limits G g y w i rows whole of read closed number below =
@@ -139,23 +90,14 @@ all-keeps limits G g y w (Some rows) of top closed there small below =
     (all-allowed limits G g y w rows of inside top small, all-holds limits G g y w rows of inside top there below)
 
 -- a whole group that is found is one that inverse polynomials are read off
-pub read_off-found : (limits : Limits) (rows : Holding) (found : Option WholeGroup) → ((i : ℕ) → i < length rows.elements.members
+pub read_off-found : (rows : Holding) (found : Option WholeGroup) → ((i : ℕ) → i < length rows.elements.members
     → IsBeyond (integer_matrix rows.elements.matrix) rows.limit (word_at rows.elements.members i) → ⊥)
-    → IfSome found (IsReadable rows.elements (HasRow rows) (inverse_limit limits.coefficient)) → IfSome found (IsReadOff limits rows)
-read_off-found limits rows None small none = tt
-read_off-found limits rows (Some whole) small readable = record { readable = readable; small = small }
-
--- the interval of an element that is found among the members
-pub found-few : (limits : Limits) (G : CoxeterMatrix) → IsAdmissible (integer_matrix G) → (w : List ℕ) (rows : Holding)
-    → AreOf G limits rows → IsClosed (integer_matrix G) rows.elements.members → (found : Option ℕ)
-    → IsNumberOf rows.elements.members (normal_form (integer_matrix G) w) found
-    → IfSome found (λ i. HasMoreThan limits.context (IsInInterval (integer_matrix G) w) → ⊥)
-found-few limits G g w rows of closed None none = tt
-found-few limits G g w rows of closed (Some i) number = member-few limits G g w w rows of closed
-    (number-contains rows.elements.members (normal_form (integer_matrix G) w) i number)
+    → IfSome found (IsReadable rows.elements (HasRow rows) (inverse_limit rows.limit)) → IfSome found (IsReadOff rows)
+read_off-found rows None small none = tt
+read_off-found rows (Some whole) small readable = record { readable = readable; small = small }
 
 -- rows that were taken out of a workspace with this group and these options: w has the number i among their members
-pub record AreTaken (G : CoxeterMatrix) (set : Options) (w : List ℕ) (i : ℕ) (rest : Work) (rows : Holding) : Type 0 where
+pub record AreTaken (G : CoxeterMatrix) (set : Options) (w : List ℕ) (i : ℕ) (rest : WorkspaceState) (rows : Holding) : Type 0 where
   pub table : rest.table ≡ G
   pub options : rest.options ≡ set
   pub of : AreOf G (limits_of set) rows
@@ -163,18 +105,18 @@ pub record AreTaken (G : CoxeterMatrix) (set : Options) (w : List ℕ) (i : ℕ)
   pub few : HasMoreThan (limits_of set).context (IsInInterval (integer_matrix G) w) → ⊥
 
 -- they are such, after the interval from the identity to w was added to what is kept
-pub are-taken : (old rest new : Work) (w : List ℕ) (i : ℕ) (rows : Holding) (taken : Option Holding) → rest ≡ new → IsSameWork old new
-    → AreKept old.table (limits_of old.options) new.rows
-    → Keeps {X = ℕ} (Ok i) (RefusesLargeOr (limits_of old.options) (integer_matrix old.table) w ⊥)
-    (HoldsElement (integer_matrix old.table) w) new.rows → taken ≡ rest.rows → taken ≡ Some rows → AreTaken old.table old.options w i rest rows
-are-taken old rest new w i rows taken is same kept interval value some =
-    let here : new.rows ≡ Some rows = sym (ap (λ (work : Work). work.rows) is) ∙ sym value ∙ some in
+pub are-taken : (G : CoxeterMatrix) (set : Options) (rest new : WorkspaceState) (w : List ℕ) (i : ℕ) (rows : Holding)
+    (taken : Option Holding) → rest ≡ new → new.table ≡ G → new.options ≡ set → AreKept G (limits_of set) new.rows
+    → Keeps {X = ℕ} (Ok i) (RefusesLargeOr (limits_of set) (integer_matrix G) w ⊥) (HoldsElement (integer_matrix G) w) new.rows
+    → taken ≡ rest.rows → taken ≡ Some rows → AreTaken G set w i rest rows
+are-taken G set rest new w i rows taken is table options kept interval value some =
+    let here : new.rows ≡ Some rows = sym (ap (λ (work : WorkspaceState). work.rows) is) ∙ sym value ∙ some in
     record {
-      table = ap (λ (work : Work). work.table) is ∙ same.table;
-      options = ap (λ (work : Work). work.options) is ∙ same.options;
+      table = ap (λ (work : WorkspaceState). work.table) is ∙ table;
+      options = ap (λ (work : WorkspaceState). work.options) is ∙ options;
       of = rw here at kept;
       number = rw here at interval.1;
-      few = large-free (limits_of old.options) (integer_matrix old.table) w interval.0;
+      few = large-free (limits_of set) (integer_matrix G) w interval.0;
     }
 
 -- the members between y and w, while their rows are made
@@ -272,50 +214,3 @@ module _ (limits : Limits) (G : CoxeterMatrix) (g : IsAdmissible (integer_matrix
   between-keeps few (Ok done) more there small fault =
       (large_or-allowed limits A w (IsSomeBeyond A limits.coefficient y w) few (between-small small), between-holds more there)
   between-keeps few (Err why) more there small fault = between-refused few (Some new) why fault
-
--- ---- the rows of listed members, one after the other
-
--- the rows of the first n of these members are there, and need nothing beyond the limits
-pub record AreEnsured (old new : Holding) (numbers : List ℕ) (n : ℕ) : Type 0 where
-  pub same : IsMore old new
-  pub there : (k : ℕ) → k < n → HasRow new (number_at numbers k)
-  pub small : (k : ℕ) → k < n
-      → NeedsBeyond (integer_matrix old.elements.matrix) old.limit (word_at old.elements.members (number_at numbers k)) → ⊥
-
-pub ensured-none : (old : Holding) (numbers : List ℕ) → AreEnsured old old numbers 0
-ensured-none old numbers = record {
-  same = record { same = record { elements = refl; limit = refl }; there = λ i held. held };
-  there = λ k l. absurd (omega (arith, l));
-  small = λ k l. absurd (omega (arith, l));
-}
-
--- while the row of one more is made
-module _ (old mid new : Holding) (numbers : List ℕ) (n z : ℕ) (so_far : AreEnsured old mid numbers n)
-    (ensured : IsEnsured (word_at mid.elements.members z) mid new) where
-  pub ensured-more : IsMore old new
-  ensured-more = record {
-    same = record {
-      elements = ensured.elements ∙ so_far.same.same.elements;
-      limit = ensured.limit ∙ so_far.same.same.limit;
-    };
-    there = λ i held. ensured.kept i (so_far.same.there i held);
-  }
-
-  pub ensured-next : z ≡ number_at numbers n → HasRow new z
-      → (NeedsBeyond (integer_matrix mid.elements.matrix) mid.limit (word_at mid.elements.members z) → ⊥)
-      → AreEnsured old new numbers (n + 1)
-  ensured-next is there small = record {
-    same = ensured-more;
-    there = λ k l. ⊎_elim (λ (less : k < n). ensured.kept (number_at numbers k) (so_far.there k less))
-        (λ (more : n ≤ k). let e : k ≡ n = omega (arith, l, more) in rw (e, ← is) there)
-        (cases_lt k n);
-    small = λ k l. ⊎_elim (λ (less : k < n). so_far.small k less)
-        (λ (more : n ≤ k). let e : k ≡ n = omega (arith, l, more) in
-        rw (e, ← is, ← so_far.same.same.elements, ← so_far.same.same.limit) small)
-        (cases_lt k n);
-  }
-
-  pub ensured-fault : (fault : StepFault) → n < length numbers → z ≡ number_at numbers n
-      → IsRowsFault mid.elements mid.limit (IsNeeded (integer_matrix mid.elements.matrix) (word_at mid.elements.members z)) fault
-      → IsFaultOfOne old.elements old.limit numbers fault
-  ensured-fault fault within is found = (n, within, rw (← is, ← so_far.same.same.elements, ← so_far.same.same.limit) found)

@@ -12,30 +12,25 @@ use Rattle.cox_base.specs.Members.{IsElement}
 use Rattle.cox_base.specs.SortedList.{IsListOf, IsRising}
 use Rattle.cox_context.specs.Numbers.{word_at}
 use Rattle.cox_context.specs.TooLarge.{IsTooLarge}
-use Rattle.cox_context.specs.FaultMeaning.{IsRefusal}
-use Rattle.cox_context.specs.declared.fault.ContextFault.{ContextFault}
-use Rattle.cox_context.specs.declared.fault.ContextFault.TheVariants as context
 use Rattle.cox_context.proofs.Ideals.{element-tail}
 use Rattle.cox_context.proofs.PlacedWords.{contains-placed, contains-at}
 use Rattle.cox_context.proofs.Shifting.{first-member}
 use Rattle.cox_reflect.proofs.NormalElements.{element-word}
 use Rattle.cox_context.proofs.ShortLexLists.{HasMoreThan-few}
-use Rattle.cox_context.proofs.RefusalCauses.{too_large-found}
 use Rattle.cox_row_builder.specs.declared.fault.StepFault.{StepFault}
 use Rattle.cox_row_builder.specs.declared.fault.StepFault.TheVariants.{Coefficient, Mu, NoMemory}
 use Rattle.cox_rows.specs.Holding.{Holding, HasRow}
 use Rattle.cox_rows.specs.RowsFaults.{IsFaultOfSome}
 use Rattle.cox_rows.specs.Beyond.{IsBeyond, NeedsBeyond}
 use Rattle.cox_rows.proofs.FaultsOfRows.{fault-beyond}
-use Rattle.cox_command.specs.declared.refusal.Refusal.{Refusal}
-use Rattle.cox_command.specs.declared.refusal.Refusal.TheVariants.{LargeInterval, LargeRow}
+use Rattle.cox_command.specs.declared.refusal.Refusal.TheVariants.{LargeRow}
 use Rattle.cox_replies.specs.Limits.{Limits}
 use Rattle.cox_replies.specs.Question.{IsRefused}
 use Rattle.cox_replies.specs.GroupReply.{RefusesGroupRows}
-use Rattle.cox_replies.proofs.KeptRows.{more-of}
-use Rattle.cox_replies.proofs.LargeOr.{row-more}
-use Rattle.cox_replies.specs.Kept.{AreOf, IsMore, HoldsGroup, HoldsAll, Keeps, unanswered_by, unless_fault}
-use Rattle.cox_replies.specs.GroupSize.{RefusesLargeGroup}
+use Rattle.cox_answers.proofs.MadeRows.{more-of}
+use Rattle.cox_answers.specs.Kept.{AreOf, IsMore, HoldsGroup, HoldsAll, Keeps}
+use Rattle.cox_answers.specs.Faults.{unanswered_by, unless_fault}
+use Rattle.cox_answers.specs.GroupSize.{RefusesLargeGroup}
 
 module _ (A : IntegerMatrix) (g : IsAdmissible A) (members : List (List ℕ)) where
   -- where each left shift of a member is one, all elements are members: those in ShortLex order are the list of them
@@ -62,17 +57,7 @@ not-too_large A limit members closed all few (inr long) = omega (
   long.2,
 )
 
--- a group that is refused, apart from memory that runs out
-pub group-too_large : (A : IntegerMatrix) (limit : ℕ) (fault : ContextFault) → (fault ≡ context.NoMemory → ⊥)
-    → IsRefusal (IsElement A) limit fault → IsTooLarge (IsElement A) limit
-group-too_large A limit (context.Size bound seen) memory refusal = too_large-found (IsElement A) limit (inl refusal.2)
-group-too_large A limit context.Long memory refusal = too_large-found (IsElement A) limit (inr refusal)
-group-too_large A limit context.NoMemory memory refusal = absurd (memory refl)
-
 module _ (limits : Limits) (A : IntegerMatrix) where
-  pub large-refused : IsTooLarge (IsElement A) limits.context → IsRefused (RefusesLargeGroup limits A) (Some LargeInterval)
-  large-refused large = inr (λ none. none, inl (large, refl))
-
   pub large-allowed : (IsTooLarge (IsElement A) limits.context → ⊥) → IsRefused (RefusesLargeGroup limits A) None
   large-allowed small = inr (λ none. none, inr (small, inr (λ none. none, inr (λ none. none, refl))))
 
@@ -81,12 +66,6 @@ module _ (limits : Limits) (A : IntegerMatrix) where
   not-large (inl first) large = first.0
   not-large (inr (none, inl second)) large = absurd (cc second.1)
   not-large (inr (none, inr (small, rest))) large = small large
-
-  -- what refuses the group refuses its rows
-  pub large-rows_refused : (why : Refusal) → IsRefused (RefusesLargeGroup limits A) (Some why)
-      → IsRefused (RefusesGroupRows limits A) (Some why)
-  large-rows_refused = row-more (IsTooLarge (IsElement A) limits.context) ⊥
-      ((IsTooLarge (IsElement A) limits.context → ⊥) × (w : List ℕ) × IsElement A w × IsBeyond A (pos limits.coefficient) w)
 
   pub rows-refused : (IsTooLarge (IsElement A) limits.context → ⊥) → (w : List ℕ) → IsElement A w → IsBeyond A (pos limits.coefficient) w
       → IsRefused (RefusesGroupRows limits A) (Some LargeRow)

@@ -1,0 +1,11 @@
+-- Rows that are kept, lent to be changed.
+use Rattle.std.specs.Prelude.{Option}
+use Rattle.std.specs.Borrow.{Lends, MutBor, Fml}
+use Rattle.std.specs.contracts.option.Option.{the_row as option_of}
+use Rattle.cox_rows.specs.Holding.{Holding}
+use Rattle.cox_rows.specs.contracts.rows.Rows.{the_row as rows_row}
+use Rattle.cox_answers.specs.contracts.kept_rows.KeptRows.{the_row}
+
+-- what is kept ends as what is left behind the reference
+abbrev pub LendsRows : MutBor (Option Holding) → MutBor (Option Holding) → Fml
+LendsRows kept rows = Lends the_row (option_of rows_row) kept rows (λ left. left)

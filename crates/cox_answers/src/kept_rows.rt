@@ -1,0 +1,106 @@
+//! The rows that are kept of a group, and what is known of all of them.
+ghost use Rattle.std.specs.Prelude.{◌≡◌, ℕ, ◌<◌, length, None, IsTrue, IfSome, IsSomeAnd};
+ghost use Rattle.std.specs.Borrow.{sem};
+ghost use Rattle.cox_base.specs.IntegerMatrix.{integer_matrix};
+ghost use Rattle.cox_context.specs.Closed.{IsClosed};
+ghost use Rattle.cox_context.specs.Numbers.{word_at};
+ghost use Rattle.cox_rows.specs.Beyond.{IsBeyond};
+ghost use Rattle.cox_rows.specs.Holding.{HasRow};
+ghost use Rattle.cox_answers.specs.KeptBetween.{IsReadOff};
+ghost use Rattle.cox_answers.specs.LentRows.{LendsRows};
+
+use crate::answers::between::{find_whole, has_all};
+use cox_inverse::WholeGroup;
+use cox_rows::Rows;
+use std::marker::Model;
+
+/// The rows that are kept of a group, with the context that they are over, once a row was asked for; and what inverse polynomials are read
+/// off, where these are all rows of a finite group.
+#[derive(Drop)]
+pub struct KeptRows {
+    rows: Option<Rows>,
+    // What inverse polynomials are read off, if that was looked for since the rows changed.
+    whole: Option<Option<WholeGroup>>,
+}
+
+impl Model for KeptRows {
+    ghost use Rattle.std.specs.Prelude.{Option};
+    ghost use Rattle.cox_rows.specs.Holding.{Holding};
+    ghost use Rattle.cox_answers.specs.KeptBetween.{AreReadOff};
+
+    ghost Value = { Option Holding };
+
+    ghost view = { λ k. k.rows };
+
+    ghost invariant = { λ k. AreReadOff k.rows k.whole };
+}
+
+impl KeptRows {
+    /// No row was asked for yet.
+    pub fn new() -> KeptRows
+        ensures { result ≡ None }
+    {
+        KeptRows {
+            rows: None,
+            whole: None,
+        }
+    }
+
+    /// The rows, if there are any.
+    pub fn rows(&self) -> &Option<Rows>
+        ensures { result.now ≡ self.now }
+    {
+        &self.rows
+    }
+
+    /// The rows, to be changed: what was known of all of them is forgotten.
+    pub fn change(&mut self) -> &mut Option<Rows>
+        ensures* lends { sem 𝓛 (LendsRows self.entry result) }
+        ensures rows { result.now ≡ self.old }
+    {
+        self.whole = None;
+        &mut self.rows
+    }
+
+    /// What inverse polynomials are read off, if that was found.
+    pub fn whole_group(&self) -> Option<WholeGroup>
+        ensures { IfSome result (λ group. IsSomeAnd self.now (λ rows. IsReadOff rows group)) }
+    {
+        match self.whole {
+            Some(found) => found,
+            None => None,
+        }
+    }
+
+    /// Whether it was looked for since the rows changed.
+    pub fn knows_whole_group(&self) -> bool {
+        self.whole.is_some()
+    }
+
+    /// Looks for what inverse polynomials are read off, where the rows of all members are there and it was not looked for. Tells whether
+    /// these rows are there.
+    pub fn find_whole_group(&mut self) -> bool
+        ensures same { self.new ≡ self.old }
+        ensures closed { IsTrue result → IfSome self.old
+            (λ rows. IsClosed (integer_matrix rows.elements.matrix) rows.elements.members) }
+        ensures there { IsTrue result → IfSome self.old (λ rows. (i : ℕ) → i < length rows.elements.members → HasRow rows i) }
+        ensures small { IsTrue result → IfSome self.old (λ rows. (i : ℕ) → i < length rows.elements.members
+            → ¬ IsBeyond (integer_matrix rows.elements.matrix) rows.limit (word_at rows.elements.members i)) }
+    {
+        let known = self.whole_group();
+        let Some(rows) = &self.rows else {
+            return false;
+        };
+        let _context = rows.context();
+        if known.is_some() {
+            return true;
+        }
+        if !has_all(rows) {
+            return false;
+        }
+        if self.whole.is_none() {
+            self.whole = Some(find_whole(rows));
+        }
+        true
+    }
+}
