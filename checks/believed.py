@@ -185,9 +185,9 @@ PARTS = ("mathematics", "text", "refusals")
 
 def commands(files):
     """The commands on elements and on the whole group, by their names: each as it is written."""
-    table = files[GRAMMAR + "CommandWord"].items["command_word_of"].text()
-    found = re.findall(r'codes "(\w+)"\) then Some (?:\((\w+) (\w+)\)|(\w+))', table)
-    return {name: name + SHAPES[shape or other] for name, shape, _, other in found if (shape or other) in SHAPES}
+    table = files[GRAMMAR + "CommandWord"].items["word_of"].text()
+    found = re.findall(r'word_of \(?(\w+).* = codes "(\w+)"', table)
+    return {name: name + SHAPES[shape] for shape, name in found if shape in SHAPES}
 
 
 def arguments(text):

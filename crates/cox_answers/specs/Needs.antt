@@ -7,8 +7,8 @@ use Rattle.cox_command.specs.ParseContract.{AreWorkNumbers}
 use Rattle.cox_command.specs.declared.refusal.Refusal.{Refusal}
 use Rattle.cox_command.specs.declared.inquiry.Inquiry.{Inquiry}
 use Rattle.cox_command.specs.declared.inquiry.Inquiry.TheVariants.{One, Two, Plain, Work as Sums}
-use Rattle.cox_command.specs.declared.inquiry.OneWord.TheVariants.{Klbasis, Ihbetti, Extremals, Cert, Module}
-use Rattle.cox_command.specs.declared.inquiry.TwoWord.TheVariants.{Pol, Invpol, Mu}
+use Rattle.cox_command.specs.declared.inquiry.OneWord.TheVariants.{OfRow, Cert, Module}
+use Rattle.cox_command.specs.declared.inquiry.TwoWord.TheVariants.{OfEntry, Invpol}
 use Rattle.cox_replies.specs.declared.unanswered.Unanswered.{Unanswered}
 use Rattle.cox_replies.specs.declared.unanswered.Unanswered.TheVariants as unanswered
 use Rattle.cox_replies.specs.Limits.{Limits}
@@ -98,14 +98,11 @@ IsFound work (Words start count) found = HasTotals work (generated_words work.ta
 
 -- this shows that what a command needs is there
 abbrev pub IsEnough : WorkspaceState → Inquiry → Found → Type 0
-IsEnough work (One Klbasis w) found = HasRowOf work w.items found
-IsEnough work (One Ihbetti w) found = HasRowOf work w.items found
-IsEnough work (One Extremals w) found = HasRowOf work w.items found
+IsEnough work (One (OfRow kind) w) found = HasRowOf work w.items found
 IsEnough work (One Cert w) found = HasRowOf work w.items found
 IsEnough work (One Module w) found = HasGroup work
 IsEnough work (One _ w) found = Unit {0}
-IsEnough work (Two Pol y w) found = HasRowOf work w.items found
-IsEnough work (Two Mu y w) found = HasRowOf work w.items found
+IsEnough work (Two (OfEntry kind) y w) found = HasRowOf work w.items found
 IsEnough work (Two Invpol y w) found = HasBetween work y.items w.items found
 IsEnough work (Two _ y w) found = Unit {0}
 IsEnough work (Plain kind) found = HasGroup work

@@ -20,8 +20,7 @@ ghost use Rattle.cox_command.specs.declared.inquiry.Inquiry.TheVariants.{One, Tw
 ghost use Rattle.cox_answers.specs.Kept.{IsSameWorkspace};
 ghost use Rattle.cox_replies.specs.SessionLimits.{limits_of};
 ghost use Rattle.cox_replies.specs.RowReply.{RefusesRow};
-ghost use Rattle.cox_replies.specs.RowCommands.{row_command, entry_command};
-ghost use Rattle.cox_replies.specs.InquiryQuestion.{IsOrderText, one_question, two_question, question_of};
+ghost use Rattle.cox_replies.specs.InquiryQuestion.{IsOrderText, IsRowText, IsEntryText, question_of};
 ghost use Rattle.cox_replies.specs.Putting.{PutsUnless, IsEnded};
 ghost use Rattle.cox_answers.specs.Needs.{Answers, IsEnough, IsRowOf, HasRowOf};
 
@@ -37,12 +36,12 @@ use crate::needs::{Found, need_of};
 use crate::row_maker::RowMaker;
 use crate::workspace::Workspace;
 use cox_base::{MAX_RANK, Word};
-use cox_command::{Inquiry, OneWord, TwoWord};
+use cox_command::{EntryKind, Inquiry, OneWord, RowKind, TwoWord};
 use cox_minroots::RootTable;
 use cox_print::{NoMemory, put_count, put_descent, put_element, put_end, put_truth};
 use cox_replies::{
-    EntryKind, RowKind, Unanswered, put_betti, put_cert_of, put_coatoms, put_entry_of,
-    put_group_of, put_interval, put_module_of, put_row_of, put_rpol, unrefused,
+    Unanswered, put_betti, put_cert_of, put_coatoms, put_entry_of, put_group_of, put_interval,
+    put_module_of, put_row_of, put_rpol, unrefused,
 };
 
 impl Workspace {
@@ -164,9 +163,7 @@ impl Workspace {
             OneWord::Descent => unrefused(put_both_descents(out, table, w)),
             OneWord::Coatoms => put_coatoms(out, table, options, w),
             OneWord::Betti => put_betti(out, table, options, w),
-            OneWord::Klbasis => self.put_row(out, RowKind::Klbasis, w, found),
-            OneWord::Ihbetti => self.put_row(out, RowKind::Ihbetti, w, found),
-            OneWord::Extremals => self.put_row(out, RowKind::Extremals, w, found),
+            OneWord::OfRow(kind) => self.put_row(out, kind, w, found),
             OneWord::Cert => {
                 let i = self.number_found(w, found);
                 put_cert_of(out, self.rows(), i)
@@ -193,9 +190,8 @@ impl Workspace {
             TwoWord::Inorder => put_inorder(out, table, y, w),
             TwoWord::Interval => put_interval(out, table, self.options(), y, w),
             TwoWord::Rpol => put_rpol(out, table, y, w),
-            TwoWord::Pol => self.put_entry(out, EntryKind::Pol, y, w, found),
+            TwoWord::OfEntry(kind) => self.put_entry(out, kind, y, w, found),
             TwoWord::Invpol => self.put_invpol(out, y, w, found),
-            TwoWord::Mu => self.put_entry(out, EntryKind::Mu, y, w, found),
         }
     }
 
@@ -209,8 +205,7 @@ impl Workspace {
     ) -> Result<(), Unanswered>
         requires { HasRowOf self.now w.now.items found.now }
         ensures { PutsUnless result (RefusesRow (limits_of self.now.options) (integer_matrix self.now.table) w.now.items)
-            (one_question (row_command kind) (limits_of self.now.options) self.now.table
-            (integer_matrix self.now.table) w.now.items).IsText out.old.items out.new.items }
+            (IsRowText kind (integer_matrix self.now.table) w.now.items) out.old.items out.new.items }
     {
         let i = self.number_found(w, found);
         unrefused(put_row_of(out, self.rows(), i, kind))
@@ -228,8 +223,7 @@ impl Workspace {
         requires word { IsWord self.now.table.rank y.now.items }
         requires found { HasRowOf self.now w.now.items found.now }
         ensures { PutsUnless result (RefusesRow (limits_of self.now.options) (integer_matrix self.now.table) w.now.items)
-            (two_question (entry_command kind) (limits_of self.now.options) (integer_matrix self.now.table)
-            y.now.items w.now.items).IsText out.old.items out.new.items }
+            (IsEntryText kind (integer_matrix self.now.table) y.now.items w.now.items) out.old.items out.new.items }
     {
         let i = self.number_found(w, found);
         unrefused(put_entry_of(out, self.rows(), self.table(), i, kind, y))

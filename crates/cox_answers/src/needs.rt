@@ -64,16 +64,13 @@ pub fn need_of(inquiry: &Inquiry) -> Need<'_>
             | OneWord::Descent
             | OneWord::Coatoms
             | OneWord::Betti => Need::Nothing,
-            OneWord::Klbasis => Need::Row(w),
-            OneWord::Ihbetti => Need::Row(w),
-            OneWord::Extremals => Need::Row(w),
+            OneWord::OfRow(_) => Need::Row(w),
             OneWord::Cert => Need::Listed(w),
             OneWord::Module => Need::Group,
         },
         Inquiry::Two(kind, y, w) => match kind {
             TwoWord::Inorder | TwoWord::Interval | TwoWord::Rpol => Need::Nothing,
-            TwoWord::Pol => Need::Row(w),
-            TwoWord::Mu => Need::Row(w),
+            TwoWord::OfEntry(_) => Need::Row(w),
             TwoWord::Invpol => Need::Between(y, w),
         },
         Inquiry::Plain(_) => Need::Group,

@@ -2,7 +2,7 @@
 ghost use Rattle.std.specs.Prelude.{◌≡◌};
 ghost use Rattle.cox_command.specs.CommandWord.{command_word_of};
 
-use crate::{NoWord, OneWord, TwoWord};
+use crate::{EntryKind, NoWord, OneWord, RowKind, TwoWord};
 
 /// The commands, by their first token.
 #[derive(Clone, Copy, Debug, Eq, PartialEq)]
@@ -50,11 +50,11 @@ pub fn command_word(token: &[u8]) -> Option<CommandWord>
     } else if token == b"betti".as_slice() {
         Some(CommandWord::One(OneWord::Betti))
     } else if token == b"klbasis".as_slice() {
-        Some(CommandWord::One(OneWord::Klbasis))
+        Some(CommandWord::One(OneWord::OfRow(RowKind::Klbasis)))
     } else if token == b"ihbetti".as_slice() {
-        Some(CommandWord::One(OneWord::Ihbetti))
+        Some(CommandWord::One(OneWord::OfRow(RowKind::Ihbetti)))
     } else if token == b"extremals".as_slice() {
-        Some(CommandWord::One(OneWord::Extremals))
+        Some(CommandWord::One(OneWord::OfRow(RowKind::Extremals)))
     } else if token == b"cert".as_slice() {
         Some(CommandWord::One(OneWord::Cert))
     } else if token == b"module".as_slice() {
@@ -66,11 +66,11 @@ pub fn command_word(token: &[u8]) -> Option<CommandWord>
     } else if token == b"rpol".as_slice() {
         Some(CommandWord::Two(TwoWord::Rpol))
     } else if token == b"pol".as_slice() {
-        Some(CommandWord::Two(TwoWord::Pol))
+        Some(CommandWord::Two(TwoWord::OfEntry(EntryKind::Pol)))
     } else if token == b"invpol".as_slice() {
         Some(CommandWord::Two(TwoWord::Invpol))
     } else if token == b"mu".as_slice() {
-        Some(CommandWord::Two(TwoWord::Mu))
+        Some(CommandWord::Two(TwoWord::OfEntry(EntryKind::Mu)))
     } else if token == b"lwgraph".as_slice() {
         Some(CommandWord::Plain(NoWord::Lwgraph))
     } else if token == b"rwgraph".as_slice() {

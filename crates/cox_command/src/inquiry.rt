@@ -35,16 +35,23 @@ pub enum OneWord {
     Coatoms,
     /// How many elements of each length are below it.
     Betti,
-    /// The Kazhdan-Lusztig polynomials P(x,w) of all x below it in Bruhat order.
-    Klbasis,
-    /// The coefficients of the sum of q^l(x) P(x,w) over all x below it in Bruhat order.
-    Ihbetti,
-    /// P(x,w) of those x below it that have each left and each right descent of w.
-    Extremals,
+    /// What its row of Kazhdan-Lusztig polynomials answers.
+    OfRow(RowKind),
     /// The certificate of its row: the group, its normal form, and all x below it in Bruhat order, each with P(x,w).
     Cert,
     /// The module of the Hecke algebra that its left cell carries.
     Module,
+}
+
+/// The commands with one word w that the row of w answers: the polynomials P(x,w) of all x below w in Bruhat order.
+#[derive(Clone, Copy, Debug, Eq, PartialEq)]
+pub enum RowKind {
+    /// P(x,w) of each x below w.
+    Klbasis,
+    /// The coefficients of the sum of q^l(x) P(x,w) over all x below w.
+    Ihbetti,
+    /// P(x,w) of those x below w that have each left and each right descent of w.
+    Extremals,
 }
 
 /// The commands with two words.
@@ -56,10 +63,17 @@ pub enum TwoWord {
     Interval,
     /// Their R-polynomial.
     Rpol,
-    /// Their Kazhdan-Lusztig polynomial P(y,w).
-    Pol,
+    /// What the row of the second answers, by its entry at the first.
+    OfEntry(EntryKind),
     /// Their inverse Kazhdan-Lusztig polynomial Q(y,w).
     Invpol,
+}
+
+/// The commands with two words y and w that the row of w answers, by its entry at y.
+#[derive(Clone, Copy, Debug, Eq, PartialEq)]
+pub enum EntryKind {
+    /// Their Kazhdan-Lusztig polynomial P(y,w).
+    Pol,
     /// mu(y,w): the coefficient of P(y,w) at the degree (l(w) - l(y) - 1) / 2, if y is below w and that is whole.
     Mu,
 }

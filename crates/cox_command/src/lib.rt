@@ -4,9 +4,9 @@
 //! Grammar and causes are definitions of their own in `specs/`, one table or one test each. The parts of a line are those of `cox_tokens`.
 //! Nothing here takes memory.
 //!
-//! A new command with words, or without arguments, is a variant, a row in `command_word_of` and a row in `command_word`. One of another
-//! shape is also a variant of `Inquiry` and `CommandWord`, a function that reads its arguments, a case of `command_by`, and a case of each
-//! test in `specs/LineRefusal.antt` that speaks of it.
+//! A new command with words, or without arguments, is a variant, a row in `word_of`, a place in the list `commands`, and a row in
+//! `command_word`. One of another shape is also a variant of `Inquiry` and `CommandWord`, a function that reads its arguments, a case of
+//! `command_by`, and a case of each test in `specs/LineRefusal.antt` that speaks of it.
 //!
 //! - `command`: commands as values, and why a line gives none
 //! - `inquiry`: commands on elements, and on the whole group
@@ -37,7 +37,7 @@ mod work_arguments;
 pub use blocks::{ListWord, block_refusal, list_word};
 pub use command::{Command, LineFault};
 pub use generated::{WORD_LETTERS, work_word};
-pub use inquiry::{Inquiry, NoWord, OneWord, TwoWord};
+pub use inquiry::{EntryKind, Inquiry, NoWord, OneWord, RowKind, TwoWord};
 pub use laws::accepted_gives_command;
 pub use limits::{MAX_COUNT, MAX_START};
 pub use parsing::parse;

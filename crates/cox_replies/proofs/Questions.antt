@@ -12,10 +12,9 @@ use Rattle.cox_base.specs.Bruhat.{IsBelow}
 use Rattle.cox_command.specs.declared.refusal.Refusal.{Refusal}
 use Rattle.cox_command.specs.declared.refusal.Refusal.TheVariants.{FarApart}
 use Rattle.cox_command.specs.declared.inquiry.OneWord.{OneWord}
-use Rattle.cox_command.specs.declared.inquiry.OneWord.TheVariants.{Compute, Length, Inverse, Descent, Coatoms, Betti}
-use Rattle.cox_command.specs.declared.inquiry.OneWord.TheVariants.{Klbasis, Ihbetti, Extremals, Cert, Module}
+use Rattle.cox_command.specs.declared.inquiry.OneWord.TheVariants.{Compute, Length, Inverse, Descent, Coatoms, Betti, OfRow, Cert, Module}
 use Rattle.cox_command.specs.declared.inquiry.TwoWord.{TwoWord}
-use Rattle.cox_command.specs.declared.inquiry.TwoWord.TheVariants.{Inorder, Interval, Rpol, Pol, Invpol, Mu}
+use Rattle.cox_command.specs.declared.inquiry.TwoWord.TheVariants.{Inorder, Interval, Rpol, OfEntry, Invpol}
 use Rattle.cox_base.specs.Members.{IsInInterval}
 use Rattle.cox_base.specs.SortedList.{IsListOf}
 use Rattle.cox_base.specs.Interval.{IsBetween, IsCoatom}
@@ -28,11 +27,9 @@ use Rattle.cox_replies.specs.Question.{asks}
 use Rattle.cox_replies.specs.Limits.{Limits}
 use Rattle.cox_replies.specs.Listed.{RefusesLargeOr}
 use Rattle.cox_replies.specs.InquiryQuestion.{RefusesFar, counts_text, one_question, two_question, question_of}
-use Rattle.cox_replies.specs.RowReply.{IsExtremalBelow, pairs_text, ihbetti_text}
 use Rattle.cox_replies.specs.WorkReply.{generated_words}
 use Rattle.cox_replies.specs.Answerable.{HasOneText, IsAnswerable}
-use Rattle.cox_replies.proofs.RowQuestions.{pol-unique, mu-unique_text, listed-by_row, pol-answerable, mu-answerable, klbasis-answerable}
-use Rattle.cox_replies.proofs.RowQuestions.{extremals-answerable, ihbetti-answerable}
+use Rattle.cox_replies.proofs.RowQuestions.{row-one, row-answerable, entry-one, entry-answerable}
 use Rattle.cox_replies.proofs.LargeOr.{large_or-decided}
 use Rattle.cox_replies.proofs.GroupQuestions.{group-one, group-answerable}
 use Rattle.cox_replies.proofs.CertQuestions.{cert-one, cert-answerable}
@@ -62,12 +59,7 @@ module _ (limits : Limits) (m : CoxeterMatrix) (g : IsAdmissible (integer_matrix
   one-text Descent w a b p q = p ∙ sym q
   one-text Coatoms w a b p q = listed-unique (IsCoatom (integer_matrix m) w) (elements_text m.rank) a b p q
   one-text Betti w a b p q = listed-unique (IsInInterval (integer_matrix m) w) (counts_text (integer_matrix m) w) a b p q
-  one-text Klbasis w a b p q =
-      listed-by_row (integer_matrix m) g w (IsInInterval (integer_matrix m) w) (pairs_text (integer_matrix m) w) a b p q
-  one-text Ihbetti w a b p q =
-      listed-by_row (integer_matrix m) g w (IsInInterval (integer_matrix m) w) (ihbetti_text (integer_matrix m) w) a b p q
-  one-text Extremals w a b p q =
-      listed-by_row (integer_matrix m) g w (IsExtremalBelow (integer_matrix m) w) (pairs_text (integer_matrix m) w) a b p q
+  one-text (OfRow kind) w a b p q = row-one (integer_matrix m) g kind w a b p q
   one-text Cert w a b p q = cert-one m g w a b p q
   one-text Module w a b p q = module-one (integer_matrix m) g w a b p q
 
@@ -76,9 +68,8 @@ module _ (limits : Limits) (A : IntegerMatrix) (g : IsAdmissible A) where
   two-text Inorder y w a b p q = p.2 ∙ ap truth_text (truth-unique (IsBelow A y w) p.0 q.0 p.1 q.1) ∙ sym q.2
   two-text Interval y w a b p q = listed-unique (IsBetween A y w) (elements_text A.rank) a b p q
   two-text Rpol y w a b p q = p ∙ sym q
-  two-text Pol y w a b p q = pol-unique A g y w a b p q
+  two-text (OfEntry kind) y w a b p q = entry-one A g kind y w a b p q
   two-text Invpol y w a b p q = invpol-one A g y w a b p q
-  two-text Mu y w a b p q = mu-unique_text A g y w a b p q
 
 pub question-one : (inquiry : Inquiry) (limits : Limits) (g : CoxeterMatrix) → IsAdmissible (integer_matrix g)
     → HasOneText (question_of inquiry limits g)
@@ -126,9 +117,8 @@ module _ (limits : Limits) (A : IntegerMatrix) (g : IsAdmissible A) where
   }
   two-answerable Interval y w = listed w (IsBetween A y w) _ (elements_text A.rank) (between-of A g y w)
   two-answerable Rpol y w = record { decided = far-decided y w; answer = λ free. (_, refl) }
-  two-answerable Pol y w = pol-answerable A g limits y w
+  two-answerable (OfEntry kind) y w = entry-answerable A g limits kind y w
   two-answerable Invpol y w = invpol-answerable A g limits y w
-  two-answerable Mu y w = mu-answerable A g limits y w
 
 module _ (limits : Limits) (m : CoxeterMatrix) (g : IsAdmissible (integer_matrix m)) where
   one-answerable : (kind : OneWord) (w : List ℕ) → IsAnswerable (one_question kind limits m (integer_matrix m) w)
@@ -140,9 +130,7 @@ module _ (limits : Limits) (m : CoxeterMatrix) (g : IsAdmissible (integer_matrix
       listed limits (integer_matrix m) g w (IsCoatom (integer_matrix m) w) _ (elements_text m.rank) (coatoms-of (integer_matrix m) g w)
   one-answerable Betti w = listed limits (integer_matrix m) g w (IsInInterval (integer_matrix m) w) (λ xs. xs)
       (counts_text (integer_matrix m) w) (λ xs a. a)
-  one-answerable Klbasis w = klbasis-answerable (integer_matrix m) g limits w
-  one-answerable Ihbetti w = ihbetti-answerable (integer_matrix m) g limits w
-  one-answerable Extremals w = extremals-answerable (integer_matrix m) g limits w
+  one-answerable (OfRow kind) w = row-answerable (integer_matrix m) g limits kind w
   one-answerable Cert w = cert-answerable m g limits w
   one-answerable Module w = module-answerable limits (integer_matrix m) g w
 

@@ -22,10 +22,15 @@ use Rattle.cox_context.proofs.IntervalLists.{interval-exists}
 use Rattle.cox_rows.specs.Beyond.{NeedsBeyond}
 use Rattle.cox_rows.proofs.NeedDecided.{tell-needs_beyond}
 use Rattle.cox_command.specs.declared.refusal.Refusal.{Refusal}
+use Rattle.cox_command.specs.declared.inquiry.RowKind.{RowKind}
+use Rattle.cox_command.specs.declared.inquiry.RowKind.TheVariants.{Klbasis}
+use Rattle.cox_command.specs.declared.inquiry.EntryKind.{EntryKind}
+use Rattle.cox_command.specs.declared.inquiry.EntryKind.TheVariants.{Pol, Mu}
 use Rattle.cox_replies.specs.Question.{asks}
 use Rattle.cox_replies.specs.Limits.{Limits}
 use Rattle.cox_replies.specs.Listed.{IsOfRow}
-use Rattle.cox_replies.specs.RowReply.{RefusesRow, coefficients_to, IsPolText, IsMuText, pairs_text, IsExtremalBelow, ihbetti_text}
+use Rattle.cox_replies.specs.RowReply.{RefusesRow, coefficients_to, IsExtremalBelow}
+use Rattle.cox_replies.specs.InquiryQuestion.{IsRowText, IsEntryText}
 use Rattle.cox_replies.specs.Answerable.{IsAnswerable}
 use Rattle.cox_replies.proofs.LargeOr.{large_or-decided}
 
@@ -72,13 +77,6 @@ module _ (A : IntegerMatrix) (g : IsAdmissible A) where
   -- an element has one row
   pub one-row : (w : List ℕ) (p r : Family) → IsRow A w p → IsRow A w r → p ≡ r
   one-row w p r is other = λ i x. (sym (row_of-value A g w p is x) ∙ row_of-value A g w r other x) i
-
-  pub pol-unique : (y w a b : List ℕ) → IsPolText A y w a → IsPolText A y w b → a ≡ b
-  pol-unique y w a b s t =
-      s.2 ∙ ap (λ p. polynomial_text (coefficients_to (word_length A w) (p y))) (one-row w s.0 t.0 s.1 t.1) ∙ sym t.2
-
-  pub mu-unique_text : (y w a b : List ℕ) → IsMuText A y w a → IsMuText A y w b → a ≡ b
-  mu-unique_text y w a b s t = s.2 ∙ ap signed_decimal (mu-unique A g y w s.0 t.0 s.1 t.1) ∙ sym t.2
 
   -- a text by the row of w and the words with a property
   pub listed-by_row : (w : List ℕ) (P : List ℕ → Type 0) (text_of : Family → List (List ℕ) → List ℕ) (a b : List ℕ)
@@ -128,22 +126,32 @@ module _ (A : IntegerMatrix) (g : IsAdmissible A) where
   pub extremals-exist : (w : List ℕ) → (words : List (List ℕ)) × IsListOf (IsExtremalBelow A w) words
   extremals-exist w = let members = interval-exists A g w in (_, extremals-of w members.0 members.1)
 
-  pub pol-answerable : (limits : Limits) (y w : List ℕ) → IsAnswerable (asks (RefusesRow limits A w) (IsPolText A y w))
-  pol-answerable limits y w =
+  -- a text by the row of w and its whole interval, or the extremal elements of it
+  all-answerable : (limits : Limits) (w : List ℕ) (text_of : Family → List (List ℕ) → List ℕ)
+      → IsAnswerable (asks (RefusesRow limits A w) (IsOfRow A w (IsInInterval A w) text_of))
+  all-answerable limits w text_of = listed limits w (IsInInterval A w) (λ xs. xs) text_of (λ xs are. are)
+
+  extremals-answerable : (limits : Limits) (w : List ℕ) (text_of : Family → List (List ℕ) → List ℕ)
+      → IsAnswerable (asks (RefusesRow limits A w) (IsOfRow A w (IsExtremalBelow A w) text_of))
+  extremals-answerable limits w text_of = listed limits w (IsExtremalBelow A w) _ text_of (extremals-of w)
+
+  -- The questions on rows and their entries. A last case stands for all commands that are not named.
+  pub row-one : (kind : RowKind) (w a b : List ℕ) → IsRowText kind A w a → IsRowText kind A w b → a ≡ b
+  row-one Klbasis w a b s t = listed-by_row w _ _ a b s t
+  row-one _ w a b s t = listed-by_row w _ _ a b s t
+
+  pub row-answerable : (limits : Limits) (kind : RowKind) (w : List ℕ) → IsAnswerable (asks (RefusesRow limits A w) (IsRowText kind A w))
+  row-answerable limits Klbasis w = all-answerable limits w _
+  row-answerable limits _ w = search (all-answerable, extremals-answerable)
+
+  pub entry-one : (kind : EntryKind) (y w a b : List ℕ) → IsEntryText kind A y w a → IsEntryText kind A y w b → a ≡ b
+  entry-one Pol y w a b s t =
+      s.2 ∙ ap (λ p. polynomial_text (coefficients_to (word_length A w) (p y))) (one-row w s.0 t.0 s.1 t.1) ∙ sym t.2
+  entry-one Mu y w a b s t = s.2 ∙ ap signed_decimal (mu-unique A g y w s.0 t.0 s.1 t.1) ∙ sym t.2
+
+  pub entry-answerable : (limits : Limits) (kind : EntryKind) (y w : List ℕ)
+      → IsAnswerable (asks (RefusesRow limits A w) (IsEntryText kind A y w))
+  entry-answerable limits Pol y w =
       record { decided = row-decided limits w; answer = λ free. (_, (row_of A g w, row_of-is A g w, refl)) }
-
-  pub mu-answerable : (limits : Limits) (y w : List ℕ) → IsAnswerable (asks (RefusesRow limits A w) (IsMuText A y w))
-  mu-answerable limits y w = let m = mu-exists A g y w in
+  entry-answerable limits Mu y w = let m = mu-exists A g y w in
       record { decided = row-decided limits w; answer = λ free. (_, (m.0, m.1, refl)) }
-
-  pub klbasis-answerable : (limits : Limits) (w : List ℕ)
-      → IsAnswerable (asks (RefusesRow limits A w) (IsOfRow A w (IsInInterval A w) (pairs_text A w)))
-  klbasis-answerable limits w = listed limits w (IsInInterval A w) (λ xs. xs) (pairs_text A w) (λ xs are. are)
-
-  pub extremals-answerable : (limits : Limits) (w : List ℕ)
-      → IsAnswerable (asks (RefusesRow limits A w) (IsOfRow A w (IsExtremalBelow A w) (pairs_text A w)))
-  extremals-answerable limits w =
-      listed limits w (IsExtremalBelow A w) _ (pairs_text A w) (extremals-of w)
-
-  pub ihbetti-answerable : (limits : Limits) (w : List ℕ) → IsAnswerable (asks (RefusesRow limits A w) (IsOfRow A w (IsInInterval A w) (ihbetti_text A w)))
-  ihbetti-answerable limits w = listed limits w (IsInInterval A w) (λ xs. xs) (ihbetti_text A w) (λ xs are. are)

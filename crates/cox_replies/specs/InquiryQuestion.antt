@@ -9,10 +9,13 @@ use Rattle.cox_base.specs.SideDescents.{descent_set}
 use Rattle.cox_base.specs.Bruhat.{IsBelow}
 use Rattle.cox_command.specs.declared.refusal.Refusal.{Refusal}
 use Rattle.cox_command.specs.declared.inquiry.OneWord.{OneWord}
-use Rattle.cox_command.specs.declared.inquiry.OneWord.TheVariants.{Compute, Length, Inverse, Descent, Coatoms, Betti, Klbasis}
-use Rattle.cox_command.specs.declared.inquiry.OneWord.TheVariants.{Ihbetti, Extremals, Cert, Module}
+use Rattle.cox_command.specs.declared.inquiry.OneWord.TheVariants.{Compute, Length, Inverse, Descent, Coatoms, Betti, OfRow, Cert, Module}
+use Rattle.cox_command.specs.declared.inquiry.RowKind.{RowKind}
+use Rattle.cox_command.specs.declared.inquiry.RowKind.TheVariants.{Klbasis, Ihbetti, Extremals}
 use Rattle.cox_command.specs.declared.inquiry.TwoWord.{TwoWord}
-use Rattle.cox_command.specs.declared.inquiry.TwoWord.TheVariants.{Inorder, Interval, Rpol, Pol, Invpol, Mu}
+use Rattle.cox_command.specs.declared.inquiry.TwoWord.TheVariants.{Inorder, Interval, Rpol, OfEntry, Invpol}
+use Rattle.cox_command.specs.declared.inquiry.EntryKind.{EntryKind}
+use Rattle.cox_command.specs.declared.inquiry.EntryKind.TheVariants.{Pol, Mu}
 use Rattle.cox_poly.specs.PolynomialText.{polynomial_text}
 use Rattle.cox_rpoly.specs.RPolynomial.{r_polynomial}
 use Rattle.cox_rpoly.specs.declared.TheConstants.{MAX_DIFFERENCE}
@@ -51,6 +54,17 @@ r_text A y w = polynomial_text (coefficients_to (word_length A w) (r_polynomial 
 abbrev pub text_question : List ℕ → Question
 text_question answer = asks (λ why. ⊥) (λ text. text ≡ answer)
 
+-- what a command asks of the row of w
+abbrev pub IsRowText : RowKind → IntegerMatrix → List ℕ → List ℕ → Type 0
+IsRowText Klbasis A w = IsOfRow A w (IsInInterval A w) (pairs_text A w)
+IsRowText Ihbetti A w = IsOfRow A w (IsInInterval A w) (ihbetti_text A w)
+IsRowText Extremals A w = IsOfRow A w (IsExtremalBelow A w) (pairs_text A w)
+
+-- what a command asks of the entry at y of the row of w
+abbrev pub IsEntryText : EntryKind → IntegerMatrix → List ℕ → List ℕ → List ℕ → Type 0
+IsEntryText Pol A y w = IsPolText A y w
+IsEntryText Mu A y w = IsMuText A y w
+
 -- what a command asks of the element of w, in a group with this integer matrix
 abbrev pub one_question : OneWord → Limits → CoxeterMatrix → IntegerMatrix → List ℕ → Question
 one_question Compute limits g A w = text_question (element_text A.rank (normal_form A w))
@@ -59,9 +73,7 @@ one_question Inverse limits g A w = text_question (element_text A.rank (normal_f
 one_question Descent limits g A w = text_question (descent_text A.rank (descent_set Left A w) (descent_set Right A w))
 one_question Coatoms limits g A w = asks (RefusesLargeOr limits A w ⊥) (IsOfList (IsCoatom A w) (elements_text A.rank))
 one_question Betti limits g A w = asks (RefusesLargeOr limits A w ⊥) (IsOfList (IsInInterval A w) (counts_text A w))
-one_question Klbasis limits g A w = asks (RefusesRow limits A w) (IsOfRow A w (IsInInterval A w) (pairs_text A w))
-one_question Ihbetti limits g A w = asks (RefusesRow limits A w) (IsOfRow A w (IsInInterval A w) (ihbetti_text A w))
-one_question Extremals limits g A w = asks (RefusesRow limits A w) (IsOfRow A w (IsExtremalBelow A w) (pairs_text A w))
+one_question (OfRow kind) limits g A w = asks (RefusesRow limits A w) (IsRowText kind A w)
 one_question Cert limits g A w = asks (RefusesCert limits A w) (IsCertText g w)
 one_question Module limits g A w = asks (RefusesGroupRows limits A) (IsModuleText A w)
 
@@ -70,9 +82,8 @@ abbrev pub two_question : TwoWord → Limits → IntegerMatrix → List ℕ → 
 two_question Inorder limits A y w = asks (λ why. ⊥) (IsOrderText A y w)
 two_question Interval limits A y w = asks (RefusesLargeOr limits A w ⊥) (IsOfList (IsBetween A y w) (elements_text A.rank))
 two_question Rpol limits A y w = asks (RefusesFar A y w) (λ text. text ≡ r_text A y w)
-two_question Pol limits A y w = asks (RefusesRow limits A w) (IsPolText A y w)
+two_question (OfEntry kind) limits A y w = asks (RefusesRow limits A w) (IsEntryText kind A y w)
 two_question Invpol limits A y w = asks (RefusesInverse limits A y w) (IsInverseText A y w)
-two_question Mu limits A y w = asks (RefusesRow limits A w) (IsMuText A y w)
 
 -- what a command on elements asks of those of its words, in a group
 abbrev pub question_of : Inquiry → Limits → CoxeterMatrix → Question

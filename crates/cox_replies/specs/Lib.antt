@@ -8,8 +8,6 @@ pub mod Question
 pub mod Listed
 -- what commands on rows of Kazhdan-Lusztig polynomials ask
 pub mod RowReply
--- the commands that a row answers
-pub mod RowCommands
 -- what commands on the whole group ask: W-graphs and cells
 pub mod GroupReply
 -- what `module` asks: modules of left cells

@@ -37,5 +37,5 @@ pub use intervals::{interval_of, put_betti, put_coatoms, put_interval};
 pub use modules::put_module_of;
 pub use order::{is_in_order, put_in_order};
 pub use polynomials::put_rpol;
-pub use rows::{EntryKind, RowKind, put_entry_of, put_row_of};
+pub use rows::{put_entry_of, put_row_of};
 pub use unanswered::{Unanswered, unrefused};

@@ -11,48 +11,26 @@ ghost use Rattle.cox_poly.specs.Puts.{Puts};
 ghost use Rattle.cox_hecke.specs.Row.{IsKazhdanLusztig, IsMu};
 ghost use Rattle.cox_context.specs.Numbers.{word_at};
 ghost use Rattle.cox_rows.specs.Holding.{HasRow};
-ghost use Rattle.cox_replies.specs.Limits.{Limits};
-ghost use Rattle.cox_replies.specs.RowCommands.{row_command, entry_command};
-ghost use Rattle.cox_replies.specs.InquiryQuestion.{one_question, two_question};
+ghost use Rattle.cox_replies.specs.InquiryQuestion.{IsRowText, IsEntryText};
 ghost use Rattle.cox_replies.specs.Putting.{PutsSome};
 
 use crate::pairs::{put_all_pairs, put_extremal_pairs};
 use crate::sums::put_sums;
 use cox_base::Word;
+use cox_command::{EntryKind, RowKind};
 use cox_minroots::RootTable;
 use cox_poly::PolyView;
 use cox_poly::append::{put_number, put_text};
 use cox_print::NoMemory;
 use cox_rows::Rows;
 
-/// The commands with one word w that the row of w answers.
-#[derive(Clone, Copy)]
-pub enum RowKind {
-    /// The list of the x <= w, each with P(x,w).
-    Klbasis,
-    /// The coefficients of the sum of q^l(x) P(x,w) over the x <= w.
-    Ihbetti,
-    /// The list of the extremal x <= w, each with P(x,w).
-    Extremals,
-}
-
-/// The commands with two words y and w that the row of w answers, by its entry at y.
-#[derive(Clone, Copy)]
-pub enum EntryKind {
-    /// P(y,w).
-    Pol,
-    /// mu(y,w).
-    Mu,
-}
-
 /// Puts the answer to a command on w, for the member w with the number i.
 pub fn put_row_of(out: &mut Vec<u8>, rows: &Rows, i: u32, kind: RowKind) -> Result<(), NoMemory>
     requires group { IsCoxeterMatrix rows.now.elements.matrix }
     requires member { i < length rows.now.elements.members }
     requires there { HasRow rows.now i }
-    ensures { (limits : Limits) (w : List ℕ) → word_at rows.now.elements.members i ≡ normal_form (integer_matrix rows.now.elements.matrix) w
-        → PutsSome result (one_question (row_command kind) limits rows.now.elements.matrix
-        (integer_matrix rows.now.elements.matrix) w).IsText out.old.items out.new.items }
+    ensures { (w : List ℕ) → word_at rows.now.elements.members i ≡ normal_form (integer_matrix rows.now.elements.matrix) w
+        → PutsSome result (IsRowText kind (integer_matrix rows.now.elements.matrix) w) out.old.items out.new.items }
 {
     match kind {
         RowKind::Klbasis => put_all_pairs(out, rows, i),
@@ -75,9 +53,8 @@ pub fn put_entry_of(
     requires there { HasRow rows.now i }
     requires table { table.now ≡ rows.now.elements.matrix }
     requires word { IsWord table.now.rank y.now.items }
-    ensures { (limits : Limits) (w : List ℕ) → word_at rows.now.elements.members i ≡ normal_form (integer_matrix table.now) w
-        → PutsSome result (two_question (entry_command kind) limits (integer_matrix table.now) y.now.items w).IsText
-        out.old.items out.new.items }
+    ensures { (w : List ℕ) → word_at rows.now.elements.members i ≡ normal_form (integer_matrix table.now) w
+        → PutsSome result (IsEntryText kind (integer_matrix table.now) y.now.items w) out.old.items out.new.items }
 {
     match kind {
         EntryKind::Pol => match polynomial_at(rows, table, i, y) {

@@ -2,14 +2,8 @@
 use Rattle.cox_answers.proofs.Makes.{group-refuses}
 use Rattle.cox_answers.proofs.needs.need_of.Goals as goal
 
-pub returns-in-Klbasis-clause-refused : goal.returns-in-Klbasis-clause-refused
-returns-in-Klbasis-clause-refused c = λ limits g why refused. rw (c.in-One.is, c.in-Klbasis.is) refused
-
-pub returns-in-Ihbetti-clause-refused : goal.returns-in-Ihbetti-clause-refused
-returns-in-Ihbetti-clause-refused c = λ limits g why refused. rw (c.in-One.is, c.in-Ihbetti.is) refused
-
-pub returns-in-Extremals-clause-refused : goal.returns-in-Extremals-clause-refused
-returns-in-Extremals-clause-refused c = λ limits g why refused. rw (c.in-One.is, c.in-Extremals.is) refused
+pub returns-in-OfRow-clause-refused : goal.returns-in-OfRow-clause-refused
+returns-in-OfRow-clause-refused c = λ limits g why refused. rw (c.in-One.is, c.in-OfRow.is) refused
 
 pub returns-in-Cert-clause-refused : goal.returns-in-Cert-clause-refused
 returns-in-Cert-clause-refused c = λ limits g why refused. rw (c.in-One.is, c.in-Cert.is) refused
@@ -17,11 +11,8 @@ returns-in-Cert-clause-refused c = λ limits g why refused. rw (c.in-One.is, c.i
 pub returns-in-Module-clause-refused : goal.returns-in-Module-clause-refused
 returns-in-Module-clause-refused c = λ limits g why refused. rw (c.in-One.is, c.in-Module.is) refused
 
-pub returns-in-Pol-clause-refused : goal.returns-in-Pol-clause-refused
-returns-in-Pol-clause-refused c = λ limits g why refused. rw (c.in-Two.is, c.in-Pol.is) refused
-
-pub returns-in-Mu-clause-refused : goal.returns-in-Mu-clause-refused
-returns-in-Mu-clause-refused c = λ limits g why refused. rw (c.in-Two.is, c.in-Mu.is) refused
+pub returns-in-OfEntry-clause-refused : goal.returns-in-OfEntry-clause-refused
+returns-in-OfEntry-clause-refused c = λ limits g why refused. rw (c.in-Two.is, c.in-OfEntry.is) refused
 
 pub returns-in-Invpol-clause-refused : goal.returns-in-Invpol-clause-refused
 returns-in-Invpol-clause-refused c = λ limits g why refused. rw (c.in-Two.is, c.in-Invpol.is) refused

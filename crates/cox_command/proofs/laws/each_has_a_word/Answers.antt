@@ -1,43 +1,51 @@
--- The law `each_has_a_word`.
-use Rattle.std.proofs.Common.{◌≡◌, ℕ, List, Some, refl, codes}
+-- The law `each_has_a_word`. The last case of each table stands for all that it does not name.
+use Rattle.std.proofs.Common.{◌≡◌, Option, Some, refl}
+use Rattle.cox_command.specs.declared.command_word.CommandWord.{CommandWord}
+use Rattle.cox_command.specs.declared.command_word.CommandWord.TheVariants.{Named, One, Two, Plain}
 use Rattle.cox_command.specs.declared.inquiry.OneWord.{OneWord}
-use Rattle.cox_command.specs.declared.inquiry.OneWord.TheVariants.{Compute, Length, Inverse, Descent, Coatoms, Betti, Klbasis, Ihbetti}
-use Rattle.cox_command.specs.declared.inquiry.OneWord.TheVariants.{Extremals, Cert, Module}
+use Rattle.cox_command.specs.declared.inquiry.OneWord.TheVariants.{Compute, OfRow}
+use Rattle.cox_command.specs.declared.inquiry.RowKind.{RowKind}
+use Rattle.cox_command.specs.declared.inquiry.RowKind.TheVariants.{Klbasis}
 use Rattle.cox_command.specs.declared.inquiry.TwoWord.{TwoWord}
-use Rattle.cox_command.specs.declared.inquiry.TwoWord.TheVariants.{Inorder, Interval, Rpol, Pol, Invpol, Mu}
+use Rattle.cox_command.specs.declared.inquiry.TwoWord.TheVariants.{Inorder, OfEntry}
+use Rattle.cox_command.specs.declared.inquiry.EntryKind.{EntryKind}
+use Rattle.cox_command.specs.declared.inquiry.EntryKind.TheVariants.{Pol}
 use Rattle.cox_command.specs.declared.inquiry.NoWord.{NoWord}
-use Rattle.cox_command.specs.declared.inquiry.NoWord.TheVariants.{Lwgraph, Rwgraph, Lcells, Rcells, Lrcells}
-use Rattle.cox_command.specs.declared.command_word.CommandWord.TheVariants.{One, Two, Plain}
-use Rattle.cox_command.specs.CommandWord.{command_word_of}
+use Rattle.cox_command.specs.declared.inquiry.NoWord.TheVariants.{Lwgraph}
+use Rattle.cox_command.specs.CommandWord.{word_of, command_word_of}
 use Rattle.cox_command.proofs.laws.each_has_a_word.Goals as goal
 
-one-word : (kind : OneWord) → (token : List ℕ) × (command_word_of token ≡ Some (One kind))
-one-word Compute = (codes "compute", refl)
-one-word Length = (codes "length", refl)
-one-word Inverse = (codes "inverse", refl)
-one-word Descent = (codes "descent", refl)
-one-word Coatoms = (codes "coatoms", refl)
-one-word Betti = (codes "betti", refl)
-one-word Klbasis = (codes "klbasis", refl)
-one-word Ihbetti = (codes "ihbetti", refl)
-one-word Extremals = (codes "extremals", refl)
-one-word Cert = (codes "cert", refl)
-one-word Module = (codes "module", refl)
+abbrev HasWord : CommandWord → Type 0
+HasWord command = command_word_of (word_of command) ≡ Some command
 
-two-word : (kind : TwoWord) → (token : List ℕ) × (command_word_of token ≡ Some (Two kind))
-two-word Inorder = (codes "inorder", refl)
-two-word Interval = (codes "interval", refl)
-two-word Rpol = (codes "rpol", refl)
-two-word Pol = (codes "pol", refl)
-two-word Invpol = (codes "invpol", refl)
-two-word Mu = (codes "mu", refl)
+of_row : (kind : RowKind) → HasWord (One (OfRow kind))
+of_row Klbasis = refl
+of_row _ = refl
 
-no-word : (kind : NoWord) → (token : List ℕ) × (command_word_of token ≡ Some (Plain kind))
-no-word Lwgraph = (codes "lwgraph", refl)
-no-word Rwgraph = (codes "rwgraph", refl)
-no-word Lcells = (codes "lcells", refl)
-no-word Rcells = (codes "rcells", refl)
-no-word Lrcells = (codes "lrcells", refl)
+one : (kind : OneWord) → HasWord (One kind)
+one Compute = refl
+one (OfRow kind) = of_row kind
+one _ = refl
+
+of_entry : (kind : EntryKind) → HasWord (Two (OfEntry kind))
+of_entry Pol = refl
+of_entry _ = refl
+
+two : (kind : TwoWord) → HasWord (Two kind)
+two Inorder = refl
+two (OfEntry kind) = of_entry kind
+two _ = refl
+
+plain : (kind : NoWord) → HasWord (Plain kind)
+plain Lwgraph = refl
+plain _ = refl
+
+each : (command : CommandWord) → HasWord command
+each Named = refl
+each (One kind) = one kind
+each (Two kind) = two kind
+each (Plain kind) = plain kind
+each _ = refl
 
 pub returns : goal.returns
-returns c = record { one = one-word; two = two-word; none = no-word }
+returns c = each

@@ -2,6 +2,8 @@
 use Rattle.std.proofs.Common.{refl, codes}
 use Rattle.cox_command.specs.declared.inquiry.OneWord.TheVariants as one
 use Rattle.cox_command.specs.declared.inquiry.TwoWord.TheVariants as two
+use Rattle.cox_command.specs.declared.inquiry.RowKind.TheVariants as row
+use Rattle.cox_command.specs.declared.inquiry.EntryKind.TheVariants as entry
 use Rattle.cox_command.specs.declared.inquiry.NoWord.TheVariants as whole
 use Rattle.cox_shell.proofs.AnsweredLines.{one-answered, two-answered, group-answered}
 use Rattle.cox_shell.proofs.laws.commands.Goals as goal
@@ -25,13 +27,13 @@ pub returns-clause-betti : goal.returns-clause-betti
 returns-clause-betti c state g w v set reads = one-answered state g set (codes "betti") one.Betti w v refl reads
 
 pub returns-clause-klbasis : goal.returns-clause-klbasis
-returns-clause-klbasis c state g w v set reads = one-answered state g set (codes "klbasis") one.Klbasis w v refl reads
+returns-clause-klbasis c state g w v set reads = one-answered state g set (codes "klbasis") (one.OfRow row.Klbasis) w v refl reads
 
 pub returns-clause-ihbetti : goal.returns-clause-ihbetti
-returns-clause-ihbetti c state g w v set reads = one-answered state g set (codes "ihbetti") one.Ihbetti w v refl reads
+returns-clause-ihbetti c state g w v set reads = one-answered state g set (codes "ihbetti") (one.OfRow row.Ihbetti) w v refl reads
 
 pub returns-clause-extremals : goal.returns-clause-extremals
-returns-clause-extremals c state g w v set reads = one-answered state g set (codes "extremals") one.Extremals w v refl reads
+returns-clause-extremals c state g w v set reads = one-answered state g set (codes "extremals") (one.OfRow row.Extremals) w v refl reads
 
 pub returns-clause-cert : goal.returns-clause-cert
 returns-clause-cert c state g w v set reads = one-answered state g set (codes "cert") one.Cert w v refl reads
@@ -49,13 +51,13 @@ pub returns-clause-rpol : goal.returns-clause-rpol
 returns-clause-rpol c state g y w u v set first second = two-answered state g set (codes "rpol") two.Rpol y w u v refl first second
 
 pub returns-clause-pol : goal.returns-clause-pol
-returns-clause-pol c state g y w u v set first second = two-answered state g set (codes "pol") two.Pol y w u v refl first second
+returns-clause-pol c state g y w u v set first second = two-answered state g set (codes "pol") (two.OfEntry entry.Pol) y w u v refl first second
 
 pub returns-clause-invpol : goal.returns-clause-invpol
 returns-clause-invpol c state g y w u v set first second = two-answered state g set (codes "invpol") two.Invpol y w u v refl first second
 
 pub returns-clause-mu : goal.returns-clause-mu
-returns-clause-mu c state g y w u v set first second = two-answered state g set (codes "mu") two.Mu y w u v refl first second
+returns-clause-mu c state g y w u v set first second = two-answered state g set (codes "mu") (two.OfEntry entry.Mu) y w u v refl first second
 
 pub returns-clause-lwgraph : goal.returns-clause-lwgraph
 returns-clause-lwgraph c state g set = group-answered state g set (codes "lwgraph") whole.Lwgraph refl

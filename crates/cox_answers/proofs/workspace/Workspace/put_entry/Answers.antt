@@ -1,6 +1,5 @@
 -- The proof of `put_entry`.
 use Rattle.cox_base.specs.IntegerMatrix.{integer_matrix}
-use Rattle.cox_replies.specs.SessionLimits.{limits_of}
 use Rattle.cox_answers.specs.Kept.{HoldsRow}
 use Rattle.cox_replies.proofs.Unless.{PutsUnless-put}
 use Rattle.cox_answers.proofs.workspace.Workspace.put_entry.Goals as goal
@@ -12,4 +11,4 @@ returns c =
     let told = c.number_found-i.ensures in
     let holds : HoldsRow A w c.number_found-i.result c.rows.result.now = rw c.rows.ensures.rows at told.0 in
     let some = rw c.table.ensures at c.put_entry_of.ensures in
-    rw c.unrefused.ensures (PutsUnless-put _ _ _ _ _ told.1 (some (limits_of c.args.self.now.options) w holds.word))
+    rw c.unrefused.ensures (PutsUnless-put _ _ _ _ _ told.1 (some w holds.word))

@@ -1,6 +1,5 @@
 -- The proof of `put_row`.
 use Rattle.cox_base.specs.IntegerMatrix.{integer_matrix}
-use Rattle.cox_replies.specs.SessionLimits.{limits_of}
 use Rattle.cox_answers.specs.Kept.{HoldsRow}
 use Rattle.cox_replies.proofs.Unless.{PutsUnless-put}
 use Rattle.cox_answers.proofs.workspace.Workspace.put_row.Goals as goal
@@ -8,9 +7,8 @@ use Rattle.cox_answers.proofs.workspace.Workspace.put_row.Goals as goal
 pub returns : goal.returns
 returns c =
     let A = integer_matrix c.args.self.now.table in
-    let limits = limits_of c.args.self.now.options in
     let w = c.args.w.now.items in
     let told = c.number_found-i.ensures in
     let holds : HoldsRow A w c.number_found-i.result c.rows.result.now = rw c.rows.ensures.rows at told.0 in
-    let some = rw c.rows.ensures.of.group at (c.put_row_of.ensures limits w (rw c.rows.ensures.of.group holds.word)) in
+    let some = rw c.rows.ensures.of.group at (c.put_row_of.ensures w (rw c.rows.ensures.of.group holds.word)) in
     rw c.unrefused.ensures (PutsUnless-put _ _ _ _ _ told.1 some)
