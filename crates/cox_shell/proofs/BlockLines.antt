@@ -63,8 +63,8 @@ asking-all command state P refused silent answer reply which is = ⊎_elim
 
 -- .. and so of that to a line which may stand in a block
 pub block_reply-all : (state : State) (content : List ℕ) (P : Reply → Type 0) → ((why : Refusal) → P (refusal state why))
-    → P (silence state) → ((text : List ℕ) → P (record (silence state) { text = text ++ 10 ∷ [] })) → (reply : Reply) → block_refusal (tokens_of content) ≡ None
-    → IsContentReply state content reply → P reply
+    → P (silence state) → ((text : List ℕ) → P (record (silence state) { text = text ++ 10 ∷ [] })) → (reply : Reply)
+    → block_refusal (tokens_of content) ≡ None → IsContentReply state content reply → P reply
 unfolding IsContentReply
 block_reply-all state content P refused silent answer reply free is = by_refusal (line_refusal (tokens_of content) (rank_of state)) is
   where

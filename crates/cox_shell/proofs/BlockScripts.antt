@@ -9,8 +9,8 @@ use Rattle.cox_shell.specs.LineReply.{IsReply}
 use Rattle.cox_shell.specs.BlockScripts.{CanStand, kept_of}
 use Rattle.cox_shell.specs.Answer.{AreReplies}
 use Rattle.cox_shell.proofs.BlockLines.{block_reply-state, block_reply-going}
-use Rattle.cox_shell.proofs.Ends.{outside_reply}
-use Rattle.cox_shell.proofs.Replies.{AreReplies-cons}
+use Rattle.cox_shell.proofs.OpenListReplies.{outside_reply}
+use Rattle.cox_shell.proofs.LineReplies.{AreReplies-cons}
 
 pub block-script : (state : State) → state.list ≡ None → (lines : List (List ℕ)) → All CanStand lines → (replies : List Reply)
     → AreKeptReplies state (map kept_of lines) replies → AreReplies state lines replies

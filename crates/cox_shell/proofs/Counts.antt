@@ -4,7 +4,7 @@ use Rattle.std.proofs.lemmas.List.{drop_all}
 use Rattle.std.proofs.lemmas.Bool.Decides.{nat_tests}
 use Rattle.cox_shell.specs.Reply.{Kept, OpenList}
 use Rattle.cox_shell.specs.OpenLists.{kept_lines, is_long}
-use Rattle.cox_shell.proofs.ToldBlocks.{next_of}
+use Rattle.cox_shell.proofs.AnsweredBlocks.{next_of}
 
 -- those of the next block, and of those that follow
 pub next_lines : (blocks : OpenList) (i : ℕ) (block : List Kept) → i < length blocks → block ≡ get_or blocks i block

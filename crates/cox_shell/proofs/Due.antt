@@ -15,7 +15,7 @@ use Rattle.cox_shell.specs.Answer.{script_lines}
 use Rattle.cox_shell.specs.ScriptAnswer.{IsAnswer}
 use Rattle.cox_shell.specs.Top.{AreDue}
 use Rattle.cox_outside.proofs.Lines.{onto_first, into_first, lines_of-byte, ended_lines-byte}
-use Rattle.cox_shell.proofs.Replies.{IsPrefix-answer}
+use Rattle.cox_shell.proofs.LineReplies.{IsPrefix-answer}
 
 IsPrefix-trans : {X : Type 0} (first mid whole : List X) → IsPrefix first mid → IsPrefix mid whole → IsPrefix first whole
 IsPrefix-trans first mid whole p q = (p.0 ++ q.0, q.1 ∙ ap (λ l. l ++ q.0) p.1 ∙ append_assoc first p.0 q.0)

@@ -21,7 +21,7 @@ use Rattle.cox_shell.specs.ListReply.{IsWordReply, IsReplyInList, kept_reply}
 use Rattle.cox_shell.specs.LineReply.{IsReply, content_refusal}
 use Rattle.cox_shell.specs.Answer.{IsClosing}
 use Rattle.cox_shell.specs.Run.{Stand, IsServed}
-use Rattle.cox_shell.proofs.Lists.{kept_refusal}
+use Rattle.cox_shell.proofs.KeptLines.{kept_refusal}
 use Rattle.cox_shell.proofs.KeptLists.{kept-line, kept-block, kept-trans, same-kept}
 
 -- ---- states

@@ -3,38 +3,39 @@ pub mod DecidedReplies
 -- the reply to the content of a line is one, where no list is open
 pub mod ContentReply
 -- replies to lines are one
-pub mod Replies
--- what is heard of a line
-pub mod Hearing
+pub mod LineReplies
+-- what serving a line does
+pub mod ServedLines
 -- no line lies ahead at the end
 pub mod NoLines
 -- lines that were taken, and the bytes that they are
 pub mod TakenLines
 -- how far a run has come
 pub mod Progress
--- how it ends
-pub mod Endings
+-- how a run ends
+pub mod EndOfRun
 -- facts of values that are known or not
 pub mod KnownValues
--- what a run over the lines says of the whole
-pub mod Whole
-pub mod WholeRuns
+-- what a whole run has written, by the run over the lines
+pub mod WrittenByRun
+-- the contract of a whole run
+pub mod RunContract
 -- runs that met the limit
 pub mod LimitedRuns
--- rows that workers made
-pub mod SharedRows
+-- rows that come back from a store
+pub mod RowsFromStore
 -- two runs over one script
 pub mod SameAnswers
 -- what is due is a prefix of the answer
 pub mod Due
--- what is said when a text was put
-pub mod Sayings
+-- what is said of a reply
+pub mod SaidReplies
 -- the matrix that a command sets is a Coxeter matrix
 pub mod SetMatrices
 -- the reply to a command that sets a group
 pub mod GroupReplies
 -- each content has a reply, where no list is open
-pub mod SomeReply
+pub mod ContentReplyExists
 -- the group that is set stays a Coxeter matrix
 pub mod KeptGroup
 -- what a line of a block gives
@@ -47,20 +48,20 @@ pub mod BlockScripts
 pub mod ListReplies
 -- no list is open behind a line that ends the run
 pub mod Quitting
--- what is told of several lines and blocks
-pub mod ToldBlocks
--- a line at the end of the last block
-pub mod Lists
+-- what several lines and blocks are answered
+pub mod AnsweredBlocks
+-- lines that are kept
+pub mod KeptLines
 -- how many lines blocks have
 pub mod Counts
--- the replies where a list is open
-pub mod Ends
+-- the replies where a list is open, and where none is
+pub mod OpenListReplies
 -- what is kept of a list
 pub mod KeptLists
 -- what a session answers that keeps less of a list that is too long
 pub mod KeptStates
--- what is done at the end of reading
-pub mod Closings
+-- what ending an open list does at the end of reading
+pub mod ClosedLists
 -- each script has an answer
 pub mod SomeAnswer
 -- what a line is answered that gives a command on elements

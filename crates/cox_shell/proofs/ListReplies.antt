@@ -13,9 +13,9 @@ use Rattle.cox_shell.specs.ContentReply.{IsContentReply}
 use Rattle.cox_shell.specs.OpenLists.{kept_lines, is_long, then_block}
 use Rattle.cox_shell.specs.Blocks.{IsKeptReply, AreKeptReplies, IsListReply, list_answered}
 use Rattle.cox_shell.specs.ListReply.{IsWordReply, IsReplyInList, IsReplyTo, kept_reply, unread_reply}
-use Rattle.cox_shell.proofs.Lists.{kept_refusal}
+use Rattle.cox_shell.proofs.KeptLines.{kept_refusal}
 use Rattle.cox_shell.proofs.ContentReply.{IsContentReply-unique}
-use Rattle.cox_shell.proofs.SomeReply.{IsContentReply-exists}
+use Rattle.cox_shell.proofs.ContentReplyExists.{IsContentReply-exists}
 use Rattle.cox_shell.proofs.KeptGroup.{HasMatrix, IsContentReply-matrix}
 
 -- what is one where there is no refusal is one; and it exists where it does

@@ -14,7 +14,7 @@ use Rattle.cox_shell.specs.Answer.{AreReplies, state_behind, has_refusal, has_qu
 use Rattle.cox_shell.specs.Keeping.{Keeps}
 use Rattle.cox_shell.specs.Run.{Stand, IsServed}
 use Rattle.cox_shell.proofs.KeptStates.{Keeps-same, served-steps}
-use Rattle.cox_shell.proofs.Replies.{AreReplies-cons, AreReplies-rejoin}
+use Rattle.cox_shell.proofs.LineReplies.{AreReplies-cons, AreReplies-rejoin}
 use Rattle.cox_shell.proofs.TakenLines.{TakenLines, TakenLines-none, TakenLines-one, TakenLines-append}
 
 -- These lines were taken and their replies written; whatever replies the lines that follow have, these are replies to all.

@@ -12,7 +12,7 @@ use Rattle.cox_shell.specs.CommandReply.{RefusesGroup, IsCommandReply}
 use Rattle.cox_shell.specs.ContentReply.{IsContentReply}
 use Rattle.cox_shell.specs.ListReply.{IsReplyInList}
 use Rattle.cox_shell.specs.LineReply.{IsReply, content_refusal}
-use Rattle.cox_shell.proofs.Lists.{kept_refusal}
+use Rattle.cox_shell.proofs.KeptLines.{kept_refusal}
 use Rattle.cox_shell.proofs.DecidedReplies.{IsDecided-all}
 use Rattle.cox_shell.proofs.KeptGroup.{IsInquiryReply-state}
 use Rattle.cox_shell.proofs.ListReplies.{in_list-group}

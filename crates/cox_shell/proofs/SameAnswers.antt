@@ -9,7 +9,7 @@ use Rattle.cox_shell.specs.Answer.{AreScriptReplies, has_refusal, script_lines}
 use Rattle.cox_shell.specs.Top.{given_limits, AnswersWhole}
 use Rattle.cox_shell.specs.WholeRun.{IsRun}
 use Rattle.cox_shell.specs.SameRuns.{IsWhole, DifferInWorkers, AnswersAlike}
-use Rattle.cox_shell.proofs.Replies.{AreAllReplies-unique}
+use Rattle.cox_shell.proofs.LineReplies.{AreAllReplies-unique}
 
 -- the status of a run that answered its script whole, by whether a reply is a refusal
 abbrev whole_status : Bool → Status

@@ -11,7 +11,7 @@ use Rattle.cox_shell.specs.LineReply.{IsReply, content_refusal}
 use Rattle.cox_shell.specs.Answer.{AreReplies, IsClosing, state_behind, script_lines}
 use Rattle.cox_shell.specs.ScriptAnswer.{IsAnswer}
 use Rattle.cox_shell.proofs.ListReplies.{IsReplyTo-exists, IsListReply-exists}
-use Rattle.cox_shell.proofs.Replies.{IsReply-matrix, AreReplies-matrix}
+use Rattle.cox_shell.proofs.LineReplies.{IsReply-matrix, AreReplies-matrix}
 use Rattle.cox_shell.proofs.KeptGroup.{HasMatrix}
 
 -- each line has a reply, by which the group stays a Coxeter matrix

@@ -28,8 +28,8 @@ pub mod Answer
 pub mod ScriptAnswer
 -- the state where a line is kept
 pub mod Keeping
--- what is told of the lines of blocks
-pub mod ToldText
+-- what the lines of blocks are answered
+pub mod AnsweredText
 -- what the calls that answer say of a reply
 pub mod Saying
 -- how a run ends

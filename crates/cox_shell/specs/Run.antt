@@ -28,9 +28,9 @@ abbrev pub stand : State → Reader → Supply → Outlet → Stand
 stand state reader supply outlet = record { state = state; stop = reader.stop; ahead = ahead reader.feed supply.left; out = outlet }
 
 -- what was said to a line, or that there was no memory for its reply
-abbrev pub heard_of : Result Said AllocError → Result Said Stopped
-heard_of (Ok said) = Ok said
-heard_of (Err error) = Err NoMemory
+abbrev pub outcome_of : Result Said AllocError → Result Said Stopped
+outcome_of (Ok said) = Ok said
+outcome_of (Err error) = Err NoMemory
 
 -- whether a read failed, and whether a write did
 abbrev pub stopped_read_fault : Result Said Stopped → Bool
@@ -47,15 +47,15 @@ pub record TakesReplied (reply : Reply) (state : State) (halt : Option Stop) (ol
   pub takes : TakesNext halt line old new
   pub is_reply : IsReply state line reply
 
--- what hearing the next line did: its reply stands in the buffer, or memory ran out for it, or no line was there
-abbrev pub Hears : Result Said Stopped → State → State → Option Stop → Ahead → Ahead → List ℕ → Type 0
-Hears (Ok said) before after halt old new buffer = (reply : Reply) × TakesReplied reply before halt old new
+-- what answering the next line did: its reply stands in the buffer, or memory ran out for it, or no line was there
+abbrev pub AnswersNext : Result Said Stopped → State → State → Option Stop → Ahead → Ahead → List ℕ → Type 0
+AnswersNext (Ok said) before after halt old new buffer = (reply : Reply) × TakesReplied reply before halt old new
     × SaysKept said reply after [] buffer
-Hears (Err NoMemory) before after halt old new buffer = (reply : Reply) × TakesReplied reply before halt old new
-Hears (Err End) before after halt old new buffer = ReadsNext next.End halt old new × (buffer ≡ []) × (after ≡ before)
-Hears (Err ReadFault) before after halt old new buffer = ReadsNext next.Failed halt old new × (buffer ≡ []) × (after ≡ before)
-Hears (Err InputLimit) before after halt old new buffer = ReadsNext next.Limit halt old new × (buffer ≡ []) × (after ≡ before)
-Hears (Err WriteFault) before after halt old new buffer = ⊥
+AnswersNext (Err NoMemory) before after halt old new buffer = (reply : Reply) × TakesReplied reply before halt old new
+AnswersNext (Err End) before after halt old new buffer = ReadsNext next.End halt old new × (buffer ≡ []) × (after ≡ before)
+AnswersNext (Err ReadFault) before after halt old new buffer = ReadsNext next.Failed halt old new × (buffer ≡ []) × (after ≡ before)
+AnswersNext (Err InputLimit) before after halt old new buffer = ReadsNext next.Limit halt old new × (buffer ≡ []) × (after ≡ before)
+AnswersNext (Err WriteFault) before after halt old new buffer = ⊥
 
 -- a line was taken and its reply written, which is a refusal or not, and ends the run or not
 pub record IsServed (refused quits : Bool) (old new : Stand) : Type 0 where

@@ -11,26 +11,26 @@ use Rattle.cox_shell.specs.declared.session.Said.TheVariants.{Answered, Refused,
 use Rattle.cox_shell.specs.Reply.{State, Reply, refusal}
 use Rattle.cox_shell.specs.Keeping.{Keeps}
 
--- what is told of a reply: that it is an answer, the number of its refusal, or that it ends the run
+-- what is said of a reply: that it is an answer, the number of its refusal, or that it ends the run
 abbrev pub IsSaid : Said → Reply → Type 0
 IsSaid Answered reply = (reply.refused ≡ None) × (reply.quits ≡ false)
 IsSaid (Refused number) reply = IsSomeAnd reply.refused (λ why. number ≡ refusal_number why) × (reply.quits ≡ false)
 IsSaid Quit reply = (reply.refused ≡ None) × (reply.quits ≡ true)
 
--- a reply was told: its text was appended
-pub record Tells (said : Said) (reply : Reply) (before after : List ℕ) : Type 0 where
-  pub tells : IsSaid said reply
+-- a reply was given: its text was appended
+pub record SaysText (said : Said) (reply : Reply) (before after : List ℕ) : Type 0 where
+  pub is_said : IsSaid said reply
   pub text : after ≡ before ++ reply.text
 
 -- a reply was given: its text was appended, and the state is the one after it
 pub record Says (said : Said) (reply : Reply) (state : State) (before after : List ℕ) : Type 0 where
-  pub tells : IsSaid said reply
+  pub is_said : IsSaid said reply
   pub text : after ≡ before ++ reply.text
   pub state_after : state ≡ reply.after
 
 -- a reply was given: its text was appended, and the session keeps the state after it
 pub record SaysKept (said : Said) (reply : Reply) (kept : State) (before after : List ℕ) : Type 0 where
-  pub tells : IsSaid said reply
+  pub is_said : IsSaid said reply
   pub text : after ≡ before ++ reply.text
   pub keeps : Keeps kept reply.after
 

@@ -12,12 +12,12 @@ use std::alloc::{AllocError, Global};
 /// The row maker of a thread that answers blocks. It makes no rows, and lends the workspace of the session whose list is answered. What
 /// that does not give, the thread's own session makes.
 #[derive(Clone, Copy, Drop)]
-pub struct Beside<'a> {
+pub struct SharedRows<'a> {
     /// The workspace of that session, if a group is set.
-    pub shared: Option<&'a Workspace>,
+    pub workspace: Option<&'a Workspace>,
 }
 
-impl RowMaker for Beside<'_> {
+impl RowMaker for SharedRows<'_> {
     ghost ready = { λ _. Unit {0} };
 
     fn make(&self, alloc: Global, rows: Rows, wanted: &[u32]) -> Rows {
@@ -27,7 +27,7 @@ impl RowMaker for Beside<'_> {
     }
 
     fn shared(&self) -> Option<&Workspace> {
-        self.shared
+        self.workspace
     }
 }
 

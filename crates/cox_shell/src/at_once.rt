@@ -1,16 +1,16 @@
 //! Blocks that are answered at once, each by one thread.
 //!
-//! Each thread answers its blocks in a session of its own. What was told of the blocks is put together in their order, so it does not depend
+//! Each thread answers its blocks in a session of its own. The answers are put together in the order of the blocks, so they do not depend
 //! on the threads.
 ghost use Rattle.std.specs.Prelude.{◌≡◌, ◌<◌, ◌≤◌, ◌+◌, ◌^◌, false, length, IfSome};
 ghost use Rattle.std.specs.Thread.{IsSync};
 ghost use Rattle.cox_shell.specs.OpenLists.{is_long};
-ghost use Rattle.cox_shell.specs.ToldText.{IsToldOf, IsToldUnless};
+ghost use Rattle.cox_shell.specs.AnsweredText.{AnswersList, AnswersListIfOk};
 
-use crate::ahead::Beside;
+use crate::ahead::SharedRows;
+use crate::answered::AnsweredText;
 use crate::list::Block;
 use crate::session::Session;
-use crate::told::ToldText;
 use cox_outside::{Gate, Point};
 use std::alloc::{AllocError, Global};
 use std::sync::Wait;
@@ -19,23 +19,24 @@ use std::thread::{Threads, join};
 /// The answer to the blocks of a list that is not too long, by at most so many threads. `None` if memory ran out in one of them.
 ///
 /// The thread of each block passes the gate under the number of the block, from 1, before it begins the block.
-pub fn tell_list<R: Threads + Wait + Sync, G: Gate + Sync>(
+pub fn answer_list<R: Threads + Wait + Sync, G: Gate + Sync>(
     rt: &R,
     gate: &G,
     workers: u32,
     session: &Session,
     alloc: Global,
     blocks: &[Block],
-) -> Option<ToldText>
+) -> Option<AnsweredText>
     requires workers { 1 ≤ workers }
     requires short { is_long blocks.now ≡ false }
-    ensures { IfSome result (λ told. IsToldOf session.now blocks.now told) }
+    ensures { IfSome result (λ answered. AnswersList session.now blocks.now answered) }
 {
-    tell_at_once(rt, gate, session, alloc, blocks, 1, workers).ok()
+    answer_parts(rt, gate, session, alloc, blocks, 1, workers).ok()
 }
 
-/// The same for some of the blocks. The first of them has the number `first`.
-fn tell_at_once<R: Threads + Wait + Sync, G: Gate + Sync>(
+/// The same for some of the blocks, which are parted, as the workers are, until each part is left to one. The first block has the number
+/// `first`.
+fn answer_parts<R: Threads + Wait + Sync, G: Gate + Sync>(
     rt: &R,
     gate: &G,
     session: &Session,
@@ -43,13 +44,13 @@ fn tell_at_once<R: Threads + Wait + Sync, G: Gate + Sync>(
     blocks: &[Block],
     first: u32,
     workers: u32,
-) -> Result<ToldText, AllocError>
+) -> Result<AnsweredText, AllocError>
     requires workers { 1 ≤ workers }
     requires numbers { first + length blocks.now < 2 ^ 32 }
-    ensures { IsToldUnless result session.now blocks.now }
+    ensures { AnswersListIfOk result session.now blocks.now }
 {
     if workers == 1 || blocks.len() < 2 {
-        return tell_by_turns(rt, gate, session, alloc, blocks, first);
+        return answer_by_turns(rt, gate, session, alloc, blocks, first);
     }
     let low = workers / 2;
     let high = workers - low;
@@ -57,18 +58,18 @@ fn tell_at_once<R: Threads + Wait + Sync, G: Gate + Sync>(
     let next = first + mine.len() as u32;
     let (front, back) = join(
         rt,
-        move || -> Result<ToldText, AllocError>
+        move || -> Result<AnsweredText, AllocError>
             requires { IsSync R.row × IsSync G.row × (1 ≤ low) × (first + length mine.now < 2 ^ 32) }
-            ensures { IsToldUnless result session.entry.now mine.entry.now }
-        { tell_at_once(rt, gate, session, alloc, mine, first, low) },
-        move || -> Result<ToldText, AllocError>
+            ensures { AnswersListIfOk result session.entry.now mine.entry.now }
+        { answer_parts(rt, gate, session, alloc, mine, first, low) },
+        move || -> Result<AnsweredText, AllocError>
             requires { IsSync R.row × IsSync G.row × (1 ≤ high) × (next + length others.now < 2 ^ 32) }
-            ensures { IsToldUnless result session.entry.now others.entry.now }
-        { tell_at_once(rt, gate, session, alloc, others, next, high) },
+            ensures { AnswersListIfOk result session.entry.now others.entry.now }
+        { answer_parts(rt, gate, session, alloc, others, next, high) },
     );
-    let mut told = front?;
-    told.append(back?)?;
-    Ok(told)
+    let mut answered = front?;
+    answered.append(back?)?;
+    Ok(answered)
 }
 
 /// Of `count` blocks, how many the first `some` of `all` workers answer: the same part of the blocks as they are of the workers, rounded up.
@@ -83,25 +84,25 @@ fn share_of(count: usize, some: u32, all: u32) -> usize
 }
 
 /// The answer to blocks by this thread alone, one after another. It has a session of its own, which reads the rows of this one.
-fn tell_by_turns<R: Wait, G: Gate>(
+fn answer_by_turns<R: Wait, G: Gate>(
     rt: &R,
     gate: &G,
     session: &Session,
     alloc: Global,
     blocks: &[Block],
     first: u32,
-) -> Result<ToldText, AllocError>
+) -> Result<AnsweredText, AllocError>
     requires { first + length blocks.now < 2 ^ 32 }
-    ensures { IsToldUnless result session.now blocks.now }
+    ensures { AnswersListIfOk result session.now blocks.now }
 {
     let mut own = session.fresh(alloc)?;
-    let maker = Beside {
-        shared: session.workspace(),
+    let maker = SharedRows {
+        workspace: session.workspace(),
     };
-    let mut told = ToldText::new(alloc);
+    let mut answered = AnsweredText::new(alloc);
     'turns: for place in 0..blocks.len() {
         gate.pass(rt, first + place as u32, Point::Block, 0);
-        own.tell_block(&maker, &blocks[place], &mut told)?;
+        own.answer_block(&maker, &blocks[place], &mut answered)?;
     }
-    Ok(told)
+    Ok(answered)
 }

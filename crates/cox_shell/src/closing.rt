@@ -3,7 +3,7 @@ ghost use Rattle.std.specs.Prelude.{◌≡◌};
 ghost use Rattle.cox_outside.specs.Outlet.{SinkCause};
 ghost use Rattle.cox_shell.specs.Closing.{Closes, EndsBy, closed_by, closed_status, closed_write_fault};
 
-use crate::block_teller::BlockTeller;
+use crate::block_answerer::BlockAnswerer;
 use crate::session::{Said, Session};
 use crate::status::Status;
 use cox_outside::{Sink, write_all};
@@ -48,7 +48,7 @@ impl Closed {
 
 /// Ends the open list, if there is one, after a run over the lines that ended by this status. Gives the status of the whole run. After a
 /// failed write, or without memory, nothing more is done. What the buffer held is lost.
-pub fn end_with<M: BlockTeller, K: Sink>(
+pub fn end_with<M: BlockAnswerer, K: Sink>(
     ended: Status,
     maker: &M,
     session: &mut Session,
@@ -67,7 +67,7 @@ pub fn end_with<M: BlockTeller, K: Sink>(
 }
 
 /// Ends the list that is open, if one is: its answer is written before this returns. What the buffer held is lost.
-fn close_list<M: BlockTeller, K: Sink>(
+fn close_list<M: BlockAnswerer, K: Sink>(
     maker: &M,
     session: &mut Session,
     buffer: &mut Vec<u8>,

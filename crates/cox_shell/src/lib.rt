@@ -11,11 +11,11 @@
 //!
 //! - `status`: how a run ends
 //! - `workers`: rows that are made by several threads
-//! - `block_teller`, `at_once`: what answers the blocks of a list at once, and how threads do that
+//! - `block_answerer`, `at_once`: what answers the blocks of a list at once, and how threads do that
 //! - `ahead`: rows that are made before the lines of blocks ask for them, and that all threads read
 //! - `list`, `limits`: lists of blocks, and how long they may be
 //! - `block_line`: what a line of a block gives, read once
-//! - `told`: what is told of the lines of blocks
+//! - `answered`: what the lines of blocks are answered
 //! - `session`: the session, which answers the contents of lines
 //! - `serving`: one line, from the source to the sink
 //! - `running`: all lines, and the status that they lead to
@@ -26,9 +26,10 @@
 #![tactic(auto)]
 
 mod ahead;
+mod answered;
 mod at_once;
+mod block_answerer;
 mod block_line;
-mod block_teller;
 mod closing;
 pub mod laws;
 mod limits;
@@ -37,7 +38,6 @@ mod running;
 mod serving;
 mod session;
 mod status;
-mod told;
 mod top;
 mod workers;
 

@@ -8,7 +8,7 @@ ghost use Rattle.cox_shell.specs.Run.{stand};
 ghost use Rattle.cox_shell.specs.Status.{is_read_fault, is_write_fault};
 ghost use Rattle.cox_shell.specs.Outcome.{Runs};
 
-use crate::block_teller::BlockTeller;
+use crate::block_answerer::BlockAnswerer;
 use crate::serving::serve_line;
 use crate::session::{Said, Session};
 use crate::status::{Status, Stopped};
@@ -16,7 +16,7 @@ use cox_outside::{LineReader, Sink, Source};
 
 /// Serves line after line, until one ends the run, none is left, or something fails. What the buffer
 /// held is lost.
-pub fn run_lines<M: BlockTeller, S: Source, K: Sink>(
+pub fn run_lines<M: BlockAnswerer, S: Source, K: Sink>(
     maker: &M,
     reader: &mut LineReader,
     session: &mut Session,

@@ -4,9 +4,9 @@ ghost use Rattle.std.specs.Prelude.{◌≡◌, [], None};
 ghost use Rattle.cox_outside.specs.Ahead.{ahead};
 ghost use Rattle.cox_outside.specs.Supply.{SourceCause};
 ghost use Rattle.cox_outside.specs.Outlet.{SinkCause};
-ghost use Rattle.cox_shell.specs.Run.{stand, Hears, Serves, heard_of, stopped_read_fault, stopped_write_fault};
+ghost use Rattle.cox_shell.specs.Run.{stand, AnswersNext, Serves, outcome_of, stopped_read_fault, stopped_write_fault};
 
-use crate::block_teller::BlockTeller;
+use crate::block_answerer::BlockAnswerer;
 use crate::session::{Given, Said, Session};
 use crate::status::Stopped;
 use cox_command::Refusal;
@@ -15,7 +15,7 @@ use std::alloc::AllocError;
 
 /// Serves the next line: its reply is written before this returns. What the buffer held
 /// is lost.
-pub fn serve_line<M: BlockTeller, S: Source, K: Sink>(
+pub fn serve_line<M: BlockAnswerer, S: Source, K: Sink>(
     maker: &M,
     reader: &mut LineReader,
     session: &mut Session,
@@ -32,7 +32,7 @@ pub fn serve_line<M: BlockTeller, S: Source, K: Sink>(
     ensures sink_cause { SinkCause (K.seen sink.old) (K.seen sink.new) (stopped_write_fault result) }
 {
     buffer.clear();
-    let said = hear_line(maker, reader, session, buffer, source)?;
+    let said = answer_next(maker, reader, session, buffer, source)?;
     match write_all(sink, buffer) {
         Ok(()) => Ok(said),
         Err(_) => Err(Stopped::WriteFault),
@@ -40,7 +40,7 @@ pub fn serve_line<M: BlockTeller, S: Source, K: Sink>(
 }
 
 /// Reads the next line, and puts its reply into the empty buffer.
-fn hear_line<M: BlockTeller, S: Source>(
+fn answer_next<M: BlockAnswerer, S: Source>(
     maker: &M,
     reader: &mut LineReader,
     session: &mut Session,
@@ -50,18 +50,18 @@ fn hear_line<M: BlockTeller, S: Source>(
     requires going { reader.old.stop ≡ None }
     requires empty { buffer.old.items ≡ [] }
     requires ready { M.ready maker.now }
-    ensures hears { Hears result session.old session.new reader.new.stop
+    ensures answers { AnswersNext result session.old session.new reader.new.stop
         (ahead reader.old.feed (S.seen source.old).left) (ahead reader.new.feed (S.seen source.new).left) buffer.new.items }
     ensures cause { SourceCause (S.seen source.old) (S.seen source.new) (stopped_read_fault result) }
 {
     match reader.next(source) {
-        Next::Line(line) => heard(session.answer_given(maker, Given::Content(line), buffer)),
-        Next::Long(_) => heard(session.answer_given(
+        Next::Line(line) => line_outcome(session.answer_given(maker, Given::Content(line), buffer)),
+        Next::Long(_) => line_outcome(session.answer_given(
             maker,
             Given::Unread(Refusal::LongLine),
             buffer,
         )),
-        Next::Byte(_) => heard(session.answer_given(
+        Next::Byte(_) => line_outcome(session.answer_given(
             maker,
             Given::Unread(Refusal::ForeignByte),
             buffer,
@@ -73,8 +73,8 @@ fn hear_line<M: BlockTeller, S: Source>(
 }
 
 /// What was said to a line, or that there was no memory for its reply.
-fn heard(said: Result<Said, AllocError>) -> Result<Said, Stopped>
-    ensures { result ≡ heard_of said }
+fn line_outcome(said: Result<Said, AllocError>) -> Result<Said, Stopped>
+    ensures { result ≡ outcome_of said }
 {
     match said {
         Ok(said) => Ok(said),

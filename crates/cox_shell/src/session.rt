@@ -8,10 +8,10 @@ mod blocks;
 mod commands;
 mod lists;
 
-use crate::at_once::tell_list;
-use crate::block_teller::BlockTeller;
+use crate::answered::AnsweredText;
+use crate::at_once::answer_list;
+use crate::block_answerer::BlockAnswerer;
 use crate::list::{Block, JobList};
-use crate::told::ToldText;
 use crate::workers::{ByWorkers, make_rows};
 use cox_answers::{OneThread, Workspace};
 use cox_base::MAX_RANK;
@@ -38,7 +38,7 @@ pub enum Said {
 
 impl Said {
     ghost use Rattle.std.specs.Prelude.{◌≡◌};
-    ghost use Rattle.cox_shell.specs.ToldText.{number_said};
+    ghost use Rattle.cox_shell.specs.AnsweredText.{number_said};
 
     /// The number of the refusal, if the line was refused.
     pub(crate) fn number(self) -> Option<u8>
@@ -104,10 +104,10 @@ impl Session {
     ghost use Rattle.cox_shell.specs.OpenLists.{is_long};
     ghost use Rattle.cox_shell.specs.ListReply.{IsReplyTo};
     ghost use Rattle.cox_shell.specs.Blocks.{IsListReply};
-    ghost use Rattle.cox_shell.specs.ToldText.{IsToldOf};
+    ghost use Rattle.cox_shell.specs.AnsweredText.{AnswersList};
     ghost use Rattle.cox_shell.specs.GivenReply.{IsShort, IsGivenReply, IsBadReply};
     ghost use Rattle.cox_shell.specs.Keeping.{IsBounded};
-    ghost use Rattle.cox_shell.specs.Saying.{SaysKept, SaysPrefix, Tells};
+    ghost use Rattle.cox_shell.specs.Saying.{SaysKept, SaysPrefix, SaysText};
     ghost use Rattle.cox_poly.specs.Puts.{PutsPrefix};
 
     /// A session with these options, and no group.
@@ -158,10 +158,10 @@ impl Session {
                 requires { IsSync R.row × IsSync G.row × (1 ≤ workers) × AreWithin (length rows.elements.members) wanted.now }
                 ensures { IsMore rows result }
             { make_rows(rt, gate, workers, rows, alloc, wanted) },
-            tell: |session: &Session, alloc: Global, blocks: &[Block]| -> Option<ToldText>
+            answer: |session: &Session, alloc: Global, blocks: &[Block]| -> Option<AnsweredText>
                 requires { IsSync R.row × IsSync G.row × (1 ≤ workers) × (is_long blocks.now ≡ false) }
-                ensures { IfSome result (λ told. IsToldOf session.now blocks.now told) }
-            { tell_list(rt, gate, workers, session, alloc, blocks) },
+                ensures { IfSome result (λ answered. AnswersList session.now blocks.now answered) }
+            { answer_list(rt, gate, workers, session, alloc, blocks) },
         };
         self.answer_line(&maker, line, out)
     }
@@ -197,10 +197,10 @@ impl Session {
     /// Answers the blocks of a list, behind what `out` has, as the end of that list is answered in this session: each by itself, in their
     /// order, or `error 35` where there are more than 16 or have more than 1,000 lines. On `NoMemory` a prefix of the answer is appended.
     ///
-    /// What is told is the number of the first refusal in the text, if there is one.
+    /// What is said is the number of the first refusal in the text, if there is one.
     pub fn answer_jobs_one(&self, blocks: &[Block], out: &mut Vec<u8>) -> Result<Said, AllocError>
         ensures ok { IfOk result (λ said. (reply : Reply) × IsListReply self.now blocks.now reply
-            × Tells said reply out.old.items out.new.items) }
+            × SaysText said reply out.old.items out.new.items) }
         ensures err { OnErr result ((reply : Reply) × IsListReply self.now blocks.now reply
             × PutsPrefix reply.text out.old.items out.new.items) }
     {
@@ -220,7 +220,7 @@ impl Session {
         gate: &G,
     ) -> Result<Said, AllocError>
         ensures ok { IfOk result (λ said. (reply : Reply) × IsListReply self.now blocks.now reply
-            × Tells said reply out.old.items out.new.items) }
+            × SaysText said reply out.old.items out.new.items) }
         ensures err { OnErr result ((reply : Reply) × IsListReply self.now blocks.now reply
             × PutsPrefix reply.text out.old.items out.new.items) }
     {
@@ -234,17 +234,17 @@ impl Session {
                 requires { IsSync R.row × IsSync G.row × (1 ≤ workers) × AreWithin (length rows.elements.members) wanted.now }
                 ensures { IsMore rows result }
             { make_rows(rt, gate, workers, rows, alloc, wanted) },
-            tell: |session: &Session, alloc: Global, blocks: &[Block]| -> Option<ToldText>
+            answer: |session: &Session, alloc: Global, blocks: &[Block]| -> Option<AnsweredText>
                 requires { IsSync R.row × IsSync G.row × (1 ≤ workers) × (is_long blocks.now ≡ false) }
-                ensures { IfSome result (λ told. IsToldOf session.now blocks.now told) }
-            { tell_list(rt, gate, workers, session, alloc, blocks) },
+                ensures { IfSome result (λ answered. AnswersList session.now blocks.now answered) }
+            { answer_list(rt, gate, workers, session, alloc, blocks) },
         };
         let mut own = self.fresh(*out.allocator())?;
         own.answer_blocks(&maker, blocks, out)
     }
 
     /// Answers a line in the same way as `answer`, by what was given of it, with rows by this maker.
-    pub(crate) fn answer_given<M: BlockTeller>(
+    pub(crate) fn answer_given<M: BlockAnswerer>(
         &mut self,
         maker: &M,
         given: Given<'_>,
@@ -271,7 +271,7 @@ impl Session {
     }
 
     /// Answers a line with this content, with rows by this maker.
-    fn answer_line<M: BlockTeller>(
+    fn answer_line<M: BlockAnswerer>(
         &mut self,
         maker: &M,
         line: &[u8],

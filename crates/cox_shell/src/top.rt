@@ -13,16 +13,16 @@ ghost use Rattle.cox_shell.specs.GivenLimits.{GiveLimits};
 ghost use Rattle.cox_shell.specs.Reading.{IsReadBy};
 ghost use Rattle.cox_shell.specs.WholeRun.{IsRun};
 ghost use Rattle.cox_shell.specs.OpenLists.{is_long};
-ghost use Rattle.cox_shell.specs.ToldText.{IsToldOf};
+ghost use Rattle.cox_shell.specs.AnsweredText.{AnswersList};
 
-use crate::at_once::tell_list;
-use crate::block_teller::BlockTeller;
+use crate::answered::AnsweredText;
+use crate::at_once::answer_list;
+use crate::block_answerer::BlockAnswerer;
 use crate::closing::end_with;
 use crate::list::Block;
 use crate::running::run_lines;
 use crate::session::Session;
 use crate::status::Status;
-use crate::told::ToldText;
 use crate::workers::{ByWorkers, make_rows};
 use cox_answers::OneThread;
 use cox_options::{OptionFault, Options, read};
@@ -60,7 +60,7 @@ pub fn run<R: Threads + Wait + Sync, S: Source, K: Sink, G: Gate + Sync>(
 {
     match read(alloc, words) {
         Ok(options) => run_with(rt, alloc, options, source, sink, gate),
-        Err(fault) => refuse(fault, sink),
+        Err(fault) => refuse_arguments(fault, sink),
     }
 }
 
@@ -79,13 +79,13 @@ pub fn run_one<S: Source, K: Sink>(
     ensures unread { is_refused (argument_texts words.now) ≡ true → source.new ≡ source.old }
 {
     match read(alloc, words) {
-        Ok(options) => run_by(&OneThread, alloc, options, source, sink),
-        Err(fault) => refuse(fault, sink),
+        Ok(options) => run_session(&OneThread, alloc, options, source, sink),
+        Err(fault) => refuse_arguments(fault, sink),
     }
 }
 
 /// Ends a run whose arguments give no options: nothing is read, and wrong arguments are answered by the usage line.
-fn refuse<K: Sink>(fault: OptionFault, sink: &mut K) -> Status
+fn refuse_arguments<K: Sink>(fault: OptionFault, sink: &mut K) -> Status
     ensures run { (arguments : List (List ℕ)) (supply : Supply) → (fault ≡ Usage → IsUsage arguments)
         → IsRun result arguments supply supply (K.seen sink.old) (K.seen sink.new) }
     ensures reading { (arguments : List (List ℕ)) (supply : Supply) → (fault ≡ Usage → IsUsage arguments)
@@ -126,25 +126,25 @@ fn run_with<R: Threads + Wait + Sync, S: Source, K: Sink, G: Gate + Sync>(
 {
     let workers = options.workers();
     if workers == 1 {
-        return run_by(&OneThread, alloc, options, source, sink);
+        return run_session(&OneThread, alloc, options, source, sink);
     }
     let maker = ByWorkers {
         make: |rows: Rows, alloc: Global, wanted: &[u32]| -> Rows
             requires { IsSync R.row × IsSync G.row × (1 ≤ workers) × AreWithin (length rows.elements.members) wanted.now }
             ensures { IsMore rows result }
         { make_rows(rt, gate, workers, rows, alloc, wanted) },
-        tell: |session: &Session, alloc: Global, blocks: &[Block]| -> Option<ToldText>
+        answer: |session: &Session, alloc: Global, blocks: &[Block]| -> Option<AnsweredText>
             requires { IsSync R.row × IsSync G.row × (1 ≤ workers) × (is_long blocks.now ≡ false) }
-            ensures { IfSome result (λ told. IsToldOf session.now blocks.now told) }
-        { tell_list(rt, gate, workers, session, alloc, blocks) },
+            ensures { IfSome result (λ answered. AnswersList session.now blocks.now answered) }
+        { answer_list(rt, gate, workers, session, alloc, blocks) },
     };
-    run_by(&maker, alloc, options, source, sink)
+    run_session(&maker, alloc, options, source, sink)
 }
 
 /// Answers the script that the source gives, into the sink, with these options and rows by this maker.
 ///
 /// The session is forgotten at the end: its memory has several pieces for each row, and the process ends after the run.
-fn run_by<M: BlockTeller, S: Source, K: Sink>(
+fn run_session<M: BlockAnswerer, S: Source, K: Sink>(
     maker: &M,
     alloc: Global,
     options: Options,

@@ -10,10 +10,10 @@ ghost use Rattle.cox_row_store.specs.Stores.{elements_of, limit_of, IsSeat};
 ghost use Rattle.cox_rows.specs.Holding.{HasRow};
 ghost use Rattle.cox_answers.specs.Kept.{IsSameContext, IsMore};
 
-use crate::block_teller::BlockTeller;
+use crate::answered::AnsweredText;
+use crate::block_answerer::BlockAnswerer;
 use crate::list::Block;
 use crate::session::Session;
-use crate::told::ToldText;
 use cox_answers::{RowMaker, Workspace};
 use cox_context::Context;
 use cox_outside::Gate;
@@ -39,34 +39,34 @@ const FEW_FOR_EACH_MEMBER: u64 = 16;
 const MANY_LINES: usize = 256;
 
 /// From how many bytes on a line may take long: it has some twenty letters then.
-const LONG_LINE: usize = 24;
+const SLOW_LINE: usize = 24;
 
 /// Rows are made, and blocks are answered, by functions that run workers.
 #[derive(Clone, Copy, Drop)]
-pub struct ByWorkers<F, T> {
+pub struct ByWorkers<F, A> {
     /// Makes the rows of the members with these numbers.
     pub make: F,
-    /// Tells what the blocks of a list are answered, where there are several. Their rows are made first.
-    pub tell: T,
+    /// Answers the blocks of a list, where there are several. Their rows are made first.
+    pub answer: A,
 }
 
 impl<
     F: Fn(Rows, Global, &[u32]) -> Rows,
-    T: Fn(&Session, Global, &[Block]) -> Option<ToldText>,
-> RowMaker for ByWorkers<F, T> {
+    A: Fn(&Session, Global, &[Block]) -> Option<AnsweredText>,
+> RowMaker for ByWorkers<F, A> {
     ghost use Rattle.std.specs.Prelude.{◌≡◌, false, length, Option, IfSome};
     ghost use Rattle.cox_row.specs.Rising.{AreWithin};
     ghost use Rattle.cox_rows.specs.Holding.{Holding};
     ghost use Rattle.cox_answers.specs.Kept.{IsMore};
     ghost use Rattle.cox_shell.specs.OpenLists.{is_long};
-    ghost use Rattle.cox_shell.specs.ToldText.{Numbered, IsToldOf};
+    ghost use Rattle.cox_shell.specs.AnsweredText.{Numbered, AnswersList};
 
     ghost ready = { λ workers. ((rows : Holding) (alloc : _) (wanted : _) → AreWithin (length rows.elements.members) wanted.now
         → F.pre workers.make rows alloc wanted)
         × ((rows made : Holding) (alloc : _) (wanted : _) → F.post workers.make rows alloc wanted made → IsMore rows made)
-        × ((session : _) (alloc : _) (blocks : _) → is_long blocks.now ≡ false → T.pre workers.tell session alloc blocks)
-        × ((session : _) (alloc : _) (blocks : _) (told : Option Numbered) → T.post workers.tell session alloc blocks told
-        → IfSome told (λ t. IsToldOf session.now blocks.now t)) };
+        × ((session : _) (alloc : _) (blocks : _) → is_long blocks.now ≡ false → A.pre workers.answer session alloc blocks)
+        × ((session : _) (alloc : _) (blocks : _) (answered : Option Numbered) → A.post workers.answer session alloc blocks answered
+        → IfSome answered (λ t. AnswersList session.now blocks.now t)) };
 
     fn make(&self, alloc: Global, rows: Rows, wanted: &[u32]) -> Rows {
         let mut rows = rows;
@@ -83,9 +83,14 @@ impl<
 
 impl<
     F: Fn(Rows, Global, &[u32]) -> Rows,
-    T: Fn(&Session, Global, &[Block]) -> Option<ToldText>,
-> BlockTeller for ByWorkers<F, T> {
-    fn tell(&self, session: &mut Session, alloc: Global, blocks: &[Block]) -> Option<ToldText> {
+    A: Fn(&Session, Global, &[Block]) -> Option<AnsweredText>,
+> BlockAnswerer for ByWorkers<F, A> {
+    fn answer_at_once(
+        &self,
+        session: &mut Session,
+        alloc: Global,
+        blocks: &[Block],
+    ) -> Option<AnsweredText> {
         if blocks.len() < 2 {
             return None;
         }
@@ -93,7 +98,7 @@ impl<
         if !are_worth_threads(blocks) {
             return None;
         }
-        (self.tell)(session, alloc, blocks)
+        (self.answer)(session, alloc, blocks)
     }
 }
 
@@ -102,7 +107,7 @@ fn are_worth_threads(blocks: &[Block]) -> bool {
     let mut lines = 0usize;
     for block in blocks {
         lines = lines.saturating_add(block.lines().len());
-        if has_long_line(block) {
+        if has_slow_line(block) {
             return true;
         }
     }
@@ -110,11 +115,11 @@ fn are_worth_threads(blocks: &[Block]) -> bool {
 }
 
 /// Whether a line of a block may take long, though its rows are there: it is on long words, on the whole group, or on generated words.
-fn has_long_line(block: &Block) -> bool {
+fn has_slow_line(block: &Block) -> bool {
     for line in block.lines() {
         let content = line.content();
         let is_on_group = !content.is_empty() && !content.contains(&b' ');
-        if is_on_group || content.len() >= LONG_LINE || content.starts_with(b"work") {
+        if is_on_group || content.len() >= SLOW_LINE || content.starts_with(b"work") {
             return true;
         }
     }

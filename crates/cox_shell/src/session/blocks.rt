@@ -1,10 +1,10 @@
 //! The blocks of a list: what their lines are answered.
 use crate::ahead::inquiries_of;
+use crate::answered::AnsweredText;
+use crate::block_answerer::BlockAnswerer;
 use crate::block_line::{BlockLine, read_in_block};
-use crate::block_teller::BlockTeller;
 use crate::list::{Block, KeptLine, is_long};
 use crate::session::{Said, Session, Stage};
-use crate::told::ToldText;
 use cox_answers::RowMaker;
 use cox_command::Refusal;
 use std::alloc::{AllocError, Global};
@@ -15,12 +15,12 @@ impl Session {
     ghost use Rattle.cox_shell.specs.OpenLists.{is_long};
     ghost use Rattle.cox_shell.specs.Blocks.{IsKeptReply, IsListReply};
     ghost use Rattle.cox_shell.specs.BlockReading.{HasBlockWords, IsBlockReply};
-    ghost use Rattle.cox_shell.specs.ToldText.{TellsBlock, TellsBlocks, TellsLine, IsToldOf};
-    ghost use Rattle.cox_shell.specs.Saying.{Tells};
+    ghost use Rattle.cox_shell.specs.AnsweredText.{AnswersBlock, AnswersBlocks, AnswersLine, AnswersList};
+    ghost use Rattle.cox_shell.specs.Saying.{SaysText};
     ghost use Rattle.cox_poly.specs.Puts.{PutsPrefix};
 
     /// Answers blocks, behind what `out` has, where no list is open. On `NoMemory` a prefix of the answer is appended.
-    pub(super) fn answer_blocks<M: BlockTeller>(
+    pub(super) fn answer_blocks<M: BlockAnswerer>(
         &mut self,
         maker: &M,
         blocks: &[Block],
@@ -30,7 +30,7 @@ impl Session {
         requires ready { M.ready maker.now }
         ensures same { self.new ≡ self.old }
         ensures ok { IfOk result (λ said. (reply : Reply) × IsListReply self.old blocks.now reply
-            × Tells said reply out.old.items out.new.items) }
+            × SaysText said reply out.old.items out.new.items) }
         ensures err { OnErr result ((reply : Reply) × IsListReply self.old blocks.now reply
             × PutsPrefix reply.text out.old.items out.new.items) }
     {
@@ -38,31 +38,31 @@ impl Session {
         if is_long(blocks) {
             return self.refuse(Refusal::LongList, out);
         }
-        let told = self.tell_all(maker, blocks, *out.allocator())?;
-        let said = told.said();
-        told.put_behind(out)?;
+        let answered = self.answer_short_list(maker, blocks, *out.allocator())?;
+        let said = answered.said();
+        answered.put_behind(out)?;
         Ok(said)
     }
 
-    /// Tells what the blocks of a list are answered, which is not too long: at once, where the maker does that, or else one after another.
-    fn tell_all<M: BlockTeller>(
+    /// Answers the blocks of a list that is not too long: at once, where the maker does that, or else one after another.
+    fn answer_short_list<M: BlockAnswerer>(
         &mut self,
         maker: &M,
         blocks: &[Block],
         alloc: Global,
-    ) -> Result<ToldText, AllocError>
+    ) -> Result<AnsweredText, AllocError>
         requires outside { self.old.list ≡ None }
         requires short { is_long blocks.now ≡ false }
         requires ready { M.ready maker.now }
         ensures same { self.new ≡ self.old }
-        ensures told { IfOk result (λ told. IsToldOf self.old blocks.now told) }
+        ensures answered { IfOk result (λ answered. AnswersList self.old blocks.now answered) }
     {
-        if let Some(told) = maker.tell(self, alloc, blocks) {
-            return Ok(told);
+        if let Some(answered) = maker.answer_at_once(self, alloc, blocks) {
+            return Ok(answered);
         }
-        let mut told = ToldText::new(alloc);
-        self.tell_blocks(maker, blocks, &mut told)?;
-        Ok(told)
+        let mut answered = AnsweredText::new(alloc);
+        self.answer_each_block(maker, blocks, &mut answered)?;
+        Ok(answered)
     }
 
     /// Makes the rows that the lines of these blocks will ask for. No answer depends on it.
@@ -78,54 +78,54 @@ impl Session {
         }
     }
 
-    /// Tells what blocks are answered, one after another.
-    fn tell_blocks<M: RowMaker>(
+    /// Answers blocks, one after another, behind what was answered before.
+    fn answer_each_block<M: RowMaker>(
         &mut self,
         maker: &M,
         blocks: &[Block],
-        told: &mut ToldText,
+        answered: &mut AnsweredText,
     ) -> Result<(), AllocError>
         requires ready { M.ready maker.now }
         ensures same { self.new ≡ self.old }
-        ensures told { OnOk result (TellsBlocks self.old blocks.now told.old told.new) }
+        ensures answered { OnOk result (AnswersBlocks self.old blocks.now answered.old answered.new) }
     {
         'each: for block in blocks {
-            self.tell_block(maker, block, told)?;
+            self.answer_block(maker, block, answered)?;
         }
         Ok(())
     }
 
-    /// Tells what the lines of a block are answered, one after another.
-    pub(crate) fn tell_block<M: RowMaker>(
+    /// Answers the lines of a block, one after another, behind what was answered before.
+    pub(crate) fn answer_block<M: RowMaker>(
         &mut self,
         maker: &M,
         block: &Block,
-        told: &mut ToldText,
+        answered: &mut AnsweredText,
     ) -> Result<(), AllocError>
         requires ready { M.ready maker.now }
         ensures same { self.new ≡ self.old }
-        ensures told { OnOk result (TellsBlock self.old block.now told.old told.new) }
+        ensures answered { OnOk result (AnswersBlock self.old block.now answered.old answered.new) }
     {
         'lines: for line in block.lines() {
-            self.tell_line(maker, line, told)?;
+            self.answer_kept_line(maker, line, answered)?;
         }
         Ok(())
     }
 
-    /// Tells what a line of a block is answered.
-    fn tell_line<M: RowMaker>(
+    /// Answers a line of a block, behind what was answered before.
+    fn answer_kept_line<M: RowMaker>(
         &mut self,
         maker: &M,
         line: &KeptLine,
-        told: &mut ToldText,
+        answered: &mut AnsweredText,
     ) -> Result<(), AllocError>
         requires ready { M.ready maker.now }
         ensures same { self.new ≡ self.old }
-        ensures told { OnOk result (TellsLine self.old line.now told.old told.new) }
+        ensures answered { OnOk result (AnswersLine self.old line.now answered.old answered.new) }
     {
-        let mut text = told.take();
+        let mut text = answered.take();
         let said = self.answer_block_line(maker, line, &mut text)?;
-        told.put(text, said);
+        answered.put(text, said);
         Ok(())
     }
 
@@ -139,7 +139,7 @@ impl Session {
         requires ready { M.ready maker.now }
         ensures same { self.new ≡ self.old }
         ensures ok { IfOk result (λ said. (reply : Reply) × IsKeptReply self.old line.now reply
-            × Tells said reply out.old.items out.new.items) }
+            × SaysText said reply out.old.items out.new.items) }
     {
         if let Some(why) = line.refusal() {
             return self.refuse(why, out);
@@ -163,7 +163,7 @@ impl Session {
         requires ready { M.ready maker.now }
         ensures same { self.new ≡ self.old }
         ensures ok { IfOk result (λ said. (reply : Reply) × IsBlockReply gives.now self.old reply
-            × Tells said reply out.old.items out.new.items) }
+            × SaysText said reply out.old.items out.new.items) }
     {
         match gives {
             BlockLine::Blank => Ok(Said::Answered),

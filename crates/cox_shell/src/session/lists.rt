@@ -1,6 +1,6 @@
 //! Lines where a list of blocks is open, and the end of that list.
+use crate::block_answerer::BlockAnswerer;
 use crate::block_line::{Reading, parting_word, read_in_block};
-use crate::block_teller::BlockTeller;
 use crate::list::{JobList, KeptLine};
 use crate::session::{Said, Session};
 use cox_command::{ListWord, Refusal};
@@ -19,7 +19,7 @@ impl Session {
     ghost use Rattle.cox_shell.specs.Saying.{Says, SaysKept, SaysPrefix};
 
     /// Ends the list that is open, and answers it. On `NoMemory` the session is as before, and a prefix of the answer is appended.
-    pub(crate) fn end_list<M: BlockTeller>(
+    pub(crate) fn end_list<M: BlockAnswerer>(
         &mut self,
         maker: &M,
         out: &mut Vec<u8>,
@@ -44,7 +44,7 @@ impl Session {
     }
 
     /// Answers a line with this content where a list is open.
-    pub(super) fn answer_in_list<M: BlockTeller>(
+    pub(super) fn answer_in_list<M: BlockAnswerer>(
         &mut self,
         maker: &M,
         line: &[u8],

@@ -5,8 +5,8 @@ use Rattle.std.proofs.lemmas.List.{append-nil}
 use Rattle.cox_outside.specs.Outlet.{IsPrefix}
 use Rattle.cox_outside.proofs.Known.{Writes-none}
 use Rattle.cox_shell.specs.Reply.{texts}
-use Rattle.cox_shell.proofs.Ends.{closing-of}
-use Rattle.cox_shell.proofs.Closings.{err_of, ok_of, closed-said}
+use Rattle.cox_shell.proofs.OpenListReplies.{closing-of}
+use Rattle.cox_shell.proofs.ClosedLists.{err_of, ok_of, closed-said}
 use Rattle.cox_shell.proofs.closing.close_list.Goals as goal
 
 pub returns-in-Err-clause-closes : goal.returns-in-Err-clause-closes
@@ -44,5 +44,5 @@ returns-clause-closes g c =
     let said = c.in-Ok.ensures.ok in
     let bytes : c.deref.result.now ≡ said.0.text =
     c.deref.ensures.value ∙ said.2.text ∙ ap (λ l. l ++ said.0.text) c.clear.ensures.items in
-    rw c.of.ensures (closed-said c.in-Ok.said said.0 c.args.session.now _ _ said.2.tells (closing-of c.args.session.now said.0 said.1)
+    rw c.of.ensures (closed-said c.in-Ok.said said.0 c.args.session.now _ _ said.2.is_said (closing-of c.args.session.now said.0 said.1)
     (rw (← bytes) (ok_of _ _ c.in_default-write_all.not-Err c.write_all.ensures.ok)))

@@ -1,7 +1,7 @@
 -- The law `one_answer`.
 use Rattle.cox_shell.specs.Reply.{opening}
 use Rattle.cox_shell.specs.Answer.{script_lines}
-use Rattle.cox_shell.proofs.Replies.{AreAllReplies-unique, IsAnswer-unique}
+use Rattle.cox_shell.proofs.LineReplies.{AreAllReplies-unique, IsAnswer-unique}
 use Rattle.cox_shell.proofs.laws.one_answer.Goals as goal
 
 pub returns-clause-replies : goal.returns-clause-replies

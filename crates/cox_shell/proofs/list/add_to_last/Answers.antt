@@ -1,6 +1,6 @@
 -- The last block has one more line.
 use Rattle.std.proofs.Common.{◌-◌, sym, arith}
-use Rattle.cox_shell.proofs.Lists.{then_line-last}
+use Rattle.cox_shell.proofs.KeptLines.{then_line-last}
 use Rattle.cox_shell.proofs.list.add_to_last.Goals as goal
 
 pub returns-clause-ok : goal.returns-clause-ok

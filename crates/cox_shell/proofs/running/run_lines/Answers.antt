@@ -5,8 +5,8 @@ use Rattle.cox_outside.specs.declared.line_reader.Stop.{Stop}
 use Rattle.cox_outside.specs.FaultCount.{count_after}
 use Rattle.cox_outside.specs.Reader.{Reader}
 use Rattle.cox_shell.proofs.Progress.{Progress-start, Progress-answered, Progress-refused}
-use Rattle.cox_shell.proofs.Endings.{ends_at_quit, ends_stopped, ends_stopping, Runs-whole, budget-served}
-use Rattle.cox_shell.proofs.Endings.{stopping-read_fault, stopping-write_fault}
+use Rattle.cox_shell.proofs.EndOfRun.{ends_at_quit, ends_stopped, ends_stopping, Runs-whole, budget-served}
+use Rattle.cox_shell.proofs.EndOfRun.{stopping-read_fault, stopping-write_fault}
 use Rattle.cox_shell.proofs.running.run_lines.Goals as goal
 
 -- a reader that has not stopped

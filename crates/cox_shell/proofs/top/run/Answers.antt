@@ -1,7 +1,7 @@
 -- The arguments give the limits of the options, or none.
 use Rattle.std.proofs.Common.{Err, ap, ◌∙◌}
 use Rattle.cox_shell.specs.Top.{argument_texts}
-use Rattle.cox_shell.proofs.Whole.{options-given}
+use Rattle.cox_shell.proofs.WrittenByRun.{options-given}
 use Rattle.cox_shell.proofs.top.run.Goals as goal
 
 pub returns-in-Ok-clause-run : goal.returns-in-Ok-clause-run
@@ -15,9 +15,9 @@ returns-in-Ok-clause-reading g c = c.run_with.ensures.reading (argument_texts c.
     c.in-Ok.ensures.roots)
 
 pub returns-in-Err-clause-run : goal.returns-in-Err-clause-run
-returns-in-Err-clause-run g c = c.refuse.ensures.run (argument_texts c.args.words.now) _
+returns-in-Err-clause-run g c = c.refuse_arguments.ensures.run (argument_texts c.args.words.now) _
     (λ wrong. c.read.ensures.usage (c.in-Err.is ∙ ap Err wrong))
 
 pub returns-in-Err-clause-reading : goal.returns-in-Err-clause-reading
-returns-in-Err-clause-reading g c = c.refuse.ensures.reading (argument_texts c.args.words.now) (g.S.Source.seen c.args.source.now)
+returns-in-Err-clause-reading g c = c.refuse_arguments.ensures.reading (argument_texts c.args.words.now) (g.S.Source.seen c.args.source.now)
     (λ wrong. c.read.ensures.usage (c.in-Err.is ∙ ap Err wrong))

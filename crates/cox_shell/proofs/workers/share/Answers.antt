@@ -1,7 +1,7 @@
 -- The rows that come back are those of the members, and each that was there is among them.
 use Rattle.std.proofs.Common.{FitsSigned, rules, sym, w64, ◌∙◌, ⊎_elim}
 use Rattle.std.proofs.lemmas.Int.{to_z-of_z}
-use Rattle.cox_shell.proofs.SharedRows.{taken-held, taken-back}
+use Rattle.cox_shell.proofs.RowsFromStore.{taken-held, taken-back}
 use Rattle.cox_shell.proofs.workers.share.Goals as goal
 
 pub adopt-requires : goal.adopt-requires

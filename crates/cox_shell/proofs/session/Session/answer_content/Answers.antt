@@ -7,7 +7,7 @@ use Rattle.cox_shell.specs.Reply.{rank_of}
 use Rattle.cox_shell.specs.CommandReply.{IsCommandReply}
 use Rattle.cox_shell.specs.ContentReply.{IsContentReply}
 use Rattle.cox_shell.proofs.ContentReply.{IsContentReply-command, IsContentReply-refusal}
-use Rattle.cox_shell.proofs.Sayings.{Says-follows, SaysPrefix-follows, Says-reply, SaysPrefix-reply}
+use Rattle.cox_shell.proofs.SaidReplies.{Says-follows, SaysPrefix-follows, Says-reply, SaysPrefix-reply}
 use Rattle.cox_shell.proofs.session.Session.answer_content.Goals as goal
 
 pub returns-in-Ok-clause-ok : goal.returns-in-Ok-clause-ok

@@ -6,8 +6,8 @@ use Rattle.cox_command.specs.BlockLines.{list_word_of}
 use Rattle.cox_shell.specs.Blocks.{IsEndOfList}
 use Rattle.cox_shell.specs.ListReply.{IsReplyTo}
 use Rattle.cox_shell.specs.Keeping.{with_kept, with_next}
-use Rattle.cox_shell.proofs.Ends.{next_reply, end_reply, keep_reply}
-use Rattle.cox_shell.proofs.Sayings.{silent-says, silent-breaks, Says-kept, SaysPrefix-follows}
+use Rattle.cox_shell.proofs.OpenListReplies.{next_reply, end_reply, keep_reply}
+use Rattle.cox_shell.proofs.SaidReplies.{silent-says, silent-breaks, Says-kept, SaysPrefix-follows}
 use Rattle.cox_shell.proofs.session.Session.answer_in_list.Goals as goal
 
 pub returns-in-Some-Next-clause-ok : goal.returns-in-Some-Next-clause-ok

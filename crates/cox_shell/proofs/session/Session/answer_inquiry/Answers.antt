@@ -12,7 +12,7 @@ use Rattle.cox_shell.specs.SessionState.{state_of}
 use Rattle.cox_shell.specs.CommandReply.{IsDecided, Answers, IsInquiryReply}
 use Rattle.cox_shell.specs.Saying.{Says, SaysPrefix, Concludes}
 use Rattle.cox_shell.proofs.DecidedReplies.{IsReply-exists}
-use Rattle.cox_shell.proofs.Sayings.{IsInquiryReply-decided, Concludes-says, Concludes-breaks, Says-follows, SaysPrefix-follows}
+use Rattle.cox_shell.proofs.SaidReplies.{IsInquiryReply-decided, Concludes-says, Concludes-breaks, Says-follows, SaysPrefix-follows}
 use Rattle.cox_shell.proofs.session.Session.answer_inquiry.Goals as goal
 
 pub returns : goal.returns

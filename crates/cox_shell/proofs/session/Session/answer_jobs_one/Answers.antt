@@ -3,7 +3,7 @@ use Rattle.std.proofs.Common.{◌≡◌, refl}
 use Rattle.cox_shell.specs.Reply.{closed}
 use Rattle.cox_shell.specs.Blocks.{IsListReply}
 use Rattle.cox_shell.proofs.ListReplies.{IsListReply-exists}
-use Rattle.cox_shell.proofs.Sayings.{nothing-put}
+use Rattle.cox_shell.proofs.SaidReplies.{nothing-put}
 use Rattle.cox_shell.proofs.session.Session.answer_jobs_one.Goals as goal
 
 pub returns-in_err-own-clause-err : goal.returns-in_err-own-clause-err

@@ -2,8 +2,8 @@
 use Rattle.std.proofs.Common.{◌≡◌, None, sym, ◌∙◌}
 use Rattle.cox_shell.specs.ContentReply.{IsContentReply}
 use Rattle.cox_shell.specs.ListReply.{IsReplyTo}
-use Rattle.cox_shell.proofs.Ends.{outside_reply, none_open}
-use Rattle.cox_shell.proofs.Sayings.{Says-kept, SaysPrefix-follows}
+use Rattle.cox_shell.proofs.OpenListReplies.{outside_reply, none_open}
+use Rattle.cox_shell.proofs.SaidReplies.{Says-kept, SaysPrefix-follows}
 use Rattle.cox_shell.proofs.session.Session.answer_line.Goals as goal
 
 pub returns-clause-ok : goal.returns-clause-ok

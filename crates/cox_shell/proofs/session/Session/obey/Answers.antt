@@ -2,7 +2,7 @@
 use Rattle.std.proofs.Common.{Some, [], ◌∷◌, refl}
 use Rattle.cox_command.specs.declared.command.Command.TheVariants.{Jobs}
 use Rattle.cox_shell.specs.CommandReply.{IsCommandReply}
-use Rattle.cox_shell.proofs.Sayings.{Says-silence, Says-quit, opened-says, silent-breaks}
+use Rattle.cox_shell.proofs.SaidReplies.{Says-silence, Says-quit, opened-says, silent-breaks}
 use Rattle.cox_shell.proofs.session.Session.obey.Goals as goal
 
 pub returns-in-Nothing-clause-ok : goal.returns-in-Nothing-clause-ok

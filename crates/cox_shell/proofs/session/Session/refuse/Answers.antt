@@ -3,7 +3,7 @@ use Rattle.std.proofs.Common.{[], ◌∷◌}
 use Rattle.cox_poly.proofs.Behind.{PutsPrefix-first}
 use Rattle.cox_command.specs.RefusalNumber.{refusal_number}
 use Rattle.cox_print.specs.AnswerText.{refusal_text}
-use Rattle.cox_shell.proofs.Sayings.{SaysPrefix-broken}
+use Rattle.cox_shell.proofs.SaidReplies.{SaysPrefix-broken}
 use Rattle.cox_shell.specs.Reply.{refusal}
 use Rattle.cox_shell.proofs.session.Session.refuse.Goals as goal
 

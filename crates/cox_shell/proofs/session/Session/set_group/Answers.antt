@@ -8,11 +8,11 @@ use Rattle.cox_command.specs.declared.refusal.Refusal.TheVariants.{ManyRoots}
 use Rattle.cox_replies.specs.Limits.{Limits}
 use Rattle.cox_shell.specs.Reply.{refusal, silence}
 use Rattle.cox_shell.specs.CommandReply.{IsCommandReply}
-use Rattle.cox_shell.proofs.Sayings.{Says-silence, Says-reply, SaysPrefix-reply}
+use Rattle.cox_shell.proofs.SaidReplies.{Says-silence, Says-reply, SaysPrefix-reply}
 use Rattle.cox_replies.proofs.Unless.{PutsPrefix-none}
-use Rattle.cox_shell.proofs.Ends.{list_of}
+use Rattle.cox_shell.proofs.OpenListReplies.{list_of}
 use Rattle.cox_shell.proofs.GroupReplies.{group-set, group-refused}
-use Rattle.cox_shell.proofs.SomeReply.{group-reply}
+use Rattle.cox_shell.proofs.ContentReplyExists.{group-reply}
 use Rattle.cox_shell.proofs.session.Session.set_group.Goals as goal
 
 pub returns-in-Ok-clause-ok : goal.returns-in-Ok-clause-ok

@@ -2,8 +2,8 @@
 use Rattle.std.proofs.Common.{[], Some, IsSome, sym, ◌∙◌}
 use Rattle.cox_shell.specs.Keeping.{with_kept}
 use Rattle.cox_shell.specs.ListReply.{unread_reply}
-use Rattle.cox_shell.proofs.Ends.{unread_kept}
-use Rattle.cox_shell.proofs.Sayings.{silent-one}
+use Rattle.cox_shell.proofs.OpenListReplies.{unread_kept}
+use Rattle.cox_shell.proofs.SaidReplies.{silent-one}
 use Rattle.cox_shell.proofs.session.Session.take_unread.Goals as goal
 
 pub returns-then-has_list-clause-ok : goal.returns-then-has_list-clause-ok

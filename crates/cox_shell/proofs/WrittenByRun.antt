@@ -1,0 +1,459 @@
+-- What a whole run has written, by the run over the lines and the end of a list that is open then.
+use Rattle.std.proofs.Common.{◌≡◌, ◌⊎◌, ◌<◌, ◌≤◌, ◌+◌, ℕ, Bool, true, false, inl, inr, Option, Some, None, List, [], ◌∷◌, ◌++◌, length}
+use Rattle.std.proofs.Common.{take, option_map, unwrap_or, ℤ, pos, unsigned_abs, zero, suc, ◌||◌, is_some, append_assoc, ⊎_elim}
+use Rattle.std.proofs.Common.{codes, refl, sym, ◌∙◌, subst, arith, length-append, ap}
+use Rattle.std.specs.Bool.{MatchBool}
+use Rattle.std.specs.Option.{IfSome, IsSome, MatchOption}
+use Rattle.std.proofs.lemmas.List.{append-nil, take_all, take_at}
+use Rattle.std.proofs.lemmas.List.Folds.{list_any-append}
+use Rattle.std.proofs.lemmas.Grind.{flat_map-append}
+use Rattle.std.proofs.Math.Bool.{or-false}
+use Rattle.std.specs.Io.KnownBytes.{prepend_known, IsAtEnd}
+use Rattle.cox_outside.specs.declared.limits.TheConstants.{INPUT_LIMIT, CHUNK_SIZE}
+use Rattle.cox_outside.specs.Line.{line_feed, ended_lines, lines_within}
+use Rattle.cox_outside.specs.Supply.{Supply}
+use Rattle.cox_outside.specs.Reader.{Reader, fresh_reader}
+use Rattle.cox_outside.specs.Outlet.{Outlet, Writes, IsPrefix}
+use Rattle.cox_outside.proofs.Known.{prepend_known-none, prepend_known-append, Writes-none, Writes-append}
+use Rattle.cox_options.specs.Arguments.{is_refused, given_number, IsTaken, IsUsage}
+use Rattle.cox_options.specs.declared.options.Options.{Options}
+use Rattle.cox_shell.specs.declared.status.Status.{Status}
+use Rattle.cox_shell.specs.declared.status.Status.TheVariants.{Done, Refused, Usage, ReadFault, WriteFault, NoMemory, InputLimit}
+use Rattle.cox_replies.specs.Limits.{Limits}
+use Rattle.cox_shell.specs.Reply.{State, Reply, OpenList, opening, texts}
+use Rattle.cox_shell.specs.Blocks.{IsListReply}
+use Rattle.cox_replies.specs.SessionLimits.{limits_of}
+use Rattle.cox_shell.specs.Answer.{AreReplies, AreAllReplies, AreScriptReplies, IsClosing, state_behind, has_refusal, has_quit}
+use Rattle.cox_shell.specs.Answer.{script_lines, bytes_of}
+use Rattle.cox_shell.specs.Keeping.{Keeps}
+use Rattle.cox_shell.specs.Run.{Stand, stand}
+use Rattle.cox_shell.specs.Outcome.{Runs, WritesPrefix, WritesAll, StopsThere, IsCutShort, AnswersAll, AnswersEnded}
+use Rattle.cox_shell.specs.Outcome.{EndsReading}
+use Rattle.cox_shell.specs.Closing.{HasClosed, IsClosingCut}
+use Rattle.cox_shell.specs.Top.{usage_line, given_limits, StopsReading, IsReadWhole, AnswersWhole, AnswersGiven, AreDue, AreDueAtEnd}
+use Rattle.cox_shell.specs.Top.{IsDue, WritesDue}
+use Rattle.cox_shell.specs.GivenLimits.{GiveLimits}
+use Rattle.cox_shell.proofs.KeptStates.{some-kept, closing-kept}
+use Rattle.cox_shell.proofs.ListReplies.{IsListReply-closed}
+use Rattle.cox_shell.proofs.KnownValues.{IfSome-made, IfSome-unmade, IfSome-follows}
+
+-- a number that is given, as an integer
+coefficient-given : (given : Option ℕ) (coef : ℤ) → option_map pos given ≡ Some coef → unwrap_or given 0 ≡ unsigned_abs coef
+coefficient-given None coef e = absurd (cc e)
+coefficient-given (Some n) coef e = let same : pos n ≡ coef = cc e in rw (← same) refl
+
+-- the limits of the options that arguments give are those that the arguments give
+limits-given : (options : Options) (arguments : List (List ℕ)) → given_number (codes "context") arguments ≡ Some options.context
+    → option_map pos (given_number (codes "coef") arguments) ≡ Some options.coef
+    → given_number (codes "roots") arguments ≡ Some options.roots → limits_of options ≡ given_limits arguments
+limits-given options arguments context coef roots =
+    rw (context, roots, coefficient-given (given_number (codes "coef") arguments) options.coef coef) refl
+
+-- arguments that are taken give them
+pub options-given : (options : Options) (arguments : List (List ℕ)) → IsTaken arguments
+    → given_number (codes "context") arguments ≡ Some options.context
+    → option_map pos (given_number (codes "coef") arguments) ≡ Some options.coef
+    → given_number (codes "roots") arguments ≡ Some options.roots → GiveLimits arguments (limits_of options)
+options-given options arguments taken context coef roots =
+    record { taken = taken; limits_are = limits-given options arguments context coef roots }
+
+-- where a run begins
+abbrev pub beginning : Limits → Option (List ℕ) → Outlet → Stand
+beginning limits script out =
+    record { state = opening limits; stop = None; ahead = record { bytes = script; budget = INPUT_LIMIT; pending = [] }; out = out }
+
+-- a fresh session and a fresh reader stand there
+pub Runs-beginning : (status : Status) (limits : Limits) (state : State) (reader : Reader) (supply : Supply) (old : Outlet) (end : Stand)
+    → state ≡ opening limits → reader ≡ fresh_reader
+    → Runs status (stand state reader supply old) end → Runs status (beginning limits supply.left old) end
+Runs-beginning status limits state reader supply old end opens fresh runs =
+    let at_fresh : Runs status (stand (opening limits) fresh_reader supply old) end = subst
+    (λ (r : Reader). Runs status (stand (opening limits) r supply old) end) fresh
+    (subst (λ (s : State). Runs status (stand s reader supply old) end) opens runs) in
+    subst (λ bytes. Runs status (beginning limits bytes old) end) (prepend_known-none supply.left) at_fresh
+
+-- where no byte lies ahead, the source has none left
+IsAtEnd-left : (pending : List ℕ) (left : Option (List ℕ)) → IsAtEnd (prepend_known pending left) → IsAtEnd left
+IsAtEnd-left pending None end = tt
+IsAtEnd-left [] (Some rest) end = end
+IsAtEnd-left (byte ∷ pending) (Some rest) end = cc
+
+-- more lines have no fewer bytes
+bytes_of-more : (n m : ℕ) (lines : List (List ℕ)) → length (bytes_of (take n lines)) ≤ length (bytes_of (take (n + m) lines))
+bytes_of-more zero m lines = omega arith
+bytes_of-more (suc n) m [] = omega arith
+bytes_of-more (suc n) m (line ∷ lines) =
+    let more = bytes_of-more n m lines in
+    let next : suc n + m ≡ suc (n + m) = omega arith in
+    rw next (omega (
+      arith,
+      length-append (line ++ line_feed ∷ []) (bytes_of (take n lines)),
+      length-append (line ++ line_feed ∷ []) (bytes_of (take (n + m) lines)),
+      more,
+    ))
+
+texts-append : (some more : List Reply) → texts (some ++ more) ≡ texts some ++ texts more
+texts-append some more = flat_map-append (λ (reply : Reply). reply.text) some more
+
+-- no reply to the end of reading ends the run, and there is none where no list is open
+none_quits : (state : State) (closing : List Reply) → IsClosing state closing → has_quit closing ≡ false
+none_quits state closing is = by_list state.list is where
+  by_list : (o : Option OpenList)
+      → MatchOption o (closing ≡ []) (λ list. (reply : Reply) × IsListReply state list reply × (closing ≡ reply ∷ []))
+      → has_quit closing ≡ false
+  by_list None e = ap has_quit e
+  by_list (Some list) e = ap has_quit e.2 ∙ ap (λ b. b || false) (IsListReply-closed state list e.0 e.1).1
+
+none_closing : (state : State) (closing : List Reply) → state.list ≡ None → IsClosing state closing → closing ≡ []
+none_closing state closing none is =
+    subst (λ o. MatchOption o (closing ≡ []) (λ list. (reply : Reply) × IsListReply state list reply × (closing ≡ reply ∷ []))) none is
+
+-- from here on, a run over the lines that began with this script and stands there
+module _ (limits : Limits) (script : Option (List ℕ)) (old : Outlet) (state : State) (reader : Reader) (supply : Supply)
+    (mid : Outlet) where
+  abbrev begins : Stand
+  begins = beginning limits script old
+
+  abbrev ends : Stand
+  ends = stand state reader supply mid
+
+  -- what the source gave, of which this was taken
+  gave_all : (taken : List ℕ) → script ≡ prepend_known taken (prepend_known reader.feed.pending supply.left) → script
+      ≡ prepend_known (taken ++ reader.feed.pending) supply.left
+  gave_all taken gave = gave ∙ prepend_known-append taken reader.feed.pending supply.left
+
+  -- no more was read than the lines with these replies and more, and less than a chunk
+  StopsThere-reading : (replies more : List Reply) → StopsThere replies begins.ahead ends.ahead
+      → StopsReading (replies ++ more) script supply.left
+  StopsThere-reading replies more h = (
+    h.taken ++ reader.feed.pending,
+    gave_all h.taken h.gave,
+    IfSome-follows (λ bytes. length h.taken ≤ length (bytes_of (take (length replies) (script_lines bytes))))
+        (λ bytes. length (h.taken ++ reader.feed.pending) < length
+        (bytes_of (take (length (replies ++ more)) (script_lines bytes))) + CHUNK_SIZE) script
+        (λ bytes size. rw (length-append replies more) (omega (
+          arith,
+          h.few,
+          length-append h.taken reader.feed.pending,
+          bytes_of-more (length replies) (length more) (script_lines bytes),
+        )))
+        (IfSome-unmade (λ bytes. lines_within INPUT_LIMIT bytes)
+        (λ lines. length h.taken ≤ length (bytes_of (take (length replies) lines))) script h.size),
+  )
+
+  -- where no byte is pending all that the reader took is handed out
+  none_pending-left : reader.feed.pending ≡ [] → prepend_known reader.feed.pending supply.left ≡ supply.left
+  none_pending-left none = ap (λ pending. prepend_known pending supply.left) none ∙ prepend_known-none supply.left
+
+  -- replies to lines, and to the end of reading
+  abbrev all_replies : (lines : List (List ℕ)) (replies closing : List Reply) → AreReplies (opening limits) lines replies
+      → Keeps state (state_behind (opening limits) replies) → IsClosing state closing
+      → AreAllReplies (opening limits) lines (replies ++ closing)
+  all_replies lines replies closing are behind closes = record {
+    replies = replies;
+    are_replies = are;
+    closing = closing;
+    closes = closing-kept state (state_behind (opening limits) replies) behind closing closes;
+    all_are = refl;
+  }
+
+  script_replies : (all : WritesAll begins ends) (closing : List Reply) → IsClosing state closing
+      → IfSome script (λ bytes. AreScriptReplies limits bytes (all.replies ++ closing))
+  script_replies all closing closes =
+      IfSome-follows (λ bytes. AreReplies (opening limits) (script_lines bytes) all.replies)
+      (λ bytes. AreScriptReplies limits bytes (all.replies ++ closing)) script
+      (λ bytes are. all_replies (script_lines bytes) all.replies closing are all.behind closes)
+      (IfSome-unmade (λ bytes. lines_within INPUT_LIMIT bytes) (λ lines. AreReplies (opening limits) lines all.replies) script
+      all.are_replies)
+
+  -- where reading has ended inside a list, the replies to all that was read, and to the end of the list, are due
+  EndsReading-due : (lost : Bool) (h : EndsReading lost begins ends) (closing : List Reply) → IsClosing state closing → IsSome state.list
+      → AreDueAtEnd lost limits script supply.left (h.replies ++ closing)
+  EndsReading-due lost h closing closes some = record {
+    given = h.given;
+    taken = h.gave ∙ ap (prepend_known h.given) (none_pending-left h.none_pending);
+    lines = h.lines;
+    are_read = elim h.are_all as (λ _.
+        (((lost ≡ true) ⊎ (INPUT_LIMIT < length h.given)) × (h.lines ≡ ended_lines (take INPUT_LIMIT h.given)))
+        ⊎ (IsAtEnd supply.left × (h.lines ≡ script_lines h.given))) [
+          | inl ended ↦ inl ended
+          | inr whole ↦ inr (IsAtEnd-left reader.feed.pending supply.left whole.0, whole.1)
+        ];
+    are_replies = all_replies h.lines h.replies closing h.are_replies h.behind closes;
+    some = some-kept state (state_behind (opening limits) h.replies) h.behind some;
+  }
+
+  -- at a read fault, and at the limit, reading has ended
+  pub fault_reading : Runs ReadFault begins ends → EndsReading true begins ends
+  fault_reading h = record {
+    given = h.0;
+    gave = h.1;
+    none_pending = h.2.none_pending;
+    lines = ended_lines h.0;
+    are_all = inl (inl refl, ap ended_lines (sym (take_all INPUT_LIMIT h.0 h.2.within)));
+    replies = h.2.replies;
+    are_replies = h.2.are_replies;
+    behind = h.2.behind;
+    writes = h.2.writes;
+  }
+
+  pub limit_reading : Runs InputLimit begins ends → EndsReading false begins ends
+  limit_reading h = record {
+    given = h.given ++ h.byte ∷ [];
+    gave = h.gave ∙ prepend_known-append h.given (h.byte ∷ []) (prepend_known reader.feed.pending supply.left);
+    none_pending = h.answers.none_pending;
+    lines = ended_lines h.given;
+    are_all = inl (
+      inr (omega (arith, h.spent, length-append h.given (h.byte ∷ []))),
+      ap ended_lines (sym (take_at h.given (h.byte ∷ []) INPUT_LIMIT h.spent)),
+    );
+    replies = h.answers.replies;
+    are_replies = h.answers.are_replies;
+    behind = h.answers.behind;
+    writes = h.answers.writes;
+  }
+
+  -- at each status a prefix of the replies to the first lines was written
+  pub Runs-prefix : (status : Status) → Runs status begins ends → WritesPrefix begins ends
+  Runs-prefix Done h = h.writes_prefix
+  Runs-prefix Refused h = h.writes_prefix
+  Runs-prefix Usage h = absurd h
+  Runs-prefix ReadFault h = h.2.writes_prefix
+  Runs-prefix WriteFault h = h.0.part
+  Runs-prefix NoMemory h = h.part
+  Runs-prefix InputLimit h = h.answers.writes_prefix
+
+  -- no more than the limit and one byte was read
+  pub Runs-takes : (status : Status) → Runs status begins ends
+      → (given : List ℕ) × (script ≡ prepend_known given supply.left) × (length given ≤ INPUT_LIMIT + 1)
+  Runs-takes status runs =
+      let read = (Runs-prefix status runs).has_read in
+      (read.taken ++ reader.feed.pending, gave_all read.taken read.gave, read.within)
+
+  -- the replies are due
+  pub WritesPrefix-due : (part : WritesPrefix begins ends) → AreDue limits script supply.left part.replies
+  WritesPrefix-due part = record {
+    given = part.has_read.taken ++ reader.feed.pending;
+    taken = gave_all part.has_read.taken part.has_read.gave;
+    lines = part.lines;
+    are_read = elim part.has_read.are_read as (λ _.
+        IsPrefix part.lines (ended_lines (take INPUT_LIMIT (part.has_read.taken ++ reader.feed.pending)))
+        ⊎ (IsAtEnd supply.left × IsPrefix part.lines (script_lines (part.has_read.taken ++ reader.feed.pending)))) [
+          | inl ended ↦ inl ended
+          | inr whole ↦ inr (IsAtEnd-left reader.feed.pending supply.left whole.0, whole.1)
+        ];
+    are_replies = part.are_replies;
+  }
+
+  -- where a write failed or memory ran out, little was read beyond the lines with these replies
+  pub IsCutShort-stops : IsCutShort begins ends
+      → (replies : List Reply) × AreDue limits script supply.left replies × StopsReading replies script supply.left
+  IsCutShort-stops cut = (
+    cut.part.replies,
+    WritesPrefix-due cut.part,
+    subst (λ r. StopsReading r script supply.left) (append-nil cut.part.replies) (StopsThere-reading cut.part.replies [] cut.few),
+  )
+
+  -- what was written when the list was ended
+  module _ (new : Outlet) where
+    both_written : (replies closing : List Reply) → Writes (texts replies) old mid → Writes (texts closing) mid new
+        → Writes (texts (replies ++ closing)) old new
+    both_written replies closing before at_end = subst (λ t. Writes t old new) (sym (texts-append replies closing))
+        (Writes-append (texts replies) (texts closing) old mid new before at_end)
+
+    -- the script was read to its end, or to the line that ends the run
+    AnswersAll-read : (before refused : Bool) (h : AnswersAll before begins ends) (c : HasClosed refused state mid new)
+        → IsReadWhole (h.writes_all.replies ++ c.closing) script supply.left
+    AnswersAll-read before refused h c =
+        let replies = h.writes_all.replies in
+        let quits : has_quit (replies ++ c.closing) ≡ has_quit replies =
+        list_any-append (λ (r : Reply). r.quits) replies c.closing ∙ ap (λ b. has_quit replies || b) (none_quits state c.closing c.closes)
+        ∙ or-false (has_quit replies) in
+        subst (λ b. MatchBool b (StopsReading (replies ++ c.closing) script supply.left)
+        (IfSome script (λ bytes. length bytes ≤ INPUT_LIMIT) × IsAtEnd supply.left)) (sym quits)
+        (elim (has_quit replies) as
+        (λ b. MatchBool b (StopsThere replies begins.ahead ends.ahead)
+        (IfSome script (λ bytes. length bytes ≤ INPUT_LIMIT) × IsAtEnd ends.ahead.bytes)
+        → MatchBool b (StopsReading (replies ++ c.closing) script supply.left)
+        (IfSome script (λ bytes. length bytes ≤ INPUT_LIMIT) × IsAtEnd supply.left)) [
+          | true ↦ λ stops. StopsThere-reading replies c.closing stops
+          | false ↦ λ whole. (whole.0, IsAtEnd-left reader.feed.pending supply.left whole.1)
+        ] h.ends)
+
+    -- and it was answered whole
+    pub AnswersAll-whole : (before refused : Bool) → AnswersAll before begins ends → HasClosed refused state mid new
+        → AnswersWhole (before || refused) limits script supply.left old new
+    AnswersAll-whole before refused h c = record {
+      replies = h.writes_all.replies ++ c.closing;
+      are_replies = script_replies h.writes_all c.closing c.closes;
+      read = AnswersAll-read before refused h c;
+      refuses = list_any-append (λ (r : Reply). is_some r.refused) h.writes_all.replies c.closing
+          ∙ ap (λ b. b || has_refusal c.closing) h.refuses ∙ ap (λ b. before || b) c.refuses;
+      writes = both_written h.writes_all.replies c.closing h.writes_all.writes c.writes;
+    }
+
+    -- the lines that end among these bytes were answered
+    AnswersEnded-given : (refused : Bool) (given : List ℕ) (left : Option (List ℕ)) → script ≡ prepend_known given left
+        → AnswersEnded given begins ends → HasClosed refused state mid new → AnswersGiven limits script left old new
+    AnswersEnded-given refused given left gave h c = record {
+      given = given;
+      taken = gave;
+      replies = h.replies ++ c.closing;
+      are_replies = all_replies (ended_lines given) h.replies c.closing h.are_replies h.behind c.closes;
+      none_quits = list_any-append (λ (r : Reply). r.quits) h.replies c.closing ∙ ap (λ b. b || has_quit c.closing) h.none_quits
+          ∙ none_quits state c.closing c.closes;
+      writes = both_written h.replies c.closing h.writes c.writes;
+    }
+
+    -- at a read fault
+    pub Runs-given : (refused : Bool) → Runs ReadFault begins ends → HasClosed refused state mid new
+        → AnswersGiven limits script supply.left old new
+    Runs-given refused runs c = AnswersEnded-given refused runs.0 supply.left
+        (runs.1 ∙ ap (prepend_known runs.0) (none_pending-left runs.2.none_pending)) runs.2 c
+
+    -- at the limit
+    pub Runs-limit : (refused : Bool) → Runs InputLimit begins ends → HasClosed refused state mid new → (byte : ℕ)
+        × (answers : AnswersGiven limits script (prepend_known (byte ∷ []) supply.left) old new) × (length answers.given ≡ INPUT_LIMIT)
+    unfolding AnswersEnded-given
+    Runs-limit refused runs c = (
+      runs.byte,
+      AnswersEnded-given refused runs.given (prepend_known (runs.byte ∷ []) supply.left)
+          (runs.gave ∙ ap (λ left. prepend_known runs.given (prepend_known (runs.byte ∷ []) left))
+          (none_pending-left runs.answers.none_pending)) runs.answers c,
+      runs.spent,
+    )
+
+-- what is due for right arguments, and for wrong ones
+IsDue-replies : (lost : Bool) (arguments : List (List ℕ)) (script left : Option (List ℕ)) (replies : List Reply) → IsTaken arguments
+    → AreDue (given_limits arguments) script left replies ⊎ AreDueAtEnd lost (given_limits arguments) script left replies
+    → IsDue lost arguments script left (texts replies)
+IsDue-replies lost arguments script left replies right are = rw right (replies, are, refl)
+
+pub IsDue-usage : (lost : Bool) (arguments : List (List ℕ)) (script left : Option (List ℕ)) → IsUsage arguments
+    → IsDue lost arguments script left usage_line
+IsDue-usage lost arguments script left wrong = rw wrong refl
+
+-- what is due of a run over the lines, and of the end of a list
+module _ (arguments : List (List ℕ)) (script : Option (List ℕ)) (old : Outlet) (state : State) (reader : Reader) (supply : Supply)
+    (mid : Outlet) (right : IsTaken arguments) where
+  abbrev limits : Limits
+  limits = given_limits arguments
+
+  abbrev start : Stand
+  start = beginning limits script old
+
+  abbrev end : Stand
+  end = stand state reader supply mid
+
+  -- of a run that a write or want of memory cut short
+  pub cut_due : (lost failed : Bool) (cut : IsCutShort start end)
+      → (failed ≡ true → IfSome old.room (λ left. left < length (texts cut.part.replies)))
+      → WritesDue lost failed arguments script supply.left old mid
+  cut_due lost failed cut room = (
+    texts cut.part.replies,
+    IsDue-replies lost arguments script supply.left cut.part.replies right
+        (inl (WritesPrefix-due limits script old state reader supply mid cut.part)),
+    cut.part.prefix,
+    cut.part.is_prefix,
+    cut.part.writes,
+    room,
+  )
+
+  module _ (new : Outlet) where
+    -- of one after which no list was open
+    none_due : (lost refused : Bool) (part : WritesPrefix start end) → state.list ≡ None → HasClosed refused state mid new
+        → WritesDue lost false arguments script supply.left old new
+    none_due lost refused part none c = (
+      texts part.replies,
+      IsDue-replies lost arguments script supply.left part.replies right
+          (inl (WritesPrefix-due limits script old state reader supply mid part)),
+      part.prefix,
+      part.is_prefix,
+      subst (λ t. Writes t old new) (append-nil part.prefix) (Writes-append part.prefix [] old mid new part.writes
+          (subst (λ r. Writes (texts r) mid new) (none_closing state c.closing none c.closes) c.writes)),
+      λ e. absurd (cc e),
+    )
+
+    -- of one that was inside a list
+    some_due : (lost refused : Bool) (h : EndsReading lost start end) → IsSome state.list → HasClosed refused state mid new
+        → WritesDue lost false arguments script supply.left old new
+    some_due lost refused h some c =
+        let all : List Reply = h.replies ++ c.closing in (
+          texts all,
+          IsDue-replies lost arguments script supply.left all right
+              (inr (EndsReading-due limits script old state reader supply mid lost h c.closing c.closes some)),
+          texts all,
+          ([], sym (append-nil (texts all))),
+          both_written limits script old state reader supply mid new h.replies c.closing h.writes c.writes,
+          λ e. absurd (cc e),
+        )
+
+    pub closed_due : (lost refused : Bool) → WritesPrefix start end → (state.list ≡ None) ⊎ EndsReading lost start end
+        → HasClosed refused state mid new → WritesDue lost false arguments script supply.left old new
+    closed_due lost refused part which c = by_list state.list refl which where
+      by_list : (o : Option OpenList) → state.list ≡ o → (state.list ≡ None) ⊎ EndsReading lost start end
+          → WritesDue lost false arguments script supply.left old new
+      by_list None none which = none_due lost refused part none c
+      by_list (Some list) some which = ⊎_elim (λ (none : state.list ≡ None). absurd (cc (none, some)))
+          (λ (h : EndsReading lost start end). some_due lost refused h (ap is_some some) c) which
+
+    -- where the reply to the end of the list was cut off
+    pub closing_due : (lost failed : Bool) (h : EndsReading lost start end) (cut : IsClosingCut state mid new)
+        → (failed ≡ true → IfSome mid.room (λ left. left < length (texts cut.closing)))
+        → WritesDue lost failed arguments script supply.left old new
+    closing_due lost failed h cut room =
+        let all : List Reply = h.replies ++ cut.closing in (
+          texts all,
+          IsDue-replies lost arguments script supply.left all right
+              (inr (EndsReading-due limits script old state reader supply mid lost h cut.closing cut.closes cut.some)),
+          texts h.replies ++ cut.prefix,
+          (
+            cut.is_prefix.0,
+            texts-append h.replies cut.closing ∙ ap (λ t. texts h.replies ++ t) cut.is_prefix.1
+                ∙ sym (append_assoc (texts h.replies) cut.prefix cut.is_prefix.0),
+          ),
+          Writes-append (texts h.replies) cut.prefix old mid new h.writes cut.writes,
+          λ e. IfSome-made (λ left. left + length (texts h.replies)) (λ count. count < length (texts all)) old.room mid.room h.writes.room
+              (IfSome-follows (λ left. left < length (texts cut.closing)) (λ left. left + length (texts h.replies) < length (texts all))
+              mid.room (λ left less. omega (
+                arith,
+                ap length (texts-append h.replies cut.closing),
+                length-append (texts h.replies) (texts cut.closing),
+                less,
+              )) (room e)),
+        )
+
+    pub closing_lost : (lost : Bool) (h : EndsReading lost start end) (cut : IsClosingCut state mid new)
+        → (replies : List Reply) × AreDueAtEnd lost limits script supply.left replies
+    closing_lost lost h cut =
+        (h.replies ++ cut.closing, EndsReading-due limits script old state reader supply mid lost h cut.closing cut.closes cut.some)
+
+-- where nothing was read no reply is due
+AreDue-none : (limits : Limits) (script : Option (List ℕ)) → AreDue limits script script []
+AreDue-none limits script =
+    record { given = []; taken = sym (prepend_known-none script); lines = []; are_read = inl ([], refl); are_replies = refl }
+
+pub StopsReading-none : (limits : Limits) (script : Option (List ℕ))
+    → (replies : List Reply) × AreDue limits script script replies × StopsReading replies script script
+StopsReading-none limits script = ([], AreDue-none limits script, ([], sym (prepend_known-none script), few script))
+  where
+    few : (known : Option (List ℕ)) → IfSome known (λ bytes. 0 < length (bytes_of (take 0 (script_lines bytes))) + CHUNK_SIZE)
+    few None = tt
+    few (Some bytes) = omega arith
+
+-- nothing was read, whatever the arguments are
+pub WritesDue-none : (arguments : List (List ℕ)) (script : Option (List ℕ)) (old : Outlet)
+    → WritesDue false false arguments script script old old
+WritesDue-none arguments script old = by_arguments (is_refused arguments) refl
+  where
+    by_arguments : (b : Bool) → is_refused arguments ≡ b → WritesDue false false arguments script script old old
+    by_arguments true wrong =
+        (usage_line, IsDue-usage false arguments script script wrong, [], (usage_line, refl), Writes-none old, λ e. absurd (cc e))
+    by_arguments false right = (
+      [],
+      IsDue-replies false arguments script script [] right (inl (AreDue-none (given_limits arguments) script)),
+      [],
+      ([], refl),
+      Writes-none old,
+      λ e. absurd (cc e),
+    )
