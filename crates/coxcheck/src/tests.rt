@@ -2,14 +2,11 @@
 
 ghost use Rattle.std.specs.Prelude.{◌≤◌};
 
-use crate::{NAME, check, start};
+use crate::{NAME, start};
 use cox_cert::{Cause, CheckStatus};
-use cox_doubles::{MemorySink, MemorySource};
-use cox_outside::arguments_of;
+use cox_doubles::{MemorySink, Trial};
 use std::alloc::{AllocError, Global};
-use std::env::FillError;
 use std::process::Abort;
-use std::rt::Env;
 use std::test::Fail;
 
 /// The lines of a certificate, the status that is wanted, and what has to be written. A bar stands for LF.
@@ -155,17 +152,29 @@ fn text_of(alloc: Global, lines: &str) -> Result<Vec<u8>, AllocError> {
     Ok(text)
 }
 
+/// How a check ends that is given this, and the sink that it wrote to.
+fn end_of(alloc: Global, trial: Trial) -> Result<(CheckStatus, MemorySink), AllocError> {
+    let (mut source, mut sink) = trial.streams(alloc)?;
+    let collected = trial.collected(alloc, NAME);
+    let status = start(alloc, collected, &mut source, &mut sink);
+    Ok((status, sink))
+}
+
 /// A check of this text has to end so.
 fn ends(
     rt: &impl Abort,
     alloc: Global,
-    text: Vec<u8>,
+    text: &[u8],
     status: CheckStatus,
     written: &str,
 ) -> Result<(), Fail> {
-    let mut source = MemorySource::new(text, 77, Vec::new(alloc));
-    let mut sink = MemorySink::new(alloc, 20, 3, Vec::new(alloc))?;
-    let ended = check(alloc, &["coxcheck"], &mut source, &mut sink);
+    let trial = Trial {
+        read: 77,
+        write: 3,
+        room: 20,
+        ..Trial::plain(&[b"coxcheck"], text)
+    };
+    let (ended, sink) = end_of(alloc, trial)?;
     assert_eq!(rt; ended, status);
     assert_eq!(rt; sink.bytes(), written.as_bytes());
     Ok(())
@@ -177,7 +186,7 @@ fn verdicts(rt: HostRuntime) -> Result<(), Fail> {
         ends(
             &rt,
             rt.alloc(),
-            text_of(rt.alloc(), lines)?,
+            &text_of(rt.alloc(), lines)?,
             *status,
             written,
         )?;
@@ -192,7 +201,7 @@ fn long_lines(rt: HostRuntime) -> Result<(), Fail> {
     let mut long = b"cert 2 3\nelement ".to_vec(alloc)?;
     long.resize(9 + 4097, b'1')?;
     long.push(b'\n')?;
-    ends(&rt, alloc, long, NO_GRAMMAR, "no 1\n")
+    ends(&rt, alloc, &long, NO_GRAMMAR, "no 1\n")
 }
 
 /// Appends the letters 1 and 2 in turn, so many of them.
@@ -229,35 +238,10 @@ fn dihedral(alloc: Global, letters: u32) -> Result<Vec<u8>, AllocError> {
 #[test]
 fn long_elements(rt: HostRuntime) -> Result<(), Fail> {
     let alloc = rt.alloc();
-    ends(&rt, alloc, dihedral(alloc, 39)?, CheckStatus::Yes, "yes\n")?;
-    ends(&rt, alloc, dihedral(alloc, 40)?, NO_TOP, "no 2\n")?;
+    ends(&rt, alloc, &dihedral(alloc, 39)?, CheckStatus::Yes, "yes\n")?;
+    ends(&rt, alloc, &dihedral(alloc, 40)?, NO_TOP, "no 2\n")?;
     let many = "cert 3 0 0 0|element 123123123123123123123123123123123123123|rows 1|e:1|end|";
-    ends(&rt, alloc, text_of(alloc, many)?, NO_INTERVAL, "no 3\n")
-}
-
-/// An environment with these arguments.
-#[derive(Clone, Copy)]
-struct Called<'a>(&'a [&'a [u8]]);
-
-impl Env for Called<'_> {
-    fn arg(&self, i: usize, buf: &mut [u8]) -> Result<usize, FillError> {
-        let Some(argument) = self.0.get(i) else {
-            return Err(FillError::NotPresent);
-        };
-        if argument.len() > buf.len() {
-            return Err(FillError::TooLong);
-        }
-        buf[..argument.len()].copy_from_slice(argument);
-        Ok(argument.len())
-    }
-
-    fn var(&self, _name: &str, _buf: &mut [u8]) -> Result<usize, FillError> {
-        Err(FillError::NotPresent)
-    }
-
-    fn var_at(&self, _i: usize, _buf: &mut [u8]) -> Result<usize, FillError> {
-        Err(FillError::NotPresent)
-    }
+    ends(&rt, alloc, &text_of(alloc, many)?, NO_INTERVAL, "no 3\n")
 }
 
 /// What a start is given, which reads and writes fail, and what comes of it.
@@ -302,11 +286,17 @@ const STARTS: &[Start] = &[
 #[test]
 fn starts(rt: HostRuntime) -> Result<(), Fail> {
     let alloc = rt.alloc();
-    for (arguments, failing_reads, failing_writes, status, written) in STARTS {
-        let mut source = MemorySource::new(text_of(alloc, WHOLE)?, 7, failing_reads.to_vec(alloc)?);
-        let mut sink = MemorySink::new(alloc, 20, 5, failing_writes.to_vec(alloc)?)?;
-        let collected = arguments_of(&Called(arguments), alloc, NAME);
-        let ended = start(alloc, collected, &mut source, &mut sink);
+    let text = text_of(alloc, WHOLE)?;
+    for (arguments, reads, writes, status, written) in STARTS {
+        let trial = Trial {
+            read: 7,
+            write: 5,
+            failing_reads: reads,
+            failing_writes: writes,
+            room: 20,
+            ..Trial::plain(arguments, &text)
+        };
+        let (ended, sink) = end_of(alloc, trial)?;
         assert_eq!(rt; ended, *status, "at {arguments:?}");
         assert_eq!(rt; sink.bytes(), written.as_bytes(), "at {arguments:?}");
     }

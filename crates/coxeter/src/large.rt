@@ -1,5 +1,6 @@
 //! Large answers, which no lack of memory cuts off, with values from outside; and lines and inputs at their limits.
-use crate::runs::{Run, end_of, plain};
+use crate::runs::end_of;
+use cox_doubles::Trial;
 use cox_outside::Open;
 use cox_shell::Status;
 use std::test::Fail;
@@ -27,11 +28,11 @@ const BEGINNINGS: &[(&str, &str)] = &[
 #[test]
 fn large_answers(rt: HostRuntime) -> Result<(), Fail> {
     for (script, beginning) in BEGINNINGS {
-        let run = Run {
+        let trial = Trial {
             room: 4_000_000,
-            ..plain(&[b"coxeter"], script.as_bytes())
+            ..Trial::plain(&[b"coxeter"], script.as_bytes())
         };
-        let (status, sink) = end_of(&rt, rt.alloc(), run, &Open)?;
+        let (status, sink) = end_of(&rt, rt.alloc(), trial, &Open)?;
         assert_eq!(rt; status, Status::Done, "at {script:?}");
         assert!(rt;
             sink.bytes().starts_with(beginning.as_bytes()),
@@ -45,12 +46,12 @@ fn large_answers(rt: HostRuntime) -> Result<(), Fail> {
 #[test]
 fn an_answer_of_16_megabytes(rt: HostRuntime) -> Result<(), Fail> {
     let script = b"type B 7\ninterval e 1234567654321234567654323456765434567654567656767\n";
-    let run = Run {
+    let trial = Trial {
         write: usize::MAX,
         room: 17_000_000,
-        ..plain(&[b"coxeter"], script)
+        ..Trial::plain(&[b"coxeter"], script)
     };
-    let (status, sink) = end_of(&rt, rt.alloc(), run, &Open)?;
+    let (status, sink) = end_of(&rt, rt.alloc(), trial, &Open)?;
     assert_eq!(rt; status, Status::Done);
     assert!(rt; sink.bytes().starts_with(b"645120\ne\n1\n"));
     assert_eq!(rt; sink.bytes().len(), 16_450_568);
@@ -68,10 +69,10 @@ fn intervals_of_the_longest_word(rt: HostRuntime) -> Result<(), Fail> {
         }
     }
     let room: &[&[u8]] = &[b"coxeter", b"--context=510"];
-    let (_, sink) = end_of(&rt, rt.alloc(), plain(room, &script), &Open)?;
+    let (_, sink) = end_of(&rt, rt.alloc(), Trial::plain(room, &script), &Open)?;
     assert!(rt; sink.bytes().starts_with(b"510\ne:1\n1:1\n2:1\n12:1\n"));
     let less: &[&[u8]] = &[b"coxeter", b"--context=509"];
-    let (_, sink) = end_of(&rt, rt.alloc(), plain(less, &script), &Open)?;
+    let (_, sink) = end_of(&rt, rt.alloc(), Trial::plain(less, &script), &Open)?;
     assert_eq!(rt; sink.bytes(), b"error 31\nerror 31\n".as_slice());
     Ok(())
 }
@@ -106,8 +107,8 @@ fn limits_of_bytes(rt: HostRuntime) -> Result<(), Fail> {
         let mut script = first.to_vec(rt.alloc())?;
         script.resize(*size, *byte)?;
         script.extend_from_slice(last)?;
-        let run = plain(&[b"coxeter"], &script);
-        let (ended, sink) = end_of(&rt, rt.alloc(), run, &Open)?;
+        let trial = Trial::plain(&[b"coxeter"], &script);
+        let (ended, sink) = end_of(&rt, rt.alloc(), trial, &Open)?;
         assert_eq!(rt; ended, *status, "at {size} bytes {byte}");
         assert_eq!(rt; sink.bytes(), *written, "at {size} bytes {byte}");
     }

@@ -1,8 +1,8 @@
 //! Whole runs from the arguments of an environment: with options, with faults, and with inputs that end in each way.
 
 use crate::NAME;
-use crate::runs::{Called, Run, end_of, plain};
-use cox_doubles::{MemorySink, MemorySource};
+use crate::runs::end_of;
+use cox_doubles::{CommandLine, MemorySink, MemorySource, Trial};
 use cox_outside::{Got, Open, Source, arguments_of};
 use cox_shell::{Status, run_one};
 use std::test::Fail;
@@ -252,8 +252,8 @@ const FAULTS: &[Faulty] = &[
 #[test]
 fn starts(rt: HostRuntime) -> Result<(), Fail> {
     for (arguments, script, written, status) in STARTS {
-        let run = plain(arguments, script.as_bytes());
-        let (ended, sink) = end_of(&rt, rt.alloc(), run, &Open)?;
+        let trial = Trial::plain(arguments, script.as_bytes());
+        let (ended, sink) = end_of(&rt, rt.alloc(), trial, &Open)?;
         assert_eq!(rt; ended, *status, "at {arguments:?} {script:?}");
         assert_eq!(rt;
             sink.bytes(),
@@ -267,14 +267,14 @@ fn starts(rt: HostRuntime) -> Result<(), Fail> {
 #[test]
 fn faults(rt: HostRuntime) -> Result<(), Fail> {
     for (arguments, script, reads, writes, written, status) in FAULTS {
-        let run = Run {
+        let trial = Trial {
             read: 16,
             write: 5,
             failing_reads: reads,
             failing_writes: writes,
-            ..plain(arguments, script.as_bytes())
+            ..Trial::plain(arguments, script.as_bytes())
         };
-        let (ended, sink) = end_of(&rt, rt.alloc(), run, &Open)?;
+        let (ended, sink) = end_of(&rt, rt.alloc(), trial, &Open)?;
         assert_eq!(rt; ended, *status, "at {arguments:?} {reads:?} {writes:?}");
         assert_eq!(rt;
             sink.bytes(),
@@ -287,13 +287,13 @@ fn faults(rt: HostRuntime) -> Result<(), Fail> {
 
 #[test]
 fn arguments(rt: HostRuntime) -> Result<(), Fail> {
-    let named = Called(&[b"./\xff", b"--context", b"\xc3\xa4"]);
+    let named = CommandLine(&[b"./\xff", b"--context", b"\xc3\xa4"]);
     let arguments = arguments_of(&named, rt.alloc(), NAME)?.expect(&rt, "these are texts");
     assert_eq!(rt; arguments.len(), 3);
     assert_eq!(rt; arguments[0].as_str(), "coxeter");
     assert_eq!(rt; arguments[1].as_str(), "--context");
     assert_eq!(rt; arguments[2].as_str(), "\u{e4}");
-    let broken = Called(&[b"coxeter", b"--context", b"\xff"]);
+    let broken = CommandLine(&[b"coxeter", b"--context", b"\xff"]);
     assert!(rt; arguments_of(&broken, rt.alloc(), NAME)?.is_none());
     Ok(())
 }

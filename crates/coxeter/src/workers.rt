@@ -1,112 +1,12 @@
 //! Whole runs with several workers: they write the same bytes, they work at once, and they make no row twice.
-use crate::runs::{end_of, plain};
-use cox_doubles::MemorySink;
-use cox_outside::{Gate, Open, Point};
+use crate::runs::end_of;
+use cox_doubles::{Census, MemorySink, Trial};
+use cox_outside::{Gate, Open};
 use cox_shell::{Session, Status};
 use std::alloc::{AllocError, Global};
 use std::sync::Wait;
-use std::sync::atomic::AtomicU64;
-use std::sync::atomic::Ordering::SeqCst;
 use std::test::Fail;
-use std::thread;
 use std::thread::Threads;
-
-/// How often a thread is held, at most, while others do not come.
-const TURNS: u32 = 100_000_000;
-
-/// A gate that sees how many threads work at once, where so many are awaited.
-///
-/// It holds each worker at its first claim until as many workers have come to a claim, and each block before it begins until as many blocks
-/// have come there. It counts how often each row is published, and the holds that ended before the others came.
-#[derive(Drop)]
-struct Census {
-    awaited: u64,
-    claims: Vec<AtomicU64>,
-    workers: AtomicU64,
-    blocks: AtomicU64,
-    published: Vec<AtomicU64>,
-    late: AtomicU64,
-}
-
-/// So many counts, each 0.
-fn counts(alloc: Global, number: usize) -> Result<Vec<AtomicU64>, AllocError> {
-    let mut counts = Vec::with_capacity(alloc, number)?;
-    for _ in 0..number {
-        counts.push(AtomicU64::new(0))?;
-    }
-    Ok(counts)
-}
-
-impl Census {
-    /// A gate where so many threads are awaited, for so many rows.
-    fn new(alloc: Global, awaited: u64, rows: usize) -> Result<Census, AllocError> {
-        Ok(Census {
-            awaited,
-            claims: counts(alloc, 16)?,
-            workers: AtomicU64::new(0),
-            blocks: AtomicU64::new(0),
-            published: counts(alloc, rows)?,
-            late: AtomicU64::new(0),
-        })
-    }
-
-    /// Counts one, and holds the thread until as many as are awaited were counted.
-    fn meet(&self, count: &AtomicU64) {
-        count.fetch_add(1, SeqCst);
-        for _ in 0..TURNS {
-            if count.load(SeqCst) >= self.awaited {
-                return;
-            }
-            thread::yield_now();
-        }
-        self.late.fetch_add(1, SeqCst);
-    }
-
-    /// How many rows were published once, and how many more often.
-    fn published(&self) -> (usize, usize) {
-        let counts = self.published.iter();
-        let once = counts.filter(|passes| passes.load(SeqCst) == 1).count();
-        let counts = self.published.iter();
-        let again = counts.filter(|passes| passes.load(SeqCst) > 1).count();
-        (once, again)
-    }
-
-    /// How often all workers have passed before a claim.
-    fn claims(&self) -> u64 {
-        let counts = self.claims.iter();
-        counts.fold(0u64, |sum, passes| sum.saturating_add(passes.load(SeqCst)))
-    }
-
-    /// How many workers have claimed rows, how many blocks were begun, and how many holds ended before the others came.
-    fn seen(&self) -> (u64, u64, u64) {
-        (
-            self.workers.load(SeqCst),
-            self.blocks.load(SeqCst),
-            self.late.load(SeqCst),
-        )
-    }
-}
-
-impl Gate for Census {
-    fn pass<R: Wait>(&self, rt: &R, worker: u32, point: Point, row: u32) {
-        let _ = rt;
-        match point {
-            Point::Claim => {
-                if let Some(claims) = self.claims.get(worker.saturating_sub(1) as usize)
-                    && claims.fetch_add(1, SeqCst) == 0
-                {
-                    self.meet(&self.workers);
-                }
-            }
-            Point::Publish => {
-                if let Some(passes) = self.published.get(row as usize) {
-                    passes.fetch_add(1, SeqCst);
-                }
-            }
-            Point::Block => self.meet(&self.blocks),
-        }
-    }
-}
 
 /// How a run over a script with this number of workers ends, and the sink that it wrote to.
 fn run_by<R: Threads + Wait + Sync, G: Gate + Sync>(
@@ -117,7 +17,8 @@ fn run_by<R: Threads + Wait + Sync, G: Gate + Sync>(
     gate: &G,
 ) -> Result<(Status, MemorySink), AllocError> {
     let arguments: [&[u8]; 3] = [b"coxeter", b"--workers", workers];
-    end_of(rt, alloc, plain(&arguments, script.as_bytes()), gate)
+    let trial = Trial::plain(&arguments, script.as_bytes());
+    end_of(rt, alloc, trial, gate)
 }
 
 /// Scripts that have to write the same with any number of workers.
@@ -142,8 +43,8 @@ const NUMBERS: &[&[u8]] = &[
 fn write_the_same(rt: HostRuntime) -> Result<(), Fail> {
     let alloc = rt.alloc();
     for script in SCRIPTS {
-        let run = plain(&[b"coxeter"], script.as_bytes());
-        let (status, sink) = end_of(&rt, alloc, run, &Open)?;
+        let trial = Trial::plain(&[b"coxeter"], script.as_bytes());
+        let (status, sink) = end_of(&rt, alloc, trial, &Open)?;
         for workers in NUMBERS {
             let (ended, other) = run_by(&rt, alloc, script, workers, &Open)?;
             assert_eq!(rt; ended, status, "{workers:?} workers at {script:?}");
@@ -174,7 +75,7 @@ fn work_at_once(rt: HostRuntime) -> Result<(), Fail> {
         assert_eq!(rt; status, Status::Done);
         assert_eq!(rt; gate.seen(), (awaited, 16, 0), "{awaited} workers");
         assert_eq!(rt; gate.published(), (1920, 0), "{awaited} workers");
-        assert!(rt; gate.claims() >= 1920, "{awaited} workers");
+        assert_eq!(rt; gate.claimed(), 1920, "{awaited} workers");
         assert!(rt; sink.bytes() == one.bytes(), "{awaited} workers");
     }
     Ok(())

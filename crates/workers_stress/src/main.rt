@@ -8,16 +8,14 @@ ghost use Rattle.std.specs.Prelude.{◌≡◌, ◌≤◌};
 
 use cox_base::Coxeter;
 use cox_context::Context;
-use cox_doubles::MeetingGate;
+use cox_doubles::Census;
 use cox_minroots::{MAX_SMALL_ROOTS, RootTable};
-use cox_outside::{Gate, Open, Point};
+use cox_outside::{Gate, Open};
 use cox_row::Row;
 use cox_row_store::RowStore;
 use cox_workers::{all_members, fill, fill_row};
 use std::alloc::{AllocError, Global};
 use std::sync::Wait;
-use std::sync::atomic::AtomicU64;
-use std::sync::atomic::Ordering::SeqCst;
 use std::thread::Threads;
 
 /// The greatest coefficient.
@@ -75,41 +73,6 @@ fn last_row<R: Threads + Wait + Sync, G: Gate + Sync>(
     Ok(store.into_rows(rt, seat))
 }
 
-/// A gate that counts how many rows a worker came to claim.
-#[derive(Drop)]
-struct ClaimGate {
-    claims: Vec<AtomicU64>,
-}
-
-impl ClaimGate {
-    /// A gate for so many rows.
-    fn new(alloc: Global, rows: u32) -> Result<ClaimGate, AllocError> {
-        let mut claims = Vec::with_capacity(alloc, rows as usize)?;
-        for _ in 0..rows {
-            claims.push(AtomicU64::new(0))?;
-        }
-        Ok(ClaimGate { claims })
-    }
-
-    /// How many rows somebody came to claim.
-    fn claimed(&self) -> usize {
-        self.claims
-            .iter()
-            .filter(|passes| passes.load(SeqCst) > 0)
-            .count()
-    }
-}
-
-impl Gate for ClaimGate {
-    fn pass<R: Wait>(&self, rt: &R, worker: u32, point: Point, row: u32) {
-        let _ = rt;
-        let _ = worker;
-        if let (Point::Claim, Some(passes)) = (point, self.claims.get(row as usize)) {
-            passes.fetch_add(1, SeqCst);
-        }
-    }
-}
-
 /// What the rows come to.
 fn count_all(rows: &[Option<Row>]) -> Counts {
     let mut sum = Counts {
@@ -146,16 +109,13 @@ fn main(rt: HostRuntime) -> anyhow::Result<()> {
             sum.rows, sum.polynomials, sum.mus
         )?;
     }
-    let gate = ClaimGate::new(alloc, context.len())?;
-    let sum = count_all(all_rows(&rt, alloc, &context, 2, &gate)?.as_slice());
-    println!(rt; "{} rows, {} came to be claimed", sum.rows, gate.claimed())?;
-    let gate = MeetingGate::new(alloc, context.len())?;
-    let sum = count_all(all_rows(&rt, alloc, &context, 2, &gate)?.as_slice());
-    println!(rt;
-        "{} rows, {} published once, {} late",
-        sum.rows,
-        gate.published_once(),
-        gate.late()
-    )?;
+    for awaited in [1, 2] {
+        let gate = Census::new(alloc, awaited, context.len() as usize)?;
+        let sum = count_all(all_rows(&rt, alloc, &context, 2, &gate)?.as_slice());
+        println!(rt; "{} rows, {} came to be claimed", sum.rows, gate.claimed())?;
+        let (once, _) = gate.published();
+        let (_, _, late) = gate.seen();
+        println!(rt; "{once} published once, {late} late")?;
+    }
     Ok(())
 }
