@@ -40,7 +40,8 @@ one-no_roots : (kind : OneWord) (limits : Limits) (g : CoxeterMatrix) (A : Integ
 one-no_roots Compute limits g A w r = r
 one-no_roots _ limits g A w r = r
 
-two-no_roots : (kind : TwoWord) (limits : Limits) (A : IntegerMatrix) (y w : List ℕ) → (two_question kind limits A y w).Refuses ManyRoots → ⊥
+two-no_roots : (kind : TwoWord) (limits : Limits) (A : IntegerMatrix) (y w : List ℕ)
+    → (two_question kind limits A y w).Refuses ManyRoots → ⊥
 two-no_roots Inorder limits A y w r = r
 two-no_roots _ limits A y w r = r
 

@@ -45,19 +45,22 @@ pub returns-clause-inorder : goal.returns-clause-inorder
 returns-clause-inorder c state g y w u v set first second = two-answered state g set (codes "inorder") two.Inorder y w u v refl first second
 
 pub returns-clause-interval : goal.returns-clause-interval
-returns-clause-interval c state g y w u v set first second = two-answered state g set (codes "interval") two.Interval y w u v refl first second
+returns-clause-interval c state g y w u v set first second =
+    two-answered state g set (codes "interval") two.Interval y w u v refl first second
 
 pub returns-clause-rpol : goal.returns-clause-rpol
 returns-clause-rpol c state g y w u v set first second = two-answered state g set (codes "rpol") two.Rpol y w u v refl first second
 
 pub returns-clause-pol : goal.returns-clause-pol
-returns-clause-pol c state g y w u v set first second = two-answered state g set (codes "pol") (two.OfEntry entry.Pol) y w u v refl first second
+returns-clause-pol c state g y w u v set first second =
+    two-answered state g set (codes "pol") (two.OfEntry entry.Pol) y w u v refl first second
 
 pub returns-clause-invpol : goal.returns-clause-invpol
 returns-clause-invpol c state g y w u v set first second = two-answered state g set (codes "invpol") two.Invpol y w u v refl first second
 
 pub returns-clause-mu : goal.returns-clause-mu
-returns-clause-mu c state g y w u v set first second = two-answered state g set (codes "mu") (two.OfEntry entry.Mu) y w u v refl first second
+returns-clause-mu c state g y w u v set first second =
+    two-answered state g set (codes "mu") (two.OfEntry entry.Mu) y w u v refl first second
 
 pub returns-clause-lwgraph : goal.returns-clause-lwgraph
 returns-clause-lwgraph c state g set = group-answered state g set (codes "lwgraph") whole.Lwgraph refl
