@@ -43,7 +43,8 @@ def read(path):
 def with_foo(text):
     """A file with a case of `foo` behind each one of its twin; None where it has none."""
     lines, out, at = text.split("\n"), [], 0
-    word = re.compile(rf'\b{NAME}\b|"{TWIN}"')
+    # Its variant, its word, and its clause of a law with the proof of that.
+    word = re.compile(rf'\b{NAME}\b|"{TWIN}"|\bensures {TWIN} |-clause-{TWIN}\b')
     while at < len(lines):
         line = lines[at]
         at += 1
@@ -51,6 +52,9 @@ def with_foo(text):
             out.append(line)
         elif re.match(r"\s*(ghost |pub )?use ", line):
             out.append(re.sub(rf"\b{NAME}\b", f"{NAME}, Foo", line))
+        elif re.search(rf"∷ [^∷]*\b{NAME}\b", line):
+            # An element of a list.
+            out.append(re.sub(rf"(∷ [^∷]*?)\b{NAME}\b([^∷]*?)(?= ∷|$)", rf"\1{NAME}\2 \1Foo\2", line))
         elif re.search(rf"\w+::{NAME} \|", line):
             out.append(re.sub(rf"(\w+)::{NAME} \|", rf"\1::{NAME} | \1::Foo |", line))
         elif re.fullmatch(rf"\s*{NAME},", line):
@@ -64,9 +68,8 @@ def with_foo(text):
             ):
                 block.append(lines[at])
                 at += 1
-            out += block + [
-                re.sub(rf"\b{NAME}\b", "Foo", it).replace(f'"{TWIN}"', '"foo"') for it in block
-            ]
+            twins = [re.sub(rf"\b{NAME}\b", "Foo", it) for it in block]
+            out += block + [word.sub(lambda it: it[0].replace(TWIN, "foo"), it) for it in twins]
     return None if out == lines else "\n".join(out)
 
 
