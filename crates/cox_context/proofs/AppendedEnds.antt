@@ -1,11 +1,10 @@
 -- The end of a reduced word from a letter on, the next member on the way to it, and the members that are appended.
 use Rattle.std.proofs.Common.{◌≡◌, ℕ, suc, ◌+◌, ◌≤◌, ◌<◌, Bool, List, [], ◌∷◌, length, drop, Contains, drop-cons, refl}
-use Rattle.std.proofs.Common.{◌∙◌, arith, ap, slice_index, inl, inr, ◌⊎◌, ⊎_elim, ◌↔◌, take, Result, Ok, Err, OnOk, OnErr}
+use Rattle.std.proofs.Common.{◌∙◌, arith, ap, slice_index, inl, inr, ◌⊎◌, ⊎_elim, ◌↔◌, take}
 use Rattle.std.proofs.lemmas.List.{length-drop}
 use Rattle.cox_base.specs.Matrix.{CoxeterMatrix, IsLetter}
 use Rattle.cox_base.specs.Admissible.{IsAdmissible}
 use Rattle.cox_base.specs.IntegerMatrix.{IntegerMatrix, integer_matrix}
-use Rattle.cox_base.specs.Element.{SameElement}
 use Rattle.cox_base.specs.ShortLex.{normal_form}
 use Rattle.cox_base.specs.Length.{word_length}
 use Rattle.cox_base.specs.Bruhat.{IsBelow}
@@ -14,11 +13,9 @@ use Rattle.cox_base.specs.Reduced.{IsReduced}
 use Rattle.cox_base.specs.Descents.{IsLeftDescent}
 use Rattle.cox_base.specs.declared.limits.TheConstants.{MAX_LETTERS}
 use Rattle.cox_reflect.proofs.OrderByLifting.{first-descent, IsReduced-drop}
-use Rattle.cox_reflect.proofs.Elements.{same-refl, same-sym}
-use Rattle.cox_reflect.proofs.Bruhat.{below-same, below-length}
+use Rattle.cox_reflect.proofs.Bruhat.{below-length}
 use Rattle.cox_reflect.proofs.NormalElements.{element-normal_form, element-length}
 use Rattle.cox_lemmas.proofs.PushedItems.{push-length}
-use Rattle.cox_reflect.proofs.Search.{normal_form-same}
 use Rattle.cox_context.specs.Closed.{IsClosed, Elements}
 use Rattle.cox_context.specs.Numbers.{word_at}
 use Rattle.cox_context.specs.Union.{IsInUnion}
@@ -183,20 +180,6 @@ module _ (A : IntegerMatrix) (g : IsAdmissible A) (old new : List (List ℕ)) (t
             is = appended.kept.word q.i q.within ∙ q.is;
           })
 
--- the same by another word of the element
-pub union-along : (A : IntegerMatrix) → IsAdmissible A → (top w : List ℕ) (old : List (List ℕ)) → SameElement A top w → (word : List ℕ)
-    → IsInUnion A top old word ↔ IsInUnion A w old word
-union-along A g top w old same word = (
-  λ p. record {
-    element = p.element;
-    either = ⊎_elim (λ b. inl (below-same A g (same-refl A g word) same b)) (λ c. inr c) p.either;
-  },
-  λ p. record {
-    element = p.element;
-    either = ⊎_elim (λ b. inl (below-same A g (same-refl A g word) (same-sym A g same) b)) (λ c. inr c) p.either;
-  },
-)
-
 -- ---- what an end of the appending tells
 
 -- the first of the new words are the old ones
@@ -208,22 +191,9 @@ kept-take (x ∷ old) (y ∷ new) h =
     in let rest = kept-take old new (record { size = omega (arith, h.size); word = λ i l. h.word (suc i) (omega (arith, l)) })
     in ap (λ (u : List ℕ). u ∷ take (length old) new) first ∙ ap (λ (r : List (List ℕ)). x ∷ r) rest
 
-pub on-err : {T E : Type 0} (P : Type 0) (r : Result T E) → P → OnErr r P
-on-err P (Ok v) p = tt
-on-err P (Err e) p = p
-
 -- a context with the members that there were
 pub elements-back : (now new seen : Elements) → new.matrix ≡ now.matrix → AreKept now.members new.members
     → seen ≡ record { matrix = new.matrix; members = take (length now.members) new.members } → seen ≡ now
 elements-back now new seen matrix kept e =
     e ∙ ap (λ (c : CoxeterMatrix). record { matrix = c; members = take (length now.members) new.members }) matrix
     ∙ ap (λ (words : List (List ℕ)). record { matrix = now.matrix; members = words }) (kept-take now.members new.members kept)
-
--- the union with the interval up to w, by the normal form of w
-pub union-form : {T E : Type 0} (A : IntegerMatrix) → IsAdmissible A → (top w : List ℕ) → top ≡ normal_form A w → (old new : List (List ℕ))
-    → (r : Result T E) → OnOk r ((word : List ℕ) → Contains new word ↔ IsInUnion A top old word)
-    → OnOk r ((word : List ℕ) → Contains new word ↔ IsInUnion A w old word)
-union-form A g top w form old new (Err e) h = tt
-union-form A g top w form old new (Ok v) h = λ word.
-    let along = union-along A g top w old (rw form (normal_form-same A g w)) word
-    in (λ c. along.0 ((h word).0 c), λ p. (h word).1 (along.1 p))

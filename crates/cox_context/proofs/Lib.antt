@@ -62,3 +62,5 @@ pub mod PushedRows
 pub mod CutTables
 -- how many words a union has, and why a growth is refused
 pub mod UnionSizes
+-- a union by the normal form of the element that it is with
+pub mod UnionForms

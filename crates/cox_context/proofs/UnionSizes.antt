@@ -12,7 +12,6 @@ use Rattle.cox_lemmas.proofs.PushedItems.{push-length}
 use Rattle.cox_base.specs.declared.limits.TheConstants.{MAX_LETTERS}
 use Rattle.cox_base.specs.IntegerMatrix.{IntegerMatrix}
 use Rattle.cox_base.specs.Admissible.{IsAdmissible}
-use Rattle.cox_base.specs.Element.{SameElement}
 use Rattle.cox_base.specs.ShortLex.{normal_form}
 use Rattle.cox_base.specs.Reduced.{IsReduced}
 use Rattle.cox_base.specs.Bruhat.{IsSubword, left_out, IsBelow}
@@ -21,7 +20,6 @@ use Rattle.cox_base.specs.SortedList.{IsListOf, HasMoreThan}
 use Rattle.cox_reflect.proofs.Elements.{same-refl}
 use Rattle.cox_reflect.proofs.Members.{Each-append, Each-from, In-append_left, In-append_right}
 use Rattle.cox_reflect.proofs.Lengths.{word_length-is}
-use Rattle.cox_reflect.proofs.Search.{normal_form-same}
 use Rattle.cox_reflect.proofs.Bruhat.{below-length, below-subword, subword-below}
 use Rattle.cox_reflect.proofs.NormalElements.{element-length}
 use Rattle.cox_reflect.proofs.Listing.{listing, contains-in, in-contains}
@@ -38,7 +36,6 @@ use Rattle.cox_context.proofs.ShortLexLists.{HasMoreThan-few}
 use Rattle.cox_context.proofs.IntervalLists.{interval-exists}
 use Rattle.cox_context.proofs.GroupSizes.{taken, taken-length}
 use Rattle.cox_context.proofs.Spreading.{contains_cases, distinct-push}
-use Rattle.cox_context.proofs.AppendedEnds.{union-along}
 
 -- ---- distinct words
 
@@ -179,17 +176,8 @@ module _ (A : IntegerMatrix) (g : IsAdmissible A) where
         union-over short limit (distinct-more (IsInUnion A w old) limit old closed.distinct
         (λ word c. record { element = closed.element word c; either = inr c }) many)
 
-    union-refused : {T : Type 0} → length (normal_form A w) ≤ MAX_LETTERS → (limit : ℕ) (r : Result T ContextFault)
-        → IfErr r (IsOverfull (IsInUnion A w old) limit) → IfErr r (IsRefusal (IsInUnion A w old) limit)
-    union-refused short limit (Ok v) h = h
-    union-refused short limit (Err (Size bound seen)) (is, one_more, more) = (is, one_more, union-over short limit more)
-    union-refused short limit (Err Long) h = absurd h
-    union-refused short limit (Err NoMemory) h = h
-
-    -- the same of the union with the interval up to the normal form of w
-    pub growth-refused : {T : Type 0} (top : List ℕ) → top ≡ normal_form A w → length top ≤ MAX_LETTERS → (limit : ℕ)
-        (r : Result T ContextFault) → IfErr r (IsOverfull (IsInUnion A top old) limit) → IfErr r (IsRefusal (IsInUnion A w old) limit)
-    growth-refused top form short limit r h =
-        let same : SameElement A top w = rw form (normal_form-same A g w)
-        in union-refused (rw form at short) limit r (overfull-weaker (IsInUnion A top old) (IsInUnion A w old) limit r
-        (λ word p. (union-along A g top w old same word).0 p) h)
+    pub union-refused : length (normal_form A w) ≤ MAX_LETTERS → (limit : ℕ) (fault : ContextFault)
+        → IsOverfull (IsInUnion A w old) limit fault → IsRefusal (IsInUnion A w old) limit fault
+    union-refused short limit (Size bound seen) (is, one_more, more) = (is, one_more, union-over short limit more)
+    union-refused short limit Long h = absurd h
+    union-refused short limit NoMemory h = h

@@ -16,6 +16,8 @@ pub mod Links
 pub mod Numbers
 -- numbers of words
 pub mod Numbering
+-- where an element stands
+pub mod Standings
 -- the tables of shifts
 pub mod Shifts
 -- the table of inverses

@@ -1,5 +1,5 @@
 //! Contexts and their calls.
-ghost use Rattle.std.specs.Prelude.{◌≡◌, ℕ, List, Contains, ◌+◌, ◌<◌, ◌≤◌, ◌↔◌, ◌∷◌, ◌++◌, [], length, take, reverse, IfOk, IfErr, OnOk, OnErr, IsTrue, IsBitSet};
+ghost use Rattle.std.specs.Prelude.{◌≡◌, ℕ, List, Contains, ◌+◌, ◌<◌, ◌≤◌, ◌↔◌, ◌∷◌, ◌++◌, [], length, take, reverse, Some, IfOk, IfErr, OnOk, OnErr, IsTrue, IsBitSet};
 ghost use Rattle.cox_base.specs.Matrix.{IsLetter, IsWord};
 ghost use Rattle.cox_base.specs.Admissible.{IsAdmissible};
 ghost use Rattle.cox_base.specs.IntegerMatrix.{integer_matrix};
@@ -14,6 +14,7 @@ ghost use Rattle.cox_context.specs.Closed.{IsClosed};
 ghost use Rattle.cox_base.specs.SortedList.{IsListOf};
 ghost use Rattle.cox_context.specs.Numbers.{word_at};
 ghost use Rattle.cox_context.specs.Numbering.{IsNumberOf};
+ghost use Rattle.cox_context.specs.Standings.{IsStandingOf};
 ghost use Rattle.cox_context.specs.FaultMeaning.{IsRefusal};
 ghost use Rattle.cox_context.specs.Shifts.{AreLeftShifts};
 
@@ -26,6 +27,7 @@ use crate::members::{Link, MAX_MEMBERS};
 use crate::right_shifts::{push_last_row, right_shifts};
 use crate::scope::Scope;
 use crate::shifts::{MAX_NARROW_MEMBERS, cut_back, entry_by, narrowed};
+use crate::standing::Standing;
 use cox_base::{Coxeter, MAX_LETTERS, Side, Word};
 use cox_minroots::RootTable;
 use cox_reflect::{LETTERS_OF_128_BITS, descents, normal_form};
@@ -193,20 +195,44 @@ impl Context {
         ensures unchanged { OnErr result (self.new ≡ self.old) }
     {
         let _letters = w.len();
-        let first = self.len();
-        if first > limit {
+        if self.len() > limit {
             return Err(ContextFault::Size {
                 limit,
                 seen: limit + 1,
             });
         }
-        let top = group.normal_form(w);
+        let form = group.normal_form(w);
+        self.extend_to(&form, limit)?;
+        Ok(())
+    }
+
+    /// Adds the elements below the element with this normal form, which `look_up` tells of one that is no member, and tells its number. All
+    /// else is as in `extend`.
+    pub fn extend_to(&mut self, form: &Word, limit: u32) -> Result<u32, ContextFault>
+        requires form { IsElement (integer_matrix self.old.matrix) form.now.items }
+        requires limit { limit ≤ MAX_MEMBERS }
+        requires room { length self.old.members ≤ limit }
+        ensures matrix { self.new.matrix ≡ self.old.matrix }
+        ensures kept { AreKept self.old.members self.new.members }
+        ensures members { OnOk result ((word : List ℕ) → Contains self.new.members word
+            ↔ IsInUnion (integer_matrix self.old.matrix) form.now.items self.old.members word) }
+        ensures few { OnOk result (length self.new.members ≤ limit) }
+        ensures number { IfOk result (λ i. IsNumberOf self.new.members form.now.items (Some i)) }
+        ensures refused { IfErr result
+            (IsRefusal (IsInUnion (integer_matrix self.old.matrix) form.now.items self.old.members) limit) }
+        ensures unchanged { OnErr result (self.new ≡ self.old) }
+    {
+        let _letters = form.len();
+        let first = self.len();
         let alloc = *self.listing.left.allocator();
-        let result = append_below(alloc, self, &top, limit);
-        if result.is_err() {
+        if let Err(fault) = append_below(alloc, self, form, limit) {
             self.cut_back(first);
+            return Err(fault);
         }
-        result
+        match self.number(form) {
+            Some(i) => Ok(i),
+            None => unreachable!(),
+        }
     }
 
     /// Appends the member y = s x, for the member x with the number j, behind the others. After a fault all is as before.
@@ -337,35 +363,52 @@ impl Context {
         &self.group
     }
 
-    /// The number of the element that a word names; `None` exactly where it is no member. In A 2, with all six elements as members, that of
-    /// `12121` is 2.
+    /// Where the element that a word names stands: its number, or its normal form where it is no member. In A 2, with the identity and `1` as
+    /// members, `212` is outside, and its normal form is `121`.
     ///
     /// By right shifts, letter by letter, and by the normal form where one of these leads to no member.
-    pub fn number_of(&self, group: &RootTable, word: &Word) -> Option<u32>
+    pub fn look_up(&self, group: &RootTable, word: &Word) -> Standing
         requires matrix { group.now ≡ self.now.matrix }
         requires letters { IsWord group.now.rank word.now.items }
-        ensures { IsNumberOf self.now.members (normal_form (integer_matrix group.now) word.now.items) result }
+        ensures { IsStandingOf self.now.members (normal_form (integer_matrix group.now) word.now.items) result }
     {
         prove!(self.len() > 0);
         let letters = word.as_slice();
         let mut at = 0;
         for &s in letters {
             let Some(longer) = self.right(s, at) else {
-                return self.number_by_form(group, word);
+                return self.look_up_by_form(group, word);
             };
             at = longer;
         }
-        Some(at)
+        Standing::Member(at)
     }
 
     /// The same by the normal form.
     #[cold]
-    fn number_by_form(&self, group: &RootTable, word: &Word) -> Option<u32>
+    fn look_up_by_form(&self, group: &RootTable, word: &Word) -> Standing
+        requires matrix { group.now ≡ self.now.matrix }
+        requires letters { IsWord group.now.rank word.now.items }
+        ensures { IsStandingOf self.now.members (normal_form (integer_matrix group.now) word.now.items) result }
+    {
+        let form = group.normal_form(word);
+        match self.number(&form) {
+            Some(i) => Standing::Member(i),
+            None => Standing::Outside(form),
+        }
+    }
+
+    /// The number of the element that a word names; `None` exactly where it is no member. In A 2, with all six elements as members, that of
+    /// `12121` is 2.
+    pub fn number_of(&self, group: &RootTable, word: &Word) -> Option<u32>
         requires matrix { group.now ≡ self.now.matrix }
         requires letters { IsWord group.now.rank word.now.items }
         ensures { IsNumberOf self.now.members (normal_form (integer_matrix group.now) word.now.items) result }
     {
-        self.number(&group.normal_form(word))
+        match self.look_up(group, word) {
+            Standing::Member(i) => Some(i),
+            Standing::Outside(_) => None,
+        }
     }
 
     /// The number of a member by its normal form; `None` exactly where the word is not the normal form of a member.

@@ -7,6 +7,7 @@
 //! answers. A look-up takes no memory. It stands on the words of `cox_minroots` and the exchange and the lifting of `cox_reflect`.
 //!
 //! - `context`: the type and its calls
+//! - `standing`: where an element stands in a context
 //! - `fault`: why a context is refused
 //! - `scope`: the group or the interval that is meant
 //! - `members`: the members, each by its first letter and the rest of its word
@@ -34,7 +35,9 @@ mod members;
 mod right_shifts;
 mod scope;
 mod shifts;
+mod standing;
 
 pub use context::Context;
 pub use fault::ContextFault;
 pub use members::MAX_MEMBERS;
+pub use standing::Standing;

@@ -1,5 +1,5 @@
--- Rows and settled members in a larger context; a union with the interval of w has w; and a context that has w already is that union.
-use Rattle.std.proofs.Common.{◌≡◌, inl, inr, ⊎_elim, ℕ, List, Option, None, Some, ◌↔◌, ℤ}
+-- Rows and settled members in a larger context; and a context that has w already is its union with the interval of w.
+use Rattle.std.proofs.Common.{◌≡◌, inr, ⊎_elim, ℕ, List, Option, None, Some, ◌↔◌, ℤ}
 use Rattle.std.proofs.Common.{arith}
 use Rattle.std.specs.Prelude.{Contains, IfSome}
 use Rattle.cox_base.specs.IntegerMatrix.{IntegerMatrix, integer_matrix}
@@ -8,8 +8,7 @@ use Rattle.cox_base.specs.Bruhat.{IsBelow}
 use Rattle.cox_base.specs.ShortLex.{normal_form}
 use Rattle.cox_reflect.proofs.Elements.{same-refl, same-sym}
 use Rattle.cox_reflect.proofs.Search.{normal_form-same}
-use Rattle.cox_reflect.proofs.Bruhat.{below-same, below-refl}
-use Rattle.cox_reflect.proofs.NormalElements.{element-normal_form}
+use Rattle.cox_reflect.proofs.Bruhat.{below-same}
 use Rattle.cox_context.specs.Closed.{IsClosed, Elements}
 use Rattle.cox_context.specs.Union.{IsInUnion}
 use Rattle.cox_context.specs.Spread.{AreKept}
@@ -52,11 +51,3 @@ module _ (A : IntegerMatrix) (g : IsAdmissible A) (members : List (List ℕ)) (c
         (below-same A g (same-refl A g word) (same-sym A g (normal_form-same A g w)) below))
         (λ (old : Contains members word). old) p.either,
   )
-
--- ---- w itself
-
-pub union-has : (A : IntegerMatrix) (g : IsAdmissible A) (w : List ℕ) (old new : List (List ℕ))
-    → ((word : List ℕ) → Contains new word ↔ IsInUnion A w old word) → Contains new (normal_form A w)
-union-has A g w old new are =
-    (are (normal_form A w)).1
-    (record { element = element-normal_form A g w; either = inl (below-refl A g (normal_form-same A g w)) })

@@ -1,13 +1,14 @@
 //! A context, and rows of some of its members.
-ghost use Rattle.std.specs.Prelude.{List, Contains, ◌≡◌, ◌≢◌, ◌⊎◌, ℕ, ◌<◌, ◌≤◌, ◌↔◌, [], length, IfSome, IsSome, OnOk, OnErr, Some, None};
+ghost use Rattle.std.specs.Prelude.{List, Contains, ◌≡◌, ◌≢◌, ◌⊎◌, ℕ, ◌<◌, ◌≤◌, ◌↔◌, [], length, IfSome, IsSome, IfOk, OnOk, OnErr, Some, None};
 ghost use Rattle.std.specs.Prelude.{is_some, true, pos, ◌≤ℤ◌, IfErr};
 ghost use Rattle.cox_base.specs.Admissible.{IsAdmissible};
 ghost use Rattle.cox_base.specs.IntegerMatrix.{integer_matrix};
 ghost use Rattle.cox_context.specs.Closed.{IsClosed};
 ghost use Rattle.cox_context.specs.FaultMeaning.{IsRefusal};
-ghost use Rattle.cox_base.specs.Matrix.{IsWord};
+ghost use Rattle.cox_base.specs.Members.{IsElement};
 ghost use Rattle.cox_context.specs.Union.{IsInUnion};
 ghost use Rattle.cox_context.specs.Numbers.{word_at};
+ghost use Rattle.cox_context.specs.Numbering.{IsNumberOf};
 ghost use Rattle.cox_row.specs.RowLists.{row_at};
 ghost use Rattle.cox_row_builder.specs.Counted.{counted};
 ghost use Rattle.cox_rows.specs.Beyond.{IsBeyond};
@@ -17,7 +18,6 @@ ghost use Rattle.cox_context.specs.Spread.{AreKept};
 use cox_base::Word;
 use cox_context::{Context, ContextFault, MAX_MEMBERS};
 use cox_klstep::Steps;
-use cox_minroots::RootTable;
 use cox_row::{LowerRows, Row};
 use std::alloc::{AllocError, Global};
 use std::marker::Model;
@@ -149,30 +149,27 @@ impl Held {
         self.rows = both(old, rows);
     }
 
-    /// Adds the elements x with x <= w to the context. Members and rows keep their numbers. After a fault all is as before.
-    pub(crate) fn extend(
-        &mut self,
-        group: &RootTable,
-        w: &Word,
-        limit: u32,
-    ) -> Result<(), ContextFault>
-        requires matrix { group.now ≡ self.old.elements.matrix }
-        requires letters { IsWord group.now.rank w.now.items }
-        requires some { 1 ≤ limit }
+    /// Adds the elements below the element with this normal form to the context, and tells its number. Members and rows keep their numbers.
+    /// After a fault all is as before.
+    pub(crate) fn extend(&mut self, form: &Word, limit: u32) -> Result<u32, ContextFault>
+        requires form { IsElement (integer_matrix self.old.elements.matrix) form.now.items }
         requires limit { limit ≤ MAX_MEMBERS }
+        requires room { length self.old.elements.members ≤ limit }
         ensures matrix { self.new.elements.matrix ≡ self.old.elements.matrix }
         ensures limit { self.new.limit ≡ self.old.limit }
         ensures kept { AreKept self.old.elements.members self.new.elements.members }
         ensures members { OnOk result ((word : List ℕ) → Contains self.new.elements.members word
-            ↔ IsInUnion (integer_matrix group.now) w.now.items self.old.elements.members word) }
+            ↔ IsInUnion (integer_matrix self.old.elements.matrix) form.now.items self.old.elements.members word) }
         ensures few { OnOk result (length self.new.elements.members ≤ limit) }
-        ensures refused { IfErr result (IsRefusal (IsInUnion (integer_matrix group.now) w.now.items self.old.elements.members) limit) }
+        ensures number { IfOk result (λ i. IsNumberOf self.new.elements.members form.now.items (Some i)) }
+        ensures refused { IfErr result
+            (IsRefusal (IsInUnion (integer_matrix self.old.elements.matrix) form.now.items self.old.elements.members) limit) }
         ensures holds { self.new.holds ≡ self.old.holds }
         ensures unchanged { OnErr result (self.new ≡ self.old) }
         ensures steps { self.new.steps ≡ self.old.steps }
     {
         let _old = self.context.len();
-        let result = self.context.extend(group, w, limit);
+        let result = self.context.extend_to(form, limit);
         let _new = self.context.len();
         result
     }

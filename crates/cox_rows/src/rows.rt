@@ -21,7 +21,7 @@ ghost use Rattle.cox_klstep.specs.TablesOf.{AreTables, AreEarlierTables};
 
 use crate::held::Held;
 use cox_base::Word;
-use cox_context::{Context, ContextFault, MAX_MEMBERS};
+use cox_context::{Context, ContextFault, MAX_MEMBERS, Standing};
 use cox_klstep::Tables;
 use cox_minroots::RootTable;
 use cox_poly::PolyView;
@@ -197,18 +197,22 @@ impl Rows {
         ensures unchanged { OnErr result (self.new ≡ self.old) }
         ensures steps { self.new.steps ≡ self.old.steps }
     {
+        let _letters = w.len();
         let context = self.context();
-        if context.len() <= limit
-            && let Some(i) = context.number_of(group, w)
-        {
-            return Ok(i);
-        }
         let before = context.len();
-        self.held.extend(group, w, limit)?;
-        self.tables = grown(self.held.context(), before, self.tables.take());
-        match self.context().number_of(group, w) {
-            Some(i) => Ok(i),
-            None => unreachable!(),
+        if before > limit {
+            return Err(ContextFault::Size {
+                limit,
+                seen: limit + 1,
+            });
+        }
+        match context.look_up(group, w) {
+            Standing::Member(i) => Ok(i),
+            Standing::Outside(form) => {
+                let i = self.held.extend(&form, limit)?;
+                self.tables = grown(self.held.context(), before, self.tables.take());
+                Ok(i)
+            }
         }
     }
 }

@@ -3,7 +3,7 @@ use Rattle.std.proofs.Common.{◌≡◌, ◌<◌, length, take}
 use Rattle.cox_base.specs.IntegerMatrix.{integer_matrix}
 use Rattle.cox_base.specs.ShortLex.{normal_form}
 use Rattle.cox_context.specs.Numbers.{word_at}
-use Rattle.cox_context.proofs.context.Context.number_of.Given as goal
+use Rattle.cox_context.proofs.context.Context.look_up.Given as goal
 
 abbrev pub invariant-loop-s : goal.invariant-loop-s
 invariant-loop-s l = record {

@@ -7,7 +7,7 @@ use Rattle.cox_base.specs.IntegerMatrix.{IntegerMatrix, integer_matrix}
 use Rattle.cox_context.proofs.Ideals.{element-nil}
 use Rattle.cox_context.proofs.Shifting.{first-member}
 use Rattle.cox_context.proofs.NumbersOfWords.{word-longer}
-use Rattle.cox_context.proofs.context.Context.number_of.Goals as goal
+use Rattle.cox_context.proofs.context.Context.look_up.Goals as goal
 
 pub loop-s-init : goal.loop-s-init
 loop-s-init c =
