@@ -6,6 +6,8 @@ pub mod CorrectionSums
 pub mod SourceOf
 -- a row that is to be made
 pub mod Tasks
+-- the plan of a row
+pub mod Plans
 -- which step is chosen
 pub mod ChoiceOf
 -- the rows that a row is made from

@@ -7,11 +7,15 @@ ghost use Rattle.std.specs.Thread.{IsSync};
 ghost use Rattle.cox_context.specs.Closed.{Elements};
 ghost use Rattle.cox_klstep.specs.FoundAhead.{IsFoundFor, AreFound};
 ghost use Rattle.cox_klstep.specs.LoweredTo.{IsLoweredBy};
+ghost use Rattle.cox_klstep.specs.Plans.{IsPlan};
 ghost use Rattle.cox_klstep.specs.SourceOf.{IsMadeFrom};
 ghost use Rattle.cox_klstep.specs.Tasks.{IsTask};
 
+use crate::plan::RowPlan;
 use crate::sums::{Source, put_polynomial};
+use crate::tables::Tables;
 use crate::task::RowTask;
+use cox_context::Context;
 use cox_poly::{Acc, Poly};
 use cox_row_builder::Steps;
 use std::alloc::Global;
@@ -31,70 +35,43 @@ pub struct FoundPolynomial {
     pub(crate) polynomial: Poly,
 }
 
-/// Who finds polynomials of a row ahead. No row depends on it.
-pub trait Team {
-    /// When it may be used.
-    ghost ready: { Self → Type 0 };
-
-    /// Polynomials of the row, for some of the extremal members.
-    fn find(&self, alloc: Global, task: &RowTask) -> Vec<FoundPolynomial>
-        requires ready { ready self.now }
-        requires task { IsTask task.now }
-        ensures { AreFound task.now.ctx.now task.now.member result.items };
-}
-
-/// Nobody: whoever makes the row finds each polynomial when it is needed.
-#[derive(Clone, Copy, Drop)]
-pub struct Alone;
-
-impl Team for Alone {
-    ghost ready = { λ _. Unit {0} };
-
-    fn find(&self, alloc: Global, task: &RowTask) -> Vec<FoundPolynomial> {
-        let _ = task;
-        Vec::new(alloc)
+impl<'a> RowPlan<'a> {
+    /// Polynomials of the row, by so many threads: rising by their members, unless memory runs out. Where there is little to find, or there
+    /// is one thread, there are none.
+    pub fn find_together<R: Threads + Sync>(
+        &self,
+        rt: &R,
+        threads: u32,
+        alloc: Global,
+        ctx: &Context,
+        tables: &Tables,
+    ) -> Vec<FoundPolynomial>
+        requires { IsPlan ctx.now tables.now self.now }
+        ensures { AreFound ctx.now self.now.step.member result.items }
+    {
+        let source = Source {
+            step: &self.step,
+            lower: self.lower,
+            index: &tables.index,
+            needed: self.needed.as_slice(),
+        };
+        let task = RowTask {
+            ctx,
+            member: self.step.member,
+            source: &source,
+            lowered: &tables.lowered,
+            limit: self.limit,
+        };
+        let end = task.lowered.len().min(MOST_FOUND);
+        if threads < 2 || !is_dear(&task, end) {
+            return Vec::new(alloc);
+        }
+        let mut found = find_from(rt, 0, threads, alloc, &task, end);
+        // If there is no memory for the sort, the list stays as it is. `Ahead` then passes over polynomials that are out of order, and they
+        // are added up anew.
+        let _ = found.sort_by_key(|it: &FoundPolynomial| -> u32 { it.member });
+        found
     }
-}
-
-/// A function that starts threads, as [`find_together`] does.
-#[derive(Clone, Copy, Drop)]
-pub struct ByThreads<F> {
-    pub find: F,
-}
-
-impl<F: Fn(Global, &RowTask) -> Vec<FoundPolynomial>> Team for ByThreads<F> {
-    ghost use Rattle.cox_klstep.specs.FoundAhead.{AreFound};
-    ghost use Rattle.cox_klstep.specs.Tasks.{IsTask};
-
-    ghost ready = { λ team. ((alloc task : _) → IsTask task.now → F.pre team.find alloc task)
-        × ((alloc task found : _) → F.post team.find alloc task found
-        → AreFound task.now.ctx.now task.now.member found.items) };
-
-    fn find(&self, alloc: Global, task: &RowTask) -> Vec<FoundPolynomial> {
-        (self.find)(alloc, task)
-    }
-}
-
-/// Polynomials of a row, by so many threads: rising by their members, unless memory runs out. Where there is little to find, or there is
-/// one thread, there are none.
-pub fn find_together<R: Threads + Sync>(
-    rt: &R,
-    threads: u32,
-    alloc: Global,
-    task: &RowTask,
-) -> Vec<FoundPolynomial>
-    requires { IsTask task.now }
-    ensures { AreFound task.now.ctx.now task.now.member result.items }
-{
-    let end = task.lowered.len().min(MOST_FOUND);
-    if threads < 2 || !is_dear(task, end) {
-        return Vec::new(alloc);
-    }
-    let mut found = find_from(rt, 0, threads, alloc, task, end);
-    // If there is no memory for the sort, the list stays as it is. `Ahead` then passes over polynomials that are out of order, and they are
-    // added up anew.
-    let _ = found.sort_by_key(|it: &FoundPolynomial| -> u32 { it.member });
-    found
 }
 
 /// What the thread with this number, from 0, and all threads with greater numbers find for the extremal members before the place `end`.

@@ -10,6 +10,7 @@
 //! - `choice`: which step is taken
 //! - `step`: the descent, the shorter element and the corrections
 //! - `lowering`: the extremal members up to the member, and where the step leads from them
+//! - `plan`: a row that is to be made, once threads have had the chance to find polynomials of it
 //! - `task`: what a row is made from
 //! - `making`: the row, one extremal member after another
 //! - `sums`: the polynomial at one extremal member, by the recursion
@@ -22,15 +23,16 @@ mod choice;
 mod lowering;
 mod making;
 mod member;
+mod plan;
 mod step;
 mod sums;
 mod tables;
 mod task;
 
-pub use ahead::{Alone, ByThreads, FoundPolynomial, Team, find_together};
+pub use ahead::FoundPolynomial;
 pub use choice::correction_sum;
 pub use cox_row_builder::{StepFault, Steps, identity_row};
 pub use cox_row_symmetry::{Descent, shift, shortens};
-pub use member::{needs, row};
+pub use member::{begin_row, needs, row};
+pub use plan::{RowPlan, RowStart};
 pub use tables::{Tables, shared_row};
-pub use task::RowTask;

@@ -12,11 +12,15 @@ ghost use Rattle.cox_row_builder.specs.Faults.{IsFault};
 ghost use Rattle.cox_row_builder.specs.Underway.{IsUnderway};
 ghost use Rattle.cox_klstep.specs.CountedSteps.{IsWithinCost, IsCounted, IsWithinCostTo, IsCountedTo};
 ghost use Rattle.cox_klstep.specs.FoundAhead.{IsFoundFor, AreFound};
+ghost use Rattle.cox_klstep.specs.Plans.{IsPlan, plan_cost};
 ghost use Rattle.cox_klstep.specs.SourceOf.{IsSource, source_cost};
+ghost use Rattle.cox_klstep.specs.TablesOf.{AreTables};
 ghost use Rattle.cox_klstep.specs.Tasks.{IsTask};
 
 use crate::ahead::{Ahead, FoundPolynomial};
+use crate::plan::RowPlan;
 use crate::sums::{Source, put_polynomial};
+use crate::tables::Tables;
 use crate::task::RowTask;
 use cox_context::Context;
 use cox_poly::{Acc, Poly};
@@ -24,11 +28,49 @@ use cox_row::Row;
 use cox_row_builder::{RowBuilder, StepFault, Steps};
 use std::alloc::{AllocError, Global};
 
+impl<'a> RowPlan<'a> {
+    /// Makes the row, of which some polynomials may have been found.
+    ///
+    /// `Coefficient` where a coefficient is above the limit in absolute value, at the first member x that has one and its least degree; and
+    /// `Mu` where none is but a value of mu is above [`MU_LIMIT`](cox_row::MU_LIMIT).
+    pub fn finish(
+        self,
+        alloc: Global,
+        ctx: &Context,
+        tables: &mut Tables,
+        found: Vec<FoundPolynomial>,
+        steps: &mut Steps,
+    ) -> Result<Row, StepFault>
+        requires plan { IsPlan ctx.now tables.old self }
+        requires found { AreFound ctx.now self.step.member found.items }
+        requires tables { AreTables ctx.now tables.old }
+        ensures row { IfOk result (IsRowAt ctx.now self.entry.step.member) }
+        ensures within { IfOk result (IsRowWithin self.entry.limit) }
+        ensures fault { IfErr result (IsFault (integer_matrix ctx.now.matrix) ctx.now.members self.entry.limit
+            (λ w. w ≡ self.entry.step.member)) }
+        ensures tables { AreTables ctx.now tables.new }
+        ensures steps { IsWithinCost ctx.now self.entry.step.member (plan_cost self.entry) steps.old steps.new }
+        ensures counted { IfOk result (λ _. IsCounted ctx.now self.entry.step.member steps.old steps.new) }
+    {
+        let source = Source {
+            step: &self.step,
+            lower: self.lower,
+            index: &tables.index,
+            needed: self.needed.as_slice(),
+        };
+        let task = RowTask {
+            ctx,
+            member: self.step.member,
+            source: &source,
+            lowered: &tables.lowered,
+            limit: self.limit,
+        };
+        make_row(alloc, &task, found, &mut tables.sums, steps)
+    }
+}
+
 /// The row of a member w, of which some polynomials may have been found ahead. What the sums had before does not matter.
-///
-/// `Coefficient` where a coefficient is above the limit in absolute value, at the first member x that has one and its least degree; and
-/// `Mu` where none is but a value of mu is above [`MU_LIMIT`](cox_row::MU_LIMIT).
-pub(crate) fn make_row(
+fn make_row(
     alloc: Global,
     task: &RowTask,
     found: Vec<FoundPolynomial>,

@@ -27,7 +27,7 @@ ghost use Rattle.cox_rows.specs.Ensured.{IsEnsured, IsSettled, AreNeedsSmall};
 use crate::Rows;
 use crate::flags::set_at;
 use cox_base::Side;
-use cox_klstep::{Alone, Descent, StepFault, Steps, Tables, needs, row, shortens};
+use cox_klstep::{Descent, StepFault, Steps, Tables, needs, row, shortens};
 use cox_row::Row;
 use std::alloc::{AllocError, Global};
 
@@ -332,7 +332,6 @@ impl Rows {
         let mut tables = self.take_tables(alloc)?;
         let mut steps = Steps::new();
         let made = row(
-            &Alone,
             alloc,
             self.held.context(),
             i,

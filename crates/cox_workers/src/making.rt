@@ -1,8 +1,5 @@
 //! One row, and those that it is made from.
 ghost use Rattle.std.specs.Prelude.{◌≡◌, ◌≢◌, ◌<◌, length, OnOk, OnErr, IfOk, IfErr};
-ghost use Rattle.std.specs.Thread.{IsSync};
-ghost use Rattle.cox_klstep.specs.FoundAhead.{AreFound};
-ghost use Rattle.cox_klstep.specs.Tasks.{IsTask};
 ghost use Rattle.cox_klstep.specs.NeedsOf.{HasNeeds};
 ghost use Rattle.cox_claims.specs.Knowledge.{TriesClaim, Publishes};
 ghost use Rattle.cox_claims.specs.Seats.{view_of, splits_of, IsSameSeat, Holds, HoldsBeyond, HasSeen, HasSeenVoid, HasSeenClaimed, Reads};
@@ -16,11 +13,10 @@ use crate::gathering::Budget;
 use crate::missing::Missing;
 use crate::worker_context::WorkerContext;
 use crate::worker_scratch::WorkerScratch;
-use cox_klstep::{ByThreads, Descent, FoundPolynomial, RowTask, find_together, needs, row};
+use cox_klstep::{Descent, RowStart, begin_row, needs};
 use cox_outside::{Gate, Point};
 use cox_row::{LowerRows, Row};
 use cox_row_store::{Claimed, RowState, Seat};
-use std::alloc::Global;
 use std::mem;
 use std::sync::Wait;
 use std::thread::Threads;
@@ -141,23 +137,33 @@ impl<'a> WorkerContext<'a> {
     {
         let budget = self.take_in(rt, gate, seat, scratch, i)?;
         self.gather(rt, seat, scratch, i, budget);
-        let threads = self.threads;
-        let team = ByThreads {
-            find: |alloc: Global, task: &RowTask| -> Vec<FoundPolynomial>
-                requires { IsSync R.row × IsTask task.now }
-                ensures { AreFound task.now.ctx.now task.now.member result.items }
-            { find_together(rt, threads, alloc, task) },
-        };
-        let row = row(
-            &team,
+        let start = begin_row(
             self.alloc,
             self.context,
             i,
             &scratch.rows,
             &mut scratch.tables,
-            &mut scratch.steps,
         )?;
-        Ok(row)
+        match start {
+            RowStart::Done(row) => Ok(row),
+            RowStart::Planned(plan) => {
+                let found = plan.find_together(
+                    rt,
+                    self.threads,
+                    self.alloc,
+                    self.context,
+                    &scratch.tables,
+                );
+                let row = plan.finish(
+                    self.alloc,
+                    self.context,
+                    &mut scratch.tables,
+                    found,
+                    &mut scratch.steps,
+                )?;
+                Ok(row)
+            }
+        }
     }
 
     /// Reads the rows that the row of the member with the number i is made from. Tells what their corrections cost.

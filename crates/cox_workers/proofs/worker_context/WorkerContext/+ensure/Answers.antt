@@ -53,24 +53,39 @@ ensure-returns-in-Err-clause-missing g t c =
 
 -- ---- the rows that a row is made from
 
-pub made-row-requires-clause-needs : goal.made-row-requires-clause-needs
-made-row-requires-clause-needs g t c =
+pub made-begin_row-requires-clause-needs : goal.made-begin_row-requires-clause-needs
+made-begin_row-requires-clause-needs g t c =
     needs-map c.args.self.now.context.now (IsRead c.take_in.new.scratch.rows) (IsRead c.gather.new.scratch.rows) c.args.i
     c.gather.ensures.work.rows
     c.in_ok-budget.ensures.needs
 
-pub made-returns-clause-needs : goal.made-returns-clause-needs
-made-returns-clause-needs g t c =
+pub made-returns-in-Done-clause-needs : goal.made-returns-in-Done-clause-needs
+made-returns-in-Done-clause-needs g t c =
     needs-map c.args.self.now.context.now (IsRead c.take_in.new.scratch.rows) (HasSeen c.gather.new.seat) c.args.i
     (λ j on. c.gather.ensures.work.ready.seen j (c.gather.ensures.work.rows j on)) c.in_ok-budget.ensures.needs
 
-pub made-returns-clause-work : goal.made-returns-clause-work
-made-returns-clause-work g t c =
-    work-tables c.row.new.tables c.row.new.steps c.row.ensures.tables (work-trans c.take_in.ensures.work c.gather.ensures.work)
+pub made-returns-in_ok-row-in-Planned-clause-needs : goal.made-returns-in_ok-row-in-Planned-clause-needs
+made-returns-in_ok-row-in-Planned-clause-needs g t c =
+    needs-map c.args.self.now.context.now (IsRead c.take_in.new.scratch.rows) (HasSeen c.gather.new.seat) c.args.i
+    (λ j on. c.gather.ensures.work.ready.seen j (c.gather.ensures.work.rows j on)) c.in_ok-budget.ensures.needs
 
-pub made-returns-in_err-row-clause-work : goal.made-returns-in_err-row-clause-work
-made-returns-in_err-row-clause-work g t c =
-    work-tables c.row.new.tables c.row.new.steps c.row.ensures.tables (work-trans c.take_in.ensures.work c.gather.ensures.work)
+pub made-returns-in-Done-clause-work : goal.made-returns-in-Done-clause-work
+made-returns-in-Done-clause-work g t c =
+    work-tables c.begin_row.new.tables c.gather.new.scratch.steps c.begin_row.ensures.tables
+    (work-trans c.take_in.ensures.work c.gather.ensures.work)
+
+pub made-returns-in_ok-row-in-Planned-clause-work : goal.made-returns-in_ok-row-in-Planned-clause-work
+made-returns-in_ok-row-in-Planned-clause-work g t c =
+    work-tables c.finish.new.tables c.finish.new.steps c.finish.ensures.tables (work-trans c.take_in.ensures.work c.gather.ensures.work)
+
+pub made-returns-in_err-start-clause-work : goal.made-returns-in_err-start-clause-work
+made-returns-in_err-start-clause-work g t c =
+    work-tables c.begin_row.new.tables c.gather.new.scratch.steps c.begin_row.ensures.tables
+    (work-trans c.take_in.ensures.work c.gather.ensures.work)
+
+pub made-returns-in_err-row-in-Planned-clause-work : goal.made-returns-in_err-row-in-Planned-clause-work
+made-returns-in_err-row-in-Planned-clause-work g t c =
+    work-tables c.finish.new.tables c.finish.new.steps c.finish.ensures.tables (work-trans c.take_in.ensures.work c.gather.ensures.work)
 
 -- ---- one row that is read
 
