@@ -8,7 +8,6 @@ use Rattle.cox_base.specs.Admissible.{IsAdmissible}
 use Rattle.cox_base.specs.Element.{SameElement}
 use Rattle.cox_base.specs.ShortLex.{normal_form}
 use Rattle.cox_base.specs.Length.{word_length}
-use Rattle.cox_reflect.proofs.Elements.{same-refl, same-sym}
 use Rattle.cox_reflect.proofs.Search.{normal_form-same, word_length-equal}
 use Rattle.cox_base.specs.SideDescents.{times_letter, IsDescent}
 use Rattle.cox_hecke.specs.Step.{IsCorrection}
@@ -19,10 +18,10 @@ use Rattle.cox_context.specs.Numbers.{word_at}
 use Rattle.cox_context.proofs.Shifting.{length-at}
 use Rattle.cox_row.specs.Rising.{number_at}
 use Rattle.cox_row.specs.Mus.{value_at, AreMus}
-use Rattle.cox_row.proofs.MuOfElements.{mu-words}
 use Rattle.cox_klstep.specs.declared.step.Correction.{Correction}
 use Rattle.cox_klstep.specs.StepOf.{correction_at, AreNumbered}
 use Rattle.cox_row_symmetry.proofs.DescentsOnSides.{lowered-length}
+use Rattle.cox_klstep.proofs.Chosen.{correction-place, neighbour-corrects}
 
 -- the corrections by the neighbours at the places before p
 pub record AreFiltered (side : Side) (A : IntegerMatrix) (members : List (List ℕ)) (s : ℕ) (w : List ℕ) (numbers : List ℕ) (p : ℕ)
@@ -105,11 +104,8 @@ module _ (side : Side) (A : IntegerMatrix) (g : IsAdmissible A) (members : List 
         (push_cases list c k m);
     each = λ k m. ⊎_elim
         (λ (old : k < length list). rw (push-old list c _ k old) (h.each k old))
-        (λ (new : k ≡ length list). rw (push-new list c _ k new, number, factor) record {
-          shortens = d;
-          is_mu = mu-words A g (value_at values p) (same-refl A g (word_at members (number_at numbers p))) lower-same (mus.value p l);
-          some = mus.some p l;
-        })
+        (λ (new : k ≡ length list). rw (push-new list c _ k new, number, factor)
+        (neighbour-corrects side A g members (word_at members i) lower s lower_is numbers values mus p l d))
         (push_cases list c k m);
     shift = λ k m. ⊎_elim
         (λ (old : k < length list). rw (push-old list c _ k old) (h.shift k old))
@@ -141,7 +137,7 @@ module _ (side : Side) (A : IntegerMatrix) (g : IsAdmissible A) (members : List 
     each = h.each;
     shift = h.shift;
     whole = λ u m l c.
-        let q = mus.whole u m l (mu-words A g m (same-refl A g (word_at members u)) (same-sym A g lower-same) c.is_mu) c.some
+        let q = correction-place side A g members (word_at members i) lower s lower_is numbers values mus u m l c
         in let k = h.found q.0 (omega (arith, q.1, all)) (rw q.2 c.shortens)
         in (k.0, k.1, k.2 ∙ q.2);
   }

@@ -12,8 +12,8 @@ pub mod NeededRows
 pub mod PickedNeeds
 -- which step is chosen
 pub mod Chosen
--- what corrections cost
-pub mod CostedSums
+-- how many corrections are among the neighbours
+pub mod CountedCorrections
 -- which members are left
 pub mod Candidates
 -- how many polynomials are added up

@@ -1,10 +1,10 @@
 //! Makes the row of Kazhdan-Lusztig polynomials of a member w of a context from rows that are at hand.
 //!
 //! For a descent s of w on the left, v = sw, and an extremal x <= w, P(x,w) is P(sx,v) + q P(x,v), less the sum of mu(u,v)
-//! q^((l(w)-l(u))/2) P(x,u) over the u with su < u (Kazhdan and Lusztig 1979, 2.2.c; Humphreys 7.11); and the same on the right. Of all
-//! descents whose rows are there the one with the cheapest corrections is taken; it is proved that these cost no more than those of the
-//! least left descent. Where the row of the inverse of w is there, or that of another image under a symmetry, P(x,w) is read off that
-//! (`cox_row_symmetry`). What is found of a row is put together by `cox_row_builder`.
+//! q^((l(w)-l(u))/2) P(x,u) over the u with su < u (Kazhdan and Lusztig 1979, 2.2.c; Humphreys 7.11); and the same on the right. Of the
+//! steps by all descents whose rows are there that with the fewest corrections is taken. Where the row of the inverse of w is there, or that
+//! of another image under a symmetry, P(x,w) is read off that (`cox_row_symmetry`). What is found of a row is put together by
+//! `cox_row_builder`.
 //!
 //! - `member`: the row of a member, and the rows that a row is made from
 //! - `choice`: which step is taken
@@ -30,7 +30,7 @@ mod tables;
 mod task;
 
 pub use ahead::FoundPolynomial;
-pub use choice::correction_sum;
+pub use choice::correction_count;
 pub use cox_row_builder::{StepFault, Steps, identity_row};
 pub use cox_row_symmetry::{Descent, shift, shortens};
 pub use member::{begin_row, needs, row};

@@ -9,7 +9,6 @@ ghost use Rattle.cox_row.specs.RowOf.{IsRowAt};
 ghost use Rattle.cox_row.specs.Within.{IsRowWithin};
 ghost use Rattle.cox_row_store.specs.Stores.{limit_of, IsSeat};
 
-use crate::gathering::Budget;
 use crate::missing::Missing;
 use crate::worker_context::WorkerContext;
 use crate::worker_scratch::WorkerScratch;
@@ -166,7 +165,7 @@ impl<'a> WorkerContext<'a> {
         }
     }
 
-    /// Reads the rows that the row of the member with the number i is made from. Tells what their corrections cost.
+    /// Reads the rows that the row of the member with the number i is made from. Tells how many of them are those of corrections.
     #[cycle(ensure)]
     fn take_in<R: Threads + Wait + Sync, G: Gate>(
         &self,
@@ -175,7 +174,7 @@ impl<'a> WorkerContext<'a> {
         seat: &mut Seat,
         scratch: &mut WorkerScratch<'a>,
         i: u32,
-    ) -> Result<Budget, Missing>
+    ) -> Result<usize, Missing>
         requires ready { IsWorkerReady self.now seat.old scratch.old }
         requires member { i < length self.now.context.now.members }
         requires held { Holds seat.old i }
@@ -187,27 +186,19 @@ impl<'a> WorkerContext<'a> {
     {
         let _len = self.context.len();
         if i == 0 {
-            return Ok(Budget {
-                corrections: 0,
-                cost: 0,
-            });
+            return Ok(0);
         }
         let descent = Descent::of(self.context, i);
         self.obtain(rt, gate, seat, scratch, descent.lower)?;
         let mut corrections = mem::replace(&mut scratch.corrections, Vec::new(self.alloc));
         let lower = scratch.rows.row(descent.lower);
         needs(self.context, &descent, lower, &mut corrections)?;
-        let mut cost = 0u64;
         'corrections: for &u in corrections.iter() {
             self.obtain(rt, gate, seat, scratch, u)?;
-            cost = cost.saturating_add(u64::from(u) + 1);
         }
-        let budget = Budget {
-            corrections: corrections.len(),
-            cost,
-        };
+        let count = corrections.len();
         scratch.corrections = corrections;
-        Ok(budget)
+        Ok(count)
     }
 
     /// Reads the row of the member with the number u, after those that it is made from.

@@ -1,22 +1,11 @@
--- The step by the least left descent is a choice; and no choice has more corrections.
-use Rattle.std.proofs.Common.{length, refl, ◌∙◌, arith}
+-- The step by the least left descent is a choice; and no choice has fewer corrections than the one that is taken.
+use Rattle.std.proofs.Common.{refl, arith}
 use Rattle.cox_base.specs.declared.side.Side.TheVariants.{Left}
 use Rattle.cox_base.specs.IntegerMatrix.{integer_matrix}
 use Rattle.cox_context.specs.Numbers.{word_at}
 use Rattle.cox_klstep.specs.StepOf.{correction_at}
-use Rattle.cox_row.proofs.RisingNumbers.{few-rising}
-use Rattle.cox_klstep.proofs.Chosen.{numbered-unique, numbered-cost, least-cost, least-needs, cost-most}
+use Rattle.cox_klstep.proofs.Chosen.{numbered-same, least-needs}
 use Rattle.cox_klstep.proofs.choice.cheapest_step.Goals as goal
-
-pub cost_of-requires : goal.cost_of-requires
-cost_of-requires g c =
-    let first = rw (c.in_ok-first.ensures.side, c.in_ok-first.ensures.letter, c.in_ok-first.ensures.number)
-    at c.in_ok-first.ensures.step.numbered
-    in let few = few-rising (λ k. (correction_at c.in_ok-first.first.corrections.items k).number) (length c.args.ctx.now.members)
-    (length c.in_ok-first.first.corrections.items) first.rising first.within
-    in let most = cost-most c.in_ok-first.first.corrections.items
-    (λ k l. let less = first.within k l in omega (arith, less, c.len-len.ensures.closed.few))
-    in rw c.as_slice.ensures.value (omega (arith, few, most, c.len-len.ensures.closed.few))
 
 pub cheapest-best-requires-clause-start : goal.cheapest-best-requires-clause-start
 cheapest-best-requires-clause-start g c =
@@ -29,17 +18,18 @@ cheapest-best-requires-clause-start g c =
       member = refl;
       lower = needs.shorter c.of-least.result.letter c.of-least.result.lower d.least d.lower_within d.lower_is;
       corrected = λ u m l h. needs.corrected c.of-least.result.letter u m d.least l h;
-      few = λ list h.
-          let few = numbered-unique (integer_matrix c.args.ctx.now.matrix) c.args.ctx.now.members c.of-least.result.letter
+      many = λ list h.
+          let same = numbered-same (integer_matrix c.args.ctx.now.matrix) c.args.ctx.now.members c.of-least.result.letter
           (word_at c.args.ctx.now.members c.of-least.result.member) Left list c.in_ok-first.first.corrections.items h first
-          in omega (arith, few, c.len-most.ensures);
-      costs = λ list h.
-          let same = numbered-cost (integer_matrix c.args.ctx.now.matrix) c.args.ctx.now.members c.of-least.result.letter
-          (word_at c.args.ctx.now.members c.of-least.result.member) Left c.in_ok-first.first.corrections.items list first h
-          in (rw c.as_slice.ensures.value at c.cost_of.ensures) ∙ same;
+          in omega (arith, same, c.len.ensures);
     }
 
--- the first step, where none is cheaper
+-- the first step has no corrections
+
+pub returns-then-start-eq0-clause-fewest : goal.returns-then-start-eq0-clause-fewest
+returns-then-start-eq0-clause-fewest g c = λ side s h list are. omega (arith, c.len.ensures)
+
+-- no step has fewer corrections than the first one
 
 pub returns-then-best-start-clause-corrected : goal.returns-then-best-start-clause-corrected
 returns-then-best-start-clause-corrected g c = λ k l.
@@ -58,30 +48,13 @@ returns-then-best-start-clause-few g c = λ s numbers least are.
     (word_at c.args.ctx.now.members c.args.i) s (rw c.of-least.ensures.number at c.of-least.ensures.descent.least) least
     c.in_ok-first.first.corrections.items first numbers are
 
-pub returns-then-best-start-clause-cheap : goal.returns-then-best-start-clause-cheap
-returns-then-best-start-clause-cheap g c = λ s list least are.
-    let first = rw (c.in_ok-first.ensures.side, c.in_ok-first.ensures.letter, c.in_ok-first.ensures.number, c.of-least.ensures.number)
-    at c.in_ok-first.ensures.step.numbered
-    in let cost = least-cost (integer_matrix c.args.ctx.now.matrix) c.args.ctx.now.members c.of-least.result.letter
-    (word_at c.args.ctx.now.members c.args.i) s (rw c.of-least.ensures.number at c.of-least.ensures.descent.least) least
-    c.in_ok-first.first.corrections.items first list are
-    in omega (arith, cost)
+pub returns-then-best-start-clause-fewest : goal.returns-then-best-start-clause-fewest
+returns-then-best-start-clause-fewest g c = λ side s h list are.
+    let fewest = rw c.of-least.ensures.number at c.cheapest-best.ensures.fewest
+    in let few = fewest side s h list are
+    in omega (arith, few, c.len.ensures)
 
--- a cheaper step
-
-pub returns-clause-cheap : goal.returns-clause-cheap
-returns-clause-cheap g c = λ s list least are.
-    let first = rw (c.in_ok-first.ensures.side, c.in_ok-first.ensures.letter, c.in_ok-first.ensures.number, c.of-least.ensures.number)
-    at c.in_ok-first.ensures.step.numbered
-    in let n =
-    rw (c.in_ok-step.ensures.side, c.in_ok-step.ensures.letter, c.in_ok-step.ensures.number, c.cheapest-best.ensures.choice.member)
-    at c.in_ok-step.ensures.step.numbered
-    in let cost = least-cost (integer_matrix c.args.ctx.now.matrix) c.args.ctx.now.members c.of-least.result.letter
-    (word_at c.args.ctx.now.members c.args.i) s (rw c.of-least.ensures.number at c.of-least.ensures.descent.least) least
-    c.in_ok-first.first.corrections.items first list are
-    in let own = c.cheapest-best.ensures.choice.costs c.in_ok-step.step.corrections.items n
-    in let start = rw c.as_slice.ensures.value at c.cost_of.ensures
-    in omega (arith, cost, own, start, c.cheapest-best.ensures.no_dearer)
+-- a step with fewer corrections
 
 pub returns-clause-corrected : goal.returns-clause-corrected
 returns-clause-corrected g c = λ k l.
@@ -97,8 +70,24 @@ returns-clause-few g c = λ s numbers least are.
     in let n =
     rw (c.in_ok-step.ensures.side, c.in_ok-step.ensures.letter, c.in_ok-step.ensures.number, c.cheapest-best.ensures.choice.member)
     at c.in_ok-step.ensures.step.numbered
+    in let mine = rw c.of-least.ensures.number at c.of-least.ensures.descent.least
     in let most = least-needs (integer_matrix c.args.ctx.now.matrix) c.args.ctx.now.members c.of-least.result.letter
-    (word_at c.args.ctx.now.members c.args.i) s (rw c.of-least.ensures.number at c.of-least.ensures.descent.least) least
-    c.in_ok-first.first.corrections.items first numbers are
-    in let few = c.cheapest-best.ensures.choice.few c.in_ok-step.step.corrections.items n
-    in omega (arith, few, most, c.len-most.ensures)
+    (word_at c.args.ctx.now.members c.args.i) s mine least c.in_ok-first.first.corrections.items first numbers are
+    in let many = c.cheapest-best.ensures.choice.many c.in_ok-step.step.corrections.items n
+    in let fewest = rw c.of-least.ensures.number at c.cheapest-best.ensures.fewest
+    in let few = fewest Left c.of-least.result.letter record {
+      descent = mine.descent;
+      shorter = λ j l is. c.requires.needs.shorter c.of-least.result.letter j mine l is;
+      corrected = λ u m l h. c.requires.needs.corrected c.of-least.result.letter u m mine l h;
+    } c.in_ok-first.first.corrections.items first
+    in omega (arith, few, most, many)
+
+pub returns-clause-fewest : goal.returns-clause-fewest
+returns-clause-fewest g c = λ side s h list are.
+    let n =
+    rw (c.in_ok-step.ensures.side, c.in_ok-step.ensures.letter, c.in_ok-step.ensures.number, c.cheapest-best.ensures.choice.member)
+    at c.in_ok-step.ensures.step.numbered
+    in let many = c.cheapest-best.ensures.choice.many c.in_ok-step.step.corrections.items n
+    in let fewest = rw c.of-least.ensures.number at c.cheapest-best.ensures.fewest
+    in let few = fewest side s h list are
+    in omega (arith, few, many)

@@ -1,13 +1,12 @@
 -- Few corrections, and all their rows are there.
 use Rattle.std.proofs.Common.{refl}
-use Rattle.cox_klstep.proofs.choice.cost.Goals as goal
+use Rattle.cox_klstep.proofs.choice.count_at_hand.Goals as goal
 
 pub returns-then-has_corrections-clause-choice : goal.returns-then-has_corrections-clause-choice
 returns-then-has_corrections-clause-choice g c = record {
   lowering = c.requires.descent;
   member = refl;
   lower = c.requires.there;
-  corrected = c.has_corrections.ensures c.if-has_corrections.true;
-  few = c.in_ok-sum.ensures.few;
-  costs = c.in_ok-sum.ensures.sum;
+  corrected = c.has_corrections.ensures.0 c.if-has_corrections.true;
+  many = c.in_ok-count.ensures.count;
 }
