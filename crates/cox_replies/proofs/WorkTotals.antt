@@ -16,10 +16,9 @@ use Rattle.cox_replies.specs.Totals.{Totals, no_totals, both_totals, AreTotalsOf
 use Rattle.cox_replies.proofs.TotalsOfLists.{totals_of, polynomials-of}
 use Rattle.cox_replies.specs.declared.unanswered.Unanswered.{Unanswered}
 use Rattle.cox_replies.specs.declared.unanswered.Unanswered.TheVariants.{Refused, NoMemory}
-use Rattle.cox_replies.specs.Putting.{PutsUnless}
 use Rattle.cox_replies.specs.Summing.{SumsUp}
 use Rattle.cox_replies.proofs.Refusing.{IsFirstRefusal-unique, IsFirstRefusal-none}
-use Rattle.cox_replies.proofs.RowTotals.{both-none_left, both-none_right, both-assoc}
+use Rattle.cox_replies.proofs.RowTotals.{both-none_right, both-assoc}
 use Rattle.cox_replies.proofs.WorkQuestions.{work-answerable}
 
 -- the only refusal with a cause is the first, where it is one of those that are tried
@@ -40,14 +39,6 @@ module _ (limits : Limits) (A : IntegerMatrix) where
     pub sum : (rest : Totals) → AreTotals A ahead rest → AreTotals A words (both_totals totals rest)
     pub refused : (why : Refusal) → RefusesWork limits A ahead why → RefusesWork limits A words why
     pub only : (why : Refusal) → RefusesWork limits A words why → RefusesWork limits A ahead why
-
-  -- at first all of them do
-  pub reaches-none : (words : List (List ℕ)) → Reaches words words no_totals
-  reaches-none words = record {
-    sum = λ rest are. rw (both-none_left rest) are;
-    refused = λ why r. r;
-    only = λ why r. r;
-  }
 
   module _ (words : List (List ℕ)) where
     -- one word more
@@ -93,12 +84,6 @@ module _ (limits : Limits) (A : IntegerMatrix) where
     reaches-err g w ahead totals (Err (Refused one)) NoMemory is before told = absurd (cc is)
     reaches-err g w ahead totals (Err NoMemory) (Refused other) is before told = absurd (cc is)
     reaches-err g w ahead totals (Err NoMemory) NoMemory is before told = tt
-
--- what is put of totals that did not come
-pub PutsUnless-unsummed : (why : Unanswered) (Refuses : Refusal → Type 0) (Are : Totals → Type 0) (IsText : List ℕ → Type 0) (out : List ℕ)
-    → SumsUp (Err why) Refuses Are → PutsUnless (Err why) Refuses IsText out out
-PutsUnless-unsummed (Refused why) Refuses Are IsText out refused = (refused, refl)
-PutsUnless-unsummed NoMemory Refuses Are IsText out nothing = inl refl
 
 -- there are as many words as were asked for
 length-generated : (rank count g : ℕ) → length (generated_words rank count g) ≡ count
