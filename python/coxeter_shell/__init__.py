@@ -27,7 +27,7 @@ from .tables import Cells, ElementDict, PairDict, RowTable, Table
 from .texts import gap
 
 # The version of the whole, the programs too; docs/RELEASES.md lists them all.
-__version__ = "1.0"
+__version__ = "1.1"
 
 __all__ = [
     "Answers",
