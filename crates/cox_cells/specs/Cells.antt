@@ -15,7 +15,7 @@ use Rattle.cox_cells.specs.declared.kind.CellKind.TheVariants.{Left, Right, Both
 abbrev pub HasOwnDescent : Side → IntegerMatrix → List ℕ → List ℕ → Type 0
 HasOwnDescent side A x y = record { letter : ℕ; descent : IsDescent side A x letter; none : ¬ IsDescent side A y letter }
 
--- some left descent, for left cells; some right descent, for right cells; either, for cells of both sides
+-- some left descent, for left cells; some right descent, for right cells; either, for two-sided cells
 abbrev pub HasOwn : CellKind → IntegerMatrix → List ℕ → List ℕ → Type 0
 HasOwn Left A x y = HasOwnDescent Sides.Left A x y
 HasOwn Right A x y = HasOwnDescent Sides.Right A x y

@@ -1,4 +1,5 @@
--- Certificates: a group, an element of it, and elements below it with a polynomial each; and the lines in which one is written.
+-- Certificates: a group, a word of it, and words with a polynomial each; and the lines in which one is written. That these words are the
+-- elements below it, and the polynomials the right ones, is not part of this definition: that is what a check finds out.
 use Rattle.std.specs.Prelude.{◌≡◌, ℕ, ◌≤◌, List, [], ◌∷◌, ◌++◌, length, map, All, codes, decimal, ℤ}
 use Rattle.std.specs.List.{flat_map, join_by}
 use Rattle.cox_base.specs.Matrix.{CoxeterMatrix, IsWord}
@@ -11,7 +12,7 @@ use Rattle.cox_outside.specs.declared.limits.TheConstants.{LINE_LIMIT}
 use Rattle.cox_print.specs.AnswerText.{pair_text}
 use Rattle.cox_certtext.specs.declared.limits.TheConstants.{MAX_LISTED}
 
--- a group, a word of it, and words with a polynomial each
+-- a group, a word of it, and words with a polynomial each, which the text calls rows
 pub record Certificate : Type 0 where
   pub matrix : CoxeterMatrix
   pub top : List ℕ

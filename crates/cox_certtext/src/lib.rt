@@ -2,7 +2,7 @@
 //!
 //! The lines are definitions in `specs/Certificate.antt`. What reads and checks them is `cox_cert`.
 //!
-//! - `limits`: what a certificate has at most
+//! - `limits`: what a check takes at most
 //! - `printing`: what stands before the list of the rows, and behind it
 #![tactic(auto)]
 

@@ -3,7 +3,7 @@ use Rattle.std.specs.Prelude.{◌≡◌, ◌⊎◌, ℕ, List, [], ◌∷◌, Op
 use Rattle.cox_command.specs.declared.refusal.Refusal.{Refusal}
 use Rattle.cox_command.specs.declared.refusal.Refusal.TheVariants.{ManyRoots, LargeInterval, FarApart, LargeRow}
 
--- a command on elements, as what it asks of them
+-- a command on elements, or on the whole group, as what it asks
 pub record Question : Type 1 where
   -- this refusal has a cause
   pub Refuses : Refusal → Type 0

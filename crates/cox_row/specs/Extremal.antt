@@ -1,4 +1,4 @@
--- Extremal elements: those to which the polynomials of a row are known from.
+-- Extremal elements: the polynomials at these determine those of the whole row.
 use Rattle.std.specs.Prelude.{ℕ, List}
 use Rattle.cox_base.specs.declared.side.Side.TheVariants.{Left, Right}
 use Rattle.cox_base.specs.IntegerMatrix.{IntegerMatrix}

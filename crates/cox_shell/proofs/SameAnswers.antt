@@ -8,7 +8,7 @@ use Rattle.cox_shell.specs.Reply.{Reply, opening, texts}
 use Rattle.cox_shell.specs.Answer.{AreScriptReplies, has_refusal, script_lines}
 use Rattle.cox_shell.specs.Top.{given_limits, AnswersWhole}
 use Rattle.cox_shell.specs.WholeRun.{IsRun}
-use Rattle.cox_shell.specs.SameRuns.{IsWhole, DifferInWorkers, AnswersAlike}
+use Rattle.cox_shell.specs.SameRuns.{IsWhole, DifferInWorkersAtMost, AnswersAlike}
 use Rattle.cox_shell.proofs.LineReplies.{AreAllReplies-unique}
 
 -- the status of a run that answered its script whole, by whether a reply is a refusal
@@ -33,10 +33,10 @@ module _ (arguments : List (List ℕ)) (script : List ℕ) (source left : Supply
   answered NoMemory run whole = absurd whole
   answered InputLimit run whole = absurd whole
 
-same_limits : (one other : List (List ℕ)) → DifferInWorkers one other → given_limits other ≡ given_limits one
+same_limits : (one other : List (List ℕ)) → DifferInWorkersAtMost one other → given_limits other ≡ given_limits one
 same_limits one other h = rw (h.context, h.coef, h.roots) refl
 
-pub same-answers : (one other : List (List ℕ)) (script : List ℕ) → DifferInWorkers one other → AnswersAlike one other script
+pub same-answers : (one other : List (List ℕ)) (script : List ℕ) → DifferInWorkersAtMost one other → AnswersAlike one other script
 same-answers one other script h status status' source left source' left' old new old' new' known known' run run' whole whole' =
     let p = answered one script source left old new known status run whole in
     let q = answered other script source' left' old' new' known' status' run' whole' in

@@ -18,7 +18,7 @@ IsWhole NoMemory = ⊥
 IsWhole InputLimit = ⊥
 
 -- arguments that give the same numbers to all options but `--workers`
-pub record DifferInWorkers (one other : List (List ℕ)) : Type 0 where
+pub record DifferInWorkersAtMost (one other : List (List ℕ)) : Type 0 where
   pub context : given_number (codes "context") one ≡ given_number (codes "context") other
   pub coef : given_number (codes "coef") one ≡ given_number (codes "coef") other
   pub roots : given_number (codes "roots") one ≡ given_number (codes "roots") other

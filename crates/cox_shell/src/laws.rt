@@ -59,7 +59,7 @@ ghost use Rattle.cox_shell.specs.declared.status.Status.TheVariants.{InputLimit,
 ghost use Rattle.cox_shell.specs.declared.status.Status.{Status};
 ghost use Rattle.cox_shell.specs.Unhindered.{Rose, IsUnhindered};
 ghost use Rattle.cox_shell.specs.WholeRun.{IsRun};
-ghost use Rattle.cox_shell.specs.SameRuns.{DifferInWorkers, AnswersAlike};
+ghost use Rattle.cox_shell.specs.SameRuns.{DifferInWorkersAtMost, AnswersAlike};
 
 use crate::status::Status;
 
@@ -84,7 +84,8 @@ pub fn blocks_are_alone()
         × AreKeptReplies state (kept_lines after) last × (replies ≡ first ++ (alone ++ last)) }
 {}
 
-/// Lines that may stand in a block are answered there as they are as a script, where no list is open.
+/// Lines that may stand in a block are answered there as they are as a script, where no list is open. `CanStand` says which may: neither
+/// their bytes nor their place refuses them, and they are no lines of a list.
 pub fn block_is_a_script()
     ensures { (state : State) → state.list ≡ None → (lines : List (List ℕ)) → All CanStand lines → (replies : List Reply)
         → AreKeptReplies state (map kept_of lines) replies → AreReplies state lines replies }
@@ -98,7 +99,7 @@ pub fn due_begins_the_answer()
 
 /// Two runs over one script whose arguments differ in `--workers` alone write the same bytes, where both end by `Done` or `Refused`.
 pub fn workers_change_nothing()
-    ensures { (one other : List (List ℕ)) (script : List ℕ) → DifferInWorkers one other → AnswersAlike one other script }
+    ensures { (one other : List (List ℕ)) (script : List ℕ) → DifferInWorkersAtMost one other → AnswersAlike one other script }
 {}
 
 /// At `InputLimit` the script is longer than the limit, and what was written is the answer to its lines within it.
@@ -133,7 +134,8 @@ pub fn inquiries()
 {}
 
 /// The same of single commands, written out: u and v are the words that y and w read as. A line is refused by 31 exactly where there are
-/// more x <= v, or more elements of the group, than the limit; else by 34 exactly where elements are too far apart for R, or for a check;
+/// more x <= v, or more elements of the group, than the limit (for `cert` also where there are more x <= v than a check takes, and for
+/// commands on the whole group also where an element has more letters than a word may have); else by 34 exactly where elements are too far apart for R, or for a check;
 /// else by 32 exactly where a row that is needed is beyond the limits. Else it is answered the text that stands last.
 pub fn commands()
     ensures compute { (state : State) (g : CoxeterMatrix) (w v : List ℕ) → state.group ≡ Some g → ReadsAs g w v

@@ -2,7 +2,7 @@
 //!
 //! [`run`] and [`run_one`] read lines, answer each before they ask for the next, and end by a [`Status`]. Their
 //! contract, `IsRun` in `specs/WholeRun.antt`, says, by the replies to the lines that the definitions give, what was
-//! written at each status and what the status came from. `run` has as many workers as the
+//! written at each status, and what each status but that of memory that ran out came from. `run` has as many workers as the
 //! arguments say where rows are made, and where a list of blocks is answered.
 //! `run_one` has one thread, and is proved to return. A [`Session`] answers single lines.
 //!

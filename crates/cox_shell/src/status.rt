@@ -42,7 +42,7 @@ pub enum Stopped {
     ReadFault,
     /// A write of the reply failed.
     WriteFault,
-    /// There was no memory for the reply, and nothing of it is written.
+    /// There was no memory for the reply. A prefix of it may be written.
     NoMemory,
     /// There are more bytes than may be read.
     InputLimit,

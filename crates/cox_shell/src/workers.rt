@@ -27,11 +27,12 @@ use std::thread::Threads;
 /// From how many missing rows on workers are asked at once.
 const MANY_ROWS: usize = 1_024;
 
-/// How many polynomials one thread adds up before workers are asked for fewer rows, beside [`FEW_FOR_EACH_MEMBER`]. To start threads, and to
-/// make a store and tables over all members, is not worth it for less.
+/// Where fewer than [`MANY_ROWS`] rows are missing: how many polynomials one thread adds up before workers are asked, with
+/// [`FEW_FOR_EACH_MEMBER`] more for each member. To start threads, and to make a store and tables over all members, is not worth it for less.
 const FEW_POLYNOMIALS: u64 = 131_072;
 
-/// How many more it adds up for each member of the context: a store and the tables of workers take time and memory in proportion to these.
+/// How many more polynomials it adds up for each member of the context: a store and the tables of workers take time and memory in
+/// proportion to the members.
 const FEW_FOR_EACH_MEMBER: u64 = 16;
 
 /// From how many lines on a list is answered by several threads, whatever its lines are. To start a thread, and a session for it, takes as
@@ -114,12 +115,13 @@ fn are_worth_threads(blocks: &[Block]) -> bool {
     lines >= MANY_LINES
 }
 
-/// Whether a line of a block may take long, though its rows are there: it is on long words, on the whole group, or on generated words.
+/// Whether a line of a block may take long, though its rows are there: it is long, it is one token alone, as commands on the whole group
+/// are, or it asks for generated words.
 fn has_slow_line(block: &Block) -> bool {
     for line in block.lines() {
         let content = line.content();
-        let is_on_group = !content.is_empty() && !content.contains(&b' ');
-        if is_on_group || content.len() >= SLOW_LINE || content.starts_with(b"work") {
+        let is_one_token = !content.is_empty() && !content.contains(&b' ');
+        if is_one_token || content.len() >= SLOW_LINE || content.starts_with(b"work") {
             return true;
         }
     }

@@ -41,7 +41,7 @@ pub record IsSeatKept (e : Elements) (i : ℕ) (old new : Seat) : Type 0 where
   pub ended : (j : ℕ) → HasEnded new j → HasEnded old j ⊎ IsNeededAt e i j
   pub made : MadeOfSeen e old new
 
--- the seat has voided no row
+-- the seat, and those that it met, have voided no row since
 abbrev pub VoidsNone : Seat → Seat → Type 0
 VoidsNone old new = (view_of new).given_up ≡ (view_of old).given_up
 
